@@ -1,0 +1,235 @@
+-- What each change of the records does to what is shown of them.
+use Rattle.std.proofs.Common.{◌≡◌, ℕ, zero, suc, ◌+◌, ◌-◌, ◌<◌, ◌≤◌, Bool, true, false, eqb, ◌&&◌, List, [], ◌∷◌, ◌++◌, Option, Some, None, slice_get, drop, option_and_then, option_map, refl, sym, ap, ◌∙◌, arith, length, length-append, cond, not}
+use Rattle.std.specs.FinMap.{insert, get}
+use Rattle.bb8_core.specs.declared.standing.Place.{Place}
+use Rattle.bb8_core.specs.declared.standing.Place.TheVariants.{Unclaimed, Claimed, Idle, Held, Guarded}
+use Rattle.bb8_core.specs.declared.standing.Standing.{Standing}
+use Rattle.bb8_core.specs.Numbered.{Numbered, at, update, numbers, one, standings, standing_at}
+use Rattle.bb8_core.specs.Ledger.{stands, is_conn, is_approval, is_unclaimed, is_claimed, is_guarded, is_idle, idle_at, conns_of, approved_of, put, placed, ended, approval, approve, entry}
+use Rattle.bb8_core.specs.Shown.{ShownRecords, shown_records}
+use Rattle.bb8_core.specs.Machine as machine
+use Rattle.bb8_core.proofs.Numbered.{change, Before}
+use Rattle.bb8_core.proofs.Numbered as numbered
+
+pub same_records : {C : Type 0} (s t : ShownRecords C) → s.next ≡ t.next → s.places ≡ t.places → s.idle ≡ t.idle → s.unclaimed ≡ t.unclaimed → s.conns ≡ t.conns → s.approved ≡ t.approved → s.peak ≡ t.peak → s ≡ t
+same_records s t next places idle unclaimed conns approved peak = λ i. record { next = next i; places = places i; idle = idle i; unclaimed = unclaimed i; conns = conns i; approved = approved i; peak = peak i }
+
+head_gone : (k : ℕ) (xs ys : List ℕ) → slice_get xs 0 ≡ Some k → ((rest : List ℕ) → xs ≡ k ∷ rest → ys ≡ rest) → ys ≡ drop 1 xs
+head_gone k [] ys e f = cc
+head_gone k (x ∷ xs) ys e f = f xs (let is : Some x ≡ Some k = e in let same : x ≡ k = cc in ap (λ (y : ℕ). y ∷ xs) same)
+
+pub and_right : (a b : Bool) → (a && b) ≡ true → (a ≡ true) × (b ≡ true)
+and_right true b e = (refl, e)
+and_right false b e = cc
+
+-- ---- the place of a claimed approval, or of a connection that a guard holds
+
+pub idle_from : (C : Type 0) (o : Bool) → is_idle {C = C} (cond o Claimed Guarded) ≡ false
+idle_from C true = refl
+idle_from C false = refl
+
+pub unclaimed_from : (C : Type 0) (o : Bool) → is_unclaimed {C = C} (cond o Claimed Guarded) ≡ false
+unclaimed_from C true = refl
+unclaimed_from C false = refl
+
+pub conn_from : (C : Type 0) (o : Bool) → is_conn {C = C} (cond o Claimed Guarded) ≡ not o
+conn_from C true = refl
+conn_from C false = refl
+
+pub approval_from : (C : Type 0) (o : Bool) → is_approval {C = C} (cond o Claimed Guarded) ≡ o
+approval_from C true = refl
+approval_from C false = refl
+
+module _ {C : Type 0} where
+  -- ---- places by their tests
+
+  -- the record that stands in a place that passes
+  pub standing_is : (test : Place C → Bool) (o : Option (Standing C)) → stands test o ≡ true → (s : Standing C) × (o ≡ Some s) × (test s.place ≡ true)
+  standing_is test None h = cc
+  standing_is test (Some s) h = (s, refl, h)
+
+  pub unclaimed_is : (p : Place C) → is_unclaimed p ≡ true → p ≡ Unclaimed
+  unclaimed_is Unclaimed h = refl
+  unclaimed_is Claimed h = cc
+  unclaimed_is (Idle c) h = cc
+  unclaimed_is (Held g) h = cc
+  unclaimed_is Guarded h = cc
+
+  pub claimed_is : (p : Place C) → is_claimed p ≡ true → p ≡ Claimed
+  claimed_is Unclaimed h = cc
+  claimed_is Claimed h = refl
+  claimed_is (Idle c) h = cc
+  claimed_is (Held g) h = cc
+  claimed_is Guarded h = cc
+
+  pub idle_is : (p : Place C) → is_idle p ≡ true → (c : C) × (p ≡ Idle c)
+  idle_is Unclaimed h = cc
+  idle_is Claimed h = cc
+  idle_is (Idle c) h = (c, refl)
+  idle_is (Held g) h = cc
+  idle_is Guarded h = cc
+
+  pub guarded_is : (p : Place C) → is_guarded p ≡ true → p ≡ Guarded
+  guarded_is Unclaimed h = cc
+  guarded_is Claimed h = cc
+  guarded_is (Idle c) h = cc
+  guarded_is (Held g) h = cc
+  guarded_is Guarded h = refl
+
+  -- what a test says of a record whose place is known
+  pub tested : (test : Place C → Bool) (r : Numbered (Standing C)) (s : Standing C) (p : Place C) → r.standing ≡ Some s → s.place ≡ p → stands test r.standing ≡ test p
+  tested test r s p e f = ap (stands test) e ∙ ap test f
+
+  not_idle : (r : Numbered (Standing C)) → stands is_idle r.standing ≡ false → (q : ℕ) → idle_at q r ≡ false
+  not_idle r e q = ap (λ (b : Bool). b && eqb r.position q) e
+
+  -- the record behind what stands under a number
+  pub record_at : (first : ℕ) (rs : List (Numbered (Standing C))) (k : ℕ) (s : Standing C) → standing_at first rs k ≡ Some s → (r : Numbered (Standing C)) × (at first rs k ≡ Some r) × (r.standing ≡ Some s)
+  record_at first rs k s h = go (at first rs k) refl h
+    where
+      go : (o : Option (Numbered (Standing C))) → at first rs k ≡ o → option_and_then (λ (r : Numbered (Standing C)). r.standing) o ≡ Some s → (r : Numbered (Standing C)) × (at first rs k ≡ Some r) × (r.standing ≡ Some s)
+      go None e h = cc
+      go (Some r) e h = (r, e, h)
+
+  -- ---- one record is changed
+
+  -- what the sizes are after it
+  pub conns-change : (first : ℕ) (rs : List (Numbered (Standing C))) (k : ℕ) (new old : Numbered (Standing C)) (a b : Bool) → at first rs k ≡ Some old → stands is_conn old.standing ≡ a → stands is_conn new.standing ≡ b → conns_of (change first k new rs) + one a ≡ conns_of rs + one b
+  conns-change first rs k new old a b h was is = rw (sym (ap one was), sym (ap one is)) (numbered.tally-change (λ r. stands is_conn r.standing) rs first k new old h)
+
+  pub approved-change : (first : ℕ) (rs : List (Numbered (Standing C))) (k : ℕ) (new old : Numbered (Standing C)) (a b : Bool) → at first rs k ≡ Some old → stands is_approval old.standing ≡ a → stands is_approval new.standing ≡ b → approved_of (change first k new rs) + one a ≡ approved_of rs + one b
+  approved-change first rs k new old a b h was is = rw (sym (ap one was), sym (ap one is)) (numbered.tally-change (λ r. stands is_approval r.standing) rs first k new old h)
+
+  -- a record is put into another place
+  places-put : (first : ℕ) (rs : List (Numbered (Standing C))) (k : ℕ) (p : Place C) (r : Numbered (Standing C)) (s : Standing C) → at first rs k ≡ Some r → r.standing ≡ Some s → standings first (change first k (put p r) rs) ≡ insert (standings first rs) k (machine.placed p (get (standings first rs) k))
+  places-put first rs k p r s h e =
+      numbered.numbered-change_some (λ (x : Numbered (Standing C)). x.standing) rs first k (put p r) r (placed p s) h (ap (option_map (placed p)) e)
+      ∙ ap (λ (o : Option (Standing C)). insert (standings first rs) k (machine.placed p o)) (sym (numbered.get-numbered (λ (x : Numbered (Standing C)). x.standing) rs first k ∙ ap (option_and_then (λ (x : Numbered (Standing C)). x.standing)) h ∙ e))
+
+  module _ (first p top : ℕ) (rs : List (Numbered (Standing C))) where
+    abbrev before : ShownRecords C
+    before = shown_records first p top rs
+
+    -- an event at which nobody enters
+    pub shown-later : Before idle_at p rs → shown_records first (suc p) top rs ≡ before
+    shown-later b = same_records _ _ refl refl (numbered.in_order-later idle_at rs first p b) refl refl refl refl
+
+    pub shown-claimed : (k : ℕ) → slice_get before.unclaimed 0 ≡ Some k → shown_records first p top (update first k (put Claimed) rs) ≡ machine.claimed k before
+    shown-claimed k h =
+        let m : (r : Numbered (Standing C)) × (at first rs k ≡ Some r) × (stands is_unclaimed r.standing ≡ true) = numbered.numbers_member (λ r. stands is_unclaimed r.standing) rs first 0 k h in
+        let r : Numbered (Standing C) = m.0 in
+        let was = standing_is is_unclaimed r.standing m.2 in
+        let place : was.0.place ≡ Unclaimed = unclaimed_is was.0.place was.2 in
+        let new : Numbered (Standing C) = put Claimed r in
+        let is : new.standing ≡ Some (placed Claimed was.0) = ap (option_map (placed Claimed)) was.1 in
+        ap (shown_records first p top) (numbered.update_is rs first k (put Claimed) r m.1)
+        ∙ same_records _ _
+        (ap (λ (n : ℕ). first + n) (numbered.length-change rs first k new))
+        (places-put first rs k Claimed r was.0 m.1 was.1)
+        (numbered.in_order-change_kept idle_at rs first k new r m.1 p (λ q l. not_idle new (ap (stands is_idle) is) q ∙ sym (not_idle r (tested is_idle r was.0 Unclaimed was.1 place) q)))
+        (head_gone k before.unclaimed _ h (λ rest e. numbered.numbers-change_head (λ x. stands is_unclaimed x.standing) rs first k rest new e (ap (stands is_unclaimed) is)))
+        (let e : conns_of (change first k new rs) + 0 ≡ conns_of rs + 0 = conns-change first rs k new r false false m.1 (tested is_conn r was.0 Unclaimed was.1 place) (ap (stands is_conn) is) in omega arith)
+        (let e : approved_of (change first k new rs) + 1 ≡ approved_of rs + 1 = approved-change first rs k new r true true m.1 (tested is_approval r was.0 Unclaimed was.1 place) (ap (stands is_approval) is) in omega arith)
+        refl
+
+    -- an idle connection goes out
+    pub shown-taken : (out : Place C) (k j : ℕ) → is_idle out ≡ false → is_unclaimed out ≡ false → is_conn out ≡ true → slice_get before.idle j ≡ Some k → shown_records first p top (update first k (put out) rs) ≡ machine.taken out k before
+    shown-taken out k j not_idle_now not_unclaimed_now conn_now h =
+        let m : (r : Numbered (Standing C)) × (at first rs k ≡ Some r) × (q : ℕ) × (q < p) × (idle_at q r ≡ true) = numbered.in_order_member idle_at rs first p j k h in
+        let r : Numbered (Standing C) = m.0 in
+        let was = standing_is is_idle r.standing (and_right (stands is_idle r.standing) _ m.4).0 in
+        let place = idle_is was.0.place was.2 in
+        let new : Numbered (Standing C) = put out r in
+        let is : new.standing ≡ Some (placed out was.0) = ap (option_map (placed out)) was.1 in
+        ap (shown_records first p top) (numbered.update_is rs first k (put out) r m.1)
+        ∙ same_records _ _
+        (ap (λ (n : ℕ). first + n) (numbered.length-change rs first k new))
+        (places-put first rs k out r was.0 m.1 was.1)
+        (numbered.in_order-change_off idle_at rs first k new (not_idle new (ap (stands is_idle) is ∙ not_idle_now)) p)
+        (numbered.numbers-change_kept (λ x. stands is_unclaimed x.standing) rs first k new r m.1 (ap (stands is_unclaimed) is ∙ not_unclaimed_now ∙ sym (tested is_unclaimed r was.0 (Idle place.0) was.1 place.1)))
+        (let e : conns_of (change first k new rs) + 1 ≡ conns_of rs + 1 = conns-change first rs k new r true true m.1 (tested is_conn r was.0 (Idle place.0) was.1 place.1) (ap (stands is_conn) is ∙ conn_now) in omega arith)
+        (let e : approved_of (change first k new rs) + 0 ≡ approved_of rs + 0 = approved-change first rs k new r false false m.1 (tested is_approval r was.0 (Idle place.0) was.1 place.1) (ap (stands is_approval) is ∙ ap not conn_now) in omega arith)
+        refl
+
+    -- a claimed approval, or a connection that a guard held, ends
+    pub shown-closed : (opening : Bool) (k : ℕ) (s : Standing C) → standing_at first rs k ≡ Some s → s.place ≡ cond opening Claimed Guarded → shown_records first p top (update first k ended rs) ≡ machine.closed opening k before
+    shown-closed opening k s h place =
+        let m = record_at first rs k s h in
+        let r : Numbered (Standing C) = m.0 in
+        let new : Numbered (Standing C) = ended r in
+        let test : (t : Place C → Bool) (x : Bool) → t (cond opening Claimed Guarded) ≡ x → stands t r.standing ≡ x = λ t x e. tested t r s (cond opening Claimed Guarded) m.2 place ∙ e in
+        ap (shown_records first p top) (numbered.update_is rs first k ended r m.1)
+        ∙ same_records _ _
+        (ap (λ (n : ℕ). first + n) (numbered.length-change rs first k new))
+        (numbered.numbered-change_none (λ (x : Numbered (Standing C)). x.standing) rs first k new r m.1 refl)
+        (numbered.in_order-change_kept idle_at rs first k new r m.1 p (λ q l. sym (not_idle r (test is_idle false (idle_from C opening)) q)))
+        (numbered.numbers-change_kept (λ x. stands is_unclaimed x.standing) rs first k new r m.1 (sym (test is_unclaimed false (unclaimed_from C opening))))
+        (let e : conns_of (change first k new rs) + one (not opening) ≡ conns_of rs + 0 = conns-change first rs k new r (not opening) false m.1 (test is_conn (not opening) (conn_from C opening)) refl in omega arith)
+        (let e : approved_of (change first k new rs) + one opening ≡ approved_of rs + 0 = approved-change first rs k new r opening false m.1 (test is_approval opening (approval_from C opening)) refl in omega arith)
+        refl
+
+    -- the number k enters at this position, which was a claimed approval or out
+    pub shown-entered : (opening : Bool) (k : ℕ) (s : Standing C) (c : C) (birth now : ℕ) (f : Numbered (Standing C) → Numbered (Standing C)) → Before idle_at p rs → standing_at first rs k ≡ Some s → s.place ≡ cond opening Claimed Guarded → ((r : Numbered (Standing C)) → r.standing ≡ Some s → f r ≡ entry c birth now p) → shown_records first (suc p) top (update first k f rs) ≡ machine.entered opening k (record { place = Idle c; birth = birth; entered = now }) before
+    shown-entered opening k s c birth now f b h place is =
+        let m = record_at first rs k s h in
+        let r : Numbered (Standing C) = m.0 in
+        let new : Numbered (Standing C) = entry c birth now p in
+        let test : (t : Place C → Bool) (x : Bool) → t (cond opening Claimed Guarded) ≡ x → stands t r.standing ≡ x = λ t x e. tested t r s (cond opening Claimed Guarded) m.2 place ∙ e in
+        ap (shown_records first (suc p) top) (numbered.update_is rs first k f r m.1 ∙ ap (λ (x : Numbered (Standing C)). change first k x rs) (is r m.2))
+        ∙ same_records _ _
+        (ap (λ (n : ℕ). first + n) (numbered.length-change rs first k new))
+        (numbered.numbered-change_some (λ (x : Numbered (Standing C)). x.standing) rs first k new r (record { place = Idle c; birth = birth; entered = now }) m.1 refl)
+        (numbered.in_order-enter idle_at rs first k p new r b m.1 (not_idle r (test is_idle false (idle_from C opening))) (numbered.eqb_self p) (λ q below. numbered.ne_test p q (λ e. omega arith)))
+        (numbered.numbers-change_kept (λ x. stands is_unclaimed x.standing) rs first k new r m.1 (sym (test is_unclaimed false (unclaimed_from C opening))))
+        (conns_are opening (conns_of (change first k new rs)) (conns_of rs) (conns-change first rs k new r (not opening) true m.1 (test is_conn (not opening) (conn_from C opening)) refl))
+        (approved_are opening (approved_of (change first k new rs)) (approved_of rs) (approved-change first rs k new r opening false m.1 (test is_approval opening (approval_from C opening)) refl))
+        refl
+      where
+        conns_are : (o : Bool) (n m : ℕ) → n + one (not o) ≡ m + 1 → n ≡ m + one o
+        conns_are true n m e = omega arith
+        conns_are false n m e = omega arith
+
+        approved_are : (o : Bool) (n m : ℕ) → n + one o ≡ m + 0 → n ≡ m - one o
+        approved_are true n m e = omega arith
+        approved_are false n m e = omega arith
+
+    shown-approve_one : (claimed : Bool) → shown_records first p top (rs ++ approval claimed ∷ []) ≡ machine.approve_one claimed before
+    shown-approve_one claimed = same_records _ _
+        (omega (arith, length-append rs (approval claimed ∷ [])))
+        (numbered.numbered-append_some (λ (x : Numbered (Standing C)). x.standing) rs first (approval claimed) (record { place = cond claimed Claimed Unclaimed; birth = 0; entered = 0 }) refl)
+        (numbered.in_order-append idle_at rs first (approval claimed) (λ q. never_idle claimed q) p)
+        (numbered.numbers-append (λ x. stands is_unclaimed x.standing) rs (approval claimed) first ∙ ap (λ (xs : List ℕ). numbers (λ x. stands is_unclaimed x.standing) first rs ++ xs) (unclaimed_where claimed))
+        (let e : conns_of (rs ++ approval claimed ∷ []) ≡ conns_of rs + one (is_conn {C = C} (cond claimed Claimed Unclaimed)) = numbered.tally-append (λ x. stands is_conn x.standing) rs (approval claimed) in let z : one (is_conn {C = C} (cond claimed Claimed Unclaimed)) ≡ 0 = no_conn claimed in omega arith)
+        (let e : approved_of (rs ++ approval claimed ∷ []) ≡ approved_of rs + one (is_approval {C = C} (cond claimed Claimed Unclaimed)) = numbered.tally-append (λ x. stands is_approval x.standing) rs (approval claimed) in let z : one (is_approval {C = C} (cond claimed Claimed Unclaimed)) ≡ 1 = an_approval claimed in omega arith)
+        refl
+      where
+        never_idle : (b : Bool) (q : ℕ) → idle_at {C = C} q (approval b) ≡ false
+        never_idle true q = refl
+        never_idle false q = refl
+
+        unclaimed_where : (b : Bool) → cond (is_unclaimed {C = C} (cond b Claimed Unclaimed)) ((first + length rs) ∷ []) [] ≡ cond b [] ((first + length rs) ∷ [])
+        unclaimed_where true = refl
+        unclaimed_where false = refl
+
+        no_conn : (b : Bool) → one (is_conn {C = C} (cond b Claimed Unclaimed)) ≡ 0
+        no_conn true = refl
+        no_conn false = refl
+
+        an_approval : (b : Bool) → one (is_approval {C = C} (cond b Claimed Unclaimed)) ≡ 1
+        an_approval true = refl
+        an_approval false = refl
+
+  pub shown-approve : (claimed : Bool) (n first p top : ℕ) (rs : List (Numbered (Standing C))) → shown_records first p top (approve claimed n rs) ≡ machine.approve claimed n (shown_records first p top rs)
+  shown-approve claimed zero first p top rs = refl
+  shown-approve claimed (suc n) first p top rs = shown-approve_one first p top (approve claimed n rs) claimed ∙ ap (machine.approve_one claimed) (shown-approve claimed n first p top rs)
+
+  pub before-approve : (claimed : Bool) (n m : ℕ) (rs : List (Numbered (Standing C))) → Before idle_at m rs → Before idle_at m (approve claimed n rs)
+  before-approve claimed zero m rs b = b
+  before-approve claimed (suc n) m rs b = numbered.before-append idle_at (approve claimed n rs) _ m (before-approve claimed n m rs b) (λ p e. never claimed p e)
+    where
+      never : (t : Bool) (p : ℕ) → idle_at {C = C} p (approval t) ≡ true → p < m
+      never true p e = cc
+      never false p e = cc
+
+  pub raised_same : (s : ShownRecords C) → s.conns + s.approved ≤ s.peak → machine.raised s ≡ s
+  raised_same s h = same_records _ _ refl refl refl refl refl refl (omega arith)

@@ -1,0 +1,14 @@
+pub mod Settings
+pub mod Figures
+pub mod Numbered
+pub mod Acts
+pub mod Answers
+pub mod Ledger
+pub mod Table
+pub mod Shown
+pub mod Machine
+pub mod Slots
+pub mod State
+pub mod Run
+pub mod Limits
+pub mod Waits

@@ -1,0 +1,58 @@
+-- Runs of events over a ledger, by the names that a replay uses.
+use Rattle.std.specs.Prelude.{◌≡◌, ℕ, List, [], ◌∷◌}
+use Rattle.bb8_core.specs.declared.events.Act.TheVariants as named
+use Rattle.bb8_core.specs.declared.events.Act.{Act as Named}
+use Rattle.bb8_core.specs.declared.events.Event.{Event}
+use Rattle.bb8_core.specs.declared.events.Answer.TheVariants as told
+use Rattle.bb8_core.specs.declared.events.Answer.{Answer as Told}
+use Rattle.bb8_core.specs.declared.api.configuration.Config.{Config}
+use Rattle.bb8_core.specs.Settings.{Settings, settings_of}
+use Rattle.bb8_core.specs.Figures.{figures_of}
+use Rattle.bb8_core.specs.Acts.{Act, Begin, Try, PutBack, Fill, Claim, Opened, State}
+use Rattle.bb8_core.specs.Answers.{Answer, Begun, Memory, Exhausted, Served, Kept, Closed, Granted, Claimed, Ended, Entered, Late, Shown, Unfit}
+use Rattle.bb8_core.specs.Ledger.{Ledger, Opening, Later}
+use Rattle.bb8_core.specs.Table.{Allowed}
+
+-- the event that a name stands for: the connections that are handed in are given by number
+abbrev pub act_with : {C : Type 0} → (ℕ → C) → Named → Act C
+act_with conn named.Begin = Begin
+act_with conn (named.Try g) = Try g
+act_with conn (named.PutBack k broken) = PutBack k (conn k) broken
+act_with conn (named.Fill claimed) = Fill claimed
+act_with conn named.Claim = Claim
+act_with conn (named.Opened a) = Opened a (conn a)
+act_with conn named.State = State
+
+-- in a replay the connection of a record is its number
+abbrev pub act_of : Named → Act ℕ
+act_of = act_with (λ k. k)
+
+-- the answer that is told
+abbrev pub answer_of : Told → Answer
+answer_of (told.Begun g) = Begun g
+answer_of told.Memory = Memory
+answer_of told.Exhausted = Exhausted
+answer_of (told.Served k grant) = Served k grant
+answer_of (told.Kept k notified) = Kept k notified
+answer_of (told.Closed k grant notified) = Closed k grant notified
+answer_of (told.Granted grant) = Granted grant
+answer_of (told.Claimed k) = Claimed k
+answer_of told.Ended = Ended
+answer_of (told.Entered k notified) = Entered k notified
+answer_of (told.Late k) = Late k
+answer_of (told.Shown state) = Shown (figures_of state)
+answer_of told.Unfit = Unfit
+
+-- the empty ledger, with the first numbers given
+abbrev pub opening_with : {C : Type 0} → Settings → ℕ → ℕ → Ledger C
+opening_with config first first_get = Opening (record { config = config; first = first; first_get = first_get })
+
+abbrev pub opening : {C : Type 0} → Config → ℕ → ℕ → Ledger C
+opening config first first_get = opening_with (settings_of config) first first_get
+
+-- A run: the answers are allowed, event by event, and lead from the first ledger to the last.
+abbrev pub IsRun : Ledger ℕ → List Event → List Told → Ledger ℕ → Type 0
+IsRun l [] [] last = l ≡ last
+IsRun l [] (a ∷ answers) last = ⊥
+IsRun l (e ∷ events) [] last = ⊥
+IsRun l (e ∷ events) (a ∷ answers) last = Allowed l e.at.0 (act_of e.act) (answer_of a) × IsRun (Later l e.at.0 (act_of e.act) (answer_of a)) events answers last

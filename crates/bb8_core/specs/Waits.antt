@@ -1,0 +1,16 @@
+-- The waits of the back-off, in nanoseconds.
+use Rattle.std.specs.Prelude.{ℕ, zero, suc, ◌+◌, ◌*◌, ◌/◌, ◌^◌, ◌<◌, ◌≤◌, min}
+
+-- how long a replenishing waits after its k-th failure, k from 1: half the timeout, or twice as long each time
+abbrev pub wait : ℕ → ℕ → ℕ
+wait timeout k = min (timeout / 2) (200_000_000 * 2 ^ k)
+
+-- the sum of the first n waits
+abbrev pub waits : ℕ → ℕ → ℕ
+waits timeout zero = 0
+waits timeout (suc n) = waits timeout n + wait timeout (suc n)
+
+-- n is the most first waits whose sum is at most the timeout
+pub record IsMostWaits (timeout n : ℕ) : Type 0 where
+  pub within : waits timeout n ≤ timeout
+  pub past : timeout < waits timeout (suc n)
