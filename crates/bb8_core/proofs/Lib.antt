@@ -5,3 +5,9 @@ pub mod Places
 pub mod Approvals
 pub mod ShownGets
 pub mod GetPlaces
+pub mod Facts
+pub mod Stage
+pub mod Laws
+pub mod Steps
+pub mod Runs
+pub mod Evaluated

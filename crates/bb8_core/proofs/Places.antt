@@ -434,7 +434,7 @@ module _ {C : Type 0} where
       table = record {
         distinct = rw same good.table.distinct;
         below = λ i x e. good.table.below i x (ap (λ (xs : List (Option (Slot (Standing C)))). get_or xs i None) (sym same) ∙ e);
-        };
+      };
       idle = rw (same, idle_same) good.idle;
       unclaimed = rw (same, unclaimed_same) good.unclaimed;
       conns_are = ap (tally (passes is_conn)) same ∙ good.conns_are;

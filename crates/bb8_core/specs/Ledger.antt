@@ -13,7 +13,7 @@ use Rattle.bb8_core.specs.declared.api.configuration.QueueStrategy.{QueueStrateg
 use Rattle.bb8_core.specs.declared.api.configuration.QueueStrategy.TheVariants.{Fifo, Lifo}
 use Rattle.bb8_core.specs.Settings.{Settings}
 use Rattle.bb8_core.specs.Figures.{Counts, Figures}
-use Rattle.bb8_core.specs.Acts.{Act, Begin, Try, CheckedOk, CheckedErr, GiveUp, PutBack, Fill, Claim, Opened, Failed, Add, Reap, Join, Leave, TimedOut, Cancelled, get_in, says_broken}
+use Rattle.bb8_core.specs.Acts.{Act, Begin, Try, CheckedOk, CheckedErr, GiveUp, PutBack, Fill, Claim, Opened, Failed, Add, Reap, Leave, TimedOut, Cancelled, get_in, says_broken}
 use Rattle.bb8_core.specs.Answers.{Answer, Begun, Served, Taken, Kept, Closed, GaveUp, Granted, Entered, Late, GivenBack, Added, Reaped, Joined, Left, Unfit}
 use Rattle.bb8_core.specs.Answers as answers
 use Rattle.bb8_core.specs.Numbered.{Numbered, update, numbers, in_order, tally, one, standing_at}

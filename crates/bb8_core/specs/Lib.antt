@@ -9,6 +9,9 @@ pub mod Shown
 pub mod Machine
 pub mod Slots
 pub mod State
+pub mod Outcomes
+pub mod Pool
 pub mod Run
 pub mod Limits
 pub mod Waits
+pub mod Rows

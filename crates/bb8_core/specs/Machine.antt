@@ -1,5 +1,5 @@
 -- What each change of the records or the gets does to what is shown of them.
-use Rattle.std.specs.Prelude.{ℕ, zero, suc, ◌+◌, ◌-◌, max, Bool, true, false, cond, ◌||◌, not, eqb, List, [], ◌∷◌, ◌++◌, filter, length, drop, Option, Some, None}
+use Rattle.std.specs.Prelude.{ℕ, zero, suc, ◌+◌, ◌-◌, max, Bool, cond, ◌||◌, not, eqb, List, [], ◌∷◌, ◌++◌, filter, length, drop, Option, Some, None}
 use Rattle.std.specs.FinMap.{insert, remove, get}
 use Rattle.bb8_core.specs.declared.standing.Place.{Place}
 use Rattle.bb8_core.specs.declared.standing.Place.TheVariants.{Unclaimed, Claimed}

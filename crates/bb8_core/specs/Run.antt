@@ -24,8 +24,8 @@ act_with conn (named.Opened a) = Opened a (conn a)
 act_with conn named.State = State
 
 -- in a replay the connection of a record is its number
-abbrev pub act_of : Named → Act ℕ
-act_of = act_with (λ k. k)
+abbrev pub act_of : Ledger ℕ → Named → Act ℕ
+act_of l = act_with (λ k. k)
 
 -- the answer that is told
 abbrev pub answer_of : Told → Answer
@@ -55,4 +55,4 @@ abbrev pub IsRun : Ledger ℕ → List Event → List Told → Ledger ℕ → Ty
 IsRun l [] [] last = l ≡ last
 IsRun l [] (a ∷ answers) last = ⊥
 IsRun l (e ∷ events) [] last = ⊥
-IsRun l (e ∷ events) (a ∷ answers) last = Allowed l e.at.0 (act_of e.act) (answer_of a) × IsRun (Later l e.at.0 (act_of e.act) (answer_of a)) events answers last
+IsRun l (e ∷ events) (a ∷ answers) last = Allowed l e.at.0 (act_of l e.act) (answer_of a) × IsRun (Later l e.at.0 (act_of l e.act) (answer_of a)) events answers last

@@ -1,5 +1,5 @@
 -- Shown state: what a state can know of its ledger.
-use Rattle.std.specs.Prelude.{◌≡◌, ℕ, zero, suc, ◌+◌, ◌*◌, Bool, true, List, Option, Some, None, refl, length}
+use Rattle.std.specs.Prelude.{◌≡◌, ℕ, zero, suc, ◌+◌, Bool, true, List, Option, Some, None, IsSome, refl, length}
 use Rattle.std.specs.Coded.{Coded, code_by, coded×, coded_ℕ, coded_bool, coded_list, coded_option}
 use Rattle.std.specs.Ordering.{nat_cmp}
 use Rattle.std.specs.FinMap.{FinMap}
@@ -11,11 +11,11 @@ use Rattle.bb8_core.specs.declared.standing.GetPlace.{GetPlace}
 use Rattle.bb8_core.specs.declared.standing.GetPlace.TheVariants.{Active, Waiting, Holding}
 use Rattle.bb8_core.specs.declared.standing.Getting.{Getting}
 use Rattle.bb8_core.specs.Settings.{Settings, settings_code}
-use Rattle.bb8_core.specs.Figures.{Counts, Figures, counts_code}
+use Rattle.bb8_core.specs.Figures.{Counts, counts_code}
 use Rattle.bb8_core.specs.Acts.{Act}
 use Rattle.bb8_core.specs.Answers.{Answer}
 use Rattle.bb8_core.specs.Numbered.{Numbered, numbers, in_order, standings}
-use Rattle.bb8_core.specs.Ledger.{Ledger, Later, start, position, latest, handles, records, gets, peak, get_peak, conns_of, approved_of, alive_of, idle_at, unnotified_at, stands, is_unclaimed, counts}
+use Rattle.bb8_core.specs.Ledger.{Ledger, Later, start, position, latest, handles, records, gets, peak, get_peak, conns_of, approved_of, alive_of, idle_at, unnotified_at, stands, is_unclaimed, counts, record_of, get_of}
 use Rattle.bb8_core.specs.Table.{takes, Allowed, IsLegal}
 
 -- The records that have not ended, with their sizes and orders.
@@ -88,6 +88,19 @@ module _ {C : Type 0} where
   -- A step: on each legal ledger that the old state means the answer is allowed, and the new state means the ledger that it leads to.
   abbrev pub Meets : Shown C → ℕ → Act C → Answer → Shown C → Type 0
   Meets old at e a new = (l : Ledger C) → IsLegal l → Means l old → Allowed l at e a × Means (Later l at e a) new
+
+  -- a record, or a get, of this number has not ended on any legal ledger that the state means; or none has
+  abbrev pub IsRecordIn : Shown C → ℕ → Type 0
+  IsRecordIn s k = (l : Ledger C) → IsLegal l → Means l s → IsSome (record_of l k)
+
+  abbrev pub IsNoRecordIn : Shown C → ℕ → Type 0
+  IsNoRecordIn s k = (l : Ledger C) → IsLegal l → Means l s → record_of l k ≡ None
+
+  abbrev pub IsGetIn : Shown C → ℕ → Type 0
+  IsGetIn s g = (l : Ledger C) → IsLegal l → Means l s → IsSome (get_of l g)
+
+  abbrev pub IsNoGetIn : Shown C → ℕ → Type 0
+  IsNoGetIn s g = (l : Ledger C) → IsLegal l → Means l s → get_of l g ≡ None
 
   -- The state means a legal ledger.
   abbrev pub HasLedger : Shown C → Type 0

@@ -1,5 +1,5 @@
 //! The gets of a pool.
-ghost use Rattle.std.specs.Prelude.{◌≡◌, ℕ, ◌<◌, ◌≤◌, IsSome, is_some, ltb, IfSome, IfNone, Some, None, []};
+ghost use Rattle.std.specs.Prelude.{◌≡◌, ℕ, ◌<◌, ◌≤◌, IsSome, ltb, IfSome, IfNone, Some, None, []};
 ghost use Rattle.std.specs.FinMap as map;
 ghost use Rattle.bb8_core.specs.Ledger as ledger;
 ghost use Rattle.bb8_core.specs.Table as rows;
@@ -125,19 +125,6 @@ impl Gets {
             Some(place) => match self.slots.get(place) {
                 None => false,
                 Some(slot) => is_trying_place(slot.standing.place),
-            },
-        }
-    }
-
-    /// Whether the get has waited.
-    pub(crate) fn has_waited(&self, g: GetKey) -> bool
-        ensures { result ≡ is_some (ledger.first_wait_of (map.get self.now.places g.number)) }
-    {
-        match self.slots.locate(g.number, g.place) {
-            None => false,
-            Some(place) => match self.slots.get(place) {
-                None => false,
-                Some(slot) => slot.standing.first_wait.is_some(),
             },
         }
     }

@@ -2,10 +2,14 @@
 #![tactic(auto)]
 
 pub mod api;
+pub mod counters;
 pub mod events;
 pub mod gets;
+pub mod internals;
 pub mod keys;
+pub mod outcomes;
 pub mod records;
+pub mod replay;
 mod ring;
 pub mod rows;
 pub mod standing;

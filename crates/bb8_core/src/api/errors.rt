@@ -1,6 +1,7 @@
 //! The errors that a user of the pool meets.
-ghost use Rattle.std.specs.Prelude.{Some, codes, ℕ, List};
+ghost use Rattle.std.specs.Prelude.{Some, codes, ⊤};
 
+use std::alloc::AllocFailed;
 use std::fmt;
 
 /// Memory was refused. Our own: upstream aborts where no memory is left.
@@ -12,5 +13,13 @@ impl fmt::Display for Memory {
 
     fn fmt<W: fmt::Write>(&self, f: &mut fmt::Formatter<W>) -> fmt::Result {
         write!(f, "No memory in bb8")
+    }
+}
+
+impl<T: Drop> From<AllocFailed<T>> for Memory {
+    ghost from_gives = { λ _ _. ⊤ };
+
+    fn from(_refused: AllocFailed<T>) -> Memory {
+        Memory
     }
 }

@@ -1,4 +1,4 @@
-use Rattle.std.proofs.Common.{refl, subst, sym, IsSome}
+use Rattle.std.proofs.Common.{refl}
 use Rattle.bb8_core.proofs.GetPlaces.{none_shown, some_shown}
 use Rattle.bb8_core.proofs.gets.Gets.find.Goals as goal
 

@@ -1,6 +1,5 @@
-use Rattle.std.proofs.Common.{cond, ap, ◌∙◌, ◌≤◌, ◌-◌, not, refl}
+use Rattle.std.proofs.Common.{cond, ap, ◌∙◌, ◌-◌, refl}
 use Rattle.bb8_core.specs.declared.standing.Place.TheVariants.{Claimed, Guarded}
-use Rattle.bb8_core.specs.Numbered.{one}
 use Rattle.bb8_core.specs.Machine as machine
 use Rattle.bb8_core.proofs.Places.{Shows, stood, never_absent, close_counted, close_approved, close_good, close_view}
 use Rattle.bb8_core.proofs.records.Records.close.Goals as goal

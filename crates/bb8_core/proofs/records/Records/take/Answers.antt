@@ -25,9 +25,9 @@ returns-in-None-clause-none g c =
 
 pub returns-after-connection_of-clause-none : goal.returns-after-connection_of-clause-none
 returns-after-connection_of-clause-none g c = elim c.match-connection_of.branch [
-      | in-None-connection_of w ↦ never_without c.self.inside c.args.strategy c.in-Some.key c.put.new.self c.pop_by.new.self c.self.invariant c.in-Some.ensures.value c.in-Some.ensures.items c.put.ensures.changed c.put.result _ c.put.ensures.value w.in-None-connection_of.ensures.none
-      | in-Some-connection_of w ↦ rw w.result-is tt
-    ]
+  | in-None-connection_of w ↦ never_without c.self.inside c.args.strategy c.in-Some.key c.put.new.self c.pop_by.new.self c.self.invariant c.in-Some.ensures.value c.in-Some.ensures.items c.put.ensures.changed c.put.result _ c.put.ensures.value w.in-None-connection_of.ensures.none
+  | in-Some-connection_of w ↦ rw w.result-is tt
+]
 
 pub invariant_of-self-in-Some : goal.invariant_of-self-in-Some
 invariant_of-self-in-Some g c = take_good c.self.inside c.args.strategy c.in-Some.key c.put.new.self c.pop_by.new.self c.self.invariant c.in-Some.ensures.value c.in-Some.ensures.items c.put.ensures.changed c.put.ensures.len c.put.ensures.capacity

@@ -1,4 +1,4 @@
-use Rattle.std.proofs.Common.{◌≡◌, Some, ap, sym, ◌∙◌}
+use Rattle.std.proofs.Common.{ap, sym, ◌∙◌}
 use Rattle.slab.specs.Slab as slabs
 use Rattle.bb8_core.proofs.table.Table.locate.Goals as goal
 

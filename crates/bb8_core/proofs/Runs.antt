@@ -1,0 +1,117 @@
+-- Runs: what a state says of its ledger's numbers, an event that does not fit, and lists of events.
+use Rattle.std.proofs.Common.{◌≡◌, ℕ, zero, suc, ◌+◌, max, false, ltb, ◌&&◌, not, List, [], ◌∷◌, ◌++◌, take, length, Option, Some, None, IsSome, IfSome, IfNone, refl, sym, ap, ◌∙◌, subst}
+use Rattle.std.specs.FinMap.{get}
+use Rattle.bb8_core.specs.declared.keys.Key.{Key}
+use Rattle.bb8_core.specs.declared.keys.GetKey.{GetKey}
+use Rattle.bb8_core.specs.declared.events.Event.{Event}
+use Rattle.bb8_core.specs.declared.events.Answer.{Answer as Told}
+use Rattle.bb8_core.specs.declared.standing.Standing.{Standing}
+use Rattle.bb8_core.specs.declared.standing.Getting.{Getting}
+use Rattle.bb8_core.specs.Acts.{Act, Begin, Try, CheckedOk, CheckedErr, GiveUp, PutBack, Fill, Claim, Opened, Failed, Add, Reap, State, Join, Leave, Look}
+use Rattle.bb8_core.specs.Answers.{Unfit}
+use Rattle.bb8_core.specs.Numbered.{Numbered}
+use Rattle.bb8_core.specs.Ledger.{Ledger, Later, start, position, records, peak, get_peak, conns_of, approved_of, alive_of, idle, gets_stand, counts}
+use Rattle.bb8_core.specs.Table.{takes, is_trying, Allowed, IsLegal}
+use Rattle.bb8_core.specs.Shown.{Shown, shown, shown_records, shown_gets, Means, Meets, IsRecordIn, IsNoRecordIn, IsGetIn, IsNoGetIn}
+use Rattle.bb8_core.specs.Limits.{KeepsLimits}
+use Rattle.bb8_core.specs.Run.{act_of, answer_of, IsRun}
+use Rattle.bb8_core.proofs.Facts.{shown_record, shown_get}
+use Rattle.bb8_core.proofs.Stage.{unfit_gets}
+use Rattle.bb8_core.proofs.Laws.{keeps_limits}
+use Rattle.bb8_core.proofs.Steps.{unfitting, same_shown, records_kept, gets_kept}
+
+module _ {C : Type 0} where
+  -- ---- what a look-up says of the ledger
+
+  pub found : (s t : Shown C) (n : ℕ) (o : Option Key) → s ≡ t → IfSome o (λ k. (k.number ≡ n) × IsSome (get s.records.places n)) → IfSome o (λ k. (k.number ≡ n) × IsRecordIn t n)
+  found s t n None is h = tt
+  found s t n (Some k) is h = (h.0, λ l legal means. subst IsSome (sym (shown_record l s (means ∙ sym is) n)) h.1)
+
+  pub absent : (s t : Shown C) (n : ℕ) (o : Option Key) → s ≡ t → IfNone o (get s.records.places n ≡ None) → IfNone o (IsNoRecordIn t n)
+  absent s t n None is h = λ l legal means. shown_record l s (means ∙ sym is) n ∙ h
+  absent s t n (Some k) is h = tt
+
+  pub get_found : (s t : Shown C) (n : ℕ) (o : Option GetKey) → s ≡ t → IfSome o (λ g. (g.number ≡ n) × IsSome (get s.gets.places n)) → IfSome o (λ g. (g.number ≡ n) × IsGetIn t n)
+  get_found s t n None is h = tt
+  get_found s t n (Some g) is h = (h.0, λ l legal means. subst IsSome (sym (shown_get l s (means ∙ sym is) n)) h.1)
+
+  pub get_absent : (s t : Shown C) (n : ℕ) (o : Option GetKey) → s ≡ t → IfNone o (get s.gets.places n ≡ None) → IfNone o (IsNoGetIn t n)
+  get_absent s t n None is h = λ l legal means. shown_get l s (means ∙ sym is) n ∙ h
+  get_absent s t n (Some g) is h = tt
+
+  -- which tries are taken, by what is shown
+  pub takes_try : (l : Ledger C) (s : Shown C) (g : ℕ) → Means l s → takes l (Try g) ≡ ((not s.config.test_on_check_out && ltb 0 (length s.records.idle)) && gets_stand is_trying (get s.gets.places g))
+  takes_try l s g means =
+      ap (λ (o : Option Getting). (not (start l).config.test_on_check_out && ltb 0 (length (idle l))) && gets_stand is_trying o) (shown_get l s means g)
+      ∙ ap (λ (t : Shown C). (not t.config.test_on_check_out && ltb 0 (length t.records.idle)) && gets_stand is_trying (get s.gets.places g)) means
+
+  -- ---- an event that does not fit changes nothing
+
+  unfit_records : (l : Ledger C) (at : ℕ) (e : Act C) → records (Later l at e Unfit) ≡ records l
+  unfit_records l at Begin = refl
+  unfit_records l at (Try g) = refl
+  unfit_records l at (CheckedOk g) = refl
+  unfit_records l at (CheckedErr g b) = refl
+  unfit_records l at (GiveUp g why None b) = refl
+  unfit_records l at (GiveUp g why (Some c) b) = refl
+  unfit_records l at (PutBack k c b) = refl
+  unfit_records l at (Fill claimed) = refl
+  unfit_records l at Claim = refl
+  unfit_records l at (Opened k c) = refl
+  unfit_records l at (Failed k) = refl
+  unfit_records l at (Add c b) = refl
+  unfit_records l at Reap = refl
+  unfit_records l at State = refl
+  unfit_records l at Join = refl
+  unfit_records l at Leave = refl
+  unfit_records l at Look = refl
+
+  unfit_counts : (l : Ledger C) (at : ℕ) (e : Act C) → counts (Later l at e Unfit) ≡ counts l
+  unfit_counts l at e = refl
+
+  unfit_shown : (l : Ledger C) (at : ℕ) (e : Act C) → shown (Later l at e Unfit) ≡ shown l
+  unfit_shown l at e = same_shown _ _ refl refl refl
+      (ap (λ (rs : List (Numbered (Standing C))). shown_records (start l).first (suc (position l)) (max (peak l) (conns_of rs + approved_of rs)) rs) (unfit_records l at e) ∙ records_kept l)
+      (ap (λ (gs : List (Numbered Getting)). shown_gets (start l).first_get (suc (position l)) (max (get_peak l) (alive_of gs)) gs) (unfit_gets l at e) ∙ gets_kept l)
+      (unfit_counts l at e)
+
+  pub meets_unfit : (s new : Shown C) (at : ℕ) (e : Act C) → ((l : Ledger C) → IsLegal l → Means l s → takes l e ≡ false) → new ≡ s → Meets s at e Unfit new
+  meets_unfit s new at e misfit new_is l legal means = (
+    unfitting (takes l e) _ _ (misfit l legal means) refl,
+    unfit_shown l at e ∙ means ∙ sym new_is,
+  )
+
+-- ---- lists of events
+
+-- a run is made longer at its end
+pub run_more : (l m : Ledger ℕ) (events : List Event) (answers : List Told) (e : Event) (a : Told) → IsRun l events answers m → Allowed m e.at.0 (act_of m e.act) (answer_of a) → IsRun l (events ++ e ∷ []) (answers ++ a ∷ []) (Later m e.at.0 (act_of m e.act) (answer_of a))
+run_more l m [] [] e a r h = (subst (λ (x : Ledger ℕ). Allowed x e.at.0 (act_of x e.act) (answer_of a)) (sym r) h, ap (λ (x : Ledger ℕ). Later x e.at.0 (act_of x e.act) (answer_of a)) r)
+run_more l m [] (b ∷ answers) e a r h = absurd r
+run_more l m (x ∷ events) [] e a r h = absurd r
+run_more l m (x ∷ events) (b ∷ answers) e a r h = (r.0, run_more (Later l x.at.0 (act_of l x.act) (answer_of b)) m events answers e a r.1 h)
+
+-- a run of allowed answers leads to a legal ledger
+pub run_legal : (l last : Ledger ℕ) (events : List Event) (answers : List Told) → IsLegal l → IsRun l events answers last → IsLegal last
+run_legal l last [] [] legal r = subst (λ (x : Ledger ℕ). IsLegal x) r legal
+run_legal l last [] (b ∷ answers) legal r = absurd r
+run_legal l last (x ∷ events) [] legal r = absurd r
+run_legal l last (x ∷ events) (b ∷ answers) legal r = run_legal (Later l x.at.0 (act_of l x.act) (answer_of b)) last events answers (legal, r.0) r.1
+
+-- each beginning of a run is one
+run_take : (l last : Ledger ℕ) (events : List Event) (answers : List Told) → IsRun l events answers last → (i : ℕ) → (m : Ledger ℕ) × IsRun l (take i events) (take i answers) m
+run_take l last events answers r zero = (l, refl)
+run_take l last [] [] r (suc i) = (l, refl)
+run_take l last [] (b ∷ answers) r (suc i) = absurd r
+run_take l last (x ∷ events) [] r (suc i) = absurd r
+run_take l last (x ∷ events) (b ∷ answers) r (suc i) = let rest = run_take (Later l x.at.0 (act_of l x.act) (answer_of b)) last events answers r.1 i in (rest.0, (r.0, rest.1))
+
+-- so after each beginning the limits hold
+pub run_limits : (l last : Ledger ℕ) (events : List Event) (answers : List Told) → IsLegal l → IsRun l events answers last → (i : ℕ) → (m : Ledger ℕ) × IsRun l (take i events) (take i answers) m × KeepsLimits m
+run_limits l last events answers legal r i = let m = run_take l last events answers r i in (m.0, m.1, keeps_limits m.0 (run_legal l m.0 (take i events) (take i answers) legal m.1))
+
+-- one answer an event
+pub run_length : (l last : Ledger ℕ) (events : List Event) (answers : List Told) → IsRun l events answers last → length answers ≡ length events
+run_length l last [] [] r = refl
+run_length l last [] (b ∷ answers) r = absurd r
+run_length l last (x ∷ events) [] r = absurd r
+run_length l last (x ∷ events) (b ∷ answers) r = ap suc (run_length (Later l x.at.0 (act_of l x.act) (answer_of b)) last events answers r.1)

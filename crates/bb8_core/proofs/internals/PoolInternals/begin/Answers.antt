@@ -1,0 +1,48 @@
+use Rattle.std.proofs.Common.{◌≡◌, ◌<◌, ◌≤◌, ℕ, suc, sym, ◌∙◌, refl, arith, ltb, true, false}
+use Rattle.std.proofs.lemmas.Bool.Decides.{leb_tells, nat_tests}
+use Rattle.bb8_core.specs.Acts as acts
+use Rattle.bb8_core.specs.Answers as answers
+use Rattle.bb8_core.specs.Pool.{view_of}
+use Rattle.bb8_core.proofs.Laws.{shown_fits}
+use Rattle.bb8_core.proofs.Steps.{meets_begun, meets_memory, meets_exhausted, led, at_view, fits_view}
+use Rattle.bb8_core.proofs.internals.PoolInternals.begin.Goals as goal
+
+-- what the test of a number says
+left : (n : ℕ) → ltb n 18446744073709551615 ≡ true → n < 18446744073709551615
+left n e = grind (arith, nat_tests, leb_tells (suc n) 18446744073709551615)
+
+used_up : (n : ℕ) → ltb n 18446744073709551615 ≡ false → 18446744073709551615 ≤ n
+used_up n e = grind (arith, nat_tests, leb_tells (suc n) 18446744073709551615)
+
+pub invariant_of-self : goal.invariant_of-self
+invariant_of-self g c = led (view_of c.self.inside) _ c.args.at.0 acts.Begin answers.Exhausted c.self.invariant
+    (meets_exhausted (view_of c.self.inside) c.args.at.0 c.max-self-inside.result (fits_view acts.Begin c.self.view_is c.requires) c.max-self-inside.ensures (used_up c.self.inside.gets.next (sym c.has_number.ensures ∙ c.if-not-has_number.true)))
+
+pub returns-then-not-has_number : goal.returns-then-not-has_number
+returns-then-not-has_number g c = at_view _ c.args.at.0 acts.Begin answers.Exhausted c.self.view_is
+    (meets_exhausted (view_of c.self.inside) c.args.at.0 c.max-self-inside.result (fits_view acts.Begin c.self.view_is c.requires) c.max-self-inside.ensures (used_up c.self.inside.gets.next (sym c.has_number.ensures ∙ c.if-not-has_number.true)))
+
+pub begin-requires : goal.begin-requires
+begin-requires g c = left c.self.inside.gets.next (sym c.has_number.ensures ∙ c.if-not-has_number.false)
+
+pub invariant_of-self-in-None : goal.invariant_of-self-in-None
+invariant_of-self-in-None g c = led (view_of c.self.inside) _ c.args.at.0 acts.Begin answers.Memory c.self.invariant
+    (meets_memory (view_of c.self.inside) c.args.at.0 c.max-self-inside.result c.begin.new.self (fits_view acts.Begin c.self.view_is c.requires) c.max-self-inside.ensures (left c.self.inside.gets.next (sym c.has_number.ensures ∙ c.if-not-has_number.false)) c.in-None.ensures.none.0 c.in-None.ensures.none.1)
+
+pub returns-in-None : goal.returns-in-None
+returns-in-None g c = at_view _ c.args.at.0 acts.Begin answers.Memory c.self.view_is
+    (meets_memory (view_of c.self.inside) c.args.at.0 c.max-self-inside.result c.begin.new.self (fits_view acts.Begin c.self.view_is c.requires) c.max-self-inside.ensures (left c.self.inside.gets.next (sym c.has_number.ensures ∙ c.if-not-has_number.false)) c.in-None.ensures.none.0 c.in-None.ensures.none.1)
+
+pub overflow_add-self : goal.overflow_add-self
+overflow_add-self g c =
+    let fit = shown_fits (view_of c.self.inside) c.self.invariant in
+    let few : c.self.inside.gets.next < 18446744073709551615 = left c.self.inside.gets.next (sym c.has_number.ensures ∙ c.if-not-has_number.false) in
+    omega (arith, fit.started_few)
+
+pub invariant_of-self-in-Some : goal.invariant_of-self-in-Some
+invariant_of-self-in-Some g c = led (view_of c.self.inside) _ c.args.at.0 acts.Begin (answers.Begun c.in-Some.get.number) c.self.invariant
+    (meets_begun (view_of c.self.inside) c.args.at.0 c.in-Some.get.number c.max-self-inside.result c.begin.new.self _ (fits_view acts.Begin c.self.view_is c.requires) c.max-self-inside.ensures (left c.self.inside.gets.next (sym c.has_number.ensures ∙ c.if-not-has_number.false)) c.in-Some.ensures.some.1 refl c.in-Some.ensures.some.0)
+
+pub returns-in-Some : goal.returns-in-Some
+returns-in-Some g c = at_view _ c.args.at.0 acts.Begin (answers.Begun c.in-Some.get.number) c.self.view_is
+    (meets_begun (view_of c.self.inside) c.args.at.0 c.in-Some.get.number c.max-self-inside.result c.begin.new.self _ (fits_view acts.Begin c.self.view_is c.requires) c.max-self-inside.ensures (left c.self.inside.gets.next (sym c.has_number.ensures ∙ c.if-not-has_number.false)) c.in-Some.ensures.some.1 refl c.in-Some.ensures.some.0)

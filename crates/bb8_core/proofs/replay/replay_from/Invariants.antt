@@ -1,0 +1,8 @@
+use Rattle.std.proofs.Common.{ℕ, take}
+use Rattle.bb8_core.specs.Ledger.{Ledger}
+use Rattle.bb8_core.specs.Run.{IsRun, opening}
+use Rattle.bb8_core.specs.Shown.{Means}
+use Rattle.bb8_core.proofs.replay.replay_from.Given as goal
+
+abbrev pub invariant-loop-event : goal.invariant-loop-event
+invariant-loop-event l = (last : Ledger ℕ) × IsRun (opening l.fn.config l.first_number l.first_get) (take l.event-index l.events) l.answers.items last × Means last l.pool

@@ -1,0 +1,285 @@
+//! The locked state of a pool.
+ghost use Rattle.std.specs.Prelude.{◌≡◌, ℕ, ◌+◌, ◌≤◌, ◌&&◌, ◌||◌, not, eqb, IsSome, IfSome, IfNone, true, ltb, length, None, Some};
+ghost use Rattle.std.specs.FinMap as map;
+ghost use Rattle.bb8_core.specs.Acts as acts;
+ghost use Rattle.bb8_core.specs.Answers as answers;
+ghost use Rattle.bb8_core.specs.Ledger as ledger;
+ghost use Rattle.bb8_core.specs.Machine as machine;
+ghost use Rattle.bb8_core.specs.Table as table;
+ghost use Rattle.bb8_core.specs.Numbered as numbered;
+ghost use Rattle.bb8_core.specs.Settings.{settings_of, is_lawful};
+ghost use Rattle.bb8_core.specs.Figures.{figures_of};
+ghost use Rattle.bb8_core.specs.Run.{opening, act_with};
+ghost use Rattle.bb8_core.specs.Shown.{Means, Meets, IsFitting, IsRecordIn, IsNoRecordIn, IsGetIn, IsNoGetIn};
+ghost use Rattle.bb8_core.specs.Limits.{IsWithinLimits};
+ghost use Rattle.bb8_core.specs.Outcomes.{begin_told, try_told, put_back_told, claim_told, opened_told, HandsOut, GivesBack, HandsBack};
+
+use crate::api::{Config, Moment, State};
+use crate::counters::Counters;
+pub use crate::events::Grant;
+use crate::events::{Act, Event};
+use crate::gets::Gets;
+pub use crate::keys::{GetKey, Key};
+pub use crate::outcomes::{BeginAnswer, ClaimAnswer, OpenedAnswer, PutBackAnswer, TryAnswer};
+use crate::records::{Records, one};
+use std::alloc::Global;
+use std::marker::Model;
+
+/// The state of a pool that stands behind its lock, over connections of any type. Its steps are the events of a pool; they call no
+/// manager and wait for nothing. Its name and its part are upstream's, its steps are our own.
+///
+/// Whoever has one has what some legal ledger shows, so it keeps the limits: see `limits`.
+#[derive(Drop)]
+pub struct PoolInternals<C> {
+    config: Config,
+    latest: u64,
+    handles: u64,
+    records: Records<C>,
+    gets: Gets,
+    counters: Counters,
+}
+
+impl<C> Model for PoolInternals<C> {
+    ghost use Rattle.bb8_core.specs.Shown.{Shown, shown_code, HasLedger};
+    ghost use Rattle.bb8_core.specs.Pool.{view_of};
+
+    ghost Value = { Shown C };
+
+    ghost coded = { shown_code C.code };
+
+    ghost view = { view_of };
+
+    ghost invariant = { λ a. HasLedger (view_of a) };
+}
+
+/// How many approvals a grant is to make.
+fn due(config: &Config, handles: u64, taken: u64, asked: u64) -> u64
+    ensures { result ≡ table.due (settings_of config.now) handles taken asked }
+{
+    if handles == 0 {
+        0
+    } else {
+        asked.min((config.max_size as u64).saturating_sub(taken))
+    }
+}
+
+/// How many approvals are due of those that are wanted.
+fn want<C: Drop>(config: &Config, handles: u64, records: &Records<C>) -> u64
+    ensures { result ≡ machine.want (settings_of config.now) handles records.now }
+{
+    let least = config.min_idle.unwrap_or(0) as u64;
+    due(
+        config,
+        handles,
+        records.used(),
+        least.saturating_sub(records.ready()),
+    )
+}
+
+/// Whether a connection of this birth has lived too long.
+fn is_expired(config: &Config, now: u64, birth: u64) -> bool
+    ensures { result ≡ ledger.is_expired (settings_of config.now).max_lifetime now birth }
+{
+    match config.max_lifetime {
+        None => false,
+        Some(lifetime) => lifetime.as_nanos() <= now.saturating_sub(birth) as u128,
+    }
+}
+
+/// Whether a returned connection is closed.
+fn is_closing(broken: bool, expired: bool, handles: u64) -> bool
+    ensures { result ≡ (broken || (expired || eqb handles 0)) }
+{
+    broken || expired || handles == 0
+}
+
+/// One, where the test passes and the one before it does not.
+fn one_first(test: bool, before: bool) -> u64
+    ensures value { result ≡ numbered.one (not before && test) }
+    ensures few { result ≤ numbered.one (not before) }
+{
+    if before { 0 } else { one(test) }
+}
+
+impl<C: Drop> PoolInternals<C> {
+    /// The empty state with one handle, which takes no memory. Numbers begin at 0.
+    pub fn new(alloc: Global, config: Config) -> Self
+        requires { is_lawful (settings_of config) ≡ true }
+        ensures { Means (opening config 0 0) result }
+    {
+        Self::starting_at(alloc, config, 0, 0)
+    }
+
+    /// The empty state with one handle, whose connections and approvals have numbers from `first_number` on, and its gets from
+    /// `first_get` on. It takes no memory.
+    pub fn starting_at(alloc: Global, config: Config, first_number: u64, first_get: u64) -> Self
+        requires { is_lawful (settings_of config) ≡ true }
+        ensures { Means (opening config first_number first_get) result }
+    {
+        PoolInternals {
+            config,
+            latest: 0,
+            handles: 1,
+            records: Records::new(alloc, first_number),
+            gets: Gets::new(alloc, first_get),
+            counters: Counters::NONE,
+        }
+    }
+
+    /// What holds of every state, whoever has it: connections and open approvals are within the size, and the legal ledger that it means
+    /// keeps all limits. It does nothing.
+    pub fn limits(&self)
+        ensures size { self.now.records.conns + self.now.records.approved ≤ self.now.config.max_size }
+        ensures ledger { IsWithinLimits self.now }
+    {
+        let _ = &self.config;
+    }
+
+    /// Begins a get. Memory is asked for only where as many gets are alive as ever were.
+    pub fn begin(&mut self, at: Moment) -> BeginAnswer
+        requires { IsFitting self.old acts.Begin }
+        ensures { Meets self.old at.0 acts.Begin (begin_told result) self.new }
+    {
+        self.latest = self.latest.max(at.0);
+        if !self.gets.has_number() {
+            return BeginAnswer::Exhausted;
+        }
+        match self.gets.begin() {
+            None => BeginAnswer::Memory,
+            Some(get) => {
+                self.counters.started += 1;
+                BeginAnswer::Begun(get)
+            }
+        }
+    }
+
+    /// Serves a get with the idle connection that is first by the queue strategy, which goes to a guard, and grants what is wanted then.
+    pub fn try_get(&mut self, at: Moment, get: GetKey) -> TryAnswer<C>
+        requires { IsFitting self.old (acts.Try get.number) }
+        ensures step { Meets self.old at.0 (acts.Try get.number) (try_told result) self.new }
+        ensures connection { HandsOut self.old result }
+    {
+        match self.records.take(self.config.queue_strategy) {
+            None => unreachable!(),
+            Some((key, conn)) => {
+                self.latest = self.latest.max(at.0);
+                self.gets.end(get);
+                self.counters.direct += 1;
+                let wanted = want(&self.config, self.handles, &self.records);
+                let grant = self.records.grant(wanted, false);
+                TryAnswer::Served(key, conn, grant)
+            }
+        }
+    }
+
+    /// Takes back a connection that a guard held. It is closed where it is broken, or else has lived too long, or else no handle is alive;
+    /// otherwise it is idle again and keeps its birth.
+    pub fn put_back(&mut self, at: Moment, k: Key, conn: C, broken: bool) -> PutBackAnswer<C>
+        requires { IsFitting self.old (acts.PutBack k.number conn broken) }
+        ensures step { Meets self.old at.0 (acts.PutBack k.number conn broken) (put_back_told k.number result) self.new }
+        ensures connection { GivesBack conn result }
+    {
+        let now = self.latest.max(at.0);
+        self.latest = now;
+        let birth = self.records.birth(k);
+        let expired = is_expired(&self.config, now, birth);
+        if is_closing(broken, expired, self.handles) {
+            self.records.close(k, false);
+            self.counters.broken += one(broken);
+            self.counters.max_lifetime += one_first(expired, broken);
+            let wanted = want(&self.config, self.handles, &self.records);
+            PutBackAnswer::Closed(conn, self.records.grant(wanted, false), None)
+        } else {
+            self.records.enter(k, conn, birth, now, false);
+            PutBackAnswer::Kept(None)
+        }
+    }
+
+    /// Grants what is wanted: as many approvals as idle connections and open approvals are fewer than `min_idle`. They are claimed at
+    /// once where that is asked for.
+    pub fn fill(&mut self, at: Moment, claimed: bool) -> Grant
+        ensures { Meets self.old at.0 (acts.Fill claimed) (answers.Granted result) self.new }
+    {
+        self.latest = self.latest.max(at.0);
+        let wanted = want(&self.config, self.handles, &self.records);
+        self.records.grant(wanted, claimed)
+    }
+
+    /// Claims the unclaimed approval of the least number.
+    pub fn claim(&mut self, at: Moment) -> ClaimAnswer
+        ensures { Meets self.old at.0 acts.Claim (claim_told result) self.new }
+    {
+        self.latest = self.latest.max(at.0);
+        if self.handles == 0 {
+            return ClaimAnswer::Ended;
+        }
+        ClaimAnswer::Claimed(self.records.claim())
+    }
+
+    /// Makes idle the connection that a claimed approval brought; its birth is now. Where no handle is alive the approval ends instead,
+    /// and the connection is handed back.
+    pub fn opened(&mut self, at: Moment, a: Key, conn: C) -> OpenedAnswer<C>
+        requires { IsFitting self.old (acts.Opened a.number conn) }
+        ensures step { Meets self.old at.0 (acts.Opened a.number conn) (opened_told a.number result) self.new }
+        ensures connection { HandsBack conn result }
+    {
+        let now = self.latest.max(at.0);
+        self.latest = now;
+        if self.handles == 0 {
+            self.records.close(a, true);
+            return OpenedAnswer::Late(conn);
+        }
+        self.records.enter(a, conn, now, now, true);
+        self.counters.created += 1;
+        OpenedAnswer::Entered(None)
+    }
+
+    /// What the pool tells of itself.
+    pub fn state(&mut self, at: Moment) -> State
+        ensures step { Meets self.old at.0 acts.State (answers.Shown (figures_of result)) self.new }
+        ensures figures { (l : ledger.Ledger C) → Means l self.old → figures_of result ≡ ledger.figures l }
+    {
+        self.latest = self.latest.max(at.0);
+        State {
+            connections: self.records.connections(),
+            idle_connections: self.records.idle_connections(),
+            statistics: self.counters.statistics(),
+        }
+    }
+
+    /// Whether the event fits. A connection that it hands in does not matter.
+    pub fn fits(&self, event: Event) -> bool
+        ensures { (conn : ℕ → C) (l : ledger.Ledger C) → table.IsLegal l → Means l self.now → result ≡ table.takes l (act_with conn event.act) }
+    {
+        match event.act {
+            Act::Begin => self.handles > 0,
+            Act::Try(get) => self.takes_try(get),
+            Act::PutBack(number, _) => self.records.is_guarded(number),
+            Act::Opened(number) => self.records.is_claimed(number),
+            Act::Fill(_) | Act::Claim | Act::State => true,
+        }
+    }
+
+    /// Whether the try of a get fits.
+    fn takes_try(&self, get: u64) -> bool
+        ensures { result ≡ ((not self.now.config.test_on_check_out && ltb 0 (length self.now.records.idle)) && ledger.gets_stand table.is_trying (map.get self.now.gets.places get)) }
+    {
+        !self.config.test_on_check_out && self.records.has_idle() && self.gets.is_trying(get)
+    }
+
+    /// The key of a connection or approval that has not ended, by its number.
+    pub fn find(&self, number: u64) -> Option<Key>
+        ensures some { IfSome result (λ k. (k.number ≡ number) × IsRecordIn self.now number) }
+        ensures none { IfNone result (IsNoRecordIn self.now number) }
+    {
+        self.records.find(number)
+    }
+
+    /// The key of a get that has not ended, by its number.
+    pub fn find_get(&self, number: u64) -> Option<GetKey>
+        ensures some { IfSome result (λ g. (g.number ≡ number) × IsGetIn self.now number) }
+        ensures none { IfNone result (IsNoGetIn self.now number) }
+    {
+        self.gets.find(number)
+    }
+}

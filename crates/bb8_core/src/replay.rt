@@ -1,0 +1,142 @@
+//! Replays of lists of events, by plain numbers.
+ghost use Rattle.std.specs.Prelude.{◌≡◌, ℕ, take, length, true, IfOk};
+ghost use Rattle.bb8_core.specs.Acts as acts;
+ghost use Rattle.bb8_core.specs.Ledger.{Ledger};
+ghost use Rattle.bb8_core.specs.Limits.{KeepsLimits};
+ghost use Rattle.bb8_core.specs.Outcomes.{notified_of};
+ghost use Rattle.bb8_core.specs.Run.{act_of, answer_of, opening, IsRun};
+ghost use Rattle.bb8_core.specs.Settings.{settings_of, is_lawful};
+ghost use Rattle.bb8_core.specs.Shown.{Means, Meets, IsFitting};
+
+use crate::api::{Config, Memory, Moment};
+pub use crate::events::{Act, Answer, Event};
+use crate::internals::PoolInternals;
+use crate::keys::GetKey;
+use crate::outcomes::{BeginAnswer, ClaimAnswer, OpenedAnswer, PutBackAnswer, TryAnswer};
+use std::alloc::Global;
+
+/// The number of the get that a step notified.
+fn number_of(notified: Option<GetKey>) -> Option<u64>
+    ensures { result ≡ notified_of notified }
+{
+    match notified {
+        None => None,
+        Some(get) => Some(get.number),
+    }
+}
+
+fn begin(pool: &mut PoolInternals<u64>, at: Moment) -> Answer
+    requires { IsFitting pool.old acts.Begin }
+    ensures { Meets pool.old at.0 acts.Begin (answer_of result) pool.new }
+{
+    match pool.begin(at) {
+        BeginAnswer::Begun(get) => Answer::Begun(get.number),
+        BeginAnswer::Memory => Answer::Memory,
+        BeginAnswer::Exhausted => Answer::Exhausted,
+    }
+}
+
+fn try_get(pool: &mut PoolInternals<u64>, at: Moment, get: u64) -> Answer
+    requires { IsFitting pool.old (acts.Try get) }
+    ensures { Meets pool.old at.0 (acts.Try get) (answer_of result) pool.new }
+{
+    match pool.find_get(get) {
+        None => Answer::Unfit,
+        Some(key) => match pool.try_get(at, key) {
+            TryAnswer::Served(served, _, grant) => Answer::Served(served.number, grant),
+        },
+    }
+}
+
+fn put_back(pool: &mut PoolInternals<u64>, at: Moment, number: u64, broken: bool) -> Answer
+    requires { IsFitting pool.old (acts.PutBack number number broken) }
+    ensures { Meets pool.old at.0 (acts.PutBack number number broken) (answer_of result) pool.new }
+{
+    match pool.find(number) {
+        None => Answer::Unfit,
+        Some(key) => match pool.put_back(at, key, number, broken) {
+            PutBackAnswer::Kept(notified) => Answer::Kept(number, number_of(notified)),
+            PutBackAnswer::Closed(_, grant, notified) => {
+                Answer::Closed(number, grant, number_of(notified))
+            }
+        },
+    }
+}
+
+fn claim(pool: &mut PoolInternals<u64>, at: Moment) -> Answer
+    ensures { Meets pool.old at.0 acts.Claim (answer_of result) pool.new }
+{
+    match pool.claim(at) {
+        ClaimAnswer::Claimed(Some(key)) => Answer::Claimed(Some(key.number)),
+        ClaimAnswer::Claimed(None) => Answer::Claimed(None),
+        ClaimAnswer::Ended => Answer::Ended,
+    }
+}
+
+fn opened(pool: &mut PoolInternals<u64>, at: Moment, number: u64) -> Answer
+    requires { IsFitting pool.old (acts.Opened number number) }
+    ensures { Meets pool.old at.0 (acts.Opened number number) (answer_of result) pool.new }
+{
+    match pool.find(number) {
+        None => Answer::Unfit,
+        Some(key) => match pool.opened(at, key, number) {
+            OpenedAnswer::Entered(notified) => Answer::Entered(number, number_of(notified)),
+            OpenedAnswer::Late(_) => Answer::Late(number),
+        },
+    }
+}
+
+/// What an event is answered. The connection of a record is its number.
+fn apply(pool: &mut PoolInternals<u64>, event: Event) -> Answer
+    ensures { (l : Ledger ℕ) → Meets pool.old event.at.0 (act_of l event.act) (answer_of result) pool.new }
+{
+    if !pool.fits(event) {
+        return Answer::Unfit;
+    }
+    match event.act {
+        Act::Begin => begin(pool, event.at),
+        Act::Try(get) => try_get(pool, event.at, get),
+        Act::PutBack(number, broken) => put_back(pool, event.at, number, broken),
+        Act::Fill(claimed) => Answer::Granted(pool.fill(event.at, claimed)),
+        Act::Claim => claim(pool, event.at),
+        Act::Opened(number) => opened(pool, event.at, number),
+        Act::State => Answer::Shown(pool.state(event.at)),
+    }
+}
+
+/// What the events are answered, one answer each, from the empty state on, and the state that they leave. An event that does not fit
+/// answers `Unfit` and changes nothing. `Memory` comes only where the list of answers could not grow: want of memory inside a step is
+/// that step's answer. Our own.
+pub fn replay(
+    alloc: Global,
+    config: Config,
+    events: &[Event],
+) -> Result<(Vec<Answer>, PoolInternals<u64>), Memory>
+    requires { is_lawful (settings_of config) ≡ true }
+    ensures answers { IfOk result (λ r. length r.0.items ≡ length events.now) }
+    ensures run { IfOk result (λ r. (last : Ledger ℕ) × IsRun (opening config 0 0) events.now r.0.items last × Means last r.1) }
+    ensures limits { IfOk result (λ r. (i : ℕ) → (l : Ledger ℕ) × IsRun (opening config 0 0) (take i events.now) (take i r.0.items) l × KeepsLimits l) }
+{
+    replay_from(alloc, config, 0, 0, events)
+}
+
+/// As `replay`, with the first number of connections and approvals, and that of gets.
+pub fn replay_from(
+    alloc: Global,
+    config: Config,
+    first_number: u64,
+    first_get: u64,
+    events: &[Event],
+) -> Result<(Vec<Answer>, PoolInternals<u64>), Memory>
+    requires { is_lawful (settings_of config) ≡ true }
+    ensures answers { IfOk result (λ r. length r.0.items ≡ length events.now) }
+    ensures run { IfOk result (λ r. (last : Ledger ℕ) × IsRun (opening config first_number first_get) events.now r.0.items last × Means last r.1) }
+    ensures limits { IfOk result (λ r. (i : ℕ) → (l : Ledger ℕ) × IsRun (opening config first_number first_get) (take i events.now) (take i r.0.items) l × KeepsLimits l) }
+{
+    let mut pool = PoolInternals::starting_at(alloc, config, first_number, first_get);
+    let mut answers = Vec::new(alloc);
+    for event in events {
+        answers.push(apply(&mut pool, *event))?;
+    }
+    Ok((answers, pool))
+}
