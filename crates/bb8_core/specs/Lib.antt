@@ -15,3 +15,5 @@ pub mod Run
 pub mod Limits
 pub mod Waits
 pub mod Rows
+pub mod Errors
+pub mod ErrorLaws

@@ -1,0 +1,8 @@
+-- What a builder holds.
+use Rattle.bb8_core.specs.Settings.{Settings}
+
+-- the settings of a pool, where its errors go, and what prepares its connections
+pub record Choices (S Z : Type 0) : Type 0 where
+  pub settings : Settings
+  pub error_sink : S
+  pub connection_customizer : Z
