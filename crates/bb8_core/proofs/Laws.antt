@@ -1,5 +1,5 @@
 -- What holds of every legal ledger.
-use Rattle.std.proofs.Common.{◌≡◌, ℕ, zero, suc, ◌+◌, ◌-◌, ◌<◌, ◌≤◌, max, min, Bool, true, false, cond, not, eqb, ◌&&◌, List, [], ◌∷◌, ◌++◌, length, Option, Some, None, slice_get, refl, sym, ap, ◌∙◌, inl, arith, subst, length-append, is_some, ltb}
+use Rattle.std.proofs.Common.{◌≡◌, ◌≢◌, ℕ, zero, suc, ◌+◌, ◌-◌, ◌<◌, ◌≤◌, max, min, Bool, true, false, cond, not, eqb, ◌&&◌, List, [], ◌∷◌, ◌++◌, length, Option, Some, None, slice_get, refl, sym, ap, ◌∙◌, inl, arith, subst, length-append, is_some, ltb}
 use Rattle.std.specs.FinMap.{get}
 use Rattle.std.proofs.lemmas.Bool.Decides.{nat_tests}
 use Rattle.bb8_core.specs.declared.events.Grant.{Grant}
@@ -9,18 +9,18 @@ use Rattle.bb8_core.specs.declared.standing.Getting.{Getting}
 use Rattle.bb8_core.specs.Settings.{Settings}
 use Rattle.bb8_core.specs.Figures.{Counts}
 use Rattle.bb8_core.specs.Acts.{Act, Begin, Try, CheckedOk, CheckedErr, GiveUp, PutBack, Fill, Claim, Opened, Failed, Add, Reap, State, Join, Leave, Look}
-use Rattle.bb8_core.specs.Answers.{Answer, Kept, Claimed as ClaimedNow, Entered, Unfit}
+use Rattle.bb8_core.specs.Answers.{Answer, Kept, Claimed as ClaimedNow, Entered, Unfit, Added}
 use Rattle.bb8_core.specs.Numbered.{at as at_number, Numbered, update, one}
 use Rattle.bb8_core.specs.Ledger.{Ledger, Opening, Later, start, position, latest, records, gets, handles, next, next_get, conns, approved, conns_of, approved_of, idle_of, alive, alive_of, peak, idle, unclaimed, first_place, record_of, get_of, stands, is_claimed, is_guarded, is_conn, is_approval, gets_stand, holds, held_in, is_unnotified, put, ended, entry, approval, approve, new_get, birth_in, expires, counts, waited_since}
 use Rattle.bb8_core.specs.Table.{due, lacking, IsWant, IsLegal, takes, is_brought, is_trying}
 use Rattle.bb8_core.specs.Shown.{Shown, ShownRecords, Means, HasLedger, IsFitting}
 use Rattle.bb8_core.specs.Limits.{KeepsLimits}
 use Rattle.bb8_core.specs.Machine as machine
-use Rattle.bb8_core.proofs.ShownRecords.{shown-claimed, shown-taken, shown-closed, shown-entered, standing_is, claimed_is, guarded_is, record_at, conns-change, approved-change, tested, and_right}
+use Rattle.bb8_core.proofs.ShownRecords.{shown-claimed, shown-taken, shown-closed, shown-entered, shown-born, standing_is, claimed_is, guarded_is, record_at, conns-change, approved-change, tested, and_right}
 use Rattle.bb8_core.proofs.ShownGets as of_gets
 use Rattle.bb8_core.proofs.Numbered as numbered
 use Rattle.bb8_core.proofs.Facts.{entered_before, shown_record, shown_get, conns_split}
-use Rattle.bb8_core.proofs.Stage.{Here, begins_here, refused_here, exhausted_here, serves_here, keeps_here, closes_here, fills_here, claims_here, ended_here, opens_here, late_here, shows_here, here, all_fresh, by_fit, fresh, IsFresh, fresh_at, none_tallied}
+use Rattle.bb8_core.proofs.Stage.{Here, begins_here, refused_here, exhausted_here, serves_here, keeps_here, closes_here, fills_here, claims_here, ended_here, opens_here, late_here, broken_here, full_here, withheld_here, adds_here, shows_here, here, all_fresh, by_fit, fresh, IsFresh, fresh_at, none_tallied}
 
 -- The sizes and the statistics of a ledger fit together.
 pub record Fits (max_size conns approved next alive next_get : ℕ) (c : Counts) : Type 0 where
@@ -233,6 +233,17 @@ module _ {C : Type 0} where
       let approved_are : approved_of rs ≡ approved l - 1 = ap (λ (s : ShownRecords C). s.approved) is in
       let next_is : (start l).first + length rs ≡ next l = ap (λ (s : ShownRecords C). s.next) is in
       record { size = omega (arith, h.size); started_few = h.started_few; answered = h.answered; created_few = omega (arith, h.created_few); closed_few = omega (arith, h.closed_few) }
+  row_fits l at _ _ broken_here f legal h = h
+  row_fits l at _ _ full_here f legal h = h
+  row_fits l at _ _ withheld_here f legal h = h
+  row_fits l at _ _ (adds_here {k} {c} room is) f legal h =
+      let now : ℕ = max (latest l) at in
+      let shows = shown-born (start l).first (position l) (peak l) (records l) c now (entered_before l) in
+      let rs : List (Numbered (Standing C)) = records (Later l at (Add c false) (Added k None)) in
+      let conns_are : conns_of rs ≡ conns l + 1 = ap (λ (s : ShownRecords C). s.conns) shows in
+      let approved_are : approved_of rs ≡ approved l = ap (λ (s : ShownRecords C). s.approved) shows in
+      let next_is : (start l).first + length rs ≡ next l + 1 = ap (λ (s : ShownRecords C). s.next) shows in
+      record { size = omega (arith, h.size, room); started_few = h.started_few; answered = h.answered; created_few = omega (arith, h.created_few); closed_few = omega (arith, h.closed_few) }
   row_fits l at _ _ shows_here f legal h = h
 
   pub all_fit : (l : Ledger C) → IsLegal l → AllFit l
@@ -268,6 +279,12 @@ module _ {C : Type 0} where
 
   pub fit_begin : (s : Shown C) → HasLedger s → IsFitting s Begin → 0 < s.handles
   fit_begin s h fit =
+      let open_now : ltb 0 (handles h.0) ≡ true = fit h.0 h.1 h.2 in
+      let some : 0 < handles h.0 = grind (arith, nat_tests, open_now) in
+      subst (λ (t : Shown C). 0 < t.handles) h.2 some
+
+  pub fit_add : (s : Shown C) (c : C) (b : Bool) → HasLedger s → IsFitting s (Add c b) → 0 < s.handles
+  fit_add s c b h fit =
       let open_now : ltb 0 (handles h.0) ≡ true = fit h.0 h.1 h.2 in
       let some : 0 < handles h.0 = grind (arith, nat_tests, open_now) in
       subst (λ (t : Shown C). 0 < t.handles) h.2 some

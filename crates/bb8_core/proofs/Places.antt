@@ -487,3 +487,26 @@ module _ {C : Type 0} where
         refl
         (ap (λ (b : Buffer Key). map (λ (k : Key). k.number) b.items) pushed ∙ numbers_added claimed_now)
         refl refl refl
+
+  -- ---- bear
+
+  -- a connection under the next number, at a free place
+  module _ (a : Inside C) (place now : ℕ) (conn : C) (slots : Slab (Slot (Standing C))) (idle : Buffer Key) (good : AreGoodRecords a) (free : slabs.get a.slots place ≡ None) (u : Updates a.slots slots place (Some (record { number = a.next; standing = record { place = Idle conn; birth = now; entered = now } }))) (pushed : idle ≡ buffer (a.idle.items ++ (record { number = a.next; place = place }) ∷ []) a.idle.capacity) where
+    abbrev newborn : Slot (Standing C)
+    newborn = record { number = a.next; standing = record { place = Idle conn; birth = now; entered = now } }
+
+    pub born_good : a.conns + a.approved < a.peak → slab_len slots ≡ slab_len a.slots + 1 → slots.capacity ≡ a.slots.capacity → AreGoodRecords (record a { next = a.next + 1; slots = slots; idle = idle; conns = a.conns + 1 })
+    born_good free_room len room = record {
+      table = table_added (λ (s : Slot (Standing C)). s.number) (λ s. s.standing) a.slots slots a.next place newborn good.table free refl u;
+      idle = rw pushed (added_line is_idle a.slots slots a.idle.items (record { number = a.next; place = place }) newborn good.idle free u refl refl);
+      unclaimed = free_line is_unclaimed a.slots slots a.unclaimed.items place _ good.unclaimed free u;
+      conns_are = (let t : tally (passes is_conn) slots.slots + 0 ≡ a.conns + 1 = conns_set a slots place None (Some newborn) false true good free u refl refl in omega arith);
+      approved_are = (let t : tally (passes is_approval) slots.slots + 0 ≡ a.approved + 0 = approved_set a slots place None (Some newborn) false false good free u refl refl in omega arith);
+      sizes = let s = good.sizes in let c : idle.capacity ≡ a.idle.capacity = ap (λ (b : Buffer Key). b.capacity) pushed in record { places_are = omega arith; peak_holds = omega arith; peak_few = good.sizes.peak_few; place_room_holds = omega arith; idle_room_holds = omega arith; unclaimed_room_holds = s.unclaimed_room_holds };
+    }
+
+    pub born_view : view_of_records (record a { next = a.next + 1; slots = slots; idle = idle; conns = a.conns + 1 }) ≡ machine.born conn now (view_of_records a)
+    born_view = same_records _ _ refl
+        (held_added (λ (s : Slot (Standing C)). s.number) (λ s. s.standing) a.slots slots a.next place newborn good.table free refl u)
+        (ap (λ (b : Buffer Key). map (λ (k : Key). k.number) b.items) pushed ∙ map_push (λ (k : Key). k.number) a.idle.items (record { number = a.next; place = place }))
+        refl refl refl refl

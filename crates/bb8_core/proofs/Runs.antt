@@ -75,11 +75,8 @@ module _ {C : Type 0} where
       (ap (λ (gs : List (Numbered Getting)). shown_gets (start l).first_get (suc (position l)) (max (get_peak l) (alive_of gs)) gs) (unfit_gets l at e) ∙ gets_kept l)
       (unfit_counts l at e)
 
-  pub meets_unfit : (s new : Shown C) (at : ℕ) (e : Act C) → ((l : Ledger C) → IsLegal l → Means l s → takes l e ≡ false) → new ≡ s → Meets s at e Unfit new
-  meets_unfit s new at e misfit new_is l legal means = (
-    unfitting (takes l e) _ _ (misfit l legal means) refl,
-    unfit_shown l at e ∙ means ∙ sym new_is,
-  )
+  pub unfit_now : (l : Ledger C) (s : Shown C) (at : ℕ) (e : Act C) → takes l e ≡ false → Means l s → Allowed l at e Unfit × Means (Later l at e Unfit) s
+  unfit_now l s at e misfit means = (unfitting (takes l e) _ _ misfit refl, unfit_shown l at e ∙ means)
 
 -- ---- lists of events
 

@@ -1,5 +1,5 @@
 -- What each change of the records does to what is shown of them.
-use Rattle.std.proofs.Common.{◌≡◌, ℕ, zero, suc, ◌+◌, ◌-◌, ◌<◌, ◌≤◌, Bool, true, false, eqb, ◌&&◌, List, [], ◌∷◌, ◌++◌, Option, Some, None, slice_get, drop, option_and_then, option_map, refl, sym, ap, ◌∙◌, arith, length, length-append, cond, not}
+use Rattle.std.proofs.Common.{◌≡◌, ℕ, zero, suc, ◌+◌, ◌-◌, ◌<◌, ◌≤◌, Bool, true, false, eqb, ◌&&◌, List, [], ◌∷◌, ◌++◌, Option, Some, None, slice_get, drop, option_and_then, option_map, refl, sym, ap, ◌∙◌, arith, length, length-append, append-nil, cond, not}
 use Rattle.std.specs.FinMap.{insert, get}
 use Rattle.bb8_core.specs.declared.standing.Place.{Place}
 use Rattle.bb8_core.specs.declared.standing.Place.TheVariants.{Unclaimed, Claimed, Idle, Held, Guarded}
@@ -192,6 +192,17 @@ module _ {C : Type 0} where
         approved_are : (o : Bool) (n m : ℕ) → n + one o ≡ m + 0 → n ≡ m - one o
         approved_are true n m e = omega arith
         approved_are false n m e = omega arith
+
+    -- a connection is added at this position
+    pub shown-born : (c : C) (now : ℕ) → Before idle_at p rs → shown_records first (suc p) top (rs ++ entry c now now p ∷ []) ≡ machine.born c now before
+    shown-born c now b = same_records _ _
+        (omega (arith, length-append rs (entry c now now p ∷ [])))
+        (numbered.numbered-append_some (λ (x : Numbered (Standing C)). x.standing) rs first (entry c now now p) (record { place = Idle c; birth = now; entered = now }) refl)
+        (numbered.in_order-append_new idle_at rs first p (entry c now now p) b (numbered.eqb_self p) (λ q below. numbered.ne_test p q (λ e. omega arith)))
+        (numbered.numbers-append (λ x. stands is_unclaimed x.standing) rs (entry c now now p) first ∙ append-nil (numbers (λ x. stands is_unclaimed x.standing) first rs))
+        (numbered.tally-append (λ x. stands is_conn x.standing) rs (entry c now now p))
+        (let e : approved_of (rs ++ entry c now now p ∷ []) ≡ approved_of rs + 0 = numbered.tally-append (λ x. stands is_approval x.standing) rs (entry c now now p) in omega arith)
+        refl
 
     shown-approve_one : (claimed : Bool) → shown_records first p top (rs ++ approval claimed ∷ []) ≡ machine.approve_one claimed before
     shown-approve_one claimed = same_records _ _

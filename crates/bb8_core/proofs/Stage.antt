@@ -1,5 +1,5 @@
 -- The rows of the step table that the code can meet yet: nobody waits, and no get holds a connection.
-use Rattle.std.proofs.Common.{◌≡◌, ℕ, zero, suc, ◌<◌, ◌≤◌, Bool, true, false, cond, not, eqb, ltb, List, [], ◌∷◌, ◌++◌, length, Option, Some, None, slice_get, refl, sym, ap, ◌∙◌, subst, MatchBool, option_and_then, arith}
+use Rattle.std.proofs.Common.{◌≡◌, ◌≢◌, ℕ, zero, suc, ◌<◌, ◌≤◌, Bool, true, false, cond, not, eqb, ltb, List, [], ◌∷◌, ◌++◌, length, Option, Some, None, slice_get, refl, sym, ap, ◌∙◌, subst, MatchBool, option_and_then, arith, ◌+◌}
 use Rattle.std.proofs.lemmas.Bool.Decides.{nat_tests}
 use Rattle.bb8_core.specs.declared.events.Grant.{Grant}
 use Rattle.bb8_core.specs.declared.standing.GetPlace.{GetPlace}
@@ -7,9 +7,9 @@ use Rattle.bb8_core.specs.declared.standing.GetPlace.TheVariants.{Active}
 use Rattle.bb8_core.specs.declared.standing.Getting.{Getting}
 use Rattle.bb8_core.specs.declared.standing.Place.TheVariants.{Guarded}
 use Rattle.bb8_core.specs.Acts.{Act, Begin, Try, CheckedOk, CheckedErr, GiveUp, PutBack, Fill, Claim, Opened, Failed, Add, Reap, State, Join, Leave, Look}
-use Rattle.bb8_core.specs.Answers.{Answer, Begun, Memory, Exhausted, Served, Kept, Closed, Granted, Claimed, Ended, Entered, Late, Shown, Unfit}
+use Rattle.bb8_core.specs.Answers.{Answer, Begun, Memory, Exhausted, Served, Kept, Closed, Granted, Claimed, Ended, Entered, Late, Added, Broken, NoCapacity, Withheld, Shown, Unfit}
 use Rattle.bb8_core.specs.Numbered.{Numbered, at as at_number, update, numbers, in_order, one, standing_at}
-use Rattle.bb8_core.specs.Ledger.{Ledger, Opening, Later, start, position, gets, next_get, alive, get_peak, first_idle, idle, oldest_waiter, unclaimed, tally_gets, unnotified_at, is_unnotified, gets_stand, get_of, put, ended, new_get, figures, records}
+use Rattle.bb8_core.specs.Ledger.{Ledger, Opening, Later, start, position, gets, next_get, alive, get_peak, first_idle, idle, oldest_waiter, unclaimed, tally_gets, unnotified_at, is_unnotified, gets_stand, get_of, put, ended, new_get, figures, records, next, conns, approved}
 use Rattle.bb8_core.specs.Table.{Row, begins, begin_refused, begin_exhausted, waits_on, serves, takes_out, waits, checks, check_fails, gives_up, gives_up_kept, gives_up_closed, keeps, returns_closed, fills, claims, claim_ended, opens, opens_late, fails, add_broken, add_full, add_exhausted, add_refused, adds, reap_ended, reaps, shows, joins, join_exhausted, leaves, looks, takes, is_brought, IsWant, with_record, closes, IsLegal}
 use Rattle.bb8_core.proofs.ShownRecords.{and_right}
 use Rattle.bb8_core.proofs.Facts.{first_inside}
@@ -87,6 +87,10 @@ module _ {C : Type 0} where
     ended_here : Here l at Claim Ended
     opens_here : {k : ℕ} {c : C} → Here l at (Opened k c) (Entered k None)
     late_here : {k : ℕ} {c : C} → Here l at (Opened k c) (Late k)
+    broken_here : {c : C} → Here l at (Add c true) Broken
+    full_here : {c : C} → Here l at (Add c false) NoCapacity
+    withheld_here : {c : C} → Here l at (Add c false) Withheld
+    adds_here : {k : ℕ} {c : C} → conns l + approved l ≢ (start l).config.max_size → k ≡ next l → Here l at (Add c false) (Added k None)
     shows_here : Here l at State (Shown (figures l))
 
   pub oldest_none : (l : Ledger C) → AreFresh (gets l) → oldest_waiter l ≡ None
@@ -128,11 +132,11 @@ module _ {C : Type 0} where
   here l at _ _ q h (opens {k} {c} open_now is) = subst (λ (n : Option ℕ). Here l at (Opened k c) (Entered k n)) (sym (is ∙ oldest_none l q)) opens_here
   here l at _ _ q h (opens_late none) = late_here
   here l at _ _ q h fails = cc
-  here l at _ _ q h add_broken = cc
-  here l at _ _ q h (add_full full) = cc
-  here l at _ _ q h (add_exhausted room many) = cc
-  here l at _ _ q h (add_refused room few full) = cc
-  here l at _ _ q h (adds room few is who) = cc
+  here l at _ _ q h add_broken = broken_here
+  here l at _ _ q h (add_full full) = full_here
+  here l at _ _ q h (add_exhausted room many) = withheld_here
+  here l at _ _ q h (add_refused room few full) = withheld_here
+  here l at _ _ q h (adds {k} {c} room few is who) = subst (λ (n : Option ℕ). Here l at (Add c false) (Added k n)) (sym (who ∙ oldest_none l q)) (adds_here room is)
   here l at _ _ q h (reap_ended none) = cc
   here l at _ _ q h (reaps open_now a b c want) = cc
   here l at _ _ q h shows = shows_here
@@ -153,6 +157,10 @@ module _ {C : Type 0} where
   fresh_after l at _ _ ended_here q = q
   fresh_after l at _ _ opens_here q = q
   fresh_after l at _ _ late_here q = q
+  fresh_after l at _ _ broken_here q = q
+  fresh_after l at _ _ full_here q = q
+  fresh_after l at _ _ withheld_here q = q
+  fresh_after l at _ _ (adds_here room is) q = q
   fresh_after l at _ _ shows_here q = q
 
   -- an event that does not fit changes no get

@@ -1,21 +1,25 @@
 -- Each step, from what it does to what is shown to what it does on every legal ledger.
-use Rattle.std.proofs.Common.{◌≡◌, ℕ, suc, ◌+◌, ◌-◌, ◌*◌, ◌<◌, ◌≤◌, max, min, Bool, true, false, not, eqb, ◌&&◌, ◌||◌, List, length, Option, Some, None, slice_get, refl, sym, ap, ◌∙◌, arith, subst, is_some, MatchBool}
+use Rattle.std.proofs.Common.{◌≡◌, ℕ, suc, ◌+◌, ◌-◌, ◌*◌, ◌<◌, ◌≤◌, max, min, Bool, true, false, not, eqb, ◌&&◌, ◌||◌, List, length, Option, Some, None, slice_get, refl, sym, ap, ◌∙◌, arith, subst, is_some, MatchBool, ◌≢◌, Result, Ok, Err, IfOk, IfErr, ltb}
 use Rattle.std.specs.FinMap.{get}
+use Rattle.std.proofs.lemmas.Bool.Decides.{leb_tells, nat_tests}
 use Rattle.bb8_core.specs.declared.events.Grant.{Grant}
+use Rattle.bb8_core.specs.declared.keys.Key.{Key}
+use Rattle.bb8_core.specs.declared.outcomes.AddAnswer.{AddAnswer}
+use Rattle.bb8_core.specs.Outcomes.{add_told, added_by, Refuses}
 use Rattle.bb8_core.specs.declared.standing.Place.TheVariants.{Claimed, Idle, Guarded}
 use Rattle.bb8_core.specs.declared.standing.Standing.{Standing}
 use Rattle.bb8_core.specs.declared.standing.Getting.{Getting}
 use Rattle.bb8_core.specs.Figures.{Counts, Figures}
-use Rattle.bb8_core.specs.Acts.{Act, Begin, Try, PutBack, Fill, Claim, Opened, State}
-use Rattle.bb8_core.specs.Answers.{Answer, Begun, Memory, Exhausted, Served, Kept, Closed, Granted, Ended, Entered, Late, Shown as ShownFigures}
+use Rattle.bb8_core.specs.Acts.{Act, Begin, Try, PutBack, Fill, Claim, Opened, State, Add}
+use Rattle.bb8_core.specs.Answers.{Answer, Begun, Memory, Exhausted, Served, Kept, Closed, Granted, Ended, Entered, Late, Shown as ShownFigures, Broken, NoCapacity, Withheld, Added}
 use Rattle.bb8_core.specs.Answers as answers
 use Rattle.bb8_core.specs.Numbered.{Numbered, update, one}
-use Rattle.bb8_core.specs.Ledger.{Ledger, Later, start, position, latest, handles, records, gets, peak, get_peak, alive, next_get, idle, first_idle, first_of, first_place, unclaimed, record_of, get_of, stands, first_wait_of, is_claimed, is_guarded, is_unnotified, idle_at, gets_stand, birth_in, is_expired, put, ended, entry, approve, conns_of, approved_of, alive_of, counts, figures, wait_micros, direct, waited, waited_since, micros_since}
-use Rattle.bb8_core.specs.Table.{Row, begins, begin_refused, begin_exhausted, serves, keeps, returns_closed, fills, claims, claim_ended, opens, opens_late, shows, takes, closes, due, lacking, IsGranted, IsWant, is_brought}
+use Rattle.bb8_core.specs.Ledger.{Ledger, Later, start, position, latest, handles, records, gets, peak, get_peak, alive, next_get, idle, first_idle, first_of, first_place, unclaimed, record_of, get_of, stands, first_wait_of, is_claimed, is_guarded, is_unnotified, idle_at, gets_stand, birth_in, is_expired, put, ended, entry, approve, conns_of, approved_of, alive_of, counts, figures, wait_micros, direct, waited, waited_since, micros_since, next}
+use Rattle.bb8_core.specs.Table.{Row, begins, begin_refused, begin_exhausted, serves, keeps, returns_closed, fills, claims, claim_ended, opens, opens_late, shows, takes, closes, due, lacking, IsGranted, IsWant, is_brought, adds, add_broken, add_full, add_exhausted, add_refused}
 use Rattle.bb8_core.specs.Shown.{Shown, ShownRecords, ShownGets, shown, shown_records, shown_gets, Means, Meets, HasLedger, IsFitting}
 use Rattle.bb8_core.specs.Machine as machine
 use Rattle.bb8_core.proofs.Numbered.{Before}
-use Rattle.bb8_core.proofs.ShownRecords.{shown-claimed, shown-taken, shown-closed, shown-entered, shown-approve, raised_same, standing_is, claimed_is, guarded_is, and_right}
+use Rattle.bb8_core.proofs.ShownRecords.{shown-claimed, shown-taken, shown-closed, shown-entered, shown-approve, raised_same, standing_is, claimed_is, guarded_is, and_right, shown-born}
 use Rattle.bb8_core.proofs.ShownRecords as of_records
 use Rattle.bb8_core.proofs.ShownGets.{shown-kept, shown-begun, shown-ended}
 use Rattle.bb8_core.proofs.Facts.{entered_before, waited_before, put_before, ended_before, peak_holds, get_peak_holds, shown_record, idle_counted, idle_tally, wait_few}
@@ -29,6 +33,13 @@ fitting false P Q e p = cc
 pub unfitting : (b : Bool) (P Q : Type 0) → b ≡ false → Q → MatchBool b P Q
 unfitting true P Q e q = cc
 unfitting false P Q e q = q
+
+-- what the test of a number says
+pub left : (n : ℕ) → ltb n 18446744073709551615 ≡ true → n < 18446744073709551615
+left n e = grind (arith, nat_tests, leb_tells (suc n) 18446744073709551615)
+
+pub used_up : (n : ℕ) → ltb n 18446744073709551615 ≡ false → 18446744073709551615 ≤ n
+used_up n e = grind (arith, nat_tests, leb_tells (suc n) 18446744073709551615)
 
 module _ {C : Type 0} where
   pub same_shown : (s t : Shown C) → s.config ≡ t.config → s.latest ≡ t.latest → s.handles ≡ t.handles → s.records ≡ t.records → s.gets ≡ t.gets → s.counts ≡ t.counts → s ≡ t
@@ -299,3 +310,68 @@ module _ {C : Type 0} where
       (rs_is ∙ ap (machine.granted false grant) taken_is)
       gs_is
       refl
+
+  -- ---- add
+
+  -- a refusal changes the latest moment alone
+  pub meets_add_broken : (s : Shown C) (at : ℕ) (c : C) (now : ℕ) → IsFitting s (Add c true) → now ≡ max s.latest at → Meets s at (Add c true) Broken (record s { latest = now })
+  meets_add_broken s at c now fit now_is l legal means = (
+    fitting (takes l (Add c true)) _ _ (fit l legal means) add_broken,
+    alone s at now s.records s.gets l now_is refl refl means (Add c true) Broken refl refl refl refl refl,
+  )
+
+  pub meets_add_full : (s : Shown C) (at : ℕ) (c : C) (now : ℕ) → IsFitting s (Add c false) → now ≡ max s.latest at → s.records.conns + s.records.approved ≡ s.config.max_size → Meets s at (Add c false) NoCapacity (record s { latest = now })
+  meets_add_full s at c now fit now_is full l legal means = (
+    fitting (takes l (Add c false)) _ _ (fit l legal means) (add_full (ap (λ (t : Shown C). t.records.conns + t.records.approved) means ∙ full ∙ sym (ap (λ (t : Shown C). t.config.max_size) means))),
+    alone s at now s.records s.gets l now_is refl refl means (Add c false) NoCapacity refl refl refl refl refl,
+  )
+
+  -- there is room in the ledger as there is in what it shows
+  room_is : (l : Ledger C) (s : Shown C) → Means l s → s.records.conns + s.records.approved ≢ s.config.max_size → conns_of (records l) + approved_of (records l) ≢ (start l).config.max_size
+  room_is l s means room full = room (sym (ap (λ (t : Shown C). t.records.conns + t.records.approved) means) ∙ full ∙ ap (λ (t : Shown C). t.config.max_size) means)
+
+  pub meets_add_exhausted : (s : Shown C) (at : ℕ) (c : C) (now : ℕ) → IsFitting s (Add c false) → now ≡ max s.latest at → s.records.conns + s.records.approved ≢ s.config.max_size → 18446744073709551615 ≤ s.records.next → Meets s at (Add c false) Withheld (record s { latest = now })
+  meets_add_exhausted s at c now fit now_is room many l legal means =
+      let number : next l ≡ s.records.next = ap (λ (t : Shown C). t.records.next) means in (
+        fitting (takes l (Add c false)) _ _ (fit l legal means) (add_exhausted (room_is l s means room) (omega arith)),
+        alone s at now s.records s.gets l now_is refl refl means (Add c false) Withheld refl refl refl refl refl,
+      )
+
+  pub meets_add_refused : (s : Shown C) (at : ℕ) (c : C) (now : ℕ) (rs : ShownRecords C) → IsFitting s (Add c false) → now ≡ max s.latest at → s.records.conns + s.records.approved ≢ s.config.max_size → s.records.next < 18446744073709551615 → s.records.conns + s.records.approved ≡ s.records.peak → rs ≡ s.records → Meets s at (Add c false) Withheld (record s { latest = now; records = rs })
+  meets_add_refused s at c now rs fit now_is room few full rs_is l legal means =
+      let number : next l ≡ s.records.next = ap (λ (t : Shown C). t.records.next) means in (
+        fitting (takes l (Add c false)) _ _ (fit l legal means) (add_refused (room_is l s means room) (omega arith) (ap (λ (t : Shown C). t.records.conns + t.records.approved) means ∙ full ∙ sym (ap (λ (t : Shown C). t.records.peak) means))),
+        alone s at now rs s.gets l now_is rs_is refl means (Add c false) Withheld refl refl refl refl refl,
+      )
+
+  pub meets_added : (s : Shown C) (at k : ℕ) (c : C) (now : ℕ) (rs : ShownRecords C) → IsFitting s (Add c false) → now ≡ max s.latest at → s.records.conns + s.records.approved ≢ s.config.max_size → s.records.next < 18446744073709551615 → k ≡ s.records.next → rs ≡ machine.raised (machine.born c now s.records) → Meets s at (Add c false) (Added k None) (record s { latest = now; records = rs })
+  meets_added s at k c now rs fit now_is room few k_is rs_is l legal means =
+      let number : next l ≡ s.records.next = ap (λ (t : Shown C). t.records.next) means in
+      let m : ℕ = max (latest l) at in
+      let m_is : m ≡ now = ap (λ (t : Shown C). max t.latest at) means ∙ sym now_is in (
+        fitting (takes l (Add c false)) _ _ (fit l legal means) (adds (room_is l s means room) (omega arith) (k_is ∙ sym number) (sym (oldest_none l (all_fresh l legal)))),
+        same_shown _ _ (ap (λ (t : Shown C). t.config) means) m_is (ap (λ (t : Shown C). t.handles) means)
+            (ap machine.raised (shown-born (start l).first (position l) (peak l) (records l) c m (entered_before l)) ∙ ap (λ (t : Shown C). machine.raised (machine.born c m t.records)) means ∙ ap (λ (n : ℕ). machine.raised (machine.born c n s.records)) m_is ∙ sym rs_is)
+            (gets_kept l ∙ ap (λ (t : Shown C). t.gets) means)
+            (ap (λ (t : Shown C). t.counts) means),
+      )
+
+  -- both outcomes of an adding for which there is a number
+  pub meets_add_tried : (s : Shown C) (at : ℕ) (c : C) (now : ℕ) (r : Result Key C) (rs : ShownRecords C) → IsFitting s (Add c false) → now ≡ max s.latest at → s.records.conns + s.records.approved ≢ s.config.max_size → s.records.next < 18446744073709551615 → IfOk r (λ k. (k.number ≡ s.records.next) × (rs ≡ machine.raised (machine.born c now s.records))) → IfErr r (λ d. (d ≡ c) × (s.records.conns + s.records.approved ≡ s.records.peak) × (rs ≡ s.records)) → Meets s at (Add c false) (add_told (added_by r)) (record s { latest = now; records = rs })
+  meets_add_tried s at c now (Ok k) rs fit now_is room few ok err = meets_added s at k.number c now rs fit now_is room few ok.0 ok.1
+  meets_add_tried s at c now (Err d) rs fit now_is room few ok err = meets_add_refused s at c now rs fit now_is room few err.1 err.2
+
+  -- what the code knows when it has tried to add
+  pub meets_add_outcome : (s : Shown C) (at : ℕ) (c : C) (b : Bool) (now : ℕ) (r : Result Key C) (o : AddAnswer C) (rs : ShownRecords C) → b ≡ false → o ≡ added_by r → IsFitting s (Add c false) → now ≡ max s.latest at → s.records.conns + s.records.approved ≢ s.config.max_size → s.records.next < 18446744073709551615 → IfOk r (λ k. (k.number ≡ s.records.next) × (rs ≡ machine.raised (machine.born c now s.records))) → IfErr r (λ d. (d ≡ c) × (s.records.conns + s.records.approved ≡ s.records.peak) × (rs ≡ s.records)) → Meets s at (Add c b) (add_told o) (record s { latest = now; records = rs })
+  meets_add_outcome s at c b now r o rs b_is o_is fit now_is room few ok err =
+      subst (λ (x : Bool). Meets s at (Add c x) (add_told o) (record s { latest = now; records = rs })) (sym b_is)
+      (subst (λ (x : AddAnswer C). Meets s at (Add c false) (add_told x) (record s { latest = now; records = rs })) (sym o_is)
+      (meets_add_tried s at c now r rs fit now_is room few ok err))
+
+  -- a refused connection is the one that was to be added
+  pub refuses_tried : (s : Shown C) (c : C) (r : Result Key C) (o : AddAnswer C) (rs : ShownRecords C) → o ≡ added_by r → IfErr r (λ d. (d ≡ c) × (s.records.conns + s.records.approved ≡ s.records.peak) × (rs ≡ s.records)) → Refuses c o
+  refuses_tried s c r o rs o_is err = subst (λ (x : AddAnswer C). Refuses c x) (sym o_is) (by_case r err)
+    where
+      by_case : (q : Result Key C) → IfErr q (λ d. (d ≡ c) × (s.records.conns + s.records.approved ≡ s.records.peak) × (rs ≡ s.records)) → Refuses c (added_by q)
+      by_case (Ok k) e = tt
+      by_case (Err d) e = e.0

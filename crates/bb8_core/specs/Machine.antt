@@ -2,7 +2,7 @@
 use Rattle.std.specs.Prelude.{ℕ, zero, suc, ◌+◌, ◌-◌, max, Bool, cond, ◌||◌, not, eqb, List, [], ◌∷◌, ◌++◌, filter, length, drop, Option, Some, None}
 use Rattle.std.specs.FinMap.{insert, remove, get}
 use Rattle.bb8_core.specs.declared.standing.Place.{Place}
-use Rattle.bb8_core.specs.declared.standing.Place.TheVariants.{Unclaimed, Claimed}
+use Rattle.bb8_core.specs.declared.standing.Place.TheVariants.{Unclaimed, Claimed, Idle}
 use Rattle.bb8_core.specs.declared.standing.Standing.{Standing}
 use Rattle.bb8_core.specs.declared.standing.GetPlace.TheVariants.{Active}
 use Rattle.bb8_core.specs.declared.events.Grant.{Grant}
@@ -44,6 +44,10 @@ module _ {C : Type 0} where
   abbrev pub approve : Bool → ℕ → ShownRecords C → ShownRecords C
   approve claimed_now zero s = s
   approve claimed_now (suc n) s = approve_one claimed_now (approve claimed_now n s)
+
+  -- a connection is added under the next number, idle and born at a moment
+  abbrev pub born : C → ℕ → ShownRecords C → ShownRecords C
+  born c now s = record s { next = s.next + 1; places = insert s.places s.next (record { place = Idle c; birth = now; entered = now }); idle = s.idle ++ s.next ∷ []; conns = s.conns + 1 }
 
   abbrev pub raised : ShownRecords C → ShownRecords C
   raised s = record s { peak = max s.peak (s.conns + s.approved) }

@@ -1,5 +1,5 @@
 -- What the steps of a pool answer, in the words of the ledger.
-use Rattle.std.specs.Prelude.{◌≡◌, ℕ, Option, Some, ⊤}
+use Rattle.std.specs.Prelude.{◌≡◌, ℕ, Option, Some, None, Result, Ok, Err, ⊤}
 use Rattle.std.specs.Option.{option_map}
 use Rattle.bb8_core.specs.declared.keys.GetKey.{GetKey}
 use Rattle.bb8_core.specs.declared.keys.Key.{Key}
@@ -15,7 +15,9 @@ use Rattle.bb8_core.specs.declared.outcomes.ClaimAnswer.{ClaimAnswer}
 use Rattle.bb8_core.specs.declared.outcomes.ClaimAnswer.TheVariants as claimed
 use Rattle.bb8_core.specs.declared.outcomes.OpenedAnswer.{OpenedAnswer}
 use Rattle.bb8_core.specs.declared.outcomes.OpenedAnswer.TheVariants as opened
-use Rattle.bb8_core.specs.Answers.{Answer, Begun, Memory, Exhausted, Served, Kept, Closed, Claimed, Ended, Entered, Late}
+use Rattle.bb8_core.specs.declared.outcomes.AddAnswer.{AddAnswer}
+use Rattle.bb8_core.specs.declared.outcomes.AddAnswer.TheVariants as adding
+use Rattle.bb8_core.specs.Answers.{Answer, Begun, Memory, Exhausted, Served, Kept, Closed, Claimed, Ended, Entered, Late, Added, Broken, NoCapacity, Withheld}
 use Rattle.bb8_core.specs.Ledger.{Ledger, record_of}
 use Rattle.bb8_core.specs.Table.{IsLegal}
 use Rattle.bb8_core.specs.Shown.{Shown, Means}
@@ -45,6 +47,17 @@ module _ {C : Type 0} where
   opened_told a (opened.Entered n) = Entered a (notified_of n)
   opened_told a (opened.Late c) = Late a
 
+  abbrev pub add_told : AddAnswer C → Answer
+  add_told (adding.Added k n) = Added k.number (notified_of n)
+  add_told (adding.Broken c) = Broken
+  add_told (adding.NoCapacity c) = NoCapacity
+  add_told (adding.Withheld c) = Withheld
+
+  -- an adding for which there is a number, by whether memory was refused
+  abbrev pub added_by : Result Key C → AddAnswer C
+  added_by (Ok k) = adding.Added k None
+  added_by (Err c) = adding.Withheld c
+
   -- the connection that is handed out is the one that is idle under its number
   abbrev pub HandsOut : Shown C → TryAnswer C → Type 0
   HandsOut s (tried.Served k c grant) = (l : Ledger C) → IsLegal l → Means l s → (st : Standing C) × (record_of l k.number ≡ Some st) × (st.place ≡ Idle c)
@@ -58,3 +71,10 @@ module _ {C : Type 0} where
   abbrev pub HandsBack : C → OpenedAnswer C → Type 0
   HandsBack conn (opened.Entered n) = ⊤
   HandsBack conn (opened.Late c) = c ≡ conn
+
+  -- the connection that was not added is handed back
+  abbrev pub Refuses : C → AddAnswer C → Type 0
+  Refuses conn (adding.Added k n) = ⊤
+  Refuses conn (adding.Broken c) = c ≡ conn
+  Refuses conn (adding.NoCapacity c) = c ≡ conn
+  Refuses conn (adding.Withheld c) = c ≡ conn

@@ -76,7 +76,6 @@ module _ {C : Type 0} where
   is_brought l (CheckedErr g broken) = false
   is_brought l (GiveUp g why held broken) = false
   is_brought l (Failed a) = false
-  is_brought l (Add c broken) = false
   is_brought l Reap = false
   is_brought l Join = false
   is_brought l Leave = false

@@ -28,6 +28,8 @@ pub enum Act {
     Claim,
     /// The claimed approval brought a connection.
     Opened(u64),
+    /// A connection is added that no approval brought; it may be broken.
+    Add(bool),
     /// The pool is asked what it tells of itself.
     State,
 }
@@ -66,6 +68,14 @@ pub enum Answer {
     Entered(u64, Option<u64>),
     /// The approval ended, as no handle is alive.
     Late(u64),
+    /// The number of the connection that was added, and whom that notified.
+    Added(u64, Option<u64>),
+    /// A broken connection was not added.
+    Broken,
+    /// There is no room for one more connection.
+    NoCapacity,
+    /// No memory, or no number, for one more connection.
+    Withheld,
     /// What the pool tells of itself.
     Shown(State),
     /// The event does not fit, and changed nothing.

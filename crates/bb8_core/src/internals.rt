@@ -12,7 +12,7 @@ ghost use Rattle.bb8_core.specs.Figures.{figures_of};
 ghost use Rattle.bb8_core.specs.Run.{opening, act_with};
 ghost use Rattle.bb8_core.specs.Shown.{Means, Meets, IsFitting, IsRecordIn, IsNoRecordIn, IsGetIn, IsNoGetIn};
 ghost use Rattle.bb8_core.specs.Limits.{IsWithinLimits};
-ghost use Rattle.bb8_core.specs.Outcomes.{begin_told, try_told, put_back_told, claim_told, opened_told, HandsOut, GivesBack, HandsBack};
+ghost use Rattle.bb8_core.specs.Outcomes.{begin_told, try_told, put_back_told, claim_told, opened_told, add_told, added_by, HandsOut, GivesBack, HandsBack, Refuses};
 
 use crate::api::{Config, Moment, State};
 use crate::counters::Counters;
@@ -20,7 +20,9 @@ pub use crate::events::Grant;
 use crate::events::{Act, Event};
 use crate::gets::Gets;
 pub use crate::keys::{GetKey, Key};
-pub use crate::outcomes::{BeginAnswer, ClaimAnswer, OpenedAnswer, PutBackAnswer, TryAnswer};
+pub use crate::outcomes::{
+    AddAnswer, BeginAnswer, ClaimAnswer, OpenedAnswer, PutBackAnswer, TryAnswer,
+};
 use crate::records::{Records, one};
 use std::alloc::Global;
 use std::marker::Model;
@@ -91,6 +93,16 @@ fn is_closing(broken: bool, expired: bool, handles: u64) -> bool
     ensures { result ≡ (broken || (expired || eqb handles 0)) }
 {
     broken || expired || handles == 0
+}
+
+/// What an adding for which there is a number answers, by whether memory was refused.
+fn added<C>(outcome: Result<Key, C>) -> AddAnswer<C>
+    ensures { result ≡ added_by outcome }
+{
+    match outcome {
+        Ok(key) => AddAnswer::Added(key, None),
+        Err(conn) => AddAnswer::Withheld(conn),
+    }
 }
 
 /// One, where the test passes and the one before it does not.
@@ -234,6 +246,35 @@ impl<C: Drop> PoolInternals<C> {
         OpenedAnswer::Entered(None)
     }
 
+    /// Adds a connection that no approval brought, born now. A broken one is refused first; then any, where connections and open approvals
+    /// are as many as `max_size`; then, where no number is left, or there are as many of them as ever were and memory for one more was
+    /// refused.
+    pub fn add(&mut self, at: Moment, conn: C, broken: bool) -> AddAnswer<C>
+        requires { IsFitting self.old (acts.Add conn broken) }
+        ensures step { Meets self.old at.0 (acts.Add conn broken) (add_told result) self.new }
+        ensures connection { Refuses conn result }
+    {
+        let now = self.latest.max(at.0);
+        self.latest = now;
+        if broken {
+            return AddAnswer::Broken(conn);
+        }
+        if self.records.used() == self.config.max_size as u64 {
+            return AddAnswer::NoCapacity(conn);
+        }
+        if !self.records.has_number() {
+            return AddAnswer::Withheld(conn);
+        }
+        added(self.records.add(conn, now))
+    }
+
+    /// The number that the next connection or approval will have.
+    pub(crate) fn next_number(&self) -> u64
+        ensures { result ≡ self.now.records.next }
+    {
+        self.records.next_number()
+    }
+
     /// What the pool tells of itself.
     pub fn state(&mut self, at: Moment) -> State
         ensures step { Meets self.old at.0 acts.State (answers.Shown (figures_of result)) self.new }
@@ -249,10 +290,10 @@ impl<C: Drop> PoolInternals<C> {
 
     /// Whether the event fits. A connection that it hands in does not matter.
     pub fn fits(&self, event: Event) -> bool
-        ensures { (conn : ℕ → C) (l : ledger.Ledger C) → table.IsLegal l → Means l self.now → result ≡ table.takes l (act_with conn event.act) }
+        ensures { (conn : ℕ → C) (l : ledger.Ledger C) → table.IsLegal l → Means l self.now → result ≡ table.takes l (act_with conn l event.act) }
     {
         match event.act {
-            Act::Begin => self.handles > 0,
+            Act::Begin | Act::Add(_) => self.handles > 0,
             Act::Try(get) => self.takes_try(get),
             Act::PutBack(number, _) => self.records.is_guarded(number),
             Act::Opened(number) => self.records.is_claimed(number),

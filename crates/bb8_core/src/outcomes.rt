@@ -47,3 +47,16 @@ pub enum OpenedAnswer<C> {
     /// No handle is alive: the approval ended, and the connection is handed back.
     Late(C),
 }
+
+/// What the adding of a connection answers. Every refusal hands the connection back. Our own.
+#[derive(Drop)]
+pub enum AddAnswer<C> {
+    /// The connection is idle under this key; the get that was notified.
+    Added(Key, Option<GetKey>),
+    /// The connection is broken.
+    Broken(C),
+    /// Connections and open approvals are as many as `max_size`.
+    NoCapacity(C),
+    /// No number is left, or the connections and open approvals are as many as ever and memory for one more was refused.
+    Withheld(C),
+}

@@ -1,5 +1,5 @@
 //! The connections and approvals of a pool.
-ghost use Rattle.std.specs.Prelude.{◌≡◌, ◌≢◌, ℕ, Bool, true, false, cond, ◌<◌, ◌≤◌, ◌+◌, IsSome, is_some, IfSome, IfNone, OnOk, OnErr, Some, None, slice_get, length, [], ◌∷◌, ◌++◌, ltb};
+ghost use Rattle.std.specs.Prelude.{◌≡◌, ◌≢◌, ℕ, Bool, true, false, cond, ◌<◌, ◌≤◌, ◌+◌, IsSome, is_some, IfSome, IfNone, IfOk, IfErr, OnOk, OnErr, max, Some, None, slice_get, length, [], ◌∷◌, ◌++◌, ltb};
 ghost use Rattle.std.specs.FinMap as map;
 ghost use Rattle.bb8_core.specs.Ledger as ledger;
 ghost use Rattle.bb8_core.specs.Machine as machine;
@@ -206,6 +206,66 @@ impl<C: Drop> Records<C> {
         self.unclaimed.grow(peak as usize)?;
         self.peak = peak;
         Ok(())
+    }
+
+    /// Makes room for one more record, where there is none yet.
+    fn make_room_for_one(&mut self) -> bool
+        requires { self.old.conns + self.old.approved < 4294967295 }
+        ensures made { result ≡ true → self.new ≡ record self.old { peak = max self.old.peak (self.old.conns + self.old.approved + 1) } }
+        ensures refused { result ≡ false → (self.old.conns + self.old.approved ≡ self.old.peak) × (self.new ≡ self.old) }
+    {
+        let used = self.used();
+        used < self.peak || self.make_room(used + 1).is_ok()
+    }
+
+    /// Makes an idle connection of the next number, for which there is room.
+    fn bear(&mut self, conn: C, now: u64) -> Key
+        requires room { self.old.conns + self.old.approved < self.old.peak }
+        requires number { self.old.next < 18446744073709551615 }
+        ensures key { result.number ≡ self.old.next }
+        ensures state { self.new ≡ machine.born conn now self.old }
+    {
+        let number = self.next;
+        let place = self.slots.insert(Slot {
+            number,
+            standing: Standing {
+                place: Place::Idle(conn),
+                birth: now,
+                entered: now,
+            },
+        });
+        let key = Key { number, place };
+        self.idle.push(key);
+        self.next += 1;
+        self.conns += 1;
+        key
+    }
+
+    /// Adds an idle connection that was born now. Memory is asked for only where there are as many records as ever were.
+    pub(crate) fn add(&mut self, conn: C, now: u64) -> Result<Key, C>
+        requires few { self.old.conns + self.old.approved < 4294967295 }
+        requires number { self.old.next < 18446744073709551615 }
+        ensures ok { IfOk result (λ key. (key.number ≡ self.old.next) × (self.new ≡ machine.raised (machine.born conn now self.old))) }
+        ensures err { IfErr result (λ c. (c ≡ conn) × (self.old.conns + self.old.approved ≡ self.old.peak) × (self.new ≡ self.old)) }
+    {
+        if !self.make_room_for_one() {
+            return Err(conn);
+        }
+        Ok(self.bear(conn, now))
+    }
+
+    /// Whether a number is left.
+    pub(crate) fn has_number(&self) -> bool
+        ensures { result ≡ ltb self.now.next 18446744073709551615 }
+    {
+        self.next < u64::MAX
+    }
+
+    /// The next number.
+    pub(crate) fn next_number(&self) -> u64
+        ensures { result ≡ self.now.next }
+    {
+        self.next
     }
 
     /// Makes one approval, for which there is room.

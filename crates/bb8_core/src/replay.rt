@@ -4,7 +4,7 @@ ghost use Rattle.bb8_core.specs.Acts as acts;
 ghost use Rattle.bb8_core.specs.Ledger.{Ledger};
 ghost use Rattle.bb8_core.specs.Limits.{KeepsLimits};
 ghost use Rattle.bb8_core.specs.Outcomes.{notified_of};
-ghost use Rattle.bb8_core.specs.Run.{act_of, answer_of, opening, IsRun};
+ghost use Rattle.bb8_core.specs.Run.{answer_of, opening, IsRun, Applies};
 ghost use Rattle.bb8_core.specs.Settings.{settings_of, is_lawful};
 ghost use Rattle.bb8_core.specs.Shown.{Means, Meets, IsFitting};
 
@@ -12,7 +12,9 @@ use crate::api::{Config, Memory, Moment};
 pub use crate::events::{Act, Answer, Event};
 use crate::internals::PoolInternals;
 use crate::keys::GetKey;
-use crate::outcomes::{BeginAnswer, ClaimAnswer, OpenedAnswer, PutBackAnswer, TryAnswer};
+use crate::outcomes::{
+    AddAnswer, BeginAnswer, ClaimAnswer, OpenedAnswer, PutBackAnswer, TryAnswer,
+};
 use std::alloc::Global;
 
 /// The number of the get that a step notified.
@@ -86,9 +88,22 @@ fn opened(pool: &mut PoolInternals<u64>, at: Moment, number: u64) -> Answer
     }
 }
 
-/// What an event is answered. The connection of a record is its number.
+fn add(pool: &mut PoolInternals<u64>, at: Moment, broken: bool) -> Answer
+    requires { IsFitting pool.old (acts.Add pool.old.records.next broken) }
+    ensures { Meets pool.old at.0 (acts.Add pool.old.records.next broken) (answer_of result) pool.new }
+{
+    let number = pool.next_number();
+    match pool.add(at, number, broken) {
+        AddAnswer::Added(key, notified) => Answer::Added(key.number, number_of(notified)),
+        AddAnswer::Broken(_) => Answer::Broken,
+        AddAnswer::NoCapacity(_) => Answer::NoCapacity,
+        AddAnswer::Withheld(_) => Answer::Withheld,
+    }
+}
+
+/// What an event is answered. The connection of a record is its number; that of an `Add` is the next number.
 fn apply(pool: &mut PoolInternals<u64>, event: Event) -> Answer
-    ensures { (l : Ledger ℕ) → Meets pool.old event.at.0 (act_of l event.act) (answer_of result) pool.new }
+    ensures { Applies pool.old event result pool.new }
 {
     if !pool.fits(event) {
         return Answer::Unfit;
@@ -100,6 +115,7 @@ fn apply(pool: &mut PoolInternals<u64>, event: Event) -> Answer
         Act::Fill(claimed) => Answer::Granted(pool.fill(event.at, claimed)),
         Act::Claim => claim(pool, event.at),
         Act::Opened(number) => opened(pool, event.at, number),
+        Act::Add(broken) => add(pool, event.at, broken),
         Act::State => Answer::Shown(pool.state(event.at)),
     }
 }

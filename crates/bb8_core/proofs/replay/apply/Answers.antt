@@ -1,21 +1,24 @@
-use Rattle.std.proofs.Common.{ℕ, sym, subst, ◌∙◌, refl}
+use Rattle.std.proofs.Common.{◌≡◌, ℕ, true, sym, subst, ◌∙◌}
 use Rattle.bb8_core.specs.declared.events.Act.{Act as Named}
-use Rattle.bb8_core.specs.Run.{act_of, act_with}
-use Rattle.bb8_core.specs.Shown.{IsFitting}
-use Rattle.bb8_core.proofs.Runs.{meets_unfit}
+use Rattle.bb8_core.specs.Run.{act_of}
+use Rattle.bb8_core.specs.Table.{takes}
+use Rattle.bb8_core.proofs.Runs.{unfit_now}
 use Rattle.bb8_core.proofs.replay.apply.Goals as goal
 
 pub returns-then-not-fits : goal.returns-then-not-fits
-returns-then-not-fits c = λ m. meets_unfit c.args.pool.now c.args.pool.now c.args.event.at.0 (act_of m c.args.event.act) (λ l legal means. sym (c.fits.ensures (λ k. k) l legal means) ∙ c.if-not-fits.true) refl
+returns-then-not-fits c = λ m legal means. unfit_now m c.args.pool.now c.args.event.at.0 (act_of m c.args.event.act) (sym (c.fits.ensures (λ k. k) m legal means) ∙ c.if-not-fits.true) means
 
 pub begin-requires : goal.begin-requires
-begin-requires c = subst (λ (a : Named). IsFitting c.args.pool.now (act_with (λ (k : ℕ). k) a)) c.in-Begin.is (λ l legal means. sym (c.fits.ensures (λ k. k) l legal means) ∙ c.if-not-fits.false)
+begin-requires c = λ l legal means. subst (λ (a : Named). takes l (act_of l a) ≡ true) c.in-Begin.is (sym (c.fits.ensures (λ k. k) l legal means) ∙ c.if-not-fits.false)
 
 pub try_get-requires : goal.try_get-requires
-try_get-requires c = subst (λ (a : Named). IsFitting c.args.pool.now (act_with (λ (k : ℕ). k) a)) c.in-Try.is (λ l legal means. sym (c.fits.ensures (λ k. k) l legal means) ∙ c.if-not-fits.false)
+try_get-requires c = λ l legal means. subst (λ (a : Named). takes l (act_of l a) ≡ true) c.in-Try.is (sym (c.fits.ensures (λ k. k) l legal means) ∙ c.if-not-fits.false)
 
 pub put_back-requires : goal.put_back-requires
-put_back-requires c = subst (λ (a : Named). IsFitting c.args.pool.now (act_with (λ (k : ℕ). k) a)) c.in-PutBack.is (λ l legal means. sym (c.fits.ensures (λ k. k) l legal means) ∙ c.if-not-fits.false)
+put_back-requires c = λ l legal means. subst (λ (a : Named). takes l (act_of l a) ≡ true) c.in-PutBack.is (sym (c.fits.ensures (λ k. k) l legal means) ∙ c.if-not-fits.false)
 
 pub opened-requires : goal.opened-requires
-opened-requires c = subst (λ (a : Named). IsFitting c.args.pool.now (act_with (λ (k : ℕ). k) a)) c.in-Opened.is (λ l legal means. sym (c.fits.ensures (λ k. k) l legal means) ∙ c.if-not-fits.false)
+opened-requires c = λ l legal means. subst (λ (a : Named). takes l (act_of l a) ≡ true) c.in-Opened.is (sym (c.fits.ensures (λ k. k) l legal means) ∙ c.if-not-fits.false)
+
+pub add-requires : goal.add-requires
+add-requires c = λ l legal means. subst (λ (a : Named). takes l (act_of l a) ≡ true) c.in-Add.is (sym (c.fits.ensures (λ k. k) l legal means) ∙ c.if-not-fits.false)

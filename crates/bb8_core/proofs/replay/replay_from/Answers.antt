@@ -20,7 +20,7 @@ loop-event-preserved c =
     let e : Event = get_or c.args.events.now i (record { at = record { 0 = 0 }; act = acts.Begin }) in
     let a : Answer = c.apply.result in
     let before = c.loop-event.invariant in
-    let step = c.apply.ensures before.0 before.0 (run_legal first before.0 (take i c.args.events.now) c.loop-event.answers.items tt before.1) before.2 in
+    let step = c.apply.ensures before.0 (run_legal first before.0 (take i c.args.events.now) c.loop-event.answers.items tt before.1) before.2 in
     let next : Ledger ℕ = Later before.0 e.at.0 (act_of before.0 e.act) (answer_of a) in
     let inside : i < length c.args.events.now = omega arith in
     let run : IsRun first (take i c.args.events.now ++ e ∷ []) (c.loop-event.answers.items ++ a ∷ []) next = run_more first before.0 (take i c.args.events.now) c.loop-event.answers.items e a before.1 step.0 in

@@ -1,18 +1,10 @@
 use Rattle.std.proofs.Common.{◌≡◌, ◌<◌, ◌≤◌, ℕ, suc, sym, ◌∙◌, refl, arith, ltb, true, false}
-use Rattle.std.proofs.lemmas.Bool.Decides.{leb_tells, nat_tests}
 use Rattle.bb8_core.specs.Acts as acts
 use Rattle.bb8_core.specs.Answers as answers
 use Rattle.bb8_core.specs.Pool.{view_of}
 use Rattle.bb8_core.proofs.Laws.{shown_fits}
-use Rattle.bb8_core.proofs.Steps.{meets_begun, meets_memory, meets_exhausted, led, at_view, fits_view}
+use Rattle.bb8_core.proofs.Steps.{meets_begun, meets_memory, meets_exhausted, left, used_up, led, at_view, fits_view}
 use Rattle.bb8_core.proofs.internals.PoolInternals.begin.Goals as goal
-
--- what the test of a number says
-left : (n : ℕ) → ltb n 18446744073709551615 ≡ true → n < 18446744073709551615
-left n e = grind (arith, nat_tests, leb_tells (suc n) 18446744073709551615)
-
-used_up : (n : ℕ) → ltb n 18446744073709551615 ≡ false → 18446744073709551615 ≤ n
-used_up n e = grind (arith, nat_tests, leb_tells (suc n) 18446744073709551615)
 
 pub invariant_of-self : goal.invariant_of-self
 invariant_of-self g c = led (view_of c.self.inside) _ c.args.at.0 acts.Begin answers.Exhausted c.self.invariant

@@ -1,0 +1,54 @@
+use Rattle.std.proofs.Common.{◌≡◌, ◌≢◌, ◌+◌, ◌<◌, ◌≤◌, ℕ, suc, Bool, true, false, ltb, sym, subst, ◌∙◌, arith}
+use Rattle.std.proofs.lemmas.Bool.Decides.{leb_tells, nat_tests}
+use Rattle.bb8_core.specs.Acts as acts
+use Rattle.bb8_core.specs.Answers as answers
+use Rattle.bb8_core.specs.Outcomes.{add_told, added_by}
+use Rattle.bb8_core.specs.Pool.{view_of}
+use Rattle.bb8_core.specs.Shown.{IsFitting}
+use Rattle.bb8_core.proofs.Laws.{shown_fits}
+use Rattle.bb8_core.proofs.Steps.{meets_add_broken, meets_add_full, meets_add_exhausted, meets_add_tried, meets_add_outcome, refuses_tried, left, used_up, led, at_view, fits_view}
+use Rattle.bb8_core.proofs.internals.PoolInternals.add.Goals as goal
+
+pub invariant_of-self : goal.invariant_of-self
+invariant_of-self g c = led (view_of c.self.inside) _ c.args.at.0 (acts.Add c.args.conn true) answers.Broken c.self.invariant
+    (meets_add_broken (view_of c.self.inside) c.args.at.0 c.args.conn c.max-now.result (subst (λ (b : Bool). IsFitting (view_of c.self.inside) (acts.Add c.args.conn b)) c.if-broken.true (fits_view (acts.Add c.args.conn c.args.broken) c.self.view_is c.requires)) c.max-now.ensures)
+
+pub returns-then-broken-clause-step : goal.returns-then-broken-clause-step
+returns-then-broken-clause-step g c = rw c.if-broken.true (at_view _ c.args.at.0 (acts.Add c.args.conn true) answers.Broken c.self.view_is
+    (meets_add_broken (view_of c.self.inside) c.args.at.0 c.args.conn c.max-now.result (subst (λ (b : Bool). IsFitting (view_of c.self.inside) (acts.Add c.args.conn b)) c.if-broken.true (fits_view (acts.Add c.args.conn c.args.broken) c.self.view_is c.requires)) c.max-now.ensures))
+
+pub invariant_of-self-then-used-self : goal.invariant_of-self-then-used-self
+invariant_of-self-then-used-self g c = led (view_of c.self.inside) _ c.args.at.0 (acts.Add c.args.conn false) answers.NoCapacity c.self.invariant
+    (meets_add_full (view_of c.self.inside) c.args.at.0 c.args.conn c.max-now.result (subst (λ (b : Bool). IsFitting (view_of c.self.inside) (acts.Add c.args.conn b)) c.if-broken.false (fits_view (acts.Add c.args.conn c.args.broken) c.self.view_is c.requires)) c.max-now.ensures (sym c.used.ensures ∙ c.if-used-self.true))
+
+pub returns-then-used-self-clause-step : goal.returns-then-used-self-clause-step
+returns-then-used-self-clause-step g c = rw c.if-broken.false (at_view _ c.args.at.0 (acts.Add c.args.conn false) answers.NoCapacity c.self.view_is
+    (meets_add_full (view_of c.self.inside) c.args.at.0 c.args.conn c.max-now.result (subst (λ (b : Bool). IsFitting (view_of c.self.inside) (acts.Add c.args.conn b)) c.if-broken.false (fits_view (acts.Add c.args.conn c.args.broken) c.self.view_is c.requires)) c.max-now.ensures (sym c.used.ensures ∙ c.if-used-self.true)))
+
+pub invariant_of-self-then-not-has_number : goal.invariant_of-self-then-not-has_number
+invariant_of-self-then-not-has_number g c = led (view_of c.self.inside) _ c.args.at.0 (acts.Add c.args.conn false) answers.Withheld c.self.invariant
+    (meets_add_exhausted (view_of c.self.inside) c.args.at.0 c.args.conn c.max-now.result (subst (λ (b : Bool). IsFitting (view_of c.self.inside) (acts.Add c.args.conn b)) c.if-broken.false (fits_view (acts.Add c.args.conn c.args.broken) c.self.view_is c.requires)) c.max-now.ensures (λ (e : c.self.inside.records.conns + c.self.inside.records.approved ≡ c.self.inside.config.max_size). c.if-used-self.false (c.used.ensures ∙ e)) (used_up c.self.inside.records.next (sym c.has_number.ensures ∙ c.if-not-has_number.true)))
+
+pub returns-then-not-has_number-clause-step : goal.returns-then-not-has_number-clause-step
+returns-then-not-has_number-clause-step g c = rw c.if-broken.false (at_view _ c.args.at.0 (acts.Add c.args.conn false) answers.Withheld c.self.view_is
+    (meets_add_exhausted (view_of c.self.inside) c.args.at.0 c.args.conn c.max-now.result (subst (λ (b : Bool). IsFitting (view_of c.self.inside) (acts.Add c.args.conn b)) c.if-broken.false (fits_view (acts.Add c.args.conn c.args.broken) c.self.view_is c.requires)) c.max-now.ensures (λ (e : c.self.inside.records.conns + c.self.inside.records.approved ≡ c.self.inside.config.max_size). c.if-used-self.false (c.used.ensures ∙ e)) (used_up c.self.inside.records.next (sym c.has_number.ensures ∙ c.if-not-has_number.true))))
+
+pub add-requires-clause-few : goal.add-requires-clause-few
+add-requires-clause-few g c =
+    let fit = shown_fits (view_of c.self.inside) c.self.invariant in
+    let room : c.self.inside.records.conns + c.self.inside.records.approved ≢ c.self.inside.config.max_size = λ (e : c.self.inside.records.conns + c.self.inside.records.approved ≡ c.self.inside.config.max_size). c.if-used-self.false (c.used.ensures ∙ e) in
+    omega (arith, fit.size)
+
+pub add-requires-clause-number : goal.add-requires-clause-number
+add-requires-clause-number g c = left c.self.inside.records.next (sym c.has_number.ensures ∙ c.if-not-has_number.false)
+
+pub invariant_of-self-2 : goal.invariant_of-self-2
+invariant_of-self-2 g c = led (view_of c.self.inside) _ c.args.at.0 (acts.Add c.args.conn false) (add_told (added_by c.add.result)) c.self.invariant
+    (meets_add_tried (view_of c.self.inside) c.args.at.0 c.args.conn c.max-now.result c.add.result c.add.new.self (subst (λ (b : Bool). IsFitting (view_of c.self.inside) (acts.Add c.args.conn b)) c.if-broken.false (fits_view (acts.Add c.args.conn c.args.broken) c.self.view_is c.requires)) c.max-now.ensures (λ (e : c.self.inside.records.conns + c.self.inside.records.approved ≡ c.self.inside.config.max_size). c.if-used-self.false (c.used.ensures ∙ e)) (left c.self.inside.records.next (sym c.has_number.ensures ∙ c.if-not-has_number.false)) c.add.ensures.ok c.add.ensures.err)
+
+pub returns-clause-step : goal.returns-clause-step
+returns-clause-step g c = at_view _ c.args.at.0 (acts.Add c.args.conn c.args.broken) (add_told c.added.result) c.self.view_is
+    (meets_add_outcome (view_of c.self.inside) c.args.at.0 c.args.conn c.args.broken c.max-now.result c.add.result c.added.result c.add.new.self c.if-broken.false c.added.ensures (subst (λ (b : Bool). IsFitting (view_of c.self.inside) (acts.Add c.args.conn b)) c.if-broken.false (fits_view (acts.Add c.args.conn c.args.broken) c.self.view_is c.requires)) c.max-now.ensures (λ (e : c.self.inside.records.conns + c.self.inside.records.approved ≡ c.self.inside.config.max_size). c.if-used-self.false (c.used.ensures ∙ e)) (left c.self.inside.records.next (sym c.has_number.ensures ∙ c.if-not-has_number.false)) c.add.ensures.ok c.add.ensures.err)
+
+pub returns-clause-connection : goal.returns-clause-connection
+returns-clause-connection g c = refuses_tried (view_of c.self.inside) c.args.conn c.add.result c.added.result c.add.new.self c.added.ensures c.add.ensures.err
