@@ -14,13 +14,13 @@ use Rattle.bb8_core.specs.Numbered.{at as at_number, Numbered, update, one}
 use Rattle.bb8_core.specs.Ledger.{Ledger, Opening, Later, start, position, latest, records, gets, handles, next, next_get, conns, approved, conns_of, approved_of, idle_of, alive, alive_of, peak, idle, unclaimed, first_place, record_of, get_of, stands, is_claimed, is_guarded, is_conn, is_approval, gets_stand, holds, held_in, is_unnotified, put, ended, entry, approval, approve, new_get, birth_in, expires, counts, waited_since}
 use Rattle.bb8_core.specs.Table.{due, lacking, IsWant, IsLegal, takes, is_brought, is_trying}
 use Rattle.bb8_core.specs.Shown.{Shown, ShownRecords, Means, HasLedger, IsFitting}
-use Rattle.bb8_core.specs.Limits.{KeepsLimits}
+use Rattle.bb8_core.specs.Limits.{KeepsLimits, GivesNext, NeverGivesAgain, KeepsLaws}
 use Rattle.bb8_core.specs.Machine as machine
 use Rattle.bb8_core.proofs.ShownRecords.{shown-claimed, shown-taken, shown-closed, shown-entered, shown-born, standing_is, claimed_is, guarded_is, record_at, conns-change, approved-change, tested, and_right}
 use Rattle.bb8_core.proofs.ShownGets as of_gets
 use Rattle.bb8_core.proofs.Numbered as numbered
 use Rattle.bb8_core.proofs.Facts.{entered_before, shown_record, shown_get, conns_split}
-use Rattle.bb8_core.proofs.Stage.{Here, begins_here, refused_here, exhausted_here, serves_here, keeps_here, closes_here, fills_here, claims_here, ended_here, opens_here, late_here, broken_here, full_here, withheld_here, adds_here, shows_here, here, all_fresh, by_fit, fresh, IsFresh, fresh_at, none_tallied}
+use Rattle.bb8_core.proofs.Stage.{Here, begins_here, refused_here, exhausted_here, serves_here, keeps_here, closes_here, fills_here, claims_here, ended_here, opens_here, late_here, broken_here, full_here, withheld_here, adds_here, shows_here, here, all_fresh, by_fit, fresh, IsFresh, fresh_at, none_tallied, unfit_gets, unfit_records}
 
 -- The sizes and the statistics of a ledger fit together.
 pub record Fits (max_size conns approved next alive next_get : ℕ) (c : Counts) : Type 0 where
@@ -167,7 +167,7 @@ module _ {C : Type 0} where
       let next_is : length (approve false grant.count rs) ≡ length rs + grant.count = length-approve false grant.count rs in
       let m = of_gets.get_at (start l).first_get (gets l) g fresh (trying_is l g f legal) in
       let fewer : alive_of (update (start l).first_get g ended (gets l)) + 1 ≡ alive l + 0 = ends (start l).first_get (gets l) g m.0 fresh m.1 m.2 in
-      let same_length : length (update (start l).first_get g ended (gets l)) ≡ length (gets l) = length-update (start l).first_get (gets l) g m.0 m.1 in
+      let same_length : length (update (start l).first_get g ended (gets l)) ≡ length (gets l) = numbered.length-update (gets l) (start l).first_get g ended in
       let once : one (not (is_some (waited_since l (Try g)))) + one (is_some (waited_since l (Try g))) ≡ 1 = either_one (is_some (waited_since l (Try g))) in
       record { size = omega arith; started_few = omega (arith, h.started_few); answered = omega (arith, h.answered); created_few = omega (arith, h.created_few); closed_few = omega (arith, h.closed_few) }
     where
@@ -177,9 +177,6 @@ module _ {C : Type 0} where
           let u : one (is_some x.standing) ≡ 1 = ap (λ (o : Option Getting). one (is_some o)) is in
           let v : alive_of (update first g ended gs) ≡ alive_of (numbered.change first g (ended x) gs) = ap alive_of (numbered.update_is gs first g ended x e) in
           omega arith
-
-      length-update : (first : ℕ) (gs : List (Numbered Getting)) (g : ℕ) (x : Numbered Getting) → at_number first gs g ≡ Some x → length (update first g ended gs) ≡ length gs
-      length-update first gs g x e = ap length (numbered.update_is gs first g ended x e) ∙ numbered.length-change gs first g (ended x)
   row_fits l at _ _ (keeps_here {k} {c} {broken = b} keep) f legal h =
       let s = standing_is is_guarded (record_of l k) f in
       let place : s.0.place ≡ Guarded = guarded_is s.0.place s.2 in
@@ -263,6 +260,60 @@ module _ {C : Type 0} where
     held = λ g k h. absurd (let clash : None ≡ Some k = sym (none_holds (get_of l g) (fresh_at (start l).first_get g (gets l) (all_fresh l legal))) ∙ h in cc);
     served = inl (none_tallied is_unnotified refl (gets l) (all_fresh l legal));
   }
+
+  -- ---- no number is used again
+
+  unfit_gives : (l : Ledger C) (at : ℕ) (e : Act C) → GivesNext l at e Unfit
+  unfit_gives l at e = record { first = tt; more = (let same : next (Later l at e Unfit) ≡ next l = ap (λ (rs : List (Numbered (Standing C))). (start l).first + length rs) (unfit_records l at e) in omega arith); get = tt; more_gets = (let same : next_get (Later l at e Unfit) ≡ next_get l = ap (λ (gs : List (Numbered Getting)). (start l).first_get + length gs) (unfit_gets l at e) in omega arith) }
+
+  -- what is granted once a record has changed begins at the next number
+  changed_first : (l : Ledger C) (k : ℕ) (f : Numbered (Standing C) → Numbered (Standing C)) (g : Grant) → IsWant l (update (start l).first k f (records l)) g → g.first ≡ next l
+  changed_first l k f g want = want.first ∙ ap (λ (n : ℕ). (start l).first + n) (numbered.length-update (records l) (start l).first k f)
+
+  changed_more : (l : Ledger C) (k : ℕ) (f : Numbered (Standing C) → Numbered (Standing C)) (n : ℕ) → (start l).first + length (approve false n (update (start l).first k f (records l))) ≡ next l + n
+  changed_more l k f n =
+      let a : length (approve false n (update (start l).first k f (records l))) ≡ length (update (start l).first k f (records l)) + n = length-approve false n (update (start l).first k f (records l)) in
+      let b : length (update (start l).first k f (records l)) ≡ length (records l) = numbered.length-update (records l) (start l).first k f in
+      omega arith
+
+  gets_same : (l : Ledger C) → next_get l ≡ next_get l + 0
+  gets_same l = omega arith
+
+  row_gives : (l : Ledger C) (at : ℕ) (e : Act C) (a : Answer) → Here l at e a → GivesNext l at e a
+  row_gives l at _ _ (begins_here {g} is few) = record { first = tt; more = omega arith; get = is; more_gets = omega (arith, length-append (gets l) (new_get ∷ [])) }
+  row_gives l at _ _ (refused_here few full) = record { first = tt; more = omega arith; get = tt; more_gets = gets_same l }
+  row_gives l at _ _ (exhausted_here many) = record { first = tt; more = omega arith; get = tt; more_gets = gets_same l }
+  row_gives l at _ _ (serves_here {g} {k} {grant} first want) = record {
+    first = changed_first l k (put Guarded) grant want;
+    more = changed_more l k (put Guarded) grant.count;
+    get = tt;
+    more_gets = (let same : length (update (start l).first_get g ended (gets l)) ≡ length (gets l) = numbered.length-update (gets l) (start l).first_get g ended in omega arith);
+  }
+  row_gives l at _ _ (keeps_here {k} {c} {broken = b} keep) = record { first = tt; more = (let same : length (update (start l).first k (λ r. entry c (birth_in r.standing) (max (latest l) at) (position l)) (records l)) ≡ length (records l) = numbered.length-update (records l) (start l).first k _ in omega arith); get = tt; more_gets = gets_same l }
+  row_gives l at _ _ (closes_here {k} {c} {broken = b} {grant} closing want) = record { first = changed_first l k ended grant want; more = changed_more l k ended grant.count; get = tt; more_gets = gets_same l }
+  row_gives l at _ _ (fills_here {claimed} {grant} want) = record { first = want.first; more = (let a : length (approve claimed grant.count (records l)) ≡ length (records l) + grant.count = length-approve claimed grant.count (records l) in omega arith); get = tt; more_gets = gets_same l }
+  row_gives l at _ _ (claims_here {k = None} first) = record { first = tt; more = omega arith; get = tt; more_gets = gets_same l }
+  row_gives l at _ _ (claims_here {k = Some k} first) = record { first = tt; more = (let same : length (update (start l).first k (put Claimed) (records l)) ≡ length (records l) = numbered.length-update (records l) (start l).first k _ in omega arith); get = tt; more_gets = gets_same l }
+  row_gives l at _ _ ended_here = record { first = tt; more = omega arith; get = tt; more_gets = gets_same l }
+  row_gives l at _ _ (opens_here {k} {c}) = record { first = tt; more = (let same : length (update (start l).first k (λ r. entry c (max (latest l) at) (max (latest l) at) (position l)) (records l)) ≡ length (records l) = numbered.length-update (records l) (start l).first k _ in omega arith); get = tt; more_gets = gets_same l }
+  row_gives l at _ _ (late_here {k} {c}) = record { first = tt; more = (let same : length (update (start l).first k ended (records l)) ≡ length (records l) = numbered.length-update (records l) (start l).first k _ in omega arith); get = tt; more_gets = gets_same l }
+  row_gives l at _ _ broken_here = record { first = tt; more = omega arith; get = tt; more_gets = gets_same l }
+  row_gives l at _ _ full_here = record { first = tt; more = omega arith; get = tt; more_gets = gets_same l }
+  row_gives l at _ _ withheld_here = record { first = tt; more = omega arith; get = tt; more_gets = gets_same l }
+  row_gives l at _ _ (adds_here {k} {c} room is) = record { first = is; more = omega (arith, length-append (records l) (entry c (max (latest l) at) (max (latest l) at) (position l) ∷ [])); get = tt; more_gets = gets_same l }
+  row_gives l at _ _ shows_here = record { first = tt; more = omega arith; get = tt; more_gets = gets_same l }
+
+  never_again : (l : Ledger C) → IsLegal l → NeverGivesAgain l
+  never_again (Opening s) legal = tt
+  never_again (Later l at e a) legal = (
+    never_again l legal.0,
+    by_fit (takes l e) _ _ (GivesNext l at e a) legal.1
+        (λ f row. row_gives l at e a (here l at e a (all_fresh l legal.0) (and_right (is_brought l e) _ f).0 row))
+        (λ f is. subst (λ (b : Answer). GivesNext l at e b) (sym is) (unfit_gives l at e)),
+  )
+
+  pub keeps_laws : (l : Ledger C) → IsLegal l → KeepsLaws l
+  keeps_laws l legal = record { numbers = never_again l legal; answered = (all_fit l legal).answered }
 
   -- so what a state shows is within the size
   pub size_shown : (s : Shown C) (l : Ledger C) → IsLegal l → Means l s → s.records.conns + s.records.approved ≤ s.config.max_size

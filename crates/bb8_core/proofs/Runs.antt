@@ -13,11 +13,11 @@ use Rattle.bb8_core.specs.Numbered.{Numbered}
 use Rattle.bb8_core.specs.Ledger.{Ledger, Later, start, position, records, peak, get_peak, conns_of, approved_of, alive_of, idle, gets_stand, counts}
 use Rattle.bb8_core.specs.Table.{takes, is_trying, Allowed, IsLegal}
 use Rattle.bb8_core.specs.Shown.{Shown, shown, shown_records, shown_gets, Means, Meets, IsRecordIn, IsNoRecordIn, IsGetIn, IsNoGetIn}
-use Rattle.bb8_core.specs.Limits.{KeepsLimits}
+use Rattle.bb8_core.specs.Limits.{KeepsLimits, KeepsLaws}
 use Rattle.bb8_core.specs.Run.{act_of, answer_of, IsRun}
 use Rattle.bb8_core.proofs.Facts.{shown_record, shown_get}
-use Rattle.bb8_core.proofs.Stage.{unfit_gets}
-use Rattle.bb8_core.proofs.Laws.{keeps_limits}
+use Rattle.bb8_core.proofs.Stage.{unfit_gets, unfit_records}
+use Rattle.bb8_core.proofs.Laws.{keeps_limits, keeps_laws}
 use Rattle.bb8_core.proofs.Steps.{unfitting, same_shown, records_kept, gets_kept}
 
 module _ {C : Type 0} where
@@ -46,25 +46,6 @@ module _ {C : Type 0} where
       ∙ ap (λ (t : Shown C). (not t.config.test_on_check_out && ltb 0 (length t.records.idle)) && gets_stand is_trying (get s.gets.places g)) means
 
   -- ---- an event that does not fit changes nothing
-
-  unfit_records : (l : Ledger C) (at : ℕ) (e : Act C) → records (Later l at e Unfit) ≡ records l
-  unfit_records l at Begin = refl
-  unfit_records l at (Try g) = refl
-  unfit_records l at (CheckedOk g) = refl
-  unfit_records l at (CheckedErr g b) = refl
-  unfit_records l at (GiveUp g why None b) = refl
-  unfit_records l at (GiveUp g why (Some c) b) = refl
-  unfit_records l at (PutBack k c b) = refl
-  unfit_records l at (Fill claimed) = refl
-  unfit_records l at Claim = refl
-  unfit_records l at (Opened k c) = refl
-  unfit_records l at (Failed k) = refl
-  unfit_records l at (Add c b) = refl
-  unfit_records l at Reap = refl
-  unfit_records l at State = refl
-  unfit_records l at Join = refl
-  unfit_records l at Leave = refl
-  unfit_records l at Look = refl
 
   unfit_counts : (l : Ledger C) (at : ℕ) (e : Act C) → counts (Later l at e Unfit) ≡ counts l
   unfit_counts l at e = refl
@@ -102,9 +83,12 @@ run_take l last [] (b ∷ answers) r (suc i) = absurd r
 run_take l last (x ∷ events) [] r (suc i) = absurd r
 run_take l last (x ∷ events) (b ∷ answers) r (suc i) = let rest = run_take (Later l x.at.0 (act_of l x.act) (answer_of b)) last events answers r.1 i in (rest.0, (r.0, rest.1))
 
--- so after each beginning the limits hold
-pub run_limits : (l last : Ledger ℕ) (events : List Event) (answers : List Told) → IsLegal l → IsRun l events answers last → (i : ℕ) → (m : Ledger ℕ) × IsRun l (take i events) (take i answers) m × KeepsLimits m
-run_limits l last events answers legal r i = let m = run_take l last events answers r i in (m.0, m.1, keeps_limits m.0 (run_legal l m.0 (take i events) (take i answers) legal m.1))
+-- so after each beginning the limits and the laws hold
+pub run_limits : (l last : Ledger ℕ) (events : List Event) (answers : List Told) → IsLegal l → IsRun l events answers last → (i : ℕ) → (m : Ledger ℕ) × IsRun l (take i events) (take i answers) m × KeepsLimits m × KeepsLaws m
+run_limits l last events answers legal r i =
+    let m = run_take l last events answers r i in
+    let legal_then : IsLegal m.0 = run_legal l m.0 (take i events) (take i answers) legal m.1 in
+    (m.0, m.1, keeps_limits m.0 legal_then, keeps_laws m.0 legal_then)
 
 -- one answer an event
 pub run_length : (l last : Ledger ℕ) (events : List Event) (answers : List Told) → IsRun l events answers last → length answers ≡ length events

@@ -163,7 +163,26 @@ module _ {C : Type 0} where
   fresh_after l at _ _ (adds_here room is) q = q
   fresh_after l at _ _ shows_here q = q
 
-  -- an event that does not fit changes no get
+  -- an event that does not fit changes no record and no get
+  pub unfit_records : (l : Ledger C) (at : ℕ) (e : Act C) → records (Later l at e Unfit) ≡ records l
+  unfit_records l at Begin = refl
+  unfit_records l at (Try g) = refl
+  unfit_records l at (CheckedOk g) = refl
+  unfit_records l at (CheckedErr g b) = refl
+  unfit_records l at (GiveUp g why None b) = refl
+  unfit_records l at (GiveUp g why (Some c) b) = refl
+  unfit_records l at (PutBack k c b) = refl
+  unfit_records l at (Fill claimed) = refl
+  unfit_records l at Claim = refl
+  unfit_records l at (Opened k c) = refl
+  unfit_records l at (Failed k) = refl
+  unfit_records l at (Add c b) = refl
+  unfit_records l at Reap = refl
+  unfit_records l at State = refl
+  unfit_records l at Join = refl
+  unfit_records l at Leave = refl
+  unfit_records l at Look = refl
+
   pub unfit_gets : (l : Ledger C) (at : ℕ) (e : Act C) → gets (Later l at e Unfit) ≡ gets l
   unfit_gets l at Begin = refl
   unfit_gets l at (Try g) = refl

@@ -2,7 +2,7 @@
 ghost use Rattle.std.specs.Prelude.{◌≡◌, ℕ, take, length, true, IfOk};
 ghost use Rattle.bb8_core.specs.Acts as acts;
 ghost use Rattle.bb8_core.specs.Ledger.{Ledger};
-ghost use Rattle.bb8_core.specs.Limits.{KeepsLimits};
+ghost use Rattle.bb8_core.specs.Limits.{KeepsLimits, KeepsLaws};
 ghost use Rattle.bb8_core.specs.Outcomes.{notified_of};
 ghost use Rattle.bb8_core.specs.Run.{answer_of, opening, IsRun, Applies};
 ghost use Rattle.bb8_core.specs.Settings.{settings_of, is_lawful};
@@ -131,7 +131,7 @@ pub fn replay(
     requires { is_lawful (settings_of config) ≡ true }
     ensures answers { IfOk result (λ r. length r.0.items ≡ length events.now) }
     ensures run { IfOk result (λ r. (last : Ledger ℕ) × IsRun (opening config 0 0) events.now r.0.items last × Means last r.1) }
-    ensures limits { IfOk result (λ r. (i : ℕ) → (l : Ledger ℕ) × IsRun (opening config 0 0) (take i events.now) (take i r.0.items) l × KeepsLimits l) }
+    ensures limits { IfOk result (λ r. (i : ℕ) → (l : Ledger ℕ) × IsRun (opening config 0 0) (take i events.now) (take i r.0.items) l × KeepsLimits l × KeepsLaws l) }
 {
     replay_from(alloc, config, 0, 0, events)
 }
@@ -147,7 +147,7 @@ pub fn replay_from(
     requires { is_lawful (settings_of config) ≡ true }
     ensures answers { IfOk result (λ r. length r.0.items ≡ length events.now) }
     ensures run { IfOk result (λ r. (last : Ledger ℕ) × IsRun (opening config first_number first_get) events.now r.0.items last × Means last r.1) }
-    ensures limits { IfOk result (λ r. (i : ℕ) → (l : Ledger ℕ) × IsRun (opening config first_number first_get) (take i events.now) (take i r.0.items) l × KeepsLimits l) }
+    ensures limits { IfOk result (λ r. (i : ℕ) → (l : Ledger ℕ) × IsRun (opening config first_number first_get) (take i events.now) (take i r.0.items) l × KeepsLimits l × KeepsLaws l) }
 {
     let mut pool = PoolInternals::starting_at(alloc, config, first_number, first_get);
     let mut answers = Vec::new(alloc);
