@@ -117,10 +117,10 @@ impl Gets {
     }
 
     /// Whether the get may try.
-    pub(crate) fn is_trying(&self, number: u64) -> bool
-        ensures { result ≡ ledger.gets_stand rows.is_trying (map.get self.now.places number) }
+    pub(crate) fn is_trying(&self, g: GetKey) -> bool
+        ensures { result ≡ ledger.gets_stand rows.is_trying (map.get self.now.places g.number) }
     {
-        match self.slots.locate(number, 0) {
+        match self.slots.locate(g.number, g.place) {
             None => false,
             Some(place) => match self.slots.get(place) {
                 None => false,

@@ -292,18 +292,25 @@ impl<C: Drop> PoolInternals<C> {
     pub fn fits(&self, event: Event) -> bool
         ensures { (conn : ℕ → C) (l : ledger.Ledger C) → table.IsLegal l → Means l self.now → result ≡ table.takes l (act_with conn l event.act) }
     {
-        match event.act {
+        self.fits_at(event.act, 0)
+    }
+
+    /// Whether what happens fits, where the number that it names may stand at the hint.
+    pub(crate) fn fits_at(&self, act: Act, place: usize) -> bool
+        ensures { (conn : ℕ → C) (l : ledger.Ledger C) → table.IsLegal l → Means l self.now → result ≡ table.takes l (act_with conn l act) }
+    {
+        match act {
             Act::Begin | Act::Add(_) => self.handles > 0,
-            Act::Try(get) => self.takes_try(get),
-            Act::PutBack(number, _) => self.records.is_guarded(number),
-            Act::Opened(number) => self.records.is_claimed(number),
+            Act::Try(number) => self.takes_try(GetKey { number, place }),
+            Act::PutBack(number, _) => self.records.is_guarded(Key { number, place }),
+            Act::Opened(number) => self.records.is_claimed(Key { number, place }),
             Act::Fill(_) | Act::Claim | Act::State => true,
         }
     }
 
     /// Whether the try of a get fits.
-    fn takes_try(&self, get: u64) -> bool
-        ensures { result ≡ ((not self.now.config.test_on_check_out && ltb 0 (length self.now.records.idle)) && ledger.gets_stand table.is_trying (map.get self.now.gets.places get)) }
+    fn takes_try(&self, get: GetKey) -> bool
+        ensures { result ≡ ((not self.now.config.test_on_check_out && ltb 0 (length self.now.records.idle)) && ledger.gets_stand table.is_trying (map.get self.now.gets.places get.number)) }
     {
         !self.config.test_on_check_out && self.records.has_idle() && self.gets.is_trying(get)
     }

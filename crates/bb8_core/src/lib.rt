@@ -5,6 +5,7 @@ pub mod api;
 pub mod counters;
 pub mod events;
 pub mod gets;
+mod hints;
 pub mod internals;
 pub mod keys;
 pub mod outcomes;

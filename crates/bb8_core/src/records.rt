@@ -369,10 +369,10 @@ impl<C: Drop> Records<C> {
     }
 
     /// Whether the number is a claimed approval.
-    pub(crate) fn is_claimed(&self, number: u64) -> bool
-        ensures { result ≡ ledger.stands ledger.is_claimed (map.get self.now.places number) }
+    pub(crate) fn is_claimed(&self, k: Key) -> bool
+        ensures { result ≡ ledger.stands ledger.is_claimed (map.get self.now.places k.number) }
     {
-        match self.slots.locate(number, 0) {
+        match self.slots.locate(k.number, k.place) {
             None => false,
             Some(place) => match self.slots.get(place) {
                 None => false,
@@ -382,10 +382,10 @@ impl<C: Drop> Records<C> {
     }
 
     /// Whether the number is a connection that a guard holds.
-    pub(crate) fn is_guarded(&self, number: u64) -> bool
-        ensures { result ≡ ledger.stands ledger.is_guarded (map.get self.now.places number) }
+    pub(crate) fn is_guarded(&self, k: Key) -> bool
+        ensures { result ≡ ledger.stands ledger.is_guarded (map.get self.now.places k.number) }
     {
-        match self.slots.locate(number, 0) {
+        match self.slots.locate(k.number, k.place) {
             None => false,
             Some(place) => match self.slots.get(place) {
                 None => false,

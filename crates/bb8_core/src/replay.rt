@@ -10,8 +10,9 @@ ghost use Rattle.bb8_core.specs.Shown.{Means, Meets, IsFitting};
 
 use crate::api::{Config, Memory, Moment};
 pub use crate::events::{Act, Answer, Event};
+use crate::hints::Hints;
 use crate::internals::PoolInternals;
-use crate::keys::GetKey;
+use crate::keys::{GetKey, Key};
 use crate::outcomes::{
     AddAnswer, BeginAnswer, ClaimAnswer, OpenedAnswer, PutBackAnswer, TryAnswer,
 };
@@ -27,74 +28,95 @@ fn number_of(notified: Option<GetKey>) -> Option<u64>
     }
 }
 
-fn begin(pool: &mut PoolInternals<u64>, at: Moment) -> Answer
+/// Where the records and the gets of a replay stood last.
+#[derive(Drop)]
+struct Known {
+    records: Hints,
+    gets: Hints,
+}
+
+impl Known {
+    /// Where the record or the get stands that an event names, as far as it is known.
+    fn place(&self, act: Act) -> usize {
+        match act {
+            Act::Try(get) => self.gets.place(get),
+            Act::PutBack(number, _) | Act::Opened(number) => self.records.place(number),
+            Act::Begin | Act::Fill(_) | Act::Claim | Act::Add(_) | Act::State => 0,
+        }
+    }
+}
+
+fn begin(pool: &mut PoolInternals<u64>, known: &mut Known, at: Moment) -> Answer
     requires { IsFitting pool.old acts.Begin }
     ensures { Meets pool.old at.0 acts.Begin (answer_of result) pool.new }
 {
     match pool.begin(at) {
-        BeginAnswer::Begun(get) => Answer::Begun(get.number),
+        BeginAnswer::Begun(get) => {
+            known.gets.note(get.number, get.place);
+            Answer::Begun(get.number)
+        }
         BeginAnswer::Memory => Answer::Memory,
         BeginAnswer::Exhausted => Answer::Exhausted,
     }
 }
 
-fn try_get(pool: &mut PoolInternals<u64>, at: Moment, get: u64) -> Answer
-    requires { IsFitting pool.old (acts.Try get) }
-    ensures { Meets pool.old at.0 (acts.Try get) (answer_of result) pool.new }
+fn try_get(pool: &mut PoolInternals<u64>, known: &mut Known, at: Moment, get: GetKey) -> Answer
+    requires { IsFitting pool.old (acts.Try get.number) }
+    ensures { Meets pool.old at.0 (acts.Try get.number) (answer_of result) pool.new }
 {
-    match pool.find_get(get) {
-        None => Answer::Unfit,
-        Some(key) => match pool.try_get(at, key) {
-            TryAnswer::Served(served, _, grant) => Answer::Served(served.number, grant),
-        },
+    match pool.try_get(at, get) {
+        TryAnswer::Served(key, _, grant) => {
+            known.records.note(key.number, key.place);
+            Answer::Served(key.number, grant)
+        }
     }
 }
 
-fn put_back(pool: &mut PoolInternals<u64>, at: Moment, number: u64, broken: bool) -> Answer
-    requires { IsFitting pool.old (acts.PutBack number number broken) }
-    ensures { Meets pool.old at.0 (acts.PutBack number number broken) (answer_of result) pool.new }
+fn put_back(pool: &mut PoolInternals<u64>, at: Moment, key: Key, broken: bool) -> Answer
+    requires { IsFitting pool.old (acts.PutBack key.number key.number broken) }
+    ensures { Meets pool.old at.0 (acts.PutBack key.number key.number broken) (answer_of result) pool.new }
 {
-    match pool.find(number) {
-        None => Answer::Unfit,
-        Some(key) => match pool.put_back(at, key, number, broken) {
-            PutBackAnswer::Kept(notified) => Answer::Kept(number, number_of(notified)),
-            PutBackAnswer::Closed(_, grant, notified) => {
-                Answer::Closed(number, grant, number_of(notified))
-            }
-        },
+    match pool.put_back(at, key, key.number, broken) {
+        PutBackAnswer::Kept(notified) => Answer::Kept(key.number, number_of(notified)),
+        PutBackAnswer::Closed(_, grant, notified) => {
+            Answer::Closed(key.number, grant, number_of(notified))
+        }
     }
 }
 
-fn claim(pool: &mut PoolInternals<u64>, at: Moment) -> Answer
+fn claim(pool: &mut PoolInternals<u64>, known: &mut Known, at: Moment) -> Answer
     ensures { Meets pool.old at.0 acts.Claim (answer_of result) pool.new }
 {
     match pool.claim(at) {
-        ClaimAnswer::Claimed(Some(key)) => Answer::Claimed(Some(key.number)),
+        ClaimAnswer::Claimed(Some(key)) => {
+            known.records.note(key.number, key.place);
+            Answer::Claimed(Some(key.number))
+        }
         ClaimAnswer::Claimed(None) => Answer::Claimed(None),
         ClaimAnswer::Ended => Answer::Ended,
     }
 }
 
-fn opened(pool: &mut PoolInternals<u64>, at: Moment, number: u64) -> Answer
-    requires { IsFitting pool.old (acts.Opened number number) }
-    ensures { Meets pool.old at.0 (acts.Opened number number) (answer_of result) pool.new }
+fn opened(pool: &mut PoolInternals<u64>, at: Moment, key: Key) -> Answer
+    requires { IsFitting pool.old (acts.Opened key.number key.number) }
+    ensures { Meets pool.old at.0 (acts.Opened key.number key.number) (answer_of result) pool.new }
 {
-    match pool.find(number) {
-        None => Answer::Unfit,
-        Some(key) => match pool.opened(at, key, number) {
-            OpenedAnswer::Entered(notified) => Answer::Entered(number, number_of(notified)),
-            OpenedAnswer::Late(_) => Answer::Late(number),
-        },
+    match pool.opened(at, key, key.number) {
+        OpenedAnswer::Entered(notified) => Answer::Entered(key.number, number_of(notified)),
+        OpenedAnswer::Late(_) => Answer::Late(key.number),
     }
 }
 
-fn add(pool: &mut PoolInternals<u64>, at: Moment, broken: bool) -> Answer
+fn add(pool: &mut PoolInternals<u64>, known: &mut Known, at: Moment, broken: bool) -> Answer
     requires { IsFitting pool.old (acts.Add pool.old.records.next broken) }
     ensures { Meets pool.old at.0 (acts.Add pool.old.records.next broken) (answer_of result) pool.new }
 {
     let number = pool.next_number();
     match pool.add(at, number, broken) {
-        AddAnswer::Added(key, notified) => Answer::Added(key.number, number_of(notified)),
+        AddAnswer::Added(key, notified) => {
+            known.records.note(key.number, key.place);
+            Answer::Added(key.number, number_of(notified))
+        }
         AddAnswer::Broken(_) => Answer::Broken,
         AddAnswer::NoCapacity(_) => Answer::NoCapacity,
         AddAnswer::Withheld(_) => Answer::Withheld,
@@ -102,20 +124,21 @@ fn add(pool: &mut PoolInternals<u64>, at: Moment, broken: bool) -> Answer
 }
 
 /// What an event is answered. The connection of a record is its number; that of an `Add` is the next number.
-fn apply(pool: &mut PoolInternals<u64>, event: Event) -> Answer
+fn apply(pool: &mut PoolInternals<u64>, known: &mut Known, event: Event) -> Answer
     ensures { Applies pool.old event result pool.new }
 {
-    if !pool.fits(event) {
+    let place = known.place(event.act);
+    if !pool.fits_at(event.act, place) {
         return Answer::Unfit;
     }
     match event.act {
-        Act::Begin => begin(pool, event.at),
-        Act::Try(get) => try_get(pool, event.at, get),
-        Act::PutBack(number, broken) => put_back(pool, event.at, number, broken),
+        Act::Begin => begin(pool, known, event.at),
+        Act::Try(number) => try_get(pool, known, event.at, GetKey { number, place }),
+        Act::PutBack(number, broken) => put_back(pool, event.at, Key { number, place }, broken),
         Act::Fill(claimed) => Answer::Granted(pool.fill(event.at, claimed)),
-        Act::Claim => claim(pool, event.at),
-        Act::Opened(number) => opened(pool, event.at, number),
-        Act::Add(broken) => add(pool, event.at, broken),
+        Act::Claim => claim(pool, known, event.at),
+        Act::Opened(number) => opened(pool, event.at, Key { number, place }),
+        Act::Add(broken) => add(pool, known, event.at, broken),
         Act::State => Answer::Shown(pool.state(event.at)),
     }
 }
@@ -150,9 +173,13 @@ pub fn replay_from(
     ensures limits { IfOk result (λ r. (i : ℕ) → (l : Ledger ℕ) × IsRun (opening config first_number first_get) (take i events.now) (take i r.0.items) l × KeepsLimits l × KeepsLaws l) }
 {
     let mut pool = PoolInternals::starting_at(alloc, config, first_number, first_get);
+    let mut known = Known {
+        records: Hints::new(alloc, first_number),
+        gets: Hints::new(alloc, first_get),
+    };
     let mut answers = Vec::new(alloc);
     for event in events {
-        answers.push(apply(&mut pool, *event))?;
+        answers.push(apply(&mut pool, &mut known, *event))?;
     }
     Ok((answers, pool))
 }

@@ -5,20 +5,20 @@ use Rattle.bb8_core.specs.Table.{takes}
 use Rattle.bb8_core.proofs.Runs.{unfit_now}
 use Rattle.bb8_core.proofs.replay.apply.Goals as goal
 
-pub returns-then-not-fits : goal.returns-then-not-fits
-returns-then-not-fits c = λ m legal means. unfit_now m c.args.pool.now c.args.event.at.0 (act_of m c.args.event.act) (sym (c.fits.ensures (λ k. k) m legal means) ∙ c.if-not-fits.true) means
+pub returns-then-not-fits_at : goal.returns-then-not-fits_at
+returns-then-not-fits_at c = λ m legal means. unfit_now m c.args.pool.now c.args.event.at.0 (act_of m c.args.event.act) (sym (c.fits_at.ensures (λ k. k) m legal means) ∙ c.if-not-fits_at.true) means
 
 pub begin-requires : goal.begin-requires
-begin-requires c = λ l legal means. subst (λ (a : Named). takes l (act_of l a) ≡ true) c.in-Begin.is (sym (c.fits.ensures (λ k. k) l legal means) ∙ c.if-not-fits.false)
+begin-requires c = λ l legal means. subst (λ (a : Named). takes l (act_of l a) ≡ true) c.in-Begin.is (sym (c.fits_at.ensures (λ k. k) l legal means) ∙ c.if-not-fits_at.false)
 
 pub try_get-requires : goal.try_get-requires
-try_get-requires c = λ l legal means. subst (λ (a : Named). takes l (act_of l a) ≡ true) c.in-Try.is (sym (c.fits.ensures (λ k. k) l legal means) ∙ c.if-not-fits.false)
+try_get-requires c = λ l legal means. subst (λ (a : Named). takes l (act_of l a) ≡ true) c.in-Try.is (sym (c.fits_at.ensures (λ k. k) l legal means) ∙ c.if-not-fits_at.false)
 
 pub put_back-requires : goal.put_back-requires
-put_back-requires c = λ l legal means. subst (λ (a : Named). takes l (act_of l a) ≡ true) c.in-PutBack.is (sym (c.fits.ensures (λ k. k) l legal means) ∙ c.if-not-fits.false)
+put_back-requires c = λ l legal means. subst (λ (a : Named). takes l (act_of l a) ≡ true) c.in-PutBack.is (sym (c.fits_at.ensures (λ k. k) l legal means) ∙ c.if-not-fits_at.false)
 
 pub opened-requires : goal.opened-requires
-opened-requires c = λ l legal means. subst (λ (a : Named). takes l (act_of l a) ≡ true) c.in-Opened.is (sym (c.fits.ensures (λ k. k) l legal means) ∙ c.if-not-fits.false)
+opened-requires c = λ l legal means. subst (λ (a : Named). takes l (act_of l a) ≡ true) c.in-Opened.is (sym (c.fits_at.ensures (λ k. k) l legal means) ∙ c.if-not-fits_at.false)
 
 pub add-requires : goal.add-requires
-add-requires c = λ l legal means. subst (λ (a : Named). takes l (act_of l a) ≡ true) c.in-Add.is (sym (c.fits.ensures (λ k. k) l legal means) ∙ c.if-not-fits.false)
+add-requires c = λ l legal means. subst (λ (a : Named). takes l (act_of l a) ≡ true) c.in-Add.is (sym (c.fits_at.ensures (λ k. k) l legal means) ∙ c.if-not-fits_at.false)

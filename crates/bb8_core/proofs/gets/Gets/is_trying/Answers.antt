@@ -7,10 +7,10 @@ use Rattle.bb8_core.proofs.GetPlaces.{none_shown, some_shown}
 use Rattle.bb8_core.proofs.gets.Gets.is_trying.Goals as goal
 
 pub returns-in-None : goal.returns-in-None
-returns-in-None c = sym (ap (gets_stand is_trying) (none_shown c.self.inside c.args.number c.args.self.now c.self.view_is c.in-None.ensures.none))
+returns-in-None c = sym (ap (gets_stand is_trying) (none_shown c.self.inside c.args.g.number c.args.self.now c.self.view_is c.in-None.ensures.none))
 
 pub returns-in-Some-get : goal.returns-in-Some-get
 returns-in-Some-get c =
     let f = c.in-Some.ensures.some in
     let alike : f.0 ≡ c.in-Some-get.slot.now = (let both : Some f.0 ≡ Some c.in-Some-get.slot.now = sym f.1 ∙ sym c.in-Some-get.ensures in cc) in
-    c.is_trying_place.ensures ∙ sym (ap (gets_stand is_trying) (some_shown c.self.inside c.args.number c.in-Some.place f.0 c.args.self.now c.self.invariant c.self.view_is f.1 f.2) ∙ ap (λ (x : Slot Getting). is_trying x.standing.place) alike)
+    c.is_trying_place.ensures ∙ sym (ap (gets_stand is_trying) (some_shown c.self.inside c.args.g.number c.in-Some.place f.0 c.args.self.now c.self.invariant c.self.view_is f.1 f.2) ∙ ap (λ (x : Slot Getting). is_trying x.standing.place) alike)
