@@ -1,0 +1,10 @@
+pub mod Choices
+pub mod Numbers
+pub mod Texts
+pub mod FirstLine
+pub mod Events
+pub mod Spelled
+pub mod Bytes
+pub mod Words
+pub mod Configured
+pub mod Printed
