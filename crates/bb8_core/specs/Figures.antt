@@ -19,11 +19,13 @@ pub record Counts : Type 0 where
   pub max_lifetime : ℕ
   pub idle_timeout : ℕ
 
+-- what a pool tells of itself
 pub record Figures : Type 0 where
   pub connections : ℕ
   pub idle : ℕ
   pub counts : Counts
 
+-- the statistics as plain numbers
 abbrev pub counts_of : Statistics → Counts
 counts_of s = record {
   started = s.get_started;
@@ -39,6 +41,7 @@ counts_of s = record {
   idle_timeout = s.connections_closed_idle_timeout;
 }
 
+-- a state as plain numbers
 abbrev pub figures_of : State → Figures
 figures_of s = record { connections = s.connections; idle = s.idle_connections; counts = counts_of s.statistics }
 
@@ -46,6 +49,7 @@ figures_of s = record { connections = s.connections; idle = s.idle_connections; 
 abbrev pub no_counts : Counts
 no_counts = record { started = 0; direct = 0; waited = 0; timed_out = 0; cancelled = 0; wait_time = 0; created = 0; broken = 0; invalid = 0; max_lifetime = 0; idle_timeout = 0 }
 
+-- the code that the toolchain asks of a model's value
 abbrev pub counts_code : Coded Counts
 counts_code =
     code_by

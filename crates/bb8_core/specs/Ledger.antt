@@ -39,6 +39,7 @@ is_conn (Idle c) = true
 is_conn (Held g) = true
 is_conn Guarded = true
 
+-- an approval that nobody claimed
 abbrev pub is_unclaimed : {C : Type 0} → Place C → Bool
 is_unclaimed Unclaimed = true
 is_unclaimed Claimed = false
@@ -46,6 +47,7 @@ is_unclaimed (Idle c) = false
 is_unclaimed (Held g) = false
 is_unclaimed Guarded = false
 
+-- an approval that was claimed
 abbrev pub is_claimed : {C : Type 0} → Place C → Bool
 is_claimed Unclaimed = false
 is_claimed Claimed = true
@@ -53,6 +55,7 @@ is_claimed (Idle c) = false
 is_claimed (Held g) = false
 is_claimed Guarded = false
 
+-- a connection that nobody holds
 abbrev pub is_idle : {C : Type 0} → Place C → Bool
 is_idle Unclaimed = false
 is_idle Claimed = false
@@ -166,10 +169,12 @@ module _ {C : Type 0} where
 abbrev pub approval : {C : Type 0} → Bool → Numbered (Standing C)
 approval claimed = record { standing = Some (record { place = cond claimed Claimed Unclaimed; birth = 0; entered = 0 }); position = 0 }
 
+-- a get that began: active, and it never waited
 abbrev pub new_get : Numbered Getting
 new_get = record { standing = Some (record { place = Active; first_wait = None }); position = 0 }
 
 module _ {S : Type 0} where
+  -- what had a number, ended; its position stays
   abbrev pub ended : Numbered S → Numbered S
   ended r = record r { standing = None }
 
@@ -183,6 +188,7 @@ module _ {C : Type 0} where
   approve claimed zero rs = rs
   approve claimed (suc n) rs = approve claimed n rs ++ approval claimed ∷ []
 
+  -- a record at another place; birth and entry stay
   abbrev pub placed : Place C → Standing C → Standing C
   placed p s = record s { place = p }
 
@@ -194,6 +200,7 @@ module _ {C : Type 0} where
   abbrev pub entry : C → ℕ → ℕ → ℕ → Numbered (Standing C)
   entry c birth now position = record { standing = Some (record { place = Idle c; birth = birth; entered = now }); position = position }
 
+  -- the birth of a record, or 0 where it has ended
   abbrev pub birth_in : Option (Standing C) → ℕ
   birth_in None = 0
   birth_in (Some s) = s.birth
@@ -227,6 +234,7 @@ module _ {C : Type 0} where
 abbrev pub get_placed : GetPlace → Getting → Getting
 get_placed p g = record g { place = p }
 
+-- a get at another place; first wait and position stay
 abbrev pub get_put : GetPlace → Numbered Getting → Numbered Getting
 get_put p g = record g { standing = option_map (get_placed p) g.standing }
 
@@ -235,6 +243,7 @@ abbrev pub first_or : ℕ → Option ℕ → ℕ
 first_or now None = now
 first_or now (Some first) = first
 
+-- a get that waits now, and since its first wait if it waited before
 abbrev pub get_waits : ℕ → Getting → Getting
 get_waits now g = record { place = Waiting false; first_wait = Some (first_or now g.first_wait) }
 
@@ -278,6 +287,7 @@ handles_after handles (Left c) = handles - 1
 handles_after handles _ = handles
 
 module _ {C : Type 0} where
+  -- what the pool began with
   abbrev pub start : Ledger C → Start
   start (Opening s) = s
   start (Later l at e a) = start l
@@ -297,10 +307,12 @@ module _ {C : Type 0} where
   handles (Opening s) = 1
   handles (Later l at e a) = handles_after (handles l) a
 
+  -- all connections and approvals there ever were, in a row of numbers
   abbrev pub records : Ledger C → List (Numbered (Standing C))
   records (Opening s) = []
   records (Later l at e a) = records_after (start l) (handles l) (position l) (max (latest l) at) (records l) e a
 
+  -- all gets there ever were, in a row of numbers
   abbrev pub gets : Ledger C → List (Numbered Getting)
   gets (Opening s) = []
   gets (Later l at e a) = gets_after (start l) (position l) (max (latest l) at) (gets l) e a
@@ -309,12 +321,15 @@ module _ {C : Type 0} where
   abbrev pub tally_places : (Place C → Bool) → List (Numbered (Standing C)) → ℕ
   tally_places test rs = tally (λ r. stands test r.standing) rs
 
+  -- how many of the records are connections
   abbrev pub conns_of : List (Numbered (Standing C)) → ℕ
   conns_of = tally_places is_conn
 
+  -- how many of the records are open approvals
   abbrev pub approved_of : List (Numbered (Standing C)) → ℕ
   approved_of = tally_places is_approval
 
+  -- how many of the records are idle
   abbrev pub idle_of : List (Numbered (Standing C)) → ℕ
   idle_of = tally_places is_idle
 
@@ -326,6 +341,7 @@ module _ {C : Type 0} where
 abbrev pub tally_gets : (GetPlace → Bool) → List (Numbered Getting) → ℕ
 tally_gets test gs = tally (λ g. gets_stand test g.standing) gs
 
+-- how many of the gets are alive
 abbrev pub alive_of : List (Numbered Getting) → ℕ
 alive_of gs = tally (λ g. is_some g.standing) gs
 
@@ -355,21 +371,27 @@ module _ {C : Type 0} where
   abbrev pub conns : Ledger C → ℕ
   conns l = conns_of (records l)
 
+  -- how many approvals are open
   abbrev pub approved : Ledger C → ℕ
   approved l = approved_of (records l)
 
+  -- how many connections are idle
   abbrev pub idle_count : Ledger C → ℕ
   idle_count l = idle_of (records l)
 
+  -- how many connections somebody holds
   abbrev pub out : Ledger C → ℕ
   out l = tally_places is_out (records l)
 
+  -- how many gets are alive
   abbrev pub alive : Ledger C → ℕ
   alive l = alive_of (gets l)
 
+  -- how many waiters were notified
   abbrev pub notified : Ledger C → ℕ
   notified l = tally_gets is_notified (gets l)
 
+  -- how many waiters were not notified
   abbrev pub unnotified : Ledger C → ℕ
   unnotified l = tally_gets is_unnotified (gets l)
 
@@ -377,6 +399,7 @@ module _ {C : Type 0} where
   abbrev pub idle : Ledger C → List ℕ
   idle l = in_order idle_at (start l).first (records l) (position l)
 
+  -- the idle connection that goes out next
   abbrev pub first_idle : Ledger C → Option ℕ
   first_idle l = first_of (start l).config.queue_strategy (idle l)
 
@@ -388,6 +411,7 @@ module _ {C : Type 0} where
   abbrev pub waiting : Ledger C → List ℕ
   waiting l = in_order unnotified_at (start l).first_get (gets l) (position l)
 
+  -- the waiter that is notified next
   abbrev pub oldest_waiter : Ledger C → Option ℕ
   oldest_waiter l = slice_get (waiting l) 0
 
@@ -401,9 +425,11 @@ module _ {C : Type 0} where
   get_peak (Opening s) = 0
   get_peak (Later l at e a) = max (get_peak l) (alive (Later l at e a))
 
+  -- where the record of a number stands, if it has not ended
   abbrev pub record_of : Ledger C → ℕ → Option (Standing C)
   record_of l k = standing_at (start l).first (records l) k
 
+  -- where the get of a number stands, if it has not ended
   abbrev pub get_of : Ledger C → ℕ → Option Getting
   get_of l g = standing_at (start l).first_get (gets l) g
 
@@ -417,6 +443,7 @@ module _ {C : Type 0} where
   abbrev pub waited_since : Ledger C → Act C → Option ℕ
   waited_since l e = option_and_then (λ g. first_wait_of (get_of l g)) (get_in e)
 
+  -- gets that began
   abbrev pub started : Ledger C → ℕ
   started (Opening s) = 0
   started (Later l at e (Begun g)) = started l + 1
@@ -434,12 +461,14 @@ module _ {C : Type 0} where
   waited (Later l at e (Served k grant)) = waited l + one (is_some (waited_since l e))
   waited (Later l at e a) = waited l
 
+  -- gets that gave up at their deadline
   abbrev pub timed_out : Ledger C → ℕ
   timed_out (Opening s) = 0
   timed_out (Later l at e Unfit) = timed_out l
   timed_out (Later l at (GiveUp g TimedOut held broken) a) = timed_out l + 1
   timed_out (Later l at e a) = timed_out l
 
+  -- gets that were let go before they were answered
   abbrev pub cancelled : Ledger C → ℕ
   cancelled (Opening s) = 0
   cancelled (Later l at e Unfit) = cancelled l
@@ -458,11 +487,13 @@ module _ {C : Type 0} where
   wait_micros (Later l at (GiveUp g TimedOut held broken) a) = min 18446744073709551615 (wait_micros l + wait_of l at (GiveUp g TimedOut held broken))
   wait_micros (Later l at e a) = wait_micros l
 
+  -- connections that an approval brought
   abbrev pub created : Ledger C → ℕ
   created (Opening s) = 0
   created (Later l at e (Entered k n)) = created l + 1
   created (Later l at e a) = created l
 
+  -- connections that were closed as broken
   abbrev pub broken : Ledger C → ℕ
   broken (Opening s) = 0
   broken (Later l at e (Closed k grant n)) = broken l + one (says_broken e)
@@ -488,6 +519,7 @@ module _ {C : Type 0} where
   idled_out (Later l at e (Reaped closed by_idle by_life grant)) = idled_out l + by_idle
   idled_out (Later l at e a) = idled_out l
 
+  -- all statistics
   abbrev pub counts : Ledger C → Counts
   counts l = record {
     started = started l;

@@ -38,9 +38,11 @@ module _ {C : Type 0} where
   abbrev pub closed : Bool → ℕ → ShownRecords C → ShownRecords C
   closed opening k s = record s { places = remove s.places k; conns = s.conns - one (not opening); approved = s.approved - one opening }
 
+  -- one approval more, claimed or in line
   abbrev pub approve_one : Bool → ShownRecords C → ShownRecords C
   approve_one claimed_now s = record s { next = s.next + 1; places = insert s.places s.next (record { place = cond claimed_now Claimed Unclaimed; birth = 0; entered = 0 }); unclaimed = s.unclaimed ++ cond claimed_now [] (s.next ∷ []); approved = s.approved + 1 }
 
+  -- so many approvals more
   abbrev pub approve : Bool → ℕ → ShownRecords C → ShownRecords C
   approve claimed_now zero s = s
   approve claimed_now (suc n) s = approve_one claimed_now (approve claimed_now n s)
@@ -49,6 +51,7 @@ module _ {C : Type 0} where
   abbrev pub born : C → ℕ → ShownRecords C → ShownRecords C
   born c now s = record s { next = s.next + 1; places = insert s.places s.next (record { place = Idle c; birth = now; entered = now }); idle = s.idle ++ s.next ∷ []; conns = s.conns + 1 }
 
+  -- the peak is at least what there is
   abbrev pub raised : ShownRecords C → ShownRecords C
   raised s = record s { peak = max s.peak (s.conns + s.approved) }
 
@@ -56,6 +59,7 @@ module _ {C : Type 0} where
   abbrev pub IsGrant : ShownRecords C → ℕ → Grant → Type 0
   IsGrant s n g = IsGranted s.next (s.conns + s.approved) s.peak n g
 
+  -- the approvals of a grant, and the peak after them
   abbrev pub granted : Bool → Grant → ShownRecords C → ShownRecords C
   granted claimed_now g s = raised (approve claimed_now g.count s)
 
@@ -71,8 +75,10 @@ module _ {C : Type 0} where
   abbrev pub closes : Shown C → ℕ → ℕ → Bool → Bool
   closes s at k broken = broken || (is_old s at k || eqb s.handles 0)
 
+-- one get more, which is active
 abbrev pub begun : ShownGets → ShownGets
 begun s = record s { next = s.next + 1; places = insert s.places s.next (record { place = Active; first_wait = None }); alive = s.alive + 1; peak = max s.peak (s.alive + 1) }
 
+-- the get of that number ended
 abbrev pub get_ended : ℕ → ShownGets → ShownGets
 get_ended g s = record s { places = remove s.places g; alive = s.alive - 1 }

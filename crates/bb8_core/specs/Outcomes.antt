@@ -26,27 +26,33 @@ use Rattle.bb8_core.specs.Shown.{Shown, Means}
 abbrev pub notified_of : Option GetKey → Option ℕ
 notified_of = option_map (λ (g : GetKey). g.number)
 
+-- a begin's answer, by plain numbers
 abbrev pub begin_told : BeginAnswer → Answer
 begin_told (begun.Begun g) = Begun g.number
 begin_told begun.Memory = Memory
 begin_told begun.Exhausted = Exhausted
 
+-- a claim's answer, by plain numbers
 abbrev pub claim_told : ClaimAnswer → Answer
 claim_told (claimed.Claimed k) = Claimed (option_map (λ (a : Key). a.number) k)
 claim_told claimed.Ended = Ended
 
 module _ {C : Type 0} where
+  -- a try's answer, by plain numbers
   abbrev pub try_told : TryAnswer C → Answer
   try_told (tried.Served k c grant) = Served k.number grant
 
+  -- the answer to a return of that number, by plain numbers
   abbrev pub put_back_told : ℕ → PutBackAnswer C → Answer
   put_back_told k (returned.Kept n) = Kept k (notified_of n)
   put_back_told k (returned.Closed c grant n) = Closed k grant (notified_of n)
 
+  -- the answer to an opening of that number, by plain numbers
   abbrev pub opened_told : ℕ → OpenedAnswer C → Answer
   opened_told a (opened.Entered n) = Entered a (notified_of n)
   opened_told a (opened.Late c) = Late a
 
+  -- an adding's answer, by plain numbers
   abbrev pub add_told : AddAnswer C → Answer
   add_told (adding.Added k n) = Added k.number (notified_of n)
   add_told (adding.Broken c) = Broken

@@ -23,6 +23,7 @@ counts_held c = record {
 }
 
 module _ {C : Type 0} where
+  -- what the fields show
   abbrev pub view_of : Inside C → Shown C
   view_of a = record {
     config = settings_of a.config;

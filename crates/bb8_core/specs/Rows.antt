@@ -51,11 +51,13 @@ pub record IsBackOff (timeout : ℕ) (told : List ℕ) (most : ℕ) : Type 0 whe
 
 -- at a moment, an event and its answer
 infix 70 ◌▸◌⇒◌
+-- at a moment this happens, and is answered so
 abbrev pub ◌▸◌⇒◌ : ℕ → Act ℕ → Answer → Told
 ◌▸◌⇒◌ at act answer = record { at = at; act = act; answer = answer }
 
 -- so many approvals, from the number that was next; nothing is withheld
 infix 71 grant◌at◌
+-- a grant of so many numbers from one on, with nothing withheld
 abbrev pub grant◌at◌ : ℕ → ℕ → Grant
 grant◌at◌ count first = record { first = first; count = count; withheld = 0 }
 

@@ -53,6 +53,7 @@ answer_of told.Unfit = Unfit
 abbrev pub opening_with : {C : Type 0} → Settings → ℕ → ℕ → Ledger C
 opening_with config first first_get = Opening (record { config = config; first = first; first_get = first_get })
 
+-- the empty ledger of a configuration and first numbers
 abbrev pub opening : {C : Type 0} → Config → ℕ → ℕ → Ledger C
 opening config first first_get = opening_with (settings_of config) first first_get
 

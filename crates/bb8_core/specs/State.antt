@@ -30,6 +30,7 @@ pub record AreGetsSized (places place_room alive peak next : ℕ) : Type 0 where
   pub alive_few : alive ≤ next
 
 module _ {C : Type 0} where
+  -- what the fields of the records show
   abbrev pub view_of_records : RecordsInside C → ShownRecords C
   view_of_records a = record {
     next = a.next;
@@ -50,6 +51,7 @@ module _ {C : Type 0} where
   passes test None = false
   passes test (Some x) = test x.standing.place
 
+  -- the table holds what is numbered, the lines lead to it, and the counts agree
   pub record AreGoodRecords (a : RecordsInside C) : Type 0 where
     pub table : IsTable (λ (x : Slot (Standing C)). x.number) a.slots a.next
     pub idle : IsLineOf is_idle a.slots.slots a.idle.items
@@ -58,6 +60,7 @@ module _ {C : Type 0} where
     pub approved_are : tally (passes is_approval) a.slots.slots ≡ a.approved
     pub sizes : AreSized (slab_len a.slots) a.slots.capacity a.idle.capacity a.unclaimed.capacity a.conns a.approved a.peak
 
+-- what the fields of the gets show
 abbrev pub view_of_gets : GetsInside → ShownGets
 view_of_gets a = record {
   next = a.next;
@@ -67,6 +70,7 @@ view_of_gets a = record {
   peak = a.peak;
 }
 
+-- the table holds what is numbered, and the counts agree
 pub record AreGoodGets (a : GetsInside) : Type 0 where
   pub table : IsTable (λ (x : Slot Getting). x.number) a.slots a.next
   pub sizes : AreGetsSized (slab_len a.slots) a.slots.capacity a.alive a.peak a.next

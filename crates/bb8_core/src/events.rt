@@ -44,7 +44,7 @@ pub struct Event {
 }
 
 /// What a pool answers. Our own; the get that a step notified is named where there is one.
-#[derive(Clone, Copy, Debug)]
+#[derive(Clone, Copy, Debug, PartialEq, Eq)]
 pub enum Answer {
     /// The get that began.
     Begun(u64),

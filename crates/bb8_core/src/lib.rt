@@ -15,3 +15,5 @@ mod ring;
 pub mod rows;
 pub mod standing;
 pub mod table;
+#[cfg(test)]
+mod tests;

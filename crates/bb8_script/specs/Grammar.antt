@@ -9,6 +9,7 @@ use Rattle.bb8_core.specs.declared.events.Event.{Event}
 
 -- what the second gives for the value of the first, where there is one
 infixl 10 ◌>>=◌
+-- the second reading of what the first one read
 abbrev pub ◌>>=◌ : {A B : Type 0} → Option A → (A → Option B) → Option B
 o >>= f = option_and_then f o
 

@@ -4,7 +4,7 @@ ghost use Rattle.std.specs.Prelude.{◌≡◌, ◌+◌, ◌≤◌};
 use std::time::Duration;
 
 /// How often each thing happened to a pool. As upstream, but for `get_cancelled`, which is our own.
-#[derive(Clone, Copy, Debug)]
+#[derive(Clone, Copy, Debug, PartialEq, Eq)]
 pub struct Statistics {
     /// Gets that began.
     pub get_started: u64,
@@ -73,7 +73,7 @@ impl Statistics {
 }
 
 /// What a pool tells of itself. As upstream.
-#[derive(Clone, Copy, Debug)]
+#[derive(Clone, Copy, Debug, PartialEq, Eq)]
 pub struct State {
     /// Connections that are idle or out.
     pub connections: u32,
