@@ -1,13 +1,17 @@
 pub mod Numbered
 pub mod Slots
+pub mod Lines
 pub mod ShownRecords
 pub mod Places
 pub mod Approvals
 pub mod ShownGets
 pub mod GetPlaces
 pub mod Facts
+pub mod Waiters
 pub mod Stage
+pub mod Lent
 pub mod Laws
+pub mod Fitting
 pub mod Steps
 pub mod Runs
 pub mod Evaluated

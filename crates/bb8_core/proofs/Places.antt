@@ -1,5 +1,5 @@
 -- The code's side of each change: what it does to the fields, seen in what they mean.
-use Rattle.std.proofs.Common.{◌≡◌, ◌≢◌, ℕ, zero, suc, ◌+◌, ◌-◌, ◌<◌, ◌≤◌, Bool, true, false, cond, not, List, [], ◌∷◌, ◌++◌, map, length, Option, Some, None, get_or, slice_get, drop, refl, sym, ap, ◌∙◌, ⊎_elim, arith, subst, length-append, append-nil, count_by, is_some}
+use Rattle.std.proofs.Common.{◌≡◌, ◌≢◌, ℕ, zero, suc, ◌+◌, ◌-◌, ◌<◌, ◌≤◌, Bool, true, false, cond, not, List, [], ◌∷◌, ◌++◌, map, length, Option, Some, None, get_or, slice_get, drop, refl, sym, ap, ◌∙◌, ⊎_elim, arith, subst, length-append, append-nil}
 use Rattle.std.specs.FinMap.{insert, remove, get}
 use Rattle.slab.specs.Slab as slabs
 use Rattle.slab.specs.Slab.{Slab, Updates, slab_len}
@@ -72,14 +72,6 @@ pub map_first : {K : Type 0} (f : K → ℕ) (ks : List K) (k : K) → slice_get
 map_first f [] k e = cc
 map_first f (x ∷ ks) k e = let is : Some x ≡ Some k = e in let same : x ≡ k = cc in ap (λ (y : _). Some (f y)) same
 
-pub map_none : {K : Type 0} (f : K → ℕ) (ks : List K) → slice_get ks 0 ≡ None → slice_get (map f ks) 0 ≡ None
-map_none f [] e = refl
-map_none f (x ∷ ks) e = cc
-
-drop_none : {K : Type 0} (ks : List K) → slice_get ks 0 ≡ None → drop 1 ks ≡ ks
-drop_none [] e = refl
-drop_none (x ∷ ks) e = cc
-
 pub map_at : {K : Type 0} (f : K → ℕ) (ks : List K) (i : ℕ) (k : K) → slice_get ks i ≡ Some k → slice_get (map f ks) i ≡ Some (f k)
 map_at f [] i k e = cc
 map_at f (x ∷ ks) zero k e = let is : Some x ≡ Some k = e in let same : x ≡ k = cc in ap (λ (y : _). Some (f y)) same
@@ -94,7 +86,7 @@ pub map_length : {K : Type 0} (f : K → ℕ) (ks : List K) → length (map f ks
 map_length f [] = refl
 map_length f (x ∷ ks) = ap suc (map_length f ks)
 
-map_push : {K : Type 0} (f : K → ℕ) (ks : List K) (k : K) → map f (ks ++ k ∷ []) ≡ map f ks ++ f k ∷ []
+pub map_push : {K : Type 0} (f : K → ℕ) (ks : List K) (k : K) → map f (ks ++ k ∷ []) ≡ map f ks ++ f k ∷ []
 map_push f [] k = refl
 map_push f (x ∷ ks) k = ap (λ (r : List ℕ). f x ∷ r) (map_push f ks k)
 
@@ -261,12 +253,6 @@ module _ {C : Type 0} where
         (ap (λ (b : Buffer Key). map (λ (k : Key). k.number) b.items) rest ∙ map_drop (λ (k : Key). k.number) a.unclaimed.items)
         refl refl refl
 
-  -- a pop of an empty ring
-  pub unclaimed_kept : (a : Inside C) (unclaimed : Buffer Key) → slice_get a.unclaimed.items 0 ≡ None → unclaimed ≡ buffer (drop 1 a.unclaimed.items) a.unclaimed.capacity → view_of_records (record a { unclaimed = unclaimed }) ≡ view_of_records a
-  unclaimed_kept a unclaimed empty rest = same_records _ _ refl refl refl
-      (ap (λ (b : Buffer Key). map (λ (k : Key). k.number) b.items) rest ∙ ap (map (λ (k : Key). k.number)) (drop_none a.unclaimed.items empty))
-      refl refl refl
-
   -- ---- take
 
   module _ (a : Inside C) (strategy : QueueStrategy) (key : Key) (slots : Slab (Slot (Standing C))) (idle : Buffer Key) (good : AreGoodRecords a) (first : Some key ≡ slice_get a.idle.items (first_place strategy (length a.idle.items))) (rest : idle ≡ buffer (cut_at (first_place strategy (length a.idle.items)) a.idle.items) a.idle.capacity) (sets : SetsTo a.slots slots key.place (placed Guarded)) where
@@ -425,29 +411,6 @@ module _ {C : Type 0} where
     close_view n m n_is m_is = same_records _ _ refl
         (held_removed (λ (y : Slot (Standing C)). y.number) (λ y. y.standing) a.slots slots a.next place x good.table at_place frees ∙ ap (remove (view_of_records a).places) numbered)
         refl refl n_is m_is refl
-
-  -- ---- more room
-
-  module _ (a : Inside C) (slots : Slab (Slot (Standing C))) (idle unclaimed : Buffer Key) (peak : ℕ) (same : slots.slots ≡ a.slots.slots) (idle_same : idle.items ≡ a.idle.items) (unclaimed_same : unclaimed.items ≡ a.unclaimed.items) where
-    pub room_good : AreGoodRecords a → a.conns + a.approved ≤ peak → peak ≤ 4294967295 → peak ≤ slots.capacity → peak ≤ idle.capacity → peak ≤ unclaimed.capacity → AreGoodRecords (record a { slots = slots; idle = idle; unclaimed = unclaimed; peak = peak })
-    room_good good fit few slots_room idle_room unclaimed_room = record {
-      table = record {
-        distinct = rw same good.table.distinct;
-        below = λ i x e. good.table.below i x (ap (λ (xs : List (Option (Slot (Standing C)))). get_or xs i None) (sym same) ∙ e);
-      };
-      idle = rw (same, idle_same) good.idle;
-      unclaimed = rw (same, unclaimed_same) good.unclaimed;
-      conns_are = ap (tally (passes is_conn)) same ∙ good.conns_are;
-      approved_are = ap (tally (passes is_approval)) same ∙ good.approved_are;
-      sizes = record { places_are = ap (count_by is_some) same ∙ good.sizes.places_are; peak_holds = fit; peak_few = few; place_room_holds = slots_room; idle_room_holds = idle_room; unclaimed_room_holds = unclaimed_room };
-    }
-
-    pub room_view : view_of_records (record a { slots = slots; idle = idle; unclaimed = unclaimed; peak = peak }) ≡ record (view_of_records a) { peak = peak }
-    room_view = same_records _ _ refl
-        (ap (held (λ (s : Slot (Standing C)). s.number) (λ s. s.standing)) same)
-        (ap (map (λ (k : Key). k.number)) idle_same)
-        (ap (map (λ (k : Key). k.number)) unclaimed_same)
-        refl refl refl
 
   -- ---- approve
 

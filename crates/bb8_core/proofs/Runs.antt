@@ -1,5 +1,5 @@
 -- Runs: what a state says of its ledger's numbers, an event that does not fit, and lists of events.
-use Rattle.std.proofs.Common.{◌≡◌, ℕ, zero, suc, ◌+◌, max, false, ltb, ◌&&◌, not, List, [], ◌∷◌, ◌++◌, take, length, Option, Some, None, IsSome, IfSome, IfNone, refl, sym, ap, ◌∙◌, subst}
+use Rattle.std.proofs.Common.{◌≡◌, ℕ, zero, suc, ◌+◌, max, Bool, true, false, ◌&&◌, not, List, [], ◌∷◌, ◌++◌, take, length, Option, Some, None, is_some, option_map, IsSome, IfSome, IfNone, refl, sym, ap, ◌∙◌, subst}
 use Rattle.std.specs.FinMap.{get}
 use Rattle.bb8_core.specs.declared.keys.Key.{Key}
 use Rattle.bb8_core.specs.declared.keys.GetKey.{GetKey}
@@ -7,17 +7,16 @@ use Rattle.bb8_core.specs.declared.events.Event.{Event}
 use Rattle.bb8_core.specs.declared.events.Answer.{Answer as Told}
 use Rattle.bb8_core.specs.declared.standing.Standing.{Standing}
 use Rattle.bb8_core.specs.declared.standing.Getting.{Getting}
-use Rattle.bb8_core.specs.Acts.{Act, Begin, Try, CheckedOk, CheckedErr, GiveUp, PutBack, Fill, Claim, Opened, Failed, Add, Reap, State, Join, Leave, Look}
+use Rattle.bb8_core.specs.Acts.{Act, Try, GiveUp, Reason}
 use Rattle.bb8_core.specs.Answers.{Unfit}
 use Rattle.bb8_core.specs.Numbered.{Numbered}
-use Rattle.bb8_core.specs.Ledger.{Ledger, Later, start, position, records, peak, get_peak, conns_of, approved_of, alive_of, idle, gets_stand, counts}
-use Rattle.bb8_core.specs.Table.{takes, is_trying, Allowed, IsLegal}
-use Rattle.bb8_core.specs.Shown.{Shown, shown, shown_records, shown_gets, Means, Meets, IsRecordIn, IsNoRecordIn, IsGetIn, IsNoGetIn}
-use Rattle.bb8_core.specs.Limits.{KeepsLimits, KeepsLaws}
-use Rattle.bb8_core.specs.Run.{act_of, answer_of, IsRun}
+use Rattle.bb8_core.specs.Ledger.{Ledger, Later, start, position, peak, get_peak, conns_of, approved_of, alive_of, gets_stand, get_of, holds, counts}
+use Rattle.bb8_core.specs.Table.{takes, is_trying, agree, Allowed, IsLegal}
+use Rattle.bb8_core.specs.Shown.{Shown, shown, shown_records, shown_gets, Means, IsRecordIn, IsNoRecordIn, IsGetIn, IsNoGetIn}
+use Rattle.bb8_core.specs.Run.{act_of, answer_of, IsRun, AfterEach}
 use Rattle.bb8_core.proofs.Facts.{shown_record, shown_get}
 use Rattle.bb8_core.proofs.Stage.{unfit_gets, unfit_records}
-use Rattle.bb8_core.proofs.Laws.{keeps_limits, keeps_laws}
+use Rattle.bb8_core.proofs.Laws.{nobody_holds}
 use Rattle.bb8_core.proofs.Steps.{unfitting, same_shown, records_kept, gets_kept}
 
 module _ {C : Type 0} where
@@ -40,10 +39,26 @@ module _ {C : Type 0} where
   get_absent s t n (Some g) is h = tt
 
   -- which tries are taken, by what is shown
-  pub takes_try : (l : Ledger C) (s : Shown C) (g : ℕ) → Means l s → takes l (Try g) ≡ ((not s.config.test_on_check_out && ltb 0 (length s.records.idle)) && gets_stand is_trying (get s.gets.places g))
+  pub takes_try : (l : Ledger C) (s : Shown C) (g : ℕ) → Means l s → takes l (Try g) ≡ (not s.config.test_on_check_out && gets_stand is_trying (get s.gets.places g))
   takes_try l s g means =
-      ap (λ (o : Option Getting). (not (start l).config.test_on_check_out && ltb 0 (length (idle l))) && gets_stand is_trying o) (shown_get l s means g)
-      ∙ ap (λ (t : Shown C). (not t.config.test_on_check_out && ltb 0 (length t.records.idle)) && gets_stand is_trying (get s.gets.places g)) means
+      ap (λ (o : Option Getting). not (start l).config.test_on_check_out && gets_stand is_trying o) (shown_get l s means g)
+      ∙ ap (λ (t : Shown C). not t.config.test_on_check_out && gets_stand is_trying (get s.gets.places g)) means
+
+  pub takes_give_up : (conn : ℕ → C) (l : Ledger C) (s : Shown C) (g : ℕ) (why : Reason) (broken : Bool) → Means l s → takes l (GiveUp g why (option_map conn (holds (get_of l g))) broken) ≡ is_some (get s.gets.places g)
+  takes_give_up conn l s g why broken means = both (is_some (get_of l g)) (holds (get_of l g)) ∙ ap (λ (o : Option Getting). is_some o) (shown_get l s means g)
+    where
+      both : (b : Bool) (o : Option ℕ) → (b && agree (is_some (option_map conn o)) (is_some o)) ≡ b
+      both true None = refl
+      both true (Some k) = refl
+      both false o = refl
+
+  -- nobody holds a connection, so none is handed in
+  pub none_in_hand : (conn : ℕ → C) (l : Ledger C) (g : ℕ) (why : Reason) (broken : Bool) → IsLegal l → GiveUp g why (option_map conn (holds (get_of l g))) broken ≡ GiveUp g why None broken
+  none_in_hand conn l g why broken legal = go (holds (get_of l g)) (nobody_holds l legal g)
+    where
+      go : (o : Option ℕ) → ((k : ℕ) → o ≡ Some k → ⊥) → GiveUp g why (option_map conn o) broken ≡ GiveUp g why None broken
+      go None none = refl
+      go (Some k) none = absurd (none k refl)
 
   -- ---- an event that does not fit changes nothing
 
@@ -83,12 +98,9 @@ run_take l last [] (b ∷ answers) r (suc i) = absurd r
 run_take l last (x ∷ events) [] r (suc i) = absurd r
 run_take l last (x ∷ events) (b ∷ answers) r (suc i) = let rest = run_take (Later l x.at.0 (act_of l x.act) (answer_of b)) last events answers r.1 i in (rest.0, (r.0, rest.1))
 
--- so after each beginning the limits and the laws hold
-pub run_limits : (l last : Ledger ℕ) (events : List Event) (answers : List Told) → IsLegal l → IsRun l events answers last → (i : ℕ) → (m : Ledger ℕ) × IsRun l (take i events) (take i answers) m × KeepsLimits m × KeepsLaws m
-run_limits l last events answers legal r i =
-    let m = run_take l last events answers r i in
-    let legal_then : IsLegal m.0 = run_legal l m.0 (take i events) (take i answers) legal m.1 in
-    (m.0, m.1, keeps_limits m.0 legal_then, keeps_laws m.0 legal_then)
+-- so what holds of every legal ledger holds after each beginning
+pub run_after : (Holds : Ledger ℕ → Type 0) → ((m : Ledger ℕ) → IsLegal m → Holds m) → (l last : Ledger ℕ) (events : List Event) (answers : List Told) → IsLegal l → IsRun l events answers last → AfterEach Holds l events answers
+run_after Holds of_legal l last events answers legal r i = let m = run_take l last events answers r i in (m.0, m.1, of_legal m.0 (run_legal l m.0 (take i events) (take i answers) legal m.1))
 
 -- one answer an event
 pub run_length : (l last : Ledger ℕ) (events : List Event) (answers : List Told) → IsRun l events answers last → length answers ≡ length events

@@ -1,13 +1,16 @@
 -- What each change of the gets does to what is shown of them.
-use Rattle.std.proofs.Common.{◌≡◌, ℕ, suc, ◌+◌, ◌≤◌, max, Bool, false, eqb, ◌&&◌, List, [], ◌∷◌, ◌++◌, Option, Some, None, is_some, option_and_then, refl, sym, ap, ◌∙◌, arith, length-append}
+use Rattle.std.proofs.Common.{◌≡◌, ℕ, suc, ◌+◌, ◌≤◌, max, Bool, true, false, eqb, ◌&&◌, List, [], ◌∷◌, ◌++◌, Option, Some, None, IfSome, is_some, option_and_then, option_map, slice_get, refl, sym, ap, ◌∙◌, arith, length-append}
+use Rattle.std.specs.FinMap.{insert}
 use Rattle.bb8_core.specs.declared.standing.Getting.{Getting}
-use Rattle.bb8_core.specs.declared.standing.GetPlace.TheVariants.{Active}
-use Rattle.bb8_core.specs.Numbered.{Numbered, at, update, one, standing_at}
-use Rattle.bb8_core.specs.Ledger.{gets_stand, is_unnotified, unnotified_at, alive_of, new_get, ended}
+use Rattle.bb8_core.specs.declared.standing.GetPlace.{GetPlace}
+use Rattle.bb8_core.specs.declared.standing.GetPlace.TheVariants.{Active, Waiting, Holding}
+use Rattle.bb8_core.specs.Numbered.{Numbered, at, update, in_order, one, standing_at, standings}
+use Rattle.bb8_core.specs.Ledger.{gets_stand, is_unnotified, is_notified, unnotified_at, alive_of, new_get, ended, notify, get_put, get_placed, get_waits, begins_to_wait}
 use Rattle.bb8_core.specs.Shown.{ShownGets, shown_gets}
 use Rattle.bb8_core.specs.Machine as machine
 use Rattle.bb8_core.proofs.Numbered.{change, Before}
 use Rattle.bb8_core.proofs.Numbered as numbered
+use Rattle.bb8_core.proofs.Waiters.{begins_now, waiter}
 
 pub same_gets : (s t : ShownGets) → s.next ≡ t.next → s.places ≡ t.places → s.waiting ≡ t.waiting → s.alive ≡ t.alive → s.peak ≡ t.peak → s ≡ t
 same_gets s t next places waiting alive peak = λ i. record { next = next i; places = places i; waiting = waiting i; alive = alive i; peak = peak i }
@@ -41,19 +44,96 @@ module _ (first p top : ℕ) (gs : List (Numbered Getting)) where
       more
       (ap (max top) more)
 
-  -- a get that did not wait ends
-  pub shown-ended : (k : ℕ) (s : Getting) → Before unnotified_at p gs → alive_of gs ≤ top → standing_at first gs k ≡ Some s → is_unnotified s.place ≡ false → shown_gets first (suc p) (max top (alive_of (update first k ended gs))) (update first k ended gs) ≡ machine.get_ended k before
-  shown-ended k s b few h not_waiting =
+  -- a get ends
+  pub shown-ended : (k : ℕ) (s : Getting) → Before unnotified_at p gs → alive_of gs ≤ top → standing_at first gs k ≡ Some s → shown_gets first (suc p) (max top (alive_of (update first k ended gs))) (update first k ended gs) ≡ machine.get_ended k before
+  shown-ended k s b few h =
       let m = get_at first gs k s h in
       let g : Numbered Getting = m.0 in
       let new : Numbered Getting = ended g in
       let is : update first k ended gs ≡ change first k new gs = numbered.update_is gs first k ended g m.1 in
-      let off : (q : ℕ) → unnotified_at q g ≡ false = λ q. ap (λ (o : Option Getting). gets_stand is_unnotified o && eqb g.position q) m.2 ∙ ap (λ (t : Bool). t && eqb g.position q) not_waiting in
       let fewer : alive_of (change first k new gs) + 1 ≡ alive_of gs + 0 = rw (ap (λ (o : Option Getting). one (is_some o)) m.2) at (numbered.tally-change (λ (x : Numbered Getting). is_some x.standing) gs first k new g m.1) in
       ap (λ (xs : List (Numbered Getting)). shown_gets first (suc p) (max top (alive_of xs)) xs) is
       ∙ same_gets _ _
       (ap (λ (n : ℕ). first + n) (numbered.length-change gs first k new))
       (numbered.numbered-change_none (λ (x : Numbered Getting). x.standing) gs first k new g m.1 refl)
-      (numbered.in_order-change_kept unnotified_at gs first k new g m.1 (suc p) (λ q l. sym (off q)) ∙ numbered.in_order-later unnotified_at gs first p b)
+      (numbered.in_order-change_off unnotified_at gs first k new (λ q. refl) (suc p) ∙ ap (machine.without k) (numbered.in_order-later unnotified_at gs first p b))
       (omega arith)
       (omega arith)
+
+  -- a get that stands in no line begins to wait
+  pub shown-waits : (now k : ℕ) (s : Getting) → Before unnotified_at p gs → alive_of gs ≤ top → standing_at first gs k ≡ Some s → is_unnotified s.place ≡ false → shown_gets first (suc p) (max top (alive_of (update first k (begins_to_wait now p) gs))) (update first k (begins_to_wait now p) gs) ≡ machine.waits now k before
+  shown-waits now k s b few h off =
+      let m = get_at first gs k s h in
+      let g : Numbered Getting = m.0 in
+      let new : Numbered Getting = record { standing = Some (get_waits now s); position = p } in
+      let is : update first k (begins_to_wait now p) gs ≡ change first k new gs = numbered.update_is gs first k (begins_to_wait now p) g m.1 ∙ ap (λ (x : Numbered Getting). change first k x gs) (begins_now now p g (ap (gets_stand is_unnotified) m.2 ∙ off) ∙ ap (waiter now p) m.2) in
+      let stood : (q : ℕ) → unnotified_at q g ≡ false = λ q. ap (λ (o : Option Getting). gets_stand is_unnotified o && eqb g.position q) m.2 ∙ ap (λ (t : Bool). t && eqb g.position q) off in
+      let same : alive_of (change first k new gs) + 1 ≡ alive_of gs + 1 = rw (ap (λ (o : Option Getting). one (is_some o)) m.2) at (numbered.tally-change (λ (x : Numbered Getting). is_some x.standing) gs first k new g m.1) in
+      ap (λ (xs : List (Numbered Getting)). shown_gets first (suc p) (max top (alive_of xs)) xs) is
+      ∙ same_gets _ _
+      (ap (λ (n : ℕ). first + n) (numbered.length-change gs first k new))
+      (numbered.numbered-change_some (λ (x : Numbered Getting). x.standing) gs first k new g (get_waits now s) m.1 refl
+      ∙ ap (λ (o : Option Getting). insert (standings first gs) k (machine.waiting_since now o)) (sym (numbered.get-numbered (λ (x : Numbered Getting). x.standing) gs first k ∙ h)))
+      (numbered.in_order-enter unnotified_at gs first k p new g b m.1 stood (numbered.eqb_self p) (λ q below. numbered.ne_test p q (λ e. omega arith)))
+      (omega arith)
+      (omega arith)
+
+  -- who is named is notified
+  pub shown-noticed : (n : Option ℕ) → IfSome n (λ k. (s : Getting) × (standing_at first gs k ≡ Some s)) → (shown_gets first p top (notify first n gs) ≡ machine.noticed n before) × (alive_of (notify first n gs) ≡ alive_of gs)
+  shown-noticed None named = (refl, refl)
+  shown-noticed (Some k) named =
+      let m = get_at first gs k named.0 named.1 in
+      let g : Numbered Getting = m.0 in
+      let new : Numbered Getting = get_put (Waiting true) g in
+      let stands : new.standing ≡ Some (get_placed (Waiting true) named.0) = ap (option_map (get_placed (Waiting true))) m.2 in
+      let is : update first k (get_put (Waiting true)) gs ≡ change first k new gs = numbered.update_is gs first k (get_put (Waiting true)) g m.1 in
+      let off : (q : ℕ) → unnotified_at q new ≡ false = λ q. ap (λ (o : Option Getting). gets_stand is_unnotified o && eqb g.position q) stands in
+      let counted : alive_of (change first k new gs) + 1 ≡ alive_of gs + 1 = rw (ap (λ (o : Option Getting). one (is_some o)) m.2) at (rw (ap (λ (o : Option Getting). one (is_some o)) stands) at (numbered.tally-change (λ (x : Numbered Getting). is_some x.standing) gs first k new g m.1)) in
+      let same : alive_of (change first k new gs) ≡ alive_of gs = omega arith in (
+        ap (shown_gets first p top) is
+            ∙ same_gets _ _
+            (ap (λ (n : ℕ). first + n) (numbered.length-change gs first k new))
+            (numbered.numbered-change_some (λ (x : Numbered Getting). x.standing) gs first k new g (get_placed (Waiting true) named.0) m.1 stands
+            ∙ ap (λ (o : Option Getting). insert (standings first gs) k (machine.turned (Waiting true) o)) (sym (numbered.get-numbered (λ (x : Numbered Getting). x.standing) gs first k ∙ named.1)))
+            (numbered.in_order-change_off unnotified_at gs first k new off p)
+            same
+            refl,
+        ap alive_of is ∙ same,
+      )
+
+-- the same, with the peak after it
+pub noticed_later : (first p top : ℕ) (gs : List (Numbered Getting)) (n : Option ℕ) → IfSome n (λ k. (s : Getting) × (standing_at first gs k ≡ Some s)) → shown_gets first p (max top (alive_of (notify first n gs))) (notify first n gs) ≡ machine.noticed n (shown_gets first p (max top (alive_of gs)) gs)
+noticed_later first p top gs n named =
+    let is = shown-noticed first p (max top (alive_of gs)) gs n named in
+    ap (λ (m : ℕ). shown_gets first p (max top m) (notify first n gs)) is.1 ∙ is.0
+
+-- the first in line waits and was not notified
+pub first_waits : (first p : ℕ) (gs : List (Numbered Getting)) (k : ℕ) → slice_get (in_order unnotified_at first gs p) 0 ≡ Some k → (s : Getting) × (standing_at first gs k ≡ Some s) × (is_unnotified s.place ≡ true)
+first_waits first p gs k e =
+    let m = numbered.in_order_member unnotified_at gs first p 0 k e in
+    let g : Numbered Getting = m.0 in
+    let stands = unnotified_is g.standing (and_both (gets_stand is_unnotified g.standing) (eqb g.position m.2) m.4) in
+    (stands.0, ap (λ (o : Option (Numbered Getting)). option_and_then (λ (x : Numbered Getting). x.standing) o) m.1 ∙ stands.1, stands.2)
+  where
+    and_both : (a b : Bool) → (a && b) ≡ true → a ≡ true
+    and_both true b e = refl
+    and_both false b e = cc
+
+    unnotified_is : (o : Option Getting) → gets_stand is_unnotified o ≡ true → (s : Getting) × (o ≡ Some s) × (is_unnotified s.place ≡ true)
+    unnotified_is None e = cc
+    unnotified_is (Some s) e = (s, refl, e)
+
+-- who was notified is in line no more
+pub notified_out : (p : GetPlace) → is_notified p ≡ true → is_unnotified p ≡ false
+notified_out Active e = cc
+notified_out (Waiting true) e = refl
+notified_out (Waiting false) e = cc
+notified_out (Holding k) e = cc
+
+-- so the line loses nothing as it goes
+pub without_other : (first p : ℕ) (gs : List (Numbered Getting)) (k : ℕ) (s : Getting) → standing_at first gs k ≡ Some s → is_unnotified s.place ≡ false → machine.without k (in_order unnotified_at first gs p) ≡ in_order unnotified_at first gs p
+without_other first p gs k s h off =
+    let m = get_at first gs k s h in
+    let g : Numbered Getting = m.0 in
+    let stood : (q : ℕ) → unnotified_at q g ≡ false = λ q. ap (λ (o : Option Getting). gets_stand is_unnotified o && eqb g.position q) m.2 ∙ ap (λ (t : Bool). t && eqb g.position q) off in
+    sym (numbered.in_order-change_off unnotified_at gs first k (ended g) (λ q. refl) p) ∙ numbered.in_order-change_kept unnotified_at gs first k (ended g) g m.1 p (λ q below. sym (stood q))

@@ -134,13 +134,6 @@ module _ {X S : Type 0} (number : X → ℕ) (value : X → S) where
         (scan xs q);
   }
 
-  -- what the map has stands at a place
-  pub held_place : (xs : List (Option X)) (q : ℕ) (s : S) → get (held number value xs) q ≡ Some s → (i : ℕ) × (x : X) × (get_or xs i None ≡ Some x) × (number x ≡ q) × (value x ≡ s)
-  held_place xs q s e = ⊎_elim
-      (λ (f : Found xs q). (f.0, f.1, f.2, f.3, let same : Some (value f.1) ≡ Some s = sym f.4 ∙ e in cc))
-      (λ (n : Absent xs q × (get (held number value xs) q ≡ None)). absurd (let clash : None ≡ Some s = sym n.1 ∙ e in cc))
-      (scan xs q)
-
   pub held_absent : (xs : List (Option X)) (q : ℕ) → Absent xs q → get (held number value xs) q ≡ None
   held_absent xs q a = ⊎_elim
       (λ (f : Found xs q). absurd (a f.0 f.1 f.2 f.3))
@@ -270,9 +263,6 @@ module _ {X K : Type 0} (number : X → ℕ) (test : X → Bool) (key leads : K 
   abbrev pub Avoids : List K → ℕ → Type 0
   Avoids keys place = (j : ℕ) (k : K) → slice_get keys j ≡ Some k → leads k ≢ place
 
-  pub line_empty : (xs : List (Option X)) → IsLine number test key leads xs []
-  line_empty xs = record { each = λ j k e. cc; once = λ i j k m e f s. cc }
-
   pub line_rest : (xs : List (Option X)) (k : K) (keys : List K) → IsLine number test key leads xs (k ∷ keys) → IsLine number test key leads xs keys
   line_rest xs k keys l = record {
     each = λ j m e. l.each (suc j) m e;
@@ -333,9 +323,6 @@ module _ {X K : Type 0} (number : X → ℕ) (test : X → Bool) (key leads : K 
 -- ---- tallies
 
 module _ {X : Type 0} (p : Option X → Bool) (nothing : p None ≡ false) where
-  no_one : (rest : ℕ) → one (p None) + rest ≡ rest
-  no_one rest = let e : one (p None) ≡ 0 = ap one nothing in omega arith
-
   tally_same : (xs ys : List (Option X)) → ((i : ℕ) → get_or ys i None ≡ get_or xs i None) → tally p ys ≡ tally p xs
   tally_same [] [] h = refl
   tally_same [] (y ∷ ys) h = let first : y ≡ None = h 0 in let rest : tally p ys ≡ 0 = tally_same [] ys (λ i. h (suc i)) in let e : one (p y) ≡ 0 = ap (λ (o : Option X). one (p o)) first ∙ ap one nothing in omega arith

@@ -16,7 +16,7 @@ use Rattle.bb8_core.specs.Figures.{Counts, Figures}
 use Rattle.bb8_core.specs.Acts.{Act, Begin, Try, CheckedOk, CheckedErr, GiveUp, PutBack, Fill, Claim, Opened, Failed, Add, Reap, Leave, TimedOut, Cancelled, get_in, says_broken}
 use Rattle.bb8_core.specs.Answers.{Answer, Begun, Served, Taken, Kept, Closed, GaveUp, Granted, Entered, Late, GivenBack, Added, Reaped, Joined, Left, Unfit}
 use Rattle.bb8_core.specs.Answers as answers
-use Rattle.bb8_core.specs.Numbered.{Numbered, update, numbers, in_order, tally, one, standing_at}
+use Rattle.bb8_core.specs.Numbered.{Numbered, at, update, numbers, in_order, tally, one, standing_at}
 
 -- What a pool begins with.
 pub record Start : Type 0 where
@@ -83,9 +83,13 @@ is_held_by g Guarded = false
 abbrev pub is_approval : {C : Type 0} → Place C → Bool
 is_approval p = not (is_conn p)
 
--- a connection that is not idle
+-- a connection that a get or a guard holds
 abbrev pub is_out : {C : Type 0} → Place C → Bool
-is_out p = is_conn p && not (is_idle p)
+is_out Unclaimed = false
+is_out Claimed = false
+is_out (Idle c) = false
+is_out (Held g) = true
+is_out Guarded = true
 
 -- whether a record stands in a place that passes a test
 abbrev pub stands : {C : Type 0} → (Place C → Bool) → Option (Standing C) → Bool
@@ -432,6 +436,10 @@ module _ {C : Type 0} where
   -- where the get of a number stands, if it has not ended
   abbrev pub get_of : Ledger C → ℕ → Option Getting
   get_of l g = standing_at (start l).first_get (gets l) g
+
+  -- the get of a number, with the position since which it waits if it waits
+  abbrev pub numbered_get : Ledger C → ℕ → Option (Numbered Getting)
+  numbered_get l g = at (start l).first_get (gets l) g
 
   -- ---- statistics: sums over the events and their answers, each read with the ledger before it
 

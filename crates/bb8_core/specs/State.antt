@@ -1,14 +1,15 @@
 -- What the fields of the tables mean, and what holds of them.
-use Rattle.std.specs.Prelude.{◌≡◌, ℕ, ◌+◌, ◌≤◌, List, [], map, Option, Some, None, Bool, false}
+use Rattle.std.specs.Prelude.{◌≡◌, ℕ, ◌+◌, ◌≤◌, List, map, Option, Some, None, Bool, false}
 use Rattle.slab.specs.Slab.{slab_len}
 use Rattle.bb8_core.specs.declared.standing.Place.{Place}
 use Rattle.bb8_core.specs.declared.keys.Key.{Key}
+use Rattle.bb8_core.specs.declared.keys.GetKey.{GetKey}
 use Rattle.bb8_core.specs.declared.standing.Standing.{Standing}
 use Rattle.bb8_core.specs.declared.standing.Getting.{Getting}
 use Rattle.bb8_core.specs.declared.table.Slot.{Slot}
 use Rattle.bb8_core.specs.declared.records.Records.TheInside.{Inside as RecordsInside}
 use Rattle.bb8_core.specs.declared.gets.Gets.TheInside.{Inside as GetsInside}
-use Rattle.bb8_core.specs.Ledger.{is_idle, is_unclaimed, is_conn, is_approval}
+use Rattle.bb8_core.specs.Ledger.{is_idle, is_unclaimed, is_conn, is_approval, is_unnotified}
 use Rattle.bb8_core.specs.Numbered.{tally}
 use Rattle.bb8_core.specs.Shown.{ShownRecords, ShownGets}
 use Rattle.bb8_core.specs.Slots.{held, IsLine, IsTable}
@@ -23,11 +24,12 @@ pub record AreSized (places place_room idle_room unclaimed_room conns approved p
   pub unclaimed_room_holds : peak ≤ unclaimed_room
 
 -- how many gets there are, and for how many there is room
-pub record AreGetsSized (places place_room alive peak next : ℕ) : Type 0 where
+pub record AreGetsSized (places place_room line_room alive peak next : ℕ) : Type 0 where
   pub places_are : places ≡ alive
   pub peak_holds : alive ≤ peak
-  pub room_holds : peak ≤ place_room
   pub alive_few : alive ≤ next
+  pub room_holds : peak ≤ place_room
+  pub line_room_holds : peak ≤ line_room
 
 module _ {C : Type 0} where
   -- what the fields of the records show
@@ -65,12 +67,22 @@ abbrev pub view_of_gets : GetsInside → ShownGets
 view_of_gets a = record {
   next = a.next;
   places = held (λ (x : Slot Getting). x.number) (λ x. x.standing) a.slots.slots;
-  waiting = [];
+  waiting = map (λ k. k.number) a.waiting.items;
   alive = a.alive;
   peak = a.peak;
 }
 
--- the table holds what is numbered, and the counts agree
+-- whether a get stands there that waits and was not notified
+abbrev pub waits_at : Option (Slot Getting) → Bool
+waits_at None = false
+waits_at (Some x) = is_unnotified x.standing.place
+
+-- the keys of gets that wait and were not notified
+abbrev pub IsWaitingLine : List (Option (Slot Getting)) → List GetKey → Type 0
+IsWaitingLine = IsLine (λ (x : Slot Getting). x.number) (λ x. is_unnotified x.standing.place) (λ (k : GetKey). k.number) (λ k. k.place)
+
+-- the table holds what is numbered, the line leads to it, and the counts agree
 pub record AreGoodGets (a : GetsInside) : Type 0 where
   pub table : IsTable (λ (x : Slot Getting). x.number) a.slots a.next
-  pub sizes : AreGetsSized (slab_len a.slots) a.slots.capacity a.alive a.peak a.next
+  pub waiting : IsWaitingLine a.slots.slots a.waiting.items
+  pub sizes : AreGetsSized (slab_len a.slots) a.slots.capacity a.waiting.capacity a.alive a.peak a.next

@@ -12,7 +12,7 @@ use Rattle.bb8_core.specs.Settings.{Settings}
 use Rattle.bb8_core.specs.Numbered.{Numbered, update, tally, one}
 use Rattle.bb8_core.specs.Acts.{Act, Begin, Try, CheckedOk, CheckedErr, GiveUp, PutBack, Fill, Claim, Opened, Failed, Add, Reap, State, Join, Leave, Look, Reason}
 use Rattle.bb8_core.specs.Answers.{Answer, Begun, Memory, Exhausted, Served, Taken, Waiting, Kept, Closed, GaveUp, Granted, Claimed, Ended, Entered, Late, GivenBack, Added, Broken, NoCapacity, Withheld, Reaped, Shown, Joined, Left, Looked, Unfit}
-use Rattle.bb8_core.specs.Ledger.{Ledger, Opening, Later, start, latest, records, handles, next, next_get, conns, approved, conns_of, approved_of, idle_of, alive, idle, idle_count, first_idle, oldest_waiter, unclaimed, peak, get_peak, record_of, get_of, stands, gets_stand, holds, is_claimed, is_guarded, is_unnotified, is_notified, is_reaped, idles_out, lives_out, put, ended, ended_where, expires, figures}
+use Rattle.bb8_core.specs.Ledger.{Ledger, Opening, Later, start, latest, records, handles, next, next_get, conns, approved, conns_of, approved_of, idle_of, alive, idle_count, first_idle, oldest_waiter, unclaimed, peak, get_peak, record_of, get_of, stands, gets_stand, holds, is_claimed, is_guarded, is_unnotified, is_notified, is_reaped, idles_out, lives_out, put, ended, ended_where, expires, figures}
 
 -- 2 ^ 64 - 1 is never given as a number
 abbrev pub numbers_left : ℕ → ℕ
@@ -71,15 +71,13 @@ module _ {C : Type 0} where
 
   -- What the code does not take yet: a line goes with the stage that brings its event.
   abbrev pub is_brought : Ledger C → Act C → Bool
-  is_brought l (Try g) = not (start l).config.test_on_check_out && ltb 0 (length (idle l))
+  is_brought l (Try g) = not (start l).config.test_on_check_out
   is_brought l (CheckedOk g) = false
   is_brought l (CheckedErr g broken) = false
-  is_brought l (GiveUp g why held broken) = false
   is_brought l (Failed a) = false
   is_brought l Reap = false
   is_brought l Join = false
   is_brought l Leave = false
-  is_brought l Look = false
   is_brought l _ = true
 
   -- which events the code takes

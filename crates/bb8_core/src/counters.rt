@@ -1,9 +1,14 @@
 //! The counters behind a pool's statistics.
-ghost use Rattle.std.specs.Prelude.{◌≡◌, ◌+◌, ◌≤◌};
+ghost use Rattle.std.specs.Prelude.{◌≡◌, ◌+◌, ◌<◌, ◌≤◌, min, not, is_some};
+ghost use Rattle.bb8_core.specs.Ledger.{micros_since};
+ghost use Rattle.bb8_core.specs.Numbered.{one};
+ghost use Rattle.bb8_core.specs.declared.events.Reason.TheVariants.{TimedOut, Cancelled};
 ghost use Rattle.bb8_core.specs.Figures.{counts_of};
 ghost use Rattle.bb8_core.specs.Pool.{counts_held};
 
 use crate::api::Statistics;
+use crate::events::Reason;
+use crate::records::one;
 use std::time::Duration;
 
 /// How often each thing happened; the wait time in whole microseconds.
@@ -22,6 +27,16 @@ pub struct Counters {
     pub idle_timeout: u64,
 }
 
+/// The whole microseconds since a get first waited, if it waited.
+fn micros_since(now: u64, first_wait: Option<u64>) -> u64
+    ensures { result ≡ micros_since now first_wait }
+{
+    match first_wait {
+        None => 0,
+        Some(first) => now.saturating_sub(first) / 1000,
+    }
+}
+
 impl Counters {
     /// Nothing happened yet.
     pub(crate) const NONE: Self = Counters {
@@ -37,6 +52,37 @@ impl Counters {
         max_lifetime: 0,
         idle_timeout: 0,
     };
+
+    /// A get was served that first waited then, if it waited.
+    pub(crate) fn serve(&mut self, first_wait: Option<u64>, now: u64)
+        requires direct { self.old.direct < 18446744073709551615 }
+        requires waited { self.old.waited < 18446744073709551615 }
+        ensures { self.new ≡ record self.old { direct = self.old.direct + one (not (is_some first_wait)); waited = self.old.waited + one (is_some first_wait); wait_micros = min 18446744073709551615 (self.old.wait_micros + micros_since now first_wait) } }
+    {
+        self.direct += one(first_wait.is_none());
+        self.waited += one(first_wait.is_some());
+        self.wait_micros = self
+            .wait_micros
+            .saturating_add(micros_since(now, first_wait));
+    }
+
+    /// A get was given up that first waited then, if it waited. How long it waited counts only where it timed out.
+    pub(crate) fn give_up(&mut self, reason: Reason, first_wait: Option<u64>, now: u64)
+        requires timed_out { self.old.timed_out < 18446744073709551615 }
+        requires cancelled { self.old.cancelled < 18446744073709551615 }
+        ensures timed_out { reason ≡ TimedOut → self.new ≡ record self.old { timed_out = self.old.timed_out + 1; wait_micros = min 18446744073709551615 (self.old.wait_micros + micros_since now first_wait) } }
+        ensures cancelled { reason ≡ Cancelled → self.new ≡ record self.old { cancelled = self.old.cancelled + 1 } }
+    {
+        match reason {
+            Reason::TimedOut => {
+                self.timed_out += 1;
+                self.wait_micros = self
+                    .wait_micros
+                    .saturating_add(micros_since(now, first_wait));
+            }
+            Reason::Cancelled => self.cancelled += 1,
+        }
+    }
 
     /// The statistics that a user sees.
     pub(crate) fn statistics(&self) -> Statistics

@@ -13,13 +13,24 @@ pub struct Grant {
     pub withheld: u32,
 }
 
+/// Why a get is given up. Our own.
+#[derive(Clone, Copy, Debug, PartialEq, Eq)]
+pub enum Reason {
+    /// Its deadline came.
+    TimedOut,
+    /// It was let go.
+    Cancelled,
+}
+
 /// What happens to a pool. Gets, connections and approvals are named by their numbers. Our own.
 #[derive(Clone, Copy, Debug, PartialEq, Eq)]
 pub enum Act {
     /// A get begins.
     Begin,
-    /// The get tries to take an idle connection.
+    /// The get tries to take an idle connection, or else waits.
     Try(u64),
+    /// The get is given up; the connection that it holds, if it holds one, may be broken.
+    GiveUp(u64, Reason, bool),
     /// The guard of the connection gives it back; it may be broken.
     PutBack(u64, bool),
     /// Approvals are asked for, up to `min_idle`; they may be claimed at once.
@@ -32,6 +43,8 @@ pub enum Act {
     Add(bool),
     /// The pool is asked what it tells of itself.
     State,
+    /// The pool is asked for its moment, and whether a handle is alive.
+    Look,
 }
 
 /// Something that happens to a pool at a moment. Our own.
@@ -54,10 +67,14 @@ pub enum Answer {
     Exhausted,
     /// The connection that the get was served, and what was granted.
     Served(u64, Grant),
+    /// The get waits, and what was granted.
+    Waiting(Grant),
     /// The connection is idle again, and whom that notified.
     Kept(u64, Option<u64>),
     /// The connection is closed, what was granted, and whom that notified.
     Closed(u64, Grant, Option<u64>),
+    /// The get ended, and whom that notified.
+    GaveUp(Option<u64>),
     /// What was granted.
     Granted(Grant),
     /// The approval that was claimed, if one was there.
@@ -78,6 +95,8 @@ pub enum Answer {
     Withheld,
     /// What the pool tells of itself.
     Shown(State),
+    /// The effective moment, and whether a handle is alive.
+    Looked(Moment, bool),
     /// The event does not fit, and changed nothing.
     Unfit,
 }

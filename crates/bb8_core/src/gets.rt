@@ -1,22 +1,30 @@
 //! The gets of a pool.
-ghost use Rattle.std.specs.Prelude.{◌≡◌, ℕ, ◌<◌, ◌≤◌, IsSome, ltb, IfSome, IfNone, Some, None, []};
+ghost use Rattle.std.specs.Prelude.{◌≡◌, ℕ, ◌+◌, ◌<◌, ◌≤◌, max, true, false, IsSome, is_some, ltb, cond, filter, not, eqb, slice_get, IfSome, IfNone, OnOk, OnErr, Some, None, []};
 ghost use Rattle.std.specs.FinMap as map;
+ghost use Rattle.circular_buffer.specs.Buffer.{buffer};
+ghost use Rattle.slab.specs.Slab as slabs;
+ghost use Rattle.bb8_core.specs.declared.keys.GetKey.{GetKey};
+ghost use Rattle.bb8_core.specs.declared.standing.Getting.{Getting};
 ghost use Rattle.bb8_core.specs.Ledger as ledger;
 ghost use Rattle.bb8_core.specs.Table as rows;
 ghost use Rattle.bb8_core.specs.Machine as machine;
+ghost use Rattle.bb8_core.specs.Outcomes.{notified_of};
 ghost use Rattle.bb8_core.specs.Shown.{shown_gets};
+ghost use Rattle.bb8_core.specs.State.{waits_at};
 
 use crate::keys::GetKey;
+use crate::ring::Ring;
 use crate::standing::{GetPlace, Getting};
 use crate::table::{Slot, Table};
-use std::alloc::Global;
+use std::alloc::{AllocError, Global};
 use std::marker::Model;
 
-/// The table of gets, with its counters.
+/// The table of gets, with the line of those that wait and were not notified, and its counters.
 #[derive(Drop)]
 pub struct Gets {
     next: u64,
     slots: Table<Getting>,
+    waiting: Ring<GetKey>,
     alive: u64,
     peak: u64,
 }
@@ -45,6 +53,65 @@ fn is_trying_place(place: GetPlace) -> bool
     }
 }
 
+/// Whether a get waits that was not notified.
+pub(crate) fn is_unnotified(getting: Option<Getting>) -> bool
+    ensures { result ≡ ledger.gets_stand ledger.is_unnotified getting }
+{
+    match getting {
+        Some(
+            Getting {
+                place: GetPlace::Waiting(notified),
+                ..
+            },
+        ) => !notified,
+        _ => false,
+    }
+}
+
+/// Whether a get waits that was notified.
+pub(crate) fn is_notified(getting: Option<Getting>) -> bool
+    ensures { result ≡ ledger.gets_stand ledger.is_notified getting }
+{
+    match getting {
+        Some(
+            Getting {
+                place: GetPlace::Waiting(notified),
+                ..
+            },
+        ) => notified,
+        _ => false,
+    }
+}
+
+/// When a get first waited, if it waited.
+pub(crate) fn first_wait(getting: Option<Getting>) -> Option<u64>
+    ensures { result ≡ ledger.first_wait_of getting }
+{
+    match getting {
+        None => None,
+        Some(getting) => getting.first_wait,
+    }
+}
+
+/// Whether the get that stands at a place waits and was not notified.
+fn stands_in_line(slots: &Table<Getting>, place: usize) -> bool
+    ensures { result ≡ waits_at (slabs.get slots.now place) }
+{
+    match slots.get(place) {
+        None => false,
+        Some(slot) => is_unnotified(Some(slot.standing)),
+    }
+}
+
+/// Takes a get out of line, where it is in it.
+fn step_out(waiting: &mut Ring<GetKey>, waits: bool, number: u64)
+    ensures { waiting.new ≡ buffer (cond waits (filter (λ (key : GetKey). not (eqb key.number number)) waiting.old.items) waiting.old.items) waiting.old.capacity }
+{
+    if waits {
+        waiting.remove(number);
+    }
+}
+
 impl Gets {
     /// No gets, which take no memory.
     pub(crate) fn new(alloc: Global, first: u64) -> Self
@@ -53,6 +120,7 @@ impl Gets {
         Gets {
             next: first,
             slots: Table::new(alloc),
+            waiting: Ring::new(alloc),
             alive: 0,
             peak: 0,
         }
@@ -65,32 +133,105 @@ impl Gets {
         self.next < u64::MAX
     }
 
-    /// Begins a get, where there is memory for it.
+    /// How many gets are alive.
+    pub(crate) fn alive(&self) -> u64
+        ensures { result ≡ self.now.alive }
+    {
+        self.alive
+    }
+
+    /// Makes room for a higher peak, in the table and in the line, so that waiting needs no memory.
+    #[cold]
+    fn make_room(&mut self) -> Result<(), AllocError>
+        requires number { self.old.next < 18446744073709551615 }
+        requires full { self.old.alive ≡ self.old.peak }
+        ensures ok { OnOk result (self.new ≡ record self.old { peak = self.old.peak + 1 }) }
+        ensures err { OnErr result (self.new ≡ self.old) }
+    {
+        self.slots.reserve(1)?;
+        let room = self.peak as usize + 1;
+        if self.waiting.capacity() < room {
+            self.waiting.grow(room.saturating_mul(2))?;
+        }
+        self.peak += 1;
+        Ok(())
+    }
+
+    /// Makes room for one more get, where there is none yet.
+    fn make_room_for_one(&mut self) -> bool
+        requires { self.old.next < 18446744073709551615 }
+        ensures made { result ≡ true → self.new ≡ record self.old { peak = max self.old.peak (self.old.alive + 1) } }
+        ensures refused { result ≡ false → (self.old.alive ≡ self.old.peak) × (self.new ≡ self.old) }
+    {
+        self.alive < self.peak || self.make_room().is_ok()
+    }
+
+    /// Begins a get of the next number, for which there is room.
+    fn bear(&mut self) -> GetKey
+        requires room { self.old.alive < self.old.peak }
+        requires number { self.old.next < 18446744073709551615 }
+        ensures key { result.number ≡ self.old.next }
+        ensures state { self.new ≡ machine.begun self.old }
+    {
+        let number = self.next;
+        let place = self.slots.insert(Slot {
+            number,
+            standing: Getting {
+                place: GetPlace::Active,
+                first_wait: None,
+            },
+        });
+        self.next += 1;
+        self.alive += 1;
+        GetKey { number, place }
+    }
+
+    /// Begins a get. Memory is asked for only where as many gets are alive as ever were.
+    #[inline]
     pub(crate) fn begin(&mut self) -> Option<GetKey>
         requires { self.old.next < 18446744073709551615 }
         ensures some { IfSome result (λ g. (g.number ≡ self.old.next) × (self.new ≡ machine.begun self.old)) }
         ensures none { IfNone result ((self.old.alive ≡ self.old.peak) × (self.new ≡ self.old)) }
     {
-        let number = self.next;
-        match self.slots.reserve(1) {
-            Err(_) => None,
-            Ok(()) => {
-                let place = self.slots.insert(Slot {
-                    number,
-                    standing: Getting {
-                        place: GetPlace::Active,
-                        first_wait: None,
-                    },
+        if !self.make_room_for_one() {
+            return None;
+        }
+        Some(self.bear())
+    }
+
+    /// Has a get wait, which did not wait or was notified, since this moment if it did not wait before.
+    pub(crate) fn wait(&mut self, g: GetKey, now: u64)
+        requires { (x : Getting) × (map.get self.old.places g.number ≡ Some x) × (ledger.is_unnotified x.place ≡ false) }
+        ensures { self.new ≡ machine.waits now g.number self.old }
+    {
+        match self.slots.locate(g.number, g.place) {
+            None => {}
+            Some(place) => {
+                self.slots.wait(place, now);
+                self.waiting.push(GetKey {
+                    number: g.number,
+                    place,
                 });
-                self.next += 1;
-                self.alive += 1;
-                self.peak = self.peak.max(self.alive);
-                Some(GetKey { number, place })
+            }
+        }
+    }
+
+    /// Notifies the oldest waiter that was not notified.
+    pub(crate) fn notify(&mut self) -> Option<GetKey>
+        ensures value { notified_of result ≡ slice_get self.old.waiting 0 }
+        ensures state { self.new ≡ machine.noticed (notified_of result) self.old }
+    {
+        match self.waiting.pop() {
+            None => None,
+            Some(key) => {
+                self.slots.turn(key.place, GetPlace::Waiting(true));
+                Some(key)
             }
         }
     }
 
     /// Ends a get that is alive.
+    #[inline]
     pub(crate) fn end(&mut self, g: GetKey)
         requires { IsSome (map.get self.old.places g.number) }
         ensures state { self.new ≡ machine.get_ended g.number self.old }
@@ -99,6 +240,8 @@ impl Gets {
         match self.slots.locate(g.number, g.place) {
             None => {}
             Some(place) => {
+                let waits = stands_in_line(&self.slots, place);
+                step_out(&mut self.waiting, waits, g.number);
                 self.slots.remove(place);
                 self.alive -= 1;
             }
@@ -116,16 +259,33 @@ impl Gets {
         }
     }
 
+    /// How the get stands, if it is alive.
+    pub(crate) fn getting(&self, g: GetKey) -> Option<Getting>
+        ensures { result ≡ map.get self.now.places g.number }
+    {
+        match self.slots.locate(g.number, g.place) {
+            None => None,
+            Some(place) => match self.slots.get(place) {
+                None => None,
+                Some(slot) => Some(slot.standing),
+            },
+        }
+    }
+
+    /// Whether the get is alive.
+    pub(crate) fn is_alive(&self, g: GetKey) -> bool
+        ensures { result ≡ is_some (map.get self.now.places g.number) }
+    {
+        self.getting(g).is_some()
+    }
+
     /// Whether the get may try.
     pub(crate) fn is_trying(&self, g: GetKey) -> bool
         ensures { result ≡ ledger.gets_stand rows.is_trying (map.get self.now.places g.number) }
     {
-        match self.slots.locate(g.number, g.place) {
+        match self.getting(g) {
             None => false,
-            Some(place) => match self.slots.get(place) {
-                None => false,
-                Some(slot) => is_trying_place(slot.standing.place),
-            },
+            Some(getting) => is_trying_place(getting.place),
         }
     }
 }

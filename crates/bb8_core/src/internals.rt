@@ -1,5 +1,5 @@
 //! The locked state of a pool.
-ghost use Rattle.std.specs.Prelude.{◌≡◌, ℕ, ◌+◌, ◌≤◌, ◌&&◌, ◌||◌, not, eqb, IsSome, IfSome, IfNone, true, ltb, length, None, Some};
+ghost use Rattle.std.specs.Prelude.{◌≡◌, ℕ, ◌+◌, ◌≤◌, ◌&&◌, ◌||◌, not, cond, eqb, slice_get, IsSome, IfSome, IfNone, true, None, Some};
 ghost use Rattle.std.specs.FinMap as map;
 ghost use Rattle.bb8_core.specs.Acts as acts;
 ghost use Rattle.bb8_core.specs.Answers as answers;
@@ -12,16 +12,17 @@ ghost use Rattle.bb8_core.specs.Figures.{figures_of};
 ghost use Rattle.bb8_core.specs.Run.{opening, act_with};
 ghost use Rattle.bb8_core.specs.Shown.{Means, Meets, IsFitting, IsRecordIn, IsNoRecordIn, IsGetIn, IsNoGetIn};
 ghost use Rattle.bb8_core.specs.Limits.{IsWithinLimits};
-ghost use Rattle.bb8_core.specs.Outcomes.{begin_told, try_told, put_back_told, claim_told, opened_told, add_told, added_by, HandsOut, GivesBack, HandsBack, Refuses};
+ghost use Rattle.bb8_core.specs.Outcomes.{begin_told, try_told, reason_of, give_up_told, put_back_told, claim_told, opened_told, add_told, look_told, notified_of, HandsOut, GivesBack, HandsBack, Refuses};
 
 use crate::api::{Config, Moment, State};
 use crate::counters::Counters;
-pub use crate::events::Grant;
+pub use crate::events::{Grant, Reason};
 use crate::events::{Act, Event};
-use crate::gets::Gets;
+use crate::gets::{Gets, first_wait, is_notified, is_unnotified};
 pub use crate::keys::{GetKey, Key};
 pub use crate::outcomes::{
-    AddAnswer, BeginAnswer, ClaimAnswer, OpenedAnswer, PutBackAnswer, TryAnswer,
+    AddAnswer, BeginAnswer, ClaimAnswer, GiveUpAnswer, Looked, OpenedAnswer, PutBackAnswer,
+    TryAnswer,
 };
 use crate::records::{Records, one};
 use std::alloc::Global;
@@ -95,14 +96,12 @@ fn is_closing(broken: bool, expired: bool, handles: u64) -> bool
     broken || expired || handles == 0
 }
 
-/// What an adding for which there is a number answers, by whether memory was refused.
-fn added<C>(outcome: Result<Key, C>) -> AddAnswer<C>
-    ensures { result ≡ added_by outcome }
+/// Notifies the oldest waiter that was not notified, where the test passes.
+fn hand_on(gets: &mut Gets, test: bool) -> Option<GetKey>
+    ensures value { notified_of result ≡ cond test (slice_get gets.old.waiting 0) None }
+    ensures state { gets.new ≡ machine.noticed (notified_of result) gets.old }
 {
-    match outcome {
-        Ok(key) => AddAnswer::Added(key, None),
-        Err(conn) => AddAnswer::Withheld(conn),
-    }
+    if test { gets.notify() } else { None }
 }
 
 /// One, where the test passes and the one before it does not.
@@ -166,20 +165,60 @@ impl<C: Drop> PoolInternals<C> {
     }
 
     /// Serves a get with the idle connection that is first by the queue strategy, which goes to a guard, and grants what is wanted then.
+    /// Where none is idle the get waits from now on, and one approval is granted where gets outnumber open approvals. A get that waits
+    /// and was not notified waits on, and nothing changes but the latest moment. No memory is asked for, but for approvals.
     pub fn try_get(&mut self, at: Moment, get: GetKey) -> TryAnswer<C>
         requires { IsFitting self.old (acts.Try get.number) }
         ensures step { Meets self.old at.0 (acts.Try get.number) (try_told result) self.new }
         ensures connection { HandsOut self.old result }
     {
+        let now = self.latest.max(at.0);
+        self.latest = now;
+        let getting = self.gets.getting(get);
+        if is_unnotified(getting) {
+            return TryAnswer::Waiting(self.records.no_grant());
+        }
         match self.records.take(self.config.queue_strategy) {
-            None => unreachable!(),
+            None => {
+                let asked = one(self.records.approved() < self.gets.alive());
+                let taken = self.records.used();
+                let due = due(&self.config, self.handles, taken, asked);
+                let grant = self.records.grant(due, false);
+                self.gets.wait(get, now);
+                TryAnswer::Waiting(grant)
+            }
             Some((key, conn)) => {
-                self.latest = self.latest.max(at.0);
                 self.gets.end(get);
-                self.counters.direct += 1;
+                self.counters.serve(first_wait(getting), now);
                 let wanted = want(&self.config, self.handles, &self.records);
                 let grant = self.records.grant(wanted, false);
                 TryAnswer::Served(key, conn, grant)
+            }
+        }
+    }
+
+    /// Ends a get that is not served, as it timed out or was cancelled. Where it had been notified, the oldest waiter that was not is
+    /// notified in its place. It holds no connection, as no check is made yet.
+    pub fn give_up(
+        &mut self,
+        at: Moment,
+        get: GetKey,
+        reason: Reason,
+        held: Option<C>,
+        broken: bool,
+    ) -> GiveUpAnswer
+        requires { IsFitting self.old (acts.GiveUp get.number (reason_of reason) held broken) }
+        ensures { Meets self.old at.0 (acts.GiveUp get.number (reason_of reason) held broken) (give_up_told result) self.new }
+    {
+        match held {
+            Some(_) => unreachable!(),
+            None => {
+                let now = self.latest.max(at.0);
+                self.latest = now;
+                let getting = self.gets.getting(get);
+                self.gets.end(get);
+                self.counters.give_up(reason, first_wait(getting), now);
+                GiveUpAnswer::GaveUp(hand_on(&mut self.gets, is_notified(getting)))
             }
         }
     }
@@ -200,10 +239,11 @@ impl<C: Drop> PoolInternals<C> {
             self.counters.broken += one(broken);
             self.counters.max_lifetime += one_first(expired, broken);
             let wanted = want(&self.config, self.handles, &self.records);
-            PutBackAnswer::Closed(conn, self.records.grant(wanted, false), None)
+            let grant = self.records.grant(wanted, false);
+            PutBackAnswer::Closed(conn, grant, self.gets.notify())
         } else {
             self.records.enter(k, conn, birth, now, false);
-            PutBackAnswer::Kept(None)
+            PutBackAnswer::Kept(self.gets.notify())
         }
     }
 
@@ -243,7 +283,7 @@ impl<C: Drop> PoolInternals<C> {
         }
         self.records.enter(a, conn, now, now, true);
         self.counters.created += 1;
-        OpenedAnswer::Entered(None)
+        OpenedAnswer::Entered(self.gets.notify())
     }
 
     /// Adds a connection that no approval brought, born now. A broken one is refused first; then any, where connections and open approvals
@@ -265,7 +305,10 @@ impl<C: Drop> PoolInternals<C> {
         if !self.records.has_number() {
             return AddAnswer::Withheld(conn);
         }
-        added(self.records.add(conn, now))
+        match self.records.add(conn, now) {
+            Ok(key) => AddAnswer::Added(key, self.gets.notify()),
+            Err(conn) => AddAnswer::Withheld(conn),
+        }
     }
 
     /// The number that the next connection or approval will have.
@@ -288,6 +331,17 @@ impl<C: Drop> PoolInternals<C> {
         }
     }
 
+    /// The effective moment, and whether a handle is alive.
+    pub fn look(&mut self, at: Moment) -> Looked
+        ensures { Meets self.old at.0 acts.Look (look_told result) self.new }
+    {
+        self.latest = self.latest.max(at.0);
+        Looked {
+            moment: Moment(self.latest),
+            alive: self.handles > 0,
+        }
+    }
+
     /// Whether the event fits. A connection that it hands in does not matter.
     pub fn fits(&self, event: Event) -> bool
         ensures { (conn : ℕ → C) (l : ledger.Ledger C) → table.IsLegal l → Means l self.now → result ≡ table.takes l (act_with conn l event.act) }
@@ -302,17 +356,18 @@ impl<C: Drop> PoolInternals<C> {
         match act {
             Act::Begin | Act::Add(_) => self.handles > 0,
             Act::Try(number) => self.takes_try(GetKey { number, place }),
+            Act::GiveUp(number, _, _) => self.gets.is_alive(GetKey { number, place }),
             Act::PutBack(number, _) => self.records.is_guarded(Key { number, place }),
             Act::Opened(number) => self.records.is_claimed(Key { number, place }),
-            Act::Fill(_) | Act::Claim | Act::State => true,
+            Act::Fill(_) | Act::Claim | Act::State | Act::Look => true,
         }
     }
 
     /// Whether the try of a get fits.
     fn takes_try(&self, get: GetKey) -> bool
-        ensures { result ≡ ((not self.now.config.test_on_check_out && ltb 0 (length self.now.records.idle)) && ledger.gets_stand table.is_trying (map.get self.now.gets.places get.number)) }
+        ensures { result ≡ (not self.now.config.test_on_check_out && ledger.gets_stand table.is_trying (map.get self.now.gets.places get.number)) }
     {
-        !self.config.test_on_check_out && self.records.has_idle() && self.gets.is_trying(get)
+        !self.config.test_on_check_out && self.gets.is_trying(get)
     }
 
     /// The key of a connection or approval that has not ended, by its number.

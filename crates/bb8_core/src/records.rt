@@ -4,6 +4,7 @@ ghost use Rattle.std.specs.FinMap as map;
 ghost use Rattle.bb8_core.specs.Ledger as ledger;
 ghost use Rattle.bb8_core.specs.Machine as machine;
 ghost use Rattle.bb8_core.specs.Numbered as numbered;
+ghost use Rattle.bb8_core.specs.Table.{IsNoGrant};
 ghost use Rattle.bb8_core.specs.Shown.{shown_records};
 ghost use Rattle.bb8_core.specs.declared.standing.Place.TheVariants.{Unclaimed, Claimed, Idle, Guarded};
 ghost use Rattle.circular_buffer.specs.Buffer.{buffer};
@@ -285,7 +286,8 @@ impl<C: Drop> Records<C> {
     }
 
     /// Grants the approvals that are due, as far as there is room and memory. All room is made before the first one.
-    pub(crate) fn grant(&mut self, due: u64, claimed: bool) -> Grant
+    #[cold]
+    fn grant_some(&mut self, due: u64, claimed: bool) -> Grant
         requires { self.old.conns + self.old.approved + due ≤ 4294967295 }
         ensures granted { machine.IsGrant self.old due result }
         ensures state { self.new ≡ machine.granted claimed result self.old }
@@ -307,6 +309,41 @@ impl<C: Drop> Records<C> {
             count: count as u32,
             withheld: (due - count) as u32,
         }
+    }
+
+    /// As `grant_some`. Most often nothing is due, and that is told without a call.
+    #[inline]
+    pub(crate) fn grant(&mut self, due: u64, claimed: bool) -> Grant
+        requires { self.old.conns + self.old.approved + due ≤ 4294967295 }
+        ensures granted { machine.IsGrant self.old due result }
+        ensures state { self.new ≡ machine.granted claimed result self.old }
+    {
+        if due > 0 {
+            return self.grant_some(due, claimed);
+        }
+        Grant {
+            first: self.next,
+            count: 0,
+            withheld: 0,
+        }
+    }
+
+    /// A grant of nothing.
+    pub(crate) fn no_grant(&self) -> Grant
+        ensures { IsNoGrant self.now.next result }
+    {
+        Grant {
+            first: self.next,
+            count: 0,
+            withheld: 0,
+        }
+    }
+
+    /// How many open approvals there are.
+    pub(crate) fn approved(&self) -> u64
+        ensures { result ≡ self.now.approved }
+    {
+        self.approved
     }
 
     /// How many connections and open approvals there are.
@@ -335,13 +372,6 @@ impl<C: Drop> Records<C> {
         ensures { result ≡ length self.now.idle }
     {
         self.idle.len() as u32
-    }
-
-    /// Whether some connection is idle.
-    pub(crate) fn has_idle(&self) -> bool
-        ensures { result ≡ ltb 0 (length self.now.idle) }
-    {
-        self.idle.len() > 0
     }
 
     /// The birth of the record.

@@ -1,20 +1,21 @@
 //! Replays of lists of events, by plain numbers.
-ghost use Rattle.std.specs.Prelude.{◌≡◌, ℕ, take, length, true, IfOk};
+ghost use Rattle.std.specs.Prelude.{◌≡◌, ℕ, length, true, IfOk};
 ghost use Rattle.bb8_core.specs.Acts as acts;
 ghost use Rattle.bb8_core.specs.Ledger.{Ledger};
-ghost use Rattle.bb8_core.specs.Limits.{KeepsLimits, KeepsLaws};
+ghost use Rattle.bb8_core.specs.Limits.{KeepsLimits, KeepsLaws, KeepsPromises};
 ghost use Rattle.bb8_core.specs.Outcomes.{notified_of};
-ghost use Rattle.bb8_core.specs.Run.{answer_of, opening, IsRun, Applies};
+ghost use Rattle.bb8_core.specs.Run.{answer_of, opening, IsRun, IsTaken, Happens, Applies, AfterEach};
+ghost use Rattle.bb8_core.specs.declared.events.Act.TheVariants as events;
 ghost use Rattle.bb8_core.specs.Settings.{settings_of, is_lawful};
 ghost use Rattle.bb8_core.specs.Shown.{Means, Meets, IsFitting};
 
 use crate::api::{Config, Memory, Moment};
-pub use crate::events::{Act, Answer, Event};
+pub use crate::events::{Act, Answer, Event, Reason};
 use crate::hints::Hints;
 use crate::internals::PoolInternals;
 use crate::keys::{GetKey, Key};
 use crate::outcomes::{
-    AddAnswer, BeginAnswer, ClaimAnswer, OpenedAnswer, PutBackAnswer, TryAnswer,
+    AddAnswer, BeginAnswer, ClaimAnswer, GiveUpAnswer, OpenedAnswer, PutBackAnswer, TryAnswer,
 };
 use std::alloc::Global;
 
@@ -39,9 +40,9 @@ impl Known {
     /// Where the record or the get stands that an event names, as far as it is known.
     fn place(&self, act: Act) -> usize {
         match act {
-            Act::Try(get) => self.gets.place(get),
+            Act::Try(get) | Act::GiveUp(get, _, _) => self.gets.place(get),
             Act::PutBack(number, _) | Act::Opened(number) => self.records.place(number),
-            Act::Begin | Act::Fill(_) | Act::Claim | Act::Add(_) | Act::State => 0,
+            Act::Begin | Act::Fill(_) | Act::Claim | Act::Add(_) | Act::State | Act::Look => 0,
         }
     }
 }
@@ -69,6 +70,23 @@ fn try_get(pool: &mut PoolInternals<u64>, known: &mut Known, at: Moment, get: Ge
             known.records.note(key.number, key.place);
             Answer::Served(key.number, grant)
         }
+        TryAnswer::Waiting(grant) => Answer::Waiting(grant),
+    }
+}
+
+/// In a replay no get holds a connection yet, so none is handed in.
+fn give_up(
+    pool: &mut PoolInternals<u64>,
+    at: Moment,
+    get: GetKey,
+    reason: Reason,
+    broken: bool,
+) -> Answer
+    requires { IsTaken pool.old (events.GiveUp get.number reason broken) }
+    ensures { Happens pool.old at.0 (events.GiveUp get.number reason broken) result pool.new }
+{
+    match pool.give_up(at, get, reason, None, broken) {
+        GiveUpAnswer::GaveUp(notified) => Answer::GaveUp(number_of(notified)),
     }
 }
 
@@ -123,6 +141,13 @@ fn add(pool: &mut PoolInternals<u64>, known: &mut Known, at: Moment, broken: boo
     }
 }
 
+fn look(pool: &mut PoolInternals<u64>, at: Moment) -> Answer
+    ensures { Meets pool.old at.0 acts.Look (answer_of result) pool.new }
+{
+    let seen = pool.look(at);
+    Answer::Looked(seen.moment, seen.alive)
+}
+
 /// What an event is answered. The connection of a record is its number; that of an `Add` is the next number.
 fn apply(pool: &mut PoolInternals<u64>, known: &mut Known, event: Event) -> Answer
     ensures { Applies pool.old event result pool.new }
@@ -134,12 +159,16 @@ fn apply(pool: &mut PoolInternals<u64>, known: &mut Known, event: Event) -> Answ
     match event.act {
         Act::Begin => begin(pool, known, event.at),
         Act::Try(number) => try_get(pool, known, event.at, GetKey { number, place }),
+        Act::GiveUp(number, reason, broken) => {
+            give_up(pool, event.at, GetKey { number, place }, reason, broken)
+        }
         Act::PutBack(number, broken) => put_back(pool, event.at, Key { number, place }, broken),
         Act::Fill(claimed) => Answer::Granted(pool.fill(event.at, claimed)),
         Act::Claim => claim(pool, known, event.at),
         Act::Opened(number) => opened(pool, event.at, Key { number, place }),
         Act::Add(broken) => add(pool, known, event.at, broken),
         Act::State => Answer::Shown(pool.state(event.at)),
+        Act::Look => look(pool, event.at),
     }
 }
 
@@ -154,7 +183,9 @@ pub fn replay(
     requires { is_lawful (settings_of config) ≡ true }
     ensures answers { IfOk result (λ r. length r.0.items ≡ length events.now) }
     ensures run { IfOk result (λ r. (last : Ledger ℕ) × IsRun (opening config 0 0) events.now r.0.items last × Means last r.1) }
-    ensures limits { IfOk result (λ r. (i : ℕ) → (l : Ledger ℕ) × IsRun (opening config 0 0) (take i events.now) (take i r.0.items) l × KeepsLimits l × KeepsLaws l) }
+    ensures limits { IfOk result (λ r. AfterEach KeepsLimits (opening config 0 0) events.now r.0.items) }
+    ensures laws { IfOk result (λ r. AfterEach KeepsLaws (opening config 0 0) events.now r.0.items) }
+    ensures promises { IfOk result (λ r. AfterEach KeepsPromises (opening config 0 0) events.now r.0.items) }
 {
     replay_from(alloc, config, 0, 0, events)
 }
@@ -170,7 +201,9 @@ pub fn replay_from(
     requires { is_lawful (settings_of config) ≡ true }
     ensures answers { IfOk result (λ r. length r.0.items ≡ length events.now) }
     ensures run { IfOk result (λ r. (last : Ledger ℕ) × IsRun (opening config first_number first_get) events.now r.0.items last × Means last r.1) }
-    ensures limits { IfOk result (λ r. (i : ℕ) → (l : Ledger ℕ) × IsRun (opening config first_number first_get) (take i events.now) (take i r.0.items) l × KeepsLimits l × KeepsLaws l) }
+    ensures limits { IfOk result (λ r. AfterEach KeepsLimits (opening config first_number first_get) events.now r.0.items) }
+    ensures laws { IfOk result (λ r. AfterEach KeepsLaws (opening config first_number first_get) events.now r.0.items) }
+    ensures promises { IfOk result (λ r. AfterEach KeepsPromises (opening config first_number first_get) events.now r.0.items) }
 {
     let mut pool = PoolInternals::starting_at(alloc, config, first_number, first_get);
     let mut known = Known {

@@ -1,10 +1,12 @@
 //! A ring that takes memory only when it grows.
-ghost use Rattle.std.specs.Prelude.{◌≡◌, ◌≤◌, ◌<◌, ◌-◌, ◌++◌, ◌∷◌, [], length, slice_get, drop, take, OnOk, OnErr};
+ghost use Rattle.std.specs.Prelude.{◌≡◌, ◌≤◌, ◌<◌, ◌-◌, ◌++◌, ◌∷◌, [], length, slice_get, drop, take, filter, not, eqb, OnOk, OnErr};
+ghost use Rattle.bb8_core.specs.declared.keys.GetKey.{GetKey};
 ghost use Rattle.circular_buffer.specs.Buffer.{buffer};
 ghost use Rattle.bb8_core.specs.Ledger.{first_place};
 ghost use Rattle.bb8_core.specs.Slots.{cut_at};
 
 use crate::api::QueueStrategy;
+use crate::keys::GetKey;
 use circular_buffer::HeapCircularBuffer;
 use std::alloc::{AllocError, Global};
 use std::marker::Model;
@@ -97,13 +99,40 @@ impl<T: Drop> Ring<T> {
         }
     }
 
+    /// For how many items there is room.
+    pub fn capacity(&self) -> usize
+        ensures { result ≡ self.now.capacity }
+    {
+        match &self.made {
+            Some(ring) => ring.capacity(),
+            None => 0,
+        }
+    }
+
     /// How many items there are.
     pub fn len(&self) -> usize
-        ensures { result ≡ length self.now.items }
+        ensures items { result ≡ length self.now.items }
+        ensures room { result ≤ self.now.capacity }
     {
         match &self.made {
             Some(ring) => ring.len(),
             None => 0,
+        }
+    }
+}
+
+impl Ring<GetKey> {
+    /// Takes the key of that number out of the line, wherever it stands.
+    #[cold]
+    pub fn remove(&mut self, number: u64)
+        ensures { self.new ≡ buffer (filter (λ (key : GetKey). not (eqb key.number number)) self.old.items) self.old.capacity }
+    {
+        for _ in 0..self.len() {
+            if let Some(key) = self.pop() {
+                if key.number != number {
+                    self.push(key);
+                }
+            }
         }
     }
 }

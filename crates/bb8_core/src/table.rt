@@ -3,8 +3,10 @@ ghost use Rattle.std.specs.Prelude.{◌≡◌, ◌≢◌, ℕ, ◌+◌, ◌<◌,
 ghost use Rattle.slab.specs.Slab as slabs;
 ghost use Rattle.bb8_core.specs.declared.table.Slot.{Slot};
 ghost use Rattle.bb8_core.specs.declared.standing.Standing.{Standing};
+ghost use Rattle.bb8_core.specs.declared.standing.Getting.{Getting};
+ghost use Rattle.bb8_core.specs.Ledger.{get_waits};
 
-use crate::standing::{Place, Standing};
+use crate::standing::{GetPlace, Getting, Place, Standing};
 use slab::Slab;
 use std::alloc::{AllocError, Global};
 use std::marker::Model;
@@ -45,6 +47,22 @@ impl<S: Drop> Table<S> {
         }
     }
 
+    /// Where a search finds the number.
+    #[cold]
+    fn search(&self, number: u64) -> Option<usize>
+        ensures some { IfSome result (λ i. (x : Slot S) × (slabs.get self.now i ≡ Some x) × (x.number ≡ number)) }
+        ensures none { IfNone result ((i : ℕ) (x : Slot S) → slabs.get self.now i ≡ Some x → x.number ≢ number) }
+    {
+        for i in 0..self.slots.capacity() {
+            if let Some(slot) = self.slots.get(i) {
+                if slot.number == number {
+                    return Some(i);
+                }
+            }
+        }
+        None
+    }
+
     /// Where the number stands: at the hint, or else where a search finds it.
     pub fn locate(&self, number: u64, hint: usize) -> Option<usize>
         ensures some { IfSome result (λ i. (x : Slot S) × (slabs.get self.now i ≡ Some x) × (x.number ≡ number)) }
@@ -55,14 +73,7 @@ impl<S: Drop> Table<S> {
                 return Some(hint);
             }
         }
-        for i in 0..self.slots.capacity() {
-            if let Some(slot) = self.slots.get(i) {
-                if slot.number == number {
-                    return Some(i);
-                }
-            }
-        }
-        None
+        self.search(number)
     }
 
     /// What stands at a place.
@@ -110,10 +121,7 @@ impl<S: Drop> Table<S> {
         ensures len { slabs.slab_len self.new ≡ slabs.slab_len self.old }
         ensures capacity { self.new.capacity ≡ self.old.capacity }
     {
-        match self.slots.get_mut(place) {
-            Some(slot) => mem::replace(&mut slot.standing, standing),
-            None => standing,
-        }
+        mem::replace(&mut self.slots[place].standing, standing)
     }
 }
 
@@ -126,9 +134,35 @@ impl<C: Drop> Table<Standing<C>> {
         ensures len { slabs.slab_len self.new ≡ slabs.slab_len self.old }
         ensures capacity { self.new.capacity ≡ self.old.capacity }
     {
-        match self.slots.get_mut(at) {
-            Some(slot) => mem::replace(&mut slot.standing.place, place),
-            None => place,
+        mem::replace(&mut self.slots[at].standing.place, place)
+    }
+}
+
+impl Table<Getting> {
+    /// Has the get that stands at a place stand elsewhere.
+    pub fn turn(&mut self, at: usize, place: GetPlace)
+        requires { IsSome (slabs.get self.old at) }
+        ensures changed { (x : Slot Getting) → slabs.get self.old at ≡ Some x → slabs.Updates self.old self.new at (Some (record x { standing = record x.standing { place = place } })) }
+        ensures len { slabs.slab_len self.new ≡ slabs.slab_len self.old }
+        ensures capacity { self.new.capacity ≡ self.old.capacity }
+    {
+        if let Some(slot) = self.slots.get_mut(at) {
+            slot.standing.place = place;
+        }
+    }
+
+    /// Has the get that stands at a place wait, since this moment if it did not wait before.
+    pub fn wait(&mut self, at: usize, now: u64)
+        requires { IsSome (slabs.get self.old at) }
+        ensures changed { (x : Slot Getting) → slabs.get self.old at ≡ Some x → slabs.Updates self.old self.new at (Some (record x { standing = get_waits now x.standing })) }
+        ensures len { slabs.slab_len self.new ≡ slabs.slab_len self.old }
+        ensures capacity { self.new.capacity ≡ self.old.capacity }
+    {
+        if let Some(slot) = self.slots.get_mut(at) {
+            slot.standing = Getting {
+                place: GetPlace::Waiting(false),
+                first_wait: Some(slot.standing.first_wait.unwrap_or(now)),
+            };
         }
     }
 }

@@ -8,6 +8,7 @@ mod refusals;
 mod replays;
 mod steps;
 mod surface;
+mod waiters;
 
 /// One second in nanoseconds.
 const SECOND: u64 = 1_000_000_000;

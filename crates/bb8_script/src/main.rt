@@ -1,34 +1,33 @@
 //! Runs a script of events over a pool: reads it from standard input, and writes the answers to standard output.
 #![tactic(auto)]
 
-mod fault;
-mod grammar;
-mod laws;
-mod lines;
-mod overrides;
-mod script;
-mod settings;
-mod streams;
-#[cfg(test)]
-mod tests;
-mod text;
-mod verdict;
+ghost use Rattle.std.specs.Prelude.{◌≡◌, IsErr, Ok};
+ghost use Rattle.bb8_runner.specs.declared.verdict.Verdict.TheVariants.{Ran, Bad};
 
-use script::run_script;
+use bb8_runner::fault::Fault;
+use bb8_runner::script::run_script;
+use bb8_runner::verdict::Verdict;
 use std::io;
 use std::process::ExitCode;
-use verdict::Verdict;
 
-/// Ends with status 0 where the script ran, with 2 after a bad line, and with 3, and a word on standard error, where reading, writing or
-/// memory failed.
-fn main(rt: HostRuntime) -> io::Result<ExitCode> {
-    let status = match run_script(rt.alloc(), &mut rt.reader(), &mut io::writer(&rt)) {
+/// The exit status: 0 where the script ran, 2 after a bad line, and 3 where reading, writing or memory failed.
+fn status_of(outcome: &Result<Verdict, Fault>) -> u8
+    ensures ran { outcome.now ≡ Ok Ran → result ≡ 0 }
+    ensures bad { outcome.now ≡ Ok Bad → result ≡ 2 }
+    ensures fault { IsErr outcome.now → result ≡ 3 }
+{
+    match outcome {
         Ok(Verdict::Ran) => 0,
         Ok(Verdict::Bad) => 2,
-        Err(fault) => {
-            eprintln!(rt; "{fault}")?;
-            3
-        }
-    };
-    Ok(ExitCode::from(status))
+        Err(_) => 3,
+    }
+}
+
+/// Ends with the status of the script's outcome, and with a word on standard error where that is a fault.
+fn main(rt: HostRuntime) -> io::Result<ExitCode> {
+    let outcome = run_script(rt.alloc(), &mut rt.reader(), &mut io::writer(&rt));
+    if let Err(fault) = &outcome {
+        eprintln!(rt; "{fault}")?;
+    }
+    Ok(ExitCode::from(status_of(&outcome)))
 }

@@ -1,11 +1,11 @@
 //! A run in which any one request for memory is refused: `rt try --test --fail-alloc N` refuses the Nth one of each test.
 //! These tests hold with a refusal and without; the others need all of their memory.
 
-use super::steps::{Link, NOW, add, begin, opened, put_back, try_get};
+use super::steps::{Link, NOW, add, begin, give_up, opened, put_back, try_get};
 use super::{first_script, unchecked};
 use crate::internals::{
-    AddAnswer, BeginAnswer, ClaimAnswer, Grant, OpenedAnswer, PoolInternals, PutBackAnswer,
-    TryAnswer,
+    AddAnswer, BeginAnswer, ClaimAnswer, GetKey, GiveUpAnswer, Grant, OpenedAnswer, PoolInternals,
+    PutBackAnswer, Reason, TryAnswer,
 };
 use crate::replay::{Act, Answer, Event, replay};
 use std::process::Abort;
@@ -30,6 +30,8 @@ enum Stands {
 struct Watch {
     stands: [Stands; 8],
     trying: [bool; 16],
+    waiting: [bool; 16],
+    notified: [bool; 16],
     next: u64,
     next_get: u64,
     added: u64,
@@ -42,6 +44,8 @@ impl Watch {
         Watch {
             stands: [Stands::Nowhere; 8],
             trying: [false; 16],
+            waiting: [false; 16],
+            notified: [false; 16],
             next: 0,
             next_get: 0,
             added: 0,
@@ -100,13 +104,67 @@ impl Watch {
         }
     }
 
-    /// Whether what is due was granted; below the peak nothing may be withheld.
+    /// Whether what is wanted was granted.
     fn grants(&mut self, grant: Grant) -> bool {
         let ready = self.count(&[Stands::Idle, Stands::Unclaimed, Stands::Claimed]);
+        self.grants_of(LEAST_IDLE.saturating_sub(ready), grant)
+    }
+
+    /// Whether a get is alive that is in no line.
+    fn is_out_of_line(&self, get: u64) -> bool {
+        self.trying.get(get as usize) == Some(&true)
+            && self.waiting.get(get as usize) == Some(&false)
+    }
+
+    /// Puts a get in line.
+    fn lines_up(&mut self, get: u64) {
+        if let Some(waiting) = self.waiting.get_mut(get as usize) {
+            *waiting = true;
+        }
+    }
+
+    /// Whether the get that waits was granted what it may be. Gets begin to wait in the order of their numbers here.
+    fn waits(&mut self, get: u64, grant: Grant) -> bool {
+        let open = self.count(&[Stands::Unclaimed, Stands::Claimed]);
+        let is_idle = self.count(&[Stands::Idle]) > 0;
+        let is_new = self.is_out_of_line(get);
+        let asked = if is_new && self.alive() > open { 1 } else { 0 };
+        self.lines_up(get);
+        !(is_new && is_idle) && self.grants_of(asked, grant)
+    }
+
+    /// Whether the oldest waiter was notified that was not yet.
+    fn notifies(&mut self, notified: Option<u64>) -> bool {
+        let oldest = self.waiting.iter().position(|waiting| *waiting);
+        if let Some(get) = oldest {
+            if let Some(waiting) = self.waiting.get_mut(get) {
+                *waiting = false;
+            }
+            if let Some(notified) = self.notified.get_mut(get) {
+                *notified = true;
+            }
+        }
+        notified == oldest.map(|get| get as u64)
+    }
+
+    /// Whether a get ended as it should, and handed its notification on if it had one.
+    fn lets_go(&mut self, get: u64, notified: Option<u64>) -> bool {
+        let had_one = self.notified.get(get as usize) == Some(&true);
+        if let Some(waiting) = self.waiting.get_mut(get as usize) {
+            *waiting = false;
+        }
+        let is_handed_on = if had_one {
+            self.notifies(notified)
+        } else {
+            notified.is_none()
+        };
+        self.turns(get, false) && is_handed_on
+    }
+
+    /// Whether what is due of what was asked for was granted; below the peak nothing may be withheld.
+    fn grants_of(&mut self, asked: u64, grant: Grant) -> bool {
         let used = self.used();
-        let due = LEAST_IDLE
-            .saturating_sub(ready)
-            .min(SIZE.saturating_sub(used));
+        let due = asked.min(SIZE.saturating_sub(used));
         let count = grant.count as u64;
         let mut is_right = grant.first == self.next
             && count + grant.withheld as u64 == due
@@ -145,8 +203,8 @@ impl Watch {
     fn misfits(&self, act: Act) -> bool {
         let stands = |number: u64, place| self.stands.get(number as usize) == Some(&place);
         match act {
-            Act::Try(get) => {
-                self.trying.get(get as usize) != Some(&true) || self.count(&[Stands::Idle]) == 0
+            Act::Try(get) | Act::GiveUp(get, _, _) => {
+                self.trying.get(get as usize) != Some(&true)
             }
             Act::Opened(number) => !stands(number, Stands::Claimed),
             Act::PutBack(number, _) => !stands(number, Stands::Out),
@@ -173,18 +231,26 @@ impl Watch {
                 self.least_unclaimed() == Some(number)
                     && self.moves(number, Stands::Unclaimed, Stands::Claimed)
             }
-            (Act::Opened(number), Answer::Entered(entered, None)) => {
-                entered == number && self.moves(number, Stands::Claimed, Stands::Idle)
+            (Act::Opened(number), Answer::Entered(entered, notified)) => {
+                entered == number
+                    && self.moves(number, Stands::Claimed, Stands::Idle)
+                    && self.notifies(notified)
             }
             (Act::Try(get), Answer::Served(number, grant)) => {
                 self.turns(get, false)
                     && self.moves(number, Stands::Idle, Stands::Out)
                     && self.grants(grant)
             }
-            (Act::PutBack(number, false), Answer::Kept(kept, None)) => {
-                kept == number && self.moves(number, Stands::Out, Stands::Idle)
+            (Act::Try(get), Answer::Waiting(grant)) => self.waits(get, grant),
+            (Act::GiveUp(get, _, _), Answer::GaveUp(notified)) => self.lets_go(get, notified),
+            (Act::PutBack(number, false), Answer::Kept(kept, notified)) => {
+                kept == number
+                    && self.moves(number, Stands::Out, Stands::Idle)
+                    && self.notifies(notified)
             }
-            (Act::Add(false), Answer::Added(number, None)) => self.adds(number),
+            (Act::Add(false), Answer::Added(number, notified)) => {
+                self.adds(number) && self.notifies(notified)
+            }
             (Act::Add(false), Answer::NoCapacity) => self.used() == SIZE,
             (Act::Add(false), Answer::Withheld) => {
                 self.used() < SIZE && self.used() == self.peak
@@ -218,11 +284,16 @@ fn link_of(number: u64) -> Link {
     }
 }
 
+/// The number of the get that was notified.
+fn number_of(notified: Option<GetKey>) -> Option<u64> {
+    notified.map(|get| get.number)
+}
+
 /// What an adding is answered. A refused connection has to be the one that was handed in.
 fn added(rt: &impl Abort, pool: &mut PoolInternals<Link>, broken: bool) -> Answer {
     let number = pool.next_number();
     match add(rt, pool, link_of(number), broken) {
-        AddAnswer::Added(key, _) => Answer::Added(key.number, None),
+        AddAnswer::Added(key, notified) => Answer::Added(key.number, number_of(notified)),
         AddAnswer::Broken(conn) => {
             assert_eq!(rt; conn, link_of(number));
             Answer::Broken
@@ -251,15 +322,26 @@ fn answer(rt: &impl Abort, pool: &mut PoolInternals<Link>, act: Act) -> Answer {
         },
         Act::Try(get) => {
             let get = pool.find_get(get).expect(rt, "the get is alive");
-            let TryAnswer::Served(key, conn, grant) = try_get(rt, pool, get);
-            assert_eq!(rt; conn, link_of(key.number));
-            Answer::Served(key.number, grant)
+            match try_get(rt, pool, get) {
+                TryAnswer::Served(key, conn, grant) => {
+                    assert_eq!(rt; conn, link_of(key.number));
+                    Answer::Served(key.number, grant)
+                }
+                TryAnswer::Waiting(grant) => Answer::Waiting(grant),
+            }
+        }
+        Act::GiveUp(get, reason, _) => {
+            let get = pool.find_get(get).expect(rt, "the get is alive");
+            let GiveUpAnswer::GaveUp(notified) = give_up(rt, pool, get, reason);
+            Answer::GaveUp(number_of(notified))
         }
         Act::PutBack(number, broken) => {
             let key = pool.find(number).expect(rt, "the connection is out");
             match put_back(rt, pool, key, link_of(number), broken) {
-                PutBackAnswer::Kept(_) => Answer::Kept(number, None),
-                PutBackAnswer::Closed(_, grant, _) => Answer::Closed(number, grant, None),
+                PutBackAnswer::Kept(notified) => Answer::Kept(number, number_of(notified)),
+                PutBackAnswer::Closed(_, grant, notified) => {
+                    Answer::Closed(number, grant, number_of(notified))
+                }
             }
         }
         Act::Fill(claimed) => Answer::Granted(pool.fill(NOW, claimed)),
@@ -270,12 +352,13 @@ fn answer(rt: &impl Abort, pool: &mut PoolInternals<Link>, act: Act) -> Answer {
         Act::Opened(number) => {
             let key = pool.find(number).expect(rt, "the approval stands");
             match opened(rt, pool, key, link_of(number)) {
-                OpenedAnswer::Entered(_) => Answer::Entered(number, None),
+                OpenedAnswer::Entered(notified) => Answer::Entered(number, number_of(notified)),
                 OpenedAnswer::Late(_) => Answer::Late(number),
             }
         }
         Act::Add(broken) => added(rt, pool, broken),
         Act::State => Answer::Shown(pool.state(NOW)),
+        Act::Look => Answer::Looked(NOW, pool.look(NOW).alive),
     }
 }
 
@@ -293,7 +376,15 @@ fn run_script(rt: &impl Abort, watch: &mut Watch, pool: &mut PoolInternals<Link>
     }
 }
 
-/// Takes every idle connection, also where one begin is refused.
+/// Lets every get go that is alive.
+fn let_all_go(rt: &impl Abort, watch: &mut Watch, pool: &mut PoolInternals<Link>) {
+    for get in 0..16 {
+        assert_allowed(rt, watch, pool, Act::GiveUp(get, Reason::Cancelled, false));
+    }
+    assert_eq!(rt; watch.alive(), 0);
+}
+
+/// Takes every idle connection, also where one begin is refused; the other gets wait.
 fn take_all(rt: &impl Abort, watch: &mut Watch, pool: &mut PoolInternals<Link>) {
     for _ in 0..8 {
         assert_allowed(rt, watch, pool, Act::Begin);
@@ -320,6 +411,7 @@ fn refused_memory_loses_no_connection(rt: HostRuntime) {
     run_script(&rt, &mut watch, &mut pool);
     take_all(&rt, &mut watch, &mut pool);
     put_all_back(&rt, &mut watch, &mut pool);
+    let_all_go(&rt, &mut watch, &mut pool);
 }
 
 #[test]
@@ -352,4 +444,5 @@ fn refused_memory_loses_no_added_connection(rt: HostRuntime) {
     assert_allowed(&rt, &mut watch, &mut pool, Act::Add(true));
     take_all(&rt, &mut watch, &mut pool);
     put_all_back(&rt, &mut watch, &mut pool);
+    let_all_go(&rt, &mut watch, &mut pool);
 }

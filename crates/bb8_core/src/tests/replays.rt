@@ -33,7 +33,7 @@ fn assert_answers(rt: &impl Abort, lines: &[Line], answers: &[Answer]) {
 }
 
 /// Runs a table, and gives what the pool tells at the end.
-fn shown_after(
+pub(super) fn shown_after(
     rt: &impl Abort,
     alloc: Global,
     config: Config,

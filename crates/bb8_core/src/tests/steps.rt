@@ -9,8 +9,8 @@ use super::{granted, served, unchecked};
 use crate::api::{Config, Moment, QueueStrategy};
 use crate::events::{Act, Event};
 use crate::internals::{
-    AddAnswer, BeginAnswer, ClaimAnswer, GetKey, Key, OpenedAnswer, PoolInternals, PutBackAnswer,
-    TryAnswer,
+    AddAnswer, BeginAnswer, ClaimAnswer, GetKey, GiveUpAnswer, Grant, Key, OpenedAnswer,
+    PoolInternals, PutBackAnswer, Reason, TryAnswer,
 };
 use std::alloc::Global;
 use std::process::Abort;
@@ -53,6 +53,29 @@ pub(super) fn try_get(
     pool.try_get(NOW, get)
 }
 
+/// Has a get be served.
+pub(super) fn served_by(
+    rt: &impl Abort,
+    pool: &mut PoolInternals<Link>,
+    get: GetKey,
+) -> (Key, Link, Grant) {
+    match try_get(rt, pool, get) {
+        TryAnswer::Served(key, conn, grant) => (key, conn, grant),
+        TryAnswer::Waiting(_) => panic!(rt; "the get waits"),
+    }
+}
+
+/// Gives up a get that is alive.
+pub(super) fn give_up(
+    rt: &impl Abort,
+    pool: &mut PoolInternals<Link>,
+    get: GetKey,
+    reason: Reason,
+) -> GiveUpAnswer {
+    assert_fits(rt, pool, Act::GiveUp(get.number, reason, false));
+    pool.give_up(NOW, get, reason, None, false)
+}
+
 /// Gives back a connection that a guard holds.
 pub(super) fn put_back(
     rt: &impl Abort,
@@ -92,7 +115,7 @@ fn take(rt: &impl Abort, pool: &mut PoolInternals<Link>) -> (Key, Link) {
     let BeginAnswer::Begun(get) = begin(rt, pool) else {
         panic!(rt; "no get began");
     };
-    let TryAnswer::Served(key, conn, _) = try_get(rt, pool, get);
+    let (key, conn, _) = served_by(rt, pool, get);
     (key, conn)
 }
 
@@ -187,7 +210,7 @@ fn each_step_once(rt: HostRuntime) {
     };
     assert_eq!(rt; get.number, 40);
     assert_eq!(rt; pool.find_get(40).map(|key| key.number), Some(40));
-    let TryAnswer::Served(key, conn, grant) = try_get(&rt, &mut pool, get);
+    let (key, conn, grant) = served_by(&rt, &mut pool, get);
     assert_eq!(rt; (key.number, &conn, grant), (7, &Link::Blue, granted(8, 1)));
     assert!(rt; pool.find_get(40).is_none());
     assert_eq!(rt; pool.find(7).map(|key| key.number), Some(7));
@@ -244,7 +267,7 @@ fn what_fits_changes_step_by_step(rt: HostRuntime) {
         panic!(rt; "no get began");
     };
     assert_eq!(rt; fitting(&pool), (true, false, false));
-    let TryAnswer::Served(key, conn, _) = try_get(&rt, &mut pool, get);
+    let (key, conn, _) = served_by(&rt, &mut pool, get);
     assert_eq!(rt; fitting(&pool), (false, false, true));
     let PutBackAnswer::Kept(None) = put_back(&rt, &mut pool, key, conn, false) else {
         panic!(rt; "it was closed");
@@ -325,7 +348,7 @@ fn stale_keys_name_the_right_get(rt: HostRuntime) {
         number: 2,
         place: taken_over,
     };
-    let TryAnswer::Served(key, conn, _) = try_get(&rt, &mut pool, stale);
+    let (key, conn, _) = served_by(&rt, &mut pool, stale);
     assert_eq!(rt; (key.number, conn), (0, Link::Red));
     assert!(rt; pool.find_get(0).is_none());
     assert_eq!(rt; pool.find_get(1).map(|get| get.number), Some(1));

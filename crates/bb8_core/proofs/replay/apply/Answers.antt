@@ -1,4 +1,4 @@
-use Rattle.std.proofs.Common.{◌≡◌, ℕ, true, sym, subst, ◌∙◌}
+use Rattle.std.proofs.Common.{◌≡◌, true, sym, subst, ◌∙◌}
 use Rattle.bb8_core.specs.declared.events.Act.{Act as Named}
 use Rattle.bb8_core.specs.Run.{act_of}
 use Rattle.bb8_core.specs.Table.{takes}
@@ -22,3 +22,6 @@ opened-requires c = λ l legal means. subst (λ (a : Named). takes l (act_of l a
 
 pub add-requires : goal.add-requires
 add-requires c = λ l legal means. subst (λ (a : Named). takes l (act_of l a) ≡ true) c.in-Add.is (sym (c.fits_at.ensures (λ k. k) l legal means) ∙ c.if-not-fits_at.false)
+
+pub give_up-requires : goal.give_up-requires
+give_up-requires c = λ l legal means. subst (λ (a : Named). takes l (act_of l a) ≡ true) c.in-GiveUp.is (sym (c.fits_at.ensures (λ k. k) l legal means) ∙ c.if-not-fits_at.false)

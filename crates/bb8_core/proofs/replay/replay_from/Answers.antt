@@ -4,8 +4,10 @@ use Rattle.bb8_core.specs.declared.events.Act.TheVariants as acts
 use Rattle.bb8_core.specs.declared.events.Answer.{Answer}
 use Rattle.bb8_core.specs.declared.events.Event.{Event}
 use Rattle.bb8_core.specs.Ledger.{Ledger, Later}
+use Rattle.bb8_core.specs.Limits.{KeepsLimits, KeepsLaws, KeepsPromises}
 use Rattle.bb8_core.specs.Run.{IsRun, act_of, answer_of, opening}
-use Rattle.bb8_core.proofs.Runs.{run_more, run_legal, run_limits, run_length}
+use Rattle.bb8_core.proofs.Laws.{keeps_limits, keeps_laws, keeps_promises}
+use Rattle.bb8_core.proofs.Runs.{run_more, run_legal, run_after, run_length}
 use Rattle.bb8_core.proofs.replay.replay_from.Goals as goal
 
 pub loop-event-init : goal.loop-event-init
@@ -42,9 +44,22 @@ returns-clause-answers c =
     run_length first last.0 c.args.events.now c.loop-event.answers.items (subst (λ (xs : List Event). IsRun first xs c.loop-event.answers.items last.0) (take_all c.loop-event.event-index c.args.events.now past) last.1)
 
 pub returns-clause-limits : goal.returns-clause-limits
-returns-clause-limits c = λ i.
+returns-clause-limits c =
     let first : Ledger ℕ = opening c.args.config c.args.first_number c.args.first_get in
     let last = c.loop-event.invariant in
     let past : length c.args.events.now ≤ c.loop-event.event-index = omega arith in
-    let run : IsRun first c.args.events.now c.loop-event.answers.items last.0 = subst (λ (xs : List Event). IsRun first xs c.loop-event.answers.items last.0) (take_all c.loop-event.event-index c.args.events.now past) last.1 in
-    run_limits first last.0 c.args.events.now c.loop-event.answers.items tt run i
+    run_after KeepsLimits keeps_limits first last.0 c.args.events.now c.loop-event.answers.items tt (subst (λ (xs : List Event). IsRun first xs c.loop-event.answers.items last.0) (take_all c.loop-event.event-index c.args.events.now past) last.1)
+
+pub returns-clause-laws : goal.returns-clause-laws
+returns-clause-laws c =
+    let first : Ledger ℕ = opening c.args.config c.args.first_number c.args.first_get in
+    let last = c.loop-event.invariant in
+    let past : length c.args.events.now ≤ c.loop-event.event-index = omega arith in
+    run_after KeepsLaws keeps_laws first last.0 c.args.events.now c.loop-event.answers.items tt (subst (λ (xs : List Event). IsRun first xs c.loop-event.answers.items last.0) (take_all c.loop-event.event-index c.args.events.now past) last.1)
+
+pub returns-clause-promises : goal.returns-clause-promises
+returns-clause-promises c =
+    let first : Ledger ℕ = opening c.args.config c.args.first_number c.args.first_get in
+    let last = c.loop-event.invariant in
+    let past : length c.args.events.now ≤ c.loop-event.event-index = omega arith in
+    run_after KeepsPromises keeps_promises first last.0 c.args.events.now c.loop-event.answers.items tt (subst (λ (xs : List Event). IsRun first xs c.loop-event.answers.items last.0) (take_all c.loop-event.event-index c.args.events.now past) last.1)

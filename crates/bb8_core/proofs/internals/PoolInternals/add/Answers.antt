@@ -1,12 +1,11 @@
-use Rattle.std.proofs.Common.{◌≡◌, ◌≢◌, ◌+◌, ◌<◌, ◌≤◌, ℕ, suc, Bool, true, false, ltb, sym, subst, ◌∙◌, arith}
-use Rattle.std.proofs.lemmas.Bool.Decides.{leb_tells, nat_tests}
+use Rattle.std.proofs.Common.{◌≡◌, ◌≢◌, ◌+◌, Bool, true, false, sym, subst, ◌∙◌, arith}
 use Rattle.bb8_core.specs.Acts as acts
 use Rattle.bb8_core.specs.Answers as answers
-use Rattle.bb8_core.specs.Outcomes.{add_told, added_by}
+use Rattle.bb8_core.specs.Outcomes.{notified_of}
 use Rattle.bb8_core.specs.Pool.{view_of}
 use Rattle.bb8_core.specs.Shown.{IsFitting}
 use Rattle.bb8_core.proofs.Laws.{shown_fits}
-use Rattle.bb8_core.proofs.Steps.{meets_add_broken, meets_add_full, meets_add_exhausted, meets_add_tried, meets_add_outcome, refuses_tried, left, used_up, led, at_view, fits_view}
+use Rattle.bb8_core.proofs.Steps.{meets_add_broken, meets_add_full, meets_add_exhausted, meets_add_refused, meets_added, left, used_up, led, at_view, fits_view}
 use Rattle.bb8_core.proofs.internals.PoolInternals.add.Goals as goal
 
 pub invariant_of-self : goal.invariant_of-self
@@ -42,13 +41,18 @@ add-requires-clause-few g c =
 pub add-requires-clause-number : goal.add-requires-clause-number
 add-requires-clause-number g c = left c.self.inside.records.next (sym c.has_number.ensures ∙ c.if-not-has_number.false)
 
-pub invariant_of-self-2 : goal.invariant_of-self-2
-invariant_of-self-2 g c = led (view_of c.self.inside) _ c.args.at.0 (acts.Add c.args.conn false) (add_told (added_by c.add.result)) c.self.invariant
-    (meets_add_tried (view_of c.self.inside) c.args.at.0 c.args.conn c.max-now.result c.add.result c.add.new.self (subst (λ (b : Bool). IsFitting (view_of c.self.inside) (acts.Add c.args.conn b)) c.if-broken.false (fits_view (acts.Add c.args.conn c.args.broken) c.self.view_is c.requires)) c.max-now.ensures (λ (e : c.self.inside.records.conns + c.self.inside.records.approved ≡ c.self.inside.config.max_size). c.if-used-self.false (c.used.ensures ∙ e)) (left c.self.inside.records.next (sym c.has_number.ensures ∙ c.if-not-has_number.false)) c.add.ensures.ok c.add.ensures.err)
+pub invariant_of-self-in-Ok : goal.invariant_of-self-in-Ok
+invariant_of-self-in-Ok g c = led (view_of c.self.inside) _ c.args.at.0 (acts.Add c.args.conn false) (answers.Added c.in-Ok.key.number (notified_of c.notify.result)) c.self.invariant
+    (meets_added (view_of c.self.inside) c.args.at.0 c.in-Ok.key.number c.args.conn c.max-now.result c.add.new.self (notified_of c.notify.result) c.notify.new.self (record { who = c.notify.ensures.value; after = c.notify.ensures.state }) (subst (λ (b : Bool). IsFitting (view_of c.self.inside) (acts.Add c.args.conn b)) c.if-broken.false (fits_view (acts.Add c.args.conn c.args.broken) c.self.view_is c.requires)) c.max-now.ensures (λ (e : c.self.inside.records.conns + c.self.inside.records.approved ≡ c.self.inside.config.max_size). c.if-used-self.false (c.used.ensures ∙ e)) (left c.self.inside.records.next (sym c.has_number.ensures ∙ c.if-not-has_number.false)) c.in-Ok.ensures.ok.0 c.in-Ok.ensures.ok.1)
 
-pub returns-clause-step : goal.returns-clause-step
-returns-clause-step g c = at_view _ c.args.at.0 (acts.Add c.args.conn c.args.broken) (add_told c.added.result) c.self.view_is
-    (meets_add_outcome (view_of c.self.inside) c.args.at.0 c.args.conn c.args.broken c.max-now.result c.add.result c.added.result c.add.new.self c.if-broken.false c.added.ensures (subst (λ (b : Bool). IsFitting (view_of c.self.inside) (acts.Add c.args.conn b)) c.if-broken.false (fits_view (acts.Add c.args.conn c.args.broken) c.self.view_is c.requires)) c.max-now.ensures (λ (e : c.self.inside.records.conns + c.self.inside.records.approved ≡ c.self.inside.config.max_size). c.if-used-self.false (c.used.ensures ∙ e)) (left c.self.inside.records.next (sym c.has_number.ensures ∙ c.if-not-has_number.false)) c.add.ensures.ok c.add.ensures.err)
+pub returns-in-Ok-clause-step : goal.returns-in-Ok-clause-step
+returns-in-Ok-clause-step g c = rw c.if-broken.false (at_view _ c.args.at.0 (acts.Add c.args.conn false) (answers.Added c.in-Ok.key.number (notified_of c.notify.result)) c.self.view_is
+    (meets_added (view_of c.self.inside) c.args.at.0 c.in-Ok.key.number c.args.conn c.max-now.result c.add.new.self (notified_of c.notify.result) c.notify.new.self (record { who = c.notify.ensures.value; after = c.notify.ensures.state }) (subst (λ (b : Bool). IsFitting (view_of c.self.inside) (acts.Add c.args.conn b)) c.if-broken.false (fits_view (acts.Add c.args.conn c.args.broken) c.self.view_is c.requires)) c.max-now.ensures (λ (e : c.self.inside.records.conns + c.self.inside.records.approved ≡ c.self.inside.config.max_size). c.if-used-self.false (c.used.ensures ∙ e)) (left c.self.inside.records.next (sym c.has_number.ensures ∙ c.if-not-has_number.false)) c.in-Ok.ensures.ok.0 c.in-Ok.ensures.ok.1))
 
-pub returns-clause-connection : goal.returns-clause-connection
-returns-clause-connection g c = refuses_tried (view_of c.self.inside) c.args.conn c.add.result c.added.result c.add.new.self c.added.ensures c.add.ensures.err
+pub invariant_of-self-in-Err : goal.invariant_of-self-in-Err
+invariant_of-self-in-Err g c = led (view_of c.self.inside) _ c.args.at.0 (acts.Add c.args.conn false) answers.Withheld c.self.invariant
+    (meets_add_refused (view_of c.self.inside) c.args.at.0 c.args.conn c.max-now.result c.add.new.self (subst (λ (b : Bool). IsFitting (view_of c.self.inside) (acts.Add c.args.conn b)) c.if-broken.false (fits_view (acts.Add c.args.conn c.args.broken) c.self.view_is c.requires)) c.max-now.ensures (λ (e : c.self.inside.records.conns + c.self.inside.records.approved ≡ c.self.inside.config.max_size). c.if-used-self.false (c.used.ensures ∙ e)) (left c.self.inside.records.next (sym c.has_number.ensures ∙ c.if-not-has_number.false)) c.in-Err.ensures.err.1 c.in-Err.ensures.err.2)
+
+pub returns-in-Err-clause-step : goal.returns-in-Err-clause-step
+returns-in-Err-clause-step g c = rw c.if-broken.false (at_view _ c.args.at.0 (acts.Add c.args.conn false) answers.Withheld c.self.view_is
+    (meets_add_refused (view_of c.self.inside) c.args.at.0 c.args.conn c.max-now.result c.add.new.self (subst (λ (b : Bool). IsFitting (view_of c.self.inside) (acts.Add c.args.conn b)) c.if-broken.false (fits_view (acts.Add c.args.conn c.args.broken) c.self.view_is c.requires)) c.max-now.ensures (λ (e : c.self.inside.records.conns + c.self.inside.records.approved ≡ c.self.inside.config.max_size). c.if-used-self.false (c.used.ensures ∙ e)) (left c.self.inside.records.next (sym c.has_number.ensures ∙ c.if-not-has_number.false)) c.in-Err.ensures.err.1 c.in-Err.ensures.err.2))

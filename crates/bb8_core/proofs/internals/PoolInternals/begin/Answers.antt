@@ -1,4 +1,4 @@
-use Rattle.std.proofs.Common.{◌≡◌, ◌<◌, ◌≤◌, ℕ, suc, sym, ◌∙◌, refl, arith, ltb, true, false}
+use Rattle.std.proofs.Common.{◌<◌, sym, ◌∙◌, refl, arith}
 use Rattle.bb8_core.specs.Acts as acts
 use Rattle.bb8_core.specs.Answers as answers
 use Rattle.bb8_core.specs.Pool.{view_of}

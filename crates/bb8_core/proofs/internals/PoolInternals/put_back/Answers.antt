@@ -1,12 +1,14 @@
-use Rattle.std.proofs.Common.{◌≡◌, ◌≤◌, ◌+◌, ◌-◌, sym, ap, ◌∙◌, arith, not, None}
+use Rattle.std.proofs.Common.{◌≡◌, ◌≤◌, ◌+◌, ◌-◌, sym, ap, ◌∙◌, arith, not}
 use Rattle.bb8_core.specs.Acts as acts
 use Rattle.bb8_core.specs.Answers as answers
 use Rattle.bb8_core.specs.Machine as machine
 use Rattle.bb8_core.specs.Numbered.{one}
+use Rattle.bb8_core.specs.Outcomes.{notified_of}
 use Rattle.bb8_core.specs.Pool.{view_of}
 use Rattle.bb8_core.specs.Settings.{settings_of}
 use Rattle.bb8_core.specs.Shown.{ShownRecords}
-use Rattle.bb8_core.proofs.Laws.{shown_fits, fit_guarded, guarded_shown, want_few, one_or_other}
+use Rattle.bb8_core.proofs.Laws.{shown_fits, want_few, one_or_other}
+use Rattle.bb8_core.proofs.Fitting.{fit_guarded, guarded_shown}
 use Rattle.bb8_core.proofs.Steps.{meets_returned_kept, meets_returned_closed, led, at_view, fits_view}
 use Rattle.bb8_core.proofs.internals.PoolInternals.put_back.Goals as goal
 
@@ -29,8 +31,8 @@ overflow_add-self-then-is_closing g c =
     let once : one (not c.args.broken) ≤ 1 = one_or_other c.args.broken in
     omega (arith, fit.closed_few, c.close.ensures.numbers, c.one_first.ensures.few)
 
-pub grant-requires : goal.grant-requires
-grant-requires g c =
+pub grant-grant-requires : goal.grant-grant-requires
+grant-grant-requires g c =
     let a = c.self.inside in
     let fit = shown_fits (view_of a) c.self.invariant in
     let few : machine.want (settings_of a.config) a.handles c.close.new.self ≤ a.config.max_size - (c.close.new.self.conns + c.close.new.self.approved) = want_few (settings_of a.config) a.handles c.close.new.self in
@@ -40,17 +42,17 @@ grant-requires g c =
     omega (arith, fit.size)
 
 pub invariant_of-self : goal.invariant_of-self
-invariant_of-self g c = led (view_of c.self.inside) _ c.args.at.0 (acts.PutBack c.args.k.number c.args.conn c.args.broken) (answers.Closed c.args.k.number c.grant.result None) c.self.invariant
-    (meets_returned_closed (view_of c.self.inside) c.args.at.0 c.args.k.number c.args.conn c.args.broken c.max-now.result c.birth-birth.result c.is_expired-expired.result c.close.new.self c.want-wanted.result c.grant.result c.grant.new.self c.one.result c.one_first.result (record { fit = fits_view (acts.PutBack c.args.k.number c.args.conn c.args.broken) c.self.view_is c.requires; now_is = c.max-now.ensures; birth_is = c.birth-birth.ensures; aged_is = c.is_expired-expired.ensures }) (sym c.is_closing.ensures ∙ c.if-is_closing.true) c.close.ensures.state c.want-wanted.ensures c.grant.ensures.granted c.grant.ensures.state c.one.ensures.value c.one_first.ensures.value)
+invariant_of-self g c = led (view_of c.self.inside) _ c.args.at.0 (acts.PutBack c.args.k.number c.args.conn c.args.broken) (answers.Closed c.args.k.number c.grant-grant.result (notified_of c.notify.result)) c.self.invariant
+    (meets_returned_closed (view_of c.self.inside) c.args.at.0 c.args.k.number c.args.conn c.args.broken c.max-now.result c.birth-birth.result c.is_expired-expired.result c.close.new.self c.want-wanted.result c.grant-grant.result c.grant-grant.new.self (notified_of c.notify.result) c.notify.new.self c.one.result c.one_first.result (record { who = c.notify.ensures.value; after = c.notify.ensures.state }) (record { fit = fits_view (acts.PutBack c.args.k.number c.args.conn c.args.broken) c.self.view_is c.requires; now_is = c.max-now.ensures; birth_is = c.birth-birth.ensures; aged_is = c.is_expired-expired.ensures }) (sym c.is_closing.ensures ∙ c.if-is_closing.true) c.close.ensures.state c.want-wanted.ensures c.grant-grant.ensures.granted c.grant-grant.ensures.state c.one.ensures.value c.one_first.ensures.value)
 
 pub invariant_of-self-else-is_closing : goal.invariant_of-self-else-is_closing
-invariant_of-self-else-is_closing g c = led (view_of c.self.inside) _ c.args.at.0 (acts.PutBack c.args.k.number c.args.conn c.args.broken) (answers.Kept c.args.k.number None) c.self.invariant
-    (meets_returned_kept (view_of c.self.inside) c.args.at.0 c.args.k.number c.args.conn c.args.broken c.max-now.result c.birth-birth.result c.is_expired-expired.result c.enter.new.self (record { fit = fits_view (acts.PutBack c.args.k.number c.args.conn c.args.broken) c.self.view_is c.requires; now_is = c.max-now.ensures; birth_is = c.birth-birth.ensures; aged_is = c.is_expired-expired.ensures }) (sym c.is_closing.ensures ∙ c.if-is_closing.false) c.enter.ensures.state)
+invariant_of-self-else-is_closing g c = led (view_of c.self.inside) _ c.args.at.0 (acts.PutBack c.args.k.number c.args.conn c.args.broken) (answers.Kept c.args.k.number (notified_of c.notify-else-is_closing.result)) c.self.invariant
+    (meets_returned_kept (view_of c.self.inside) c.args.at.0 c.args.k.number c.args.conn c.args.broken c.max-now.result c.birth-birth.result c.is_expired-expired.result c.enter.new.self (notified_of c.notify-else-is_closing.result) c.notify-else-is_closing.new.self (record { who = c.notify-else-is_closing.ensures.value; after = c.notify-else-is_closing.ensures.state }) (record { fit = fits_view (acts.PutBack c.args.k.number c.args.conn c.args.broken) c.self.view_is c.requires; now_is = c.max-now.ensures; birth_is = c.birth-birth.ensures; aged_is = c.is_expired-expired.ensures }) (sym c.is_closing.ensures ∙ c.if-is_closing.false) c.enter.ensures.state)
 
 pub returns-then-is_closing-clause-step : goal.returns-then-is_closing-clause-step
-returns-then-is_closing-clause-step g c = at_view _ c.args.at.0 (acts.PutBack c.args.k.number c.args.conn c.args.broken) (answers.Closed c.args.k.number c.grant.result None) c.self.view_is
-    (meets_returned_closed (view_of c.self.inside) c.args.at.0 c.args.k.number c.args.conn c.args.broken c.max-now.result c.birth-birth.result c.is_expired-expired.result c.close.new.self c.want-wanted.result c.grant.result c.grant.new.self c.one.result c.one_first.result (record { fit = fits_view (acts.PutBack c.args.k.number c.args.conn c.args.broken) c.self.view_is c.requires; now_is = c.max-now.ensures; birth_is = c.birth-birth.ensures; aged_is = c.is_expired-expired.ensures }) (sym c.is_closing.ensures ∙ c.if-is_closing.true) c.close.ensures.state c.want-wanted.ensures c.grant.ensures.granted c.grant.ensures.state c.one.ensures.value c.one_first.ensures.value)
+returns-then-is_closing-clause-step g c = at_view _ c.args.at.0 (acts.PutBack c.args.k.number c.args.conn c.args.broken) (answers.Closed c.args.k.number c.grant-grant.result (notified_of c.notify.result)) c.self.view_is
+    (meets_returned_closed (view_of c.self.inside) c.args.at.0 c.args.k.number c.args.conn c.args.broken c.max-now.result c.birth-birth.result c.is_expired-expired.result c.close.new.self c.want-wanted.result c.grant-grant.result c.grant-grant.new.self (notified_of c.notify.result) c.notify.new.self c.one.result c.one_first.result (record { who = c.notify.ensures.value; after = c.notify.ensures.state }) (record { fit = fits_view (acts.PutBack c.args.k.number c.args.conn c.args.broken) c.self.view_is c.requires; now_is = c.max-now.ensures; birth_is = c.birth-birth.ensures; aged_is = c.is_expired-expired.ensures }) (sym c.is_closing.ensures ∙ c.if-is_closing.true) c.close.ensures.state c.want-wanted.ensures c.grant-grant.ensures.granted c.grant-grant.ensures.state c.one.ensures.value c.one_first.ensures.value)
 
 pub returns-else-is_closing-clause-step : goal.returns-else-is_closing-clause-step
-returns-else-is_closing-clause-step g c = at_view _ c.args.at.0 (acts.PutBack c.args.k.number c.args.conn c.args.broken) (answers.Kept c.args.k.number None) c.self.view_is
-    (meets_returned_kept (view_of c.self.inside) c.args.at.0 c.args.k.number c.args.conn c.args.broken c.max-now.result c.birth-birth.result c.is_expired-expired.result c.enter.new.self (record { fit = fits_view (acts.PutBack c.args.k.number c.args.conn c.args.broken) c.self.view_is c.requires; now_is = c.max-now.ensures; birth_is = c.birth-birth.ensures; aged_is = c.is_expired-expired.ensures }) (sym c.is_closing.ensures ∙ c.if-is_closing.false) c.enter.ensures.state)
+returns-else-is_closing-clause-step g c = at_view _ c.args.at.0 (acts.PutBack c.args.k.number c.args.conn c.args.broken) (answers.Kept c.args.k.number (notified_of c.notify-else-is_closing.result)) c.self.view_is
+    (meets_returned_kept (view_of c.self.inside) c.args.at.0 c.args.k.number c.args.conn c.args.broken c.max-now.result c.birth-birth.result c.is_expired-expired.result c.enter.new.self (notified_of c.notify-else-is_closing.result) c.notify-else-is_closing.new.self (record { who = c.notify-else-is_closing.ensures.value; after = c.notify-else-is_closing.ensures.state }) (record { fit = fits_view (acts.PutBack c.args.k.number c.args.conn c.args.broken) c.self.view_is c.requires; now_is = c.max-now.ensures; birth_is = c.birth-birth.ensures; aged_is = c.is_expired-expired.ensures }) (sym c.is_closing.ensures ∙ c.if-is_closing.false) c.enter.ensures.state)

@@ -4,6 +4,3 @@ use Rattle.bb8_core.proofs.table.Table.locate.Goals as goal
 
 pub returns-then-slot-number-clause-some : goal.returns-then-slot-number-clause-some
 returns-then-slot-number-clause-some g c = (c.in-Some.slot.now, ap (λ s. slabs.get s c.args.hint) (sym c.self.view_is) ∙ sym c.in-Some.ensures, c.if-slot-number.true)
-
-pub returns-then-slot-number-2-clause-some : goal.returns-then-slot-number-2-clause-some
-returns-then-slot-number-2-clause-some g c = (c.in-Some-get.slot.now, ap (λ s. slabs.get s c.loop-i.i) (sym c.self.view_is) ∙ sym c.in-Some-get.ensures, c.if-slot-number-2.true)

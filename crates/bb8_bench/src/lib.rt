@@ -1,0 +1,51 @@
+//! The core of the pool and its scripts, for a benchmark: over numbers and bytes alone, as Rust and C call them.
+#![tactic(auto)]
+
+ghost use Rattle.std.specs.Prelude.{◌≡◌, ◌⊎◌};
+ghost use Rattle.bb8_bench.specs.Lines.{upto, turned, counted, held};
+ghost use Rattle.bb8_bench.specs.Written.{IsWritten};
+
+mod opening;
+mod running;
+mod serving;
+#[cfg(test)]
+mod tests;
+
+use opening::opened_pool;
+use running::run_over;
+use serving::{drained, turned};
+use std::alloc::Global;
+
+/// Opens `size` connections, and then `rounds` times begins a get, has it take the connection that is idle longest, and gives that one
+/// back. Answers the sum of the numbers of the connections that were served, each counted from 1, at most the greatest u64. 0 comes where
+/// `size` or `rounds` is 0, where memory was refused, and where no number was left. Our own.
+#[unsafe(no_mangle)]
+pub extern "C" fn core_rounds(alloc: Global, size: u32, rounds: u64) -> u64
+    ensures { (result ≡ 0) ⊎ (result ≡ held (turned rounds (upto size))) }
+{
+    match opened_pool(alloc, size) {
+        None => 0,
+        Some(mut pool) => turned(&mut pool, rounds).unwrap_or(0),
+    }
+}
+
+/// Opens `size` connections, and then has a get take each, of which none comes back. Answers the sum of their numbers, each counted from
+/// 1, at most the greatest u64; 0 as `core_rounds`. Our own.
+#[unsafe(no_mangle)]
+pub extern "C" fn core_fill_drain(alloc: Global, size: u32) -> u64
+    ensures { (result ≡ 0) ⊎ (result ≡ held (counted (upto size))) }
+{
+    match opened_pool(alloc, size) {
+        None => 0,
+        Some(mut pool) => drained(&mut pool, size).unwrap_or(0),
+    }
+}
+
+/// Runs the script that `input` spells, and writes its answers over the front of `out`. Answers how many bytes they are. 0 comes where
+/// memory was refused, and where `out` is too short; then `out` is unchanged. Our own.
+#[unsafe(no_mangle)]
+pub extern "C" fn script_run(alloc: Global, input: &[u8], out: &mut [u8]) -> u64
+    ensures written { ((result ≡ 0) × (out.new ≡ out.old)) ⊎ IsWritten input.now out.old result out.new }
+{
+    run_over(alloc, input, out).unwrap_or(0)
+}

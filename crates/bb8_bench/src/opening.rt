@@ -1,0 +1,92 @@
+//! A pool whose connections stand open.
+ghost use Rattle.std.specs.Prelude.{◌≡◌, ◌<◌, ◌∷◌, ◌++◌, [], IfSome, Some, false};
+ghost use Rattle.bb8_core.specs.Settings.{settings_of, default_settings, is_lawful};
+ghost use Rattle.bb8_bench.specs.Lines.{upto};
+ghost use Rattle.bb8_bench.specs.Serving.{IsServing};
+
+use bb8_core::api::{Config, Moment};
+use bb8_core::internals::{ClaimAnswer, OpenedAnswer, PoolInternals};
+use std::alloc::Global;
+
+/// The one moment at which everything happens.
+pub(crate) const NOW: Moment = Moment(0);
+
+/// As by default, but that no connection is checked, and that the pool fills itself.
+fn full_config(size: u32) -> Config
+    ensures { settings_of result ≡ record default_settings { max_size = size; min_idle = Some size; test_on_check_out = false } }
+{
+    let config = Config::default();
+    Config {
+        max_size: size,
+        min_idle: Some(size),
+        test_on_check_out: false,
+        max_lifetime: config.max_lifetime,
+        idle_timeout: config.idle_timeout,
+        connection_timeout: config.connection_timeout,
+        retry_connection: config.retry_connection,
+        reaper_rate: config.reaper_rate,
+        queue_strategy: config.queue_strategy,
+    }
+}
+
+/// Claims the unclaimed approval of the least number, and makes its connection idle, which is its number.
+fn open_one(pool: &mut PoolInternals<u64>) -> Option<u64>
+    requires { IsServing pool.old }
+    ensures serving { IfSome result (λ k. IsServing pool.new) }
+    ensures claimed { IfSome result (λ k. pool.old.records.unclaimed ≡ k ∷ pool.new.records.unclaimed) }
+    ensures entered { IfSome result (λ k. pool.new.records.idle ≡ pool.old.records.idle ++ k ∷ []) }
+{
+    // It does nothing, and tells the proof of a ledger behind the state.
+    pool.limits();
+    let ClaimAnswer::Claimed(Some(key)) = pool.claim(NOW) else {
+        return None;
+    };
+    match pool.opened(NOW, key, key.number) {
+        OpenedAnswer::Entered(_) => Some(key.number),
+        OpenedAnswer::Late(_) => None,
+    }
+}
+
+/// Opens so many connections of those that are approved.
+fn open_all(pool: &mut PoolInternals<u64>, count: u32) -> Option<()>
+    requires serving { IsServing pool.old }
+    requires idle { pool.old.records.idle ≡ [] }
+    requires unclaimed { pool.old.records.unclaimed ≡ upto count }
+    ensures serving { IfSome result (λ u. IsServing pool.new) }
+    ensures idle { IfSome result (λ u. pool.new.records.idle ≡ upto count) }
+{
+    for _ in 0..count {
+        open_one(pool)?;
+    }
+    Some(())
+}
+
+/// The empty pool, with `size` approvals that nobody claimed.
+fn approved_pool(alloc: Global, size: u32) -> Option<PoolInternals<u64>>
+    ensures serving { IfSome result (λ pool. IsServing pool) }
+    ensures idle { IfSome result (λ pool. pool.records.idle ≡ []) }
+    ensures unclaimed { IfSome result (λ pool. pool.records.unclaimed ≡ upto size) }
+    ensures some { IfSome result (λ pool. 0 < size) }
+{
+    let config = full_config(size);
+    if !config.is_lawful() {
+        return None;
+    }
+    let mut pool = PoolInternals::new(alloc, config);
+    let grant = pool.fill(NOW, false);
+    if grant.count != size {
+        return None;
+    }
+    Some(pool)
+}
+
+/// A pool of `size` idle connections, each of which is its number. None where `size` is 0, or memory was refused.
+pub(crate) fn opened_pool(alloc: Global, size: u32) -> Option<PoolInternals<u64>>
+    ensures serving { IfSome result (λ pool. IsServing pool) }
+    ensures idle { IfSome result (λ pool. pool.records.idle ≡ upto size) }
+    ensures some { IfSome result (λ pool. 0 < size) }
+{
+    let mut pool = approved_pool(alloc, size)?;
+    open_all(&mut pool, size)?;
+    Some(pool)
+}

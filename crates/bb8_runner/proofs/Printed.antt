@@ -1,0 +1,94 @@
+-- What is printed of an answer and of a state has no byte below a space, so no line feed.
+use Rattle.std.proofs.Common.{◌≡◌, ◌≢◌, ℕ, Bool, true, false, cond, eqb, List, [], ◌++◌, Option, Some, None, refl, arith, codes}
+use Rattle.std.specs.Fmt.{decimal}
+use Rattle.std.specs.List.{All}
+use Rattle.std.proofs.lemmas.List.Elements.{All-nil, All-weaker}
+use Rattle.bb8_core.specs.Figures.{Counts, Figures, figures_of}
+use Rattle.bb8_core.specs.declared.events.Answer.{Answer}
+use Rattle.bb8_core.specs.declared.events.Answer.TheVariants.{Begun, Memory, Exhausted, Served, Waiting, Kept, Closed, GaveUp, Granted, Claimed, Ended, Entered, Late, Added, Broken, NoCapacity, Withheld, Shown, Looked, Unfit}
+use Rattle.bb8_core.specs.declared.events.Grant.{Grant}
+use Rattle.bb8_runner.specs.Text.{grant_text, notifies_text, sizes_text, gets_text, opened_text, closed_text, state_text, answer_text}
+use Rattle.bb8_runner.proofs.Bytes.{IsOver, AreOver, over, are_over, decimal_over, joined}
+
+abbrev AreVisible : List ℕ → Type 0
+AreVisible bs = AreOver 31 bs
+
+-- a word, a number, and what follows them
+word : (bs rest : List ℕ) → over 31 bs ≡ true → AreVisible rest → AreVisible (bs ++ rest)
+word bs rest e h = joined 31 bs rest (are_over 31 bs e) h
+
+number : (n : ℕ) → AreVisible (decimal n)
+number n = decimal_over 31 n (omega arith)
+
+after : (n : ℕ) (rest : List ℕ) → AreVisible rest → AreVisible (decimal n ++ rest)
+after n rest h = joined 31 (decimal n) rest (number n) h
+
+nothing : AreVisible []
+nothing = All-nil (IsOver 31)
+
+unless : (b : Bool) (bs : List ℕ) → AreVisible bs → AreVisible (cond b [] bs)
+unless true bs h = nothing
+unless false bs h = h
+
+grant_visible : (g : Grant) → AreVisible (grant_text g)
+unfolding over
+grant_visible g = joined 31 _ _
+    (unless (eqb g.count 0) _ (word (codes " grant ") _ refl (after g.count _ (word (codes " at ") _ refl (number g.first)))))
+    (unless (eqb g.withheld 0) _ (word (codes " withheld ") _ refl (number g.withheld)))
+
+notifies_visible : (n : Option ℕ) → AreVisible (notifies_text n)
+unfolding over
+notifies_visible None = nothing
+notifies_visible (Some g) = word (codes " notifies ") _ refl (number g)
+
+gets_visible : (c : Counts) → AreVisible (gets_text c)
+unfolding over
+gets_visible c = word (codes " started ") _ refl (after c.started _ (word (codes " direct ") _ refl (after c.direct _ (word (codes " waited ") _ refl (after c.waited _
+    (word (codes " timed_out ") _ refl (after c.timed_out _ (word (codes " cancelled ") _ refl (number c.cancelled)))))))))
+
+closed_visible : (c : Counts) → AreVisible (closed_text c)
+unfolding over
+closed_visible c = word (codes " broken ") _ refl (after c.broken _ (word (codes " invalid ") _ refl (after c.invalid _ (word (codes " lifetime ") _ refl (after c.max_lifetime _
+    (word (codes " idle_timeout ") _ refl (number c.idle_timeout)))))))
+
+state_visible : (f : Figures) → AreVisible (state_text f)
+unfolding over
+state_visible f = joined 31 (sizes_text f) _
+    (word (codes "state connections ") _ refl (after f.connections _ (word (codes " idle ") _ refl (number f.idle))))
+    (joined 31 (gets_text f.counts) _ (gets_visible f.counts) (joined 31 (opened_text f.counts) (closed_text f.counts)
+    (word (codes " wait_us ") _ refl (after _ _ (word (codes " created ") _ refl (number f.counts.created))))
+    (closed_visible f.counts)))
+
+answer_visible : (a : Answer) → AreVisible (answer_text a)
+unfolding over
+answer_visible (Begun g) = word (codes "begun ") _ refl (number g)
+answer_visible Memory = are_over 31 (codes "memory") refl
+answer_visible Exhausted = are_over 31 (codes "exhausted") refl
+answer_visible (Served k grant) = word (codes "served ") _ refl (after k _ (grant_visible grant))
+answer_visible (Waiting grant) = word (codes "waiting") _ refl (grant_visible grant)
+answer_visible (Kept k notified) = word (codes "kept ") _ refl (after k _ (notifies_visible notified))
+answer_visible (Closed k grant notified) = word (codes "closed ") _ refl (after k _ (joined 31 (grant_text grant) (notifies_text notified) (grant_visible grant) (notifies_visible notified)))
+answer_visible (GaveUp notified) = word (codes "gave up") _ refl (notifies_visible notified)
+answer_visible (Granted grant) = word (codes "granted") _ refl (grant_visible grant)
+answer_visible (Claimed (Some a)) = word (codes "claimed ") _ refl (number a)
+answer_visible (Claimed None) = are_over 31 (codes "none") refl
+answer_visible Ended = are_over 31 (codes "ended") refl
+answer_visible (Entered a notified) = word (codes "entered ") _ refl (after a _ (notifies_visible notified))
+answer_visible (Late a) = word (codes "late ") _ refl (number a)
+answer_visible (Added k notified) = word (codes "added ") _ refl (after k _ (notifies_visible notified))
+answer_visible Broken = are_over 31 (codes "broken") refl
+answer_visible NoCapacity = are_over 31 (codes "full") refl
+answer_visible Withheld = are_over 31 (codes "withheld") refl
+answer_visible (Shown state) = state_visible (figures_of state)
+answer_visible (Looked m true) = word (codes "looked ") _ refl (after m.0 _ (are_over 31 (codes " open") refl))
+answer_visible (Looked m false) = word (codes "looked ") _ refl (after m.0 _ (are_over 31 (codes " closed") refl))
+answer_visible Unfit = are_over 31 (codes "unfit") refl
+
+one_line : (bs : List ℕ) → AreVisible bs → All (λ b. b ≢ 10) bs
+one_line bs h = All-weaker (IsOver 31) (λ b. b ≢ 10) (λ b g w. omega (arith, g.0, w)) bs h
+
+pub answer_line : (a : Answer) → All (λ b. b ≢ 10) (answer_text a)
+answer_line a = one_line (answer_text a) (answer_visible a)
+
+pub state_line : (f : Figures) → All (λ b. b ≢ 10) (state_text f)
+state_line f = one_line (state_text f) (state_visible f)

@@ -1,0 +1,100 @@
+-- The fields of good lines hold no space: a line of them is text, and is cut just between them.
+use Rattle.std.proofs.Common.{◌≡◌, ℕ, ◌<◌, Bool, true, false, eqb, List, [], ◌∷◌, Option, Some, None, refl, sym, ap, subst, ◌∙◌, arith, codes}
+use Rattle.std.specs.Fmt.{decimal}
+use Rattle.std.specs.List.{All, join_with_byte}
+use Rattle.std.specs.Str.{IsAscii, IsUtf8}
+use Rattle.std.proofs.lemmas.Bool.Decides.{Decides-eqb}
+use Rattle.std.proofs.lemmas.List.Elements.{All-weaker}
+use Rattle.std.proofs.lemmas.List.Splits.{join_with_byte-slice_split, slice_split_at, slice_split_none}
+use Rattle.std.proofs.lemmas.Str.{IsUtf8-from_ascii, IsAscii-append}
+use Rattle.std.proofs.lemmas.Str.Ascii.{IsAscii-cons, IsAscii-nil, IsAscii-from_all}
+use Rattle.bb8_core.specs.declared.events.Act.{Act}
+use Rattle.bb8_core.specs.declared.events.Act.TheVariants.{Begin, Try, GiveUp, PutBack, Fill, Claim, Opened, Add, State, Look}
+use Rattle.bb8_core.specs.declared.events.Reason.TheVariants.{TimedOut, Cancelled}
+use Rattle.bb8_core.specs.declared.events.Event.{Event}
+use Rattle.bb8_runner.specs.Grammar.{fields_of, event_of}
+use Rattle.bb8_runner.specs.Spelling.{verb_of, args_of, flag, event_fields, event_line, FitsEvent}
+use Rattle.bb8_runner.proofs.Bytes.{IsOver, AreOver, over, are_over, decimal_over}
+use Rattle.bb8_runner.proofs.Spelled.{event_read, event_spelled}
+use Rattle.bb8_runner.proofs.Texts.{not_true}
+
+abbrev pub AreWords : List (List ℕ) → Type 0
+AreWords [] = Unit {0}
+AreWords (x ∷ xs) = AreOver 32 x × AreWords xs
+
+no_space : (x : List ℕ) → AreOver 32 x → All (λ b. eqb b 32 ≡ false) x
+no_space x h = All-weaker (IsOver 32) (λ b. eqb b 32 ≡ false) (λ b g. not_true (eqb b 32) (λ w. omega (arith, g.0, (Decides-eqb b 32).0 w))) x h
+
+-- a line of words has those fields
+pub fields_of_words : (x : List ℕ) (xs : List (List ℕ)) → AreWords (x ∷ xs) → fields_of (join_with_byte 32 (x ∷ xs)) ≡ x ∷ xs
+fields_of_words x [] h = slice_split_none (λ b. eqb b 32) x (no_space x h.0)
+fields_of_words x (y ∷ ys) h = slice_split_at (λ b. eqb b 32) x 32 (join_with_byte 32 (y ∷ ys)) (no_space x h.0) refl ∙ ap (λ r. x ∷ r) (fields_of_words y ys h.1)
+
+word_ascii : (x : List ℕ) → AreOver 32 x → IsAscii x
+word_ascii x h = IsAscii-from_all x (All-weaker (IsOver 32) (λ b. b < 128) (λ b g. g.1) x h)
+
+line_ascii : (xs : List (List ℕ)) → AreWords xs → IsAscii (join_with_byte 32 xs)
+line_ascii [] h = IsAscii-nil
+line_ascii (x ∷ []) h = word_ascii x h.0
+line_ascii (x ∷ y ∷ xs) h = IsAscii-append x (32 ∷ join_with_byte 32 (y ∷ xs)) (word_ascii x h.0) (IsAscii-cons 32 (join_with_byte 32 (y ∷ xs)) (omega arith) (line_ascii (y ∷ xs) h.1))
+
+-- a line whose fields are words is text
+pub words_are_text : (line : List ℕ) (xs : List (List ℕ)) → AreWords xs → fields_of line ≡ xs → IsUtf8 line
+words_are_text line xs h e =
+    let a : IsAscii (join_with_byte 32 (fields_of line)) = subst (λ fs. IsAscii (join_with_byte 32 fs)) (sym e) (line_ascii xs h) in
+    IsUtf8-from_ascii line (subst IsAscii (join_with_byte-slice_split 32 line) a)
+
+verb_word : (a : Act) → AreOver 32 (verb_of a)
+unfolding over
+verb_word Begin = are_over 32 (codes "begin") refl
+verb_word (Try g) = are_over 32 (codes "try") refl
+verb_word (GiveUp g TimedOut b) = are_over 32 (codes "timeout") refl
+verb_word (GiveUp g Cancelled b) = are_over 32 (codes "cancel") refl
+verb_word (PutBack k b) = are_over 32 (codes "return") refl
+verb_word (Fill c) = are_over 32 (codes "fill") refl
+verb_word Claim = are_over 32 (codes "claim") refl
+verb_word (Opened a) = are_over 32 (codes "open") refl
+verb_word (Add b) = are_over 32 (codes "add") refl
+verb_word State = are_over 32 (codes "state") refl
+verb_word Look = are_over 32 (codes "look") refl
+
+number_word : (n : ℕ) → AreOver 32 (decimal n)
+number_word n = decimal_over 32 n (omega arith)
+
+flag_words : (word : List ℕ) (b : Bool) → AreOver 32 word → AreWords (flag word b)
+flag_words word true h = (h, tt)
+flag_words word false h = tt
+
+args_words : (a : Act) → AreWords (args_of a)
+unfolding over
+args_words (Try g) = (number_word g, tt)
+args_words (GiveUp g why b) = (number_word g, flag_words (codes "broken") b (are_over 32 (codes "broken") refl))
+args_words (PutBack k b) = (number_word k, flag_words (codes "broken") b (are_over 32 (codes "broken") refl))
+args_words (Fill c) = flag_words (codes "claimed") c (are_over 32 (codes "claimed") refl)
+args_words (Opened a) = (number_word a, tt)
+args_words (Add b) = flag_words (codes "broken") b (are_over 32 (codes "broken") refl)
+args_words Begin = tt
+args_words Claim = tt
+args_words State = tt
+args_words Look = tt
+
+event_words : (e : Event) → AreWords (event_fields e)
+event_words e = (number_word e.at.0, (verb_word e.act, args_words e.act))
+
+none_unless : (line : List ℕ) (o : Option Event) → event_of line ≡ o → (IsUtf8 line → ⊥) → None ≡ o
+none_unless line None e h = refl
+none_unless line (Some event) e h = absurd (h (words_are_text line (event_fields event) (event_words event) (event_spelled (fields_of line) event e).spelled))
+
+-- what is no text is no event
+pub no_event : (line : List ℕ) → (IsUtf8 line → ⊥) → None ≡ event_of line
+no_event line h = none_unless line (event_of line) refl h
+
+-- an event's own line is read as that event
+pub own_line : (e : Event) → FitsEvent e → event_of (event_line e) ≡ Some e
+own_line e h = event_read (fields_of (event_line e)) e (record { fits = h; spelled = fields_of_words (decimal e.at.0) (verb_of e.act ∷ args_of e.act) (event_words e) })
+
+one_event : (line : List ℕ) (e f : Event) → event_of line ≡ Some e → event_of line ≡ Some f → e ≡ f
+one_event line e f h g = cc
+
+pub same_event : (e f : Event) → FitsEvent e → FitsEvent f → event_line e ≡ event_line f → e ≡ f
+same_event e f h g w = one_event (event_line e) e f (own_line e h) (ap event_of w ∙ own_line f g)

@@ -1,0 +1,80 @@
+-- What the lines of a script are read as.
+use Rattle.std.specs.Prelude.{ℕ, ◌^◌, ◌==◌, nat_lt, List, [], ◌∷◌, true, false, ◌&&◌, if◌then◌else◌, Option, Some, None, codes, decimal, option_and_then, option_map, unwrap_or}
+use Rattle.std.specs.List.{slice_split}
+use Rattle.std.specs.Str.{bytes_eq}
+use Rattle.std.specs.Str.Parse.{digits_value}
+use Rattle.bb8_core.specs.declared.events.Act.{Act}
+use Rattle.bb8_core.specs.declared.events.Act.TheVariants.{Begin, Try, GiveUp, PutBack, Fill, Claim, Opened, Add, State, Look}
+use Rattle.bb8_core.specs.declared.events.Reason.TheVariants.{TimedOut, Cancelled}
+use Rattle.bb8_core.specs.declared.events.Event.{Event}
+
+-- what the second gives for the value of the first, where there is one
+infixl 10 ◌>>=◌
+-- the second reading of what the first one read
+abbrev pub ◌>>=◌ : {A B : Type 0} → Option A → (A → Option B) → Option B
+o >>= f = option_and_then f o
+
+-- The number below 2 ^ k that the field is: the field is just what the number prints as, so it is digits with no sign and
+-- no leading zero.
+unfoldable pub number_of : ℕ → List ℕ → Option ℕ
+number_of k field = if bytes_eq field (decimal (digits_value 10 field)) && nat_lt (digits_value 10 field) (2 ^ k) then Some (digits_value 10 field) else None
+
+-- the verbs with no argument
+abbrev pub plain_act : List ℕ → Option Act
+plain_act verb =
+    if bytes_eq verb (codes "begin") then Some Begin
+    else (if bytes_eq verb (codes "fill") then Some (Fill false)
+    else (if bytes_eq verb (codes "claim") then Some Claim
+    else (if bytes_eq verb (codes "add") then Some (Add false)
+    else (if bytes_eq verb (codes "state") then Some State
+    else (if bytes_eq verb (codes "look") then Some Look
+    else None)))))
+
+-- the verbs with a word after them
+abbrev pub worded_act : List ℕ → List ℕ → Option Act
+worded_act verb word =
+    if bytes_eq verb (codes "fill") && bytes_eq word (codes "claimed") then Some (Fill true)
+    else (if bytes_eq verb (codes "add") && bytes_eq word (codes "broken") then Some (Add true)
+    else None)
+
+-- the verbs with a number after them
+abbrev pub numbered_act : List ℕ → ℕ → Option Act
+numbered_act verb n =
+    if bytes_eq verb (codes "try") then Some (Try n)
+    else (if bytes_eq verb (codes "timeout") then Some (GiveUp n TimedOut false)
+    else (if bytes_eq verb (codes "cancel") then Some (GiveUp n Cancelled false)
+    else (if bytes_eq verb (codes "return") then Some (PutBack n false)
+    else (if bytes_eq verb (codes "open") then Some (Opened n)
+    else None))))
+
+-- the verbs with a number and the word `broken` after them
+abbrev pub broken_act : List ℕ → ℕ → Option Act
+broken_act verb n =
+    if bytes_eq verb (codes "timeout") then Some (GiveUp n TimedOut true)
+    else (if bytes_eq verb (codes "cancel") then Some (GiveUp n Cancelled true)
+    else (if bytes_eq verb (codes "return") then Some (PutBack n true)
+    else None))
+
+-- what a verb and its arguments say
+unfoldable pub act_of : List ℕ → List (List ℕ) → Option Act
+act_of verb [] = plain_act verb
+act_of verb (arg ∷ []) = unwrap_or (option_map (numbered_act verb) (number_of 64 arg)) (worded_act verb arg)
+act_of verb (arg ∷ word ∷ []) = if bytes_eq word (codes "broken") then (number_of 64 arg >>= broken_act verb) else None
+act_of verb (arg ∷ word ∷ more ∷ rest) = None
+
+-- a line's fields: what stands between its spaces
+abbrev pub fields_of : List ℕ → List (List ℕ)
+fields_of line = slice_split (λ b. b == 32) line
+
+-- the event that the fields are: a moment, a verb and its arguments
+unfoldable pub event_of_fields : List (List ℕ) → Option Event
+event_of_fields [] = None
+event_of_fields (moment ∷ []) = None
+event_of_fields (moment ∷ verb ∷ args) = do
+  at ← number_of 64 moment
+  act ← act_of verb args
+  Some (record { at = record { 0 = at }; act = act })
+
+-- the event that the line is
+abbrev pub event_of : List ℕ → Option Event
+event_of line = event_of_fields (fields_of line)

@@ -1,0 +1,75 @@
+-- The bytes that a script's answers print as.
+use Rattle.std.specs.Prelude.{ℕ, ◌/◌, ◌==◌, List, [], ◌∷◌, ◌++◌, true, false, Option, Some, None, codes, decimal, if◌then◌else◌, flat_map}
+use Rattle.bb8_core.specs.Figures.{Counts, Figures, figures_of}
+use Rattle.bb8_core.specs.declared.events.Answer.{Answer}
+use Rattle.bb8_core.specs.declared.events.Answer.TheVariants.{Begun, Memory, Exhausted, Served, Waiting, Kept, Closed, GaveUp, Granted, Claimed, Ended, Entered, Late, Added, Broken, NoCapacity, Withheld, Shown, Looked, Unfit}
+use Rattle.bb8_core.specs.declared.events.Grant.{Grant}
+
+-- ` grant N at F` where something was granted, and ` withheld W` where something was withheld
+abbrev pub grant_text : Grant → List ℕ
+grant_text g = (if g.count == 0 then [] else codes " grant " ++ (decimal g.count ++ (codes " at " ++ decimal g.first)))
+    ++ (if g.withheld == 0 then [] else codes " withheld " ++ decimal g.withheld)
+
+-- ` notifies G` where a get was notified
+abbrev pub notifies_text : Option ℕ → List ℕ
+notifies_text None = []
+notifies_text (Some g) = codes " notifies " ++ decimal g
+
+-- how many connections there are, and how many of them are idle
+abbrev pub sizes_text : Figures → List ℕ
+sizes_text f = codes "state connections " ++ (decimal f.connections ++ (codes " idle " ++ decimal f.idle))
+
+-- what became of gets
+abbrev pub gets_text : Counts → List ℕ
+gets_text c = codes " started " ++ (decimal c.started ++ (codes " direct " ++ (decimal c.direct ++ (codes " waited " ++ (decimal c.waited
+    ++ (codes " timed_out " ++ (decimal c.timed_out ++ (codes " cancelled " ++ decimal c.cancelled))))))))
+
+-- the wait time in whole microseconds, and how many connections were opened
+abbrev pub opened_text : Counts → List ℕ
+opened_text c = codes " wait_us " ++ (decimal (c.wait_time / 1_000) ++ (codes " created " ++ decimal c.created))
+
+-- why connections were closed
+abbrev pub closed_text : Counts → List ℕ
+closed_text c = codes " broken " ++ (decimal c.broken ++ (codes " invalid " ++ (decimal c.invalid ++ (codes " lifetime " ++ (decimal c.max_lifetime
+    ++ (codes " idle_timeout " ++ decimal c.idle_timeout))))))
+
+-- the state line without its line feed
+abbrev pub state_text : Figures → List ℕ
+state_text f = sizes_text f ++ (gets_text f.counts ++ (opened_text f.counts ++ closed_text f.counts))
+
+-- an answer without its line feed
+abbrev pub answer_text : Answer → List ℕ
+answer_text (Begun g) = codes "begun " ++ decimal g
+answer_text Memory = codes "memory"
+answer_text Exhausted = codes "exhausted"
+answer_text (Served k grant) = codes "served " ++ (decimal k ++ grant_text grant)
+answer_text (Waiting grant) = codes "waiting" ++ grant_text grant
+answer_text (Kept k notified) = codes "kept " ++ (decimal k ++ notifies_text notified)
+answer_text (Closed k grant notified) = codes "closed " ++ (decimal k ++ (grant_text grant ++ notifies_text notified))
+answer_text (GaveUp notified) = codes "gave up" ++ notifies_text notified
+answer_text (Granted grant) = codes "granted" ++ grant_text grant
+answer_text (Claimed (Some a)) = codes "claimed " ++ decimal a
+answer_text (Claimed None) = codes "none"
+answer_text Ended = codes "ended"
+answer_text (Entered a notified) = codes "entered " ++ (decimal a ++ notifies_text notified)
+answer_text (Late a) = codes "late " ++ decimal a
+answer_text (Added k notified) = codes "added " ++ (decimal k ++ notifies_text notified)
+answer_text Broken = codes "broken"
+answer_text NoCapacity = codes "full"
+answer_text Withheld = codes "withheld"
+answer_text (Shown state) = state_text (figures_of state)
+answer_text (Looked m true) = codes "looked " ++ (decimal m.0 ++ codes " open")
+answer_text (Looked m false) = codes "looked " ++ (decimal m.0 ++ codes " closed")
+answer_text Unfit = codes "unfit"
+
+-- a text and its line feed
+abbrev pub line : List ℕ → List ℕ
+line text = text ++ 10 ∷ []
+
+-- what a script that ran prints: a line for each answer, and the last state
+abbrev pub output_of : List Answer → Figures → List ℕ
+output_of answers last = flat_map (λ a. line (answer_text a)) answers ++ line (state_text last)
+
+-- what is told of line n, the first bad one
+abbrev pub bad_line_text : ℕ → List ℕ
+bad_line_text n = codes "line " ++ (decimal n ++ (if n == 1 then line (codes ": not a configuration") else line (codes ": not an event")))

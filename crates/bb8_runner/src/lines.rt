@@ -1,0 +1,104 @@
+//! The lines of a script.
+ghost use Rattle.std.specs.Prelude.{◌≡◌, map, IfOk, IfErr, true, ◌==◌};
+ghost use Rattle.std.specs.List.{slice_split};
+ghost use Rattle.bb8_core.specs.Settings.{settings_of, is_lawful};
+ghost use Rattle.bb8_runner.specs.Grammar.{event_of};
+ghost use Rattle.bb8_runner.specs.Script.{without_line_feed, lines_of, Spells, IsEventFault, IsFault};
+ghost use Rattle.bb8_runner.specs.declared.lines.NoScript.TheVariants.{Memory};
+
+use crate::grammar::event_of;
+use crate::settings::config_of;
+use bb8_core::api::Config;
+use bb8_core::replay::Event;
+use std::alloc::{AllocError, AllocFailed, Global};
+
+/// A configuration, and what happens to a pool that holds to it.
+#[derive(Drop)]
+pub struct Script {
+    pub config: Config,
+    pub events: Vec<Event>,
+}
+
+/// Why there is no script.
+#[derive(Clone, Copy)]
+pub enum NoScript {
+    /// Memory was refused.
+    Memory,
+    /// The first bad line, counted from 1.
+    BadLine(u64),
+}
+
+impl From<AllocError> for NoScript {
+    ghost from_gives = { λ _ e. e ≡ Memory };
+
+    fn from(_e: AllocError) -> NoScript {
+        NoScript::Memory
+    }
+}
+
+impl<T: Drop> From<AllocFailed<T>> for NoScript {
+    ghost from_gives = { λ _ e. e ≡ Memory };
+
+    fn from(_e: AllocFailed<T>) -> NoScript {
+        NoScript::Memory
+    }
+}
+
+/// The input but for a last line feed.
+fn without_line_feed(input: &[u8]) -> &[u8]
+    ensures { result.now ≡ without_line_feed input.now }
+{
+    if let Some((last, front)) = input.split_last() {
+        if *last == b'\n' {
+            return front;
+        }
+    }
+    input
+}
+
+fn pieces_of(alloc: Global, input: &[u8]) -> Result<Vec<&[u8]>, AllocError>
+    ensures { IfOk result (λ lines. map (λ x. x.now) lines.items ≡ slice_split (λ b. b == 10) input.now) }
+{
+    input.split(|b| *b == b'\n').collect(alloc)
+}
+
+/// The lines of an input. A line feed ends a line, and the last line may lack it. No input is one empty line. The cut is made on bytes, so
+/// that bytes that are no text make only their own line bad. Err where memory was refused.
+pub fn lines_of(alloc: Global, input: &[u8]) -> Result<Vec<&[u8]>, AllocError>
+    ensures { IfOk result (λ lines. map (λ x. x.now) lines.items ≡ lines_of input.now) }
+{
+    pieces_of(alloc, without_line_feed(input))
+}
+
+fn events_of(alloc: Global, lines: &[&[u8]]) -> Result<Vec<Event>, NoScript>
+    ensures read { IfOk result (λ events. map event_of (map (λ x. x.now) lines.now) ≡ map Some events.items) }
+    ensures bad { IfErr result (λ e. IsEventFault (map (λ x. x.now) lines.now) e) }
+{
+    let mut events = Vec::new(alloc);
+    let mut number = 2;
+    for line in lines {
+        let Some(event) = event_of(alloc, line)? else {
+            return Err(NoScript::BadLine(number));
+        };
+        events.push(event)?;
+        number += 1;
+    }
+    Ok(events)
+}
+
+/// The script that the lines are: a configuration, which a pool can hold to, and an event a line. Err where memory was refused, or with the
+/// first bad line.
+pub fn script_of(alloc: Global, lines: &[&[u8]]) -> Result<Script, NoScript>
+    ensures lawful { IfOk result (λ s. is_lawful (settings_of s.config) ≡ true) }
+    ensures read { IfOk result (λ s. Spells (map (λ x. x.now) lines.now) (settings_of s.config) s.events.items) }
+    ensures bad { IfErr result (λ e. IsFault (map (λ x. x.now) lines.now) e) }
+{
+    let [first, others @ ..] = lines else {
+        return Err(NoScript::BadLine(1));
+    };
+    let Some(config) = config_of(alloc, first)? else {
+        return Err(NoScript::BadLine(1));
+    };
+    let events = events_of(alloc, others)?;
+    Ok(Script { config, events })
+}

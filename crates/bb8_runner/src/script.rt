@@ -1,0 +1,60 @@
+//! A script from bytes to bytes.
+ghost use Rattle.std.specs.Prelude.{◌≡◌, List, ℕ, IfOk, IfSome, IfErr, IsErrOf, string_bytes};
+ghost use Rattle.std.specs.Io.KnownBytes.{Appends};
+ghost use Rattle.bb8_runner.specs.Script.{IsAnswer};
+ghost use Rattle.bb8_runner.specs.declared.verdict.Verdict.{Verdict};
+
+use crate::fault::Fault;
+use crate::lines::{NoScript, lines_of, script_of};
+use crate::streams::{Sink, Source};
+use crate::text::{bad_line, output};
+use crate::verdict::Verdict;
+use bb8_core::api::Moment;
+use bb8_core::replay::replay;
+use std::alloc::Global;
+
+/// What is written for an input.
+fn answer(alloc: Global, input: &[u8]) -> Result<(Verdict, String), Fault>
+    ensures told { IfOk result (λ x. IsAnswer input.now x.0 (string_bytes x.1)) }
+    ensures fault { IfErr result (λ e. e ≡ Fault.Memory) }
+{
+    let lines = lines_of(alloc, input)?;
+    match script_of(alloc, lines.as_slice()) {
+        Ok(script) => {
+            let (answers, mut pool) = replay(alloc, script.config, script.events.as_slice())?;
+            // No moment is earlier than the first, so this is the state at the latest one.
+            let text = output(alloc, answers.as_slice(), pool.state(Moment(0)))?;
+            Ok((Verdict::Ran, text))
+        }
+        Err(NoScript::BadLine(number)) => Ok((Verdict::Bad, bad_line(alloc, number)?)),
+        Err(NoScript::Memory) => Err(Fault::Memory),
+    }
+}
+
+/// Reads a script to its end, and writes the answers of a run of it and the state that it ended in, or which line is the first bad one.
+///
+/// `Read` comes where a read failed, `Write` where a write failed, and `Memory` where a list could not grow. Nothing is written before the
+/// whole input was read and judged, so only after `Write` may a beginning of the output have gone out. Our own: upstream has no scripts.
+pub fn run_script<R: Source, W: Sink>(
+    alloc: Global,
+    reader: &mut R,
+    writer: &mut W,
+) -> Result<Verdict, Fault>
+    // What is written is the answer to what was read.
+    ensures told { IfOk result (λ verdict. IfSome (R.remaining reader.old) (λ input.
+        (text : List ℕ) × IsAnswer input verdict text × Appends (W.contents writer.old) (W.contents writer.new) text)) }
+    // `Read` comes where a read failed.
+    ensures read_failed { IsErrOf result Fault.Read → R.read_fails reader.old reader.new }
+    // Where a read failed nothing was written.
+    ensures unread { IsErrOf result Fault.Read → writer.new ≡ writer.old }
+    // `Write` comes where writing the answer to what was read failed.
+    ensures write_failed { IsErrOf result Fault.Write → ((text : List ℕ) × W.write_fails writer.old text writer.new
+        × IfSome (R.remaining reader.old) (λ input. (verdict : Verdict) × IsAnswer input verdict text)) }
+    // Where memory was refused nothing was written.
+    ensures unanswered { IsErrOf result Fault.Memory → writer.new ≡ writer.old }
+{
+    let input = reader.read_whole(alloc)?;
+    let (verdict, text) = answer(alloc, input.as_slice())?;
+    writer.write_whole(text.as_bytes())?;
+    Ok(verdict)
+}

@@ -1,5 +1,0 @@
-use Rattle.bb8_script.proofs.Words.{own_line, same_event}
-use Rattle.bb8_script.proofs.laws.distinct_lines.Goals as goal
-
-pub returns : goal.returns
-returns c = record { own = λ e h. own_line e h; distinct = λ e f h g w. same_event e f h g w }

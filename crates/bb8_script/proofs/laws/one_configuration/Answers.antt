@@ -1,6 +1,0 @@
-use Rattle.bb8_script.proofs.Configured.{settings_read, settings_spelled}
-use Rattle.bb8_script.specs.Grammar.{fields_of}
-use Rattle.bb8_script.proofs.laws.one_configuration.Goals as goal
-
-pub returns : goal.returns
-returns c = record { read = λ line s h. settings_read (fields_of line) s h; spelled = λ line s h. settings_spelled (fields_of line) s h }

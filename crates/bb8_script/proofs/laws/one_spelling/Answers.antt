@@ -1,6 +1,0 @@
-use Rattle.bb8_script.proofs.Spelled.{event_read, event_spelled}
-use Rattle.bb8_script.specs.Grammar.{fields_of}
-use Rattle.bb8_script.proofs.laws.one_spelling.Goals as goal
-
-pub returns : goal.returns
-returns c = record { read = λ line e h. event_read (fields_of line) e h; spelled = λ line e h. event_spelled (fields_of line) e h }
