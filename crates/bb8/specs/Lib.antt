@@ -1,4 +1,9 @@
 pub mod Choices
+pub mod Homes
+pub mod Linked
+pub mod Polls
+pub mod Pools
+pub mod Sections
 pub use Rattle.bb8_core.specs.Errors
 pub use Rattle.bb8_core.specs.Figures
 pub use Rattle.bb8_core.specs.Settings

@@ -49,6 +49,23 @@ impl<M, S, Z> Builder<M, S, Z> {
     }
 }
 
+impl<M, S, Z> Builder<M, S, Z> {
+    /// The settings, the error sink and the customizer.
+    pub(crate) fn into_parts(self) -> (Config, S, Z)
+        ensures settings { settings_of result.0 ≡ self.settings }
+        ensures sink { result.1 ≡ self.error_sink }
+        ensures customizer { result.2 ≡ self.connection_customizer }
+    {
+        let Builder {
+            config,
+            error_sink,
+            connection_customizer,
+            manager: _,
+        } = self;
+        (config, error_sink, connection_customizer)
+    }
+}
+
 impl<M: ManageConnection> Default for Builder<M> {
     ghost is_default = { λ builder. builder.settings ≡ default_settings };
 

@@ -1,15 +1,37 @@
 //! A pool of connections: its builder, and all that `bb8_core` gives to a user.
+//!
+//! Build a pool, get a connection, use it, give it back:
+//!
+//! ```text
+//! let pool: Pool<Manager, NopErrorSink, NopCustomizer, SetClock, R, L> = Builder::new()
+//!     .max_size(4)
+//!     .test_on_check_out(false)
+//!     .build_unchecked(manager, clock, rt, blank)?;    // `blank` is a ledger's, of as many parts as `max_size`
+//! pool.add(connection)?;                               // until a driver opens connections, they are added
+//! let mut get = pool.get();                            // a future: nothing happens until it is polled
+//! if let Poll::Ready(Ok(mut guard)) = get.poll(&mut context) {
+//!     guard.send(b"hello");                            // the guard dereferences to the connection
+//! }                                                    // dropped, it gives the connection back
+//! ```
+//!
+//! A test in `tests/future.rt` goes this way.
 #![tactic(auto)]
 
 mod builder;
 mod connecting;
+pub mod get;
+mod locked;
+mod locks;
+mod pool;
 #[cfg(test)]
 mod tests;
 
 pub use bb8_core::api::{
     AddError, Clock, Config, CustomizeConnection, ErrorSink, ManageConnection, Memory, Moment,
-    NopCustomizer, NopErrorSink, QueueStrategy, RunError, State, Statistics,
+    NopCustomizer, NopErrorSink, QueueStrategy, RunError, SetClock, State, Statistics,
 };
 pub use bb8_core::{api, internals, replay};
 pub use builder::Builder;
 pub use connecting::{FirstPoll, first_connect};
+pub use locks::Locks;
+pub use pool::{Pool, PooledConnection};

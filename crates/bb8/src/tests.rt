@@ -2,6 +2,8 @@
 ghost use Rattle.std.specs.Prelude.{◌≡◌, ◌<◌, ◌==◌};
 ghost use Rattle.futures.specs.declared.task.Poll.TheVariants.{Pending};
 
+mod pool;
+
 use crate::{
     AddError, Builder, Clock, Config, CustomizeConnection, ErrorSink, FirstPoll, ManageConnection,
     Memory, Moment, NopCustomizer, NopErrorSink, QueueStrategy, RunError, first_connect,
@@ -12,6 +14,9 @@ use std::fmt;
 use std::process::Abort;
 use std::test::Fail;
 use std::time::Duration;
+
+mod future;
+mod get;
 
 /// Opens connection 7 at the moment 5, finds even connections valid, and calls 0 broken.
 #[derive(Drop)]

@@ -178,13 +178,13 @@ module _ {C : Type 0} where
   -- ---- the sizes once an event has changed the records
 
   -- The records have these sizes.
-  record AreSizes (conns approved idle many : ℕ) (rs : List (Numbered (Standing C))) : Type 0 where
+  pub record AreSizes (conns approved idle many : ℕ) (rs : List (Numbered (Standing C))) : Type 0 where
     pub conns_are : conns_of rs ≡ conns
     pub approved_are : approved_of rs ≡ approved
     pub idle_are : idle_of rs ≡ idle
     pub many_are : length rs ≡ many
 
-  approved_sizes : {c a i m : ℕ} {rs : List (Numbered (Standing C))} (claimed : Bool) (n : ℕ) → AreSizes c a i m rs → AreSizes c (a + n) i (m + n) (approve claimed n rs)
+  pub approved_sizes : {c a i m : ℕ} {rs : List (Numbered (Standing C))} (claimed : Bool) (n : ℕ) → AreSizes c a i m rs → AreSizes c (a + n) i (m + n) (approve claimed n rs)
   approved_sizes {rs = rs} claimed n s = record {
     conns_are = conns-approve claimed n rs ∙ s.conns_are;
     approved_are = omega (arith, approved-approve claimed n rs, s.approved_are);
@@ -192,7 +192,7 @@ module _ {C : Type 0} where
     many_are = omega (arith, length-approve claimed n rs, s.many_are);
   }
 
-  same_sizes : (l : Ledger C) → AreSizes (conns l) (approved l) (idle_count l) (length (records l)) (records l)
+  pub same_sizes : (l : Ledger C) → AreSizes (conns l) (approved l) (idle_count l) (length (records l)) (records l)
   same_sizes l = record { conns_are = refl; approved_are = refl; idle_are = refl; many_are = refl }
 
   -- one record is changed: how many pass a test
@@ -207,7 +207,7 @@ module _ {C : Type 0} where
   put_place : (test : Place C → Bool) (p : Place C) (s : Standing C) (r : Numbered (Standing C)) → r.standing ≡ Some s → one (stands test (put p r).standing) ≡ one (test p)
   put_place test p s r e = ap (λ (o : Option (Standing C)). one (stands test (option_map (placed p) o))) e
 
-  taken_sizes : (l : Ledger C) (k : ℕ) → first_idle l ≡ Some k → AreSizes (conns l) (approved l) (idle_count l - 1) (length (records l)) (with_record l k (put Guarded)) × (1 ≤ idle_count l)
+  pub taken_sizes : (l : Ledger C) (k : ℕ) → first_idle l ≡ Some k → AreSizes (conns l) (approved l) (idle_count l - 1) (length (records l)) (with_record l k (put Guarded)) × (1 ≤ idle_count l)
   taken_sizes l k first =
       let s = first_is l k first in
       let rs : List (Numbered (Standing C)) = with_record l k (put Guarded) in
@@ -216,7 +216,7 @@ module _ {C : Type 0} where
       let d : idle_of rs + 1 ≡ idle_count l + 0 = moved l k (put Guarded) s.0 (Idle s.1) 0 is_idle s.2 s.3 (put_place is_idle Guarded s.0) in
       (record { conns_are = omega arith; approved_are = omega arith; idle_are = omega arith; many_are = numbered.length-update (records l) (start l).first k (put Guarded) }, omega arith)
 
-  kept_sizes : (l : Ledger C) (k : ℕ) (c : C) (now : ℕ) → stands is_guarded (record_of l k) ≡ true → AreSizes (conns l) (approved l) (idle_count l + 1) (length (records l)) (with_record l k (λ r. entry c (birth_in r.standing) now (position l)))
+  pub kept_sizes : (l : Ledger C) (k : ℕ) (c : C) (now : ℕ) → stands is_guarded (record_of l k) ≡ true → AreSizes (conns l) (approved l) (idle_count l + 1) (length (records l)) (with_record l k (λ r. entry c (birth_in r.standing) now (position l)))
   kept_sizes l k c now f =
       let s = standing_is is_guarded (record_of l k) f in
       let place : s.0.place ≡ Guarded = guarded_is s.0.place s.2 in
@@ -226,7 +226,7 @@ module _ {C : Type 0} where
       let d : idle_of (with_record l k change) + 0 ≡ idle_count l + 1 = moved l k change s.0 Guarded 1 is_idle s.1 place (λ r e. refl) in
       record { conns_are = omega arith; approved_are = omega arith; idle_are = omega arith; many_are = numbered.length-update (records l) (start l).first k change }
 
-  closed_sizes : (l : Ledger C) (k : ℕ) → stands is_guarded (record_of l k) ≡ true → AreSizes (conns l - 1) (approved l) (idle_count l) (length (records l)) (with_record l k ended) × (1 ≤ conns l)
+  pub closed_sizes : (l : Ledger C) (k : ℕ) → stands is_guarded (record_of l k) ≡ true → AreSizes (conns l - 1) (approved l) (idle_count l) (length (records l)) (with_record l k ended) × (1 ≤ conns l)
   closed_sizes l k f =
       let s = standing_is is_guarded (record_of l k) f in
       let place : s.0.place ≡ Guarded = guarded_is s.0.place s.2 in
@@ -236,7 +236,7 @@ module _ {C : Type 0} where
       let d : idle_of rs + 0 ≡ idle_count l + 0 = moved l k ended s.0 Guarded 0 is_idle s.1 place (λ r e. refl) in
       (record { conns_are = omega arith; approved_are = omega arith; idle_are = omega arith; many_are = numbered.length-update (records l) (start l).first k ended }, omega arith)
 
-  opened_sizes : (l : Ledger C) (k : ℕ) (c : C) (now : ℕ) → stands is_claimed (record_of l k) ≡ true → AreSizes (conns l + 1) (approved l - 1) (idle_count l + 1) (length (records l)) (with_record l k (λ r. entry c now now (position l))) × (1 ≤ approved l)
+  pub opened_sizes : (l : Ledger C) (k : ℕ) (c : C) (now : ℕ) → stands is_claimed (record_of l k) ≡ true → AreSizes (conns l + 1) (approved l - 1) (idle_count l + 1) (length (records l)) (with_record l k (λ r. entry c now now (position l))) × (1 ≤ approved l)
   opened_sizes l k c now f =
       let s = standing_is is_claimed (record_of l k) f in
       let place : s.0.place ≡ Claimed = claimed_is s.0.place s.2 in
@@ -246,7 +246,7 @@ module _ {C : Type 0} where
       let d : idle_of (with_record l k change) + 0 ≡ idle_count l + 1 = moved l k change s.0 Claimed 1 is_idle s.1 place (λ r e. refl) in
       (record { conns_are = omega arith; approved_are = omega arith; idle_are = omega arith; many_are = numbered.length-update (records l) (start l).first k change }, omega arith)
 
-  late_sizes : (l : Ledger C) (k : ℕ) → stands is_claimed (record_of l k) ≡ true → AreSizes (conns l) (approved l - 1) (idle_count l) (length (records l)) (with_record l k ended) × (1 ≤ approved l)
+  pub late_sizes : (l : Ledger C) (k : ℕ) → stands is_claimed (record_of l k) ≡ true → AreSizes (conns l) (approved l - 1) (idle_count l) (length (records l)) (with_record l k ended) × (1 ≤ approved l)
   late_sizes l k f =
       let s = standing_is is_claimed (record_of l k) f in
       let place : s.0.place ≡ Claimed = claimed_is s.0.place s.2 in
@@ -269,11 +269,11 @@ module _ {C : Type 0} where
       record { conns_are = omega arith; approved_are = omega arith; idle_are = omega arith; many_are = numbered.length-update (records l) (start l).first k (put Claimed) }
 
   -- whatever is claimed
-  claim_sizes : (l : Ledger C) (at : ℕ) (o : Option ℕ) → slice_get (unclaimed l) 0 ≡ o → AreSizes (conns l) (approved l) (idle_count l) (length (records l)) (records (Later l at Claim (ClaimedNow o)))
+  pub claim_sizes : (l : Ledger C) (at : ℕ) (o : Option ℕ) → slice_get (unclaimed l) 0 ≡ o → AreSizes (conns l) (approved l) (idle_count l) (length (records l)) (records (Later l at Claim (ClaimedNow o)))
   claim_sizes l at None first = same_sizes l
   claim_sizes l at (Some k) first = claimed_sizes l at k first
 
-  added_sizes : (l : Ledger C) (c : C) (now : ℕ) → AreSizes (conns l + 1) (approved l) (idle_count l + 1) (length (records l) + 1) (records l ++ entry c now now (position l) ∷ [])
+  pub added_sizes : (l : Ledger C) (c : C) (now : ℕ) → AreSizes (conns l + 1) (approved l) (idle_count l + 1) (length (records l) + 1) (records l ++ entry c now now (position l) ∷ [])
   added_sizes l c now = record {
     conns_are = numbered.tally-append (λ r. stands is_conn r.standing) (records l) (entry c now now (position l));
     approved_are = (let e : approved_of (records l ++ entry c now now (position l) ∷ []) ≡ approved l + 0 = numbered.tally-append (λ r. stands is_approval r.standing) (records l) (entry c now now (position l)) in omega arith);

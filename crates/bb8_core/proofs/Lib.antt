@@ -14,4 +14,5 @@ pub mod Laws
 pub mod Fitting
 pub mod Steps
 pub mod Runs
+pub mod Parts
 pub mod Evaluated

@@ -14,6 +14,7 @@ pub mod Pool
 pub mod Run
 pub mod Limits
 pub mod Waits
+pub mod Parts
 pub mod Rows
 pub mod Errors
 pub mod ErrorLaws

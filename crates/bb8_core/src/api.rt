@@ -9,7 +9,7 @@ mod managers;
 mod moments;
 mod sinks;
 
-pub use clocks::Clock;
+pub use clocks::{Clock, SetClock};
 pub use configuration::{Config, QueueStrategy};
 pub use customizers::{CustomizeConnection, NopCustomizer};
 pub use errors::{AddError, Memory, RunError};

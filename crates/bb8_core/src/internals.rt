@@ -1,5 +1,5 @@
 //! The locked state of a pool.
-ghost use Rattle.std.specs.Prelude.{◌≡◌, ℕ, ◌+◌, ◌≤◌, ◌&&◌, ◌||◌, not, cond, eqb, slice_get, IsSome, IfSome, IfNone, true, None, Some};
+ghost use Rattle.std.specs.Prelude.{◌≡◌, ℕ, Bool, ◌+◌, ◌≤◌, ◌&&◌, ◌||◌, not, cond, eqb, slice_get, IsSome, IfSome, IfNone, true, None, Some};
 ghost use Rattle.std.specs.FinMap as map;
 ghost use Rattle.bb8_core.specs.Acts as acts;
 ghost use Rattle.bb8_core.specs.Answers as answers;
@@ -322,6 +322,8 @@ impl<C: Drop> PoolInternals<C> {
     pub fn state(&mut self, at: Moment) -> State
         ensures step { Meets self.old at.0 acts.State (answers.Shown (figures_of result)) self.new }
         ensures figures { (l : ledger.Ledger C) → Means l self.old → figures_of result ≡ ledger.figures l }
+        ensures size { result.connections ≤ self.old.config.max_size }
+        ensures idle { result.idle_connections ≤ result.connections }
     {
         self.latest = self.latest.max(at.0);
         State {
@@ -361,6 +363,35 @@ impl<C: Drop> PoolInternals<C> {
             Act::Opened(number) => self.records.is_claimed(Key { number, place }),
             Act::Fill(_) | Act::Claim | Act::State | Act::Look => true,
         }
+    }
+
+    /// Whether a get may begin, and a connection may be added: while a handle is alive.
+    pub fn fits_begin(&self) -> bool
+        ensures begin { (l : ledger.Ledger C) → table.IsLegal l → Means l self.now → result ≡ table.takes l acts.Begin }
+        ensures add { (conn : C) (broken : Bool) (l : ledger.Ledger C) → table.IsLegal l → Means l self.now → result ≡ table.takes l (acts.Add conn broken) }
+    {
+        self.handles > 0
+    }
+
+    /// Whether the get may try.
+    pub fn fits_try(&self, get: GetKey) -> bool
+        ensures { (l : ledger.Ledger C) → table.IsLegal l → Means l self.now → result ≡ table.takes l (acts.Try get.number) }
+    {
+        self.takes_try(get)
+    }
+
+    /// Whether the get may be given up with no connection in hand, for whatever reason.
+    pub fn fits_give_up(&self, get: GetKey) -> bool
+        ensures { (why : acts.Reason) (broken : Bool) (l : ledger.Ledger C) → table.IsLegal l → Means l self.now → result ≡ table.takes l (acts.GiveUp get.number why None broken) }
+    {
+        self.gets.is_alive(get)
+    }
+
+    /// Whether a guard may give back a connection of this key, whichever connection is handed in.
+    pub fn fits_put_back(&self, k: Key) -> bool
+        ensures { (conn : C) (broken : Bool) (l : ledger.Ledger C) → table.IsLegal l → Means l self.now → result ≡ table.takes l (acts.PutBack k.number conn broken) }
+    {
+        self.records.is_guarded(k)
     }
 
     /// Whether the try of a get fits.

@@ -1,9 +1,11 @@
-use Rattle.std.proofs.Common.{◌≡◌, ℕ, sym, ◌∙◌, arith}
+use Rattle.std.proofs.Common.{◌≡◌, ℕ, ◌≤◌, sym, subst, ◌∙◌, arith}
 use Rattle.bb8_core.specs.Acts as acts
 use Rattle.bb8_core.specs.Figures.{Figures, Counts, counts_of}
 use Rattle.bb8_core.specs.Pool.{view_of}
+use Rattle.bb8_core.specs.Shown.{Shown}
 use Rattle.bb8_core.proofs.Laws.{shown_fits}
 use Rattle.bb8_core.proofs.Steps.{meets_state, figures_told, led, at_view}
+use Rattle.bb8_core.proofs.Parts.{idle_few}
 use Rattle.bb8_core.proofs.internals.PoolInternals.state.Goals as goal
 
 told_is : (a b c d : ℕ) (x y : Counts) → a ≡ b → c ≡ d → x ≡ y → let told : ℕ → ℕ → Counts → Figures = λ n m z. record { connections = n; idle = m; counts = z } in told a c x ≡ told b d y
@@ -22,3 +24,12 @@ returns-clause-step g c = at_view _ c.args.at.0 acts.State _ c.self.view_is
 
 pub returns-clause-figures : goal.returns-clause-figures
 returns-clause-figures g c = λ l means. told_is _ _ _ _ _ _ c.connections.ensures c.idle_connections.ensures c.statistics.ensures ∙ figures_told (view_of c.self.inside) l (means ∙ sym c.self.view_is)
+
+pub returns-clause-size : goal.returns-clause-size
+returns-clause-size g c =
+    let fit = shown_fits (view_of c.self.inside) c.self.invariant in
+    let few : c.connections.result ≤ (view_of c.self.inside).config.max_size = omega (arith, fit.size, c.connections.ensures) in
+    subst (λ (s : Shown _). c.connections.result ≤ s.config.max_size) c.self.view_is few
+
+pub returns-clause-idle : goal.returns-clause-idle
+returns-clause-idle g c = let few = idle_few (view_of c.self.inside) c.self.invariant in omega (arith, few, c.connections.ensures, c.idle_connections.ensures)

@@ -1,0 +1,46 @@
+-- What the sections of a pool answer, in the words of the ledger.
+use Rattle.std.specs.Prelude.{◌≡◌, Bool, true, false, Result, Ok, Err, ⊤}
+use Rattle.bb8_core.specs.declared.outcomes.TryAnswer.{TryAnswer}
+use Rattle.bb8_core.specs.declared.outcomes.TryAnswer.TheVariants as tries
+use Rattle.bb8_core.specs.declared.outcomes.AddAnswer.{AddAnswer}
+use Rattle.bb8_core.specs.declared.outcomes.AddAnswer.TheVariants as adding
+use Rattle.bb8_core.specs.Answers as answers
+use Rattle.bb8_core.specs.Answers.{Answer}
+use Rattle.bb8_core.specs.Outcomes.{HandsOut}
+use Rattle.bb8_core.specs.Shown.{Shown}
+use Rattle.bb8.specs.declared.locked.Unfit.{Unfit}
+use Rattle.bb8.specs.declared.locked.Tried.{Tried}
+use Rattle.bb8.specs.declared.locked.Tried.TheVariants.{Served, Waiting}
+
+-- a section's answer, by plain numbers
+abbrev pub answered : {A : Type 0} → (A → Answer) → Result A Unfit → Answer
+answered told (Ok a) = told a
+answered told (Err u) = answers.Unfit
+
+-- the answer of a section that hands back a connection where it does not fit
+abbrev pub returned : {A C : Type 0} → (A → Answer) → Result A C → Answer
+returned told (Ok a) = told a
+returned told (Err c) = answers.Unfit
+
+-- what holds of the answer where the section fits, and of the connection where it does not
+abbrev pub OnFit : {A C : Type 0} → (A → Type 0) → (C → Type 0) → Result A C → Type 0
+OnFit Fits Back (Ok a) = Fits a
+OnFit Fits Back (Err c) = Back c
+
+-- an adding is refused as broken just where the connection was found broken
+abbrev pub IsSorted : {C : Type 0} → Bool → AddAnswer C → Type 0
+IsSorted broken (adding.Broken c) = broken ≡ true
+IsSorted broken (adding.Added k n) = broken ≡ false
+IsSorted broken (adding.NoCapacity c) = broken ≡ false
+IsSorted broken (adding.Withheld c) = broken ≡ false
+
+module _ {C L : Type 0} where
+  -- the answer of a try without the part of the ledger
+  abbrev pub in_core : Tried C L → TryAnswer C
+  in_core (Served taken grant) = tries.Served taken.key taken.conn grant
+  in_core (Waiting grant) = tries.Waiting grant
+
+  -- the connection that goes out is the one that was idle under its number
+  abbrev pub HandsOutOf : Shown C → Result (Tried C L) Unfit → Type 0
+  HandsOutOf s (Ok tried) = HandsOut s (in_core tried)
+  HandsOutOf s (Err u) = ⊤

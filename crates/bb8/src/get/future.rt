@@ -1,0 +1,173 @@
+//! The future of a get.
+ghost use Rattle.std.specs.Prelude.{◌≡◌};
+ghost use Rattle.std.specs.Duration.{as_nanos};
+
+use super::link::Link;
+use super::state::{GetState, Stage};
+use crate::locked::{Part, Taken};
+use crate::locks::Locks;
+use crate::pool::{Pool, PooledConnection, Shared};
+use bb8_core::api::{Clock, CustomizeConnection, ErrorSink, ManageConnection, RunError};
+use bb8_core::internals::{Key, Reason};
+use futures::Future;
+use futures::task::{Context, Poll};
+use std::sync::Wait;
+use std::sync::ledger::Ledger;
+
+/// What `Pool::get` answers: a get that does nothing until it is polled.
+///
+/// Each poll reads the pool's clock, and takes the pool's lock for each of its steps. One that is pending asks to be polled again. When it
+/// is dropped before its answer, it gives the get up as cancelled. Our own: upstream's get is an async function.
+pub struct GetFuture<
+    'a,
+    M: ManageConnection,
+    S: ErrorSink<M::Error>,
+    Z: CustomizeConnection<M::Connection, M::Error>,
+    K: Clock,
+    R: Locks,
+    L: Ledger,
+> {
+    shared: &'a Shared<M, S, Z, K, R, L>,
+    get: GetState<M::Connection, Part<L>>,
+}
+
+impl<
+    M: ManageConnection,
+    S: ErrorSink<M::Error>,
+    Z: CustomizeConnection<M::Connection, M::Error>,
+    K: Clock,
+    R: Locks,
+    L: Ledger,
+> GetFuture<'_, M, S, Z, K, R, L> {
+    /// Lets the get go, as a drop does. Our own.
+    pub fn cancel(self) {
+        drop(self)
+    }
+}
+
+impl<
+    M: ManageConnection,
+    S: ErrorSink<M::Error>,
+    Z: CustomizeConnection<M::Connection, M::Error>,
+    K: Clock,
+    R: Locks,
+    L: Ledger,
+> Pool<M, S, Z, K, R, L> {
+    /// Gets a connection: an idle one, or the first that comes in the get's turn. As upstream, but for the future's name.
+    ///
+    /// It answers `TimedOut` once `connection_timeout` has passed since the first poll, and `Memory` or `Exhausted` where the get could
+    /// not begin.
+    pub fn get(&self) -> GetFuture<'_, M, S, Z, K, R, L> {
+        GetFuture {
+            shared: &*self.shared,
+            get: GetState::new(),
+        }
+    }
+}
+
+impl<
+    M: ManageConnection,
+    S: ErrorSink<M::Error>,
+    Z: CustomizeConnection<M::Connection, M::Error>,
+    K: Clock,
+    R: Locks,
+    L: Ledger,
+> Drop for GetFuture<'_, M, S, Z, K, R, L> {
+    fn drop(self) {
+        let GetFuture { shared, get } = self;
+        if let Stage::Trying(key, _) | Stage::Waiting(key, _) = get.stage {
+            let at = shared.clock.now();
+            let _ = shared
+                .rt
+                .take(&shared.locked)
+                .give_up(at, key, Reason::Cancelled);
+        }
+    }
+}
+
+/// What a poll of the future does, as methods of an impl, so that `poll` can call them.
+trait OnLink {
+    type Served;
+
+    type Answer;
+
+    fn poll_link(&mut self) -> Poll<Self::Served>;
+
+    fn guarded(&self, served: Self::Served) -> Self::Answer;
+}
+
+impl<
+    'a,
+    M: ManageConnection,
+    S: ErrorSink<M::Error>,
+    Z: CustomizeConnection<M::Connection, M::Error>,
+    K: Clock,
+    R: Wait + Send + Sync + Drop + 'static,
+    L: Ledger,
+> OnLink for GetFuture<'a, M, S, Z, K, R, L> {
+    type Served = Result<(Key, M::Connection, Part<L>), RunError<M::Error>>;
+
+    type Answer = Result<PooledConnection<'a, M, S, Z, K, R, L>, RunError<M::Error>>;
+
+    ghost use Rattle.bb8.specs.Linked.{LinkPolls, MakesGuard};
+    ghost use Rattle.bb8.specs.declared.get.link.Link.{Link as LinkOf};
+
+    /// One poll on the pool's lock, at the clock's reading.
+    fn poll_link(&mut self) -> Poll<Result<(Key, M::Connection, Part<L>), RunError<M::Error>>>
+        ensures table { LinkPolls (LinkOf M.Connection R L L.Ledger) (as_nanos self.old.shared.now.config.connection_timeout) self.old.get.stage result self.new.get.stage }
+        ensures shared { self.new.shared.now.config ≡ self.old.shared.now.config }
+    {
+        let shared = self.shared;
+        let at = shared.clock.now();
+        let mut link = Link::new(&shared.locked, &shared.rt);
+        self.get
+            .poll_step(&mut link, at, shared.config.connection_timeout)
+    }
+
+    /// The guard of what was served.
+    fn guarded(
+        &self,
+        served: Result<(Key, M::Connection, Part<L>), RunError<M::Error>>,
+    ) -> Result<PooledConnection<'a, M, S, Z, K, R, L>, RunError<M::Error>>
+        ensures { MakesGuard (λ given guard. guard.taken ≡ record { key = given.0; conn = given.1; part = given.2 }) served result }
+    {
+        let shared = self.shared;
+        match served {
+            Ok((key, conn, part)) => Ok(PooledConnection {
+                shared,
+                taken: Taken { key, conn, part },
+            }),
+            Err(error) => Err(error),
+        }
+    }
+}
+
+impl<
+    'a,
+    M: ManageConnection,
+    S: ErrorSink<M::Error>,
+    Z: CustomizeConnection<M::Connection, M::Error>,
+    K: Clock,
+    R: Wait + Send + Sync + Drop + 'static,
+    L: Ledger,
+> Future for GetFuture<'a, M, S, Z, K, R, L> {
+    ghost use Rattle.std.specs.Prelude.{Result};
+    ghost use Rattle.bb8.specs.Linked.{LinkGives, MakesGuard};
+    ghost use Rattle.bb8.specs.declared.get.link.Link.{Link as LinkOf};
+    ghost use Rattle.bb8.specs.declared.locked.Part.{Part as PartOf};
+    ghost use Rattle.bb8_core.specs.declared.api.errors.RunError.{RunError as RunErrorOf};
+    ghost use Rattle.bb8_core.specs.declared.keys.Key.{Key as KeyOf};
+
+    type Output = Result<PooledConnection<'a, M, S, Z, K, R, L>, RunError<M::Error>>;
+
+    ghost gives = { λ f out. (x : Result (KeyOf × M.Connection × PartOf L) (RunErrorOf M.Error)) × LinkGives (LinkOf M.Connection R L L.Ledger) (as_nanos f.shared.now.config.connection_timeout) f.get.stage x × MakesGuard (λ given guard. guard.taken ≡ record { key = given.0; conn = given.1; part = given.2 }) x out };
+
+    /// One poll at the clock's reading. It is pending while the get waits before its deadline, and after its answer.
+    fn poll(&mut self, cx: &mut Context<'_>) -> Poll<Self::Output> {
+        let answer = match self.poll_link() {
+            Poll::Ready(answer) => answer,
+            Poll::Pending => return cx.yield_now(),
+        };
+        Poll::Ready(self.guarded(answer))
+    }
+}

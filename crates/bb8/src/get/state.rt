@@ -1,0 +1,169 @@
+//! The poll of a get.
+ghost use Rattle.std.specs.Prelude.{◌≡◌};
+ghost use Rattle.std.specs.Duration.{as_nanos};
+ghost use Rattle.bb8.specs.Polls.{IsDeadline, Tries, Advances, Settles, Polls, Cancels};
+ghost use Rattle.bb8.specs.declared.get.state.Stage.TheVariants.{Done as IsDone, Fresh as IsFresh};
+
+use super::home::{BeginStep, GetHome, TryStep};
+use bb8_core::api::{Moment, RunError};
+use bb8_core::internals::{GetKey, Key, Reason};
+use futures::task::Poll;
+use std::marker::PhantomData;
+use std::mem;
+use std::time::Duration;
+
+/// Where a get stands between its polls: which get it is, and its deadline, which may be none. Our own.
+#[derive(Clone, Copy, Debug)]
+pub enum Stage {
+    /// It was not polled yet.
+    Fresh,
+    /// It began, and has neither a connection nor a place among the waiters.
+    Trying(GetKey, Option<Moment>),
+    /// It waits.
+    Waiting(GetKey, Option<Moment>),
+    /// It was answered, or cancelled.
+    Done,
+}
+
+/// What a poll does after its step: it answers, or the get stands somewhere else and its deadline is looked at. Our own.
+#[derive(Drop)]
+pub enum Next<C, P, E> {
+    /// It answers this.
+    Answer(Result<(Key, C, P), RunError<E>>),
+    /// The get stands here.
+    Stand(Stage),
+}
+
+/// A get of a connection `C`, which comes with a `P`: what a future of a get holds beside its pool. Our own.
+///
+/// It does nothing until it is polled, and holds no connection between two polls.
+#[derive(Drop)]
+pub struct GetState<C, P> {
+    pub(super) stage: Stage,
+    served: PhantomData<(C, P)>,
+}
+
+/// The moment at which a get gives up that was first polled at `moment`. None, and so never, where that is past the greatest moment.
+fn deadline(moment: Moment, timeout: Duration) -> Option<Moment>
+    ensures { IsDeadline moment (as_nanos timeout) result }
+{
+    let nanos = u64::try_from(timeout.as_nanos()).ok()?;
+    Some(Moment(moment.0.checked_add(nanos)?))
+}
+
+/// One try of a get.
+fn take<C: Drop, E, H: GetHome<C>>(
+    home: &mut H,
+    moment: Moment,
+    get: GetKey,
+    deadline: Option<Moment>,
+) -> Next<C, H::Part, E>
+    ensures { Tries H.GetHome moment get deadline home.old result home.new }
+{
+    match home.try_get(moment, get) {
+        TryStep::Served(key, connection, part, _) => Next::Answer(Ok((key, connection, part))),
+        TryStep::Waiting(_) => Next::Stand(Stage::Waiting(get, deadline)),
+        TryStep::Unfit => Next::Answer(Err(RunError::TimedOut)),
+    }
+}
+
+/// What a get does at a poll before its deadline is looked at.
+fn advance<C: Drop, E, H: GetHome<C>>(
+    home: &mut H,
+    moment: Moment,
+    timeout: Duration,
+    stage: Stage,
+) -> Next<C, H::Part, E>
+    ensures { Advances H.GetHome moment (as_nanos timeout) stage home.old result home.new }
+{
+    match stage {
+        Stage::Fresh => match home.begin(moment) {
+            BeginStep::Begun(get) => take(home, moment, get, deadline(moment, timeout)),
+            BeginStep::Memory => Next::Answer(Err(RunError::Memory)),
+            BeginStep::Exhausted => Next::Answer(Err(RunError::Exhausted)),
+            BeginStep::Unfit => Next::Answer(Err(RunError::TimedOut)),
+        },
+        Stage::Trying(get, deadline) | Stage::Waiting(get, deadline) => {
+            take(home, moment, get, deadline)
+        }
+        Stage::Done => Next::Stand(Stage::Done),
+    }
+}
+
+impl<C: Drop, P: Drop> GetState<C, P> {
+    /// A get that was not polled yet. Our own.
+    pub fn new() -> Self
+        ensures { result.stage ≡ IsFresh }
+    {
+        GetState {
+            stage: Stage::Fresh,
+            served: PhantomData,
+        }
+    }
+
+    /// One poll of the get over a home, at a reading `at` of the clock; `timeout` is the pool's `connection_timeout`. Our own: upstream's
+    /// get is an async function.
+    ///
+    /// The first poll begins the get and sets its deadline. Each poll tries once, and then compares the deadline. It answers a
+    /// connection; `TimedOut` once the deadline has come, or where the home knows no such get or no handle; `Memory` or `Exhausted`
+    /// where the get could not begin. After an answer, and after a `cancel_step`, each poll is pending and changes nothing.
+    pub fn poll_step<E: Drop, H: GetHome<C, Part = P>>(
+        &mut self,
+        home: &mut H,
+        at: Moment,
+        timeout: Duration,
+    ) -> Poll<Result<(Key, C, P), RunError<E>>>
+        ensures { Polls H.GetHome at (as_nanos timeout) self.old.stage home.old result self.new.stage home.new }
+    {
+        let stage = mem::replace(&mut self.stage, Stage::Done);
+        if let Stage::Done = stage {
+            return Poll::Pending;
+        }
+        let moment = home.look(at).moment;
+        match advance(home, moment, timeout, stage) {
+            Next::Answer(answer) => Poll::Ready(answer),
+            Next::Stand(stage) => self.settle(home, moment, stage),
+        }
+    }
+
+    /// The end of a poll that has no answer yet: the deadline is compared.
+    fn settle<E, H: GetHome<C, Part = P>>(
+        &mut self,
+        home: &mut H,
+        moment: Moment,
+        stage: Stage,
+    ) -> Poll<Result<(Key, C, P), RunError<E>>>
+        requires { self.old.stage ≡ IsDone }
+        ensures { Settles H.GetHome moment stage home.old result self.new.stage home.new }
+    {
+        if let Stage::Trying(get, Some(deadline)) | Stage::Waiting(get, Some(deadline)) = stage
+            && deadline <= moment
+        {
+            let _ = home.give_up(moment, get, Reason::TimedOut);
+            return Poll::Ready(Err(RunError::TimedOut));
+        }
+        self.stage = stage;
+        Poll::Pending
+    }
+
+    /// Lets the get go, at a reading `at` of the clock: one that began and was not answered is given up as cancelled. The same as a drop
+    /// of a get's future. Our own: upstream's caller drops its future.
+    pub fn cancel_step<H: GetHome<C, Part = P>>(&mut self, home: &mut H, at: Moment)
+        ensures home { Cancels H.GetHome at self.old.stage home.old home.new }
+        ensures done { self.new.stage ≡ IsDone }
+    {
+        let stage = mem::replace(&mut self.stage, Stage::Done);
+        if let Stage::Trying(get, _) | Stage::Waiting(get, _) = stage {
+            let _ = home.give_up(at, get, Reason::Cancelled);
+        }
+    }
+}
+
+impl<C: Drop, P: Drop> Default for GetState<C, P> {
+    ghost is_default = { λ get. get.stage ≡ IsFresh };
+
+    /// A get that was not polled yet.
+    fn default() -> Self {
+        GetState::new()
+    }
+}

@@ -1,0 +1,269 @@
+//! The pool, and the guard of a connection that is out.
+ghost use Rattle.std.specs.Prelude.{◌≡◌, ◌≤◌, ◌<◌, Bool, true, false, IfOk, IfErr};
+ghost use Rattle.std.specs.Arc.{arc_value};
+ghost use Rattle.bb8_core.specs.Settings.{settings_of, default_settings, is_lawful};
+
+use crate::Builder;
+use crate::locked::{Locked, Size, Taken, open_ledger};
+use crate::locks::Locks;
+use bb8_core::api::{
+    AddError, Clock, Config, CustomizeConnection, ErrorSink, ManageConnection, Memory, State,
+};
+use bb8_core::internals::{AddAnswer, PoolInternals};
+use std::alloc::Global;
+use std::fmt;
+use std::fmt::{Debug, Formatter};
+use std::ops::{Deref, DerefMut};
+use std::sync::ledger::{Blank, Ledger, Total};
+use std::sync::{Arc, Mutex, Wait};
+
+/// What the handles and guards of one pool share.
+#[derive(Drop)]
+pub(crate) struct Shared<M: ManageConnection, S, Z, K, R, L: Ledger> {
+    pub manager: M,
+    pub error_sink: S,
+    pub customizer: Z,
+    pub clock: K,
+    pub rt: R,
+    pub config: Config,
+    pub size: Size<L>,
+    /// How many parts the pool's ledger has, for whoever holds several of them.
+    pub total: Total<L>,
+    pub locked: Mutex<Locked<M::Connection, L>>,
+    ghost whole: { total.amount ≡ config.max_size },
+    ghost sized: { size.max_size ≡ config.max_size },
+}
+
+/// A pool of connections that threads share by reference. It lends connections out as guards, which give them back when they are
+/// dropped.
+///
+/// As upstream, but for the type parameters: beside the manager `M` there are the error sink `S`, the customizer `Z`, the clock `K` and
+/// the runtime `R` that the pool was built with, and the ledger `L`, by which the connections that are out are counted in proofs;
+/// it takes no room at run time. Dropping the pool closes its idle connections. A call of the pool's may wait for the lock.
+#[derive(Drop)]
+pub struct Pool<
+    M: ManageConnection,
+    S: ErrorSink<M::Error>,
+    Z: CustomizeConnection<M::Connection, M::Error>,
+    K: Clock,
+    R: Locks,
+    L: Ledger,
+> {
+    pub(crate) shared: Arc<Shared<M, S, Z, K, R, L>, Global>,
+}
+
+/// A guard: a connection that is out, which dereferences to the connection. As upstream.
+///
+/// When it is dropped it asks the manager's `has_broken`, reads the pool's clock, and gives the connection back under the pool's lock,
+/// for which it may wait. A connection that is then closed is dropped after the lock.
+pub struct PooledConnection<
+    'a,
+    M: ManageConnection,
+    S: ErrorSink<M::Error>,
+    Z: CustomizeConnection<M::Connection, M::Error>,
+    K: Clock,
+    R: Locks,
+    L: Ledger,
+> {
+    pub(crate) shared: &'a Shared<M, S, Z, K, R, L>,
+    pub(crate) taken: Taken<M::Connection, L>,
+}
+
+impl<
+    M: ManageConnection,
+    S: ErrorSink<M::Error>,
+    Z: CustomizeConnection<M::Connection, M::Error>,
+> Builder<M, S, Z> {
+    ghost use Rattle.bb8.specs.Pools.{settings_in};
+
+    /// A pool that begins with no connection, and waits for none: the approvals for the first ones, up to `min_idle`, are granted, and
+    /// whoever turns a driver of the pool opens them.
+    ///
+    /// As upstream, but that the clock and the runtime are handed in, with an empty ledger of `max_size` parts, and that memory can be
+    /// refused: then, and where a first approval was withheld for want of memory, the answer is `Memory` and all that was handed in
+    /// is dropped. The settings have to be lawful, where upstream panics, and until checks are made they have `test_on_check_out` off.
+    pub fn build_unchecked<
+        K: Clock,
+        R: Wait + AllocGlobal + Send + Sync + Drop + 'static,
+        L: Ledger,
+    >(self, manager: M, clock: K, rt: R, blank: Blank) -> Result<Pool<M, S, Z, K, R, L>, Memory>
+        requires lawful { is_lawful self.settings ≡ true }
+        requires check { self.settings.test_on_check_out ≡ false }
+        requires name { blank.name ≡ L.name }
+        requires parts { blank.parts ≡ L.parts }
+        requires size { blank.parts ≡ self.settings.max_size }
+        ensures { IfOk result (λ pool. settings_in pool ≡ self.settings) }
+    {
+        let (config, error_sink, customizer) = self.into_parts();
+        let at = clock.now();
+        let mut core = PoolInternals::new(rt.alloc(), config);
+        let granted = core.fill(at, false);
+        if granted.withheld > 0 {
+            return Err(Memory);
+        }
+        let alloc = rt.alloc();
+        let (total, locked) = open_ledger(core, blank, config.max_size);
+        let shared = Shared {
+            manager,
+            error_sink,
+            customizer,
+            clock,
+            rt,
+            config,
+            size: Size::of(config.max_size),
+            total,
+            locked: Mutex::new(locked),
+        };
+        match Arc::new(alloc, shared) {
+            Ok(shared) => Ok(Pool { shared }),
+            Err(_) => Err(Memory),
+        }
+    }
+}
+
+impl<
+    M: ManageConnection,
+    S: ErrorSink<M::Error>,
+    Z: CustomizeConnection<M::Connection, M::Error>,
+    K: Clock,
+    R: Wait + Send + Sync + Drop + 'static,
+    L: Ledger,
+> Pool<M, S, Z, K, R, L> {
+    ghost use Rattle.bb8.specs.Pools.{manager_in, settings_in, refused, IsFound};
+
+    /// Adds a connection that the pool did not open. It is asked whether it is broken first, and is otherwise idle at once, and born
+    /// now. It does not count as created, and no customizer prepares it. As upstream.
+    ///
+    /// A refusal hands the connection back, as `has_broken` left it: `Broken` where that found it broken, else `NoCapacity` where
+    /// connections and open approvals are `max_size` already, else `Withheld` where no memory or no number was left for it.
+    pub fn add(&self, mut conn: M::Connection) -> Result<(), AddError<M::Connection>>
+        ensures added { IfOk result (λ _. (after : M.Connection) × M.breaks (manager_in self.now) conn false after) }
+        ensures refused { IfErr result (λ error. (broken : Bool) × M.breaks (manager_in self.now) conn broken (refused error) × IsFound error broken) }
+    {
+        let shared = &*self.shared;
+        let broken = shared.manager.has_broken(&mut conn);
+        let at = shared.clock.now();
+        match shared.locked.lock(&shared.rt).add(at, conn, broken) {
+            Ok(AddAnswer::Added(_, _)) => Ok(()),
+            Ok(AddAnswer::Broken(conn)) => Err(AddError::Broken(conn)),
+            Ok(AddAnswer::NoCapacity(conn)) => Err(AddError::NoCapacity(conn)),
+            Ok(AddAnswer::Withheld(conn)) => Err(AddError::Withheld(conn)),
+            Err(conn) => Err(AddError::NoCapacity(conn)),
+        }
+    }
+
+    /// How many connections the pool has, how many of them are idle, and what has happened to it. As upstream.
+    pub fn state(&self) -> State
+        ensures size { result.connections ≤ (settings_in self.now).max_size }
+        ensures idle { result.idle_connections ≤ result.connections }
+    {
+        let shared = &*self.shared;
+        let at = shared.clock.now();
+        shared.locked.lock(&shared.rt).state(at)
+    }
+}
+
+impl<
+    M: ManageConnection,
+    S: ErrorSink<M::Error>,
+    Z: CustomizeConnection<M::Connection, M::Error>,
+    K: Clock,
+    R: Locks,
+    L: Ledger,
+> Pool<M, S, Z, K, R, L> {
+    ghost use Rattle.bb8.specs.Pools.{settings_in};
+
+    /// A builder with each setting at its default. As upstream.
+    pub fn builder() -> Builder<M>
+        ensures { result.settings ≡ default_settings }
+    {
+        Builder::new()
+    }
+
+    /// The settings that the pool was built with. As upstream.
+    pub fn config(&self) -> &Config
+        ensures { settings_of result.now ≡ settings_in self.now }
+    {
+        &self.shared.config
+    }
+}
+
+impl<
+    M: ManageConnection,
+    S: ErrorSink<M::Error>,
+    Z: CustomizeConnection<M::Connection, M::Error>,
+    K: Clock,
+    R: Locks,
+    L: Ledger,
+> Debug for Pool<M, S, Z, K, R, L> {
+    /// `Pool(..)`, without its parts. Our own: upstream prints what is inside.
+    fn fmt<W: fmt::Write>(&self, f: &mut Formatter<W>) -> fmt::Result {
+        f.write_str("Pool(..)")
+    }
+}
+
+impl<
+    M: ManageConnection,
+    S: ErrorSink<M::Error>,
+    Z: CustomizeConnection<M::Connection, M::Error>,
+    K: Clock,
+    R: Locks,
+    L: Ledger,
+> Drop for PooledConnection<'_, M, S, Z, K, R, L> {
+    fn drop(self) {
+        let PooledConnection { shared, mut taken } = self;
+        let broken = shared.manager.has_broken(&mut taken.conn);
+        let at = shared.clock.now();
+        let closed = shared.rt.take(&shared.locked).put_back(at, taken, broken);
+        // The lock is free again: a connection that was closed is dropped outside of it.
+        drop(closed);
+    }
+}
+
+impl<
+    M: ManageConnection,
+    S: ErrorSink<M::Error>,
+    Z: CustomizeConnection<M::Connection, M::Error>,
+    K: Clock,
+    R: Locks,
+    L: Ledger,
+> Deref for PooledConnection<'_, M, S, Z, K, R, L> {
+    type Target = M::Connection;
+
+    ghost deref_gives = { λ guard conn. conn ≡ guard.taken.conn };
+
+    fn deref(&self) -> &M::Connection {
+        &self.taken.conn
+    }
+}
+
+impl<
+    M: ManageConnection,
+    S: ErrorSink<M::Error>,
+    Z: CustomizeConnection<M::Connection, M::Error>,
+    K: Clock,
+    R: Locks,
+    L: Ledger,
+> DerefMut for PooledConnection<'_, M, S, Z, K, R, L> {
+    fn deref_mut(&mut self) -> &mut M::Connection {
+        let taken = &mut self.taken;
+        &mut taken.conn
+    }
+}
+
+impl<
+    M: ManageConnection,
+    S: ErrorSink<M::Error>,
+    Z: CustomizeConnection<M::Connection, M::Error>,
+    K: Clock,
+    R: Locks,
+    L: Ledger,
+> Debug for PooledConnection<'_, M, S, Z, K, R, L>
+where
+    M::Connection: Debug,
+{
+    /// As the connection prints. As upstream.
+    fn fmt<W: fmt::Write>(&self, f: &mut Formatter<W>) -> fmt::Result {
+        self.taken.conn.fmt(f)
+    }
+}

@@ -1,0 +1,124 @@
+//! A pool behind its lock: what goes out comes back, and what is broken or too old does not stay.
+ghost use Rattle.std.specs.Prelude.{◌≡◌};
+
+use super::SlowManager;
+use crate::locked::Tried;
+use crate::{
+    AddError, Builder, Clock, Moment, NopCustomizer, NopErrorSink, Pool, PooledConnection, SetClock,
+};
+use bb8_core::internals::{BeginAnswer, Reason};
+use std::marker::Brand;
+use std::process::Abort;
+use std::sync::Wait;
+use std::sync::ledger::{Blank, Ledger};
+use std::test::Fail;
+use std::time::Duration;
+
+/// A guard, by the sections that a get takes. A get that would wait is given up.
+fn guard<R: Wait + Send + Sync + Drop + 'static, L: Ledger>(
+    pool: &Pool<SlowManager, NopErrorSink, NopCustomizer, SetClock, R, L>,
+) -> Option<PooledConnection<'_, SlowManager, NopErrorSink, NopCustomizer, SetClock, R, L>> {
+    let shared = &*pool.shared;
+    let at = shared.clock.now();
+    let get = match shared.locked.lock(&shared.rt).begin(at) {
+        Ok(BeginAnswer::Begun(get)) => get,
+        _ => return None,
+    };
+    let tried = shared.locked.lock(&shared.rt).try_get(at, get);
+    match tried {
+        Ok(Tried::Served(taken, _)) => Some(PooledConnection { shared, taken }),
+        Ok(Tried::Waiting(_)) => {
+            let _ = shared
+                .locked
+                .lock(&shared.rt)
+                .give_up(at, get, Reason::Cancelled);
+            None
+        }
+        Err(_) => None,
+    }
+}
+
+/// Lends the connections 7 and 8 of a pool of two, and takes them back: whole, broken, and too old.
+fn lends<R: Abort + Wait + AllocGlobal + Copy + Send + Sync + Drop + 'static, L: Ledger>(
+    rt: R,
+    blank: Blank,
+) -> Result<(), Fail>
+    requires name { blank.name ≡ L.name }
+    requires parts { blank.parts ≡ L.parts }
+    requires two { blank.parts ≡ 2 }
+{
+    let clock = SetClock::new(rt.alloc(), Moment(5))?;
+    let pool: Pool<SlowManager, NopErrorSink, NopCustomizer, SetClock, R, L> = Builder::new()
+        .max_size(2)
+        .test_on_check_out(false)
+        .max_lifetime(Some(Duration::from_nanos(10)))
+        .build_unchecked(SlowManager, clock.try_clone()?, rt, blank)?;
+    assert_eq!(&rt; pool.config().max_size, 2);
+    assert_eq!(&rt; pool.add(7), Ok(()));
+    assert_eq!(&rt; pool.add(0), Err(AddError::Broken(0)));
+    assert_eq!(&rt; pool.add(8), Ok(()));
+    assert_eq!(&rt; pool.add(9), Err(AddError::NoCapacity(9)));
+    let first = guard(&pool);
+    let second = guard(&pool);
+    assert!(&rt; guard(&pool).is_none());
+    let state = pool.state();
+    assert_eq!(&rt; (state.connections, state.idle_connections), (2, 0));
+    assert_eq!(&rt; first.as_deref(), Some(&7));
+    assert_eq!(&rt; format!(in rt.alloc(); "{first:?}")?.as_str(), "Some(7)");
+    drop(first);
+    let state = pool.state();
+    assert_eq!(&rt; (state.connections, state.idle_connections), (2, 1));
+    if let Some(mut second) = second {
+        assert_eq!(&rt; *second, 8);
+        *second = 0;
+    }
+    let state = pool.state();
+    assert_eq!(&rt; (state.connections, state.idle_connections), (1, 1));
+    assert_eq!(&rt; state.statistics.connections_closed_broken, 1);
+    let again = guard(&pool);
+    clock.set(Moment(15));
+    drop(again);
+    let state = pool.state();
+    assert_eq!(&rt; (state.connections, state.idle_connections), (0, 0));
+    assert_eq!(&rt; state.statistics.connections_closed_max_lifetime, 1);
+    assert_eq!(&rt; state.statistics.get_started, 4);
+    assert_eq!(&rt; state.statistics.get_direct, 3);
+    assert_eq!(&rt; state.statistics.get_cancelled, 1);
+    Ok(())
+}
+
+/// Threads may share it.
+fn is_shared<T: Send + Sync>(_: &T) {}
+
+/// The two first approvals of a pool of two leave no room for a connection that is added.
+fn keeps_room<
+    R: Abort + Wait + AllocGlobal + Copy + Send + Sync + Drop + 'static,
+    L: Ledger + Send + Sync + 'static,
+>(rt: R, blank: Blank) -> Result<(), Fail>
+    requires name { blank.name ≡ L.name }
+    requires parts { blank.parts ≡ L.parts }
+    requires two { blank.parts ≡ 2 }
+{
+    let clock = SetClock::new(rt.alloc(), Moment(5))?;
+    let pool: Pool<SlowManager, NopErrorSink, NopCustomizer, SetClock, R, L> = Builder::new()
+        .max_size(2)
+        .min_idle(Some(2))
+        .test_on_check_out(false)
+        .build_unchecked(SlowManager, clock, rt, blank)?;
+    is_shared(&pool);
+    assert_eq!(&rt; pool.add(7), Err(AddError::NoCapacity(7)));
+    assert_eq!(&rt; format!(in rt.alloc(); "{pool:?}")?.as_str(), "Pool(..)");
+    let state = pool.state();
+    assert_eq!(&rt; (state.connections, state.idle_connections), (0, 0));
+    Ok(())
+}
+
+#[test]
+fn keeps_room_for_two(rt: HostRuntime) -> Result<(), Fail> {
+    keeps_room::<HostRuntime, Brand>(rt, Blank::new(2))
+}
+
+#[test]
+fn lends_two(rt: HostRuntime) -> Result<(), Fail> {
+    lends::<HostRuntime, Brand>(rt, Blank::new(2))
+}
