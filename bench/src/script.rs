@@ -1,35 +1,37 @@
 //! A script of 100,000 events, with what its answers must be.
 
-use std::fmt::Write;
+use std::iter;
 
 const CONNECTIONS: usize = 10;
 /// A fill, a claim and an opening for each connection, three events a get, and a last state: 100,000 events.
 const GETS: usize = 33_326;
 
-/// Ten connections are opened; then gets are served and return, one after another.
+/// Ten connections are opened; then gets are served and return, one after another. The lines for each opening are given by the
+/// connection's number, those for each get by its number and that of the connection: the one that is idle longest goes out first, so
+/// each goes out at every tenth get.
+fn told(first: String, opening: impl Fn(usize) -> String, serving: impl Fn(usize, usize) -> String) -> String {
+    let openings = (0..CONNECTIONS).map(opening);
+    let servings = (0..GETS).map(|get| serving(get, get % CONNECTIONS));
+    iter::once(first).chain(openings).chain(servings).collect()
+}
+
+/// The script.
 pub fn events() -> String {
-    let mut script = format!("config max_size={CONNECTIONS} min_idle={CONNECTIONS} check=off\n0 fill\n");
-    for number in 0..CONNECTIONS {
-        write!(script, "0 claim\n0 open {number}\n").expect("a string takes it");
-    }
-    for get in 0..GETS {
-        let connection = get % CONNECTIONS;
-        write!(script, "0 begin\n0 try {get}\n0 return {connection}\n").expect("a string takes it");
-    }
+    let script = told(
+        format!("config max_size={CONNECTIONS} min_idle={CONNECTIONS} check=off\n0 fill\n"),
+        |number| format!("0 claim\n0 open {number}\n"),
+        |get, connection| format!("0 begin\n0 try {get}\n0 return {connection}\n"),
+    );
     script + "0 state\n"
 }
 
-/// The answers, from the rules: the connection that is idle longest goes out first, so each goes out at every tenth get. The state is
-/// told twice, by the last event and at the end.
+/// Its answers, from the rules. The state is told twice, by the last event and at the end.
 pub fn answers() -> String {
-    let mut text = format!("granted grant {CONNECTIONS} at 0\n");
-    for number in 0..CONNECTIONS {
-        write!(text, "claimed {number}\nentered {number}\n").expect("a string takes it");
-    }
-    for get in 0..GETS {
-        let connection = get % CONNECTIONS;
-        write!(text, "begun {get}\nserved {connection}\nkept {connection}\n").expect("a string takes it");
-    }
+    let text = told(
+        format!("granted grant {CONNECTIONS} at 0\n"),
+        |number| format!("claimed {number}\nentered {number}\n"),
+        |get, connection| format!("begun {get}\nserved {connection}\nkept {connection}\n"),
+    );
     let state = format!(
         "state connections {CONNECTIONS} idle {CONNECTIONS} started {GETS} direct {GETS} waited 0 timed_out 0 cancelled 0 \
          wait_us 0 created {CONNECTIONS} broken 0 invalid 0 lifetime 0 idle_timeout 0\n"
