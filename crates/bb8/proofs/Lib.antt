@@ -1,2 +1,3 @@
+pub mod Addings
 pub mod Sections
 pub mod Links

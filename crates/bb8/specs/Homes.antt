@@ -1,5 +1,5 @@
 -- The steps of a get on the plain state of a pool.
-use Rattle.std.specs.Prelude.{◌≡◌, ℕ, false, None, ⊤}
+use Rattle.std.specs.Prelude.{◌≡◌, ℕ, ⊤}
 use Rattle.std.specs.Bool.{MatchBool}
 use Rattle.bb8_core.specs.declared.outcomes.TryAnswer.TheVariants as handed
 use Rattle.bb8_core.specs.Acts.{Act}

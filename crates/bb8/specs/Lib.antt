@@ -1,3 +1,4 @@
+pub mod Addings
 pub mod Choices
 pub mod Homes
 pub mod Linked

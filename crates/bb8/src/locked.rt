@@ -6,15 +6,15 @@ ghost use Rattle.std.specs.Prelude.{◌≡◌, ◌+◌, ◌<◌, ◌≤◌, None
 ghost use Rattle.bb8_core.specs.Acts as acts;
 ghost use Rattle.bb8_core.specs.Answers as answers;
 ghost use Rattle.bb8_core.specs.Figures.{figures_of};
-ghost use Rattle.bb8_core.specs.Outcomes.{begin_told, try_told, reason_of, give_up_told, put_back_told, add_told, look_told, GivesBack, Refuses};
+ghost use Rattle.bb8_core.specs.Outcomes.{begin_told, try_told, reason_of, give_up_told, put_back_told, claim_told, opened_told, add_told, look_told, GivesBack, HandsBack, Refuses};
 ghost use Rattle.bb8_core.specs.Parts.{out_of};
 ghost use Rattle.bb8_core.specs.Limits.{IsWithinLimits};
 ghost use Rattle.bb8_core.specs.Shown.{Meets};
 
 use bb8_core::api::{Moment, State};
 use bb8_core::internals::{
-    AddAnswer, BeginAnswer, GetKey, GiveUpAnswer, Grant, Key, Looked, PoolInternals, PutBackAnswer,
-    Reason, TryAnswer,
+    AddAnswer, BeginAnswer, ClaimAnswer, GetKey, GiveUpAnswer, Grant, Key, Looked, OpenedAnswer,
+    PoolInternals, PutBackAnswer, Reason, TryAnswer,
 };
 use std::marker::PhantomData;
 use std::sync::ledger::{Blank, Ledger, Share, Total};
@@ -106,7 +106,8 @@ impl<C: Drop, L: Ledger> Locked<C, L> {
 
     /// What holds of the state, whoever holds the lock. It does nothing.
     pub(crate) fn limits(&self)
-        ensures { IsWithinLimits self.now.core }
+        ensures limits { IsWithinLimits self.now.core }
+        ensures size { self.now.core.config.max_size ≡ L.parts }
     {
         self.core.limits();
     }
@@ -203,6 +204,33 @@ impl<C: Drop, L: Ledger> Locked<C, L> {
             return Err(conn);
         }
         Ok(core.add(at, conn, broken))
+    }
+
+    /// Claims the unclaimed approval of the least number, for whoever opens its connection.
+    pub(crate) fn claim(&mut self, at: Moment) -> ClaimAnswer
+        ensures { Meets self.old.core at.0 acts.Claim (claim_told result) self.new.core }
+    {
+        let Locked { core, .. } = self;
+        core.limits();
+        core.claim(at)
+    }
+
+    /// Makes idle the connection that a claimed approval brought. Where that does not fit, the connection comes back as the error.
+    pub(crate) fn opened(
+        &mut self,
+        at: Moment,
+        approval: Key,
+        conn: C,
+    ) -> Result<OpenedAnswer<C>, C>
+        ensures step { Meets self.old.core at.0 (acts.Opened approval.number conn) (returned (opened_told approval.number) result) self.new.core }
+        ensures connection { OnFit (HandsBack conn) (λ same. same ≡ conn) result }
+    {
+        let Locked { core, .. } = self;
+        core.limits();
+        if !core.fits_opened(approval) {
+            return Err(conn);
+        }
+        Ok(core.opened(at, approval, conn))
     }
 
     /// What the pool tells of itself.

@@ -2,6 +2,9 @@
 ghost use Rattle.std.specs.Prelude.{◌≡◌, ◌≤◌, ◌<◌, Bool, true, false, IfOk, IfErr};
 ghost use Rattle.std.specs.Arc.{arc_value};
 ghost use Rattle.bb8_core.specs.Settings.{settings_of, default_settings, is_lawful};
+ghost use Rattle.bb8_core.specs.Outcomes.{add_told, Refuses};
+ghost use Rattle.bb8.specs.Addings.{refused, IsFound, IsTold, Adds};
+ghost use Rattle.bb8.specs.Sections.{returned, OnFit, IsSorted};
 
 use crate::Builder;
 use crate::locked::{Locked, Size, Taken, open_ledger};
@@ -121,6 +124,21 @@ impl<
     }
 }
 
+/// What the caller of an adding is told. A pool whose last handle left would have no capacity; whoever calls it has one.
+fn told<C: Drop>(answer: Result<AddAnswer<C>, C>) -> Result<(), AddError<C>>
+    ensures ledger { IsTold (returned add_told answer) result }
+    ensures connection { (conn : C) → OnFit (Refuses conn) (λ same. same ≡ conn) answer → IfErr result (λ error. refused error ≡ conn) }
+    ensures sorted { (broken : Bool) → IfOk answer (λ a. IsSorted broken a) → IfOk result (λ _. broken ≡ false) × IfErr result (λ error. IsFound error broken) }
+{
+    match answer {
+        Ok(AddAnswer::Added(_, _)) => Ok(()),
+        Ok(AddAnswer::Broken(conn)) => Err(AddError::Broken(conn)),
+        Ok(AddAnswer::NoCapacity(conn)) => Err(AddError::NoCapacity(conn)),
+        Ok(AddAnswer::Withheld(conn)) => Err(AddError::Withheld(conn)),
+        Err(conn) => Err(AddError::NoCapacity(conn)),
+    }
+}
+
 impl<
     M: ManageConnection,
     S: ErrorSink<M::Error>,
@@ -129,7 +147,7 @@ impl<
     R: Wait + Send + Sync + Drop + 'static,
     L: Ledger,
 > Pool<M, S, Z, K, R, L> {
-    ghost use Rattle.bb8.specs.Pools.{manager_in, settings_in, refused, IsFound};
+    ghost use Rattle.bb8.specs.Pools.{manager_in, settings_in};
 
     /// Adds a connection that the pool did not open. It is asked whether it is broken first, and is otherwise idle at once, and born
     /// now. It does not count as created, and no customizer prepares it. As upstream.
@@ -139,17 +157,17 @@ impl<
     pub fn add(&self, mut conn: M::Connection) -> Result<(), AddError<M::Connection>>
         ensures added { IfOk result (λ _. (after : M.Connection) × M.breaks (manager_in self.now) conn false after) }
         ensures refused { IfErr result (λ error. (broken : Bool) × M.breaks (manager_in self.now) conn broken (refused error) × IsFound error broken) }
+        ensures ledger { (broken : Bool) × (after : M.Connection) × M.breaks (manager_in self.now) conn broken after × Adds (settings_in self.now).max_size after broken result }
     {
         let shared = &*self.shared;
         let broken = shared.manager.has_broken(&mut conn);
         let at = shared.clock.now();
-        match shared.locked.lock(&shared.rt).add(at, conn, broken) {
-            Ok(AddAnswer::Added(_, _)) => Ok(()),
-            Ok(AddAnswer::Broken(conn)) => Err(AddError::Broken(conn)),
-            Ok(AddAnswer::NoCapacity(conn)) => Err(AddError::NoCapacity(conn)),
-            Ok(AddAnswer::Withheld(conn)) => Err(AddError::Withheld(conn)),
-            Err(conn) => Err(AddError::NoCapacity(conn)),
-        }
+        let answer = {
+            let mut locked = shared.locked.lock(&shared.rt);
+            locked.limits();
+            locked.add(at, conn, broken)
+        };
+        told(answer)
     }
 
     /// How many connections the pool has, how many of them are idle, and what has happened to it. As upstream.

@@ -17,6 +17,8 @@ use std::time::Duration;
 
 mod future;
 mod get;
+mod rows;
+mod threads;
 
 /// Opens connection 7 at the moment 5, finds even connections valid, and calls 0 broken.
 #[derive(Drop)]

@@ -356,7 +356,7 @@ impl<C: Drop> PoolInternals<C> {
         ensures { (conn : ℕ → C) (l : ledger.Ledger C) → table.IsLegal l → Means l self.now → result ≡ table.takes l (act_with conn l act) }
     {
         match act {
-            Act::Begin | Act::Add(_) => self.handles > 0,
+            Act::Begin | Act::Add(_) => self.fits_begin(),
             Act::Try(number) => self.takes_try(GetKey { number, place }),
             Act::GiveUp(number, _, _) => self.gets.is_alive(GetKey { number, place }),
             Act::PutBack(number, _) => self.records.is_guarded(Key { number, place }),
@@ -370,7 +370,7 @@ impl<C: Drop> PoolInternals<C> {
         ensures begin { (l : ledger.Ledger C) → table.IsLegal l → Means l self.now → result ≡ table.takes l acts.Begin }
         ensures add { (conn : C) (broken : Bool) (l : ledger.Ledger C) → table.IsLegal l → Means l self.now → result ≡ table.takes l (acts.Add conn broken) }
     {
-        self.handles > 0
+        self.handles != 0
     }
 
     /// Whether the get may try.
@@ -392,6 +392,13 @@ impl<C: Drop> PoolInternals<C> {
         ensures { (conn : C) (broken : Bool) (l : ledger.Ledger C) → table.IsLegal l → Means l self.now → result ≡ table.takes l (acts.PutBack k.number conn broken) }
     {
         self.records.is_guarded(k)
+    }
+
+    /// Whether the approval of this key is claimed and may bring its connection, whichever connection is handed in.
+    pub fn fits_opened(&self, a: Key) -> bool
+        ensures { (conn : C) (l : ledger.Ledger C) → table.IsLegal l → Means l self.now → result ≡ table.takes l (acts.Opened a.number conn) }
+    {
+        self.records.is_claimed(a)
     }
 
     /// Whether the try of a get fits.

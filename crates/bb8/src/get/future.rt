@@ -1,6 +1,5 @@
 //! The future of a get.
 ghost use Rattle.std.specs.Prelude.{◌≡◌};
-ghost use Rattle.std.specs.Duration.{as_nanos};
 
 use super::link::Link;
 use super::state::{GetState, Stage};
@@ -53,11 +52,46 @@ impl<
     R: Locks,
     L: Ledger,
 > Pool<M, S, Z, K, R, L> {
+    ghost use Rattle.bb8.specs.Pools.{stage_of, settings_for, settings_in};
+    ghost use Rattle.bb8.specs.declared.get.state.Stage.TheVariants.{Fresh as IsFresh};
+
     /// Gets a connection: an idle one, or the first that comes in the get's turn. As upstream, but for the future's name.
     ///
     /// It answers `TimedOut` once `connection_timeout` has passed since the first poll, and `Memory` or `Exhausted` where the get could
     /// not begin.
-    pub fn get(&self) -> GetFuture<'_, M, S, Z, K, R, L> {
+    pub fn get(&self) -> GetFuture<'_, M, S, Z, K, R, L>
+        ensures new { stage_of result ≡ IsFresh }
+        ensures settings { settings_for result ≡ settings_in self.now }
+    {
+        self.start_get()
+    }
+}
+
+/// What `Pool::get` does, as a method of an impl, so that such methods can call it.
+pub(crate) trait StartGet {
+    type Get;
+
+    fn start_get(self) -> Self::Get;
+}
+
+impl<
+    'a,
+    M: ManageConnection,
+    S: ErrorSink<M::Error>,
+    Z: CustomizeConnection<M::Connection, M::Error>,
+    K: Clock,
+    R: Locks,
+    L: Ledger,
+> StartGet for &'a Pool<M, S, Z, K, R, L> {
+    ghost use Rattle.bb8.specs.Pools.{stage_of, settings_for, settings_in};
+    ghost use Rattle.bb8.specs.declared.get.state.Stage.TheVariants.{Fresh as IsFresh};
+
+    type Get = GetFuture<'a, M, S, Z, K, R, L>;
+
+    fn start_get(self) -> GetFuture<'a, M, S, Z, K, R, L>
+        ensures new { stage_of result ≡ IsFresh }
+        ensures settings { settings_for result ≡ settings_in self.now }
+    {
         GetFuture {
             shared: &*self.shared,
             get: GetState::new(),
@@ -110,12 +144,13 @@ impl<
     type Answer = Result<PooledConnection<'a, M, S, Z, K, R, L>, RunError<M::Error>>;
 
     ghost use Rattle.bb8.specs.Linked.{LinkPolls, MakesGuard};
+    ghost use Rattle.bb8.specs.Pools.{stage_of, settings_for};
     ghost use Rattle.bb8.specs.declared.get.link.Link.{Link as LinkOf};
 
     /// One poll on the pool's lock, at the clock's reading.
     fn poll_link(&mut self) -> Poll<Result<(Key, M::Connection, Part<L>), RunError<M::Error>>>
-        ensures table { LinkPolls (LinkOf M.Connection R L L.Ledger) (as_nanos self.old.shared.now.config.connection_timeout) self.old.get.stage result self.new.get.stage }
-        ensures shared { self.new.shared.now.config ≡ self.old.shared.now.config }
+        ensures table { LinkPolls (LinkOf M.Connection R L L.Ledger) (settings_for self.old).connection_timeout (stage_of self.old) result (stage_of self.new) }
+        ensures settings { settings_for self.new ≡ settings_for self.old }
     {
         let shared = self.shared;
         let at = shared.clock.now();
@@ -153,6 +188,7 @@ impl<
 > Future for GetFuture<'a, M, S, Z, K, R, L> {
     ghost use Rattle.std.specs.Prelude.{Result};
     ghost use Rattle.bb8.specs.Linked.{LinkGives, MakesGuard};
+    ghost use Rattle.bb8.specs.Pools.{stage_of, settings_for};
     ghost use Rattle.bb8.specs.declared.get.link.Link.{Link as LinkOf};
     ghost use Rattle.bb8.specs.declared.locked.Part.{Part as PartOf};
     ghost use Rattle.bb8_core.specs.declared.api.errors.RunError.{RunError as RunErrorOf};
@@ -160,7 +196,7 @@ impl<
 
     type Output = Result<PooledConnection<'a, M, S, Z, K, R, L>, RunError<M::Error>>;
 
-    ghost gives = { λ f out. (x : Result (KeyOf × M.Connection × PartOf L) (RunErrorOf M.Error)) × LinkGives (LinkOf M.Connection R L L.Ledger) (as_nanos f.shared.now.config.connection_timeout) f.get.stage x × MakesGuard (λ given guard. guard.taken ≡ record { key = given.0; conn = given.1; part = given.2 }) x out };
+    ghost gives = { λ f out. (x : Result (KeyOf × M.Connection × PartOf L) (RunErrorOf M.Error)) × LinkGives (LinkOf M.Connection R L L.Ledger) (settings_for f).connection_timeout (stage_of f) x × MakesGuard (λ given guard. guard.taken ≡ record { key = given.0; conn = given.1; part = given.2 }) x out };
 
     /// One poll at the clock's reading. It is pending while the get waits before its deadline, and after its answer.
     fn poll(&mut self, cx: &mut Context<'_>) -> Poll<Self::Output> {

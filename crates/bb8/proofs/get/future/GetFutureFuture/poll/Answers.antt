@@ -1,4 +1,5 @@
-use Rattle.std.proofs.Common.{rules}
+use Rattle.std.proofs.Common.{ap}
+use Rattle.bb8_core.specs.Settings.{Settings}
 use Rattle.bb8.specs.Linked.{Answers}
 use Rattle.bb8.proofs.get.future.GetFutureFuture.poll.Goals as goal
 
@@ -6,7 +7,7 @@ pub returns-in-Pending-clause-same : goal.returns-in-Pending-clause-same
 returns-in-Pending-clause-same g c =
     rw c.yield_now.ensures.pending
     (λ x gives.
-    let rest = rw c.in-Pending.ensures.shared at gives.1 in
+    let rest = rw (ap (λ (s : Settings). s.connection_timeout) c.in-Pending.ensures.settings) at gives.1 in
     (gives.0, Answers.later _ _ _ c.in-Pending.ensures.table rest, gives.2))
 
 pub returns-clause-value : goal.returns-clause-value

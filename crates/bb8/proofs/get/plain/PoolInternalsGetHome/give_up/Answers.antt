@@ -1,4 +1,4 @@
-use Rattle.std.proofs.Common.{◌≡◌, Bool, false, None, refl, sym, ◌∙◌}
+use Rattle.std.proofs.Common.{◌≡◌, false, None, refl, sym, ◌∙◌}
 use Rattle.bb8_core.specs.Acts as acts
 use Rattle.bb8_core.specs.Outcomes.{reason_of}
 use Rattle.bb8_core.specs.Table.{takes}

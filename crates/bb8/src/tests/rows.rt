@@ -1,0 +1,216 @@
+//! Worked rows of gets that wait, through a pool. The test plays the driver that opens connections.
+ghost use Rattle.std.specs.Prelude.{◌≡◌};
+
+use super::SlowManager;
+use crate::{
+    Builder, Clock, Memory, Moment, NopCustomizer, NopErrorSink, Pool, QueueStrategy, SetClock,
+};
+use bb8_core::internals::{ClaimAnswer, OpenedAnswer};
+use futures::task::Poll;
+use futures::test::MockTask;
+use std::marker::Brand;
+use std::process::Abort;
+use std::random::RandomSource;
+use std::sync::Wait;
+use std::sync::ledger::{Blank, Ledger};
+use std::test::Fail;
+
+/// Opens the connection of the next approval, as a driver of the pool would, and tells its number. None where no approval is unclaimed.
+fn open<R: Wait + Send + Sync + Drop + 'static, L: Ledger>(
+    pool: &Pool<SlowManager, NopErrorSink, NopCustomizer, SetClock, R, L>,
+    connection: u64,
+) -> Option<u64> {
+    let shared = &*pool.shared;
+    let at = shared.clock.now();
+    let claimed = shared.locked.lock(&shared.rt).claim(at);
+    let ClaimAnswer::Claimed(Some(approval)) = claimed else {
+        return None;
+    };
+    let opened = shared
+        .locked
+        .lock(&shared.rt)
+        .opened(at, approval, connection);
+    match opened {
+        Ok(OpenedAnswer::Entered(_)) => Some(approval.number),
+        Ok(OpenedAnswer::Late(_)) | Err(_) => None,
+    }
+}
+
+/// A newer get takes the connection that was opened for one that waits, which waits again and is served at its return.
+fn overtakes<
+    R: Abort + Wait + RandomSource + AllocGlobal + Copy + Send + Sync + Drop + 'static,
+    L: Ledger,
+>(rt: R, blank: Blank) -> Result<(), Memory>
+    requires name { blank.name ≡ L.name }
+    requires parts { blank.parts ≡ L.parts }
+    requires one { blank.parts ≡ 1 }
+{
+    let clock = SetClock::new(rt.alloc(), Moment(0))?;
+    let pool: Pool<SlowManager, NopErrorSink, NopCustomizer, SetClock, R, L> = Builder::new()
+        .max_size(1)
+        .test_on_check_out(false)
+        .build_unchecked(SlowManager, clock, rt, blank)?;
+    let Ok(task) = MockTask::new(&rt) else {
+        return Err(Memory);
+    };
+    assert_eq!(&rt; open(&pool, 7), None);
+    let mut first = pool.get();
+    assert!(&rt; task.poll(&mut first).is_pending());
+    assert_eq!(&rt; open(&pool, 7), Some(0));
+    assert_eq!(&rt; open(&pool, 8), None);
+    let Poll::Ready(Ok(guard)) = task.poll(&mut pool.get()) else {
+        panic!(&rt; "the newer get was not served");
+    };
+    assert_eq!(&rt; *guard, 7);
+    assert!(&rt; task.poll(&mut first).is_pending());
+    drop(guard);
+    let Poll::Ready(Ok(guard)) = task.poll(&mut first) else {
+        panic!(&rt; "the get that was overtaken was not served");
+    };
+    assert_eq!(&rt; *guard, 7);
+    let statistics = pool.state().statistics;
+    assert_eq!(&rt; statistics.get_started, 2);
+    assert_eq!(&rt; statistics.get_direct, 1);
+    assert_eq!(&rt; statistics.get_waited, 1);
+    assert_eq!(&rt; statistics.connections_created, 1);
+    Ok(())
+}
+
+#[test]
+fn newer_get_overtakes(rt: HostRuntime) -> Result<(), Fail> {
+    overtakes::<HostRuntime, Brand>(rt, Blank::new(1))?;
+    Ok(())
+}
+
+/// Two gets wait for one connection. The one that its return notified is cancelled, and the other one is left, and is served.
+fn hands_on<
+    R: Abort + Wait + RandomSource + AllocGlobal + Copy + Send + Sync + Drop + 'static,
+    L: Ledger,
+>(rt: R, blank: Blank) -> Result<(), Memory>
+    requires name { blank.name ≡ L.name }
+    requires parts { blank.parts ≡ L.parts }
+    requires one { blank.parts ≡ 1 }
+{
+    let clock = SetClock::new(rt.alloc(), Moment(0))?;
+    let pool: Pool<SlowManager, NopErrorSink, NopCustomizer, SetClock, R, L> = Builder::new()
+        .max_size(1)
+        .test_on_check_out(false)
+        .build_unchecked(SlowManager, clock, rt, blank)?;
+    let Ok(task) = MockTask::new(&rt) else {
+        return Err(Memory);
+    };
+    let mut first = pool.get();
+    assert!(&rt; task.poll(&mut first).is_pending());
+    assert_eq!(&rt; open(&pool, 7), Some(0));
+    let Poll::Ready(Ok(guard)) = task.poll(&mut first) else {
+        panic!(&rt; "the first get was not served");
+    };
+    let mut second = pool.get();
+    assert!(&rt; task.poll(&mut second).is_pending());
+    let mut third = pool.get();
+    assert!(&rt; task.poll(&mut third).is_pending());
+    drop(guard);
+    second.cancel();
+    let state = pool.state();
+    assert_eq!(&rt; state.idle_connections, 1);
+    assert_eq!(&rt; state.statistics.get_cancelled, 1);
+    assert_eq!(&rt; state.statistics.pending_gets(), 1);
+    assert!(&rt; matches!(task.poll(&mut third), Poll::Ready(Ok(_))));
+    Ok(())
+}
+
+#[test]
+fn cancelled_get_hands_on(rt: HostRuntime) -> Result<(), Fail> {
+    hands_on::<HostRuntime, Brand>(rt, Blank::new(1))?;
+    Ok(())
+}
+
+/// A get waits 5999 nanoseconds for the only connection, which count as 5 microseconds.
+fn waits_shortly<
+    R: Abort + Wait + RandomSource + AllocGlobal + Copy + Send + Sync + Drop + 'static,
+    L: Ledger,
+>(rt: R, blank: Blank) -> Result<(), Memory>
+    requires name { blank.name ≡ L.name }
+    requires parts { blank.parts ≡ L.parts }
+    requires one { blank.parts ≡ 1 }
+{
+    let clock = SetClock::new(rt.alloc(), Moment(0))?;
+    let pool: Pool<SlowManager, NopErrorSink, NopCustomizer, SetClock, R, L> = Builder::new()
+        .max_size(1)
+        .min_idle(Some(1))
+        .test_on_check_out(false)
+        .build_unchecked(SlowManager, clock.try_clone()?, rt, blank)?;
+    let Ok(task) = MockTask::new(&rt) else {
+        return Err(Memory);
+    };
+    assert_eq!(&rt; open(&pool, 7), Some(0));
+    let Poll::Ready(Ok(guard)) = task.poll(&mut pool.get()) else {
+        panic!(&rt; "the first get was not served");
+    };
+    let mut second = pool.get();
+    assert!(&rt; task.poll(&mut second).is_pending());
+    clock.set(Moment(5999));
+    drop(guard);
+    assert!(&rt; matches!(task.poll(&mut second), Poll::Ready(Ok(_))));
+    let statistics = pool.state().statistics;
+    assert_eq!(&rt; statistics.get_direct, 1);
+    assert_eq!(&rt; statistics.get_waited, 1);
+    assert_eq!(&rt; statistics.get_wait_time.as_nanos(), 5000);
+    Ok(())
+}
+
+#[test]
+fn short_wait_counts_in_whole_microseconds(rt: HostRuntime) -> Result<(), Fail> {
+    waits_shortly::<HostRuntime, Brand>(rt, Blank::new(1))?;
+    Ok(())
+}
+
+/// A connection that came back serves the next get; a second one is opened only for a get that finds none.
+fn uses_again<
+    R: Abort + Wait + RandomSource + AllocGlobal + Copy + Send + Sync + Drop + 'static,
+    L: Ledger,
+>(rt: R, blank: Blank) -> Result<(), Memory>
+    requires name { blank.name ≡ L.name }
+    requires parts { blank.parts ≡ L.parts }
+    requires hundred { blank.parts ≡ 100 }
+{
+    let clock = SetClock::new(rt.alloc(), Moment(0))?;
+    let pool: Pool<SlowManager, NopErrorSink, NopCustomizer, SetClock, R, L> = Builder::new()
+        .max_size(100)
+        .min_idle(Some(0))
+        .queue_strategy(QueueStrategy::Lifo)
+        .test_on_check_out(false)
+        .build_unchecked(SlowManager, clock, rt, blank)?;
+    let Ok(task) = MockTask::new(&rt) else {
+        return Err(Memory);
+    };
+    let mut first = pool.get();
+    assert!(&rt; task.poll(&mut first).is_pending());
+    assert_eq!(&rt; open(&pool, 7), Some(0));
+    let Poll::Ready(Ok(guard)) = task.poll(&mut first) else {
+        panic!(&rt; "the first get was not served");
+    };
+    drop(guard);
+    let Poll::Ready(Ok(second)) = task.poll(&mut pool.get()) else {
+        panic!(&rt; "the second get was not served");
+    };
+    assert_eq!(&rt; *second, 7);
+    let mut third = pool.get();
+    assert!(&rt; task.poll(&mut third).is_pending());
+    assert_eq!(&rt; open(&pool, 8), Some(1));
+    assert_eq!(&rt; open(&pool, 9), None);
+    let Poll::Ready(Ok(third)) = task.poll(&mut third) else {
+        panic!(&rt; "the third get was not served");
+    };
+    assert_eq!(&rt; *third, 8);
+    let state = pool.state();
+    assert_eq!(&rt; (state.connections, state.idle_connections), (2, 0));
+    assert_eq!(&rt; state.statistics.connections_created, 2);
+    Ok(())
+}
+
+#[test]
+fn returned_connection_is_used_again(rt: HostRuntime) -> Result<(), Fail> {
+    uses_again::<HostRuntime, Brand>(rt, Blank::new(100))?;
+    Ok(())
+}

@@ -1,0 +1,80 @@
+//! Two threads that get and return through one pool.
+ghost use Rattle.std.specs.Prelude.{◌≡◌};
+
+use super::SlowManager;
+use crate::get::StartGet;
+use crate::{Builder, Memory, Moment, NopCustomizer, NopErrorSink, Pool, SetClock};
+use futures::executor::block_on;
+use std::marker::Brand;
+use std::process::Abort;
+use std::random::RandomSource;
+use std::sync::Wait;
+use std::sync::ledger::{Blank, Ledger};
+use std::test::Fail;
+use std::thread::{Threads, join};
+
+/// What a thread of a test does.
+trait Job {
+    /// Does it, and tells whether all went as it should.
+    fn run(&self) -> bool;
+}
+
+/// A thousand gets of the connection 7, each of which is given back before the next.
+#[derive(Drop)]
+struct Rounds<
+    'a,
+    R: Wait + RandomSource + AllocGlobal + Copy + Send + Sync + Drop + 'static,
+    L: Ledger,
+> {
+    pool: &'a Pool<SlowManager, NopErrorSink, NopCustomizer, SetClock, R, L>,
+    rt: R,
+}
+
+impl<R: Wait + RandomSource + AllocGlobal + Copy + Send + Sync + Drop + 'static, L: Ledger> Job
+    for Rounds<'_, R, L> {
+    /// Whether each get was served.
+    fn run(&self) -> bool {
+        for _ in 0..1000u32 {
+            match block_on(&self.rt, self.pool.start_get()) {
+                Ok(Ok(guard)) if *guard == 7 => {}
+                _ => return false,
+            }
+        }
+        true
+    }
+}
+
+/// Runs a job on two threads.
+fn twice(rt: &impl Threads, job: &(impl Job + Sync)) -> (bool, bool) {
+    join(rt, || job.run(), || job.run())
+}
+
+/// Two threads share a pool of one connection. Each get is served in its turn, and at the end the connection is idle.
+fn shares_one<
+    R: Abort + Threads + Wait + RandomSource + AllocGlobal + Copy + Send + Sync + Drop + 'static,
+    L: Ledger + Send + Sync + 'static,
+>(rt: R, blank: Blank) -> Result<(), Memory>
+    requires name { blank.name ≡ L.name }
+    requires parts { blank.parts ≡ L.parts }
+    requires one { blank.parts ≡ 1 }
+{
+    let clock = SetClock::new(rt.alloc(), Moment(0))?;
+    let pool: Pool<SlowManager, NopErrorSink, NopCustomizer, SetClock, R, L> = Builder::new()
+        .max_size(1)
+        .test_on_check_out(false)
+        .build_unchecked(SlowManager, clock, rt, blank)?;
+    assert_eq!(&rt; pool.add(7), Ok(()));
+    assert_eq!(&rt; twice(&rt, &Rounds { pool: &pool, rt }), (true, true));
+    let state = pool.state();
+    assert_eq!(&rt; (state.connections, state.idle_connections), (1, 1));
+    assert_eq!(&rt; state.statistics.get_started, 2000);
+    assert_eq!(&rt; state.statistics.completed_gets(), 2000);
+    assert_eq!(&rt; state.statistics.pending_gets(), 0);
+    Ok(())
+}
+
+#[test]
+fn two_threads_share_one(rt: HostRuntime) -> Result<(), Fail> {
+    shares_one::<HostRuntime, Brand>(rt, Blank::new(1))?;
+    Ok(())
+}
