@@ -1,12 +1,14 @@
 //! A pool of connections: its builder, and all that `bb8_core` gives to a user.
 //!
-//! Build a pool, get a connection, use it, give it back:
+//! Build a pool, get a connection, use it, give it back. The pool's type names a runtime `R`, for its lock, and a ledger `L` of as many
+//! parts as `max_size`, so whoever uses one is a function over both, which a `main` calls as `serve::<HostRuntime, Brand>(rt,
+//! Blank::new(4))`:
 //!
 //! ```text
 //! let pool: Pool<Manager, NopErrorSink, NopCustomizer, SetClock, R, L> = Builder::new()
 //!     .max_size(4)
 //!     .test_on_check_out(false)
-//!     .build_unchecked(manager, clock, rt, blank)?;    // `blank` is a ledger's, of as many parts as `max_size`
+//!     .build_unchecked(manager, clock, rt, blank)?;
 //! pool.add(connection)?;                               // until a driver opens connections, they are added
 //! let mut get = pool.get();                            // a future: nothing happens until it is polled
 //! if let Poll::Ready(Ok(mut guard)) = get.poll(&mut context) {

@@ -10,7 +10,8 @@ use crate::Builder;
 use crate::locked::{Locked, Size, Taken, open_ledger};
 use crate::locks::Locks;
 use bb8_core::api::{
-    AddError, Clock, Config, CustomizeConnection, ErrorSink, ManageConnection, Memory, State,
+    AddError, Clock, Config, CustomizeConnection, ErrorSink, ManageConnection, Memory,
+    NopCustomizer, NopErrorSink, SetClock, State,
 };
 use bb8_core::internals::{AddAnswer, PoolInternals};
 use std::alloc::Global;
@@ -191,18 +192,28 @@ impl<
 > Pool<M, S, Z, K, R, L> {
     ghost use Rattle.bb8.specs.Pools.{settings_in};
 
-    /// A builder with each setting at its default. As upstream.
+    /// The settings that the pool was built with. As upstream.
+    pub fn config(&self) -> Config
+        ensures { settings_of result ≡ settings_in self.now }
+    {
+        self.shared.config
+    }
+}
+
+impl<M: ManageConnection, R: Locks, L: Ledger> Pool<
+    M,
+    NopErrorSink,
+    NopCustomizer,
+    SetClock,
+    R,
+    L,
+> {
+    /// A builder with each setting at its default. As upstream; it is a call of the pools whose errors go nowhere, whose connections
+    /// nothing prepares and whose moment is set.
     pub fn builder() -> Builder<M>
         ensures { result.settings ≡ default_settings }
     {
         Builder::new()
-    }
-
-    /// The settings that the pool was built with. As upstream.
-    pub fn config(&self) -> &Config
-        ensures { settings_of result.now ≡ settings_in self.now }
-    {
-        &self.shared.config
     }
 }
 
@@ -214,7 +225,7 @@ impl<
     R: Locks,
     L: Ledger,
 > Debug for Pool<M, S, Z, K, R, L> {
-    /// `Pool(..)`, without its parts. Our own: upstream prints what is inside.
+    /// `Pool(..)`, without its parts. Our own: upstream prints an address.
     fn fmt<W: fmt::Write>(&self, f: &mut Formatter<W>) -> fmt::Result {
         f.write_str("Pool(..)")
     }

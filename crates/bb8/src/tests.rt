@@ -1,24 +1,35 @@
-//! Every setter and every error once, and each trait implemented once and called through its bound.
+//! What the tests share; every setter and every error once, and each trait implemented once and called through its bound.
 ghost use Rattle.std.specs.Prelude.{◌≡◌, ◌<◌, ◌==◌};
 ghost use Rattle.futures.specs.declared.task.Poll.TheVariants.{Pending};
 
+mod future;
+mod get;
 mod pool;
+mod rows;
+mod threads;
 
 use crate::{
     AddError, Builder, Clock, Config, CustomizeConnection, ErrorSink, FirstPoll, ManageConnection,
-    Memory, Moment, NopCustomizer, NopErrorSink, QueueStrategy, RunError, first_connect,
+    Memory, Moment, NopCustomizer, NopErrorSink, Pool, QueueStrategy, RunError, SetClock,
+    first_connect,
 };
 use futures::task::Poll;
 use std::error::Error;
 use std::fmt;
 use std::process::Abort;
+use std::random::RandomSource;
+use std::sync::Wait;
 use std::test::Fail;
 use std::time::Duration;
 
-mod future;
-mod get;
-mod rows;
-mod threads;
+/// What a test of a pool asks of its runtime.
+trait Runtime: Abort + Wait + RandomSource + AllocGlobal + Copy + Send + Sync + Drop + 'static {}
+
+impl<R: Abort + Wait + RandomSource + AllocGlobal + Copy + Send + Sync + Drop + 'static> Runtime
+    for R {}
+
+/// A pool whose connections are numbers.
+type NumberPool<R, L> = Pool<SlowManager, NopErrorSink, NopCustomizer, SetClock, R, L>;
 
 /// Opens connection 7 at the moment 5, finds even connections valid, and calls 0 broken.
 #[derive(Drop)]

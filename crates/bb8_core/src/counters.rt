@@ -14,16 +14,27 @@ use std::time::Duration;
 /// How often each thing happened; the wait time in whole microseconds.
 #[derive(Clone, Copy)]
 pub struct Counters {
+    /// Gets that began.
     pub started: u64,
+    /// Gets that were served without waiting.
     pub direct: u64,
+    /// Gets that were served after waiting.
     pub waited: u64,
+    /// Gets that timed out.
     pub timed_out: u64,
+    /// Gets that were let go.
     pub cancelled: u64,
+    /// The time that served and timed out gets waited, in microseconds.
     pub wait_micros: u64,
+    /// Connections that an approval brought.
     pub created: u64,
+    /// Connections that were closed as broken.
     pub broken: u64,
+    /// Connections that were closed after a failed check.
     pub invalid: u64,
+    /// Connections that were closed as they had lived too long.
     pub max_lifetime: u64,
+    /// Connections that were closed as they had been idle too long.
     pub idle_timeout: u64,
 }
 

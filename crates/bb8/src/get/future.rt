@@ -2,12 +2,12 @@
 ghost use Rattle.std.specs.Prelude.{◌≡◌};
 
 use super::link::Link;
-use super::state::{GetState, Stage};
+use super::state::GetState;
 use crate::locked::{Part, Taken};
 use crate::locks::Locks;
 use crate::pool::{Pool, PooledConnection, Shared};
 use bb8_core::api::{Clock, CustomizeConnection, ErrorSink, ManageConnection, RunError};
-use bb8_core::internals::{Key, Reason};
+use bb8_core::internals::Key;
 use futures::Future;
 use futures::task::{Context, Poll};
 use std::sync::Wait;
@@ -38,7 +38,7 @@ impl<
     R: Locks,
     L: Ledger,
 > GetFuture<'_, M, S, Z, K, R, L> {
-    /// Lets the get go, as a drop does. Our own.
+    /// Lets the get go, as a drop does, for which it may wait for the lock. Our own.
     pub fn cancel(self) {
         drop(self)
     }
@@ -108,14 +108,9 @@ impl<
     L: Ledger,
 > Drop for GetFuture<'_, M, S, Z, K, R, L> {
     fn drop(self) {
-        let GetFuture { shared, get } = self;
-        if let Stage::Trying(key, _) | Stage::Waiting(key, _) = get.stage {
-            let at = shared.clock.now();
-            let _ = shared
-                .rt
-                .take(&shared.locked)
-                .give_up(at, key, Reason::Cancelled);
-        }
+        let GetFuture { shared, mut get } = self;
+        let at = shared.clock.now();
+        get.cancel_step(&mut Link::new(&shared.locked, &shared.rt), at);
     }
 }
 

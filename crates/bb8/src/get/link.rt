@@ -8,13 +8,14 @@ ghost use Rattle.bb8.specs.Homes.{Hands, OnSome, begin_step_told, try_step_told,
 
 use super::home::{BeginStep, GetHome, GiveUpStep, TryStep};
 use crate::locked::{Locked, Part, Taken, Tried, Unfit};
+use crate::locks::Locks;
 use bb8_core::api::Moment;
 use bb8_core::internals::{BeginAnswer, GetKey, GiveUpAnswer, Looked, Reason};
+use std::sync::Mutex;
 use std::sync::ledger::Ledger;
-use std::sync::{Mutex, Wait};
 
 /// A pool's lock, which is taken for each step. Between two steps others may change the state, so each answer is one that some state
-/// that keeps the limits gives.
+/// that keeps the limits gives; `limits` says so of the state at hand, and does nothing.
 #[derive(Drop)]
 pub(crate) struct Link<'a, C, R, L: Ledger> {
     locked: &'a Mutex<Locked<C, L>>,
@@ -65,7 +66,7 @@ fn give_up_step(answer: Result<GiveUpAnswer, Unfit>) -> GiveUpStep
     }
 }
 
-impl<C: Drop, R: Wait, L: Ledger> GetHome<C> for Link<'_, C, R, L> {
+impl<C: Drop, R: Locks, L: Ledger> GetHome<C> for Link<'_, C, R, L> {
     type Part = Part<L>;
 
     ghost looks = { λ _ at seen _. OnSome {C = C} at.0 acts.Look (look_told seen) (λ _. ⊤) };
@@ -77,25 +78,25 @@ impl<C: Drop, R: Wait, L: Ledger> GetHome<C> for Link<'_, C, R, L> {
     ghost gives_up = { λ _ at get reason step _. OnSome {C = C} at.0 (acts.GiveUp get.number (reason_of reason) None false) (give_up_step_told step) (λ _. ⊤) };
 
     fn look(&mut self, at: Moment) -> Looked {
-        let mut locked = self.locked.lock(self.rt);
+        let mut locked = self.rt.take(self.locked);
         locked.limits();
         locked.look(at)
     }
 
     fn begin(&mut self, at: Moment) -> BeginStep {
-        let mut locked = self.locked.lock(self.rt);
+        let mut locked = self.rt.take(self.locked);
         locked.limits();
         begin_step(locked.begin(at))
     }
 
     fn try_get(&mut self, at: Moment, get: GetKey) -> TryStep<C, Part<L>> {
-        let mut locked = self.locked.lock(self.rt);
+        let mut locked = self.rt.take(self.locked);
         locked.limits();
         try_step(locked.try_get(at, get))
     }
 
     fn give_up(&mut self, at: Moment, get: GetKey, reason: Reason) -> GiveUpStep {
-        let mut locked = self.locked.lock(self.rt);
+        let mut locked = self.rt.take(self.locked);
         locked.limits();
         give_up_step(locked.give_up(at, get, reason))
     }

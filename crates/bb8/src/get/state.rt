@@ -17,7 +17,8 @@ use std::time::Duration;
 pub enum Stage {
     /// It was not polled yet.
     Fresh,
-    /// It began, and has neither a connection nor a place among the waiters.
+    /// It began, and has neither a connection nor a place among the waiters. No get stands so yet: only a check that fails will leave
+    /// one here.
     Trying(GetKey, Option<Moment>),
     /// It waits.
     Waiting(GetKey, Option<Moment>),

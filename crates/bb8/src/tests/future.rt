@@ -1,29 +1,23 @@
 //! The future of a get, polled by hand.
 ghost use Rattle.std.specs.Prelude.{◌≡◌};
 
-use super::SlowManager;
-use crate::{Builder, Memory, Moment, NopCustomizer, NopErrorSink, Pool, RunError, SetClock};
+use super::{NumberPool, Runtime, SlowManager};
+use crate::{Builder, Memory, Moment, RunError, SetClock};
 use futures::task::Poll;
 use futures::test::MockTask;
 use std::marker::Brand;
-use std::process::Abort;
-use std::random::RandomSource;
-use std::sync::Wait;
 use std::sync::ledger::{Blank, Ledger};
 use std::test::Fail;
 use std::time::Duration;
 
 /// A pool of one connection: a get is served, others wait, and one of those is let go, one is served, and one times out.
-fn waits<
-    R: Abort + Wait + RandomSource + AllocGlobal + Copy + Send + Sync + Drop + 'static,
-    L: Ledger,
->(rt: R, blank: Blank) -> Result<(), Memory>
+fn waits<R: Runtime, L: Ledger>(rt: R, blank: Blank) -> Result<(), Memory>
     requires name { blank.name ≡ L.name }
     requires parts { blank.parts ≡ L.parts }
     requires one { blank.parts ≡ 1 }
 {
     let clock = SetClock::new(rt.alloc(), Moment(5))?;
-    let pool: Pool<SlowManager, NopErrorSink, NopCustomizer, SetClock, R, L> = Builder::new()
+    let pool: NumberPool<R, L> = Builder::new()
         .max_size(1)
         .test_on_check_out(false)
         .connection_timeout(Duration::from_nanos(10))
@@ -68,16 +62,13 @@ fn waits_for_one(rt: HostRuntime) -> Result<(), Fail> {
 }
 
 /// The one connection is out; a get waits for it and is let go, and the next one is served at its first poll.
-fn serves_the_third<
-    R: Abort + Wait + RandomSource + AllocGlobal + Copy + Send + Sync + Drop + 'static,
-    L: Ledger,
->(rt: R, blank: Blank) -> Result<(), Memory>
+fn serves_the_third<R: Runtime, L: Ledger>(rt: R, blank: Blank) -> Result<(), Memory>
     requires name { blank.name ≡ L.name }
     requires parts { blank.parts ≡ L.parts }
     requires one { blank.parts ≡ 1 }
 {
     let clock = SetClock::new(rt.alloc(), Moment(0))?;
-    let pool: Pool<SlowManager, NopErrorSink, NopCustomizer, SetClock, R, L> = Builder::new()
+    let pool: NumberPool<R, L> = Builder::new()
         .max_size(1)
         .test_on_check_out(false)
         .build_unchecked(SlowManager, clock, rt, blank)?;
@@ -111,16 +102,17 @@ fn serves_after_a_cancelled_caller(rt: HostRuntime) -> Result<(), Fail> {
 }
 
 /// A get that waits since the moment 0 is polled at its deadline, one second later; before that poll a connection is added, or not.
-fn polled_at_the_deadline<
-    R: Abort + Wait + RandomSource + AllocGlobal + Copy + Send + Sync + Drop + 'static,
-    L: Ledger,
->(rt: R, blank: Blank, is_added: bool) -> Result<(), Memory>
+fn polled_at_the_deadline<R: Runtime, L: Ledger>(
+    rt: R,
+    blank: Blank,
+    is_added: bool,
+) -> Result<(), Memory>
     requires name { blank.name ≡ L.name }
     requires parts { blank.parts ≡ L.parts }
     requires two { blank.parts ≡ 2 }
 {
     let clock = SetClock::new(rt.alloc(), Moment(0))?;
-    let pool: Pool<SlowManager, NopErrorSink, NopCustomizer, SetClock, R, L> = Builder::new()
+    let pool: NumberPool<R, L> = Builder::new()
         .max_size(2)
         .test_on_check_out(false)
         .connection_timeout(Duration::from_secs(1))
@@ -149,5 +141,44 @@ fn polled_at_the_deadline<
 fn tries_before_it_times_out(rt: HostRuntime) -> Result<(), Fail> {
     polled_at_the_deadline::<HostRuntime, Brand>(rt, Blank::new(2), false)?;
     polled_at_the_deadline::<HostRuntime, Brand>(rt, Blank::new(2), true)?;
+    Ok(())
+}
+
+/// A get whose deadline is the greatest moment times out there; one that was first polled later has no deadline. After its answer a poll
+/// is pending, and changes nothing.
+fn ends_with_the_clock<R: Runtime, L: Ledger>(rt: R, blank: Blank) -> Result<(), Memory>
+    requires name { blank.name ≡ L.name }
+    requires parts { blank.parts ≡ L.parts }
+    requires two { blank.parts ≡ 2 }
+{
+    let clock = SetClock::new(rt.alloc(), Moment(18_446_744_072_709_551_615))?;
+    let pool: NumberPool<R, L> = Builder::new()
+        .max_size(2)
+        .test_on_check_out(false)
+        .connection_timeout(Duration::from_secs(1))
+        .build_unchecked(SlowManager, clock.try_clone()?, rt, blank)?;
+    let Ok(task) = MockTask::new(&rt) else {
+        return Err(Memory);
+    };
+    let mut get = pool.get();
+    assert!(&rt; task.poll(&mut get).is_pending());
+    clock.set(Moment(18_446_744_073_709_551_605));
+    let mut endless = pool.get();
+    assert!(&rt; task.poll(&mut endless).is_pending());
+    clock.set(Moment(18_446_744_073_709_551_615));
+    assert!(&rt; matches!(task.poll(&mut get), Poll::Ready(Err(RunError::TimedOut))));
+    assert!(&rt; task.poll(&mut endless).is_pending());
+    let before = pool.state();
+    assert!(&rt; task.poll(&mut get).is_pending());
+    get.cancel();
+    assert_eq!(&rt; pool.state(), before);
+    assert_eq!(&rt; before.statistics.get_timed_out, 1);
+    assert_eq!(&rt; before.statistics.pending_gets(), 1);
+    Ok(())
+}
+
+#[test]
+fn waits_at_the_end_of_the_clock(rt: HostRuntime) -> Result<(), Fail> {
+    ends_with_the_clock::<HostRuntime, Brand>(rt, Blank::new(2))?;
     Ok(())
 }

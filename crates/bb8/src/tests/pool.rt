@@ -1,66 +1,47 @@
 //! A pool behind its lock: what goes out comes back, and what is broken or too old does not stay.
 ghost use Rattle.std.specs.Prelude.{◌≡◌};
 
-use super::SlowManager;
-use crate::locked::Tried;
-use crate::{
-    AddError, Builder, Clock, Moment, NopCustomizer, NopErrorSink, Pool, PooledConnection, SetClock,
-};
-use bb8_core::internals::{BeginAnswer, Reason};
+use super::{NumberPool, Runtime, SlowManager};
+use crate::{AddError, Builder, Moment, NopCustomizer, NopErrorSink, PooledConnection, SetClock};
+use futures::task::Poll;
+use futures::test::MockTask;
 use std::marker::Brand;
-use std::process::Abort;
-use std::sync::Wait;
 use std::sync::ledger::{Blank, Ledger};
 use std::test::Fail;
 use std::time::Duration;
 
-/// A guard, by the sections that a get takes. A get that would wait is given up.
-fn guard<R: Wait + Send + Sync + Drop + 'static, L: Ledger>(
-    pool: &Pool<SlowManager, NopErrorSink, NopCustomizer, SetClock, R, L>,
-) -> Option<PooledConnection<'_, SlowManager, NopErrorSink, NopCustomizer, SetClock, R, L>> {
-    let shared = &*pool.shared;
-    let at = shared.clock.now();
-    let get = match shared.locked.lock(&shared.rt).begin(at) {
-        Ok(BeginAnswer::Begun(get)) => get,
-        _ => return None,
-    };
-    let tried = shared.locked.lock(&shared.rt).try_get(at, get);
-    match tried {
-        Ok(Tried::Served(taken, _)) => Some(PooledConnection { shared, taken }),
-        Ok(Tried::Waiting(_)) => {
-            let _ = shared
-                .locked
-                .lock(&shared.rt)
-                .give_up(at, get, Reason::Cancelled);
-            None
-        }
-        Err(_) => None,
+/// The guard of a get that is polled once. A get that would wait is let go.
+fn guard<'a, R: Runtime, L: Ledger>(
+    task: &MockTask,
+    pool: &'a NumberPool<R, L>,
+) -> Option<PooledConnection<'a, SlowManager, NopErrorSink, NopCustomizer, SetClock, R, L>> {
+    match task.poll(&mut pool.get()) {
+        Poll::Ready(served) => served.ok(),
+        Poll::Pending => None,
     }
 }
 
 /// Lends the connections 7 and 8 of a pool of two, and takes them back: whole, broken, and too old.
-fn lends<R: Abort + Wait + AllocGlobal + Copy + Send + Sync + Drop + 'static, L: Ledger>(
-    rt: R,
-    blank: Blank,
-) -> Result<(), Fail>
+fn lends<R: Runtime, L: Ledger>(rt: R, blank: Blank) -> Result<(), Fail>
     requires name { blank.name ≡ L.name }
     requires parts { blank.parts ≡ L.parts }
     requires two { blank.parts ≡ 2 }
 {
     let clock = SetClock::new(rt.alloc(), Moment(5))?;
-    let pool: Pool<SlowManager, NopErrorSink, NopCustomizer, SetClock, R, L> = Builder::new()
+    let task = MockTask::new(&rt)?;
+    let pool = NumberPool::<R, L>::builder()
         .max_size(2)
         .test_on_check_out(false)
         .max_lifetime(Some(Duration::from_nanos(10)))
-        .build_unchecked(SlowManager, clock.try_clone()?, rt, blank)?;
+        .build_unchecked::<SetClock, R, L>(SlowManager, clock.try_clone()?, rt, blank)?;
     assert_eq!(&rt; pool.config().max_size, 2);
     assert_eq!(&rt; pool.add(7), Ok(()));
     assert_eq!(&rt; pool.add(0), Err(AddError::Broken(0)));
     assert_eq!(&rt; pool.add(8), Ok(()));
     assert_eq!(&rt; pool.add(9), Err(AddError::NoCapacity(9)));
-    let first = guard(&pool);
-    let second = guard(&pool);
-    assert!(&rt; guard(&pool).is_none());
+    let first = guard(&task, &pool);
+    let second = guard(&task, &pool);
+    assert!(&rt; guard(&task, &pool).is_none());
     let state = pool.state();
     assert_eq!(&rt; (state.connections, state.idle_connections), (2, 0));
     assert_eq!(&rt; first.as_deref(), Some(&7));
@@ -75,7 +56,7 @@ fn lends<R: Abort + Wait + AllocGlobal + Copy + Send + Sync + Drop + 'static, L:
     let state = pool.state();
     assert_eq!(&rt; (state.connections, state.idle_connections), (1, 1));
     assert_eq!(&rt; state.statistics.connections_closed_broken, 1);
-    let again = guard(&pool);
+    let again = guard(&task, &pool);
     clock.set(Moment(15));
     drop(again);
     let state = pool.state();
@@ -91,16 +72,16 @@ fn lends<R: Abort + Wait + AllocGlobal + Copy + Send + Sync + Drop + 'static, L:
 fn is_shared<T: Send + Sync>(_: &T) {}
 
 /// The two first approvals of a pool of two leave no room for a connection that is added.
-fn keeps_room<
-    R: Abort + Wait + AllocGlobal + Copy + Send + Sync + Drop + 'static,
-    L: Ledger + Send + Sync + 'static,
->(rt: R, blank: Blank) -> Result<(), Fail>
+fn keeps_room<R: Runtime, L: Ledger + Send + Sync + 'static>(
+    rt: R,
+    blank: Blank,
+) -> Result<(), Fail>
     requires name { blank.name ≡ L.name }
     requires parts { blank.parts ≡ L.parts }
     requires two { blank.parts ≡ 2 }
 {
     let clock = SetClock::new(rt.alloc(), Moment(5))?;
-    let pool: Pool<SlowManager, NopErrorSink, NopCustomizer, SetClock, R, L> = Builder::new()
+    let pool: NumberPool<R, L> = Builder::new()
         .max_size(2)
         .min_idle(Some(2))
         .test_on_check_out(false)

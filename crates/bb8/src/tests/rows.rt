@@ -1,25 +1,17 @@
 //! Worked rows of gets that wait, through a pool. The test plays the driver that opens connections.
 ghost use Rattle.std.specs.Prelude.{◌≡◌};
 
-use super::SlowManager;
-use crate::{
-    Builder, Clock, Memory, Moment, NopCustomizer, NopErrorSink, Pool, QueueStrategy, SetClock,
-};
+use super::{NumberPool, Runtime, SlowManager};
+use crate::{Builder, Clock, Memory, Moment, QueueStrategy, SetClock};
 use bb8_core::internals::{ClaimAnswer, OpenedAnswer};
 use futures::task::Poll;
 use futures::test::MockTask;
 use std::marker::Brand;
-use std::process::Abort;
-use std::random::RandomSource;
-use std::sync::Wait;
 use std::sync::ledger::{Blank, Ledger};
 use std::test::Fail;
 
 /// Opens the connection of the next approval, as a driver of the pool would, and tells its number. None where no approval is unclaimed.
-fn open<R: Wait + Send + Sync + Drop + 'static, L: Ledger>(
-    pool: &Pool<SlowManager, NopErrorSink, NopCustomizer, SetClock, R, L>,
-    connection: u64,
-) -> Option<u64> {
+fn open<R: Runtime, L: Ledger>(pool: &NumberPool<R, L>, connection: u64) -> Option<u64> {
     let shared = &*pool.shared;
     let at = shared.clock.now();
     let claimed = shared.locked.lock(&shared.rt).claim(at);
@@ -37,16 +29,13 @@ fn open<R: Wait + Send + Sync + Drop + 'static, L: Ledger>(
 }
 
 /// A newer get takes the connection that was opened for one that waits, which waits again and is served at its return.
-fn overtakes<
-    R: Abort + Wait + RandomSource + AllocGlobal + Copy + Send + Sync + Drop + 'static,
-    L: Ledger,
->(rt: R, blank: Blank) -> Result<(), Memory>
+fn overtakes<R: Runtime, L: Ledger>(rt: R, blank: Blank) -> Result<(), Memory>
     requires name { blank.name ≡ L.name }
     requires parts { blank.parts ≡ L.parts }
     requires one { blank.parts ≡ 1 }
 {
     let clock = SetClock::new(rt.alloc(), Moment(0))?;
-    let pool: Pool<SlowManager, NopErrorSink, NopCustomizer, SetClock, R, L> = Builder::new()
+    let pool: NumberPool<R, L> = Builder::new()
         .max_size(1)
         .test_on_check_out(false)
         .build_unchecked(SlowManager, clock, rt, blank)?;
@@ -83,16 +72,13 @@ fn newer_get_overtakes(rt: HostRuntime) -> Result<(), Fail> {
 }
 
 /// Two gets wait for one connection. The one that its return notified is cancelled, and the other one is left, and is served.
-fn hands_on<
-    R: Abort + Wait + RandomSource + AllocGlobal + Copy + Send + Sync + Drop + 'static,
-    L: Ledger,
->(rt: R, blank: Blank) -> Result<(), Memory>
+fn hands_on<R: Runtime, L: Ledger>(rt: R, blank: Blank) -> Result<(), Memory>
     requires name { blank.name ≡ L.name }
     requires parts { blank.parts ≡ L.parts }
     requires one { blank.parts ≡ 1 }
 {
     let clock = SetClock::new(rt.alloc(), Moment(0))?;
-    let pool: Pool<SlowManager, NopErrorSink, NopCustomizer, SetClock, R, L> = Builder::new()
+    let pool: NumberPool<R, L> = Builder::new()
         .max_size(1)
         .test_on_check_out(false)
         .build_unchecked(SlowManager, clock, rt, blank)?;
@@ -126,16 +112,13 @@ fn cancelled_get_hands_on(rt: HostRuntime) -> Result<(), Fail> {
 }
 
 /// A get waits 5999 nanoseconds for the only connection, which count as 5 microseconds.
-fn waits_shortly<
-    R: Abort + Wait + RandomSource + AllocGlobal + Copy + Send + Sync + Drop + 'static,
-    L: Ledger,
->(rt: R, blank: Blank) -> Result<(), Memory>
+fn waits_shortly<R: Runtime, L: Ledger>(rt: R, blank: Blank) -> Result<(), Memory>
     requires name { blank.name ≡ L.name }
     requires parts { blank.parts ≡ L.parts }
     requires one { blank.parts ≡ 1 }
 {
     let clock = SetClock::new(rt.alloc(), Moment(0))?;
-    let pool: Pool<SlowManager, NopErrorSink, NopCustomizer, SetClock, R, L> = Builder::new()
+    let pool: NumberPool<R, L> = Builder::new()
         .max_size(1)
         .min_idle(Some(1))
         .test_on_check_out(false)
@@ -166,16 +149,13 @@ fn short_wait_counts_in_whole_microseconds(rt: HostRuntime) -> Result<(), Fail> 
 }
 
 /// A connection that came back serves the next get; a second one is opened only for a get that finds none.
-fn uses_again<
-    R: Abort + Wait + RandomSource + AllocGlobal + Copy + Send + Sync + Drop + 'static,
-    L: Ledger,
->(rt: R, blank: Blank) -> Result<(), Memory>
+fn uses_again<R: Runtime, L: Ledger>(rt: R, blank: Blank) -> Result<(), Memory>
     requires name { blank.name ≡ L.name }
     requires parts { blank.parts ≡ L.parts }
     requires hundred { blank.parts ≡ 100 }
 {
     let clock = SetClock::new(rt.alloc(), Moment(0))?;
-    let pool: Pool<SlowManager, NopErrorSink, NopCustomizer, SetClock, R, L> = Builder::new()
+    let pool: NumberPool<R, L> = Builder::new()
         .max_size(100)
         .min_idle(Some(0))
         .queue_strategy(QueueStrategy::Lifo)

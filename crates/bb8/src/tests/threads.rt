@@ -1,14 +1,11 @@
 //! Two threads that get and return through one pool.
 ghost use Rattle.std.specs.Prelude.{◌≡◌};
 
-use super::SlowManager;
+use super::{NumberPool, Runtime, SlowManager};
 use crate::get::StartGet;
-use crate::{Builder, Memory, Moment, NopCustomizer, NopErrorSink, Pool, SetClock};
+use crate::{Builder, Memory, Moment, SetClock};
 use futures::executor::block_on;
 use std::marker::Brand;
-use std::process::Abort;
-use std::random::RandomSource;
-use std::sync::Wait;
 use std::sync::ledger::{Blank, Ledger};
 use std::test::Fail;
 use std::thread::{Threads, join};
@@ -21,17 +18,12 @@ trait Job {
 
 /// A thousand gets of the connection 7, each of which is given back before the next.
 #[derive(Drop)]
-struct Rounds<
-    'a,
-    R: Wait + RandomSource + AllocGlobal + Copy + Send + Sync + Drop + 'static,
-    L: Ledger,
-> {
-    pool: &'a Pool<SlowManager, NopErrorSink, NopCustomizer, SetClock, R, L>,
+struct Rounds<'a, R: Runtime, L: Ledger> {
+    pool: &'a NumberPool<R, L>,
     rt: R,
 }
 
-impl<R: Wait + RandomSource + AllocGlobal + Copy + Send + Sync + Drop + 'static, L: Ledger> Job
-    for Rounds<'_, R, L> {
+impl<R: Runtime, L: Ledger> Job for Rounds<'_, R, L> {
     /// Whether each get was served.
     fn run(&self) -> bool {
         for _ in 0..1000u32 {
@@ -50,16 +42,16 @@ fn twice(rt: &impl Threads, job: &(impl Job + Sync)) -> (bool, bool) {
 }
 
 /// Two threads share a pool of one connection. Each get is served in its turn, and at the end the connection is idle.
-fn shares_one<
-    R: Abort + Threads + Wait + RandomSource + AllocGlobal + Copy + Send + Sync + Drop + 'static,
-    L: Ledger + Send + Sync + 'static,
->(rt: R, blank: Blank) -> Result<(), Memory>
+fn shares_one<R: Runtime + Threads, L: Ledger + Send + Sync + 'static>(
+    rt: R,
+    blank: Blank,
+) -> Result<(), Memory>
     requires name { blank.name ≡ L.name }
     requires parts { blank.parts ≡ L.parts }
     requires one { blank.parts ≡ 1 }
 {
     let clock = SetClock::new(rt.alloc(), Moment(0))?;
-    let pool: Pool<SlowManager, NopErrorSink, NopCustomizer, SetClock, R, L> = Builder::new()
+    let pool: NumberPool<R, L> = Builder::new()
         .max_size(1)
         .test_on_check_out(false)
         .build_unchecked(SlowManager, clock, rt, blank)?;
