@@ -200,7 +200,7 @@ impl<C: Drop, L: Ledger> Locked<C, L> {
     {
         let Locked { core, .. } = self;
         core.limits();
-        if !core.fits_begin() {
+        if !core.fits_add() {
             return Err(conn);
         }
         Ok(core.add(at, conn, broken))

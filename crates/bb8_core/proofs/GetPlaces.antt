@@ -1,5 +1,6 @@
 -- The code's side of each change of the gets: what it does to the fields, seen in what they mean.
 use Rattle.std.proofs.Common.{◌≡◌, ◌≢◌, ℕ, ◌+◌, ◌-◌, ◌<◌, ◌≤◌, Bool, true, false, cond, not, eqb, List, [], ◌∷◌, ◌++◌, length, map, filter, drop, slice_get, get_or, arith, Option, Some, None, IsSome, refl, sym, ap, ◌∙◌, subst, length-append}
+use Rattle.std.proofs.lemmas.List.{map_push}
 use Rattle.std.specs.FinMap.{insert, remove, get}
 use Rattle.circular_buffer.specs.Buffer.{Buffer, buffer}
 use Rattle.slab.specs.Slab as slabs
@@ -14,8 +15,8 @@ use Rattle.bb8_core.specs.Shown.{ShownGets}
 use Rattle.bb8_core.specs.Slots.{cut_at}
 use Rattle.bb8_core.specs.State.{view_of_gets, AreGoodGets, IsWaitingLine}
 use Rattle.bb8_core.specs.Machine as machine
-use Rattle.bb8_core.proofs.Places.{held_removed, held_added, held_set, table_set, table_removed, map_push}
-use Rattle.bb8_core.proofs.Lines.{avoids, turned_line, popped_line, popped_numbers, filtered_line, line_fits, other_numbers, none_without, filter_passes}
+use Rattle.bb8_core.proofs.Slots.{held_removed, held_added, held_set, table_set, table_removed}
+use Rattle.bb8_core.proofs.Lines.{avoids, turned_line, cut_line, cut_numbers, filtered_line, line_fits, other_numbers, none_without, filter_passes}
 use Rattle.bb8_core.proofs.Numbered.{eqb_self}
 use Rattle.bb8_core.proofs.ShownGets.{same_gets}
 use Rattle.bb8_core.proofs.Slots
@@ -47,7 +48,7 @@ some_is o h = subst IsSome (sym h.1) refl
 
 -- the line is no longer than there are gets
 pub waiting_fit : (a : Inside) → AreGoodGets a → length a.waiting.items ≤ a.alive
-waiting_fit a good = let l : length a.waiting.items ≤ slab_len a.slots = line_fits (λ (x : Getting). is_unnotified x.place) (λ (k : GetKey). k.number) (λ k. k.place) a.slots a.waiting.items good.waiting in let e : slab_len a.slots ≡ a.alive = good.sizes.places_are in omega arith
+waiting_fit a good = let l : length a.waiting.items ≤ slab_len a.slots = line_fits _ _ _ _ a.slots a.waiting.items good.waiting in let e : slab_len a.slots ≡ a.alive = good.sizes.places_are in omega arith
 
 -- ---- begin
 
@@ -67,11 +68,11 @@ module _ (a : Inside) (now place : ℕ) (key : GetKey) (x : Slot Getting) (slots
   line_after =
       let at_key : slabs.get a.slots key.place ≡ Some x = subst (λ (p : ℕ). slabs.get a.slots p ≡ Some x) (sym there) at_place in
       let v : Updates a.slots slots key.place (Some (record x { standing = get_waits now x.standing })) = subst (λ (p : ℕ). Updates a.slots slots p (Some (record x { standing = get_waits now x.standing }))) (sym there) u in
-      turned_line (λ (g : Getting). is_unnotified g.place) (λ (k : GetKey). k.number) (λ k. k.place) a.slots slots a.waiting.items key x (record x { standing = get_waits now x.standing }) good.waiting at_key off v numbered refl
+      turned_line _ _ _ _ a.slots slots a.waiting.items key x (record x { standing = get_waits now x.standing }) good.waiting at_key off v numbered refl
 
   pub wait_room : slab_len slots ≡ slab_len a.slots → length a.waiting.items < a.waiting.capacity
   wait_room len =
-      let l : length (a.waiting.items ++ key ∷ []) ≤ slab_len slots = line_fits (λ (g : Getting). is_unnotified g.place) (λ (k : GetKey). k.number) (λ k. k.place) slots (a.waiting.items ++ key ∷ []) line_after in
+      let l : length (a.waiting.items ++ key ∷ []) ≤ slab_len slots = line_fits _ _ _ _ slots (a.waiting.items ++ key ∷ []) line_after in
       let z = good.sizes in
       omega (arith, length-append a.waiting.items (key ∷ []), z.places_are, z.peak_holds, z.line_room_holds)
 
@@ -80,7 +81,7 @@ module _ (a : Inside) (now place : ℕ) (key : GetKey) (x : Slot Getting) (slots
       let z = good.sizes in
       let w : waiting.capacity ≡ a.waiting.capacity = ap (λ (b : Buffer GetKey). b.capacity) pushed in
       record {
-        table = table_set (λ (y : Slot Getting). y.number) (λ y. y.standing) a.slots slots a.next place x (record x { standing = get_waits now x.standing }) good.table at_place refl u;
+        table = table_set (λ (y : Slot Getting). y.number) a.slots slots a.next place x (record x { standing = get_waits now x.standing }) good.table at_place refl u;
         waiting = subst (λ (b : Buffer GetKey). IsWaitingLine slots.slots b.items) (sym pushed) line_after;
         sizes = record { places_are = len ∙ z.places_are; peak_holds = z.peak_holds; alive_few = z.alive_few; room_holds = omega (arith, z.room_holds); line_room_holds = omega (arith, z.line_room_holds) };
       }
@@ -109,8 +110,8 @@ module _ (a : Inside) (key : GetKey) (slots : Slab (Slot Getting)) (waiting : Bu
       let x = noticed_stands in
       let w : waiting.capacity ≡ a.waiting.capacity = ap (λ (b : Buffer GetKey). b.capacity) popped in
       record {
-        table = table_set (λ (y : Slot Getting). y.number) (λ y. y.standing) a.slots slots a.next key.place x.0 (record x.0 { standing = get_placed (Waiting true) x.0.standing }) good.table x.1 refl (sets x.0 x.1);
-        waiting = subst (λ (ks : List GetKey). IsWaitingLine slots.slots ks) (sym cut) (popped_line (λ (g : Getting). is_unnotified g.place) (λ (k : GetKey). k.number) (λ k. k.place) a.slots slots a.waiting.items key _ good.waiting first (sets x.0 x.1));
+        table = table_set (λ (y : Slot Getting). y.number) a.slots slots a.next key.place x.0 (record x.0 { standing = get_placed (Waiting true) x.0.standing }) good.table x.1 refl (sets x.0 x.1);
+        waiting = subst (λ (ks : List GetKey). IsWaitingLine slots.slots ks) (sym cut) (cut_line _ _ _ _ a.slots slots a.waiting.items 0 key _ good.waiting first (sets x.0 x.1));
         sizes = record { places_are = len ∙ z.places_are; peak_holds = z.peak_holds; alive_few = z.alive_few; room_holds = omega (arith, z.room_holds); line_room_holds = omega (arith, z.line_room_holds) };
       }
 
@@ -121,7 +122,7 @@ module _ (a : Inside) (key : GetKey) (slots : Slab (Slot Getting)) (waiting : Bu
       (held_set (λ (y : Slot Getting). y.number) (λ y. y.standing) a.slots slots a.next key.place x.0 (record x.0 { standing = get_placed (Waiting true) x.0.standing }) good.table x.1 refl (sets x.0 x.1)
       ∙ ap (λ (q : ℕ). insert (view_of_gets a).places q (get_placed (Waiting true) x.0.standing)) x.2
       ∙ ap (λ (o : Option Getting). insert (view_of_gets a).places key.number (machine.turned (Waiting true) o)) (sym (shown_at a key.number key.place x.0 good x.1 x.2)))
-      (ap (map (λ (k : GetKey). k.number)) cut ∙ popped_numbers (λ (g : Getting). is_unnotified g.place) (λ (k : GetKey). k.number) (λ k. k.place) a.slots a.next a.waiting.items key good.table good.waiting first)
+      (ap (map (λ (k : GetKey). k.number)) cut ∙ cut_numbers _ _ _ _ a.slots a.next a.waiting.items 0 key good.table good.waiting first)
       refl refl
 
 -- ---- end
@@ -134,7 +135,7 @@ stepped_out waits n keys = cond waits (filter (λ (k : GetKey). not (eqb k.numbe
 module _ (a : Inside) (place q : ℕ) (waits : Bool) (x : Slot Getting) (slots : Slab (Slot Getting)) (waiting : Buffer GetKey) (good : AreGoodGets a) (at_place : slabs.get a.slots place ≡ Some x) (same : x.number ≡ q) (waits_is : waits ≡ is_unnotified x.standing.place) (out : waiting ≡ buffer (stepped_out waits q a.waiting.items) a.waiting.capacity) (u : Updates a.slots slots place None) where
   line_out : (b : Bool) → is_unnotified x.standing.place ≡ b → IsWaitingLine slots.slots (stepped_out b q a.waiting.items) × (map (λ (k : GetKey). k.number) (stepped_out b q a.waiting.items) ≡ machine.without q (map (λ (k : GetKey). k.number) a.waiting.items))
   line_out true on = (
-    Slots.line_kept _ _ _ _ a.slots.slots slots.slots _ place (filtered_line (λ (g : Getting). is_unnotified g.place) (λ (k : GetKey). k.number) (λ k. k.place) (λ (k : GetKey). not (eqb k.number q)) a.slots.slots a.waiting.items good.waiting) (others_away a.waiting.items good.waiting) u.others,
+    Slots.line_kept _ _ _ _ a.slots.slots slots.slots _ place (filtered_line _ _ _ _ (λ (k : GetKey). not (eqb k.number q)) a.slots.slots a.waiting.items good.waiting) (others_away a.waiting.items good.waiting) u.others,
     other_numbers (λ (k : GetKey). k.number) q a.waiting.items,
   )
     where
@@ -142,15 +143,15 @@ module _ (a : Inside) (place q : ℕ) (waits : Bool) (x : Slot Getting) (slots :
       others_away : (keys : List GetKey) → IsWaitingLine a.slots.slots keys → (j : ℕ) (k : GetKey) → slice_get (filter (λ (m : GetKey). not (eqb m.number q)) keys) j ≡ Some k → k.place ≢ place
       others_away keys l j k e there =
           let passes : not (eqb k.number q) ≡ true = filter_passes (λ (m : GetKey). not (eqb m.number q)) keys j k e in
-          let stands = (filtered_line (λ (g : Getting). is_unnotified g.place) (λ (m : GetKey). m.number) (λ m. m.place) (λ (m : GetKey). not (eqb m.number q)) a.slots.slots keys l).each j k e in
+          let stands = (filtered_line _ _ _ _ (λ (m : GetKey). not (eqb m.number q)) a.slots.slots keys l).each j k e in
           let alike : Some stands.0 ≡ Some x = sym stands.1 ∙ ap (λ (p : ℕ). get_or a.slots.slots p None) there ∙ at_place in
           let is : x ≡ stands.0 = cc in
           let number : k.number ≡ q = sym stands.2 ∙ ap (λ (s : Slot Getting). s.number) (sym is) ∙ same in
           let clash : not (eqb k.number q) ≡ false = ap (λ (n : ℕ). not (eqb n q)) number ∙ ap not (eqb_self q) in
           cc
   line_out false off = (
-    Slots.line_kept _ _ _ _ a.slots.slots slots.slots a.waiting.items place good.waiting (avoids (λ (g : Getting). is_unnotified g.place) (λ (k : GetKey). k.number) (λ k. k.place) a.slots a.waiting.items place x good.waiting at_place off) u.others,
-    sym (none_without (λ (k : GetKey). k.number) q a.waiting.items (λ j k e number. let stands = good.waiting.each j k e in avoids (λ (g : Getting). is_unnotified g.place) (λ (m : GetKey). m.number) (λ m. m.place) a.slots a.waiting.items place x good.waiting at_place off j k e (good.table.distinct k.place place stands.0 x stands.1 at_place (stands.2 ∙ number ∙ sym same)))),
+    Slots.line_kept _ _ _ _ a.slots.slots slots.slots a.waiting.items place good.waiting (avoids _ _ _ _ a.slots a.waiting.items place x good.waiting at_place off) u.others,
+    sym (none_without (λ (k : GetKey). k.number) q a.waiting.items (λ j k e number. let stands = good.waiting.each j k e in avoids _ _ _ _ a.slots a.waiting.items place x good.waiting at_place off j k e (good.table.distinct k.place place stands.0 x stands.1 at_place (stands.2 ∙ number ∙ sym same)))),
   )
 
   outside : IsWaitingLine slots.slots waiting.items × (map (λ (k : GetKey). k.number) waiting.items ≡ machine.without q (map (λ (k : GetKey). k.number) a.waiting.items))
@@ -161,7 +162,7 @@ module _ (a : Inside) (place q : ℕ) (waits : Bool) (x : Slot Getting) (slots :
       let z = good.sizes in
       let w : waiting.capacity ≡ a.waiting.capacity = ap (λ (b : Buffer GetKey). b.capacity) out in
       record {
-        table = table_removed (λ (y : Slot Getting). y.number) (λ y. y.standing) a.slots slots a.next place good.table u;
+        table = table_removed (λ (y : Slot Getting). y.number) a.slots slots a.next place good.table u;
         waiting = outside.0;
         sizes = record { places_are = omega (arith, z.places_are); peak_holds = omega (arith, z.peak_holds); alive_few = omega (arith, z.alive_few); room_holds = omega (arith, z.room_holds); line_room_holds = omega (arith, z.line_room_holds) };
       }

@@ -7,7 +7,6 @@ use Rattle.std.proofs.lemmas.List.Elements.{filter-append}
 use Rattle.circular_buffer.specs.Buffer.{Buffer, buffer}
 use Rattle.slab.specs.Slab as slabs
 use Rattle.slab.specs.Slab.{Slab, Updates, slab_len}
-use Rattle.bb8_core.specs.declared.table.Slot.{Slot}
 use Rattle.bb8_core.specs.Numbered.{tally, one}
 use Rattle.bb8_core.specs.Slots.{IsLine, IsTable, cut_at}
 use Rattle.bb8_core.specs.Machine as machine
@@ -90,40 +89,52 @@ module _ {K : Type 0} (p : K → Bool) (xs : List K) where
 
 -- ---- lines into a table
 
-module _ {S K : Type 0} (pass : S → Bool) (key leads : K → ℕ) where
+module _ {X K : Type 0} (number : X → ℕ) (test : X → Bool) (key leads : K → ℕ) where
   -- each key leads to a slot that has its number and passes, and no two lead to one place
-  abbrev pub IsLineInto : List (Option (Slot S)) → List K → Type 0
-  IsLineInto = IsLine (λ (x : Slot S). x.number) (λ x. pass x.standing) key leads
+  abbrev pub IsLineInto : List (Option X) → List K → Type 0
+  IsLineInto = IsLine number test key leads
 
   -- a place that does not pass is on no line
-  pub avoids : (old : Slab (Slot S)) (keys : List K) (place : ℕ) (x : Slot S) → IsLineInto old.slots keys → slabs.get old place ≡ Some x → pass x.standing ≡ false → (j : ℕ) (k : K) → slice_get keys j ≡ Some k → leads k ≢ place
-  avoids old keys place x l at_place off = Slots.line_avoids _ _ _ _ old.slots keys place l (λ y e t. let same : x ≡ y = let b : Some x ≡ Some y = sym at_place ∙ e in cc in let clash : pass y.standing ≡ false = ap (λ (s : Slot S). pass s.standing) (sym same) ∙ off in cc)
+  pub avoids : (old : Slab X) (keys : List K) (place : ℕ) (x : X) → IsLineInto old.slots keys → slabs.get old place ≡ Some x → test x ≡ false → (j : ℕ) (k : K) → slice_get keys j ≡ Some k → leads k ≢ place
+  avoids old keys place x l at_place off = Slots.line_avoids _ _ _ _ old.slots keys place l (λ y e t. let same : x ≡ y = let b : Some x ≡ Some y = sym at_place ∙ e in cc in let clash : test y ≡ false = ap test (sym same) ∙ off in cc)
 
-  free_avoids : (old : Slab (Slot S)) (keys : List K) (place : ℕ) → IsLineInto old.slots keys → slabs.get old place ≡ None → (j : ℕ) (k : K) → slice_get keys j ≡ Some k → leads k ≢ place
+  free_avoids : (old : Slab X) (keys : List K) (place : ℕ) → IsLineInto old.slots keys → slabs.get old place ≡ None → (j : ℕ) (k : K) → slice_get keys j ≡ Some k → leads k ≢ place
   free_avoids old keys place l free = Slots.line_avoids _ _ _ _ old.slots keys place l (λ y e t. let clash : None ≡ Some y = sym free ∙ e in cc)
 
+  -- a place that is on no line changes
+  pub other_line : (old new : Slab X) (keys : List K) (place : ℕ) (x : X) (slot : Option X) → IsLineInto old.slots keys → slabs.get old place ≡ Some x → test x ≡ false → Updates old new place slot → IsLineInto new.slots keys
+  other_line old new keys place x slot l at_place off u = Slots.line_kept _ _ _ _ old.slots new.slots keys place l (avoids old keys place x l at_place off) u.others
+
   -- a free place is taken
-  pub free_line : (old new : Slab (Slot S)) (keys : List K) (place : ℕ) (slot : Option (Slot S)) → IsLineInto old.slots keys → slabs.get old place ≡ None → Updates old new place slot → IsLineInto new.slots keys
+  pub free_line : (old new : Slab X) (keys : List K) (place : ℕ) (slot : Option X) → IsLineInto old.slots keys → slabs.get old place ≡ None → Updates old new place slot → IsLineInto new.slots keys
   free_line old new keys place slot l free u = Slots.line_kept _ _ _ _ old.slots new.slots keys place l (free_avoids old keys place l free) u.others
 
   -- a key comes to the back, whose place passes from now on
-  pub turned_line : (old new : Slab (Slot S)) (keys : List K) (k : K) (x y : Slot S) → IsLineInto old.slots keys → slabs.get old (leads k) ≡ Some x → pass x.standing ≡ false → Updates old new (leads k) (Some y) → y.number ≡ key k → pass y.standing ≡ true → IsLineInto new.slots (keys ++ k ∷ [])
-  turned_line old new keys k x y l at_place off u same on = Slots.line_pushed _ _ _ _ new.slots keys k y (Slots.line_kept _ _ _ _ old.slots new.slots keys (leads k) l (avoids old keys (leads k) x l at_place off) u.others) (avoids old keys (leads k) x l at_place off) u.changed same on
+  pushed_line : (old new : Slab X) (keys : List K) (k : K) (y : X) → IsLineInto old.slots keys → ((j : ℕ) (m : K) → slice_get keys j ≡ Some m → leads m ≢ leads k) → Updates old new (leads k) (Some y) → number y ≡ key k → test y ≡ true → IsLineInto new.slots (keys ++ k ∷ [])
+  pushed_line old new keys k y l away u same on = Slots.line_pushed _ _ _ _ new.slots keys k y (Slots.line_kept _ _ _ _ old.slots new.slots keys (leads k) l away u.others) away u.changed same on
 
-  -- the front key goes, and its place changes
-  pub popped_line : (old new : Slab (Slot S)) (keys : List K) (k : K) (slot : Option (Slot S)) → IsLineInto old.slots keys → slice_get keys 0 ≡ Some k → Updates old new (leads k) slot → IsLineInto new.slots (cut_at 0 keys)
-  popped_line old new keys k slot l e u = Slots.line_kept _ _ _ _ old.slots new.slots (cut_at 0 keys) (leads k) (Slots.line_cut _ _ _ _ old.slots keys 0 l) (Slots.line_cut_avoids _ _ _ _ old.slots keys 0 k l e) u.others
+  -- its place did not pass before
+  pub turned_line : (old new : Slab X) (keys : List K) (k : K) (x y : X) → IsLineInto old.slots keys → slabs.get old (leads k) ≡ Some x → test x ≡ false → Updates old new (leads k) (Some y) → number y ≡ key k → test y ≡ true → IsLineInto new.slots (keys ++ k ∷ [])
+  turned_line old new keys k x y l at_place off u same on = pushed_line old new keys k y l (avoids old keys (leads k) x l at_place off) u same on
+
+  -- its place was free
+  pub added_line : (old new : Slab X) (keys : List K) (k : K) (y : X) → IsLineInto old.slots keys → slabs.get old (leads k) ≡ None → Updates old new (leads k) (Some y) → number y ≡ key k → test y ≡ true → IsLineInto new.slots (keys ++ k ∷ [])
+  added_line old new keys k y l free u same on = pushed_line old new keys k y l (free_avoids old keys (leads k) l free) u same on
+
+  -- the key at an index goes, and its place changes
+  pub cut_line : (old new : Slab X) (keys : List K) (i : ℕ) (k : K) (slot : Option X) → IsLineInto old.slots keys → slice_get keys i ≡ Some k → Updates old new (leads k) slot → IsLineInto new.slots (cut_at i keys)
+  cut_line old new keys i k slot l e u = Slots.line_kept _ _ _ _ old.slots new.slots (cut_at i keys) (leads k) (Slots.line_cut _ _ _ _ old.slots keys i l) (Slots.line_cut_avoids _ _ _ _ old.slots keys i k l e) u.others
 
   -- so the line of numbers loses its number
-  pub popped_numbers : (slots : Slab (Slot S)) (next : ℕ) (keys : List K) (k : K) → IsTable (λ (s : Slot S). s.number) slots next → IsLineInto slots.slots keys → slice_get keys 0 ≡ Some k → map key (cut_at 0 keys) ≡ machine.without (key k) (map key keys)
-  popped_numbers slots next keys k t l e = Slots.cut_without key keys 0 k e (Slots.line_numbers _ _ _ _ slots.slots keys t.distinct l)
+  pub cut_numbers : (slots : Slab X) (next : ℕ) (keys : List K) (i : ℕ) (k : K) → IsTable number slots next → IsLineInto slots.slots keys → slice_get keys i ≡ Some k → map key (cut_at i keys) ≡ machine.without (key k) (map key keys)
+  cut_numbers slots next keys i k t l e = Slots.cut_without key keys i k e (Slots.line_numbers _ _ _ _ slots.slots keys t.distinct l)
 
   -- a line without some of its keys is a line
-  line_cons : (xs : List (Option (Slot S))) (k : K) (keys : List K) (x : Slot S) → get_or xs (leads k) None ≡ Some x → x.number ≡ key k → pass x.standing ≡ true → IsLineInto xs keys → ((j : ℕ) (m : K) → slice_get keys j ≡ Some m → leads m ≢ leads k) → IsLineInto xs (k ∷ keys)
+  line_cons : (xs : List (Option X)) (k : K) (keys : List K) (x : X) → get_or xs (leads k) None ≡ Some x → number x ≡ key k → test x ≡ true → IsLineInto xs keys → ((j : ℕ) (m : K) → slice_get keys j ≡ Some m → leads m ≢ leads k) → IsLineInto xs (k ∷ keys)
   line_cons xs k keys x at_k same on l away = record { each = each; once = once }
     where
-      each : (j : ℕ) (m : K) → slice_get (k ∷ keys) j ≡ Some m → (y : Slot S) × (get_or xs (leads m) None ≡ Some y) × (y.number ≡ key m) × (pass y.standing ≡ true)
-      each zero m e = subst (λ (n : K). (y : Slot S) × (get_or xs (leads n) None ≡ Some y) × (y.number ≡ key n) × (pass y.standing ≡ true)) (let both : Some k ≡ Some m = e in let is : k ≡ m = cc in is) (x, at_k, same, on)
+      each : (j : ℕ) (m : K) → slice_get (k ∷ keys) j ≡ Some m → (y : X) × (get_or xs (leads m) None ≡ Some y) × (number y ≡ key m) × (test y ≡ true)
+      each zero m e = subst (λ (n : K). (y : X) × (get_or xs (leads n) None ≡ Some y) × (number y ≡ key n) × (test y ≡ true)) (let both : Some k ≡ Some m = e in let is : k ≡ m = cc in is) (x, at_k, same, on)
       each (suc j) m e = l.each j m e
 
       once : (i j : ℕ) (a b : K) → slice_get (k ∷ keys) i ≡ Some a → slice_get (k ∷ keys) j ≡ Some b → leads a ≡ leads b → i ≡ j
@@ -141,7 +152,7 @@ module _ {S K : Type 0} (pass : S → Bool) (key leads : K → ℕ) where
       go true others (suc i) n f = others i n f
       go false others i n f = others i n f
 
-  pub filtered_line : (p : K → Bool) (xs : List (Option (Slot S))) (keys : List K) → IsLineInto xs keys → IsLineInto xs (filter p keys)
+  pub filtered_line : (p : K → Bool) (xs : List (Option X)) (keys : List K) → IsLineInto xs keys → IsLineInto xs (filter p keys)
   filtered_line p xs [] l = l
   filtered_line p xs (k ∷ keys) l =
       let rest : IsLineInto xs (filter p keys) = filtered_line p xs keys (Slots.line_rest _ _ _ _ xs k keys l) in
@@ -153,13 +164,13 @@ module _ {S K : Type 0} (pass : S → Bool) (key leads : K → ℕ) where
       go false without with_it = without
 
   -- a line is no longer than there are things in the table
-  pub line_fits : (slots : Slab (Slot S)) (keys : List K) → IsLineInto slots.slots keys → length keys ≤ slab_len slots
+  pub line_fits : (slots : Slab X) (keys : List K) → IsLineInto slots.slots keys → length keys ≤ slab_len slots
   line_fits slots keys l =
       let a : length keys ≤ tally is_some slots.slots = Slots.line_length _ _ _ _ is_some refl (λ x e. refl) keys slots.slots l in
       let b : tally is_some slots.slots ≡ slab_len slots = counted slots.slots in
       omega arith
     where
-      counted : (xs : List (Option (Slot S))) → tally is_some xs ≡ count_by is_some xs
+      counted : (xs : List (Option X)) → tally is_some xs ≡ count_by is_some xs
       counted xs = is_count_by (tally is_some) is_some refl (λ x ys. by_case (is_some x) (tally is_some ys)) xs
         where
           by_case : (b : Bool) (n : ℕ) → one b + n ≡ cond b (1 + n) n

@@ -1,5 +1,7 @@
 -- The code's side of each change: what it does to the fields, seen in what they mean.
-use Rattle.std.proofs.Common.{◌≡◌, ◌≢◌, ℕ, zero, suc, ◌+◌, ◌-◌, ◌<◌, ◌≤◌, Bool, true, false, cond, not, List, [], ◌∷◌, ◌++◌, map, length, Option, Some, None, get_or, slice_get, drop, refl, sym, ap, ◌∙◌, ⊎_elim, arith, subst, length-append, append-nil}
+use Rattle.std.proofs.Common.{◌≡◌, ◌≢◌, ℕ, ◌+◌, ◌-◌, ◌<◌, ◌≤◌, Bool, true, false, cond, not, List, [], ◌∷◌, ◌++◌, map, length, Option, Some, None, option_map, get_or, slice_get, drop, refl, sym, ap, ◌∙◌, arith, subst, length-append, append-nil}
+use Rattle.std.proofs.lemmas.List.{map_push, drop-map, length-map}
+use Rattle.std.proofs.lemmas.Option.{slice_get-map}
 use Rattle.std.specs.FinMap.{insert, remove, get}
 use Rattle.slab.specs.Slab as slabs
 use Rattle.slab.specs.Slab.{Slab, Updates, slab_len}
@@ -12,83 +14,15 @@ use Rattle.bb8_core.specs.declared.table.Slot.{Slot}
 use Rattle.bb8_core.specs.declared.records.Records.TheInside.{Inside}
 use Rattle.bb8_core.specs.declared.api.configuration.QueueStrategy.{QueueStrategy}
 use Rattle.bb8_core.specs.Ledger.{is_idle, is_unclaimed, is_conn, is_approval, placed, first_place, first_of}
-use Rattle.bb8_core.specs.Slots.{held, IsTable, cut_at}
+use Rattle.bb8_core.specs.Slots.{held, cut_at}
 use Rattle.bb8_core.specs.State.{view_of_records, AreGoodRecords, passes, IsLineOf}
 use Rattle.bb8_core.specs.Numbered.{tally, one}
 use Rattle.bb8_core.specs.Shown.{ShownRecords}
 use Rattle.bb8_core.specs.Machine as machine
 use Rattle.bb8_core.proofs.ShownRecords.{same_records, unclaimed_is, idle_is, idle_from, unclaimed_from, conn_from, approval_from}
+use Rattle.bb8_core.proofs.Lines.{other_line, free_line, turned_line, added_line, cut_line, cut_numbers}
 use Rattle.bb8_core.proofs.Slots
-
-module _ {X S : Type 0} (number : X → ℕ) (value : X → S) where
-  -- another value at a place, with the same number
-  pub table_set : (old new : Slab X) (next place : ℕ) (was x : X) → IsTable number old next → slabs.get old place ≡ Some was → number was ≡ number x → Updates old new place (Some x) → IsTable number new next
-  table_set old new next place was x t at_place same u = record {
-    distinct = Slots.distinct_changed number old.slots new.slots place (Some x) t.distinct (u.changed, u.others) (λ a b i e f s. let is : x ≡ a = cc in t.distinct i place b was f at_place (s ∙ ap number (sym is) ∙ sym same));
-    below = λ i y e. ⊎_elim
-        (λ (h : (i ≡ place) × (Some x ≡ Some y)). let is : x ≡ y = cc in let l : number was < next = t.below place was at_place in let e1 : number was ≡ number y = same ∙ ap number is in omega arith)
-        (λ (h : (i ≢ place) × (get_or old.slots i None ≡ Some y)). t.below i y h.1)
-        (Slots.changed_cases number old.slots new.slots place i (Some x) y (u.changed, u.others) e);
-  }
-
-  pub held_set : (old new : Slab X) (next place : ℕ) (was x : X) → IsTable number old next → slabs.get old place ≡ Some was → number was ≡ number x → Updates old new place (Some x) → held number value new.slots ≡ insert (held number value old.slots) (number x) (value x)
-  held_set old new next place was x t at_place same u = Slots.held_replaced number value old.slots new.slots place was x t.distinct at_place same (u.changed, u.others)
-
-  -- the next number at a free place
-  pub table_added : (old new : Slab X) (next place : ℕ) (x : X) → IsTable number old next → slabs.get old place ≡ None → number x ≡ next → Updates old new place (Some x) → IsTable number new (next + 1)
-  table_added old new next place x t free is_next u = record {
-    distinct = Slots.distinct_changed number old.slots new.slots place (Some x) t.distinct (u.changed, u.others) (λ a b i e f s. absurd (let is : x ≡ a = cc in let l : number b < next = t.below i b f in let e1 : number b ≡ number x = s ∙ ap number (sym is) in omega arith));
-    below = λ i y e. ⊎_elim
-        (λ (h : (i ≡ place) × (Some x ≡ Some y)). let is : x ≡ y = cc in let e1 : number x ≡ number y = ap number is in omega arith)
-        (λ (h : (i ≢ place) × (get_or old.slots i None ≡ Some y)). let l : number y < next = t.below i y h.1 in omega arith)
-        (Slots.changed_cases number old.slots new.slots place i (Some x) y (u.changed, u.others) e);
-  }
-
-  pub held_added : (old new : Slab X) (next place : ℕ) (x : X) → IsTable number old next → slabs.get old place ≡ None → number x ≡ next → Updates old new place (Some x) → held number value new.slots ≡ insert (held number value old.slots) (number x) (value x)
-  held_added old new next place x t free is_next u = Slots.held_taken number value old.slots new.slots place x t.distinct free (λ i y e s. let l : number y < next = t.below i y e in omega arith) (u.changed, u.others)
-
-  -- a place is freed
-  pub table_removed : (old new : Slab X) (next place : ℕ) → IsTable number old next → Updates old new place None → IsTable number new next
-  table_removed old new next place t u = record {
-    distinct = Slots.distinct_changed number old.slots new.slots place None t.distinct (u.changed, u.others) (λ a b i e f s. cc);
-    below = λ i y e. ⊎_elim
-        (λ (h : (i ≡ place) × (None ≡ Some y)). cc)
-        (λ (h : (i ≢ place) × (get_or old.slots i None ≡ Some y)). t.below i y h.1)
-        (Slots.changed_cases number old.slots new.slots place i None y (u.changed, u.others) e);
-  }
-
-  pub held_removed : (old new : Slab X) (next place : ℕ) (was : X) → IsTable number old next → slabs.get old place ≡ Some was → Updates old new place None → held number value new.slots ≡ remove (held number value old.slots) (number was)
-  held_removed old new next place was t at_place u = Slots.held_freed number value old.slots new.slots place was t.distinct at_place (u.changed, u.others)
-
-first_split : {K : Type 0} (ks : List K) (k : K) → slice_get ks 0 ≡ Some k → ks ≡ k ∷ drop 1 ks
-first_split [] k e = cc
-first_split (x ∷ ks) k e = let is : Some x ≡ Some k = e in let same : x ≡ k = cc in ap (λ (y : _). y ∷ ks) same
-
-map_drop : {K : Type 0} (f : K → ℕ) (ks : List K) → map f (drop 1 ks) ≡ drop 1 (map f ks)
-map_drop f [] = refl
-map_drop f (k ∷ ks) = refl
-
-pub map_first : {K : Type 0} (f : K → ℕ) (ks : List K) (k : K) → slice_get ks 0 ≡ Some k → slice_get (map f ks) 0 ≡ Some (f k)
-map_first f [] k e = cc
-map_first f (x ∷ ks) k e = let is : Some x ≡ Some k = e in let same : x ≡ k = cc in ap (λ (y : _). Some (f y)) same
-
-pub map_at : {K : Type 0} (f : K → ℕ) (ks : List K) (i : ℕ) (k : K) → slice_get ks i ≡ Some k → slice_get (map f ks) i ≡ Some (f k)
-map_at f [] i k e = cc
-map_at f (x ∷ ks) zero k e = let is : Some x ≡ Some k = e in let same : x ≡ k = cc in ap (λ (y : _). Some (f y)) same
-map_at f (x ∷ ks) (suc i) k e = map_at f ks i k e
-
-pub map_none_at : {K : Type 0} (f : K → ℕ) (ks : List K) (i : ℕ) → slice_get ks i ≡ None → slice_get (map f ks) i ≡ None
-map_none_at f [] i e = refl
-map_none_at f (x ∷ ks) zero e = cc
-map_none_at f (x ∷ ks) (suc i) e = map_none_at f ks i e
-
-pub map_length : {K : Type 0} (f : K → ℕ) (ks : List K) → length (map f ks) ≡ length ks
-map_length f [] = refl
-map_length f (x ∷ ks) = ap suc (map_length f ks)
-
-pub map_push : {K : Type 0} (f : K → ℕ) (ks : List K) (k : K) → map f (ks ++ k ∷ []) ≡ map f ks ++ f k ∷ []
-map_push f [] k = refl
-map_push f (x ∷ ks) k = ap (λ (r : List ℕ). f x ∷ r) (map_push f ks k)
+use Rattle.bb8_core.proofs.Slots.{table_set, held_set, table_added, held_added, table_removed, held_removed}
 
 either : (o : Bool) → one o + one (not o) ≡ 1
 either true = refl
@@ -98,65 +32,13 @@ module _ {C : Type 0} where
   abbrev pub SetsTo : Slab (Slot (Standing C)) → Slab (Slot (Standing C)) → ℕ → (Standing C → Standing C) → Type 0
   SetsTo old new place f = (x : Slot (Standing C)) → slabs.get old place ≡ Some x → Updates old new place (Some (record x { standing = f x.standing }))
 
-  -- ---- lines of keys, by the test that their places pass
-
-  module _ (test : Place C → Bool) where
-    abbrev Line : List (Option (Slot (Standing C))) → List Key → Type 0
-    Line = IsLineOf test
-
-    -- what stands where the front key leads
-    pub front : (xs : List (Option (Slot (Standing C)))) (keys : List Key) (key : Key) → Line xs keys → slice_get keys 0 ≡ Some key → (x : Slot (Standing C)) × (get_or xs key.place None ≡ Some x) × (x.number ≡ key.number) × (test x.standing.place ≡ true)
-    front xs keys key l e = l.each 0 key e
-
-    avoids : (old : Slab (Slot (Standing C))) (keys : List Key) (place : ℕ) (x : Slot (Standing C)) → Line old.slots keys → slabs.get old place ≡ Some x → test x.standing.place ≡ false → (j : ℕ) (k : Key) → slice_get keys j ≡ Some k → k.place ≢ place
-    avoids old keys place x l at_place off = Slots.line_avoids _ _ _ _ old.slots keys place l (λ y e t. let same : x ≡ y = let b : Some x ≡ Some y = sym at_place ∙ e in cc in let clash : test y.standing.place ≡ false = ap (λ (s : Slot (Standing C)). test s.standing.place) (sym same) ∙ off in cc)
-
-    -- the place of another key changes
-    pub other_line : (old new : Slab (Slot (Standing C))) (keys : List Key) (place : ℕ) (x : Slot (Standing C)) (slot : Option (Slot (Standing C))) → Line old.slots keys → slabs.get old place ≡ Some x → test x.standing.place ≡ false → Updates old new place slot → Line new.slots keys
-    other_line old new keys place x slot l at_place off u = Slots.line_kept _ _ _ _ old.slots new.slots keys place l (avoids old keys place x l at_place off) u.others
-
-    -- the front key goes, and its place changes
-    pub popped_line : (old new : Slab (Slot (Standing C))) (keys : List Key) (key : Key) (slot : Option (Slot (Standing C))) → Line old.slots keys → slice_get keys 0 ≡ Some key → Updates old new key.place slot → Line new.slots (drop 1 keys)
-    popped_line old new keys key slot l e u =
-        let line : Line old.slots (key ∷ drop 1 keys) = subst (λ (ks : List Key). Line old.slots ks) (first_split keys key e) l in
-        Slots.line_kept _ _ _ _ old.slots new.slots (drop 1 keys) key.place (Slots.line_rest _ _ _ _ old.slots key (drop 1 keys) line) (Slots.line_rest_avoids _ _ _ _ old.slots key (drop 1 keys) line) u.others
-
-    -- what stands where the key at an index leads
-    pub inside : (xs : List (Option (Slot (Standing C)))) (keys : List Key) (i : ℕ) (key : Key) → Line xs keys → slice_get keys i ≡ Some key → (x : Slot (Standing C)) × (get_or xs key.place None ≡ Some x) × (x.number ≡ key.number) × (test x.standing.place ≡ true)
-    inside xs keys i key l e = l.each i key e
-
-    -- the key at an index goes, and its place changes
-    pub cut_line : (old new : Slab (Slot (Standing C))) (keys : List Key) (i : ℕ) (key : Key) (slot : Option (Slot (Standing C))) → Line old.slots keys → slice_get keys i ≡ Some key → Updates old new key.place slot → Line new.slots (cut_at i keys)
-    cut_line old new keys i key slot l e u = Slots.line_kept _ _ _ _ old.slots new.slots (cut_at i keys) key.place (Slots.line_cut _ _ _ _ old.slots keys i l) (Slots.line_cut_avoids _ _ _ _ old.slots keys i key l e) u.others
-
-    -- so the line of numbers loses its number
-    pub cut_numbers : (slots : Slab (Slot (Standing C))) (next : ℕ) (keys : List Key) (i : ℕ) (key : Key) → IsTable (λ (s : Slot (Standing C)). s.number) slots next → Line slots.slots keys → slice_get keys i ≡ Some key → map (λ (k : Key). k.number) (cut_at i keys) ≡ machine.without key.number (map (λ (k : Key). k.number) keys)
-    cut_numbers slots next keys i key t l e = Slots.cut_without (λ (k : Key). k.number) keys i key e (Slots.line_numbers _ _ _ _ slots.slots keys t.distinct l)
-
-    -- a key comes to the back, whose place passes from now on
-    pub pushed_line : (old new : Slab (Slot (Standing C))) (keys : List Key) (key : Key) (y : Slot (Standing C)) → Line old.slots keys → ((j : ℕ) (k : Key) → slice_get keys j ≡ Some k → k.place ≢ key.place) → Updates old new key.place (Some y) → y.number ≡ key.number → test y.standing.place ≡ true → Line new.slots (keys ++ key ∷ [])
-    pushed_line old new keys key y l away u same pass = Slots.line_pushed _ _ _ _ new.slots keys key y (Slots.line_kept _ _ _ _ old.slots new.slots keys key.place l away u.others) away u.changed same pass
-
-    pub turned_line : (old new : Slab (Slot (Standing C))) (keys : List Key) (key : Key) (x y : Slot (Standing C)) → Line old.slots keys → slabs.get old key.place ≡ Some x → test x.standing.place ≡ false → Updates old new key.place (Some y) → y.number ≡ key.number → test y.standing.place ≡ true → Line new.slots (keys ++ key ∷ [])
-    turned_line old new keys key x y l at_place off u same pass = pushed_line old new keys key y l (avoids old keys key.place x l at_place off) u same pass
-
-    free_avoids : (old : Slab (Slot (Standing C))) (keys : List Key) (place : ℕ) → Line old.slots keys → slabs.get old place ≡ None → (j : ℕ) (k : Key) → slice_get keys j ≡ Some k → k.place ≢ place
-    free_avoids old keys place l free = Slots.line_avoids _ _ _ _ old.slots keys place l (λ y e t. let clash : None ≡ Some y = sym free ∙ e in cc)
-
-    -- a key to a place that was free
-    pub added_line : (old new : Slab (Slot (Standing C))) (keys : List Key) (key : Key) (y : Slot (Standing C)) → Line old.slots keys → slabs.get old key.place ≡ None → Updates old new key.place (Some y) → y.number ≡ key.number → test y.standing.place ≡ true → Line new.slots (keys ++ key ∷ [])
-    added_line old new keys key y l free u same pass = pushed_line old new keys key y l (free_avoids old keys key.place l free) u same pass
-
-    pub free_line : (old new : Slab (Slot (Standing C))) (keys : List Key) (place : ℕ) (slot : Option (Slot (Standing C))) → Line old.slots keys → slabs.get old place ≡ None → Updates old new place slot → Line new.slots keys
-    free_line old new keys place slot l free u = Slots.line_kept _ _ _ _ old.slots new.slots keys place l (free_avoids old keys place l free) u.others
-
-    -- how the tally of the places that pass changes
-    pub tally_set : (old new : Slab (Slot (Standing C))) (place n : ℕ) (was is : Option (Slot (Standing C))) → tally (passes test) old.slots ≡ n → slabs.get old place ≡ was → Updates old new place is → tally (passes test) new.slots + one (passes test was) ≡ n + one (passes test is)
-    tally_set old new place n was is are at_place u =
-        let t : tally (passes test) new.slots + one (passes test (get_or old.slots place None)) ≡ tally (passes test) old.slots + one (passes test (get_or new.slots place None)) = Slots.tally_changed (passes test) refl old.slots new.slots place u.others in
-        let a : one (passes test (get_or old.slots place None)) ≡ one (passes test was) = ap (λ (o : Option (Slot (Standing C))). one (passes test o)) at_place in
-        let b : one (passes test (get_or new.slots place None)) ≡ one (passes test is) = ap (λ (o : Option (Slot (Standing C))). one (passes test o)) u.changed in
-        omega arith
+  -- how the tally of the places that pass changes
+  tally_set : (test : Place C → Bool) (old new : Slab (Slot (Standing C))) (place n : ℕ) (was is : Option (Slot (Standing C))) → tally (passes test) old.slots ≡ n → slabs.get old place ≡ was → Updates old new place is → tally (passes test) new.slots + one (passes test was) ≡ n + one (passes test is)
+  tally_set test old new place n was is are at_place u =
+      let t : tally (passes test) new.slots + one (passes test (get_or old.slots place None)) ≡ tally (passes test) old.slots + one (passes test (get_or new.slots place None)) = Slots.tally_changed (passes test) refl old.slots new.slots place u.others in
+      let a : one (passes test (get_or old.slots place None)) ≡ one (passes test was) = ap (λ (o : Option (Slot (Standing C))). one (passes test o)) at_place in
+      let b : one (passes test (get_or new.slots place None)) ≡ one (passes test is) = ap (λ (o : Option (Slot (Standing C))). one (passes test o)) u.changed in
+      omega arith
 
   -- ---- the lines are no longer than the counters say
 
@@ -230,14 +112,14 @@ module _ {C : Type 0} where
   module _ (a : Inside C) (key : Key) (slots : Slab (Slot (Standing C))) (unclaimed : Buffer Key) (good : AreGoodRecords a) (first : Some key ≡ slice_get a.unclaimed.items 0) (rest : unclaimed ≡ buffer (drop 1 a.unclaimed.items) a.unclaimed.capacity) (sets : SetsTo a.slots slots key.place (placed Claimed)) where
     pub claim_good : slab_len slots ≡ slab_len a.slots → slots.capacity ≡ a.slots.capacity → AreGoodRecords (record a { slots = slots; unclaimed = unclaimed })
     claim_good len room =
-        let x = front is_unclaimed a.slots.slots a.unclaimed.items key good.unclaimed (sym first) in
+        let x = good.unclaimed.each 0 key (sym first) in
         let was : x.0.standing.place ≡ Unclaimed = unclaimed_is x.0.standing.place x.3 in
         let new : Slot (Standing C) = record x.0 { standing = placed Claimed x.0.standing } in
         let u : Updates a.slots slots key.place (Some new) = sets x.0 x.1 in
         record {
-          table = table_set (λ (s : Slot (Standing C)). s.number) (λ s. s.standing) a.slots slots a.next key.place x.0 new good.table x.1 refl u;
-          idle = other_line is_idle a.slots slots a.idle.items key.place x.0 _ good.idle x.1 (ap is_idle was) u;
-          unclaimed = rw rest (popped_line is_unclaimed a.slots slots a.unclaimed.items key _ good.unclaimed (sym first) u);
+          table = table_set (λ (s : Slot (Standing C)). s.number) a.slots slots a.next key.place x.0 new good.table x.1 refl u;
+          idle = other_line _ _ _ _ a.slots slots a.idle.items key.place x.0 _ good.idle x.1 (ap is_idle was) u;
+          unclaimed = rw (rest, Slots.drop_is_cut a.unclaimed.items) (cut_line _ _ _ _ a.slots slots a.unclaimed.items 0 key _ good.unclaimed (sym first) u);
           conns_are = (let t : tally (passes is_conn) slots.slots + 0 ≡ a.conns + 0 = conns_set a slots key.place (Some x.0) (Some new) false false good x.1 u (ap is_conn was) refl in omega arith);
           approved_are = (let t : tally (passes is_approval) slots.slots + 1 ≡ a.approved + 1 = approved_set a slots key.place (Some x.0) (Some new) true true good x.1 u (ap is_approval was) refl in omega arith);
           sizes = let s = good.sizes in let c : unclaimed.capacity ≡ a.unclaimed.capacity = ap (λ (b : Buffer Key). b.capacity) rest in record { places_are = omega arith; peak_holds = s.peak_holds; peak_few = s.peak_few; place_room_holds = omega arith; idle_room_holds = s.idle_room_holds; unclaimed_room_holds = omega arith };
@@ -245,12 +127,12 @@ module _ {C : Type 0} where
 
     pub claim_view : view_of_records (record a { slots = slots; unclaimed = unclaimed }) ≡ machine.claimed key.number (view_of_records a)
     claim_view =
-        let x = front is_unclaimed a.slots.slots a.unclaimed.items key good.unclaimed (sym first) in
+        let x = good.unclaimed.each 0 key (sym first) in
         let new : Slot (Standing C) = record x.0 { standing = placed Claimed x.0.standing } in
         same_records _ _ refl
         (places_set a slots key.place key.number x.0 Claimed good x.1 x.2 (sets x.0 x.1))
         refl
-        (ap (λ (b : Buffer Key). map (λ (k : Key). k.number) b.items) rest ∙ map_drop (λ (k : Key). k.number) a.unclaimed.items)
+        (ap (λ (b : Buffer Key). map (λ (k : Key). k.number) b.items) rest ∙ sym (drop-map (λ (k : Key). k.number) 1 a.unclaimed.items))
         refl refl refl
 
   -- ---- take
@@ -261,14 +143,14 @@ module _ {C : Type 0} where
 
     pub take_good : slab_len slots ≡ slab_len a.slots → slots.capacity ≡ a.slots.capacity → AreGoodRecords (record a { slots = slots; idle = idle })
     take_good len room =
-        let x = inside is_idle a.slots.slots a.idle.items where_first key good.idle (sym first) in
+        let x = good.idle.each where_first key (sym first) in
         let was = idle_is x.0.standing.place x.3 in
         let new : Slot (Standing C) = record x.0 { standing = placed Guarded x.0.standing } in
         let u : Updates a.slots slots key.place (Some new) = sets x.0 x.1 in
         record {
-          table = table_set (λ (s : Slot (Standing C)). s.number) (λ s. s.standing) a.slots slots a.next key.place x.0 new good.table x.1 refl u;
-          idle = rw rest (cut_line is_idle a.slots slots a.idle.items where_first key _ good.idle (sym first) u);
-          unclaimed = other_line is_unclaimed a.slots slots a.unclaimed.items key.place x.0 _ good.unclaimed x.1 (ap is_unclaimed was.1) u;
+          table = table_set (λ (s : Slot (Standing C)). s.number) a.slots slots a.next key.place x.0 new good.table x.1 refl u;
+          idle = rw rest (cut_line _ _ _ _ a.slots slots a.idle.items where_first key _ good.idle (sym first) u);
+          unclaimed = other_line _ _ _ _ a.slots slots a.unclaimed.items key.place x.0 _ good.unclaimed x.1 (ap is_unclaimed was.1) u;
           conns_are = (let t : tally (passes is_conn) slots.slots + 1 ≡ a.conns + 1 = conns_set a slots key.place (Some x.0) (Some new) true true good x.1 u (ap is_conn was.1) refl in omega arith);
           approved_are = (let t : tally (passes is_approval) slots.slots + 0 ≡ a.approved + 0 = approved_set a slots key.place (Some x.0) (Some new) false false good x.1 u (ap is_approval was.1) refl in omega arith);
           sizes = let s = good.sizes in let c : idle.capacity ≡ a.idle.capacity = ap (λ (b : Buffer Key). b.capacity) rest in record { places_are = omega arith; peak_holds = s.peak_holds; peak_few = s.peak_few; place_room_holds = omega arith; idle_room_holds = omega arith; unclaimed_room_holds = s.unclaimed_room_holds };
@@ -276,26 +158,26 @@ module _ {C : Type 0} where
 
     pub take_view : view_of_records (record a { slots = slots; idle = idle }) ≡ machine.taken Guarded key.number (view_of_records a)
     take_view =
-        let x = inside is_idle a.slots.slots a.idle.items where_first key good.idle (sym first) in
+        let x = good.idle.each where_first key (sym first) in
         same_records _ _ refl
         (places_set a slots key.place key.number x.0 Guarded good x.1 x.2 (sets x.0 x.1))
-        (ap (λ (b : Buffer Key). map (λ (k : Key). k.number) b.items) rest ∙ cut_numbers is_idle a.slots a.next a.idle.items where_first key good.table good.idle (sym first))
+        (ap (λ (b : Buffer Key). map (λ (k : Key). k.number) b.items) rest ∙ cut_numbers _ _ _ _ a.slots a.next a.idle.items where_first key good.table good.idle (sym first))
         refl refl refl refl
 
     -- the number that is taken is the first one
     pub taken_first : first_of strategy (view_of_records a).idle ≡ Some key.number
-    taken_first = rw (map_length (λ (k : Key). k.number) a.idle.items) (map_at (λ (k : Key). k.number) a.idle.items where_first key (sym first))
+    taken_first = rw (length-map a.idle.items (λ (k : Key). k.number)) (slice_get-map (λ (k : Key). k.number) a.idle.items where_first ∙ ap (option_map (λ (k : Key). k.number)) (sym first))
 
     -- the connection that is taken is the one that is shown of its number
     pub taken_connection : (conn : C) (place : Place C) → ((x : Slot (Standing C)) → slabs.get a.slots key.place ≡ Some x → place ≡ x.standing.place) → place ≡ Idle conn → (birth entered : ℕ) × (get (view_of_records a).places key.number ≡ Some (record { place = Idle conn; birth = birth; entered = entered }))
     taken_connection conn place was is =
-        let x = inside is_idle a.slots.slots a.idle.items where_first key good.idle (sym first) in
+        let x = good.idle.each where_first key (sym first) in
         (x.0.standing.birth, x.0.standing.entered, shown_at a key.place key.number x.0 good x.1 x.2 ∙ ap (λ (p : Place C). Some (placed p x.0.standing)) (sym (was x.0 x.1) ∙ is))
 
     -- an idle place has a connection
     pub never_without : (place : Place C) (G : Type 0) → ((x : Slot (Standing C)) → slabs.get a.slots key.place ≡ Some x → place ≡ x.standing.place) → is_idle place ≡ false → G
     never_without place G was off =
-        let x = inside is_idle a.slots.slots a.idle.items where_first key good.idle (sym first) in
+        let x = good.idle.each where_first key (sym first) in
         absurd (let clash : true ≡ false = sym x.3 ∙ ap is_idle (sym (was x.0 x.1)) ∙ off in cc)
 
   -- a pop of an empty line
@@ -303,7 +185,7 @@ module _ {C : Type 0} where
   idle_same a strategy idle empty rest = rest ∙ ap (λ (ks : List Key). buffer ks a.idle.capacity) (Slots.none_cut a.idle.items (first_place strategy (length a.idle.items)) empty)
 
   pub idle_none : (a : Inside C) (strategy : QueueStrategy) → slice_get a.idle.items (first_place strategy (length a.idle.items)) ≡ None → first_of strategy (view_of_records a).idle ≡ None
-  idle_none a strategy empty = rw (map_length (λ (k : Key). k.number) a.idle.items) (map_none_at (λ (k : Key). k.number) a.idle.items (first_place strategy (length a.idle.items)) empty)
+  idle_none a strategy empty = rw (length-map a.idle.items (λ (k : Key). k.number)) (slice_get-map (λ (k : Key). k.number) a.idle.items (first_place strategy (length a.idle.items)) ∙ ap (option_map (λ (k : Key). k.number)) empty)
 
   -- ---- enter
 
@@ -344,7 +226,7 @@ module _ {C : Type 0} where
     line_after =
         let at_key : slabs.get a.slots key.place ≡ Some x = subst (λ (p : ℕ). slabs.get a.slots p ≡ Some x) (sym placed_there) at_place in
         let u : Updates a.slots slots key.place (Some entering) = subst (λ (p : ℕ). Updates a.slots slots p (Some entering)) (sym placed_there) (sets x at_place) in
-        turned_line is_idle a.slots slots a.idle.items key x entering good.idle at_key not_idle u numbered is_idle_now
+        turned_line _ _ _ _ a.slots slots a.idle.items key x entering good.idle at_key not_idle u numbered is_idle_now
 
     -- there is room for the key
     pub enter_room : length a.idle.items < a.idle.capacity
@@ -363,9 +245,9 @@ module _ {C : Type 0} where
         let c : one opening ≤ a.approved = enter_counted in
         let e : one opening + one (not opening) ≡ 1 = either opening in
         record {
-          table = table_set (λ (y : Slot (Standing C)). y.number) (λ y. y.standing) a.slots slots a.next place x entering good.table at_place refl (sets x at_place);
+          table = table_set (λ (y : Slot (Standing C)). y.number) a.slots slots a.next place x entering good.table at_place refl (sets x at_place);
           idle = rw pushed line_after;
-          unclaimed = other_line is_unclaimed a.slots slots a.unclaimed.items place x _ good.unclaimed at_place not_unclaimed (sets x at_place);
+          unclaimed = other_line _ _ _ _ a.slots slots a.unclaimed.items place x _ good.unclaimed at_place not_unclaimed (sets x at_place);
           conns_are = omega arith;
           approved_are = omega arith;
           sizes = let z = good.sizes in let w : idle.capacity ≡ a.idle.capacity = ap (λ (b : Buffer Key). b.capacity) pushed in record { places_are = omega arith; peak_holds = omega arith; peak_few = good.sizes.peak_few; place_room_holds = omega arith; idle_room_holds = omega arith; unclaimed_room_holds = z.unclaimed_room_holds };
@@ -399,9 +281,9 @@ module _ {C : Type 0} where
         let v : tally (passes is_approval) slots.slots + one opening ≡ a.approved + 0 = approved_less in
         let e : one opening + one (not opening) ≡ 1 = either opening in
         record {
-          table = table_removed (λ (s : Slot (Standing C)). s.number) (λ s. s.standing) a.slots slots a.next place good.table frees;
-          idle = other_line is_idle a.slots slots a.idle.items place x _ good.idle at_place (ap is_idle was ∙ idle_from C opening) frees;
-          unclaimed = other_line is_unclaimed a.slots slots a.unclaimed.items place x _ good.unclaimed at_place (ap is_unclaimed was ∙ unclaimed_from C opening) frees;
+          table = table_removed (λ (s : Slot (Standing C)). s.number) a.slots slots a.next place good.table frees;
+          idle = other_line _ _ _ _ a.slots slots a.idle.items place x _ good.idle at_place (ap is_idle was ∙ idle_from C opening) frees;
+          unclaimed = other_line _ _ _ _ a.slots slots a.unclaimed.items place x _ good.unclaimed at_place (ap is_unclaimed was ∙ unclaimed_from C opening) frees;
           conns_are = omega arith;
           approved_are = omega arith;
           sizes = let s = good.sizes in record { places_are = omega arith; peak_holds = omega arith; peak_few = good.sizes.peak_few; place_room_holds = omega arith; idle_room_holds = s.idle_room_holds; unclaimed_room_holds = s.unclaimed_room_holds };
@@ -427,13 +309,13 @@ module _ {C : Type 0} where
     new_approval false = refl
 
     line_added : (b : Bool) (new : Slot (Standing C)) → new.number ≡ a.next → new.standing.place ≡ cond b Claimed Unclaimed → Updates a.slots slots place (Some new) → IsLineOf is_unclaimed slots.slots (a.unclaimed.items ++ cond b [] ((record { number = a.next; place = place }) ∷ []))
-    line_added true new same stands_there v = rw (append-nil a.unclaimed.items) (free_line is_unclaimed a.slots slots a.unclaimed.items place _ good.unclaimed free v)
-    line_added false new same stands_there v = added_line is_unclaimed a.slots slots a.unclaimed.items (record { number = a.next; place = place }) new good.unclaimed free v same (ap is_unclaimed stands_there)
+    line_added true new same stands_there v = rw (append-nil a.unclaimed.items) (free_line _ _ _ _ a.slots slots a.unclaimed.items place _ good.unclaimed free v)
+    line_added false new same stands_there v = added_line _ _ _ _ a.slots slots a.unclaimed.items (record { number = a.next; place = place }) new good.unclaimed free v same (ap is_unclaimed stands_there)
 
     pub approve_good : a.conns + a.approved < a.peak → slab_len slots ≡ slab_len a.slots + 1 → slots.capacity ≡ a.slots.capacity → AreGoodRecords (record a { next = a.next + 1; slots = slots; unclaimed = unclaimed; approved = a.approved + 1 })
     approve_good free_room len room = record {
-      table = table_added (λ (s : Slot (Standing C)). s.number) (λ s. s.standing) a.slots slots a.next place added good.table free refl u;
-      idle = free_line is_idle a.slots slots a.idle.items place _ good.idle free u;
+      table = table_added (λ (s : Slot (Standing C)). s.number) a.slots slots a.next place added good.table free refl u;
+      idle = free_line _ _ _ _ a.slots slots a.idle.items place _ good.idle free u;
       unclaimed = rw pushed (line_added claimed_now added refl refl u);
       conns_are = (let t : tally (passes is_conn) slots.slots + 0 ≡ a.conns + 0 = conns_set a slots place None (Some added) false false good free u refl (not_conn claimed_now) in omega arith);
       approved_are = (let t : tally (passes is_approval) slots.slots + 0 ≡ a.approved + 1 = approved_set a slots place None (Some added) false true good free u refl (new_approval claimed_now) in omega arith);
@@ -460,9 +342,9 @@ module _ {C : Type 0} where
 
     pub born_good : a.conns + a.approved < a.peak → slab_len slots ≡ slab_len a.slots + 1 → slots.capacity ≡ a.slots.capacity → AreGoodRecords (record a { next = a.next + 1; slots = slots; idle = idle; conns = a.conns + 1 })
     born_good free_room len room = record {
-      table = table_added (λ (s : Slot (Standing C)). s.number) (λ s. s.standing) a.slots slots a.next place newborn good.table free refl u;
-      idle = rw pushed (added_line is_idle a.slots slots a.idle.items (record { number = a.next; place = place }) newborn good.idle free u refl refl);
-      unclaimed = free_line is_unclaimed a.slots slots a.unclaimed.items place _ good.unclaimed free u;
+      table = table_added (λ (s : Slot (Standing C)). s.number) a.slots slots a.next place newborn good.table free refl u;
+      idle = rw pushed (added_line _ _ _ _ a.slots slots a.idle.items (record { number = a.next; place = place }) newborn good.idle free u refl refl);
+      unclaimed = free_line _ _ _ _ a.slots slots a.unclaimed.items place _ good.unclaimed free u;
       conns_are = (let t : tally (passes is_conn) slots.slots + 0 ≡ a.conns + 1 = conns_set a slots place None (Some newborn) false true good free u refl refl in omega arith);
       approved_are = (let t : tally (passes is_approval) slots.slots + 0 ≡ a.approved + 0 = approved_set a slots place None (Some newborn) false false good free u refl refl in omega arith);
       sizes = let s = good.sizes in let c : idle.capacity ≡ a.idle.capacity = ap (λ (b : Buffer Key). b.capacity) pushed in record { places_are = omega arith; peak_holds = omega arith; peak_few = good.sizes.peak_few; place_room_holds = omega arith; idle_room_holds = omega arith; unclaimed_room_holds = s.unclaimed_room_holds };

@@ -1,8 +1,10 @@
 -- Laws of tables of places.
 use Rattle.std.proofs.Common.{◌≡◌, ◌≢◌, ◌⊎◌, ℕ, zero, suc, ◌+◌, ◌<◌, ◌≤◌, Bool, true, false, cond, eqb, List, [], ◌∷◌, ◌++◌, length, Option, Some, None, get_or, slice_get, filter, map, not, take, drop, ◌-◌, refl, sym, ap, ◌∙◌, inl, inr, ⊎_elim, arith, ne_eqb, eq-eqb, subst, nat_cmp, set, get_or-set_other, get_or-set_same}
 use Rattle.std.specs.FinMap.{FinMap, insert, remove, get, get-empty}
+use Rattle.slab.specs.Slab as slabs
+use Rattle.slab.specs.Slab.{Slab, Updates}
 use Rattle.bb8_core.specs.Numbered.{tally, one}
-use Rattle.bb8_core.specs.Slots.{held, Holds, IsLine, IsDistinct, cut_at}
+use Rattle.bb8_core.specs.Slots.{held, Holds, IsLine, IsTable, IsDistinct, cut_at}
 use Rattle.bb8_core.proofs.Numbered.{same_or_not, get_inserted, get_removed, same_gets}
 
 module _ {X S : Type 0} (number : X → ℕ) (value : X → S) where
@@ -377,3 +379,47 @@ module _ {X K : Type 0} (number : X → ℕ) (test : X → Bool) (key leads : K 
       in_list [] i y e = cc
       in_list (z ∷ ys) zero y e = omega arith
       in_list (z ∷ ys) (suc i) y e = let h : i < length ys = in_list ys i y e in omega arith
+
+-- ---- what a change does to a table
+
+module _ {X : Type 0} (number : X → ℕ) where
+  -- another value at a place, with the same number
+  pub table_set : (old new : Slab X) (next place : ℕ) (was x : X) → IsTable number old next → slabs.get old place ≡ Some was → number was ≡ number x → Updates old new place (Some x) → IsTable number new next
+  table_set old new next place was x t at_place same u = record {
+    distinct = distinct_changed number old.slots new.slots place (Some x) t.distinct (u.changed, u.others) (λ a b i e f s. let is : x ≡ a = cc in t.distinct i place b was f at_place (s ∙ ap number (sym is) ∙ sym same));
+    below = λ i y e. ⊎_elim
+        (λ (h : (i ≡ place) × (Some x ≡ Some y)). let is : x ≡ y = cc in let l : number was < next = t.below place was at_place in let e1 : number was ≡ number y = same ∙ ap number is in omega arith)
+        (λ (h : (i ≢ place) × (get_or old.slots i None ≡ Some y)). t.below i y h.1)
+        (changed_cases number old.slots new.slots place i (Some x) y (u.changed, u.others) e);
+  }
+
+  -- the next number at a free place
+  pub table_added : (old new : Slab X) (next place : ℕ) (x : X) → IsTable number old next → slabs.get old place ≡ None → number x ≡ next → Updates old new place (Some x) → IsTable number new (next + 1)
+  table_added old new next place x t free is_next u = record {
+    distinct = distinct_changed number old.slots new.slots place (Some x) t.distinct (u.changed, u.others) (λ a b i e f s. absurd (let is : x ≡ a = cc in let l : number b < next = t.below i b f in let e1 : number b ≡ number x = s ∙ ap number (sym is) in omega arith));
+    below = λ i y e. ⊎_elim
+        (λ (h : (i ≡ place) × (Some x ≡ Some y)). let is : x ≡ y = cc in let e1 : number x ≡ number y = ap number is in omega arith)
+        (λ (h : (i ≢ place) × (get_or old.slots i None ≡ Some y)). let l : number y < next = t.below i y h.1 in omega arith)
+        (changed_cases number old.slots new.slots place i (Some x) y (u.changed, u.others) e);
+  }
+
+  -- a place is freed
+  pub table_removed : (old new : Slab X) (next place : ℕ) → IsTable number old next → Updates old new place None → IsTable number new next
+  table_removed old new next place t u = record {
+    distinct = distinct_changed number old.slots new.slots place None t.distinct (u.changed, u.others) (λ a b i e f s. cc);
+    below = λ i y e. ⊎_elim
+        (λ (h : (i ≡ place) × (None ≡ Some y)). cc)
+        (λ (h : (i ≢ place) × (get_or old.slots i None ≡ Some y)). t.below i y h.1)
+        (changed_cases number old.slots new.slots place i None y (u.changed, u.others) e);
+  }
+
+-- what it holds then
+module _ {X S : Type 0} (number : X → ℕ) (value : X → S) where
+  pub held_set : (old new : Slab X) (next place : ℕ) (was x : X) → IsTable number old next → slabs.get old place ≡ Some was → number was ≡ number x → Updates old new place (Some x) → held number value new.slots ≡ insert (held number value old.slots) (number x) (value x)
+  held_set old new next place was x t at_place same u = held_replaced number value old.slots new.slots place was x t.distinct at_place same (u.changed, u.others)
+
+  pub held_added : (old new : Slab X) (next place : ℕ) (x : X) → IsTable number old next → slabs.get old place ≡ None → number x ≡ next → Updates old new place (Some x) → held number value new.slots ≡ insert (held number value old.slots) (number x) (value x)
+  held_added old new next place x t free is_next u = held_taken number value old.slots new.slots place x t.distinct free (λ i y e s. let l : number y < next = t.below i y e in omega arith) (u.changed, u.others)
+
+  pub held_removed : (old new : Slab X) (next place : ℕ) (was : X) → IsTable number old next → slabs.get old place ≡ Some was → Updates old new place None → held number value new.slots ≡ remove (held number value old.slots) (number was)
+  held_removed old new next place was t at_place u = held_freed number value old.slots new.slots place was t.distinct at_place (u.changed, u.others)

@@ -176,7 +176,7 @@ impl<C: Drop> PoolInternals<C> {
         self.latest = now;
         let getting = self.gets.getting(get);
         if is_unnotified(getting) {
-            return TryAnswer::Waiting(self.records.no_grant());
+            return TryAnswer::Waiting(Grant::of_nothing(self.records.next_number()));
         }
         match self.records.take(self.config.queue_strategy) {
             None => {
@@ -356,8 +356,9 @@ impl<C: Drop> PoolInternals<C> {
         ensures { (conn : ℕ → C) (l : ledger.Ledger C) → table.IsLegal l → Means l self.now → result ≡ table.takes l (act_with conn l act) }
     {
         match act {
-            Act::Begin | Act::Add(_) => self.fits_begin(),
-            Act::Try(number) => self.takes_try(GetKey { number, place }),
+            Act::Begin => self.fits_begin(),
+            Act::Add(_) => self.fits_add(),
+            Act::Try(number) => self.fits_try(GetKey { number, place }),
             Act::GiveUp(number, _, _) => self.gets.is_alive(GetKey { number, place }),
             Act::PutBack(number, _) => self.records.is_guarded(Key { number, place }),
             Act::Opened(number) => self.records.is_claimed(Key { number, place }),
@@ -365,19 +366,25 @@ impl<C: Drop> PoolInternals<C> {
         }
     }
 
-    /// Whether a get may begin, and a connection may be added: while a handle is alive.
+    /// Whether a get may begin: while a handle is alive.
     pub fn fits_begin(&self) -> bool
-        ensures begin { (l : ledger.Ledger C) → table.IsLegal l → Means l self.now → result ≡ table.takes l acts.Begin }
-        ensures add { (conn : C) (broken : Bool) (l : ledger.Ledger C) → table.IsLegal l → Means l self.now → result ≡ table.takes l (acts.Add conn broken) }
+        ensures { (l : ledger.Ledger C) → table.IsLegal l → Means l self.now → result ≡ table.takes l acts.Begin }
     {
         self.handles != 0
+    }
+
+    /// Whether a connection may be added, whichever it is: while a handle is alive.
+    pub fn fits_add(&self) -> bool
+        ensures { (conn : C) (broken : Bool) (l : ledger.Ledger C) → table.IsLegal l → Means l self.now → result ≡ table.takes l (acts.Add conn broken) }
+    {
+        self.handles >= 1
     }
 
     /// Whether the get may try.
     pub fn fits_try(&self, get: GetKey) -> bool
         ensures { (l : ledger.Ledger C) → table.IsLegal l → Means l self.now → result ≡ table.takes l (acts.Try get.number) }
     {
-        self.takes_try(get)
+        !self.config.test_on_check_out && self.gets.is_trying(get)
     }
 
     /// Whether the get may be given up with no connection in hand, for whatever reason.
@@ -399,13 +406,6 @@ impl<C: Drop> PoolInternals<C> {
         ensures { (conn : C) (l : ledger.Ledger C) → table.IsLegal l → Means l self.now → result ≡ table.takes l (acts.Opened a.number conn) }
     {
         self.records.is_claimed(a)
-    }
-
-    /// Whether the try of a get fits.
-    fn takes_try(&self, get: GetKey) -> bool
-        ensures { result ≡ (not self.now.config.test_on_check_out && ledger.gets_stand table.is_trying (map.get self.now.gets.places get.number)) }
-    {
-        !self.config.test_on_check_out && self.gets.is_trying(get)
     }
 
     /// The key of a connection or approval that has not ended, by its number.

@@ -2,18 +2,18 @@
 #![tactic(auto)]
 
 pub mod api;
-pub mod counters;
-pub mod events;
-pub mod gets;
+mod counters;
+mod events;
+mod gets;
 mod hints;
 pub mod internals;
-pub mod keys;
-pub mod outcomes;
-pub mod records;
+mod keys;
+mod outcomes;
+mod records;
 pub mod replay;
 mod ring;
 pub mod rows;
-pub mod standing;
-pub mod table;
+mod standing;
+mod table;
 #[cfg(test)]
 mod tests;

@@ -4,7 +4,6 @@ ghost use Rattle.std.specs.FinMap as map;
 ghost use Rattle.bb8_core.specs.Ledger as ledger;
 ghost use Rattle.bb8_core.specs.Machine as machine;
 ghost use Rattle.bb8_core.specs.Numbered as numbered;
-ghost use Rattle.bb8_core.specs.Table.{IsNoGrant};
 ghost use Rattle.bb8_core.specs.Shown.{shown_records};
 ghost use Rattle.bb8_core.specs.declared.standing.Place.TheVariants.{Unclaimed, Claimed, Idle, Guarded};
 ghost use Rattle.circular_buffer.specs.Buffer.{buffer};
@@ -321,22 +320,7 @@ impl<C: Drop> Records<C> {
         if due > 0 {
             return self.grant_some(due, claimed);
         }
-        Grant {
-            first: self.next,
-            count: 0,
-            withheld: 0,
-        }
-    }
-
-    /// A grant of nothing.
-    pub(crate) fn no_grant(&self) -> Grant
-        ensures { IsNoGrant self.now.next result }
-    {
-        Grant {
-            first: self.next,
-            count: 0,
-            withheld: 0,
-        }
+        Grant::of_nothing(self.next)
     }
 
     /// How many open approvals there are.

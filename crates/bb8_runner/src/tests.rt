@@ -135,7 +135,7 @@ fn run(rt: &HostRuntime, input: &[u8]) -> Result<(Verdict, Vec<u8>), Fail> {
 }
 
 #[test]
-fn answers_the_first_script(rt: HostRuntime) -> Result<(), Fail> {
+fn succeeds_run_of_the_first_script(rt: HostRuntime) -> Result<(), Fail> {
     for input in [FIRST_SCRIPT, &FIRST_SCRIPT[..FIRST_SCRIPT.len() - 1]] {
         let (end, written) = run(&rt, input)?;
         assert_eq!(rt; end, Verdict::Ran);

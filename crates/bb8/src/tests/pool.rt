@@ -100,6 +100,6 @@ fn keeps_room_for_two(rt: HostRuntime) -> Result<(), Fail> {
 }
 
 #[test]
-fn lends_two(rt: HostRuntime) -> Result<(), Fail> {
+fn succeeds_to_build_and_lend_two(rt: HostRuntime) -> Result<(), Fail> {
     lends::<HostRuntime, Brand>(rt, Blank::new(2))
 }

@@ -73,7 +73,7 @@ fn nothing_happened(rt: HostRuntime) -> Result<(), Fail> {
 }
 
 #[test]
-fn runs_the_first_script(rt: HostRuntime) -> Result<(), Fail> {
+fn succeeds_replay_of_the_first_script(rt: HostRuntime) -> Result<(), Fail> {
     let config = unchecked(5, Some(2));
     let lines = first_script();
     for (beginning, connections, idle, gets) in [(5, 2, 2, 0), (17, 5, 2, 3), (20, 5, 5, 3)] {

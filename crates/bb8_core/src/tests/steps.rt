@@ -200,7 +200,7 @@ fn one_claimed(rt: &impl Abort, alloc: Global) -> (PoolInternals<Link>, Key) {
 }
 
 #[test]
-fn each_step_once(rt: HostRuntime) {
+fn succeeds_each_step_once(rt: HostRuntime) {
     let (mut pool, approval) = one_claimed(&rt, rt.alloc());
     let OpenedAnswer::Entered(None) = opened(&rt, &mut pool, approval, Link::Blue) else {
         panic!(rt; "it did not become idle, or notified somebody");

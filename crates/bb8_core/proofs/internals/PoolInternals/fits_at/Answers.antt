@@ -1,13 +1,16 @@
 use Rattle.std.proofs.Common.{ap, ◌∙◌, sym}
-use Rattle.bb8_core.specs.Ledger.{stands, is_guarded, is_claimed}
+use Rattle.bb8_core.specs.Ledger.{stands, next, is_guarded, is_claimed}
 use Rattle.bb8_core.specs.Outcomes.{reason_of}
 use Rattle.bb8_core.specs.Pool.{view_of}
 use Rattle.bb8_core.proofs.Facts.{shown_record}
-use Rattle.bb8_core.proofs.Runs.{takes_try, takes_give_up}
+use Rattle.bb8_core.proofs.Runs.{takes_give_up}
 use Rattle.bb8_core.proofs.internals.PoolInternals.fits_at.Goals as goal
 
+pub returns-in-Add : goal.returns-in-Add
+returns-in-Add g c = rw c.in-Add.is (λ conn l. c.fits_add.ensures (conn (next l)) c.in-Add.field-0 l)
+
 pub returns-in-Try : goal.returns-in-Try
-returns-in-Try g c = rw c.in-Try.is (λ conn l legal means. c.takes_try.ensures ∙ sym (takes_try l c.args.self.now c.in-Try.number means))
+returns-in-Try g c = rw c.in-Try.is (λ conn. c.fits_try.ensures)
 
 pub returns-in-GiveUp : goal.returns-in-GiveUp
 returns-in-GiveUp g c = rw c.in-GiveUp.is (λ conn l legal means. c.is_alive.ensures ∙ sym (takes_give_up conn l (view_of c.self.inside) c.in-GiveUp.number (reason_of c.in-GiveUp.field-1) c.in-GiveUp.field-2 (means ∙ sym c.self.view_is)))

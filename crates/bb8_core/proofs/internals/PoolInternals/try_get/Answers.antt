@@ -1,4 +1,4 @@
-use Rattle.std.proofs.Common.{◌≡◌, ◌≤◌, ◌+◌, ◌-◌, ap, sym, refl, ◌∙◌, arith, subst, IsSome}
+use Rattle.std.proofs.Common.{◌≡◌, ℕ, ◌≤◌, ◌+◌, ◌-◌, ap, sym, refl, ◌∙◌, arith, subst, IsSome}
 use Rattle.bb8_core.specs.declared.standing.Place.TheVariants.{Idle}
 use Rattle.bb8_core.specs.Acts as acts
 use Rattle.bb8_core.specs.Answers as answers
@@ -6,6 +6,7 @@ use Rattle.bb8_core.specs.Machine as machine
 use Rattle.bb8_core.specs.Pool.{view_of}
 use Rattle.bb8_core.specs.Settings.{settings_of}
 use Rattle.bb8_core.specs.Shown.{ShownRecords}
+use Rattle.bb8_core.specs.Table.{IsNoGrant}
 use Rattle.bb8_core.proofs.Facts.{shown_record}
 use Rattle.bb8_core.proofs.Laws.{shown_fits, want_few, due_few}
 use Rattle.bb8_core.proofs.Fitting.{fit_try, fit_waits, alive_shown}
@@ -13,12 +14,12 @@ use Rattle.bb8_core.proofs.Steps.{meets_served_counted, meets_waits_on, meets_wa
 use Rattle.bb8_core.proofs.internals.PoolInternals.try_get.Goals as goal
 
 pub invariant_of-self : goal.invariant_of-self
-invariant_of-self g c = led (view_of c.self.inside) _ c.args.at.0 (acts.Try c.args.get.number) (answers.Waiting c.no_grant.result) c.self.invariant
-    (meets_waits_on (view_of c.self.inside) c.args.at.0 c.args.get.number c.max-now.result c.getting-getting.result c.no_grant.result (record { fit = fits_view (acts.Try c.args.get.number) c.self.view_is c.requires; now_is = c.max-now.ensures; get_is = c.getting-getting.ensures }) (sym c.is_unnotified.ensures ∙ c.if-is_unnotified.true) c.no_grant.ensures)
+invariant_of-self g c = led (view_of c.self.inside) _ c.args.at.0 (acts.Try c.args.get.number) (answers.Waiting c.of_nothing.result) c.self.invariant
+    (meets_waits_on (view_of c.self.inside) c.args.at.0 c.args.get.number c.max-now.result c.getting-getting.result c.of_nothing.result (record { fit = fits_view (acts.Try c.args.get.number) c.self.view_is c.requires; now_is = c.max-now.ensures; get_is = c.getting-getting.ensures }) (sym c.is_unnotified.ensures ∙ c.if-is_unnotified.true) (subst (λ (n : ℕ). IsNoGrant n c.of_nothing.result) c.next_number.ensures c.of_nothing.ensures))
 
 pub returns-then-is_unnotified-clause-step : goal.returns-then-is_unnotified-clause-step
-returns-then-is_unnotified-clause-step g c = at_view _ c.args.at.0 (acts.Try c.args.get.number) (answers.Waiting c.no_grant.result) c.self.view_is
-    (meets_waits_on (view_of c.self.inside) c.args.at.0 c.args.get.number c.max-now.result c.getting-getting.result c.no_grant.result (record { fit = fits_view (acts.Try c.args.get.number) c.self.view_is c.requires; now_is = c.max-now.ensures; get_is = c.getting-getting.ensures }) (sym c.is_unnotified.ensures ∙ c.if-is_unnotified.true) c.no_grant.ensures)
+returns-then-is_unnotified-clause-step g c = at_view _ c.args.at.0 (acts.Try c.args.get.number) (answers.Waiting c.of_nothing.result) c.self.view_is
+    (meets_waits_on (view_of c.self.inside) c.args.at.0 c.args.get.number c.max-now.result c.getting-getting.result c.of_nothing.result (record { fit = fits_view (acts.Try c.args.get.number) c.self.view_is c.requires; now_is = c.max-now.ensures; get_is = c.getting-getting.ensures }) (sym c.is_unnotified.ensures ∙ c.if-is_unnotified.true) (subst (λ (n : ℕ). IsNoGrant n c.of_nothing.result) c.next_number.ensures c.of_nothing.ensures))
 
 pub grant-grant-requires : goal.grant-grant-requires
 grant-grant-requires g c =

@@ -1,4 +1,4 @@
-use Rattle.bb8.proofs.tests.pool.lends_two.Given as goal
+use Rattle.bb8.proofs.tests.pool.succeeds_to_build_and_lend_two.Given as goal
 
 abbrev pub ghosts-lends : goal.ghosts-lends
 ghosts-lends g a = record { name = a.blank.name; parts = a.blank.parts }
