@@ -8,7 +8,7 @@ use Rattle.bb8_core.specs.declared.outcomes.AddAnswer.{AddAnswer}
 use Rattle.bb8_core.specs.declared.outcomes.AddAnswer.TheVariants as adding
 use Rattle.bb8_core.specs.declared.api.configuration.Config.{Config}
 use Rattle.bb8_core.specs.declared.events.Grant.{Grant}
-use Rattle.bb8_core.specs.Settings.{Settings}
+use Rattle.bb8_core.specs.Settings.{Settings, settings_of, is_lawful}
 use Rattle.bb8_core.specs.Acts.{Act, GiveUp, PutBack, Fill, Add, Reason}
 use Rattle.bb8_core.specs.Answers.{Answer, Broken, Granted, Unfit}
 use Rattle.bb8_core.specs.Ledger.{Ledger}
@@ -101,9 +101,9 @@ module _ {C : Type 0} where
       (λ f is. absurd (let clash : true ≡ false = says h.0 h.1 h.2 ∙ f in cc)))
 
   -- a new state has nothing out, also once its first approvals are granted
-  pub none_out : (config : Config) (first first_get : ℕ) (old new : Shown C) (at : ℕ) (claimed : Bool) (grant : Grant) → Means (opening config first first_get) old → Meets old at (Fill claimed) (Granted grant) new → out_of new ≡ 0
-  none_out config first first_get old new at claimed grant means meets =
-      let k = counted old at (Fill claimed) (Granted grant) new (opening config first first_get, tt, means) meets in
+  pub none_out : (config : Config) (first first_get : ℕ) (old new : Shown C) (at : ℕ) (claimed : Bool) (grant : Grant) → is_lawful (settings_of config) ≡ true → Means (opening config first first_get) old → Meets old at (Fill claimed) (Granted grant) new → out_of new ≡ 0
+  none_out config first first_get old new at claimed grant lawful means meets =
+      let k = counted old at (Fill claimed) (Granted grant) new (opening config first first_get, lawful, means) meets in
       k.moves ∙ ap out_of (sym means)
 
 -- a give-up without a connection moves nothing

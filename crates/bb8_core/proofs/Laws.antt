@@ -7,7 +7,7 @@ use Rattle.bb8_core.specs.declared.standing.Place.{Place}
 use Rattle.bb8_core.specs.declared.standing.Place.TheVariants.{Unclaimed, Claimed, Idle, Guarded}
 use Rattle.bb8_core.specs.declared.standing.Standing.{Standing}
 use Rattle.bb8_core.specs.declared.standing.Getting.{Getting}
-use Rattle.bb8_core.specs.Settings.{Settings}
+use Rattle.bb8_core.specs.Settings.{Settings, is_lawful}
 use Rattle.bb8_core.specs.Figures.{Counts}
 use Rattle.bb8_core.specs.Acts.{Act, Begin, Try, CheckedOk, CheckedErr, GiveUp, PutBack, Fill, Claim, Opened, Failed, Add, Reap, State, Join, Leave, Look, TimedOut, Cancelled}
 use Rattle.bb8_core.specs.Answers.{Answer, GaveUp, Claimed as ClaimedNow, Unfit}
@@ -416,6 +416,11 @@ module _ {C : Type 0} where
   -- what is shown fits together
   pub shown_fits : (s : Shown C) → HasLedger s → Fits s.config.max_size s.records.conns s.records.approved s.records.next s.gets.alive s.gets.next s.counts
   shown_fits s h = subst (λ (t : Shown C). Fits t.config.max_size t.records.conns t.records.approved t.records.next t.gets.alive t.gets.next t.counts) h.2 (all_fit h.0 h.1)
+
+  -- the configuration of a legal ledger is lawful
+  pub lawful_start : (l : Ledger C) → IsLegal l → is_lawful (start l).config ≡ true
+  lawful_start (Opening s) legal = legal
+  lawful_start (Later l at e a) legal = lawful_start l legal.0
 
   pub want_few : (config : Settings) (handles : ℕ) (s : ShownRecords C) → machine.want config handles s ≤ config.max_size - (s.conns + s.approved)
   want_few config handles s = due_few config handles (s.conns + s.approved) (lacking config (length s.idle + s.approved))

@@ -137,9 +137,10 @@ impl<C: Drop> PoolInternals<C> {
         }
     }
 
-    /// What holds of every state, whoever has it: connections and open approvals are within the size, and the legal ledger that it means
-    /// keeps all limits. It does nothing.
+    /// What holds of every state, whoever has it: its configuration is lawful, connections and open approvals are within the size, and the
+    /// legal ledger that it means keeps all limits. It does nothing.
     pub fn limits(&self)
+        ensures lawful { is_lawful self.now.config ≡ true }
         ensures size { self.now.records.conns + self.now.records.approved ≤ self.now.config.max_size }
         ensures ledger { IsWithinLimits self.now }
     {

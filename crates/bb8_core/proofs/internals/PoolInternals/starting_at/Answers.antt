@@ -3,4 +3,4 @@ use Rattle.bb8_core.specs.Run.{opening}
 use Rattle.bb8_core.proofs.internals.PoolInternals.starting_at.Goals as goal
 
 pub invariant_of-result : goal.invariant_of-result
-invariant_of-result g c = (opening c.args.config c.args.first_number c.args.first_get, tt, rw (c.new.ensures, c.new-2.ensures) refl)
+invariant_of-result g c = (opening c.args.config c.args.first_number c.args.first_get, c.requires, rw (c.new.ensures, c.new-2.ensures) refl)
