@@ -1,3 +1,2 @@
-pub mod Addings
 pub mod Sections
 pub mod Links

@@ -1,9 +1,8 @@
 -- A step that was taken under the lock is one that some state takes.
 use Rattle.std.proofs.Common.{◌≡◌, ℕ, sym, subst}
-use Rattle.bb8_core.specs.Acts.{Act}
-use Rattle.bb8_core.specs.Answers.{Answer}
-use Rattle.bb8_core.specs.Limits.{IsWithinLimits}
-use Rattle.bb8_core.specs.Shown.{Shown, Meets}
+use Rattle.bb8_ledger.specs.Acts.{Act}
+use Rattle.bb8_ledger.specs.Answers.{Answer}
+use Rattle.bb8_core.specs.Shown.{IsWithinLimits, Shown, Meets}
 use Rattle.bb8.specs.Homes.{OnSome}
 
 module _ {C : Type 0} where

@@ -6,21 +6,22 @@ use Rattle.bb8_core.specs.declared.outcomes.PutBackAnswer.{PutBackAnswer}
 use Rattle.bb8_core.specs.declared.outcomes.PutBackAnswer.TheVariants.{Kept, Closed}
 use Rattle.bb8_core.specs.declared.outcomes.AddAnswer.{AddAnswer}
 use Rattle.bb8_core.specs.declared.outcomes.AddAnswer.TheVariants as adding
-use Rattle.bb8_core.specs.declared.api.configuration.Config.{Config}
-use Rattle.bb8_core.specs.declared.events.Grant.{Grant}
-use Rattle.bb8_core.specs.Settings.{Settings, settings_of, is_lawful}
-use Rattle.bb8_core.specs.Acts.{Act, GiveUp, PutBack, Fill, Add, Reason}
-use Rattle.bb8_core.specs.Answers.{Answer, Broken, Granted, Unfit}
-use Rattle.bb8_core.specs.Ledger.{Ledger}
+use Rattle.bb8_types.specs.declared.api.configuration.Config.{Config}
+use Rattle.bb8_types.specs.declared.grants.Grant.{Grant}
+use Rattle.bb8_types.specs.Settings.{Settings, settings_of, is_lawful}
+use Rattle.bb8_ledger.specs.Acts.{Act, GiveUp, PutBack, Fill, Add, Reason}
+use Rattle.bb8_ledger.specs.Answers.{Answer, Broken, Granted, Unfit}
+use Rattle.bb8_ledger.specs.Ledger.{Ledger, Later}
 use Rattle.bb8_core.specs.Outcomes.{give_up_told, put_back_told, add_told}
-use Rattle.bb8_core.specs.Table.{takes, IsLegal, Row, add_broken, add_full, add_exhausted, add_refused, adds}
-use Rattle.bb8_core.specs.Shown.{Shown, Means, Meets, IsFitting, HasLedger}
+use Rattle.bb8_ledger.specs.Table.{takes, IsLegal, Row, add_broken, add_full, add_exhausted, add_refused, adds}
+use Rattle.bb8_core.specs.Shown.{Shown, Means, Meets, IsFitting, HasLedger, IsWithinLimits}
 use Rattle.bb8_core.specs.Run.{opening}
 use Rattle.bb8.specs.Sections.{IsSorted}
 use Rattle.bb8_core.specs.Parts.{out_of, Moves}
 use Rattle.bb8_core.proofs.Parts.{counted}
-use Rattle.bb8_core.proofs.Stage.{by_fit}
+use Rattle.bb8_ledger.proofs.Effects.{by_fit}
 use Rattle.bb8_core.proofs.Runs.{unfit_now}
+use Rattle.bb8_ledger.proofs.Laws.{keeps_limits, keeps_laws, keeps_promises}
 
 -- an answer that a connection was refused as broken
 abbrev refuses_broken : Answer → Bool
@@ -37,6 +38,14 @@ module _ {C : Type 0} where
 
   pub unfit_step : (s : Shown C) (at : ℕ) (e : Act C) → Says s e false → Meets s at e Unfit s
   unfit_step s at e says = λ l legal means. unfit_now l s at e (sym (says l legal means)) means
+
+  -- a step leads to a state that has a ledger
+  pub follows : (s new : Shown C) (at : ℕ) (e : Act C) (a : Answer) → HasLedger s → Meets s at e a new → HasLedger new
+  follows s new at e a h m = let step = m h.0 h.1 h.2 in (Later h.0 at e a, (h.1, step.0), step.1)
+
+  -- whatever has a ledger keeps the limits
+  pub within : (s : Shown C) → HasLedger s → IsWithinLimits s
+  within s h = (h, λ l legal means. (keeps_limits l legal, keeps_laws l legal, keeps_promises l legal))
 
   -- a step that moves nothing leaves the parts as they are
   pub unmoved : (old new : Shown C) (at : ℕ) (e : Act C) (a : Answer) (rest : ℕ) → HasLedger old → Meets old at e a new → (Moves e a (out_of old) (out_of new) → out_of new ≡ out_of old) → out_of old + rest ≡ old.config.max_size → out_of new + rest ≡ new.config.max_size

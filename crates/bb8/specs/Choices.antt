@@ -1,5 +1,5 @@
 -- What a builder holds.
-use Rattle.bb8_core.specs.Settings.{Settings}
+use Rattle.bb8_types.specs.Settings.{Settings}
 
 -- the settings of a pool, where its errors go, and what prepares its connections
 pub record Choices (S Z : Type 0) : Type 0 where

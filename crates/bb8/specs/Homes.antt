@@ -2,14 +2,14 @@
 use Rattle.std.specs.Prelude.{◌≡◌, ℕ, ⊤}
 use Rattle.std.specs.Bool.{MatchBool}
 use Rattle.bb8_core.specs.declared.outcomes.TryAnswer.TheVariants as handed
-use Rattle.bb8_core.specs.Acts.{Act}
-use Rattle.bb8_core.specs.Answers as answers
-use Rattle.bb8_core.specs.Answers.{Answer}
-use Rattle.bb8_core.specs.Ledger.{Ledger, Later}
-use Rattle.bb8_core.specs.Limits.{IsWithinLimits}
-use Rattle.bb8_core.specs.Outcomes.{notified_of, HandsOut}
-use Rattle.bb8_core.specs.Shown.{Shown, Means, Meets}
-use Rattle.bb8_core.specs.Table.{takes, Allowed, IsLegal}
+use Rattle.bb8_ledger.specs.Acts.{Act}
+use Rattle.bb8_ledger.specs.Answers as answers
+use Rattle.bb8_ledger.specs.Answers.{Answer}
+use Rattle.bb8_ledger.specs.Ledger.{Ledger, Later}
+use Rattle.bb8_core.specs.Shown.{IsWithinLimits, Shown, Means, Meets}
+use Rattle.bb8_tables.specs.Keys.{notified_of}
+use Rattle.bb8_core.specs.Outcomes.{HandsOut}
+use Rattle.bb8_ledger.specs.Table.{takes, Allowed, IsLegal}
 use Rattle.bb8.specs.declared.get.home.BeginStep.{BeginStep}
 use Rattle.bb8.specs.declared.get.home.BeginStep.TheVariants as begun
 use Rattle.bb8.specs.declared.get.home.TryStep.{TryStep}

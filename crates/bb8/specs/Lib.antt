@@ -1,10 +1,13 @@
 pub mod Addings
 pub mod Choices
+pub mod Gets
 pub mod Homes
+pub mod Ledgers
 pub mod Linked
 pub mod Polls
 pub mod Pools
 pub mod Sections
-pub use Rattle.bb8_core.specs.Errors
-pub use Rattle.bb8_core.specs.Figures
-pub use Rattle.bb8_core.specs.Settings
+pub mod States
+pub use Rattle.bb8_types.specs.Errors
+pub use Rattle.bb8_types.specs.Figures
+pub use Rattle.bb8_types.specs.Settings

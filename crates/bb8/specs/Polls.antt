@@ -1,13 +1,13 @@
 -- The table of a get's polls, over the relations of any home.
-use Rattle.std.specs.Prelude.{◌≡◌, ℕ, ◌+◌, ◌<◌, ◌≤◌, Option, Some, None, Result, Ok, Err}
+use Rattle.std.specs.Prelude.{◌≡◌, ℕ, ◌+◌, ◌<◌, ◌≤◌, Bool, true, false, Option, Some, None, Result, Ok, Err}
 use Rattle.futures.specs.declared.task.Poll.{Poll}
 use Rattle.futures.specs.declared.task.Poll.TheVariants.{Ready, Pending}
-use Rattle.bb8_core.specs.declared.api.moments.Moment.{Moment}
-use Rattle.bb8_core.specs.declared.api.errors.RunError.{RunError}
-use Rattle.bb8_core.specs.declared.api.errors.RunError.TheVariants as errors
-use Rattle.bb8_core.specs.declared.events.Reason.TheVariants.{TimedOut, Cancelled}
-use Rattle.bb8_core.specs.declared.keys.GetKey.{GetKey}
-use Rattle.bb8_core.specs.declared.keys.Key.{Key}
+use Rattle.bb8_types.specs.declared.api.moments.Moment.{Moment}
+use Rattle.bb8_types.specs.declared.api.errors.RunError.{RunError}
+use Rattle.bb8_types.specs.declared.api.errors.RunError.TheVariants as errors
+use Rattle.bb8_types.specs.declared.reasons.Reason.TheVariants.{TimedOut, Cancelled}
+use Rattle.bb8_tables.specs.declared.keys.GetKey.{GetKey}
+use Rattle.bb8_tables.specs.declared.keys.Key.{Key}
 use Rattle.bb8_core.specs.declared.outcomes.Looked.{Looked}
 use Rattle.bb8.specs.declared.get.home.GetHome.{Ghosts as HomeOf}
 use Rattle.bb8.specs.declared.get.home.BeginStep.{BeginStep}
@@ -21,6 +21,13 @@ use Rattle.bb8.specs.declared.get.state.Next.{Next}
 use Rattle.bb8.specs.declared.get.state.Next.TheVariants.{Answer, Stand}
 use Rattle.bb8.specs.declared.get.state.Stage.{Stage}
 use Rattle.bb8.specs.declared.get.state.Stage.TheVariants.{Fresh, Trying, Waiting, Done}
+
+-- whether a get that stands so began and was not answered
+abbrev pub is_begun : Stage → Bool
+is_begun Fresh = false
+is_begun (Trying g deadline) = true
+is_begun (Waiting g deadline) = true
+is_begun Done = false
 
 -- the deadline of a get that was first polled at a moment: none, where it is past the greatest moment
 abbrev pub IsDeadline : Moment → ℕ → Option Moment → Type 0

@@ -1,9 +1,10 @@
 -- What callers see of a pool.
+use Rattle.std.specs.Prelude.{◌≡◌}
 use Rattle.std.specs.Arc.{arc_value}
-use Rattle.std.specs.declared.sync.ledger.Ledger.{Ghosts as LedgerOf}
 use Rattle.std.specs.declared.fmt.Debug.{Ghosts as DebugOf}
-use Rattle.bb8_core.specs.declared.api.managers.ManageConnection.{Ghosts as ManagerOf}
-use Rattle.bb8_core.specs.Settings.{Settings, settings_of}
+use Rattle.bb8_types.specs.declared.api.managers.ManageConnection.{Ghosts as ManagerOf}
+use Rattle.bb8_types.specs.Settings.{Settings, settings_of}
+use Rattle.std.specs.declared.sync.ledger.Ledger.{Ghosts as LedgerOf}
 use Rattle.bb8.specs.declared.pool.Pool.{Pool}
 use Rattle.bb8.specs.declared.get.future.GetFuture.{GetFuture}
 use Rattle.bb8.specs.declared.get.state.Stage.{Stage}
@@ -24,3 +25,23 @@ module _ {M S Z K R L C E N V A : Type 0} {m : ManagerOf M C E N V} {d : DebugOf
   -- the settings of the pool that a get is of
   abbrev pub settings_for : GetFuture M S Z K R L C E N V A m d l → Settings
   settings_for future = settings_of future.shared.now.config
+
+  -- the error sink of a pool
+  abbrev pub sink_in : Pool M S Z K R L C E N V A m d l → S
+  sink_in pool = (arc_value pool.shared).error_sink
+
+  -- the customizer of a pool
+  abbrev pub customizer_in : Pool M S Z K R L C E N V A m d l → Z
+  customizer_in pool = (arc_value pool.shared).customizer
+
+  -- the clock of a pool
+  abbrev pub clock_in : Pool M S Z K R L C E N V A m d l → K
+  clock_in pool = (arc_value pool.shared).clock
+
+  -- the clock that a get reads
+  abbrev pub clock_for : GetFuture M S Z K R L C E N V A m d l → K
+  clock_for future = future.shared.now.clock
+
+  -- the get is of that pool
+  abbrev pub IsOf : GetFuture M S Z K R L C E N V A m d l → Pool M S Z K R L C E N V A m d l → Type 0
+  IsOf future pool = future.shared.now ≡ arc_value pool.shared

@@ -1,13 +1,16 @@
 -- What the sections of a pool answer, in the words of the ledger.
-use Rattle.std.specs.Prelude.{◌≡◌, Bool, true, false, Result, Ok, Err, ⊤}
+use Rattle.std.specs.Prelude.{◌≡◌, ℕ, Bool, true, false, Result, Ok, Err, ⊤}
 use Rattle.bb8_core.specs.declared.outcomes.TryAnswer.{TryAnswer}
 use Rattle.bb8_core.specs.declared.outcomes.TryAnswer.TheVariants as tries
 use Rattle.bb8_core.specs.declared.outcomes.AddAnswer.{AddAnswer}
 use Rattle.bb8_core.specs.declared.outcomes.AddAnswer.TheVariants as adding
-use Rattle.bb8_core.specs.Answers as answers
-use Rattle.bb8_core.specs.Answers.{Answer}
+use Rattle.bb8_ledger.specs.Answers as answers
+use Rattle.bb8_ledger.specs.Answers.{Answer}
 use Rattle.bb8_core.specs.Outcomes.{HandsOut}
-use Rattle.bb8_core.specs.Shown.{Shown}
+use Rattle.bb8_core.specs.Shown.{Shown, Meets, IsWithinLimits}
+use Rattle.bb8_ledger.specs.Acts.{Begin, Try}
+use Rattle.bb8_tables.specs.declared.keys.Key.{Key}
+use Rattle.bb8_types.specs.declared.grants.Grant.{Grant}
 use Rattle.bb8.specs.declared.locked.Unfit.{Unfit}
 use Rattle.bb8.specs.declared.locked.Tried.{Tried}
 use Rattle.bb8.specs.declared.locked.Tried.TheVariants.{Served, Waiting}
@@ -33,6 +36,11 @@ IsSorted broken (adding.Broken c) = broken ≡ true
 IsSorted broken (adding.Added k n) = broken ≡ false
 IsSorted broken (adding.NoCapacity c) = broken ≡ false
 IsSorted broken (adding.Withheld c) = broken ≡ false
+
+module _ {C : Type 0} where
+  -- a get began and was then served, with a state between, of the same size, that keeps the limits
+  abbrev pub ServesWithin : Shown C → ℕ → Key → C → Grant → Shown C → Type 0
+  ServesWithin old at key conn grant new = (g : ℕ) × (between : Shown C) × IsWithinLimits between × (between.config.max_size ≡ old.config.max_size) × Meets old at Begin (answers.Begun g) between × Meets between at (Try g) (answers.Served key.number grant) new × HandsOut between (tries.Served key conn grant)
 
 module _ {C L : Type 0} where
   -- the answer of a try without the part of the ledger

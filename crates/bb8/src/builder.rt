@@ -2,7 +2,7 @@
 ghost use Rattle.std.specs.Prelude.{◌≡◌, ◌<◌};
 ghost use Rattle.std.specs.Duration.{as_nanos};
 ghost use Rattle.std.specs.Option.{ForSome, option_map};
-ghost use Rattle.bb8_core.specs.Settings.{settings_of, default_settings};
+ghost use Rattle.bb8_types.specs.Settings.{settings_of, default_settings};
 
 use bb8_core::api::{
     Config, CustomizeConnection, ErrorSink, ManageConnection, NopCustomizer, NopErrorSink,
@@ -28,7 +28,7 @@ pub struct Builder<M, S = NopErrorSink, Z = NopCustomizer> {
 }
 
 impl<M, S, Z> Model for Builder<M, S, Z> {
-    ghost use Rattle.bb8_core.specs.Settings.{settings_of};
+    ghost use Rattle.bb8_types.specs.Settings.{settings_of};
     ghost use Rattle.bb8.specs.Choices.{Choices};
 
     ghost Value = { Choices S Z };

@@ -7,7 +7,6 @@ mod plain;
 mod state;
 
 pub use future::GetFuture;
-#[cfg(test)]
 pub(crate) use future::StartGet;
-pub use home::{BeginStep, GetHome, GiveUpStep, TryStep};
+pub use home::{BeginStep, GetHome, GiveUpStep, ServeStep, TryStep};
 pub use state::{GetState, Next, Stage};

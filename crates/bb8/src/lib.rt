@@ -16,7 +16,9 @@
 //! }                                                    // dropped, it gives the connection back
 //! ```
 //!
-//! A test in `tests/future.rt` goes this way.
+//! A test in `tests/future.rt` goes this way. The program `bb8_service` is one whose threads share a pool: what a thread runs calls the
+//! pool by `PoolCalls`, the function over both says `L: PoolLedger` and `requires { IsBlankOf blank 4 L.name L.parts }`, and the clock is
+//! a `MachineClock`.
 #![tactic(auto)]
 
 mod builder;
@@ -24,7 +26,8 @@ mod connecting;
 pub mod get;
 mod locked;
 mod locks;
-mod pool;
+mod machine;
+pub mod pool;
 #[cfg(test)]
 mod tests;
 
@@ -35,5 +38,7 @@ pub use bb8_core::api::{
 pub use bb8_core::{api, internals, replay};
 pub use builder::Builder;
 pub use connecting::{FirstPoll, first_connect};
+pub use locked::PoolLedger;
 pub use locks::Locks;
-pub use pool::{Pool, PooledConnection};
+pub use machine::MachineClock;
+pub use pool::{Pool, PoolCalls, PooledConnection};

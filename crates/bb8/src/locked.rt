@@ -2,22 +2,26 @@
 //!
 //! A section is lent the state. Where its event fits it takes one step; where it does not, as no code of this crate brings about, it
 //! answers `Unfit` and changes nothing. No manager, customizer, sink or clock is called here.
-ghost use Rattle.std.specs.Prelude.{◌≡◌, ◌+◌, ◌<◌, ◌≤◌, None, false, IfOk};
-ghost use Rattle.bb8_core.specs.Acts as acts;
-ghost use Rattle.bb8_core.specs.Answers as answers;
-ghost use Rattle.bb8_core.specs.Figures.{figures_of};
+ghost use Rattle.std.specs.Prelude.{◌≡◌, ◌+◌, ◌<◌, ◌≤◌, None, false, IfOk, IfSome};
+ghost use Rattle.bb8_ledger.specs.Acts as acts;
+ghost use Rattle.bb8_ledger.specs.Answers as answers;
+ghost use Rattle.bb8_types.specs.Figures.{figures_of};
 ghost use Rattle.bb8_core.specs.Outcomes.{begin_told, try_told, reason_of, give_up_told, put_back_told, claim_told, opened_told, add_told, look_told, GivesBack, HandsBack, Refuses};
 ghost use Rattle.bb8_core.specs.Parts.{out_of};
-ghost use Rattle.bb8_core.specs.Limits.{IsWithinLimits};
-ghost use Rattle.bb8_core.specs.Shown.{Meets};
+ghost use Rattle.bb8_core.specs.Shown.{IsWithinLimits, Meets};
 
 use bb8_core::api::{Moment, State};
 use bb8_core::internals::{
-    AddAnswer, BeginAnswer, ClaimAnswer, GetKey, GiveUpAnswer, Grant, Key, Looked, OpenedAnswer,
-    PoolInternals, PutBackAnswer, Reason, TryAnswer,
+    AddAnswer, AtOnce, BeginAnswer, ClaimAnswer, GetKey, GiveUpAnswer, Grant, Key, Looked,
+    OpenedAnswer, PoolInternals, PutBackAnswer, Reason, TryAnswer,
 };
-use std::marker::PhantomData;
+use std::marker::{Brand, PhantomData};
 use std::sync::ledger::{Blank, Ledger, Share, Total};
+
+/// A ledger by which the connections of a pool are counted that threads share. A program names `Brand`. Our own.
+pub trait PoolLedger: Ledger + Send + Sync + 'static {}
+
+impl PoolLedger for Brand {}
 
 /// How many parts the pool's ledger has, which is the pool's `max_size`. It ties what the lock holds to what stands beside the lock: of
 /// one ledger there is one number of parts.
@@ -102,7 +106,7 @@ pub(crate) fn open_ledger<C: Drop, L: Ledger>(
 }
 
 impl<C: Drop, L: Ledger> Locked<C, L> {
-    ghost use Rattle.bb8.specs.Sections.{answered, returned, in_core, OnFit, IsSorted, HandsOutOf};
+    ghost use Rattle.bb8.specs.Sections.{answered, returned, in_core, OnFit, IsSorted, HandsOutOf, ServesWithin};
 
     /// What holds of the state, whoever holds the lock. It does nothing.
     pub(crate) fn limits(&self)
@@ -131,6 +135,32 @@ impl<C: Drop, L: Ledger> Locked<C, L> {
             return Err(Unfit);
         }
         Ok(core.begin(at))
+    }
+
+    /// Begins a get and serves it at once, where that takes no memory. The connection goes out with a part of the ledger.
+    pub(crate) fn serve_at_once(&mut self, at: Moment) -> Option<(Taken<C, L>, Grant)>
+        ensures { IfSome result (λ r. ServesWithin self.old.core at.0 r.0.key r.0.conn r.1 self.new.core) }
+    {
+        let Locked { core, rest, .. } = self;
+        core.limits();
+        if !core.fits_at_once() {
+            return None;
+        }
+        match core.serve_at_once(at) {
+            None => None,
+            Some(
+                AtOnce {
+                    key,
+                    conn,
+                    grant,
+                    ..
+                },
+            ) => {
+                let one = rest.split_off(1, 1);
+                let part = Part { share: one };
+                Some((Taken { key, conn, part }, grant))
+            }
+        }
     }
 
     /// Serves a get with an idle connection, or lets it wait. The connection goes out with a part of the ledger.

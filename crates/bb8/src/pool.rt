@@ -1,12 +1,15 @@
 //! The pool, and the guard of a connection that is out.
-ghost use Rattle.std.specs.Prelude.{◌≡◌, ◌≤◌, ◌<◌, Bool, true, false, IfOk, IfErr};
+ghost use Rattle.std.specs.Prelude.{◌≡◌, ◌≤◌, ◌<◌, Bool, true, false, IfOk};
 ghost use Rattle.std.specs.Arc.{arc_value};
-ghost use Rattle.bb8_core.specs.Settings.{settings_of, default_settings, is_lawful};
+ghost use Rattle.bb8_types.specs.Settings.{settings_of, default_settings, is_lawful};
 ghost use Rattle.bb8_core.specs.Outcomes.{add_told, Refuses};
-ghost use Rattle.bb8.specs.Addings.{refused, IsFound, IsTold, Adds};
+ghost use Rattle.bb8.specs.Ledgers.{IsBlankOf};
+ghost use Rattle.bb8.specs.Addings.{IsTold, IsAdding};
+ghost use Rattle.bb8.specs.States.{IsShown};
 ghost use Rattle.bb8.specs.Sections.{returned, OnFit, IsSorted};
 
 use crate::Builder;
+use crate::get::{GetFuture, StartGet};
 use crate::locked::{Locked, Size, Taken, open_ledger};
 use crate::locks::Locks;
 use bb8_core::api::{
@@ -78,7 +81,7 @@ impl<
     S: ErrorSink<M::Error>,
     Z: CustomizeConnection<M::Connection, M::Error>,
 > Builder<M, S, Z> {
-    ghost use Rattle.bb8.specs.Pools.{settings_in};
+    ghost use Rattle.bb8.specs.Pools.{clock_in, customizer_in, manager_in, settings_in, sink_in};
 
     /// A pool that begins with no connection, and waits for none: the approvals for the first ones, up to `min_idle`, are granted, and
     /// whoever turns a driver of the pool opens them.
@@ -93,10 +96,12 @@ impl<
     >(self, manager: M, clock: K, rt: R, blank: Blank) -> Result<Pool<M, S, Z, K, R, L>, Memory>
         requires lawful { is_lawful self.settings ≡ true }
         requires check { self.settings.test_on_check_out ≡ false }
-        requires name { blank.name ≡ L.name }
-        requires parts { blank.parts ≡ L.parts }
-        requires size { blank.parts ≡ self.settings.max_size }
-        ensures { IfOk result (λ pool. settings_in pool ≡ self.settings) }
+        requires ledger { IsBlankOf blank self.settings.max_size L.name L.parts }
+        ensures settings { IfOk result (λ pool. settings_in pool ≡ self.settings) }
+        ensures manager { IfOk result (λ pool. manager_in pool ≡ manager) }
+        ensures clock { IfOk result (λ pool. clock_in pool ≡ clock) }
+        ensures sink { IfOk result (λ pool. sink_in pool ≡ self.error_sink) }
+        ensures customizer { IfOk result (λ pool. customizer_in pool ≡ self.connection_customizer) }
     {
         let (config, error_sink, customizer) = self.into_parts();
         let at = clock.now();
@@ -127,9 +132,7 @@ impl<
 
 /// What the caller of an adding is told. A pool whose last handle left would have no capacity; whoever calls it has one.
 fn told<C: Drop>(answer: Result<AddAnswer<C>, C>) -> Result<(), AddError<C>>
-    ensures ledger { IsTold (returned add_told answer) result }
-    ensures connection { (conn : C) → OnFit (Refuses conn) (λ same. same ≡ conn) answer → IfErr result (λ error. refused error ≡ conn) }
-    ensures sorted { (broken : Bool) → IfOk answer (λ a. IsSorted broken a) → IfOk result (λ _. broken ≡ false) × IfErr result (λ error. IsFound error broken) }
+    ensures { (broken : Bool) (after : C) → OnFit (Refuses after) (λ same. same ≡ after) answer → IfOk answer (IsSorted broken) → IsTold (returned add_told answer) broken after result }
 {
     match answer {
         Ok(AddAnswer::Added(_, _)) => Ok(()),
@@ -140,25 +143,52 @@ fn told<C: Drop>(answer: Result<AddAnswer<C>, C>) -> Result<(), AddError<C>>
     }
 }
 
+/// The calls of a pool, as methods of an impl for a shared pool.
+///
+/// Code that a thread runs is a method of a trait's impl, and there the toolchain proves no call of `Pool::get` and its like: such code
+/// writes `PoolCalls::get(pool)` in place of `pool.get()`. Our own.
+pub trait PoolCalls {
+    /// What the pool lends. Our own.
+    type Connection;
+
+    /// The future of a get. Our own.
+    type Get;
+
+    /// As `Pool::get`. Our own.
+    fn get(self) -> Self::Get;
+
+    /// As `Pool::add`. Our own.
+    fn add(self, conn: Self::Connection) -> Result<(), AddError<Self::Connection>>;
+
+    /// As `Pool::state`. Our own.
+    fn state(self) -> State;
+}
+
 impl<
+    'a,
     M: ManageConnection,
     S: ErrorSink<M::Error>,
     Z: CustomizeConnection<M::Connection, M::Error>,
     K: Clock,
     R: Wait + Send + Sync + Drop + 'static,
     L: Ledger,
-> Pool<M, S, Z, K, R, L> {
-    ghost use Rattle.bb8.specs.Pools.{manager_in, settings_in};
+> PoolCalls for &'a Pool<M, S, Z, K, R, L> {
+    ghost use Rattle.bb8.specs.Pools.{clock_in, manager_in, settings_in, stage_of, IsOf};
+    ghost use Rattle.bb8.specs.declared.get.state.Stage.TheVariants.{Fresh as IsFresh};
 
-    /// Adds a connection that the pool did not open. It is asked whether it is broken first, and is otherwise idle at once, and born
-    /// now. It does not count as created, and no customizer prepares it. As upstream.
-    ///
-    /// A refusal hands the connection back, as `has_broken` left it: `Broken` where that found it broken, else `NoCapacity` where
-    /// connections and open approvals are `max_size` already, else `Withheld` where no memory or no number was left for it.
-    pub fn add(&self, mut conn: M::Connection) -> Result<(), AddError<M::Connection>>
-        ensures added { IfOk result (λ _. (after : M.Connection) × M.breaks (manager_in self.now) conn false after) }
-        ensures refused { IfErr result (λ error. (broken : Bool) × M.breaks (manager_in self.now) conn broken (refused error) × IsFound error broken) }
-        ensures ledger { (broken : Bool) × (after : M.Connection) × M.breaks (manager_in self.now) conn broken after × Adds (settings_in self.now).max_size after broken result }
+    type Connection = M::Connection;
+
+    type Get = GetFuture<'a, M, S, Z, K, R, L>;
+
+    fn get(self) -> GetFuture<'a, M, S, Z, K, R, L>
+        ensures new { stage_of result ≡ IsFresh }
+        ensures pool { IsOf result self.now }
+    {
+        self.start_get()
+    }
+
+    fn add(self, mut conn: M::Connection) -> Result<(), AddError<M::Connection>>
+        ensures { IsAdding (M.breaks (manager_in self.now)) (K.tells (clock_in self.now)) L.parts conn result }
     {
         let shared = &*self.shared;
         let broken = shared.manager.has_broken(&mut conn);
@@ -171,14 +201,47 @@ impl<
         told(answer)
     }
 
-    /// How many connections the pool has, how many of them are idle, and what has happened to it. As upstream.
-    pub fn state(&self) -> State
+    fn state(self) -> State
+        ensures ledger { IsShown M.Connection (K.tells (clock_in self.now)) L.parts result }
         ensures size { result.connections ≤ (settings_in self.now).max_size }
         ensures idle { result.idle_connections ≤ result.connections }
     {
         let shared = &*self.shared;
         let at = shared.clock.now();
-        shared.locked.lock(&shared.rt).state(at)
+        let mut locked = shared.locked.lock(&shared.rt);
+        locked.limits();
+        locked.state(at)
+    }
+}
+
+impl<
+    M: ManageConnection,
+    S: ErrorSink<M::Error>,
+    Z: CustomizeConnection<M::Connection, M::Error>,
+    K: Clock,
+    R: Wait + Send + Sync + Drop + 'static,
+    L: Ledger,
+> Pool<M, S, Z, K, R, L> {
+    ghost use Rattle.bb8.specs.Pools.{clock_in, manager_in, settings_in};
+
+    /// Adds a connection that the pool did not open. It is asked whether it is broken first, and is otherwise idle at once, and born
+    /// now. It does not count as created, and no customizer prepares it. As upstream.
+    ///
+    /// A refusal hands the connection back, as `has_broken` left it: `Broken` where that found it broken, else `NoCapacity` where
+    /// connections and open approvals are `max_size` already, else `Withheld` where no memory or no number was left for it.
+    pub fn add(&self, conn: M::Connection) -> Result<(), AddError<M::Connection>>
+        ensures { IsAdding (M.breaks (manager_in self.now)) (K.tells (clock_in self.now)) L.parts conn result }
+    {
+        PoolCalls::add(self, conn)
+    }
+
+    /// How many connections the pool has, how many of them are idle, and what has happened to it. As upstream.
+    pub fn state(&self) -> State
+        ensures ledger { IsShown M.Connection (K.tells (clock_in self.now)) L.parts result }
+        ensures size { result.connections ≤ (settings_in self.now).max_size }
+        ensures idle { result.idle_connections ≤ result.connections }
+    {
+        PoolCalls::state(self)
     }
 }
 

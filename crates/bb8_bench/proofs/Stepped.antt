@@ -2,23 +2,27 @@
 use Rattle.std.proofs.Common.{◌≡◌, ℕ, zero, suc, ◌+◌, ◌<◌, max, Bool, true, false, ◌&&◌, cond, eqb, ltb, List, [], ◌∷◌, ◌++◌, length, drop, Option, Some, None, slice_get, refl, sym, ap, ◌∙◌, subst, MatchBool, option_and_then, arith, lt-ltb, length-append}
 use Rattle.std.specs.Option.{option_map}
 use Rattle.std.specs.FinMap.{get}
-use Rattle.bb8_core.specs.declared.events.Grant.{Grant}
-use Rattle.bb8_core.specs.declared.standing.Place.TheVariants.{Claimed, Guarded}
-use Rattle.bb8_core.specs.declared.standing.Standing.{Standing}
-use Rattle.bb8_core.specs.declared.standing.Getting.{Getting}
-use Rattle.bb8_core.specs.declared.api.configuration.QueueStrategy.{QueueStrategy}
-use Rattle.bb8_core.specs.Acts.{Act, Begin, Try, PutBack, Fill, Claim, Opened}
-use Rattle.bb8_core.specs.Answers.{Answer, Begun, Served, Kept, Granted, Entered}
-use Rattle.bb8_core.specs.Answers as answers
-use Rattle.bb8_core.specs.Numbered.{Numbered, at as at_number, update, numbers, in_order}
-use Rattle.bb8_core.specs.Ledger.{Ledger, Later, start, position, latest, handles, handles_after, records, gets, next_get, idle, first_idle, first_of, unclaimed, record_of, stands, is_claimed, is_guarded, is_idle, is_unclaimed, idle_at, gets_stand, birth_in, put, placed, entry, enters, approval, approve, new_get}
-use Rattle.bb8_core.specs.Table.{Row, begins, serves, claims, takes, is_trying, Allowed}
-use Rattle.bb8_core.specs.Shown.{Shown, ShownRecords, shown_records, Means, IsFitting}
-use Rattle.bb8_core.specs.Machine as machine
-use Rattle.bb8_core.proofs.Numbered as numbered
-use Rattle.bb8_core.proofs.Numbered.{change}
-use Rattle.bb8_core.proofs.ShownRecords.{standing_is, claimed_is, guarded_is, shown-claimed, shown-entered, and_right}
-use Rattle.bb8_core.proofs.Facts.{entered_before, shown_record, shown_get}
+use Rattle.bb8_types.specs.declared.grants.Grant.{Grant}
+use Rattle.bb8_types.specs.declared.standing.Place.TheVariants.{Claimed, Guarded}
+use Rattle.bb8_types.specs.declared.standing.Standing.{Standing}
+use Rattle.bb8_types.specs.declared.standing.Getting.{Getting}
+use Rattle.bb8_types.specs.declared.api.configuration.QueueStrategy.{QueueStrategy}
+use Rattle.bb8_ledger.specs.Acts.{Act, Begin, Try, PutBack, Fill, Claim, Opened}
+use Rattle.bb8_ledger.specs.Answers.{Answer, Begun, Served, Kept, Granted, Entered}
+use Rattle.bb8_ledger.specs.Answers as answers
+use Rattle.bb8_types.specs.Numbered.{Numbered, at as at_number, update, numbers, in_order}
+use Rattle.bb8_ledger.specs.Ledger.{Ledger, Later, start, position, latest, handles, handles_after, records, gets, next_get, idle, first_idle, unclaimed, record_of, idle_at, put, entry, enters, approval, approve, new_get}
+use Rattle.bb8_types.specs.Places.{first_of, stands, is_claimed, is_guarded, is_idle, is_unclaimed, gets_stand, birth_in, placed, is_trying}
+use Rattle.bb8_ledger.specs.Table.{Row, begins, serves, claims, takes, Allowed}
+use Rattle.bb8_core.specs.Shown.{Shown, shown_records, Means, IsFitting}
+use Rattle.bb8_tables.specs.Views.{ShownRecords}
+use Rattle.bb8_tables.specs.Machine as machine
+use Rattle.bb8_types.proofs.Numbered as numbered
+use Rattle.bb8_types.proofs.Numbered.{change}
+use Rattle.bb8_types.proofs.Places.{standing_is, claimed_is, guarded_is, and_right}
+use Rattle.bb8_core.proofs.ShownRecords.{shown-claimed, shown-entered}
+use Rattle.bb8_ledger.proofs.Facts.{entered_before}
+use Rattle.bb8_core.proofs.Fitting.{shown_record, shown_get}
 use Rattle.bb8_core.proofs.Runs.{takes_try}
 use Rattle.bb8_bench.specs.Lines.{upto}
 use Rattle.bb8_bench.specs.Serving.{IsServing}

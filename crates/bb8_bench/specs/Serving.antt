@@ -1,6 +1,6 @@
 -- A pool that serves who asks.
 use Rattle.std.specs.Prelude.{◌≡◌, ◌<◌, ℕ, false}
-use Rattle.bb8_core.specs.declared.api.configuration.QueueStrategy.TheVariants.{Fifo}
+use Rattle.bb8_types.specs.declared.api.configuration.QueueStrategy.TheVariants.{Fifo}
 use Rattle.bb8_core.specs.Shown.{Shown}
 
 -- A handle is alive, no connection is checked, and the one that is idle longest goes out first.

@@ -1,6 +1,6 @@
 //! A pool whose connections stand open.
 ghost use Rattle.std.specs.Prelude.{◌≡◌, ◌<◌, ◌∷◌, ◌++◌, [], IfSome, Some, false};
-ghost use Rattle.bb8_core.specs.Settings.{settings_of, default_settings, is_lawful};
+ghost use Rattle.bb8_types.specs.Settings.{settings_of, default_settings, is_lawful};
 ghost use Rattle.bb8_bench.specs.Lines.{upto};
 ghost use Rattle.bb8_bench.specs.Serving.{IsServing};
 

@@ -2,12 +2,14 @@
 ghost use Rattle.std.specs.Prelude.{◌≡◌, ◌<◌, ◌∷◌, ◌++◌, ◌+◌, [], IfSome, true, length, suc};
 ghost use Rattle.std.specs.FinMap as map;
 ghost use Rattle.bb8_core.specs.declared.outcomes.TryAnswer.TheVariants.{Served};
-ghost use Rattle.bb8_core.specs.Ledger.{stands, is_guarded};
+ghost use Rattle.bb8_types.specs.Places.{stands, is_guarded};
 ghost use Rattle.bb8_bench.specs.Lines.{turned, counted, held};
 ghost use Rattle.bb8_bench.specs.Serving.{IsServing};
 
 use crate::opening::NOW;
-use bb8_core::internals::{BeginAnswer, Grant, Key, PoolInternals, PutBackAnswer, TryAnswer};
+use bb8_core::internals::{
+    AtOnce, BeginAnswer, Grant, Key, PoolInternals, PutBackAnswer, TryAnswer,
+};
 
 /// The connection that a try was served, with its key, and what was granted then. None where the get waits.
 fn out_of(answer: TryAnswer<u64>) -> Option<(Key, u64, Grant)>
@@ -19,8 +21,8 @@ fn out_of(answer: TryAnswer<u64>) -> Option<(Key, u64, Grant)>
     }
 }
 
-/// Begins a get, and has it take the connection that is idle longest. None where memory was refused, or no number was left.
-fn serve(pool: &mut PoolInternals<u64>) -> Option<(Key, u64)>
+/// Begins a get, and then has it take the connection that is idle longest. None where memory was refused, or no number was left.
+fn serve_in_steps(pool: &mut PoolInternals<u64>) -> Option<(Key, u64)>
     requires serving { IsServing pool.old }
     requires some { 0 < length pool.old.records.idle }
     ensures serving { IfSome result (λ r. IsServing pool.new) }
@@ -34,6 +36,23 @@ fn serve(pool: &mut PoolInternals<u64>) -> Option<(Key, u64)>
     };
     let (key, conn, _) = out_of(pool.try_get(NOW, get))?;
     Some((key, conn))
+}
+
+/// Begins a get, and has it take the connection that is idle longest, in one step where that needs no memory. None where memory was
+/// refused, or no number was left.
+fn serve(pool: &mut PoolInternals<u64>) -> Option<(Key, u64)>
+    requires serving { IsServing pool.old }
+    requires some { 0 < length pool.old.records.idle }
+    ensures serving { IfSome result (λ r. IsServing pool.new) }
+    ensures first { IfSome result (λ r. pool.old.records.idle ≡ r.0.number ∷ pool.new.records.idle) }
+    ensures out { IfSome result (λ r. stands is_guarded (map.get pool.new.records.places r.0.number) ≡ true) }
+{
+    // It does nothing, and tells the proof of a ledger behind the state.
+    pool.limits();
+    match pool.serve_at_once(NOW) {
+        Some(AtOnce { key, conn, .. }) => Some((key, conn)),
+        None => serve_in_steps(pool),
+    }
 }
 
 /// Gives back a connection that was served. None where it was closed.

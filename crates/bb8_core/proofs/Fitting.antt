@@ -1,25 +1,45 @@
 -- What the condition of a step says of what is shown.
-use Rattle.std.proofs.Common.{◌≡◌, ℕ, ◌≤◌, Bool, true, false, Option, Some, None, is_some, refl, sym, ap, ◌∙◌, subst}
+use Rattle.std.proofs.Common.{◌≡◌, ℕ, ◌≤◌, Bool, true, false, Option, Some, None, is_some, refl, sym, ap, ◌∙◌, subst, ◌+◌, length, ◌-◌}
 use Rattle.std.specs.FinMap.{get}
-use Rattle.bb8_core.specs.declared.standing.Place.TheVariants.{Claimed, Guarded}
-use Rattle.bb8_core.specs.declared.standing.Standing.{Standing}
-use Rattle.bb8_core.specs.declared.standing.Getting.{Getting}
-use Rattle.bb8_core.specs.Acts.{Try, GiveUp, PutBack, Opened, Reason}
-use Rattle.bb8_core.specs.Ledger.{Ledger, conns, approved, alive, get_of, holds, stands, gets_stand, is_unnotified, is_claimed, is_guarded}
-use Rattle.bb8_core.specs.Table.{takes, agree}
-use Rattle.bb8_core.specs.Shown.{Shown, HasLedger, IsFitting}
-use Rattle.bb8_core.proofs.ShownRecords.{standing_is, claimed_is, guarded_is, and_right}
-use Rattle.bb8_core.proofs.Facts.{shown_record, shown_get}
-use Rattle.bb8_core.proofs.Laws.{trying_is, alive_is, nobody_holds, out_counted, claimed_counted}
+use Rattle.bb8_types.specs.declared.standing.Place.TheVariants.{Claimed, Guarded}
+use Rattle.bb8_types.specs.declared.standing.Standing.{Standing}
+use Rattle.bb8_types.specs.declared.standing.Getting.{Getting}
+use Rattle.bb8_ledger.specs.Acts.{Try, GiveUp, PutBack, Opened, Reason}
+use Rattle.bb8_ledger.specs.Ledger.{Ledger, conns, approved, alive, get_of, start, handles, records, gets, record_of}
+use Rattle.bb8_types.specs.Places.{holds, stands, gets_stand, is_unnotified, is_claimed, is_guarded}
+use Rattle.bb8_ledger.specs.Table.{takes, agree, IsLegal, fits}
+use Rattle.bb8_core.specs.Shown.{Shown, HasLedger, IsFitting, Means}
+use Rattle.bb8_types.proofs.Places.{standing_is, claimed_is, guarded_is, and_right}
+use Rattle.bb8_ledger.proofs.Stage.{nobody_holds}
+use Rattle.bb8_ledger.proofs.Laws.{alive_get, trying_is, alive_is, out_counted, claimed_counted, Fits, all_fit, due_few}
+use Rattle.bb8_types.specs.Numbered.{Numbered}
+use Rattle.bb8_types.proofs.Numbered as numbered
+use Rattle.bb8_types.specs.Settings.{Settings}
+use Rattle.bb8_types.specs.Grants.{lacking}
+use Rattle.bb8_tables.specs.Views.{ShownRecords}
+use Rattle.bb8_core.specs.Decided as decided
 
 module _ {C : Type 0} where
+  pub shown_record : (l : Ledger C) (s : Shown C) → Means l s → (k : ℕ) → record_of l k ≡ get s.records.places k
+  shown_record l s is k = sym (numbered.get-numbered (λ (r : Numbered (Standing C)). r.standing) (records l) (start l).first k) ∙ ap (λ (t : Shown C). get t.records.places k) is
+
+  pub shown_get : (l : Ledger C) (s : Shown C) → Means l s → (g : ℕ) → get_of l g ≡ get s.gets.places g
+  shown_get l s is g = sym (numbered.get-numbered (λ (r : Numbered Getting). r.standing) (gets l) (start l).first_get g) ∙ ap (λ (t : Shown C). get t.gets.places g) is
+
+  -- so what a state shows is within the size
+  pub size_shown : (s : Shown C) (l : Ledger C) → IsLegal l → Means l s → s.records.conns + s.records.approved ≤ s.config.max_size
+  size_shown s l legal shows = subst (λ (t : Shown C). t.records.conns + t.records.approved ≤ t.config.max_size) shows (all_fit l legal).size
+
+  -- what is shown fits together
+  pub shown_fits : (s : Shown C) → HasLedger s → Fits s.config.max_size s.records.conns s.records.approved s.records.next s.gets.alive s.gets.next s.counts
+  shown_fits s h = subst (λ (t : Shown C). Fits t.config.max_size t.records.conns t.records.approved t.records.next t.gets.alive t.gets.next t.counts) h.2 (all_fit h.0 h.1)
+
+  pub want_few : (config : Settings) (handles : ℕ) (s : ShownRecords C) → decided.want config handles s ≤ config.max_size - (s.conns + s.approved)
+  want_few config handles s = due_few config handles (s.conns + s.approved) (lacking config (length s.idle + s.approved))
+
   -- a get that is given up is alive
   pub giving_is : (l : Ledger C) (g : ℕ) (why : Reason) (broken : Bool) → takes l (GiveUp g why None broken) ≡ true → (st : Getting) × (get_of l g ≡ Some st)
-  giving_is l g why broken f = go (get_of l g) refl (and_right (is_some (get_of l g)) _ f).0
-    where
-      go : (o : Option Getting) → get_of l g ≡ o → is_some o ≡ true → (st : Getting) × (get_of l g ≡ Some st)
-      go None is e = cc
-      go (Some st) is e = (st, is)
+  giving_is l g why broken f = alive_get (get_of l g) (and_right (is_some (get_of l g)) _ f).0
 
   -- nobody holds a connection, so none is handed in
   pub holds_none : (s : Shown C) (g : ℕ) (why : Reason) (held : Option C) (broken : Bool) → HasLedger s → IsFitting s (GiveUp g why held broken) → held ≡ None

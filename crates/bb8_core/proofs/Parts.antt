@@ -1,18 +1,21 @@
 -- How many connections are out of the pool, step by step.
-use Rattle.std.proofs.Common.{◌≡◌, ℕ, ◌+◌, ◌-◌, ◌≤◌, max, Bool, length, true, false, ◌&&◌, Option, Some, None, is_some, refl, sym, ap, ◌∙◌, subst, arith}
+use Rattle.std.proofs.Common.{◌≡◌, ℕ, ◌+◌, ◌-◌, ◌≤◌, Bool, length, true, false, ◌&&◌, Option, Some, None, is_some, refl, sym, ap, ◌∙◌, subst, arith}
 use Rattle.std.specs.FinMap.{get}
-use Rattle.bb8_core.specs.declared.standing.Getting.{Getting}
-use Rattle.bb8_core.specs.Acts.{Act, Begin, Try, CheckedOk, CheckedErr, GiveUp, PutBack, Fill, Claim, Opened, Failed, Add, Reap, State, Join, Leave, Look, Reason}
-use Rattle.bb8_core.specs.Answers.{Answer, Served, Waiting, Kept, Closed, Granted, Claimed, Entered, Late, Added, Unfit}
-use Rattle.bb8_core.specs.Ledger.{Ledger, Later, start, latest, records, conns, approved, idle, idle_count, out, get_of, holds}
-use Rattle.bb8_core.specs.Table.{takes, is_brought, agree, Allowed, IsLegal}
+use Rattle.bb8_types.specs.declared.standing.Getting.{Getting}
+use Rattle.bb8_ledger.specs.Acts.{Act, Begin, GiveUp, Reason}
+use Rattle.bb8_ledger.specs.Answers.{Answer, Unfit}
+use Rattle.bb8_types.specs.declared.standing.Place.TheVariants.{Guarded, Held}
+use Rattle.bb8_ledger.specs.Ledger.{Ledger, Later, start, records, conns, idle, idle_count, out, get_of}
+use Rattle.bb8_types.specs.Places.{holds}
+use Rattle.bb8_ledger.specs.Table.{Row, waits_on, serves, takes_out, waits, checks, check_fails, gives_up_kept, gives_up_closed, keeps, returns_closed, fills, claims, opens, opens_late, fails, adds, reaps, leaves, takes, fits, agree, Allowed, IsLegal}
 use Rattle.bb8_core.specs.Shown.{Shown, shown, Means, Meets, HasLedger}
 use Rattle.bb8_core.specs.Parts.{out_of, Moves, IsCounted}
-use Rattle.bb8_core.proofs.ShownRecords.{and_right}
-use Rattle.bb8_core.proofs.Facts.{idle_tally, conns_split, shown_get}
-use Rattle.bb8_core.proofs.Stage.{Here, begins_here, refused_here, exhausted_here, waits_on_here, serves_here, waits_here, gives_up_here, keeps_here, closes_here, fills_here, claims_here, ended_here, opens_here, late_here, broken_here, full_here, withheld_here, adds_here, shows_here, looks_here, here, all_free, by_fit}
-use Rattle.bb8_core.proofs.Laws.{AreSizes, approved_sizes, same_sizes, taken_sizes, kept_sizes, closed_sizes, opened_sizes, late_sizes, claim_sizes, added_sizes, all_fit, nobody_holds}
-use Rattle.bb8_core.proofs.Runs.{unfit_now}
+use Rattle.bb8_ledger.proofs.Facts.{idle_tally, conns_split}
+use Rattle.bb8_core.proofs.Fitting.{shown_get}
+use Rattle.bb8_ledger.proofs.Stage.{nobody_holds}
+use Rattle.bb8_ledger.proofs.Effects.{each_allowed, returns_turn, closes_turn, opens_turn, ends_turn, idle_turns, unclaimed_turns, stays_sized, turned_sized, adds_sized, granted_sized, reaped_sized, granted_reaped, left_sized}
+use Rattle.bb8_ledger.proofs.Held.{checks_turn, drops_turn, hands_in_turn}
+use Rattle.bb8_ledger.proofs.Laws.{all_fit}
 
 module _ {C : Type 0} where
   -- what is out in a ledger, by what it shows
@@ -22,80 +25,36 @@ module _ {C : Type 0} where
       let tally = idle_tally l in
       ap (λ n. conns l - n) tally ∙ (omega arith)
 
-  -- what is out once the sizes are these
-  out_sized : (l : Ledger C) (c a i m : ℕ) → AreSizes c a i m (records l) → i + out l ≡ c
-  out_sized l c a i m sizes =
-      let split : conns l ≡ idle_count l + out l = conns_split (records l) in
-      omega (arith, sizes.conns_are, sizes.idle_are)
-
-  same_out : (l m : Ledger C) (c a i n : ℕ) → c ≡ conns l → i ≡ idle_count l → AreSizes c a i n (records m) → out m ≡ out l
-  same_out l m c a i n conns_same idle_same sizes =
-      let before : idle_count l + out l ≡ conns l = out_sized l _ _ _ _ (same_sizes l) in
-      let after : i + out m ≡ c = out_sized m c a i n sizes in
-      omega arith
-
   -- an event that does not fit moves nothing
-  unfit_moves : (e : Act C) (before after : ℕ) → after ≡ before → Moves e Unfit before after
-  unfit_moves Begin before after is = is
-  unfit_moves (Try g) before after is = is
-  unfit_moves (CheckedOk g) before after is = is
-  unfit_moves (CheckedErr g b) before after is = is
-  unfit_moves (GiveUp g why held b) before after is = is
-  unfit_moves (PutBack k c b) before after is = is
-  unfit_moves (Fill claimed) before after is = is
-  unfit_moves Claim before after is = is
-  unfit_moves (Opened k c) before after is = is
-  unfit_moves (Failed k) before after is = is
-  unfit_moves (Add c b) before after is = is
-  unfit_moves Reap before after is = is
-  unfit_moves State before after is = is
-  unfit_moves Join before after is = is
-  unfit_moves Leave before after is = is
-  unfit_moves Look before after is = is
+  unfit_moves : (e : Act C) (n : ℕ) → Moves e Unfit n n
+  unfit_moves Begin n = refl
+  unfit_moves _ n = refl
 
-  -- each row that can be met moves what is out as its answer says
-  row_moves : (l : Ledger C) (at : ℕ) (e : Act C) (a : Answer) → Here l at e a → takes l e ≡ true → Moves e a (out l) (out (Later l at e a))
-  row_moves l at _ _ (begins_here is few) f = refl
-  row_moves l at _ _ (refused_here few full) f = refl
-  row_moves l at _ _ (exhausted_here many) f = refl
-  row_moves l at _ _ (waits_on_here {g} {grant} on nothing) f = same_out l (Later l at (Try g) (Waiting grant)) (conns l) (approved l + grant.count) (idle_count l) _ refl refl (approved_sizes false grant.count (same_sizes l))
-  row_moves l at _ _ (serves_here {g} {k} {grant} off first want) f =
-      let taken = taken_sizes l k first in
-      let more : idle_count l - 1 + out (Later l at (Try g) (Served k grant)) ≡ conns l = out_sized (Later l at (Try g) (Served k grant)) _ _ _ _ (approved_sizes false grant.count taken.0) in
-      omega (arith, taken.1, out_sized l _ _ _ _ (same_sizes l))
-  row_moves l at _ _ (waits_here {g} {grant} off none granted) f = same_out l (Later l at (Try g) (Waiting grant)) (conns l) (approved l + grant.count) (idle_count l) _ refl refl (approved_sizes false grant.count (same_sizes l))
-  row_moves l at _ _ (gives_up_here is) f = refl
-  row_moves l at _ _ (keeps_here {k} {c} {broken} {n} keep is) f =
-      let less : idle_count l + 1 + out (Later l at (PutBack k c broken) (Kept k n)) ≡ conns l = out_sized (Later l at (PutBack k c broken) (Kept k n)) _ _ _ _ (kept_sizes l k c (max (latest l) at) f) in
-      omega (arith, out_sized l _ _ _ _ (same_sizes l))
-  row_moves l at _ _ (closes_here {k} {c} {broken} {grant} {n} shut want is) f =
-      let closed = closed_sizes l k f in
-      let less : idle_count l + out (Later l at (PutBack k c broken) (Closed k grant n)) ≡ conns l - 1 = out_sized (Later l at (PutBack k c broken) (Closed k grant n)) _ _ _ _ (approved_sizes false grant.count closed.0) in
-      omega (arith, closed.1, out_sized l _ _ _ _ (same_sizes l))
-  row_moves l at _ _ (fills_here {claimed} {grant} want) f = same_out l (Later l at (Fill claimed) (Granted grant)) (conns l) (approved l + grant.count) (idle_count l) _ refl refl (approved_sizes claimed grant.count (same_sizes l))
-  row_moves l at _ _ (claims_here {k} first) f = same_out l (Later l at Claim (Claimed k)) _ _ _ _ refl refl (claim_sizes l at k first)
-  row_moves l at _ _ ended_here f = refl
-  row_moves l at _ _ (opens_here {k} {c} {n} is) f =
-      let opened = opened_sizes l k c (max (latest l) at) f in
-      let more : idle_count l + 1 + out (Later l at (Opened k c) (Entered k n)) ≡ conns l + 1 = out_sized (Later l at (Opened k c) (Entered k n)) _ _ _ _ opened.0 in
-      omega (arith, out_sized l _ _ _ _ (same_sizes l))
-  row_moves l at _ _ (late_here {k} {c} none) f = same_out l (Later l at (Opened k c) (Late k)) _ _ _ _ refl refl (late_sizes l k f).0
-  row_moves l at _ _ broken_here f = refl
-  row_moves l at _ _ full_here f = refl
-  row_moves l at _ _ withheld_here f = refl
-  row_moves l at _ _ (adds_here {k} {c} {n} room is who) f =
-      let more : idle_count l + 1 + out (Later l at (Add c false) (Added k n)) ≡ conns l + 1 = out_sized (Later l at (Add c false) (Added k n)) _ _ _ _ (added_sizes l c (max (latest l) at)) in
-      omega (arith, out_sized l _ _ _ _ (same_sizes l))
-  row_moves l at _ _ shows_here f = refl
-  row_moves l at _ _ (looks_here is open_is) f = refl
+  -- each row moves what is out as its answer says
+  row_moves : (l : Ledger C) (at : ℕ) (e : Act C) (a : Answer) → IsLegal l → fits l e ≡ true → Row l at e a → Moves e a (out l) (out (Later l at e a))
+  row_moves l at _ _ legal f (waits_on {g} {grant} on nothing) = omega (arith, (granted_sized false grant.count (stays_sized l)).out_are)
+  row_moves l at _ _ legal f (serves {g} {k} {grant} not_waiting off first want) = omega (arith, (granted_sized false grant.count (turned_sized (idle_turns l k Guarded first).1)).out_are)
+  row_moves l at _ _ legal f (takes_out {g} {k} {grant} not_waiting on first want) = omega (arith, (granted_sized false grant.count (turned_sized (idle_turns l k (Held g) first).1)).out_are)
+  row_moves l at _ _ legal f (waits {g} {grant} not_waiting none granted) = omega (arith, (granted_sized false grant.count (stays_sized l)).out_are)
+  row_moves l at _ _ legal f (checks {g} {k} holds_it nothing) = omega (arith, (turned_sized (checks_turn l g k legal holds_it)).out_are)
+  row_moves l at _ _ legal f (check_fails {g} {k} {grant} holds_it want is) = omega (arith, (granted_sized false grant.count (turned_sized (drops_turn l g k legal holds_it))).out_are)
+  row_moves l at _ _ legal f (gives_up_kept {g} {k} {c} holds_it keep is) = omega (arith, (turned_sized (hands_in_turn l at g k c legal holds_it)).out_are)
+  row_moves l at _ _ legal f (gives_up_closed {g} {k} {grant} holds_it shut want is) = omega (arith, (granted_sized false grant.count (turned_sized (drops_turn l g k legal holds_it))).out_are)
+  row_moves l at _ _ legal f (keeps {k} {c} keep is) = omega (arith, (turned_sized (returns_turn l at k c f)).out_are)
+  row_moves l at _ _ legal f (returns_closed {k} {grant} shut want is) = omega (arith, (granted_sized false grant.count (turned_sized (closes_turn l k f))).out_are)
+  row_moves l at _ _ legal f (fills {claimed} {grant} want) = omega (arith, (granted_sized claimed grant.count (stays_sized l)).out_are)
+  row_moves l at _ _ legal f (claims {k = Some k} open_now first) = omega (arith, (turned_sized (unclaimed_turns l k first)).out_are)
+  row_moves l at _ _ legal f (opens {k} {c} open_now is) = omega (arith, (turned_sized (opens_turn l at k c f)).out_are)
+  row_moves l at _ _ legal f (opens_late {k} none) = omega (arith, (turned_sized (ends_turn l k f)).out_are)
+  row_moves l at _ _ legal f (fails {k}) = omega (arith, (turned_sized (ends_turn l k f)).out_are)
+  row_moves l at _ _ legal f (adds {c} room few is who) = omega (arith, (adds_sized l at c).out_are)
+  row_moves l at _ _ legal f (reaps {grant} open_now closed_is by_idle_is by_life_is want) = (granted_reaped grant.count (reaped_sized l at)).out_are
+  row_moves l at _ _ legal f (leaves {n} is) = (left_sized l at n).out_are
+  row_moves l at _ _ legal f _ = refl
 
   -- so does each event that is allowed
   moved_out : (l : Ledger C) (at : ℕ) (e : Act C) (a : Answer) → IsLegal l → Allowed l at e a → Moves e a (out l) (out (Later l at e a))
-  moved_out l at e a legal allowed =
-      by_fit (takes l e) _ _ (Moves e a (out l) (out (Later l at e a))) allowed
-      (λ f row. row_moves l at e a (here l at e a (all_free l legal) (and_right (is_brought l e) _ f).0 row) f)
-      (λ f is. subst (λ (b : Answer). Moves e b (out l) (out (Later l at e b))) (sym is)
-      (unfit_moves e (out l) (out (Later l at e Unfit)) (sym (out_shown (Later l at e Unfit)) ∙ ap out_of (unfit_now l (shown l) at e f refl).1 ∙ out_shown l)))
+  moved_out l at e a legal allowed = each_allowed (λ b. Moves e b (out l) (out (Later l at e b))) l at e a allowed (unfit_moves e (out l)) (row_moves l at e a legal)
 
   -- what is out in a ledger is within the size
   out_few : (l : Ledger C) → IsLegal l → out l ≤ (start l).config.max_size

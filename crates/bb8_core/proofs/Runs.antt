@@ -1,22 +1,20 @@
 -- Runs: what a state says of its ledger's numbers, an event that does not fit, and lists of events.
-use Rattle.std.proofs.Common.{◌≡◌, ℕ, zero, suc, ◌+◌, max, Bool, true, false, ◌&&◌, not, List, [], ◌∷◌, ◌++◌, take, length, Option, Some, None, is_some, option_map, IsSome, IfSome, IfNone, refl, sym, ap, ◌∙◌, subst}
+use Rattle.std.proofs.Common.{◌≡◌, ℕ, zero, suc, Bool, true, false, ◌&&◌, not, List, [], ◌∷◌, ◌++◌, take, length, Option, Some, None, is_some, option_map, IsSome, IfSome, IfNone, refl, sym, ap, ◌∙◌, subst}
 use Rattle.std.specs.FinMap.{get}
-use Rattle.bb8_core.specs.declared.keys.Key.{Key}
-use Rattle.bb8_core.specs.declared.keys.GetKey.{GetKey}
+use Rattle.bb8_tables.specs.declared.keys.Key.{Key}
+use Rattle.bb8_tables.specs.declared.keys.GetKey.{GetKey}
 use Rattle.bb8_core.specs.declared.events.Event.{Event}
 use Rattle.bb8_core.specs.declared.events.Answer.{Answer as Told}
-use Rattle.bb8_core.specs.declared.standing.Standing.{Standing}
-use Rattle.bb8_core.specs.declared.standing.Getting.{Getting}
-use Rattle.bb8_core.specs.Acts.{Act, Try, GiveUp, Reason}
-use Rattle.bb8_core.specs.Answers.{Unfit}
-use Rattle.bb8_core.specs.Numbered.{Numbered}
-use Rattle.bb8_core.specs.Ledger.{Ledger, Later, start, position, peak, get_peak, conns_of, approved_of, alive_of, gets_stand, get_of, holds, counts}
-use Rattle.bb8_core.specs.Table.{takes, is_trying, agree, Allowed, IsLegal}
-use Rattle.bb8_core.specs.Shown.{Shown, shown, shown_records, shown_gets, Means, IsRecordIn, IsNoRecordIn, IsGetIn, IsNoGetIn}
+use Rattle.bb8_types.specs.declared.standing.Getting.{Getting}
+use Rattle.bb8_ledger.specs.Acts.{Act, Try, GiveUp, Reason}
+use Rattle.bb8_ledger.specs.Answers.{Unfit}
+use Rattle.bb8_ledger.specs.Ledger.{Ledger, Later, start, get_of}
+use Rattle.bb8_types.specs.Places.{gets_stand, holds, is_trying}
+use Rattle.bb8_ledger.specs.Table.{takes, agree, Allowed, IsLegal}
+use Rattle.bb8_core.specs.Shown.{Shown, shown, Means, IsRecordIn, IsNoRecordIn, IsGetIn, IsNoGetIn}
 use Rattle.bb8_core.specs.Run.{act_of, answer_of, IsRun, AfterEach}
-use Rattle.bb8_core.proofs.Facts.{shown_record, shown_get}
-use Rattle.bb8_core.proofs.Stage.{unfit_gets, unfit_records}
-use Rattle.bb8_core.proofs.Laws.{nobody_holds}
+use Rattle.bb8_core.proofs.Fitting.{shown_record, shown_get}
+use Rattle.bb8_ledger.proofs.Stage.{nobody_holds}
 use Rattle.bb8_core.proofs.Steps.{unfitting, same_shown, records_kept, gets_kept}
 
 module _ {C : Type 0} where
@@ -62,14 +60,8 @@ module _ {C : Type 0} where
 
   -- ---- an event that does not fit changes nothing
 
-  unfit_counts : (l : Ledger C) (at : ℕ) (e : Act C) → counts (Later l at e Unfit) ≡ counts l
-  unfit_counts l at e = refl
-
   unfit_shown : (l : Ledger C) (at : ℕ) (e : Act C) → shown (Later l at e Unfit) ≡ shown l
-  unfit_shown l at e = same_shown _ _ refl refl refl
-      (ap (λ (rs : List (Numbered (Standing C))). shown_records (start l).first (suc (position l)) (max (peak l) (conns_of rs + approved_of rs)) rs) (unfit_records l at e) ∙ records_kept l)
-      (ap (λ (gs : List (Numbered Getting)). shown_gets (start l).first_get (suc (position l)) (max (get_peak l) (alive_of gs)) gs) (unfit_gets l at e) ∙ gets_kept l)
-      (unfit_counts l at e)
+  unfit_shown l at e = same_shown _ _ refl refl refl (records_kept l) (gets_kept l) refl
 
   pub unfit_now : (l : Ledger C) (s : Shown C) (at : ℕ) (e : Act C) → takes l e ≡ false → Means l s → Allowed l at e Unfit × Means (Later l at e Unfit) s
   unfit_now l s at e misfit means = (unfitting (takes l e) _ _ misfit refl, unfit_shown l at e ∙ means)

@@ -1,26 +1,19 @@
 -- What each change of the gets does to what is shown of them.
 use Rattle.std.proofs.Common.{◌≡◌, ℕ, suc, ◌+◌, ◌≤◌, max, Bool, true, false, eqb, ◌&&◌, List, [], ◌∷◌, ◌++◌, Option, Some, None, IfSome, is_some, option_and_then, option_map, slice_get, refl, sym, ap, ◌∙◌, arith, length-append}
 use Rattle.std.specs.FinMap.{insert}
-use Rattle.bb8_core.specs.declared.standing.Getting.{Getting}
-use Rattle.bb8_core.specs.declared.standing.GetPlace.{GetPlace}
-use Rattle.bb8_core.specs.declared.standing.GetPlace.TheVariants.{Active, Waiting, Holding}
-use Rattle.bb8_core.specs.Numbered.{Numbered, at, update, in_order, one, standing_at, standings}
-use Rattle.bb8_core.specs.Ledger.{gets_stand, is_unnotified, is_notified, unnotified_at, alive_of, new_get, ended, notify, get_put, get_placed, get_waits, begins_to_wait}
-use Rattle.bb8_core.specs.Shown.{ShownGets, shown_gets}
-use Rattle.bb8_core.specs.Machine as machine
-use Rattle.bb8_core.proofs.Numbered.{change, Before}
-use Rattle.bb8_core.proofs.Numbered as numbered
-use Rattle.bb8_core.proofs.Waiters.{begins_now, waiter}
-
-pub same_gets : (s t : ShownGets) → s.next ≡ t.next → s.places ≡ t.places → s.waiting ≡ t.waiting → s.alive ≡ t.alive → s.peak ≡ t.peak → s ≡ t
-same_gets s t next places waiting alive peak = λ i. record { next = next i; places = places i; waiting = waiting i; alive = alive i; peak = peak i }
-
-pub get_at : (first : ℕ) (gs : List (Numbered Getting)) (k : ℕ) (s : Getting) → standing_at first gs k ≡ Some s → (g : Numbered Getting) × (at first gs k ≡ Some g) × (g.standing ≡ Some s)
-get_at first gs k s h = go (at first gs k) refl h
-  where
-    go : (o : Option (Numbered Getting)) → at first gs k ≡ o → option_and_then (λ (g : Numbered Getting). g.standing) o ≡ Some s → (g : Numbered Getting) × (at first gs k ≡ Some g) × (g.standing ≡ Some s)
-    go None e h = cc
-    go (Some g) e h = (g, e, h)
+use Rattle.bb8_types.specs.declared.standing.Getting.{Getting}
+use Rattle.bb8_types.specs.declared.standing.GetPlace.{GetPlace}
+use Rattle.bb8_types.specs.declared.standing.GetPlace.TheVariants.{Active, Waiting, Holding}
+use Rattle.bb8_types.specs.Numbered.{Numbered, update, in_order, one, standing_at, standings, ended}
+use Rattle.bb8_types.specs.Places.{gets_stand, is_unnotified, is_notified, get_placed, get_waits}
+use Rattle.bb8_ledger.specs.Ledger.{unnotified_at, alive_of, new_get, notify, get_put, begins_to_wait}
+use Rattle.bb8_tables.specs.Views.{ShownGets, no_gets}
+use Rattle.bb8_core.specs.Shown.{shown_gets}
+use Rattle.bb8_tables.specs.Machine as machine
+use Rattle.bb8_types.proofs.Numbered.{change, Before}
+use Rattle.bb8_types.proofs.Numbered as numbered
+use Rattle.bb8_ledger.proofs.Waiters.{begins_now, waiter}
+use Rattle.bb8_tables.proofs.Views.{same_gets}
 
 module _ (first p top : ℕ) (gs : List (Numbered Getting)) where
   abbrev before : ShownGets
@@ -47,7 +40,7 @@ module _ (first p top : ℕ) (gs : List (Numbered Getting)) where
   -- a get ends
   pub shown-ended : (k : ℕ) (s : Getting) → Before unnotified_at p gs → alive_of gs ≤ top → standing_at first gs k ≡ Some s → shown_gets first (suc p) (max top (alive_of (update first k ended gs))) (update first k ended gs) ≡ machine.get_ended k before
   shown-ended k s b few h =
-      let m = get_at first gs k s h in
+      let m = numbered.standing_found gs first k s h in
       let g : Numbered Getting = m.0 in
       let new : Numbered Getting = ended g in
       let is : update first k ended gs ≡ change first k new gs = numbered.update_is gs first k ended g m.1 in
@@ -63,7 +56,7 @@ module _ (first p top : ℕ) (gs : List (Numbered Getting)) where
   -- a get that stands in no line begins to wait
   pub shown-waits : (now k : ℕ) (s : Getting) → Before unnotified_at p gs → alive_of gs ≤ top → standing_at first gs k ≡ Some s → is_unnotified s.place ≡ false → shown_gets first (suc p) (max top (alive_of (update first k (begins_to_wait now p) gs))) (update first k (begins_to_wait now p) gs) ≡ machine.waits now k before
   shown-waits now k s b few h off =
-      let m = get_at first gs k s h in
+      let m = numbered.standing_found gs first k s h in
       let g : Numbered Getting = m.0 in
       let new : Numbered Getting = record { standing = Some (get_waits now s); position = p } in
       let is : update first k (begins_to_wait now p) gs ≡ change first k new gs = numbered.update_is gs first k (begins_to_wait now p) g m.1 ∙ ap (λ (x : Numbered Getting). change first k x gs) (begins_now now p g (ap (gets_stand is_unnotified) m.2 ∙ off) ∙ ap (waiter now p) m.2) in
@@ -82,7 +75,7 @@ module _ (first p top : ℕ) (gs : List (Numbered Getting)) where
   pub shown-noticed : (n : Option ℕ) → IfSome n (λ k. (s : Getting) × (standing_at first gs k ≡ Some s)) → (shown_gets first p top (notify first n gs) ≡ machine.noticed n before) × (alive_of (notify first n gs) ≡ alive_of gs)
   shown-noticed None named = (refl, refl)
   shown-noticed (Some k) named =
-      let m = get_at first gs k named.0 named.1 in
+      let m = numbered.standing_found gs first k named.0 named.1 in
       let g : Numbered Getting = m.0 in
       let new : Numbered Getting = get_put (Waiting true) g in
       let stands : new.standing ≡ Some (get_placed (Waiting true) named.0) = ap (option_map (get_placed (Waiting true))) m.2 in
@@ -133,7 +126,11 @@ notified_out (Holding k) e = cc
 -- so the line loses nothing as it goes
 pub without_other : (first p : ℕ) (gs : List (Numbered Getting)) (k : ℕ) (s : Getting) → standing_at first gs k ≡ Some s → is_unnotified s.place ≡ false → machine.without k (in_order unnotified_at first gs p) ≡ in_order unnotified_at first gs p
 without_other first p gs k s h off =
-    let m = get_at first gs k s h in
+    let m = numbered.standing_found gs first k s h in
     let g : Numbered Getting = m.0 in
     let stood : (q : ℕ) → unnotified_at q g ≡ false = λ q. ap (λ (o : Option Getting). gets_stand is_unnotified o && eqb g.position q) m.2 ∙ ap (λ (t : Bool). t && eqb g.position q) off in
     sym (numbered.in_order-change_off unnotified_at gs first k (ended g) (λ q. refl) p) ∙ numbered.in_order-change_kept unnotified_at gs first k (ended g) g m.1 p (λ q below. sym (stood q))
+
+-- no get yet
+pub shown-none : (first : ℕ) → shown_gets first 0 0 [] ≡ no_gets first
+shown-none first = same_gets _ _ (omega arith) refl refl refl refl

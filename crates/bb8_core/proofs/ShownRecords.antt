@@ -1,104 +1,30 @@
 -- What each change of the records does to what is shown of them.
-use Rattle.std.proofs.Common.{◌≡◌, ℕ, zero, suc, ◌+◌, ◌-◌, ◌<◌, ◌≤◌, Bool, true, false, eqb, ◌&&◌, List, [], ◌∷◌, ◌++◌, Option, Some, None, slice_get, drop, option_and_then, option_map, refl, sym, ap, ◌∙◌, arith, length, length-append, append-nil, cond, not}
+use Rattle.std.proofs.Common.{◌≡◌, ℕ, zero, suc, ◌+◌, ◌-◌, ◌<◌, ◌≤◌, Bool, true, false, eqb, ◌&&◌, List, [], ◌∷◌, ◌++◌, Option, Some, slice_get, drop, option_and_then, option_map, refl, sym, ap, ◌∙◌, arith, length, length-append, append-nil, cond, not}
 use Rattle.std.specs.FinMap.{insert, get}
-use Rattle.bb8_core.specs.declared.standing.Place.{Place}
-use Rattle.bb8_core.specs.declared.standing.Place.TheVariants.{Unclaimed, Claimed, Idle, Held, Guarded}
-use Rattle.bb8_core.specs.declared.standing.Standing.{Standing}
-use Rattle.bb8_core.specs.Numbered.{Numbered, at, update, numbers, one, standings, standing_at}
-use Rattle.bb8_core.specs.Ledger.{stands, is_conn, is_approval, is_unclaimed, is_claimed, is_guarded, is_idle, idle_at, conns_of, approved_of, put, placed, ended, approval, approve, entry}
-use Rattle.bb8_core.specs.Shown.{ShownRecords, shown_records}
-use Rattle.bb8_core.specs.Machine as machine
-use Rattle.bb8_core.proofs.Numbered.{change, Before}
-use Rattle.bb8_core.proofs.Numbered as numbered
-
-pub same_records : {C : Type 0} (s t : ShownRecords C) → s.next ≡ t.next → s.places ≡ t.places → s.idle ≡ t.idle → s.unclaimed ≡ t.unclaimed → s.conns ≡ t.conns → s.approved ≡ t.approved → s.peak ≡ t.peak → s ≡ t
-same_records s t next places idle unclaimed conns approved peak = λ i. record { next = next i; places = places i; idle = idle i; unclaimed = unclaimed i; conns = conns i; approved = approved i; peak = peak i }
+use Rattle.bb8_types.specs.declared.standing.Place.{Place}
+use Rattle.bb8_types.specs.declared.standing.Place.TheVariants.{Unclaimed, Claimed, Idle, Guarded}
+use Rattle.bb8_types.specs.declared.standing.Standing.{Standing}
+use Rattle.bb8_types.specs.Numbered.{Numbered, at, update, numbers, one, standings, standing_at, ended}
+use Rattle.bb8_types.specs.Places.{stands, is_conn, is_approval, is_unclaimed, is_idle, placed}
+use Rattle.bb8_ledger.specs.Ledger.{idle_at, conns_of, approved_of, put, approval, approve, entry}
+use Rattle.bb8_tables.specs.Views.{ShownRecords, no_records}
+use Rattle.bb8_core.specs.Shown.{shown_records}
+use Rattle.bb8_tables.specs.Machine as machine
+use Rattle.bb8_types.proofs.Numbered.{change, Before}
+use Rattle.bb8_types.proofs.Numbered as numbered
+use Rattle.bb8_types.proofs.Places.{and_right, idle_from, unclaimed_from, conn_from, approval_from, standing_is, unclaimed_is, idle_is}
+use Rattle.bb8_ledger.proofs.Standings.{tested, conns-change, approved-change}
+use Rattle.bb8_tables.proofs.Views.{same_records}
 
 head_gone : (k : ℕ) (xs ys : List ℕ) → slice_get xs 0 ≡ Some k → ((rest : List ℕ) → xs ≡ k ∷ rest → ys ≡ rest) → ys ≡ drop 1 xs
 head_gone k [] ys e f = cc
 head_gone k (x ∷ xs) ys e f = f xs (let is : Some x ≡ Some k = e in let same : x ≡ k = cc in ap (λ (y : ℕ). y ∷ xs) same)
 
-pub and_right : (a b : Bool) → (a && b) ≡ true → (a ≡ true) × (b ≡ true)
-and_right true b e = (refl, e)
-and_right false b e = cc
-
--- ---- the place of a claimed approval, or of a connection that a guard holds
-
-pub idle_from : (C : Type 0) (o : Bool) → is_idle {C = C} (cond o Claimed Guarded) ≡ false
-idle_from C true = refl
-idle_from C false = refl
-
-pub unclaimed_from : (C : Type 0) (o : Bool) → is_unclaimed {C = C} (cond o Claimed Guarded) ≡ false
-unclaimed_from C true = refl
-unclaimed_from C false = refl
-
-pub conn_from : (C : Type 0) (o : Bool) → is_conn {C = C} (cond o Claimed Guarded) ≡ not o
-conn_from C true = refl
-conn_from C false = refl
-
-pub approval_from : (C : Type 0) (o : Bool) → is_approval {C = C} (cond o Claimed Guarded) ≡ o
-approval_from C true = refl
-approval_from C false = refl
-
 module _ {C : Type 0} where
-  -- ---- places by their tests
-
-  -- the record that stands in a place that passes
-  pub standing_is : (test : Place C → Bool) (o : Option (Standing C)) → stands test o ≡ true → (s : Standing C) × (o ≡ Some s) × (test s.place ≡ true)
-  standing_is test None h = cc
-  standing_is test (Some s) h = (s, refl, h)
-
-  pub unclaimed_is : (p : Place C) → is_unclaimed p ≡ true → p ≡ Unclaimed
-  unclaimed_is Unclaimed h = refl
-  unclaimed_is Claimed h = cc
-  unclaimed_is (Idle c) h = cc
-  unclaimed_is (Held g) h = cc
-  unclaimed_is Guarded h = cc
-
-  pub claimed_is : (p : Place C) → is_claimed p ≡ true → p ≡ Claimed
-  claimed_is Unclaimed h = cc
-  claimed_is Claimed h = refl
-  claimed_is (Idle c) h = cc
-  claimed_is (Held g) h = cc
-  claimed_is Guarded h = cc
-
-  pub idle_is : (p : Place C) → is_idle p ≡ true → (c : C) × (p ≡ Idle c)
-  idle_is Unclaimed h = cc
-  idle_is Claimed h = cc
-  idle_is (Idle c) h = (c, refl)
-  idle_is (Held g) h = cc
-  idle_is Guarded h = cc
-
-  pub guarded_is : (p : Place C) → is_guarded p ≡ true → p ≡ Guarded
-  guarded_is Unclaimed h = cc
-  guarded_is Claimed h = cc
-  guarded_is (Idle c) h = cc
-  guarded_is (Held g) h = cc
-  guarded_is Guarded h = refl
-
-  -- what a test says of a record whose place is known
-  pub tested : (test : Place C → Bool) (r : Numbered (Standing C)) (s : Standing C) (p : Place C) → r.standing ≡ Some s → s.place ≡ p → stands test r.standing ≡ test p
-  tested test r s p e f = ap (stands test) e ∙ ap test f
-
   not_idle : (r : Numbered (Standing C)) → stands is_idle r.standing ≡ false → (q : ℕ) → idle_at q r ≡ false
   not_idle r e q = ap (λ (b : Bool). b && eqb r.position q) e
 
-  -- the record behind what stands under a number
-  pub record_at : (first : ℕ) (rs : List (Numbered (Standing C))) (k : ℕ) (s : Standing C) → standing_at first rs k ≡ Some s → (r : Numbered (Standing C)) × (at first rs k ≡ Some r) × (r.standing ≡ Some s)
-  record_at first rs k s h = go (at first rs k) refl h
-    where
-      go : (o : Option (Numbered (Standing C))) → at first rs k ≡ o → option_and_then (λ (r : Numbered (Standing C)). r.standing) o ≡ Some s → (r : Numbered (Standing C)) × (at first rs k ≡ Some r) × (r.standing ≡ Some s)
-      go None e h = cc
-      go (Some r) e h = (r, e, h)
-
   -- ---- one record is changed
-
-  -- what the sizes are after it
-  pub conns-change : (first : ℕ) (rs : List (Numbered (Standing C))) (k : ℕ) (new old : Numbered (Standing C)) (a b : Bool) → at first rs k ≡ Some old → stands is_conn old.standing ≡ a → stands is_conn new.standing ≡ b → conns_of (change first k new rs) + one a ≡ conns_of rs + one b
-  conns-change first rs k new old a b h was is = rw (sym (ap one was), sym (ap one is)) (numbered.tally-change (λ r. stands is_conn r.standing) rs first k new old h)
-
-  pub approved-change : (first : ℕ) (rs : List (Numbered (Standing C))) (k : ℕ) (new old : Numbered (Standing C)) (a b : Bool) → at first rs k ≡ Some old → stands is_approval old.standing ≡ a → stands is_approval new.standing ≡ b → approved_of (change first k new rs) + one a ≡ approved_of rs + one b
-  approved-change first rs k new old a b h was is = rw (sym (ap one was), sym (ap one is)) (numbered.tally-change (λ r. stands is_approval r.standing) rs first k new old h)
 
   -- a record is put into another place
   places-put : (first : ℕ) (rs : List (Numbered (Standing C))) (k : ℕ) (p : Place C) (r : Numbered (Standing C)) (s : Standing C) → at first rs k ≡ Some r → r.standing ≡ Some s → standings first (change first k (put p r) rs) ≡ insert (standings first rs) k (machine.placed p (get (standings first rs) k))
@@ -154,7 +80,7 @@ module _ {C : Type 0} where
     -- a claimed approval, or a connection that a guard held, ends
     pub shown-closed : (opening : Bool) (k : ℕ) (s : Standing C) → standing_at first rs k ≡ Some s → s.place ≡ cond opening Claimed Guarded → shown_records first p top (update first k ended rs) ≡ machine.closed opening k before
     shown-closed opening k s h place =
-        let m = record_at first rs k s h in
+        let m = numbered.standing_found rs first k s h in
         let r : Numbered (Standing C) = m.0 in
         let new : Numbered (Standing C) = ended r in
         let test : (t : Place C → Bool) (x : Bool) → t (cond opening Claimed Guarded) ≡ x → stands t r.standing ≡ x = λ t x e. tested t r s (cond opening Claimed Guarded) m.2 place ∙ e in
@@ -171,7 +97,7 @@ module _ {C : Type 0} where
     -- the number k enters at this position, which was a claimed approval or out
     pub shown-entered : (opening : Bool) (k : ℕ) (s : Standing C) (c : C) (birth now : ℕ) (f : Numbered (Standing C) → Numbered (Standing C)) → Before idle_at p rs → standing_at first rs k ≡ Some s → s.place ≡ cond opening Claimed Guarded → ((r : Numbered (Standing C)) → r.standing ≡ Some s → f r ≡ entry c birth now p) → shown_records first (suc p) top (update first k f rs) ≡ machine.entered opening k (record { place = Idle c; birth = birth; entered = now }) before
     shown-entered opening k s c birth now f b h place is =
-        let m = record_at first rs k s h in
+        let m = numbered.standing_found rs first k s h in
         let r : Numbered (Standing C) = m.0 in
         let new : Numbered (Standing C) = entry c birth now p in
         let test : (t : Place C → Bool) (x : Bool) → t (cond opening Claimed Guarded) ≡ x → stands t r.standing ≡ x = λ t x e. tested t r s (cond opening Claimed Guarded) m.2 place ∙ e in
@@ -234,13 +160,9 @@ module _ {C : Type 0} where
   shown-approve claimed zero first p top rs = refl
   shown-approve claimed (suc n) first p top rs = shown-approve_one first p top (approve claimed n rs) claimed ∙ ap (machine.approve_one claimed) (shown-approve claimed n first p top rs)
 
-  pub before-approve : (claimed : Bool) (n m : ℕ) (rs : List (Numbered (Standing C))) → Before idle_at m rs → Before idle_at m (approve claimed n rs)
-  before-approve claimed zero m rs b = b
-  before-approve claimed (suc n) m rs b = numbered.before-append idle_at (approve claimed n rs) _ m (before-approve claimed n m rs b) (λ p e. never claimed p e)
-    where
-      never : (t : Bool) (p : ℕ) → idle_at {C = C} p (approval t) ≡ true → p < m
-      never true p e = cc
-      never false p e = cc
-
   pub raised_same : (s : ShownRecords C) → s.conns + s.approved ≤ s.peak → machine.raised s ≡ s
   raised_same s h = same_records _ _ refl refl refl refl refl refl (omega arith)
+
+  -- no record yet
+  pub shown-none : (first : ℕ) → shown_records {C = C} first 0 0 [] ≡ no_records first
+  shown-none first = same_records _ _ (omega arith) refl refl refl refl refl refl

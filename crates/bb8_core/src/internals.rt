@@ -1,30 +1,34 @@
 //! The locked state of a pool.
-ghost use Rattle.std.specs.Prelude.{◌≡◌, ℕ, Bool, ◌+◌, ◌≤◌, ◌&&◌, ◌||◌, not, cond, eqb, slice_get, IsSome, IfSome, IfNone, true, None, Some};
+ghost use Rattle.std.specs.Prelude.{◌≡◌, ℕ, Bool, ◌+◌, ◌≤◌, ◌&&◌, ◌||◌, not, cond, eqb, slice_get, IsSome, IfSome, IfNone, true, false, None, Some};
 ghost use Rattle.std.specs.FinMap as map;
-ghost use Rattle.bb8_core.specs.Acts as acts;
-ghost use Rattle.bb8_core.specs.Answers as answers;
-ghost use Rattle.bb8_core.specs.Ledger as ledger;
-ghost use Rattle.bb8_core.specs.Machine as machine;
-ghost use Rattle.bb8_core.specs.Table as table;
-ghost use Rattle.bb8_core.specs.Numbered as numbered;
-ghost use Rattle.bb8_core.specs.Settings.{settings_of, is_lawful};
-ghost use Rattle.bb8_core.specs.Figures.{figures_of};
+ghost use Rattle.bb8_ledger.specs.Acts as acts;
+ghost use Rattle.bb8_ledger.specs.Answers as answers;
+ghost use Rattle.bb8_ledger.specs.Ledger as ledger;
+ghost use Rattle.bb8_types.specs.Places as places;
+ghost use Rattle.bb8_tables.specs.Machine as machine;
+ghost use Rattle.bb8_core.specs.Decided as decided;
+ghost use Rattle.bb8_ledger.specs.Table as table;
+ghost use Rattle.bb8_types.specs.Grants as grants;
+ghost use Rattle.bb8_types.specs.Numbered as numbered;
+ghost use Rattle.bb8_types.specs.Settings.{settings_of, is_lawful};
+ghost use Rattle.bb8_types.specs.Figures.{figures_of};
 ghost use Rattle.bb8_core.specs.Run.{opening, act_with};
-ghost use Rattle.bb8_core.specs.Shown.{Means, Meets, IsFitting, IsRecordIn, IsNoRecordIn, IsGetIn, IsNoGetIn};
-ghost use Rattle.bb8_core.specs.Limits.{IsWithinLimits};
-ghost use Rattle.bb8_core.specs.Outcomes.{begin_told, try_told, reason_of, give_up_told, put_back_told, claim_told, opened_told, add_told, look_told, notified_of, HandsOut, GivesBack, HandsBack, Refuses};
+ghost use Rattle.bb8_core.specs.Shown.{Means, Meets, IsFitting, IsRecordIn, IsNoRecordIn, IsGetIn, IsNoGetIn, IsWithinLimits};
+ghost use Rattle.bb8_core.specs.Outcomes.{begin_told, try_told, reason_of, give_up_told, put_back_told, claim_told, opened_told, add_told, look_told, HandsOut, ServesAtOnce, GivesBack, HandsBack, Refuses};
+ghost use Rattle.bb8_tables.specs.Keys.{notified_of};
 
-use crate::api::{Config, Moment, State};
-use crate::counters::Counters;
-pub use crate::events::{Grant, Reason};
 use crate::events::{Act, Event};
-use crate::gets::{Gets, first_wait, is_notified, is_unnotified};
-pub use crate::keys::{GetKey, Key};
 pub use crate::outcomes::{
-    AddAnswer, BeginAnswer, ClaimAnswer, GiveUpAnswer, Looked, OpenedAnswer, PutBackAnswer,
+    AddAnswer, AtOnce, BeginAnswer, ClaimAnswer, GiveUpAnswer, Looked, OpenedAnswer, PutBackAnswer,
     TryAnswer,
 };
-use crate::records::{Records, one};
+use bb8_tables::counters::Counters;
+use bb8_tables::gets::{Gets, first_wait, is_notified, is_unnotified};
+pub use bb8_tables::keys::{GetKey, Key};
+use bb8_tables::records::{Records, one};
+use bb8_types::api::{Config, Moment, State};
+pub use bb8_types::grants::Grant;
+pub use bb8_types::reasons::Reason;
 use std::alloc::Global;
 use std::marker::Model;
 
@@ -57,7 +61,7 @@ impl<C> Model for PoolInternals<C> {
 
 /// How many approvals a grant is to make.
 fn due(config: &Config, handles: u64, taken: u64, asked: u64) -> u64
-    ensures { result ≡ table.due (settings_of config.now) handles taken asked }
+    ensures { result ≡ grants.due (settings_of config.now) handles taken asked }
 {
     if handles == 0 {
         0
@@ -68,20 +72,24 @@ fn due(config: &Config, handles: u64, taken: u64, asked: u64) -> u64
 
 /// How many approvals are due of those that are wanted.
 fn want<C: Drop>(config: &Config, handles: u64, records: &Records<C>) -> u64
-    ensures { result ≡ machine.want (settings_of config.now) handles records.now }
+    ensures { result ≡ decided.want (settings_of config.now) handles records.now }
 {
+    let taken = records.used();
+    if taken >= config.max_size as u64 {
+        return 0;
+    }
     let least = config.min_idle.unwrap_or(0) as u64;
     due(
         config,
         handles,
-        records.used(),
+        taken,
         least.saturating_sub(records.ready()),
     )
 }
 
 /// Whether a connection of this birth has lived too long.
 fn is_expired(config: &Config, now: u64, birth: u64) -> bool
-    ensures { result ≡ ledger.is_expired (settings_of config.now).max_lifetime now birth }
+    ensures { result ≡ places.is_expired (settings_of config.now).max_lifetime now birth }
 {
     match config.max_lifetime {
         None => false,
@@ -165,6 +173,38 @@ impl<C: Drop> PoolInternals<C> {
         }
     }
 
+    /// Begins a get and serves it, as `begin` and then `try_get` do, where a connection is idle and the get could begin with no memory.
+    /// Otherwise nothing changes.
+    pub fn serve_at_once(&mut self, at: Moment) -> Option<AtOnce<C>>
+        requires begin { IsFitting self.old acts.Begin }
+        requires unchecked { self.old.config.test_on_check_out ≡ false }
+        ensures some { IfSome result (λ served. ServesAtOnce self.old at.0 served self.new) }
+        ensures none { IfNone result (self.new ≡ self.old) }
+    {
+        if !self.gets.has_room() {
+            return None;
+        }
+        let strategy = self.config.queue_strategy;
+        match self.records.take(strategy) {
+            None => None,
+            Some((key, conn)) => {
+                let now = self.latest.max(at.0);
+                self.latest = now;
+                let get = self.gets.pass();
+                self.counters.started += 1;
+                self.counters.serve(None, now);
+                let wanted = want(&self.config, self.handles, &self.records);
+                let grant = self.records.grant(wanted, false);
+                Some(AtOnce {
+                    get,
+                    key,
+                    conn,
+                    grant,
+                })
+            }
+        }
+    }
+
     /// Serves a get with the idle connection that is first by the queue strategy, which goes to a guard, and grants what is wanted then.
     /// Where none is idle the get waits from now on, and one approval is granted where gets outnumber open approvals. A get that waits
     /// and was not notified waits on, and nothing changes but the latest moment. No memory is asked for, but for approvals.
@@ -189,7 +229,7 @@ impl<C: Drop> PoolInternals<C> {
                 TryAnswer::Waiting(grant)
             }
             Some((key, conn)) => {
-                self.gets.end(get);
+                self.gets.finish(get);
                 self.counters.serve(first_wait(getting), now);
                 let wanted = want(&self.config, self.handles, &self.records);
                 let grant = self.records.grant(wanted, false);
@@ -372,6 +412,17 @@ impl<C: Drop> PoolInternals<C> {
         ensures { (l : ledger.Ledger C) → table.IsLegal l → Means l self.now → result ≡ table.takes l acts.Begin }
     {
         self.handles != 0
+    }
+
+    /// Whether `serve_at_once` may be called: while a handle is alive, where connections go out unchecked.
+    pub fn fits_at_once(&self) -> bool
+        ensures begin { result ≡ true → IsFitting self.now acts.Begin }
+        ensures unchecked { result ≡ true → self.now.config.test_on_check_out ≡ false }
+    {
+        if self.config.test_on_check_out {
+            return false;
+        }
+        self.fits_begin()
     }
 
     /// Whether a connection may be added, whichever it is: while a handle is alive.

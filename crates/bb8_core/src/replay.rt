@@ -1,22 +1,23 @@
 //! Replays of lists of events, by plain numbers.
 ghost use Rattle.std.specs.Prelude.{◌≡◌, ℕ, length, true, IfOk};
-ghost use Rattle.bb8_core.specs.Acts as acts;
-ghost use Rattle.bb8_core.specs.Ledger.{Ledger};
-ghost use Rattle.bb8_core.specs.Limits.{KeepsLimits, KeepsLaws, KeepsPromises};
-ghost use Rattle.bb8_core.specs.Outcomes.{notified_of};
+ghost use Rattle.bb8_ledger.specs.Acts as acts;
+ghost use Rattle.bb8_ledger.specs.Ledger.{Ledger};
+ghost use Rattle.bb8_ledger.specs.Limits.{KeepsLimits, KeepsLaws, KeepsPromises};
+ghost use Rattle.bb8_tables.specs.Keys.{notified_of};
 ghost use Rattle.bb8_core.specs.Run.{answer_of, opening, IsRun, IsTaken, Happens, Applies, AfterEach};
 ghost use Rattle.bb8_core.specs.declared.events.Act.TheVariants as events;
-ghost use Rattle.bb8_core.specs.Settings.{settings_of, is_lawful};
+ghost use Rattle.bb8_types.specs.Settings.{settings_of, is_lawful};
 ghost use Rattle.bb8_core.specs.Shown.{Means, Meets, IsFitting};
 
-use crate::api::{Config, Memory, Moment};
-pub use crate::events::{Act, Answer, Event, Reason};
+pub use crate::events::{Act, Answer, Event};
 use crate::hints::Hints;
 use crate::internals::PoolInternals;
-use crate::keys::{GetKey, Key};
 use crate::outcomes::{
     AddAnswer, BeginAnswer, ClaimAnswer, GiveUpAnswer, OpenedAnswer, PutBackAnswer, TryAnswer,
 };
+use bb8_tables::keys::{GetKey, Key};
+use bb8_types::api::{Config, Memory, Moment};
+pub use bb8_types::reasons::Reason;
 use std::alloc::Global;
 
 /// The number of the get that a step notified.

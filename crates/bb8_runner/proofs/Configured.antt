@@ -9,9 +9,9 @@ use Rattle.std.proofs.lemmas.Bool.Decides.{Decides-eqb}
 use Rattle.std.proofs.lemmas.List.Elements.{All-head, All-tail}
 use Rattle.std.proofs.lemmas.List.Sums.{split_at_first, passes_at_first, prefix_len-le-length}
 use Rattle.std.proofs.lemmas.Slice.Eq.{bytes_eq-Decides}
-use Rattle.bb8_core.specs.declared.api.configuration.QueueStrategy.{QueueStrategy}
-use Rattle.bb8_core.specs.declared.api.configuration.QueueStrategy.TheVariants.{Fifo, Lifo}
-use Rattle.bb8_core.specs.Settings.{Settings, is_lawful}
+use Rattle.bb8_types.specs.declared.api.configuration.QueueStrategy.{QueueStrategy}
+use Rattle.bb8_types.specs.declared.api.configuration.QueueStrategy.TheVariants.{Fifo, Lifo}
+use Rattle.bb8_types.specs.Settings.{Settings, is_lawful}
 use Rattle.bb8_runner.specs.declared.overrides.Overrides.{Overrides}
 use Rattle.bb8_runner.specs.Grammar.{◌>>=◌, number_of, fields_of}
 use Rattle.bb8_runner.specs.Opening.{cut, on_or_off, strategy_of, limit_of, once, with_setting, overrides_from, nothing_set, settings_from, if_lawful, settings_of_fields, settings_of_line}

@@ -10,7 +10,7 @@ use Rattle.std.proofs.lemmas.Str.{IsUtf8-from_ascii, IsAscii-append}
 use Rattle.std.proofs.lemmas.Str.Ascii.{IsAscii-cons, IsAscii-nil, IsAscii-from_all}
 use Rattle.bb8_core.specs.declared.events.Act.{Act}
 use Rattle.bb8_core.specs.declared.events.Act.TheVariants.{Begin, Try, GiveUp, PutBack, Fill, Claim, Opened, Add, State, Look}
-use Rattle.bb8_core.specs.declared.events.Reason.TheVariants.{TimedOut, Cancelled}
+use Rattle.bb8_types.specs.declared.reasons.Reason.TheVariants.{TimedOut, Cancelled}
 use Rattle.bb8_core.specs.declared.events.Event.{Event}
 use Rattle.bb8_runner.specs.Grammar.{fields_of, event_of}
 use Rattle.bb8_runner.specs.Spelling.{verb_of, args_of, flag, event_fields, event_line, FitsEvent}

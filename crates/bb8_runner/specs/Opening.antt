@@ -2,9 +2,9 @@
 use Rattle.std.specs.Prelude.{ℕ, ◌==◌, List, [], ◌∷◌, length, Bool, true, false, if◌then◌else◌, Option, Some, None, codes, option_map, unwrap_or}
 use Rattle.std.specs.List.{before_first, after_first, position_or_len}
 use Rattle.std.specs.Str.{bytes_eq}
-use Rattle.bb8_core.specs.declared.api.configuration.QueueStrategy.{QueueStrategy}
-use Rattle.bb8_core.specs.declared.api.configuration.QueueStrategy.TheVariants.{Fifo, Lifo}
-use Rattle.bb8_core.specs.Settings.{Settings, default_settings, is_lawful}
+use Rattle.bb8_types.specs.declared.api.configuration.QueueStrategy.{QueueStrategy}
+use Rattle.bb8_types.specs.declared.api.configuration.QueueStrategy.TheVariants.{Fifo, Lifo}
+use Rattle.bb8_types.specs.Settings.{Settings, default_settings, is_lawful}
 use Rattle.bb8_runner.specs.declared.overrides.Overrides.{Overrides}
 use Rattle.bb8_runner.specs.Grammar.{◌>>=◌, number_of, fields_of}
 

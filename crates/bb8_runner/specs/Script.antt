@@ -1,9 +1,9 @@
 -- A whole script, and what is written for it.
 use Rattle.std.specs.Prelude.{◌≡◌, ℕ, ◌+◌, ◌-◌, ◌<◌, ◌==◌, List, [], ◌∷◌, length, take, slice_index, slice_index_or, if◌then◌else◌, Option, Some, None, map, ◌⊎◌, ⊤, codes}
 use Rattle.std.specs.List.{slice_split}
-use Rattle.bb8_core.specs.Settings.{Settings}
-use Rattle.bb8_core.specs.Ledger.{Ledger, figures}
-use Rattle.bb8_core.specs.Run.{IsRun, opening_with}
+use Rattle.bb8_types.specs.Settings.{Settings}
+use Rattle.bb8_ledger.specs.Ledger.{Ledger, figures, opening_with}
+use Rattle.bb8_core.specs.Run.{IsRun}
 use Rattle.bb8_core.specs.declared.events.Event.{Event}
 use Rattle.bb8_core.specs.declared.events.Answer.{Answer}
 use Rattle.bb8_runner.specs.declared.verdict.Verdict.{Verdict}

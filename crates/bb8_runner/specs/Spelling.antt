@@ -3,11 +3,11 @@ use Rattle.std.specs.Prelude.{◌≡◌, ◌≢◌, ℕ, ◌^◌, ◌<◌, List,
 use Rattle.std.specs.List.{join_with_byte}
 use Rattle.bb8_core.specs.declared.events.Act.{Act}
 use Rattle.bb8_core.specs.declared.events.Act.TheVariants.{Begin, Try, GiveUp, PutBack, Fill, Claim, Opened, Add, State, Look}
-use Rattle.bb8_core.specs.declared.events.Reason.TheVariants.{TimedOut, Cancelled}
+use Rattle.bb8_types.specs.declared.reasons.Reason.TheVariants.{TimedOut, Cancelled}
 use Rattle.bb8_core.specs.declared.events.Event.{Event}
-use Rattle.bb8_core.specs.declared.api.configuration.QueueStrategy.{QueueStrategy}
-use Rattle.bb8_core.specs.declared.api.configuration.QueueStrategy.TheVariants.{Fifo, Lifo}
-use Rattle.bb8_core.specs.Settings.{Settings, default_settings, is_lawful}
+use Rattle.bb8_types.specs.declared.api.configuration.QueueStrategy.{QueueStrategy}
+use Rattle.bb8_types.specs.declared.api.configuration.QueueStrategy.TheVariants.{Fifo, Lifo}
+use Rattle.bb8_types.specs.Settings.{Settings, default_settings, is_lawful}
 
 -- the verb of an event
 abbrev pub verb_of : Act → List ℕ

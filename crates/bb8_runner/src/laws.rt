@@ -2,8 +2,8 @@
 ghost use Rattle.std.specs.Prelude.{◌≡◌, ◌≢◌, Some, List, ℕ, All};
 ghost use Rattle.bb8_core.specs.declared.events.Answer.{Answer};
 ghost use Rattle.bb8_core.specs.declared.events.Event.{Event};
-ghost use Rattle.bb8_core.specs.Figures.{Figures};
-ghost use Rattle.bb8_core.specs.Settings.{Settings};
+ghost use Rattle.bb8_types.specs.Figures.{Figures};
+ghost use Rattle.bb8_types.specs.Settings.{Settings};
 ghost use Rattle.bb8_runner.specs.Grammar.{event_of, fields_of};
 ghost use Rattle.bb8_runner.specs.Opening.{settings_of_line};
 ghost use Rattle.bb8_runner.specs.Spelling.{SpellsEvent, SpellsSettings, FitsEvent, event_line};

@@ -1,7 +1,7 @@
 //! The lines of a script.
 ghost use Rattle.std.specs.Prelude.{◌≡◌, map, IfOk, IfErr, true, ◌==◌};
 ghost use Rattle.std.specs.List.{slice_split};
-ghost use Rattle.bb8_core.specs.Settings.{settings_of, is_lawful};
+ghost use Rattle.bb8_types.specs.Settings.{settings_of, is_lawful};
 ghost use Rattle.bb8_runner.specs.Grammar.{event_of};
 ghost use Rattle.bb8_runner.specs.Script.{without_line_feed, lines_of, Spells, IsEventFault, IsFault};
 ghost use Rattle.bb8_runner.specs.declared.lines.NoScript.TheVariants.{Memory};

@@ -1,8 +1,7 @@
 //! The future of a get.
 ghost use Rattle.std.specs.Prelude.{◌≡◌};
 
-use super::link::Link;
-use super::state::GetState;
+use super::state::{GetState, Stage};
 use crate::locked::{Part, Taken};
 use crate::locks::Locks;
 use crate::pool::{Pool, PooledConnection, Shared};
@@ -15,7 +14,7 @@ use std::sync::ledger::Ledger;
 
 /// What `Pool::get` answers: a get that does nothing until it is polled.
 ///
-/// Each poll reads the pool's clock, and takes the pool's lock for each of its steps. One that is pending asks to be polled again. When it
+/// Each poll reads the pool's clock, and takes the pool's lock once. One that is pending asks to be polled again. When it
 /// is dropped before its answer, it gives the get up as cancelled. Our own: upstream's get is an async function.
 pub struct GetFuture<
     'a,
@@ -35,7 +34,7 @@ impl<
     S: ErrorSink<M::Error>,
     Z: CustomizeConnection<M::Connection, M::Error>,
     K: Clock,
-    R: Locks,
+    R: Wait + Send + Sync + Drop + 'static,
     L: Ledger,
 > GetFuture<'_, M, S, Z, K, R, L> {
     /// Lets the get go, as a drop does, for which it may wait for the lock. Our own.
@@ -52,7 +51,7 @@ impl<
     R: Locks,
     L: Ledger,
 > Pool<M, S, Z, K, R, L> {
-    ghost use Rattle.bb8.specs.Pools.{stage_of, settings_for, settings_in};
+    ghost use Rattle.bb8.specs.Pools.{stage_of, IsOf};
     ghost use Rattle.bb8.specs.declared.get.state.Stage.TheVariants.{Fresh as IsFresh};
 
     /// Gets a connection: an idle one, or the first that comes in the get's turn. As upstream, but for the future's name.
@@ -61,7 +60,7 @@ impl<
     /// not begin.
     pub fn get(&self) -> GetFuture<'_, M, S, Z, K, R, L>
         ensures new { stage_of result ≡ IsFresh }
-        ensures settings { settings_for result ≡ settings_in self.now }
+        ensures pool { IsOf result self.now }
     {
         self.start_get()
     }
@@ -83,14 +82,14 @@ impl<
     R: Locks,
     L: Ledger,
 > StartGet for &'a Pool<M, S, Z, K, R, L> {
-    ghost use Rattle.bb8.specs.Pools.{stage_of, settings_for, settings_in};
+    ghost use Rattle.bb8.specs.Pools.{stage_of, IsOf};
     ghost use Rattle.bb8.specs.declared.get.state.Stage.TheVariants.{Fresh as IsFresh};
 
     type Get = GetFuture<'a, M, S, Z, K, R, L>;
 
     fn start_get(self) -> GetFuture<'a, M, S, Z, K, R, L>
         ensures new { stage_of result ≡ IsFresh }
-        ensures settings { settings_for result ≡ settings_in self.now }
+        ensures pool { IsOf result self.now }
     {
         GetFuture {
             shared: &*self.shared,
@@ -109,8 +108,11 @@ impl<
 > Drop for GetFuture<'_, M, S, Z, K, R, L> {
     fn drop(self) {
         let GetFuture { shared, mut get } = self;
-        let at = shared.clock.now();
-        get.cancel_step(&mut Link::new(&shared.locked, &shared.rt), at);
+        // Neither a get that was not polled nor one that was answered has begun anything that is to be given up.
+        if get.is_open() {
+            let at = shared.clock.now();
+            get.cancel_step(&mut *shared.rt.take(&shared.locked), at);
+        }
     }
 }
 
@@ -138,20 +140,24 @@ impl<
 
     type Answer = Result<PooledConnection<'a, M, S, Z, K, R, L>, RunError<M::Error>>;
 
+    ghost use Rattle.bb8.specs.Gets.{Guards};
     ghost use Rattle.bb8.specs.Linked.{LinkPolls, MakesGuard};
-    ghost use Rattle.bb8.specs.Pools.{stage_of, settings_for};
-    ghost use Rattle.bb8.specs.declared.get.link.Link.{Link as LinkOf};
+    ghost use Rattle.bb8.specs.Pools.{clock_for, settings_for, stage_of};
+    ghost use Rattle.bb8.specs.declared.locked.Locked.{Locked as LockedOf};
 
     /// One poll on the pool's lock, at the clock's reading.
     fn poll_link(&mut self) -> Poll<Result<(Key, M::Connection, Part<L>), RunError<M::Error>>>
-        ensures table { LinkPolls (LinkOf M.Connection R L L.Ledger) (settings_for self.old).connection_timeout (stage_of self.old) result (stage_of self.new) }
-        ensures settings { settings_for self.new ≡ settings_for self.old }
+        ensures table { LinkPolls (LockedOf M.Connection L L.Ledger) (K.tells (clock_for self.old)) L.parts (settings_for self.old).connection_timeout (stage_of self.old) result (stage_of self.new) }
+        ensures pool { self.new.shared.now ≡ self.old.shared.now }
     {
+        if let Stage::Done = self.get.stage {
+            return Poll::Pending;
+        }
         let shared = self.shared;
         let at = shared.clock.now();
-        let mut link = Link::new(&shared.locked, &shared.rt);
+        let mut locked = shared.rt.take(&shared.locked);
         self.get
-            .poll_step(&mut link, at, shared.config.connection_timeout)
+            .poll_step(&mut *locked, at, shared.config.connection_timeout)
     }
 
     /// The guard of what was served.
@@ -159,7 +165,7 @@ impl<
         &self,
         served: Result<(Key, M::Connection, Part<L>), RunError<M::Error>>,
     ) -> Result<PooledConnection<'a, M, S, Z, K, R, L>, RunError<M::Error>>
-        ensures { MakesGuard (λ given guard. guard.taken ≡ record { key = given.0; conn = given.1; part = given.2 }) served result }
+        ensures { MakesGuard (Guards self.now) served result }
     {
         let shared = self.shared;
         match served {
@@ -181,20 +187,25 @@ impl<
     R: Wait + Send + Sync + Drop + 'static,
     L: Ledger,
 > Future for GetFuture<'a, M, S, Z, K, R, L> {
-    ghost use Rattle.std.specs.Prelude.{Result};
-    ghost use Rattle.bb8.specs.Linked.{LinkGives, MakesGuard};
-    ghost use Rattle.bb8.specs.Pools.{stage_of, settings_for};
-    ghost use Rattle.bb8.specs.declared.get.link.Link.{Link as LinkOf};
-    ghost use Rattle.bb8.specs.declared.locked.Part.{Part as PartOf};
-    ghost use Rattle.bb8_core.specs.declared.api.errors.RunError.{RunError as RunErrorOf};
-    ghost use Rattle.bb8_core.specs.declared.keys.Key.{Key as KeyOf};
+    ghost use Rattle.std.specs.Prelude.{⊤};
+    ghost use Rattle.futures.specs.Poll.{IfReady, OnPending};
+    ghost use Rattle.futures.specs.Task.{Covers, Keeps};
+    ghost use Rattle.bb8.specs.Gets.{GivesGet, PollsGet};
 
     type Output = Result<PooledConnection<'a, M, S, Z, K, R, L>, RunError<M::Error>>;
 
-    ghost gives = { λ f out. (x : Result (KeyOf × M.Connection × PartOf L) (RunErrorOf M.Error)) × LinkGives (LinkOf M.Connection R L L.Ledger) (settings_for f).connection_timeout (stage_of f) x × MakesGuard (λ given guard. guard.taken ≡ record { key = given.0; conn = given.1; part = given.2 }) x out };
+    ghost gives = { λ future out. GivesGet K.tells future out };
 
     /// One poll at the clock's reading. It is pending while the get waits before its deadline, and after its answer.
-    fn poll(&mut self, cx: &mut Context<'_>) -> Poll<Self::Output> {
+    fn poll(&mut self, cx: &mut Context<'_>) -> Poll<Self::Output>
+        ensures table { PollsGet K.tells self.old result self.new }
+        ensures pool { self.new.shared.now ≡ self.old.shared.now }
+        ensures value { IfReady result (λ out. GivesGet K.tells self.old out) }
+        ensures again { OnPending result ⊤ }
+        ensures same { OnPending result ((x : _) → GivesGet K.tells self.new x → GivesGet K.tells self.old x) }
+        ensures registered { OnPending result (Covers cx.new (λ _. ⊥)) }
+        ensures kept { Keeps cx.old cx.new }
+    {
         let answer = match self.poll_link() {
             Poll::Ready(answer) => answer,
             Poll::Pending => return cx.yield_now(),

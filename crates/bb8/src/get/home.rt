@@ -1,11 +1,14 @@
 //! What the polls of a get make their steps on.
-ghost use Rattle.bb8_core.specs.declared.api.moments.Moment.{Moment as MomentOf};
-ghost use Rattle.bb8_core.specs.declared.events.Reason.{Reason as ReasonOf};
-ghost use Rattle.bb8_core.specs.declared.keys.GetKey.{GetKey as GetKeyOf};
+ghost use Rattle.std.specs.Prelude.{IfSome, IfNone};
+ghost use Rattle.bb8_types.specs.declared.api.moments.Moment.{Moment as MomentOf};
+ghost use Rattle.bb8_types.specs.declared.reasons.Reason.{Reason as ReasonOf};
+ghost use Rattle.bb8_tables.specs.declared.keys.GetKey.{GetKey as GetKeyOf};
 ghost use Rattle.bb8_core.specs.declared.outcomes.Looked.{Looked as LookedOf};
 ghost use Rattle.bb8.specs.declared.get.home.BeginStep.{BeginStep as BeginStepOf};
+ghost use Rattle.bb8.specs.declared.get.home.BeginStep.TheVariants.{Begun};
 ghost use Rattle.bb8.specs.declared.get.home.GiveUpStep.{GiveUpStep as GiveUpStepOf};
 ghost use Rattle.bb8.specs.declared.get.home.TryStep.{TryStep as TryStepOf};
+ghost use Rattle.bb8.specs.declared.get.home.TryStep.TheVariants.{Served};
 
 use bb8_core::api::Moment;
 use bb8_core::internals::{GetKey, Grant, Key, Looked, Reason};
@@ -34,6 +37,19 @@ pub enum TryStep<C, P> {
     Unfit,
 }
 
+/// What goes out at a home where a get began and was served at once. Our own.
+#[derive(Drop)]
+pub struct ServeStep<C, P> {
+    /// The key of the connection.
+    pub key: Key,
+    /// The connection.
+    pub connection: C,
+    /// What goes with it.
+    pub part: P,
+    /// What was granted.
+    pub grant: Grant,
+}
+
 /// What the giving up of a get answers at a home. Our own.
 #[derive(Clone, Copy, Debug)]
 pub enum GiveUpStep {
@@ -43,8 +59,8 @@ pub enum GiveUpStep {
     Unfit,
 }
 
-/// The steps that the polls of a get make, on connections `C`: the plain state of a pool is such a home, and so is a pool, which takes
-/// its lock for each step. Our own.
+/// The steps that the polls of a get make, on connections `C`: the plain state of a pool is such a home, and so is what a
+/// pool's lock holds. Our own.
 ///
 /// Each step has a ghost member, a relation between the home, what the step was given, what it answered, and the home then. It has no
 /// default: what is proved of a get's polls holds for every choice.
@@ -67,6 +83,15 @@ pub trait GetHome<C> {
     /// The effective moment at this reading of the clock, and whether a handle is alive. Our own.
     fn look(&mut self, at: Moment) -> Looked
         ensures { looks self.old at result self.new };
+
+    /// Begins a get and serves it in one step, where the home can. None where it cannot; what may begin then could begin before.
+    /// Our own.
+    fn serve(&mut self, _at: Moment) -> Option<ServeStep<C, Self::Part>>
+        ensures served { IfSome result (λ s. (g : GetKeyOf) × (between : Self) × begins self.old _at (Begun g) between × tries between _at g (Served s.key s.connection s.part s.grant) self.new) }
+        ensures none { IfNone result ((m : MomentOf) (step : BeginStepOf) (after : Self) → begins self.new m step after → begins self.old m step after) }
+    {
+        None
+    }
 
     /// Begins a get. Our own.
     fn begin(&mut self, at: Moment) -> BeginStep

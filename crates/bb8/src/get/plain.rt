@@ -1,6 +1,6 @@
 //! The plain state of a pool as a home of gets.
 ghost use Rattle.std.specs.Prelude.{◌≡◌, false, None};
-ghost use Rattle.bb8_core.specs.Acts as acts;
+ghost use Rattle.bb8_ledger.specs.Acts as acts;
 ghost use Rattle.bb8_core.specs.Outcomes.{look_told, reason_of};
 ghost use Rattle.bb8.specs.Homes.{Steps, Hands, begin_step_told, try_step_told, give_up_step_told};
 

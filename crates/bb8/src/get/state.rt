@@ -1,10 +1,10 @@
 //! The poll of a get.
 ghost use Rattle.std.specs.Prelude.{◌≡◌};
 ghost use Rattle.std.specs.Duration.{as_nanos};
-ghost use Rattle.bb8.specs.Polls.{IsDeadline, Tries, Advances, Settles, Polls, Cancels};
+ghost use Rattle.bb8.specs.Polls.{is_begun, IsDeadline, Tries, Advances, Settles, Polls, Cancels};
 ghost use Rattle.bb8.specs.declared.get.state.Stage.TheVariants.{Done as IsDone, Fresh as IsFresh};
 
-use super::home::{BeginStep, GetHome, TryStep};
+use super::home::{BeginStep, GetHome, ServeStep, TryStep};
 use bb8_core::api::{Moment, RunError};
 use bb8_core::internals::{GetKey, Key, Reason};
 use futures::task::Poll;
@@ -68,6 +68,32 @@ fn take<C: Drop, E, H: GetHome<C>>(
     }
 }
 
+/// What a get does at its first poll: it begins and tries, in one step where the home can.
+fn start<C: Drop, E, H: GetHome<C>>(
+    home: &mut H,
+    moment: Moment,
+    timeout: Duration,
+) -> Next<C, H::Part, E>
+    ensures { Advances H.GetHome moment (as_nanos timeout) IsFresh home.old result home.new }
+{
+    match home.serve(moment) {
+        Some(
+            ServeStep {
+                key,
+                connection,
+                part,
+                ..
+            },
+        ) => Next::Answer(Ok((key, connection, part))),
+        None => match home.begin(moment) {
+            BeginStep::Begun(get) => take(home, moment, get, deadline(moment, timeout)),
+            BeginStep::Memory => Next::Answer(Err(RunError::Memory)),
+            BeginStep::Exhausted => Next::Answer(Err(RunError::Exhausted)),
+            BeginStep::Unfit => Next::Answer(Err(RunError::TimedOut)),
+        },
+    }
+}
+
 /// What a get does at a poll before its deadline is looked at.
 fn advance<C: Drop, E, H: GetHome<C>>(
     home: &mut H,
@@ -78,12 +104,7 @@ fn advance<C: Drop, E, H: GetHome<C>>(
     ensures { Advances H.GetHome moment (as_nanos timeout) stage home.old result home.new }
 {
     match stage {
-        Stage::Fresh => match home.begin(moment) {
-            BeginStep::Begun(get) => take(home, moment, get, deadline(moment, timeout)),
-            BeginStep::Memory => Next::Answer(Err(RunError::Memory)),
-            BeginStep::Exhausted => Next::Answer(Err(RunError::Exhausted)),
-            BeginStep::Unfit => Next::Answer(Err(RunError::TimedOut)),
-        },
+        Stage::Fresh => start(home, moment, timeout),
         Stage::Trying(get, deadline) | Stage::Waiting(get, deadline) => {
             take(home, moment, get, deadline)
         }
@@ -99,6 +120,16 @@ impl<C: Drop, P: Drop> GetState<C, P> {
         GetState {
             stage: Stage::Fresh,
             served: PhantomData,
+        }
+    }
+
+    /// Whether the get began and was not answered. Our own.
+    pub fn is_open(&self) -> bool
+        ensures { result ≡ is_begun self.now.stage }
+    {
+        match self.stage {
+            Stage::Trying(..) | Stage::Waiting(..) => true,
+            Stage::Fresh | Stage::Done => false,
         }
     }
 

@@ -1,9 +1,9 @@
 //! Gets that are polled by hand over the plain state.
 ghost use Rattle.std.specs.Prelude.{◌≡◌, ℕ, true};
-ghost use Rattle.bb8_core.specs.Ledger.{Ledger};
+ghost use Rattle.bb8_ledger.specs.Ledger.{Ledger};
 ghost use Rattle.bb8_core.specs.Run.{act_with};
 ghost use Rattle.bb8_core.specs.Shown.{Means};
-ghost use Rattle.bb8_core.specs.Table.{IsLegal, takes};
+ghost use Rattle.bb8_ledger.specs.Table.{IsLegal, takes};
 
 use crate::get::GetState;
 use crate::{Config, Moment, RunError, Statistics};

@@ -1,17 +1,19 @@
 //! A pool behind its lock: what goes out comes back, and what is broken or too old does not stay.
-ghost use Rattle.std.specs.Prelude.{◌≡◌};
+ghost use Rattle.bb8.specs.Ledgers.{IsBlankOf};
 
 use super::{NumberPool, Runtime, SlowManager};
-use crate::{AddError, Builder, Moment, NopCustomizer, NopErrorSink, PooledConnection, SetClock};
+use crate::{
+    AddError, Builder, Moment, NopCustomizer, NopErrorSink, PoolLedger, PooledConnection, SetClock,
+};
 use futures::task::Poll;
 use futures::test::MockTask;
 use std::marker::Brand;
-use std::sync::ledger::{Blank, Ledger};
+use std::sync::ledger::Blank;
 use std::test::Fail;
 use std::time::Duration;
 
 /// The guard of a get that is polled once. A get that would wait is let go.
-fn guard<'a, R: Runtime, L: Ledger>(
+fn guard<'a, R: Runtime, L: PoolLedger>(
     task: &MockTask,
     pool: &'a NumberPool<R, L>,
 ) -> Option<PooledConnection<'a, SlowManager, NopErrorSink, NopCustomizer, SetClock, R, L>> {
@@ -22,10 +24,8 @@ fn guard<'a, R: Runtime, L: Ledger>(
 }
 
 /// Lends the connections 7 and 8 of a pool of two, and takes them back: whole, broken, and too old.
-fn lends<R: Runtime, L: Ledger>(rt: R, blank: Blank) -> Result<(), Fail>
-    requires name { blank.name ≡ L.name }
-    requires parts { blank.parts ≡ L.parts }
-    requires two { blank.parts ≡ 2 }
+fn lends<R: Runtime, L: PoolLedger>(rt: R, blank: Blank) -> Result<(), Fail>
+    requires { IsBlankOf blank 2 L.name L.parts }
 {
     let clock = SetClock::new(rt.alloc(), Moment(5))?;
     let task = MockTask::new(&rt)?;
@@ -72,13 +72,8 @@ fn lends<R: Runtime, L: Ledger>(rt: R, blank: Blank) -> Result<(), Fail>
 fn is_shared<T: Send + Sync>(_: &T) {}
 
 /// The two first approvals of a pool of two leave no room for a connection that is added.
-fn keeps_room<R: Runtime, L: Ledger + Send + Sync + 'static>(
-    rt: R,
-    blank: Blank,
-) -> Result<(), Fail>
-    requires name { blank.name ≡ L.name }
-    requires parts { blank.parts ≡ L.parts }
-    requires two { blank.parts ≡ 2 }
+fn keeps_room<R: Runtime, L: PoolLedger>(rt: R, blank: Blank) -> Result<(), Fail>
+    requires { IsBlankOf blank 2 L.name L.parts }
 {
     let clock = SetClock::new(rt.alloc(), Moment(5))?;
     let pool: NumberPool<R, L> = Builder::new()

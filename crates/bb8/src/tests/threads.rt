@@ -1,12 +1,11 @@
 //! Two threads that get and return through one pool.
-ghost use Rattle.std.specs.Prelude.{◌≡◌};
+ghost use Rattle.bb8.specs.Ledgers.{IsBlankOf};
 
 use super::{NumberPool, Runtime, SlowManager};
-use crate::get::StartGet;
-use crate::{Builder, Memory, Moment, SetClock};
+use crate::{Builder, Memory, Moment, PoolCalls, PoolLedger, SetClock};
 use futures::executor::block_on;
 use std::marker::Brand;
-use std::sync::ledger::{Blank, Ledger};
+use std::sync::ledger::Blank;
 use std::test::Fail;
 use std::thread::{Threads, join};
 
@@ -18,16 +17,16 @@ trait Job {
 
 /// A thousand gets of the connection 7, each of which is given back before the next.
 #[derive(Drop)]
-struct Rounds<'a, R: Runtime, L: Ledger> {
+struct Rounds<'a, R: Runtime, L: PoolLedger> {
     pool: &'a NumberPool<R, L>,
     rt: R,
 }
 
-impl<R: Runtime, L: Ledger> Job for Rounds<'_, R, L> {
+impl<R: Runtime, L: PoolLedger> Job for Rounds<'_, R, L> {
     /// Whether each get was served.
     fn run(&self) -> bool {
         for _ in 0..1000u32 {
-            match block_on(&self.rt, self.pool.start_get()) {
+            match block_on(&self.rt, PoolCalls::get(self.pool)) {
                 Ok(Ok(guard)) if *guard == 7 => {}
                 _ => return false,
             }
@@ -42,13 +41,8 @@ fn twice(rt: &impl Threads, job: &(impl Job + Sync)) -> (bool, bool) {
 }
 
 /// Two threads share a pool of one connection. Each get is served in its turn, and at the end the connection is idle.
-fn shares_one<R: Runtime + Threads, L: Ledger + Send + Sync + 'static>(
-    rt: R,
-    blank: Blank,
-) -> Result<(), Memory>
-    requires name { blank.name ≡ L.name }
-    requires parts { blank.parts ≡ L.parts }
-    requires one { blank.parts ≡ 1 }
+fn shares_one<R: Runtime + Threads, L: PoolLedger>(rt: R, blank: Blank) -> Result<(), Memory>
+    requires { IsBlankOf blank 1 L.name L.parts }
 {
     let clock = SetClock::new(rt.alloc(), Moment(0))?;
     let pool: NumberPool<R, L> = Builder::new()

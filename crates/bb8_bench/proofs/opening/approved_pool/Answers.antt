@@ -1,9 +1,9 @@
 use Rattle.std.proofs.Common.{ℕ, ◌≡◌, ◌∙◌, true, false, Some, ltb, refl, ap, sym, arith}
 use Rattle.std.proofs.lemmas.Bool.Decides.{nat_tests}
-use Rattle.bb8_core.specs.Ledger.{Ledger}
+use Rattle.bb8_ledger.specs.Ledger.{Ledger}
 use Rattle.bb8_core.specs.Run.{opening}
-use Rattle.bb8_core.specs.Settings.{is_lawful, default_settings}
-use Rattle.bb8_core.proofs.ShownRecords.{and_right}
+use Rattle.bb8_types.specs.Settings.{is_lawful, default_settings}
+use Rattle.bb8_types.proofs.Places.{and_right}
 use Rattle.bb8_bench.specs.Lines.{upto}
 use Rattle.bb8_bench.proofs.Stepped.{filled}
 use Rattle.bb8_bench.proofs.opening.approved_pool.Goals as goal

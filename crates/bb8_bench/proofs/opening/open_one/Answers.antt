@@ -1,11 +1,11 @@
 use Rattle.std.proofs.Common.{ℕ, ◌∙◌, List, ◌++◌, ◌∷◌, [], refl, sym, ap, Option, Some, subst}
 use Rattle.std.specs.Option.{option_map}
-use Rattle.bb8_core.specs.declared.keys.Key.{Key}
-use Rattle.bb8_core.specs.Table.{Allowed}
-use Rattle.bb8_core.specs.Acts.{Claim, Opened}
-use Rattle.bb8_core.specs.Answers as answers
-use Rattle.bb8_core.specs.Ledger.{Ledger, Later}
-use Rattle.bb8_core.specs.Outcomes.{notified_of}
+use Rattle.bb8_tables.specs.declared.keys.Key.{Key}
+use Rattle.bb8_ledger.specs.Table.{Allowed}
+use Rattle.bb8_ledger.specs.Acts.{Claim, Opened}
+use Rattle.bb8_ledger.specs.Answers as answers
+use Rattle.bb8_ledger.specs.Ledger.{Ledger, Later}
+use Rattle.bb8_tables.specs.Keys.{notified_of}
 use Rattle.bb8_core.specs.Shown.{Shown, Means}
 use Rattle.bb8_bench.proofs.Stepped.{serving, claimed, entered, opened_fits}
 use Rattle.bb8_bench.proofs.opening.open_one.Goals as goal

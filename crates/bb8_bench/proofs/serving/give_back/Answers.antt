@@ -1,5 +1,5 @@
 use Rattle.bb8_bench.proofs.Stepped.{kept_idle, put_back_fits}
-use Rattle.bb8_core.specs.Outcomes.{notified_of}
+use Rattle.bb8_tables.specs.Keys.{notified_of}
 use Rattle.bb8_bench.proofs.serving.give_back.Goals as goal
 
 pub put_back-requires : goal.put_back-requires

@@ -1,7 +1,7 @@
 use Rattle.std.proofs.Common.{◌≡◌, true, sym, subst, ◌∙◌}
 use Rattle.bb8_core.specs.declared.events.Act.{Act as Named}
 use Rattle.bb8_core.specs.Run.{act_of}
-use Rattle.bb8_core.specs.Table.{takes}
+use Rattle.bb8_ledger.specs.Table.{takes}
 use Rattle.bb8_core.proofs.Runs.{unfit_now}
 use Rattle.bb8_core.proofs.replay.apply.Goals as goal
 

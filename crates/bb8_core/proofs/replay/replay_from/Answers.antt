@@ -3,10 +3,10 @@ use Rattle.std.proofs.lemmas.List.{take_all, take_more}
 use Rattle.bb8_core.specs.declared.events.Act.TheVariants as acts
 use Rattle.bb8_core.specs.declared.events.Answer.{Answer}
 use Rattle.bb8_core.specs.declared.events.Event.{Event}
-use Rattle.bb8_core.specs.Ledger.{Ledger, Later}
-use Rattle.bb8_core.specs.Limits.{KeepsLimits, KeepsLaws, KeepsPromises}
+use Rattle.bb8_ledger.specs.Ledger.{Ledger, Later}
+use Rattle.bb8_ledger.specs.Limits.{KeepsLimits, KeepsLaws, KeepsPromises}
 use Rattle.bb8_core.specs.Run.{IsRun, act_of, answer_of, opening}
-use Rattle.bb8_core.proofs.Laws.{keeps_limits, keeps_laws, keeps_promises}
+use Rattle.bb8_ledger.proofs.Laws.{keeps_limits, keeps_laws, keeps_promises}
 use Rattle.bb8_core.proofs.Runs.{run_more, run_legal, run_after, run_length}
 use Rattle.bb8_core.proofs.replay.replay_from.Goals as goal
 

@@ -1,5 +1,5 @@
 use Rattle.std.proofs.Common.{false, ap, ◌∙◌}
-use Rattle.bb8_core.specs.Settings.{is_lawful}
+use Rattle.bb8_types.specs.Settings.{is_lawful}
 use Rattle.bb8.proofs.Sections.{none_out}
 use Rattle.bb8.proofs.builder.Builder.build_unchecked.Goals as goal
 

@@ -1,4 +1,4 @@
-use Rattle.bb8_core.specs.Acts as acts
+use Rattle.bb8_ledger.specs.Acts as acts
 use Rattle.bb8.proofs.Sections.{kept_size, unmoved}
 use Rattle.bb8.proofs.locked.Locked.claim.Goals as goal
 

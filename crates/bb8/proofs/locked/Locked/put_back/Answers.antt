@@ -1,5 +1,5 @@
 use Rattle.std.proofs.Common.{arith, ◌+◌, ◌≡◌}
-use Rattle.bb8_core.specs.Acts as acts
+use Rattle.bb8_ledger.specs.Acts as acts
 use Rattle.bb8_core.specs.Parts.{out_of}
 use Rattle.bb8.proofs.Sections.{kept_size, fitting, unfit_step, come_back, put_it_back}
 use Rattle.bb8.proofs.locked.Locked.put_back.Goals as goal

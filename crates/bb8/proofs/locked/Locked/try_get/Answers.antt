@@ -1,5 +1,5 @@
 use Rattle.std.proofs.Common.{◌≤◌, arith}
-use Rattle.bb8_core.specs.Acts as acts
+use Rattle.bb8_ledger.specs.Acts as acts
 use Rattle.bb8.proofs.Sections.{kept_size, unfit_step, unmoved, has_part, gone_out}
 use Rattle.bb8.proofs.locked.Locked.try_get.Goals as goal
 

@@ -1,29 +1,29 @@
 use Rattle.std.proofs.Common.{◌<◌, sym, ◌∙◌, refl, arith}
-use Rattle.bb8_core.specs.Acts as acts
-use Rattle.bb8_core.specs.Answers as answers
+use Rattle.bb8_ledger.specs.Acts as acts
+use Rattle.bb8_ledger.specs.Answers as answers
 use Rattle.bb8_core.specs.Pool.{view_of}
-use Rattle.bb8_core.proofs.Laws.{shown_fits}
+use Rattle.bb8_core.proofs.Fitting.{shown_fits}
 use Rattle.bb8_core.proofs.Steps.{meets_begun, meets_memory, meets_exhausted, left, used_up, led, at_view, fits_view}
 use Rattle.bb8_core.proofs.internals.PoolInternals.begin.Goals as goal
 
 pub invariant_of-self : goal.invariant_of-self
-invariant_of-self g c = led (view_of c.self.inside) _ c.args.at.0 acts.Begin answers.Exhausted c.self.invariant
-    (meets_exhausted (view_of c.self.inside) c.args.at.0 c.max-self-inside.result (fits_view acts.Begin c.self.view_is c.requires) c.max-self-inside.ensures (used_up c.self.inside.gets.next (sym c.has_number.ensures ∙ c.if-not-has_number.true)))
+invariant_of-self g c = led c.args.at.0 acts.Begin answers.Exhausted c.self.invariant
+    (meets_exhausted c.args.at.0 (fits_view acts.Begin c.self.view_is c.requires) c.max-self-inside.ensures (used_up c.self.inside.gets.next (sym c.has_number.ensures ∙ c.if-not-has_number.true)))
 
 pub returns-then-not-has_number : goal.returns-then-not-has_number
-returns-then-not-has_number g c = at_view _ c.args.at.0 acts.Begin answers.Exhausted c.self.view_is
-    (meets_exhausted (view_of c.self.inside) c.args.at.0 c.max-self-inside.result (fits_view acts.Begin c.self.view_is c.requires) c.max-self-inside.ensures (used_up c.self.inside.gets.next (sym c.has_number.ensures ∙ c.if-not-has_number.true)))
+returns-then-not-has_number g c = at_view c.args.at.0 acts.Begin answers.Exhausted c.self.view_is
+    (meets_exhausted c.args.at.0 (fits_view acts.Begin c.self.view_is c.requires) c.max-self-inside.ensures (used_up c.self.inside.gets.next (sym c.has_number.ensures ∙ c.if-not-has_number.true)))
 
 pub begin-requires : goal.begin-requires
 begin-requires g c = left c.self.inside.gets.next (sym c.has_number.ensures ∙ c.if-not-has_number.false)
 
 pub invariant_of-self-in-None : goal.invariant_of-self-in-None
-invariant_of-self-in-None g c = led (view_of c.self.inside) _ c.args.at.0 acts.Begin answers.Memory c.self.invariant
-    (meets_memory (view_of c.self.inside) c.args.at.0 c.max-self-inside.result c.begin.new.self (fits_view acts.Begin c.self.view_is c.requires) c.max-self-inside.ensures (left c.self.inside.gets.next (sym c.has_number.ensures ∙ c.if-not-has_number.false)) c.in-None.ensures.none.0 c.in-None.ensures.none.1)
+invariant_of-self-in-None g c = led c.args.at.0 acts.Begin answers.Memory c.self.invariant
+    (meets_memory c.args.at.0 (fits_view acts.Begin c.self.view_is c.requires) c.max-self-inside.ensures (left c.self.inside.gets.next (sym c.has_number.ensures ∙ c.if-not-has_number.false)) c.in-None.ensures.none.0 c.in-None.ensures.none.1)
 
 pub returns-in-None : goal.returns-in-None
-returns-in-None g c = at_view _ c.args.at.0 acts.Begin answers.Memory c.self.view_is
-    (meets_memory (view_of c.self.inside) c.args.at.0 c.max-self-inside.result c.begin.new.self (fits_view acts.Begin c.self.view_is c.requires) c.max-self-inside.ensures (left c.self.inside.gets.next (sym c.has_number.ensures ∙ c.if-not-has_number.false)) c.in-None.ensures.none.0 c.in-None.ensures.none.1)
+returns-in-None g c = at_view c.args.at.0 acts.Begin answers.Memory c.self.view_is
+    (meets_memory c.args.at.0 (fits_view acts.Begin c.self.view_is c.requires) c.max-self-inside.ensures (left c.self.inside.gets.next (sym c.has_number.ensures ∙ c.if-not-has_number.false)) c.in-None.ensures.none.0 c.in-None.ensures.none.1)
 
 pub overflow_add-self : goal.overflow_add-self
 overflow_add-self g c =
@@ -32,9 +32,9 @@ overflow_add-self g c =
     omega (arith, fit.started_few)
 
 pub invariant_of-self-in-Some : goal.invariant_of-self-in-Some
-invariant_of-self-in-Some g c = led (view_of c.self.inside) _ c.args.at.0 acts.Begin (answers.Begun c.in-Some.get.number) c.self.invariant
-    (meets_begun (view_of c.self.inside) c.args.at.0 c.in-Some.get.number c.max-self-inside.result c.begin.new.self _ (fits_view acts.Begin c.self.view_is c.requires) c.max-self-inside.ensures (left c.self.inside.gets.next (sym c.has_number.ensures ∙ c.if-not-has_number.false)) c.in-Some.ensures.some.1 refl c.in-Some.ensures.some.0)
+invariant_of-self-in-Some g c = led c.args.at.0 acts.Begin (answers.Begun c.in-Some.get.number) c.self.invariant
+    (meets_begun c.args.at.0 (fits_view acts.Begin c.self.view_is c.requires) c.max-self-inside.ensures (left c.self.inside.gets.next (sym c.has_number.ensures ∙ c.if-not-has_number.false)) c.in-Some.ensures.some.1 refl c.in-Some.ensures.some.0)
 
 pub returns-in-Some : goal.returns-in-Some
-returns-in-Some g c = at_view _ c.args.at.0 acts.Begin (answers.Begun c.in-Some.get.number) c.self.view_is
-    (meets_begun (view_of c.self.inside) c.args.at.0 c.in-Some.get.number c.max-self-inside.result c.begin.new.self _ (fits_view acts.Begin c.self.view_is c.requires) c.max-self-inside.ensures (left c.self.inside.gets.next (sym c.has_number.ensures ∙ c.if-not-has_number.false)) c.in-Some.ensures.some.1 refl c.in-Some.ensures.some.0)
+returns-in-Some g c = at_view c.args.at.0 acts.Begin (answers.Begun c.in-Some.get.number) c.self.view_is
+    (meets_begun c.args.at.0 (fits_view acts.Begin c.self.view_is c.requires) c.max-self-inside.ensures (left c.self.inside.gets.next (sym c.has_number.ensures ∙ c.if-not-has_number.false)) c.in-Some.ensures.some.1 refl c.in-Some.ensures.some.0)

@@ -1,7 +1,7 @@
 use Rattle.std.proofs.Common.{ap, ◌∙◌, sym}
-use Rattle.bb8_core.specs.Ledger.{stands, is_claimed}
+use Rattle.bb8_types.specs.Places.{stands, is_claimed}
 use Rattle.bb8_core.specs.Pool.{view_of}
-use Rattle.bb8_core.proofs.Facts.{shown_record}
+use Rattle.bb8_core.proofs.Fitting.{shown_record}
 use Rattle.bb8_core.proofs.internals.PoolInternals.fits_opened.Goals as goal
 
 pub returns : goal.returns

@@ -1,7 +1,6 @@
 use Rattle.std.proofs.Common.{◌≡◌, Bool, false, ◌&&◌, not, ap, ◌∙◌, sym}
 use Rattle.std.specs.FinMap.{get}
-use Rattle.bb8_core.specs.Ledger.{gets_stand}
-use Rattle.bb8_core.specs.Table.{is_trying}
+use Rattle.bb8_types.specs.Places.{gets_stand, is_trying}
 use Rattle.bb8_core.specs.Shown.{Shown}
 use Rattle.bb8_core.proofs.Runs.{takes_try}
 use Rattle.bb8_core.proofs.internals.PoolInternals.fits_try.Goals as goal

@@ -1,10 +1,10 @@
 use Rattle.std.proofs.Common.{◌≡◌, ◌≤◌, Some, None, sym, refl, ◌∙◌, arith, subst, IsSome}
-use Rattle.bb8_core.specs.Acts as acts
-use Rattle.bb8_core.specs.Answers as answers
-use Rattle.bb8_core.specs.Outcomes.{reason_of, notified_of}
+use Rattle.bb8_ledger.specs.Acts as acts
+use Rattle.bb8_ledger.specs.Answers as answers
+use Rattle.bb8_core.specs.Outcomes.{reason_of}
+use Rattle.bb8_tables.specs.Keys.{notified_of}
 use Rattle.bb8_core.specs.Pool.{view_of}
-use Rattle.bb8_core.proofs.Laws.{shown_fits}
-use Rattle.bb8_core.proofs.Fitting.{holds_none, fit_give_up, alive_shown}
+use Rattle.bb8_core.proofs.Fitting.{shown_fits, holds_none, fit_give_up, alive_shown}
 use Rattle.bb8_core.proofs.Steps.{meets_given_up, led, at_view, fits_view}
 use Rattle.bb8_core.proofs.internals.PoolInternals.give_up.Goals as goal
 
@@ -29,9 +29,9 @@ give_up-requires-clause-cancelled g c =
     omega (arith, fit.answered, fit.started_few, c.end.ensures.numbers)
 
 pub invariant_of-self : goal.invariant_of-self
-invariant_of-self g c = led (view_of c.self.inside) _ c.args.at.0 (acts.GiveUp c.args.get.number (reason_of c.args.reason) c.args.held c.args.broken) (answers.GaveUp (notified_of c.hand_on.result)) c.self.invariant
-    (meets_given_up (view_of c.self.inside) c.args.at.0 c.args.get.number c.args.reason c.args.held c.args.broken c.max-now.result c.getting-getting.result c.first_wait.result c.end.new.self c.is_notified.result (notified_of c.hand_on.result) c.hand_on.new.gets c.self.inside.counters c.give_up.new.self c.in-None.is (fits_view (acts.GiveUp c.args.get.number (reason_of c.args.reason) c.args.held c.args.broken) c.self.view_is c.requires) c.max-now.ensures c.getting-getting.ensures c.end.ensures.state c.is_notified.ensures c.hand_on.ensures.value c.hand_on.ensures.state refl c.first_wait.ensures c.give_up.ensures.timed_out c.give_up.ensures.cancelled)
+invariant_of-self g c = led c.args.at.0 (acts.GiveUp c.args.get.number (reason_of c.args.reason) c.args.held c.args.broken) (answers.GaveUp (notified_of c.hand_on.result)) c.self.invariant
+    (meets_given_up c.args.at.0 c.args.broken c.in-None.is (fits_view (acts.GiveUp c.args.get.number (reason_of c.args.reason) c.args.held c.args.broken) c.self.view_is c.requires) c.max-now.ensures c.getting-getting.ensures c.end.ensures.state c.is_notified.ensures c.hand_on.ensures.value c.hand_on.ensures.state refl c.first_wait.ensures c.give_up.ensures.timed_out c.give_up.ensures.cancelled)
 
 pub returns : goal.returns
-returns g c = at_view _ c.args.at.0 (acts.GiveUp c.args.get.number (reason_of c.args.reason) c.args.held c.args.broken) (answers.GaveUp (notified_of c.hand_on.result)) c.self.view_is
-    (meets_given_up (view_of c.self.inside) c.args.at.0 c.args.get.number c.args.reason c.args.held c.args.broken c.max-now.result c.getting-getting.result c.first_wait.result c.end.new.self c.is_notified.result (notified_of c.hand_on.result) c.hand_on.new.gets c.self.inside.counters c.give_up.new.self c.in-None.is (fits_view (acts.GiveUp c.args.get.number (reason_of c.args.reason) c.args.held c.args.broken) c.self.view_is c.requires) c.max-now.ensures c.getting-getting.ensures c.end.ensures.state c.is_notified.ensures c.hand_on.ensures.value c.hand_on.ensures.state refl c.first_wait.ensures c.give_up.ensures.timed_out c.give_up.ensures.cancelled)
+returns g c = at_view c.args.at.0 (acts.GiveUp c.args.get.number (reason_of c.args.reason) c.args.held c.args.broken) (answers.GaveUp (notified_of c.hand_on.result)) c.self.view_is
+    (meets_given_up c.args.at.0 c.args.broken c.in-None.is (fits_view (acts.GiveUp c.args.get.number (reason_of c.args.reason) c.args.held c.args.broken) c.self.view_is c.requires) c.max-now.ensures c.getting-getting.ensures c.end.ensures.state c.is_notified.ensures c.hand_on.ensures.value c.hand_on.ensures.state refl c.first_wait.ensures c.give_up.ensures.timed_out c.give_up.ensures.cancelled)

@@ -1,15 +1,24 @@
-use Rattle.std.proofs.Common.{ap}
-use Rattle.bb8_core.specs.Settings.{Settings}
+use Rattle.futures.specs.declared.task.Poll.TheVariants.{Ready, Pending}
 use Rattle.bb8.specs.Linked.{Answers}
 use Rattle.bb8.proofs.get.future.GetFutureFuture.poll.Goals as goal
+
+pub returns-in-Pending-clause-table : goal.returns-in-Pending-clause-table
+returns-in-Pending-clause-table g c = rw c.yield_now.ensures.pending (Pending, c.in-Pending.ensures.table, tt)
 
 pub returns-in-Pending-clause-same : goal.returns-in-Pending-clause-same
 returns-in-Pending-clause-same g c =
     rw c.yield_now.ensures.pending
     (λ x gives.
-    let rest = rw (ap (λ (s : Settings). s.connection_timeout) c.in-Pending.ensures.settings) at gives.1 in
-    (gives.0, Answers.later _ _ _ c.in-Pending.ensures.table rest, gives.2))
+    let rest = rw c.in-Pending.ensures.pool at gives.1 in
+    let made = rw c.in-Pending.ensures.pool at gives.2 in
+    (gives.0, Answers.later _ _ _ c.in-Pending.ensures.table rest, made))
+
+pub returns-clause-table : goal.returns-clause-table
+returns-clause-table g c =
+    let made = rw c.in-Ready.ensures.pool at c.guarded.ensures in
+    (Ready c.in-Ready.answer, c.in-Ready.ensures.table, made)
 
 pub returns-clause-value : goal.returns-clause-value
 returns-clause-value g c =
-    (c.in-Ready.answer, Answers.now _ _ _ c.in-Ready.ensures.table, c.guarded.ensures)
+    let made = rw c.in-Ready.ensures.pool at c.guarded.ensures in
+    (c.in-Ready.answer, Answers.now _ _ _ c.in-Ready.ensures.table, made)

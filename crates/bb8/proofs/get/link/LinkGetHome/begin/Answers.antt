@@ -1,9 +1,0 @@
-use Rattle.std.proofs.Common.{ap, sym, ◌∙◌}
-use Rattle.bb8_core.specs.Acts as acts
-use Rattle.bb8_core.specs.Outcomes.{begin_told}
-use Rattle.bb8.specs.Sections.{answered}
-use Rattle.bb8.proofs.Links.{on_some}
-use Rattle.bb8.proofs.get.link.LinkGetHome.begin.Goals as goal
-
-pub returns : goal.returns
-returns g c = on_some _ _ _ c.args.at.0 acts.Begin (answered begin_told c.begin.result) _ _ (ap (λ k. k.core) (c.deref.ensures ∙ sym c.deref_mut.ensures.value)) c.limits.ensures.limits c.begin.ensures c.begin_step.ensures tt

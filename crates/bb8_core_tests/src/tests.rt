@@ -1,0 +1,85 @@
+//! Tests against values from outside: rows that were worked out by hand, each call once, and refused memory.
+
+use bb8_core::api::{Config, State, Statistics};
+use bb8_core::internals::Grant;
+use bb8_core::replay::{Act, Answer};
+use std::time::Duration;
+
+mod refusals;
+mod replays;
+mod steps;
+mod surface;
+mod waiters;
+
+/// One second in nanoseconds.
+const SECOND: u64 = 1_000_000_000;
+
+/// What happens at a moment in nanoseconds, and what it is to be answered.
+type Line = (u64, Act, Answer);
+
+/// A grant that withholds nothing.
+fn granted(first: u64, count: u32) -> Grant {
+    Grant {
+        first,
+        count,
+        withheld: 0,
+    }
+}
+
+/// A pool that checks no connection before it hands it out.
+fn unchecked(max_size: u32, min_idle: Option<u32>) -> Config {
+    Config {
+        max_size,
+        min_idle,
+        test_on_check_out: false,
+        ..Config::default()
+    }
+}
+
+/// A pool of so many connections, of which so many gets were served at once and so many connections were opened.
+fn served(connections: u32, idle_connections: u32, gets: u64, created: u64) -> State {
+    let statistics = Statistics {
+        get_started: gets,
+        get_direct: gets,
+        get_waited: 0,
+        get_timed_out: 0,
+        get_cancelled: 0,
+        get_wait_time: Duration::from_nanos(0),
+        connections_created: created,
+        connections_closed_broken: 0,
+        connections_closed_invalid: 0,
+        connections_closed_max_lifetime: 0,
+        connections_closed_idle_timeout: 0,
+    };
+    State {
+        connections,
+        idle_connections,
+        statistics,
+    }
+}
+
+/// The first worked script: three gets are served beside two idle connections, and come back.
+fn first_script() -> [Line; 20] {
+    [
+        (0, Act::Fill(false), Answer::Granted(granted(0, 2))),
+        (0, Act::Claim, Answer::Claimed(Some(0))),
+        (0, Act::Claim, Answer::Claimed(Some(1))),
+        (0, Act::Opened(0), Answer::Entered(0, None)),
+        (0, Act::Opened(1), Answer::Entered(1, None)),
+        (0, Act::Begin, Answer::Begun(0)),
+        (0, Act::Try(0), Answer::Served(0, granted(2, 1))),
+        (0, Act::Claim, Answer::Claimed(Some(2))),
+        (0, Act::Opened(2), Answer::Entered(2, None)),
+        (0, Act::Begin, Answer::Begun(1)),
+        (0, Act::Try(1), Answer::Served(1, granted(3, 1))),
+        (0, Act::Claim, Answer::Claimed(Some(3))),
+        (0, Act::Opened(3), Answer::Entered(3, None)),
+        (0, Act::Begin, Answer::Begun(2)),
+        (0, Act::Try(2), Answer::Served(2, granted(4, 1))),
+        (0, Act::Claim, Answer::Claimed(Some(4))),
+        (0, Act::Opened(4), Answer::Entered(4, None)),
+        (0, Act::PutBack(0, false), Answer::Kept(0, None)),
+        (0, Act::PutBack(1, false), Answer::Kept(1, None)),
+        (0, Act::PutBack(2, false), Answer::Kept(2, None)),
+    ]
+}

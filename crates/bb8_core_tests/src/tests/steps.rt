@@ -1,0 +1,397 @@
+//! Each step of the bare state, over connections that are no numbers.
+ghost use Rattle.std.specs.Prelude.{◌≡◌, ℕ, true};
+ghost use Rattle.bb8_ledger.specs.Ledger.{Ledger};
+ghost use Rattle.bb8_core.specs.Run.{act_with};
+ghost use Rattle.bb8_core.specs.Shown.{Means};
+ghost use Rattle.bb8_ledger.specs.Table.{IsLegal, takes};
+
+use super::{granted, served, unchecked};
+use bb8_core::api::{Config, Moment, QueueStrategy};
+use bb8_core::internals::{
+    AddAnswer, BeginAnswer, ClaimAnswer, GetKey, GiveUpAnswer, Grant, Key, OpenedAnswer,
+    PoolInternals, PutBackAnswer, Reason, TryAnswer,
+};
+use bb8_core::replay::{Act, Event};
+use std::alloc::Global;
+use std::process::Abort;
+use std::test::Fail;
+
+pub(super) const NOW: Moment = Moment(0);
+
+/// A connection that is handed on and never copied.
+#[derive(Debug, PartialEq, Eq, Drop)]
+pub(super) enum Link {
+    Red,
+    Green,
+    Blue,
+    White,
+    Black,
+}
+
+/// Asserts that what happens fits.
+fn assert_fits(rt: &impl Abort, pool: &PoolInternals<Link>, act: Act)
+    ensures { (conn : ℕ → Link) (l : Ledger Link) → IsLegal l → Means l pool.now → takes l (act_with conn l act) ≡ true }
+{
+    if !pool.fits(Event { at: NOW, act }) {
+        panic!(rt; "{act:?} does not fit");
+    }
+}
+
+/// Begins a get that fits.
+pub(super) fn begin(rt: &impl Abort, pool: &mut PoolInternals<Link>) -> BeginAnswer {
+    assert_fits(rt, pool, Act::Begin);
+    pool.begin(NOW)
+}
+
+/// Has a get try that may.
+pub(super) fn try_get(
+    rt: &impl Abort,
+    pool: &mut PoolInternals<Link>,
+    get: GetKey,
+) -> TryAnswer<Link> {
+    assert_fits(rt, pool, Act::Try(get.number));
+    pool.try_get(NOW, get)
+}
+
+/// Has a get be served.
+pub(super) fn served_by(
+    rt: &impl Abort,
+    pool: &mut PoolInternals<Link>,
+    get: GetKey,
+) -> (Key, Link, Grant) {
+    match try_get(rt, pool, get) {
+        TryAnswer::Served(key, conn, grant) => (key, conn, grant),
+        TryAnswer::Waiting(_) => panic!(rt; "the get waits"),
+    }
+}
+
+/// Gives up a get that is alive.
+pub(super) fn give_up(
+    rt: &impl Abort,
+    pool: &mut PoolInternals<Link>,
+    get: GetKey,
+    reason: Reason,
+) -> GiveUpAnswer {
+    assert_fits(rt, pool, Act::GiveUp(get.number, reason, false));
+    pool.give_up(NOW, get, reason, None, false)
+}
+
+/// Gives back a connection that a guard holds.
+pub(super) fn put_back(
+    rt: &impl Abort,
+    pool: &mut PoolInternals<Link>,
+    key: Key,
+    conn: Link,
+    broken: bool,
+) -> PutBackAnswer<Link> {
+    assert_fits(rt, pool, Act::PutBack(key.number, broken));
+    pool.put_back(NOW, key, conn, broken)
+}
+
+/// Hands in what a claimed approval brought.
+pub(super) fn opened(
+    rt: &impl Abort,
+    pool: &mut PoolInternals<Link>,
+    key: Key,
+    conn: Link,
+) -> OpenedAnswer<Link> {
+    assert_fits(rt, pool, Act::Opened(key.number));
+    pool.opened(NOW, key, conn)
+}
+
+/// Adds a connection while a handle is alive.
+pub(super) fn add(
+    rt: &impl Abort,
+    pool: &mut PoolInternals<Link>,
+    conn: Link,
+    broken: bool,
+) -> AddAnswer<Link> {
+    assert_fits(rt, pool, Act::Add(broken));
+    pool.add(NOW, conn, broken)
+}
+
+/// Begins a get and serves it.
+fn take(rt: &impl Abort, pool: &mut PoolInternals<Link>) -> (Key, Link) {
+    let BeginAnswer::Begun(get) = begin(rt, pool) else {
+        panic!(rt; "no get began");
+    };
+    let (key, conn, _) = served_by(rt, pool, get);
+    (key, conn)
+}
+
+/// Opens the connection of an approval, by its number.
+fn enter(rt: &impl Abort, pool: &mut PoolInternals<Link>, number: u64, conn: Link) {
+    let key = pool.find(number).expect(rt, "the approval stands");
+    let OpenedAnswer::Entered(None) = opened(rt, pool, key, conn) else {
+        panic!(rt; "{number} did not become idle, or notified somebody");
+    };
+}
+
+/// A pool of three connections, opened in the order 1, 0, 2.
+fn three_idle(
+    rt: &impl Abort,
+    alloc: Global,
+    queue_strategy: QueueStrategy,
+) -> PoolInternals<Link> {
+    let config = Config {
+        queue_strategy,
+        ..unchecked(3, Some(3))
+    };
+    assert!(rt; config.is_lawful());
+    let mut pool = PoolInternals::new(alloc, config);
+    assert_eq!(rt; pool.fill(NOW, true), granted(0, 3));
+    enter(rt, &mut pool, 1, Link::Green);
+    enter(rt, &mut pool, 0, Link::Red);
+    enter(rt, &mut pool, 2, Link::Blue);
+    pool
+}
+
+/// Asserts which connection is served next.
+fn assert_served(rt: &impl Abort, pool: &mut PoolInternals<Link>, number: u64, conn: Link) {
+    let (key, served) = take(rt, pool);
+    assert_eq!(rt; key.number, number);
+    assert_eq!(rt; served, conn);
+}
+
+#[test]
+fn oldest_entry_is_served_first(rt: HostRuntime) {
+    let mut pool = three_idle(&rt, rt.alloc(), QueueStrategy::Fifo);
+    let (key, conn) = take(&rt, &mut pool);
+    assert_eq!(rt; (key.number, &conn), (1, &Link::Green));
+    let PutBackAnswer::Kept(None) = put_back(&rt, &mut pool, key, conn, false) else {
+        panic!(rt; "it was closed");
+    };
+    assert_served(&rt, &mut pool, 0, Link::Red);
+    assert_served(&rt, &mut pool, 2, Link::Blue);
+    assert_served(&rt, &mut pool, 1, Link::Green);
+    assert_eq!(rt; pool.state(NOW), served(3, 0, 4, 3));
+}
+
+#[test]
+fn newest_entry_is_served_first(rt: HostRuntime) {
+    let mut pool = three_idle(&rt, rt.alloc(), QueueStrategy::Lifo);
+    let (key, conn) = take(&rt, &mut pool);
+    assert_eq!(rt; (key.number, &conn), (2, &Link::Blue));
+    assert_served(&rt, &mut pool, 0, Link::Red);
+    let PutBackAnswer::Kept(None) = put_back(&rt, &mut pool, key, conn, false) else {
+        panic!(rt; "it was closed");
+    };
+    assert_served(&rt, &mut pool, 2, Link::Blue);
+    assert_served(&rt, &mut pool, 1, Link::Green);
+    assert_eq!(rt; pool.state(NOW), served(3, 0, 4, 3));
+}
+
+/// A pool whose numbers begin at 7 and whose gets begin at 40, with one approval that was claimed.
+fn one_claimed(rt: &impl Abort, alloc: Global) -> (PoolInternals<Link>, Key) {
+    let config = unchecked(2, Some(1));
+    assert!(rt; config.is_lawful());
+    let mut pool = PoolInternals::starting_at(alloc, config, 7, 40);
+    assert_eq!(rt; pool.state(NOW), served(0, 0, 0, 0));
+    assert!(rt; pool.find(7).is_none());
+    assert_eq!(rt; pool.fill(NOW, false), granted(7, 1));
+    let ClaimAnswer::Claimed(Some(approval)) = pool.claim(NOW) else {
+        panic!(rt; "nothing was claimed");
+    };
+    assert_eq!(rt; approval.number, 7);
+    let ClaimAnswer::Claimed(None) = pool.claim(NOW) else {
+        panic!(rt; "it was claimed twice");
+    };
+    (pool, approval)
+}
+
+#[test]
+fn succeeds_each_step_once(rt: HostRuntime) {
+    let (mut pool, approval) = one_claimed(&rt, rt.alloc());
+    let OpenedAnswer::Entered(None) = opened(&rt, &mut pool, approval, Link::Blue) else {
+        panic!(rt; "it did not become idle, or notified somebody");
+    };
+    let BeginAnswer::Begun(get) = begin(&rt, &mut pool) else {
+        panic!(rt; "no get began");
+    };
+    assert_eq!(rt; get.number, 40);
+    assert_eq!(rt; pool.find_get(40).map(|key| key.number), Some(40));
+    let (key, conn, grant) = served_by(&rt, &mut pool, get);
+    assert_eq!(rt; (key.number, &conn, grant), (7, &Link::Blue, granted(8, 1)));
+    assert!(rt; pool.find_get(40).is_none());
+    assert_eq!(rt; pool.find(7).map(|key| key.number), Some(7));
+    let PutBackAnswer::Closed(closed, grant, None) = put_back(&rt, &mut pool, key, conn, true)
+    else {
+        panic!(rt; "it was kept, or somebody was notified");
+    };
+    assert_eq!(rt; (&closed, grant), (&Link::Blue, granted(9, 0)));
+    assert!(rt; pool.find(7).is_none());
+    pool.limits();
+    let mut wanted = served(0, 0, 1, 1);
+    wanted.statistics.connections_closed_broken = 1;
+    assert_eq!(rt; pool.state(NOW), wanted);
+}
+
+/// Whether these three fit: a try of the get 0, the opening and the return of the number 0.
+fn fitting(pool: &PoolInternals<Link>) -> (bool, bool, bool) {
+    (
+        pool.fits(Event {
+            at: NOW,
+            act: Act::Try(0),
+        }),
+        pool.fits(Event {
+            at: NOW,
+            act: Act::Opened(0),
+        }),
+        pool.fits(Event {
+            at: NOW,
+            act: Act::PutBack(0, true),
+        }),
+    )
+}
+
+#[test]
+fn what_fits_changes_step_by_step(rt: HostRuntime) {
+    let config = unchecked(1, Some(1));
+    assert!(rt; config.is_lawful());
+    let mut pool = PoolInternals::new(rt.alloc(), config);
+    for act in [Act::Begin, Act::Fill(true), Act::Claim, Act::State] {
+        assert!(rt; pool.fits(Event { at: NOW, act }), "{act:?}");
+    }
+    assert_eq!(rt; fitting(&pool), (false, false, false));
+    assert_eq!(rt; pool.fill(NOW, false), granted(0, 1));
+    assert_eq!(rt; fitting(&pool), (false, false, false));
+    let ClaimAnswer::Claimed(Some(approval)) = pool.claim(NOW) else {
+        panic!(rt; "nothing was claimed");
+    };
+    assert_eq!(rt; fitting(&pool), (false, true, false));
+    let OpenedAnswer::Entered(None) = opened(&rt, &mut pool, approval, Link::Red) else {
+        panic!(rt; "it did not become idle, or notified somebody");
+    };
+    assert_eq!(rt; fitting(&pool), (false, false, false));
+    let BeginAnswer::Begun(get) = begin(&rt, &mut pool) else {
+        panic!(rt; "no get began");
+    };
+    assert_eq!(rt; fitting(&pool), (true, false, false));
+    let (key, conn, _) = served_by(&rt, &mut pool, get);
+    assert_eq!(rt; fitting(&pool), (false, false, true));
+    let PutBackAnswer::Kept(None) = put_back(&rt, &mut pool, key, conn, false) else {
+        panic!(rt; "it was closed");
+    };
+    assert_eq!(rt; fitting(&pool), (false, false, false));
+}
+
+/// Two connections are out, of which the later one stands where an ended one stood.
+fn place_used_again(rt: &impl Abort, alloc: Global) -> (PoolInternals<Link>, Key, Key, Key) {
+    let config = unchecked(2, Some(1));
+    assert!(rt; config.is_lawful());
+    let mut pool = PoolInternals::new(alloc, config);
+    assert_eq!(rt; pool.fill(NOW, true), granted(0, 1));
+    enter(rt, &mut pool, 0, Link::Red);
+    let (ended, conn) = take(rt, &mut pool);
+    assert_eq!(rt; (ended.number, &conn), (0, &Link::Red));
+    let ClaimAnswer::Claimed(Some(_)) = pool.claim(NOW) else {
+        panic!(rt; "nothing was claimed");
+    };
+    enter(rt, &mut pool, 1, Link::Green);
+    let PutBackAnswer::Closed(Link::Red, _, None) = put_back(rt, &mut pool, ended, conn, true)
+    else {
+        panic!(rt; "it was kept, or another one was handed back");
+    };
+    let (first, _) = take(rt, &mut pool);
+    let ClaimAnswer::Claimed(Some(_)) = pool.claim(NOW) else {
+        panic!(rt; "nothing was claimed");
+    };
+    enter(rt, &mut pool, 2, Link::Blue);
+    let (later, _) = take(rt, &mut pool);
+    (pool, ended, first, later)
+}
+
+#[test]
+fn stale_keys_name_the_right_record(rt: HostRuntime) {
+    let (mut pool, ended, first, later) = place_used_again(&rt, rt.alloc());
+    assert_eq!(rt; (ended.number, first.number, later.number), (0, 1, 2));
+    assert_eq!(rt; later.place, ended.place);
+    assert_eq!(rt; fitting(&pool), (false, false, false));
+    assert!(rt; pool.find(0).is_none());
+    let stale = Key {
+        number: 1,
+        place: ended.place,
+    };
+    let PutBackAnswer::Kept(None) = put_back(&rt, &mut pool, stale, Link::Green, false) else {
+        panic!(rt; "it was closed");
+    };
+    assert_served(&rt, &mut pool, 1, Link::Green);
+    let nowhere = Key {
+        number: 2,
+        place: 1_000,
+    };
+    let PutBackAnswer::Closed(Link::Blue, _, None) = put_back(
+        &rt,
+        &mut pool,
+        nowhere,
+        Link::Blue,
+        true,
+    ) else {
+        panic!(rt; "it was kept, or another one was handed back");
+    };
+    assert!(rt; pool.find(2).is_none());
+    assert_eq!(rt; pool.find(1).map(|key| key.number), Some(1));
+}
+
+#[test]
+fn stale_keys_name_the_right_get(rt: HostRuntime) {
+    let mut pool = three_idle(&rt, rt.alloc(), QueueStrategy::Fifo);
+    let _ = take(&rt, &mut pool);
+    for wanted in [1, 2] {
+        let BeginAnswer::Begun(get) = begin(&rt, &mut pool) else {
+            panic!(rt; "no get began");
+        };
+        assert_eq!(rt; get.number, wanted);
+    }
+    let taken_over = pool.find_get(1).expect(&rt, "the get is alive").place;
+    let stale = GetKey {
+        number: 2,
+        place: taken_over,
+    };
+    let (key, conn, _) = served_by(&rt, &mut pool, stale);
+    assert_eq!(rt; (key.number, conn), (0, Link::Red));
+    assert!(rt; pool.find_get(0).is_none());
+    assert_eq!(rt; pool.find_get(1).map(|get| get.number), Some(1));
+    assert!(rt; pool.find_get(2).is_none());
+}
+
+#[test]
+fn adding_is_refused_in_order(rt: HostRuntime) {
+    let config = unchecked(2, Some(0));
+    assert!(rt; config.is_lawful());
+    let mut pool = PoolInternals::new(rt.alloc(), config);
+    let AddAnswer::Broken(Link::Blue) = add(&rt, &mut pool, Link::Blue, true) else {
+        panic!(rt; "a broken connection was added, or another one was handed back");
+    };
+    let AddAnswer::Added(first, None) = add(&rt, &mut pool, Link::Red, false) else {
+        panic!(rt; "it was refused, or notified somebody");
+    };
+    let AddAnswer::Added(second, None) = add(&rt, &mut pool, Link::Green, false) else {
+        panic!(rt; "it was refused, or notified somebody");
+    };
+    let AddAnswer::NoCapacity(Link::White) = add(&rt, &mut pool, Link::White, false) else {
+        panic!(rt; "a third one was added, or another one was handed back");
+    };
+    let AddAnswer::Broken(Link::Black) = add(&rt, &mut pool, Link::Black, true) else {
+        panic!(rt; "it was not told as broken first");
+    };
+    assert_eq!(rt; (first.number, second.number), (0, 1));
+    assert_eq!(rt; pool.state(NOW), served(2, 2, 0, 0));
+    assert_served(&rt, &mut pool, 0, Link::Red);
+    assert_served(&rt, &mut pool, 1, Link::Green);
+}
+
+#[test]
+fn adding_needs_a_number(rt: HostRuntime) {
+    let config = unchecked(2, None);
+    assert!(rt; config.is_lawful());
+    let mut pool = PoolInternals::starting_at(rt.alloc(), config, u64::MAX - 1, 0);
+    let AddAnswer::Added(last, None) = add(&rt, &mut pool, Link::Red, false) else {
+        panic!(rt; "it was refused, or notified somebody");
+    };
+    assert_eq!(rt; last.number, 18_446_744_073_709_551_614);
+    let AddAnswer::Withheld(Link::Green) = add(&rt, &mut pool, Link::Green, false) else {
+        panic!(rt; "a number was given twice, or another connection was handed back");
+    };
+    assert_eq!(rt; pool.state(NOW), served(1, 1, 0, 0));
+}

@@ -1,0 +1,439 @@
+-- What one event of a legal ledger does to the records and to the gets, by the place that it moves from and the place that it moves to.
+use Rattle.std.proofs.Common.{◌≡◌, ◌≢◌, ◌⊎◌, ℕ, zero, suc, ◌+◌, ◌*◌, ◌<◌, ◌≤◌, max, Bool, ◌&&◌, ◌||◌, true, false, cond, eqb, List, [], ◌∷◌, ◌++◌, length, map, Option, Some, None, slice_get, option_map, option_and_then, refl, sym, ap, ◌∙◌, ⊎_elim, inl, inr, arith, subst, length-append, ne_eqb, MatchBool}
+use Rattle.std.proofs.lemmas.List.{length-map}
+use Rattle.bb8_types.specs.declared.standing.Place.{Place}
+use Rattle.bb8_types.specs.declared.standing.Place.TheVariants.{Unclaimed, Claimed, Idle, Held, Guarded}
+use Rattle.bb8_types.specs.declared.standing.Standing.{Standing}
+use Rattle.bb8_types.specs.Settings.{Settings, is_lawful}
+use Rattle.bb8_ledger.specs.Acts.{Act, Leave}
+use Rattle.bb8_ledger.specs.Answers.{Answer, Left, Unfit}
+use Rattle.bb8_types.specs.Numbered.{Numbered, at as at_number, update, tally, one, standing_at, ended, ended_where}
+use Rattle.bb8_ledger.specs.Ledger.{Ledger, Opening, Later, Start, start, position, latest, handles, records, conns, approved, idle_count, out, idle, idle_at, first_idle, unclaimed, record_of, tally_places, conns_of, approved_of, idle_of, put, entry, enters, approval, approve}
+use Rattle.bb8_types.specs.Places.{first_place, stands, is_conn, is_approval, is_idle, is_out, is_unclaimed, is_claimed, is_guarded, is_held_by, is_reaped, idles_out, lives_out, is_left, placed}
+use Rattle.bb8_ledger.specs.Table.{Row, IsLegal, Allowed, takes, fits, is_brought, with_record, reaped}
+use Rattle.bb8_types.proofs.Places.{standing_is, unclaimed_is, claimed_is, guarded_is, idle_is, and_right}
+use Rattle.bb8_types.proofs.Numbered as numbered
+use Rattle.bb8_ledger.proofs.Facts.{conns_split}
+use Rattle.bb8_ledger.proofs.Waiters.{tally_update}
+
+-- which way a test went, with what it says
+pub by_fit : (b : Bool) (P Q G : Type 0) → MatchBool b P Q → (b ≡ true → P → G) → (b ≡ false → Q → G) → G
+by_fit true P Q G m fit misfit = fit refl m
+by_fit false P Q G m fit misfit = misfit refl m
+
+module _ {R : Type 0} where
+  -- an element that is not changed
+  pub at_other : (rs : List R) (n k q : ℕ) (f : R → R) → q ≢ k → at_number n (update n k f rs) q ≡ at_number n rs q
+  at_other [] n k q f h = refl
+  at_other (r ∷ rs) n k q f h =
+      ⊎_elim
+      (λ (t : (eqb q n ≡ true) × (q ≡ n)).
+      let no : eqb k n ≡ false = ne_eqb k n (λ s. omega arith) in
+      rw (t.0, no) refl)
+      (λ (t : (eqb q n ≡ false) × (q ≢ n)). rw t.0 (at_other rs (suc n) k q f h))
+      (numbered.same_or_not q n)
+
+  -- the element that is changed
+  pub at_same : (rs : List R) (n k : ℕ) (f : R → R) → at_number n (update n k f rs) k ≡ option_map f (at_number n rs k)
+  at_same [] n k f = refl
+  at_same (r ∷ rs) n k f = pick (eqb k n) (at_same rs (suc n) k f)
+    where
+      pick : (b : Bool) → at_number (suc n) (update (suc n) k f rs) k ≡ option_map f (at_number (suc n) rs k) → cond b (Some (cond b (f r) r)) (at_number (suc n) (update (suc n) k f rs) k) ≡ option_map f (cond b (Some r) (at_number (suc n) rs k))
+      pick true ih = refl
+      pick false ih = ih
+
+  -- each element is changed
+  pub at_map : (rs : List R) (n q : ℕ) (f : R → R) → at_number n (map f rs) q ≡ option_map f (at_number n rs q)
+  at_map [] n q f = refl
+  at_map (r ∷ rs) n q f = pick (eqb q n) (at_map rs (suc n) q f)
+    where
+      pick : (b : Bool) → at_number (suc n) (map f rs) q ≡ option_map f (at_number (suc n) rs q) → cond b (Some (f r)) (at_number (suc n) (map f rs) q) ≡ option_map f (cond b (Some r) (at_number (suc n) rs q))
+      pick true ih = refl
+      pick false ih = ih
+
+module _ {C : Type 0} where
+  -- ---- one event after another
+
+  -- an event that is allowed did not fit, or it fits and its answer is one of the table; so nothing below asks which events the code takes
+  pub each_allowed : (G : Answer → Type 0) (l : Ledger C) (at : ℕ) (e : Act C) (a : Answer) → Allowed l at e a → G Unfit → (fits l e ≡ true → Row l at e a → G a) → G a
+  each_allowed G l at e a allowed unfit row = by_fit (takes l e) _ _ (G a) allowed (λ t r. row (and_right (is_brought l e) _ t).1 r) (λ t is. subst G (sym is) unfit)
+
+  -- what holds at the beginning, where an event does not fit, and by each row, holds of each legal ledger
+  pub each_legal : (P : Ledger C → Type 0) → ((s : Start) → is_lawful s.config ≡ true → P (Opening s)) → ((l : Ledger C) (at : ℕ) (e : Act C) → P l → P (Later l at e Unfit)) → ((l : Ledger C) (at : ℕ) (e : Act C) (a : Answer) → IsLegal l → fits l e ≡ true → Row l at e a → P l → P (Later l at e a)) → (l : Ledger C) → IsLegal l → P l
+  each_legal P opening unfit row (Opening s) legal = opening s legal
+  each_legal P opening unfit row (Later l at e a) legal =
+      let before : P l = each_legal P opening unfit row l legal.0 in
+      each_allowed (λ b. P (Later l at e b)) l at e a legal.1 (unfit l at e before) (λ f r. row l at e a legal.0 f r before)
+
+  -- ---- where a record stands
+
+  -- whether a place passes, where there is one
+  abbrev pub passes : (Place C → Bool) → Option (Place C) → Bool
+  passes test None = false
+  passes test (Some p) = test p
+
+  -- the place of a record that has not ended
+  abbrev pub place_of : Option (Standing C) → Option (Place C)
+  place_of None = None
+  place_of (Some s) = Some s.place
+
+  stands_by_place : (test : Place C → Bool) (o : Option (Standing C)) → stands test o ≡ passes test (place_of o)
+  stands_by_place test None = refl
+  stands_by_place test (Some s) = refl
+
+  -- the record k, which stood at a place, is changed, and then stands at another or has ended
+  pub record Turns (l : Ledger C) (k : ℕ) (p : Place C) (q : Option (Place C)) (f : Numbered (Standing C) → Numbered (Standing C)) : Type 0 where
+    pub standing : Standing C
+    pub was : record_of l k ≡ Some standing
+    pub from : standing.place ≡ p
+    pub to : (r : Numbered (Standing C)) → r.standing ≡ Some standing → place_of (f r).standing ≡ q
+
+  -- a record in another place
+  pub to_place : (p : Place C) (s : Standing C) (r : Numbered (Standing C)) → r.standing ≡ Some s → place_of (put p r).standing ≡ Some p
+  to_place p s r e = ap (λ (o : Option (Standing C)). place_of (option_map (placed p) o)) e
+
+  -- a record that a test tells the place of
+  turns_by : (l : Ledger C) (k : ℕ) (test : Place C → Bool) (p : Place C) (q : Option (Place C)) (f : Numbered (Standing C) → Numbered (Standing C)) → ((x : Place C) → test x ≡ true → x ≡ p) → stands test (record_of l k) ≡ true → ((s : Standing C) (r : Numbered (Standing C)) → r.standing ≡ Some s → place_of (f r).standing ≡ q) → Turns l k p q f
+  turns_by l k test p q f only h to =
+      let s = standing_is test (record_of l k) h in
+      record { standing = s.0; was = s.1; from = only s.0.place s.2; to = to s.0 }
+
+  held_by : (g : ℕ) (p : Place C) → is_held_by g p ≡ true → p ≡ Held g
+  held_by g Unclaimed h = cc
+  held_by g Claimed h = cc
+  held_by g (Idle c) h = cc
+  held_by g (Held m) h = ap (λ (n : ℕ). Held n) (sym (numbered.tested g m h))
+  held_by g Guarded h = cc
+
+  pub held_turns : (l : Ledger C) (g k : ℕ) (q : Option (Place C)) (f : Numbered (Standing C) → Numbered (Standing C)) → stands (is_held_by g) (record_of l k) ≡ true → ((s : Standing C) (r : Numbered (Standing C)) → r.standing ≡ Some s → place_of (f r).standing ≡ q) → Turns l k (Held g) q f
+  held_turns l g k q f = turns_by l k (is_held_by g) (Held g) q f (held_by g)
+
+  -- the idle record that goes out
+  pub idle_turns : (l : Ledger C) (k : ℕ) (p : Place C) → first_idle l ≡ Some k → (c : C) × Turns l k (Idle c) (Some p) (put p)
+  idle_turns l k p first =
+      let m : (r : Numbered (Standing C)) × (at_number (start l).first (records l) k ≡ Some r) × (q : ℕ) × (q < position l) × (idle_at q r ≡ true) = numbered.in_order_member idle_at (records l) (start l).first (position l) (first_place (start l).config.queue_strategy (length (idle l))) k first in
+      let was = standing_is is_idle m.0.standing (and_right (stands is_idle m.0.standing) _ m.4).0 in
+      let place = idle_is was.0.place was.2 in
+      (place.0, record { standing = was.0; was = ap (option_and_then (λ (r : Numbered (Standing C)). r.standing)) m.1 ∙ was.1; from = place.1; to = to_place p was.0 })
+
+  -- the approval that is claimed
+  pub unclaimed_turns : (l : Ledger C) (k : ℕ) → slice_get (unclaimed l) 0 ≡ Some k → Turns l k Unclaimed (Some Claimed) (put Claimed)
+  unclaimed_turns l k first =
+      let m : (r : Numbered (Standing C)) × (at_number (start l).first (records l) k ≡ Some r) × (stands is_unclaimed r.standing ≡ true) = numbered.numbers_member (λ r. stands is_unclaimed r.standing) (records l) (start l).first 0 k first in
+      turns_by l k is_unclaimed Unclaimed (Some Claimed) (put Claimed) unclaimed_is (ap (λ (o : Option (Numbered (Standing C))). stands is_unclaimed (option_and_then (λ (r : Numbered (Standing C)). r.standing) o)) m.1 ∙ m.2) (to_place Claimed)
+
+  -- a guard gives its connection back, which is kept, or closed
+  pub returns_turn : (l : Ledger C) (at k : ℕ) (c : C) → stands is_guarded (record_of l k) ≡ true → Turns l k Guarded (Some (Idle c)) (enters c (max (latest l) at) (position l))
+  returns_turn l at k c f = turns_by l k is_guarded Guarded (Some (Idle c)) (enters c (max (latest l) at) (position l)) guarded_is f (λ s r e. refl)
+
+  pub closes_turn : (l : Ledger C) (k : ℕ) → stands is_guarded (record_of l k) ≡ true → Turns l k Guarded None ended
+  closes_turn l k f = turns_by l k is_guarded Guarded None ended guarded_is f (λ s r e. refl)
+
+  -- a claimed approval brings its connection, or ends
+  pub opens_turn : (l : Ledger C) (at k : ℕ) (c : C) → stands is_claimed (record_of l k) ≡ true → Turns l k Claimed (Some (Idle c)) (λ r. entry c (max (latest l) at) (max (latest l) at) (position l))
+  opens_turn l at k c f = turns_by l k is_claimed Claimed (Some (Idle c)) (λ r. entry c (max (latest l) at) (max (latest l) at) (position l)) claimed_is f (λ s r e. refl)
+
+  pub ends_turn : (l : Ledger C) (k : ℕ) → stands is_claimed (record_of l k) ≡ true → Turns l k Claimed None ended
+  ends_turn l k f = turns_by l k is_claimed Claimed None ended claimed_is f (λ s r e. refl)
+
+  -- ---- how many stand where
+
+  -- The records once one has moved from a place, or from nowhere, to a place, or to nowhere; more of them, and so many new approvals.
+  pub record Sized (l : Ledger C) (p q : Option (Place C)) (more n : ℕ) (rs : List (Numbered (Standing C))) : Type 0 where
+    pub conns_are : conns_of rs + one (passes is_conn p) ≡ conns l + one (passes is_conn q)
+    pub approved_are : approved_of rs + one (passes is_approval p) ≡ approved l + one (passes is_approval q) + n
+    pub idle_are : idle_of rs + one (passes is_idle p) ≡ idle_count l + one (passes is_idle q)
+    pub out_are : tally_places is_out rs + one (passes is_out p) ≡ out l + one (passes is_out q)
+    pub many_are : length rs ≡ length (records l) + more + n
+
+  pub stays_sized : (l : Ledger C) → Sized l None None 0 0 (records l)
+  stays_sized l = record { conns_are = refl; approved_are = omega arith; idle_are = refl; out_are = refl; many_are = omega arith }
+
+  turned_tally : (l : Ledger C) (k : ℕ) (p : Place C) (q : Option (Place C)) (f : Numbered (Standing C) → Numbered (Standing C)) (test : Place C → Bool) → Turns l k p q f → tally_places test (with_record l k f) + one (test p) ≡ tally_places test (records l) + one (passes test q)
+  turned_tally l k p q f test t =
+      let m = numbered.standing_found (records l) (start l).first k t.standing t.was in
+      let moved : tally_places test (with_record l k f) + one (stands test m.0.standing) ≡ tally_places test (records l) + one (stands test (f m.0).standing) = tally_update (λ (r : Numbered (Standing C)). stands test r.standing) (records l) (start l).first k f m.0 m.1 in
+      let from : one (stands test m.0.standing) ≡ one (test p) = ap one (ap (stands test) m.2 ∙ ap test t.from) in
+      let to : one (stands test (f m.0).standing) ≡ one (passes test q) = ap one (stands_by_place test (f m.0).standing ∙ ap (passes test) (t.to m.0 m.2)) in
+      omega arith
+
+  pub turned_sized : {l : Ledger C} {k : ℕ} {p : Place C} {q : Option (Place C)} {f : Numbered (Standing C) → Numbered (Standing C)} → Turns l k p q f → Sized l (Some p) q 0 0 (with_record l k f)
+  turned_sized {l} {k} {p} {q} {f} t = record {
+    conns_are = turned_tally l k p q f is_conn t;
+    approved_are = omega (arith, turned_tally l k p q f is_approval t);
+    idle_are = turned_tally l k p q f is_idle t;
+    out_are = turned_tally l k p q f is_out t;
+    many_are = omega (arith, numbered.length-update (records l) (start l).first k f);
+  }
+
+  added_tally : (l : Ledger C) (p : Place C) (new : Numbered (Standing C)) (test : Place C → Bool) → place_of new.standing ≡ Some p → tally_places test (records l ++ new ∷ []) ≡ tally_places test (records l) + one (test p)
+  added_tally l p new test is =
+      let new_is : one (stands test new.standing) ≡ one (test p) = ap one (stands_by_place test new.standing ∙ ap (passes test) is) in
+      let more : tally_places test (records l ++ new ∷ []) ≡ tally_places test (records l) + one (stands test new.standing) = numbered.tally-append (λ (r : Numbered (Standing C)). stands test r.standing) (records l) new in
+      omega arith
+
+  added_sized : (l : Ledger C) (p : Place C) (new : Numbered (Standing C)) → place_of new.standing ≡ Some p → Sized l None (Some p) 1 0 (records l ++ new ∷ [])
+  added_sized l p new is = record {
+    conns_are = omega (arith, added_tally l p new is_conn is);
+    approved_are = omega (arith, added_tally l p new is_approval is);
+    idle_are = omega (arith, added_tally l p new is_idle is);
+    out_are = omega (arith, added_tally l p new is_out is);
+    many_are = omega (arith, length-append (records l) (new ∷ []));
+  }
+
+  -- a connection is added
+  pub adds_sized : (l : Ledger C) (at : ℕ) (c : C) → Sized l None (Some (Idle c)) 1 0 (records l ++ entry c (max (latest l) at) (max (latest l) at) (position l) ∷ [])
+  adds_sized l at c = added_sized l (Idle c) (entry c (max (latest l) at) (max (latest l) at) (position l)) refl
+
+  -- approvals are made: each is an approval, claimed or not
+  approve_tally : (test : Place C → Bool) (z : ℕ) (claimed : Bool) (n : ℕ) (rs : List (Numbered (Standing C))) → one (stands test (approval {C = C} claimed).standing) ≡ z → tally_places test (approve claimed n rs) ≡ tally_places test rs + z * n
+  approve_tally test z claimed zero rs is = omega arith
+  approve_tally test z claimed (suc n) rs is =
+      let e : tally_places test (approve claimed n rs ++ approval claimed ∷ []) ≡ tally_places test (approve claimed n rs) + one (stands test (approval {C = C} claimed).standing) = numbered.tally-append (λ (r : Numbered (Standing C)). stands test r.standing) (approve claimed n rs) (approval claimed) in
+      let ih : tally_places test (approve claimed n rs) ≡ tally_places test rs + z * n = approve_tally test z claimed n rs is in
+      grind (arith, e, ih, is)
+
+  pub length-approve : (claimed : Bool) (n : ℕ) (rs : List (Numbered (Standing C))) → length (approve claimed n rs) ≡ length rs + n
+  length-approve claimed zero rs = omega arith
+  length-approve claimed (suc n) rs = let ih : length (approve claimed n rs) ≡ length rs + n = length-approve claimed n rs in omega (arith, length-append (approve claimed n rs) (approval claimed ∷ []))
+
+  pub conns-approve : (claimed : Bool) (n : ℕ) (rs : List (Numbered (Standing C))) → conns_of (approve claimed n rs) ≡ conns_of rs
+  conns-approve true n rs = omega (arith, approve_tally is_conn 0 true n rs refl)
+  conns-approve false n rs = omega (arith, approve_tally is_conn 0 false n rs refl)
+
+  pub approved-approve : (claimed : Bool) (n : ℕ) (rs : List (Numbered (Standing C))) → approved_of (approve claimed n rs) ≡ approved_of rs + n
+  approved-approve true n rs = omega (arith, approve_tally is_approval 1 true n rs refl)
+  approved-approve false n rs = omega (arith, approve_tally is_approval 1 false n rs refl)
+
+  pub idle-approve : (claimed : Bool) (n : ℕ) (rs : List (Numbered (Standing C))) → idle_of (approve claimed n rs) ≡ idle_of rs
+  idle-approve true n rs = omega (arith, approve_tally is_idle 0 true n rs refl)
+  idle-approve false n rs = omega (arith, approve_tally is_idle 0 false n rs refl)
+
+  out-approve : (claimed : Bool) (n : ℕ) (rs : List (Numbered (Standing C))) → tally_places is_out (approve claimed n rs) ≡ tally_places is_out rs
+  out-approve true n rs = omega (arith, approve_tally is_out 0 true n rs refl)
+  out-approve false n rs = omega (arith, approve_tally is_out 0 false n rs refl)
+
+  pub granted_sized : {l : Ledger C} {p q : Option (Place C)} {more : ℕ} {rs : List (Numbered (Standing C))} (claimed : Bool) (n : ℕ) → Sized l p q more 0 rs → Sized l p q more n (approve claimed n rs)
+  granted_sized {rs = rs} claimed n s = record {
+    conns_are = omega (arith, conns-approve claimed n rs, s.conns_are);
+    approved_are = omega (arith, approved-approve claimed n rs, s.approved_are);
+    idle_are = omega (arith, idle-approve claimed n rs, s.idle_are);
+    out_are = omega (arith, out-approve claimed n rs, s.out_are);
+    many_are = omega (arith, length-approve claimed n rs, s.many_are);
+  }
+
+  -- ---- who holds what
+
+  -- a test that only connections pass that are out
+  pub record IsOut (test : Place C → Bool) : Type 0 where
+    pub unclaimed : test Unclaimed ≡ false
+    pub claimed : test Claimed ≡ false
+    pub idle : (c : C) → test (Idle c) ≡ false
+
+  pub guarded_out : IsOut is_guarded
+  guarded_out = record { unclaimed = refl; claimed = refl; idle = λ c. refl }
+
+  pub held_out : (g : ℕ) → IsOut (is_held_by g)
+  held_out g = record { unclaimed = refl; claimed = refl; idle = λ c. refl }
+
+  -- whether the record j passes, of these records
+  abbrev pub tests : (Place C → Bool) → ℕ → List (Numbered (Standing C)) → ℕ → Bool
+  tests test first rs j = stands test (standing_at first rs j)
+
+  -- one record has moved
+  pub turned_tests : {l : Ledger C} {k : ℕ} {p : Place C} {q : Option (Place C)} {f : Numbered (Standing C) → Numbered (Standing C)} (test : Place C → Bool) (j : ℕ) → Turns l k p q f → tests test (start l).first (with_record l k f) j ≡ cond (eqb j k) (passes test q) (tests test (start l).first (records l) j)
+  turned_tests {l} {k} {p} {q} {f} test j t =
+      ⊎_elim
+      (λ (s : (eqb j k ≡ true) × (j ≡ k)). subst (λ (i : ℕ). tests test (start l).first (with_record l k f) i ≡ passes test q) (sym s.1) same ∙ sym (ap (λ (b : Bool). cond b (passes test q) (tests test (start l).first (records l) j)) s.0))
+      (λ (s : (eqb j k ≡ false) × (j ≢ k)). ap (λ (o : Option (Numbered (Standing C))). stands test (option_and_then (λ (r : Numbered (Standing C)). r.standing) o)) (at_other (records l) (start l).first k j f s.1) ∙ sym (ap (λ (b : Bool). cond b (passes test q) (tests test (start l).first (records l) j)) s.0))
+      (numbered.same_or_not j k)
+    where
+      same : tests test (start l).first (with_record l k f) k ≡ passes test q
+      same =
+          let m = numbered.standing_found (records l) (start l).first k t.standing t.was in
+          ap (λ (o : Option (Numbered (Standing C))). stands test (option_and_then (λ (r : Numbered (Standing C)). r.standing) o)) (at_same (records l) (start l).first k f ∙ ap (option_map f) m.1)
+          ∙ stands_by_place test (f m.0).standing
+          ∙ ap (passes test) (t.to m.0 m.2)
+
+  -- what passed where it stood
+  pub turned_from : {l : Ledger C} {k : ℕ} {p : Place C} {q : Option (Place C)} {f : Numbered (Standing C) → Numbered (Standing C)} (test : Place C → Bool) → Turns l k p q f → tests test (start l).first (records l) k ≡ test p
+  turned_from test t = ap (stands test) t.was ∙ ap test t.from
+
+  -- a new record that does not pass
+  pub added_tests : (test : Place C → Bool) (first j : ℕ) (new : Numbered (Standing C)) (rs : List (Numbered (Standing C))) → stands test new.standing ≡ false → tests test first (rs ++ new ∷ []) j ≡ tests test first rs j
+  added_tests test first j new rs off =
+      ap (λ (o : Option (Numbered (Standing C))). stands test (option_and_then (λ (r : Numbered (Standing C)). r.standing) o)) (numbered.at-append rs new first j)
+      ∙ ⊎_elim
+      (λ (t : (eqb j (first + length rs) ≡ true) × (j ≡ first + length rs)).
+      let none : at_number first rs j ≡ None = numbered.at-past rs first j (omega arith) in
+      ap (λ (b : Bool). stands test (option_and_then (λ (r : Numbered (Standing C)). r.standing) (cond b (Some new) (at_number first rs j)))) t.0 ∙ off ∙ sym (ap (λ (o : Option (Numbered (Standing C))). stands test (option_and_then (λ (r : Numbered (Standing C)). r.standing) o)) none))
+      (λ (t : (eqb j (first + length rs) ≡ false) × (j ≢ first + length rs)). ap (λ (b : Bool). stands test (option_and_then (λ (r : Numbered (Standing C)). r.standing) (cond b (Some new) (at_number first rs j)))) t.0)
+      (numbered.same_or_not j (first + length rs))
+
+  pub granted_tests : (test : Place C → Bool) (first j : ℕ) (claimed : Bool) (n : ℕ) (rs : List (Numbered (Standing C))) → IsOut test → tests test first (approve claimed n rs) j ≡ tests test first rs j
+  granted_tests test first j claimed zero rs o = refl
+  granted_tests test first j claimed (suc n) rs o = added_tests test first j (approval claimed) (approve claimed n rs) (off claimed) ∙ granted_tests test first j claimed n rs o
+    where
+      off : (b : Bool) → stands test (approval {C = C} b).standing ≡ false
+      off true = o.claimed
+      off false = o.unclaimed
+
+  -- a record that passes does not end
+  spared : (test : Place C → Bool) (sweep : Option (Standing C) → Bool) → ((o : Option (Standing C)) → stands test o ≡ true → sweep o ≡ false) → (r : Numbered (Standing C)) → stands test (ended_where sweep r).standing ≡ stands test r.standing
+  spared test sweep spares r = pick (sweep r.standing) refl (stands test r.standing) refl
+    where
+      pick : (b : Bool) → sweep r.standing ≡ b → (d : Bool) → stands test r.standing ≡ d → stands test (cond b (ended r) r).standing ≡ stands test r.standing
+      pick false e d g = refl
+      pick true e false g = sym g
+      pick true e true g = absurd (let clash : true ≡ false = sym e ∙ spares r.standing g in cc)
+
+  -- records end, of which none passed
+  pub swept_tests : (test : Place C → Bool) (sweep : Option (Standing C) → Bool) (first j : ℕ) (rs : List (Numbered (Standing C))) → ((o : Option (Standing C)) → stands test o ≡ true → sweep o ≡ false) → tests test first (map (ended_where sweep) rs) j ≡ tests test first rs j
+  swept_tests test sweep first j rs spares = ap (λ (o : Option (Numbered (Standing C))). stands test (option_and_then (λ (r : Numbered (Standing C)). r.standing) o)) (at_map rs first j (ended_where sweep)) ∙ each (at_number first rs j)
+    where
+      each : (o : Option (Numbered (Standing C))) → stands test (option_and_then (λ (r : Numbered (Standing C)). r.standing) (option_map (ended_where sweep) o)) ≡ stands test (option_and_then (λ (r : Numbered (Standing C)). r.standing) o)
+      each None = refl
+      each (Some r) = spared test sweep spares r
+
+  -- what a reap ends is idle
+  pub reap_spares : (test : Place C → Bool) → ((c : C) → test (Idle c) ≡ false) → (config : Settings) (now : ℕ) (o : Option (Standing C)) → stands test o ≡ true → is_reaped config now o ≡ false
+  reap_spares test off config now None h = refl
+  reap_spares test off config now (Some s) h = go s.place h _ _
+    where
+      go : (p : Place C) → test p ≡ true → (a b : Bool) → ((is_idle p && a) || (is_idle p && b)) ≡ false
+      go Unclaimed e a b = refl
+      go Claimed e a b = refl
+      go (Idle c) e a b = absurd (let clash : false ≡ true = sym (off c) ∙ e in cc)
+      go (Held g) e a b = refl
+      go Guarded e a b = refl
+
+  -- what the last leave ends is idle or unclaimed
+  pub leave_spares : (test : Place C → Bool) → ((c : C) → test (Idle c) ≡ false) → test Unclaimed ≡ false → (o : Option (Standing C)) → stands test o ≡ true → is_left o ≡ false
+  leave_spares test off unclaimed None h = refl
+  leave_spares test off unclaimed (Some s) h = go s.place h
+    where
+      go : (p : Place C) → test p ≡ true → (is_idle p || is_unclaimed p) ≡ false
+      go Unclaimed e = absurd (let clash : false ≡ true = sym unclaimed ∙ e in cc)
+      go Claimed e = refl
+      go (Idle c) e = absurd (let clash : false ≡ true = sym (off c) ∙ e in cc)
+      go (Held g) e = refl
+      go Guarded e = refl
+
+  -- the tally of what is out changes with no sweep
+  pub swept_out : (test : Place C → Bool) (sweep : Option (Standing C) → Bool) → ((o : Option (Standing C)) → stands test o ≡ true → sweep o ≡ false) → (rs : List (Numbered (Standing C))) → tally_places test (map (ended_where sweep) rs) ≡ tally_places test rs
+  swept_out test sweep spares [] = refl
+  swept_out test sweep spares (r ∷ rs) =
+      let ih : tally_places test (map (ended_where sweep) rs) ≡ tally_places test rs = swept_out test sweep spares rs in
+      let here : one (stands test (ended_where sweep r).standing) ≡ one (stands test r.standing) = ap one (spared test sweep spares r) in
+      omega arith
+
+  -- a reap ends so many idle connections: by_life of them and more
+  reap_idle : (config : Settings) (now : ℕ) (rs : List (Numbered (Standing C))) → (idle_of (map (ended_where (is_reaped config now)) rs) + tally (λ r. is_reaped config now r.standing) rs ≡ idle_of rs) × (tally (λ r. lives_out config now r.standing) rs ≤ tally (λ r. is_reaped config now r.standing) rs)
+  reap_idle config now [] = (refl, omega arith)
+  reap_idle config now (r ∷ rs) =
+      let ih = reap_idle config now rs in
+      let here : one (stands is_idle (ended_where (is_reaped config now) r).standing) + one (is_reaped config now r.standing) ≡ one (stands is_idle r.standing) = pick (is_reaped config now r.standing) refl in
+      let less : one (lives_out config now r.standing) ≤ one (is_reaped config now r.standing) = few (idles_out config now r.standing) (lives_out config now r.standing) in
+      (omega (arith, ih.0), omega (arith, ih.1))
+    where
+      few : (a b : Bool) → one b ≤ one (a || b)
+      few true true = omega arith
+      few true false = omega arith
+      few false true = omega arith
+      few false false = omega arith
+
+      off : (b : Bool) → stands is_idle r.standing ≡ b → is_reaped config now r.standing ≡ true → one b ≡ 1
+      off true e h = refl
+      off false e h = absurd (let clash : false ≡ true = sym (idle_reaped r.standing e) ∙ h in cc)
+        where
+          idle_reaped : (o : Option (Standing C)) → stands is_idle o ≡ false → is_reaped config now o ≡ false
+          idle_reaped None e = refl
+          idle_reaped (Some s) e = go (is_idle s.place) e _ _
+            where
+              go : (i : Bool) → i ≡ false → (a b : Bool) → ((i && a) || (i && b)) ≡ false
+              go true e a b = cc
+              go false e a b = refl
+
+      pick : (b : Bool) → is_reaped config now r.standing ≡ b → one (stands is_idle (cond b (ended r) r).standing) + one b ≡ one (stands is_idle r.standing)
+      pick true e = sym (off (stands is_idle r.standing) refl e)
+      pick false e = omega arith
+
+  -- The sizes after a reap.
+  pub record AreReaped (l : Ledger C) (closed life n : ℕ) (rs : List (Numbered (Standing C))) : Type 0 where
+    pub conns_are : conns_of rs + closed ≡ conns l
+    pub approved_are : approved_of rs ≡ approved l + n
+    pub idle_are : idle_of rs + closed ≡ idle_count l
+    pub out_are : tally_places is_out rs ≡ out l
+    pub many_are : length rs ≡ length (records l) + n
+    pub few : life ≤ closed
+
+  pub reaped_sized : (l : Ledger C) (at : ℕ) → AreReaped l (reaped is_reaped l at) (reaped lives_out l at) 0 (map (ended_where (is_reaped (start l).config (max (latest l) at))) (records l))
+  reaped_sized l at =
+      let sweep : Option (Standing C) → Bool = is_reaped (start l).config (max (latest l) at) in
+      let rs : List (Numbered (Standing C)) = map (ended_where sweep) (records l) in
+      let idle_is = reap_idle (start l).config (max (latest l) at) (records l) in
+      let out_is : tally_places is_out rs ≡ out l = swept_out is_out sweep (reap_spares is_out (λ c. refl) (start l).config (max (latest l) at)) (records l) in
+      let approved_is : approved_of rs ≡ approved l = swept_out is_approval sweep (reap_spares is_approval (λ c. refl) (start l).config (max (latest l) at)) (records l) in
+      record {
+        conns_are = omega (arith, conns_split rs, conns_split (records l), idle_is.0);
+        approved_are = omega arith;
+        idle_are = idle_is.0;
+        out_are = out_is;
+        many_are = omega (arith, length-map (records l) (ended_where sweep));
+        few = idle_is.1;
+      }
+
+  pub granted_reaped : {l : Ledger C} {closed life : ℕ} {rs : List (Numbered (Standing C))} (n : ℕ) → AreReaped l closed life 0 rs → AreReaped l closed life n (approve false n rs)
+  granted_reaped {rs = rs} n s = record {
+    conns_are = omega (arith, conns-approve false n rs, s.conns_are);
+    approved_are = omega (arith, approved-approve false n rs, s.approved_are);
+    idle_are = omega (arith, idle-approve false n rs, s.idle_are);
+    out_are = omega (arith, out-approve false n rs, s.out_are);
+    many_are = omega (arith, length-approve false n rs, s.many_are);
+    few = s.few;
+  }
+
+  -- the last leave ends each idle one, and no approval is there that was not
+  left_each : (r : Numbered (Standing C)) → (one (stands is_idle (ended_where is_left r).standing) ≡ 0) × (one (stands is_approval (ended_where is_left r).standing) ≤ one (stands is_approval r.standing))
+  left_each r = go r.standing refl
+    where
+      pick : (o : Option (Standing C)) (b : Bool) → r.standing ≡ o → (b ≡ false → one (stands is_idle o) ≡ 0) → (one (stands is_idle (cond b (ended r) r).standing) ≡ 0) × (one (stands is_approval (cond b (ended r) r).standing) ≤ one (stands is_approval r.standing))
+      pick o true e idle_is = (refl, omega arith)
+      pick o false e idle_is = (ap (λ (x : Option (Standing C)). one (stands is_idle x)) e ∙ idle_is refl, omega arith)
+
+      by_place : (p : Place C) → (is_idle p || is_unclaimed p) ≡ false → one (is_idle p) ≡ 0
+      by_place Unclaimed e = refl
+      by_place Claimed e = refl
+      by_place (Idle c) e = cc
+      by_place (Held g) e = refl
+      by_place Guarded e = refl
+
+      go : (o : Option (Standing C)) → r.standing ≡ o → (one (stands is_idle (cond (is_left r.standing) (ended r) r).standing) ≡ 0) × (one (stands is_approval (cond (is_left r.standing) (ended r) r).standing) ≤ one (stands is_approval r.standing))
+      go None e = pick None (is_left r.standing) e (λ off. refl)
+      go (Some s) e = pick (Some s) (is_left r.standing) e (λ off. by_place s.place (sym (ap is_left e) ∙ off))
+
+  left_sweep : (rs : List (Numbered (Standing C))) → (idle_of (map (ended_where is_left) rs) ≡ 0) × (approved_of (map (ended_where is_left) rs) ≤ approved_of rs)
+  left_sweep [] = (refl, omega arith)
+  left_sweep (r ∷ rs) =
+      let ih = left_sweep rs in
+      let here = left_each r in
+      (omega (arith, ih.0, here.0), omega (arith, ih.1, here.1))
+
+  -- The sizes after the leave of a handle.
+  pub record AreLeft (l : Ledger C) (rs : List (Numbered (Standing C))) : Type 0 where
+    pub conns_few : conns_of rs ≤ conns l
+    pub approved_few : approved_of rs ≤ approved l
+    pub out_are : tally_places is_out rs ≡ out l
+    pub many_are : length rs ≡ length (records l)
+    pub last : ((handles l ≡ 1) × (idle_of rs ≡ 0)) ⊎ (rs ≡ records l)
+
+  pub left_sized : (l : Ledger C) (at n : ℕ) → AreLeft l (records (Later l at Leave (Left n)))
+  left_sized l at n = pick (eqb (handles l) 1) refl
+    where
+      pick : (b : Bool) → eqb (handles l) 1 ≡ b → AreLeft l (cond b (map (ended_where is_left) (records l)) (records l))
+      pick false e = record { conns_few = omega arith; approved_few = omega arith; out_are = refl; many_are = refl; last = inr refl }
+      pick true e =
+          let rs : List (Numbered (Standing C)) = map (ended_where is_left) (records l) in
+          let sweep = left_sweep (records l) in
+          let out_is : tally_places is_out rs ≡ out l = swept_out is_out is_left (leave_spares is_out (λ c. refl) refl) (records l) in
+          record { conns_few = omega (arith, conns_split rs, conns_split (records l), sweep.0); approved_few = sweep.1; out_are = out_is; many_are = omega (arith, length-map (records l) (ended_where is_left)); last = inl (numbered.tested (handles l) 1 e, sweep.0) }

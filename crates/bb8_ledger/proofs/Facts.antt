@@ -1,0 +1,180 @@
+-- What holds of every ledger.
+use Rattle.std.proofs.Common.{◌≡◌, ℕ, zero, suc, ◌+◌, ◌≤◌, ◌<◌, max, min, Bool, true, false, cond, eqb, List, [], ◌∷◌, length, map, Option, Some, None, refl, sym, ◌∙◌, arith, option_map, slice_get, ◌-◌}
+use Rattle.std.specs.FinMap.{get}
+use Rattle.bb8_types.specs.declared.standing.Place.{Place}
+use Rattle.bb8_types.specs.declared.standing.Place.TheVariants.{Unclaimed, Claimed, Idle, Held, Guarded}
+use Rattle.bb8_types.specs.declared.standing.Standing.{Standing}
+use Rattle.bb8_types.specs.declared.standing.GetPlace.{GetPlace}
+use Rattle.bb8_types.specs.declared.standing.GetPlace.TheVariants.{Active, Holding}
+use Rattle.bb8_types.specs.declared.standing.GetPlace.TheVariants as get_places
+use Rattle.bb8_types.specs.declared.standing.Getting.{Getting}
+use Rattle.bb8_types.specs.declared.api.configuration.QueueStrategy.{QueueStrategy}
+use Rattle.bb8_types.specs.declared.api.configuration.QueueStrategy.TheVariants.{Fifo, Lifo}
+use Rattle.bb8_ledger.specs.Acts.{Act, Begin, Try, CheckedOk, CheckedErr, GiveUp, PutBack, Fill, Claim, Opened, Failed, Add, Reap, Leave, TimedOut}
+use Rattle.bb8_ledger.specs.Answers.{Answer, Begun, Served, Taken, Waiting, Kept, Closed, GaveUp, Granted, Entered, Late, GivenBack, Added, Reaped, Left, Unfit}
+use Rattle.bb8_ledger.specs.Answers as answers
+use Rattle.bb8_types.specs.Numbered.{Numbered, update, in_order, tally, one, ended, ended_where}
+use Rattle.bb8_ledger.specs.Ledger.{Ledger, Opening, Later, Start, start, position, latest, handles, records, records_after, gets, gets_after, conns, approved, conns_of, idle_of, alive, peak, get_peak, idle_at, unnotified_at, put, entry, new_get, get_put, begins_to_wait, notify, wait_micros, wait_of, idle, idle_count}
+use Rattle.bb8_types.specs.Places.{is_unnotified, gets_stand, stands, is_idle, is_conn, is_out, is_reaped, is_left, placed, birth_in, get_placed, get_waits, first_of}
+use Rattle.bb8_types.proofs.Numbered.{Before}
+use Rattle.bb8_types.proofs.Numbered as numbered
+use Rattle.bb8_ledger.proofs.Standings.{before-approve}
+use Rattle.bb8_types.proofs.Places.{and_right}
+
+-- a test that a get's place fails
+off_get : (p : GetPlace) (o : Option Getting) → is_unnotified p ≡ false → gets_stand is_unnotified (option_map (get_placed p) o) ≡ true → ⊥
+off_get p None off h = cc
+off_get p (Some g) off h = let clash : false ≡ true = sym off ∙ h in cc
+
+module _ (first m : ℕ) where
+  get_put_before : (k : ℕ) (p : GetPlace) (gs : List (Numbered Getting)) → is_unnotified p ≡ false → Before unnotified_at m gs → Before unnotified_at m (update first k (get_put p) gs)
+  get_put_before k p gs off b = numbered.before-update unnotified_at gs first k (get_put p) m b (λ r q h. absurd (off_get p r.standing off (and_right (gets_stand is_unnotified (get_put p r).standing) _ h).0))
+
+  notify_before : (n : Option ℕ) (gs : List (Numbered Getting)) → Before unnotified_at m gs → Before unnotified_at m (notify first n gs)
+  notify_before None gs b = b
+  notify_before (Some g) gs b = get_put_before g (get_places.Waiting true) gs refl b
+
+waits_before : (first m now k : ℕ) (gs : List (Numbered Getting)) → Before unnotified_at (suc m) gs → Before unnotified_at (suc m) (update first k (begins_to_wait now m) gs)
+waits_before first m now k gs b = numbered.before-update_kept unnotified_at gs first k (begins_to_wait now m) (suc m) b (λ g was p h. pick g was p (gets_stand is_unnotified g.standing) h)
+  where
+    pick : (g : Numbered Getting) → ((p : ℕ) → unnotified_at p g ≡ true → p < suc m) → (p : ℕ) (t : Bool) → unnotified_at p (cond t g (record { standing = option_map (get_waits now) g.standing; position = m })) ≡ true → p < suc m
+    pick g was p true h = was p h
+    pick g was p false h = let e : m ≡ p = numbered.tested m p (and_right (gets_stand is_unnotified (option_map (get_waits now) g.standing)) _ h).1 in omega arith
+
+capped : (n : ℕ) → min 18446744073709551615 n ≤ 18446744073709551615
+capped n = omega arith
+
+-- somebody is first in a line
+pub first_inside : (strategy : QueueStrategy) (xs : List ℕ) → 0 < length xs → (k : ℕ) × (first_of strategy xs ≡ Some k)
+first_inside Fifo [] h = absurd (omega arith)
+first_inside Fifo (x ∷ xs) h = (x, refl)
+first_inside Lifo [] h = absurd (omega arith)
+first_inside Lifo (x ∷ xs) h = let last = inside (x ∷ xs) (length (x ∷ xs) - 1) (omega arith) in last
+  where
+    inside : (ys : List ℕ) (i : ℕ) → i < length ys → (k : ℕ) × (slice_get ys i ≡ Some k)
+    inside [] i h = absurd (omega arith)
+    inside (y ∷ ys) zero h = (y, refl)
+    inside (y ∷ ys) (suc i) h = inside ys i (omega arith)
+
+module _ {C : Type 0} where
+  -- ---- nobody entered, or began to wait, after now
+
+  pub put_before : (m first k : ℕ) (p : Place C) (rs : List (Numbered (Standing C))) → is_idle p ≡ false → Before idle_at m rs → Before idle_at m (update first k (put p) rs)
+  put_before m first k p rs off b = numbered.before-update idle_at rs first k (put p) m b (λ r q h. absurd (no r.standing (and_right (stands is_idle (put p r).standing) _ h).0))
+    where
+      no : (o : Option (Standing C)) → stands is_idle (option_map (placed p) o) ≡ true → ⊥
+      no None h = cc
+      no (Some s) h = let clash : false ≡ true = sym off ∙ h in cc
+
+  pub ended_before : (m first k : ℕ) (rs : List (Numbered (Standing C))) → Before idle_at m rs → Before idle_at m (update first k ended rs)
+  ended_before m first k rs b = numbered.ended_before (stands is_idle) rs first k m refl b
+
+  ended_where_before : (m : ℕ) (test : Option (Standing C) → Bool) (rs : List (Numbered (Standing C))) → Before idle_at m rs → Before idle_at m (map (ended_where test) rs)
+  ended_where_before m test rs b = numbered.before-map idle_at rs (ended_where test) m b (λ r was p h. pick r was p (test r.standing) h)
+    where
+      pick : (r : Numbered (Standing C)) → ((p : ℕ) → idle_at p r ≡ true → p < m) → (p : ℕ) (t : Bool) → idle_at p (cond t (ended r) r) ≡ true → p < m
+      pick r was p true h = cc
+      pick r was p false h = was p h
+
+  entry_before : (m first k now : ℕ) (c : C) (birth : Numbered (Standing C) → ℕ) (rs : List (Numbered (Standing C))) → Before idle_at (suc m) rs → Before idle_at (suc m) (update first k (λ r. entry c (birth r) now m) rs)
+  entry_before m first k now c birth rs b = numbered.before-update idle_at rs first k (λ r. entry c (birth r) now m) (suc m) b (λ r q h. let e : m ≡ q = numbered.tested m q h in omega arith)
+
+  records_before : (s : Start) (h m now : ℕ) (rs : List (Numbered (Standing C))) (e : Act C) (a : Answer) → Before idle_at (suc m) rs → Before idle_at (suc m) (records_after s h m now rs e a)
+  records_before s h m now rs e Unfit b = b
+  records_before s h m now rs (Try g) (Served k grant) b = before-approve false grant.count (suc m) _ (put_before (suc m) s.first k Guarded rs refl b)
+  records_before s h m now rs (Try g) (Taken k grant) b = before-approve false grant.count (suc m) _ (put_before (suc m) s.first k (Held g) rs refl b)
+  records_before s h m now rs (Try g) (Waiting grant) b = before-approve false grant.count (suc m) rs b
+  records_before s h m now rs (CheckedOk g) (Served k grant) b = put_before (suc m) s.first k Guarded rs refl b
+  records_before s h m now rs (CheckedErr g broken) (Closed k grant n) b = before-approve false grant.count (suc m) _ (ended_before (suc m) s.first k rs b)
+  records_before s h m now rs (GiveUp g why (Some c) broken) (Kept k n) b = entry_before m s.first k now c (λ r. birth_in r.standing) rs b
+  records_before s h m now rs (GiveUp g why held broken) (Closed k grant n) b = before-approve false grant.count (suc m) _ (ended_before (suc m) s.first k rs b)
+  records_before s h m now rs (PutBack k c broken) (Kept j n) b = entry_before m s.first k now c (λ r. birth_in r.standing) rs b
+  records_before s h m now rs (PutBack k c broken) (Closed j grant n) b = before-approve false grant.count (suc m) _ (ended_before (suc m) s.first k rs b)
+  records_before s h m now rs (Fill claimed) (Granted grant) b = before-approve claimed grant.count (suc m) rs b
+  records_before s h m now rs Claim (answers.Claimed (Some k)) b = put_before (suc m) s.first k Claimed rs refl b
+  records_before s h m now rs (Opened k c) (Entered j n) b = entry_before m s.first k now c (λ r. now) rs b
+  records_before s h m now rs (Opened k c) (Late j) b = ended_before (suc m) s.first k rs b
+  records_before s h m now rs (Failed k) GivenBack b = ended_before (suc m) s.first k rs b
+  records_before s h m now rs (Add c broken) (Added k n) b = numbered.before-append idle_at rs (entry c now now m) (suc m) b (λ p t. let e : m ≡ p = numbered.tested m p t in omega arith)
+  records_before s h m now rs Reap (Reaped closed by_idle by_life grant) b = before-approve false grant.count (suc m) _ (ended_where_before (suc m) (is_reaped s.config now) rs b)
+  records_before s h m now rs Leave (Left c) b = last (eqb h 1)
+    where
+      last : (t : Bool) → Before idle_at (suc m) (cond t (map (ended_where is_left) rs) rs)
+      last true = ended_where_before (suc m) is_left rs b
+      last false = b
+  records_before s h m now rs _ _ b = b
+
+  pub entered_before : (l : Ledger C) → Before idle_at (position l) (records l)
+  entered_before (Opening s) = tt
+  entered_before (Later l at e a) = records_before (start l) (handles l) (position l) (max (latest l) at) (records l) e a (numbered.before_later idle_at (records l) (position l) (entered_before l))
+
+  gets_before : (s : Start) (m now : ℕ) (gs : List (Numbered Getting)) (e : Act C) (a : Answer) → Before unnotified_at (suc m) gs → Before unnotified_at (suc m) (gets_after s m now gs e a)
+  gets_before s m now gs e Unfit b = b
+  gets_before s m now gs Begin (Begun g) b = numbered.before-append unnotified_at gs new_get (suc m) b (λ p h. cc)
+  gets_before s m now gs (Try g) (Served k grant) b = numbered.ended_before (gets_stand is_unnotified) gs s.first_get g (suc m) refl b
+  gets_before s m now gs (Try g) (Taken k grant) b = get_put_before s.first_get (suc m) g (Holding k) gs refl b
+  gets_before s m now gs (Try g) (Waiting grant) b = waits_before s.first_get m now g gs b
+  gets_before s m now gs (CheckedOk g) (Served k grant) b = numbered.ended_before (gets_stand is_unnotified) gs s.first_get g (suc m) refl b
+  gets_before s m now gs (CheckedErr g broken) (Closed k grant n) b = notify_before s.first_get (suc m) n _ (get_put_before s.first_get (suc m) g Active gs refl b)
+  gets_before s m now gs (GiveUp g why held broken) (GaveUp n) b = notify_before s.first_get (suc m) n _ (numbered.ended_before (gets_stand is_unnotified) gs s.first_get g (suc m) refl b)
+  gets_before s m now gs (GiveUp g why held broken) (Kept k n) b = notify_before s.first_get (suc m) n _ (numbered.ended_before (gets_stand is_unnotified) gs s.first_get g (suc m) refl b)
+  gets_before s m now gs (GiveUp g why held broken) (Closed k grant n) b = notify_before s.first_get (suc m) n _ (numbered.ended_before (gets_stand is_unnotified) gs s.first_get g (suc m) refl b)
+  gets_before s m now gs (PutBack k c broken) (Kept j n) b = notify_before s.first_get (suc m) n gs b
+  gets_before s m now gs (PutBack k c broken) (Closed j grant n) b = notify_before s.first_get (suc m) n gs b
+  gets_before s m now gs (Opened k c) (Entered j n) b = notify_before s.first_get (suc m) n gs b
+  gets_before s m now gs (Add c broken) (Added k n) b = notify_before s.first_get (suc m) n gs b
+  gets_before s m now gs _ _ b = b
+
+  pub waited_before : (l : Ledger C) → Before unnotified_at (position l) (gets l)
+  waited_before (Opening s) = tt
+  waited_before (Later l at e a) = gets_before (start l) (position l) (max (latest l) at) (gets l) e a (numbered.before_later unnotified_at (gets l) (position l) (waited_before l))
+
+  -- ---- the peaks hold
+
+  pub peak_holds : (l : Ledger C) → conns l + approved l ≤ peak l
+  peak_holds (Opening s) = omega arith
+  peak_holds (Later l at e a) = omega arith
+
+  pub get_peak_holds : (l : Ledger C) → alive l ≤ get_peak l
+  get_peak_holds (Opening s) = omega arith
+  get_peak_holds (Later l at e a) = omega arith
+
+  -- ---- the wait time is a u64 of microseconds
+
+  wait_after : (l : Ledger C) (at : ℕ) (e : Act C) (a : Answer) → wait_micros l ≤ 18446744073709551615 → wait_micros (Later l at e a) ≤ 18446744073709551615
+  wait_after l at e Unfit h = h
+  wait_after l at e (Served k grant) h = capped (wait_micros l + wait_of l at e)
+  wait_after l at (GiveUp g TimedOut held broken) a h = capped (wait_micros l + wait_of l at (GiveUp g TimedOut held broken))
+  wait_after l at _ _ h = h
+
+  pub wait_few : (l : Ledger C) → wait_micros l ≤ 18446744073709551615
+  wait_few (Opening s) = omega arith
+  wait_few (Later l at e a) = wait_after l at e a (wait_few l)
+
+  -- ---- the idle numbers are as many as the idle records
+
+  pub idle_counted : (first m : ℕ) (rs : List (Numbered (Standing C))) → Before idle_at m rs → length (in_order idle_at first rs m) ≡ idle_of rs
+  idle_counted first m rs b = numbered.line_counted (stands is_idle) rs first m b
+
+  pub idle_tally : (l : Ledger C) → length (idle l) ≡ idle_count l
+  idle_tally l = idle_counted (start l).first (position l) (records l) (entered_before l)
+
+  -- ---- a connection is idle or out
+
+  pub conns_split : (rs : List (Numbered (Standing C))) → conns_of rs ≡ idle_of rs + tally (λ r. stands is_out r.standing) rs
+  conns_split [] = omega arith
+  conns_split (r ∷ rs) =
+      let ih : conns_of rs ≡ idle_of rs + tally (λ x. stands is_out x.standing) rs = conns_split rs in
+      let here : one (stands is_conn r.standing) ≡ one (stands is_idle r.standing) + one (stands is_out r.standing) = place r.standing in
+      omega arith
+    where
+      by_place : (p : Place C) → one (is_conn p) ≡ one (is_idle p) + one (is_out p)
+      by_place Unclaimed = omega arith
+      by_place Claimed = omega arith
+      by_place (Idle c) = omega arith
+      by_place (Held g) = omega arith
+      by_place Guarded = omega arith
+
+      place : (o : Option (Standing C)) → one (stands is_conn o) ≡ one (stands is_idle o) + one (stands is_out o)
+      place None = omega arith
+      place (Some s) = by_place s.place

@@ -1,0 +1,216 @@
+-- What one event does to the gets, where a get that was not in line ends or moves to a place where it does not wait.
+use Rattle.std.proofs.Common.{◌≡◌, ◌≢◌, ◌⊎◌, ℕ, suc, ◌+◌, ◌-◌, min, Bool, true, false, cond, eqb, List, [], ◌∷◌, ◌++◌, length, Option, Some, None, is_some, slice_get, option_map, option_and_then, refl, sym, ap, ◌∙◌, ⊎_elim, arith, inl, inr}
+use Rattle.bb8_types.specs.declared.standing.GetPlace.{GetPlace}
+use Rattle.bb8_types.specs.declared.standing.GetPlace.TheVariants.{Active, Waiting, Holding}
+use Rattle.bb8_types.specs.declared.standing.Getting.{Getting}
+use Rattle.bb8_types.specs.Numbered.{Numbered, at as at_number, update, in_order, one, standing_at, ended}
+use Rattle.bb8_ledger.specs.Ledger.{Ledger, start, position, gets, alive, notified, unnotified, unnotified_at, oldest_waiter, get_of, tally_gets, alive_of, new_get, get_put, begins_to_wait, notify}
+use Rattle.bb8_types.specs.Places.{holds, held_in, gets_stand, is_notified, is_unnotified, get_placed, get_waits, is_trying}
+use Rattle.bb8_types.proofs.Numbered.{Before}
+use Rattle.bb8_types.proofs.Numbered as numbered
+use Rattle.bb8_ledger.proofs.Facts.{waited_before}
+use Rattle.bb8_types.proofs.Places.{and_right}
+use Rattle.bb8_ledger.proofs.Waiters.{getting_is, is_waiting, unnotified_waits, notified_waits, tally_update, notify_length, notify_alive, notify_counted, same_line, InLine, line_later, line_left, line_notified}
+use Rattle.bb8_ledger.proofs.Effects.{at_other, at_same}
+
+-- who does not wait is neither unnotified nor notified
+off_unnotified : (o : Option Getting) → gets_stand is_waiting o ≡ false → gets_stand is_unnotified o ≡ false
+off_unnotified o off = go (gets_stand is_unnotified o) refl
+  where
+    go : (b : Bool) → gets_stand is_unnotified o ≡ b → gets_stand is_unnotified o ≡ false
+    go false e = e
+    go true e = absurd (let clash : false ≡ true = sym off ∙ unnotified_waits o e in cc)
+
+off_notified : (o : Option Getting) → gets_stand is_waiting o ≡ false → gets_stand is_notified o ≡ false
+off_notified o off = go (gets_stand is_notified o) refl
+  where
+    go : (b : Bool) → gets_stand is_notified o ≡ b → gets_stand is_notified o ≡ false
+    go false e = e
+    go true e = absurd (let clash : false ≡ true = sym off ∙ notified_waits o e in cc)
+
+-- a get that moves to a place where it does not wait
+pub put_off : (p : GetPlace) → is_waiting p ≡ false → (x : Numbered Getting) → gets_stand is_waiting (get_put p x).standing ≡ false
+put_off p off x = go x.standing
+  where
+    go : (o : Option Getting) → gets_stand is_waiting (option_map (get_placed p) o) ≡ false
+    go None = refl
+    go (Some s) = off
+
+-- the get that holds a connection
+pub holding_is : (o : Option Getting) (k : ℕ) → holds o ≡ Some k → (s : Getting) × (o ≡ Some s) × (s.place ≡ Holding k)
+holding_is None k h = cc
+holding_is (Some s) k h = (s, refl, go s.place h)
+  where
+    go : (p : GetPlace) → held_in p ≡ Some k → p ≡ Holding k
+    go Active h = cc
+    go (Waiting b) h = cc
+    go (Holding j) h = let same : j ≡ k = cc in ap Holding same
+
+module _ {C : Type 0} where
+  -- the get g is alive and not in line, and is changed to one that does not wait: b more are alive than with it ended
+  pub record Leaves (l : Ledger C) (g b : ℕ) (f : Numbered Getting → Numbered Getting) : Type 0 where
+    pub standing : Getting
+    pub was : get_of l g ≡ Some standing
+    pub off : is_unnotified standing.place ≡ false
+    pub out : (x : Numbered Getting) → gets_stand is_waiting (f x).standing ≡ false
+    pub lives : (x : Numbered Getting) → x.standing ≡ Some standing → one (is_some (f x).standing) ≡ b
+
+  -- a get that ends
+  pub ended_leaves : (l : Ledger C) (g : ℕ) (s : Getting) → get_of l g ≡ Some s → is_unnotified s.place ≡ false → Leaves l g 0 ended
+  ended_leaves l g s was off = record { standing = s; was = was; off = off; out = λ x. refl; lives = λ x e. refl }
+
+  -- a get that moves
+  pub moved_leaves : (l : Ledger C) (g : ℕ) (p : GetPlace) (s : Getting) → get_of l g ≡ Some s → is_unnotified s.place ≡ false → is_waiting p ≡ false → Leaves l g 1 (get_put p)
+  moved_leaves l g p s was off still = record { standing = s; was = was; off = off; out = put_off p still; lives = λ x e. ap (λ (o : Option Getting). one (is_some (option_map (get_placed p) o))) e }
+
+  -- a get that tries and was not in line
+  pub trier : (l : Ledger C) (g : ℕ) → gets_stand is_trying (get_of l g) ≡ true → gets_stand is_unnotified (get_of l g) ≡ false → (st : Getting) × (get_of l g ≡ Some st) × (is_unnotified st.place ≡ false)
+  trier l g f off = let st = getting_is is_trying (get_of l g) f in (st.0, st.1, ap (gets_stand is_unnotified) (sym st.1) ∙ off)
+
+  pub trier_leaves : (l : Ledger C) (g : ℕ) → gets_stand is_trying (get_of l g) ≡ true → gets_stand is_unnotified (get_of l g) ≡ false → Leaves l g 0 ended
+  trier_leaves l g f off = let st = trier l g f off in ended_leaves l g st.0 st.1 st.2
+
+  pub trier_holds : (l : Ledger C) (g k : ℕ) → gets_stand is_trying (get_of l g) ≡ true → gets_stand is_unnotified (get_of l g) ≡ false → Leaves l g 1 (get_put (Holding k))
+  trier_holds l g k f off = let st = trier l g f off in moved_leaves l g (Holding k) st.0 st.1 st.2 refl
+
+  -- a get that holds a connection, and does not wait
+  pub holder_ends : (l : Ledger C) (g k : ℕ) → holds (get_of l g) ≡ Some k → (t : Leaves l g 0 ended) × (is_notified t.standing.place ≡ false)
+  unfolding ended_leaves holding_is
+  holder_ends l g k h = let st = holding_is (get_of l g) k h in (ended_leaves l g st.0 st.1 (ap is_unnotified st.2), ap is_notified st.2)
+
+  pub holder_turns : (l : Ledger C) (g k : ℕ) → holds (get_of l g) ≡ Some k → (t : Leaves l g 1 (get_put Active)) × (is_notified t.standing.place ≡ false)
+  unfolding moved_leaves holding_is
+  holder_turns l g k h = let st = holding_is (get_of l g) k h in (moved_leaves l g Active st.0 st.1 (ap is_unnotified st.2) refl, ap is_notified st.2)
+
+  module _ {l : Ledger C} {g b : ℕ} {f : Numbered Getting → Numbered Getting} (t : Leaves l g b f) where
+    -- the gets once it has changed
+    abbrev left_gets : List (Numbered Getting)
+    left_gets = update (start l).first_get g f (gets l)
+
+    -- it, in its row
+    left_at : (x : Numbered Getting) × (at_number (start l).first_get (gets l) g ≡ Some x) × (x.standing ≡ Some t.standing)
+    left_at = numbered.standing_found (gets l) (start l).first_get g t.standing t.was
+
+    pub left_alive : alive_of left_gets + 1 ≡ alive l + b
+    left_alive =
+        let e : alive_of left_gets + one (is_some left_at.0.standing) ≡ alive l + one (is_some (f left_at.0).standing) = tally_update (λ (y : Numbered Getting). is_some y.standing) (gets l) (start l).first_get g f left_at.0 left_at.1 in
+        let was : one (is_some left_at.0.standing) ≡ 1 = ap (λ (o : Option Getting). one (is_some o)) left_at.2 in
+        omega (arith, t.lives left_at.0 left_at.2)
+
+    left_tally : (test : GetPlace → Bool) → gets_stand test (f left_at.0).standing ≡ false → tally_gets test left_gets + one (test t.standing.place) ≡ tally_gets test (gets l)
+    left_tally test off =
+        let e : tally_gets test left_gets + one (gets_stand test left_at.0.standing) ≡ tally_gets test (gets l) + one (gets_stand test (f left_at.0).standing) = tally_update (λ (y : Numbered Getting). gets_stand test y.standing) (gets l) (start l).first_get g f left_at.0 left_at.1 in
+        let was : one (gets_stand test left_at.0.standing) ≡ one (test t.standing.place) = ap (λ (o : Option Getting). one (gets_stand test o)) left_at.2 in
+        let is : one (gets_stand test (f left_at.0).standing) ≡ 0 = ap one off in
+        omega arith
+
+    pub left_unnotified : tally_gets is_unnotified left_gets ≡ unnotified l
+    left_unnotified =
+        let e : tally_gets is_unnotified left_gets + one (is_unnotified t.standing.place) ≡ unnotified l = left_tally is_unnotified (off_unnotified (f left_at.0).standing (t.out left_at.0)) in
+        let was : one (is_unnotified t.standing.place) ≡ 0 = ap one t.off in
+        omega arith
+
+    pub left_notified : tally_gets is_notified left_gets + one (is_notified t.standing.place) ≡ notified l
+    left_notified = left_tally is_notified (off_notified (f left_at.0).standing (t.out left_at.0))
+
+    pub left_length : length left_gets ≡ length (gets l)
+    left_length = numbered.length-update (gets l) (start l).first_get g f
+
+    left_oldest : (n : Option ℕ) → n ≡ oldest_waiter l → n ≡ slice_get (in_order unnotified_at (start l).first_get left_gets (position l)) 0
+    left_oldest n is = is ∙ sym (ap (λ (xs : List ℕ). slice_get xs 0) (same_line (start l).first_get (position l) g f (gets l) left_at.0 left_at.1 (ap (gets_stand is_unnotified) left_at.2 ∙ t.off) (off_unnotified (f left_at.0).standing (t.out left_at.0))))
+
+    left_before : Before unnotified_at (position l) left_gets
+    left_before = numbered.before-update unnotified_at (gets l) (start l).first_get g f (position l) (waited_before l) (λ x p h. absurd (clash x p h))
+      where
+        clash : (x : Numbered Getting) (p : ℕ) → unnotified_at p (f x) ≡ true → ⊥
+        clash x p h = let no : false ≡ true = sym (off_unnotified (f x).standing (t.out x)) ∙ (and_right (gets_stand is_unnotified (f x).standing) _ h).0 in cc
+
+    -- and the oldest waiter is notified
+    pub left_told : (n : Option ℕ) → n ≡ oldest_waiter l → (tally_gets is_unnotified (notify (start l).first_get n left_gets) ≡ unnotified l - 1) × (tally_gets is_notified (notify (start l).first_get n left_gets) + one (is_notified t.standing.place) ≡ notified l + min 1 (unnotified l))
+    left_told n is =
+        let told = notify_counted (start l).first_get (position l) n left_gets left_before (left_oldest n is) in
+        (omega (arith, told.0, left_unnotified), omega (arith, told.1, left_unnotified, left_notified))
+
+    pub left_told_alive : (n : Option ℕ) → alive_of (notify (start l).first_get n left_gets) + 1 ≡ alive l + b
+    left_told_alive n = omega (arith, left_alive, notify_alive (start l).first_get n left_gets)
+
+    pub left_told_length : (n : Option ℕ) → length (notify (start l).first_get n left_gets) ≡ length (gets l)
+    left_told_length n = notify_length (start l).first_get n left_gets ∙ left_length
+
+    left_in_line : InLine (start l).first_get (position l) (gets l) → InLine (start l).first_get (position l) left_gets
+    left_in_line i = line_left (start l).first_get (position l) g f (gets l) left_at.0 left_at.1 (t.out left_at.0) i
+
+    -- the others stand in line as before
+    pub left_line : InLine (start l).first_get (position l) (gets l) → InLine (start l).first_get (suc (position l)) left_gets
+    left_line i = line_later (start l).first_get (position l) left_gets (left_in_line i)
+
+    pub left_told_line : (n : Option ℕ) → n ≡ oldest_waiter l → InLine (start l).first_get (position l) (gets l) → InLine (start l).first_get (suc (position l)) (notify (start l).first_get n left_gets)
+    left_told_line n is i = line_later (start l).first_get (position l) (notify (start l).first_get n left_gets) (line_notified (start l).first_get (position l) n left_gets (left_oldest n is) (left_in_line i))
+
+-- ---- what the gets hold
+
+-- what a get holds once another has changed, or it itself
+pub changed_holds : (first g : ℕ) (f : Numbered Getting → Numbered Getting) (gs : List (Numbered Getting)) (q k : ℕ) → holds (standing_at first (update first g f gs) q) ≡ Some k → ((q ≡ g) × (x : Numbered Getting) × (holds (f x).standing ≡ Some k)) ⊎ ((q ≢ g) × (holds (standing_at first gs q) ≡ Some k))
+changed_holds first g f gs q k h =
+    ⊎_elim
+    (λ (t : (eqb q g ≡ true) × (q ≡ g)). let i = it (at_number first gs g) (sym (ap (λ (o : Option (Numbered Getting)). holds (option_and_then (λ (x : Numbered Getting). x.standing) o)) (ap (λ (i : ℕ). at_number first (update first g f gs) i) t.1 ∙ at_same gs first g f)) ∙ h) in inl (t.1, i.0, i.1))
+    (λ (t : (eqb q g ≡ false) × (q ≢ g)). inr (t.1, sym (ap (λ (o : Option (Numbered Getting)). holds (option_and_then (λ (x : Numbered Getting). x.standing) o)) (at_other gs first g q f t.1)) ∙ h))
+    (numbered.same_or_not q g)
+  where
+    it : (o : Option (Numbered Getting)) → holds (option_and_then (λ (x : Numbered Getting). x.standing) (option_map f o)) ≡ Some k → (x : Numbered Getting) × (holds (f x).standing ≡ Some k)
+    it None e = cc
+    it (Some x) e = (x, e)
+
+-- a get that holds something was not changed, where what is changed holds nothing
+pub other_holds : (first g : ℕ) (f : Numbered Getting → Numbered Getting) (gs : List (Numbered Getting)) (q k : ℕ) → ((x : Numbered Getting) → holds (f x).standing ≡ None) → holds (standing_at first (update first g f gs) q) ≡ Some k → (q ≢ g) × (holds (standing_at first gs q) ≡ Some k)
+other_holds first g f gs q k nothing h =
+    ⊎_elim
+    (λ (t : (q ≡ g) × (x : Numbered Getting) × (holds (f x).standing ≡ Some k)). absurd (let clash : None ≡ Some k = sym (nothing t.1) ∙ t.2 in cc))
+    (λ (t : (q ≢ g) × (holds (standing_at first gs q) ≡ Some k)). t)
+    (changed_holds first g f gs q k h)
+
+-- a place at which nothing is held
+pub put_nothing : (p : GetPlace) → held_in p ≡ None → (x : Numbered Getting) → holds (get_put p x).standing ≡ None
+put_nothing p none x = go x.standing
+  where
+    go : (o : Option Getting) → holds (option_map (get_placed p) o) ≡ None
+    go None = refl
+    go (Some s) = none
+
+pub put_holds : (j k : ℕ) (x : Numbered Getting) → holds (get_put (Holding j) x).standing ≡ Some k → j ≡ k
+put_holds j k x h = go x.standing h
+  where
+    go : (o : Option Getting) → holds (option_map (get_placed (Holding j)) o) ≡ Some k → j ≡ k
+    go None e = cc
+    go (Some s) e = cc
+
+pub waits_nothing : (now p : ℕ) (x : Numbered Getting) → holds (begins_to_wait now p x).standing ≡ None
+waits_nothing now p x = pick (gets_stand is_unnotified x.standing) refl
+  where
+    still : (o : Option Getting) → gets_stand is_unnotified o ≡ true → holds o ≡ None
+    still None e = refl
+    still (Some s) e = go s.place e
+      where
+        go : (q : GetPlace) → is_unnotified q ≡ true → held_in q ≡ None
+        go Active e = refl
+        go (Waiting b) e = refl
+        go (Holding k) e = cc
+
+    free : (o : Option Getting) → holds (option_map (get_waits now) o) ≡ None
+    free None = refl
+    free (Some s) = refl
+
+    pick : (b : Bool) → gets_stand is_unnotified x.standing ≡ b → holds (cond b x (record { standing = option_map (get_waits now) x.standing; position = p })).standing ≡ None
+    pick true e = still x.standing e
+    pick false e = free x.standing
+
+pub told_holds : (first : ℕ) (n : Option ℕ) (gs : List (Numbered Getting)) (q k : ℕ) → holds (standing_at first (notify first n gs) q) ≡ Some k → holds (standing_at first gs q) ≡ Some k
+told_holds first None gs q k h = h
+told_holds first (Some g) gs q k h = (other_holds first g (get_put (Waiting true)) gs q k (put_nothing (Waiting true) refl) h).1
+
+pub begun_holds : (first : ℕ) (gs : List (Numbered Getting)) (q k : ℕ) → holds (standing_at first (gs ++ new_get ∷ []) q) ≡ Some k → holds (standing_at first gs q) ≡ Some k
+begun_holds first gs q k h = pick (eqb q (first + length gs)) (sym (ap (λ (o : Option (Numbered Getting)). holds (option_and_then (λ (x : Numbered Getting). x.standing) o)) (numbered.at-append gs new_get first q)) ∙ h)
+  where
+    pick : (b : Bool) → holds (option_and_then (λ (x : Numbered Getting). x.standing) (cond b (Some new_get) (at_number first gs q))) ≡ Some k → holds (standing_at first gs q) ≡ Some k
+    pick true e = cc
+    pick false e = e

@@ -1,0 +1,10 @@
+pub mod Standings
+pub mod Facts
+pub mod Waiters
+pub mod Effects
+pub mod GetEffects
+pub mod Held
+pub mod Stage
+pub mod Lent
+pub mod Laws
+pub mod Evaluated

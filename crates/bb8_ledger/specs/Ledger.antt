@@ -1,0 +1,375 @@
+-- The ledger of a pool: all that happened, and what follows from it.
+-- Nothing is stored but the events with their answers: records and gets are what the events did, sizes are tallies, order is read from
+-- positions, and peaks, handles and statistics are told over the whole history.
+use Rattle.std.specs.Prelude.{ℕ, zero, suc, ◌+◌, ◌-◌, ◌*◌, max, min, Bool, true, false, ◌&&◌, not, cond, eqb, List, [], ◌∷◌, ◌++◌, length, map, slice_get, Option, Some, None, is_some}
+use Rattle.std.specs.Option.{option_map, option_and_then}
+use Rattle.bb8_types.specs.declared.standing.Place.{Place}
+use Rattle.bb8_types.specs.declared.standing.Place.TheVariants.{Unclaimed, Claimed, Idle, Held, Guarded}
+use Rattle.bb8_types.specs.declared.standing.Standing.{Standing}
+use Rattle.bb8_types.specs.declared.standing.GetPlace.{GetPlace}
+use Rattle.bb8_types.specs.declared.standing.GetPlace.TheVariants.{Active, Waiting, Holding}
+use Rattle.bb8_types.specs.declared.standing.Getting.{Getting}
+use Rattle.bb8_types.specs.Settings.{Settings}
+use Rattle.bb8_types.specs.Figures.{Counts, Figures}
+use Rattle.bb8_ledger.specs.Acts.{Act, Begin, Try, CheckedOk, CheckedErr, GiveUp, PutBack, Fill, Claim, Opened, Failed, Add, Reap, Leave, TimedOut, Cancelled, get_in, says_broken}
+use Rattle.bb8_ledger.specs.Answers.{Answer, Begun, Served, Taken, Kept, Closed, GaveUp, Granted, Entered, Late, GivenBack, Added, Reaped, Joined, Left, Unfit}
+use Rattle.bb8_ledger.specs.Answers as answers
+use Rattle.bb8_types.specs.Numbered.{Numbered, at, update, numbers, in_order, tally, one, standing_at, ended, ended_where}
+use Rattle.bb8_types.specs.Places.{is_conn, is_unclaimed, is_idle, is_approval, is_out, stands, is_unnotified, is_notified, gets_stand, holds, first_wait_of, is_expired, micros_since, is_reaped, is_left, placed, birth_in, get_placed, get_waits, first_of}
+
+-- What a pool begins with.
+pub record Start : Type 0 where
+  pub config : Settings
+  pub first : ℕ
+  pub first_get : ℕ
+
+-- Each event with its moment and its answer, the latest one last.
+pub data Ledger (C : Type 0) : Type 0 where
+  Opening : Start → Ledger C
+  Later : Ledger C → ℕ → Act C → Answer → Ledger C
+
+-- ---- what events do to the records and the gets
+
+-- a new approval, claimed or not
+abbrev pub approval : {C : Type 0} → Bool → Numbered (Standing C)
+approval claimed = record { standing = Some (record { place = cond claimed Claimed Unclaimed; birth = 0; entered = 0 }); position = 0 }
+
+-- a get that began: active, and it never waited
+abbrev pub new_get : Numbered Getting
+new_get = record { standing = Some (record { place = Active; first_wait = None }); position = 0 }
+
+module _ {C : Type 0} where
+  -- so many new approvals
+  abbrev pub approve : Bool → ℕ → List (Numbered (Standing C)) → List (Numbered (Standing C))
+  approve claimed zero rs = rs
+  approve claimed (suc n) rs = approve claimed n rs ++ approval claimed ∷ []
+
+  -- a record in another place
+  abbrev pub put : Place C → Numbered (Standing C) → Numbered (Standing C)
+  put p r = record r { standing = option_map (placed p) r.standing }
+
+  -- an idle connection, of which the birth, the moment and the position are given
+  abbrev pub entry : C → ℕ → ℕ → ℕ → Numbered (Standing C)
+  entry c birth now position = record { standing = Some (record { place = Idle c; birth = birth; entered = now }); position = position }
+
+  -- enter: a record becomes idle and keeps its birth
+  abbrev pub enters : C → ℕ → ℕ → Numbered (Standing C) → Numbered (Standing C)
+  enters c now position r = entry c (birth_in r.standing) now position
+
+  -- the records after an event: what the pool began with, its handles, the position of the event and its effective moment are given
+  abbrev pub records_after : Start → ℕ → ℕ → ℕ → List (Numbered (Standing C)) → Act C → Answer → List (Numbered (Standing C))
+  records_after s handles position now rs e Unfit = rs
+  records_after s handles position now rs (Try g) (Served k grant) = approve false grant.count (update s.first k (put Guarded) rs)
+  records_after s handles position now rs (Try g) (Taken k grant) = approve false grant.count (update s.first k (put (Held g)) rs)
+  records_after s handles position now rs (Try g) (answers.Waiting grant) = approve false grant.count rs
+  records_after s handles position now rs (CheckedOk g) (Served k grant) = update s.first k (put Guarded) rs
+  records_after s handles position now rs (CheckedErr g broken) (Closed k grant n) = approve false grant.count (update s.first k ended rs)
+  records_after s handles position now rs (GiveUp g why (Some c) broken) (Kept k n) = update s.first k (enters c now position) rs
+  records_after s handles position now rs (GiveUp g why held broken) (Closed k grant n) = approve false grant.count (update s.first k ended rs)
+  records_after s handles position now rs (PutBack k c broken) (Kept m n) = update s.first k (enters c now position) rs
+  records_after s handles position now rs (PutBack k c broken) (Closed m grant n) = approve false grant.count (update s.first k ended rs)
+  records_after s handles position now rs (Fill claimed) (Granted grant) = approve claimed grant.count rs
+  records_after s handles position now rs Claim (answers.Claimed (Some k)) = update s.first k (put Claimed) rs
+  records_after s handles position now rs (Opened k c) (Entered m n) = update s.first k (λ r. entry c now now position) rs
+  records_after s handles position now rs (Opened k c) (Late m) = update s.first k ended rs
+  records_after s handles position now rs (Failed k) GivenBack = update s.first k ended rs
+  records_after s handles position now rs (Add c broken) (Added k n) = rs ++ entry c now now position ∷ []
+  records_after s handles position now rs Reap (Reaped closed by_idle by_life grant) = approve false grant.count (map (ended_where (is_reaped s.config now)) rs)
+  records_after s handles position now rs Leave (Left c) = cond (eqb handles 1) (map (ended_where is_left) rs) rs
+  records_after s handles position now rs _ _ = rs
+
+-- a get at another place; first wait and position stay
+abbrev pub get_put : GetPlace → Numbered Getting → Numbered Getting
+get_put p g = record g { standing = option_map (get_placed p) g.standing }
+
+-- a get begins to wait, but one that waits already and was not notified waits on
+abbrev pub begins_to_wait : ℕ → ℕ → Numbered Getting → Numbered Getting
+begins_to_wait now position g = cond (gets_stand is_unnotified g.standing) g (record { standing = option_map (get_waits now) g.standing; position = position })
+
+-- the get that an answer names is notified
+abbrev pub notify : ℕ → Option ℕ → List (Numbered Getting) → List (Numbered Getting)
+notify first None gs = gs
+notify first (Some g) gs = update first g (get_put (Waiting true)) gs
+
+-- the gets after an event
+abbrev pub gets_after : {C : Type 0} → Start → ℕ → ℕ → List (Numbered Getting) → Act C → Answer → List (Numbered Getting)
+gets_after s position now gs e Unfit = gs
+gets_after s position now gs Begin (Begun g) = gs ++ new_get ∷ []
+gets_after s position now gs (Try g) (Served k grant) = update s.first_get g ended gs
+gets_after s position now gs (Try g) (Taken k grant) = update s.first_get g (get_put (Holding k)) gs
+gets_after s position now gs (Try g) (answers.Waiting grant) = update s.first_get g (begins_to_wait now position) gs
+gets_after s position now gs (CheckedOk g) (Served k grant) = update s.first_get g ended gs
+gets_after s position now gs (CheckedErr g broken) (Closed k grant n) = notify s.first_get n (update s.first_get g (get_put Active) gs)
+gets_after s position now gs (GiveUp g why held broken) (GaveUp n) = notify s.first_get n (update s.first_get g ended gs)
+gets_after s position now gs (GiveUp g why held broken) (Kept k n) = notify s.first_get n (update s.first_get g ended gs)
+gets_after s position now gs (GiveUp g why held broken) (Closed k grant n) = notify s.first_get n (update s.first_get g ended gs)
+gets_after s position now gs (PutBack k c broken) (Kept m n) = notify s.first_get n gs
+gets_after s position now gs (PutBack k c broken) (Closed m grant n) = notify s.first_get n gs
+gets_after s position now gs (Opened k c) (Entered m n) = notify s.first_get n gs
+gets_after s position now gs (Add c broken) (Added k n) = notify s.first_get n gs
+gets_after s position now gs _ _ = gs
+
+-- ---- what follows from the history
+
+-- the latest effective moment after an event
+abbrev pub moment_after : ℕ → ℕ → Answer → ℕ
+moment_after latest at Unfit = latest
+moment_after latest at _ = max latest at
+
+-- the handles after an event
+abbrev pub handles_after : ℕ → Answer → ℕ
+handles_after handles Joined = handles + 1
+handles_after handles (Left c) = handles - 1
+handles_after handles _ = handles
+
+module _ {C : Type 0} where
+  -- what the pool began with
+  abbrev pub start : Ledger C → Start
+  start (Opening s) = s
+  start (Later l at e a) = start l
+
+  -- the position of the event that comes next
+  abbrev pub position : Ledger C → ℕ
+  position (Opening s) = 0
+  position (Later l at e a) = suc (position l)
+
+  -- the latest effective moment
+  abbrev pub latest : Ledger C → ℕ
+  latest (Opening s) = 0
+  latest (Later l at e a) = moment_after (latest l) at a
+
+  -- the handles that are alive: one is there from the beginning
+  abbrev pub handles : Ledger C → ℕ
+  handles (Opening s) = 1
+  handles (Later l at e a) = handles_after (handles l) a
+
+  -- all connections and approvals there ever were, in a row of numbers
+  abbrev pub records : Ledger C → List (Numbered (Standing C))
+  records (Opening s) = []
+  records (Later l at e a) = records_after (start l) (handles l) (position l) (max (latest l) at) (records l) e a
+
+  -- all gets there ever were, in a row of numbers
+  abbrev pub gets : Ledger C → List (Numbered Getting)
+  gets (Opening s) = []
+  gets (Later l at e a) = gets_after (start l) (position l) (max (latest l) at) (gets l) e a
+
+  -- the number of records in places that pass a test
+  abbrev pub tally_places : (Place C → Bool) → List (Numbered (Standing C)) → ℕ
+  tally_places test rs = tally (λ r. stands test r.standing) rs
+
+  -- how many of the records are connections
+  abbrev pub conns_of : List (Numbered (Standing C)) → ℕ
+  conns_of = tally_places is_conn
+
+  -- how many of the records are open approvals
+  abbrev pub approved_of : List (Numbered (Standing C)) → ℕ
+  approved_of = tally_places is_approval
+
+  -- how many of the records are idle
+  abbrev pub idle_of : List (Numbered (Standing C)) → ℕ
+  idle_of = tally_places is_idle
+
+  -- an idle record that entered at this position
+  abbrev pub idle_at : ℕ → Numbered (Standing C) → Bool
+  idle_at p r = stands is_idle r.standing && eqb r.position p
+
+-- the number of gets in places that pass a test
+abbrev pub tally_gets : (GetPlace → Bool) → List (Numbered Getting) → ℕ
+tally_gets test gs = tally (λ g. gets_stand test g.standing) gs
+
+-- how many of the gets are alive
+abbrev pub alive_of : List (Numbered Getting) → ℕ
+alive_of gs = tally (λ g. is_some g.standing) gs
+
+-- a get that waits since this position and was not notified
+abbrev pub unnotified_at : ℕ → Numbered Getting → Bool
+unnotified_at p g = gets_stand is_unnotified g.standing && eqb g.position p
+
+module _ {C : Type 0} where
+  -- the next number of a record
+  abbrev pub next : Ledger C → ℕ
+  next l = (start l).first + length (records l)
+
+  -- the next number of a get
+  abbrev pub next_get : Ledger C → ℕ
+  next_get l = (start l).first_get + length (gets l)
+
+  -- sizes: connections, open approvals, idle and out ones; gets alive, waiters notified or not
+  abbrev pub conns : Ledger C → ℕ
+  conns l = conns_of (records l)
+
+  -- how many approvals are open
+  abbrev pub approved : Ledger C → ℕ
+  approved l = approved_of (records l)
+
+  -- how many connections are idle
+  abbrev pub idle_count : Ledger C → ℕ
+  idle_count l = idle_of (records l)
+
+  -- how many connections somebody holds
+  abbrev pub out : Ledger C → ℕ
+  out l = tally_places is_out (records l)
+
+  -- how many gets are alive
+  abbrev pub alive : Ledger C → ℕ
+  alive l = alive_of (gets l)
+
+  -- how many waiters were notified
+  abbrev pub notified : Ledger C → ℕ
+  notified l = tally_gets is_notified (gets l)
+
+  -- how many waiters were not notified
+  abbrev pub unnotified : Ledger C → ℕ
+  unnotified l = tally_gets is_unnotified (gets l)
+
+  -- the idle numbers, the one that entered first before the others
+  abbrev pub idle : Ledger C → List ℕ
+  idle l = in_order idle_at (start l).first (records l) (position l)
+
+  -- the idle connection that goes out next
+  abbrev pub first_idle : Ledger C → Option ℕ
+  first_idle l = first_of (start l).config.queue_strategy (idle l)
+
+  -- the unclaimed numbers, the least first
+  abbrev pub unclaimed : Ledger C → List ℕ
+  unclaimed l = numbers (λ r. stands is_unclaimed r.standing) (start l).first (records l)
+
+  -- the waiters that were not notified, the one that waits longest first
+  abbrev pub waiting : Ledger C → List ℕ
+  waiting l = in_order unnotified_at (start l).first_get (gets l) (position l)
+
+  -- the waiter that is notified next
+  abbrev pub oldest_waiter : Ledger C → Option ℕ
+  oldest_waiter l = slice_get (waiting l) 0
+
+  -- the greatest number of connections and open approvals so far
+  abbrev pub peak : Ledger C → ℕ
+  peak (Opening s) = 0
+  peak (Later l at e a) = max (peak l) (conns (Later l at e a) + approved (Later l at e a))
+
+  -- the greatest number of gets alive so far
+  abbrev pub get_peak : Ledger C → ℕ
+  get_peak (Opening s) = 0
+  get_peak (Later l at e a) = max (get_peak l) (alive (Later l at e a))
+
+  -- where the record of a number stands, if it has not ended
+  abbrev pub record_of : Ledger C → ℕ → Option (Standing C)
+  record_of l k = standing_at (start l).first (records l) k
+
+  -- where the get of a number stands, if it has not ended
+  abbrev pub get_of : Ledger C → ℕ → Option Getting
+  get_of l g = standing_at (start l).first_get (gets l) g
+
+  -- the get of a number, with the position since which it waits if it waits
+  abbrev pub numbered_get : Ledger C → ℕ → Option (Numbered Getting)
+  numbered_get l g = at (start l).first_get (gets l) g
+
+  -- ---- statistics: sums over the events and their answers, each read with the ledger before it
+
+  -- whether a connection has lived too long at a moment
+  abbrev pub expires : Ledger C → ℕ → ℕ → Bool
+  expires l at k = is_expired (start l).config.max_lifetime (max (latest l) at) (birth_in (record_of l k))
+
+  -- when the get of an event first waited
+  abbrev pub waited_since : Ledger C → Act C → Option ℕ
+  waited_since l e = option_and_then (λ g. first_wait_of (get_of l g)) (get_in e)
+
+  -- gets that began
+  abbrev pub started : Ledger C → ℕ
+  started (Opening s) = 0
+  started (Later l at e (Begun g)) = started l + 1
+  started (Later l at e a) = started l
+
+  -- served without ever having waited
+  abbrev pub direct : Ledger C → ℕ
+  direct (Opening s) = 0
+  direct (Later l at e (Served k grant)) = direct l + one (not (is_some (waited_since l e)))
+  direct (Later l at e a) = direct l
+
+  -- served after having waited
+  abbrev pub waited : Ledger C → ℕ
+  waited (Opening s) = 0
+  waited (Later l at e (Served k grant)) = waited l + one (is_some (waited_since l e))
+  waited (Later l at e a) = waited l
+
+  -- gets that gave up at their deadline
+  abbrev pub timed_out : Ledger C → ℕ
+  timed_out (Opening s) = 0
+  timed_out (Later l at e Unfit) = timed_out l
+  timed_out (Later l at (GiveUp g TimedOut held broken) a) = timed_out l + 1
+  timed_out (Later l at e a) = timed_out l
+
+  -- gets that were let go before they were answered
+  abbrev pub cancelled : Ledger C → ℕ
+  cancelled (Opening s) = 0
+  cancelled (Later l at e Unfit) = cancelled l
+  cancelled (Later l at (GiveUp g Cancelled held broken) a) = cancelled l + 1
+  cancelled (Later l at e a) = cancelled l
+
+  -- how long the get of an event had waited, in whole microseconds
+  abbrev pub wait_of : Ledger C → ℕ → Act C → ℕ
+  wait_of l at e = micros_since (max (latest l) at) (waited_since l e)
+
+  -- the waits of the gets that were served or timed out; the sum stays at the greatest u64
+  abbrev pub wait_micros : Ledger C → ℕ
+  wait_micros (Opening s) = 0
+  wait_micros (Later l at e Unfit) = wait_micros l
+  wait_micros (Later l at e (Served k grant)) = min 18446744073709551615 (wait_micros l + wait_of l at e)
+  wait_micros (Later l at (GiveUp g TimedOut held broken) a) = min 18446744073709551615 (wait_micros l + wait_of l at (GiveUp g TimedOut held broken))
+  wait_micros (Later l at e a) = wait_micros l
+
+  -- connections that an approval brought
+  abbrev pub created : Ledger C → ℕ
+  created (Opening s) = 0
+  created (Later l at e (Entered k n)) = created l + 1
+  created (Later l at e a) = created l
+
+  -- connections that were closed as broken
+  abbrev pub broken : Ledger C → ℕ
+  broken (Opening s) = 0
+  broken (Later l at e (Closed k grant n)) = broken l + one (says_broken e)
+  broken (Later l at e a) = broken l
+
+  -- closed by a failed check
+  abbrev pub invalid : Ledger C → ℕ
+  invalid (Opening s) = 0
+  invalid (Later l at e Unfit) = invalid l
+  invalid (Later l at (CheckedErr g broken) a) = invalid l + 1
+  invalid (Later l at e a) = invalid l
+
+  -- closed because it lived too long, and was not said to be broken
+  abbrev pub expired : Ledger C → ℕ
+  expired (Opening s) = 0
+  expired (Later l at e (Closed k grant n)) = expired l + one (not (says_broken e) && expires l at k)
+  expired (Later l at e (Reaped closed by_idle by_life grant)) = expired l + by_life
+  expired (Later l at e a) = expired l
+
+  -- closed because it was idle too long
+  abbrev pub idled_out : Ledger C → ℕ
+  idled_out (Opening s) = 0
+  idled_out (Later l at e (Reaped closed by_idle by_life grant)) = idled_out l + by_idle
+  idled_out (Later l at e a) = idled_out l
+
+  -- all statistics
+  abbrev pub counts : Ledger C → Counts
+  counts l = record {
+    started = started l;
+    direct = direct l;
+    waited = waited l;
+    timed_out = timed_out l;
+    cancelled = cancelled l;
+    wait_time = 1000 * wait_micros l;
+    created = created l;
+    broken = broken l;
+    invalid = invalid l;
+    max_lifetime = expired l;
+    idle_timeout = idled_out l;
+  }
+
+  -- what the pool tells of itself
+  abbrev pub figures : Ledger C → Figures
+  figures l = record { connections = conns l; idle = idle_count l; counts = counts l }
+
+-- the empty ledger, with the first numbers given
+abbrev pub opening_with : {C : Type 0} → Settings → ℕ → ℕ → Ledger C
+opening_with config first first_get = Opening (record { config = config; first = first; first_get = first_get })

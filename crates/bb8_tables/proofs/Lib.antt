@@ -1,0 +1,6 @@
+pub mod Views
+pub mod Slots
+pub mod Lines
+pub mod RecordPlaces
+pub mod Approvals
+pub mod GetPlaces

@@ -1,0 +1,11 @@
+use Rattle.std.proofs.Common.{ap, ◌∙◌}
+use Rattle.bb8_tables.specs.Machine as machine
+use Rattle.bb8_tables.specs.Views.{ShownGets}
+use Rattle.bb8_tables.proofs.GetPlaces.{pass_good, pass_view}
+use Rattle.bb8_tables.proofs.gets.Gets.pass.Goals as goal
+
+pub invariant_of-self : goal.invariant_of-self
+invariant_of-self c = pass_good c.self.inside c.self.invariant
+
+pub returns-clause-state : goal.returns-clause-state
+returns-clause-state c = pass_view c.self.inside c.self.invariant (rw (← c.self.view_is) at c.requires.room) ∙ ap (λ (s : ShownGets). machine.get_ended s.next (machine.begun s)) c.self.view_is

@@ -1,0 +1,9 @@
+use Rattle.std.proofs.Common.{◌≤◌, length, arith}
+use Rattle.bb8_tables.proofs.RecordPlaces.{idle_fit}
+use Rattle.bb8_tables.proofs.records.Records.ready.Goals as goal
+
+pub overflow_add-result : goal.overflow_add-result
+overflow_add-result g c =
+    let s = c.self.invariant.sizes in
+    let fit : length c.self.inside.idle.items ≤ c.self.inside.conns = idle_fit c.self.inside c.self.invariant in
+    omega arith

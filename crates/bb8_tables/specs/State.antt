@@ -1,0 +1,88 @@
+-- What the fields of the tables mean, and what holds of them.
+use Rattle.std.specs.Prelude.{◌≡◌, ℕ, ◌+◌, ◌≤◌, List, map, Option, Some, None, Bool, false}
+use Rattle.slab.specs.Slab.{slab_len}
+use Rattle.bb8_types.specs.declared.standing.Place.{Place}
+use Rattle.bb8_tables.specs.declared.keys.Key.{Key}
+use Rattle.bb8_tables.specs.declared.keys.GetKey.{GetKey}
+use Rattle.bb8_types.specs.declared.standing.Standing.{Standing}
+use Rattle.bb8_types.specs.declared.standing.Getting.{Getting}
+use Rattle.bb8_tables.specs.declared.table.Slot.{Slot}
+use Rattle.bb8_tables.specs.declared.records.Records.TheInside.{Inside as RecordsInside}
+use Rattle.bb8_tables.specs.declared.gets.Gets.TheInside.{Inside as GetsInside}
+use Rattle.bb8_types.specs.Places.{is_idle, is_unclaimed, is_conn, is_approval, is_unnotified}
+use Rattle.bb8_types.specs.Numbered.{tally}
+use Rattle.bb8_tables.specs.Views.{ShownRecords, ShownGets}
+use Rattle.bb8_tables.specs.Slots.{held, IsLine, IsTable}
+
+-- how many records there are, and for how many there is room
+pub record AreSized (places place_room idle_room unclaimed_room conns approved peak : ℕ) : Type 0 where
+  pub places_are : places ≡ conns + approved
+  pub peak_holds : conns + approved ≤ peak
+  pub peak_few : peak ≤ 4294967295
+  pub place_room_holds : peak ≤ place_room
+  pub idle_room_holds : peak ≤ idle_room
+  pub unclaimed_room_holds : peak ≤ unclaimed_room
+
+-- how many gets there are, and for how many there is room
+pub record AreGetsSized (places place_room line_room alive peak next : ℕ) : Type 0 where
+  pub places_are : places ≡ alive
+  pub peak_holds : alive ≤ peak
+  pub alive_few : alive ≤ next
+  pub room_holds : peak ≤ place_room
+  pub line_room_holds : peak ≤ line_room
+
+module _ {C : Type 0} where
+  -- what the fields of the records show
+  abbrev pub view_of_records : RecordsInside C → ShownRecords C
+  view_of_records a = record {
+    next = a.next;
+    places = held (λ (x : Slot (Standing C)). x.number) (λ x. x.standing) a.slots.slots;
+    idle = map (λ k. k.number) a.idle.items;
+    unclaimed = map (λ k. k.number) a.unclaimed.items;
+    conns = a.conns;
+    approved = a.approved;
+    peak = a.peak;
+  }
+
+  -- the keys of places that pass a test
+  abbrev pub IsLineOf : (Place C → Bool) → List (Option (Slot (Standing C))) → List Key → Type 0
+  IsLineOf test = IsLine (λ (x : Slot (Standing C)). x.number) (λ x. test x.standing.place) (λ (k : Key). k.number) (λ k. k.place)
+
+  -- whether a record stands there in a place that passes a test
+  abbrev pub passes : (Place C → Bool) → Option (Slot (Standing C)) → Bool
+  passes test None = false
+  passes test (Some x) = test x.standing.place
+
+  -- the table holds what is numbered, the lines lead to it, and the counts agree
+  pub record AreGoodRecords (a : RecordsInside C) : Type 0 where
+    pub table : IsTable (λ (x : Slot (Standing C)). x.number) a.slots a.next
+    pub idle : IsLineOf is_idle a.slots.slots a.idle.items
+    pub unclaimed : IsLineOf is_unclaimed a.slots.slots a.unclaimed.items
+    pub conns_are : tally (passes is_conn) a.slots.slots ≡ a.conns
+    pub approved_are : tally (passes is_approval) a.slots.slots ≡ a.approved
+    pub sizes : AreSized (slab_len a.slots) a.slots.capacity a.idle.capacity a.unclaimed.capacity a.conns a.approved a.peak
+
+-- what the fields of the gets show
+abbrev pub view_of_gets : GetsInside → ShownGets
+view_of_gets a = record {
+  next = a.next;
+  places = held (λ (x : Slot Getting). x.number) (λ x. x.standing) a.slots.slots;
+  waiting = map (λ k. k.number) a.waiting.items;
+  alive = a.alive;
+  peak = a.peak;
+}
+
+-- whether a get stands there that waits and was not notified
+abbrev pub waits_at : Option (Slot Getting) → Bool
+waits_at None = false
+waits_at (Some x) = is_unnotified x.standing.place
+
+-- the keys of gets that wait and were not notified
+abbrev pub IsWaitingLine : List (Option (Slot Getting)) → List GetKey → Type 0
+IsWaitingLine = IsLine (λ (x : Slot Getting). x.number) (λ x. is_unnotified x.standing.place) (λ (k : GetKey). k.number) (λ k. k.place)
+
+-- the table holds what is numbered, the line leads to it, and the counts agree
+pub record AreGoodGets (a : GetsInside) : Type 0 where
+  pub table : IsTable (λ (x : Slot Getting). x.number) a.slots a.next
+  pub waiting : IsWaitingLine a.slots.slots a.waiting.items
+  pub sizes : AreGetsSized (slab_len a.slots) a.slots.capacity a.waiting.capacity a.alive a.peak a.next

@@ -1,0 +1,323 @@
+//! The gets of a pool.
+ghost use Rattle.std.specs.Prelude.{◌≡◌, ℕ, ◌+◌, ◌<◌, ◌≤◌, max, true, false, IsSome, is_some, ltb, cond, filter, not, eqb, slice_get, IfSome, IfNone, OnOk, OnErr, Some, None, []};
+ghost use Rattle.std.specs.FinMap as map;
+ghost use Rattle.circular_buffer.specs.Buffer.{buffer};
+ghost use Rattle.slab.specs.Slab as slabs;
+ghost use Rattle.bb8_tables.specs.declared.keys.GetKey.{GetKey};
+ghost use Rattle.bb8_types.specs.declared.standing.Getting.{Getting};
+ghost use Rattle.bb8_types.specs.Places as places;
+ghost use Rattle.bb8_tables.specs.Machine as machine;
+ghost use Rattle.bb8_tables.specs.Keys.{notified_of};
+ghost use Rattle.bb8_tables.specs.Views.{no_gets};
+ghost use Rattle.bb8_tables.specs.State.{waits_at};
+
+use crate::keys::GetKey;
+use crate::ring::Ring;
+use crate::table::{Slot, Table};
+use bb8_types::standing::{GetPlace, Getting};
+use std::alloc::{AllocError, Global};
+use std::marker::Model;
+
+/// The table of gets, with the line of those that wait and were not notified, and its counters.
+#[derive(Drop)]
+pub struct Gets {
+    next: u64,
+    slots: Table<Getting>,
+    waiting: Ring<GetKey>,
+    alive: u64,
+    peak: u64,
+}
+
+impl Model for Gets {
+    ghost use Rattle.bb8_tables.specs.Views.{ShownGets, gets_code};
+
+    ghost Value = { ShownGets };
+
+    ghost coded = { gets_code };
+
+    ghost use Rattle.bb8_tables.specs.State.{view_of_gets, AreGoodGets};
+
+    ghost view = { view_of_gets };
+
+    ghost invariant = { AreGoodGets };
+}
+
+/// Whether a get that stands there may try.
+fn is_trying_place(place: GetPlace) -> bool
+    ensures { result ≡ places.is_trying place }
+{
+    match place {
+        GetPlace::Active | GetPlace::Waiting(_) => true,
+        GetPlace::Holding(_) => false,
+    }
+}
+
+/// Whether a get waits that was not notified.
+pub fn is_unnotified(getting: Option<Getting>) -> bool
+    ensures { result ≡ places.gets_stand places.is_unnotified getting }
+{
+    match getting {
+        Some(
+            Getting {
+                place: GetPlace::Waiting(notified),
+                ..
+            },
+        ) => !notified,
+        _ => false,
+    }
+}
+
+/// Whether a get waits that was notified.
+pub fn is_notified(getting: Option<Getting>) -> bool
+    ensures { result ≡ places.gets_stand places.is_notified getting }
+{
+    match getting {
+        Some(
+            Getting {
+                place: GetPlace::Waiting(notified),
+                ..
+            },
+        ) => notified,
+        _ => false,
+    }
+}
+
+/// When a get first waited, if it waited.
+pub fn first_wait(getting: Option<Getting>) -> Option<u64>
+    ensures { result ≡ places.first_wait_of getting }
+{
+    match getting {
+        None => None,
+        Some(getting) => getting.first_wait,
+    }
+}
+
+/// Whether the get that stands at a place waits and was not notified.
+fn stands_in_line(slots: &Table<Getting>, place: usize) -> bool
+    ensures { result ≡ waits_at (slabs.get slots.now place) }
+{
+    match slots.get(place) {
+        None => false,
+        Some(slot) => is_unnotified(Some(slot.standing)),
+    }
+}
+
+/// Takes a get out of line, where it is in it.
+fn step_out(waiting: &mut Ring<GetKey>, waits: bool, number: u64)
+    ensures { waiting.new ≡ buffer (cond waits (filter (λ (key : GetKey). not (eqb key.number number)) waiting.old.items) waiting.old.items) waiting.old.capacity }
+{
+    if waits {
+        waiting.remove(number);
+    }
+}
+
+impl Gets {
+    /// No gets, which take no memory.
+    pub fn new(alloc: Global, first: u64) -> Self
+        ensures { result ≡ no_gets first }
+    {
+        Gets {
+            next: first,
+            slots: Table::new(alloc),
+            waiting: Ring::new(alloc),
+            alive: 0,
+            peak: 0,
+        }
+    }
+
+    /// Whether a number is left.
+    pub fn has_number(&self) -> bool
+        ensures { result ≡ ltb self.now.next 18446744073709551615 }
+    {
+        self.next < u64::MAX
+    }
+
+    /// How many gets are alive.
+    pub fn alive(&self) -> u64
+        ensures { result ≡ self.now.alive }
+    {
+        self.alive
+    }
+
+    /// Makes room for a higher peak, in the table and in the line, so that waiting needs no memory.
+    #[cold]
+    fn make_room(&mut self) -> Result<(), AllocError>
+        requires number { self.old.next < 18446744073709551615 }
+        requires full { self.old.alive ≡ self.old.peak }
+        ensures ok { OnOk result (self.new ≡ record self.old { peak = self.old.peak + 1 }) }
+        ensures err { OnErr result (self.new ≡ self.old) }
+    {
+        self.slots.reserve(1)?;
+        let room = self.peak as usize + 1;
+        if self.waiting.capacity() < room {
+            self.waiting.grow(room.saturating_mul(2))?;
+        }
+        self.peak += 1;
+        Ok(())
+    }
+
+    /// Makes room for one more get, where there is none yet.
+    fn make_room_for_one(&mut self) -> bool
+        requires { self.old.next < 18446744073709551615 }
+        ensures made { result ≡ true → self.new ≡ record self.old { peak = max self.old.peak (self.old.alive + 1) } }
+        ensures refused { result ≡ false → (self.old.alive ≡ self.old.peak) × (self.new ≡ self.old) }
+    {
+        self.alive < self.peak || self.make_room().is_ok()
+    }
+
+    /// Begins a get of the next number, for which there is room.
+    fn bear(&mut self) -> GetKey
+        requires room { self.old.alive < self.old.peak }
+        requires number { self.old.next < 18446744073709551615 }
+        ensures key { result.number ≡ self.old.next }
+        ensures state { self.new ≡ machine.begun self.old }
+    {
+        let number = self.next;
+        let place = self.slots.insert(Slot {
+            number,
+            standing: Getting {
+                place: GetPlace::Active,
+                first_wait: None,
+            },
+        });
+        self.next += 1;
+        self.alive += 1;
+        GetKey { number, place }
+    }
+
+    /// Whether a get could begin with no memory: a number is left, and more gets were alive once.
+    pub fn has_room(&self) -> bool
+        ensures number { result ≡ true → self.now.next < 18446744073709551615 }
+        ensures room { result ≡ true → self.now.alive < self.now.peak }
+    {
+        self.next < u64::MAX && self.alive < self.peak
+    }
+
+    /// Gives the next number to a get that begins and ends at once, for which there is room.
+    pub fn pass(&mut self) -> u64
+        requires room { self.old.alive < self.old.peak }
+        requires number { self.old.next < 18446744073709551615 }
+        ensures number { result ≡ self.old.next }
+        ensures state { self.new ≡ machine.get_ended self.old.next (machine.begun self.old) }
+    {
+        let number = self.next;
+        self.next += 1;
+        number
+    }
+
+    /// Begins a get. Memory is asked for only where as many gets are alive as ever were.
+    #[inline]
+    pub fn begin(&mut self) -> Option<GetKey>
+        requires { self.old.next < 18446744073709551615 }
+        ensures some { IfSome result (λ g. (g.number ≡ self.old.next) × (self.new ≡ machine.begun self.old)) }
+        ensures none { IfNone result ((self.old.alive ≡ self.old.peak) × (self.new ≡ self.old)) }
+    {
+        if !self.make_room_for_one() {
+            return None;
+        }
+        Some(self.bear())
+    }
+
+    /// Has a get wait, which did not wait or was notified, since this moment if it did not wait before.
+    pub fn wait(&mut self, g: GetKey, now: u64)
+        requires { (x : Getting) × (map.get self.old.places g.number ≡ Some x) × (places.is_unnotified x.place ≡ false) }
+        ensures { self.new ≡ machine.waits now g.number self.old }
+    {
+        match self.slots.locate(g.number, g.place) {
+            None => {}
+            Some(place) => {
+                self.slots.wait(place, now);
+                self.waiting.push(GetKey {
+                    number: g.number,
+                    place,
+                });
+            }
+        }
+    }
+
+    /// Notifies the oldest waiter that was not notified.
+    pub fn notify(&mut self) -> Option<GetKey>
+        ensures value { notified_of result ≡ slice_get self.old.waiting 0 }
+        ensures state { self.new ≡ machine.noticed (notified_of result) self.old }
+    {
+        match self.waiting.pop() {
+            None => None,
+            Some(key) => {
+                self.slots.turn(key.place, GetPlace::Waiting(true));
+                Some(key)
+            }
+        }
+    }
+
+    /// Ends a get that is alive.
+    #[inline]
+    pub fn end(&mut self, g: GetKey)
+        requires { IsSome (map.get self.old.places g.number) }
+        ensures state { self.new ≡ machine.get_ended g.number self.old }
+        ensures numbers { self.old.next ≤ 18446744073709551615 }
+    {
+        match self.slots.locate(g.number, g.place) {
+            None => {}
+            Some(place) => {
+                let waits = stands_in_line(&self.slots, place);
+                step_out(&mut self.waiting, waits, g.number);
+                self.slots.remove(place);
+                self.alive -= 1;
+            }
+        }
+    }
+
+    /// Ends a get that is alive and in no line.
+    #[inline]
+    pub fn finish(&mut self, g: GetKey)
+        requires { (x : Getting) × (map.get self.old.places g.number ≡ Some x) × (places.is_unnotified x.place ≡ false) }
+        ensures state { self.new ≡ machine.get_ended g.number self.old }
+        ensures numbers { self.old.next ≤ 18446744073709551615 }
+    {
+        match self.slots.locate(g.number, g.place) {
+            None => {}
+            Some(place) => {
+                self.slots.remove(place);
+                self.alive -= 1;
+            }
+        }
+    }
+
+    /// Where the number stands, if the get is alive.
+    pub fn find(&self, number: u64) -> Option<GetKey>
+        ensures some { IfSome result (λ g. (g.number ≡ number) × IsSome (map.get self.now.places number)) }
+        ensures none { IfNone result (map.get self.now.places number ≡ None) }
+    {
+        match self.slots.locate(number, 0) {
+            None => None,
+            Some(place) => Some(GetKey { number, place }),
+        }
+    }
+
+    /// How the get stands, if it is alive.
+    pub fn getting(&self, g: GetKey) -> Option<Getting>
+        ensures { result ≡ map.get self.now.places g.number }
+    {
+        match self.slots.slot(g.number, g.place) {
+            None => None,
+            Some(slot) => Some(slot.standing),
+        }
+    }
+
+    /// Whether the get is alive.
+    pub fn is_alive(&self, g: GetKey) -> bool
+        ensures { result ≡ is_some (map.get self.now.places g.number) }
+    {
+        self.getting(g).is_some()
+    }
+
+    /// Whether the get may try.
+    pub fn is_trying(&self, g: GetKey) -> bool
+        ensures { result ≡ places.gets_stand places.is_trying (map.get self.now.places g.number) }
+    {
+        match self.getting(g) {
+            None => false,
+            Some(getting) => is_trying_place(getting.place),
+        }
+    }
+}

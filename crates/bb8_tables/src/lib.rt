@@ -1,0 +1,9 @@
+//! Tables, lines and counters of a pool's state, which know no ledger.
+#![tactic(auto)]
+
+pub mod counters;
+pub mod gets;
+pub mod keys;
+pub mod records;
+mod ring;
+mod table;

@@ -1,0 +1,401 @@
+//! The connections and approvals of a pool.
+ghost use Rattle.std.specs.Prelude.{◌≡◌, ◌≢◌, ℕ, Bool, true, false, cond, ◌<◌, ◌≤◌, ◌+◌, IsSome, is_some, IfSome, IfNone, IfOk, IfErr, OnOk, OnErr, max, Some, None, slice_get, length, [], ◌∷◌, ◌++◌, ltb};
+ghost use Rattle.std.specs.FinMap as map;
+ghost use Rattle.bb8_types.specs.Places as places;
+ghost use Rattle.bb8_tables.specs.Machine as machine;
+ghost use Rattle.bb8_types.specs.Numbered as numbered;
+ghost use Rattle.bb8_tables.specs.Views.{no_records};
+ghost use Rattle.bb8_types.specs.declared.standing.Place.TheVariants.{Unclaimed, Claimed, Idle, Guarded};
+ghost use Rattle.circular_buffer.specs.Buffer.{buffer};
+ghost use Rattle.bb8_types.specs.declared.standing.Standing.{Standing};
+
+use crate::keys::Key;
+use crate::ring::Ring;
+use crate::table::{Slot, Table};
+use bb8_types::api::QueueStrategy;
+use bb8_types::grants::Grant;
+use bb8_types::standing::{Place, Standing};
+use std::alloc::{AllocError, Global};
+use std::marker::Model;
+
+/// The table of connections and approvals, with its two lines and its counters.
+#[derive(Drop)]
+pub struct Records<C> {
+    next: u64,
+    slots: Table<Standing<C>>,
+    idle: Ring<Key>,
+    unclaimed: Ring<Key>,
+    conns: u64,
+    approved: u64,
+    peak: u64,
+}
+
+impl<C> Model for Records<C> {
+    ghost use Rattle.bb8_tables.specs.Views.{ShownRecords, records_code};
+
+    ghost Value = { ShownRecords C };
+
+    ghost coded = { records_code C.code };
+
+    ghost use Rattle.bb8_tables.specs.State.{view_of_records, AreGoodRecords};
+
+    ghost view = { view_of_records };
+
+    ghost invariant = { AreGoodRecords };
+}
+
+/// The connection of an idle place.
+fn connection_of<C: Drop>(place: Place<C>) -> Option<C>
+    ensures some { IfSome result (λ c. place ≡ Idle c) }
+    ensures none { IfNone result (places.is_idle place ≡ false) }
+{
+    match place {
+        Place::Idle(conn) => Some(conn),
+        Place::Unclaimed | Place::Claimed | Place::Held(_) | Place::Guarded => None,
+    }
+}
+
+fn is_claimed_place<C>(place: &Place<C>) -> bool
+    ensures { result ≡ places.is_claimed place.now }
+{
+    match place {
+        Place::Claimed => true,
+        Place::Unclaimed | Place::Idle(_) | Place::Held(_) | Place::Guarded => false,
+    }
+}
+
+fn is_guarded_place<C>(place: &Place<C>) -> bool
+    ensures { result ≡ places.is_guarded place.now }
+{
+    match place {
+        Place::Guarded => true,
+        Place::Unclaimed | Place::Claimed | Place::Idle(_) | Place::Held(_) => false,
+    }
+}
+
+/// A new approval, claimed or not.
+fn approval<C>(claimed: bool) -> Standing<C>
+    ensures { result ≡ record { place = cond claimed Claimed Unclaimed; birth = 0; entered = 0 } }
+{
+    let place = if claimed {
+        Place::Claimed
+    } else {
+        Place::Unclaimed
+    };
+    Standing {
+        place,
+        birth: 0,
+        entered: 0,
+    }
+}
+
+/// Puts a new approval in line, where it is not claimed already.
+fn line_up(unclaimed: &mut Ring<Key>, claimed: bool, key: Key)
+    requires { length unclaimed.old.items < unclaimed.old.capacity }
+    ensures { unclaimed.new ≡ buffer (unclaimed.old.items ++ cond claimed [] (key ∷ [])) unclaimed.old.capacity }
+{
+    if !claimed {
+        unclaimed.push(key);
+    }
+}
+
+/// One, where the test passes.
+pub fn one(test: bool) -> u64
+    ensures value { result ≡ numbered.one test }
+    ensures few { result ≤ 1 }
+{
+    if test { 1 } else { 0 }
+}
+
+impl<C: Drop> Records<C> {
+    /// No records, which take no memory.
+    pub fn new(alloc: Global, first: u64) -> Self
+        ensures { result ≡ no_records first }
+    {
+        Records {
+            next: first,
+            slots: Table::new(alloc),
+            idle: Ring::new(alloc),
+            unclaimed: Ring::new(alloc),
+            conns: 0,
+            approved: 0,
+            peak: 0,
+        }
+    }
+
+    /// Claims the unclaimed approval of the least number.
+    pub fn claim(&mut self) -> Option<Key>
+        ensures some { IfSome result (λ key. (slice_get self.old.unclaimed 0 ≡ Some key.number) × (self.new ≡ machine.claimed key.number self.old)) }
+        ensures none { IfNone result ((slice_get self.old.unclaimed 0 ≡ None) × (self.new ≡ self.old)) }
+    {
+        match self.unclaimed.pop() {
+            None => None,
+            Some(key) => {
+                let _ = self.slots.put(key.place, Place::Claimed);
+                Some(key)
+            }
+        }
+    }
+
+    /// Takes out the idle connection that is first, for a guard.
+    pub fn take(&mut self, strategy: QueueStrategy) -> Option<(Key, C)>
+        ensures some { IfSome result (λ r. (places.first_of strategy self.old.idle ≡ Some r.0.number) × ((birth entered : ℕ) × (map.get self.old.places r.0.number ≡ Some (record { place = Idle r.1; birth = birth; entered = entered }))) × (self.new ≡ machine.taken Guarded r.0.number self.old)) }
+        ensures none { IfNone result ((places.first_of strategy self.old.idle ≡ None) × (self.new ≡ self.old)) }
+    {
+        match self.idle.pop_by(strategy) {
+            None => None,
+            Some(key) => match connection_of(self.slots.put(key.place, Place::Guarded)) {
+                None => None,
+                Some(conn) => Some((key, conn)),
+            },
+        }
+    }
+
+    /// Makes a connection idle, which a claimed approval brought or a guard held.
+    pub fn enter(&mut self, k: Key, conn: C, birth: u64, now: u64, opening: bool)
+        requires { (s : Standing C) × (map.get self.old.places k.number ≡ Some s) × (s.place ≡ cond opening Claimed Guarded) }
+        ensures state { self.new ≡ machine.entered opening k.number (record { place = Idle conn; birth = birth; entered = now }) self.old }
+        ensures numbers { self.old.next ≤ 18446744073709551615 }
+    {
+        match self.slots.locate(k.number, k.place) {
+            None => {}
+            Some(place) => {
+                let idle = Standing {
+                    place: Place::Idle(conn),
+                    birth,
+                    entered: now,
+                };
+                let _ = self.slots.replace(place, idle);
+                self.idle.push(Key {
+                    number: k.number,
+                    place,
+                });
+                let opened = one(opening);
+                self.conns += opened;
+                self.approved -= opened;
+            }
+        }
+    }
+
+    /// Ends a claimed approval, or a connection that a guard held.
+    pub fn close(&mut self, k: Key, opening: bool)
+        requires { (s : Standing C) × (map.get self.old.places k.number ≡ Some s) × (s.place ≡ cond opening Claimed Guarded) }
+        ensures state { self.new ≡ machine.closed opening k.number self.old }
+        ensures numbers { self.old.next ≤ 18446744073709551615 }
+    {
+        match self.slots.locate(k.number, k.place) {
+            None => {}
+            Some(place) => {
+                self.slots.remove(place);
+                self.conns -= one(!opening);
+                self.approved -= one(opening);
+            }
+        }
+    }
+
+    /// Makes room for a higher peak.
+    fn make_room(&mut self, peak: u64) -> Result<(), AllocError>
+        requires higher { self.old.peak ≤ peak }
+        requires few { peak ≤ 4294967295 }
+        ensures ok { OnOk result (self.new ≡ record self.old { peak = peak }) }
+        ensures err { OnErr result (self.new ≡ self.old) }
+    {
+        let free = peak - (self.conns + self.approved);
+        self.slots.reserve(free as usize)?;
+        self.idle.grow(peak as usize)?;
+        self.unclaimed.grow(peak as usize)?;
+        self.peak = peak;
+        Ok(())
+    }
+
+    /// Makes room for one more record, where there is none yet.
+    fn make_room_for_one(&mut self) -> bool
+        requires { self.old.conns + self.old.approved < 4294967295 }
+        ensures made { result ≡ true → self.new ≡ record self.old { peak = max self.old.peak (self.old.conns + self.old.approved + 1) } }
+        ensures refused { result ≡ false → (self.old.conns + self.old.approved ≡ self.old.peak) × (self.new ≡ self.old) }
+    {
+        let used = self.used();
+        used < self.peak || self.make_room(used + 1).is_ok()
+    }
+
+    /// Makes an idle connection of the next number, for which there is room.
+    fn bear(&mut self, conn: C, now: u64) -> Key
+        requires room { self.old.conns + self.old.approved < self.old.peak }
+        requires number { self.old.next < 18446744073709551615 }
+        ensures key { result.number ≡ self.old.next }
+        ensures state { self.new ≡ machine.born conn now self.old }
+    {
+        let number = self.next;
+        let place = self.slots.insert(Slot {
+            number,
+            standing: Standing {
+                place: Place::Idle(conn),
+                birth: now,
+                entered: now,
+            },
+        });
+        let key = Key { number, place };
+        self.idle.push(key);
+        self.next += 1;
+        self.conns += 1;
+        key
+    }
+
+    /// Adds an idle connection that was born now. Memory is asked for only where there are as many records as ever were.
+    pub fn add(&mut self, conn: C, now: u64) -> Result<Key, C>
+        requires few { self.old.conns + self.old.approved < 4294967295 }
+        requires number { self.old.next < 18446744073709551615 }
+        ensures ok { IfOk result (λ key. (key.number ≡ self.old.next) × (self.new ≡ machine.raised (machine.born conn now self.old))) }
+        ensures err { IfErr result (λ c. (c ≡ conn) × (self.old.conns + self.old.approved ≡ self.old.peak) × (self.new ≡ self.old)) }
+    {
+        if !self.make_room_for_one() {
+            return Err(conn);
+        }
+        Ok(self.bear(conn, now))
+    }
+
+    /// Whether a number is left.
+    pub fn has_number(&self) -> bool
+        ensures { result ≡ ltb self.now.next 18446744073709551615 }
+    {
+        self.next < u64::MAX
+    }
+
+    /// The next number.
+    pub fn next_number(&self) -> u64
+        ensures { result ≡ self.now.next }
+    {
+        self.next
+    }
+
+    /// Makes one approval, for which there is room.
+    fn approve(&mut self, claimed: bool)
+        requires room { self.old.conns + self.old.approved < self.old.peak }
+        requires number { self.old.next < 18446744073709551615 }
+        ensures { self.new ≡ machine.approve_one claimed self.old }
+    {
+        let number = self.next;
+        let place = self.slots.insert(Slot {
+            number,
+            standing: approval(claimed),
+        });
+        line_up(&mut self.unclaimed, claimed, Key { number, place });
+        self.next += 1;
+        self.approved += 1;
+    }
+
+    /// Grants the approvals that are due, as far as there is room and memory. All room is made before the first one.
+    #[cold]
+    fn grant_some(&mut self, due: u64, claimed: bool) -> Grant
+        requires { self.old.conns + self.old.approved + due ≤ 4294967295 }
+        ensures granted { machine.IsGrant self.old due result }
+        ensures state { self.new ≡ machine.granted claimed result self.old }
+    {
+        let taken = self.conns + self.approved;
+        let possible = due.min(u64::MAX - self.next);
+        let below = possible.min(self.peak - taken);
+        let first = self.next;
+        let count = if below < possible && self.make_room(taken + possible).is_ok() {
+            possible
+        } else {
+            below
+        };
+        for _ in 0..count {
+            self.approve(claimed);
+        }
+        Grant {
+            first,
+            count: count as u32,
+            withheld: (due - count) as u32,
+        }
+    }
+
+    /// As `grant_some`. Most often nothing is due, and that is told without a call.
+    #[inline]
+    pub fn grant(&mut self, due: u64, claimed: bool) -> Grant
+        requires { self.old.conns + self.old.approved + due ≤ 4294967295 }
+        ensures granted { machine.IsGrant self.old due result }
+        ensures state { self.new ≡ machine.granted claimed result self.old }
+    {
+        if due > 0 {
+            return self.grant_some(due, claimed);
+        }
+        Grant::of_nothing(self.next)
+    }
+
+    /// How many open approvals there are.
+    pub fn approved(&self) -> u64
+        ensures { result ≡ self.now.approved }
+    {
+        self.approved
+    }
+
+    /// How many connections and open approvals there are.
+    pub fn used(&self) -> u64
+        ensures { result ≡ self.now.conns + self.now.approved }
+    {
+        self.conns + self.approved
+    }
+
+    /// How many idle connections and open approvals there are.
+    pub fn ready(&self) -> u64
+        ensures { result ≡ length self.now.idle + self.now.approved }
+    {
+        self.idle.len() as u64 + self.approved
+    }
+
+    /// How many connections there are.
+    pub fn connections(&self) -> u32
+        ensures { result ≡ self.now.conns }
+    {
+        self.conns as u32
+    }
+
+    /// How many idle connections there are.
+    pub fn idle_connections(&self) -> u32
+        ensures { result ≡ length self.now.idle }
+    {
+        self.idle.len() as u32
+    }
+
+    /// The birth of the record.
+    pub fn birth(&self, k: Key) -> u64
+        ensures { result ≡ places.birth_in (map.get self.now.places k.number) }
+    {
+        match self.slots.slot(k.number, k.place) {
+            None => 0,
+            Some(slot) => slot.standing.birth,
+        }
+    }
+
+    /// Where the number stands, if it does.
+    pub fn find(&self, number: u64) -> Option<Key>
+        ensures some { IfSome result (λ key. (key.number ≡ number) × IsSome (map.get self.now.places number)) }
+        ensures none { IfNone result (map.get self.now.places number ≡ None) }
+    {
+        match self.slots.locate(number, 0) {
+            None => None,
+            Some(place) => Some(Key { number, place }),
+        }
+    }
+
+    /// Whether the number is a claimed approval.
+    pub fn is_claimed(&self, k: Key) -> bool
+        ensures { result ≡ places.stands places.is_claimed (map.get self.now.places k.number) }
+    {
+        match self.slots.slot(k.number, k.place) {
+            None => false,
+            Some(slot) => is_claimed_place(&slot.standing.place),
+        }
+    }
+
+    /// Whether the number is a connection that a guard holds.
+    pub fn is_guarded(&self, k: Key) -> bool
+        ensures { result ≡ places.stands places.is_guarded (map.get self.now.places k.number) }
+    {
+        match self.slots.slot(k.number, k.place) {
+            None => false,
+            Some(slot) => is_guarded_place(&slot.standing.place),
+        }
+    }
+}

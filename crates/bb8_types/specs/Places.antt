@@ -1,0 +1,190 @@
+-- Where a record or a get stands, what is read off its place, and which one of a line goes out.
+use Rattle.std.specs.Prelude.{ℕ, ◌-◌, ◌/◌, Bool, true, false, ◌&&◌, ◌||◌, not, eqb, leb, List, length, slice_get, Option, Some, None}
+use Rattle.bb8_types.specs.declared.standing.Place.{Place}
+use Rattle.bb8_types.specs.declared.standing.Place.TheVariants.{Unclaimed, Claimed, Idle, Held, Guarded}
+use Rattle.bb8_types.specs.declared.standing.Standing.{Standing}
+use Rattle.bb8_types.specs.declared.standing.GetPlace.{GetPlace}
+use Rattle.bb8_types.specs.declared.standing.GetPlace.TheVariants.{Active, Waiting, Holding}
+use Rattle.bb8_types.specs.declared.standing.Getting.{Getting}
+use Rattle.bb8_types.specs.declared.api.configuration.QueueStrategy.{QueueStrategy}
+use Rattle.bb8_types.specs.declared.api.configuration.QueueStrategy.TheVariants.{Fifo, Lifo}
+use Rattle.bb8_types.specs.Settings.{Settings}
+use Rattle.bb8_types.specs.Numbered.{at, numbers, one, ended}
+
+-- ---- where a record stands
+
+-- a connection
+abbrev pub is_conn : {C : Type 0} → Place C → Bool
+is_conn Unclaimed = false
+is_conn Claimed = false
+is_conn (Idle c) = true
+is_conn (Held g) = true
+is_conn Guarded = true
+
+-- an approval that nobody claimed
+abbrev pub is_unclaimed : {C : Type 0} → Place C → Bool
+is_unclaimed Unclaimed = true
+is_unclaimed Claimed = false
+is_unclaimed (Idle c) = false
+is_unclaimed (Held g) = false
+is_unclaimed Guarded = false
+
+-- an approval that was claimed
+abbrev pub is_claimed : {C : Type 0} → Place C → Bool
+is_claimed Unclaimed = false
+is_claimed Claimed = true
+is_claimed (Idle c) = false
+is_claimed (Held g) = false
+is_claimed Guarded = false
+
+-- a connection that nobody holds
+abbrev pub is_idle : {C : Type 0} → Place C → Bool
+is_idle Unclaimed = false
+is_idle Claimed = false
+is_idle (Idle c) = true
+is_idle (Held g) = false
+is_idle Guarded = false
+
+-- held by a guard
+abbrev pub is_guarded : {C : Type 0} → Place C → Bool
+is_guarded Unclaimed = false
+is_guarded Claimed = false
+is_guarded (Idle c) = false
+is_guarded (Held g) = false
+is_guarded Guarded = true
+
+-- held by the get g
+abbrev pub is_held_by : {C : Type 0} → ℕ → Place C → Bool
+is_held_by g Unclaimed = false
+is_held_by g Claimed = false
+is_held_by g (Idle c) = false
+is_held_by g (Held h) = eqb g h
+is_held_by g Guarded = false
+
+-- an open approval
+abbrev pub is_approval : {C : Type 0} → Place C → Bool
+is_approval p = not (is_conn p)
+
+-- a connection that a get or a guard holds
+abbrev pub is_out : {C : Type 0} → Place C → Bool
+is_out Unclaimed = false
+is_out Claimed = false
+is_out (Idle c) = false
+is_out (Held g) = true
+is_out Guarded = true
+
+-- whether a record stands in a place that passes a test
+abbrev pub stands : {C : Type 0} → (Place C → Bool) → Option (Standing C) → Bool
+stands test None = false
+stands test (Some s) = test s.place
+
+-- ---- where a get stands
+
+-- it waits and was not notified
+abbrev pub is_unnotified : GetPlace → Bool
+is_unnotified Active = false
+is_unnotified (Waiting notified) = not notified
+is_unnotified (Holding k) = false
+
+-- it waits and was notified
+abbrev pub is_notified : GetPlace → Bool
+is_notified Active = false
+is_notified (Waiting notified) = notified
+is_notified (Holding k) = false
+
+-- the connection that it holds
+abbrev pub held_in : GetPlace → Option ℕ
+held_in Active = None
+held_in (Waiting notified) = None
+held_in (Holding k) = Some k
+
+-- whether a get stands in a place that passes a test
+abbrev pub gets_stand : (GetPlace → Bool) → Option Getting → Bool
+gets_stand test None = false
+gets_stand test (Some g) = test g.place
+
+-- the connection that a get holds
+abbrev pub holds : Option Getting → Option ℕ
+holds None = None
+holds (Some g) = held_in g.place
+
+-- when a get first waited
+abbrev pub first_wait_of : Option Getting → Option ℕ
+first_wait_of None = None
+first_wait_of (Some g) = g.first_wait
+
+-- a get that may try
+abbrev pub is_trying : GetPlace → Bool
+is_trying Active = true
+is_trying (Waiting notified) = true
+is_trying (Holding k) = false
+
+-- ---- time
+
+-- so long a limit is reached, where it is set
+abbrev pub is_past : Option ℕ → ℕ → Bool
+is_past None span = false
+is_past (Some limit) span = leb limit span
+
+-- a connection of this birth lives too long at a moment
+abbrev pub is_expired : Option ℕ → ℕ → ℕ → Bool
+is_expired lifetime now birth = is_past lifetime (now - birth)
+
+-- the whole microseconds since a moment, where there is one
+abbrev pub micros_since : ℕ → Option ℕ → ℕ
+micros_since now None = 0
+micros_since now (Some first) = (now - first) / 1000
+
+module _ {C : Type 0} where
+  -- an idle record that is idle too long at a moment
+  abbrev pub idles_out : Settings → ℕ → Option (Standing C) → Bool
+  idles_out config now None = false
+  idles_out config now (Some s) = is_idle s.place && is_past config.idle_timeout (now - s.entered)
+
+  -- an idle record that is expired at a moment
+  abbrev pub lives_out : Settings → ℕ → Option (Standing C) → Bool
+  lives_out config now None = false
+  lives_out config now (Some s) = is_idle s.place && is_expired config.max_lifetime now s.birth
+
+  -- reaped: the idle records that a reap closes
+  abbrev pub is_reaped : Settings → ℕ → Option (Standing C) → Bool
+  is_reaped config now o = idles_out config now o || lives_out config now o
+
+  -- what the last handle ends: the idle records and the unclaimed ones
+  abbrev pub is_left : Option (Standing C) → Bool
+  is_left None = false
+  is_left (Some s) = is_idle s.place || is_unclaimed s.place
+
+-- ---- in another place
+
+module _ {C : Type 0} where
+  -- a record at another place; birth and entry stay
+  abbrev pub placed : Place C → Standing C → Standing C
+  placed p s = record s { place = p }
+
+  -- the birth of a record, or 0 where it has ended
+  abbrev pub birth_in : Option (Standing C) → ℕ
+  birth_in None = 0
+  birth_in (Some s) = s.birth
+
+-- a get in another place
+abbrev pub get_placed : GetPlace → Getting → Getting
+get_placed p g = record g { place = p }
+
+-- the moment of the first wait
+abbrev pub first_or : ℕ → Option ℕ → ℕ
+first_or now None = now
+first_or now (Some first) = first
+
+-- a get that waits now, and since its first wait if it waited before
+abbrev pub get_waits : ℕ → Getting → Getting
+get_waits now g = record { place = Waiting false; first_wait = Some (first_or now g.first_wait) }
+
+-- where the one that goes out stands in a line of so many
+abbrev pub first_place : QueueStrategy → ℕ → ℕ
+first_place Fifo many = 0
+first_place Lifo many = many - 1
+
+-- first idle: of the idle numbers in the order of entry, the one that goes out
+abbrev pub first_of : QueueStrategy → List ℕ → Option ℕ
+first_of strategy idle = slice_get idle (first_place strategy (length idle))

@@ -1,0 +1,7 @@
+//! Plain data of a pool: configuration, moments, figures, errors and traits, and the places of its records and gets.
+#![tactic(auto)]
+
+pub mod api;
+pub mod grants;
+pub mod reasons;
+pub mod standing;
