@@ -1,0 +1,63 @@
+//! The manager and the pool that are measured.
+
+use bb8::{ManageConnection, Moment, NopCustomizer, NopErrorSink, Pool, SetClock};
+use futures::task::Poll;
+use std::error::Error;
+use std::fmt;
+use std::random::RandomSource;
+use std::sync::Wait;
+
+/// What a measured pool asks of its runtime.
+pub trait Runtime: Wait + RandomSource + AllocGlobal + Copy + Send + Sync + Drop + 'static {}
+
+impl<R: Wait + RandomSource + AllocGlobal + Copy + Send + Sync + Drop + 'static> Runtime for R {}
+
+/// A pool whose connections are numbers.
+pub type NumberPool<R, L> = Pool<NumberManager, NopErrorSink, NopCustomizer, SetClock, R, L>;
+
+/// Opens the connection 7, and finds each connection valid and whole.
+#[derive(Drop)]
+pub struct NumberManager;
+
+/// The error that never comes.
+#[derive(Clone, Copy, Debug)]
+pub struct Never;
+
+impl fmt::Display for Never {
+    fn fmt<W: fmt::Write>(&self, f: &mut fmt::Formatter<W>) -> fmt::Result {
+        f.write_str("never")
+    }
+}
+
+impl Error for Never {}
+
+impl ManageConnection for NumberManager {
+    type Connection = u64;
+
+    type Error = Never;
+
+    type Connecting = ();
+
+    type Checking = ();
+
+    fn connect(&self) {}
+
+    fn poll_connect(&self, _connecting: &mut (), _moment: Moment) -> Poll<Result<u64, Never>> {
+        Poll::Ready(Ok(7))
+    }
+
+    fn is_valid(&self, _connection: &mut u64) {}
+
+    fn poll_valid(
+        &self,
+        _connection: &mut u64,
+        _checking: &mut (),
+        _moment: Moment,
+    ) -> Poll<Result<(), Never>> {
+        Poll::Ready(Ok(()))
+    }
+
+    fn has_broken(&self, _connection: &mut u64) -> bool {
+        false
+    }
+}
