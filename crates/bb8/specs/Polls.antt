@@ -21,6 +21,7 @@ use Rattle.bb8.specs.declared.get.state.Next.{Next}
 use Rattle.bb8.specs.declared.get.state.Next.TheVariants.{Answer, Stand}
 use Rattle.bb8.specs.declared.get.state.Stage.{Stage}
 use Rattle.bb8.specs.declared.get.state.Stage.TheVariants.{Fresh, Trying, Waiting, Done}
+use Rattle.bb8_types.specs.Bounds.{last_moment}
 
 -- whether a get that stands so began and was not answered
 abbrev pub is_begun : Stage → Bool
@@ -32,7 +33,7 @@ is_begun Done = false
 -- the deadline of a get that was first polled at a moment: none, where it is past the greatest moment
 abbrev pub IsDeadline : Moment → ℕ → Option Moment → Type 0
 IsDeadline m timeout (Some deadline) = deadline.0 ≡ m.0 + timeout
-IsDeadline m timeout None = 18446744073709551615 < m.0 + timeout
+IsDeadline m timeout None = last_moment < m.0 + timeout
 
 module _ {C E H P : Type 0} (home : HomeOf H C P) (m : Moment) where
   -- after a try

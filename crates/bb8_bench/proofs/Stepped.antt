@@ -11,8 +11,8 @@ use Rattle.bb8_ledger.specs.Acts.{Act, Begin, Try, PutBack, Fill, Claim, Opened}
 use Rattle.bb8_ledger.specs.Answers.{Answer, Begun, Served, Kept, Granted, Entered}
 use Rattle.bb8_ledger.specs.Answers as answers
 use Rattle.bb8_types.specs.Numbered.{Numbered, at as at_number, update, numbers, in_order}
-use Rattle.bb8_ledger.specs.Ledger.{Ledger, Later, start, position, latest, handles, handles_after, records, gets, next_get, idle, first_idle, unclaimed, record_of, idle_at, put, entry, enters, approval, approve, new_get}
-use Rattle.bb8_types.specs.Places.{first_of, stands, is_claimed, is_guarded, is_idle, is_unclaimed, gets_stand, birth_in, placed, is_trying}
+use Rattle.bb8_ledger.specs.Ledger.{Ledger, Later, start, position, latest, handles, handles_after, records, gets, next_get, idle, first_idle, unclaimed, record_of, idle_at, at_place, entry, at_entry, approval, with_approvals, new_get}
+use Rattle.bb8_types.specs.Places.{first_of, stands, is_claimed, is_guarded, is_idle, is_unclaimed, gets_stand, birth_in, with_place, is_trying}
 use Rattle.bb8_ledger.specs.Table.{Row, begins, serves, claims, takes, Allowed}
 use Rattle.bb8_core.specs.Shown.{Shown, shown_records, Means, IsFitting}
 use Rattle.bb8_tables.specs.Views.{ShownRecords}
@@ -37,42 +37,42 @@ by_row false P Q e p = cc
 one_place : (p q : ℕ) (r : Numbered (Standing ℕ)) → idle_at p r ≡ true → idle_at q r ≡ true → p ≡ q
 one_place p q r a b = sym (numbered.tested r.position p (and_right (stands is_idle r.standing) _ a).1) ∙ numbered.tested r.position q (and_right (stands is_idle r.standing) _ b).1
 
-not_idle : (o : Option (Standing ℕ)) (b : Bool) → (stands is_idle (option_map (placed Guarded) o) && b) ≡ false
+not_idle : (o : Option (Standing ℕ)) (b : Bool) → (stands is_idle (option_map (with_place Guarded) o) && b) ≡ false
 not_idle None b = refl
 not_idle (Some s) b = refl
 
-claimed_place : (o : Option (Standing ℕ)) → is_claimed (machine.placed Claimed o).place ≡ true
+claimed_place : (o : Option (Standing ℕ)) → is_claimed (machine.standing_at Claimed o).place ≡ true
 claimed_place None = refl
 claimed_place (Some s) = refl
 
 -- ---- approvals that are granted stand behind the others
 
-idle-approve : (n first m : ℕ) (rs : List (Numbered (Standing ℕ))) → in_order idle_at first (approve false n rs) m ≡ in_order idle_at first rs m
+idle-approve : (n first m : ℕ) (rs : List (Numbered (Standing ℕ))) → in_order idle_at first (with_approvals false n rs) m ≡ in_order idle_at first rs m
 idle-approve zero first m rs = refl
-idle-approve (suc n) first m rs = numbered.in_order-append idle_at (approve false n rs) first (approval false) (λ p. refl) m ∙ idle-approve n first m rs
+idle-approve (suc n) first m rs = numbered.in_order-append idle_at (with_approvals false n rs) first (approval false) (λ p. refl) m ∙ idle-approve n first m rs
 
-at-approve : (n first k : ℕ) (r : Numbered (Standing ℕ)) (rs : List (Numbered (Standing ℕ))) → at_number first rs k ≡ Some r → at_number first (approve false n rs) k ≡ Some r
+at-approve : (n first k : ℕ) (r : Numbered (Standing ℕ)) (rs : List (Numbered (Standing ℕ))) → at_number first rs k ≡ Some r → at_number first (with_approvals false n rs) k ≡ Some r
 at-approve zero first k r rs e = e
 at-approve (suc n) first k r rs e =
-    let before : List (Numbered (Standing ℕ)) = approve false n rs in
+    let before : List (Numbered (Standing ℕ)) = with_approvals false n rs in
     let ih : at_number first before k ≡ Some r = at-approve n first k r rs e in
     let other : eqb k (first + length before) ≡ false = numbered.ne_test k (first + length before) (λ same. let past : at_number first before k ≡ None = numbered.at-past before first k (omega arith) in let clash : Some r ≡ None = sym ih ∙ past in cc) in
     numbered.at-append before (approval false) first k ∙ ap (λ (b : Bool). cond b (Some (approval false)) (at_number first before k)) other ∙ ih
 
-length-approve : (n : ℕ) → length (approve {C = ℕ} false n []) ≡ n
+length-approve : (n : ℕ) → length (with_approvals {C = ℕ} false n []) ≡ n
 length-approve zero = refl
 length-approve (suc n) =
-    let ih : length (approve {C = ℕ} false n []) ≡ n = length-approve n in
-    let more : length (approve {C = ℕ} false n [] ++ approval false ∷ []) ≡ length (approve {C = ℕ} false n []) + 1 = length-append (approve {C = ℕ} false n []) (approval false ∷ []) in
+    let ih : length (with_approvals {C = ℕ} false n []) ≡ n = length-approve n in
+    let more : length (with_approvals {C = ℕ} false n [] ++ approval false ∷ []) ≡ length (with_approvals {C = ℕ} false n []) + 1 = length-append (with_approvals {C = ℕ} false n []) (approval false ∷ []) in
     omega arith
 
-unclaimed-approve : (n : ℕ) → numbers (λ (r : Numbered (Standing ℕ)). stands is_unclaimed r.standing) 0 (approve false n []) ≡ upto n
+unclaimed-approve : (n : ℕ) → numbers (λ (r : Numbered (Standing ℕ)). stands is_unclaimed r.standing) 0 (with_approvals false n []) ≡ upto n
 unclaimed-approve zero = refl
 unclaimed-approve (suc n) =
-    let ih : numbers (λ (r : Numbered (Standing ℕ)). stands is_unclaimed r.standing) 0 (approve false n []) ≡ upto n = unclaimed-approve n in
-    let many : 0 + length (approve {C = ℕ} false n []) ≡ n = (let e : length (approve {C = ℕ} false n []) ≡ n = length-approve n in omega arith) in
-    numbered.numbers-append (λ (r : Numbered (Standing ℕ)). stands is_unclaimed r.standing) (approve false n []) (approval false) 0
-    ∙ ap (λ (k : ℕ). numbers (λ (r : Numbered (Standing ℕ)). stands is_unclaimed r.standing) 0 (approve false n []) ++ k ∷ []) many
+    let ih : numbers (λ (r : Numbered (Standing ℕ)). stands is_unclaimed r.standing) 0 (with_approvals false n []) ≡ upto n = unclaimed-approve n in
+    let many : 0 + length (with_approvals {C = ℕ} false n []) ≡ n = (let e : length (with_approvals {C = ℕ} false n []) ≡ n = length-approve n in omega arith) in
+    numbered.numbers-append (λ (r : Numbered (Standing ℕ)). stands is_unclaimed r.standing) (with_approvals false n []) (approval false) 0
+    ∙ ap (λ (k : ℕ). numbers (λ (r : Numbered (Standing ℕ)). stands is_unclaimed r.standing) 0 (with_approvals false n []) ++ k ∷ []) many
     ∙ ap (λ (xs : List ℕ). xs ++ n ∷ []) ih
 
 -- ---- which step is taken next
@@ -129,16 +129,16 @@ module _ (s t : Shown ℕ) (l : Ledger ℕ) (means : Means l s) where
       let line = head (idle l) k first in
       let m : (r : Numbered (Standing ℕ)) × (at_number (start l).first (records l) k ≡ Some r) × (q : ℕ) × (q < position l) × (idle_at q r ≡ true) = numbered.in_order_member idle_at (records l) (start l).first (position l) 0 k first in
       let was = standing_is is_idle m.0.standing (and_right (stands is_idle m.0.standing) _ m.4).0 in
-      let rs : List (Numbered (Standing ℕ)) = update (start l).first k (put Guarded) (records l) in
-      let rs_is : rs ≡ change (start l).first k (put Guarded m.0) (records l) = numbered.update_is (records l) (start l).first k (put Guarded) m.0 m.1 in
+      let rs : List (Numbered (Standing ℕ)) = update (start l).first k (at_place Guarded) (records l) in
+      let rs_is : rs ≡ change (start l).first k (at_place Guarded m.0) (records l) = numbered.update_is (records l) (start l).first k (at_place Guarded) m.0 m.1 in
       let rest : in_order idle_at (start l).first rs (suc (position l)) ≡ line.0 =
       ap (λ (xs : List (Numbered (Standing ℕ))). in_order idle_at (start l).first xs (suc (position l))) rs_is
-      ∙ numbered.in_order-change_head idle_at one_place (records l) (start l).first k line.0 (put Guarded m.0) (λ p. not_idle m.0.standing (eqb m.0.position p)) (suc (position l)) (numbered.in_order-later idle_at (records l) (start l).first (position l) (entered_before l) ∙ line.1) in
+      ∙ numbered.in_order-change_head idle_at one_place (records l) (start l).first k line.0 (at_place Guarded m.0) (λ p. not_idle m.0.standing (eqb m.0.position p)) (suc (position l)) (numbered.in_order-later idle_at (records l) (start l).first (position l) (entered_before l) ∙ line.1) in
       let idle_new : t.records.idle ≡ line.0 = sym (ap (λ (x : Shown ℕ). x.records.idle) new) ∙ idle-approve grant.count (start l).first (suc (position l)) rs ∙ rest in
-      let there : at_number (start l).first rs k ≡ Some (put Guarded m.0) = ap (λ (xs : List (Numbered (Standing ℕ))). at_number (start l).first xs k) rs_is ∙ numbered.at-change_same (records l) (start l).first k (put Guarded m.0) m.0 m.1 in
-      let still : at_number (start l).first (approve false grant.count rs) k ≡ Some (put Guarded m.0) = at-approve grant.count (start l).first k (put Guarded m.0) rs there in (
+      let there : at_number (start l).first rs k ≡ Some (at_place Guarded m.0) = ap (λ (xs : List (Numbered (Standing ℕ))). at_number (start l).first xs k) rs_is ∙ numbered.at-change_same (records l) (start l).first k (at_place Guarded m.0) m.0 m.1 in
+      let still : at_number (start l).first (with_approvals false grant.count rs) k ≡ Some (at_place Guarded m.0) = at-approve grant.count (start l).first k (at_place Guarded m.0) rs there in (
         sym (ap (λ (x : Shown ℕ). x.records.idle) means) ∙ line.1 ∙ ap (λ (xs : List ℕ). k ∷ xs) (sym idle_new),
-        ap (stands is_guarded) (sym (shown_record (Later l at (Try g) (Served k grant)) t new k) ∙ ap (option_and_then (λ (r : Numbered (Standing ℕ)). r.standing)) still ∙ ap (option_map (placed Guarded)) was.1),
+        ap (stands is_guarded) (sym (shown_record (Later l at (Try g) (Served k grant)) t new k) ∙ ap (option_and_then (λ (r : Numbered (Standing ℕ)). r.standing)) still ∙ ap (option_map (with_place Guarded)) was.1),
       )
 
   -- ---- return
@@ -148,7 +148,7 @@ module _ (s t : Shown ℕ) (l : Ledger ℕ) (means : Means l s) where
       let guarded : stands is_guarded (record_of l k) ≡ true = ap (stands is_guarded) (shown_record l s means k) ∙ out in
       let st = standing_is is_guarded (record_of l k) guarded in
       let now : ℕ = max (latest l) at in
-      let is = shown-entered (start l).first (position l) 0 (records l) false k st.0 c st.0.birth now (enters c now (position l)) (entered_before l) st.1 (guarded_is st.0.place st.2) (λ r e. ap (λ (o : Option (Standing ℕ)). entry c (birth_in o) now (position l)) e) in
+      let is = shown-entered (start l).first (position l) 0 (records l) false k st.0 c st.0.birth now (at_entry c now (position l)) (entered_before l) st.1 (guarded_is st.0.place st.2) (λ r e. ap (λ (o : Option (Standing ℕ)). entry c (birth_in o) now (position l)) e) in
       sym (ap (λ (x : Shown ℕ). x.records.idle) new) ∙ ap (λ (x : ShownRecords ℕ). x.idle) is ∙ ap (λ (x : Shown ℕ). x.records.idle ++ k ∷ []) means
 
   -- ---- claim and open
@@ -163,7 +163,7 @@ module _ (s t : Shown ℕ) (l : Ledger ℕ) (means : Means l s) where
       let line = head (unclaimed l) k first in
       let is = shown-claimed (start l).first (suc (position l)) 0 (records l) k first in
       let before : ShownRecords ℕ = shown_records (start l).first (suc (position l)) 0 (records l) in
-      let now : Standing ℕ = machine.placed Claimed (get before.places k) in
+      let now : Standing ℕ = machine.standing_at Claimed (get before.places k) in
       let there : get t.records.places k ≡ Some now = sym (ap (λ (x : Shown ℕ). get x.records.places k) new) ∙ ap (λ (x : ShownRecords ℕ). get x.places k) is ∙ numbered.get_inserted before.places k now k ∙ ap (λ (b : Bool). cond b (Some now) (get before.places k)) (numbered.eqb_self k) in
       let rest : t.records.unclaimed ≡ line.0 = sym (ap (λ (x : Shown ℕ). x.records.unclaimed) new) ∙ ap (λ (x : ShownRecords ℕ). x.unclaimed) is ∙ ap (drop 1) line.1 in (
         sym (ap (λ (x : Shown ℕ). x.records.unclaimed) means) ∙ line.1 ∙ ap (λ (xs : List ℕ). k ∷ xs) (sym rest),
@@ -187,7 +187,7 @@ module _ (s t : Shown ℕ) (l : Ledger ℕ) (means : Means l s) where
   pub filled : (at : ℕ) (grant : Grant) → records l ≡ [] → (start l).first ≡ 0 → Means (Later l at (Fill false) (Granted grant)) t → (t.records.idle ≡ []) × (t.records.unclaimed ≡ upto grant.count)
   filled at grant none first new = (
     sym (ap (λ (x : Shown ℕ). x.records.idle) new) ∙ idle-approve grant.count (start l).first (suc (position l)) (records l) ∙ numbered.in_order-later idle_at (records l) (start l).first (position l) (entered_before l) ∙ ap (λ (rs : List (Numbered (Standing ℕ))). in_order idle_at (start l).first rs (position l)) none ∙ nobody (position l) (start l).first,
-    sym (ap (λ (x : Shown ℕ). x.records.unclaimed) new) ∙ ap (λ (rs : List (Numbered (Standing ℕ))). numbers (λ (r : Numbered (Standing ℕ)). stands is_unclaimed r.standing) (start l).first (approve false grant.count rs)) none ∙ ap (λ (n : ℕ). numbers (λ (r : Numbered (Standing ℕ)). stands is_unclaimed r.standing) n (approve false grant.count [])) first ∙ unclaimed-approve grant.count,
+    sym (ap (λ (x : Shown ℕ). x.records.unclaimed) new) ∙ ap (λ (rs : List (Numbered (Standing ℕ))). numbers (λ (r : Numbered (Standing ℕ)). stands is_unclaimed r.standing) (start l).first (with_approvals false grant.count rs)) none ∙ ap (λ (n : ℕ). numbers (λ (r : Numbered (Standing ℕ)). stands is_unclaimed r.standing) n (with_approvals false grant.count [])) first ∙ unclaimed-approve grant.count,
   )
     where
       nobody : (m n : ℕ) → in_order (idle_at {C = ℕ}) n [] m ≡ []

@@ -19,6 +19,7 @@ use Rattle.bb8_tables.specs.Views.{ShownRecords, ShownGets}
 use Rattle.bb8_types.proofs.Numbered.{eqb_self, get_inserted}
 use Rattle.bb8_core.proofs.Runs.{takes_try}
 use Rattle.bb8_core.proofs.Steps.{IsStep, meets_begun, meets_served_counted, led}
+use Rattle.bb8_types.specs.Bounds.{end_of_numbers, most_micros}
 
 -- a get that has begun
 abbrev pub fresh : Getting
@@ -31,7 +32,7 @@ never = None
 module _ {C : Type 0} where
   -- the state between the begin and the try
   abbrev pub between : Shown C → ℕ → Shown C
-  between s now = record s { latest = now; gets = machine.begun s.gets; counts = record s.counts { started = s.counts.started + 1 } }
+  between s now = record s { latest = now; gets = machine.after_begin s.gets; counts = record s.counts { started = s.counts.started + 1 } }
 
   stands_new : (s : Shown C) (now : ℕ) → get (between s now).gets.places s.gets.next ≡ Some fresh
   stands_new s now = get_inserted s.gets.places s.gets.next fresh s.gets.next ∙ ap (λ (b : Bool). cond b (Some fresh) (get s.gets.places s.gets.next)) (eqb_self s.gets.next)
@@ -42,11 +43,11 @@ module _ {C : Type 0} where
       ∙ ap (λ (b : Bool). not b && gets_stand is_trying (get (between s now).gets.places s.gets.next)) off
       ∙ ap (gets_stand is_trying) (stands_new s now)
 
-  pub meets_begun_between : {s : Shown C} (at : ℕ) {now : ℕ} → IsFitting s Begin → now ≡ max s.latest at → s.gets.next < 18446744073709551615 → IsStep s at Begin (Begun s.gets.next) (between s now)
+  pub meets_begun_between : {s : Shown C} (at : ℕ) {now : ℕ} → IsFitting s Begin → now ≡ max s.latest at → s.gets.next < end_of_numbers → IsStep s at Begin (Begun s.gets.next) (between s now)
   meets_begun_between at fit now_is few = meets_begun at fit now_is few refl refl refl
 
   -- what is done to the fields, from the state between on
-  pub meets_served_between : (s : Shown C) {at now k : ℕ} {taken : ShownRecords C} {wanted : ℕ} {grant : Grant} {rs : ShownRecords C} {gs : ShownGets} (was : Counters) {is : Counters} → s.config.test_on_check_out ≡ false → now ≡ max s.latest at → first_of s.config.queue_strategy s.records.idle ≡ Some k → taken ≡ machine.taken Guarded k s.records → wanted ≡ decided.want s.config s.handles taken → machine.IsGrant taken wanted grant → rs ≡ machine.granted false grant taken → gs ≡ machine.get_ended s.gets.next (machine.begun s.gets) → s.counts ≡ counts_held was → is ≡ record was { started = was.started + 1; direct = was.direct + one (not (is_some never)); waited = was.waited + one (is_some never); wait_micros = min 18446744073709551615 (was.wait_micros + micros_since now never) } → IsStep (between s now) at (Try s.gets.next) (Served k grant) (record s { latest = now; records = rs; gets = gs; counts = counts_held is })
+  pub meets_served_between : (s : Shown C) {at now k : ℕ} {taken : ShownRecords C} {wanted : ℕ} {grant : Grant} {rs : ShownRecords C} {gs : ShownGets} (was : Counters) {is : Counters} → s.config.test_on_check_out ≡ false → now ≡ max s.latest at → first_of s.config.queue_strategy s.records.idle ≡ Some k → taken ≡ machine.after_take Guarded k s.records → wanted ≡ decided.want s.config s.handles taken → machine.IsGrant taken wanted grant → rs ≡ machine.after_grant false grant taken → gs ≡ machine.after_get_end s.gets.next (machine.after_begin s.gets) → s.counts ≡ counts_held was → is ≡ record was { started = was.started + 1; direct = was.direct + one (not (is_some never)); waited = was.waited + one (is_some never); wait_micros = min most_micros (was.wait_micros + micros_since now never) } → IsStep (between s now) at (Try s.gets.next) (Served k grant) (record s { latest = now; records = rs; gets = gs; counts = counts_held is })
   meets_served_between s {at} {now} was off now_is first taken_is wanted_is granted rs_is gs_is were counted =
       let again : now ≡ max now at = omega (arith, now_is) in
       meets_served_counted (record was { started = was.started + 1 }) (record { fit = fits_between s now off; now_is = again; get_is = sym (stands_new s now) }) refl first taken_is wanted_is granted rs_is gs_is (ap (λ (x : Counts). record x { started = x.started + 1 }) were) refl counted

@@ -4,9 +4,9 @@ use Rattle.std.specs.FinMap.{insert}
 use Rattle.bb8_types.specs.declared.standing.Getting.{Getting}
 use Rattle.bb8_types.specs.declared.standing.GetPlace.{GetPlace}
 use Rattle.bb8_types.specs.declared.standing.GetPlace.TheVariants.{Active, Waiting, Holding}
-use Rattle.bb8_types.specs.Numbered.{Numbered, update, in_order, one, standing_at, standings, ended}
-use Rattle.bb8_types.specs.Places.{gets_stand, is_unnotified, is_notified, get_placed, get_waits}
-use Rattle.bb8_ledger.specs.Ledger.{unnotified_at, alive_of, new_get, notify, get_put, begins_to_wait}
+use Rattle.bb8_types.specs.Numbered.{Numbered, update, in_order, one, standing_at, standings, after_end}
+use Rattle.bb8_types.specs.Places.{gets_stand, is_unnotified, is_notified, get_with_place, get_in_wait}
+use Rattle.bb8_ledger.specs.Ledger.{unnotified_at, alive_of, new_get, with_notice, get_at_place, at_wait}
 use Rattle.bb8_tables.specs.Views.{ShownGets, no_gets}
 use Rattle.bb8_core.specs.Shown.{shown_gets}
 use Rattle.bb8_tables.specs.Machine as machine
@@ -27,7 +27,7 @@ module _ (first p top : ℕ) (gs : List (Numbered Getting)) where
   pub shown-kept : Before unnotified_at p gs → alive_of gs ≤ top → shown_gets first (suc p) (max top (alive_of gs)) gs ≡ before
   shown-kept b few = same_gets _ _ refl refl (numbered.in_order-later unnotified_at gs first p b) refl (omega arith)
 
-  pub shown-begun : Before unnotified_at p gs → alive_of gs ≤ top → shown_gets first (suc p) (max top (alive_of (gs ++ new_get ∷ []))) (gs ++ new_get ∷ []) ≡ machine.begun before
+  pub shown-begun : Before unnotified_at p gs → alive_of gs ≤ top → shown_gets first (suc p) (max top (alive_of (gs ++ new_get ∷ []))) (gs ++ new_get ∷ []) ≡ machine.after_begin before
   shown-begun b few =
       let more : alive_of (gs ++ new_get ∷ []) ≡ alive_of gs + 1 = numbered.tally-append (λ (g : Numbered Getting). is_some g.standing) gs new_get in
       same_gets _ _
@@ -38,12 +38,12 @@ module _ (first p top : ℕ) (gs : List (Numbered Getting)) where
       (ap (max top) more)
 
   -- a get ends
-  pub shown-ended : (k : ℕ) (s : Getting) → Before unnotified_at p gs → alive_of gs ≤ top → standing_at first gs k ≡ Some s → shown_gets first (suc p) (max top (alive_of (update first k ended gs))) (update first k ended gs) ≡ machine.get_ended k before
+  pub shown-ended : (k : ℕ) (s : Getting) → Before unnotified_at p gs → alive_of gs ≤ top → standing_at first gs k ≡ Some s → shown_gets first (suc p) (max top (alive_of (update first k after_end gs))) (update first k after_end gs) ≡ machine.after_get_end k before
   shown-ended k s b few h =
       let m = numbered.standing_found gs first k s h in
       let g : Numbered Getting = m.0 in
-      let new : Numbered Getting = ended g in
-      let is : update first k ended gs ≡ change first k new gs = numbered.update_is gs first k ended g m.1 in
+      let new : Numbered Getting = after_end g in
+      let is : update first k after_end gs ≡ change first k new gs = numbered.update_is gs first k after_end g m.1 in
       let fewer : alive_of (change first k new gs) + 1 ≡ alive_of gs + 0 = rw (ap (λ (o : Option Getting). one (is_some o)) m.2) at (numbered.tally-change (λ (x : Numbered Getting). is_some x.standing) gs first k new g m.1) in
       ap (λ (xs : List (Numbered Getting)). shown_gets first (suc p) (max top (alive_of xs)) xs) is
       ∙ same_gets _ _
@@ -54,40 +54,40 @@ module _ (first p top : ℕ) (gs : List (Numbered Getting)) where
       (omega arith)
 
   -- a get that stands in no line begins to wait
-  pub shown-waits : (now k : ℕ) (s : Getting) → Before unnotified_at p gs → alive_of gs ≤ top → standing_at first gs k ≡ Some s → is_unnotified s.place ≡ false → shown_gets first (suc p) (max top (alive_of (update first k (begins_to_wait now p) gs))) (update first k (begins_to_wait now p) gs) ≡ machine.waits now k before
+  pub shown-waits : (now k : ℕ) (s : Getting) → Before unnotified_at p gs → alive_of gs ≤ top → standing_at first gs k ≡ Some s → is_unnotified s.place ≡ false → shown_gets first (suc p) (max top (alive_of (update first k (at_wait now p) gs))) (update first k (at_wait now p) gs) ≡ machine.after_wait now k before
   shown-waits now k s b few h off =
       let m = numbered.standing_found gs first k s h in
       let g : Numbered Getting = m.0 in
-      let new : Numbered Getting = record { standing = Some (get_waits now s); position = p } in
-      let is : update first k (begins_to_wait now p) gs ≡ change first k new gs = numbered.update_is gs first k (begins_to_wait now p) g m.1 ∙ ap (λ (x : Numbered Getting). change first k x gs) (begins_now now p g (ap (gets_stand is_unnotified) m.2 ∙ off) ∙ ap (waiter now p) m.2) in
+      let new : Numbered Getting = record { standing = Some (get_in_wait now s); position = p } in
+      let is : update first k (at_wait now p) gs ≡ change first k new gs = numbered.update_is gs first k (at_wait now p) g m.1 ∙ ap (λ (x : Numbered Getting). change first k x gs) (begins_now now p g (ap (gets_stand is_unnotified) m.2 ∙ off) ∙ ap (waiter now p) m.2) in
       let stood : (q : ℕ) → unnotified_at q g ≡ false = λ q. ap (λ (o : Option Getting). gets_stand is_unnotified o && eqb g.position q) m.2 ∙ ap (λ (t : Bool). t && eqb g.position q) off in
       let same : alive_of (change first k new gs) + 1 ≡ alive_of gs + 1 = rw (ap (λ (o : Option Getting). one (is_some o)) m.2) at (numbered.tally-change (λ (x : Numbered Getting). is_some x.standing) gs first k new g m.1) in
       ap (λ (xs : List (Numbered Getting)). shown_gets first (suc p) (max top (alive_of xs)) xs) is
       ∙ same_gets _ _
       (ap (λ (n : ℕ). first + n) (numbered.length-change gs first k new))
-      (numbered.numbered-change_some (λ (x : Numbered Getting). x.standing) gs first k new g (get_waits now s) m.1 refl
-      ∙ ap (λ (o : Option Getting). insert (standings first gs) k (machine.waiting_since now o)) (sym (numbered.get-numbered (λ (x : Numbered Getting). x.standing) gs first k ∙ h)))
+      (numbered.numbered-change_some (λ (x : Numbered Getting). x.standing) gs first k new g (get_in_wait now s) m.1 refl
+      ∙ ap (λ (o : Option Getting). insert (standings first gs) k (machine.getting_since now o)) (sym (numbered.get-numbered (λ (x : Numbered Getting). x.standing) gs first k ∙ h)))
       (numbered.in_order-enter unnotified_at gs first k p new g b m.1 stood (numbered.eqb_self p) (λ q below. numbered.ne_test p q (λ e. omega arith)))
       (omega arith)
       (omega arith)
 
   -- who is named is notified
-  pub shown-noticed : (n : Option ℕ) → IfSome n (λ k. (s : Getting) × (standing_at first gs k ≡ Some s)) → (shown_gets first p top (notify first n gs) ≡ machine.noticed n before) × (alive_of (notify first n gs) ≡ alive_of gs)
+  pub shown-noticed : (n : Option ℕ) → IfSome n (λ k. (s : Getting) × (standing_at first gs k ≡ Some s)) → (shown_gets first p top (with_notice first n gs) ≡ machine.after_notice n before) × (alive_of (with_notice first n gs) ≡ alive_of gs)
   shown-noticed None named = (refl, refl)
   shown-noticed (Some k) named =
       let m = numbered.standing_found gs first k named.0 named.1 in
       let g : Numbered Getting = m.0 in
-      let new : Numbered Getting = get_put (Waiting true) g in
-      let stands : new.standing ≡ Some (get_placed (Waiting true) named.0) = ap (option_map (get_placed (Waiting true))) m.2 in
-      let is : update first k (get_put (Waiting true)) gs ≡ change first k new gs = numbered.update_is gs first k (get_put (Waiting true)) g m.1 in
+      let new : Numbered Getting = get_at_place (Waiting true) g in
+      let stands : new.standing ≡ Some (get_with_place (Waiting true) named.0) = ap (option_map (get_with_place (Waiting true))) m.2 in
+      let is : update first k (get_at_place (Waiting true)) gs ≡ change first k new gs = numbered.update_is gs first k (get_at_place (Waiting true)) g m.1 in
       let off : (q : ℕ) → unnotified_at q new ≡ false = λ q. ap (λ (o : Option Getting). gets_stand is_unnotified o && eqb g.position q) stands in
       let counted : alive_of (change first k new gs) + 1 ≡ alive_of gs + 1 = rw (ap (λ (o : Option Getting). one (is_some o)) m.2) at (rw (ap (λ (o : Option Getting). one (is_some o)) stands) at (numbered.tally-change (λ (x : Numbered Getting). is_some x.standing) gs first k new g m.1)) in
       let same : alive_of (change first k new gs) ≡ alive_of gs = omega arith in (
         ap (shown_gets first p top) is
             ∙ same_gets _ _
             (ap (λ (n : ℕ). first + n) (numbered.length-change gs first k new))
-            (numbered.numbered-change_some (λ (x : Numbered Getting). x.standing) gs first k new g (get_placed (Waiting true) named.0) m.1 stands
-            ∙ ap (λ (o : Option Getting). insert (standings first gs) k (machine.turned (Waiting true) o)) (sym (numbered.get-numbered (λ (x : Numbered Getting). x.standing) gs first k ∙ named.1)))
+            (numbered.numbered-change_some (λ (x : Numbered Getting). x.standing) gs first k new g (get_with_place (Waiting true) named.0) m.1 stands
+            ∙ ap (λ (o : Option Getting). insert (standings first gs) k (machine.getting_at (Waiting true) o)) (sym (numbered.get-numbered (λ (x : Numbered Getting). x.standing) gs first k ∙ named.1)))
             (numbered.in_order-change_off unnotified_at gs first k new off p)
             same
             refl,
@@ -95,10 +95,10 @@ module _ (first p top : ℕ) (gs : List (Numbered Getting)) where
       )
 
 -- the same, with the peak after it
-pub noticed_later : (first p top : ℕ) (gs : List (Numbered Getting)) (n : Option ℕ) → IfSome n (λ k. (s : Getting) × (standing_at first gs k ≡ Some s)) → shown_gets first p (max top (alive_of (notify first n gs))) (notify first n gs) ≡ machine.noticed n (shown_gets first p (max top (alive_of gs)) gs)
+pub noticed_later : (first p top : ℕ) (gs : List (Numbered Getting)) (n : Option ℕ) → IfSome n (λ k. (s : Getting) × (standing_at first gs k ≡ Some s)) → shown_gets first p (max top (alive_of (with_notice first n gs))) (with_notice first n gs) ≡ machine.after_notice n (shown_gets first p (max top (alive_of gs)) gs)
 noticed_later first p top gs n named =
     let is = shown-noticed first p (max top (alive_of gs)) gs n named in
-    ap (λ (m : ℕ). shown_gets first p (max top m) (notify first n gs)) is.1 ∙ is.0
+    ap (λ (m : ℕ). shown_gets first p (max top m) (with_notice first n gs)) is.1 ∙ is.0
 
 -- the first in line waits and was not notified
 pub first_waits : (first p : ℕ) (gs : List (Numbered Getting)) (k : ℕ) → slice_get (in_order unnotified_at first gs p) 0 ≡ Some k → (s : Getting) × (standing_at first gs k ≡ Some s) × (is_unnotified s.place ≡ true)
@@ -129,7 +129,7 @@ without_other first p gs k s h off =
     let m = numbered.standing_found gs first k s h in
     let g : Numbered Getting = m.0 in
     let stood : (q : ℕ) → unnotified_at q g ≡ false = λ q. ap (λ (o : Option Getting). gets_stand is_unnotified o && eqb g.position q) m.2 ∙ ap (λ (t : Bool). t && eqb g.position q) off in
-    sym (numbered.in_order-change_off unnotified_at gs first k (ended g) (λ q. refl) p) ∙ numbered.in_order-change_kept unnotified_at gs first k (ended g) g m.1 p (λ q below. sym (stood q))
+    sym (numbered.in_order-change_off unnotified_at gs first k (after_end g) (λ q. refl) p) ∙ numbered.in_order-change_kept unnotified_at gs first k (after_end g) g m.1 p (λ q below. sym (stood q))
 
 -- no get yet
 pub shown-none : (first : ℕ) → shown_gets first 0 0 [] ≡ no_gets first

@@ -4,9 +4,9 @@ use Rattle.std.specs.FinMap.{insert, get}
 use Rattle.bb8_types.specs.declared.standing.Place.{Place}
 use Rattle.bb8_types.specs.declared.standing.Place.TheVariants.{Unclaimed, Claimed, Idle, Guarded}
 use Rattle.bb8_types.specs.declared.standing.Standing.{Standing}
-use Rattle.bb8_types.specs.Numbered.{Numbered, at, update, numbers, one, standings, standing_at, ended}
-use Rattle.bb8_types.specs.Places.{stands, is_conn, is_approval, is_unclaimed, is_idle, placed}
-use Rattle.bb8_ledger.specs.Ledger.{idle_at, conns_of, approved_of, put, approval, approve, entry}
+use Rattle.bb8_types.specs.Numbered.{Numbered, at, update, numbers, one, standings, standing_at, after_end}
+use Rattle.bb8_types.specs.Places.{stands, is_conn, is_approval, is_unclaimed, is_idle, with_place}
+use Rattle.bb8_ledger.specs.Ledger.{idle_at, conns_of, approved_of, at_place, approval, with_approvals, entry}
 use Rattle.bb8_tables.specs.Views.{ShownRecords, no_records}
 use Rattle.bb8_core.specs.Shown.{shown_records}
 use Rattle.bb8_tables.specs.Machine as machine
@@ -27,10 +27,10 @@ module _ {C : Type 0} where
   -- ---- one record is changed
 
   -- a record is put into another place
-  places-put : (first : ℕ) (rs : List (Numbered (Standing C))) (k : ℕ) (p : Place C) (r : Numbered (Standing C)) (s : Standing C) → at first rs k ≡ Some r → r.standing ≡ Some s → standings first (change first k (put p r) rs) ≡ insert (standings first rs) k (machine.placed p (get (standings first rs) k))
+  places-put : (first : ℕ) (rs : List (Numbered (Standing C))) (k : ℕ) (p : Place C) (r : Numbered (Standing C)) (s : Standing C) → at first rs k ≡ Some r → r.standing ≡ Some s → standings first (change first k (at_place p r) rs) ≡ insert (standings first rs) k (machine.standing_at p (get (standings first rs) k))
   places-put first rs k p r s h e =
-      numbered.numbered-change_some (λ (x : Numbered (Standing C)). x.standing) rs first k (put p r) r (placed p s) h (ap (option_map (placed p)) e)
-      ∙ ap (λ (o : Option (Standing C)). insert (standings first rs) k (machine.placed p o)) (sym (numbered.get-numbered (λ (x : Numbered (Standing C)). x.standing) rs first k ∙ ap (option_and_then (λ (x : Numbered (Standing C)). x.standing)) h ∙ e))
+      numbered.numbered-change_some (λ (x : Numbered (Standing C)). x.standing) rs first k (at_place p r) r (with_place p s) h (ap (option_map (with_place p)) e)
+      ∙ ap (λ (o : Option (Standing C)). insert (standings first rs) k (machine.standing_at p o)) (sym (numbered.get-numbered (λ (x : Numbered (Standing C)). x.standing) rs first k ∙ ap (option_and_then (λ (x : Numbered (Standing C)). x.standing)) h ∙ e))
 
   module _ (first p top : ℕ) (rs : List (Numbered (Standing C))) where
     abbrev before : ShownRecords C
@@ -40,15 +40,15 @@ module _ {C : Type 0} where
     pub shown-later : Before idle_at p rs → shown_records first (suc p) top rs ≡ before
     shown-later b = same_records _ _ refl refl (numbered.in_order-later idle_at rs first p b) refl refl refl refl
 
-    pub shown-claimed : (k : ℕ) → slice_get before.unclaimed 0 ≡ Some k → shown_records first p top (update first k (put Claimed) rs) ≡ machine.claimed k before
+    pub shown-claimed : (k : ℕ) → slice_get before.unclaimed 0 ≡ Some k → shown_records first p top (update first k (at_place Claimed) rs) ≡ machine.after_claim k before
     shown-claimed k h =
         let m : (r : Numbered (Standing C)) × (at first rs k ≡ Some r) × (stands is_unclaimed r.standing ≡ true) = numbered.numbers_member (λ r. stands is_unclaimed r.standing) rs first 0 k h in
         let r : Numbered (Standing C) = m.0 in
         let was = standing_is is_unclaimed r.standing m.2 in
         let place : was.0.place ≡ Unclaimed = unclaimed_is was.0.place was.2 in
-        let new : Numbered (Standing C) = put Claimed r in
-        let is : new.standing ≡ Some (placed Claimed was.0) = ap (option_map (placed Claimed)) was.1 in
-        ap (shown_records first p top) (numbered.update_is rs first k (put Claimed) r m.1)
+        let new : Numbered (Standing C) = at_place Claimed r in
+        let is : new.standing ≡ Some (with_place Claimed was.0) = ap (option_map (with_place Claimed)) was.1 in
+        ap (shown_records first p top) (numbered.update_is rs first k (at_place Claimed) r m.1)
         ∙ same_records _ _
         (ap (λ (n : ℕ). first + n) (numbered.length-change rs first k new))
         (places-put first rs k Claimed r was.0 m.1 was.1)
@@ -59,15 +59,15 @@ module _ {C : Type 0} where
         refl
 
     -- an idle connection goes out
-    pub shown-taken : (out : Place C) (k j : ℕ) → is_idle out ≡ false → is_unclaimed out ≡ false → is_conn out ≡ true → slice_get before.idle j ≡ Some k → shown_records first p top (update first k (put out) rs) ≡ machine.taken out k before
+    pub shown-taken : (out : Place C) (k j : ℕ) → is_idle out ≡ false → is_unclaimed out ≡ false → is_conn out ≡ true → slice_get before.idle j ≡ Some k → shown_records first p top (update first k (at_place out) rs) ≡ machine.after_take out k before
     shown-taken out k j not_idle_now not_unclaimed_now conn_now h =
         let m : (r : Numbered (Standing C)) × (at first rs k ≡ Some r) × (q : ℕ) × (q < p) × (idle_at q r ≡ true) = numbered.in_order_member idle_at rs first p j k h in
         let r : Numbered (Standing C) = m.0 in
         let was = standing_is is_idle r.standing (and_right (stands is_idle r.standing) _ m.4).0 in
         let place = idle_is was.0.place was.2 in
-        let new : Numbered (Standing C) = put out r in
-        let is : new.standing ≡ Some (placed out was.0) = ap (option_map (placed out)) was.1 in
-        ap (shown_records first p top) (numbered.update_is rs first k (put out) r m.1)
+        let new : Numbered (Standing C) = at_place out r in
+        let is : new.standing ≡ Some (with_place out was.0) = ap (option_map (with_place out)) was.1 in
+        ap (shown_records first p top) (numbered.update_is rs first k (at_place out) r m.1)
         ∙ same_records _ _
         (ap (λ (n : ℕ). first + n) (numbered.length-change rs first k new))
         (places-put first rs k out r was.0 m.1 was.1)
@@ -78,13 +78,13 @@ module _ {C : Type 0} where
         refl
 
     -- a claimed approval, or a connection that a guard held, ends
-    pub shown-closed : (opening : Bool) (k : ℕ) (s : Standing C) → standing_at first rs k ≡ Some s → s.place ≡ cond opening Claimed Guarded → shown_records first p top (update first k ended rs) ≡ machine.closed opening k before
+    pub shown-closed : (opening : Bool) (k : ℕ) (s : Standing C) → standing_at first rs k ≡ Some s → s.place ≡ cond opening Claimed Guarded → shown_records first p top (update first k after_end rs) ≡ machine.after_close opening k before
     shown-closed opening k s h place =
         let m = numbered.standing_found rs first k s h in
         let r : Numbered (Standing C) = m.0 in
-        let new : Numbered (Standing C) = ended r in
+        let new : Numbered (Standing C) = after_end r in
         let test : (t : Place C → Bool) (x : Bool) → t (cond opening Claimed Guarded) ≡ x → stands t r.standing ≡ x = λ t x e. tested t r s (cond opening Claimed Guarded) m.2 place ∙ e in
-        ap (shown_records first p top) (numbered.update_is rs first k ended r m.1)
+        ap (shown_records first p top) (numbered.update_is rs first k after_end r m.1)
         ∙ same_records _ _
         (ap (λ (n : ℕ). first + n) (numbered.length-change rs first k new))
         (numbered.numbered-change_none (λ (x : Numbered (Standing C)). x.standing) rs first k new r m.1 refl)
@@ -95,7 +95,7 @@ module _ {C : Type 0} where
         refl
 
     -- the number k enters at this position, which was a claimed approval or out
-    pub shown-entered : (opening : Bool) (k : ℕ) (s : Standing C) (c : C) (birth now : ℕ) (f : Numbered (Standing C) → Numbered (Standing C)) → Before idle_at p rs → standing_at first rs k ≡ Some s → s.place ≡ cond opening Claimed Guarded → ((r : Numbered (Standing C)) → r.standing ≡ Some s → f r ≡ entry c birth now p) → shown_records first (suc p) top (update first k f rs) ≡ machine.entered opening k (record { place = Idle c; birth = birth; entered = now }) before
+    pub shown-entered : (opening : Bool) (k : ℕ) (s : Standing C) (c : C) (birth now : ℕ) (f : Numbered (Standing C) → Numbered (Standing C)) → Before idle_at p rs → standing_at first rs k ≡ Some s → s.place ≡ cond opening Claimed Guarded → ((r : Numbered (Standing C)) → r.standing ≡ Some s → f r ≡ entry c birth now p) → shown_records first (suc p) top (update first k f rs) ≡ machine.after_entry opening k (record { place = Idle c; birth = birth; entered = now }) before
     shown-entered opening k s c birth now f b h place is =
         let m = numbered.standing_found rs first k s h in
         let r : Numbered (Standing C) = m.0 in
@@ -120,7 +120,7 @@ module _ {C : Type 0} where
         approved_are false n m e = omega arith
 
     -- a connection is added at this position
-    pub shown-born : (c : C) (now : ℕ) → Before idle_at p rs → shown_records first (suc p) top (rs ++ entry c now now p ∷ []) ≡ machine.born c now before
+    pub shown-born : (c : C) (now : ℕ) → Before idle_at p rs → shown_records first (suc p) top (rs ++ entry c now now p ∷ []) ≡ machine.after_birth c now before
     shown-born c now b = same_records _ _
         (omega (arith, length-append rs (entry c now now p ∷ [])))
         (numbered.numbered-append_some (λ (x : Numbered (Standing C)). x.standing) rs first (entry c now now p) (record { place = Idle c; birth = now; entered = now }) refl)
@@ -130,7 +130,7 @@ module _ {C : Type 0} where
         (let e : approved_of (rs ++ entry c now now p ∷ []) ≡ approved_of rs + 0 = numbered.tally-append (λ x. stands is_approval x.standing) rs (entry c now now p) in omega arith)
         refl
 
-    shown-approve_one : (claimed : Bool) → shown_records first p top (rs ++ approval claimed ∷ []) ≡ machine.approve_one claimed before
+    shown-approve_one : (claimed : Bool) → shown_records first p top (rs ++ approval claimed ∷ []) ≡ machine.after_approval claimed before
     shown-approve_one claimed = same_records _ _
         (omega (arith, length-append rs (approval claimed ∷ [])))
         (numbered.numbered-append_some (λ (x : Numbered (Standing C)). x.standing) rs first (approval claimed) (record { place = cond claimed Claimed Unclaimed; birth = 0; entered = 0 }) refl)
@@ -156,11 +156,11 @@ module _ {C : Type 0} where
         an_approval true = refl
         an_approval false = refl
 
-  pub shown-approve : (claimed : Bool) (n first p top : ℕ) (rs : List (Numbered (Standing C))) → shown_records first p top (approve claimed n rs) ≡ machine.approve claimed n (shown_records first p top rs)
+  pub shown-approve : (claimed : Bool) (n first p top : ℕ) (rs : List (Numbered (Standing C))) → shown_records first p top (with_approvals claimed n rs) ≡ machine.after_approvals claimed n (shown_records first p top rs)
   shown-approve claimed zero first p top rs = refl
-  shown-approve claimed (suc n) first p top rs = shown-approve_one first p top (approve claimed n rs) claimed ∙ ap (machine.approve_one claimed) (shown-approve claimed n first p top rs)
+  shown-approve claimed (suc n) first p top rs = shown-approve_one first p top (with_approvals claimed n rs) claimed ∙ ap (machine.after_approval claimed) (shown-approve claimed n first p top rs)
 
-  pub raised_same : (s : ShownRecords C) → s.conns + s.approved ≤ s.peak → machine.raised s ≡ s
+  pub raised_same : (s : ShownRecords C) → s.conns + s.approved ≤ s.peak → machine.with_peak s ≡ s
   raised_same s h = same_records _ _ refl refl refl refl refl refl (omega arith)
 
   -- no record yet

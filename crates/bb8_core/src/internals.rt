@@ -107,7 +107,7 @@ fn is_closing(broken: bool, expired: bool, handles: u64) -> bool
 /// Notifies the oldest waiter that was not notified, where the test passes.
 fn hand_on(gets: &mut Gets, test: bool) -> Option<GetKey>
     ensures value { notified_of result ≡ cond test (slice_get gets.old.waiting 0) None }
-    ensures state { gets.new ≡ machine.noticed (notified_of result) gets.old }
+    ensures state { gets.new ≡ machine.after_notice (notified_of result) gets.old }
 {
     if test { gets.notify() } else { None }
 }

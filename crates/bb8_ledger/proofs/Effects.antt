@@ -7,10 +7,10 @@ use Rattle.bb8_types.specs.declared.standing.Standing.{Standing}
 use Rattle.bb8_types.specs.Settings.{Settings, is_lawful}
 use Rattle.bb8_ledger.specs.Acts.{Act, Leave}
 use Rattle.bb8_ledger.specs.Answers.{Answer, Left, Unfit}
-use Rattle.bb8_types.specs.Numbered.{Numbered, at as at_number, update, tally, one, standing_at, ended, ended_where}
-use Rattle.bb8_ledger.specs.Ledger.{Ledger, Opening, Later, Start, start, position, latest, handles, records, conns, approved, idle_count, out, idle, idle_at, first_idle, unclaimed, record_of, tally_places, conns_of, approved_of, idle_of, put, entry, enters, approval, approve}
-use Rattle.bb8_types.specs.Places.{first_place, stands, is_conn, is_approval, is_idle, is_out, is_unclaimed, is_claimed, is_guarded, is_held_by, is_reaped, idles_out, lives_out, is_left, placed}
-use Rattle.bb8_ledger.specs.Table.{Row, IsLegal, Allowed, takes, fits, is_brought, with_record, reaped}
+use Rattle.bb8_types.specs.Numbered.{Numbered, at as at_number, update, tally, one, standing_at, after_end, after_end_where}
+use Rattle.bb8_ledger.specs.Ledger.{Ledger, Opening, Later, Start, start, position, latest, handles, records, conns, approved, idle_count, out, idle, idle_at, first_idle, unclaimed, record_of, tally_places, conns_of, approved_of, idle_of, at_place, entry, at_entry, approval, with_approvals}
+use Rattle.bb8_types.specs.Places.{first_place, stands, is_conn, is_approval, is_idle, is_out, is_unclaimed, is_claimed, is_guarded, is_held_by, is_reaped, idles_out, lives_out, is_left, with_place}
+use Rattle.bb8_ledger.specs.Table.{Row, IsLegal, Allowed, takes, fits, is_brought, with_record, reap_count}
 use Rattle.bb8_types.proofs.Places.{standing_is, unclaimed_is, claimed_is, guarded_is, idle_is, and_right}
 use Rattle.bb8_types.proofs.Numbered as numbered
 use Rattle.bb8_ledger.proofs.Facts.{conns_split}
@@ -89,8 +89,8 @@ module _ {C : Type 0} where
     pub to : (r : Numbered (Standing C)) → r.standing ≡ Some standing → place_of (f r).standing ≡ q
 
   -- a record in another place
-  pub to_place : (p : Place C) (s : Standing C) (r : Numbered (Standing C)) → r.standing ≡ Some s → place_of (put p r).standing ≡ Some p
-  to_place p s r e = ap (λ (o : Option (Standing C)). place_of (option_map (placed p) o)) e
+  pub to_place : (p : Place C) (s : Standing C) (r : Numbered (Standing C)) → r.standing ≡ Some s → place_of (at_place p r).standing ≡ Some p
+  to_place p s r e = ap (λ (o : Option (Standing C)). place_of (option_map (with_place p) o)) e
 
   -- a record that a test tells the place of
   turns_by : (l : Ledger C) (k : ℕ) (test : Place C → Bool) (p : Place C) (q : Option (Place C)) (f : Numbered (Standing C) → Numbered (Standing C)) → ((x : Place C) → test x ≡ true → x ≡ p) → stands test (record_of l k) ≡ true → ((s : Standing C) (r : Numbered (Standing C)) → r.standing ≡ Some s → place_of (f r).standing ≡ q) → Turns l k p q f
@@ -109,7 +109,7 @@ module _ {C : Type 0} where
   held_turns l g k q f = turns_by l k (is_held_by g) (Held g) q f (held_by g)
 
   -- the idle record that goes out
-  pub idle_turns : (l : Ledger C) (k : ℕ) (p : Place C) → first_idle l ≡ Some k → (c : C) × Turns l k (Idle c) (Some p) (put p)
+  pub idle_turns : (l : Ledger C) (k : ℕ) (p : Place C) → first_idle l ≡ Some k → (c : C) × Turns l k (Idle c) (Some p) (at_place p)
   idle_turns l k p first =
       let m : (r : Numbered (Standing C)) × (at_number (start l).first (records l) k ≡ Some r) × (q : ℕ) × (q < position l) × (idle_at q r ≡ true) = numbered.in_order_member idle_at (records l) (start l).first (position l) (first_place (start l).config.queue_strategy (length (idle l))) k first in
       let was = standing_is is_idle m.0.standing (and_right (stands is_idle m.0.standing) _ m.4).0 in
@@ -117,24 +117,24 @@ module _ {C : Type 0} where
       (place.0, record { standing = was.0; was = ap (option_and_then (λ (r : Numbered (Standing C)). r.standing)) m.1 ∙ was.1; from = place.1; to = to_place p was.0 })
 
   -- the approval that is claimed
-  pub unclaimed_turns : (l : Ledger C) (k : ℕ) → slice_get (unclaimed l) 0 ≡ Some k → Turns l k Unclaimed (Some Claimed) (put Claimed)
+  pub unclaimed_turns : (l : Ledger C) (k : ℕ) → slice_get (unclaimed l) 0 ≡ Some k → Turns l k Unclaimed (Some Claimed) (at_place Claimed)
   unclaimed_turns l k first =
       let m : (r : Numbered (Standing C)) × (at_number (start l).first (records l) k ≡ Some r) × (stands is_unclaimed r.standing ≡ true) = numbered.numbers_member (λ r. stands is_unclaimed r.standing) (records l) (start l).first 0 k first in
-      turns_by l k is_unclaimed Unclaimed (Some Claimed) (put Claimed) unclaimed_is (ap (λ (o : Option (Numbered (Standing C))). stands is_unclaimed (option_and_then (λ (r : Numbered (Standing C)). r.standing) o)) m.1 ∙ m.2) (to_place Claimed)
+      turns_by l k is_unclaimed Unclaimed (Some Claimed) (at_place Claimed) unclaimed_is (ap (λ (o : Option (Numbered (Standing C))). stands is_unclaimed (option_and_then (λ (r : Numbered (Standing C)). r.standing) o)) m.1 ∙ m.2) (to_place Claimed)
 
   -- a guard gives its connection back, which is kept, or closed
-  pub returns_turn : (l : Ledger C) (at k : ℕ) (c : C) → stands is_guarded (record_of l k) ≡ true → Turns l k Guarded (Some (Idle c)) (enters c (max (latest l) at) (position l))
-  returns_turn l at k c f = turns_by l k is_guarded Guarded (Some (Idle c)) (enters c (max (latest l) at) (position l)) guarded_is f (λ s r e. refl)
+  pub returns_turn : (l : Ledger C) (at k : ℕ) (c : C) → stands is_guarded (record_of l k) ≡ true → Turns l k Guarded (Some (Idle c)) (at_entry c (max (latest l) at) (position l))
+  returns_turn l at k c f = turns_by l k is_guarded Guarded (Some (Idle c)) (at_entry c (max (latest l) at) (position l)) guarded_is f (λ s r e. refl)
 
-  pub closes_turn : (l : Ledger C) (k : ℕ) → stands is_guarded (record_of l k) ≡ true → Turns l k Guarded None ended
-  closes_turn l k f = turns_by l k is_guarded Guarded None ended guarded_is f (λ s r e. refl)
+  pub closes_turn : (l : Ledger C) (k : ℕ) → stands is_guarded (record_of l k) ≡ true → Turns l k Guarded None after_end
+  closes_turn l k f = turns_by l k is_guarded Guarded None after_end guarded_is f (λ s r e. refl)
 
   -- a claimed approval brings its connection, or ends
   pub opens_turn : (l : Ledger C) (at k : ℕ) (c : C) → stands is_claimed (record_of l k) ≡ true → Turns l k Claimed (Some (Idle c)) (λ r. entry c (max (latest l) at) (max (latest l) at) (position l))
   opens_turn l at k c f = turns_by l k is_claimed Claimed (Some (Idle c)) (λ r. entry c (max (latest l) at) (max (latest l) at) (position l)) claimed_is f (λ s r e. refl)
 
-  pub ends_turn : (l : Ledger C) (k : ℕ) → stands is_claimed (record_of l k) ≡ true → Turns l k Claimed None ended
-  ends_turn l k f = turns_by l k is_claimed Claimed None ended claimed_is f (λ s r e. refl)
+  pub ends_turn : (l : Ledger C) (k : ℕ) → stands is_claimed (record_of l k) ≡ true → Turns l k Claimed None after_end
+  ends_turn l k f = turns_by l k is_claimed Claimed None after_end claimed_is f (λ s r e. refl)
 
   -- ---- how many stand where
 
@@ -186,34 +186,34 @@ module _ {C : Type 0} where
   adds_sized l at c = added_sized l (Idle c) (entry c (max (latest l) at) (max (latest l) at) (position l)) refl
 
   -- approvals are made: each is an approval, claimed or not
-  approve_tally : (test : Place C → Bool) (z : ℕ) (claimed : Bool) (n : ℕ) (rs : List (Numbered (Standing C))) → one (stands test (approval {C = C} claimed).standing) ≡ z → tally_places test (approve claimed n rs) ≡ tally_places test rs + z * n
+  approve_tally : (test : Place C → Bool) (z : ℕ) (claimed : Bool) (n : ℕ) (rs : List (Numbered (Standing C))) → one (stands test (approval {C = C} claimed).standing) ≡ z → tally_places test (with_approvals claimed n rs) ≡ tally_places test rs + z * n
   approve_tally test z claimed zero rs is = omega arith
   approve_tally test z claimed (suc n) rs is =
-      let e : tally_places test (approve claimed n rs ++ approval claimed ∷ []) ≡ tally_places test (approve claimed n rs) + one (stands test (approval {C = C} claimed).standing) = numbered.tally-append (λ (r : Numbered (Standing C)). stands test r.standing) (approve claimed n rs) (approval claimed) in
-      let ih : tally_places test (approve claimed n rs) ≡ tally_places test rs + z * n = approve_tally test z claimed n rs is in
+      let e : tally_places test (with_approvals claimed n rs ++ approval claimed ∷ []) ≡ tally_places test (with_approvals claimed n rs) + one (stands test (approval {C = C} claimed).standing) = numbered.tally-append (λ (r : Numbered (Standing C)). stands test r.standing) (with_approvals claimed n rs) (approval claimed) in
+      let ih : tally_places test (with_approvals claimed n rs) ≡ tally_places test rs + z * n = approve_tally test z claimed n rs is in
       grind (arith, e, ih, is)
 
-  pub length-approve : (claimed : Bool) (n : ℕ) (rs : List (Numbered (Standing C))) → length (approve claimed n rs) ≡ length rs + n
+  pub length-approve : (claimed : Bool) (n : ℕ) (rs : List (Numbered (Standing C))) → length (with_approvals claimed n rs) ≡ length rs + n
   length-approve claimed zero rs = omega arith
-  length-approve claimed (suc n) rs = let ih : length (approve claimed n rs) ≡ length rs + n = length-approve claimed n rs in omega (arith, length-append (approve claimed n rs) (approval claimed ∷ []))
+  length-approve claimed (suc n) rs = let ih : length (with_approvals claimed n rs) ≡ length rs + n = length-approve claimed n rs in omega (arith, length-append (with_approvals claimed n rs) (approval claimed ∷ []))
 
-  pub conns-approve : (claimed : Bool) (n : ℕ) (rs : List (Numbered (Standing C))) → conns_of (approve claimed n rs) ≡ conns_of rs
+  pub conns-approve : (claimed : Bool) (n : ℕ) (rs : List (Numbered (Standing C))) → conns_of (with_approvals claimed n rs) ≡ conns_of rs
   conns-approve true n rs = omega (arith, approve_tally is_conn 0 true n rs refl)
   conns-approve false n rs = omega (arith, approve_tally is_conn 0 false n rs refl)
 
-  pub approved-approve : (claimed : Bool) (n : ℕ) (rs : List (Numbered (Standing C))) → approved_of (approve claimed n rs) ≡ approved_of rs + n
+  pub approved-approve : (claimed : Bool) (n : ℕ) (rs : List (Numbered (Standing C))) → approved_of (with_approvals claimed n rs) ≡ approved_of rs + n
   approved-approve true n rs = omega (arith, approve_tally is_approval 1 true n rs refl)
   approved-approve false n rs = omega (arith, approve_tally is_approval 1 false n rs refl)
 
-  pub idle-approve : (claimed : Bool) (n : ℕ) (rs : List (Numbered (Standing C))) → idle_of (approve claimed n rs) ≡ idle_of rs
+  pub idle-approve : (claimed : Bool) (n : ℕ) (rs : List (Numbered (Standing C))) → idle_of (with_approvals claimed n rs) ≡ idle_of rs
   idle-approve true n rs = omega (arith, approve_tally is_idle 0 true n rs refl)
   idle-approve false n rs = omega (arith, approve_tally is_idle 0 false n rs refl)
 
-  out-approve : (claimed : Bool) (n : ℕ) (rs : List (Numbered (Standing C))) → tally_places is_out (approve claimed n rs) ≡ tally_places is_out rs
+  out-approve : (claimed : Bool) (n : ℕ) (rs : List (Numbered (Standing C))) → tally_places is_out (with_approvals claimed n rs) ≡ tally_places is_out rs
   out-approve true n rs = omega (arith, approve_tally is_out 0 true n rs refl)
   out-approve false n rs = omega (arith, approve_tally is_out 0 false n rs refl)
 
-  pub granted_sized : {l : Ledger C} {p q : Option (Place C)} {more : ℕ} {rs : List (Numbered (Standing C))} (claimed : Bool) (n : ℕ) → Sized l p q more 0 rs → Sized l p q more n (approve claimed n rs)
+  pub granted_sized : {l : Ledger C} {p q : Option (Place C)} {more : ℕ} {rs : List (Numbered (Standing C))} (claimed : Bool) (n : ℕ) → Sized l p q more 0 rs → Sized l p q more n (with_approvals claimed n rs)
   granted_sized {rs = rs} claimed n s = record {
     conns_are = omega (arith, conns-approve claimed n rs, s.conns_are);
     approved_are = omega (arith, approved-approve claimed n rs, s.approved_are);
@@ -270,28 +270,28 @@ module _ {C : Type 0} where
       (λ (t : (eqb j (first + length rs) ≡ false) × (j ≢ first + length rs)). ap (λ (b : Bool). stands test (option_and_then (λ (r : Numbered (Standing C)). r.standing) (cond b (Some new) (at_number first rs j)))) t.0)
       (numbered.same_or_not j (first + length rs))
 
-  pub granted_tests : (test : Place C → Bool) (first j : ℕ) (claimed : Bool) (n : ℕ) (rs : List (Numbered (Standing C))) → IsOut test → tests test first (approve claimed n rs) j ≡ tests test first rs j
+  pub granted_tests : (test : Place C → Bool) (first j : ℕ) (claimed : Bool) (n : ℕ) (rs : List (Numbered (Standing C))) → IsOut test → tests test first (with_approvals claimed n rs) j ≡ tests test first rs j
   granted_tests test first j claimed zero rs o = refl
-  granted_tests test first j claimed (suc n) rs o = added_tests test first j (approval claimed) (approve claimed n rs) (off claimed) ∙ granted_tests test first j claimed n rs o
+  granted_tests test first j claimed (suc n) rs o = added_tests test first j (approval claimed) (with_approvals claimed n rs) (off claimed) ∙ granted_tests test first j claimed n rs o
     where
       off : (b : Bool) → stands test (approval {C = C} b).standing ≡ false
       off true = o.claimed
       off false = o.unclaimed
 
   -- a record that passes does not end
-  spared : (test : Place C → Bool) (sweep : Option (Standing C) → Bool) → ((o : Option (Standing C)) → stands test o ≡ true → sweep o ≡ false) → (r : Numbered (Standing C)) → stands test (ended_where sweep r).standing ≡ stands test r.standing
+  spared : (test : Place C → Bool) (sweep : Option (Standing C) → Bool) → ((o : Option (Standing C)) → stands test o ≡ true → sweep o ≡ false) → (r : Numbered (Standing C)) → stands test (after_end_where sweep r).standing ≡ stands test r.standing
   spared test sweep spares r = pick (sweep r.standing) refl (stands test r.standing) refl
     where
-      pick : (b : Bool) → sweep r.standing ≡ b → (d : Bool) → stands test r.standing ≡ d → stands test (cond b (ended r) r).standing ≡ stands test r.standing
+      pick : (b : Bool) → sweep r.standing ≡ b → (d : Bool) → stands test r.standing ≡ d → stands test (cond b (after_end r) r).standing ≡ stands test r.standing
       pick false e d g = refl
       pick true e false g = sym g
       pick true e true g = absurd (let clash : true ≡ false = sym e ∙ spares r.standing g in cc)
 
   -- records end, of which none passed
-  pub swept_tests : (test : Place C → Bool) (sweep : Option (Standing C) → Bool) (first j : ℕ) (rs : List (Numbered (Standing C))) → ((o : Option (Standing C)) → stands test o ≡ true → sweep o ≡ false) → tests test first (map (ended_where sweep) rs) j ≡ tests test first rs j
-  swept_tests test sweep first j rs spares = ap (λ (o : Option (Numbered (Standing C))). stands test (option_and_then (λ (r : Numbered (Standing C)). r.standing) o)) (at_map rs first j (ended_where sweep)) ∙ each (at_number first rs j)
+  pub swept_tests : (test : Place C → Bool) (sweep : Option (Standing C) → Bool) (first j : ℕ) (rs : List (Numbered (Standing C))) → ((o : Option (Standing C)) → stands test o ≡ true → sweep o ≡ false) → tests test first (map (after_end_where sweep) rs) j ≡ tests test first rs j
+  swept_tests test sweep first j rs spares = ap (λ (o : Option (Numbered (Standing C))). stands test (option_and_then (λ (r : Numbered (Standing C)). r.standing) o)) (at_map rs first j (after_end_where sweep)) ∙ each (at_number first rs j)
     where
-      each : (o : Option (Numbered (Standing C))) → stands test (option_and_then (λ (r : Numbered (Standing C)). r.standing) (option_map (ended_where sweep) o)) ≡ stands test (option_and_then (λ (r : Numbered (Standing C)). r.standing) o)
+      each : (o : Option (Numbered (Standing C))) → stands test (option_and_then (λ (r : Numbered (Standing C)). r.standing) (option_map (after_end_where sweep) o)) ≡ stands test (option_and_then (λ (r : Numbered (Standing C)). r.standing) o)
       each None = refl
       each (Some r) = spared test sweep spares r
 
@@ -320,19 +320,19 @@ module _ {C : Type 0} where
       go Guarded e = refl
 
   -- the tally of what is out changes with no sweep
-  pub swept_out : (test : Place C → Bool) (sweep : Option (Standing C) → Bool) → ((o : Option (Standing C)) → stands test o ≡ true → sweep o ≡ false) → (rs : List (Numbered (Standing C))) → tally_places test (map (ended_where sweep) rs) ≡ tally_places test rs
+  pub swept_out : (test : Place C → Bool) (sweep : Option (Standing C) → Bool) → ((o : Option (Standing C)) → stands test o ≡ true → sweep o ≡ false) → (rs : List (Numbered (Standing C))) → tally_places test (map (after_end_where sweep) rs) ≡ tally_places test rs
   swept_out test sweep spares [] = refl
   swept_out test sweep spares (r ∷ rs) =
-      let ih : tally_places test (map (ended_where sweep) rs) ≡ tally_places test rs = swept_out test sweep spares rs in
-      let here : one (stands test (ended_where sweep r).standing) ≡ one (stands test r.standing) = ap one (spared test sweep spares r) in
+      let ih : tally_places test (map (after_end_where sweep) rs) ≡ tally_places test rs = swept_out test sweep spares rs in
+      let here : one (stands test (after_end_where sweep r).standing) ≡ one (stands test r.standing) = ap one (spared test sweep spares r) in
       omega arith
 
   -- a reap ends so many idle connections: by_life of them and more
-  reap_idle : (config : Settings) (now : ℕ) (rs : List (Numbered (Standing C))) → (idle_of (map (ended_where (is_reaped config now)) rs) + tally (λ r. is_reaped config now r.standing) rs ≡ idle_of rs) × (tally (λ r. lives_out config now r.standing) rs ≤ tally (λ r. is_reaped config now r.standing) rs)
+  reap_idle : (config : Settings) (now : ℕ) (rs : List (Numbered (Standing C))) → (idle_of (map (after_end_where (is_reaped config now)) rs) + tally (λ r. is_reaped config now r.standing) rs ≡ idle_of rs) × (tally (λ r. lives_out config now r.standing) rs ≤ tally (λ r. is_reaped config now r.standing) rs)
   reap_idle config now [] = (refl, omega arith)
   reap_idle config now (r ∷ rs) =
       let ih = reap_idle config now rs in
-      let here : one (stands is_idle (ended_where (is_reaped config now) r).standing) + one (is_reaped config now r.standing) ≡ one (stands is_idle r.standing) = pick (is_reaped config now r.standing) refl in
+      let here : one (stands is_idle (after_end_where (is_reaped config now) r).standing) + one (is_reaped config now r.standing) ≡ one (stands is_idle r.standing) = pick (is_reaped config now r.standing) refl in
       let less : one (lives_out config now r.standing) ≤ one (is_reaped config now r.standing) = few (idles_out config now r.standing) (lives_out config now r.standing) in
       (omega (arith, ih.0), omega (arith, ih.1))
     where
@@ -354,7 +354,7 @@ module _ {C : Type 0} where
               go true e a b = cc
               go false e a b = refl
 
-      pick : (b : Bool) → is_reaped config now r.standing ≡ b → one (stands is_idle (cond b (ended r) r).standing) + one b ≡ one (stands is_idle r.standing)
+      pick : (b : Bool) → is_reaped config now r.standing ≡ b → one (stands is_idle (cond b (after_end r) r).standing) + one b ≡ one (stands is_idle r.standing)
       pick true e = sym (off (stands is_idle r.standing) refl e)
       pick false e = omega arith
 
@@ -367,10 +367,10 @@ module _ {C : Type 0} where
     pub many_are : length rs ≡ length (records l) + n
     pub few : life ≤ closed
 
-  pub reaped_sized : (l : Ledger C) (at : ℕ) → AreReaped l (reaped is_reaped l at) (reaped lives_out l at) 0 (map (ended_where (is_reaped (start l).config (max (latest l) at))) (records l))
+  pub reaped_sized : (l : Ledger C) (at : ℕ) → AreReaped l (reap_count is_reaped l at) (reap_count lives_out l at) 0 (map (after_end_where (is_reaped (start l).config (max (latest l) at))) (records l))
   reaped_sized l at =
       let sweep : Option (Standing C) → Bool = is_reaped (start l).config (max (latest l) at) in
-      let rs : List (Numbered (Standing C)) = map (ended_where sweep) (records l) in
+      let rs : List (Numbered (Standing C)) = map (after_end_where sweep) (records l) in
       let idle_is = reap_idle (start l).config (max (latest l) at) (records l) in
       let out_is : tally_places is_out rs ≡ out l = swept_out is_out sweep (reap_spares is_out (λ c. refl) (start l).config (max (latest l) at)) (records l) in
       let approved_is : approved_of rs ≡ approved l = swept_out is_approval sweep (reap_spares is_approval (λ c. refl) (start l).config (max (latest l) at)) (records l) in
@@ -379,11 +379,11 @@ module _ {C : Type 0} where
         approved_are = omega arith;
         idle_are = idle_is.0;
         out_are = out_is;
-        many_are = omega (arith, length-map (records l) (ended_where sweep));
+        many_are = omega (arith, length-map (records l) (after_end_where sweep));
         few = idle_is.1;
       }
 
-  pub granted_reaped : {l : Ledger C} {closed life : ℕ} {rs : List (Numbered (Standing C))} (n : ℕ) → AreReaped l closed life 0 rs → AreReaped l closed life n (approve false n rs)
+  pub granted_reaped : {l : Ledger C} {closed life : ℕ} {rs : List (Numbered (Standing C))} (n : ℕ) → AreReaped l closed life 0 rs → AreReaped l closed life n (with_approvals false n rs)
   granted_reaped {rs = rs} n s = record {
     conns_are = omega (arith, conns-approve false n rs, s.conns_are);
     approved_are = omega (arith, approved-approve false n rs, s.approved_are);
@@ -394,10 +394,10 @@ module _ {C : Type 0} where
   }
 
   -- the last leave ends each idle one, and no approval is there that was not
-  left_each : (r : Numbered (Standing C)) → (one (stands is_idle (ended_where is_left r).standing) ≡ 0) × (one (stands is_approval (ended_where is_left r).standing) ≤ one (stands is_approval r.standing))
+  left_each : (r : Numbered (Standing C)) → (one (stands is_idle (after_end_where is_left r).standing) ≡ 0) × (one (stands is_approval (after_end_where is_left r).standing) ≤ one (stands is_approval r.standing))
   left_each r = go r.standing refl
     where
-      pick : (o : Option (Standing C)) (b : Bool) → r.standing ≡ o → (b ≡ false → one (stands is_idle o) ≡ 0) → (one (stands is_idle (cond b (ended r) r).standing) ≡ 0) × (one (stands is_approval (cond b (ended r) r).standing) ≤ one (stands is_approval r.standing))
+      pick : (o : Option (Standing C)) (b : Bool) → r.standing ≡ o → (b ≡ false → one (stands is_idle o) ≡ 0) → (one (stands is_idle (cond b (after_end r) r).standing) ≡ 0) × (one (stands is_approval (cond b (after_end r) r).standing) ≤ one (stands is_approval r.standing))
       pick o true e idle_is = (refl, omega arith)
       pick o false e idle_is = (ap (λ (x : Option (Standing C)). one (stands is_idle x)) e ∙ idle_is refl, omega arith)
 
@@ -408,11 +408,11 @@ module _ {C : Type 0} where
       by_place (Held g) e = refl
       by_place Guarded e = refl
 
-      go : (o : Option (Standing C)) → r.standing ≡ o → (one (stands is_idle (cond (is_left r.standing) (ended r) r).standing) ≡ 0) × (one (stands is_approval (cond (is_left r.standing) (ended r) r).standing) ≤ one (stands is_approval r.standing))
+      go : (o : Option (Standing C)) → r.standing ≡ o → (one (stands is_idle (cond (is_left r.standing) (after_end r) r).standing) ≡ 0) × (one (stands is_approval (cond (is_left r.standing) (after_end r) r).standing) ≤ one (stands is_approval r.standing))
       go None e = pick None (is_left r.standing) e (λ off. refl)
       go (Some s) e = pick (Some s) (is_left r.standing) e (λ off. by_place s.place (sym (ap is_left e) ∙ off))
 
-  left_sweep : (rs : List (Numbered (Standing C))) → (idle_of (map (ended_where is_left) rs) ≡ 0) × (approved_of (map (ended_where is_left) rs) ≤ approved_of rs)
+  left_sweep : (rs : List (Numbered (Standing C))) → (idle_of (map (after_end_where is_left) rs) ≡ 0) × (approved_of (map (after_end_where is_left) rs) ≤ approved_of rs)
   left_sweep [] = (refl, omega arith)
   left_sweep (r ∷ rs) =
       let ih = left_sweep rs in
@@ -430,10 +430,10 @@ module _ {C : Type 0} where
   pub left_sized : (l : Ledger C) (at n : ℕ) → AreLeft l (records (Later l at Leave (Left n)))
   left_sized l at n = pick (eqb (handles l) 1) refl
     where
-      pick : (b : Bool) → eqb (handles l) 1 ≡ b → AreLeft l (cond b (map (ended_where is_left) (records l)) (records l))
+      pick : (b : Bool) → eqb (handles l) 1 ≡ b → AreLeft l (cond b (map (after_end_where is_left) (records l)) (records l))
       pick false e = record { conns_few = omega arith; approved_few = omega arith; out_are = refl; many_are = refl; last = inr refl }
       pick true e =
-          let rs : List (Numbered (Standing C)) = map (ended_where is_left) (records l) in
+          let rs : List (Numbered (Standing C)) = map (after_end_where is_left) (records l) in
           let sweep = left_sweep (records l) in
           let out_is : tally_places is_out rs ≡ out l = swept_out is_out is_left (leave_spares is_out (λ c. refl) refl) (records l) in
-          record { conns_few = omega (arith, conns_split rs, conns_split (records l), sweep.0); approved_few = sweep.1; out_are = out_is; many_are = omega (arith, length-map (records l) (ended_where is_left)); last = inl (numbered.tested (handles l) 1 e, sweep.0) }
+          record { conns_few = omega (arith, conns_split rs, conns_split (records l), sweep.0); approved_few = sweep.1; out_are = out_is; many_are = omega (arith, length-map (records l) (after_end_where is_left)); last = inl (numbered.tested (handles l) 1 e, sweep.0) }

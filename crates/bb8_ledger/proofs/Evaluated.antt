@@ -5,17 +5,18 @@ use Rattle.std.proofs.lemmas.Bool.{false≢true, eqb-true, eqb-false, ltb-true, 
 use Rattle.bb8_types.specs.declared.grants.Grant.{Grant}
 use Rattle.bb8_types.specs.declared.standing.Standing.{Standing}
 use Rattle.bb8_types.specs.declared.standing.Place.TheVariants.{Guarded, Held}
-use Rattle.bb8_types.specs.Numbered.{Numbered, one, ended, ended_where}
+use Rattle.bb8_types.specs.Numbered.{Numbered, one, after_end, after_end_where}
 use Rattle.bb8_ledger.specs.Acts.{Act, Begin, Try, CheckedOk, CheckedErr, GiveUp, PutBack, Fill, Claim, Opened, Failed, Add, Reap, Join, Leave, Look}
 use Rattle.bb8_ledger.specs.Answers.{Answer, Begun, Memory, Exhausted, Served, Taken, Waiting, Kept, Closed, GaveUp, Granted, Claimed, Ended, Entered, Late, GivenBack, Added, Broken, NoCapacity, Withheld, Reaped, Joined, Left, Looked, Unfit}
-use Rattle.bb8_ledger.specs.Ledger.{Ledger, Later, start, latest, records, handles, next, next_get, conns, approved, conns_of, approved_of, idle_of, alive, first_idle, oldest_waiter, unclaimed, peak, get_peak, get_of, put, figures, opening_with}
+use Rattle.bb8_ledger.specs.Ledger.{Ledger, Later, start, latest, records, handles, next, next_get, conns, approved, conns_of, approved_of, idle_of, alive, first_idle, oldest_waiter, unclaimed, peak, get_peak, get_of, at_place, figures, opening_with}
 use Rattle.bb8_types.specs.Places.{gets_stand, holds, is_unnotified, is_notified, is_reaped, idles_out, lives_out}
-use Rattle.bb8_ledger.specs.Table.{Row, begins, begin_refused, begin_exhausted, waits_on, serves, takes_out, waits, checks, check_fails, gives_up, gives_up_kept, gives_up_closed, keeps, returns_closed, fills, claims, claim_ended, opens, opens_late, fails, add_broken, add_full, add_exhausted, add_refused, adds, reap_ended, reaps, joins, join_exhausted, leaves, looks, IsWant, AllowedBy, fits, with_record, closes, reaped, left}
+use Rattle.bb8_ledger.specs.Table.{Row, begins, begin_refused, begin_exhausted, waits_on, serves, takes_out, waits, checks, check_fails, gives_up, gives_up_kept, gives_up_closed, keeps, returns_closed, fills, claims, claim_ended, opens, opens_late, fails, add_broken, add_full, add_exhausted, add_refused, adds, reap_ended, reaps, joins, join_exhausted, leaves, looks, IsWant, AllowedBy, fits, with_record, closes, reap_count, leave_count}
 use Rattle.bb8_types.specs.Grants.{IsGranted, IsNoGrant, numbers_left, due, lacking}
 use Rattle.bb8_types.specs.Settings.{Settings, is_lawful}
 use Rattle.bb8_types.specs.Figures.{Figures}
 use Rattle.bb8_ledger.specs.Rows.{Told, after, AreAllowed, IsRow, first_waits, IsBackOff}
 use Rattle.bb8_ledger.specs.Waits as of_waits
+use Rattle.bb8_types.specs.Bounds.{end_of_numbers, most_handles}
 
 -- ---- tests with what they tell
 
@@ -108,19 +109,19 @@ module _ {C : Type 0} where
 
   -- whether an event that fits may have this answer
   abbrev is_row : Ledger C → ℕ → Act C → Answer → Bool
-  is_row l at Begin (Begun g) = eqb g (next_get l) && ltb g 18446744073709551615
-  is_row l at Begin Memory = ltb (next_get l) 18446744073709551615 && eqb (alive l) (get_peak l)
-  is_row l at Begin Exhausted = leb 18446744073709551615 (next_get l)
-  is_row l at (Try g) (Served k grant) = (not (gets_stand is_unnotified (get_of l g)) && not (start l).config.test_on_check_out) && (same (first_idle l) (Some k) && is_want l (with_record l k (put Guarded)) grant)
-  is_row l at (Try g) (Taken k grant) = (not (gets_stand is_unnotified (get_of l g)) && (start l).config.test_on_check_out) && (same (first_idle l) (Some k) && is_want l (with_record l k (put (Held g))) grant)
+  is_row l at Begin (Begun g) = eqb g (next_get l) && ltb g end_of_numbers
+  is_row l at Begin Memory = ltb (next_get l) end_of_numbers && eqb (alive l) (get_peak l)
+  is_row l at Begin Exhausted = leb end_of_numbers (next_get l)
+  is_row l at (Try g) (Served k grant) = (not (gets_stand is_unnotified (get_of l g)) && not (start l).config.test_on_check_out) && (same (first_idle l) (Some k) && is_want l (with_record l k (at_place Guarded)) grant)
+  is_row l at (Try g) (Taken k grant) = (not (gets_stand is_unnotified (get_of l g)) && (start l).config.test_on_check_out) && (same (first_idle l) (Some k) && is_want l (with_record l k (at_place (Held g))) grant)
   is_row l at (Try g) (Waiting grant) = cond (gets_stand is_unnotified (get_of l g)) (is_no_grant (next l) grant) (same (first_idle l) None && is_waiting_grant l grant)
   is_row l at (CheckedOk g) (Served k grant) = same (holds (get_of l g)) (Some k) && is_no_grant (next l) grant
-  is_row l at (CheckedErr g broken) (Closed k grant n) = (same (holds (get_of l g)) (Some k) && is_want l (with_record l k ended) grant) && same n (oldest_waiter l)
+  is_row l at (CheckedErr g broken) (Closed k grant n) = (same (holds (get_of l g)) (Some k) && is_want l (with_record l k after_end) grant) && same n (oldest_waiter l)
   is_row l at (GiveUp g why None broken) (GaveUp n) = same n (cond (gets_stand is_notified (get_of l g)) (oldest_waiter l) None)
   is_row l at (GiveUp g why (Some c) broken) (Kept k n) = (same (holds (get_of l g)) (Some k) && not (closes l at k broken)) && same n (oldest_waiter l)
-  is_row l at (GiveUp g why (Some c) broken) (Closed k grant n) = (same (holds (get_of l g)) (Some k) && closes l at k broken) && (is_want l (with_record l k ended) grant && same n (oldest_waiter l))
+  is_row l at (GiveUp g why (Some c) broken) (Closed k grant n) = (same (holds (get_of l g)) (Some k) && closes l at k broken) && (is_want l (with_record l k after_end) grant && same n (oldest_waiter l))
   is_row l at (PutBack k c broken) (Kept m n) = (eqb m k && not (closes l at k broken)) && same n (oldest_waiter l)
-  is_row l at (PutBack k c broken) (Closed m grant n) = (eqb m k && closes l at k broken) && (is_want l (with_record l k ended) grant && same n (oldest_waiter l))
+  is_row l at (PutBack k c broken) (Closed m grant n) = (eqb m k && closes l at k broken) && (is_want l (with_record l k after_end) grant && same n (oldest_waiter l))
   is_row l at (Fill claimed) (Granted grant) = is_want l (records l) grant
   is_row l at Claim (Claimed k) = ltb 0 (handles l) && same (slice_get (unclaimed l) 0) k
   is_row l at Claim Ended = eqb (handles l) 0
@@ -129,13 +130,13 @@ module _ {C : Type 0} where
   is_row l at (Failed k) GivenBack = true
   is_row l at (Add c true) Broken = true
   is_row l at (Add c false) NoCapacity = eqb (conns l + approved l) (start l).config.max_size
-  is_row l at (Add c false) Withheld = differ (conns l + approved l) (start l).config.max_size && cond (leb 18446744073709551615 (next l)) true (eqb (conns l + approved l) (peak l))
-  is_row l at (Add c false) (Added k n) = (differ (conns l + approved l) (start l).config.max_size && ltb (next l) 18446744073709551615) && (eqb k (next l) && same n (oldest_waiter l))
+  is_row l at (Add c false) Withheld = differ (conns l + approved l) (start l).config.max_size && cond (leb end_of_numbers (next l)) true (eqb (conns l + approved l) (peak l))
+  is_row l at (Add c false) (Added k n) = (differ (conns l + approved l) (start l).config.max_size && ltb (next l) end_of_numbers) && (eqb k (next l) && same n (oldest_waiter l))
   is_row l at Reap Ended = eqb (handles l) 0
-  is_row l at Reap (Reaped closed by_idle by_life grant) = (ltb 0 (handles l) && eqb closed (reaped is_reaped l at)) && ((eqb by_idle (reaped idles_out l at) && eqb by_life (reaped lives_out l at)) && is_want l (map (ended_where (is_reaped (start l).config (max (latest l) at))) (records l)) grant)
-  is_row l at Join Joined = ltb (handles l) 4294967295
-  is_row l at Join Exhausted = leb 4294967295 (handles l)
-  is_row l at Leave (Left n) = eqb n (left l)
+  is_row l at Reap (Reaped closed by_idle by_life grant) = (ltb 0 (handles l) && eqb closed (reap_count is_reaped l at)) && ((eqb by_idle (reap_count idles_out l at) && eqb by_life (reap_count lives_out l at)) && is_want l (map (after_end_where (is_reaped (start l).config (max (latest l) at))) (records l)) grant)
+  is_row l at Join Joined = ltb (handles l) most_handles
+  is_row l at Join Exhausted = leb most_handles (handles l)
+  is_row l at Leave (Left n) = eqb n (leave_count l)
   is_row l at Look (Looked m open_now) = eqb m (max (latest l) at) && cond open_now (ltb 0 (handles l)) (not (ltb 0 (handles l)))
   is_row l at _ _ = false
 
@@ -194,7 +195,7 @@ module _ {C : Type 0} where
   is_row-true l at (Add c false) Withheld h =
       let t = both h in
       either
-      (leb 18446744073709551615 (next l)) _ _ (Row l at (Add c false) Withheld)
+      (leb end_of_numbers (next l)) _ _ (Row l at (Add c false) Withheld)
       (λ none _. add_exhausted (differ-true _ _ t.0) (leb-true _ _ none))
       (λ some full. add_refused (differ-true _ _ t.0) (leb-false _ _ some) (eqb-true _ _ full))
       t.1

@@ -13,35 +13,36 @@ use Rattle.bb8_types.specs.declared.api.configuration.QueueStrategy.TheVariants.
 use Rattle.bb8_ledger.specs.Acts.{Act, Begin, Try, CheckedOk, CheckedErr, GiveUp, PutBack, Fill, Claim, Opened, Failed, Add, Reap, Leave, TimedOut}
 use Rattle.bb8_ledger.specs.Answers.{Answer, Begun, Served, Taken, Waiting, Kept, Closed, GaveUp, Granted, Entered, Late, GivenBack, Added, Reaped, Left, Unfit}
 use Rattle.bb8_ledger.specs.Answers as answers
-use Rattle.bb8_types.specs.Numbered.{Numbered, update, in_order, tally, one, ended, ended_where}
-use Rattle.bb8_ledger.specs.Ledger.{Ledger, Opening, Later, Start, start, position, latest, handles, records, records_after, gets, gets_after, conns, approved, conns_of, idle_of, alive, peak, get_peak, idle_at, unnotified_at, put, entry, new_get, get_put, begins_to_wait, notify, wait_micros, wait_of, idle, idle_count}
-use Rattle.bb8_types.specs.Places.{is_unnotified, gets_stand, stands, is_idle, is_conn, is_out, is_reaped, is_left, placed, birth_in, get_placed, get_waits, first_of}
+use Rattle.bb8_types.specs.Numbered.{Numbered, update, in_order, tally, one, after_end, after_end_where}
+use Rattle.bb8_ledger.specs.Ledger.{Ledger, Opening, Later, Start, start, position, latest, handles, records, records_after, gets, gets_after, conns, approved, conns_of, idle_of, alive, peak, get_peak, idle_at, unnotified_at, at_place, entry, new_get, get_at_place, at_wait, with_notice, wait_micros, wait_of, idle, idle_count}
+use Rattle.bb8_types.specs.Places.{is_unnotified, gets_stand, stands, is_idle, is_conn, is_out, is_reaped, is_left, with_place, birth_in, get_with_place, get_in_wait, first_of}
 use Rattle.bb8_types.proofs.Numbered.{Before}
 use Rattle.bb8_types.proofs.Numbered as numbered
 use Rattle.bb8_ledger.proofs.Standings.{before-approve}
 use Rattle.bb8_types.proofs.Places.{and_right}
+use Rattle.bb8_types.specs.Bounds.{most_micros}
 
 -- a test that a get's place fails
-off_get : (p : GetPlace) (o : Option Getting) → is_unnotified p ≡ false → gets_stand is_unnotified (option_map (get_placed p) o) ≡ true → ⊥
+off_get : (p : GetPlace) (o : Option Getting) → is_unnotified p ≡ false → gets_stand is_unnotified (option_map (get_with_place p) o) ≡ true → ⊥
 off_get p None off h = cc
 off_get p (Some g) off h = let clash : false ≡ true = sym off ∙ h in cc
 
 module _ (first m : ℕ) where
-  get_put_before : (k : ℕ) (p : GetPlace) (gs : List (Numbered Getting)) → is_unnotified p ≡ false → Before unnotified_at m gs → Before unnotified_at m (update first k (get_put p) gs)
-  get_put_before k p gs off b = numbered.before-update unnotified_at gs first k (get_put p) m b (λ r q h. absurd (off_get p r.standing off (and_right (gets_stand is_unnotified (get_put p r).standing) _ h).0))
+  get_put_before : (k : ℕ) (p : GetPlace) (gs : List (Numbered Getting)) → is_unnotified p ≡ false → Before unnotified_at m gs → Before unnotified_at m (update first k (get_at_place p) gs)
+  get_put_before k p gs off b = numbered.before-update unnotified_at gs first k (get_at_place p) m b (λ r q h. absurd (off_get p r.standing off (and_right (gets_stand is_unnotified (get_at_place p r).standing) _ h).0))
 
-  notify_before : (n : Option ℕ) (gs : List (Numbered Getting)) → Before unnotified_at m gs → Before unnotified_at m (notify first n gs)
+  notify_before : (n : Option ℕ) (gs : List (Numbered Getting)) → Before unnotified_at m gs → Before unnotified_at m (with_notice first n gs)
   notify_before None gs b = b
   notify_before (Some g) gs b = get_put_before g (get_places.Waiting true) gs refl b
 
-waits_before : (first m now k : ℕ) (gs : List (Numbered Getting)) → Before unnotified_at (suc m) gs → Before unnotified_at (suc m) (update first k (begins_to_wait now m) gs)
-waits_before first m now k gs b = numbered.before-update_kept unnotified_at gs first k (begins_to_wait now m) (suc m) b (λ g was p h. pick g was p (gets_stand is_unnotified g.standing) h)
+waits_before : (first m now k : ℕ) (gs : List (Numbered Getting)) → Before unnotified_at (suc m) gs → Before unnotified_at (suc m) (update first k (at_wait now m) gs)
+waits_before first m now k gs b = numbered.before-update_kept unnotified_at gs first k (at_wait now m) (suc m) b (λ g was p h. pick g was p (gets_stand is_unnotified g.standing) h)
   where
-    pick : (g : Numbered Getting) → ((p : ℕ) → unnotified_at p g ≡ true → p < suc m) → (p : ℕ) (t : Bool) → unnotified_at p (cond t g (record { standing = option_map (get_waits now) g.standing; position = m })) ≡ true → p < suc m
+    pick : (g : Numbered Getting) → ((p : ℕ) → unnotified_at p g ≡ true → p < suc m) → (p : ℕ) (t : Bool) → unnotified_at p (cond t g (record { standing = option_map (get_in_wait now) g.standing; position = m })) ≡ true → p < suc m
     pick g was p true h = was p h
-    pick g was p false h = let e : m ≡ p = numbered.tested m p (and_right (gets_stand is_unnotified (option_map (get_waits now) g.standing)) _ h).1 in omega arith
+    pick g was p false h = let e : m ≡ p = numbered.tested m p (and_right (gets_stand is_unnotified (option_map (get_in_wait now) g.standing)) _ h).1 in omega arith
 
-capped : (n : ℕ) → min 18446744073709551615 n ≤ 18446744073709551615
+capped : (n : ℕ) → min most_micros n ≤ most_micros
 capped n = omega arith
 
 -- somebody is first in a line
@@ -59,20 +60,20 @@ first_inside Lifo (x ∷ xs) h = let last = inside (x ∷ xs) (length (x ∷ xs)
 module _ {C : Type 0} where
   -- ---- nobody entered, or began to wait, after now
 
-  pub put_before : (m first k : ℕ) (p : Place C) (rs : List (Numbered (Standing C))) → is_idle p ≡ false → Before idle_at m rs → Before idle_at m (update first k (put p) rs)
-  put_before m first k p rs off b = numbered.before-update idle_at rs first k (put p) m b (λ r q h. absurd (no r.standing (and_right (stands is_idle (put p r).standing) _ h).0))
+  pub put_before : (m first k : ℕ) (p : Place C) (rs : List (Numbered (Standing C))) → is_idle p ≡ false → Before idle_at m rs → Before idle_at m (update first k (at_place p) rs)
+  put_before m first k p rs off b = numbered.before-update idle_at rs first k (at_place p) m b (λ r q h. absurd (no r.standing (and_right (stands is_idle (at_place p r).standing) _ h).0))
     where
-      no : (o : Option (Standing C)) → stands is_idle (option_map (placed p) o) ≡ true → ⊥
+      no : (o : Option (Standing C)) → stands is_idle (option_map (with_place p) o) ≡ true → ⊥
       no None h = cc
       no (Some s) h = let clash : false ≡ true = sym off ∙ h in cc
 
-  pub ended_before : (m first k : ℕ) (rs : List (Numbered (Standing C))) → Before idle_at m rs → Before idle_at m (update first k ended rs)
+  pub ended_before : (m first k : ℕ) (rs : List (Numbered (Standing C))) → Before idle_at m rs → Before idle_at m (update first k after_end rs)
   ended_before m first k rs b = numbered.ended_before (stands is_idle) rs first k m refl b
 
-  ended_where_before : (m : ℕ) (test : Option (Standing C) → Bool) (rs : List (Numbered (Standing C))) → Before idle_at m rs → Before idle_at m (map (ended_where test) rs)
-  ended_where_before m test rs b = numbered.before-map idle_at rs (ended_where test) m b (λ r was p h. pick r was p (test r.standing) h)
+  ended_where_before : (m : ℕ) (test : Option (Standing C) → Bool) (rs : List (Numbered (Standing C))) → Before idle_at m rs → Before idle_at m (map (after_end_where test) rs)
+  ended_where_before m test rs b = numbered.before-map idle_at rs (after_end_where test) m b (λ r was p h. pick r was p (test r.standing) h)
     where
-      pick : (r : Numbered (Standing C)) → ((p : ℕ) → idle_at p r ≡ true → p < m) → (p : ℕ) (t : Bool) → idle_at p (cond t (ended r) r) ≡ true → p < m
+      pick : (r : Numbered (Standing C)) → ((p : ℕ) → idle_at p r ≡ true → p < m) → (p : ℕ) (t : Bool) → idle_at p (cond t (after_end r) r) ≡ true → p < m
       pick r was p true h = cc
       pick r was p false h = was p h
 
@@ -99,7 +100,7 @@ module _ {C : Type 0} where
   records_before s h m now rs Reap (Reaped closed by_idle by_life grant) b = before-approve false grant.count (suc m) _ (ended_where_before (suc m) (is_reaped s.config now) rs b)
   records_before s h m now rs Leave (Left c) b = last (eqb h 1)
     where
-      last : (t : Bool) → Before idle_at (suc m) (cond t (map (ended_where is_left) rs) rs)
+      last : (t : Bool) → Before idle_at (suc m) (cond t (map (after_end_where is_left) rs) rs)
       last true = ended_where_before (suc m) is_left rs b
       last false = b
   records_before s h m now rs _ _ b = b
@@ -141,13 +142,13 @@ module _ {C : Type 0} where
 
   -- ---- the wait time is a u64 of microseconds
 
-  wait_after : (l : Ledger C) (at : ℕ) (e : Act C) (a : Answer) → wait_micros l ≤ 18446744073709551615 → wait_micros (Later l at e a) ≤ 18446744073709551615
+  wait_after : (l : Ledger C) (at : ℕ) (e : Act C) (a : Answer) → wait_micros l ≤ most_micros → wait_micros (Later l at e a) ≤ most_micros
   wait_after l at e Unfit h = h
   wait_after l at e (Served k grant) h = capped (wait_micros l + wait_of l at e)
   wait_after l at (GiveUp g TimedOut held broken) a h = capped (wait_micros l + wait_of l at (GiveUp g TimedOut held broken))
   wait_after l at _ _ h = h
 
-  pub wait_few : (l : Ledger C) → wait_micros l ≤ 18446744073709551615
+  pub wait_few : (l : Ledger C) → wait_micros l ≤ most_micros
   wait_few (Opening s) = omega arith
   wait_few (Later l at e a) = wait_after l at e a (wait_few l)
 

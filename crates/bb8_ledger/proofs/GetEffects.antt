@@ -3,9 +3,9 @@ use Rattle.std.proofs.Common.{◌≡◌, ◌≢◌, ◌⊎◌, ℕ, suc, ◌+◌
 use Rattle.bb8_types.specs.declared.standing.GetPlace.{GetPlace}
 use Rattle.bb8_types.specs.declared.standing.GetPlace.TheVariants.{Active, Waiting, Holding}
 use Rattle.bb8_types.specs.declared.standing.Getting.{Getting}
-use Rattle.bb8_types.specs.Numbered.{Numbered, at as at_number, update, in_order, one, standing_at, ended}
-use Rattle.bb8_ledger.specs.Ledger.{Ledger, start, position, gets, alive, notified, unnotified, unnotified_at, oldest_waiter, get_of, tally_gets, alive_of, new_get, get_put, begins_to_wait, notify}
-use Rattle.bb8_types.specs.Places.{holds, held_in, gets_stand, is_notified, is_unnotified, get_placed, get_waits, is_trying}
+use Rattle.bb8_types.specs.Numbered.{Numbered, at as at_number, update, in_order, one, standing_at, after_end}
+use Rattle.bb8_ledger.specs.Ledger.{Ledger, start, position, gets, alive, notified, unnotified, unnotified_at, oldest_waiter, get_of, tally_gets, alive_of, new_get, get_at_place, at_wait, with_notice}
+use Rattle.bb8_types.specs.Places.{holds, held_in, gets_stand, is_notified, is_unnotified, get_with_place, get_in_wait, is_trying}
 use Rattle.bb8_types.proofs.Numbered.{Before}
 use Rattle.bb8_types.proofs.Numbered as numbered
 use Rattle.bb8_ledger.proofs.Facts.{waited_before}
@@ -29,10 +29,10 @@ off_notified o off = go (gets_stand is_notified o) refl
     go true e = absurd (let clash : false ≡ true = sym off ∙ notified_waits o e in cc)
 
 -- a get that moves to a place where it does not wait
-pub put_off : (p : GetPlace) → is_waiting p ≡ false → (x : Numbered Getting) → gets_stand is_waiting (get_put p x).standing ≡ false
+pub put_off : (p : GetPlace) → is_waiting p ≡ false → (x : Numbered Getting) → gets_stand is_waiting (get_at_place p x).standing ≡ false
 put_off p off x = go x.standing
   where
-    go : (o : Option Getting) → gets_stand is_waiting (option_map (get_placed p) o) ≡ false
+    go : (o : Option Getting) → gets_stand is_waiting (option_map (get_with_place p) o) ≡ false
     go None = refl
     go (Some s) = off
 
@@ -56,29 +56,29 @@ module _ {C : Type 0} where
     pub lives : (x : Numbered Getting) → x.standing ≡ Some standing → one (is_some (f x).standing) ≡ b
 
   -- a get that ends
-  pub ended_leaves : (l : Ledger C) (g : ℕ) (s : Getting) → get_of l g ≡ Some s → is_unnotified s.place ≡ false → Leaves l g 0 ended
+  pub ended_leaves : (l : Ledger C) (g : ℕ) (s : Getting) → get_of l g ≡ Some s → is_unnotified s.place ≡ false → Leaves l g 0 after_end
   ended_leaves l g s was off = record { standing = s; was = was; off = off; out = λ x. refl; lives = λ x e. refl }
 
   -- a get that moves
-  pub moved_leaves : (l : Ledger C) (g : ℕ) (p : GetPlace) (s : Getting) → get_of l g ≡ Some s → is_unnotified s.place ≡ false → is_waiting p ≡ false → Leaves l g 1 (get_put p)
-  moved_leaves l g p s was off still = record { standing = s; was = was; off = off; out = put_off p still; lives = λ x e. ap (λ (o : Option Getting). one (is_some (option_map (get_placed p) o))) e }
+  pub moved_leaves : (l : Ledger C) (g : ℕ) (p : GetPlace) (s : Getting) → get_of l g ≡ Some s → is_unnotified s.place ≡ false → is_waiting p ≡ false → Leaves l g 1 (get_at_place p)
+  moved_leaves l g p s was off still = record { standing = s; was = was; off = off; out = put_off p still; lives = λ x e. ap (λ (o : Option Getting). one (is_some (option_map (get_with_place p) o))) e }
 
   -- a get that tries and was not in line
   pub trier : (l : Ledger C) (g : ℕ) → gets_stand is_trying (get_of l g) ≡ true → gets_stand is_unnotified (get_of l g) ≡ false → (st : Getting) × (get_of l g ≡ Some st) × (is_unnotified st.place ≡ false)
   trier l g f off = let st = getting_is is_trying (get_of l g) f in (st.0, st.1, ap (gets_stand is_unnotified) (sym st.1) ∙ off)
 
-  pub trier_leaves : (l : Ledger C) (g : ℕ) → gets_stand is_trying (get_of l g) ≡ true → gets_stand is_unnotified (get_of l g) ≡ false → Leaves l g 0 ended
+  pub trier_leaves : (l : Ledger C) (g : ℕ) → gets_stand is_trying (get_of l g) ≡ true → gets_stand is_unnotified (get_of l g) ≡ false → Leaves l g 0 after_end
   trier_leaves l g f off = let st = trier l g f off in ended_leaves l g st.0 st.1 st.2
 
-  pub trier_holds : (l : Ledger C) (g k : ℕ) → gets_stand is_trying (get_of l g) ≡ true → gets_stand is_unnotified (get_of l g) ≡ false → Leaves l g 1 (get_put (Holding k))
+  pub trier_holds : (l : Ledger C) (g k : ℕ) → gets_stand is_trying (get_of l g) ≡ true → gets_stand is_unnotified (get_of l g) ≡ false → Leaves l g 1 (get_at_place (Holding k))
   trier_holds l g k f off = let st = trier l g f off in moved_leaves l g (Holding k) st.0 st.1 st.2 refl
 
   -- a get that holds a connection, and does not wait
-  pub holder_ends : (l : Ledger C) (g k : ℕ) → holds (get_of l g) ≡ Some k → (t : Leaves l g 0 ended) × (is_notified t.standing.place ≡ false)
+  pub holder_ends : (l : Ledger C) (g k : ℕ) → holds (get_of l g) ≡ Some k → (t : Leaves l g 0 after_end) × (is_notified t.standing.place ≡ false)
   unfolding ended_leaves holding_is
   holder_ends l g k h = let st = holding_is (get_of l g) k h in (ended_leaves l g st.0 st.1 (ap is_unnotified st.2), ap is_notified st.2)
 
-  pub holder_turns : (l : Ledger C) (g k : ℕ) → holds (get_of l g) ≡ Some k → (t : Leaves l g 1 (get_put Active)) × (is_notified t.standing.place ≡ false)
+  pub holder_turns : (l : Ledger C) (g k : ℕ) → holds (get_of l g) ≡ Some k → (t : Leaves l g 1 (get_at_place Active)) × (is_notified t.standing.place ≡ false)
   unfolding moved_leaves holding_is
   holder_turns l g k h = let st = holding_is (get_of l g) k h in (moved_leaves l g Active st.0 st.1 (ap is_unnotified st.2) refl, ap is_notified st.2)
 
@@ -126,15 +126,15 @@ module _ {C : Type 0} where
         clash x p h = let no : false ≡ true = sym (off_unnotified (f x).standing (t.out x)) ∙ (and_right (gets_stand is_unnotified (f x).standing) _ h).0 in cc
 
     -- and the oldest waiter is notified
-    pub left_told : (n : Option ℕ) → n ≡ oldest_waiter l → (tally_gets is_unnotified (notify (start l).first_get n left_gets) ≡ unnotified l - 1) × (tally_gets is_notified (notify (start l).first_get n left_gets) + one (is_notified t.standing.place) ≡ notified l + min 1 (unnotified l))
+    pub left_told : (n : Option ℕ) → n ≡ oldest_waiter l → (tally_gets is_unnotified (with_notice (start l).first_get n left_gets) ≡ unnotified l - 1) × (tally_gets is_notified (with_notice (start l).first_get n left_gets) + one (is_notified t.standing.place) ≡ notified l + min 1 (unnotified l))
     left_told n is =
         let told = notify_counted (start l).first_get (position l) n left_gets left_before (left_oldest n is) in
         (omega (arith, told.0, left_unnotified), omega (arith, told.1, left_unnotified, left_notified))
 
-    pub left_told_alive : (n : Option ℕ) → alive_of (notify (start l).first_get n left_gets) + 1 ≡ alive l + b
+    pub left_told_alive : (n : Option ℕ) → alive_of (with_notice (start l).first_get n left_gets) + 1 ≡ alive l + b
     left_told_alive n = omega (arith, left_alive, notify_alive (start l).first_get n left_gets)
 
-    pub left_told_length : (n : Option ℕ) → length (notify (start l).first_get n left_gets) ≡ length (gets l)
+    pub left_told_length : (n : Option ℕ) → length (with_notice (start l).first_get n left_gets) ≡ length (gets l)
     left_told_length n = notify_length (start l).first_get n left_gets ∙ left_length
 
     left_in_line : InLine (start l).first_get (position l) (gets l) → InLine (start l).first_get (position l) left_gets
@@ -144,8 +144,8 @@ module _ {C : Type 0} where
     pub left_line : InLine (start l).first_get (position l) (gets l) → InLine (start l).first_get (suc (position l)) left_gets
     left_line i = line_later (start l).first_get (position l) left_gets (left_in_line i)
 
-    pub left_told_line : (n : Option ℕ) → n ≡ oldest_waiter l → InLine (start l).first_get (position l) (gets l) → InLine (start l).first_get (suc (position l)) (notify (start l).first_get n left_gets)
-    left_told_line n is i = line_later (start l).first_get (position l) (notify (start l).first_get n left_gets) (line_notified (start l).first_get (position l) n left_gets (left_oldest n is) (left_in_line i))
+    pub left_told_line : (n : Option ℕ) → n ≡ oldest_waiter l → InLine (start l).first_get (position l) (gets l) → InLine (start l).first_get (suc (position l)) (with_notice (start l).first_get n left_gets)
+    left_told_line n is i = line_later (start l).first_get (position l) (with_notice (start l).first_get n left_gets) (line_notified (start l).first_get (position l) n left_gets (left_oldest n is) (left_in_line i))
 
 -- ---- what the gets hold
 
@@ -170,21 +170,21 @@ other_holds first g f gs q k nothing h =
     (changed_holds first g f gs q k h)
 
 -- a place at which nothing is held
-pub put_nothing : (p : GetPlace) → held_in p ≡ None → (x : Numbered Getting) → holds (get_put p x).standing ≡ None
+pub put_nothing : (p : GetPlace) → held_in p ≡ None → (x : Numbered Getting) → holds (get_at_place p x).standing ≡ None
 put_nothing p none x = go x.standing
   where
-    go : (o : Option Getting) → holds (option_map (get_placed p) o) ≡ None
+    go : (o : Option Getting) → holds (option_map (get_with_place p) o) ≡ None
     go None = refl
     go (Some s) = none
 
-pub put_holds : (j k : ℕ) (x : Numbered Getting) → holds (get_put (Holding j) x).standing ≡ Some k → j ≡ k
+pub put_holds : (j k : ℕ) (x : Numbered Getting) → holds (get_at_place (Holding j) x).standing ≡ Some k → j ≡ k
 put_holds j k x h = go x.standing h
   where
-    go : (o : Option Getting) → holds (option_map (get_placed (Holding j)) o) ≡ Some k → j ≡ k
+    go : (o : Option Getting) → holds (option_map (get_with_place (Holding j)) o) ≡ Some k → j ≡ k
     go None e = cc
     go (Some s) e = cc
 
-pub waits_nothing : (now p : ℕ) (x : Numbered Getting) → holds (begins_to_wait now p x).standing ≡ None
+pub waits_nothing : (now p : ℕ) (x : Numbered Getting) → holds (at_wait now p x).standing ≡ None
 waits_nothing now p x = pick (gets_stand is_unnotified x.standing) refl
   where
     still : (o : Option Getting) → gets_stand is_unnotified o ≡ true → holds o ≡ None
@@ -196,17 +196,17 @@ waits_nothing now p x = pick (gets_stand is_unnotified x.standing) refl
         go (Waiting b) e = refl
         go (Holding k) e = cc
 
-    free : (o : Option Getting) → holds (option_map (get_waits now) o) ≡ None
+    free : (o : Option Getting) → holds (option_map (get_in_wait now) o) ≡ None
     free None = refl
     free (Some s) = refl
 
-    pick : (b : Bool) → gets_stand is_unnotified x.standing ≡ b → holds (cond b x (record { standing = option_map (get_waits now) x.standing; position = p })).standing ≡ None
+    pick : (b : Bool) → gets_stand is_unnotified x.standing ≡ b → holds (cond b x (record { standing = option_map (get_in_wait now) x.standing; position = p })).standing ≡ None
     pick true e = still x.standing e
     pick false e = free x.standing
 
-pub told_holds : (first : ℕ) (n : Option ℕ) (gs : List (Numbered Getting)) (q k : ℕ) → holds (standing_at first (notify first n gs) q) ≡ Some k → holds (standing_at first gs q) ≡ Some k
+pub told_holds : (first : ℕ) (n : Option ℕ) (gs : List (Numbered Getting)) (q k : ℕ) → holds (standing_at first (with_notice first n gs) q) ≡ Some k → holds (standing_at first gs q) ≡ Some k
 told_holds first None gs q k h = h
-told_holds first (Some g) gs q k h = (other_holds first g (get_put (Waiting true)) gs q k (put_nothing (Waiting true) refl) h).1
+told_holds first (Some g) gs q k h = (other_holds first g (get_at_place (Waiting true)) gs q k (put_nothing (Waiting true) refl) h).1
 
 pub begun_holds : (first : ℕ) (gs : List (Numbered Getting)) (q k : ℕ) → holds (standing_at first (gs ++ new_get ∷ []) q) ≡ Some k → holds (standing_at first gs q) ≡ Some k
 begun_holds first gs q k h = pick (eqb q (first + length gs)) (sym (ap (λ (o : Option (Numbered Getting)). holds (option_and_then (λ (x : Numbered Getting). x.standing) o)) (numbered.at-append gs new_get first q)) ∙ h)

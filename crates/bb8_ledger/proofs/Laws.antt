@@ -11,10 +11,10 @@ use Rattle.bb8_types.specs.Settings.{Settings, is_lawful}
 use Rattle.bb8_types.specs.Figures.{Counts}
 use Rattle.bb8_ledger.specs.Acts.{Act, Try, CheckedOk, GiveUp, Leave, Reason, TimedOut, Cancelled}
 use Rattle.bb8_ledger.specs.Answers.{Answer, Kept, Closed, GaveUp, Left, Unfit}
-use Rattle.bb8_types.specs.Numbered.{Numbered, at as at_number, update, in_order, one, ended, ended_where}
-use Rattle.bb8_ledger.specs.Ledger.{Ledger, Opening, Later, start, position, latest, records, gets, handles, next, next_get, conns, approved, idle_count, conns_of, approved_of, idle_of, alive, alive_of, notified, unnotified, idle, unnotified_at, first_idle, oldest_waiter, record_of, get_of, tally_gets, put, approve, new_get, begins_to_wait, notify, expires, counts, waited_since, timed_out, cancelled}
+use Rattle.bb8_types.specs.Numbered.{Numbered, at as at_number, update, in_order, one, after_end, after_end_where}
+use Rattle.bb8_ledger.specs.Ledger.{Ledger, Opening, Later, start, position, latest, records, gets, handles, next, next_get, conns, approved, idle_count, conns_of, approved_of, idle_of, alive, alive_of, notified, unnotified, idle, unnotified_at, first_idle, oldest_waiter, record_of, get_of, tally_gets, at_place, with_approvals, new_get, at_wait, with_notice, expires, counts, waited_since, timed_out, cancelled}
 use Rattle.bb8_types.specs.Places.{is_conn, is_approval, gets_stand, is_notified, is_unnotified, is_reaped, is_trying}
-use Rattle.bb8_ledger.specs.Table.{Row, begins, waits_on, serves, takes_out, waits, checks, check_fails, gives_up, gives_up_kept, gives_up_closed, keeps, returns_closed, fills, claims, opens, opens_late, fails, adds, reaps, joins, leaves, reaped, IsWant, IsLegal, takes, fits, is_brought, with_record}
+use Rattle.bb8_ledger.specs.Table.{Row, begins, waits_on, serves, takes_out, waits, checks, check_fails, gives_up, gives_up_kept, gives_up_closed, keeps, returns_closed, fills, claims, opens, opens_late, fails, adds, reaps, joins, leaves, reap_count, IsWant, IsLegal, takes, fits, is_brought, with_record}
 use Rattle.bb8_types.specs.Grants.{due, lacking}
 use Rattle.bb8_ledger.specs.Limits.{KeepsLimits, GivesNext, NeverGivesAgain, MakesGood, AlwaysMakesGood, KeepsLaws, KeepsPromises, NeverForgets, MayLower, lost}
 use Rattle.bb8_ledger.proofs.Standings.{conns-change, approved-change, tested}
@@ -115,13 +115,13 @@ module _ {C : Type 0} where
   pub out_counted : (l : Ledger C) (k : ℕ) (s : Standing C) → record_of l k ≡ Some s → s.place ≡ Guarded → 1 ≤ conns l
   out_counted l k s h place =
       let m = numbered.standing_found (records l) (start l).first k s h in
-      let e : conns_of (numbered.change (start l).first k (ended m.0) (records l)) + 1 ≡ conns l + 0 = conns-change (start l).first (records l) k (ended m.0) m.0 true false m.1 (tested is_conn m.0 s Guarded m.2 place) refl in
+      let e : conns_of (numbered.change (start l).first k (after_end m.0) (records l)) + 1 ≡ conns l + 0 = conns-change (start l).first (records l) k (after_end m.0) m.0 true false m.1 (tested is_conn m.0 s Guarded m.2 place) refl in
       omega arith
 
   pub claimed_counted : (l : Ledger C) (k : ℕ) (s : Standing C) → record_of l k ≡ Some s → s.place ≡ Claimed → 1 ≤ approved l
   claimed_counted l k s h place =
       let m = numbered.standing_found (records l) (start l).first k s h in
-      let e : approved_of (numbered.change (start l).first k (ended m.0) (records l)) + 1 ≡ approved l + 0 = approved-change (start l).first (records l) k (ended m.0) m.0 true false m.1 (tested is_approval m.0 s Claimed m.2 place) refl in
+      let e : approved_of (numbered.change (start l).first k (after_end m.0) (records l)) + 1 ≡ approved l + 0 = approved-change (start l).first (records l) k (after_end m.0) m.0 true false m.1 (tested is_approval m.0 s Claimed m.2 place) refl in
       omega arith
 
   -- nobody is idle where nobody is first
@@ -145,22 +145,22 @@ module _ {C : Type 0} where
   pub alive_is : (l : Ledger C) (g : ℕ) (st : Getting) → get_of l g ≡ Some st → 1 ≤ alive l
   alive_is l g st h =
       let m = numbered.standing_found (gets l) (start l).first_get g st h in
-      let e : alive_of (update (start l).first_get g ended (gets l)) + 1 ≡ alive l = alive_counted (start l).first_get g (gets l) m.0 st m.1 m.2 in
+      let e : alive_of (update (start l).first_get g after_end (gets l)) + 1 ≡ alive l = alive_counted (start l).first_get g (gets l) m.0 st m.1 m.2 in
       omega arith
 
   -- a get that waits, or waits on, is alive as before
-  waits_alive : (l : Ledger C) (at g : ℕ) → alive_of (update (start l).first_get g (begins_to_wait (max (latest l) at) (position l)) (gets l)) ≡ alive l
+  waits_alive : (l : Ledger C) (at g : ℕ) → alive_of (update (start l).first_get g (at_wait (max (latest l) at) (position l)) (gets l)) ≡ alive l
   waits_alive l at g = begins_alive (start l).first_get (max (latest l) at) (position l) g (gets l)
 
-  waits_length : (l : Ledger C) (at g : ℕ) → length (update (start l).first_get g (begins_to_wait (max (latest l) at) (position l)) (gets l)) ≡ length (gets l)
-  waits_length l at g = numbered.length-update (gets l) (start l).first_get g (begins_to_wait (max (latest l) at) (position l))
+  waits_length : (l : Ledger C) (at g : ℕ) → length (update (start l).first_get g (at_wait (max (latest l) at) (position l)) (gets l)) ≡ length (gets l)
+  waits_length l at g = numbered.length-update (gets l) (start l).first_get g (at_wait (max (latest l) at) (position l))
 
   -- the get of a number that is alive, with its position
   getting : (l : Ledger C) (g : ℕ) (st : Getting) → get_of l g ≡ Some st → (x : Numbered Getting) × (at_number (start l).first_get (gets l) g ≡ Some x) × (x.standing ≡ Some st)
   getting l g st h = numbered.standing_found (gets l) (start l).first_get g st h
 
   -- who was in line waits on, and the gets are the same
-  pub waits_on_gets : (l : Ledger C) (at g : ℕ) → gets_stand is_unnotified (get_of l g) ≡ true → update (start l).first_get g (begins_to_wait (max (latest l) at) (position l)) (gets l) ≡ gets l
+  pub waits_on_gets : (l : Ledger C) (at g : ℕ) → gets_stand is_unnotified (get_of l g) ≡ true → update (start l).first_get g (at_wait (max (latest l) at) (position l)) (gets l) ≡ gets l
   waits_on_gets l at g on =
       let st = getting_is is_unnotified (get_of l g) on in
       let m = getting l g st.0 st.1 in
@@ -168,22 +168,22 @@ module _ {C : Type 0} where
 
   -- ---- the sizes and the statistics
 
-  alive_given_up : (l : Ledger C) (g : ℕ) (n : Option ℕ) → is_some (get_of l g) ≡ true → alive_of (notify (start l).first_get n (update (start l).first_get g ended (gets l))) + 1 ≡ alive l
+  alive_given_up : (l : Ledger C) (g : ℕ) (n : Option ℕ) → is_some (get_of l g) ≡ true → alive_of (with_notice (start l).first_get n (update (start l).first_get g after_end (gets l))) + 1 ≡ alive l
   alive_given_up l g n some =
       let st = alive_get (get_of l g) some in
       let m = numbered.standing_found (gets l) (start l).first_get g st.0 st.1 in
-      let e : alive_of (update (start l).first_get g ended (gets l)) + 1 ≡ alive l = alive_counted (start l).first_get g (gets l) m.0 st.0 m.1 m.2 in
-      omega (arith, notify_alive (start l).first_get n (update (start l).first_get g ended (gets l)))
+      let e : alive_of (update (start l).first_get g after_end (gets l)) + 1 ≡ alive l = alive_counted (start l).first_get g (gets l) m.0 st.0 m.1 m.2 in
+      omega (arith, notify_alive (start l).first_get n (update (start l).first_get g after_end (gets l)))
 
   -- one of the gets is notified: as many are alive, and as many there ever were
-  told_alive : (l : Ledger C) (n : Option ℕ) → alive_of (notify (start l).first_get n (gets l)) ≡ alive l
+  told_alive : (l : Ledger C) (n : Option ℕ) → alive_of (with_notice (start l).first_get n (gets l)) ≡ alive l
   told_alive l n = notify_alive (start l).first_get n (gets l)
 
-  told_length : (l : Ledger C) (n : Option ℕ) → length (notify (start l).first_get n (gets l)) ≡ length (gets l)
+  told_length : (l : Ledger C) (n : Option ℕ) → length (with_notice (start l).first_get n (gets l)) ≡ length (gets l)
   told_length l n = notify_length (start l).first_get n (gets l)
 
-  given_up_length : (l : Ledger C) (g : ℕ) (n : Option ℕ) → length (notify (start l).first_get n (update (start l).first_get g ended (gets l))) ≡ length (gets l)
-  given_up_length l g n = notify_length (start l).first_get n (update (start l).first_get g ended (gets l)) ∙ numbered.length-update (gets l) (start l).first_get g ended
+  given_up_length : (l : Ledger C) (g : ℕ) (n : Option ℕ) → length (with_notice (start l).first_get n (update (start l).first_get g after_end (gets l))) ≡ length (gets l)
+  given_up_length l g n = notify_length (start l).first_get n (update (start l).first_get g after_end (gets l)) ∙ numbered.length-update (gets l) (start l).first_get g after_end
 
   -- a get that gives up counts once
   gave_up : (l : Ledger C) (at g : ℕ) (why : Reason) (held : Option C) (broken : Bool) (a : Answer) → (a ≡ Unfit → ⊥) → timed_out (Later l at (GiveUp g why held broken) a) + cancelled (Later l at (GiveUp g why held broken) a) ≡ timed_out l + cancelled l + 1
@@ -287,14 +287,14 @@ module _ {C : Type 0} where
   AllServe l = Serves (handles l) (start l).config.max_size (conns l) (approved l) (idle_count l) (unnotified l) (notified l) (lost l)
 
   -- the oldest waiter is notified
-  told_counted : (l : Ledger C) (n : Option ℕ) → n ≡ oldest_waiter l → (tally_gets is_unnotified (notify (start l).first_get n (gets l)) ≡ unnotified l - 1) × (tally_gets is_notified (notify (start l).first_get n (gets l)) ≡ notified l + min 1 (unnotified l))
+  told_counted : (l : Ledger C) (n : Option ℕ) → n ≡ oldest_waiter l → (tally_gets is_unnotified (with_notice (start l).first_get n (gets l)) ≡ unnotified l - 1) × (tally_gets is_notified (with_notice (start l).first_get n (gets l)) ≡ notified l + min 1 (unnotified l))
   told_counted l n is = notify_counted (start l).first_get (position l) n (gets l) (waited_before l) is
 
   -- which get is notified where a get gives up
   handed_to : (l : Ledger C) (g : ℕ) (n : Option ℕ) (st : Getting) → get_of l g ≡ Some st → n ≡ cond (gets_stand is_notified (get_of l g)) (oldest_waiter l) None → n ≡ cond (gets_stand is_notified (Some st)) (slice_get (in_order unnotified_at (start l).first_get (gets l) (position l)) 0) None
   handed_to l g n st h is = is ∙ ap (λ (o : Option Getting). cond (gets_stand is_notified o) (oldest_waiter l) None) h
 
-  given_up : (l : Ledger C) (g : ℕ) (n : Option ℕ) → is_some (get_of l g) ≡ true → n ≡ cond (gets_stand is_notified (get_of l g)) (oldest_waiter l) None → IsGivenUp (unnotified l) (notified l) (tally_gets is_unnotified (notify (start l).first_get n (update (start l).first_get g ended (gets l)))) (tally_gets is_notified (notify (start l).first_get n (update (start l).first_get g ended (gets l))))
+  given_up : (l : Ledger C) (g : ℕ) (n : Option ℕ) → is_some (get_of l g) ≡ true → n ≡ cond (gets_stand is_notified (get_of l g)) (oldest_waiter l) None → IsGivenUp (unnotified l) (notified l) (tally_gets is_unnotified (with_notice (start l).first_get n (update (start l).first_get g after_end (gets l)))) (tally_gets is_notified (with_notice (start l).first_get n (update (start l).first_get g after_end (gets l))))
   given_up l g n some is =
       let st = alive_get (get_of l g) some in
       let m = getting l g st.0 st.1 in
@@ -320,7 +320,7 @@ module _ {C : Type 0} where
   row_serves l at _ _ legal f (waits {g} {grant} not_waiting none granted) h =
       let st = trier l g f not_waiting in
       let m = getting l g st.0 st.1 in
-      let gs : List (Numbered Getting) = update (start l).first_get g (begins_to_wait (max (latest l) at) (position l)) (gets l) in
+      let gs : List (Numbered Getting) = update (start l).first_get g (at_wait (max (latest l) at) (position l)) (gets l) in
       let z = granted_sized false grant.count (stays_sized l) in
       let was : one (is_unnotified st.0.place) ≡ 0 = ap one st.2 in
       let standing : gets_stand is_unnotified m.0.standing ≡ false = ap (gets_stand is_unnotified) m.2 ∙ st.2 in
@@ -386,7 +386,7 @@ module _ {C : Type 0} where
       serves_entered h (omega (arith, z.conns_are, z.approved_are)) (omega (arith, z.approved_are)) (omega (arith, z.idle_are)) told.0 told.1 (omega arith)
   row_serves l at _ _ legal f (reaps {closed} {grant} open_now closed_is by_idle_is by_life_is want) h =
       let z = granted_reaped grant.count (reaped_sized l at) in
-      serves_reaped h (reaped is_reaped l at) grant.count (all_fit l legal).size z.conns_are z.approved_are z.idle_are refl refl (omega arith)
+      serves_reaped h (reap_count is_reaped l at) grant.count (all_fit l legal).size z.conns_are z.approved_are z.idle_are refl refl (omega arith)
   row_serves l at _ _ legal f (joins few) h = serves_joined h (is_open (handles l) f) (omega arith)
   row_serves l at _ _ legal f (leaves {n} is) h =
       ⊎_elim
@@ -424,16 +424,16 @@ module _ {C : Type 0} where
   row_gives : (l : Ledger C) (at : ℕ) (e : Act C) (a : Answer) → IsLegal l → fits l e ≡ true → Row l at e a → GivesNext l at e a
   row_gives l at _ _ legal f (begins {g} is few) = record { first = tt; more = omega arith; get = is; more_gets = omega (arith, length-append (gets l) (new_get ∷ [])) }
   row_gives l at _ _ legal f (waits_on {g} {grant} on nothing) = record { first = nothing.first; more = omega (arith, length-approve false grant.count (records l)); get = tt; more_gets = as_many_gets l _ (waits_length l at g) }
-  row_gives l at _ _ legal f (serves {g} {k} {grant} not_waiting off first want) = record { first = changed_first l k (put Guarded) grant want; more = omega (arith, (granted_sized false grant.count (turned_sized (idle_turns l k Guarded first).1)).many_are); get = tt; more_gets = as_many_gets l _ (left_length (trier_leaves l g f not_waiting)) }
-  row_gives l at _ _ legal f (takes_out {g} {k} {grant} not_waiting on first want) = record { first = changed_first l k (put (Held g)) grant want; more = omega (arith, (granted_sized false grant.count (turned_sized (idle_turns l k (Held g) first).1)).many_are); get = tt; more_gets = as_many_gets l _ (left_length (trier_holds l g k f not_waiting)) }
+  row_gives l at _ _ legal f (serves {g} {k} {grant} not_waiting off first want) = record { first = changed_first l k (at_place Guarded) grant want; more = omega (arith, (granted_sized false grant.count (turned_sized (idle_turns l k Guarded first).1)).many_are); get = tt; more_gets = as_many_gets l _ (left_length (trier_leaves l g f not_waiting)) }
+  row_gives l at _ _ legal f (takes_out {g} {k} {grant} not_waiting on first want) = record { first = changed_first l k (at_place (Held g)) grant want; more = omega (arith, (granted_sized false grant.count (turned_sized (idle_turns l k (Held g) first).1)).many_are); get = tt; more_gets = as_many_gets l _ (left_length (trier_holds l g k f not_waiting)) }
   row_gives l at _ _ legal f (waits {g} {grant} not_waiting none granted) = record { first = granted.first; more = omega (arith, length-approve false grant.count (records l)); get = tt; more_gets = as_many_gets l _ (waits_length l at g) }
   row_gives l at _ _ legal f (checks {g} {k} {grant} holds_it nothing) = record { first = nothing.first; more = omega (arith, nothing.count, (turned_sized (checks_turn l g k legal holds_it)).many_are); get = tt; more_gets = as_many_gets l _ (left_length (holder_ends l g k holds_it).0) }
-  row_gives l at _ _ legal f (check_fails {g} {k} {grant} {n} holds_it want is) = record { first = changed_first l k ended grant want; more = omega (arith, (granted_sized false grant.count (turned_sized (drops_turn l g k legal holds_it))).many_are); get = tt; more_gets = as_many_gets l _ (left_told_length (holder_turns l g k holds_it).0 n) }
+  row_gives l at _ _ legal f (check_fails {g} {k} {grant} {n} holds_it want is) = record { first = changed_first l k after_end grant want; more = omega (arith, (granted_sized false grant.count (turned_sized (drops_turn l g k legal holds_it))).many_are); get = tt; more_gets = as_many_gets l _ (left_told_length (holder_turns l g k holds_it).0 n) }
   row_gives l at _ _ legal f (gives_up {g} {n} is) = record { first = tt; more = omega arith; get = tt; more_gets = as_many_gets l _ (given_up_length l g n) }
   row_gives l at _ _ legal f (gives_up_kept {g} {k} {c} {n} holds_it keep is) = record { first = tt; more = omega (arith, (turned_sized (hands_in_turn l at g k c legal holds_it)).many_are); get = tt; more_gets = as_many_gets l _ (left_told_length (holder_ends l g k holds_it).0 n) }
-  row_gives l at _ _ legal f (gives_up_closed {g} {k} {grant} {n} holds_it shut want is) = record { first = changed_first l k ended grant want; more = omega (arith, (granted_sized false grant.count (turned_sized (drops_turn l g k legal holds_it))).many_are); get = tt; more_gets = as_many_gets l _ (left_told_length (holder_ends l g k holds_it).0 n) }
+  row_gives l at _ _ legal f (gives_up_closed {g} {k} {grant} {n} holds_it shut want is) = record { first = changed_first l k after_end grant want; more = omega (arith, (granted_sized false grant.count (turned_sized (drops_turn l g k legal holds_it))).many_are); get = tt; more_gets = as_many_gets l _ (left_told_length (holder_ends l g k holds_it).0 n) }
   row_gives l at _ _ legal f (keeps {k} {c} {n} keep is) = record { first = tt; more = omega (arith, (turned_sized (returns_turn l at k c f)).many_are); get = tt; more_gets = as_many_gets l _ (told_length l n) }
-  row_gives l at _ _ legal f (returns_closed {k} {grant} {n} shut want is) = record { first = changed_first l k ended grant want; more = omega (arith, (granted_sized false grant.count (turned_sized (closes_turn l k f))).many_are); get = tt; more_gets = as_many_gets l _ (told_length l n) }
+  row_gives l at _ _ legal f (returns_closed {k} {grant} {n} shut want is) = record { first = changed_first l k after_end grant want; more = omega (arith, (granted_sized false grant.count (turned_sized (closes_turn l k f))).many_are); get = tt; more_gets = as_many_gets l _ (told_length l n) }
   row_gives l at _ _ legal f (fills {claimed} {grant} want) = record { first = want.first; more = omega (arith, length-approve claimed grant.count (records l)); get = tt; more_gets = gets_same l }
   row_gives l at _ _ legal f (claims {k = Some k} open_now first) = record { first = tt; more = omega (arith, (turned_sized (unclaimed_turns l k first)).many_are); get = tt; more_gets = gets_same l }
   row_gives l at _ _ legal f (opens {k} {c} {n} open_now is) = record { first = tt; more = omega (arith, (turned_sized (opens_turn l at k c f)).many_are); get = tt; more_gets = as_many_gets l _ (told_length l n) }
@@ -450,23 +450,23 @@ module _ {C : Type 0} where
   -- ---- what is wanted is made good
 
   -- once what is wanted of records is granted
-  want_made_good : (l : Ledger C) (rs : List (Numbered (Standing C))) (claimed : Bool) (g : Grant) → IsWant l rs g → 0 < handles l → (unwrap_or (start l).config.min_idle 0 ≤ idle_of (approve claimed g.count rs) + approved_of (approve claimed g.count rs)) ⊎ ((start l).config.max_size ≤ conns_of (approve claimed g.count rs) + approved_of (approve claimed g.count rs)) ⊎ (0 < g.withheld)
+  want_made_good : (l : Ledger C) (rs : List (Numbered (Standing C))) (claimed : Bool) (g : Grant) → IsWant l rs g → 0 < handles l → (unwrap_or (start l).config.min_idle 0 ≤ idle_of (with_approvals claimed g.count rs) + approved_of (with_approvals claimed g.count rs)) ⊎ ((start l).config.max_size ≤ conns_of (with_approvals claimed g.count rs) + approved_of (with_approvals claimed g.count rs)) ⊎ (0 < g.withheld)
   want_made_good l rs claimed g want open_now =
       let split : g.count + g.withheld ≡ due (start l).config (handles l) (conns_of rs + approved_of rs) (lacking (start l).config (idle_of rs + approved_of rs)) = want.split in
       let all : due (start l).config (handles l) (conns_of rs + approved_of rs) (lacking (start l).config (idle_of rs + approved_of rs)) ≡ min (lacking (start l).config (idle_of rs + approved_of rs)) ((start l).config.max_size - (conns_of rs + approved_of rs)) = due_open (start l).config (handles l) (conns_of rs + approved_of rs) (lacking (start l).config (idle_of rs + approved_of rs)) open_now in
-      let c : conns_of (approve claimed g.count rs) ≡ conns_of rs = conns-approve claimed g.count rs in
-      let a : approved_of (approve claimed g.count rs) ≡ approved_of rs + g.count = approved-approve claimed g.count rs in
-      let i : idle_of (approve claimed g.count rs) ≡ idle_of rs = idle-approve claimed g.count rs in
-      made_good (unwrap_or (start l).config.min_idle 0) (start l).config.max_size (idle_of rs + approved_of rs) (idle_of (approve claimed g.count rs) + approved_of (approve claimed g.count rs)) (conns_of rs + approved_of rs) (conns_of (approve claimed g.count rs) + approved_of (approve claimed g.count rs)) g.count g.withheld (split ∙ all) (omega arith) (omega arith)
+      let c : conns_of (with_approvals claimed g.count rs) ≡ conns_of rs = conns-approve claimed g.count rs in
+      let a : approved_of (with_approvals claimed g.count rs) ≡ approved_of rs + g.count = approved-approve claimed g.count rs in
+      let i : idle_of (with_approvals claimed g.count rs) ≡ idle_of rs = idle-approve claimed g.count rs in
+      made_good (unwrap_or (start l).config.min_idle 0) (start l).config.max_size (idle_of rs + approved_of rs) (idle_of (with_approvals claimed g.count rs) + approved_of (with_approvals claimed g.count rs)) (conns_of rs + approved_of rs) (conns_of (with_approvals claimed g.count rs) + approved_of (with_approvals claimed g.count rs)) g.count g.withheld (split ∙ all) (omega arith) (omega arith)
 
   row_makes_good : (l : Ledger C) (at : ℕ) (e : Act C) (a : Answer) → Row l at e a → MakesGood (Later l at e a) e a
-  row_makes_good l at _ _ (serves {k} {grant} not_waiting off first want) = want_made_good l (with_record l k (put Guarded)) false grant want
-  row_makes_good l at _ _ (takes_out {g} {k} {grant} not_waiting on first want) = want_made_good l (with_record l k (put (Held g))) false grant want
-  row_makes_good l at _ _ (check_fails {k} {grant} holds_it want is) = want_made_good l (with_record l k ended) false grant want
-  row_makes_good l at _ _ (gives_up_closed {k} {grant} holds_it shut want is) = want_made_good l (with_record l k ended) false grant want
-  row_makes_good l at _ _ (returns_closed {k} {grant} shut want is) = want_made_good l (with_record l k ended) false grant want
+  row_makes_good l at _ _ (serves {k} {grant} not_waiting off first want) = want_made_good l (with_record l k (at_place Guarded)) false grant want
+  row_makes_good l at _ _ (takes_out {g} {k} {grant} not_waiting on first want) = want_made_good l (with_record l k (at_place (Held g))) false grant want
+  row_makes_good l at _ _ (check_fails {k} {grant} holds_it want is) = want_made_good l (with_record l k after_end) false grant want
+  row_makes_good l at _ _ (gives_up_closed {k} {grant} holds_it shut want is) = want_made_good l (with_record l k after_end) false grant want
+  row_makes_good l at _ _ (returns_closed {k} {grant} shut want is) = want_made_good l (with_record l k after_end) false grant want
   row_makes_good l at _ _ (fills {claimed} {grant} want) = want_made_good l (records l) claimed grant want
-  row_makes_good l at _ _ (reaps {grant} open_now closed_is by_idle_is by_life_is want) = want_made_good l (map (ended_where (is_reaped (start l).config (max (latest l) at))) (records l)) false grant want
+  row_makes_good l at _ _ (reaps {grant} open_now closed_is by_idle_is by_life_is want) = want_made_good l (map (after_end_where (is_reaped (start l).config (max (latest l) at))) (records l)) false grant want
   row_makes_good l at _ _ _ = tt
 
   makes_good : (l : Ledger C) → IsLegal l → AlwaysMakesGood l
@@ -481,8 +481,8 @@ module _ {C : Type 0} where
   AllInLine l = InLine (start l).first_get (position l) (gets l)
 
   -- the oldest waiter is notified in its turn
-  told_in_line : (l : Ledger C) (n : Option ℕ) → n ≡ oldest_waiter l → AllInLine l → InLine (start l).first_get (suc (position l)) (notify (start l).first_get n (gets l))
-  told_in_line l n is i = line_later (start l).first_get (position l) (notify (start l).first_get n (gets l)) (line_notified (start l).first_get (position l) n (gets l) is i)
+  told_in_line : (l : Ledger C) (n : Option ℕ) → n ≡ oldest_waiter l → AllInLine l → InLine (start l).first_get (suc (position l)) (with_notice (start l).first_get n (gets l))
+  told_in_line l n is i = line_later (start l).first_get (position l) (with_notice (start l).first_get n (gets l)) (line_notified (start l).first_get (position l) n (gets l) is i)
 
   row_in_line : (l : Ledger C) (at : ℕ) (e : Act C) (a : Answer) → fits l e ≡ true → Row l at e a → AllInLine l → AllInLine (Later l at e a)
   row_in_line l at _ _ f (begins is few) i = line_begun (start l).first_get (position l) (gets l) i
@@ -498,7 +498,7 @@ module _ {C : Type 0} where
   row_in_line l at _ _ f (gives_up {g} {n} is) i =
       let st = alive_get (get_of l g) (and_right (is_some (get_of l g)) _ f).0 in
       let m = getting l g st.0 st.1 in
-      line_later (start l).first_get (position l) (notify (start l).first_get n (update (start l).first_get g ended (gets l))) (line_given_up (start l).first_get (position l) g n (gets l) m.0 st.0 m.1 m.2 (handed_to l g n st.0 st.1 is) i)
+      line_later (start l).first_get (position l) (with_notice (start l).first_get n (update (start l).first_get g after_end (gets l))) (line_given_up (start l).first_get (position l) g n (gets l) m.0 st.0 m.1 m.2 (handed_to l g n st.0 st.1 is) i)
   row_in_line l at _ _ f (gives_up_kept {g} {k} {n} holds_it keep is) i = left_told_line (holder_ends l g k holds_it).0 n is i
   row_in_line l at _ _ f (gives_up_closed {g} {k} {n} holds_it shut want is) i = left_told_line (holder_ends l g k holds_it).0 n is i
   row_in_line l at _ _ f (keeps {n} keep is) i = told_in_line l n is i
@@ -515,7 +515,7 @@ module _ {C : Type 0} where
   abbrev Remembers : Ledger C → ℕ → Act C → Answer → Type 0
   Remembers l at e a = (notified l ≤ notified (Later l at e a)) ⊎ MayLower e (unnotified (Later l at e a))
 
-  told_remembers : (l : Ledger C) (n : Option ℕ) → n ≡ oldest_waiter l → notified l ≤ tally_gets is_notified (notify (start l).first_get n (gets l))
+  told_remembers : (l : Ledger C) (n : Option ℕ) → n ≡ oldest_waiter l → notified l ≤ tally_gets is_notified (with_notice (start l).first_get n (gets l))
   told_remembers l n is = omega (arith, (told_counted l n is).1)
 
   row_remembers : (l : Ledger C) (at : ℕ) (e : Act C) (a : Answer) → fits l e ≡ true → Row l at e a → Remembers l at e a

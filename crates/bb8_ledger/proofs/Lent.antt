@@ -6,7 +6,7 @@ use Rattle.bb8_types.specs.declared.standing.Standing.{Standing}
 use Rattle.bb8_ledger.specs.Acts.{Act}
 use Rattle.bb8_ledger.specs.Answers.{Answer}
 use Rattle.bb8_types.specs.Numbered.{Numbered}
-use Rattle.bb8_ledger.specs.Ledger.{Ledger, Later, start, position, latest, records, entry, approve}
+use Rattle.bb8_ledger.specs.Ledger.{Ledger, Later, start, position, latest, records, entry, with_approvals}
 use Rattle.bb8_types.specs.Places.{is_guarded, is_reaped}
 use Rattle.bb8_ledger.specs.Table.{Row, waits_on, serves, takes_out, waits, checks, check_fails, gives_up_kept, gives_up_closed, keeps, returns_closed, fills, claims, opens, opens_late, fails, adds, reaps, leaves, IsLegal, fits, with_record}
 use Rattle.bb8_ledger.specs.Limits.{is_lent, ServesUnlent, NeverServesTwice}
@@ -38,7 +38,7 @@ module _ {C : Type 0} where
       (λ (s : (eqb k m ≡ false) × (k ≢ m)). ap (λ (b : Bool). cond b (passes is_guarded q) (guards (start l).first (records l) k)) s.0)
       (numbered.same_or_not k m)
 
-  granted_guards : (l : Ledger C) (k : ℕ) (claimed : Bool) (n : ℕ) (rs : List (Numbered (Standing C))) → guards (start l).first (approve claimed n rs) k ≡ guards (start l).first rs k
+  granted_guards : (l : Ledger C) (k : ℕ) (claimed : Bool) (n : ℕ) (rs : List (Numbered (Standing C))) → guards (start l).first (with_approvals claimed n rs) k ≡ guards (start l).first rs k
   granted_guards l k claimed n rs = granted_tests is_guarded (start l).first k claimed n rs guarded_out
 
   -- what is lent is what guards hold

@@ -1,9 +1,9 @@
 -- What the code does not take yet: no connection is checked, so no get holds one.
 use Rattle.std.proofs.Common.{◌≡◌, ℕ, max, Bool, true, false, not, Some, sym, ◌∙◌, refl, subst}
-use Rattle.bb8_types.specs.Numbered.{update, ended}
+use Rattle.bb8_types.specs.Numbered.{update, after_end}
 use Rattle.bb8_ledger.specs.Acts.{Act, Try}
 use Rattle.bb8_ledger.specs.Answers.{Answer}
-use Rattle.bb8_ledger.specs.Ledger.{Ledger, Opening, Later, start, position, latest, gets, get_of, begins_to_wait}
+use Rattle.bb8_ledger.specs.Ledger.{Ledger, Opening, Later, start, position, latest, gets, get_of, at_wait}
 use Rattle.bb8_types.specs.Places.{holds}
 use Rattle.bb8_ledger.specs.Table.{Row, begins, waits_on, serves, takes_out, waits, checks, check_fails, gives_up, gives_up_kept, gives_up_closed, keeps, returns_closed, opens, adds, IsLegal, takes, is_brought}
 use Rattle.bb8_types.proofs.Places.{and_right}
@@ -25,13 +25,13 @@ module _ {C : Type 0} where
 
   row_free : (l : Ledger C) (at : ℕ) (e : Act C) (a : Answer) → is_brought l e ≡ true → Row l at e a → IsFree l → IsFree (Later l at e a)
   row_free l at _ _ brought (begins is few) h = λ g k now. h g k (begun_holds (start l).first_get (gets l) g k now)
-  row_free l at _ _ brought (waits_on {g = q} on nothing) h = λ g k now. h g k (other_holds (start l).first_get q (begins_to_wait (max (latest l) at) (position l)) (gets l) g k (waits_nothing (max (latest l) at) (position l)) now).1
-  row_free l at _ _ brought (serves {g = q} not_waiting off first want) h = λ g k now. h g k (other_holds (start l).first_get q ended (gets l) g k (λ x. refl) now).1
+  row_free l at _ _ brought (waits_on {g = q} on nothing) h = λ g k now. h g k (other_holds (start l).first_get q (at_wait (max (latest l) at) (position l)) (gets l) g k (waits_nothing (max (latest l) at) (position l)) now).1
+  row_free l at _ _ brought (serves {g = q} not_waiting off first want) h = λ g k now. h g k (other_holds (start l).first_get q after_end (gets l) g k (λ x. refl) now).1
   row_free l at _ _ brought (takes_out {g = q} not_waiting on first want) h = absurd (let clash : true ≡ false = sym on ∙ unchecked l q brought in cc)
-  row_free l at _ _ brought (waits {g = q} not_waiting none granted) h = λ g k now. h g k (other_holds (start l).first_get q (begins_to_wait (max (latest l) at) (position l)) (gets l) g k (waits_nothing (max (latest l) at) (position l)) now).1
+  row_free l at _ _ brought (waits {g = q} not_waiting none granted) h = λ g k now. h g k (other_holds (start l).first_get q (at_wait (max (latest l) at) (position l)) (gets l) g k (waits_nothing (max (latest l) at) (position l)) now).1
   row_free l at _ _ brought (checks holds_it nothing) h = cc
   row_free l at _ _ brought (check_fails holds_it want is) h = cc
-  row_free l at _ _ brought (gives_up {g = q} {n} is) h = λ g k now. h g k (other_holds (start l).first_get q ended (gets l) g k (λ x. refl) (told_holds (start l).first_get n (update (start l).first_get q ended (gets l)) g k now)).1
+  row_free l at _ _ brought (gives_up {g = q} {n} is) h = λ g k now. h g k (other_holds (start l).first_get q after_end (gets l) g k (λ x. refl) (told_holds (start l).first_get n (update (start l).first_get q after_end (gets l)) g k now)).1
   row_free l at _ _ brought (gives_up_kept {g} {k} holds_it keep is) h = absurd (h g k holds_it)
   row_free l at _ _ brought (gives_up_closed {g} {k} holds_it shut want is) h = absurd (h g k holds_it)
   row_free l at _ _ brought (keeps {n} keep is) h = λ g k now. h g k (told_holds (start l).first_get n (gets l) g k now)

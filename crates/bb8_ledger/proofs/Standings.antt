@@ -4,7 +4,7 @@ use Rattle.bb8_types.specs.declared.standing.Place.{Place}
 use Rattle.bb8_types.specs.declared.standing.Standing.{Standing}
 use Rattle.bb8_types.specs.Numbered.{Numbered, at, one}
 use Rattle.bb8_types.specs.Places.{stands, is_conn, is_approval}
-use Rattle.bb8_ledger.specs.Ledger.{idle_at, conns_of, approved_of, approval, approve}
+use Rattle.bb8_ledger.specs.Ledger.{idle_at, conns_of, approved_of, approval, with_approvals}
 use Rattle.bb8_types.proofs.Numbered.{change, Before}
 use Rattle.bb8_types.proofs.Numbered as numbered
 
@@ -20,9 +20,9 @@ module _ {C : Type 0} where
   pub approved-change : (first : ℕ) (rs : List (Numbered (Standing C))) (k : ℕ) (new old : Numbered (Standing C)) (a b : Bool) → at first rs k ≡ Some old → stands is_approval old.standing ≡ a → stands is_approval new.standing ≡ b → approved_of (change first k new rs) + one a ≡ approved_of rs + one b
   approved-change first rs k new old a b h was is = rw (sym (ap one was), sym (ap one is)) (numbered.tally-change (λ r. stands is_approval r.standing) rs first k new old h)
 
-  pub before-approve : (claimed : Bool) (n m : ℕ) (rs : List (Numbered (Standing C))) → Before idle_at m rs → Before idle_at m (approve claimed n rs)
+  pub before-approve : (claimed : Bool) (n m : ℕ) (rs : List (Numbered (Standing C))) → Before idle_at m rs → Before idle_at m (with_approvals claimed n rs)
   before-approve claimed zero m rs b = b
-  before-approve claimed (suc n) m rs b = numbered.before-append idle_at (approve claimed n rs) _ m (before-approve claimed n m rs b) (λ p e. never claimed p e)
+  before-approve claimed (suc n) m rs b = numbered.before-append idle_at (with_approvals claimed n rs) _ m (before-approve claimed n m rs b) (λ p e. never claimed p e)
     where
       never : (t : Bool) (p : ℕ) → idle_at {C = C} p (approval t) ≡ true → p < m
       never true p e = cc

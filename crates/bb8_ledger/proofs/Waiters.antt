@@ -3,9 +3,9 @@ use Rattle.std.proofs.Common.{◌≡◌, ◌≢◌, ◌⊎◌, ℕ, zero, suc, �
 use Rattle.bb8_types.specs.declared.standing.GetPlace.{GetPlace}
 use Rattle.bb8_types.specs.declared.standing.GetPlace.TheVariants.{Active, Waiting, Holding}
 use Rattle.bb8_types.specs.declared.standing.Getting.{Getting}
-use Rattle.bb8_types.specs.Numbered.{Numbered, at, update, numbers, in_order, tally, one, ended}
-use Rattle.bb8_types.specs.Places.{gets_stand, is_unnotified, is_notified, get_placed, get_waits}
-use Rattle.bb8_ledger.specs.Ledger.{unnotified_at, tally_gets, alive_of, new_get, get_put, begins_to_wait, notify}
+use Rattle.bb8_types.specs.Numbered.{Numbered, at, update, numbers, in_order, tally, one, after_end}
+use Rattle.bb8_types.specs.Places.{gets_stand, is_unnotified, is_notified, get_with_place, get_in_wait}
+use Rattle.bb8_ledger.specs.Ledger.{unnotified_at, tally_gets, alive_of, new_get, get_at_place, at_wait, with_notice}
 use Rattle.bb8_types.proofs.Numbered.{change, Before}
 use Rattle.bb8_types.proofs.Numbered as numbered
 use Rattle.bb8_types.proofs.Places.{and_right}
@@ -178,44 +178,44 @@ waiters_few (g ∷ gs) =
 -- ---- how many wait, and how many are alive
 
 -- a get that is alive is counted
-pub alive_counted : (first g : ℕ) (gs : List (Numbered Getting)) (x : Numbered Getting) (s : Getting) → at first gs g ≡ Some x → x.standing ≡ Some s → alive_of (update first g ended gs) + 1 ≡ alive_of gs
+pub alive_counted : (first g : ℕ) (gs : List (Numbered Getting)) (x : Numbered Getting) (s : Getting) → at first gs g ≡ Some x → x.standing ≡ Some s → alive_of (update first g after_end gs) + 1 ≡ alive_of gs
 alive_counted first g gs x s h is =
-    let t : alive_of (update first g ended gs) + one (is_some x.standing) ≡ alive_of gs + 0 = tally_update (λ (y : Numbered Getting). is_some y.standing) gs first g ended x h in
+    let t : alive_of (update first g after_end gs) + one (is_some x.standing) ≡ alive_of gs + 0 = tally_update (λ (y : Numbered Getting). is_some y.standing) gs first g after_end x h in
     let u : one (is_some x.standing) ≡ 1 = ap (λ (o : Option Getting). one (is_some o)) is in
     omega arith
 
 -- a get ends
-pub ended_counted : (test : GetPlace → Bool) (first g : ℕ) (gs : List (Numbered Getting)) (x : Numbered Getting) (s : Getting) → at first gs g ≡ Some x → x.standing ≡ Some s → tally_gets test (update first g ended gs) + one (test s.place) ≡ tally_gets test gs
+pub ended_counted : (test : GetPlace → Bool) (first g : ℕ) (gs : List (Numbered Getting)) (x : Numbered Getting) (s : Getting) → at first gs g ≡ Some x → x.standing ≡ Some s → tally_gets test (update first g after_end gs) + one (test s.place) ≡ tally_gets test gs
 ended_counted test first g gs x s h is =
-    let t : tally_gets test (update first g ended gs) + one (gets_stand test x.standing) ≡ tally_gets test gs + 0 = tally_update (λ (y : Numbered Getting). gets_stand test y.standing) gs first g ended x h in
+    let t : tally_gets test (update first g after_end gs) + one (gets_stand test x.standing) ≡ tally_gets test gs + 0 = tally_update (λ (y : Numbered Getting). gets_stand test y.standing) gs first g after_end x h in
     let u : one (gets_stand test x.standing) ≡ one (test s.place) = ap (λ (o : Option Getting). one (gets_stand test o)) is in
     omega arith
 
 -- a get that waits from a position on
 abbrev pub waiter : ℕ → ℕ → Option Getting → Numbered Getting
-waiter now position o = record { standing = option_map (get_waits now) o; position = position }
+waiter now position o = record { standing = option_map (get_in_wait now) o; position = position }
 
 -- a get that was not unnotified begins to wait
-pub begins_now : (now p : ℕ) (x : Numbered Getting) → gets_stand is_unnotified x.standing ≡ false → begins_to_wait now p x ≡ waiter now p x.standing
+pub begins_now : (now p : ℕ) (x : Numbered Getting) → gets_stand is_unnotified x.standing ≡ false → at_wait now p x ≡ waiter now p x.standing
 begins_now now p x off = ap (λ (b : Bool). cond b x (waiter now p x.standing)) off
 
 -- a get that was not notified waits on
-pub waits_on_same : (first now p g : ℕ) (gs : List (Numbered Getting)) (x : Numbered Getting) → at first gs g ≡ Some x → gets_stand is_unnotified x.standing ≡ true → update first g (begins_to_wait now p) gs ≡ gs
+pub waits_on_same : (first now p g : ℕ) (gs : List (Numbered Getting)) (x : Numbered Getting) → at first gs g ≡ Some x → gets_stand is_unnotified x.standing ≡ true → update first g (at_wait now p) gs ≡ gs
 waits_on_same first now p g gs x h on =
-    let same : begins_to_wait now p x ≡ x = ap (λ (b : Bool). cond b x (waiter now p x.standing)) on in
-    numbered.update_is gs first g (begins_to_wait now p) x h ∙ ap (λ (y : Numbered Getting). change first g y gs) same ∙ change_self gs first g x h
+    let same : at_wait now p x ≡ x = ap (λ (b : Bool). cond b x (waiter now p x.standing)) on in
+    numbered.update_is gs first g (at_wait now p) x h ∙ ap (λ (y : Numbered Getting). change first g y gs) same ∙ change_self gs first g x h
 
-pub begins_counted : (test : GetPlace → Bool) (first now p g : ℕ) (gs : List (Numbered Getting)) (x : Numbered Getting) (s : Getting) → at first gs g ≡ Some x → x.standing ≡ Some s → gets_stand is_unnotified x.standing ≡ false → tally_gets test (update first g (begins_to_wait now p) gs) + one (test s.place) ≡ tally_gets test gs + one (test (Waiting false))
+pub begins_counted : (test : GetPlace → Bool) (first now p g : ℕ) (gs : List (Numbered Getting)) (x : Numbered Getting) (s : Getting) → at first gs g ≡ Some x → x.standing ≡ Some s → gets_stand is_unnotified x.standing ≡ false → tally_gets test (update first g (at_wait now p) gs) + one (test s.place) ≡ tally_gets test gs + one (test (Waiting false))
 begins_counted test first now p g gs x s h is off =
-    let t : tally_gets test (update first g (begins_to_wait now p) gs) + one (gets_stand test x.standing) ≡ tally_gets test gs + one (gets_stand test (begins_to_wait now p x).standing) = tally_update (λ (y : Numbered Getting). gets_stand test y.standing) gs first g (begins_to_wait now p) x h in
+    let t : tally_gets test (update first g (at_wait now p) gs) + one (gets_stand test x.standing) ≡ tally_gets test gs + one (gets_stand test (at_wait now p x).standing) = tally_update (λ (y : Numbered Getting). gets_stand test y.standing) gs first g (at_wait now p) x h in
     let u : one (gets_stand test x.standing) ≡ one (test s.place) = ap (λ (o : Option Getting). one (gets_stand test o)) is in
-    let v : one (gets_stand test (begins_to_wait now p x).standing) ≡ one (test (Waiting false)) = ap (λ (y : Numbered Getting). one (gets_stand test y.standing)) (begins_now now p x off) ∙ ap (λ (o : Option Getting). one (gets_stand test (option_map (get_waits now) o))) is in
+    let v : one (gets_stand test (at_wait now p x).standing) ≡ one (test (Waiting false)) = ap (λ (y : Numbered Getting). one (gets_stand test y.standing)) (begins_now now p x off) ∙ ap (λ (o : Option Getting). one (gets_stand test (option_map (get_in_wait now) o))) is in
     omega arith
 
-pub begins_alive : (first now p g : ℕ) (gs : List (Numbered Getting)) → alive_of (update first g (begins_to_wait now p) gs) ≡ alive_of gs
-begins_alive first now p g gs = tally_same (λ (y : Numbered Getting). is_some y.standing) (begins_to_wait now p) (λ x. pick x (gets_stand is_unnotified x.standing)) gs first g
+pub begins_alive : (first now p g : ℕ) (gs : List (Numbered Getting)) → alive_of (update first g (at_wait now p) gs) ≡ alive_of gs
+begins_alive first now p g gs = tally_same (λ (y : Numbered Getting). is_some y.standing) (at_wait now p) (λ x. pick x (gets_stand is_unnotified x.standing)) gs first g
   where
-    kept : (o : Option Getting) → is_some (option_map (get_waits now) o) ≡ is_some o
+    kept : (o : Option Getting) → is_some (option_map (get_in_wait now) o) ≡ is_some o
     kept None = refl
     kept (Some s) = refl
 
@@ -223,15 +223,15 @@ begins_alive first now p g gs = tally_same (λ (y : Numbered Getting). is_some y
     pick x true = refl
     pick x false = kept x.standing
 
-pub notify_length : (first : ℕ) (n : Option ℕ) (gs : List (Numbered Getting)) → length (notify first n gs) ≡ length gs
+pub notify_length : (first : ℕ) (n : Option ℕ) (gs : List (Numbered Getting)) → length (with_notice first n gs) ≡ length gs
 notify_length first None gs = refl
-notify_length first (Some g) gs = numbered.length-update gs first g (get_put (Waiting true))
+notify_length first (Some g) gs = numbered.length-update gs first g (get_at_place (Waiting true))
 
-pub notify_alive : (first : ℕ) (n : Option ℕ) (gs : List (Numbered Getting)) → alive_of (notify first n gs) ≡ alive_of gs
+pub notify_alive : (first : ℕ) (n : Option ℕ) (gs : List (Numbered Getting)) → alive_of (with_notice first n gs) ≡ alive_of gs
 notify_alive first None gs = refl
-notify_alive first (Some g) gs = tally_same (λ (y : Numbered Getting). is_some y.standing) (get_put (Waiting true)) (λ x. kept x.standing) gs first g
+notify_alive first (Some g) gs = tally_same (λ (y : Numbered Getting). is_some y.standing) (get_at_place (Waiting true)) (λ x. kept x.standing) gs first g
   where
-    kept : (o : Option Getting) → is_some (option_map (get_placed (Waiting true)) o) ≡ is_some o
+    kept : (o : Option Getting) → is_some (option_map (get_with_place (Waiting true)) o) ≡ is_some o
     kept None = refl
     kept (Some s) = refl
 
@@ -248,7 +248,7 @@ none_unnotified first m gs b none = sym (waiting_counted first m gs b) ∙ empty
     empty (x ∷ xs) h = cc
 
 -- the first of the unnotified, if there is one, is notified
-pub notify_counted : (first m : ℕ) (n : Option ℕ) (gs : List (Numbered Getting)) → Before unnotified_at m gs → n ≡ slice_get (in_order unnotified_at first gs m) 0 → (tally_gets is_unnotified (notify first n gs) ≡ tally_gets is_unnotified gs - 1) × (tally_gets is_notified (notify first n gs) ≡ tally_gets is_notified gs + min 1 (tally_gets is_unnotified gs))
+pub notify_counted : (first m : ℕ) (n : Option ℕ) (gs : List (Numbered Getting)) → Before unnotified_at m gs → n ≡ slice_get (in_order unnotified_at first gs m) 0 → (tally_gets is_unnotified (with_notice first n gs) ≡ tally_gets is_unnotified gs - 1) × (tally_gets is_notified (with_notice first n gs) ≡ tally_gets is_notified gs + min 1 (tally_gets is_unnotified gs))
 notify_counted first m None gs b is =
     let none : tally_gets is_unnotified gs ≡ 0 = none_unnotified first m gs b (sym is) in
     (omega arith, omega arith)
@@ -256,17 +256,17 @@ notify_counted first m (Some g) gs b is =
     let t : (x : Numbered Getting) × (at first gs g ≡ Some x) × (p : ℕ) × (p < m) × (unnotified_at p x ≡ true) = numbered.in_order_member unnotified_at gs first m 0 g (sym is) in
     let s = getting_is is_unnotified t.0.standing (and_right (gets_stand is_unnotified t.0.standing) _ t.4).0 in
     let place : s.0.place ≡ Waiting false = unnotified_place s.0.place s.2 in
-    let moved : (test : GetPlace → Bool) → tally_gets test (update first g (get_put (Waiting true)) gs) + one (test (Waiting false)) ≡ tally_gets test gs + one (test (Waiting true)) =
+    let moved : (test : GetPlace → Bool) → tally_gets test (update first g (get_at_place (Waiting true)) gs) + one (test (Waiting false)) ≡ tally_gets test gs + one (test (Waiting true)) =
     λ test. moves test t.0 s.0 t.1 s.1 place in
-    let u : tally_gets is_unnotified (update first g (get_put (Waiting true)) gs) + 1 ≡ tally_gets is_unnotified gs + 0 = moved is_unnotified in
-    let v : tally_gets is_notified (update first g (get_put (Waiting true)) gs) + 0 ≡ tally_gets is_notified gs + 1 = moved is_notified in
+    let u : tally_gets is_unnotified (update first g (get_at_place (Waiting true)) gs) + 1 ≡ tally_gets is_unnotified gs + 0 = moved is_unnotified in
+    let v : tally_gets is_notified (update first g (get_at_place (Waiting true)) gs) + 0 ≡ tally_gets is_notified gs + 1 = moved is_notified in
     (omega arith, omega arith)
   where
-    moves : (test : GetPlace → Bool) (x : Numbered Getting) (s : Getting) → at first gs g ≡ Some x → x.standing ≡ Some s → s.place ≡ Waiting false → tally_gets test (update first g (get_put (Waiting true)) gs) + one (test (Waiting false)) ≡ tally_gets test gs + one (test (Waiting true))
+    moves : (test : GetPlace → Bool) (x : Numbered Getting) (s : Getting) → at first gs g ≡ Some x → x.standing ≡ Some s → s.place ≡ Waiting false → tally_gets test (update first g (get_at_place (Waiting true)) gs) + one (test (Waiting false)) ≡ tally_gets test gs + one (test (Waiting true))
     moves test x s h is place =
-        let t : tally_gets test (update first g (get_put (Waiting true)) gs) + one (gets_stand test x.standing) ≡ tally_gets test gs + one (gets_stand test (get_put (Waiting true) x).standing) = tally_update (λ (y : Numbered Getting). gets_stand test y.standing) gs first g (get_put (Waiting true)) x h in
+        let t : tally_gets test (update first g (get_at_place (Waiting true)) gs) + one (gets_stand test x.standing) ≡ tally_gets test gs + one (gets_stand test (get_at_place (Waiting true) x).standing) = tally_update (λ (y : Numbered Getting). gets_stand test y.standing) gs first g (get_at_place (Waiting true)) x h in
         let u : one (gets_stand test x.standing) ≡ one (test (Waiting false)) = ap (λ (o : Option Getting). one (gets_stand test o)) is ∙ ap (λ (p : GetPlace). one (test p)) place in
-        let v : one (gets_stand test (get_put (Waiting true) x).standing) ≡ one (test (Waiting true)) = ap (λ (o : Option Getting). one (gets_stand test (option_map (get_placed (Waiting true)) o))) is in
+        let v : one (gets_stand test (get_at_place (Waiting true) x).standing) ≡ one (test (Waiting true)) = ap (λ (o : Option Getting). one (gets_stand test (option_map (get_with_place (Waiting true)) o))) is in
         omega arith
 
 -- once a get that was not in the line has changed and is not in it, the line is the same
@@ -339,12 +339,12 @@ line_joined first p g gs x y h last off i = record {
     in_turn q r a b (inr t) (inl u) w v = omega (arith, at_last b u.1, i.below q a t.1 (notified_waits a.standing w))
     in_turn q r a b (inr t) (inr u) w v = i.turn q r a b t.1 u.1 w v
 
-pub line_begins : (first now p g : ℕ) (gs : List (Numbered Getting)) (x : Numbered Getting) (s : Getting) → at first gs g ≡ Some x → x.standing ≡ Some s → gets_stand is_unnotified x.standing ≡ false → InLine first p gs → InLine first (suc p) (update first g (begins_to_wait now p) gs)
+pub line_begins : (first now p g : ℕ) (gs : List (Numbered Getting)) (x : Numbered Getting) (s : Getting) → at first gs g ≡ Some x → x.standing ≡ Some s → gets_stand is_unnotified x.standing ≡ false → InLine first p gs → InLine first (suc p) (update first g (at_wait now p) gs)
 line_begins first now p g gs x s h is off i =
-    let same : begins_to_wait now p x ≡ waiter now p x.standing = begins_now now p x off in
-    let last : (begins_to_wait now p x).position ≡ p = ap (λ (z : Numbered Getting). z.position) same in
-    let not_notified : gets_stand is_notified (begins_to_wait now p x).standing ≡ false = ap (λ (z : Numbered Getting). gets_stand is_notified z.standing) same ∙ ap (λ (o : Option Getting). gets_stand is_notified (option_map (get_waits now) o)) is in
-    subst (InLine first (suc p)) (sym (numbered.update_is gs first g (begins_to_wait now p) x h)) (line_joined first p g gs x (begins_to_wait now p x) h last not_notified i)
+    let same : at_wait now p x ≡ waiter now p x.standing = begins_now now p x off in
+    let last : (at_wait now p x).position ≡ p = ap (λ (z : Numbered Getting). z.position) same in
+    let not_notified : gets_stand is_notified (at_wait now p x).standing ≡ false = ap (λ (z : Numbered Getting). gets_stand is_notified z.standing) same ∙ ap (λ (o : Option Getting). gets_stand is_notified (option_map (get_in_wait now) o)) is in
+    subst (InLine first (suc p)) (sym (numbered.update_is gs first g (at_wait now p) x h)) (line_joined first p g gs x (at_wait now p x) h last not_notified i)
 
 -- the first of the unnotified is notified where it stands
 line_passed : (first p g : ℕ) (gs : List (Numbered Getting)) (x y : Numbered Getting) → at first gs g ≡ Some x → y.position ≡ x.position → gets_stand is_unnotified y.standing ≡ false → gets_stand is_unnotified x.standing ≡ true → ((h : ℕ) (b : Numbered Getting) → at first gs h ≡ Some b → gets_stand is_unnotified b.standing ≡ true → x.position ≤ b.position) → InLine first p gs → InLine first p (change first g y gs)
@@ -371,24 +371,24 @@ line_passed first p g gs x y h there off on least i = record {
         omega (arith, other)
     in_turn q r a b (inr t) (inr u) w v = i.turn q r a b t.1 u.1 w v
 
-pub line_notified : (first p : ℕ) (n : Option ℕ) (gs : List (Numbered Getting)) → n ≡ slice_get (in_order unnotified_at first gs p) 0 → InLine first p gs → InLine first p (notify first n gs)
+pub line_notified : (first p : ℕ) (n : Option ℕ) (gs : List (Numbered Getting)) → n ≡ slice_get (in_order unnotified_at first gs p) 0 → InLine first p gs → InLine first p (with_notice first n gs)
 line_notified first p None gs is i = i
 line_notified first p (Some g) gs is i =
     let t : (x : Numbered Getting) × (at first gs g ≡ Some x) × (q : ℕ) × (q < p) × (unnotified_at q x ≡ true) × ((h r : ℕ) (s : Numbered Getting) → at first gs h ≡ Some s → unnotified_at r s ≡ true → r < p → q ≤ r) = in_order_least unnotified_at gs first p g (sym is) in
     let on : (gets_stand is_unnotified t.0.standing ≡ true) × (eqb t.0.position t.2 ≡ true) = and_right (gets_stand is_unnotified t.0.standing) _ t.4 in
     let here : t.0.position ≡ t.2 = numbered.tested t.0.position t.2 on.1 in
     let s = getting_is is_unnotified t.0.standing on.0 in
-    let off : gets_stand is_unnotified (get_put (Waiting true) t.0).standing ≡ false = ap (λ (o : Option Getting). gets_stand is_unnotified (option_map (get_placed (Waiting true)) o)) s.1 in
+    let off : gets_stand is_unnotified (get_at_place (Waiting true) t.0).standing ≡ false = ap (λ (o : Option Getting). gets_stand is_unnotified (option_map (get_with_place (Waiting true)) o)) s.1 in
     let least : (h : ℕ) (b : Numbered Getting) → at first gs h ≡ Some b → gets_stand is_unnotified b.standing ≡ true → t.0.position ≤ b.position =
     λ h b e w. (let l : t.2 ≤ b.position = t.5 h b.position b e (both (gets_stand is_unnotified b.standing) (eqb b.position b.position) w (numbered.eqb_self b.position)) (i.below h b e (unnotified_waits b.standing w)) in omega arith) in
-    subst (InLine first p) (sym (numbered.update_is gs first g (get_put (Waiting true)) t.0 t.1)) (line_passed first p g gs t.0 (get_put (Waiting true) t.0) t.1 refl off on.0 least i)
+    subst (InLine first p) (sym (numbered.update_is gs first g (get_at_place (Waiting true)) t.0 t.1)) (line_passed first p g gs t.0 (get_at_place (Waiting true) t.0) t.1 refl off on.0 least i)
   where
     both : (a b : Bool) → a ≡ true → b ≡ true → (a && b) ≡ true
     both true b e f = f
     both false b e f = cc
 
 -- a get that ends hands its notification on, where it was notified
-handed : (first m g : ℕ) (n : Option ℕ) (gs : List (Numbered Getting)) (x : Numbered Getting) (s : Getting) → at first gs g ≡ Some x → x.standing ≡ Some s → n ≡ cond (gets_stand is_notified (Some s)) (slice_get (in_order unnotified_at first gs m) 0) None → ((n ≡ None) × (is_notified s.place ≡ false)) ⊎ ((n ≡ slice_get (in_order unnotified_at first (update first g ended gs) m) 0) × (s.place ≡ Waiting true))
+handed : (first m g : ℕ) (n : Option ℕ) (gs : List (Numbered Getting)) (x : Numbered Getting) (s : Getting) → at first gs g ≡ Some x → x.standing ≡ Some s → n ≡ cond (gets_stand is_notified (Some s)) (slice_get (in_order unnotified_at first gs m) 0) None → ((n ≡ None) × (is_notified s.place ≡ false)) ⊎ ((n ≡ slice_get (in_order unnotified_at first (update first g after_end gs) m) 0) × (s.place ≡ Waiting true))
 handed first m g n gs x s h is who = go s.place refl
   where
     line : ℕ → Option ℕ
@@ -397,36 +397,36 @@ handed first m g n gs x s h is who = go s.place refl
     on : (p : GetPlace) (b : Bool) → s.place ≡ p → is_notified p ≡ b → n ≡ cond b (line m) None
     on p b place e = who ∙ ap (λ (t : Bool). cond t (line m) None) (ap is_notified place ∙ e)
 
-    go : (p : GetPlace) → s.place ≡ p → ((n ≡ None) × (is_notified s.place ≡ false)) ⊎ ((n ≡ slice_get (in_order unnotified_at first (update first g ended gs) m) 0) × (s.place ≡ Waiting true))
+    go : (p : GetPlace) → s.place ≡ p → ((n ≡ None) × (is_notified s.place ≡ false)) ⊎ ((n ≡ slice_get (in_order unnotified_at first (update first g after_end gs) m) 0) × (s.place ≡ Waiting true))
     go Active place = inl (on Active false place refl, ap is_notified place)
     go (Waiting false) place = inl (on (Waiting false) false place refl, ap is_notified place)
     go (Holding k) place = inl (on (Holding k) false place refl, ap is_notified place)
     go (Waiting true) place =
         let off : gets_stand is_unnotified x.standing ≡ false = ap (gets_stand is_unnotified) is ∙ ap is_unnotified place in
-        inr (on (Waiting true) true place refl ∙ sym (ap (λ (xs : List ℕ). slice_get xs 0) (same_line first m g ended gs x h off refl)), place)
+        inr (on (Waiting true) true place refl ∙ sym (ap (λ (xs : List ℕ). slice_get xs 0) (same_line first m g after_end gs x h off refl)), place)
 
-pub line_given_up : (first p g : ℕ) (n : Option ℕ) (gs : List (Numbered Getting)) (x : Numbered Getting) (s : Getting) → at first gs g ≡ Some x → x.standing ≡ Some s → n ≡ cond (gets_stand is_notified (Some s)) (slice_get (in_order unnotified_at first gs p) 0) None → InLine first p gs → InLine first p (notify first n (update first g ended gs))
+pub line_given_up : (first p g : ℕ) (n : Option ℕ) (gs : List (Numbered Getting)) (x : Numbered Getting) (s : Getting) → at first gs g ≡ Some x → x.standing ≡ Some s → n ≡ cond (gets_stand is_notified (Some s)) (slice_get (in_order unnotified_at first gs p) 0) None → InLine first p gs → InLine first p (with_notice first n (update first g after_end gs))
 line_given_up first p g n gs x s h is who i =
     ⊎_elim
-    (λ (t : (n ≡ None) × (is_notified s.place ≡ false)). subst (λ (o : Option ℕ). InLine first p (notify first o (update first g ended gs))) (sym t.0) (line_left first p g ended gs x h refl i))
-    (λ (t : (n ≡ slice_get (in_order unnotified_at first (update first g ended gs) p) 0) × (s.place ≡ Waiting true)). line_notified first p n (update first g ended gs) t.0 (line_left first p g ended gs x h refl i))
+    (λ (t : (n ≡ None) × (is_notified s.place ≡ false)). subst (λ (o : Option ℕ). InLine first p (with_notice first o (update first g after_end gs))) (sym t.0) (line_left first p g after_end gs x h refl i))
+    (λ (t : (n ≡ slice_get (in_order unnotified_at first (update first g after_end gs) p) 0) × (s.place ≡ Waiting true)). line_notified first p n (update first g after_end gs) t.0 (line_left first p g after_end gs x h refl i))
     (handed first p g n gs x s h is who)
 
 -- how many wait once a get has given up: one unnotified less at most, or one notification handed on
 abbrev pub IsGivenUp : (u n u' n' : ℕ) → Type 0
 IsGivenUp u n u' n' = ((b : ℕ) × (u' + b ≡ u) × (n' ≡ n)) ⊎ ((u' ≡ u - 1) × (n' + 1 ≡ n + min 1 u))
 
-pub given_up_counted : (first m g : ℕ) (n : Option ℕ) (gs : List (Numbered Getting)) (x : Numbered Getting) (s : Getting) → at first gs g ≡ Some x → x.standing ≡ Some s → n ≡ cond (gets_stand is_notified (Some s)) (slice_get (in_order unnotified_at first gs m) 0) None → Before unnotified_at m gs → IsGivenUp (tally_gets is_unnotified gs) (tally_gets is_notified gs) (tally_gets is_unnotified (notify first n (update first g ended gs))) (tally_gets is_notified (notify first n (update first g ended gs)))
+pub given_up_counted : (first m g : ℕ) (n : Option ℕ) (gs : List (Numbered Getting)) (x : Numbered Getting) (s : Getting) → at first gs g ≡ Some x → x.standing ≡ Some s → n ≡ cond (gets_stand is_notified (Some s)) (slice_get (in_order unnotified_at first gs m) 0) None → Before unnotified_at m gs → IsGivenUp (tally_gets is_unnotified gs) (tally_gets is_notified gs) (tally_gets is_unnotified (with_notice first n (update first g after_end gs))) (tally_gets is_notified (with_notice first n (update first g after_end gs)))
 given_up_counted first m g n gs x s h is who b =
-    let u : tally_gets is_unnotified (update first g ended gs) + one (is_unnotified s.place) ≡ tally_gets is_unnotified gs = ended_counted is_unnotified first g gs x s h is in
-    let v : tally_gets is_notified (update first g ended gs) + one (is_notified s.place) ≡ tally_gets is_notified gs = ended_counted is_notified first g gs x s h is in
+    let u : tally_gets is_unnotified (update first g after_end gs) + one (is_unnotified s.place) ≡ tally_gets is_unnotified gs = ended_counted is_unnotified first g gs x s h is in
+    let v : tally_gets is_notified (update first g after_end gs) + one (is_notified s.place) ≡ tally_gets is_notified gs = ended_counted is_notified first g gs x s h is in
     ⊎_elim
     (λ (t : (n ≡ None) × (is_notified s.place ≡ false)).
-    let same : (test : GetPlace → Bool) → tally_gets test (notify first n (update first g ended gs)) ≡ tally_gets test (update first g ended gs) = λ test. ap (λ (o : Option ℕ). tally_gets test (notify first o (update first g ended gs))) t.0 in
+    let same : (test : GetPlace → Bool) → tally_gets test (with_notice first n (update first g after_end gs)) ≡ tally_gets test (update first g after_end gs) = λ test. ap (λ (o : Option ℕ). tally_gets test (with_notice first o (update first g after_end gs))) t.0 in
     let off : one (is_notified s.place) ≡ 0 = ap one t.1 in
     inl (one (is_unnotified s.place), omega (arith, same is_unnotified), omega (arith, same is_notified)))
-    (λ (t : (n ≡ slice_get (in_order unnotified_at first (update first g ended gs) m) 0) × (s.place ≡ Waiting true)).
-    let counted = notify_counted first m n (update first g ended gs) (numbered.ended_before (gets_stand is_unnotified) gs first g m refl b) t.0 in
+    (λ (t : (n ≡ slice_get (in_order unnotified_at first (update first g after_end gs) m) 0) × (s.place ≡ Waiting true)).
+    let counted = notify_counted first m n (update first g after_end gs) (numbered.ended_before (gets_stand is_unnotified) gs first g m refl b) t.0 in
     let off : one (is_unnotified s.place) ≡ 0 = ap (λ (p : GetPlace). one (is_unnotified p)) t.1 in
     let on : one (is_notified s.place) ≡ 1 = ap (λ (p : GetPlace). one (is_notified p)) t.1 in
     inr (omega (arith, counted.0), omega (arith, counted.0, counted.1)))

@@ -14,8 +14,9 @@ use Rattle.bb8_types.specs.Figures.{Counts, Figures}
 use Rattle.bb8_ledger.specs.Acts.{Act, Begin, Try, CheckedOk, CheckedErr, GiveUp, PutBack, Fill, Claim, Opened, Failed, Add, Reap, Leave, TimedOut, Cancelled, get_in, says_broken}
 use Rattle.bb8_ledger.specs.Answers.{Answer, Begun, Served, Taken, Kept, Closed, GaveUp, Granted, Entered, Late, GivenBack, Added, Reaped, Joined, Left, Unfit}
 use Rattle.bb8_ledger.specs.Answers as answers
-use Rattle.bb8_types.specs.Numbered.{Numbered, at, update, numbers, in_order, tally, one, standing_at, ended, ended_where}
-use Rattle.bb8_types.specs.Places.{is_conn, is_unclaimed, is_idle, is_approval, is_out, stands, is_unnotified, is_notified, gets_stand, holds, first_wait_of, is_expired, micros_since, is_reaped, is_left, placed, birth_in, get_placed, get_waits, first_of}
+use Rattle.bb8_types.specs.Numbered.{Numbered, at, update, numbers, in_order, tally, one, standing_at, after_end, after_end_where}
+use Rattle.bb8_types.specs.Places.{is_conn, is_unclaimed, is_idle, is_approval, is_out, stands, is_unnotified, is_notified, gets_stand, holds, first_wait_of, is_expired, micros_since, is_reaped, is_left, with_place, birth_in, get_with_place, get_in_wait, first_of}
+use Rattle.bb8_types.specs.Bounds.{most_micros}
 
 -- What a pool begins with.
 pub record Start : Type 0 where
@@ -40,73 +41,73 @@ new_get = record { standing = Some (record { place = Active; first_wait = None }
 
 module _ {C : Type 0} where
   -- so many new approvals
-  abbrev pub approve : Bool → ℕ → List (Numbered (Standing C)) → List (Numbered (Standing C))
-  approve claimed zero rs = rs
-  approve claimed (suc n) rs = approve claimed n rs ++ approval claimed ∷ []
+  abbrev pub with_approvals : Bool → ℕ → List (Numbered (Standing C)) → List (Numbered (Standing C))
+  with_approvals claimed zero rs = rs
+  with_approvals claimed (suc n) rs = with_approvals claimed n rs ++ approval claimed ∷ []
 
   -- a record in another place
-  abbrev pub put : Place C → Numbered (Standing C) → Numbered (Standing C)
-  put p r = record r { standing = option_map (placed p) r.standing }
+  abbrev pub at_place : Place C → Numbered (Standing C) → Numbered (Standing C)
+  at_place p r = record r { standing = option_map (with_place p) r.standing }
 
   -- an idle connection, of which the birth, the moment and the position are given
   abbrev pub entry : C → ℕ → ℕ → ℕ → Numbered (Standing C)
   entry c birth now position = record { standing = Some (record { place = Idle c; birth = birth; entered = now }); position = position }
 
   -- enter: a record becomes idle and keeps its birth
-  abbrev pub enters : C → ℕ → ℕ → Numbered (Standing C) → Numbered (Standing C)
-  enters c now position r = entry c (birth_in r.standing) now position
+  abbrev pub at_entry : C → ℕ → ℕ → Numbered (Standing C) → Numbered (Standing C)
+  at_entry c now position r = entry c (birth_in r.standing) now position
 
   -- the records after an event: what the pool began with, its handles, the position of the event and its effective moment are given
   abbrev pub records_after : Start → ℕ → ℕ → ℕ → List (Numbered (Standing C)) → Act C → Answer → List (Numbered (Standing C))
   records_after s handles position now rs e Unfit = rs
-  records_after s handles position now rs (Try g) (Served k grant) = approve false grant.count (update s.first k (put Guarded) rs)
-  records_after s handles position now rs (Try g) (Taken k grant) = approve false grant.count (update s.first k (put (Held g)) rs)
-  records_after s handles position now rs (Try g) (answers.Waiting grant) = approve false grant.count rs
-  records_after s handles position now rs (CheckedOk g) (Served k grant) = update s.first k (put Guarded) rs
-  records_after s handles position now rs (CheckedErr g broken) (Closed k grant n) = approve false grant.count (update s.first k ended rs)
-  records_after s handles position now rs (GiveUp g why (Some c) broken) (Kept k n) = update s.first k (enters c now position) rs
-  records_after s handles position now rs (GiveUp g why held broken) (Closed k grant n) = approve false grant.count (update s.first k ended rs)
-  records_after s handles position now rs (PutBack k c broken) (Kept m n) = update s.first k (enters c now position) rs
-  records_after s handles position now rs (PutBack k c broken) (Closed m grant n) = approve false grant.count (update s.first k ended rs)
-  records_after s handles position now rs (Fill claimed) (Granted grant) = approve claimed grant.count rs
-  records_after s handles position now rs Claim (answers.Claimed (Some k)) = update s.first k (put Claimed) rs
+  records_after s handles position now rs (Try g) (Served k grant) = with_approvals false grant.count (update s.first k (at_place Guarded) rs)
+  records_after s handles position now rs (Try g) (Taken k grant) = with_approvals false grant.count (update s.first k (at_place (Held g)) rs)
+  records_after s handles position now rs (Try g) (answers.Waiting grant) = with_approvals false grant.count rs
+  records_after s handles position now rs (CheckedOk g) (Served k grant) = update s.first k (at_place Guarded) rs
+  records_after s handles position now rs (CheckedErr g broken) (Closed k grant n) = with_approvals false grant.count (update s.first k after_end rs)
+  records_after s handles position now rs (GiveUp g why (Some c) broken) (Kept k n) = update s.first k (at_entry c now position) rs
+  records_after s handles position now rs (GiveUp g why held broken) (Closed k grant n) = with_approvals false grant.count (update s.first k after_end rs)
+  records_after s handles position now rs (PutBack k c broken) (Kept m n) = update s.first k (at_entry c now position) rs
+  records_after s handles position now rs (PutBack k c broken) (Closed m grant n) = with_approvals false grant.count (update s.first k after_end rs)
+  records_after s handles position now rs (Fill claimed) (Granted grant) = with_approvals claimed grant.count rs
+  records_after s handles position now rs Claim (answers.Claimed (Some k)) = update s.first k (at_place Claimed) rs
   records_after s handles position now rs (Opened k c) (Entered m n) = update s.first k (λ r. entry c now now position) rs
-  records_after s handles position now rs (Opened k c) (Late m) = update s.first k ended rs
-  records_after s handles position now rs (Failed k) GivenBack = update s.first k ended rs
+  records_after s handles position now rs (Opened k c) (Late m) = update s.first k after_end rs
+  records_after s handles position now rs (Failed k) GivenBack = update s.first k after_end rs
   records_after s handles position now rs (Add c broken) (Added k n) = rs ++ entry c now now position ∷ []
-  records_after s handles position now rs Reap (Reaped closed by_idle by_life grant) = approve false grant.count (map (ended_where (is_reaped s.config now)) rs)
-  records_after s handles position now rs Leave (Left c) = cond (eqb handles 1) (map (ended_where is_left) rs) rs
+  records_after s handles position now rs Reap (Reaped closed by_idle by_life grant) = with_approvals false grant.count (map (after_end_where (is_reaped s.config now)) rs)
+  records_after s handles position now rs Leave (Left c) = cond (eqb handles 1) (map (after_end_where is_left) rs) rs
   records_after s handles position now rs _ _ = rs
 
 -- a get at another place; first wait and position stay
-abbrev pub get_put : GetPlace → Numbered Getting → Numbered Getting
-get_put p g = record g { standing = option_map (get_placed p) g.standing }
+abbrev pub get_at_place : GetPlace → Numbered Getting → Numbered Getting
+get_at_place p g = record g { standing = option_map (get_with_place p) g.standing }
 
 -- a get begins to wait, but one that waits already and was not notified waits on
-abbrev pub begins_to_wait : ℕ → ℕ → Numbered Getting → Numbered Getting
-begins_to_wait now position g = cond (gets_stand is_unnotified g.standing) g (record { standing = option_map (get_waits now) g.standing; position = position })
+abbrev pub at_wait : ℕ → ℕ → Numbered Getting → Numbered Getting
+at_wait now position g = cond (gets_stand is_unnotified g.standing) g (record { standing = option_map (get_in_wait now) g.standing; position = position })
 
 -- the get that an answer names is notified
-abbrev pub notify : ℕ → Option ℕ → List (Numbered Getting) → List (Numbered Getting)
-notify first None gs = gs
-notify first (Some g) gs = update first g (get_put (Waiting true)) gs
+abbrev pub with_notice : ℕ → Option ℕ → List (Numbered Getting) → List (Numbered Getting)
+with_notice first None gs = gs
+with_notice first (Some g) gs = update first g (get_at_place (Waiting true)) gs
 
 -- the gets after an event
 abbrev pub gets_after : {C : Type 0} → Start → ℕ → ℕ → List (Numbered Getting) → Act C → Answer → List (Numbered Getting)
 gets_after s position now gs e Unfit = gs
 gets_after s position now gs Begin (Begun g) = gs ++ new_get ∷ []
-gets_after s position now gs (Try g) (Served k grant) = update s.first_get g ended gs
-gets_after s position now gs (Try g) (Taken k grant) = update s.first_get g (get_put (Holding k)) gs
-gets_after s position now gs (Try g) (answers.Waiting grant) = update s.first_get g (begins_to_wait now position) gs
-gets_after s position now gs (CheckedOk g) (Served k grant) = update s.first_get g ended gs
-gets_after s position now gs (CheckedErr g broken) (Closed k grant n) = notify s.first_get n (update s.first_get g (get_put Active) gs)
-gets_after s position now gs (GiveUp g why held broken) (GaveUp n) = notify s.first_get n (update s.first_get g ended gs)
-gets_after s position now gs (GiveUp g why held broken) (Kept k n) = notify s.first_get n (update s.first_get g ended gs)
-gets_after s position now gs (GiveUp g why held broken) (Closed k grant n) = notify s.first_get n (update s.first_get g ended gs)
-gets_after s position now gs (PutBack k c broken) (Kept m n) = notify s.first_get n gs
-gets_after s position now gs (PutBack k c broken) (Closed m grant n) = notify s.first_get n gs
-gets_after s position now gs (Opened k c) (Entered m n) = notify s.first_get n gs
-gets_after s position now gs (Add c broken) (Added k n) = notify s.first_get n gs
+gets_after s position now gs (Try g) (Served k grant) = update s.first_get g after_end gs
+gets_after s position now gs (Try g) (Taken k grant) = update s.first_get g (get_at_place (Holding k)) gs
+gets_after s position now gs (Try g) (answers.Waiting grant) = update s.first_get g (at_wait now position) gs
+gets_after s position now gs (CheckedOk g) (Served k grant) = update s.first_get g after_end gs
+gets_after s position now gs (CheckedErr g broken) (Closed k grant n) = with_notice s.first_get n (update s.first_get g (get_at_place Active) gs)
+gets_after s position now gs (GiveUp g why held broken) (GaveUp n) = with_notice s.first_get n (update s.first_get g after_end gs)
+gets_after s position now gs (GiveUp g why held broken) (Kept k n) = with_notice s.first_get n (update s.first_get g after_end gs)
+gets_after s position now gs (GiveUp g why held broken) (Closed k grant n) = with_notice s.first_get n (update s.first_get g after_end gs)
+gets_after s position now gs (PutBack k c broken) (Kept m n) = with_notice s.first_get n gs
+gets_after s position now gs (PutBack k c broken) (Closed m grant n) = with_notice s.first_get n gs
+gets_after s position now gs (Opened k c) (Entered m n) = with_notice s.first_get n gs
+gets_after s position now gs (Add c broken) (Added k n) = with_notice s.first_get n gs
 gets_after s position now gs _ _ = gs
 
 -- ---- what follows from the history
@@ -314,8 +315,8 @@ module _ {C : Type 0} where
   abbrev pub wait_micros : Ledger C → ℕ
   wait_micros (Opening s) = 0
   wait_micros (Later l at e Unfit) = wait_micros l
-  wait_micros (Later l at e (Served k grant)) = min 18446744073709551615 (wait_micros l + wait_of l at e)
-  wait_micros (Later l at (GiveUp g TimedOut held broken) a) = min 18446744073709551615 (wait_micros l + wait_of l at (GiveUp g TimedOut held broken))
+  wait_micros (Later l at e (Served k grant)) = min most_micros (wait_micros l + wait_of l at e)
+  wait_micros (Later l at (GiveUp g TimedOut held broken) a) = min most_micros (wait_micros l + wait_of l at (GiveUp g TimedOut held broken))
   wait_micros (Later l at e a) = wait_micros l
 
   -- connections that an approval brought

@@ -5,12 +5,13 @@ use Rattle.bb8_types.specs.declared.grants.Grant.{Grant}
 use Rattle.bb8_types.specs.declared.standing.Standing.{Standing}
 use Rattle.bb8_types.specs.declared.standing.Place.TheVariants.{Guarded, Held}
 use Rattle.bb8_types.specs.Settings.{Settings, is_lawful}
-use Rattle.bb8_types.specs.Numbered.{Numbered, update, tally, one, ended, ended_where}
+use Rattle.bb8_types.specs.Numbered.{Numbered, update, tally, one, after_end, after_end_where}
 use Rattle.bb8_ledger.specs.Acts.{Act, Begin, Try, CheckedOk, CheckedErr, GiveUp, PutBack, Fill, Claim, Opened, Failed, Add, Reap, State, Join, Leave, Look, Reason}
 use Rattle.bb8_ledger.specs.Answers.{Answer, Begun, Memory, Exhausted, Served, Taken, Waiting, Kept, Closed, GaveUp, Granted, Claimed, Ended, Entered, Late, GivenBack, Added, Broken, NoCapacity, Withheld, Reaped, Shown, Joined, Left, Looked, Unfit}
-use Rattle.bb8_ledger.specs.Ledger.{Ledger, Opening, Later, start, latest, records, handles, next, next_get, conns, approved, conns_of, approved_of, idle_of, alive, idle_count, first_idle, oldest_waiter, unclaimed, peak, get_peak, record_of, get_of, put, expires, figures}
+use Rattle.bb8_ledger.specs.Ledger.{Ledger, Opening, Later, start, latest, records, handles, next, next_get, conns, approved, conns_of, approved_of, idle_of, alive, idle_count, first_idle, oldest_waiter, unclaimed, peak, get_peak, record_of, get_of, at_place, expires, figures}
 use Rattle.bb8_types.specs.Places.{stands, gets_stand, holds, is_claimed, is_guarded, is_unnotified, is_notified, is_reaped, idles_out, lives_out, is_trying}
 use Rattle.bb8_types.specs.Grants.{due, lacking, IsGranted, IsNoGrant}
+use Rattle.bb8_types.specs.Bounds.{end_of_numbers, most_handles}
 
 -- both tests answer the same
 abbrev pub agree : Bool → Bool → Bool
@@ -66,29 +67,29 @@ module _ {C : Type 0} where
   closes l at k broken = broken || (expires l at k || eqb (handles l) 0)
 
   -- how many idle records a reap closes, by a test
-  abbrev pub reaped : (Settings → ℕ → Option (Standing C) → Bool) → Ledger C → ℕ → ℕ
-  reaped test l at = tally (λ r. test (start l).config (max (latest l) at) r.standing) (records l)
+  abbrev pub reap_count : (Settings → ℕ → Option (Standing C) → Bool) → Ledger C → ℕ → ℕ
+  reap_count test l at = tally (λ r. test (start l).config (max (latest l) at) r.standing) (records l)
 
   -- how many idle records the leave of a handle ends
-  abbrev pub left : Ledger C → ℕ
-  left l = cond (eqb (handles l) 1) (idle_count l) 0
+  abbrev pub leave_count : Ledger C → ℕ
+  leave_count l = cond (eqb (handles l) 1) (idle_count l) 0
 
   -- The rows of the step table: an event that fits, at a moment, and an answer that it may have.
   pub data Row (l : Ledger C) (at : ℕ) : Act C → Answer → Type 0 where
-    begins : {g : ℕ} → g ≡ next_get l → g < 18446744073709551615 → Row l at Begin (Begun g)
-    begin_refused : next_get l < 18446744073709551615 → alive l ≡ get_peak l → Row l at Begin Memory
-    begin_exhausted : 18446744073709551615 ≤ next_get l → Row l at Begin Exhausted
+    begins : {g : ℕ} → g ≡ next_get l → g < end_of_numbers → Row l at Begin (Begun g)
+    begin_refused : next_get l < end_of_numbers → alive l ≡ get_peak l → Row l at Begin Memory
+    begin_exhausted : end_of_numbers ≤ next_get l → Row l at Begin Exhausted
     waits_on : {g : ℕ} {grant : Grant} → gets_stand is_unnotified (get_of l g) ≡ true → IsNoGrant (next l) grant → Row l at (Try g) (Waiting grant)
-    serves : {g k : ℕ} {grant : Grant} → gets_stand is_unnotified (get_of l g) ≡ false → (start l).config.test_on_check_out ≡ false → first_idle l ≡ Some k → IsWant l (with_record l k (put Guarded)) grant → Row l at (Try g) (Served k grant)
-    takes_out : {g k : ℕ} {grant : Grant} → gets_stand is_unnotified (get_of l g) ≡ false → (start l).config.test_on_check_out ≡ true → first_idle l ≡ Some k → IsWant l (with_record l k (put (Held g))) grant → Row l at (Try g) (Taken k grant)
+    serves : {g k : ℕ} {grant : Grant} → gets_stand is_unnotified (get_of l g) ≡ false → (start l).config.test_on_check_out ≡ false → first_idle l ≡ Some k → IsWant l (with_record l k (at_place Guarded)) grant → Row l at (Try g) (Served k grant)
+    takes_out : {g k : ℕ} {grant : Grant} → gets_stand is_unnotified (get_of l g) ≡ false → (start l).config.test_on_check_out ≡ true → first_idle l ≡ Some k → IsWant l (with_record l k (at_place (Held g))) grant → Row l at (Try g) (Taken k grant)
     waits : {g : ℕ} {grant : Grant} → gets_stand is_unnotified (get_of l g) ≡ false → first_idle l ≡ None → IsGranted (next l) (conns l + approved l) (peak l) (due (start l).config (handles l) (conns l + approved l) (one (ltb (approved l) (alive l)))) grant → Row l at (Try g) (Waiting grant)
     checks : {g k : ℕ} {grant : Grant} → holds (get_of l g) ≡ Some k → IsNoGrant (next l) grant → Row l at (CheckedOk g) (Served k grant)
-    check_fails : {g k : ℕ} {broken : Bool} {grant : Grant} {n : Option ℕ} → holds (get_of l g) ≡ Some k → IsWant l (with_record l k ended) grant → n ≡ oldest_waiter l → Row l at (CheckedErr g broken) (Closed k grant n)
+    check_fails : {g k : ℕ} {broken : Bool} {grant : Grant} {n : Option ℕ} → holds (get_of l g) ≡ Some k → IsWant l (with_record l k after_end) grant → n ≡ oldest_waiter l → Row l at (CheckedErr g broken) (Closed k grant n)
     gives_up : {g : ℕ} {why : Reason} {broken : Bool} {n : Option ℕ} → n ≡ cond (gets_stand is_notified (get_of l g)) (oldest_waiter l) None → Row l at (GiveUp g why None broken) (GaveUp n)
     gives_up_kept : {g k : ℕ} {why : Reason} {c : C} {broken : Bool} {n : Option ℕ} → holds (get_of l g) ≡ Some k → closes l at k broken ≡ false → n ≡ oldest_waiter l → Row l at (GiveUp g why (Some c) broken) (Kept k n)
-    gives_up_closed : {g k : ℕ} {why : Reason} {c : C} {broken : Bool} {grant : Grant} {n : Option ℕ} → holds (get_of l g) ≡ Some k → closes l at k broken ≡ true → IsWant l (with_record l k ended) grant → n ≡ oldest_waiter l → Row l at (GiveUp g why (Some c) broken) (Closed k grant n)
+    gives_up_closed : {g k : ℕ} {why : Reason} {c : C} {broken : Bool} {grant : Grant} {n : Option ℕ} → holds (get_of l g) ≡ Some k → closes l at k broken ≡ true → IsWant l (with_record l k after_end) grant → n ≡ oldest_waiter l → Row l at (GiveUp g why (Some c) broken) (Closed k grant n)
     keeps : {k : ℕ} {c : C} {broken : Bool} {n : Option ℕ} → closes l at k broken ≡ false → n ≡ oldest_waiter l → Row l at (PutBack k c broken) (Kept k n)
-    returns_closed : {k : ℕ} {c : C} {broken : Bool} {grant : Grant} {n : Option ℕ} → closes l at k broken ≡ true → IsWant l (with_record l k ended) grant → n ≡ oldest_waiter l → Row l at (PutBack k c broken) (Closed k grant n)
+    returns_closed : {k : ℕ} {c : C} {broken : Bool} {grant : Grant} {n : Option ℕ} → closes l at k broken ≡ true → IsWant l (with_record l k after_end) grant → n ≡ oldest_waiter l → Row l at (PutBack k c broken) (Closed k grant n)
     fills : {claimed : Bool} {grant : Grant} → IsWant l (records l) grant → Row l at (Fill claimed) (Granted grant)
     claims : {k : Option ℕ} → 0 < handles l → slice_get (unclaimed l) 0 ≡ k → Row l at Claim (Claimed k)
     claim_ended : handles l ≡ 0 → Row l at Claim Ended
@@ -97,15 +98,15 @@ module _ {C : Type 0} where
     fails : {k : ℕ} → Row l at (Failed k) GivenBack
     add_broken : {c : C} → Row l at (Add c true) Broken
     add_full : {c : C} → conns l + approved l ≡ (start l).config.max_size → Row l at (Add c false) NoCapacity
-    add_exhausted : {c : C} → conns l + approved l ≢ (start l).config.max_size → 18446744073709551615 ≤ next l → Row l at (Add c false) Withheld
-    add_refused : {c : C} → conns l + approved l ≢ (start l).config.max_size → next l < 18446744073709551615 → conns l + approved l ≡ peak l → Row l at (Add c false) Withheld
-    adds : {k : ℕ} {c : C} {n : Option ℕ} → conns l + approved l ≢ (start l).config.max_size → next l < 18446744073709551615 → k ≡ next l → n ≡ oldest_waiter l → Row l at (Add c false) (Added k n)
+    add_exhausted : {c : C} → conns l + approved l ≢ (start l).config.max_size → end_of_numbers ≤ next l → Row l at (Add c false) Withheld
+    add_refused : {c : C} → conns l + approved l ≢ (start l).config.max_size → next l < end_of_numbers → conns l + approved l ≡ peak l → Row l at (Add c false) Withheld
+    adds : {k : ℕ} {c : C} {n : Option ℕ} → conns l + approved l ≢ (start l).config.max_size → next l < end_of_numbers → k ≡ next l → n ≡ oldest_waiter l → Row l at (Add c false) (Added k n)
     reap_ended : handles l ≡ 0 → Row l at Reap Ended
-    reaps : {closed by_idle by_life : ℕ} {grant : Grant} → 0 < handles l → closed ≡ reaped is_reaped l at → by_idle ≡ reaped idles_out l at → by_life ≡ reaped lives_out l at → IsWant l (map (ended_where (is_reaped (start l).config (max (latest l) at))) (records l)) grant → Row l at Reap (Reaped closed by_idle by_life grant)
+    reaps : {closed by_idle by_life : ℕ} {grant : Grant} → 0 < handles l → closed ≡ reap_count is_reaped l at → by_idle ≡ reap_count idles_out l at → by_life ≡ reap_count lives_out l at → IsWant l (map (after_end_where (is_reaped (start l).config (max (latest l) at))) (records l)) grant → Row l at Reap (Reaped closed by_idle by_life grant)
     shows : Row l at State (Shown (figures l))
-    joins : handles l < 4294967295 → Row l at Join Joined
-    join_exhausted : 4294967295 ≤ handles l → Row l at Join Exhausted
-    leaves : {n : ℕ} → n ≡ left l → Row l at Leave (Left n)
+    joins : handles l < most_handles → Row l at Join Joined
+    join_exhausted : most_handles ≤ handles l → Row l at Join Exhausted
+    leaves : {n : ℕ} → n ≡ leave_count l → Row l at Leave (Left n)
     looks : {m : ℕ} {open_now : Bool} → m ≡ max (latest l) at → open_now ≡ ltb 0 (handles l) → Row l at Look (Looked m open_now)
 
   -- An event that passes a test has an answer of the table, and another one is Unfit.

@@ -10,7 +10,7 @@ use Rattle.bb8_types.specs.declared.standing.GetPlace.TheVariants.{Active, Waiti
 use Rattle.bb8_types.specs.declared.standing.Getting.{Getting}
 use Rattle.bb8_tables.specs.declared.table.Slot.{Slot}
 use Rattle.bb8_tables.specs.declared.gets.Gets.TheInside.{Inside}
-use Rattle.bb8_types.specs.Places.{is_unnotified, get_waits, get_placed}
+use Rattle.bb8_types.specs.Places.{is_unnotified, get_in_wait, get_with_place}
 use Rattle.bb8_tables.specs.Views.{ShownGets}
 use Rattle.bb8_tables.specs.Slots.{cut_at}
 use Rattle.bb8_tables.specs.State.{view_of_gets, AreGoodGets, IsWaitingLine}
@@ -57,7 +57,7 @@ module _ (a : Inside) (place : ℕ) (slots : Slab (Slot Getting)) (good : AreGoo
   abbrev born : Slot Getting
   born = record { number = a.next; standing = record { place = Active; first_wait = None } }
 
-  pub begin_view : a.alive < a.peak → view_of_gets (record a { next = a.next + 1; slots = slots; alive = a.alive + 1 }) ≡ machine.begun (view_of_gets a)
+  pub begin_view : a.alive < a.peak → view_of_gets (record a { next = a.next + 1; slots = slots; alive = a.alive + 1 }) ≡ machine.after_begin (view_of_gets a)
   begin_view few = same_gets _ _ refl (held_added (λ (x : Slot Getting). x.number) (λ x. x.standing) a.slots slots a.next place born good.table free refl u) refl refl (omega arith)
 
 -- ---- pass
@@ -76,7 +76,7 @@ module _ (a : Inside) (good : AreGoodGets a) where
         sizes = record { places_are = z.places_are; peak_holds = z.peak_holds; alive_few = omega (arith, z.alive_few); room_holds = z.room_holds; line_room_holds = z.line_room_holds };
       }
 
-  pub pass_view : a.alive < a.peak → view_of_gets (record a { next = a.next + 1 }) ≡ machine.get_ended a.next (machine.begun (view_of_gets a))
+  pub pass_view : a.alive < a.peak → view_of_gets (record a { next = a.next + 1 }) ≡ machine.after_get_end a.next (machine.after_begin (view_of_gets a))
   pass_view few = same_gets _ _ refl
       (sym (removed_inserted (view_of_gets a).places a.next _ (Slots.held_absent (λ (x : Slot Getting). x.number) (λ x. x.standing) a.slots.slots a.next next_absent)))
       (sym (none_without (λ (k : GetKey). k.number) a.next a.waiting.items (λ j k e number. let st = good.waiting.each j k e in next_absent k.place st.0 st.1 (st.2 ∙ number))))
@@ -86,12 +86,12 @@ module _ (a : Inside) (good : AreGoodGets a) where
 -- ---- wait
 
 -- a get that stands in no line begins to wait
-module _ (a : Inside) (now place : ℕ) (key : GetKey) (x : Slot Getting) (slots : Slab (Slot Getting)) (good : AreGoodGets a) (at_place : slabs.get a.slots place ≡ Some x) (off : is_unnotified x.standing.place ≡ false) (numbered : x.number ≡ key.number) (there : key.place ≡ place) (u : Updates a.slots slots place (Some (record x { standing = get_waits now x.standing }))) where
+module _ (a : Inside) (now place : ℕ) (key : GetKey) (x : Slot Getting) (slots : Slab (Slot Getting)) (good : AreGoodGets a) (at_place : slabs.get a.slots place ≡ Some x) (off : is_unnotified x.standing.place ≡ false) (numbered : x.number ≡ key.number) (there : key.place ≡ place) (u : Updates a.slots slots place (Some (record x { standing = get_in_wait now x.standing }))) where
   line_after : IsWaitingLine slots.slots (a.waiting.items ++ key ∷ [])
   line_after =
       let at_key : slabs.get a.slots key.place ≡ Some x = subst (λ (p : ℕ). slabs.get a.slots p ≡ Some x) (sym there) at_place in
-      let v : Updates a.slots slots key.place (Some (record x { standing = get_waits now x.standing })) = subst (λ (p : ℕ). Updates a.slots slots p (Some (record x { standing = get_waits now x.standing }))) (sym there) u in
-      turned_line _ _ _ _ a.slots slots a.waiting.items key x (record x { standing = get_waits now x.standing }) good.waiting at_key off v numbered refl
+      let v : Updates a.slots slots key.place (Some (record x { standing = get_in_wait now x.standing })) = subst (λ (p : ℕ). Updates a.slots slots p (Some (record x { standing = get_in_wait now x.standing }))) (sym there) u in
+      turned_line _ _ _ _ a.slots slots a.waiting.items key x (record x { standing = get_in_wait now x.standing }) good.waiting at_key off v numbered refl
 
   pub wait_room : slab_len slots ≡ slab_len a.slots → length a.waiting.items < a.waiting.capacity
   wait_room len =
@@ -104,23 +104,23 @@ module _ (a : Inside) (now place : ℕ) (key : GetKey) (x : Slot Getting) (slots
       let z = good.sizes in
       let w : waiting.capacity ≡ a.waiting.capacity = ap (λ (b : Buffer GetKey). b.capacity) pushed in
       record {
-        table = table_set (λ (y : Slot Getting). y.number) a.slots slots a.next place x (record x { standing = get_waits now x.standing }) good.table at_place refl u;
+        table = table_set (λ (y : Slot Getting). y.number) a.slots slots a.next place x (record x { standing = get_in_wait now x.standing }) good.table at_place refl u;
         waiting = subst (λ (b : Buffer GetKey). IsWaitingLine slots.slots b.items) (sym pushed) line_after;
         sizes = record { places_are = len ∙ z.places_are; peak_holds = z.peak_holds; alive_few = z.alive_few; room_holds = omega (arith, z.room_holds); line_room_holds = omega (arith, z.line_room_holds) };
       }
 
-  pub wait_view : (waiting : Buffer GetKey) → waiting ≡ buffer (a.waiting.items ++ key ∷ []) a.waiting.capacity → view_of_gets (record a { slots = slots; waiting = waiting }) ≡ machine.waits now key.number (view_of_gets a)
+  pub wait_view : (waiting : Buffer GetKey) → waiting ≡ buffer (a.waiting.items ++ key ∷ []) a.waiting.capacity → view_of_gets (record a { slots = slots; waiting = waiting }) ≡ machine.after_wait now key.number (view_of_gets a)
   wait_view waiting pushed = same_gets _ _ refl
-      (held_set (λ (y : Slot Getting). y.number) (λ y. y.standing) a.slots slots a.next place x (record x { standing = get_waits now x.standing }) good.table at_place refl u
-      ∙ ap (λ (q : ℕ). insert (view_of_gets a).places q (get_waits now x.standing)) numbered
-      ∙ ap (λ (o : Option Getting). insert (view_of_gets a).places key.number (machine.waiting_since now o)) (sym (shown_at a key.number place x good at_place numbered)))
+      (held_set (λ (y : Slot Getting). y.number) (λ y. y.standing) a.slots slots a.next place x (record x { standing = get_in_wait now x.standing }) good.table at_place refl u
+      ∙ ap (λ (q : ℕ). insert (view_of_gets a).places q (get_in_wait now x.standing)) numbered
+      ∙ ap (λ (o : Option Getting). insert (view_of_gets a).places key.number (machine.getting_since now o)) (sym (shown_at a key.number place x good at_place numbered)))
       (ap (λ (b : Buffer GetKey). map (λ (k : GetKey). k.number) b.items) pushed ∙ map_push (λ (k : GetKey). k.number) a.waiting.items key)
       refl refl
 
 -- ---- notify
 
 -- the first in line is notified
-module _ (a : Inside) (key : GetKey) (slots : Slab (Slot Getting)) (waiting : Buffer GetKey) (good : AreGoodGets a) (first : slice_get a.waiting.items 0 ≡ Some key) (popped : waiting ≡ buffer (drop 1 a.waiting.items) a.waiting.capacity) (sets : (x : Slot Getting) → slabs.get a.slots key.place ≡ Some x → Updates a.slots slots key.place (Some (record x { standing = get_placed (Waiting true) x.standing }))) where
+module _ (a : Inside) (key : GetKey) (slots : Slab (Slot Getting)) (waiting : Buffer GetKey) (good : AreGoodGets a) (first : slice_get a.waiting.items 0 ≡ Some key) (popped : waiting ≡ buffer (drop 1 a.waiting.items) a.waiting.capacity) (sets : (x : Slot Getting) → slabs.get a.slots key.place ≡ Some x → Updates a.slots slots key.place (Some (record x { standing = get_with_place (Waiting true) x.standing }))) where
   pub noticed_stands : (x : Slot Getting) × (slabs.get a.slots key.place ≡ Some x) × (x.number ≡ key.number) × (is_unnotified x.standing.place ≡ true)
   noticed_stands = good.waiting.each 0 key first
 
@@ -133,18 +133,18 @@ module _ (a : Inside) (key : GetKey) (slots : Slab (Slot Getting)) (waiting : Bu
       let x = noticed_stands in
       let w : waiting.capacity ≡ a.waiting.capacity = ap (λ (b : Buffer GetKey). b.capacity) popped in
       record {
-        table = table_set (λ (y : Slot Getting). y.number) a.slots slots a.next key.place x.0 (record x.0 { standing = get_placed (Waiting true) x.0.standing }) good.table x.1 refl (sets x.0 x.1);
+        table = table_set (λ (y : Slot Getting). y.number) a.slots slots a.next key.place x.0 (record x.0 { standing = get_with_place (Waiting true) x.0.standing }) good.table x.1 refl (sets x.0 x.1);
         waiting = subst (λ (ks : List GetKey). IsWaitingLine slots.slots ks) (sym cut) (cut_line _ _ _ _ a.slots slots a.waiting.items 0 key _ good.waiting first (sets x.0 x.1));
         sizes = record { places_are = len ∙ z.places_are; peak_holds = z.peak_holds; alive_few = z.alive_few; room_holds = omega (arith, z.room_holds); line_room_holds = omega (arith, z.line_room_holds) };
       }
 
-  pub notice_view : view_of_gets (record a { slots = slots; waiting = waiting }) ≡ machine.noticed (Some key.number) (view_of_gets a)
+  pub notice_view : view_of_gets (record a { slots = slots; waiting = waiting }) ≡ machine.after_notice (Some key.number) (view_of_gets a)
   notice_view =
       let x = noticed_stands in
       same_gets _ _ refl
-      (held_set (λ (y : Slot Getting). y.number) (λ y. y.standing) a.slots slots a.next key.place x.0 (record x.0 { standing = get_placed (Waiting true) x.0.standing }) good.table x.1 refl (sets x.0 x.1)
-      ∙ ap (λ (q : ℕ). insert (view_of_gets a).places q (get_placed (Waiting true) x.0.standing)) x.2
-      ∙ ap (λ (o : Option Getting). insert (view_of_gets a).places key.number (machine.turned (Waiting true) o)) (sym (shown_at a key.number key.place x.0 good x.1 x.2)))
+      (held_set (λ (y : Slot Getting). y.number) (λ y. y.standing) a.slots slots a.next key.place x.0 (record x.0 { standing = get_with_place (Waiting true) x.0.standing }) good.table x.1 refl (sets x.0 x.1)
+      ∙ ap (λ (q : ℕ). insert (view_of_gets a).places q (get_with_place (Waiting true) x.0.standing)) x.2
+      ∙ ap (λ (o : Option Getting). insert (view_of_gets a).places key.number (machine.getting_at (Waiting true) o)) (sym (shown_at a key.number key.place x.0 good x.1 x.2)))
       (ap (map (λ (k : GetKey). k.number)) cut ∙ cut_numbers _ _ _ _ a.slots a.next a.waiting.items 0 key good.table good.waiting first)
       refl refl
 
@@ -190,7 +190,7 @@ module _ (a : Inside) (place q : ℕ) (waits : Bool) (x : Slot Getting) (slots :
         sizes = record { places_are = omega (arith, z.places_are); peak_holds = omega (arith, z.peak_holds); alive_few = omega (arith, z.alive_few); room_holds = omega (arith, z.room_holds); line_room_holds = omega (arith, z.line_room_holds) };
       }
 
-  pub end_view : view_of_gets (record a { slots = slots; waiting = waiting; alive = a.alive - 1 }) ≡ machine.get_ended q (view_of_gets a)
+  pub end_view : view_of_gets (record a { slots = slots; waiting = waiting; alive = a.alive - 1 }) ≡ machine.after_get_end q (view_of_gets a)
   end_view = same_gets _ _ refl
       (held_removed (λ (y : Slot Getting). y.number) (λ y. y.standing) a.slots slots a.next place x good.table at_place u ∙ ap (remove (view_of_gets a).places) same)
       outside.1 refl refl

@@ -13,8 +13,8 @@ use Rattle.bb8_tables.specs.declared.keys.Key.{Key}
 use Rattle.bb8_tables.specs.declared.table.Slot.{Slot}
 use Rattle.bb8_tables.specs.declared.records.Records.TheInside.{Inside}
 use Rattle.bb8_types.specs.declared.api.configuration.QueueStrategy.{QueueStrategy}
-use Rattle.bb8_types.specs.Places.{is_idle, is_unclaimed, is_conn, is_approval, placed, first_place, first_of}
-use Rattle.bb8_tables.specs.Slots.{held, cut_at}
+use Rattle.bb8_types.specs.Places.{is_idle, is_unclaimed, is_conn, is_approval, with_place, first_place, first_of}
+use Rattle.bb8_tables.specs.Slots.{values_at, cut_at}
 use Rattle.bb8_tables.specs.State.{view_of_records, AreGoodRecords, passes, IsLineOf}
 use Rattle.bb8_types.specs.Numbered.{tally, one}
 use Rattle.bb8_tables.specs.Views.{ShownRecords}
@@ -102,20 +102,20 @@ module _ {C : Type 0} where
   approved_set a slots i was is m n good e u was_m is_n = rw (sym (ap one was_m), sym (ap one is_n)) (tally_set is_approval a.slots slots i a.approved was is good.approved_are e u)
 
   -- another place at a number
-  places_set : (a : Inside C) (slots : Slab (Slot (Standing C))) (i q : ℕ) (x : Slot (Standing C)) (p : Place C) → AreGoodRecords a → slabs.get a.slots i ≡ Some x → x.number ≡ q → Updates a.slots slots i (Some (record x { standing = placed p x.standing })) → held (λ (s : Slot (Standing C)). s.number) (λ s. s.standing) slots.slots ≡ insert (view_of_records a).places q (machine.placed p (get (view_of_records a).places q))
+  places_set : (a : Inside C) (slots : Slab (Slot (Standing C))) (i q : ℕ) (x : Slot (Standing C)) (p : Place C) → AreGoodRecords a → slabs.get a.slots i ≡ Some x → x.number ≡ q → Updates a.slots slots i (Some (record x { standing = with_place p x.standing })) → values_at (λ (s : Slot (Standing C)). s.number) (λ s. s.standing) slots.slots ≡ insert (view_of_records a).places q (machine.standing_at p (get (view_of_records a).places q))
   places_set a slots i q x p good e same u =
-      held_set (λ (s : Slot (Standing C)). s.number) (λ s. s.standing) a.slots slots a.next i x (record x { standing = placed p x.standing }) good.table e refl u
-      ∙ ap (λ (n : ℕ). insert (view_of_records a).places n (placed p x.standing)) same
-      ∙ ap (λ (o : Option (Standing C)). insert (view_of_records a).places q (machine.placed p o)) (sym (shown_at a i q x good e same))
+      held_set (λ (s : Slot (Standing C)). s.number) (λ s. s.standing) a.slots slots a.next i x (record x { standing = with_place p x.standing }) good.table e refl u
+      ∙ ap (λ (n : ℕ). insert (view_of_records a).places n (with_place p x.standing)) same
+      ∙ ap (λ (o : Option (Standing C)). insert (view_of_records a).places q (machine.standing_at p o)) (sym (shown_at a i q x good e same))
 
   -- ---- claim
 
-  module _ (a : Inside C) (key : Key) (slots : Slab (Slot (Standing C))) (unclaimed : Buffer Key) (good : AreGoodRecords a) (first : Some key ≡ slice_get a.unclaimed.items 0) (rest : unclaimed ≡ buffer (drop 1 a.unclaimed.items) a.unclaimed.capacity) (sets : SetsTo a.slots slots key.place (placed Claimed)) where
+  module _ (a : Inside C) (key : Key) (slots : Slab (Slot (Standing C))) (unclaimed : Buffer Key) (good : AreGoodRecords a) (first : Some key ≡ slice_get a.unclaimed.items 0) (rest : unclaimed ≡ buffer (drop 1 a.unclaimed.items) a.unclaimed.capacity) (sets : SetsTo a.slots slots key.place (with_place Claimed)) where
     pub claim_good : slab_len slots ≡ slab_len a.slots → slots.capacity ≡ a.slots.capacity → AreGoodRecords (record a { slots = slots; unclaimed = unclaimed })
     claim_good len room =
         let x = good.unclaimed.each 0 key (sym first) in
         let was : x.0.standing.place ≡ Unclaimed = unclaimed_is x.0.standing.place x.3 in
-        let new : Slot (Standing C) = record x.0 { standing = placed Claimed x.0.standing } in
+        let new : Slot (Standing C) = record x.0 { standing = with_place Claimed x.0.standing } in
         let u : Updates a.slots slots key.place (Some new) = sets x.0 x.1 in
         record {
           table = table_set (λ (s : Slot (Standing C)). s.number) a.slots slots a.next key.place x.0 new good.table x.1 refl u;
@@ -126,10 +126,10 @@ module _ {C : Type 0} where
           sizes = let s = good.sizes in let c : unclaimed.capacity ≡ a.unclaimed.capacity = ap (λ (b : Buffer Key). b.capacity) rest in record { places_are = omega arith; peak_holds = s.peak_holds; peak_few = s.peak_few; place_room_holds = omega arith; idle_room_holds = s.idle_room_holds; unclaimed_room_holds = omega arith };
         }
 
-    pub claim_view : view_of_records (record a { slots = slots; unclaimed = unclaimed }) ≡ machine.claimed key.number (view_of_records a)
+    pub claim_view : view_of_records (record a { slots = slots; unclaimed = unclaimed }) ≡ machine.after_claim key.number (view_of_records a)
     claim_view =
         let x = good.unclaimed.each 0 key (sym first) in
-        let new : Slot (Standing C) = record x.0 { standing = placed Claimed x.0.standing } in
+        let new : Slot (Standing C) = record x.0 { standing = with_place Claimed x.0.standing } in
         same_records _ _ refl
         (places_set a slots key.place key.number x.0 Claimed good x.1 x.2 (sets x.0 x.1))
         refl
@@ -138,7 +138,7 @@ module _ {C : Type 0} where
 
   -- ---- take
 
-  module _ (a : Inside C) (strategy : QueueStrategy) (key : Key) (slots : Slab (Slot (Standing C))) (idle : Buffer Key) (good : AreGoodRecords a) (first : Some key ≡ slice_get a.idle.items (first_place strategy (length a.idle.items))) (rest : idle ≡ buffer (cut_at (first_place strategy (length a.idle.items)) a.idle.items) a.idle.capacity) (sets : SetsTo a.slots slots key.place (placed Guarded)) where
+  module _ (a : Inside C) (strategy : QueueStrategy) (key : Key) (slots : Slab (Slot (Standing C))) (idle : Buffer Key) (good : AreGoodRecords a) (first : Some key ≡ slice_get a.idle.items (first_place strategy (length a.idle.items))) (rest : idle ≡ buffer (cut_at (first_place strategy (length a.idle.items)) a.idle.items) a.idle.capacity) (sets : SetsTo a.slots slots key.place (with_place Guarded)) where
     abbrev where_first : ℕ
     where_first = first_place strategy (length a.idle.items)
 
@@ -146,7 +146,7 @@ module _ {C : Type 0} where
     take_good len room =
         let x = good.idle.each where_first key (sym first) in
         let was = idle_is x.0.standing.place x.3 in
-        let new : Slot (Standing C) = record x.0 { standing = placed Guarded x.0.standing } in
+        let new : Slot (Standing C) = record x.0 { standing = with_place Guarded x.0.standing } in
         let u : Updates a.slots slots key.place (Some new) = sets x.0 x.1 in
         record {
           table = table_set (λ (s : Slot (Standing C)). s.number) a.slots slots a.next key.place x.0 new good.table x.1 refl u;
@@ -157,7 +157,7 @@ module _ {C : Type 0} where
           sizes = let s = good.sizes in let c : idle.capacity ≡ a.idle.capacity = ap (λ (b : Buffer Key). b.capacity) rest in record { places_are = omega arith; peak_holds = s.peak_holds; peak_few = s.peak_few; place_room_holds = omega arith; idle_room_holds = omega arith; unclaimed_room_holds = s.unclaimed_room_holds };
         }
 
-    pub take_view : view_of_records (record a { slots = slots; idle = idle }) ≡ machine.taken Guarded key.number (view_of_records a)
+    pub take_view : view_of_records (record a { slots = slots; idle = idle }) ≡ machine.after_take Guarded key.number (view_of_records a)
     take_view =
         let x = good.idle.each where_first key (sym first) in
         same_records _ _ refl
@@ -173,7 +173,7 @@ module _ {C : Type 0} where
     pub taken_connection : (conn : C) (place : Place C) → ((x : Slot (Standing C)) → slabs.get a.slots key.place ≡ Some x → place ≡ x.standing.place) → place ≡ Idle conn → (birth entered : ℕ) × (get (view_of_records a).places key.number ≡ Some (record { place = Idle conn; birth = birth; entered = entered }))
     taken_connection conn place was is =
         let x = good.idle.each where_first key (sym first) in
-        (x.0.standing.birth, x.0.standing.entered, shown_at a key.place key.number x.0 good x.1 x.2 ∙ ap (λ (p : Place C). Some (placed p x.0.standing)) (sym (was x.0 x.1) ∙ is))
+        (x.0.standing.birth, x.0.standing.entered, shown_at a key.place key.number x.0 good x.1 x.2 ∙ ap (λ (p : Place C). Some (with_place p x.0.standing)) (sym (was x.0 x.1) ∙ is))
 
     -- an idle place has a connection
     pub never_without : (place : Place C) (G : Type 0) → ((x : Slot (Standing C)) → slabs.get a.slots key.place ≡ Some x → place ≡ x.standing.place) → is_idle place ≡ false → G
@@ -254,7 +254,7 @@ module _ {C : Type 0} where
           sizes = let z = good.sizes in let w : idle.capacity ≡ a.idle.capacity = ap (λ (b : Buffer Key). b.capacity) pushed in record { places_are = omega arith; peak_holds = omega arith; peak_few = good.sizes.peak_few; place_room_holds = omega arith; idle_room_holds = omega arith; unclaimed_room_holds = z.unclaimed_room_holds };
         }
 
-    pub enter_view : (idle : Buffer Key) (n m : ℕ) → idle ≡ buffer (a.idle.items ++ key ∷ []) a.idle.capacity → n ≡ a.conns + one opening → m ≡ a.approved - one opening → view_of_records (record a { slots = slots; idle = idle; conns = n; approved = m }) ≡ machine.entered opening key.number s (view_of_records a)
+    pub enter_view : (idle : Buffer Key) (n m : ℕ) → idle ≡ buffer (a.idle.items ++ key ∷ []) a.idle.capacity → n ≡ a.conns + one opening → m ≡ a.approved - one opening → view_of_records (record a { slots = slots; idle = idle; conns = n; approved = m }) ≡ machine.after_entry opening key.number s (view_of_records a)
     enter_view idle n m pushed n_is m_is = same_records _ _ refl
         (held_set (λ (y : Slot (Standing C)). y.number) (λ y. y.standing) a.slots slots a.next place x entering good.table at_place refl (sets x at_place) ∙ ap (λ (q : ℕ). insert (view_of_records a).places q s) numbered)
         (ap (λ (b : Buffer Key). map (λ (k : Key). k.number) b.items) pushed ∙ map_push (λ (k : Key). k.number) a.idle.items key)
@@ -290,7 +290,7 @@ module _ {C : Type 0} where
           sizes = let s = good.sizes in record { places_are = omega arith; peak_holds = omega arith; peak_few = good.sizes.peak_few; place_room_holds = omega arith; idle_room_holds = s.idle_room_holds; unclaimed_room_holds = s.unclaimed_room_holds };
         }
 
-    pub close_view : (n m : ℕ) → n ≡ a.conns - one (not opening) → m ≡ a.approved - one opening → view_of_records (record a { slots = slots; conns = n; approved = m }) ≡ machine.closed opening q (view_of_records a)
+    pub close_view : (n m : ℕ) → n ≡ a.conns - one (not opening) → m ≡ a.approved - one opening → view_of_records (record a { slots = slots; conns = n; approved = m }) ≡ machine.after_close opening q (view_of_records a)
     close_view n m n_is m_is = same_records _ _ refl
         (held_removed (λ (y : Slot (Standing C)). y.number) (λ y. y.standing) a.slots slots a.next place x good.table at_place frees ∙ ap (remove (view_of_records a).places) numbered)
         refl refl n_is m_is refl
@@ -327,7 +327,7 @@ module _ {C : Type 0} where
     numbers_added true = ap (map (λ (k : Key). k.number)) (append-nil a.unclaimed.items) ∙ sym (append-nil (map (λ (k : Key). k.number) a.unclaimed.items))
     numbers_added false = map_push (λ (k : Key). k.number) a.unclaimed.items (record { number = a.next; place = place })
 
-    pub approve_view : view_of_records (record a { next = a.next + 1; slots = slots; unclaimed = unclaimed; approved = a.approved + 1 }) ≡ machine.approve_one claimed_now (view_of_records a)
+    pub approve_view : view_of_records (record a { next = a.next + 1; slots = slots; unclaimed = unclaimed; approved = a.approved + 1 }) ≡ machine.after_approval claimed_now (view_of_records a)
     approve_view = same_records _ _ refl
         (held_added (λ (s : Slot (Standing C)). s.number) (λ s. s.standing) a.slots slots a.next place added good.table free refl u)
         refl
@@ -351,7 +351,7 @@ module _ {C : Type 0} where
       sizes = let s = good.sizes in let c : idle.capacity ≡ a.idle.capacity = ap (λ (b : Buffer Key). b.capacity) pushed in record { places_are = omega arith; peak_holds = omega arith; peak_few = good.sizes.peak_few; place_room_holds = omega arith; idle_room_holds = omega arith; unclaimed_room_holds = s.unclaimed_room_holds };
     }
 
-    pub born_view : view_of_records (record a { next = a.next + 1; slots = slots; idle = idle; conns = a.conns + 1 }) ≡ machine.born conn now (view_of_records a)
+    pub born_view : view_of_records (record a { next = a.next + 1; slots = slots; idle = idle; conns = a.conns + 1 }) ≡ machine.after_birth conn now (view_of_records a)
     born_view = same_records _ _ refl
         (held_added (λ (s : Slot (Standing C)). s.number) (λ s. s.standing) a.slots slots a.next place newborn good.table free refl u)
         (ap (λ (b : Buffer Key). map (λ (k : Key). k.number) b.items) pushed ∙ map_push (λ (k : Key). k.number) a.idle.items (record { number = a.next; place = place }))

@@ -4,7 +4,7 @@ use Rattle.std.specs.FinMap.{FinMap, insert, remove, get, get-empty}
 use Rattle.slab.specs.Slab as slabs
 use Rattle.slab.specs.Slab.{Slab, Updates}
 use Rattle.bb8_types.specs.Numbered.{tally, one}
-use Rattle.bb8_tables.specs.Slots.{held, Holds, IsLine, IsTable, IsDistinct, cut_at}
+use Rattle.bb8_tables.specs.Slots.{values_at, Holds, IsLine, IsTable, IsDistinct, cut_at}
 use Rattle.bb8_types.proofs.Numbered.{same_or_not, get_inserted, get_removed, same_gets}
 
 module _ {X S : Type 0} (number : X → ℕ) (value : X → S) where
@@ -12,14 +12,14 @@ module _ {X S : Type 0} (number : X → ℕ) (value : X → S) where
   Absent xs q = (i : ℕ) (x : X) → get_or xs i None ≡ Some x → number x ≢ q
 
   abbrev Found : List (Option X) → ℕ → Type 0
-  Found xs q = (i : ℕ) × (x : X) × (get_or xs i None ≡ Some x) × (number x ≡ q) × (get (held number value xs) q ≡ Some (value x))
+  Found xs q = (i : ℕ) × (x : X) × (get_or xs i None ≡ Some x) × (number x ≡ q) × (get (values_at number value xs) q ≡ Some (value x))
 
-  scan : (xs : List (Option X)) (q : ℕ) → Found xs q ⊎ (Absent xs q × (get (held number value xs) q ≡ None))
+  scan : (xs : List (Option X)) (q : ℕ) → Found xs q ⊎ (Absent xs q × (get (values_at number value xs) q ≡ None))
   scan [] q = inr (λ i x e. cc, get-empty nat_cmp q)
   scan (None ∷ xs) q =
       ⊎_elim
       (λ (f : Found xs q). inl (suc f.0, f.1, f.2, f.3, f.4))
-      (λ (n : Absent xs q × (get (held number value xs) q ≡ None)). inr (absent_more n.0, n.1))
+      (λ (n : Absent xs q × (get (values_at number value xs) q ≡ None)). inr (absent_more n.0, n.1))
       (scan xs q)
     where
       absent_more : Absent xs q → Absent (None ∷ xs) q
@@ -27,12 +27,12 @@ module _ {X S : Type 0} (number : X → ℕ) (value : X → S) where
       absent_more a (suc i) x e = a i x e
   scan (Some y ∷ xs) q =
       ⊎_elim
-      (λ (t : (eqb q (number y) ≡ true) × (q ≡ number y)). inl (zero, y, refl, sym t.1, get_inserted (held number value xs) (number y) (value y) q ∙ ap (λ (b : Bool). cond b (Some (value y)) (get (held number value xs) q)) t.0))
+      (λ (t : (eqb q (number y) ≡ true) × (q ≡ number y)). inl (zero, y, refl, sym t.1, get_inserted (values_at number value xs) (number y) (value y) q ∙ ap (λ (b : Bool). cond b (Some (value y)) (get (values_at number value xs) q)) t.0))
       (λ (t : (eqb q (number y) ≡ false) × (q ≢ number y)).
-      let rest : get (held number value (Some y ∷ xs)) q ≡ get (held number value xs) q = get_inserted (held number value xs) (number y) (value y) q ∙ ap (λ (b : Bool). cond b (Some (value y)) (get (held number value xs) q)) t.0 in
+      let rest : get (values_at number value (Some y ∷ xs)) q ≡ get (values_at number value xs) q = get_inserted (values_at number value xs) (number y) (value y) q ∙ ap (λ (b : Bool). cond b (Some (value y)) (get (values_at number value xs) q)) t.0 in
       ⊎_elim
       (λ (f : Found xs q). inl (suc f.0, f.1, f.2, f.3, rest ∙ f.4))
-      (λ (n : Absent xs q × (get (held number value xs) q ≡ None)). inr (absent_more t.1 n.0, rest ∙ n.1))
+      (λ (n : Absent xs q × (get (values_at number value xs) q ≡ None)). inr (absent_more t.1 n.0, rest ∙ n.1))
       (scan xs q))
       (same_or_not q (number y))
     where
@@ -40,11 +40,11 @@ module _ {X S : Type 0} (number : X → ℕ) (value : X → S) where
       absent_more other a zero x e = λ s. other (let same : y ≡ x = cc in sym s ∙ sym (ap number same))
       absent_more other a (suc i) x e = a i x e
 
-  pub held_is : (xs : List (Option X)) (m : FinMap nat_cmp S) → Holds number value xs m → held number value xs ≡ m
+  pub held_is : (xs : List (Option X)) (m : FinMap nat_cmp S) → Holds number value xs m → values_at number value xs ≡ m
   held_is xs m h = same_gets _ _ (λ q.
       ⊎_elim
       (λ (f : Found xs q). f.4 ∙ sym (h.each f.0 f.1 f.2) ∙ ap (get m) f.3)
-      (λ (n : Absent xs q × (get (held number value xs) q ≡ None)). n.1 ∙ sym (h.none q n.0))
+      (λ (n : Absent xs q × (get (values_at number value xs) q ≡ None)). n.1 ∙ sym (h.none q n.0))
       (scan xs q))
 
   abbrev pub Changes : List (Option X) → List (Option X) → ℕ → Option X → Type 0
@@ -120,7 +120,7 @@ module _ {X S : Type 0} (number : X → ℕ) (value : X → S) where
         (same_or_not q (number was));
   }
 
-  pub holds_self : (xs : List (Option X)) → IsDistinct number xs → Holds number value xs (held number value xs)
+  pub holds_self : (xs : List (Option X)) → IsDistinct number xs → Holds number value xs (values_at number value xs)
   holds_self xs d = record {
     each = λ i x e. ⊎_elim
         (λ (f : Found xs (number x)).
@@ -128,30 +128,30 @@ module _ {X S : Type 0} (number : X → ℕ) (value : X → S) where
         let at_i : get_or xs i None ≡ Some f.1 = subst (λ (j : ℕ). get_or xs j None ≡ Some f.1) here f.2 in
         let same : f.1 ≡ x = cc (at_i, e) in
         f.4 ∙ ap (λ (z : X). Some (value z)) same)
-        (λ (n : Absent xs (number x) × (get (held number value xs) (number x) ≡ None)). absurd (n.0 i x e refl))
+        (λ (n : Absent xs (number x) × (get (values_at number value xs) (number x) ≡ None)). absurd (n.0 i x e refl))
         (scan xs (number x));
     none = λ q absent. ⊎_elim
         (λ (f : Found xs q). absurd (absent f.0 f.1 f.2 f.3))
-        (λ (n : Absent xs q × (get (held number value xs) q ≡ None)). n.1)
+        (λ (n : Absent xs q × (get (values_at number value xs) q ≡ None)). n.1)
         (scan xs q);
   }
 
-  pub held_absent : (xs : List (Option X)) (q : ℕ) → Absent xs q → get (held number value xs) q ≡ None
+  pub held_absent : (xs : List (Option X)) (q : ℕ) → Absent xs q → get (values_at number value xs) q ≡ None
   held_absent xs q a = ⊎_elim
       (λ (f : Found xs q). absurd (a f.0 f.1 f.2 f.3))
-      (λ (n : Absent xs q × (get (held number value xs) q ≡ None)). n.1)
+      (λ (n : Absent xs q × (get (values_at number value xs) q ≡ None)). n.1)
       (scan xs q)
 
-  pub held_at : (xs : List (Option X)) (i : ℕ) (x : X) → IsDistinct number xs → get_or xs i None ≡ Some x → get (held number value xs) (number x) ≡ Some (value x)
+  pub held_at : (xs : List (Option X)) (i : ℕ) (x : X) → IsDistinct number xs → get_or xs i None ≡ Some x → get (values_at number value xs) (number x) ≡ Some (value x)
   held_at xs i x d e = (holds_self xs d).each i x e
 
-  pub held_taken : (old new : List (Option X)) (key : ℕ) (x : X) → IsDistinct number old → get_or old key None ≡ None → Absent old (number x) → Changes old new key (Some x) → held number value new ≡ insert (held number value old) (number x) (value x)
+  pub held_taken : (old new : List (Option X)) (key : ℕ) (x : X) → IsDistinct number old → get_or old key None ≡ None → Absent old (number x) → Changes old new key (Some x) → values_at number value new ≡ insert (values_at number value old) (number x) (value x)
   held_taken old new key x d free fresh c = held_is new _ (holds_taken old new _ key x (holds_self old d) free fresh c)
 
-  pub held_replaced : (old new : List (Option X)) (key : ℕ) (was x : X) → IsDistinct number old → get_or old key None ≡ Some was → number was ≡ number x → Changes old new key (Some x) → held number value new ≡ insert (held number value old) (number x) (value x)
+  pub held_replaced : (old new : List (Option X)) (key : ℕ) (was x : X) → IsDistinct number old → get_or old key None ≡ Some was → number was ≡ number x → Changes old new key (Some x) → values_at number value new ≡ insert (values_at number value old) (number x) (value x)
   held_replaced old new key was x d at_key same c = held_is new _ (holds_replaced old new _ key was x (holds_self old d) at_key same (λ i y e s. d i key y was e at_key (s ∙ sym same)) c)
 
-  pub held_freed : (old new : List (Option X)) (key : ℕ) (was : X) → IsDistinct number old → get_or old key None ≡ Some was → Changes old new key None → held number value new ≡ remove (held number value old) (number was)
+  pub held_freed : (old new : List (Option X)) (key : ℕ) (was : X) → IsDistinct number old → get_or old key None ≡ Some was → Changes old new key None → values_at number value new ≡ remove (values_at number value old) (number was)
   held_freed old new key was d at_key c = held_is new _ (holds_freed old new _ key was (holds_self old d) at_key (λ i y e s. d i key y was e at_key s) c)
 
 -- ---- no number stands twice
@@ -415,11 +415,11 @@ module _ {X : Type 0} (number : X → ℕ) where
 
 -- what it holds then
 module _ {X S : Type 0} (number : X → ℕ) (value : X → S) where
-  pub held_set : (old new : Slab X) (next place : ℕ) (was x : X) → IsTable number old next → slabs.get old place ≡ Some was → number was ≡ number x → Updates old new place (Some x) → held number value new.slots ≡ insert (held number value old.slots) (number x) (value x)
+  pub held_set : (old new : Slab X) (next place : ℕ) (was x : X) → IsTable number old next → slabs.get old place ≡ Some was → number was ≡ number x → Updates old new place (Some x) → values_at number value new.slots ≡ insert (values_at number value old.slots) (number x) (value x)
   held_set old new next place was x t at_place same u = held_replaced number value old.slots new.slots place was x t.distinct at_place same (u.changed, u.others)
 
-  pub held_added : (old new : Slab X) (next place : ℕ) (x : X) → IsTable number old next → slabs.get old place ≡ None → number x ≡ next → Updates old new place (Some x) → held number value new.slots ≡ insert (held number value old.slots) (number x) (value x)
+  pub held_added : (old new : Slab X) (next place : ℕ) (x : X) → IsTable number old next → slabs.get old place ≡ None → number x ≡ next → Updates old new place (Some x) → values_at number value new.slots ≡ insert (values_at number value old.slots) (number x) (value x)
   held_added old new next place x t free is_next u = held_taken number value old.slots new.slots place x t.distinct free (λ i y e s. let l : number y < next = t.below i y e in omega arith) (u.changed, u.others)
 
-  pub held_removed : (old new : Slab X) (next place : ℕ) (was : X) → IsTable number old next → slabs.get old place ≡ Some was → Updates old new place None → held number value new.slots ≡ remove (held number value old.slots) (number was)
+  pub held_removed : (old new : Slab X) (next place : ℕ) (was : X) → IsTable number old next → slabs.get old place ≡ Some was → Updates old new place None → values_at number value new.slots ≡ remove (values_at number value old.slots) (number was)
   held_removed old new next place was t at_place u = held_freed number value old.slots new.slots place was t.distinct at_place (u.changed, u.others)

@@ -5,10 +5,10 @@ use Rattle.slab.specs.Slab.{Slab}
 use Rattle.std.specs.FinMap.{FinMap, empty, insert, get}
 
 -- the value of each place, under its number
-abbrev pub held : {X S : Type 0} → (X → ℕ) → (X → S) → List (Option X) → FinMap nat_cmp S
-held number value [] = empty
-held number value (None ∷ xs) = held number value xs
-held number value (Some x ∷ xs) = insert (held number value xs) (number x) (value x)
+abbrev pub values_at : {X S : Type 0} → (X → ℕ) → (X → S) → List (Option X) → FinMap nat_cmp S
+values_at number value [] = empty
+values_at number value (None ∷ xs) = values_at number value xs
+values_at number value (Some x ∷ xs) = insert (values_at number value xs) (number x) (value x)
 
 -- the places hold exactly this map
 pub record Holds {X S : Type 0} (number : X → ℕ) (value : X → S) (xs : List (Option X)) (m : FinMap nat_cmp S) : Type 0 where

@@ -12,13 +12,14 @@ use Rattle.bb8_tables.specs.declared.gets.Gets.TheInside.{Inside as GetsInside}
 use Rattle.bb8_types.specs.Places.{is_idle, is_unclaimed, is_conn, is_approval, is_unnotified}
 use Rattle.bb8_types.specs.Numbered.{tally}
 use Rattle.bb8_tables.specs.Views.{ShownRecords, ShownGets}
-use Rattle.bb8_tables.specs.Slots.{held, IsLine, IsTable}
+use Rattle.bb8_tables.specs.Slots.{values_at, IsLine, IsTable}
+use Rattle.bb8_types.specs.Bounds.{most_records}
 
 -- how many records there are, and for how many there is room
 pub record AreSized (places place_room idle_room unclaimed_room conns approved peak : ℕ) : Type 0 where
   pub places_are : places ≡ conns + approved
   pub peak_holds : conns + approved ≤ peak
-  pub peak_few : peak ≤ 4294967295
+  pub peak_few : peak ≤ most_records
   pub place_room_holds : peak ≤ place_room
   pub idle_room_holds : peak ≤ idle_room
   pub unclaimed_room_holds : peak ≤ unclaimed_room
@@ -36,7 +37,7 @@ module _ {C : Type 0} where
   abbrev pub view_of_records : RecordsInside C → ShownRecords C
   view_of_records a = record {
     next = a.next;
-    places = held (λ (x : Slot (Standing C)). x.number) (λ x. x.standing) a.slots.slots;
+    places = values_at (λ (x : Slot (Standing C)). x.number) (λ x. x.standing) a.slots.slots;
     idle = map (λ k. k.number) a.idle.items;
     unclaimed = map (λ k. k.number) a.unclaimed.items;
     conns = a.conns;
@@ -66,7 +67,7 @@ module _ {C : Type 0} where
 abbrev pub view_of_gets : GetsInside → ShownGets
 view_of_gets a = record {
   next = a.next;
-  places = held (λ (x : Slot Getting). x.number) (λ x. x.standing) a.slots.slots;
+  places = values_at (λ (x : Slot Getting). x.number) (λ x. x.standing) a.slots.slots;
   waiting = map (λ k. k.number) a.waiting.items;
   alive = a.alive;
   peak = a.peak;

@@ -5,6 +5,7 @@ ghost use Rattle.bb8_types.specs.Numbered.{one};
 ghost use Rattle.bb8_types.specs.declared.reasons.Reason.TheVariants.{TimedOut, Cancelled};
 ghost use Rattle.bb8_types.specs.Figures.{counts_of};
 ghost use Rattle.bb8_tables.specs.Counted.{counts_held};
+ghost use Rattle.bb8_types.specs.Bounds.{end_of_numbers, most_micros};
 
 use bb8_types::api::Statistics;
 use bb8_types::reasons::Reason;
@@ -65,9 +66,9 @@ impl Counters {
 
     /// A get was served that first waited then, if it waited.
     pub fn serve(&mut self, first_wait: Option<u64>, now: u64)
-        requires direct { self.old.direct < 18446744073709551615 }
-        requires waited { self.old.waited < 18446744073709551615 }
-        ensures { self.new ≡ record self.old { direct = self.old.direct + one (not (is_some first_wait)); waited = self.old.waited + one (is_some first_wait); wait_micros = min 18446744073709551615 (self.old.wait_micros + micros_since now first_wait) } }
+        requires direct { self.old.direct < end_of_numbers }
+        requires waited { self.old.waited < end_of_numbers }
+        ensures { self.new ≡ record self.old { direct = self.old.direct + one (not (is_some first_wait)); waited = self.old.waited + one (is_some first_wait); wait_micros = min most_micros (self.old.wait_micros + micros_since now first_wait) } }
     {
         match first_wait {
             None => self.direct += 1,
@@ -82,9 +83,9 @@ impl Counters {
 
     /// A get was given up that first waited then, if it waited. How long it waited counts only where it timed out.
     pub fn give_up(&mut self, reason: Reason, first_wait: Option<u64>, now: u64)
-        requires timed_out { self.old.timed_out < 18446744073709551615 }
-        requires cancelled { self.old.cancelled < 18446744073709551615 }
-        ensures timed_out { reason ≡ TimedOut → self.new ≡ record self.old { timed_out = self.old.timed_out + 1; wait_micros = min 18446744073709551615 (self.old.wait_micros + micros_since now first_wait) } }
+        requires timed_out { self.old.timed_out < end_of_numbers }
+        requires cancelled { self.old.cancelled < end_of_numbers }
+        ensures timed_out { reason ≡ TimedOut → self.new ≡ record self.old { timed_out = self.old.timed_out + 1; wait_micros = min most_micros (self.old.wait_micros + micros_since now first_wait) } }
         ensures cancelled { reason ≡ Cancelled → self.new ≡ record self.old { cancelled = self.old.cancelled + 1 } }
     {
         match reason {

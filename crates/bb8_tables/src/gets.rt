@@ -10,6 +10,7 @@ ghost use Rattle.bb8_tables.specs.Machine as machine;
 ghost use Rattle.bb8_tables.specs.Keys.{notified_of};
 ghost use Rattle.bb8_tables.specs.Views.{no_gets};
 ghost use Rattle.bb8_tables.specs.State.{waits_at};
+ghost use Rattle.bb8_types.specs.Bounds.{end_of_numbers};
 
 use crate::keys::GetKey;
 use crate::ring::Ring;
@@ -127,7 +128,7 @@ impl Gets {
 
     /// Whether a number is left.
     pub fn has_number(&self) -> bool
-        ensures { result ≡ ltb self.now.next 18446744073709551615 }
+        ensures { result ≡ ltb self.now.next end_of_numbers }
     {
         self.next < u64::MAX
     }
@@ -142,7 +143,7 @@ impl Gets {
     /// Makes room for a higher peak, in the table and in the line, so that waiting needs no memory.
     #[cold]
     fn make_room(&mut self) -> Result<(), AllocError>
-        requires number { self.old.next < 18446744073709551615 }
+        requires number { self.old.next < end_of_numbers }
         requires full { self.old.alive ≡ self.old.peak }
         ensures ok { OnOk result (self.new ≡ record self.old { peak = self.old.peak + 1 }) }
         ensures err { OnErr result (self.new ≡ self.old) }
@@ -158,7 +159,7 @@ impl Gets {
 
     /// Makes room for one more get, where there is none yet.
     fn make_room_for_one(&mut self) -> bool
-        requires { self.old.next < 18446744073709551615 }
+        requires { self.old.next < end_of_numbers }
         ensures made { result ≡ true → self.new ≡ record self.old { peak = max self.old.peak (self.old.alive + 1) } }
         ensures refused { result ≡ false → (self.old.alive ≡ self.old.peak) × (self.new ≡ self.old) }
     {
@@ -168,9 +169,9 @@ impl Gets {
     /// Begins a get of the next number, for which there is room.
     fn bear(&mut self) -> GetKey
         requires room { self.old.alive < self.old.peak }
-        requires number { self.old.next < 18446744073709551615 }
+        requires number { self.old.next < end_of_numbers }
         ensures key { result.number ≡ self.old.next }
-        ensures state { self.new ≡ machine.begun self.old }
+        ensures state { self.new ≡ machine.after_begin self.old }
     {
         let number = self.next;
         let place = self.slots.insert(Slot {
@@ -187,7 +188,7 @@ impl Gets {
 
     /// Whether a get could begin with no memory: a number is left, and more gets were alive once.
     pub fn has_room(&self) -> bool
-        ensures number { result ≡ true → self.now.next < 18446744073709551615 }
+        ensures number { result ≡ true → self.now.next < end_of_numbers }
         ensures room { result ≡ true → self.now.alive < self.now.peak }
     {
         self.next < u64::MAX && self.alive < self.peak
@@ -196,9 +197,9 @@ impl Gets {
     /// Gives the next number to a get that begins and ends at once, for which there is room.
     pub fn pass(&mut self) -> u64
         requires room { self.old.alive < self.old.peak }
-        requires number { self.old.next < 18446744073709551615 }
+        requires number { self.old.next < end_of_numbers }
         ensures number { result ≡ self.old.next }
-        ensures state { self.new ≡ machine.get_ended self.old.next (machine.begun self.old) }
+        ensures state { self.new ≡ machine.after_get_end self.old.next (machine.after_begin self.old) }
     {
         let number = self.next;
         self.next += 1;
@@ -208,8 +209,8 @@ impl Gets {
     /// Begins a get. Memory is asked for only where as many gets are alive as ever were.
     #[inline]
     pub fn begin(&mut self) -> Option<GetKey>
-        requires { self.old.next < 18446744073709551615 }
-        ensures some { IfSome result (λ g. (g.number ≡ self.old.next) × (self.new ≡ machine.begun self.old)) }
+        requires { self.old.next < end_of_numbers }
+        ensures some { IfSome result (λ g. (g.number ≡ self.old.next) × (self.new ≡ machine.after_begin self.old)) }
         ensures none { IfNone result ((self.old.alive ≡ self.old.peak) × (self.new ≡ self.old)) }
     {
         if !self.make_room_for_one() {
@@ -221,7 +222,7 @@ impl Gets {
     /// Has a get wait, which did not wait or was notified, since this moment if it did not wait before.
     pub fn wait(&mut self, g: GetKey, now: u64)
         requires { (x : Getting) × (map.get self.old.places g.number ≡ Some x) × (places.is_unnotified x.place ≡ false) }
-        ensures { self.new ≡ machine.waits now g.number self.old }
+        ensures { self.new ≡ machine.after_wait now g.number self.old }
     {
         match self.slots.locate(g.number, g.place) {
             None => {}
@@ -238,7 +239,7 @@ impl Gets {
     /// Notifies the oldest waiter that was not notified.
     pub fn notify(&mut self) -> Option<GetKey>
         ensures value { notified_of result ≡ slice_get self.old.waiting 0 }
-        ensures state { self.new ≡ machine.noticed (notified_of result) self.old }
+        ensures state { self.new ≡ machine.after_notice (notified_of result) self.old }
     {
         match self.waiting.pop() {
             None => None,
@@ -253,8 +254,8 @@ impl Gets {
     #[inline]
     pub fn end(&mut self, g: GetKey)
         requires { IsSome (map.get self.old.places g.number) }
-        ensures state { self.new ≡ machine.get_ended g.number self.old }
-        ensures numbers { self.old.next ≤ 18446744073709551615 }
+        ensures state { self.new ≡ machine.after_get_end g.number self.old }
+        ensures numbers { self.old.next ≤ end_of_numbers }
     {
         match self.slots.locate(g.number, g.place) {
             None => {}
@@ -271,8 +272,8 @@ impl Gets {
     #[inline]
     pub fn finish(&mut self, g: GetKey)
         requires { (x : Getting) × (map.get self.old.places g.number ≡ Some x) × (places.is_unnotified x.place ≡ false) }
-        ensures state { self.new ≡ machine.get_ended g.number self.old }
-        ensures numbers { self.old.next ≤ 18446744073709551615 }
+        ensures state { self.new ≡ machine.after_get_end g.number self.old }
+        ensures numbers { self.old.next ≤ end_of_numbers }
     {
         match self.slots.locate(g.number, g.place) {
             None => {}

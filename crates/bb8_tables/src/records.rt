@@ -8,6 +8,7 @@ ghost use Rattle.bb8_tables.specs.Views.{no_records};
 ghost use Rattle.bb8_types.specs.declared.standing.Place.TheVariants.{Unclaimed, Claimed, Idle, Guarded};
 ghost use Rattle.circular_buffer.specs.Buffer.{buffer};
 ghost use Rattle.bb8_types.specs.declared.standing.Standing.{Standing};
+ghost use Rattle.bb8_types.specs.Bounds.{end_of_numbers, most_records};
 
 use crate::keys::Key;
 use crate::ring::Ring;
@@ -125,7 +126,7 @@ impl<C: Drop> Records<C> {
 
     /// Claims the unclaimed approval of the least number.
     pub fn claim(&mut self) -> Option<Key>
-        ensures some { IfSome result (λ key. (slice_get self.old.unclaimed 0 ≡ Some key.number) × (self.new ≡ machine.claimed key.number self.old)) }
+        ensures some { IfSome result (λ key. (slice_get self.old.unclaimed 0 ≡ Some key.number) × (self.new ≡ machine.after_claim key.number self.old)) }
         ensures none { IfNone result ((slice_get self.old.unclaimed 0 ≡ None) × (self.new ≡ self.old)) }
     {
         match self.unclaimed.pop() {
@@ -139,7 +140,7 @@ impl<C: Drop> Records<C> {
 
     /// Takes out the idle connection that is first, for a guard.
     pub fn take(&mut self, strategy: QueueStrategy) -> Option<(Key, C)>
-        ensures some { IfSome result (λ r. (places.first_of strategy self.old.idle ≡ Some r.0.number) × ((birth entered : ℕ) × (map.get self.old.places r.0.number ≡ Some (record { place = Idle r.1; birth = birth; entered = entered }))) × (self.new ≡ machine.taken Guarded r.0.number self.old)) }
+        ensures some { IfSome result (λ r. (places.first_of strategy self.old.idle ≡ Some r.0.number) × ((birth entered : ℕ) × (map.get self.old.places r.0.number ≡ Some (record { place = Idle r.1; birth = birth; entered = entered }))) × (self.new ≡ machine.after_take Guarded r.0.number self.old)) }
         ensures none { IfNone result ((places.first_of strategy self.old.idle ≡ None) × (self.new ≡ self.old)) }
     {
         match self.idle.pop_by(strategy) {
@@ -154,8 +155,8 @@ impl<C: Drop> Records<C> {
     /// Makes a connection idle, which a claimed approval brought or a guard held.
     pub fn enter(&mut self, k: Key, conn: C, birth: u64, now: u64, opening: bool)
         requires { (s : Standing C) × (map.get self.old.places k.number ≡ Some s) × (s.place ≡ cond opening Claimed Guarded) }
-        ensures state { self.new ≡ machine.entered opening k.number (record { place = Idle conn; birth = birth; entered = now }) self.old }
-        ensures numbers { self.old.next ≤ 18446744073709551615 }
+        ensures state { self.new ≡ machine.after_entry opening k.number (record { place = Idle conn; birth = birth; entered = now }) self.old }
+        ensures numbers { self.old.next ≤ end_of_numbers }
     {
         match self.slots.locate(k.number, k.place) {
             None => {}
@@ -180,8 +181,8 @@ impl<C: Drop> Records<C> {
     /// Ends a claimed approval, or a connection that a guard held.
     pub fn close(&mut self, k: Key, opening: bool)
         requires { (s : Standing C) × (map.get self.old.places k.number ≡ Some s) × (s.place ≡ cond opening Claimed Guarded) }
-        ensures state { self.new ≡ machine.closed opening k.number self.old }
-        ensures numbers { self.old.next ≤ 18446744073709551615 }
+        ensures state { self.new ≡ machine.after_close opening k.number self.old }
+        ensures numbers { self.old.next ≤ end_of_numbers }
     {
         match self.slots.locate(k.number, k.place) {
             None => {}
@@ -196,7 +197,7 @@ impl<C: Drop> Records<C> {
     /// Makes room for a higher peak.
     fn make_room(&mut self, peak: u64) -> Result<(), AllocError>
         requires higher { self.old.peak ≤ peak }
-        requires few { peak ≤ 4294967295 }
+        requires few { peak ≤ most_records }
         ensures ok { OnOk result (self.new ≡ record self.old { peak = peak }) }
         ensures err { OnErr result (self.new ≡ self.old) }
     {
@@ -210,7 +211,7 @@ impl<C: Drop> Records<C> {
 
     /// Makes room for one more record, where there is none yet.
     fn make_room_for_one(&mut self) -> bool
-        requires { self.old.conns + self.old.approved < 4294967295 }
+        requires { self.old.conns + self.old.approved < most_records }
         ensures made { result ≡ true → self.new ≡ record self.old { peak = max self.old.peak (self.old.conns + self.old.approved + 1) } }
         ensures refused { result ≡ false → (self.old.conns + self.old.approved ≡ self.old.peak) × (self.new ≡ self.old) }
     {
@@ -221,9 +222,9 @@ impl<C: Drop> Records<C> {
     /// Makes an idle connection of the next number, for which there is room.
     fn bear(&mut self, conn: C, now: u64) -> Key
         requires room { self.old.conns + self.old.approved < self.old.peak }
-        requires number { self.old.next < 18446744073709551615 }
+        requires number { self.old.next < end_of_numbers }
         ensures key { result.number ≡ self.old.next }
-        ensures state { self.new ≡ machine.born conn now self.old }
+        ensures state { self.new ≡ machine.after_birth conn now self.old }
     {
         let number = self.next;
         let place = self.slots.insert(Slot {
@@ -243,9 +244,9 @@ impl<C: Drop> Records<C> {
 
     /// Adds an idle connection that was born now. Memory is asked for only where there are as many records as ever were.
     pub fn add(&mut self, conn: C, now: u64) -> Result<Key, C>
-        requires few { self.old.conns + self.old.approved < 4294967295 }
-        requires number { self.old.next < 18446744073709551615 }
-        ensures ok { IfOk result (λ key. (key.number ≡ self.old.next) × (self.new ≡ machine.raised (machine.born conn now self.old))) }
+        requires few { self.old.conns + self.old.approved < most_records }
+        requires number { self.old.next < end_of_numbers }
+        ensures ok { IfOk result (λ key. (key.number ≡ self.old.next) × (self.new ≡ machine.with_peak (machine.after_birth conn now self.old))) }
         ensures err { IfErr result (λ c. (c ≡ conn) × (self.old.conns + self.old.approved ≡ self.old.peak) × (self.new ≡ self.old)) }
     {
         if !self.make_room_for_one() {
@@ -256,7 +257,7 @@ impl<C: Drop> Records<C> {
 
     /// Whether a number is left.
     pub fn has_number(&self) -> bool
-        ensures { result ≡ ltb self.now.next 18446744073709551615 }
+        ensures { result ≡ ltb self.now.next end_of_numbers }
     {
         self.next < u64::MAX
     }
@@ -271,8 +272,8 @@ impl<C: Drop> Records<C> {
     /// Makes one approval, for which there is room.
     fn approve(&mut self, claimed: bool)
         requires room { self.old.conns + self.old.approved < self.old.peak }
-        requires number { self.old.next < 18446744073709551615 }
-        ensures { self.new ≡ machine.approve_one claimed self.old }
+        requires number { self.old.next < end_of_numbers }
+        ensures { self.new ≡ machine.after_approval claimed self.old }
     {
         let number = self.next;
         let place = self.slots.insert(Slot {
@@ -287,9 +288,9 @@ impl<C: Drop> Records<C> {
     /// Grants the approvals that are due, as far as there is room and memory. All room is made before the first one.
     #[cold]
     fn grant_some(&mut self, due: u64, claimed: bool) -> Grant
-        requires { self.old.conns + self.old.approved + due ≤ 4294967295 }
+        requires { self.old.conns + self.old.approved + due ≤ most_records }
         ensures granted { machine.IsGrant self.old due result }
-        ensures state { self.new ≡ machine.granted claimed result self.old }
+        ensures state { self.new ≡ machine.after_grant claimed result self.old }
     {
         let taken = self.conns + self.approved;
         let possible = due.min(u64::MAX - self.next);
@@ -313,9 +314,9 @@ impl<C: Drop> Records<C> {
     /// As `grant_some`. Most often nothing is due, and that is told without a call.
     #[inline]
     pub fn grant(&mut self, due: u64, claimed: bool) -> Grant
-        requires { self.old.conns + self.old.approved + due ≤ 4294967295 }
+        requires { self.old.conns + self.old.approved + due ≤ most_records }
         ensures granted { machine.IsGrant self.old due result }
-        ensures state { self.new ≡ machine.granted claimed result self.old }
+        ensures state { self.new ≡ machine.after_grant claimed result self.old }
     {
         if due > 0 {
             return self.grant_some(due, claimed);

@@ -4,7 +4,7 @@ ghost use Rattle.slab.specs.Slab as slabs;
 ghost use Rattle.bb8_tables.specs.declared.table.Slot.{Slot};
 ghost use Rattle.bb8_types.specs.declared.standing.Standing.{Standing};
 ghost use Rattle.bb8_types.specs.declared.standing.Getting.{Getting};
-ghost use Rattle.bb8_types.specs.Places.{get_waits};
+ghost use Rattle.bb8_types.specs.Places.{get_in_wait};
 
 use bb8_types::standing::{GetPlace, Getting, Place, Standing};
 use slab::Slab;
@@ -170,7 +170,7 @@ impl Table<Getting> {
     /// Has the get that stands at a place wait, since this moment if it did not wait before.
     pub fn wait(&mut self, at: usize, now: u64)
         requires { IsSome (slabs.get self.old at) }
-        ensures changed { (x : Slot Getting) → slabs.get self.old at ≡ Some x → slabs.Updates self.old self.new at (Some (record x { standing = get_waits now x.standing })) }
+        ensures changed { (x : Slot Getting) → slabs.get self.old at ≡ Some x → slabs.Updates self.old self.new at (Some (record x { standing = get_in_wait now x.standing })) }
         ensures len { slabs.slab_len self.new ≡ slabs.slab_len self.old }
         ensures capacity { self.new.capacity ≡ self.old.capacity }
     {

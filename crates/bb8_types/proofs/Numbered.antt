@@ -5,7 +5,7 @@ use Rattle.std.proofs.lemmas.List.Elements.{filter-append}
 use Rattle.std.specs.Ordering.{eq_by_cmp}
 use Rattle.std.specs.Cmp.{nat_cmp_total}
 use Rattle.std.specs.FinMap.{FinMap, insert, remove, get, get-empty, get-insert, get-remove, same_map, nat_cmp-IsAntisymmetric}
-use Rattle.bb8_types.specs.Numbered.{ended, Numbered, standing_at, at, update, numbers, in_order, given, numbered, one, tally}
+use Rattle.bb8_types.specs.Numbered.{after_end, Numbered, standing_at, at, update, numbers, in_order, with_value, by_number, one, tally}
 
 -- the list with another element at the number k
 abbrev pub change : {R : Type 0} → ℕ → ℕ → R → List R → List R
@@ -422,53 +422,53 @@ module _ {S : Type 0} where
       go q false e = refl
 
 module _ {R S : Type 0} where
-  pub get-numbered : (f : R → Option S) (rs : List R) (n q : ℕ) → get (numbered f n rs) q ≡ option_and_then f (at n rs q)
+  pub get-numbered : (f : R → Option S) (rs : List R) (n q : ℕ) → get (by_number f n rs) q ≡ option_and_then f (at n rs q)
   get-numbered f [] n q = get-empty nat_cmp q
   get-numbered f (r ∷ rs) n q =
       ⊎_elim
       (λ (t : (eqb q n ≡ true) × (q ≡ n)).
       let past : at (suc n) rs q ≡ None = at-below rs (suc n) q (omega arith) in
-      let goal : (o : Option S) → get (given n o (numbered f (suc n) rs)) q ≡ o =
-      elim [ None ↦ get-numbered f rs (suc n) q ∙ ap (option_and_then f) past | Some s ↦ get_inserted (numbered f (suc n) rs) n s q ∙ ap (λ (b : Bool). cond b (Some s) (get (numbered f (suc n) rs) q)) t.0 ] in
+      let goal : (o : Option S) → get (with_value n o (by_number f (suc n) rs)) q ≡ o =
+      elim [ None ↦ get-numbered f rs (suc n) q ∙ ap (option_and_then f) past | Some s ↦ get_inserted (by_number f (suc n) rs) n s q ∙ ap (λ (b : Bool). cond b (Some s) (get (by_number f (suc n) rs) q)) t.0 ] in
       goal (f r) ∙ sym (ap (λ (b : Bool). option_and_then f (cond b (Some r) (at (suc n) rs q))) t.0))
       (λ (t : (eqb q n ≡ false) × (q ≢ n)).
-      let ih : get (numbered f (suc n) rs) q ≡ option_and_then f (at (suc n) rs q) = get-numbered f rs (suc n) q in
-      let goal : (o : Option S) → get (given n o (numbered f (suc n) rs)) q ≡ option_and_then f (at (suc n) rs q) =
-      elim [ None ↦ ih | Some s ↦ get_inserted (numbered f (suc n) rs) n s q ∙ ap (λ (b : Bool). cond b (Some s) (get (numbered f (suc n) rs) q)) t.0 ∙ ih ] in
+      let ih : get (by_number f (suc n) rs) q ≡ option_and_then f (at (suc n) rs q) = get-numbered f rs (suc n) q in
+      let goal : (o : Option S) → get (with_value n o (by_number f (suc n) rs)) q ≡ option_and_then f (at (suc n) rs q) =
+      elim [ None ↦ ih | Some s ↦ get_inserted (by_number f (suc n) rs) n s q ∙ ap (λ (b : Bool). cond b (Some s) (get (by_number f (suc n) rs) q)) t.0 ∙ ih ] in
       goal (f r) ∙ sym (ap (λ (b : Bool). option_and_then f (cond b (Some r) (at (suc n) rs q))) t.0))
       (same_or_not q n)
 
-  pub numbered-change_some : (f : R → Option S) (rs : List R) (n k : ℕ) (new old : R) (s : S) → at n rs k ≡ Some old → f new ≡ Some s → numbered f n (change n k new rs) ≡ insert (numbered f n rs) k s
+  pub numbered-change_some : (f : R → Option S) (rs : List R) (n k : ℕ) (new old : R) (s : S) → at n rs k ≡ Some old → f new ≡ Some s → by_number f n (change n k new rs) ≡ insert (by_number f n rs) k s
   numbered-change_some f rs n k new old s h e = same_gets _ _ (λ q.
       get-numbered f (change n k new rs) n q
       ∙ ⊎_elim
       (λ (t : (eqb q k ≡ true) × (q ≡ k)).
       let here : at n (change n k new rs) q ≡ Some new = rw t.1 (at-change_same rs n k new old h) in
-      ap (option_and_then f) here ∙ e ∙ sym (get_inserted (numbered f n rs) k s q ∙ ap (λ (b : Bool). cond b (Some s) (get (numbered f n rs) q)) t.0))
+      ap (option_and_then f) here ∙ e ∙ sym (get_inserted (by_number f n rs) k s q ∙ ap (λ (b : Bool). cond b (Some s) (get (by_number f n rs) q)) t.0))
       (λ (t : (eqb q k ≡ false) × (q ≢ k)).
       ap (option_and_then f) (at-change_other rs n k q new t.1) ∙ sym (get-numbered f rs n q)
-      ∙ sym (get_inserted (numbered f n rs) k s q ∙ ap (λ (b : Bool). cond b (Some s) (get (numbered f n rs) q)) t.0))
+      ∙ sym (get_inserted (by_number f n rs) k s q ∙ ap (λ (b : Bool). cond b (Some s) (get (by_number f n rs) q)) t.0))
       (same_or_not q k))
 
-  pub numbered-change_none : (f : R → Option S) (rs : List R) (n k : ℕ) (new old : R) → at n rs k ≡ Some old → f new ≡ None → numbered f n (change n k new rs) ≡ remove (numbered f n rs) k
+  pub numbered-change_none : (f : R → Option S) (rs : List R) (n k : ℕ) (new old : R) → at n rs k ≡ Some old → f new ≡ None → by_number f n (change n k new rs) ≡ remove (by_number f n rs) k
   numbered-change_none f rs n k new old h e = same_gets _ _ (λ q.
       get-numbered f (change n k new rs) n q
       ∙ ⊎_elim
       (λ (t : (eqb q k ≡ true) × (q ≡ k)).
       let here : at n (change n k new rs) q ≡ Some new = rw t.1 (at-change_same rs n k new old h) in
-      ap (option_and_then f) here ∙ e ∙ sym (get_removed (numbered f n rs) k q ∙ ap (λ (b : Bool). cond b None (get (numbered f n rs) q)) t.0))
+      ap (option_and_then f) here ∙ e ∙ sym (get_removed (by_number f n rs) k q ∙ ap (λ (b : Bool). cond b None (get (by_number f n rs) q)) t.0))
       (λ (t : (eqb q k ≡ false) × (q ≢ k)).
       ap (option_and_then f) (at-change_other rs n k q new t.1) ∙ sym (get-numbered f rs n q)
-      ∙ sym (get_removed (numbered f n rs) k q ∙ ap (λ (b : Bool). cond b None (get (numbered f n rs) q)) t.0))
+      ∙ sym (get_removed (by_number f n rs) k q ∙ ap (λ (b : Bool). cond b None (get (by_number f n rs) q)) t.0))
       (same_or_not q k))
 
-  pub numbered-append_some : (f : R → Option S) (rs : List R) (n : ℕ) (new : R) (s : S) → f new ≡ Some s → numbered f n (rs ++ new ∷ []) ≡ insert (numbered f n rs) (n + length rs) s
+  pub numbered-append_some : (f : R → Option S) (rs : List R) (n : ℕ) (new : R) (s : S) → f new ≡ Some s → by_number f n (rs ++ new ∷ []) ≡ insert (by_number f n rs) (n + length rs) s
   numbered-append_some f rs n new s e = same_gets _ _ (λ q.
       get-numbered f (rs ++ new ∷ []) n q ∙ ap (option_and_then f) (at-append rs new n q)
       ∙ goal q (eqb q (n + length rs))
-      ∙ sym (get_inserted (numbered f n rs) (n + length rs) s q))
+      ∙ sym (get_inserted (by_number f n rs) (n + length rs) s q))
     where
-      goal : (q : ℕ) (b : Bool) → option_and_then f (cond b (Some new) (at n rs q)) ≡ cond b (Some s) (get (numbered f n rs) q)
+      goal : (q : ℕ) (b : Bool) → option_and_then f (cond b (Some new) (at n rs q)) ≡ cond b (Some s) (get (by_number f n rs) q)
       goal q true = e
       goal q false = sym (get-numbered f rs n q)
 
@@ -482,8 +482,8 @@ module _ {S : Type 0} where
       go (Some r) e h = (r, e, h)
 
   -- nobody is in line for one that has ended
-  pub ended_before : (on : Option S → Bool) (rs : List (Numbered S)) (n k m : ℕ) → on None ≡ false → Before (λ p r. on r.standing && eqb r.position p) m rs → Before (λ p r. on r.standing && eqb r.position p) m (update n k ended rs)
-  ended_before on rs n k m off b = before-update (λ p r. on r.standing && eqb r.position p) rs n k ended m b (λ r p h. absurd (let clash : false ≡ true = sym (ap (λ (x : Bool). x && eqb r.position p) off) ∙ h in cc))
+  pub ended_before : (on : Option S → Bool) (rs : List (Numbered S)) (n k m : ℕ) → on None ≡ false → Before (λ p r. on r.standing && eqb r.position p) m rs → Before (λ p r. on r.standing && eqb r.position p) m (update n k after_end rs)
+  ended_before on rs n k m off b = before-update (λ p r. on r.standing && eqb r.position p) rs n k after_end m b (λ r p h. absurd (let clash : false ≡ true = sym (ap (λ (x : Bool). x && eqb r.position p) off) ∙ h in cc))
 
   -- those in line are as many as those who stand there
   pub line_counted : (on : Option S → Bool) (rs : List (Numbered S)) (first m : ℕ) → Before (λ p r. on r.standing && eqb r.position p) m rs → length (in_order (λ p r. on r.standing && eqb r.position p) first rs m) ≡ tally (λ r. on r.standing) rs

@@ -3,10 +3,11 @@ use Rattle.std.specs.Prelude.{◌≡◌, ℕ, ◌+◌, ◌-◌, ◌≤◌, min, 
 use Rattle.std.specs.Option.{unwrap_or}
 use Rattle.bb8_types.specs.declared.grants.Grant.{Grant}
 use Rattle.bb8_types.specs.Settings.{Settings}
+use Rattle.bb8_types.specs.Bounds.{end_of_numbers}
 
 -- 2 ^ 64 - 1 is never given as a number
 abbrev pub numbers_left : ℕ → ℕ
-numbers_left next = 18446744073709551615 - next
+numbers_left next = end_of_numbers - next
 
 -- how many approvals a grant is to make: what is asked, up to the size, and none where no handle is alive
 abbrev pub due : Settings → ℕ → ℕ → ℕ → ℕ

@@ -5,3 +5,4 @@ pub mod Places
 pub mod Grants
 pub mod Errors
 pub mod ErrorLaws
+pub mod Bounds

@@ -30,14 +30,14 @@ in_order stands n rs zero = []
 in_order stands n rs (suc p) = in_order stands n rs p ++ numbers (stands p) n rs
 
 -- a map that has the value at that number, if there is one
-abbrev pub given : {S : Type 0} → ℕ → Option S → FinMap nat_cmp S → FinMap nat_cmp S
-given n None m = m
-given n (Some s) m = insert m n s
+abbrev pub with_value : {S : Type 0} → ℕ → Option S → FinMap nat_cmp S → FinMap nat_cmp S
+with_value n None m = m
+with_value n (Some s) m = insert m n s
 
 -- what f shows of each element, under its number
-abbrev pub numbered : {R S : Type 0} → (R → Option S) → ℕ → List R → FinMap nat_cmp S
-numbered f n [] = empty
-numbered f n (r ∷ rs) = given n (f r) (numbered f (suc n) rs)
+abbrev pub by_number : {R S : Type 0} → (R → Option S) → ℕ → List R → FinMap nat_cmp S
+by_number f n [] = empty
+by_number f n (r ∷ rs) = with_value n (f r) (by_number f (suc n) rs)
 
 -- 1 for what holds, 0 for what does not
 abbrev pub one : Bool → ℕ
@@ -54,13 +54,13 @@ standing_at n rs q = option_and_then (λ r. r.standing) (at n rs q)
 
 -- what every standing number shows
 abbrev pub standings : {S : Type 0} → ℕ → List (Numbered S) → FinMap nat_cmp S
-standings n rs = numbered (λ r. r.standing) n rs
+standings n rs = by_number (λ r. r.standing) n rs
 
 module _ {S : Type 0} where
   -- what had a number, ended; its position stays
-  abbrev pub ended : Numbered S → Numbered S
-  ended r = record r { standing = None }
+  abbrev pub after_end : Numbered S → Numbered S
+  after_end r = record r { standing = None }
 
   -- a record ends where it passes a test
-  abbrev pub ended_where : (Option S → Bool) → Numbered S → Numbered S
-  ended_where test r = cond (test r.standing) (ended r) r
+  abbrev pub after_end_where : (Option S → Bool) → Numbered S → Numbered S
+  after_end_where test r = cond (test r.standing) (after_end r) r

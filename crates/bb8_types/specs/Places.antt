@@ -9,7 +9,7 @@ use Rattle.bb8_types.specs.declared.standing.Getting.{Getting}
 use Rattle.bb8_types.specs.declared.api.configuration.QueueStrategy.{QueueStrategy}
 use Rattle.bb8_types.specs.declared.api.configuration.QueueStrategy.TheVariants.{Fifo, Lifo}
 use Rattle.bb8_types.specs.Settings.{Settings}
-use Rattle.bb8_types.specs.Numbered.{at, numbers, one, ended}
+use Rattle.bb8_types.specs.Numbered.{at, numbers, one, after_end}
 
 -- ---- where a record stands
 
@@ -159,8 +159,8 @@ module _ {C : Type 0} where
 
 module _ {C : Type 0} where
   -- a record at another place; birth and entry stay
-  abbrev pub placed : Place C → Standing C → Standing C
-  placed p s = record s { place = p }
+  abbrev pub with_place : Place C → Standing C → Standing C
+  with_place p s = record s { place = p }
 
   -- the birth of a record, or 0 where it has ended
   abbrev pub birth_in : Option (Standing C) → ℕ
@@ -168,8 +168,8 @@ module _ {C : Type 0} where
   birth_in (Some s) = s.birth
 
 -- a get in another place
-abbrev pub get_placed : GetPlace → Getting → Getting
-get_placed p g = record g { place = p }
+abbrev pub get_with_place : GetPlace → Getting → Getting
+get_with_place p g = record g { place = p }
 
 -- the moment of the first wait
 abbrev pub first_or : ℕ → Option ℕ → ℕ
@@ -177,8 +177,8 @@ first_or now None = now
 first_or now (Some first) = first
 
 -- a get that waits now, and since its first wait if it waited before
-abbrev pub get_waits : ℕ → Getting → Getting
-get_waits now g = record { place = Waiting false; first_wait = Some (first_or now g.first_wait) }
+abbrev pub get_in_wait : ℕ → Getting → Getting
+get_in_wait now g = record { place = Waiting false; first_wait = Some (first_or now g.first_wait) }
 
 -- where the one that goes out stands in a line of so many
 abbrev pub first_place : QueueStrategy → ℕ → ℕ

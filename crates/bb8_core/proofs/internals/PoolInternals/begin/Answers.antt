@@ -5,6 +5,7 @@ use Rattle.bb8_core.specs.Pool.{view_of}
 use Rattle.bb8_core.proofs.Fitting.{shown_fits}
 use Rattle.bb8_core.proofs.Steps.{meets_begun, meets_memory, meets_exhausted, left, used_up, led, at_view, fits_view}
 use Rattle.bb8_core.proofs.internals.PoolInternals.begin.Goals as goal
+use Rattle.bb8_types.specs.Bounds.{end_of_numbers}
 
 pub invariant_of-self : goal.invariant_of-self
 invariant_of-self g c = led c.args.at.0 acts.Begin answers.Exhausted c.self.invariant
@@ -28,7 +29,7 @@ returns-in-None g c = at_view c.args.at.0 acts.Begin answers.Memory c.self.view_
 pub overflow_add-self : goal.overflow_add-self
 overflow_add-self g c =
     let fit = shown_fits (view_of c.self.inside) c.self.invariant in
-    let few : c.self.inside.gets.next < 18446744073709551615 = left c.self.inside.gets.next (sym c.has_number.ensures ∙ c.if-not-has_number.false) in
+    let few : c.self.inside.gets.next < end_of_numbers = left c.self.inside.gets.next (sym c.has_number.ensures ∙ c.if-not-has_number.false) in
     omega (arith, fit.started_few)
 
 pub invariant_of-self-in-Some : goal.invariant_of-self-in-Some

@@ -10,23 +10,24 @@ use Rattle.bb8_core.proofs.Fitting.{shown_record, shown_fits, want_few}
 use Rattle.bb8_core.proofs.Steps.{at_view, fits_view}
 use Rattle.bb8_core.proofs.AtOnce.{between, meets_begun_between, meets_served_between, named_begun, named_served, led_at_once}
 use Rattle.bb8_core.proofs.internals.PoolInternals.serve_at_once.Goals as goal
+use Rattle.bb8_types.specs.Bounds.{end_of_numbers}
 
 pub overflow_add-self : goal.overflow_add-self
 overflow_add-self g c =
     let fit = shown_fits (view_of c.self.inside) c.self.invariant in
-    let few : c.self.inside.gets.next < 18446744073709551615 = c.has_room.ensures.number c.if-not-has_room.false in
+    let few : c.self.inside.gets.next < end_of_numbers = c.has_room.ensures.number c.if-not-has_room.false in
     omega (arith, fit.started_few)
 
 pub serve-requires-clause-direct : goal.serve-requires-clause-direct
 serve-requires-clause-direct g c =
     let fit = shown_fits (view_of c.self.inside) c.self.invariant in
-    let few : c.self.inside.gets.next < 18446744073709551615 = c.has_room.ensures.number c.if-not-has_room.false in
+    let few : c.self.inside.gets.next < end_of_numbers = c.has_room.ensures.number c.if-not-has_room.false in
     omega (arith, fit.answered, fit.started_few)
 
 pub serve-requires-clause-waited : goal.serve-requires-clause-waited
 serve-requires-clause-waited g c =
     let fit = shown_fits (view_of c.self.inside) c.self.invariant in
-    let few : c.self.inside.gets.next < 18446744073709551615 = c.has_room.ensures.number c.if-not-has_room.false in
+    let few : c.self.inside.gets.next < end_of_numbers = c.has_room.ensures.number c.if-not-has_room.false in
     omega (arith, fit.answered, fit.started_few)
 
 pub grant-grant-requires : goal.grant-grant-requires

@@ -15,4 +15,4 @@ returns-in-None-clause-state c = never_absent _ _ c.requires (none_shown c.self.
 pub returns-in-Some-clause-state : goal.returns-in-Some-clause-state
 returns-in-Some-clause-state c =
     let f = c.in-Some.ensures.some in
-    end_view c.self.inside c.in-Some.place c.args.g.number c.stands_in_line-waits.result f.0 c.remove.new.self c.step_out.new.waiting c.self.invariant f.1 f.2 (c.stands_in_line-waits.ensures ∙ ap waits_at f.1) c.step_out.ensures c.remove.ensures.updates ∙ ap (machine.get_ended c.args.g.number) c.self.view_is
+    end_view c.self.inside c.in-Some.place c.args.g.number c.stands_in_line-waits.result f.0 c.remove.new.self c.step_out.new.waiting c.self.invariant f.1 f.2 (c.stands_in_line-waits.ensures ∙ ap waits_at f.1) c.step_out.ensures c.remove.ensures.updates ∙ ap (machine.after_get_end c.args.g.number) c.self.view_is

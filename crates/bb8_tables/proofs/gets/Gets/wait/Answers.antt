@@ -24,4 +24,4 @@ pub returns-in-Some : goal.returns-in-Some
 returns-in-Some c =
     let f = c.in-Some.ensures.some in
     wait_view c.self.inside c.args.now c.in-Some.place (record { number = c.args.g.number; place = c.in-Some.place }) f.0 c.wait.new.self c.self.invariant f.1
-    (stands_is c.self.inside c.args.g.number c.in-Some.place f.0 c.args.self.now c.self.invariant c.self.view_is f.1 f.2 c.requires) f.2 refl (c.wait.ensures.changed f.0 f.1) c.push.new.self c.push.ensures ∙ ap (machine.waits c.args.now c.args.g.number) c.self.view_is
+    (stands_is c.self.inside c.args.g.number c.in-Some.place f.0 c.args.self.now c.self.invariant c.self.view_is f.1 f.2 c.requires) f.2 refl (c.wait.ensures.changed f.0 f.1) c.push.new.self c.push.ensures ∙ ap (machine.after_wait c.args.now c.args.g.number) c.self.view_is

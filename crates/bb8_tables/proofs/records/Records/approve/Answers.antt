@@ -19,4 +19,4 @@ invariant_of-self g c =
     approve_good c.self.inside c.args.claimed c.insert-place.result c.insert-place.new.self c.line_up.new.unclaimed c.self.invariant c.insert-place.ensures.free (subst (λ (s : Standing g.row.C.Denot). Updates c.self.inside.slots c.insert-place.new.self c.insert-place.result (Some (record { number = c.self.inside.next; standing = s }))) c.approval.ensures c.insert-place.ensures.updates) c.line_up.ensures free c.insert-place.ensures.len c.insert-place.ensures.capacity
 
 pub returns : goal.returns
-returns g c = approve_view c.self.inside c.args.claimed c.insert-place.result c.insert-place.new.self c.line_up.new.unclaimed c.self.invariant c.insert-place.ensures.free (subst (λ (s : Standing g.row.C.Denot). Updates c.self.inside.slots c.insert-place.new.self c.insert-place.result (Some (record { number = c.self.inside.next; standing = s }))) c.approval.ensures c.insert-place.ensures.updates) c.line_up.ensures ∙ ap (machine.approve_one c.args.claimed) c.self.view_is
+returns g c = approve_view c.self.inside c.args.claimed c.insert-place.result c.insert-place.new.self c.line_up.new.unclaimed c.self.invariant c.insert-place.ensures.free (subst (λ (s : Standing g.row.C.Denot). Updates c.self.inside.slots c.insert-place.new.self c.insert-place.result (Some (record { number = c.self.inside.next; standing = s }))) c.approval.ensures c.insert-place.ensures.updates) c.line_up.ensures ∙ ap (machine.after_approval c.args.claimed) c.self.view_is

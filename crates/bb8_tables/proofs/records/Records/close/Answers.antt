@@ -26,7 +26,7 @@ returns-in-Some-clause-state g c =
     let f = c.in-Some.ensures.some in
     let shows : Shows c.self.inside c.args.k.number (cond c.args.opening Claimed Guarded) = rw (← c.self.view_is) at c.requires in
     close_view c.self.inside c.args.opening c.in-Some.place c.args.k.number f.0 c.remove.new.self c.self.invariant f.1 f.2 (stood c.self.inside c.args.k.number c.in-Some.place f.0 _ c.self.invariant shows f.1 f.2) c.remove.ensures.updates _ _ (ap (λ n. c.self.inside.conns - n) c.one.ensures.value) (ap (λ n. c.self.inside.approved - n) c.one-in-Some.ensures.value)
-    ∙ ap (machine.closed c.args.opening c.args.k.number) c.self.view_is
+    ∙ ap (machine.after_close c.args.opening c.args.k.number) c.self.view_is
 
 pub invariant_of-self : goal.invariant_of-self
 invariant_of-self g c =

@@ -40,4 +40,4 @@ returns-in-Some-clause-state g c =
     enter_view c.self.inside c.args.opening c.in-Some.place (record { number = c.args.k.number; place = c.in-Some.place }) f.0 (record { place = Idle c.args.conn; birth = c.args.birth; entered = c.args.now }) c.replace.new.self c.self.invariant f.1
     (stood c.self.inside c.args.k.number c.in-Some.place f.0 _ c.self.invariant shows f.1 f.2) f.2 refl refl c.replace.ensures.changed
     c.push.new.self _ _ c.push.ensures (ap (λ n. c.self.inside.conns + n) c.one-opened.ensures.value) (ap (λ n. c.self.inside.approved - n) c.one-opened.ensures.value)
-    ∙ ap (machine.entered c.args.opening c.args.k.number _) c.self.view_is
+    ∙ ap (machine.after_entry c.args.opening c.args.k.number _) c.self.view_is

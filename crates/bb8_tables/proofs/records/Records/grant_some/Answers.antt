@@ -25,5 +25,5 @@ returns-clause-state g c =
     let n : ℕ = c.if-below-possible.count in
     let start : ShownRecords g.row.C.Denot = record c.args.self.now { peak = c.if-below-possible.self.peak } in
     let all : c.loop.counter ≡ n = omega arith in
-    c.loop.invariant.same ∙ ap (λ (m : ℕ). machine.approve c.args.claimed m start) all
+    c.loop.invariant.same ∙ ap (λ (m : ℕ). machine.after_approvals c.args.claimed m start) all
     ∙ approve-raised c.args.claimed n c.if-below-possible.self.peak c.args.self.now c.loop.invariant.peak

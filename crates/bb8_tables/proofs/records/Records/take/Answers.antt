@@ -40,6 +40,6 @@ returns-after-connection_of-clause-some g c =
       | in-Some-connection_of w ↦ rw w.result-is (
         ap (λ (s : ShownRecords g.row.C.Denot). first_of c.args.strategy s.idle) (sym c.self.view_is) ∙ taken_first c.self.inside c.args.strategy c.in-Some.key c.put.new.self c.pop_by.new.self c.self.invariant c.in-Some.ensures.value c.in-Some.ensures.items c.put.ensures.changed,
         (let was = took w.in-Some-connection_of.conn c.put.result c.put.ensures.value w.in-Some-connection_of.ensures.some in (was.0, was.1, ap (λ (s : ShownRecords g.row.C.Denot). get s.places c.in-Some.key.number) (sym c.self.view_is) ∙ was.2)),
-        take_view c.self.inside c.args.strategy c.in-Some.key c.put.new.self c.pop_by.new.self c.self.invariant c.in-Some.ensures.value c.in-Some.ensures.items c.put.ensures.changed ∙ ap (machine.taken Guarded c.in-Some.key.number) c.self.view_is,
+        take_view c.self.inside c.args.strategy c.in-Some.key c.put.new.self c.pop_by.new.self c.self.invariant c.in-Some.ensures.value c.in-Some.ensures.items c.put.ensures.changed ∙ ap (machine.after_take Guarded c.in-Some.key.number) c.self.view_is,
       )
     ]
