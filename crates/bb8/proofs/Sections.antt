@@ -1,18 +1,18 @@
 -- What holds of the sections of a pool.
 use Rattle.std.proofs.Common.{◌≡◌, ℕ, ◌+◌, ◌≤◌, Bool, true, false, None, refl, sym, ap, ◌∙◌, arith}
-use Rattle.bb8_core.specs.declared.outcomes.GiveUpAnswer.{GiveUpAnswer}
-use Rattle.bb8_core.specs.declared.outcomes.GiveUpAnswer.TheVariants.{GaveUp}
-use Rattle.bb8_core.specs.declared.outcomes.PutBackAnswer.{PutBackAnswer}
-use Rattle.bb8_core.specs.declared.outcomes.PutBackAnswer.TheVariants.{Kept, Closed}
-use Rattle.bb8_core.specs.declared.outcomes.AddAnswer.{AddAnswer}
-use Rattle.bb8_core.specs.declared.outcomes.AddAnswer.TheVariants as adding
+use Rattle.bb8_core.specs.declared.answers.GiveUpAnswer.{GiveUpAnswer}
+use Rattle.bb8_core.specs.declared.answers.GiveUpAnswer.TheVariants.{GaveUp}
+use Rattle.bb8_core.specs.declared.answers.PutBackAnswer.{PutBackAnswer}
+use Rattle.bb8_core.specs.declared.answers.PutBackAnswer.TheVariants.{Kept, Closed}
+use Rattle.bb8_core.specs.declared.answers.AddAnswer.{AddAnswer}
+use Rattle.bb8_core.specs.declared.answers.AddAnswer.TheVariants as adding
 use Rattle.bb8_types.specs.declared.api.configuration.Config.{Config}
 use Rattle.bb8_types.specs.declared.grants.Grant.{Grant}
 use Rattle.bb8_types.specs.Settings.{Settings, settings_of, is_lawful}
 use Rattle.bb8_ledger.specs.Acts.{Act, GiveUp, PutBack, Fill, Add, Reason}
 use Rattle.bb8_ledger.specs.Answers.{Answer, Broken, Granted, Unfit}
 use Rattle.bb8_ledger.specs.Ledger.{Ledger, Later}
-use Rattle.bb8_core.specs.Outcomes.{give_up_told, put_back_told, add_told}
+use Rattle.bb8_core.specs.StepAnswers.{give_up_told, put_back_told, add_told}
 use Rattle.bb8_ledger.specs.Table.{takes, IsLegal, Row, add_broken, add_full, add_exhausted, add_refused, adds}
 use Rattle.bb8_core.specs.Shown.{Shown, Means, Meets, IsFitting, HasLedger, IsWithinLimits}
 use Rattle.bb8_core.specs.Run.{opening}

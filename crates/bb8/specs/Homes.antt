@@ -1,14 +1,14 @@
 -- The steps of a get on the plain state of a pool.
 use Rattle.std.specs.Prelude.{◌≡◌, ℕ, ⊤}
 use Rattle.std.specs.Bool.{MatchBool}
-use Rattle.bb8_core.specs.declared.outcomes.TryAnswer.TheVariants as handed
+use Rattle.bb8_core.specs.declared.answers.TryAnswer.TheVariants as handed
 use Rattle.bb8_ledger.specs.Acts.{Act}
 use Rattle.bb8_ledger.specs.Answers as answers
 use Rattle.bb8_ledger.specs.Answers.{Answer}
 use Rattle.bb8_ledger.specs.Ledger.{Ledger, Later}
 use Rattle.bb8_core.specs.Shown.{IsWithinLimits, Shown, Means, Meets}
 use Rattle.bb8_tables.specs.Keys.{notified_of}
-use Rattle.bb8_core.specs.Outcomes.{HandsOut}
+use Rattle.bb8_core.specs.StepAnswers.{HandsOut}
 use Rattle.bb8_ledger.specs.Table.{takes, Allowed, IsLegal}
 use Rattle.bb8.specs.declared.get.home.BeginStep.{BeginStep}
 use Rattle.bb8.specs.declared.get.home.BeginStep.TheVariants as begun

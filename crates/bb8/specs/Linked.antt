@@ -6,7 +6,7 @@ use Rattle.bb8_types.specs.declared.api.moments.Moment.{Moment}
 use Rattle.bb8_types.specs.declared.api.errors.RunError.{RunError}
 use Rattle.bb8_tables.specs.declared.keys.Key.{Key}
 use Rattle.bb8_ledger.specs.Acts as acts
-use Rattle.bb8_core.specs.Outcomes.{look_told, reason_of}
+use Rattle.bb8_core.specs.StepAnswers.{look_told, reason_of}
 use Rattle.bb8.specs.declared.get.home.GetHome.{Ghosts as HomeOf}
 use Rattle.bb8.specs.declared.get.state.Stage.{Stage}
 use Rattle.bb8.specs.declared.get.state.Stage.TheVariants.{Done}

@@ -8,7 +8,7 @@ use Rattle.bb8_types.specs.declared.api.errors.RunError.TheVariants as errors
 use Rattle.bb8_types.specs.declared.reasons.Reason.TheVariants.{TimedOut, Cancelled}
 use Rattle.bb8_tables.specs.declared.keys.GetKey.{GetKey}
 use Rattle.bb8_tables.specs.declared.keys.Key.{Key}
-use Rattle.bb8_core.specs.declared.outcomes.Looked.{Looked}
+use Rattle.bb8_core.specs.declared.answers.Looked.{Looked}
 use Rattle.bb8.specs.declared.get.home.GetHome.{Ghosts as HomeOf}
 use Rattle.bb8.specs.declared.get.home.BeginStep.{BeginStep}
 use Rattle.bb8.specs.declared.get.home.BeginStep.TheVariants.{Begun, Memory, Exhausted}

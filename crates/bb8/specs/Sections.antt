@@ -1,12 +1,12 @@
 -- What the sections of a pool answer, in the words of the ledger.
 use Rattle.std.specs.Prelude.{◌≡◌, ℕ, Bool, true, false, Result, Ok, Err, ⊤}
-use Rattle.bb8_core.specs.declared.outcomes.TryAnswer.{TryAnswer}
-use Rattle.bb8_core.specs.declared.outcomes.TryAnswer.TheVariants as tries
-use Rattle.bb8_core.specs.declared.outcomes.AddAnswer.{AddAnswer}
-use Rattle.bb8_core.specs.declared.outcomes.AddAnswer.TheVariants as adding
+use Rattle.bb8_core.specs.declared.answers.TryAnswer.{TryAnswer}
+use Rattle.bb8_core.specs.declared.answers.TryAnswer.TheVariants as tries
+use Rattle.bb8_core.specs.declared.answers.AddAnswer.{AddAnswer}
+use Rattle.bb8_core.specs.declared.answers.AddAnswer.TheVariants as adding
 use Rattle.bb8_ledger.specs.Answers as answers
 use Rattle.bb8_ledger.specs.Answers.{Answer}
-use Rattle.bb8_core.specs.Outcomes.{HandsOut}
+use Rattle.bb8_core.specs.StepAnswers.{HandsOut}
 use Rattle.bb8_core.specs.Shown.{Shown, Meets, IsWithinLimits}
 use Rattle.bb8_ledger.specs.Acts.{Begin, Try}
 use Rattle.bb8_tables.specs.declared.keys.Key.{Key}

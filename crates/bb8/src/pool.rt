@@ -2,7 +2,7 @@
 ghost use Rattle.std.specs.Prelude.{◌≡◌, ◌≤◌, ◌<◌, Bool, true, false, IfOk};
 ghost use Rattle.std.specs.Arc.{arc_value};
 ghost use Rattle.bb8_types.specs.Settings.{settings_of, default_settings, is_lawful};
-ghost use Rattle.bb8_core.specs.Outcomes.{add_told, Refuses};
+ghost use Rattle.bb8_core.specs.StepAnswers.{add_told, Refuses};
 ghost use Rattle.bb8.specs.Ledgers.{IsBlankOf};
 ghost use Rattle.bb8.specs.Addings.{IsTold, IsAdding};
 ghost use Rattle.bb8.specs.States.{IsShown};

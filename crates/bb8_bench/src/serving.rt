@@ -1,7 +1,7 @@
 //! Rounds over a pool whose connections stand open.
 ghost use Rattle.std.specs.Prelude.{◌≡◌, ◌<◌, ◌∷◌, ◌++◌, ◌+◌, [], IfSome, true, length, suc};
 ghost use Rattle.std.specs.FinMap as map;
-ghost use Rattle.bb8_core.specs.declared.outcomes.TryAnswer.TheVariants.{Served};
+ghost use Rattle.bb8_core.specs.declared.answers.TryAnswer.TheVariants.{Served};
 ghost use Rattle.bb8_types.specs.Places.{stands, is_guarded};
 ghost use Rattle.bb8_bench.specs.Lines.{turned, counted, held};
 ghost use Rattle.bb8_bench.specs.Serving.{IsServing};

@@ -3,8 +3,8 @@ use Rattle.std.proofs.Common.{◌≡◌, ℕ, zero, suc, Bool, true, false, ◌&
 use Rattle.std.specs.FinMap.{get}
 use Rattle.bb8_tables.specs.declared.keys.Key.{Key}
 use Rattle.bb8_tables.specs.declared.keys.GetKey.{GetKey}
-use Rattle.bb8_core.specs.declared.events.Event.{Event}
-use Rattle.bb8_core.specs.declared.events.Answer.{Answer as Told}
+use Rattle.bb8_core.specs.declared.replay.events.Event.{Event}
+use Rattle.bb8_core.specs.declared.replay.events.Answer.{Answer as Told}
 use Rattle.bb8_types.specs.declared.standing.Getting.{Getting}
 use Rattle.bb8_ledger.specs.Acts.{Act, Try, GiveUp, Reason}
 use Rattle.bb8_ledger.specs.Answers.{Unfit}

@@ -9,7 +9,7 @@ use Rattle.bb8_types.specs.declared.standing.Getting.{Getting}
 use Rattle.bb8_tables.specs.declared.counters.Counters.{Counters}
 use Rattle.bb8_types.specs.declared.reasons.Reason.{Reason as Named}
 use Rattle.bb8_types.specs.declared.reasons.Reason.TheVariants as reasons
-use Rattle.bb8_core.specs.Outcomes.{reason_of}
+use Rattle.bb8_core.specs.StepAnswers.{reason_of}
 use Rattle.bb8_tables.specs.Counted.{counts_held}
 use Rattle.bb8_types.specs.Figures.{Counts, Figures}
 use Rattle.bb8_ledger.specs.Acts.{Act, Begin, Try, GiveUp, PutBack, Fill, Claim, Opened, State, Add, Look, Reason, TimedOut, Cancelled}

@@ -1,6 +1,6 @@
 pub mod Shown
 pub mod Decided
-pub mod Outcomes
+pub mod StepAnswers
 pub mod Pool
 pub mod Run
 pub mod Parts

@@ -14,14 +14,14 @@ ghost use Rattle.bb8_types.specs.Settings.{settings_of, is_lawful};
 ghost use Rattle.bb8_types.specs.Figures.{figures_of};
 ghost use Rattle.bb8_core.specs.Run.{opening, act_with};
 ghost use Rattle.bb8_core.specs.Shown.{Means, Meets, IsFitting, IsRecordIn, IsNoRecordIn, IsGetIn, IsNoGetIn, IsWithinLimits};
-ghost use Rattle.bb8_core.specs.Outcomes.{begin_told, try_told, reason_of, give_up_told, put_back_told, claim_told, opened_told, add_told, look_told, HandsOut, ServesAtOnce, GivesBack, HandsBack, Refuses};
+ghost use Rattle.bb8_core.specs.StepAnswers.{begin_told, try_told, reason_of, give_up_told, put_back_told, claim_told, opened_told, add_told, look_told, HandsOut, ServesAtOnce, GivesBack, HandsBack, Refuses};
 ghost use Rattle.bb8_tables.specs.Keys.{notified_of};
 
-use crate::events::{Act, Event};
-pub use crate::outcomes::{
+pub use crate::answers::{
     AddAnswer, AtOnce, BeginAnswer, ClaimAnswer, GiveUpAnswer, Looked, OpenedAnswer, PutBackAnswer,
     TryAnswer,
 };
+use crate::replay::{Act, Event};
 use bb8_tables::counters::Counters;
 use bb8_tables::gets::{Gets, first_wait, is_notified, is_unnotified};
 pub use bb8_tables::keys::{GetKey, Key};

@@ -3,8 +3,6 @@
 
 pub use bb8_types::api;
 
-mod events;
-mod hints;
+mod answers;
 pub mod internals;
-mod outcomes;
 pub mod replay;

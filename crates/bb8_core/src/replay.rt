@@ -5,19 +5,22 @@ ghost use Rattle.bb8_ledger.specs.Ledger.{Ledger};
 ghost use Rattle.bb8_ledger.specs.Limits.{KeepsLimits, KeepsLaws, KeepsPromises};
 ghost use Rattle.bb8_tables.specs.Keys.{notified_of};
 ghost use Rattle.bb8_core.specs.Run.{answer_of, opening, IsRun, IsTaken, Happens, Applies, AfterEach};
-ghost use Rattle.bb8_core.specs.declared.events.Act.TheVariants as events;
+ghost use Rattle.bb8_core.specs.declared.replay.events.Act.TheVariants as events;
 ghost use Rattle.bb8_types.specs.Settings.{settings_of, is_lawful};
 ghost use Rattle.bb8_core.specs.Shown.{Means, Meets, IsFitting};
 
-pub use crate::events::{Act, Answer, Event};
-use crate::hints::Hints;
-use crate::internals::PoolInternals;
-use crate::outcomes::{
+mod events;
+mod hints;
+
+use self::hints::Hints;
+use crate::answers::{
     AddAnswer, BeginAnswer, ClaimAnswer, GiveUpAnswer, OpenedAnswer, PutBackAnswer, TryAnswer,
 };
+use crate::internals::PoolInternals;
 use bb8_tables::keys::{GetKey, Key};
 use bb8_types::api::{Config, Memory, Moment};
 pub use bb8_types::reasons::Reason;
+pub use events::{Act, Answer, Event};
 use std::alloc::Global;
 
 /// The number of the get that a step notified.

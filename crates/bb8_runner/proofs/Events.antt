@@ -1,7 +1,7 @@
 -- The first line that is no event.
 use Rattle.std.proofs.Common.{◌≡◌, ℕ, ◌+◌, ◌<◌, List, [], length, get_or, take, map, Some, None, ap, arith, Bor, length-take}
 use Rattle.std.proofs.lemmas.List.{take-map, get_or-map, length-map}
-use Rattle.bb8_core.specs.declared.events.Event.{Event}
+use Rattle.bb8_core.specs.declared.replay.events.Event.{Event}
 use Rattle.bb8_runner.specs.Grammar.{event_of}
 use Rattle.bb8_runner.specs.Script.{IsFirstNoEvent}
 

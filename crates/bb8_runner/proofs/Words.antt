@@ -8,10 +8,10 @@ use Rattle.std.proofs.lemmas.List.Elements.{All-weaker}
 use Rattle.std.proofs.lemmas.List.Splits.{join_with_byte-slice_split, slice_split_at, slice_split_none}
 use Rattle.std.proofs.lemmas.Str.{IsUtf8-from_ascii, IsAscii-append}
 use Rattle.std.proofs.lemmas.Str.Ascii.{IsAscii-cons, IsAscii-nil, IsAscii-from_all}
-use Rattle.bb8_core.specs.declared.events.Act.{Act}
-use Rattle.bb8_core.specs.declared.events.Act.TheVariants.{Begin, Try, GiveUp, PutBack, Fill, Claim, Opened, Add, State, Look}
+use Rattle.bb8_core.specs.declared.replay.events.Act.{Act}
+use Rattle.bb8_core.specs.declared.replay.events.Act.TheVariants.{Begin, Try, GiveUp, PutBack, Fill, Claim, Opened, Add, State, Look}
 use Rattle.bb8_types.specs.declared.reasons.Reason.TheVariants.{TimedOut, Cancelled}
-use Rattle.bb8_core.specs.declared.events.Event.{Event}
+use Rattle.bb8_core.specs.declared.replay.events.Event.{Event}
 use Rattle.bb8_runner.specs.Grammar.{fields_of, event_of}
 use Rattle.bb8_runner.specs.Spelling.{verb_of, args_of, flag, event_fields, event_line, FitsEvent}
 use Rattle.bb8_runner.proofs.Bytes.{IsOver, AreOver, over, are_over, decimal_over}

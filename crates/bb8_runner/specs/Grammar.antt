@@ -3,10 +3,10 @@ use Rattle.std.specs.Prelude.{ℕ, ◌^◌, ◌==◌, nat_lt, List, [], ◌∷�
 use Rattle.std.specs.List.{slice_split}
 use Rattle.std.specs.Str.{bytes_eq}
 use Rattle.std.specs.Str.Parse.{digits_value}
-use Rattle.bb8_core.specs.declared.events.Act.{Act}
-use Rattle.bb8_core.specs.declared.events.Act.TheVariants.{Begin, Try, GiveUp, PutBack, Fill, Claim, Opened, Add, State, Look}
+use Rattle.bb8_core.specs.declared.replay.events.Act.{Act}
+use Rattle.bb8_core.specs.declared.replay.events.Act.TheVariants.{Begin, Try, GiveUp, PutBack, Fill, Claim, Opened, Add, State, Look}
 use Rattle.bb8_types.specs.declared.reasons.Reason.TheVariants.{TimedOut, Cancelled}
-use Rattle.bb8_core.specs.declared.events.Event.{Event}
+use Rattle.bb8_core.specs.declared.replay.events.Event.{Event}
 
 -- what the second gives for the value of the first, where there is one
 infixl 10 ◌>>=◌

@@ -4,8 +4,8 @@ use Rattle.std.specs.List.{slice_split}
 use Rattle.bb8_types.specs.Settings.{Settings}
 use Rattle.bb8_ledger.specs.Ledger.{Ledger, figures, opening_with}
 use Rattle.bb8_core.specs.Run.{IsRun}
-use Rattle.bb8_core.specs.declared.events.Event.{Event}
-use Rattle.bb8_core.specs.declared.events.Answer.{Answer}
+use Rattle.bb8_core.specs.declared.replay.events.Event.{Event}
+use Rattle.bb8_core.specs.declared.replay.events.Answer.{Answer}
 use Rattle.bb8_runner.specs.declared.verdict.Verdict.{Verdict}
 use Rattle.bb8_runner.specs.declared.verdict.Verdict.TheVariants.{Ran, Bad}
 use Rattle.bb8_runner.specs.declared.fault.Fault.{Fault}

@@ -1,10 +1,10 @@
 -- How events and configurations are spelled: each line is one of these, and no other line is good.
 use Rattle.std.specs.Prelude.{◌≡◌, ◌≢◌, ℕ, ◌^◌, ◌<◌, List, [], ◌∷◌, ◌++◌, map, ⊤, Bool, true, false, Option, Some, None, codes, decimal}
 use Rattle.std.specs.List.{join_with_byte}
-use Rattle.bb8_core.specs.declared.events.Act.{Act}
-use Rattle.bb8_core.specs.declared.events.Act.TheVariants.{Begin, Try, GiveUp, PutBack, Fill, Claim, Opened, Add, State, Look}
+use Rattle.bb8_core.specs.declared.replay.events.Act.{Act}
+use Rattle.bb8_core.specs.declared.replay.events.Act.TheVariants.{Begin, Try, GiveUp, PutBack, Fill, Claim, Opened, Add, State, Look}
 use Rattle.bb8_types.specs.declared.reasons.Reason.TheVariants.{TimedOut, Cancelled}
-use Rattle.bb8_core.specs.declared.events.Event.{Event}
+use Rattle.bb8_core.specs.declared.replay.events.Event.{Event}
 use Rattle.bb8_types.specs.declared.api.configuration.QueueStrategy.{QueueStrategy}
 use Rattle.bb8_types.specs.declared.api.configuration.QueueStrategy.TheVariants.{Fifo, Lifo}
 use Rattle.bb8_types.specs.Settings.{Settings, default_settings, is_lawful}

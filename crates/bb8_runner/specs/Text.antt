@@ -1,8 +1,8 @@
 -- The bytes that a script's answers print as.
 use Rattle.std.specs.Prelude.{ℕ, ◌/◌, ◌==◌, List, [], ◌∷◌, ◌++◌, true, false, Option, Some, None, codes, decimal, if◌then◌else◌, flat_map}
 use Rattle.bb8_types.specs.Figures.{Counts, Figures, figures_of}
-use Rattle.bb8_core.specs.declared.events.Answer.{Answer}
-use Rattle.bb8_core.specs.declared.events.Answer.TheVariants.{Begun, Memory, Exhausted, Served, Waiting, Kept, Closed, GaveUp, Granted, Claimed, Ended, Entered, Late, Added, Broken, NoCapacity, Withheld, Shown, Looked, Unfit}
+use Rattle.bb8_core.specs.declared.replay.events.Answer.{Answer}
+use Rattle.bb8_core.specs.declared.replay.events.Answer.TheVariants.{Begun, Memory, Exhausted, Served, Waiting, Kept, Closed, GaveUp, Granted, Claimed, Ended, Entered, Late, Added, Broken, NoCapacity, Withheld, Shown, Looked, Unfit}
 use Rattle.bb8_types.specs.declared.grants.Grant.{Grant}
 
 -- ` grant N at F` where something was granted, and ` withheld W` where something was withheld

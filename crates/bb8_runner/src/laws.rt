@@ -1,7 +1,7 @@
 //! Laws of the language of scripts, each carried by a function that does nothing.
 ghost use Rattle.std.specs.Prelude.{◌≡◌, ◌≢◌, Some, List, ℕ, All};
-ghost use Rattle.bb8_core.specs.declared.events.Answer.{Answer};
-ghost use Rattle.bb8_core.specs.declared.events.Event.{Event};
+ghost use Rattle.bb8_core.specs.declared.replay.events.Answer.{Answer};
+ghost use Rattle.bb8_core.specs.declared.replay.events.Event.{Event};
 ghost use Rattle.bb8_types.specs.Figures.{Figures};
 ghost use Rattle.bb8_types.specs.Settings.{Settings};
 ghost use Rattle.bb8_runner.specs.Grammar.{event_of, fields_of};

@@ -3,7 +3,7 @@ ghost use Rattle.std.specs.Prelude.{IfSome, IfNone};
 ghost use Rattle.bb8_types.specs.declared.api.moments.Moment.{Moment as MomentOf};
 ghost use Rattle.bb8_types.specs.declared.reasons.Reason.{Reason as ReasonOf};
 ghost use Rattle.bb8_tables.specs.declared.keys.GetKey.{GetKey as GetKeyOf};
-ghost use Rattle.bb8_core.specs.declared.outcomes.Looked.{Looked as LookedOf};
+ghost use Rattle.bb8_core.specs.declared.answers.Looked.{Looked as LookedOf};
 ghost use Rattle.bb8.specs.declared.get.home.BeginStep.{BeginStep as BeginStepOf};
 ghost use Rattle.bb8.specs.declared.get.home.BeginStep.TheVariants.{Begun};
 ghost use Rattle.bb8.specs.declared.get.home.GiveUpStep.{GiveUpStep as GiveUpStepOf};

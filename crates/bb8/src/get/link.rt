@@ -1,7 +1,7 @@
 //! A pool as a home of gets.
 ghost use Rattle.std.specs.Prelude.{◌≡◌, false, None};
 ghost use Rattle.bb8_ledger.specs.Acts as acts;
-ghost use Rattle.bb8_core.specs.Outcomes.{look_told, begin_told, try_told, give_up_told, reason_of};
+ghost use Rattle.bb8_core.specs.StepAnswers.{look_told, begin_told, try_told, give_up_told, reason_of};
 ghost use Rattle.bb8_core.specs.Shown.{Shown};
 ghost use Rattle.bb8.specs.Sections.{answered, in_core, HandsOutOf};
 ghost use Rattle.bb8.specs.Homes.{Hands, OnSome, begin_step_told, try_step_told, give_up_step_told};

@@ -1,7 +1,7 @@
 //! The plain state of a pool as a home of gets.
 ghost use Rattle.std.specs.Prelude.{◌≡◌, false, None};
 ghost use Rattle.bb8_ledger.specs.Acts as acts;
-ghost use Rattle.bb8_core.specs.Outcomes.{look_told, reason_of};
+ghost use Rattle.bb8_core.specs.StepAnswers.{look_told, reason_of};
 ghost use Rattle.bb8.specs.Homes.{Steps, Hands, begin_step_told, try_step_told, give_up_step_told};
 
 use super::home::{BeginStep, GetHome, GiveUpStep, TryStep};

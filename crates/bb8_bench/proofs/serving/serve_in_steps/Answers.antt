@@ -1,6 +1,6 @@
 use Rattle.std.proofs.Common.{ℕ, ◌≡◌, refl, sym, subst, ◌∙◌}
-use Rattle.bb8_core.specs.declared.outcomes.TryAnswer.{TryAnswer}
-use Rattle.bb8_core.specs.Outcomes.{try_told}
+use Rattle.bb8_core.specs.declared.answers.TryAnswer.{TryAnswer}
+use Rattle.bb8_core.specs.StepAnswers.{try_told}
 use Rattle.bb8_ledger.specs.Acts.{Begin, Try}
 use Rattle.bb8_ledger.specs.Answers.{Begun, Served}
 use Rattle.bb8_ledger.specs.Ledger.{Ledger, Later}

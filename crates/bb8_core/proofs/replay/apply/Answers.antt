@@ -1,5 +1,5 @@
 use Rattle.std.proofs.Common.{◌≡◌, true, sym, subst, ◌∙◌}
-use Rattle.bb8_core.specs.declared.events.Act.{Act as Named}
+use Rattle.bb8_core.specs.declared.replay.events.Act.{Act as Named}
 use Rattle.bb8_core.specs.Run.{act_of}
 use Rattle.bb8_ledger.specs.Table.{takes}
 use Rattle.bb8_core.proofs.Runs.{unfit_now}

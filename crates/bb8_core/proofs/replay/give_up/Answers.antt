@@ -1,6 +1,6 @@
 use Rattle.std.proofs.Common.{◌≡◌, ℕ, true, subst}
 use Rattle.bb8_ledger.specs.Acts.{Act}
-use Rattle.bb8_core.specs.Outcomes.{reason_of}
+use Rattle.bb8_core.specs.StepAnswers.{reason_of}
 use Rattle.bb8_ledger.specs.Table.{takes}
 use Rattle.bb8_core.proofs.Runs.{none_in_hand}
 use Rattle.bb8_core.proofs.replay.give_up.Goals as goal

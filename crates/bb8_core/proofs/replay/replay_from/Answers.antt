@@ -1,8 +1,8 @@
 use Rattle.std.proofs.Common.{ℕ, take, ◌+◌, sym, refl, subst, List, [], ◌∷◌, ◌++◌, get_or, ◌<◌, ◌≤◌, length, arith}
 use Rattle.std.proofs.lemmas.List.{take_all, take_more}
-use Rattle.bb8_core.specs.declared.events.Act.TheVariants as acts
-use Rattle.bb8_core.specs.declared.events.Answer.{Answer}
-use Rattle.bb8_core.specs.declared.events.Event.{Event}
+use Rattle.bb8_core.specs.declared.replay.events.Act.TheVariants as acts
+use Rattle.bb8_core.specs.declared.replay.events.Answer.{Answer}
+use Rattle.bb8_core.specs.declared.replay.events.Event.{Event}
 use Rattle.bb8_ledger.specs.Ledger.{Ledger, Later}
 use Rattle.bb8_ledger.specs.Limits.{KeepsLimits, KeepsLaws, KeepsPromises}
 use Rattle.bb8_core.specs.Run.{IsRun, act_of, answer_of, opening}

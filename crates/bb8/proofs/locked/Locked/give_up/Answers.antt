@@ -1,6 +1,6 @@
 use Rattle.std.proofs.Common.{false, None}
 use Rattle.bb8_ledger.specs.Acts as acts
-use Rattle.bb8_core.specs.Outcomes.{reason_of}
+use Rattle.bb8_core.specs.StepAnswers.{reason_of}
 use Rattle.bb8.proofs.Sections.{kept_size, fitting, unfit_step, unmoved, gave_up}
 use Rattle.bb8.proofs.locked.Locked.give_up.Goals as goal
 

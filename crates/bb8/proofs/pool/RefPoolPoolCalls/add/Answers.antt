@@ -1,6 +1,6 @@
 use Rattle.std.proofs.Common.{◌≡◌, ap, sym, refl, ◌∙◌, rules}
 use Rattle.bb8_ledger.specs.Acts as acts
-use Rattle.bb8_core.specs.Outcomes.{add_told}
+use Rattle.bb8_core.specs.StepAnswers.{add_told}
 use Rattle.bb8.specs.Sections.{returned}
 use Rattle.bb8.proofs.Links.{on_some}
 use Rattle.bb8.proofs.pool.RefPoolPoolCalls.add.Goals as goal

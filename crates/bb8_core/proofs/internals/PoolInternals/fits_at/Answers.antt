@@ -1,7 +1,7 @@
 use Rattle.std.proofs.Common.{ap, ◌∙◌, sym}
 use Rattle.bb8_types.specs.Places.{stands, is_guarded, is_claimed}
 use Rattle.bb8_ledger.specs.Ledger.{next}
-use Rattle.bb8_core.specs.Outcomes.{reason_of}
+use Rattle.bb8_core.specs.StepAnswers.{reason_of}
 use Rattle.bb8_core.specs.Pool.{view_of}
 use Rattle.bb8_core.proofs.Fitting.{shown_record}
 use Rattle.bb8_core.proofs.Runs.{takes_give_up}

@@ -1,6 +1,6 @@
 use Rattle.std.proofs.Common.{◌≡◌, true, false, subst}
 use Rattle.bb8_ledger.specs.Acts.{Act}
-use Rattle.bb8_core.specs.Outcomes.{reason_of}
+use Rattle.bb8_core.specs.StepAnswers.{reason_of}
 use Rattle.bb8_ledger.specs.Table.{takes}
 use Rattle.bb8_core_tests.specs.declared.tests.steps.Link.{Link}
 use Rattle.bb8_core_tests.specs.declared.tests.steps.Link.TheVariants.{Red}

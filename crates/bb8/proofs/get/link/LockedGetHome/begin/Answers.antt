@@ -1,6 +1,6 @@
 use Rattle.std.proofs.Common.{refl}
 use Rattle.bb8_ledger.specs.Acts as acts
-use Rattle.bb8_core.specs.Outcomes.{begin_told}
+use Rattle.bb8_core.specs.StepAnswers.{begin_told}
 use Rattle.bb8.specs.Sections.{answered}
 use Rattle.bb8.proofs.Links.{on_some}
 use Rattle.bb8.proofs.get.link.LockedGetHome.begin.Goals as goal

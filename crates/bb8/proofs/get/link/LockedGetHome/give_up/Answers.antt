@@ -1,6 +1,6 @@
 use Rattle.std.proofs.Common.{refl, None, false}
 use Rattle.bb8_ledger.specs.Acts as acts
-use Rattle.bb8_core.specs.Outcomes.{give_up_told, reason_of}
+use Rattle.bb8_core.specs.StepAnswers.{give_up_told, reason_of}
 use Rattle.bb8.specs.Sections.{answered}
 use Rattle.bb8.proofs.Links.{on_some}
 use Rattle.bb8.proofs.get.link.LockedGetHome.give_up.Goals as goal

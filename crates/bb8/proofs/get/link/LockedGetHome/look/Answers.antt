@@ -1,6 +1,6 @@
 use Rattle.std.proofs.Common.{refl}
 use Rattle.bb8_ledger.specs.Acts as acts
-use Rattle.bb8_core.specs.Outcomes.{look_told}
+use Rattle.bb8_core.specs.StepAnswers.{look_told}
 use Rattle.bb8.proofs.Links.{on_some}
 use Rattle.bb8.proofs.get.link.LockedGetHome.look.Goals as goal
 

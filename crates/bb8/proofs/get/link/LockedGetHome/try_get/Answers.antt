@@ -1,6 +1,6 @@
 use Rattle.std.proofs.Common.{refl}
 use Rattle.bb8_ledger.specs.Acts as acts
-use Rattle.bb8_core.specs.Outcomes.{try_told}
+use Rattle.bb8_core.specs.StepAnswers.{try_told}
 use Rattle.bb8.specs.Sections.{answered, in_core}
 use Rattle.bb8.proofs.Links.{on_some}
 use Rattle.bb8.proofs.get.link.LockedGetHome.try_get.Goals as goal

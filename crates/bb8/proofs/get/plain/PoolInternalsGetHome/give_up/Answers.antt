@@ -1,6 +1,6 @@
 use Rattle.std.proofs.Common.{◌≡◌, false, None, refl, sym, ◌∙◌}
 use Rattle.bb8_ledger.specs.Acts as acts
-use Rattle.bb8_core.specs.Outcomes.{reason_of}
+use Rattle.bb8_core.specs.StepAnswers.{reason_of}
 use Rattle.bb8_ledger.specs.Table.{takes}
 use Rattle.bb8.proofs.get.plain.PoolInternalsGetHome.give_up.Goals as goal
 
