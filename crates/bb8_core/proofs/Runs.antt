@@ -1,5 +1,5 @@
 -- Runs: what a state says of its ledger's numbers, an event that does not fit, and lists of events.
-use Rattle.std.proofs.Common.{◌≡◌, ℕ, zero, suc, Bool, true, false, ◌&&◌, not, List, [], ◌∷◌, ◌++◌, take, length, Option, Some, None, is_some, option_map, IsSome, IfSome, IfNone, refl, sym, ap, ◌∙◌, subst}
+use Rattle.std.proofs.Common.{◌≡◌, ℕ, zero, suc, Bool, false, ◌&&◌, not, List, [], ◌∷◌, ◌++◌, take, length, Option, Some, None, option_map, IsSome, IfSome, IfNone, refl, sym, ap, ◌∙◌, subst}
 use Rattle.std.specs.FinMap.{get}
 use Rattle.bb8_tables.specs.declared.keys.Key.{Key}
 use Rattle.bb8_tables.specs.declared.keys.GetKey.{GetKey}
@@ -10,7 +10,7 @@ use Rattle.bb8_ledger.specs.Acts.{Act, Try, GiveUp, Reason}
 use Rattle.bb8_ledger.specs.Answers.{Unfit}
 use Rattle.bb8_ledger.specs.Ledger.{Ledger, Later, start, get_of}
 use Rattle.bb8_types.specs.Places.{gets_stand, holds, is_trying}
-use Rattle.bb8_ledger.specs.Table.{takes, agree, Allowed, IsLegal}
+use Rattle.bb8_ledger.specs.Table.{takes, Allowed, IsLegal}
 use Rattle.bb8_core.specs.Shown.{Shown, shown, Means, IsRecordIn, IsNoRecordIn, IsGetIn, IsNoGetIn}
 use Rattle.bb8_core.specs.Run.{act_of, answer_of, IsRun, AfterEach}
 use Rattle.bb8_core.proofs.Fitting.{shown_record, shown_get}
@@ -41,14 +41,6 @@ module _ {C : Type 0} where
   takes_try l s g means =
       ap (λ (o : Option Getting). not (start l).config.test_on_check_out && gets_stand is_trying o) (shown_get l s means g)
       ∙ ap (λ (t : Shown C). not t.config.test_on_check_out && gets_stand is_trying (get s.gets.places g)) means
-
-  pub takes_give_up : (conn : ℕ → C) (l : Ledger C) (s : Shown C) (g : ℕ) (why : Reason) (broken : Bool) → Means l s → takes l (GiveUp g why (option_map conn (holds (get_of l g))) broken) ≡ is_some (get s.gets.places g)
-  takes_give_up conn l s g why broken means = both (is_some (get_of l g)) (holds (get_of l g)) ∙ ap (λ (o : Option Getting). is_some o) (shown_get l s means g)
-    where
-      both : (b : Bool) (o : Option ℕ) → (b && agree (is_some (option_map conn o)) (is_some o)) ≡ b
-      both true None = refl
-      both true (Some k) = refl
-      both false o = refl
 
   -- nobody holds a connection, so none is handed in
   pub none_in_hand : (conn : ℕ → C) (l : Ledger C) (g : ℕ) (why : Reason) (broken : Bool) → IsLegal l → GiveUp g why (option_map conn (holds (get_of l g))) broken ≡ GiveUp g why None broken

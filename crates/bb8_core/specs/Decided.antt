@@ -1,5 +1,5 @@
 -- What a step decides by what is shown: what is due of approvals, and which connection is closed.
-use Rattle.std.specs.Prelude.{ℕ, ◌+◌, ◌-◌, max, Bool, ◌||◌, eqb, length}
+use Rattle.std.specs.Prelude.{ℕ, ◌+◌, max, Bool, ◌||◌, eqb, length}
 use Rattle.std.specs.FinMap.{get}
 use Rattle.bb8_types.specs.Places.{birth_in, is_expired}
 use Rattle.bb8_types.specs.Settings.{Settings}

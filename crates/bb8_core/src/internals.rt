@@ -12,7 +12,7 @@ ghost use Rattle.bb8_types.specs.Grants as grants;
 ghost use Rattle.bb8_types.specs.Numbered as numbered;
 ghost use Rattle.bb8_types.specs.Settings.{settings_of, is_lawful};
 ghost use Rattle.bb8_types.specs.Figures.{figures_of};
-ghost use Rattle.bb8_core.specs.Run.{opening, act_with};
+ghost use Rattle.bb8_core.specs.Run.{opening};
 ghost use Rattle.bb8_core.specs.Shown.{Means, Meets, IsFitting, IsRecordIn, IsNoRecordIn, IsGetIn, IsNoGetIn, IsWithinLimits};
 ghost use Rattle.bb8_core.specs.StepAnswers.{begin_told, try_told, reason_of, give_up_told, put_back_told, claim_told, opened_told, add_told, look_told, HandsOut, ServesAtOnce, GivesBack, HandsBack, Refuses};
 ghost use Rattle.bb8_tables.specs.Keys.{notified_of};
@@ -21,7 +21,6 @@ pub use crate::answers::{
     AddAnswer, AtOnce, BeginAnswer, ClaimAnswer, GiveUpAnswer, Looked, OpenedAnswer, PutBackAnswer,
     TryAnswer,
 };
-use crate::replay::{Act, Event};
 use bb8_tables::counters::Counters;
 use bb8_tables::gets::{Gets, first_wait, is_notified, is_unnotified};
 pub use bb8_tables::keys::{GetKey, Key};
@@ -382,28 +381,6 @@ impl<C: Drop> PoolInternals<C> {
         Looked {
             moment: Moment(self.latest),
             alive: self.handles > 0,
-        }
-    }
-
-    /// Whether the event fits. A connection that it hands in does not matter.
-    pub fn fits(&self, event: Event) -> bool
-        ensures { (conn : ℕ → C) (l : ledger.Ledger C) → table.IsLegal l → Means l self.now → result ≡ table.takes l (act_with conn l event.act) }
-    {
-        self.fits_at(event.act, 0)
-    }
-
-    /// Whether what happens fits, where the number that it names may stand at the hint.
-    pub(crate) fn fits_at(&self, act: Act, place: usize) -> bool
-        ensures { (conn : ℕ → C) (l : ledger.Ledger C) → table.IsLegal l → Means l self.now → result ≡ table.takes l (act_with conn l act) }
-    {
-        match act {
-            Act::Begin => self.fits_begin(),
-            Act::Add(_) => self.fits_add(),
-            Act::Try(number) => self.fits_try(GetKey { number, place }),
-            Act::GiveUp(number, _, _) => self.gets.is_alive(GetKey { number, place }),
-            Act::PutBack(number, _) => self.records.is_guarded(Key { number, place }),
-            Act::Opened(number) => self.records.is_claimed(Key { number, place }),
-            Act::Fill(_) | Act::Claim | Act::State | Act::Look => true,
         }
     }
 

@@ -2,9 +2,10 @@
 ghost use Rattle.std.specs.Prelude.{◌≡◌, ℕ, length, true, IfOk};
 ghost use Rattle.bb8_ledger.specs.Acts as acts;
 ghost use Rattle.bb8_ledger.specs.Ledger.{Ledger};
+ghost use Rattle.bb8_ledger.specs.Table.{takes, IsLegal};
 ghost use Rattle.bb8_ledger.specs.Limits.{KeepsLimits, KeepsLaws, KeepsPromises};
 ghost use Rattle.bb8_tables.specs.Keys.{notified_of};
-ghost use Rattle.bb8_core.specs.Run.{answer_of, opening, IsRun, IsTaken, Happens, Applies, AfterEach};
+ghost use Rattle.bb8_core.specs.Run.{act_with, answer_of, opening, IsRun, IsTaken, Happens, Applies, AfterEach};
 ghost use Rattle.bb8_core.specs.declared.replay.events.Act.TheVariants as events;
 ghost use Rattle.bb8_types.specs.Settings.{settings_of, is_lawful};
 ghost use Rattle.bb8_core.specs.Shown.{Means, Meets, IsFitting};
@@ -48,6 +49,28 @@ impl Known {
             Act::PutBack(number, _) | Act::Opened(number) => self.records.place(number),
             Act::Begin | Act::Fill(_) | Act::Claim | Act::Add(_) | Act::State | Act::Look => 0,
         }
+    }
+}
+
+/// Whether the event fits the state. A connection that it hands in does not matter. Our own.
+pub fn fits<C: Drop>(pool: &PoolInternals<C>, event: Event) -> bool
+    ensures { (conn : ℕ → C) (l : Ledger C) → IsLegal l → Means l pool.now → result ≡ takes l (act_with conn l event.act) }
+{
+    fits_at(pool, event.act, 0)
+}
+
+/// As `fits`, where the number that the event names may stand at the hint.
+fn fits_at<C: Drop>(pool: &PoolInternals<C>, act: Act, place: usize) -> bool
+    ensures { (conn : ℕ → C) (l : Ledger C) → IsLegal l → Means l pool.now → result ≡ takes l (act_with conn l act) }
+{
+    match act {
+        Act::Begin => pool.fits_begin(),
+        Act::Add(_) => pool.fits_add(),
+        Act::Try(number) => pool.fits_try(GetKey { number, place }),
+        Act::GiveUp(number, _, _) => pool.fits_give_up(GetKey { number, place }),
+        Act::PutBack(number, _) => pool.fits_put_back(Key { number, place }),
+        Act::Opened(number) => pool.fits_opened(Key { number, place }),
+        Act::Fill(_) | Act::Claim | Act::State | Act::Look => true,
     }
 }
 
@@ -157,7 +180,7 @@ fn apply(pool: &mut PoolInternals<u64>, known: &mut Known, event: Event) -> Answ
     ensures { Applies pool.old event result pool.new }
 {
     let place = known.place(event.act);
-    if !pool.fits_at(event.act, place) {
+    if !fits_at(pool, event.act, place) {
         return Answer::Unfit;
     }
     match event.act {

@@ -8,7 +8,7 @@ ghost use Rattle.bb8_ledger.specs.Table.{IsLegal, takes};
 use crate::get::GetState;
 use crate::{Config, Moment, RunError, Statistics};
 use bb8_core::internals::{AddAnswer, Key, PoolInternals};
-use bb8_core::replay::{Act, Event};
+use bb8_core::replay::{Act, Event, fits};
 use futures::task::Poll;
 use std::alloc::Global;
 use std::process::Abort;
@@ -48,7 +48,7 @@ fn poll(pool: &mut PoolInternals<u64>, get: &mut GetState<u64, ()>, at: u64) -> 
 fn assert_fits(rt: &impl Abort, pool: &PoolInternals<u64>, act: Act)
     ensures { (conn : ℕ → ℕ) (l : Ledger ℕ) → IsLegal l → Means l pool.now → takes l (act_with conn l act) ≡ true }
 {
-    if !pool.fits(Event { at: Moment(0), act }) {
+    if !fits(pool, Event { at: Moment(0), act }) {
         panic!(rt; "{act:?} does not fit");
     }
 }

@@ -7,7 +7,7 @@ use bb8_core::internals::{
     AddAnswer, BeginAnswer, ClaimAnswer, GetKey, GiveUpAnswer, Grant, OpenedAnswer, PoolInternals,
     PutBackAnswer, Reason, TryAnswer,
 };
-use bb8_core::replay::{Act, Answer, Event, replay};
+use bb8_core::replay::{Act, Answer, Event, fits, replay};
 use std::process::Abort;
 
 /// How many connections the pool may have, and how many idle ones it tries for.
@@ -310,7 +310,7 @@ fn added(rt: &impl Abort, pool: &mut PoolInternals<Link>, number: u64, broken: b
 
 /// What the bare state answers. The connection that is served has to be the one that came in.
 fn answer(rt: &impl Abort, pool: &mut PoolInternals<Link>, next: u64, act: Act) -> Answer {
-    if !pool.fits(Event { at: NOW, act }) {
+    if !fits(pool, Event { at: NOW, act }) {
         return Answer::Unfit;
     }
     match act {

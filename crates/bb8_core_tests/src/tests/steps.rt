@@ -11,7 +11,7 @@ use bb8_core::internals::{
     AddAnswer, BeginAnswer, ClaimAnswer, GetKey, GiveUpAnswer, Grant, Key, OpenedAnswer,
     PoolInternals, PutBackAnswer, Reason, TryAnswer,
 };
-use bb8_core::replay::{Act, Event};
+use bb8_core::replay::{Act, Event, fits};
 use std::alloc::Global;
 use std::process::Abort;
 use std::test::Fail;
@@ -32,7 +32,7 @@ pub(super) enum Link {
 fn assert_fits(rt: &impl Abort, pool: &PoolInternals<Link>, act: Act)
     ensures { (conn : ℕ → Link) (l : Ledger Link) → IsLegal l → Means l pool.now → takes l (act_with conn l act) ≡ true }
 {
-    if !pool.fits(Event { at: NOW, act }) {
+    if !fits(pool, Event { at: NOW, act }) {
         panic!(rt; "{act:?} does not fit");
     }
 }
@@ -229,18 +229,27 @@ fn succeeds_each_step_once(rt: HostRuntime) {
 /// Whether these three fit: a try of the get 0, the opening and the return of the number 0.
 fn fitting(pool: &PoolInternals<Link>) -> (bool, bool, bool) {
     (
-        pool.fits(Event {
-            at: NOW,
-            act: Act::Try(0),
-        }),
-        pool.fits(Event {
-            at: NOW,
-            act: Act::Opened(0),
-        }),
-        pool.fits(Event {
-            at: NOW,
-            act: Act::PutBack(0, true),
-        }),
+        fits(
+            pool,
+            Event {
+                at: NOW,
+                act: Act::Try(0),
+            },
+        ),
+        fits(
+            pool,
+            Event {
+                at: NOW,
+                act: Act::Opened(0),
+            },
+        ),
+        fits(
+            pool,
+            Event {
+                at: NOW,
+                act: Act::PutBack(0, true),
+            },
+        ),
     )
 }
 
@@ -250,7 +259,7 @@ fn what_fits_changes_step_by_step(rt: HostRuntime) {
     assert!(rt; config.is_lawful());
     let mut pool = PoolInternals::new(rt.alloc(), config);
     for act in [Act::Begin, Act::Fill(true), Act::Claim, Act::State] {
-        assert!(rt; pool.fits(Event { at: NOW, act }), "{act:?}");
+        assert!(rt; fits(&pool, Event { at: NOW, act }), "{act:?}");
     }
     assert_eq!(rt; fitting(&pool), (false, false, false));
     assert_eq!(rt; pool.fill(NOW, false), granted(0, 1));
