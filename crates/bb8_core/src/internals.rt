@@ -7,13 +7,12 @@ ghost use Rattle.bb8_ledger.specs.Ledger as ledger;
 ghost use Rattle.bb8_types.specs.Places as places;
 ghost use Rattle.bb8_tables.specs.Machine as machine;
 ghost use Rattle.bb8_core.specs.Decided as decided;
-ghost use Rattle.bb8_ledger.specs.Table as table;
 ghost use Rattle.bb8_types.specs.Grants as grants;
 ghost use Rattle.bb8_types.specs.Numbered as numbered;
 ghost use Rattle.bb8_types.specs.Settings.{settings_of, is_lawful};
 ghost use Rattle.bb8_types.specs.Figures.{figures_of};
 ghost use Rattle.bb8_core.specs.Run.{opening};
-ghost use Rattle.bb8_core.specs.Shown.{Means, Meets, IsFitting, IsRecordIn, IsNoRecordIn, IsGetIn, IsNoGetIn, IsWithinLimits};
+ghost use Rattle.bb8_core.specs.Shown.{Means, Meets, IsFitting, TellsFitting, IsRecordIn, IsNoRecordIn, IsGetIn, IsNoGetIn, IsWithinLimits};
 ghost use Rattle.bb8_core.specs.StepAnswers.{begin_told, try_told, reason_of, give_up_told, put_back_told, claim_told, opened_told, add_told, look_told, HandsOut, ServesAtOnce, GivesBack, HandsBack, Refuses};
 ghost use Rattle.bb8_tables.specs.Keys.{notified_of};
 
@@ -386,7 +385,7 @@ impl<C: Drop> PoolInternals<C> {
 
     /// Whether a get may begin: while a handle is alive.
     pub fn fits_begin(&self) -> bool
-        ensures { (l : ledger.Ledger C) → table.IsLegal l → Means l self.now → result ≡ table.takes l acts.Begin }
+        ensures { TellsFitting self.now acts.Begin result }
     {
         self.handles != 0
     }
@@ -404,35 +403,37 @@ impl<C: Drop> PoolInternals<C> {
 
     /// Whether a connection may be added, whichever it is: while a handle is alive.
     pub fn fits_add(&self) -> bool
-        ensures { (conn : C) (broken : Bool) (l : ledger.Ledger C) → table.IsLegal l → Means l self.now → result ≡ table.takes l (acts.Add conn broken) }
+        ensures { (conn : C) (broken : Bool) → TellsFitting self.now (acts.Add conn broken) result }
     {
         self.handles >= 1
     }
 
     /// Whether the get may try.
     pub fn fits_try(&self, get: GetKey) -> bool
-        ensures { (l : ledger.Ledger C) → table.IsLegal l → Means l self.now → result ≡ table.takes l (acts.Try get.number) }
+        ensures { TellsFitting self.now (acts.Try get.number) result }
     {
         !self.config.test_on_check_out && self.gets.is_trying(get)
     }
 
     /// Whether the get may be given up with no connection in hand, for whatever reason.
     pub fn fits_give_up(&self, get: GetKey) -> bool
-        ensures { (why : acts.Reason) (broken : Bool) (l : ledger.Ledger C) → table.IsLegal l → Means l self.now → result ≡ table.takes l (acts.GiveUp get.number why None broken) }
+        ensures { (why : acts.Reason) (broken : Bool)
+            → TellsFitting self.now (acts.GiveUp get.number why None broken) result }
     {
         self.gets.is_alive(get)
     }
 
     /// Whether a guard may give back a connection of this key, whichever connection is handed in.
     pub fn fits_put_back(&self, k: Key) -> bool
-        ensures { (conn : C) (broken : Bool) (l : ledger.Ledger C) → table.IsLegal l → Means l self.now → result ≡ table.takes l (acts.PutBack k.number conn broken) }
+        ensures { (conn : C) (broken : Bool)
+            → TellsFitting self.now (acts.PutBack k.number conn broken) result }
     {
         self.records.is_guarded(k)
     }
 
     /// Whether the approval of this key is claimed and may bring its connection, whichever connection is handed in.
     pub fn fits_opened(&self, a: Key) -> bool
-        ensures { (conn : C) (l : ledger.Ledger C) → table.IsLegal l → Means l self.now → result ≡ table.takes l (acts.Opened a.number conn) }
+        ensures { (conn : C) → TellsFitting self.now (acts.Opened a.number conn) result }
     {
         self.records.is_claimed(a)
     }
