@@ -5,6 +5,7 @@ use bb8_core::internals::Grant;
 use bb8_core::replay::{Act, Answer};
 use std::time::Duration;
 
+mod at_once;
 mod refusals;
 mod replays;
 mod steps;

@@ -1,0 +1,56 @@
+//! A get that begins and is served in one step.
+
+use super::steps::{Link, NOW, add, begin, put_back, served_by};
+use super::unchecked;
+use bb8_core::api::Config;
+use bb8_core::internals::{AddAnswer, AtOnce, BeginAnswer, PoolInternals, PutBackAnswer};
+use std::process::Abort;
+
+/// Serves a get at once, where that may be asked for.
+fn serve_at_once(rt: &impl Abort, pool: &mut PoolInternals<Link>) -> Option<AtOnce<Link>> {
+    if !pool.fits_at_once() {
+        panic!(rt; "no get may be served at once");
+    }
+    pool.serve_at_once(NOW)
+}
+
+#[test]
+fn succeeds_serving_at_once(rt: HostRuntime) {
+    let config = unchecked(1, None);
+    assert!(rt; config.is_lawful());
+    let mut pool = PoolInternals::new(rt.alloc(), config);
+    let AddAnswer::Added(_, None) = add(&rt, &mut pool, Link::Red, false) else {
+        panic!(rt; "nothing was added");
+    };
+    // The first get raises the peak, for which memory is asked, so it goes by the two steps.
+    assert!(rt; serve_at_once(&rt, &mut pool).is_none());
+    let BeginAnswer::Begun(get) = begin(&rt, &mut pool) else {
+        panic!(rt; "no get began");
+    };
+    let (key, conn, _) = served_by(&rt, &mut pool, get);
+    let PutBackAnswer::Kept(None) = put_back(&rt, &mut pool, key, conn, false) else {
+        panic!(rt; "the connection was not kept");
+    };
+    let Some(served) = serve_at_once(&rt, &mut pool) else {
+        panic!(rt; "the second get was not served at once");
+    };
+    assert_eq!(rt; served.get, 1);
+    assert_eq!(rt; served.key.number, 0);
+    assert_eq!(rt; served.conn, Link::Red);
+    // Nothing is idle now, and so nothing happens.
+    assert!(rt; serve_at_once(&rt, &mut pool).is_none());
+    let state = pool.state(NOW);
+    assert_eq!(rt; state.connections, 1);
+    assert_eq!(rt; state.idle_connections, 0);
+    assert_eq!(rt; state.statistics.get_started, 2);
+    assert_eq!(rt; state.statistics.get_direct, 2);
+}
+
+#[test]
+fn checked_gets_are_not_served_at_once(rt: HostRuntime) {
+    let config = Config::default();
+    assert!(rt; config.is_lawful());
+    let pool: PoolInternals<Link> = PoolInternals::new(rt.alloc(), config);
+    assert!(rt; config.test_on_check_out);
+    assert!(rt; !pool.fits_at_once());
+}
