@@ -61,4 +61,4 @@ module _ {C : Type 0} where
 
   -- the state after both steps has a ledger
   pub led_at_once : {s new : Shown C} (at : ℕ) {now k : ℕ} {grant : Grant} → HasLedger s → IsStep s at Begin (Begun s.gets.next) (between s now) → IsStep (between s now) at (Try s.gets.next) (Served k grant) new → HasLedger new
-  led_at_once {s} at {now} {k} {grant} h first second = led at (Try s.gets.next) (Served k grant) (led at Begin (Begun s.gets.next) h first) second
+  led_at_once {s} at {now} {k} {grant} h first second = led _ at (Try s.gets.next) (Served k grant) refl (led _ at Begin (Begun s.gets.next) refl h first.meets) second.meets

@@ -32,7 +32,7 @@ use Rattle.bb8_core.proofs.ShownGets.{shown-kept, shown-begun, shown-ended, show
 use Rattle.bb8_ledger.proofs.Facts.{entered_before, waited_before, put_before, ended_before, peak_holds, get_peak_holds, idle_counted, idle_tally}
 use Rattle.bb8_core.proofs.Fitting.{shown_record, shown_get, giving_is}
 use Rattle.bb8_ledger.proofs.Stage.{unchecked}
-use Rattle.bb8_ledger.proofs.Laws.{trying_is, waits_on_gets}
+use Rattle.bb8_ledger.proofs.Laws.{trying_is, claimed_counted, waits_on_gets}
 use Rattle.bb8_types.specs.Bounds.{end_of_numbers, most_micros}
 
 fitting : (b : Bool) (P Q : Type 0) → b ≡ true → P → MatchBool b P Q
@@ -43,12 +43,16 @@ pub unfitting : (b : Bool) (P Q : Type 0) → b ≡ false → Q → MatchBool b 
 unfitting true P Q e q = cc
 unfitting false P Q e q = q
 
--- what the test of a number says
-pub left : (n : ℕ) → ltb n end_of_numbers ≡ true → n < end_of_numbers
-left n e = grind (arith, nat_tests, leb_tells (suc n) end_of_numbers)
+-- what the test of a number says, by its outcome
+pub left : {b : Bool} (n : ℕ) → b ≡ ltb n end_of_numbers → b ≡ true → n < end_of_numbers
+left {b} n is e = grind (arith, nat_tests, leb_tells (suc n) end_of_numbers)
 
-pub used_up : (n : ℕ) → ltb n end_of_numbers ≡ false → end_of_numbers ≤ n
-used_up n e = grind (arith, nat_tests, leb_tells (suc n) end_of_numbers)
+pub used_up : {b : Bool} (n : ℕ) → b ≡ ltb n end_of_numbers → b ≡ false → end_of_numbers ≤ n
+used_up {b} n is e = grind (arith, nat_tests, leb_tells (suc n) end_of_numbers)
+
+-- a handle is alive where they are not none
+open_now : (n : ℕ) → n ≢ 0 → 0 < n
+open_now n h = omega arith
 
 -- whoever is named stands there
 named_stands : (first p : ℕ) (gs : List (Numbered Getting)) (b : Bool) (n : Option ℕ) → n ≡ cond b (slice_get (in_order unnotified_at first gs p) 0) None → IfSome n (λ k. (s : Getting) × (standing_at first gs k ≡ Some s))
@@ -64,11 +68,10 @@ module _ {C : Type 0} where
   pub record IsStep (s : Shown C) (at : ℕ) (e : Act C) (a : Answer) (new : Shown C) : Type 0 where
     pub meets : Meets s at e a new
 
-  -- a step leads from a state that has a ledger to one that has one
-  pub led : {s new : Shown C} (at : ℕ) (e : Act C) (a : Answer) → HasLedger s → IsStep s at e a new → HasLedger new
-  led at e a h m = let step = m.meets h.0 h.1 h.2 in (Later h.0 at e a, (h.1, step.0), step.1)
+  -- A step leads from a state that has a ledger to one that has one. The old state is the view of the fields.
+  pub led : {s t : Shown C} (new : Shown C) (at : ℕ) (e : Act C) (a : Answer) → s ≡ t → HasLedger s → Meets t at e a new → HasLedger new
+  led new at e a is h meets = let step = meets h.0 h.1 (h.2 ∙ is) in (Later h.0 at e a, (h.1, step.0), step.1)
 
-  -- the old state is the view of the fields
   pub at_view : {s t new : Shown C} (at : ℕ) (e : Act C) (a : Answer) → s ≡ t → IsStep s at e a new → Meets t at e a new
   at_view at e a is m l legal means = m.meets l legal (means ∙ sym is)
 
@@ -139,27 +142,29 @@ module _ {C : Type 0} where
 
   -- ---- claim
 
-  pub meets_claim : {s : Shown C} {at k now : ℕ} {rs : ShownRecords C} → now ≡ max s.latest at → 0 < s.handles → slice_get s.records.unclaimed 0 ≡ Some k → rs ≡ machine.after_claim k s.records → IsStep s at Claim (answers.Claimed (Some k)) (record s { latest = now; records = rs })
-  meets_claim {s} {at} {k} {now} {rs} now_is open_now first rs_is = meets_by (λ t. (0 < t.handles) × (slice_get t.records.unclaimed 0 ≡ Some k)) (λ t. record t { latest = max t.latest at; records = machine.after_claim k t.records }) s _ at Claim (answers.Claimed (Some k)) (λ l legal means. refl) (open_now, first) (same_shown _ _ refl now_is refl rs_is refl refl) (λ l legal f known.
+  pub meets_claim : {s : Shown C} {at k now : ℕ} {rs : ShownRecords C} → now ≡ max s.latest at → s.handles ≢ 0 → slice_get s.records.unclaimed 0 ≡ Some k → rs ≡ machine.after_claim k s.records → IsStep s at Claim (answers.Claimed (Some k)) (record s { latest = now; records = rs })
+  meets_claim {s} {at} {k} {now} {rs} now_is alive_now first rs_is = meets_by (λ t. (0 < t.handles) × (slice_get t.records.unclaimed 0 ≡ Some k)) (λ t. record t { latest = max t.latest at; records = machine.after_claim k t.records }) s _ at Claim (answers.Claimed (Some k)) (λ l legal means. refl) (open_now _ alive_now, first) (same_shown _ _ refl now_is refl rs_is refl refl) (λ l legal f known.
       let is : shown_records (start l).first (suc (position l)) (peak l) (update (start l).first k (at_place Claimed) (records l)) ≡ machine.after_claim k (shown l).records = shown-claimed (start l).first (suc (position l)) (peak l) (records l) k known.1 ∙ ap (machine.after_claim k) (later_shown l) in
       (claims known.0 known.1, same_shown _ _ refl refl refl (still_raised l _ _ is (peak_holds l)) (gets_kept l) refl))
 
-  pub meets_claim_none : {s : Shown C} {at now : ℕ} {rs : ShownRecords C} → now ≡ max s.latest at → 0 < s.handles → slice_get s.records.unclaimed 0 ≡ None → rs ≡ s.records → IsStep s at Claim (answers.Claimed None) (record s { latest = now; records = rs })
-  meets_claim_none {s} {at} {now} {rs} now_is open_now none rs_is = meets_quiet (λ t. (0 < t.handles) × (slice_get t.records.unclaimed 0 ≡ None)) s _ at Claim (answers.Claimed None) (λ l legal means. refl) (open_now, none) (same_shown _ _ refl now_is refl rs_is refl refl) (λ l. (refl, refl, refl)) (λ l legal f known. (claims known.0 known.1, refl, refl))
+  pub meets_claim_none : {s : Shown C} {at now : ℕ} {rs : ShownRecords C} → now ≡ max s.latest at → s.handles ≢ 0 → slice_get s.records.unclaimed 0 ≡ None → rs ≡ s.records → IsStep s at Claim (answers.Claimed None) (record s { latest = now; records = rs })
+  meets_claim_none {s} {at} {now} {rs} now_is alive_now none rs_is = meets_quiet (λ t. (0 < t.handles) × (slice_get t.records.unclaimed 0 ≡ None)) s _ at Claim (answers.Claimed None) (λ l legal means. refl) (open_now _ alive_now, none) (same_shown _ _ refl now_is refl rs_is refl refl) (λ l. (refl, refl, refl)) (λ l legal f known. (claims known.0 known.1, refl, refl))
 
   pub meets_claim_ended : {s : Shown C} {at now : ℕ} → now ≡ max s.latest at → s.handles ≡ 0 → IsStep s at Claim Ended (record s { latest = now })
   meets_claim_ended {s} {at} {now} now_is ended_now = meets_quiet (λ t. t.handles ≡ 0) s _ at Claim Ended (λ l legal means. refl) ended_now (same_shown _ _ refl now_is refl refl refl refl) (λ l. (refl, refl, refl)) (λ l legal f none. (claim_ended none, refl, refl))
 
   -- ---- opened
 
-  pub meets_opened : {s : Shown C} (at : ℕ) {k : ℕ} (c : C) {now : ℕ} {rs : ShownRecords C} {n : Option ℕ} {gs : ShownGets} {new : Counts} → IsFitting s (Opened k c) → now ≡ max s.latest at → 0 < s.handles → 1 ≤ s.records.approved → rs ≡ machine.after_entry true k (record { place = Idle c; birth = now; entered = now }) s.records → Notices s n gs → new ≡ record s.counts { created = s.counts.created + 1 } → IsStep s at (Opened k c) (Entered k n) (record s { latest = now; records = rs; gets = gs; counts = new })
-  meets_opened {s} at {k} c {now} {rs} {n} {gs} {new} fit now_is open_now some rs_is told new_is = meets_by (λ t. (0 < t.handles) × (1 ≤ t.records.approved) × (n ≡ slice_get t.gets.waiting 0)) (λ t. record t { latest = max t.latest at; records = machine.after_entry true k (record { place = Idle c; birth = max t.latest at; entered = max t.latest at }) t.records; gets = machine.after_notice n t.gets; counts = record t.counts { created = t.counts.created + 1 } }) s _ at (Opened k c) (Entered k n) fit (open_now, some, told.who)
+  pub meets_opened : {s : Shown C} (at : ℕ) {k : ℕ} (c : C) {now : ℕ} {rs : ShownRecords C} {n : Option ℕ} {gs : ShownGets} {new : Counts} → IsFitting s (Opened k c) → now ≡ max s.latest at → s.handles ≢ 0 → rs ≡ machine.after_entry true k (record { place = Idle c; birth = now; entered = now }) s.records → Notices s n gs → new ≡ record s.counts { created = s.counts.created + 1 } → IsStep s at (Opened k c) (Entered k n) (record s { latest = now; records = rs; gets = gs; counts = new })
+  meets_opened {s} at {k} c {now} {rs} {n} {gs} {new} fit now_is alive_now rs_is told new_is = meets_by (λ t. (0 < t.handles) × (n ≡ slice_get t.gets.waiting 0)) (λ t. record t { latest = max t.latest at; records = machine.after_entry true k (record { place = Idle c; birth = max t.latest at; entered = max t.latest at }) t.records; gets = machine.after_notice n t.gets; counts = record t.counts { created = t.counts.created + 1 } }) s _ at (Opened k c) (Entered k n) fit (open_now _ alive_now, told.who)
       (same_shown _ _ refl now_is refl (rs_is ∙ ap (λ (m : ℕ). machine.after_entry true k (record { place = Idle c; birth = m; entered = m }) s.records) now_is) told.after new_is)
       (λ l legal f known.
       let st = standing_is is_claimed (record_of l k) f in
+      let place = claimed_is st.0.place st.2 in
+      let some : 1 ≤ approved_of (records l) = claimed_counted l k st.0 st.1 place in
       let few : conns_of (records l) + approved_of (records l) ≤ peak l = peak_holds l in
-      let is = shown-entered (start l).first (position l) (peak l) (records l) true k st.0 c (max (latest l) at) (max (latest l) at) (λ r. entry c (max (latest l) at) (max (latest l) at) (position l)) (entered_before l) st.1 (claimed_is st.0.place st.2) (λ r e. refl) in
-      (opens known.0 known.2, same_shown _ _ refl refl refl (ap machine.with_peak is ∙ raised_same _ (omega (arith, known.1))) (gets_told l n known.2) refl))
+      let is = shown-entered (start l).first (position l) (peak l) (records l) true k st.0 c (max (latest l) at) (max (latest l) at) (λ r. entry c (max (latest l) at) (max (latest l) at) (position l)) (entered_before l) st.1 place (λ r e. refl) in
+      (opens known.0 known.1, same_shown _ _ refl refl refl (ap machine.with_peak is ∙ raised_same _ (omega arith)) (gets_told l n known.1) refl))
 
   pub meets_late : {s : Shown C} (at : ℕ) {k : ℕ} (c : C) {now : ℕ} {rs : ShownRecords C} → IsFitting s (Opened k c) → now ≡ max s.latest at → s.handles ≡ 0 → rs ≡ machine.after_close true k s.records → IsStep s at (Opened k c) (Late k) (record s { latest = now; records = rs })
   meets_late {s} at {k} c {now} {rs} fit now_is ended_now rs_is = meets_by (λ t. t.handles ≡ 0) (λ t. record t { latest = max t.latest at; records = machine.after_close true k t.records }) s _ at (Opened k c) (Late k) fit ended_now (same_shown _ _ refl now_is refl rs_is refl refl) (λ l legal f none.
@@ -206,6 +211,9 @@ module _ {C : Type 0} where
     pub now_is : now ≡ max s.latest at
     pub birth_is : birth ≡ birth_in (get s.records.places k)
     pub aged_is : aged ≡ is_expired s.config.max_lifetime now birth
+
+  pub returned : {s t : Shown C} {at k : ℕ} {c : C} {broken : Bool} {now birth : ℕ} {aged : Bool} → s ≡ t → IsFitting t (PutBack k c broken) → now ≡ max s.latest at → birth ≡ birth_in (get s.records.places k) → aged ≡ is_expired s.config.max_lifetime now birth → Returned s at k c broken now birth aged
+  returned {k = k} {c = c} {broken = broken} is fit now_is birth_is aged_is = record { fit = fits_view (PutBack k c broken) is fit; now_is = now_is; birth_is = birth_is; aged_is = aged_is }
 
   old_is : (s : Shown C) (at k : ℕ) (c : C) (broken : Bool) (now birth : ℕ) (aged : Bool) → Returned s at k c broken now birth aged → decided.is_old s at k ≡ aged
   old_is s at k c broken now birth aged r = sym (r.aged_is ∙ ap (λ (n : ℕ). is_expired s.config.max_lifetime n birth) r.now_is ∙ ap (is_expired s.config.max_lifetime (max s.latest at)) r.birth_is)
@@ -263,6 +271,9 @@ module _ {C : Type 0} where
     pub fit : IsFitting s (Try g)
     pub now_is : now ≡ max s.latest at
     pub get_is : o ≡ get s.gets.places g
+
+  pub tries : {s t : Shown C} {at g now : ℕ} {o : Option Getting} → s ≡ t → IsFitting t (Try g) → now ≡ max s.latest at → o ≡ get s.gets.places g → Tries s at g now o
+  tries {g = g} is fit now_is get_is = record { fit = fits_view (Try g) is fit; now_is = now_is; get_is = get_is }
 
   -- a test of the get, as it is shown
   line_test : (l : Ledger C) (g : ℕ) (b : Bool) → gets_stand is_unnotified (get (shown l).gets.places g) ≡ b → gets_stand is_unnotified (get_of l g) ≡ b
@@ -341,7 +352,7 @@ module _ {C : Type 0} where
   meets_gave_up s at g why broken now o left n gs new t left_is n_is gs_is counted = meets_by (λ x. (n ≡ machine.heir_of (get x.gets.places g) (machine.after_get_end g x.gets)) × ((l : Ledger C) → Means l x → counts (Later l at (GiveUp g why None broken) (GaveUp n)) ≡ new)) (λ x. record x { latest = max x.latest at; gets = machine.after_notice n (machine.after_get_end g x.gets); counts = new }) s _ at (GiveUp g why None broken) (GaveUp n) t.fit (n_is ∙ ap (λ (x : ShownGets). machine.heir_of o x) left_is ∙ ap (λ (x : Option Getting). machine.heir_of x (machine.after_get_end g s.gets)) t.get_is, counted)
       (same_shown _ _ refl t.now_is refl refl (gs_is ∙ ap (machine.after_notice n) left_is) refl)
       (λ l legal f known.
-      let st = giving_is l g why broken f in
+      let st = giving_is l g None f in
       let n_place : n ≡ cond (is_notified st.0.place) (slice_get (machine.without g (waiting l)) 0) None = known.0 ∙ ap (λ (x : Option Getting). machine.heir_of x (machine.after_get_end g (shown l).gets)) (sym (shown_get l (shown l) refl g) ∙ st.1) in
       let out : List (Numbered Getting) = update (start l).first_get g after_end (gets l) in
       let ends : shown_gets (start l).first_get (suc (position l)) (max (get_peak l) (alive_of out)) out ≡ machine.after_get_end g (shown l).gets = shown-ended (start l).first_get (position l) (get_peak l) (gets l) g st.0 (waited_before l) (get_peak_holds l) st.1 in
@@ -392,13 +403,22 @@ module _ {C : Type 0} where
   pub meets_add_full : {s : Shown C} (at : ℕ) (c : C) {now : ℕ} → IsFitting s (Add c false) → now ≡ max s.latest at → s.records.conns + s.records.approved ≡ s.config.max_size → IsStep s at (Add c false) NoCapacity (record s { latest = now })
   meets_add_full {s} at c {now} fit now_is full = meets_quiet (λ t. t.records.conns + t.records.approved ≡ t.config.max_size) s _ at (Add c false) NoCapacity fit full (same_shown _ _ refl now_is refl refl refl refl) (λ l. (refl, refl, refl)) (λ l legal f known. (add_full known, refl, refl))
 
-  pub meets_add_exhausted : {s : Shown C} (at : ℕ) (c : C) {now : ℕ} → IsFitting s (Add c false) → now ≡ max s.latest at → s.records.conns + s.records.approved ≢ s.config.max_size → end_of_numbers ≤ s.records.next → IsStep s at (Add c false) Withheld (record s { latest = now })
-  meets_add_exhausted {s} at c {now} fit now_is room many = meets_quiet (λ t. (t.records.conns + t.records.approved ≢ t.config.max_size) × (end_of_numbers ≤ t.records.next)) s _ at (Add c false) Withheld fit (room, many) (same_shown _ _ refl now_is refl refl refl refl) (λ l. (refl, refl, refl)) (λ l legal f known. (add_exhausted known.0 known.1, refl, refl))
+  -- what the code knows when one is added that is not broken, and there is room
+  pub record Adds (s : Shown C) (at : ℕ) (c : C) (now : ℕ) : Type 0 where
+    pub fit : IsFitting s (Add c false)
+    pub now_is : now ≡ max s.latest at
+    pub room : s.records.conns + s.records.approved ≢ s.config.max_size
 
-  pub meets_add_refused : {s : Shown C} (at : ℕ) (c : C) {now : ℕ} {rs : ShownRecords C} → IsFitting s (Add c false) → now ≡ max s.latest at → s.records.conns + s.records.approved ≢ s.config.max_size → s.records.next < end_of_numbers → s.records.conns + s.records.approved ≡ s.records.peak → rs ≡ s.records → IsStep s at (Add c false) Withheld (record s { latest = now; records = rs })
-  meets_add_refused {s} at c {now} {rs} fit now_is room few full rs_is = meets_quiet (λ t. (t.records.conns + t.records.approved ≢ t.config.max_size) × (t.records.next < end_of_numbers) × (t.records.conns + t.records.approved ≡ t.records.peak)) s _ at (Add c false) Withheld fit (room, few, full) (same_shown _ _ refl now_is refl rs_is refl refl) (λ l. (refl, refl, refl)) (λ l legal f known. (add_refused known.0 known.1 known.2, refl, refl))
+  pub has_room : {s t : Shown C} {at : ℕ} {c : C} {now used : ℕ} → s ≡ t → IsFitting t (Add c false) → now ≡ max s.latest at → used ≡ s.records.conns + s.records.approved → used ≢ s.config.max_size → Adds s at c now
+  has_room {c = c} is fit now_is used_is room = record { fit = fits_view (Add c false) is fit; now_is = now_is; room = λ e. room (used_is ∙ e) }
 
-  pub meets_added : {s : Shown C} (at : ℕ) {k : ℕ} (c : C) {now : ℕ} {rs : ShownRecords C} {n : Option ℕ} {gs : ShownGets} → Notices s n gs → IsFitting s (Add c false) → now ≡ max s.latest at → s.records.conns + s.records.approved ≢ s.config.max_size → s.records.next < end_of_numbers → k ≡ s.records.next → rs ≡ machine.with_peak (machine.after_birth c now s.records) → IsStep s at (Add c false) (Added k n) (record s { latest = now; records = rs; gets = gs })
-  meets_added {s} at {k} c {now} {rs} {n} {gs} told fit now_is room few k_is rs_is = meets_by (λ t. (t.records.conns + t.records.approved ≢ t.config.max_size) × (t.records.next < end_of_numbers) × (k ≡ t.records.next) × (n ≡ slice_get t.gets.waiting 0)) (λ t. record t { latest = max t.latest at; records = machine.with_peak (machine.after_birth c (max t.latest at) t.records); gets = machine.after_notice n t.gets }) s _ at (Add c false) (Added k n) fit (room, few, k_is, told.who)
-      (same_shown _ _ refl now_is refl (rs_is ∙ ap (λ (m : ℕ). machine.with_peak (machine.after_birth c m s.records)) now_is) told.after refl)
+  pub meets_add_exhausted : {s : Shown C} {at : ℕ} {c : C} {now : ℕ} → Adds s at c now → end_of_numbers ≤ s.records.next → IsStep s at (Add c false) Withheld (record s { latest = now })
+  meets_add_exhausted {s} {at} {c} {now} h many = meets_quiet (λ t. (t.records.conns + t.records.approved ≢ t.config.max_size) × (end_of_numbers ≤ t.records.next)) s _ at (Add c false) Withheld h.fit (h.room, many) (same_shown _ _ refl h.now_is refl refl refl refl) (λ l. (refl, refl, refl)) (λ l legal f known. (add_exhausted known.0 known.1, refl, refl))
+
+  pub meets_add_refused : {s : Shown C} {at : ℕ} {c : C} {now : ℕ} {rs : ShownRecords C} → Adds s at c now → s.records.next < end_of_numbers → s.records.conns + s.records.approved ≡ s.records.peak → rs ≡ s.records → IsStep s at (Add c false) Withheld (record s { latest = now; records = rs })
+  meets_add_refused {s} {at} {c} {now} {rs} h few full rs_is = meets_quiet (λ t. (t.records.conns + t.records.approved ≢ t.config.max_size) × (t.records.next < end_of_numbers) × (t.records.conns + t.records.approved ≡ t.records.peak)) s _ at (Add c false) Withheld h.fit (h.room, few, full) (same_shown _ _ refl h.now_is refl rs_is refl refl) (λ l. (refl, refl, refl)) (λ l legal f known. (add_refused known.0 known.1 known.2, refl, refl))
+
+  pub meets_added : {s : Shown C} {at : ℕ} {k : ℕ} {c : C} {now : ℕ} {rs : ShownRecords C} {n : Option ℕ} {gs : ShownGets} → Adds s at c now → Notices s n gs → s.records.next < end_of_numbers → k ≡ s.records.next → rs ≡ machine.with_peak (machine.after_birth c now s.records) → IsStep s at (Add c false) (Added k n) (record s { latest = now; records = rs; gets = gs })
+  meets_added {s} {at} {k} {c} {now} {rs} {n} {gs} h told few k_is rs_is = meets_by (λ t. (t.records.conns + t.records.approved ≢ t.config.max_size) × (t.records.next < end_of_numbers) × (k ≡ t.records.next) × (n ≡ slice_get t.gets.waiting 0)) (λ t. record t { latest = max t.latest at; records = machine.with_peak (machine.after_birth c (max t.latest at) t.records); gets = machine.after_notice n t.gets }) s _ at (Add c false) (Added k n) h.fit (h.room, few, k_is, told.who)
+      (same_shown _ _ refl h.now_is refl (rs_is ∙ ap (λ (m : ℕ). machine.with_peak (machine.after_birth c m s.records)) h.now_is) told.after refl)
       (λ l legal f known. (adds known.0 known.1 known.2 known.3, same_shown _ _ refl refl refl (ap machine.with_peak (shown-born (start l).first (position l) (peak l) (records l) c (max (latest l) at) (entered_before l))) (gets_told l n known.3) refl))

@@ -6,7 +6,7 @@ use Rattle.bb8_core.specs.Pool.{view_of}
 use Rattle.bb8_types.specs.Settings.{settings_of}
 use Rattle.bb8_core.specs.Shown.{Shown}
 use Rattle.bb8_tables.specs.Views.{ShownRecords}
-use Rattle.bb8_core.proofs.Fitting.{shown_record, shown_fits, want_few}
+use Rattle.bb8_core.proofs.Fitting.{shown_record, shown_fits, due_fits}
 use Rattle.bb8_core.proofs.Steps.{at_view, fits_view}
 use Rattle.bb8_core.proofs.AtOnce.{between, meets_begun_between, meets_served_between, named_begun, named_served, led_at_once}
 use Rattle.bb8_core.proofs.internals.PoolInternals.serve_at_once.Goals as goal
@@ -31,14 +31,7 @@ serve-requires-clause-waited g c =
     omega (arith, fit.answered, fit.started_few)
 
 pub grant-grant-requires : goal.grant-grant-requires
-grant-grant-requires g c =
-    let a = c.self.inside in
-    let fit = shown_fits (view_of a) c.self.invariant in
-    let few : decided.want (settings_of a.config) a.handles c.take.new.self ≤ a.config.max_size - (c.take.new.self.conns + c.take.new.self.approved) = want_few (settings_of a.config) a.handles c.take.new.self in
-    let is : c.want-wanted.result ≡ decided.want (settings_of a.config) a.handles c.take.new.self = c.want-wanted.ensures in
-    let conns : c.take.new.self.conns ≡ a.records.conns = ap (λ (s : ShownRecords g.row.C.Denot). s.conns) c.in-Some.ensures.some.2 in
-    let approved : c.take.new.self.approved ≡ a.records.approved = ap (λ (s : ShownRecords g.row.C.Denot). s.approved) c.in-Some.ensures.some.2 in
-    omega (arith, fit.size)
+grant-grant-requires g c = omega (arith, due_fits (view_of c.self.inside) _ c.self.invariant (omega arith) c.in-Some.ensures.some.2 refl c.want-wanted.ensures)
 
 pub invariant_of-self-in-Some : goal.invariant_of-self-in-Some
 invariant_of-self-in-Some g c =
