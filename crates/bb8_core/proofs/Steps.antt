@@ -60,6 +60,20 @@ named_stands first p gs b None e = tt
 named_stands first p gs true (Some k) e = let w = first_waits first p gs k (sym e) in (w.0, w.1)
 named_stands first p gs false (Some k) e = cc
 
+-- the counters after a get was served that first waited then
+abbrev pub served : Counters → ℕ → Option ℕ → Counters
+served was now since = record was { direct = was.direct + one (not (is_some since)); waited = was.waited + one (is_some since); wait_micros = min most_micros (was.wait_micros + micros_since now since) }
+
+-- the counters after a give-up for this reason, of a get that first waited then
+abbrev given_up : Named → ℕ → Option ℕ → Counters → Counters
+given_up reasons.TimedOut now since was = record was { timed_out = was.timed_out + 1; wait_micros = min most_micros (was.wait_micros + micros_since now since) }
+given_up reasons.Cancelled now since was = record was { cancelled = was.cancelled + 1 }
+
+-- what the code says of the counters, one clause a reason
+given_up_is : (reason : Named) (now : ℕ) (since : Option ℕ) {was is : Counters} → (reason ≡ reasons.TimedOut → is ≡ given_up reasons.TimedOut now since was) → (reason ≡ reasons.Cancelled → is ≡ given_up reasons.Cancelled now since was) → is ≡ given_up reason now since was
+given_up_is reasons.TimedOut now since timed let_go = timed refl
+given_up_is reasons.Cancelled now since timed let_go = let_go refl
+
 module _ {C : Type 0} where
   pub same_shown : (s t : Shown C) → s.config ≡ t.config → s.latest ≡ t.latest → s.handles ≡ t.handles → s.records ≡ t.records → s.gets ≡ t.gets → s.counts ≡ t.counts → s ≡ t
   same_shown s t config latest handles records gets counts = λ i. record { config = config i; latest = latest i; handles = handles i; records = records i; gets = gets i; counts = counts i }
@@ -257,14 +271,17 @@ module _ {C : Type 0} where
 
   -- ---- try, where nothing is checked
 
-  -- the statistics after a get was served that stood so
-  abbrev served_counts : Shown C → ℕ → ℕ → Option Getting → Counts
-  served_counts s micros now o = record s.counts { direct = s.counts.direct + one (not (is_some (first_wait_of o))); waited = s.counts.waited + one (is_some (first_wait_of o)); wait_time = 1000 * min most_micros (micros + micros_since now (first_wait_of o)) }
+  -- what the counters keep of the waits is what a ledger tells of them
+  same_micros : (l : Ledger C) (was : Counters) → counts l ≡ counts_held was → wait_micros l ≡ was.wait_micros
+  same_micros l was were = let told : 1000 * wait_micros l ≡ 1000 * was.wait_micros = ap (λ (x : Counts). x.wait_time) were in omega arith
 
-  count_served : (l : Ledger C) (at g k : ℕ) (grant : Grant) (micros : ℕ) → (counts l).wait_time ≡ 1000 * micros → counts (Later l at (Try g) (Served k grant)) ≡ served_counts (shown l) micros (max (latest l) at) (get (shown l).gets.places g)
-  count_served l at g k grant micros told =
-      let same : wait_micros l ≡ micros = omega (arith, told) in
-      ap (λ (m : ℕ). served_counts (shown l) m (max (latest l) at) (get_of l g)) same ∙ ap (served_counts (shown l) micros (max (latest l) at)) (shown_get l (shown l) refl g)
+  count_served : (l : Ledger C) (at g k : ℕ) (grant : Grant) (was : Counters) → counts l ≡ counts_held was → counts (Later l at (Try g) (Served k grant)) ≡ counts_held (served was (max (latest l) at) (first_wait_of (get (shown l).gets.places g)))
+  count_served l at g k grant was were =
+      let since : Option ℕ = first_wait_of (get_of l g) in
+      let wait : ℕ = micros_since (max (latest l) at) since in
+      ap (λ (x : Counts). record x { direct = x.direct + one (not (is_some since)); waited = x.waited + one (is_some since); wait_time = 1000 * min most_micros (wait_micros l + wait) }) were
+      ∙ ap (λ (m : ℕ). record (counts_held (served was (max (latest l) at) since)) { wait_time = 1000 * min most_micros (m + wait) }) (same_micros l was were)
+      ∙ ap (λ (o : Option Getting). counts_held (served was (max (latest l) at) (first_wait_of o))) (shown_get l (shown l) refl g)
 
   -- what the code knows when a get tries
   pub record Tries (s : Shown C) (at g now : ℕ) (o : Option Getting) : Type 0 where
@@ -279,11 +296,11 @@ module _ {C : Type 0} where
   line_test : (l : Ledger C) (g : ℕ) (b : Bool) → gets_stand is_unnotified (get (shown l).gets.places g) ≡ b → gets_stand is_unnotified (get_of l g) ≡ b
   line_test l g b is = ap (gets_stand is_unnotified) (shown_get l (shown l) refl g) ∙ is
 
-  pub meets_served : (s : Shown C) (at g k : ℕ) (taken : ShownRecords C) (wanted : ℕ) (grant : Grant) (now : ℕ) (o : Option Getting) (rs : ShownRecords C) (gs : ShownGets) (micros : ℕ) (new : Counts) → Tries s at g now o → gets_stand is_unnotified o ≡ false → first_of s.config.queue_strategy s.records.idle ≡ Some k → taken ≡ machine.after_take Guarded k s.records → wanted ≡ decided.want s.config s.handles taken → machine.IsGrant taken wanted grant → rs ≡ machine.after_grant false grant taken → gs ≡ machine.after_get_end g s.gets → s.counts.wait_time ≡ 1000 * micros → new ≡ record s.counts { direct = s.counts.direct + one (not (is_some (first_wait_of o))); waited = s.counts.waited + one (is_some (first_wait_of o)); wait_time = 1000 * min most_micros (micros + micros_since now (first_wait_of o)) } → IsStep s at (Try g) (Served k grant) (record s { latest = now; records = rs; gets = gs; counts = new })
-  meets_served s at g k taken wanted grant now o rs gs micros new t not_waiting first taken_is wanted_is granted_is rs_is gs_is micros_are new_is =
+  pub meets_served : {s : Shown C} {at g k : ℕ} {taken : ShownRecords C} {wanted : ℕ} {grant : Grant} {now : ℕ} {o : Option Getting} {since : Option ℕ} {rs : ShownRecords C} {gs : ShownGets} (was : Counters) {is : Counters} → Tries s at g now o → gets_stand is_unnotified o ≡ false → first_of s.config.queue_strategy s.records.idle ≡ Some k → taken ≡ machine.after_take Guarded k s.records → wanted ≡ decided.want s.config s.handles taken → machine.IsGrant taken wanted grant → rs ≡ machine.after_grant false grant taken → gs ≡ machine.after_get_end g s.gets → s.counts ≡ counts_held was → since ≡ first_wait_of o → is ≡ served was now since → IsStep s at (Try g) (Served k grant) (record s { latest = now; records = rs; gets = gs; counts = counts_held is })
+  meets_served {s} {at} {g} {k} {taken} {wanted} {grant} {now} {o} {since} {rs} {gs} was {is} t not_waiting first taken_is wanted_is granted_is rs_is gs_is were since_is counted =
       let granted : machine.IsGrant (machine.after_take Guarded k s.records) (decided.want s.config s.handles (machine.after_take Guarded k s.records)) grant = subst (λ (x : ShownRecords C). machine.IsGrant x (decided.want s.config s.handles x) grant) taken_is (subst (λ (m : ℕ). machine.IsGrant taken m grant) wanted_is granted_is) in
-      meets_by (λ x. (gets_stand is_unnotified (get x.gets.places g) ≡ false) × (first_of x.config.queue_strategy x.records.idle ≡ Some k) × machine.IsGrant (machine.after_take Guarded k x.records) (decided.want x.config x.handles (machine.after_take Guarded k x.records)) grant × (x.counts.wait_time ≡ 1000 * micros)) (λ x. record x { latest = max x.latest at; records = machine.after_grant false grant (machine.after_take Guarded k x.records); gets = machine.after_get_end g x.gets; counts = served_counts x micros (max x.latest at) (get x.gets.places g) }) s _ at (Try g) (Served k grant) t.fit (ap (gets_stand is_unnotified) (sym t.get_is) ∙ not_waiting, first, granted, micros_are)
-      (same_shown _ _ refl t.now_is refl (rs_is ∙ ap (machine.after_grant false grant) taken_is) gs_is (new_is ∙ ap (λ (m : ℕ). served_counts s micros m o) t.now_is ∙ ap (served_counts s micros (max s.latest at)) t.get_is))
+      meets_by (λ x. (gets_stand is_unnotified (get x.gets.places g) ≡ false) × (first_of x.config.queue_strategy x.records.idle ≡ Some k) × machine.IsGrant (machine.after_take Guarded k x.records) (decided.want x.config x.handles (machine.after_take Guarded k x.records)) grant × (x.counts ≡ counts_held was)) (λ x. record x { latest = max x.latest at; records = machine.after_grant false grant (machine.after_take Guarded k x.records); gets = machine.after_get_end g x.gets; counts = counts_held (served was (max x.latest at) (first_wait_of (get x.gets.places g))) }) s _ at (Try g) (Served k grant) t.fit (ap (gets_stand is_unnotified) (sym t.get_is) ∙ not_waiting, first, granted, were)
+      (same_shown _ _ refl t.now_is refl (rs_is ∙ ap (machine.after_grant false grant) taken_is) gs_is (ap counts_held (counted ∙ ap (λ (m : ℕ). served was m since) t.now_is ∙ ap (served was (max s.latest at)) (since_is ∙ ap (λ (x : Option Getting). first_wait_of x) t.get_is))))
       (λ l legal f known.
       let st = trying_is l g f in
       let off : (start l).config.test_on_check_out ≡ false = unchecked l g (and_right (is_brought l (Try g)) _ f).0 in
@@ -293,17 +310,8 @@ module _ {C : Type 0} where
       let first_later : slice_get (shown_records (start l).first (suc (position l)) (peak l) (records l)).idle j ≡ Some k = ap (λ (x : ShownRecords C). slice_get x.idle j) (later_shown l) ∙ known.1 in
       let later : shown_records (start l).first (suc (position l)) (peak l) out ≡ machine.after_take Guarded k (shown l).records = shown-taken (start l).first (suc (position l)) (peak l) (records l) Guarded k j refl refl refl first_later ∙ ap (machine.after_take Guarded k) (later_shown l) in (
         serves (line_test l g false known.0) off known.1 (want_is l out grant (put_before (position l) (start l).first k Guarded (records l) refl (entered_before l)) (subst (λ (x : ShownRecords C). machine.IsGrant x (decided.want (start l).config (handles l) x) grant) (sym is) known.2)),
-        same_shown _ _ refl refl refl (changed false l grant.count out _ later) (shown-ended (start l).first_get (position l) (get_peak l) (gets l) g st.0 (waited_before l) (get_peak_holds l) st.1) (count_served l at g k grant micros known.3),
+        same_shown _ _ refl refl refl (changed false l grant.count out _ later) (shown-ended (start l).first_get (position l) (get_peak l) (gets l) g st.0 (waited_before l) (get_peak_holds l) st.1) (count_served l at g k grant was known.3),
       ))
-
-  -- the same, with the counters that the code keeps
-  pub meets_served_counted : {s : Shown C} {at g k : ℕ} {taken : ShownRecords C} {wanted : ℕ} {grant : Grant} {now : ℕ} {o : Option Getting} {since : Option ℕ} {rs : ShownRecords C} {gs : ShownGets} (was : Counters) {is : Counters} → Tries s at g now o → gets_stand is_unnotified o ≡ false → first_of s.config.queue_strategy s.records.idle ≡ Some k → taken ≡ machine.after_take Guarded k s.records → wanted ≡ decided.want s.config s.handles taken → machine.IsGrant taken wanted grant → rs ≡ machine.after_grant false grant taken → gs ≡ machine.after_get_end g s.gets → s.counts ≡ counts_held was → since ≡ first_wait_of o → is ≡ record was { direct = was.direct + one (not (is_some since)); waited = was.waited + one (is_some since); wait_micros = min most_micros (was.wait_micros + micros_since now since) } → IsStep s at (Try g) (Served k grant) (record s { latest = now; records = rs; gets = gs; counts = counts_held is })
-  meets_served_counted {s} {at} {g} {k} {taken} {wanted} {grant} {now} {o} {since} {rs} {gs} was {is} t not_waiting first taken_is wanted_is granted_is rs_is gs_is were since_is counted =
-      meets_served s at g k taken wanted grant now o rs gs was.wait_micros (counts_held is) t not_waiting first taken_is wanted_is granted_is rs_is gs_is
-      (ap (λ (x : Counts). x.wait_time) were)
-      (ap counts_held counted
-      ∙ ap (λ (x : Option ℕ). record (counts_held was) { direct = was.direct + one (not (is_some x)); waited = was.waited + one (is_some x); wait_time = 1000 * min most_micros (was.wait_micros + micros_since now x) }) since_is
-      ∙ ap (λ (x : Counts). record x { direct = x.direct + one (not (is_some (first_wait_of o))); waited = x.waited + one (is_some (first_wait_of o)); wait_time = 1000 * min most_micros (was.wait_micros + micros_since now (first_wait_of o)) }) (sym were))
 
   -- a get that waits and was not notified waits on
   pub meets_waits_on : {s : Shown C} {at g now : ℕ} {o : Option Getting} {grant : Grant} → Tries s at g now o → gets_stand is_unnotified o ≡ true → IsNoGrant s.records.next grant → IsStep s at (Try g) (answers.Waiting grant) (record s { latest = now })
@@ -334,12 +342,6 @@ module _ {C : Type 0} where
 
   -- ---- give up
 
-  -- what the code knows when a get is given up
-  pub record GivesUp (s : Shown C) (at g : ℕ) (why : Reason) (broken : Bool) (now : ℕ) (o : Option Getting) : Type 0 where
-    pub fit : IsFitting s (GiveUp g why None broken)
-    pub now_is : now ≡ max s.latest at
-    pub get_is : o ≡ get s.gets.places g
-
   -- whom a give-up notifies is the oldest waiter, where the get had been notified
   handed_is : (l : Ledger C) (g : ℕ) (st : Getting) (n : Option ℕ) → get_of l g ≡ Some st → n ≡ cond (is_notified st.place) (slice_get (machine.without g (waiting l)) 0) None → n ≡ cond (is_notified st.place) (oldest_waiter l) None
   handed_is l g st n is n_is = go (is_notified st.place) refl n_is
@@ -348,9 +350,22 @@ module _ {C : Type 0} where
       go true on e = e ∙ ap (λ (xs : List ℕ). slice_get xs 0) (without_other (start l).first_get (position l) (gets l) g st is (notified_out st.place on))
       go false off e = e
 
-  pub meets_gave_up : (s : Shown C) (at g : ℕ) (why : Reason) (broken : Bool) (now : ℕ) (o : Option Getting) (left : ShownGets) (n : Option ℕ) (gs : ShownGets) (new : Counts) → GivesUp s at g why broken now o → left ≡ machine.after_get_end g s.gets → n ≡ cond (gets_stand is_notified o) (slice_get left.waiting 0) None → gs ≡ machine.after_notice n left → ((l : Ledger C) → Means l s → counts (Later l at (GiveUp g why None broken) (GaveUp n)) ≡ new) → IsStep s at (GiveUp g why None broken) (GaveUp n) (record s { latest = now; gets = gs; counts = new })
-  meets_gave_up s at g why broken now o left n gs new t left_is n_is gs_is counted = meets_by (λ x. (n ≡ machine.heir_of (get x.gets.places g) (machine.after_get_end g x.gets)) × ((l : Ledger C) → Means l x → counts (Later l at (GiveUp g why None broken) (GaveUp n)) ≡ new)) (λ x. record x { latest = max x.latest at; gets = machine.after_notice n (machine.after_get_end g x.gets); counts = new }) s _ at (GiveUp g why None broken) (GaveUp n) t.fit (n_is ∙ ap (λ (x : ShownGets). machine.heir_of o x) left_is ∙ ap (λ (x : Option Getting). machine.heir_of x (machine.after_get_end g s.gets)) t.get_is, counted)
-      (same_shown _ _ refl t.now_is refl refl (gs_is ∙ ap (machine.after_notice n) left_is) refl)
+  count_given_up : (l : Ledger C) (at g : ℕ) (reason : Named) (broken : Bool) (n : Option ℕ) (was : Counters) → counts l ≡ counts_held was → counts (Later l at (GiveUp g (reason_of reason) None broken) (GaveUp n)) ≡ counts_held (given_up reason (max (latest l) at) (first_wait_of (get (shown l).gets.places g)) was)
+  count_given_up l at g reasons.TimedOut broken n was were =
+      ap (λ (x : Counts). record x { timed_out = x.timed_out + 1; wait_time = 1000 * min most_micros (wait_micros l + micros_since (max (latest l) at) (first_wait_of (get_of l g))) }) were
+      ∙ ap (λ (m : ℕ). record (counts_held was) { timed_out = was.timed_out + 1; wait_time = 1000 * min most_micros (m + micros_since (max (latest l) at) (first_wait_of (get_of l g))) }) (same_micros l was were)
+      ∙ ap (λ (o : Option Getting). counts_held (given_up reasons.TimedOut (max (latest l) at) (first_wait_of o) was)) (shown_get l (shown l) refl g)
+  count_given_up l at g reasons.Cancelled broken n was were = ap (λ (x : Counts). record x { cancelled = x.cancelled + 1 }) were
+
+  -- no connection is handed in, and whether it is broken does not matter
+  pub meets_given_up : {s t : Shown C} (at : ℕ) {g : ℕ} {reason : Named} {held : Option C} (broken : Bool) {now : ℕ} {o : Option Getting} {since : Option ℕ} {left : ShownGets} {test : Bool} {n : Option ℕ} {gs : ShownGets} {was is : Counters} → held ≡ None → s ≡ t → IsFitting t (GiveUp g (reason_of reason) held broken) → now ≡ max s.latest at → o ≡ get s.gets.places g → left ≡ machine.after_get_end g s.gets → test ≡ gets_stand is_notified o → n ≡ cond test (slice_get left.waiting 0) None → gs ≡ machine.after_notice n left → s.counts ≡ counts_held was → since ≡ first_wait_of o → (reason ≡ reasons.TimedOut → is ≡ given_up reasons.TimedOut now since was) → (reason ≡ reasons.Cancelled → is ≡ given_up reasons.Cancelled now since was) → IsStep s at (GiveUp g (reason_of reason) held broken) (GaveUp n) (record s { latest = now; gets = gs; counts = counts_held is })
+  meets_given_up {s} {t} at {g} {reason} {held} broken {now} {o} {since} {left} {test} {n} {gs} {was} {is} none view fit now_is get_is left_is test_is n_is gs_is were since_is timed let_go =
+      let why : Reason = reason_of reason in
+      let free : IsFitting s (GiveUp g why None broken) = fits_view (GiveUp g why None broken) view (subst (λ (c : Option C). IsFitting t (GiveUp g why c broken)) none fit) in
+      let told : is ≡ given_up reason now since was = given_up_is reason now since timed let_go in
+      subst (λ (c : Option C). IsStep s at (GiveUp g why c broken) (GaveUp n) (record s { latest = now; gets = gs; counts = counts_held is })) (sym none) (meets_by (λ x. (n ≡ machine.heir_of (get x.gets.places g) (machine.after_get_end g x.gets)) × (x.counts ≡ counts_held was)) (λ x. record x { latest = max x.latest at; gets = machine.after_notice n (machine.after_get_end g x.gets); counts = counts_held (given_up reason (max x.latest at) (first_wait_of (get x.gets.places g)) was) }) s _ at (GiveUp g why None broken) (GaveUp n) free
+      (n_is ∙ ap (λ (b : Bool). cond b (slice_get left.waiting 0) None) test_is ∙ ap (λ (x : ShownGets). machine.heir_of o x) left_is ∙ ap (λ (x : Option Getting). machine.heir_of x (machine.after_get_end g s.gets)) get_is, were)
+      (same_shown _ _ refl now_is refl refl (gs_is ∙ ap (machine.after_notice n) left_is) (ap counts_held (told ∙ ap (λ (m : ℕ). given_up reason m since was) now_is ∙ ap (λ (x : Option ℕ). given_up reason (max s.latest at) x was) (since_is ∙ ap (λ (x : Option Getting). first_wait_of x) get_is))))
       (λ l legal f known.
       let st = giving_is l g None f in
       let n_place : n ≡ cond (is_notified st.0.place) (slice_get (machine.without g (waiting l)) 0) None = known.0 ∙ ap (λ (x : Option Getting). machine.heir_of x (machine.after_get_end g (shown l).gets)) (sym (shown_get l (shown l) refl g) ∙ st.1) in
@@ -358,36 +373,8 @@ module _ {C : Type 0} where
       let ends : shown_gets (start l).first_get (suc (position l)) (max (get_peak l) (alive_of out)) out ≡ machine.after_get_end g (shown l).gets = shown-ended (start l).first_get (position l) (get_peak l) (gets l) g st.0 (waited_before l) (get_peak_holds l) st.1 in
       let named : IfSome n (λ k. (x : Getting) × (standing_at (start l).first_get out k ≡ Some x)) = named_stands (start l).first_get (suc (position l)) out (is_notified st.0.place) n (n_place ∙ ap (λ (x : ShownGets). cond (is_notified st.0.place) (slice_get x.waiting 0) None) (sym ends)) in (
         gives_up (handed_is l g st.0 n st.1 n_place ∙ ap (λ (x : Option Getting). cond (gets_stand is_notified x) (oldest_waiter l) None) (sym st.1)),
-        same_shown _ _ refl refl refl (records_kept l) (noticed_later (start l).first_get (suc (position l)) (get_peak l) out n named ∙ ap (machine.after_notice n) ends) (known.1 l refl),
-      ))
-
-  -- the statistics after a give-up
-  pub count_timed_out : (s : Shown C) (at g : ℕ) (broken : Bool) (n : Option ℕ) (micros now : ℕ) (o : Option Getting) (l : Ledger C) → s.counts.wait_time ≡ 1000 * micros → now ≡ max s.latest at → o ≡ get s.gets.places g → Means l s → counts (Later l at (GiveUp g TimedOut None broken) (GaveUp n)) ≡ record s.counts { timed_out = s.counts.timed_out + 1; wait_time = 1000 * min most_micros (micros + micros_since now (first_wait_of o)) }
-  count_timed_out s at g broken n micros now o l micros_are now_is o_is means =
-      let told : 1000 * wait_micros l ≡ 1000 * micros = ap (λ (t : Shown C). t.counts.wait_time) means ∙ micros_are in
-      let same : wait_micros l ≡ micros = omega arith in
-      let m_is : max (latest l) at ≡ now = ap (λ (t : Shown C). max t.latest at) means ∙ sym now_is in
-      ap (λ (x : Option Getting). record (counts l) { timed_out = timed_out l + 1; wait_time = 1000 * min most_micros (wait_micros l + micros_since (max (latest l) at) (first_wait_of x)) }) (shown_get l s means g ∙ sym o_is)
-      ∙ ap (λ (m : ℕ). record (counts l) { timed_out = timed_out l + 1; wait_time = 1000 * min most_micros (wait_micros l + micros_since m (first_wait_of o)) }) m_is
-      ∙ ap (λ (m : ℕ). record (counts l) { timed_out = timed_out l + 1; wait_time = 1000 * min most_micros (m + micros_since now (first_wait_of o)) }) same
-      ∙ ap (λ (t : Shown C). record t.counts { timed_out = t.counts.timed_out + 1; wait_time = 1000 * min most_micros (micros + micros_since now (first_wait_of o)) }) means
-
-  pub count_cancelled : (s : Shown C) (at g : ℕ) (broken : Bool) (n : Option ℕ) (l : Ledger C) → Means l s → counts (Later l at (GiveUp g Cancelled None broken) (GaveUp n)) ≡ record s.counts { cancelled = s.counts.cancelled + 1 }
-  count_cancelled s at g broken n l means = ap (λ (t : Shown C). record t.counts { cancelled = t.counts.cancelled + 1 }) means
-
-  -- what the code knows when a get has been given up
-  pub meets_given_up : {s : Shown C} (at : ℕ) {g : ℕ} {reason : Named} {held : Option C} (broken : Bool) {now : ℕ} {o : Option Getting} {since : Option ℕ} {left : ShownGets} {test : Bool} {n : Option ℕ} {gs : ShownGets} {was is : Counters} → held ≡ None → IsFitting s (GiveUp g (reason_of reason) held broken) → now ≡ max s.latest at → o ≡ get s.gets.places g → left ≡ machine.after_get_end g s.gets → test ≡ gets_stand is_notified o → n ≡ cond test (slice_get left.waiting 0) None → gs ≡ machine.after_notice n left → s.counts ≡ counts_held was → since ≡ first_wait_of o → (reason ≡ reasons.TimedOut → is ≡ record was { timed_out = was.timed_out + 1; wait_micros = min most_micros (was.wait_micros + micros_since now since) }) → (reason ≡ reasons.Cancelled → is ≡ record was { cancelled = was.cancelled + 1 }) → IsStep s at (GiveUp g (reason_of reason) held broken) (GaveUp n) (record s { latest = now; gets = gs; counts = counts_held is })
-  meets_given_up {s} at {g} {reason = reasons.TimedOut} {held = None} broken {now} {o} {since} {left} {test} {n} {gs} {was} {is} none fit now_is o_is left_is test_is n_is gs_is were since_is timed let_go =
-      meets_gave_up s at g TimedOut broken now o left n gs (counts_held is) (record { fit = fit; now_is = now_is; get_is = o_is }) left_is (n_is ∙ ap (λ (b : Bool). cond b (slice_get left.waiting 0) None) test_is) gs_is
-      (λ l means.
-      count_timed_out s at g broken n was.wait_micros now o l (ap (λ (x : Counts). x.wait_time) were) now_is o_is means
-      ∙ ap (λ (x : Counts). record x { timed_out = x.timed_out + 1; wait_time = 1000 * min most_micros (was.wait_micros + micros_since now (first_wait_of o)) }) were
-      ∙ ap (λ (x : Option ℕ). record (counts_held was) { timed_out = was.timed_out + 1; wait_time = 1000 * min most_micros (was.wait_micros + micros_since now x) }) (sym since_is)
-      ∙ ap counts_held (sym (timed refl)))
-  meets_given_up {s} at {g} {reason = reasons.Cancelled} {held = None} broken {now} {o} {since} {left} {test} {n} {gs} {was} {is} none fit now_is o_is left_is test_is n_is gs_is were since_is timed let_go =
-      meets_gave_up s at g Cancelled broken now o left n gs (counts_held is) (record { fit = fit; now_is = now_is; get_is = o_is }) left_is (n_is ∙ ap (λ (b : Bool). cond b (slice_get left.waiting 0) None) test_is) gs_is
-      (λ l means. count_cancelled s at g broken n l means ∙ ap (λ (x : Counts). record x { cancelled = x.cancelled + 1 }) were ∙ ap counts_held (sym (let_go refl)))
-  meets_given_up {s} at {g} {reason} {held = (Some c)} broken {now} {o} {since} {left} {test} {n} {gs} {was} {is} none fit now_is o_is left_is test_is n_is gs_is were since_is timed let_go = cc
+        same_shown _ _ refl refl refl (records_kept l) (noticed_later (start l).first_get (suc (position l)) (get_peak l) out n named ∙ ap (machine.after_notice n) ends) (count_given_up l at g reason broken n was known.1),
+      )))
 
   -- ---- look
 
