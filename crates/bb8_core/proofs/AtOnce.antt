@@ -18,7 +18,7 @@ use Rattle.bb8_core.specs.Shown.{Shown, IsFitting}
 use Rattle.bb8_tables.specs.Views.{ShownRecords, ShownGets}
 use Rattle.bb8_types.proofs.Numbered.{eqb_self, get_inserted}
 use Rattle.bb8_core.proofs.Runs.{takes_try}
-use Rattle.bb8_core.proofs.Steps.{IsStep, served, meets_begun, meets_served}
+use Rattle.bb8_core.proofs.Steps.{IsStep, Grants, served, meets_begun, meets_served}
 use Rattle.bb8_types.specs.Bounds.{end_of_numbers, most_micros}
 
 -- a get that has begun
@@ -47,7 +47,7 @@ module _ {C : Type 0} where
   meets_begun_between at n_is fit now_is few = meets_begun at fit now_is few refl refl n_is
 
   -- what is done to the fields, from the state between on
-  pub meets_served_between : (s : Shown C) {at now n k : ℕ} {taken : ShownRecords C} {wanted : ℕ} {grant : Grant} {rs : ShownRecords C} {gs : ShownGets} (was : Counters) {is : Counters} → n ≡ s.gets.next → s.config.test_on_check_out ≡ false → now ≡ max s.latest at → first_of s.config.queue_strategy s.records.idle ≡ Some k → taken ≡ machine.after_take Guarded k s.records → wanted ≡ decided.want s.config s.handles taken → machine.IsGrant taken wanted grant → rs ≡ machine.after_grant false grant taken → gs ≡ machine.after_get_end s.gets.next (machine.after_begin s.gets) → s.counts ≡ counts_held was → is ≡ served (record was { started = was.started + 1 }) now never → IsStep (between s now) at (Try n) (Served k grant) (record s { latest = now; records = rs; gets = gs; counts = counts_held is })
-  meets_served_between s {at} {now} {n} {k} {grant = grant} {rs = rs} {gs = gs} was {is} n_is off now_is first taken_is wanted_is granted rs_is gs_is were counted =
+  pub meets_served_between : (s : Shown C) {at now n k : ℕ} {grant : Grant} {rs : ShownRecords C} {gs : ShownGets} (was : Counters) {is : Counters} → n ≡ s.gets.next → s.config.test_on_check_out ≡ false → now ≡ max s.latest at → first_of s.config.queue_strategy s.records.idle ≡ Some k → Grants s false (machine.after_take Guarded k s.records) grant rs → gs ≡ machine.after_get_end s.gets.next (machine.after_begin s.gets) → s.counts ≡ counts_held was → is ≡ served (record was { started = was.started + 1 }) now never → IsStep (between s now) at (Try n) (Served k grant) (record s { latest = now; records = rs; gets = gs; counts = counts_held is })
+  meets_served_between s {at} {now} {n} {k} {grant = grant} {rs = rs} {gs = gs} was {is} n_is off now_is first granted gs_is were counted =
       let again : now ≡ max now at = omega (arith, now_is) in
-      subst (λ (m : ℕ). IsStep (between s now) at (Try m) (Served k grant) (record s { latest = now; records = rs; gets = gs; counts = counts_held is })) (sym n_is) (meets_served (record was { started = was.started + 1 }) (record { fit = fits_between s now off; now_is = again; get_is = sym (stands_new s now) }) refl first taken_is wanted_is granted rs_is gs_is (ap (λ (x : Counts). record x { started = x.started + 1 }) were) refl counted)
+      subst (λ (m : ℕ). IsStep (between s now) at (Try m) (Served k grant) (record s { latest = now; records = rs; gets = gs; counts = counts_held is })) (sym n_is) (meets_served (record was { started = was.started + 1 }) (record { fit = fits_between s now off; now_is = again; get_is = sym (stands_new s now) }) refl first (record { granted = granted.granted; after = granted.after }) gs_is (ap (λ (x : Counts). record x { started = x.started + 1 }) were) refl counted)

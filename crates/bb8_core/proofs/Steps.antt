@@ -140,9 +140,22 @@ module _ {C : Type 0} where
   changed : (claimed : Bool) (l : Ledger C) (n : ℕ) (rs : List (Numbered (Standing C))) (new : ShownRecords C) → shown_records (start l).first (suc (position l)) (peak l) rs ≡ new → shown_records (start l).first (suc (position l)) (max (peak l) (conns_of (with_approvals claimed n rs) + approved_of (with_approvals claimed n rs))) (with_approvals claimed n rs) ≡ machine.with_peak (machine.after_approvals claimed n new)
   changed claimed l n rs new is = ap machine.with_peak (shown-approve claimed n (start l).first (suc (position l)) (peak l) rs ∙ ap (machine.after_approvals claimed n) is)
 
+  -- what is granted of what is wanted, once the records have changed to these
+  pub record Grants (s : Shown C) (claimed : Bool) (was : ShownRecords C) (grant : Grant) (rs : ShownRecords C) : Type 0 where
+    pub granted : machine.IsGrant was (decided.want s.config s.handles was) grant
+    pub after : rs ≡ machine.after_grant claimed grant was
+
+  pub grants : {s : Shown C} {claimed : Bool} {taken was : ShownRecords C} {wanted : ℕ} {grant : Grant} {rs : ShownRecords C} → taken ≡ was → wanted ≡ decided.want s.config s.handles taken → machine.IsGrant taken wanted grant → rs ≡ machine.after_grant claimed grant taken → Grants s claimed was grant rs
+  grants {s} {claimed} {taken} {grant = grant} taken_is wanted_is granted rs_is = record {
+    granted = subst (λ (x : ShownRecords C). machine.IsGrant x (decided.want s.config s.handles x) grant) taken_is (subst (λ (m : ℕ). machine.IsGrant taken m grant) wanted_is granted);
+    after = rs_is ∙ ap (machine.after_grant claimed grant) taken_is;
+  }
+
   -- what is granted of what is wanted, by tallies
-  want_is : (l : Ledger C) (rs : List (Numbered (Standing C))) (g : Grant) → Before idle_at (position l) rs → machine.IsGrant (shown_records (start l).first (position l) (peak l) rs) (decided.want (start l).config (handles l) (shown_records (start l).first (position l) (peak l) rs)) g → IsWant l rs g
-  want_is l rs g before granted = subst (λ (n : ℕ). IsGranted ((start l).first + length rs) (conns_of rs + approved_of rs) (peak l) (due (start l).config (handles l) (conns_of rs + approved_of rs) (lacking (start l).config (n + approved_of rs))) g) (idle_counted (start l).first (position l) rs before) granted
+  want_is : (l : Ledger C) (rs : List (Numbered (Standing C))) (g : Grant) (new : ShownRecords C) → Before idle_at (position l) rs → shown_records (start l).first (position l) (peak l) rs ≡ new → machine.IsGrant new (decided.want (start l).config (handles l) new) g → IsWant l rs g
+  want_is l rs g new before is granted =
+      let wants : ShownRecords C → ℕ → Type 0 = λ x n. IsGranted x.next (x.conns + x.approved) x.peak (due (start l).config (handles l) (x.conns + x.approved) (lacking (start l).config (n + x.approved))) g in
+      subst (wants (shown_records (start l).first (position l) (peak l) rs)) (idle_counted (start l).first (position l) rs before) (subst (λ (x : ShownRecords C). wants x (length x.idle)) (sym is) granted)
 
   -- records that are no more than before keep the peak
   still_raised : (l : Ledger C) (rs : List (Numbered (Standing C))) (new : ShownRecords C) → shown_records (start l).first (suc (position l)) (peak l) rs ≡ new → new.conns + new.approved ≤ peak l → shown_records (start l).first (suc (position l)) (max (peak l) (conns_of rs + approved_of rs)) rs ≡ new
@@ -150,9 +163,9 @@ module _ {C : Type 0} where
 
   -- ---- fill
 
-  pub meets_fill : {s : Shown C} {at : ℕ} {claimed : Bool} {g : Grant} {now : ℕ} {rs : ShownRecords C} → now ≡ max s.latest at → machine.IsGrant s.records (decided.want s.config s.handles s.records) g → rs ≡ machine.after_grant claimed g s.records → IsStep s at (Fill claimed) (Granted g) (record s { latest = now; records = rs })
-  meets_fill {s} {at} {claimed} {g} {now} {rs} now_is granted rs_is = meets_by (λ t. machine.IsGrant t.records (decided.want t.config t.handles t.records) g) (λ t. record t { latest = max t.latest at; records = machine.after_grant claimed g t.records }) s _ at (Fill claimed) (Granted g) (λ l legal means. refl) granted (same_shown _ _ refl now_is refl rs_is refl refl)
-      (λ l legal f granted_l. (fills (want_is l (records l) g (entered_before l) granted_l), same_shown _ _ refl refl refl (changed claimed l g.count (records l) _ (later_shown l)) (gets_kept l) refl))
+  pub meets_fill : {s : Shown C} {at : ℕ} {claimed : Bool} {g : Grant} {now : ℕ} {rs : ShownRecords C} → now ≡ max s.latest at → Grants s claimed s.records g rs → IsStep s at (Fill claimed) (Granted g) (record s { latest = now; records = rs })
+  meets_fill {s} {at} {claimed} {g} {now} {rs} now_is granted = meets_by (λ t. machine.IsGrant t.records (decided.want t.config t.handles t.records) g) (λ t. record t { latest = max t.latest at; records = machine.after_grant claimed g t.records }) s _ at (Fill claimed) (Granted g) (λ l legal means. refl) granted.granted (same_shown _ _ refl now_is refl granted.after refl refl)
+      (λ l legal f granted_l. (fills (want_is l (records l) g _ (entered_before l) refl granted_l), same_shown _ _ refl refl refl (changed claimed l g.count (records l) _ (later_shown l)) (gets_kept l) refl))
 
   -- ---- claim
 
@@ -193,32 +206,6 @@ module _ {C : Type 0} where
   closes_is : (l : Ledger C) (at k : ℕ) (broken : Bool) → closes l at k broken ≡ decided.closes (shown l) at k broken
   closes_is l at k broken = ap (λ (o : Option (Standing C)). broken || (is_expired (start l).config.max_lifetime (max (latest l) at) (birth_in o) || eqb (handles l) 0)) (shown_record l (shown l) refl k)
 
-  meets_kept : (s : Shown C) (at k : ℕ) (c : C) (broken : Bool) (now : ℕ) (rs : ShownRecords C) (n : Option ℕ) (gs : ShownGets) → Notices s n gs → IsFitting s (PutBack k c broken) → now ≡ max s.latest at → decided.closes s at k broken ≡ false → rs ≡ machine.after_entry false k (record { place = Idle c; birth = birth_in (get s.records.places k); entered = now }) s.records → IsStep s at (PutBack k c broken) (Kept k n) (record s { latest = now; records = rs; gets = gs })
-  meets_kept s at k c broken now rs n gs told fit now_is keep rs_is = meets_by (λ t. (decided.closes t at k broken ≡ false) × (n ≡ slice_get t.gets.waiting 0)) (λ t. record t { latest = max t.latest at; records = machine.after_entry false k (record { place = Idle c; birth = birth_in (get t.records.places k); entered = max t.latest at }) t.records; gets = machine.after_notice n t.gets }) s _ at (PutBack k c broken) (Kept k n) fit (keep, told.who)
-      (same_shown _ _ refl now_is refl (rs_is ∙ ap (λ (m : ℕ). machine.after_entry false k (record { place = Idle c; birth = birth_in (get s.records.places k); entered = m }) s.records) now_is) told.after refl)
-      (λ l legal f known.
-      let st = standing_is is_guarded (record_of l k) f in
-      let few : conns_of (records l) + approved_of (records l) ≤ peak l = peak_holds l in
-      let m : ℕ = max (latest l) at in
-      let is = shown-entered (start l).first (position l) (peak l) (records l) false k st.0 c (birth_in (record_of l k)) m (at_entry c m (position l)) (entered_before l) st.1 (guarded_is st.0.place st.2) (λ r e. ap (λ (o : Option (Standing C)). entry c (birth_in o) m (position l)) (e ∙ sym st.1)) in
-      (keeps (closes_is l at k broken ∙ known.0) known.1, same_shown _ _ refl refl refl (ap machine.with_peak is ∙ raised_same _ (omega arith) ∙ ap (λ (o : Option (Standing C)). machine.after_entry false k (record { place = Idle c; birth = birth_in o; entered = m }) (shown l).records) (shown_record l (shown l) refl k)) (gets_told l n known.1) refl))
-
-  -- the statistics after a return that closed
-  abbrev counted : Shown C → ℕ → ℕ → Bool → Counts
-  counted s at k broken = record s.counts { broken = s.counts.broken + one broken; max_lifetime = s.counts.max_lifetime + one (not broken && decided.is_old s at k) }
-
-  meets_closed : (s : Shown C) (at k : ℕ) (c : C) (broken : Bool) (now : ℕ) (grant : Grant) (rs : ShownRecords C) (n : Option ℕ) (gs : ShownGets) (new : Counts) → Notices s n gs → IsFitting s (PutBack k c broken) → now ≡ max s.latest at → decided.closes s at k broken ≡ true → machine.IsGrant (machine.after_close false k s.records) (decided.want s.config s.handles (machine.after_close false k s.records)) grant → rs ≡ machine.after_grant false grant (machine.after_close false k s.records) → new ≡ counted s at k broken → IsStep s at (PutBack k c broken) (Closed k grant n) (record s { latest = now; records = rs; gets = gs; counts = new })
-  meets_closed s at k c broken now grant rs n gs new told fit now_is closing granted rs_is new_is = meets_by (λ t. (decided.closes t at k broken ≡ true) × machine.IsGrant (machine.after_close false k t.records) (decided.want t.config t.handles (machine.after_close false k t.records)) grant × (n ≡ slice_get t.gets.waiting 0)) (λ t. record t { latest = max t.latest at; records = machine.after_grant false grant (machine.after_close false k t.records); gets = machine.after_notice n t.gets; counts = counted t at k broken }) s _ at (PutBack k c broken) (Closed k grant n) fit (closing, granted, told.who)
-      (same_shown _ _ refl now_is refl rs_is told.after new_is)
-      (λ l legal f known.
-      let st = standing_is is_guarded (record_of l k) f in
-      let shut : List (Numbered (Standing C)) = update (start l).first k after_end (records l) in
-      let is = shown-closed (start l).first (position l) (peak l) (records l) false k st.0 st.1 (guarded_is st.0.place st.2) in
-      let later = shown-closed (start l).first (suc (position l)) (peak l) (records l) false k st.0 st.1 (guarded_is st.0.place st.2) ∙ ap (machine.after_close false k) (later_shown l) in (
-        returns_closed (closes_is l at k broken ∙ known.0) (want_is l shut grant (ended_before (position l) (start l).first k (records l) (entered_before l)) (subst (λ (t : ShownRecords C). machine.IsGrant t (decided.want (start l).config (handles l) t) grant) (sym is) known.1)) known.2,
-        same_shown _ _ refl refl refl (changed false l grant.count shut _ later) (gets_told l n known.2) (ap (λ (o : Option (Standing C)). record (shown l).counts { broken = (shown l).counts.broken + one broken; max_lifetime = (shown l).counts.max_lifetime + one (not broken && is_expired (start l).config.max_lifetime (max (latest l) at) (birth_in o)) }) (shown_record l (shown l) refl k)),
-      ))
-
   -- what the code knows when a connection has come back
   pub record Returned (s : Shown C) (at k : ℕ) (c : C) (broken : Bool) (now birth : ℕ) (aged : Bool) : Type 0 where
     pub fit : IsFitting s (PutBack k c broken)
@@ -232,18 +219,37 @@ module _ {C : Type 0} where
   old_is : (s : Shown C) (at k : ℕ) (c : C) (broken : Bool) (now birth : ℕ) (aged : Bool) → Returned s at k c broken now birth aged → decided.is_old s at k ≡ aged
   old_is s at k c broken now birth aged r = sym (r.aged_is ∙ ap (λ (n : ℕ). is_expired s.config.max_lifetime n birth) r.now_is ∙ ap (is_expired s.config.max_lifetime (max s.latest at)) r.birth_is)
 
-  pub meets_returned_kept : {s : Shown C} {at k : ℕ} {c : C} {broken : Bool} {now birth : ℕ} {aged : Bool} {rs : ShownRecords C} {n : Option ℕ} {gs : ShownGets} → Notices s n gs → Returned s at k c broken now birth aged → (broken || (aged || eqb s.handles 0)) ≡ false → rs ≡ machine.after_entry false k (record { place = Idle c; birth = birth; entered = now }) s.records → IsStep s at (PutBack k c broken) (Kept k n) (record s { latest = now; records = rs; gets = gs })
-  meets_returned_kept {s} {at} {k} {c} {broken} {now} {birth} {aged} {rs} {n} {gs} told r keep rs_is = meets_kept s at k c broken now rs n gs told r.fit r.now_is
-      (ap (λ (b : Bool). broken || (b || eqb s.handles 0)) (old_is s at k c broken now birth aged r) ∙ keep)
-      (rs_is ∙ ap (λ (n : ℕ). machine.after_entry false k (record { place = Idle c; birth = n; entered = now }) s.records) r.birth_is)
+  -- so what the code decides of it is what is decided
+  closing_is : {s : Shown C} {at k : ℕ} {c : C} {broken : Bool} {now birth : ℕ} {aged closing : Bool} → Returned s at k c broken now birth aged → (broken || (aged || eqb s.handles 0)) ≡ closing → decided.closes s at k broken ≡ closing
+  closing_is {s} {at} {k} {c} {broken} {now} {birth} {aged} r is = ap (λ (b : Bool). broken || (b || eqb s.handles 0)) (old_is s at k c broken now birth aged r) ∙ is
 
-  pub meets_returned_closed : {s : Shown C} {at k : ℕ} {c : C} {broken : Bool} {now birth : ℕ} {aged : Bool} {shut : ShownRecords C} {wanted : ℕ} {grant : Grant} {rs : ShownRecords C} {n : Option ℕ} {gs : ShownGets} {x y : ℕ} → Notices s n gs → Returned s at k c broken now birth aged → (broken || (aged || eqb s.handles 0)) ≡ true → shut ≡ machine.after_close false k s.records → wanted ≡ decided.want s.config s.handles shut → machine.IsGrant shut wanted grant → rs ≡ machine.after_grant false grant shut → x ≡ one broken → y ≡ one (not broken && aged) → IsStep s at (PutBack k c broken) (Closed k grant n) (record s { latest = now; records = rs; gets = gs; counts = record s.counts { broken = s.counts.broken + x; max_lifetime = s.counts.max_lifetime + y } })
-  meets_returned_closed {s} {at} {k} {c} {broken} {now} {birth} {aged} {shut} {wanted} {grant} {rs} {n} {gs} {x} {y} told r closing shut_is wanted_is granted rs_is x_is y_is = meets_closed s at k c broken now grant rs n gs _ told r.fit r.now_is
-      (ap (λ (b : Bool). broken || (b || eqb s.handles 0)) (old_is s at k c broken now birth aged r) ∙ closing)
-      (subst (λ (t : ShownRecords C). machine.IsGrant t (decided.want s.config s.handles t) grant) shut_is (subst (λ (m : ℕ). machine.IsGrant shut m grant) wanted_is granted))
-      (rs_is ∙ ap (machine.after_grant false grant) shut_is)
-      (ap (λ (n : ℕ). record s.counts { broken = s.counts.broken + n; max_lifetime = s.counts.max_lifetime + y }) x_is
-      ∙ ap (λ (n : ℕ). record s.counts { broken = s.counts.broken + one broken; max_lifetime = s.counts.max_lifetime + n }) (y_is ∙ ap (λ (b : Bool). one (not broken && b)) (sym (old_is s at k c broken now birth aged r))))
+  pub meets_returned_kept : {s : Shown C} {at k : ℕ} {c : C} {broken : Bool} {now birth : ℕ} {aged : Bool} {rs : ShownRecords C} {n : Option ℕ} {gs : ShownGets} → Notices s n gs → Returned s at k c broken now birth aged → (broken || (aged || eqb s.handles 0)) ≡ false → rs ≡ machine.after_entry false k (record { place = Idle c; birth = birth; entered = now }) s.records → IsStep s at (PutBack k c broken) (Kept k n) (record s { latest = now; records = rs; gets = gs })
+  meets_returned_kept {s} {at} {k} {c} {broken} {now} {birth} {aged} {rs} {n} {gs} told r keep rs_is = meets_by (λ t. (decided.closes t at k broken ≡ false) × (n ≡ slice_get t.gets.waiting 0)) (λ t. record t { latest = max t.latest at; records = machine.after_entry false k (record { place = Idle c; birth = birth_in (get t.records.places k); entered = max t.latest at }) t.records; gets = machine.after_notice n t.gets }) s _ at (PutBack k c broken) (Kept k n) r.fit (closing_is r keep, told.who)
+      (same_shown _ _ refl r.now_is refl (rs_is ∙ ap (λ (m : ℕ). machine.after_entry false k (record { place = Idle c; birth = m; entered = now }) s.records) r.birth_is ∙ ap (λ (m : ℕ). machine.after_entry false k (record { place = Idle c; birth = birth_in (get s.records.places k); entered = m }) s.records) r.now_is) told.after refl)
+      (λ l legal f known.
+      let st = standing_is is_guarded (record_of l k) f in
+      let few : conns_of (records l) + approved_of (records l) ≤ peak l = peak_holds l in
+      let m : ℕ = max (latest l) at in
+      let is = shown-entered (start l).first (position l) (peak l) (records l) false k st.0 c (birth_in (record_of l k)) m (at_entry c m (position l)) (entered_before l) st.1 (guarded_is st.0.place st.2) (λ r e. ap (λ (o : Option (Standing C)). entry c (birth_in o) m (position l)) (e ∙ sym st.1)) in
+      (keeps (closes_is l at k broken ∙ known.0) known.1, same_shown _ _ refl refl refl (ap machine.with_peak is ∙ raised_same _ (omega arith) ∙ ap (λ (o : Option (Standing C)). machine.after_entry false k (record { place = Idle c; birth = birth_in o; entered = m }) (shown l).records) (shown_record l (shown l) refl k)) (gets_told l n known.1) refl))
+
+  -- the statistics after a return that closed
+  abbrev counted : Shown C → ℕ → ℕ → Bool → Counts
+  counted s at k broken = record s.counts { broken = s.counts.broken + one broken; max_lifetime = s.counts.max_lifetime + one (not broken && decided.is_old s at k) }
+
+  pub meets_returned_closed : {s : Shown C} {at k : ℕ} {c : C} {broken : Bool} {now birth : ℕ} {aged : Bool} {grant : Grant} {rs : ShownRecords C} {n : Option ℕ} {gs : ShownGets} {x y : ℕ} → Notices s n gs → Returned s at k c broken now birth aged → (broken || (aged || eqb s.handles 0)) ≡ true → Grants s false (machine.after_close false k s.records) grant rs → x ≡ one broken → y ≡ one (not broken && aged) → IsStep s at (PutBack k c broken) (Closed k grant n) (record s { latest = now; records = rs; gets = gs; counts = record s.counts { broken = s.counts.broken + x; max_lifetime = s.counts.max_lifetime + y } })
+  meets_returned_closed {s} {at} {k} {c} {broken} {now} {birth} {aged} {grant} {rs} {n} {gs} {x} {y} told r closing granted x_is y_is = meets_by (λ t. (decided.closes t at k broken ≡ true) × machine.IsGrant (machine.after_close false k t.records) (decided.want t.config t.handles (machine.after_close false k t.records)) grant × (n ≡ slice_get t.gets.waiting 0)) (λ t. record t { latest = max t.latest at; records = machine.after_grant false grant (machine.after_close false k t.records); gets = machine.after_notice n t.gets; counts = counted t at k broken }) s _ at (PutBack k c broken) (Closed k grant n) r.fit (closing_is r closing, granted.granted, told.who)
+      (same_shown _ _ refl r.now_is refl granted.after told.after
+      (ap (λ (m : ℕ). record s.counts { broken = s.counts.broken + m; max_lifetime = s.counts.max_lifetime + y }) x_is
+      ∙ ap (λ (m : ℕ). record s.counts { broken = s.counts.broken + one broken; max_lifetime = s.counts.max_lifetime + m }) (y_is ∙ ap (λ (b : Bool). one (not broken && b)) (sym (old_is s at k c broken now birth aged r)))))
+      (λ l legal f known.
+      let st = standing_is is_guarded (record_of l k) f in
+      let shut : List (Numbered (Standing C)) = update (start l).first k after_end (records l) in
+      let is = shown-closed (start l).first (position l) (peak l) (records l) false k st.0 st.1 (guarded_is st.0.place st.2) in
+      let later = shown-closed (start l).first (suc (position l)) (peak l) (records l) false k st.0 st.1 (guarded_is st.0.place st.2) ∙ ap (machine.after_close false k) (later_shown l) in (
+        returns_closed (closes_is l at k broken ∙ known.0) (want_is l shut grant _ (ended_before (position l) (start l).first k (records l) (entered_before l)) is known.1) known.2,
+        same_shown _ _ refl refl refl (changed false l grant.count shut _ later) (gets_told l n known.2) (ap (λ (o : Option (Standing C)). record (shown l).counts { broken = (shown l).counts.broken + one broken; max_lifetime = (shown l).counts.max_lifetime + one (not broken && is_expired (start l).config.max_lifetime (max (latest l) at) (birth_in o)) }) (shown_record l (shown l) refl k)),
+      ))
 
   -- ---- begin
 
@@ -296,11 +302,10 @@ module _ {C : Type 0} where
   line_test : (l : Ledger C) (g : ℕ) (b : Bool) → gets_stand is_unnotified (get (shown l).gets.places g) ≡ b → gets_stand is_unnotified (get_of l g) ≡ b
   line_test l g b is = ap (gets_stand is_unnotified) (shown_get l (shown l) refl g) ∙ is
 
-  pub meets_served : {s : Shown C} {at g k : ℕ} {taken : ShownRecords C} {wanted : ℕ} {grant : Grant} {now : ℕ} {o : Option Getting} {since : Option ℕ} {rs : ShownRecords C} {gs : ShownGets} (was : Counters) {is : Counters} → Tries s at g now o → gets_stand is_unnotified o ≡ false → first_of s.config.queue_strategy s.records.idle ≡ Some k → taken ≡ machine.after_take Guarded k s.records → wanted ≡ decided.want s.config s.handles taken → machine.IsGrant taken wanted grant → rs ≡ machine.after_grant false grant taken → gs ≡ machine.after_get_end g s.gets → s.counts ≡ counts_held was → since ≡ first_wait_of o → is ≡ served was now since → IsStep s at (Try g) (Served k grant) (record s { latest = now; records = rs; gets = gs; counts = counts_held is })
-  meets_served {s} {at} {g} {k} {taken} {wanted} {grant} {now} {o} {since} {rs} {gs} was {is} t not_waiting first taken_is wanted_is granted_is rs_is gs_is were since_is counted =
-      let granted : machine.IsGrant (machine.after_take Guarded k s.records) (decided.want s.config s.handles (machine.after_take Guarded k s.records)) grant = subst (λ (x : ShownRecords C). machine.IsGrant x (decided.want s.config s.handles x) grant) taken_is (subst (λ (m : ℕ). machine.IsGrant taken m grant) wanted_is granted_is) in
-      meets_by (λ x. (gets_stand is_unnotified (get x.gets.places g) ≡ false) × (first_of x.config.queue_strategy x.records.idle ≡ Some k) × machine.IsGrant (machine.after_take Guarded k x.records) (decided.want x.config x.handles (machine.after_take Guarded k x.records)) grant × (x.counts ≡ counts_held was)) (λ x. record x { latest = max x.latest at; records = machine.after_grant false grant (machine.after_take Guarded k x.records); gets = machine.after_get_end g x.gets; counts = counts_held (served was (max x.latest at) (first_wait_of (get x.gets.places g))) }) s _ at (Try g) (Served k grant) t.fit (ap (gets_stand is_unnotified) (sym t.get_is) ∙ not_waiting, first, granted, were)
-      (same_shown _ _ refl t.now_is refl (rs_is ∙ ap (machine.after_grant false grant) taken_is) gs_is (ap counts_held (counted ∙ ap (λ (m : ℕ). served was m since) t.now_is ∙ ap (served was (max s.latest at)) (since_is ∙ ap (λ (x : Option Getting). first_wait_of x) t.get_is))))
+  pub meets_served : {s : Shown C} {at g k : ℕ} {grant : Grant} {now : ℕ} {o : Option Getting} {since : Option ℕ} {rs : ShownRecords C} {gs : ShownGets} (was : Counters) {is : Counters} → Tries s at g now o → gets_stand is_unnotified o ≡ false → first_of s.config.queue_strategy s.records.idle ≡ Some k → Grants s false (machine.after_take Guarded k s.records) grant rs → gs ≡ machine.after_get_end g s.gets → s.counts ≡ counts_held was → since ≡ first_wait_of o → is ≡ served was now since → IsStep s at (Try g) (Served k grant) (record s { latest = now; records = rs; gets = gs; counts = counts_held is })
+  meets_served {s} {at} {g} {k} {grant} {now} {o} {since} {rs} {gs} was {is} t not_waiting first granted gs_is were since_is counted =
+      meets_by (λ x. (gets_stand is_unnotified (get x.gets.places g) ≡ false) × (first_of x.config.queue_strategy x.records.idle ≡ Some k) × machine.IsGrant (machine.after_take Guarded k x.records) (decided.want x.config x.handles (machine.after_take Guarded k x.records)) grant × (x.counts ≡ counts_held was)) (λ x. record x { latest = max x.latest at; records = machine.after_grant false grant (machine.after_take Guarded k x.records); gets = machine.after_get_end g x.gets; counts = counts_held (served was (max x.latest at) (first_wait_of (get x.gets.places g))) }) s _ at (Try g) (Served k grant) t.fit (ap (gets_stand is_unnotified) (sym t.get_is) ∙ not_waiting, first, granted.granted, were)
+      (same_shown _ _ refl t.now_is refl granted.after gs_is (ap counts_held (counted ∙ ap (λ (m : ℕ). served was m since) t.now_is ∙ ap (served was (max s.latest at)) (since_is ∙ ap (λ (x : Option Getting). first_wait_of x) t.get_is))))
       (λ l legal f known.
       let st = trying_is l g f in
       let off : (start l).config.test_on_check_out ≡ false = unchecked l g (and_right (is_brought l (Try g)) _ f).0 in
@@ -309,7 +314,7 @@ module _ {C : Type 0} where
       let is : shown_records (start l).first (position l) (peak l) out ≡ machine.after_take Guarded k (shown l).records = shown-taken (start l).first (position l) (peak l) (records l) Guarded k j refl refl refl known.1 in
       let first_later : slice_get (shown_records (start l).first (suc (position l)) (peak l) (records l)).idle j ≡ Some k = ap (λ (x : ShownRecords C). slice_get x.idle j) (later_shown l) ∙ known.1 in
       let later : shown_records (start l).first (suc (position l)) (peak l) out ≡ machine.after_take Guarded k (shown l).records = shown-taken (start l).first (suc (position l)) (peak l) (records l) Guarded k j refl refl refl first_later ∙ ap (machine.after_take Guarded k) (later_shown l) in (
-        serves (line_test l g false known.0) off known.1 (want_is l out grant (put_before (position l) (start l).first k Guarded (records l) refl (entered_before l)) (subst (λ (x : ShownRecords C). machine.IsGrant x (decided.want (start l).config (handles l) x) grant) (sym is) known.2)),
+        serves (line_test l g false known.0) off known.1 (want_is l out grant _ (put_before (position l) (start l).first k Guarded (records l) refl (entered_before l)) is known.2),
         same_shown _ _ refl refl refl (changed false l grant.count out _ later) (shown-ended (start l).first_get (position l) (get_peak l) (gets l) g st.0 (waited_before l) (get_peak_holds l) st.1) (count_served l at g k grant was known.3),
       ))
 

@@ -5,7 +5,7 @@ use Rattle.bb8_tables.specs.Keys.{notified_of}
 use Rattle.bb8_core.specs.Pool.{view_of}
 use Rattle.bb8_core.proofs.Fitting.{due_fits, fit_guarded, closed_few}
 use Rattle.bb8_ledger.proofs.Laws.{one_or_other}
-use Rattle.bb8_core.proofs.Steps.{returned, meets_returned_kept, meets_returned_closed, led, at_view}
+use Rattle.bb8_core.proofs.Steps.{grants, returned, meets_returned_kept, meets_returned_closed, led, at_view}
 use Rattle.bb8_core.proofs.internals.PoolInternals.put_back.Goals as goal
 
 pub close-requires : goal.close-requires
@@ -25,7 +25,7 @@ grant-grant-requires g c = omega (arith, due_fits (view_of c.self.inside) _ c.se
 
 pub returns-then-is_closing-clause-step : goal.returns-then-is_closing-clause-step
 returns-then-is_closing-clause-step g c = at_view c.args.at.0 (acts.PutBack c.args.k.number c.args.conn c.args.broken) (answers.Closed c.args.k.number c.grant-grant.result (notified_of c.notify.result)) c.self.view_is
-    (meets_returned_closed (record { who = c.notify.ensures.value; after = c.notify.ensures.state }) (returned c.self.view_is c.requires c.max-now.ensures c.birth-birth.ensures c.is_expired-expired.ensures) (sym c.is_closing.ensures ∙ c.if-is_closing.true) c.close.ensures.state c.want-wanted.ensures c.grant-grant.ensures.granted c.grant-grant.ensures.state c.one.ensures.value c.one_first.ensures.value)
+    (meets_returned_closed (record { who = c.notify.ensures.value; after = c.notify.ensures.state }) (returned c.self.view_is c.requires c.max-now.ensures c.birth-birth.ensures c.is_expired-expired.ensures) (sym c.is_closing.ensures ∙ c.if-is_closing.true) (grants c.close.ensures.state c.want-wanted.ensures c.grant-grant.ensures.granted c.grant-grant.ensures.state) c.one.ensures.value c.one_first.ensures.value)
 
 pub invariant_of-self : goal.invariant_of-self
 invariant_of-self g c = led _ c.args.at.0 (acts.PutBack c.args.k.number c.args.conn c.args.broken) (answers.Closed c.args.k.number c.grant-grant.result (notified_of c.notify.result)) c.self.view_is c.self.invariant (returns-then-is_closing-clause-step g c)

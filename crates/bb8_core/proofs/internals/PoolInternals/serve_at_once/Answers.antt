@@ -8,7 +8,7 @@ use Rattle.bb8_types.specs.Settings.{settings_of}
 use Rattle.bb8_core.specs.Shown.{Shown}
 use Rattle.bb8_tables.specs.Views.{ShownRecords}
 use Rattle.bb8_core.proofs.Fitting.{shown_record, shown_fits, due_fits}
-use Rattle.bb8_core.proofs.Steps.{led, at_view, fits_view}
+use Rattle.bb8_core.proofs.Steps.{grants, led, at_view, fits_view}
 use Rattle.bb8_core.proofs.AtOnce.{between, meets_begun_between, meets_served_between}
 use Rattle.bb8_core.proofs.internals.PoolInternals.serve_at_once.Goals as goal
 
@@ -31,7 +31,7 @@ returns-in-Some-clause-some g c =
     let was = c.in-Some.ensures.some.1 in (
       between a c.max-now.result,
       at_view c.args.at.0 acts.Begin _ c.self.view_is (meets_begun_between c.args.at.0 c.pass-get.ensures.number (fits_view acts.Begin c.self.view_is c.requires.begin) c.max-now.ensures (c.has_room.ensures.number c.if-not-has_room.false)),
-      (meets_served_between a c.self.inside.counters c.pass-get.ensures.number off c.max-now.ensures c.in-Some.ensures.some.0 c.in-Some.ensures.some.2 c.want-wanted.ensures c.grant-grant.ensures.granted c.grant-grant.ensures.state c.pass-get.ensures.state refl c.serve.ensures).meets,
+      (meets_served_between a c.self.inside.counters c.pass-get.ensures.number off c.max-now.ensures c.in-Some.ensures.some.0 (grants c.in-Some.ensures.some.2 c.want-wanted.ensures c.grant-grant.ensures.granted c.grant-grant.ensures.state) c.pass-get.ensures.state refl c.serve.ensures).meets,
       λ l legal means. (record { place = Idle c.in-Some.conn; birth = was.0; entered = was.1 }, shown_record l (between a c.max-now.result) means c.in-Some.key.number ∙ was.2, refl),
     )
 

@@ -5,7 +5,7 @@ use Rattle.bb8_ledger.specs.Answers as answers
 use Rattle.bb8_core.specs.Pool.{view_of}
 use Rattle.bb8_types.specs.Grants.{IsNoGrant}
 use Rattle.bb8_core.proofs.Fitting.{shown_record, due_fits, fit_try, fit_waits, ended_few}
-use Rattle.bb8_core.proofs.Steps.{tries, meets_served, meets_waits_on, meets_waits, due_waiting, led, at_view}
+use Rattle.bb8_core.proofs.Steps.{grants, tries, meets_served, meets_waits_on, meets_waits, due_waiting, led, at_view}
 use Rattle.bb8_core.proofs.internals.PoolInternals.try_get.Goals as goal
 
 pub returns-then-is_unnotified-clause-step : goal.returns-then-is_unnotified-clause-step
@@ -42,7 +42,7 @@ grant-grant-requires-in-Some g c = omega (arith, due_fits (view_of c.self.inside
 
 pub returns-in-Some-clause-step : goal.returns-in-Some-clause-step
 returns-in-Some-clause-step g c = at_view c.args.at.0 (acts.Try c.args.get.number) (answers.Served c.in-Some.key.number c.grant-grant-in-Some.result) c.self.view_is
-    (meets_served c.self.inside.counters (tries c.self.view_is c.requires c.max-now.ensures c.getting-getting.ensures) (sym c.is_unnotified.ensures ∙ c.if-is_unnotified.false) c.in-Some.ensures.some.0 c.in-Some.ensures.some.2 c.want-wanted.ensures c.grant-grant-in-Some.ensures.granted c.grant-grant-in-Some.ensures.state c.finish.ensures.state refl c.first_wait.ensures c.serve.ensures)
+    (meets_served c.self.inside.counters (tries c.self.view_is c.requires c.max-now.ensures c.getting-getting.ensures) (sym c.is_unnotified.ensures ∙ c.if-is_unnotified.false) c.in-Some.ensures.some.0 (grants c.in-Some.ensures.some.2 c.want-wanted.ensures c.grant-grant-in-Some.ensures.granted c.grant-grant-in-Some.ensures.state) c.finish.ensures.state refl c.first_wait.ensures c.serve.ensures)
 
 pub invariant_of-self-in-Some : goal.invariant_of-self-in-Some
 invariant_of-self-in-Some g c = led _ c.args.at.0 (acts.Try c.args.get.number) (answers.Served c.in-Some.key.number c.grant-grant-in-Some.result) c.self.view_is c.self.invariant (returns-in-Some-clause-step g c)
