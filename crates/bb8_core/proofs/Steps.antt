@@ -109,8 +109,8 @@ module _ {C : Type 0} where
   }
 
   -- the same of an event that changes the latest moment alone
-  meets_quiet : (Known : Shown C → Type 0) (s new : Shown C) (at : ℕ) (e : Act C) (a : Answer) → IsFitting s e → Known s → new ≡ record s { latest = max s.latest at } → ((l : Ledger C) → (latest (Later l at e a) ≡ max (latest l) at) × (handles (Later l at e a) ≡ handles l) × (counts (Later l at e a) ≡ counts l)) → ((l : Ledger C) → IsLegal l → takes l e ≡ true → Known (shown l) → Row l at e a × (records (Later l at e a) ≡ records l) × (gets (Later l at e a) ≡ gets l)) → IsStep s at e a new
-  meets_quiet Known s new at e a fit known is quiet row = meets_by Known (λ t. record t { latest = max t.latest at }) s new at e a fit known is (λ l legal f k.
+  meets_quiet : (Known : Shown C → Type 0) (s : Shown C) {now : ℕ} {rs : ShownRecords C} {gs : ShownGets} (at : ℕ) (e : Act C) (a : Answer) → IsFitting s e → Known s → now ≡ max s.latest at → rs ≡ s.records → gs ≡ s.gets → ((l : Ledger C) → (latest (Later l at e a) ≡ max (latest l) at) × (handles (Later l at e a) ≡ handles l) × (counts (Later l at e a) ≡ counts l)) → ((l : Ledger C) → IsLegal l → takes l e ≡ true → Known (shown l) → Row l at e a × (records (Later l at e a) ≡ records l) × (gets (Later l at e a) ≡ gets l)) → IsStep s at e a (record s { latest = now; records = rs; gets = gs })
+  meets_quiet Known s at e a fit known now_is rs_is gs_is quiet row = meets_by Known (λ t. record t { latest = max t.latest at }) s _ at e a fit known (same_shown _ _ refl now_is refl rs_is gs_is refl) (λ l legal f k.
       let same = quiet l in
       let r = row l legal f k in (
         r.0,
@@ -175,10 +175,10 @@ module _ {C : Type 0} where
       (claims known.0 known.1, same_shown _ _ refl refl refl (still_raised l _ _ is (peak_holds l)) (gets_kept l) refl))
 
   pub meets_claim_none : {s : Shown C} {at now : ℕ} {rs : ShownRecords C} → now ≡ max s.latest at → s.handles ≢ 0 → slice_get s.records.unclaimed 0 ≡ None → rs ≡ s.records → IsStep s at Claim (answers.Claimed None) (record s { latest = now; records = rs })
-  meets_claim_none {s} {at} {now} {rs} now_is alive_now none rs_is = meets_quiet (λ t. (0 < t.handles) × (slice_get t.records.unclaimed 0 ≡ None)) s _ at Claim (answers.Claimed None) (λ l legal means. refl) (open_now _ alive_now, none) (same_shown _ _ refl now_is refl rs_is refl refl) (λ l. (refl, refl, refl)) (λ l legal f known. (claims known.0 known.1, refl, refl))
+  meets_claim_none {s} {at} {now} {rs} now_is alive_now none rs_is = meets_quiet (λ t. (0 < t.handles) × (slice_get t.records.unclaimed 0 ≡ None)) s at Claim (answers.Claimed None) (λ l legal means. refl) (open_now _ alive_now, none) now_is rs_is refl (λ l. (refl, refl, refl)) (λ l legal f known. (claims known.0 known.1, refl, refl))
 
   pub meets_claim_ended : {s : Shown C} {at now : ℕ} → now ≡ max s.latest at → s.handles ≡ 0 → IsStep s at Claim Ended (record s { latest = now })
-  meets_claim_ended {s} {at} {now} now_is ended_now = meets_quiet (λ t. t.handles ≡ 0) s _ at Claim Ended (λ l legal means. refl) ended_now (same_shown _ _ refl now_is refl refl refl refl) (λ l. (refl, refl, refl)) (λ l legal f none. (claim_ended none, refl, refl))
+  meets_claim_ended {s} {at} {now} now_is ended_now = meets_quiet (λ t. t.handles ≡ 0) s at Claim Ended (λ l legal means. refl) ended_now now_is refl refl (λ l. (refl, refl, refl)) (λ l legal f none. (claim_ended none, refl, refl))
 
   -- ---- opened
 
@@ -258,15 +258,15 @@ module _ {C : Type 0} where
       (λ l legal f known. (begins known.1 (subst (λ (m : ℕ). m < end_of_numbers) (sym known.1) known.0), same_shown _ _ refl refl refl (records_kept l) (shown-begun (start l).first_get (position l) (get_peak l) (gets l) (waited_before l) (get_peak_holds l)) refl))
 
   pub meets_memory : {s : Shown C} (at : ℕ) {now : ℕ} {gs : ShownGets} → IsFitting s Begin → now ≡ max s.latest at → s.gets.next < end_of_numbers → s.gets.alive ≡ s.gets.peak → gs ≡ s.gets → IsStep s at Begin Memory (record s { latest = now; gets = gs })
-  meets_memory {s} at {now} {gs} fit now_is few full gs_is = meets_quiet (λ t. (t.gets.next < end_of_numbers) × (t.gets.alive ≡ t.gets.peak)) s _ at Begin Memory fit (few, full) (same_shown _ _ refl now_is refl refl gs_is refl) (λ l. (refl, refl, refl)) (λ l legal f known. (begin_refused known.0 known.1, refl, refl))
+  meets_memory {s} at {now} {gs} fit now_is few full gs_is = meets_quiet (λ t. (t.gets.next < end_of_numbers) × (t.gets.alive ≡ t.gets.peak)) s at Begin Memory fit (few, full) now_is refl gs_is (λ l. (refl, refl, refl)) (λ l legal f known. (begin_refused known.0 known.1, refl, refl))
 
   pub meets_exhausted : {s : Shown C} (at : ℕ) {now : ℕ} → IsFitting s Begin → now ≡ max s.latest at → end_of_numbers ≤ s.gets.next → IsStep s at Begin Exhausted (record s { latest = now })
-  meets_exhausted {s} at {now} fit now_is many = meets_quiet (λ t. end_of_numbers ≤ t.gets.next) s _ at Begin Exhausted fit many (same_shown _ _ refl now_is refl refl refl refl) (λ l. (refl, refl, refl)) (λ l legal f known. (begin_exhausted known, refl, refl))
+  meets_exhausted {s} at {now} fit now_is many = meets_quiet (λ t. end_of_numbers ≤ t.gets.next) s at Begin Exhausted fit many now_is refl refl (λ l. (refl, refl, refl)) (λ l legal f known. (begin_exhausted known, refl, refl))
 
   -- ---- state
 
   pub meets_state : {s : Shown C} {at now : ℕ} {f : Figures} → now ≡ max s.latest at → ((l : Ledger C) → Means l s → f ≡ figures l) → IsStep s at State (ShownFigures f) (record s { latest = now })
-  meets_state {s} {at} {now} {f} now_is told = meets_quiet (λ t. (l : Ledger C) → Means l t → f ≡ figures l) s _ at State (ShownFigures f) (λ l legal means. refl) told (same_shown _ _ refl now_is refl refl refl refl) (λ l. (refl, refl, refl)) (λ l legal fit known. (subst (λ (x : Figures). Row l at State (ShownFigures x)) (sym (known l refl)) shows, refl, refl))
+  meets_state {s} {at} {now} {f} now_is told = meets_quiet (λ t. (l : Ledger C) → Means l t → f ≡ figures l) s at State (ShownFigures f) (λ l legal means. refl) told now_is refl refl (λ l. (refl, refl, refl)) (λ l legal fit known. (subst (λ (x : Figures). Row l at State (ShownFigures x)) (sym (known l refl)) shows, refl, refl))
 
   -- what a state shows is what its ledger tells
   pub figures_told : (s : Shown C) (l : Ledger C) → Means l s → record { connections = s.records.conns; idle = length s.records.idle; counts = s.counts } ≡ figures l
@@ -320,14 +320,14 @@ module _ {C : Type 0} where
 
   -- a get that waits and was not notified waits on
   pub meets_waits_on : {s : Shown C} {at g now : ℕ} {o : Option Getting} {grant : Grant} → Tries s at g now o → gets_stand is_unnotified o ≡ true → IsNoGrant s.records.next grant → IsStep s at (Try g) (answers.Waiting grant) (record s { latest = now })
-  meets_waits_on {s} {at} {g} {now} {o} {grant} t waiting nothing = meets_quiet (λ x. (gets_stand is_unnotified (get x.gets.places g) ≡ true) × IsNoGrant x.records.next grant) s _ at (Try g) (answers.Waiting grant) t.fit (ap (gets_stand is_unnotified) (sym t.get_is) ∙ waiting, nothing) (same_shown _ _ refl t.now_is refl refl refl refl) (λ l. (refl, refl, refl))
+  meets_waits_on {s} {at} {g} {now} {o} {grant} t waiting nothing = meets_quiet (λ x. (gets_stand is_unnotified (get x.gets.places g) ≡ true) × IsNoGrant x.records.next grant) s at (Try g) (answers.Waiting grant) t.fit (ap (gets_stand is_unnotified) (sym t.get_is) ∙ waiting, nothing) t.now_is refl refl (λ l. (refl, refl, refl))
       (λ l legal f known.
       let on : gets_stand is_unnotified (get_of l g) ≡ true = ap (gets_stand is_unnotified) (shown_get l (shown l) refl g) ∙ known.0 in
       (waits_on on known.1, ap (λ (m : ℕ). with_approvals false m (records l)) known.1.count, waits_on_gets l at g on))
 
   -- what is due to a get that waits
-  pub due_waiting : (s : Shown C) (taken : ShownRecords C) (used asked open_now alive_now d : ℕ) → taken ≡ s.records → used ≡ taken.conns + taken.approved → open_now ≡ taken.approved → alive_now ≡ s.gets.alive → asked ≡ one (ltb open_now alive_now) → d ≡ due s.config s.handles used asked → d ≡ due s.config s.handles (s.records.conns + s.records.approved) (one (ltb s.records.approved s.gets.alive))
-  due_waiting s taken used asked open_now alive_now d taken_is used_is open_is alive_is asked_is d_is =
+  pub due_waiting : (s : Shown C) {taken : ShownRecords C} {used asked open_now alive_now d : ℕ} → taken ≡ s.records → used ≡ taken.conns + taken.approved → open_now ≡ taken.approved → alive_now ≡ s.gets.alive → asked ≡ one (ltb open_now alive_now) → d ≡ due s.config s.handles used asked → d ≡ due s.config s.handles (s.records.conns + s.records.approved) (one (ltb s.records.approved s.gets.alive))
+  due_waiting s {taken} {used} {asked} {open_now} {alive_now} taken_is used_is open_is alive_is asked_is d_is =
       d_is
       ∙ ap (λ (n : ℕ). due s.config s.handles n asked) (used_is ∙ ap (λ (t : ShownRecords C). t.conns + t.approved) taken_is)
       ∙ ap (due s.config s.handles (s.records.conns + s.records.approved)) (asked_is ∙ ap (λ (n : ℕ). one (ltb n alive_now)) (open_is ∙ ap (λ (t : ShownRecords C). t.approved) taken_is) ∙ ap (λ (n : ℕ). one (ltb s.records.approved n)) alive_is)
@@ -384,16 +384,16 @@ module _ {C : Type 0} where
   -- ---- look
 
   pub meets_look : {s : Shown C} {at now : ℕ} {alive_now : Bool} → now ≡ max s.latest at → alive_now ≡ ltb 0 s.handles → IsStep s at Look (Looked now alive_now) (record s { latest = now })
-  meets_look {s} {at} {now} {alive_now} now_is alive_is = meets_quiet (λ t. (now ≡ max t.latest at) × (alive_now ≡ ltb 0 t.handles)) s _ at Look (Looked now alive_now) (λ l legal means. refl) (now_is, alive_is) (same_shown _ _ refl now_is refl refl refl refl) (λ l. (refl, refl, refl)) (λ l legal f known. (looks known.0 known.1, refl, refl))
+  meets_look {s} {at} {now} {alive_now} now_is alive_is = meets_quiet (λ t. (now ≡ max t.latest at) × (alive_now ≡ ltb 0 t.handles)) s at Look (Looked now alive_now) (λ l legal means. refl) (now_is, alive_is) now_is refl refl (λ l. (refl, refl, refl)) (λ l legal f known. (looks known.0 known.1, refl, refl))
 
   -- ---- add
 
   -- a refusal changes the latest moment alone
   pub meets_add_broken : {s : Shown C} (at : ℕ) (c : C) {now : ℕ} → IsFitting s (Add c true) → now ≡ max s.latest at → IsStep s at (Add c true) Broken (record s { latest = now })
-  meets_add_broken {s} at c {now} fit now_is = meets_quiet (λ t. Unit {0}) s _ at (Add c true) Broken fit tt (same_shown _ _ refl now_is refl refl refl refl) (λ l. (refl, refl, refl)) (λ l legal f known. (add_broken, refl, refl))
+  meets_add_broken {s} at c {now} fit now_is = meets_quiet (λ t. Unit {0}) s at (Add c true) Broken fit tt now_is refl refl (λ l. (refl, refl, refl)) (λ l legal f known. (add_broken, refl, refl))
 
   pub meets_add_full : {s : Shown C} (at : ℕ) (c : C) {now : ℕ} → IsFitting s (Add c false) → now ≡ max s.latest at → s.records.conns + s.records.approved ≡ s.config.max_size → IsStep s at (Add c false) NoCapacity (record s { latest = now })
-  meets_add_full {s} at c {now} fit now_is full = meets_quiet (λ t. t.records.conns + t.records.approved ≡ t.config.max_size) s _ at (Add c false) NoCapacity fit full (same_shown _ _ refl now_is refl refl refl refl) (λ l. (refl, refl, refl)) (λ l legal f known. (add_full known, refl, refl))
+  meets_add_full {s} at c {now} fit now_is full = meets_quiet (λ t. t.records.conns + t.records.approved ≡ t.config.max_size) s at (Add c false) NoCapacity fit full now_is refl refl (λ l. (refl, refl, refl)) (λ l legal f known. (add_full known, refl, refl))
 
   -- what the code knows when one is added that is not broken, and there is room
   pub record Adds (s : Shown C) (at : ℕ) (c : C) (now : ℕ) : Type 0 where
@@ -405,10 +405,10 @@ module _ {C : Type 0} where
   has_room {c = c} is fit now_is used_is room = record { fit = fits_view (Add c false) is fit; now_is = now_is; room = λ e. room (used_is ∙ e) }
 
   pub meets_add_exhausted : {s : Shown C} {at : ℕ} {c : C} {now : ℕ} → Adds s at c now → end_of_numbers ≤ s.records.next → IsStep s at (Add c false) Withheld (record s { latest = now })
-  meets_add_exhausted {s} {at} {c} {now} h many = meets_quiet (λ t. (t.records.conns + t.records.approved ≢ t.config.max_size) × (end_of_numbers ≤ t.records.next)) s _ at (Add c false) Withheld h.fit (h.room, many) (same_shown _ _ refl h.now_is refl refl refl refl) (λ l. (refl, refl, refl)) (λ l legal f known. (add_exhausted known.0 known.1, refl, refl))
+  meets_add_exhausted {s} {at} {c} {now} h many = meets_quiet (λ t. (t.records.conns + t.records.approved ≢ t.config.max_size) × (end_of_numbers ≤ t.records.next)) s at (Add c false) Withheld h.fit (h.room, many) h.now_is refl refl (λ l. (refl, refl, refl)) (λ l legal f known. (add_exhausted known.0 known.1, refl, refl))
 
   pub meets_add_refused : {s : Shown C} {at : ℕ} {c : C} {now : ℕ} {rs : ShownRecords C} → Adds s at c now → s.records.next < end_of_numbers → s.records.conns + s.records.approved ≡ s.records.peak → rs ≡ s.records → IsStep s at (Add c false) Withheld (record s { latest = now; records = rs })
-  meets_add_refused {s} {at} {c} {now} {rs} h few full rs_is = meets_quiet (λ t. (t.records.conns + t.records.approved ≢ t.config.max_size) × (t.records.next < end_of_numbers) × (t.records.conns + t.records.approved ≡ t.records.peak)) s _ at (Add c false) Withheld h.fit (h.room, few, full) (same_shown _ _ refl h.now_is refl rs_is refl refl) (λ l. (refl, refl, refl)) (λ l legal f known. (add_refused known.0 known.1 known.2, refl, refl))
+  meets_add_refused {s} {at} {c} {now} {rs} h few full rs_is = meets_quiet (λ t. (t.records.conns + t.records.approved ≢ t.config.max_size) × (t.records.next < end_of_numbers) × (t.records.conns + t.records.approved ≡ t.records.peak)) s at (Add c false) Withheld h.fit (h.room, few, full) h.now_is rs_is refl (λ l. (refl, refl, refl)) (λ l legal f known. (add_refused known.0 known.1 known.2, refl, refl))
 
   pub meets_added : {s : Shown C} {at : ℕ} {k : ℕ} {c : C} {now : ℕ} {rs : ShownRecords C} {n : Option ℕ} {gs : ShownGets} → Adds s at c now → Notices s n gs → s.records.next < end_of_numbers → k ≡ s.records.next → rs ≡ machine.with_peak (machine.after_birth c now s.records) → IsStep s at (Add c false) (Added k n) (record s { latest = now; records = rs; gets = gs })
   meets_added {s} {at} {k} {c} {now} {rs} {n} {gs} h told few k_is rs_is = meets_by (λ t. (t.records.conns + t.records.approved ≢ t.config.max_size) × (t.records.next < end_of_numbers) × (k ≡ t.records.next) × (n ≡ slice_get t.gets.waiting 0)) (λ t. record t { latest = max t.latest at; records = machine.with_peak (machine.after_birth c (max t.latest at) t.records); gets = machine.after_notice n t.gets }) s _ at (Add c false) (Added k n) h.fit (h.room, few, k_is, told.who)

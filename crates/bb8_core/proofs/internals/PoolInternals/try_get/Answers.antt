@@ -23,7 +23,7 @@ wait-requires g c = fit_waits c.args.get.number c.self.view_is c.self.invariant 
 
 pub returns-in-None-clause-step : goal.returns-in-None-clause-step
 returns-in-None-clause-step g c = at_view c.args.at.0 (acts.Try c.args.get.number) (answers.Waiting c.grant-grant.result) c.self.view_is
-    (meets_waits (tries c.self.view_is c.requires c.max-now.ensures c.getting-getting.ensures) (sym c.is_unnotified.ensures ∙ c.if-is_unnotified.false) c.in-None.ensures.none.0 c.in-None.ensures.none.1 (due_waiting (view_of c.self.inside) c.take.new.self c.used-taken.result c.one-asked.result c.approved.result c.alive.result c.due-due.result c.in-None.ensures.none.1 c.used-taken.ensures c.approved.ensures c.alive.ensures c.one-asked.ensures.value c.due-due.ensures) c.grant-grant.ensures.granted c.grant-grant.ensures.state c.wait.ensures)
+    (meets_waits (tries c.self.view_is c.requires c.max-now.ensures c.getting-getting.ensures) (sym c.is_unnotified.ensures ∙ c.if-is_unnotified.false) c.in-None.ensures.none.0 c.in-None.ensures.none.1 (due_waiting (view_of c.self.inside) c.in-None.ensures.none.1 c.used-taken.ensures c.approved.ensures c.alive.ensures c.one-asked.ensures.value c.due-due.ensures) c.grant-grant.ensures.granted c.grant-grant.ensures.state c.wait.ensures)
 
 pub invariant_of-self-in-None : goal.invariant_of-self-in-None
 invariant_of-self-in-None g c = led _ c.args.at.0 (acts.Try c.args.get.number) (answers.Waiting c.grant-grant.result) c.self.view_is c.self.invariant (returns-in-None-clause-step g c)
