@@ -1,5 +1,5 @@
 -- A begin and a try in one step.
-use Rattle.std.proofs.Common.{◌≡◌, ℕ, ◌+◌, ◌<◌, max, min, Bool, false, not, ◌&&◌, cond, Option, Some, None, is_some, refl, sym, ap, ◌∙◌, arith, subst}
+use Rattle.std.proofs.Common.{◌≡◌, ℕ, ◌+◌, ◌<◌, max, Bool, false, not, ◌&&◌, cond, Option, Some, None, refl, sym, ap, ◌∙◌, arith, subst}
 use Rattle.std.specs.FinMap.{get}
 use Rattle.bb8_types.specs.declared.grants.Grant.{Grant}
 use Rattle.bb8_types.specs.declared.standing.Place.TheVariants.{Guarded}
@@ -9,17 +9,15 @@ use Rattle.bb8_tables.specs.declared.counters.Counters.{Counters}
 use Rattle.bb8_ledger.specs.Acts.{Begin, Try}
 use Rattle.bb8_types.specs.Figures.{Counts}
 use Rattle.bb8_ledger.specs.Answers.{Begun, Served}
-use Rattle.bb8_types.specs.Places.{first_of, gets_stand, micros_since, is_trying}
+use Rattle.bb8_types.specs.Places.{first_of, gets_stand, is_trying}
 use Rattle.bb8_tables.specs.Machine as machine
-use Rattle.bb8_core.specs.Decided as decided
-use Rattle.bb8_types.specs.Numbered.{one}
 use Rattle.bb8_tables.specs.Counted.{counts_held}
 use Rattle.bb8_core.specs.Shown.{Shown, IsFitting}
 use Rattle.bb8_tables.specs.Views.{ShownRecords, ShownGets}
 use Rattle.bb8_types.proofs.Numbered.{eqb_self, get_inserted}
 use Rattle.bb8_core.proofs.Runs.{takes_try}
 use Rattle.bb8_core.proofs.Steps.{IsStep, Grants, served, meets_begun, meets_served}
-use Rattle.bb8_types.specs.Bounds.{end_of_numbers, most_micros}
+use Rattle.bb8_types.specs.Bounds.{end_of_numbers}
 
 -- a get that has begun
 abbrev pub fresh : Getting

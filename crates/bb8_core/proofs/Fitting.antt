@@ -6,9 +6,9 @@ use Rattle.bb8_types.specs.declared.standing.Place.TheVariants.{Claimed, Guarded
 use Rattle.bb8_types.specs.declared.standing.Standing.{Standing}
 use Rattle.bb8_types.specs.declared.standing.Getting.{Getting}
 use Rattle.bb8_ledger.specs.Acts.{Try, GiveUp, Cancelled}
-use Rattle.bb8_ledger.specs.Ledger.{Ledger, conns, approved, alive, get_of, start, handles, records, gets, record_of}
+use Rattle.bb8_ledger.specs.Ledger.{Ledger, conns, approved, alive, get_of, start, records, gets, record_of}
 use Rattle.bb8_types.specs.Places.{holds, stands, gets_stand, is_unnotified, is_claimed, is_guarded}
-use Rattle.bb8_ledger.specs.Table.{takes, agree, IsLegal, fits}
+use Rattle.bb8_ledger.specs.Table.{takes, agree, IsLegal}
 use Rattle.bb8_core.specs.Shown.{Shown, HasLedger, IsFitting, Means}
 use Rattle.bb8_types.proofs.Places.{standing_is, claimed_is, guarded_is, and_right}
 use Rattle.bb8_ledger.proofs.Stage.{nobody_holds}

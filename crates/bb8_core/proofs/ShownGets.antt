@@ -4,7 +4,7 @@ use Rattle.std.specs.FinMap.{insert}
 use Rattle.bb8_types.specs.declared.standing.Getting.{Getting}
 use Rattle.bb8_types.specs.declared.standing.GetPlace.{GetPlace}
 use Rattle.bb8_types.specs.declared.standing.GetPlace.TheVariants.{Active, Waiting, Holding}
-use Rattle.bb8_types.specs.Numbered.{Numbered, update, in_order, one, standing_at, standings, after_end}
+use Rattle.bb8_types.specs.Numbered.{Numbered, update, in_order, standing_at, standings, after_end}
 use Rattle.bb8_types.specs.Places.{gets_stand, is_unnotified, is_notified, get_with_place, get_in_wait}
 use Rattle.bb8_ledger.specs.Ledger.{unnotified_at, alive_of, new_get, with_notice, get_at_place, at_wait}
 use Rattle.bb8_tables.specs.Views.{ShownGets, no_gets}

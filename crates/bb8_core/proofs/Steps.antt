@@ -12,11 +12,11 @@ use Rattle.bb8_types.specs.declared.reasons.Reason.TheVariants as reasons
 use Rattle.bb8_core.specs.Outcomes.{reason_of}
 use Rattle.bb8_tables.specs.Counted.{counts_held}
 use Rattle.bb8_types.specs.Figures.{Counts, Figures}
-use Rattle.bb8_ledger.specs.Acts.{Act, Begin, Try, GiveUp, PutBack, Fill, Claim, Opened, State, Add, Look, Reason, TimedOut, Cancelled}
+use Rattle.bb8_ledger.specs.Acts.{Act, Begin, Try, GiveUp, PutBack, Fill, Claim, Opened, State, Add, Look, Reason}
 use Rattle.bb8_ledger.specs.Answers.{Answer, Begun, Memory, Exhausted, Served, Kept, Closed, Granted, Ended, Entered, Late, Shown as ShownFigures, Broken, NoCapacity, Withheld, Added, GaveUp, Looked}
 use Rattle.bb8_ledger.specs.Answers as answers
 use Rattle.bb8_types.specs.Numbered.{Numbered, update, in_order, standing_at, one, after_end}
-use Rattle.bb8_ledger.specs.Ledger.{at_entry, Ledger, Later, start, position, latest, handles, records, gets, peak, get_peak, alive, idle, record_of, get_of, idle_at, at_place, entry, with_approvals, conns_of, approved_of, alive_of, counts, figures, wait_micros, next, with_notice, unnotified_at, oldest_waiter, waiting, timed_out}
+use Rattle.bb8_ledger.specs.Ledger.{at_entry, Ledger, Later, start, position, latest, handles, records, gets, peak, get_peak, alive, idle, record_of, get_of, idle_at, at_place, entry, with_approvals, conns_of, approved_of, alive_of, counts, figures, wait_micros, next, with_notice, unnotified_at, oldest_waiter, waiting}
 use Rattle.bb8_types.specs.Places.{first_of, first_place, first_wait_of, is_claimed, is_guarded, is_unnotified, gets_stand, birth_in, is_expired, micros_since, is_notified}
 use Rattle.bb8_ledger.specs.Table.{IsLegal, Row, begins, begin_refused, begin_exhausted, serves, keeps, returns_closed, fills, claims, claim_ended, opens, opens_late, shows, takes, closes, IsWant, is_brought, adds, add_broken, add_full, add_exhausted, add_refused, waits_on, waits, gives_up, looks}
 use Rattle.bb8_types.specs.Grants.{due, lacking, IsGranted, IsNoGrant}

@@ -1,12 +1,9 @@
-use Rattle.std.proofs.Common.{◌≡◌, ◌≤◌, ◌<◌, ◌+◌, ◌-◌, ap, refl, ◌∙◌, arith, false}
+use Rattle.std.proofs.Common.{◌≡◌, ap, refl, ◌∙◌, arith, false}
 use Rattle.bb8_types.specs.declared.standing.Place.TheVariants.{Idle}
 use Rattle.bb8_ledger.specs.Acts as acts
 use Rattle.bb8_ledger.specs.Answers as answers
-use Rattle.bb8_core.specs.Decided as decided
 use Rattle.bb8_core.specs.Pool.{view_of}
-use Rattle.bb8_types.specs.Settings.{settings_of}
 use Rattle.bb8_core.specs.Shown.{Shown}
-use Rattle.bb8_tables.specs.Views.{ShownRecords}
 use Rattle.bb8_core.proofs.Fitting.{shown_record, shown_fits, due_fits}
 use Rattle.bb8_core.proofs.Steps.{grants, led, at_view, fits_view}
 use Rattle.bb8_core.proofs.AtOnce.{between, meets_begun_between, meets_served_between}
