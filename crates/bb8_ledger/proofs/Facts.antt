@@ -42,9 +42,6 @@ waits_before first m now k gs b = numbered.before-update_kept unnotified_at gs f
     pick g was p true h = was p h
     pick g was p false h = let e : m ≡ p = numbered.tested m p (and_right (gets_stand is_unnotified (option_map (get_in_wait now) g.standing)) _ h).1 in omega arith
 
-capped : (n : ℕ) → min most_micros n ≤ most_micros
-capped n = omega arith
-
 -- somebody is first in a line
 pub first_inside : (strategy : QueueStrategy) (xs : List ℕ) → 0 < length xs → (k : ℕ) × (first_of strategy xs ≡ Some k)
 first_inside Fifo [] h = absurd (omega arith)
@@ -139,18 +136,6 @@ module _ {C : Type 0} where
   pub get_peak_holds : (l : Ledger C) → alive l ≤ get_peak l
   get_peak_holds (Opening s) = omega arith
   get_peak_holds (Later l at e a) = omega arith
-
-  -- ---- the wait time is a u64 of microseconds
-
-  wait_after : (l : Ledger C) (at : ℕ) (e : Act C) (a : Answer) → wait_micros l ≤ most_micros → wait_micros (Later l at e a) ≤ most_micros
-  wait_after l at e Unfit h = h
-  wait_after l at e (Served k grant) h = capped (wait_micros l + wait_of l at e)
-  wait_after l at (GiveUp g TimedOut held broken) a h = capped (wait_micros l + wait_of l at (GiveUp g TimedOut held broken))
-  wait_after l at _ _ h = h
-
-  pub wait_few : (l : Ledger C) → wait_micros l ≤ most_micros
-  wait_few (Opening s) = omega arith
-  wait_few (Later l at e a) = wait_after l at e a (wait_few l)
 
   -- ---- the idle numbers are as many as the idle records
 

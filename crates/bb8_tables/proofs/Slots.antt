@@ -224,11 +224,6 @@ none_cut [] i e = refl
 none_cut (k ∷ ks) zero e = cc
 none_cut (k ∷ ks) (suc i) e = ap (λ (ms : List _). k ∷ ms) (none_cut ks i e)
 
-pub length_cut : {K : Type 0} (ks : List K) (i : ℕ) (k : K) → slice_get ks i ≡ Some k → length (cut_at i ks) + 1 ≡ length ks
-length_cut [] i k e = cc
-length_cut (x ∷ ks) zero k e = omega arith
-length_cut (x ∷ ks) (suc i) k e = let ih : length (cut_at i ks) + 1 ≡ length ks = length_cut ks i k e in omega arith
-
 module _ {K : Type 0} (key : K → ℕ) where
   others_kept : (q : ℕ) (ks : List K) → ((j : ℕ) (m : K) → slice_get ks j ≡ Some m → key m ≢ q) → filter (λ p. not (eqb p q)) (map key ks) ≡ map key ks
   others_kept q [] other = refl
