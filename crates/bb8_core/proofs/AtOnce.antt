@@ -1,5 +1,5 @@
 -- A begin and a try in one step.
-use Rattle.std.proofs.Common.{◌≡◌, ℕ, ◌+◌, ◌<◌, max, min, Bool, false, not, ◌&&◌, cond, Option, Some, None, is_some, refl, sym, ap, ◌∙◌, arith, subst}
+use Rattle.std.proofs.Common.{◌≡◌, ℕ, ◌+◌, ◌<◌, max, Bool, false, not, ◌&&◌, cond, Option, Some, None, refl, sym, ap, ◌∙◌, arith, subst}
 use Rattle.std.specs.FinMap.{get}
 use Rattle.bb8_types.specs.declared.grants.Grant.{Grant}
 use Rattle.bb8_types.specs.declared.standing.Place.TheVariants.{Guarded}
@@ -9,17 +9,15 @@ use Rattle.bb8_tables.specs.declared.counters.Counters.{Counters}
 use Rattle.bb8_ledger.specs.Acts.{Begin, Try}
 use Rattle.bb8_types.specs.Figures.{Counts}
 use Rattle.bb8_ledger.specs.Answers.{Begun, Served}
-use Rattle.bb8_types.specs.Places.{first_of, gets_stand, micros_since, is_trying}
+use Rattle.bb8_types.specs.Places.{first_of, gets_stand, is_trying}
 use Rattle.bb8_tables.specs.Machine as machine
-use Rattle.bb8_core.specs.Decided as decided
-use Rattle.bb8_types.specs.Numbered.{one}
 use Rattle.bb8_tables.specs.Counted.{counts_held}
-use Rattle.bb8_core.specs.Shown.{Shown, HasLedger, IsFitting}
+use Rattle.bb8_core.specs.Shown.{Shown, IsFitting}
 use Rattle.bb8_tables.specs.Views.{ShownRecords, ShownGets}
 use Rattle.bb8_types.proofs.Numbered.{eqb_self, get_inserted}
 use Rattle.bb8_core.proofs.Runs.{takes_try}
-use Rattle.bb8_core.proofs.Steps.{IsStep, meets_begun, meets_served_counted, led}
-use Rattle.bb8_types.specs.Bounds.{end_of_numbers, most_micros}
+use Rattle.bb8_core.proofs.Steps.{IsStep, Grants, served, meets_begun, meets_served}
+use Rattle.bb8_types.specs.Bounds.{end_of_numbers}
 
 -- a get that has begun
 abbrev pub fresh : Getting
@@ -43,22 +41,11 @@ module _ {C : Type 0} where
       ∙ ap (λ (b : Bool). not b && gets_stand is_trying (get (between s now).gets.places s.gets.next)) off
       ∙ ap (gets_stand is_trying) (stands_new s now)
 
-  pub meets_begun_between : {s : Shown C} (at : ℕ) {now : ℕ} → IsFitting s Begin → now ≡ max s.latest at → s.gets.next < end_of_numbers → IsStep s at Begin (Begun s.gets.next) (between s now)
-  meets_begun_between at fit now_is few = meets_begun at fit now_is few refl refl refl
+  pub meets_begun_between : {s : Shown C} (at : ℕ) {now n : ℕ} → n ≡ s.gets.next → IsFitting s Begin → now ≡ max s.latest at → s.gets.next < end_of_numbers → IsStep s at Begin (Begun n) (between s now)
+  meets_begun_between at n_is fit now_is few = meets_begun at fit now_is few refl refl n_is
 
   -- what is done to the fields, from the state between on
-  pub meets_served_between : (s : Shown C) {at now k : ℕ} {taken : ShownRecords C} {wanted : ℕ} {grant : Grant} {rs : ShownRecords C} {gs : ShownGets} (was : Counters) {is : Counters} → s.config.test_on_check_out ≡ false → now ≡ max s.latest at → first_of s.config.queue_strategy s.records.idle ≡ Some k → taken ≡ machine.after_take Guarded k s.records → wanted ≡ decided.want s.config s.handles taken → machine.IsGrant taken wanted grant → rs ≡ machine.after_grant false grant taken → gs ≡ machine.after_get_end s.gets.next (machine.after_begin s.gets) → s.counts ≡ counts_held was → is ≡ record was { started = was.started + 1; direct = was.direct + one (not (is_some never)); waited = was.waited + one (is_some never); wait_micros = min most_micros (was.wait_micros + micros_since now never) } → IsStep (between s now) at (Try s.gets.next) (Served k grant) (record s { latest = now; records = rs; gets = gs; counts = counts_held is })
-  meets_served_between s {at} {now} was off now_is first taken_is wanted_is granted rs_is gs_is were counted =
+  pub meets_served_between : (s : Shown C) {at now n k : ℕ} {grant : Grant} {rs : ShownRecords C} {gs : ShownGets} (was : Counters) {is : Counters} → n ≡ s.gets.next → s.config.test_on_check_out ≡ false → now ≡ max s.latest at → first_of s.config.queue_strategy s.records.idle ≡ Some k → Grants s false (machine.after_take Guarded k s.records) grant rs → gs ≡ machine.after_get_end s.gets.next (machine.after_begin s.gets) → s.counts ≡ counts_held was → is ≡ served (record was { started = was.started + 1 }) now never → IsStep (between s now) at (Try n) (Served k grant) (record s { latest = now; records = rs; gets = gs; counts = counts_held is })
+  meets_served_between s {at} {now} {n} {k} {grant = grant} {rs = rs} {gs = gs} was {is} n_is off now_is first granted gs_is were counted =
       let again : now ≡ max now at = omega (arith, now_is) in
-      meets_served_counted (record was { started = was.started + 1 }) (record { fit = fits_between s now off; now_is = again; get_is = sym (stands_new s now) }) refl first taken_is wanted_is granted rs_is gs_is (ap (λ (x : Counts). record x { started = x.started + 1 }) were) refl counted
-
-  -- the get has the number that the state gives next
-  pub named_begun : {s : Shown C} {at now n : ℕ} → n ≡ s.gets.next → IsStep s at Begin (Begun s.gets.next) (between s now) → IsStep s at Begin (Begun n) (between s now)
-  named_begun {s} {at} {now} is = subst (λ (m : ℕ). IsStep s at Begin (Begun m) (between s now)) (sym is)
-
-  pub named_served : (s : Shown C) {new : Shown C} {at now n k : ℕ} {grant : Grant} → n ≡ s.gets.next → IsStep (between s now) at (Try s.gets.next) (Served k grant) new → IsStep (between s now) at (Try n) (Served k grant) new
-  named_served s {new} {at} {now} {n} {k} {grant} is = subst (λ (m : ℕ). IsStep (between s now) at (Try m) (Served k grant) new) (sym is)
-
-  -- the state after both steps has a ledger
-  pub led_at_once : {s new : Shown C} (at : ℕ) {now k : ℕ} {grant : Grant} → HasLedger s → IsStep s at Begin (Begun s.gets.next) (between s now) → IsStep (between s now) at (Try s.gets.next) (Served k grant) new → HasLedger new
-  led_at_once {s} at {now} {k} {grant} h first second = led at (Try s.gets.next) (Served k grant) (led at Begin (Begun s.gets.next) h first) second
+      subst (λ (m : ℕ). IsStep (between s now) at (Try m) (Served k grant) (record s { latest = now; records = rs; gets = gs; counts = counts_held is })) (sym n_is) (meets_served (record was { started = was.started + 1 }) (record { fit = fits_between s now off; now_is = again; get_is = sym (stands_new s now) }) refl first (record { granted = granted.granted; after = granted.after }) gs_is (ap (λ (x : Counts). record x { started = x.started + 1 }) were) refl counted)

@@ -1,11 +1,12 @@
 -- What the condition of a step says of what is shown.
-use Rattle.std.proofs.Common.{◌≡◌, ℕ, ◌≤◌, Bool, true, false, Option, Some, None, is_some, refl, sym, ap, ◌∙◌, subst, ◌+◌, length, ◌-◌}
+use Rattle.std.proofs.Common.{◌≡◌, ℕ, ◌≤◌, Bool, true, false, Option, Some, None, is_some, refl, sym, ap, ◌∙◌, subst, ◌+◌, ◌-◌, ◌<◌, arith}
 use Rattle.std.specs.FinMap.{get}
+use Rattle.bb8_types.specs.declared.standing.Place.{Place}
 use Rattle.bb8_types.specs.declared.standing.Place.TheVariants.{Claimed, Guarded}
 use Rattle.bb8_types.specs.declared.standing.Standing.{Standing}
 use Rattle.bb8_types.specs.declared.standing.Getting.{Getting}
-use Rattle.bb8_ledger.specs.Acts.{Try, GiveUp, PutBack, Opened, Reason}
-use Rattle.bb8_ledger.specs.Ledger.{Ledger, conns, approved, alive, get_of, start, handles, records, gets, record_of}
+use Rattle.bb8_ledger.specs.Acts.{Try, GiveUp, Cancelled}
+use Rattle.bb8_ledger.specs.Ledger.{Ledger, conns, approved, alive, get_of, start, records, gets, record_of}
 use Rattle.bb8_types.specs.Places.{holds, stands, gets_stand, is_unnotified, is_claimed, is_guarded}
 use Rattle.bb8_ledger.specs.Table.{takes, agree, IsLegal}
 use Rattle.bb8_core.specs.Shown.{Shown, HasLedger, IsFitting, Means}
@@ -14,10 +15,9 @@ use Rattle.bb8_ledger.proofs.Stage.{nobody_holds}
 use Rattle.bb8_ledger.proofs.Laws.{alive_get, trying_is, alive_is, out_counted, claimed_counted, Fits, all_fit, due_few}
 use Rattle.bb8_types.specs.Numbered.{Numbered}
 use Rattle.bb8_types.proofs.Numbered as numbered
-use Rattle.bb8_types.specs.Settings.{Settings}
-use Rattle.bb8_types.specs.Grants.{lacking}
+use Rattle.bb8_types.specs.Bounds.{end_of_numbers}
+use Rattle.bb8_types.specs.Grants.{due}
 use Rattle.bb8_tables.specs.Views.{ShownRecords}
-use Rattle.bb8_core.specs.Decided as decided
 
 module _ {C : Type 0} where
   pub shown_record : (l : Ledger C) (s : Shown C) → Means l s → (k : ℕ) → record_of l k ≡ get s.records.places k
@@ -34,63 +34,72 @@ module _ {C : Type 0} where
   pub shown_fits : (s : Shown C) → HasLedger s → Fits s.config.max_size s.records.conns s.records.approved s.records.next s.gets.alive s.gets.next s.counts
   shown_fits s h = subst (λ (t : Shown C). Fits t.config.max_size t.records.conns t.records.approved t.records.next t.gets.alive t.gets.next t.counts) h.2 (all_fit h.0 h.1)
 
-  pub want_few : (config : Settings) (handles : ℕ) (s : ShownRecords C) → decided.want config handles s ≤ config.max_size - (s.conns + s.approved)
-  want_few config handles s = due_few config handles (s.conns + s.approved) (lacking config (length s.idle + s.approved))
+  -- What is due of what is asked is within the size, where what is taken is no more than what a state shows.
+  pub due_fits : (s : Shown C) {taken was : ShownRecords C} {used n : ℕ} (asked : ℕ) → HasLedger s → was.conns + was.approved ≤ s.records.conns + s.records.approved → taken ≡ was → used ≡ taken.conns + taken.approved → n ≡ due s.config s.handles used asked → taken.conns + taken.approved + n ≤ s.config.max_size
+  due_fits s {taken} {was} {used} {n} asked h few taken_is used_is n_is =
+      let same : used ≡ was.conns + was.approved = used_is ∙ ap (λ (t : ShownRecords C). t.conns + t.approved) taken_is in
+      let least : due s.config s.handles used asked ≤ s.config.max_size - used = due_few s.config s.handles used asked in
+      omega (arith, (shown_fits s h).size)
 
-  -- a get that is given up is alive
-  pub giving_is : (l : Ledger C) (g : ℕ) (why : Reason) (broken : Bool) → takes l (GiveUp g why None broken) ≡ true → (st : Getting) × (get_of l g ≡ Some st)
-  giving_is l g why broken f = alive_get (get_of l g) (and_right (is_some (get_of l g)) _ f).0
+  -- ---- what a call knows of the state that it finds: the fields show it, and the event fits
+
+  -- each record of that number stands at such a place, as an event asks that brings a connection
+  abbrev IsPlaced : (Place C → Bool) → Shown C → ℕ → Type 0
+  IsPlaced test s k = (l : Ledger C) → IsLegal l → Means l s → stands test (record_of l k) ≡ true
+
+  placed : {s t : Shown C} (test : Place C → Bool) (k : ℕ) → s ≡ t → HasLedger s → IsPlaced test t k → (st : Standing C) × (get s.records.places k ≡ Some st) × (test st.place ≡ true)
+  placed {s} test k is h fit = standing_is test (get s.records.places k) (ap (stands test) (sym (shown_record h.0 s h.2 k)) ∙ fit h.0 h.1 (h.2 ∙ is))
+
+  pub fit_claimed : {s t : Shown C} (k : ℕ) → s ≡ t → HasLedger s → IsPlaced is_claimed t k → (st : Standing C) × (get s.records.places k ≡ Some st) × (st.place ≡ Claimed)
+  fit_claimed k is h fit = let st = placed is_claimed k is h fit in (st.0, st.1, claimed_is st.0.place st.2)
+
+  pub fit_guarded : {s t : Shown C} (k : ℕ) → s ≡ t → HasLedger s → IsPlaced is_guarded t k → (st : Standing C) × (get s.records.places k ≡ Some st) × (st.place ≡ Guarded)
+  fit_guarded k is h fit = let st = placed is_guarded k is h fit in (st.0, st.1, guarded_is st.0.place st.2)
+
+  -- a connection more may be counted as created, and as closed
+  pub created_few : {s t : Shown C} (k : ℕ) → s ≡ t → HasLedger s → IsPlaced is_claimed t k → s.records.next ≤ end_of_numbers → s.counts.created < end_of_numbers
+  created_few {s} k is h fit few =
+      let st = fit_claimed k is h fit in
+      let some : 1 ≤ approved h.0 = claimed_counted h.0 k st.0 (shown_record h.0 s h.2 k ∙ st.1) st.2 in
+      let shown_some : 1 ≤ s.records.approved = subst (λ (t : Shown C). 1 ≤ t.records.approved) h.2 some in
+      omega (arith, (shown_fits s h).created_few)
+
+  pub closed_few : {s t : Shown C} (k : ℕ) → s ≡ t → HasLedger s → IsPlaced is_guarded t k → s.records.next ≤ end_of_numbers → s.counts.broken + s.counts.max_lifetime < end_of_numbers
+  closed_few {s} k is h fit few =
+      let st = fit_guarded k is h fit in
+      let some : 1 ≤ conns h.0 = out_counted h.0 k st.0 (shown_record h.0 s h.2 k ∙ st.1) st.2 in
+      let shown_some : 1 ≤ s.records.conns = subst (λ (t : Shown C). 1 ≤ t.records.conns) h.2 some in
+      omega (arith, (shown_fits s h).closed_few)
+
+  -- a get that tries stands, and so does one that is given up, whatever the reason
+  pub fit_try : {s t : Shown C} (g : ℕ) → s ≡ t → HasLedger s → IsFitting t (Try g) → (st : Getting) × (get s.gets.places g ≡ Some st)
+  fit_try {s} g is h fit = let st = trying_is h.0 g (fit h.0 h.1 (h.2 ∙ is)) in (st.0, sym (shown_get h.0 s h.2 g) ∙ st.1)
+
+  pub giving_is : (l : Ledger C) (g : ℕ) (held : Option C) → takes l (GiveUp g Cancelled held false) ≡ true → (st : Getting) × (get_of l g ≡ Some st)
+  giving_is l g held f = alive_get (get_of l g) (and_right (is_some (get_of l g)) _ f).0
+
+  pub fit_give_up : {s t : Shown C} (g : ℕ) (held : Option C) → s ≡ t → HasLedger s → IsFitting t (GiveUp g Cancelled held false) → (st : Getting) × (get s.gets.places g ≡ Some st)
+  fit_give_up {s} g held is h fit = let st = giving_is h.0 g held (fit h.0 h.1 (h.2 ∙ is)) in (st.0, sym (shown_get h.0 s h.2 g) ∙ st.1)
 
   -- nobody holds a connection, so none is handed in
-  pub holds_none : (s : Shown C) (g : ℕ) (why : Reason) (held : Option C) (broken : Bool) → HasLedger s → IsFitting s (GiveUp g why held broken) → held ≡ None
-  holds_none s g why None broken h fit = refl
-  holds_none s g why (Some c) broken h fit =
-      let both = and_right (is_some (get_of h.0 g)) _ (fit h.0 h.1 h.2) in
+  pub holds_none : {s t : Shown C} (g : ℕ) (held : Option C) → s ≡ t → HasLedger s → IsFitting t (GiveUp g Cancelled held false) → held ≡ None
+  holds_none g None is h fit = refl
+  holds_none g (Some c) is h fit =
+      let both = and_right (is_some (get_of h.0 g)) _ (fit h.0 h.1 (h.2 ∙ is)) in
       absurd (some (holds (get_of h.0 g)) (λ k e. nobody_holds h.0 h.1 g k e) both.1)
     where
       some : (o : Option ℕ) → ((k : ℕ) → o ≡ Some k → ⊥) → agree true (is_some o) ≡ true → ⊥
       some None none e = cc
       some (Some k) none e = none k refl
 
-  pub fit_try : (s : Shown C) (g : ℕ) → HasLedger s → IsFitting s (Try g) → (st : Getting) × (get s.gets.places g ≡ Some st)
-  fit_try s g h fit = let st = trying_is h.0 g (fit h.0 h.1 h.2) in (st.0, sym (shown_get h.0 s h.2 g) ∙ st.1)
-
-  pub fit_give_up : (s : Shown C) (g : ℕ) (why : Reason) (held : Option C) (broken : Bool) → HasLedger s → IsFitting s (GiveUp g why held broken) → (st : Getting) × (get s.gets.places g ≡ Some st)
-  fit_give_up s g why held broken h fit =
-      let given : IsFitting s (GiveUp g why None broken) = subst (λ (o : Option C). IsFitting s (GiveUp g why o broken)) (holds_none s g why held broken h fit) fit in
-      let st = giving_is h.0 g why broken (given h.0 h.1 h.2) in
-      (st.0, sym (shown_get h.0 s h.2 g) ∙ st.1)
-
   -- a get that tries and stands in no line
-  pub fit_waits : (s : Shown C) (g : ℕ) (o : Option Getting) → HasLedger s → IsFitting s (Try g) → o ≡ get s.gets.places g → gets_stand is_unnotified o ≡ false → (st : Getting) × (get s.gets.places g ≡ Some st) × (is_unnotified st.place ≡ false)
-  fit_waits s g o h fit is off = let st = fit_try s g h fit in (st.0, st.1, ap (gets_stand is_unnotified) (sym st.1 ∙ sym is) ∙ off)
+  pub fit_waits : {s t : Shown C} {o : Option Getting} (g : ℕ) → s ≡ t → HasLedger s → IsFitting t (Try g) → o ≡ get s.gets.places g → gets_stand is_unnotified o ≡ false → (st : Getting) × (get s.gets.places g ≡ Some st) × (is_unnotified st.place ≡ false)
+  fit_waits g view h fit is off = let st = fit_try g view h fit in (st.0, st.1, ap (gets_stand is_unnotified) (sym st.1 ∙ sym is) ∙ off)
 
-  -- a get that stands is counted
-  pub alive_shown : (s : Shown C) (g : ℕ) (st : Getting) → HasLedger s → get s.gets.places g ≡ Some st → 1 ≤ s.gets.alive
-  alive_shown s g st h is =
-      let few : 1 ≤ alive h.0 = alive_is h.0 g st (shown_get h.0 s h.2 g ∙ is) in
-      subst (λ (t : Shown C). 1 ≤ t.gets.alive) h.2 few
-
-  pub fit_claimed : (s : Shown C) (k : ℕ) (c : C) → HasLedger s → IsFitting s (Opened k c) → (st : Standing C) × (get s.records.places k ≡ Some st) × (st.place ≡ Claimed)
-  fit_claimed s k c h fit =
-      let claimed : stands is_claimed (get s.records.places k) ≡ true = ap (stands is_claimed) (sym (shown_record h.0 s h.2 k)) ∙ fit h.0 h.1 h.2 in
-      let st = standing_is is_claimed (get s.records.places k) claimed in
-      (st.0, st.1, claimed_is st.0.place st.2)
-
-  pub fit_guarded : (s : Shown C) (k : ℕ) (c : C) (b : Bool) → HasLedger s → IsFitting s (PutBack k c b) → (st : Standing C) × (get s.records.places k ≡ Some st) × (st.place ≡ Guarded)
-  fit_guarded s k c b h fit =
-      let guarded : stands is_guarded (get s.records.places k) ≡ true = ap (stands is_guarded) (sym (shown_record h.0 s h.2 k)) ∙ fit h.0 h.1 h.2 in
-      let st = standing_is is_guarded (get s.records.places k) guarded in
-      (st.0, st.1, guarded_is st.0.place st.2)
-
-  pub claimed_shown : (s : Shown C) (k : ℕ) (c : C) → HasLedger s → IsFitting s (Opened k c) → 1 ≤ s.records.approved
-  claimed_shown s k c h fit =
-      let st = fit_claimed s k c h fit in
-      let few : 1 ≤ approved h.0 = claimed_counted h.0 k st.0 (shown_record h.0 s h.2 k ∙ st.1) st.2 in
-      subst (λ (t : Shown C). 1 ≤ t.records.approved) h.2 few
-
-  pub guarded_shown : (s : Shown C) (k : ℕ) (c : C) (b : Bool) → HasLedger s → IsFitting s (PutBack k c b) → 1 ≤ s.records.conns
-  guarded_shown s k c b h fit =
-      let st = fit_guarded s k c b h fit in
-      let few : 1 ≤ conns h.0 = out_counted h.0 k st.0 (shown_record h.0 s h.2 k ∙ st.1) st.2 in
-      subst (λ (t : Shown C). 1 ≤ t.records.conns) h.2 few
+  -- a get that stands has not been counted as ended, so it may be
+  pub ended_few : (s : Shown C) (g : ℕ) → HasLedger s → (st : Getting) × (get s.gets.places g ≡ Some st) → s.gets.next ≤ end_of_numbers → s.counts.direct + s.counts.waited + s.counts.timed_out + s.counts.cancelled < end_of_numbers
+  ended_few s g h st few =
+      let some : 1 ≤ alive h.0 = alive_is h.0 g st.0 (shown_get h.0 s h.2 g ∙ st.1) in
+      let shown_some : 1 ≤ s.gets.alive = subst (λ (t : Shown C). 1 ≤ t.gets.alive) h.2 some in
+      let fit = shown_fits s h in
+      omega (arith, fit.answered, fit.started_few)

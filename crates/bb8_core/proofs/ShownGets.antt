@@ -4,7 +4,7 @@ use Rattle.std.specs.FinMap.{insert}
 use Rattle.bb8_types.specs.declared.standing.Getting.{Getting}
 use Rattle.bb8_types.specs.declared.standing.GetPlace.{GetPlace}
 use Rattle.bb8_types.specs.declared.standing.GetPlace.TheVariants.{Active, Waiting, Holding}
-use Rattle.bb8_types.specs.Numbered.{Numbered, update, in_order, one, standing_at, standings, after_end}
+use Rattle.bb8_types.specs.Numbered.{Numbered, update, in_order, standing_at, standings, after_end}
 use Rattle.bb8_types.specs.Places.{gets_stand, is_unnotified, is_notified, get_with_place, get_in_wait}
 use Rattle.bb8_ledger.specs.Ledger.{unnotified_at, alive_of, new_get, with_notice, get_at_place, at_wait}
 use Rattle.bb8_tables.specs.Views.{ShownGets, no_gets}
@@ -12,8 +12,13 @@ use Rattle.bb8_core.specs.Shown.{shown_gets}
 use Rattle.bb8_tables.specs.Machine as machine
 use Rattle.bb8_types.proofs.Numbered.{change, Before}
 use Rattle.bb8_types.proofs.Numbered as numbered
-use Rattle.bb8_ledger.proofs.Waiters.{begins_now, waiter}
+use Rattle.bb8_ledger.proofs.Waiters.{begins_now, waiter, getting_is, alive_counted, begins_alive, notify_alive}
+use Rattle.bb8_types.proofs.Places.{and_right}
 use Rattle.bb8_tables.proofs.Views.{same_gets}
+
+-- a get that stands in no line is at no position of it
+not_in_line : (g : Numbered Getting) (s : Getting) → g.standing ≡ Some s → is_unnotified s.place ≡ false → (q : ℕ) → unnotified_at q g ≡ false
+not_in_line g s is off q = ap (λ (t : Bool). t && eqb g.position q) (ap (gets_stand is_unnotified) is ∙ off)
 
 module _ (first p top : ℕ) (gs : List (Numbered Getting)) where
   abbrev before : ShownGets
@@ -44,7 +49,7 @@ module _ (first p top : ℕ) (gs : List (Numbered Getting)) where
       let g : Numbered Getting = m.0 in
       let new : Numbered Getting = after_end g in
       let is : update first k after_end gs ≡ change first k new gs = numbered.update_is gs first k after_end g m.1 in
-      let fewer : alive_of (change first k new gs) + 1 ≡ alive_of gs + 0 = rw (ap (λ (o : Option Getting). one (is_some o)) m.2) at (numbered.tally-change (λ (x : Numbered Getting). is_some x.standing) gs first k new g m.1) in
+      let fewer : alive_of (change first k new gs) + 1 ≡ alive_of gs = ap (λ (xs : List (Numbered Getting)). alive_of xs + 1) (sym is) ∙ alive_counted first k gs g s m.1 m.2 in
       ap (λ (xs : List (Numbered Getting)). shown_gets first (suc p) (max top (alive_of xs)) xs) is
       ∙ same_gets _ _
       (ap (λ (n : ℕ). first + n) (numbered.length-change gs first k new))
@@ -60,61 +65,45 @@ module _ (first p top : ℕ) (gs : List (Numbered Getting)) where
       let g : Numbered Getting = m.0 in
       let new : Numbered Getting = record { standing = Some (get_in_wait now s); position = p } in
       let is : update first k (at_wait now p) gs ≡ change first k new gs = numbered.update_is gs first k (at_wait now p) g m.1 ∙ ap (λ (x : Numbered Getting). change first k x gs) (begins_now now p g (ap (gets_stand is_unnotified) m.2 ∙ off) ∙ ap (waiter now p) m.2) in
-      let stood : (q : ℕ) → unnotified_at q g ≡ false = λ q. ap (λ (o : Option Getting). gets_stand is_unnotified o && eqb g.position q) m.2 ∙ ap (λ (t : Bool). t && eqb g.position q) off in
-      let same : alive_of (change first k new gs) + 1 ≡ alive_of gs + 1 = rw (ap (λ (o : Option Getting). one (is_some o)) m.2) at (numbered.tally-change (λ (x : Numbered Getting). is_some x.standing) gs first k new g m.1) in
+      let same : alive_of (change first k new gs) ≡ alive_of gs = ap alive_of (sym is) ∙ begins_alive first now p k gs in
       ap (λ (xs : List (Numbered Getting)). shown_gets first (suc p) (max top (alive_of xs)) xs) is
       ∙ same_gets _ _
       (ap (λ (n : ℕ). first + n) (numbered.length-change gs first k new))
       (numbered.numbered-change_some (λ (x : Numbered Getting). x.standing) gs first k new g (get_in_wait now s) m.1 refl
       ∙ ap (λ (o : Option Getting). insert (standings first gs) k (machine.getting_since now o)) (sym (numbered.get-numbered (λ (x : Numbered Getting). x.standing) gs first k ∙ h)))
-      (numbered.in_order-enter unnotified_at gs first k p new g b m.1 stood (numbered.eqb_self p) (λ q below. numbered.ne_test p q (λ e. omega arith)))
+      (numbered.in_order-enter unnotified_at gs first k p new g b m.1 (not_in_line g s m.2 off) (numbered.eqb_self p) (λ q below. numbered.ne_test p q (λ e. omega arith)))
       (omega arith)
       (omega arith)
 
   -- who is named is notified
-  pub shown-noticed : (n : Option ℕ) → IfSome n (λ k. (s : Getting) × (standing_at first gs k ≡ Some s)) → (shown_gets first p top (with_notice first n gs) ≡ machine.after_notice n before) × (alive_of (with_notice first n gs) ≡ alive_of gs)
-  shown-noticed None named = (refl, refl)
+  pub shown-noticed : (n : Option ℕ) → IfSome n (λ k. (s : Getting) × (standing_at first gs k ≡ Some s)) → shown_gets first p top (with_notice first n gs) ≡ machine.after_notice n before
+  shown-noticed None named = refl
   shown-noticed (Some k) named =
       let m = numbered.standing_found gs first k named.0 named.1 in
       let g : Numbered Getting = m.0 in
       let new : Numbered Getting = get_at_place (Waiting true) g in
       let stands : new.standing ≡ Some (get_with_place (Waiting true) named.0) = ap (option_map (get_with_place (Waiting true))) m.2 in
       let is : update first k (get_at_place (Waiting true)) gs ≡ change first k new gs = numbered.update_is gs first k (get_at_place (Waiting true)) g m.1 in
-      let off : (q : ℕ) → unnotified_at q new ≡ false = λ q. ap (λ (o : Option Getting). gets_stand is_unnotified o && eqb g.position q) stands in
-      let counted : alive_of (change first k new gs) + 1 ≡ alive_of gs + 1 = rw (ap (λ (o : Option Getting). one (is_some o)) m.2) at (rw (ap (λ (o : Option Getting). one (is_some o)) stands) at (numbered.tally-change (λ (x : Numbered Getting). is_some x.standing) gs first k new g m.1)) in
-      let same : alive_of (change first k new gs) ≡ alive_of gs = omega arith in (
-        ap (shown_gets first p top) is
-            ∙ same_gets _ _
-            (ap (λ (n : ℕ). first + n) (numbered.length-change gs first k new))
-            (numbered.numbered-change_some (λ (x : Numbered Getting). x.standing) gs first k new g (get_with_place (Waiting true) named.0) m.1 stands
-            ∙ ap (λ (o : Option Getting). insert (standings first gs) k (machine.getting_at (Waiting true) o)) (sym (numbered.get-numbered (λ (x : Numbered Getting). x.standing) gs first k ∙ named.1)))
-            (numbered.in_order-change_off unnotified_at gs first k new off p)
-            same
-            refl,
-        ap alive_of is ∙ same,
-      )
+      ap (shown_gets first p top) is
+      ∙ same_gets _ _
+      (ap (λ (n : ℕ). first + n) (numbered.length-change gs first k new))
+      (numbered.numbered-change_some (λ (x : Numbered Getting). x.standing) gs first k new g (get_with_place (Waiting true) named.0) m.1 stands
+      ∙ ap (λ (o : Option Getting). insert (standings first gs) k (machine.getting_at (Waiting true) o)) (sym (numbered.get-numbered (λ (x : Numbered Getting). x.standing) gs first k ∙ named.1)))
+      (numbered.in_order-change_off unnotified_at gs first k new (not_in_line new (get_with_place (Waiting true) named.0) stands refl) p)
+      (ap alive_of (sym is) ∙ notify_alive first (Some k) gs)
+      refl
 
 -- the same, with the peak after it
 pub noticed_later : (first p top : ℕ) (gs : List (Numbered Getting)) (n : Option ℕ) → IfSome n (λ k. (s : Getting) × (standing_at first gs k ≡ Some s)) → shown_gets first p (max top (alive_of (with_notice first n gs))) (with_notice first n gs) ≡ machine.after_notice n (shown_gets first p (max top (alive_of gs)) gs)
-noticed_later first p top gs n named =
-    let is = shown-noticed first p (max top (alive_of gs)) gs n named in
-    ap (λ (m : ℕ). shown_gets first p (max top m) (with_notice first n gs)) is.1 ∙ is.0
+noticed_later first p top gs n named = ap (λ (m : ℕ). shown_gets first p (max top m) (with_notice first n gs)) (notify_alive first n gs) ∙ shown-noticed first p (max top (alive_of gs)) gs n named
 
 -- the first in line waits and was not notified
 pub first_waits : (first p : ℕ) (gs : List (Numbered Getting)) (k : ℕ) → slice_get (in_order unnotified_at first gs p) 0 ≡ Some k → (s : Getting) × (standing_at first gs k ≡ Some s) × (is_unnotified s.place ≡ true)
 first_waits first p gs k e =
     let m = numbered.in_order_member unnotified_at gs first p 0 k e in
     let g : Numbered Getting = m.0 in
-    let stands = unnotified_is g.standing (and_both (gets_stand is_unnotified g.standing) (eqb g.position m.2) m.4) in
+    let stands = getting_is is_unnotified g.standing (and_right (gets_stand is_unnotified g.standing) _ m.4).0 in
     (stands.0, ap (λ (o : Option (Numbered Getting)). option_and_then (λ (x : Numbered Getting). x.standing) o) m.1 ∙ stands.1, stands.2)
-  where
-    and_both : (a b : Bool) → (a && b) ≡ true → a ≡ true
-    and_both true b e = refl
-    and_both false b e = cc
-
-    unnotified_is : (o : Option Getting) → gets_stand is_unnotified o ≡ true → (s : Getting) × (o ≡ Some s) × (is_unnotified s.place ≡ true)
-    unnotified_is None e = cc
-    unnotified_is (Some s) e = (s, refl, e)
 
 -- who was notified is in line no more
 pub notified_out : (p : GetPlace) → is_notified p ≡ true → is_unnotified p ≡ false
@@ -128,8 +117,7 @@ pub without_other : (first p : ℕ) (gs : List (Numbered Getting)) (k : ℕ) (s 
 without_other first p gs k s h off =
     let m = numbered.standing_found gs first k s h in
     let g : Numbered Getting = m.0 in
-    let stood : (q : ℕ) → unnotified_at q g ≡ false = λ q. ap (λ (o : Option Getting). gets_stand is_unnotified o && eqb g.position q) m.2 ∙ ap (λ (t : Bool). t && eqb g.position q) off in
-    sym (numbered.in_order-change_off unnotified_at gs first k (after_end g) (λ q. refl) p) ∙ numbered.in_order-change_kept unnotified_at gs first k (after_end g) g m.1 p (λ q below. sym (stood q))
+    sym (numbered.in_order-change_off unnotified_at gs first k (after_end g) (λ q. refl) p) ∙ numbered.in_order-change_kept unnotified_at gs first k (after_end g) g m.1 p (λ q below. sym (not_in_line g s m.2 off q))
 
 -- no get yet
 pub shown-none : (first : ℕ) → shown_gets first 0 0 [] ≡ no_gets first

@@ -12,11 +12,11 @@ use Rattle.bb8_types.specs.declared.reasons.Reason.TheVariants as reasons
 use Rattle.bb8_core.specs.StepAnswers.{reason_of}
 use Rattle.bb8_tables.specs.Counted.{counts_held}
 use Rattle.bb8_types.specs.Figures.{Counts, Figures}
-use Rattle.bb8_ledger.specs.Acts.{Act, Begin, Try, GiveUp, PutBack, Fill, Claim, Opened, State, Add, Look, Reason, TimedOut, Cancelled}
+use Rattle.bb8_ledger.specs.Acts.{Act, Begin, Try, GiveUp, PutBack, Fill, Claim, Opened, State, Add, Look, Reason}
 use Rattle.bb8_ledger.specs.Answers.{Answer, Begun, Memory, Exhausted, Served, Kept, Closed, Granted, Ended, Entered, Late, Shown as ShownFigures, Broken, NoCapacity, Withheld, Added, GaveUp, Looked}
 use Rattle.bb8_ledger.specs.Answers as answers
 use Rattle.bb8_types.specs.Numbered.{Numbered, update, in_order, standing_at, one, after_end}
-use Rattle.bb8_ledger.specs.Ledger.{at_entry, Ledger, Later, start, position, latest, handles, records, gets, peak, get_peak, alive, idle, record_of, get_of, idle_at, at_place, entry, with_approvals, conns_of, approved_of, alive_of, counts, figures, wait_micros, next, with_notice, unnotified_at, oldest_waiter, waiting, timed_out}
+use Rattle.bb8_ledger.specs.Ledger.{at_entry, Ledger, Later, start, position, latest, handles, records, gets, peak, get_peak, alive, idle, record_of, get_of, idle_at, at_place, entry, with_approvals, conns_of, approved_of, alive_of, counts, figures, wait_micros, next, with_notice, unnotified_at, oldest_waiter, waiting}
 use Rattle.bb8_types.specs.Places.{first_of, first_place, first_wait_of, is_claimed, is_guarded, is_unnotified, gets_stand, birth_in, is_expired, micros_since, is_notified}
 use Rattle.bb8_ledger.specs.Table.{IsLegal, Row, begins, begin_refused, begin_exhausted, serves, keeps, returns_closed, fills, claims, claim_ended, opens, opens_late, shows, takes, closes, IsWant, is_brought, adds, add_broken, add_full, add_exhausted, add_refused, waits_on, waits, gives_up, looks}
 use Rattle.bb8_types.specs.Grants.{due, lacking, IsGranted, IsNoGrant}
@@ -32,7 +32,7 @@ use Rattle.bb8_core.proofs.ShownGets.{shown-kept, shown-begun, shown-ended, show
 use Rattle.bb8_ledger.proofs.Facts.{entered_before, waited_before, put_before, ended_before, peak_holds, get_peak_holds, idle_counted, idle_tally}
 use Rattle.bb8_core.proofs.Fitting.{shown_record, shown_get, giving_is}
 use Rattle.bb8_ledger.proofs.Stage.{unchecked}
-use Rattle.bb8_ledger.proofs.Laws.{trying_is, waits_on_gets}
+use Rattle.bb8_ledger.proofs.Laws.{trying_is, claimed_counted, waits_on_gets}
 use Rattle.bb8_types.specs.Bounds.{end_of_numbers, most_micros}
 
 fitting : (b : Bool) (P Q : Type 0) → b ≡ true → P → MatchBool b P Q
@@ -43,18 +43,36 @@ pub unfitting : (b : Bool) (P Q : Type 0) → b ≡ false → Q → MatchBool b 
 unfitting true P Q e q = cc
 unfitting false P Q e q = q
 
--- what the test of a number says
-pub left : (n : ℕ) → ltb n end_of_numbers ≡ true → n < end_of_numbers
-left n e = grind (arith, nat_tests, leb_tells (suc n) end_of_numbers)
+-- what the test of a number says, by its outcome
+pub left : {b : Bool} (n : ℕ) → b ≡ ltb n end_of_numbers → b ≡ true → n < end_of_numbers
+left {b} n is e = grind (arith, nat_tests, leb_tells (suc n) end_of_numbers)
 
-pub used_up : (n : ℕ) → ltb n end_of_numbers ≡ false → end_of_numbers ≤ n
-used_up n e = grind (arith, nat_tests, leb_tells (suc n) end_of_numbers)
+pub used_up : {b : Bool} (n : ℕ) → b ≡ ltb n end_of_numbers → b ≡ false → end_of_numbers ≤ n
+used_up {b} n is e = grind (arith, nat_tests, leb_tells (suc n) end_of_numbers)
+
+-- a handle is alive where they are not none
+open_now : (n : ℕ) → n ≢ 0 → 0 < n
+open_now n h = omega arith
 
 -- whoever is named stands there
 named_stands : (first p : ℕ) (gs : List (Numbered Getting)) (b : Bool) (n : Option ℕ) → n ≡ cond b (slice_get (in_order unnotified_at first gs p) 0) None → IfSome n (λ k. (s : Getting) × (standing_at first gs k ≡ Some s))
 named_stands first p gs b None e = tt
 named_stands first p gs true (Some k) e = let w = first_waits first p gs k (sym e) in (w.0, w.1)
 named_stands first p gs false (Some k) e = cc
+
+-- the counters after a get was served that first waited then
+abbrev pub served : Counters → ℕ → Option ℕ → Counters
+served was now since = record was { direct = was.direct + one (not (is_some since)); waited = was.waited + one (is_some since); wait_micros = min most_micros (was.wait_micros + micros_since now since) }
+
+-- the counters after a give-up for this reason, of a get that first waited then
+abbrev given_up : Named → ℕ → Option ℕ → Counters → Counters
+given_up reasons.TimedOut now since was = record was { timed_out = was.timed_out + 1; wait_micros = min most_micros (was.wait_micros + micros_since now since) }
+given_up reasons.Cancelled now since was = record was { cancelled = was.cancelled + 1 }
+
+-- what the code says of the counters, one clause a reason
+given_up_is : (reason : Named) (now : ℕ) (since : Option ℕ) {was is : Counters} → (reason ≡ reasons.TimedOut → is ≡ given_up reasons.TimedOut now since was) → (reason ≡ reasons.Cancelled → is ≡ given_up reasons.Cancelled now since was) → is ≡ given_up reason now since was
+given_up_is reasons.TimedOut now since timed let_go = timed refl
+given_up_is reasons.Cancelled now since timed let_go = let_go refl
 
 module _ {C : Type 0} where
   pub same_shown : (s t : Shown C) → s.config ≡ t.config → s.latest ≡ t.latest → s.handles ≡ t.handles → s.records ≡ t.records → s.gets ≡ t.gets → s.counts ≡ t.counts → s ≡ t
@@ -64,11 +82,10 @@ module _ {C : Type 0} where
   pub record IsStep (s : Shown C) (at : ℕ) (e : Act C) (a : Answer) (new : Shown C) : Type 0 where
     pub meets : Meets s at e a new
 
-  -- a step leads from a state that has a ledger to one that has one
-  pub led : {s new : Shown C} (at : ℕ) (e : Act C) (a : Answer) → HasLedger s → IsStep s at e a new → HasLedger new
-  led at e a h m = let step = m.meets h.0 h.1 h.2 in (Later h.0 at e a, (h.1, step.0), step.1)
+  -- A step leads from a state that has a ledger to one that has one. The old state is the view of the fields.
+  pub led : {s t : Shown C} (new : Shown C) (at : ℕ) (e : Act C) (a : Answer) → s ≡ t → HasLedger s → Meets t at e a new → HasLedger new
+  led new at e a is h meets = let step = meets h.0 h.1 (h.2 ∙ is) in (Later h.0 at e a, (h.1, step.0), step.1)
 
-  -- the old state is the view of the fields
   pub at_view : {s t new : Shown C} (at : ℕ) (e : Act C) (a : Answer) → s ≡ t → IsStep s at e a new → Meets t at e a new
   at_view at e a is m l legal means = m.meets l legal (means ∙ sym is)
 
@@ -92,8 +109,8 @@ module _ {C : Type 0} where
   }
 
   -- the same of an event that changes the latest moment alone
-  meets_quiet : (Known : Shown C → Type 0) (s new : Shown C) (at : ℕ) (e : Act C) (a : Answer) → IsFitting s e → Known s → new ≡ record s { latest = max s.latest at } → ((l : Ledger C) → (latest (Later l at e a) ≡ max (latest l) at) × (handles (Later l at e a) ≡ handles l) × (counts (Later l at e a) ≡ counts l)) → ((l : Ledger C) → IsLegal l → takes l e ≡ true → Known (shown l) → Row l at e a × (records (Later l at e a) ≡ records l) × (gets (Later l at e a) ≡ gets l)) → IsStep s at e a new
-  meets_quiet Known s new at e a fit known is quiet row = meets_by Known (λ t. record t { latest = max t.latest at }) s new at e a fit known is (λ l legal f k.
+  meets_quiet : (Known : Shown C → Type 0) (s : Shown C) {now : ℕ} {rs : ShownRecords C} {gs : ShownGets} (at : ℕ) (e : Act C) (a : Answer) → IsFitting s e → Known s → now ≡ max s.latest at → rs ≡ s.records → gs ≡ s.gets → ((l : Ledger C) → (latest (Later l at e a) ≡ max (latest l) at) × (handles (Later l at e a) ≡ handles l) × (counts (Later l at e a) ≡ counts l)) → ((l : Ledger C) → IsLegal l → takes l e ≡ true → Known (shown l) → Row l at e a × (records (Later l at e a) ≡ records l) × (gets (Later l at e a) ≡ gets l)) → IsStep s at e a (record s { latest = now; records = rs; gets = gs })
+  meets_quiet Known s at e a fit known now_is rs_is gs_is quiet row = meets_by Known (λ t. record t { latest = max t.latest at }) s _ at e a fit known (same_shown _ _ refl now_is refl rs_is gs_is refl) (λ l legal f k.
       let same = quiet l in
       let r = row l legal f k in (
         r.0,
@@ -123,9 +140,22 @@ module _ {C : Type 0} where
   changed : (claimed : Bool) (l : Ledger C) (n : ℕ) (rs : List (Numbered (Standing C))) (new : ShownRecords C) → shown_records (start l).first (suc (position l)) (peak l) rs ≡ new → shown_records (start l).first (suc (position l)) (max (peak l) (conns_of (with_approvals claimed n rs) + approved_of (with_approvals claimed n rs))) (with_approvals claimed n rs) ≡ machine.with_peak (machine.after_approvals claimed n new)
   changed claimed l n rs new is = ap machine.with_peak (shown-approve claimed n (start l).first (suc (position l)) (peak l) rs ∙ ap (machine.after_approvals claimed n) is)
 
+  -- what is granted of what is wanted, once the records have changed to these
+  pub record Grants (s : Shown C) (claimed : Bool) (was : ShownRecords C) (grant : Grant) (rs : ShownRecords C) : Type 0 where
+    pub granted : machine.IsGrant was (decided.want s.config s.handles was) grant
+    pub after : rs ≡ machine.after_grant claimed grant was
+
+  pub grants : {s : Shown C} {claimed : Bool} {taken was : ShownRecords C} {wanted : ℕ} {grant : Grant} {rs : ShownRecords C} → taken ≡ was → wanted ≡ decided.want s.config s.handles taken → machine.IsGrant taken wanted grant → rs ≡ machine.after_grant claimed grant taken → Grants s claimed was grant rs
+  grants {s} {claimed} {taken} {grant = grant} taken_is wanted_is granted rs_is = record {
+    granted = subst (λ (x : ShownRecords C). machine.IsGrant x (decided.want s.config s.handles x) grant) taken_is (subst (λ (m : ℕ). machine.IsGrant taken m grant) wanted_is granted);
+    after = rs_is ∙ ap (machine.after_grant claimed grant) taken_is;
+  }
+
   -- what is granted of what is wanted, by tallies
-  want_is : (l : Ledger C) (rs : List (Numbered (Standing C))) (g : Grant) → Before idle_at (position l) rs → machine.IsGrant (shown_records (start l).first (position l) (peak l) rs) (decided.want (start l).config (handles l) (shown_records (start l).first (position l) (peak l) rs)) g → IsWant l rs g
-  want_is l rs g before granted = subst (λ (n : ℕ). IsGranted ((start l).first + length rs) (conns_of rs + approved_of rs) (peak l) (due (start l).config (handles l) (conns_of rs + approved_of rs) (lacking (start l).config (n + approved_of rs))) g) (idle_counted (start l).first (position l) rs before) granted
+  want_is : (l : Ledger C) (rs : List (Numbered (Standing C))) (g : Grant) (new : ShownRecords C) → Before idle_at (position l) rs → shown_records (start l).first (position l) (peak l) rs ≡ new → machine.IsGrant new (decided.want (start l).config (handles l) new) g → IsWant l rs g
+  want_is l rs g new before is granted =
+      let wants : ShownRecords C → ℕ → Type 0 = λ x n. IsGranted x.next (x.conns + x.approved) x.peak (due (start l).config (handles l) (x.conns + x.approved) (lacking (start l).config (n + x.approved))) g in
+      subst (wants (shown_records (start l).first (position l) (peak l) rs)) (idle_counted (start l).first (position l) rs before) (subst (λ (x : ShownRecords C). wants x (length x.idle)) (sym is) granted)
 
   -- records that are no more than before keep the peak
   still_raised : (l : Ledger C) (rs : List (Numbered (Standing C))) (new : ShownRecords C) → shown_records (start l).first (suc (position l)) (peak l) rs ≡ new → new.conns + new.approved ≤ peak l → shown_records (start l).first (suc (position l)) (max (peak l) (conns_of rs + approved_of rs)) rs ≡ new
@@ -133,33 +163,35 @@ module _ {C : Type 0} where
 
   -- ---- fill
 
-  pub meets_fill : {s : Shown C} {at : ℕ} {claimed : Bool} {g : Grant} {now : ℕ} {rs : ShownRecords C} → now ≡ max s.latest at → machine.IsGrant s.records (decided.want s.config s.handles s.records) g → rs ≡ machine.after_grant claimed g s.records → IsStep s at (Fill claimed) (Granted g) (record s { latest = now; records = rs })
-  meets_fill {s} {at} {claimed} {g} {now} {rs} now_is granted rs_is = meets_by (λ t. machine.IsGrant t.records (decided.want t.config t.handles t.records) g) (λ t. record t { latest = max t.latest at; records = machine.after_grant claimed g t.records }) s _ at (Fill claimed) (Granted g) (λ l legal means. refl) granted (same_shown _ _ refl now_is refl rs_is refl refl)
-      (λ l legal f granted_l. (fills (want_is l (records l) g (entered_before l) granted_l), same_shown _ _ refl refl refl (changed claimed l g.count (records l) _ (later_shown l)) (gets_kept l) refl))
+  pub meets_fill : {s : Shown C} {at : ℕ} {claimed : Bool} {g : Grant} {now : ℕ} {rs : ShownRecords C} → now ≡ max s.latest at → Grants s claimed s.records g rs → IsStep s at (Fill claimed) (Granted g) (record s { latest = now; records = rs })
+  meets_fill {s} {at} {claimed} {g} {now} {rs} now_is granted = meets_by (λ t. machine.IsGrant t.records (decided.want t.config t.handles t.records) g) (λ t. record t { latest = max t.latest at; records = machine.after_grant claimed g t.records }) s _ at (Fill claimed) (Granted g) (λ l legal means. refl) granted.granted (same_shown _ _ refl now_is refl granted.after refl refl)
+      (λ l legal f granted_l. (fills (want_is l (records l) g _ (entered_before l) refl granted_l), same_shown _ _ refl refl refl (changed claimed l g.count (records l) _ (later_shown l)) (gets_kept l) refl))
 
   -- ---- claim
 
-  pub meets_claim : {s : Shown C} {at k now : ℕ} {rs : ShownRecords C} → now ≡ max s.latest at → 0 < s.handles → slice_get s.records.unclaimed 0 ≡ Some k → rs ≡ machine.after_claim k s.records → IsStep s at Claim (answers.Claimed (Some k)) (record s { latest = now; records = rs })
-  meets_claim {s} {at} {k} {now} {rs} now_is open_now first rs_is = meets_by (λ t. (0 < t.handles) × (slice_get t.records.unclaimed 0 ≡ Some k)) (λ t. record t { latest = max t.latest at; records = machine.after_claim k t.records }) s _ at Claim (answers.Claimed (Some k)) (λ l legal means. refl) (open_now, first) (same_shown _ _ refl now_is refl rs_is refl refl) (λ l legal f known.
+  pub meets_claim : {s : Shown C} {at k now : ℕ} {rs : ShownRecords C} → now ≡ max s.latest at → s.handles ≢ 0 → slice_get s.records.unclaimed 0 ≡ Some k → rs ≡ machine.after_claim k s.records → IsStep s at Claim (answers.Claimed (Some k)) (record s { latest = now; records = rs })
+  meets_claim {s} {at} {k} {now} {rs} now_is alive_now first rs_is = meets_by (λ t. (0 < t.handles) × (slice_get t.records.unclaimed 0 ≡ Some k)) (λ t. record t { latest = max t.latest at; records = machine.after_claim k t.records }) s _ at Claim (answers.Claimed (Some k)) (λ l legal means. refl) (open_now _ alive_now, first) (same_shown _ _ refl now_is refl rs_is refl refl) (λ l legal f known.
       let is : shown_records (start l).first (suc (position l)) (peak l) (update (start l).first k (at_place Claimed) (records l)) ≡ machine.after_claim k (shown l).records = shown-claimed (start l).first (suc (position l)) (peak l) (records l) k known.1 ∙ ap (machine.after_claim k) (later_shown l) in
       (claims known.0 known.1, same_shown _ _ refl refl refl (still_raised l _ _ is (peak_holds l)) (gets_kept l) refl))
 
-  pub meets_claim_none : {s : Shown C} {at now : ℕ} {rs : ShownRecords C} → now ≡ max s.latest at → 0 < s.handles → slice_get s.records.unclaimed 0 ≡ None → rs ≡ s.records → IsStep s at Claim (answers.Claimed None) (record s { latest = now; records = rs })
-  meets_claim_none {s} {at} {now} {rs} now_is open_now none rs_is = meets_quiet (λ t. (0 < t.handles) × (slice_get t.records.unclaimed 0 ≡ None)) s _ at Claim (answers.Claimed None) (λ l legal means. refl) (open_now, none) (same_shown _ _ refl now_is refl rs_is refl refl) (λ l. (refl, refl, refl)) (λ l legal f known. (claims known.0 known.1, refl, refl))
+  pub meets_claim_none : {s : Shown C} {at now : ℕ} {rs : ShownRecords C} → now ≡ max s.latest at → s.handles ≢ 0 → slice_get s.records.unclaimed 0 ≡ None → rs ≡ s.records → IsStep s at Claim (answers.Claimed None) (record s { latest = now; records = rs })
+  meets_claim_none {s} {at} {now} {rs} now_is alive_now none rs_is = meets_quiet (λ t. (0 < t.handles) × (slice_get t.records.unclaimed 0 ≡ None)) s at Claim (answers.Claimed None) (λ l legal means. refl) (open_now _ alive_now, none) now_is rs_is refl (λ l. (refl, refl, refl)) (λ l legal f known. (claims known.0 known.1, refl, refl))
 
   pub meets_claim_ended : {s : Shown C} {at now : ℕ} → now ≡ max s.latest at → s.handles ≡ 0 → IsStep s at Claim Ended (record s { latest = now })
-  meets_claim_ended {s} {at} {now} now_is ended_now = meets_quiet (λ t. t.handles ≡ 0) s _ at Claim Ended (λ l legal means. refl) ended_now (same_shown _ _ refl now_is refl refl refl refl) (λ l. (refl, refl, refl)) (λ l legal f none. (claim_ended none, refl, refl))
+  meets_claim_ended {s} {at} {now} now_is ended_now = meets_quiet (λ t. t.handles ≡ 0) s at Claim Ended (λ l legal means. refl) ended_now now_is refl refl (λ l. (refl, refl, refl)) (λ l legal f none. (claim_ended none, refl, refl))
 
   -- ---- opened
 
-  pub meets_opened : {s : Shown C} (at : ℕ) {k : ℕ} (c : C) {now : ℕ} {rs : ShownRecords C} {n : Option ℕ} {gs : ShownGets} {new : Counts} → IsFitting s (Opened k c) → now ≡ max s.latest at → 0 < s.handles → 1 ≤ s.records.approved → rs ≡ machine.after_entry true k (record { place = Idle c; birth = now; entered = now }) s.records → Notices s n gs → new ≡ record s.counts { created = s.counts.created + 1 } → IsStep s at (Opened k c) (Entered k n) (record s { latest = now; records = rs; gets = gs; counts = new })
-  meets_opened {s} at {k} c {now} {rs} {n} {gs} {new} fit now_is open_now some rs_is told new_is = meets_by (λ t. (0 < t.handles) × (1 ≤ t.records.approved) × (n ≡ slice_get t.gets.waiting 0)) (λ t. record t { latest = max t.latest at; records = machine.after_entry true k (record { place = Idle c; birth = max t.latest at; entered = max t.latest at }) t.records; gets = machine.after_notice n t.gets; counts = record t.counts { created = t.counts.created + 1 } }) s _ at (Opened k c) (Entered k n) fit (open_now, some, told.who)
+  pub meets_opened : {s : Shown C} (at : ℕ) {k : ℕ} (c : C) {now : ℕ} {rs : ShownRecords C} {n : Option ℕ} {gs : ShownGets} {new : Counts} → IsFitting s (Opened k c) → now ≡ max s.latest at → s.handles ≢ 0 → rs ≡ machine.after_entry true k (record { place = Idle c; birth = now; entered = now }) s.records → Notices s n gs → new ≡ record s.counts { created = s.counts.created + 1 } → IsStep s at (Opened k c) (Entered k n) (record s { latest = now; records = rs; gets = gs; counts = new })
+  meets_opened {s} at {k} c {now} {rs} {n} {gs} {new} fit now_is alive_now rs_is told new_is = meets_by (λ t. (0 < t.handles) × (n ≡ slice_get t.gets.waiting 0)) (λ t. record t { latest = max t.latest at; records = machine.after_entry true k (record { place = Idle c; birth = max t.latest at; entered = max t.latest at }) t.records; gets = machine.after_notice n t.gets; counts = record t.counts { created = t.counts.created + 1 } }) s _ at (Opened k c) (Entered k n) fit (open_now _ alive_now, told.who)
       (same_shown _ _ refl now_is refl (rs_is ∙ ap (λ (m : ℕ). machine.after_entry true k (record { place = Idle c; birth = m; entered = m }) s.records) now_is) told.after new_is)
       (λ l legal f known.
       let st = standing_is is_claimed (record_of l k) f in
+      let place = claimed_is st.0.place st.2 in
+      let some : 1 ≤ approved_of (records l) = claimed_counted l k st.0 st.1 place in
       let few : conns_of (records l) + approved_of (records l) ≤ peak l = peak_holds l in
-      let is = shown-entered (start l).first (position l) (peak l) (records l) true k st.0 c (max (latest l) at) (max (latest l) at) (λ r. entry c (max (latest l) at) (max (latest l) at) (position l)) (entered_before l) st.1 (claimed_is st.0.place st.2) (λ r e. refl) in
-      (opens known.0 known.2, same_shown _ _ refl refl refl (ap machine.with_peak is ∙ raised_same _ (omega (arith, known.1))) (gets_told l n known.2) refl))
+      let is = shown-entered (start l).first (position l) (peak l) (records l) true k st.0 c (max (latest l) at) (max (latest l) at) (λ r. entry c (max (latest l) at) (max (latest l) at) (position l)) (entered_before l) st.1 place (λ r e. refl) in
+      (opens known.0 known.1, same_shown _ _ refl refl refl (ap machine.with_peak is ∙ raised_same _ (omega arith)) (gets_told l n known.1) refl))
 
   pub meets_late : {s : Shown C} (at : ℕ) {k : ℕ} (c : C) {now : ℕ} {rs : ShownRecords C} → IsFitting s (Opened k c) → now ≡ max s.latest at → s.handles ≡ 0 → rs ≡ machine.after_close true k s.records → IsStep s at (Opened k c) (Late k) (record s { latest = now; records = rs })
   meets_late {s} at {k} c {now} {rs} fit now_is ended_now rs_is = meets_by (λ t. t.handles ≡ 0) (λ t. record t { latest = max t.latest at; records = machine.after_close true k t.records }) s _ at (Opened k c) (Late k) fit ended_now (same_shown _ _ refl now_is refl rs_is refl refl) (λ l legal f none.
@@ -174,9 +206,26 @@ module _ {C : Type 0} where
   closes_is : (l : Ledger C) (at k : ℕ) (broken : Bool) → closes l at k broken ≡ decided.closes (shown l) at k broken
   closes_is l at k broken = ap (λ (o : Option (Standing C)). broken || (is_expired (start l).config.max_lifetime (max (latest l) at) (birth_in o) || eqb (handles l) 0)) (shown_record l (shown l) refl k)
 
-  meets_kept : (s : Shown C) (at k : ℕ) (c : C) (broken : Bool) (now : ℕ) (rs : ShownRecords C) (n : Option ℕ) (gs : ShownGets) → Notices s n gs → IsFitting s (PutBack k c broken) → now ≡ max s.latest at → decided.closes s at k broken ≡ false → rs ≡ machine.after_entry false k (record { place = Idle c; birth = birth_in (get s.records.places k); entered = now }) s.records → IsStep s at (PutBack k c broken) (Kept k n) (record s { latest = now; records = rs; gets = gs })
-  meets_kept s at k c broken now rs n gs told fit now_is keep rs_is = meets_by (λ t. (decided.closes t at k broken ≡ false) × (n ≡ slice_get t.gets.waiting 0)) (λ t. record t { latest = max t.latest at; records = machine.after_entry false k (record { place = Idle c; birth = birth_in (get t.records.places k); entered = max t.latest at }) t.records; gets = machine.after_notice n t.gets }) s _ at (PutBack k c broken) (Kept k n) fit (keep, told.who)
-      (same_shown _ _ refl now_is refl (rs_is ∙ ap (λ (m : ℕ). machine.after_entry false k (record { place = Idle c; birth = birth_in (get s.records.places k); entered = m }) s.records) now_is) told.after refl)
+  -- what the code knows when a connection has come back
+  pub record Returned (s : Shown C) (at k : ℕ) (c : C) (broken : Bool) (now birth : ℕ) (aged : Bool) : Type 0 where
+    pub fit : IsFitting s (PutBack k c broken)
+    pub now_is : now ≡ max s.latest at
+    pub birth_is : birth ≡ birth_in (get s.records.places k)
+    pub aged_is : aged ≡ is_expired s.config.max_lifetime now birth
+
+  pub returned : {s t : Shown C} {at k : ℕ} {c : C} {broken : Bool} {now birth : ℕ} {aged : Bool} → s ≡ t → IsFitting t (PutBack k c broken) → now ≡ max s.latest at → birth ≡ birth_in (get s.records.places k) → aged ≡ is_expired s.config.max_lifetime now birth → Returned s at k c broken now birth aged
+  returned {k = k} {c = c} {broken = broken} is fit now_is birth_is aged_is = record { fit = fits_view (PutBack k c broken) is fit; now_is = now_is; birth_is = birth_is; aged_is = aged_is }
+
+  old_is : (s : Shown C) (at k : ℕ) (c : C) (broken : Bool) (now birth : ℕ) (aged : Bool) → Returned s at k c broken now birth aged → decided.is_old s at k ≡ aged
+  old_is s at k c broken now birth aged r = sym (r.aged_is ∙ ap (λ (n : ℕ). is_expired s.config.max_lifetime n birth) r.now_is ∙ ap (is_expired s.config.max_lifetime (max s.latest at)) r.birth_is)
+
+  -- so what the code decides of it is what is decided
+  closing_is : {s : Shown C} {at k : ℕ} {c : C} {broken : Bool} {now birth : ℕ} {aged closing : Bool} → Returned s at k c broken now birth aged → (broken || (aged || eqb s.handles 0)) ≡ closing → decided.closes s at k broken ≡ closing
+  closing_is {s} {at} {k} {c} {broken} {now} {birth} {aged} r is = ap (λ (b : Bool). broken || (b || eqb s.handles 0)) (old_is s at k c broken now birth aged r) ∙ is
+
+  pub meets_returned_kept : {s : Shown C} {at k : ℕ} {c : C} {broken : Bool} {now birth : ℕ} {aged : Bool} {rs : ShownRecords C} {n : Option ℕ} {gs : ShownGets} → Notices s n gs → Returned s at k c broken now birth aged → (broken || (aged || eqb s.handles 0)) ≡ false → rs ≡ machine.after_entry false k (record { place = Idle c; birth = birth; entered = now }) s.records → IsStep s at (PutBack k c broken) (Kept k n) (record s { latest = now; records = rs; gets = gs })
+  meets_returned_kept {s} {at} {k} {c} {broken} {now} {birth} {aged} {rs} {n} {gs} told r keep rs_is = meets_by (λ t. (decided.closes t at k broken ≡ false) × (n ≡ slice_get t.gets.waiting 0)) (λ t. record t { latest = max t.latest at; records = machine.after_entry false k (record { place = Idle c; birth = birth_in (get t.records.places k); entered = max t.latest at }) t.records; gets = machine.after_notice n t.gets }) s _ at (PutBack k c broken) (Kept k n) r.fit (closing_is r keep, told.who)
+      (same_shown _ _ refl r.now_is refl (rs_is ∙ ap (λ (m : ℕ). machine.after_entry false k (record { place = Idle c; birth = m; entered = now }) s.records) r.birth_is ∙ ap (λ (m : ℕ). machine.after_entry false k (record { place = Idle c; birth = birth_in (get s.records.places k); entered = m }) s.records) r.now_is) told.after refl)
       (λ l legal f known.
       let st = standing_is is_guarded (record_of l k) f in
       let few : conns_of (records l) + approved_of (records l) ≤ peak l = peak_holds l in
@@ -188,40 +237,19 @@ module _ {C : Type 0} where
   abbrev counted : Shown C → ℕ → ℕ → Bool → Counts
   counted s at k broken = record s.counts { broken = s.counts.broken + one broken; max_lifetime = s.counts.max_lifetime + one (not broken && decided.is_old s at k) }
 
-  meets_closed : (s : Shown C) (at k : ℕ) (c : C) (broken : Bool) (now : ℕ) (grant : Grant) (rs : ShownRecords C) (n : Option ℕ) (gs : ShownGets) (new : Counts) → Notices s n gs → IsFitting s (PutBack k c broken) → now ≡ max s.latest at → decided.closes s at k broken ≡ true → machine.IsGrant (machine.after_close false k s.records) (decided.want s.config s.handles (machine.after_close false k s.records)) grant → rs ≡ machine.after_grant false grant (machine.after_close false k s.records) → new ≡ counted s at k broken → IsStep s at (PutBack k c broken) (Closed k grant n) (record s { latest = now; records = rs; gets = gs; counts = new })
-  meets_closed s at k c broken now grant rs n gs new told fit now_is closing granted rs_is new_is = meets_by (λ t. (decided.closes t at k broken ≡ true) × machine.IsGrant (machine.after_close false k t.records) (decided.want t.config t.handles (machine.after_close false k t.records)) grant × (n ≡ slice_get t.gets.waiting 0)) (λ t. record t { latest = max t.latest at; records = machine.after_grant false grant (machine.after_close false k t.records); gets = machine.after_notice n t.gets; counts = counted t at k broken }) s _ at (PutBack k c broken) (Closed k grant n) fit (closing, granted, told.who)
-      (same_shown _ _ refl now_is refl rs_is told.after new_is)
+  pub meets_returned_closed : {s : Shown C} {at k : ℕ} {c : C} {broken : Bool} {now birth : ℕ} {aged : Bool} {grant : Grant} {rs : ShownRecords C} {n : Option ℕ} {gs : ShownGets} {x y : ℕ} → Notices s n gs → Returned s at k c broken now birth aged → (broken || (aged || eqb s.handles 0)) ≡ true → Grants s false (machine.after_close false k s.records) grant rs → x ≡ one broken → y ≡ one (not broken && aged) → IsStep s at (PutBack k c broken) (Closed k grant n) (record s { latest = now; records = rs; gets = gs; counts = record s.counts { broken = s.counts.broken + x; max_lifetime = s.counts.max_lifetime + y } })
+  meets_returned_closed {s} {at} {k} {c} {broken} {now} {birth} {aged} {grant} {rs} {n} {gs} {x} {y} told r closing granted x_is y_is = meets_by (λ t. (decided.closes t at k broken ≡ true) × machine.IsGrant (machine.after_close false k t.records) (decided.want t.config t.handles (machine.after_close false k t.records)) grant × (n ≡ slice_get t.gets.waiting 0)) (λ t. record t { latest = max t.latest at; records = machine.after_grant false grant (machine.after_close false k t.records); gets = machine.after_notice n t.gets; counts = counted t at k broken }) s _ at (PutBack k c broken) (Closed k grant n) r.fit (closing_is r closing, granted.granted, told.who)
+      (same_shown _ _ refl r.now_is refl granted.after told.after
+      (ap (λ (m : ℕ). record s.counts { broken = s.counts.broken + m; max_lifetime = s.counts.max_lifetime + y }) x_is
+      ∙ ap (λ (m : ℕ). record s.counts { broken = s.counts.broken + one broken; max_lifetime = s.counts.max_lifetime + m }) (y_is ∙ ap (λ (b : Bool). one (not broken && b)) (sym (old_is s at k c broken now birth aged r)))))
       (λ l legal f known.
       let st = standing_is is_guarded (record_of l k) f in
       let shut : List (Numbered (Standing C)) = update (start l).first k after_end (records l) in
       let is = shown-closed (start l).first (position l) (peak l) (records l) false k st.0 st.1 (guarded_is st.0.place st.2) in
       let later = shown-closed (start l).first (suc (position l)) (peak l) (records l) false k st.0 st.1 (guarded_is st.0.place st.2) ∙ ap (machine.after_close false k) (later_shown l) in (
-        returns_closed (closes_is l at k broken ∙ known.0) (want_is l shut grant (ended_before (position l) (start l).first k (records l) (entered_before l)) (subst (λ (t : ShownRecords C). machine.IsGrant t (decided.want (start l).config (handles l) t) grant) (sym is) known.1)) known.2,
+        returns_closed (closes_is l at k broken ∙ known.0) (want_is l shut grant _ (ended_before (position l) (start l).first k (records l) (entered_before l)) is known.1) known.2,
         same_shown _ _ refl refl refl (changed false l grant.count shut _ later) (gets_told l n known.2) (ap (λ (o : Option (Standing C)). record (shown l).counts { broken = (shown l).counts.broken + one broken; max_lifetime = (shown l).counts.max_lifetime + one (not broken && is_expired (start l).config.max_lifetime (max (latest l) at) (birth_in o)) }) (shown_record l (shown l) refl k)),
       ))
-
-  -- what the code knows when a connection has come back
-  pub record Returned (s : Shown C) (at k : ℕ) (c : C) (broken : Bool) (now birth : ℕ) (aged : Bool) : Type 0 where
-    pub fit : IsFitting s (PutBack k c broken)
-    pub now_is : now ≡ max s.latest at
-    pub birth_is : birth ≡ birth_in (get s.records.places k)
-    pub aged_is : aged ≡ is_expired s.config.max_lifetime now birth
-
-  old_is : (s : Shown C) (at k : ℕ) (c : C) (broken : Bool) (now birth : ℕ) (aged : Bool) → Returned s at k c broken now birth aged → decided.is_old s at k ≡ aged
-  old_is s at k c broken now birth aged r = sym (r.aged_is ∙ ap (λ (n : ℕ). is_expired s.config.max_lifetime n birth) r.now_is ∙ ap (is_expired s.config.max_lifetime (max s.latest at)) r.birth_is)
-
-  pub meets_returned_kept : {s : Shown C} {at k : ℕ} {c : C} {broken : Bool} {now birth : ℕ} {aged : Bool} {rs : ShownRecords C} {n : Option ℕ} {gs : ShownGets} → Notices s n gs → Returned s at k c broken now birth aged → (broken || (aged || eqb s.handles 0)) ≡ false → rs ≡ machine.after_entry false k (record { place = Idle c; birth = birth; entered = now }) s.records → IsStep s at (PutBack k c broken) (Kept k n) (record s { latest = now; records = rs; gets = gs })
-  meets_returned_kept {s} {at} {k} {c} {broken} {now} {birth} {aged} {rs} {n} {gs} told r keep rs_is = meets_kept s at k c broken now rs n gs told r.fit r.now_is
-      (ap (λ (b : Bool). broken || (b || eqb s.handles 0)) (old_is s at k c broken now birth aged r) ∙ keep)
-      (rs_is ∙ ap (λ (n : ℕ). machine.after_entry false k (record { place = Idle c; birth = n; entered = now }) s.records) r.birth_is)
-
-  pub meets_returned_closed : {s : Shown C} {at k : ℕ} {c : C} {broken : Bool} {now birth : ℕ} {aged : Bool} {shut : ShownRecords C} {wanted : ℕ} {grant : Grant} {rs : ShownRecords C} {n : Option ℕ} {gs : ShownGets} {x y : ℕ} → Notices s n gs → Returned s at k c broken now birth aged → (broken || (aged || eqb s.handles 0)) ≡ true → shut ≡ machine.after_close false k s.records → wanted ≡ decided.want s.config s.handles shut → machine.IsGrant shut wanted grant → rs ≡ machine.after_grant false grant shut → x ≡ one broken → y ≡ one (not broken && aged) → IsStep s at (PutBack k c broken) (Closed k grant n) (record s { latest = now; records = rs; gets = gs; counts = record s.counts { broken = s.counts.broken + x; max_lifetime = s.counts.max_lifetime + y } })
-  meets_returned_closed {s} {at} {k} {c} {broken} {now} {birth} {aged} {shut} {wanted} {grant} {rs} {n} {gs} {x} {y} told r closing shut_is wanted_is granted rs_is x_is y_is = meets_closed s at k c broken now grant rs n gs _ told r.fit r.now_is
-      (ap (λ (b : Bool). broken || (b || eqb s.handles 0)) (old_is s at k c broken now birth aged r) ∙ closing)
-      (subst (λ (t : ShownRecords C). machine.IsGrant t (decided.want s.config s.handles t) grant) shut_is (subst (λ (m : ℕ). machine.IsGrant shut m grant) wanted_is granted))
-      (rs_is ∙ ap (machine.after_grant false grant) shut_is)
-      (ap (λ (n : ℕ). record s.counts { broken = s.counts.broken + n; max_lifetime = s.counts.max_lifetime + y }) x_is
-      ∙ ap (λ (n : ℕ). record s.counts { broken = s.counts.broken + one broken; max_lifetime = s.counts.max_lifetime + n }) (y_is ∙ ap (λ (b : Bool). one (not broken && b)) (sym (old_is s at k c broken now birth aged r))))
 
   -- ---- begin
 
@@ -230,15 +258,15 @@ module _ {C : Type 0} where
       (λ l legal f known. (begins known.1 (subst (λ (m : ℕ). m < end_of_numbers) (sym known.1) known.0), same_shown _ _ refl refl refl (records_kept l) (shown-begun (start l).first_get (position l) (get_peak l) (gets l) (waited_before l) (get_peak_holds l)) refl))
 
   pub meets_memory : {s : Shown C} (at : ℕ) {now : ℕ} {gs : ShownGets} → IsFitting s Begin → now ≡ max s.latest at → s.gets.next < end_of_numbers → s.gets.alive ≡ s.gets.peak → gs ≡ s.gets → IsStep s at Begin Memory (record s { latest = now; gets = gs })
-  meets_memory {s} at {now} {gs} fit now_is few full gs_is = meets_quiet (λ t. (t.gets.next < end_of_numbers) × (t.gets.alive ≡ t.gets.peak)) s _ at Begin Memory fit (few, full) (same_shown _ _ refl now_is refl refl gs_is refl) (λ l. (refl, refl, refl)) (λ l legal f known. (begin_refused known.0 known.1, refl, refl))
+  meets_memory {s} at {now} {gs} fit now_is few full gs_is = meets_quiet (λ t. (t.gets.next < end_of_numbers) × (t.gets.alive ≡ t.gets.peak)) s at Begin Memory fit (few, full) now_is refl gs_is (λ l. (refl, refl, refl)) (λ l legal f known. (begin_refused known.0 known.1, refl, refl))
 
   pub meets_exhausted : {s : Shown C} (at : ℕ) {now : ℕ} → IsFitting s Begin → now ≡ max s.latest at → end_of_numbers ≤ s.gets.next → IsStep s at Begin Exhausted (record s { latest = now })
-  meets_exhausted {s} at {now} fit now_is many = meets_quiet (λ t. end_of_numbers ≤ t.gets.next) s _ at Begin Exhausted fit many (same_shown _ _ refl now_is refl refl refl refl) (λ l. (refl, refl, refl)) (λ l legal f known. (begin_exhausted known, refl, refl))
+  meets_exhausted {s} at {now} fit now_is many = meets_quiet (λ t. end_of_numbers ≤ t.gets.next) s at Begin Exhausted fit many now_is refl refl (λ l. (refl, refl, refl)) (λ l legal f known. (begin_exhausted known, refl, refl))
 
   -- ---- state
 
   pub meets_state : {s : Shown C} {at now : ℕ} {f : Figures} → now ≡ max s.latest at → ((l : Ledger C) → Means l s → f ≡ figures l) → IsStep s at State (ShownFigures f) (record s { latest = now })
-  meets_state {s} {at} {now} {f} now_is told = meets_quiet (λ t. (l : Ledger C) → Means l t → f ≡ figures l) s _ at State (ShownFigures f) (λ l legal means. refl) told (same_shown _ _ refl now_is refl refl refl refl) (λ l. (refl, refl, refl)) (λ l legal fit known. (subst (λ (x : Figures). Row l at State (ShownFigures x)) (sym (known l refl)) shows, refl, refl))
+  meets_state {s} {at} {now} {f} now_is told = meets_quiet (λ t. (l : Ledger C) → Means l t → f ≡ figures l) s at State (ShownFigures f) (λ l legal means. refl) told now_is refl refl (λ l. (refl, refl, refl)) (λ l legal fit known. (subst (λ (x : Figures). Row l at State (ShownFigures x)) (sym (known l refl)) shows, refl, refl))
 
   -- what a state shows is what its ledger tells
   pub figures_told : (s : Shown C) (l : Ledger C) → Means l s → record { connections = s.records.conns; idle = length s.records.idle; counts = s.counts } ≡ figures l
@@ -249,14 +277,17 @@ module _ {C : Type 0} where
 
   -- ---- try, where nothing is checked
 
-  -- the statistics after a get was served that stood so
-  abbrev served_counts : Shown C → ℕ → ℕ → Option Getting → Counts
-  served_counts s micros now o = record s.counts { direct = s.counts.direct + one (not (is_some (first_wait_of o))); waited = s.counts.waited + one (is_some (first_wait_of o)); wait_time = 1000 * min most_micros (micros + micros_since now (first_wait_of o)) }
+  -- what the counters keep of the waits is what a ledger tells of them
+  same_micros : (l : Ledger C) (was : Counters) → counts l ≡ counts_held was → wait_micros l ≡ was.wait_micros
+  same_micros l was were = let told : 1000 * wait_micros l ≡ 1000 * was.wait_micros = ap (λ (x : Counts). x.wait_time) were in omega arith
 
-  count_served : (l : Ledger C) (at g k : ℕ) (grant : Grant) (micros : ℕ) → (counts l).wait_time ≡ 1000 * micros → counts (Later l at (Try g) (Served k grant)) ≡ served_counts (shown l) micros (max (latest l) at) (get (shown l).gets.places g)
-  count_served l at g k grant micros told =
-      let same : wait_micros l ≡ micros = omega (arith, told) in
-      ap (λ (m : ℕ). served_counts (shown l) m (max (latest l) at) (get_of l g)) same ∙ ap (served_counts (shown l) micros (max (latest l) at)) (shown_get l (shown l) refl g)
+  count_served : (l : Ledger C) (at g k : ℕ) (grant : Grant) (was : Counters) → counts l ≡ counts_held was → counts (Later l at (Try g) (Served k grant)) ≡ counts_held (served was (max (latest l) at) (first_wait_of (get (shown l).gets.places g)))
+  count_served l at g k grant was were =
+      let since : Option ℕ = first_wait_of (get_of l g) in
+      let wait : ℕ = micros_since (max (latest l) at) since in
+      ap (λ (x : Counts). record x { direct = x.direct + one (not (is_some since)); waited = x.waited + one (is_some since); wait_time = 1000 * min most_micros (wait_micros l + wait) }) were
+      ∙ ap (λ (m : ℕ). record (counts_held (served was (max (latest l) at) since)) { wait_time = 1000 * min most_micros (m + wait) }) (same_micros l was were)
+      ∙ ap (λ (o : Option Getting). counts_held (served was (max (latest l) at) (first_wait_of o))) (shown_get l (shown l) refl g)
 
   -- what the code knows when a get tries
   pub record Tries (s : Shown C) (at g now : ℕ) (o : Option Getting) : Type 0 where
@@ -264,15 +295,17 @@ module _ {C : Type 0} where
     pub now_is : now ≡ max s.latest at
     pub get_is : o ≡ get s.gets.places g
 
+  pub tries : {s t : Shown C} {at g now : ℕ} {o : Option Getting} → s ≡ t → IsFitting t (Try g) → now ≡ max s.latest at → o ≡ get s.gets.places g → Tries s at g now o
+  tries {g = g} is fit now_is get_is = record { fit = fits_view (Try g) is fit; now_is = now_is; get_is = get_is }
+
   -- a test of the get, as it is shown
   line_test : (l : Ledger C) (g : ℕ) (b : Bool) → gets_stand is_unnotified (get (shown l).gets.places g) ≡ b → gets_stand is_unnotified (get_of l g) ≡ b
   line_test l g b is = ap (gets_stand is_unnotified) (shown_get l (shown l) refl g) ∙ is
 
-  pub meets_served : (s : Shown C) (at g k : ℕ) (taken : ShownRecords C) (wanted : ℕ) (grant : Grant) (now : ℕ) (o : Option Getting) (rs : ShownRecords C) (gs : ShownGets) (micros : ℕ) (new : Counts) → Tries s at g now o → gets_stand is_unnotified o ≡ false → first_of s.config.queue_strategy s.records.idle ≡ Some k → taken ≡ machine.after_take Guarded k s.records → wanted ≡ decided.want s.config s.handles taken → machine.IsGrant taken wanted grant → rs ≡ machine.after_grant false grant taken → gs ≡ machine.after_get_end g s.gets → s.counts.wait_time ≡ 1000 * micros → new ≡ record s.counts { direct = s.counts.direct + one (not (is_some (first_wait_of o))); waited = s.counts.waited + one (is_some (first_wait_of o)); wait_time = 1000 * min most_micros (micros + micros_since now (first_wait_of o)) } → IsStep s at (Try g) (Served k grant) (record s { latest = now; records = rs; gets = gs; counts = new })
-  meets_served s at g k taken wanted grant now o rs gs micros new t not_waiting first taken_is wanted_is granted_is rs_is gs_is micros_are new_is =
-      let granted : machine.IsGrant (machine.after_take Guarded k s.records) (decided.want s.config s.handles (machine.after_take Guarded k s.records)) grant = subst (λ (x : ShownRecords C). machine.IsGrant x (decided.want s.config s.handles x) grant) taken_is (subst (λ (m : ℕ). machine.IsGrant taken m grant) wanted_is granted_is) in
-      meets_by (λ x. (gets_stand is_unnotified (get x.gets.places g) ≡ false) × (first_of x.config.queue_strategy x.records.idle ≡ Some k) × machine.IsGrant (machine.after_take Guarded k x.records) (decided.want x.config x.handles (machine.after_take Guarded k x.records)) grant × (x.counts.wait_time ≡ 1000 * micros)) (λ x. record x { latest = max x.latest at; records = machine.after_grant false grant (machine.after_take Guarded k x.records); gets = machine.after_get_end g x.gets; counts = served_counts x micros (max x.latest at) (get x.gets.places g) }) s _ at (Try g) (Served k grant) t.fit (ap (gets_stand is_unnotified) (sym t.get_is) ∙ not_waiting, first, granted, micros_are)
-      (same_shown _ _ refl t.now_is refl (rs_is ∙ ap (machine.after_grant false grant) taken_is) gs_is (new_is ∙ ap (λ (m : ℕ). served_counts s micros m o) t.now_is ∙ ap (served_counts s micros (max s.latest at)) t.get_is))
+  pub meets_served : {s : Shown C} {at g k : ℕ} {grant : Grant} {now : ℕ} {o : Option Getting} {since : Option ℕ} {rs : ShownRecords C} {gs : ShownGets} (was : Counters) {is : Counters} → Tries s at g now o → gets_stand is_unnotified o ≡ false → first_of s.config.queue_strategy s.records.idle ≡ Some k → Grants s false (machine.after_take Guarded k s.records) grant rs → gs ≡ machine.after_get_end g s.gets → s.counts ≡ counts_held was → since ≡ first_wait_of o → is ≡ served was now since → IsStep s at (Try g) (Served k grant) (record s { latest = now; records = rs; gets = gs; counts = counts_held is })
+  meets_served {s} {at} {g} {k} {grant} {now} {o} {since} {rs} {gs} was {is} t not_waiting first granted gs_is were since_is counted =
+      meets_by (λ x. (gets_stand is_unnotified (get x.gets.places g) ≡ false) × (first_of x.config.queue_strategy x.records.idle ≡ Some k) × machine.IsGrant (machine.after_take Guarded k x.records) (decided.want x.config x.handles (machine.after_take Guarded k x.records)) grant × (x.counts ≡ counts_held was)) (λ x. record x { latest = max x.latest at; records = machine.after_grant false grant (machine.after_take Guarded k x.records); gets = machine.after_get_end g x.gets; counts = counts_held (served was (max x.latest at) (first_wait_of (get x.gets.places g))) }) s _ at (Try g) (Served k grant) t.fit (ap (gets_stand is_unnotified) (sym t.get_is) ∙ not_waiting, first, granted.granted, were)
+      (same_shown _ _ refl t.now_is refl granted.after gs_is (ap counts_held (counted ∙ ap (λ (m : ℕ). served was m since) t.now_is ∙ ap (served was (max s.latest at)) (since_is ∙ ap (λ (x : Option Getting). first_wait_of x) t.get_is))))
       (λ l legal f known.
       let st = trying_is l g f in
       let off : (start l).config.test_on_check_out ≡ false = unchecked l g (and_right (is_brought l (Try g)) _ f).0 in
@@ -281,29 +314,20 @@ module _ {C : Type 0} where
       let is : shown_records (start l).first (position l) (peak l) out ≡ machine.after_take Guarded k (shown l).records = shown-taken (start l).first (position l) (peak l) (records l) Guarded k j refl refl refl known.1 in
       let first_later : slice_get (shown_records (start l).first (suc (position l)) (peak l) (records l)).idle j ≡ Some k = ap (λ (x : ShownRecords C). slice_get x.idle j) (later_shown l) ∙ known.1 in
       let later : shown_records (start l).first (suc (position l)) (peak l) out ≡ machine.after_take Guarded k (shown l).records = shown-taken (start l).first (suc (position l)) (peak l) (records l) Guarded k j refl refl refl first_later ∙ ap (machine.after_take Guarded k) (later_shown l) in (
-        serves (line_test l g false known.0) off known.1 (want_is l out grant (put_before (position l) (start l).first k Guarded (records l) refl (entered_before l)) (subst (λ (x : ShownRecords C). machine.IsGrant x (decided.want (start l).config (handles l) x) grant) (sym is) known.2)),
-        same_shown _ _ refl refl refl (changed false l grant.count out _ later) (shown-ended (start l).first_get (position l) (get_peak l) (gets l) g st.0 (waited_before l) (get_peak_holds l) st.1) (count_served l at g k grant micros known.3),
+        serves (line_test l g false known.0) off known.1 (want_is l out grant _ (put_before (position l) (start l).first k Guarded (records l) refl (entered_before l)) is known.2),
+        same_shown _ _ refl refl refl (changed false l grant.count out _ later) (shown-ended (start l).first_get (position l) (get_peak l) (gets l) g st.0 (waited_before l) (get_peak_holds l) st.1) (count_served l at g k grant was known.3),
       ))
-
-  -- the same, with the counters that the code keeps
-  pub meets_served_counted : {s : Shown C} {at g k : ℕ} {taken : ShownRecords C} {wanted : ℕ} {grant : Grant} {now : ℕ} {o : Option Getting} {since : Option ℕ} {rs : ShownRecords C} {gs : ShownGets} (was : Counters) {is : Counters} → Tries s at g now o → gets_stand is_unnotified o ≡ false → first_of s.config.queue_strategy s.records.idle ≡ Some k → taken ≡ machine.after_take Guarded k s.records → wanted ≡ decided.want s.config s.handles taken → machine.IsGrant taken wanted grant → rs ≡ machine.after_grant false grant taken → gs ≡ machine.after_get_end g s.gets → s.counts ≡ counts_held was → since ≡ first_wait_of o → is ≡ record was { direct = was.direct + one (not (is_some since)); waited = was.waited + one (is_some since); wait_micros = min most_micros (was.wait_micros + micros_since now since) } → IsStep s at (Try g) (Served k grant) (record s { latest = now; records = rs; gets = gs; counts = counts_held is })
-  meets_served_counted {s} {at} {g} {k} {taken} {wanted} {grant} {now} {o} {since} {rs} {gs} was {is} t not_waiting first taken_is wanted_is granted_is rs_is gs_is were since_is counted =
-      meets_served s at g k taken wanted grant now o rs gs was.wait_micros (counts_held is) t not_waiting first taken_is wanted_is granted_is rs_is gs_is
-      (ap (λ (x : Counts). x.wait_time) were)
-      (ap counts_held counted
-      ∙ ap (λ (x : Option ℕ). record (counts_held was) { direct = was.direct + one (not (is_some x)); waited = was.waited + one (is_some x); wait_time = 1000 * min most_micros (was.wait_micros + micros_since now x) }) since_is
-      ∙ ap (λ (x : Counts). record x { direct = x.direct + one (not (is_some (first_wait_of o))); waited = x.waited + one (is_some (first_wait_of o)); wait_time = 1000 * min most_micros (was.wait_micros + micros_since now (first_wait_of o)) }) (sym were))
 
   -- a get that waits and was not notified waits on
   pub meets_waits_on : {s : Shown C} {at g now : ℕ} {o : Option Getting} {grant : Grant} → Tries s at g now o → gets_stand is_unnotified o ≡ true → IsNoGrant s.records.next grant → IsStep s at (Try g) (answers.Waiting grant) (record s { latest = now })
-  meets_waits_on {s} {at} {g} {now} {o} {grant} t waiting nothing = meets_quiet (λ x. (gets_stand is_unnotified (get x.gets.places g) ≡ true) × IsNoGrant x.records.next grant) s _ at (Try g) (answers.Waiting grant) t.fit (ap (gets_stand is_unnotified) (sym t.get_is) ∙ waiting, nothing) (same_shown _ _ refl t.now_is refl refl refl refl) (λ l. (refl, refl, refl))
+  meets_waits_on {s} {at} {g} {now} {o} {grant} t waiting nothing = meets_quiet (λ x. (gets_stand is_unnotified (get x.gets.places g) ≡ true) × IsNoGrant x.records.next grant) s at (Try g) (answers.Waiting grant) t.fit (ap (gets_stand is_unnotified) (sym t.get_is) ∙ waiting, nothing) t.now_is refl refl (λ l. (refl, refl, refl))
       (λ l legal f known.
       let on : gets_stand is_unnotified (get_of l g) ≡ true = ap (gets_stand is_unnotified) (shown_get l (shown l) refl g) ∙ known.0 in
       (waits_on on known.1, ap (λ (m : ℕ). with_approvals false m (records l)) known.1.count, waits_on_gets l at g on))
 
   -- what is due to a get that waits
-  pub due_waiting : (s : Shown C) (taken : ShownRecords C) (used asked open_now alive_now d : ℕ) → taken ≡ s.records → used ≡ taken.conns + taken.approved → open_now ≡ taken.approved → alive_now ≡ s.gets.alive → asked ≡ one (ltb open_now alive_now) → d ≡ due s.config s.handles used asked → d ≡ due s.config s.handles (s.records.conns + s.records.approved) (one (ltb s.records.approved s.gets.alive))
-  due_waiting s taken used asked open_now alive_now d taken_is used_is open_is alive_is asked_is d_is =
+  pub due_waiting : (s : Shown C) {taken : ShownRecords C} {used asked open_now alive_now d : ℕ} → taken ≡ s.records → used ≡ taken.conns + taken.approved → open_now ≡ taken.approved → alive_now ≡ s.gets.alive → asked ≡ one (ltb open_now alive_now) → d ≡ due s.config s.handles used asked → d ≡ due s.config s.handles (s.records.conns + s.records.approved) (one (ltb s.records.approved s.gets.alive))
+  due_waiting s {taken} {used} {asked} {open_now} {alive_now} taken_is used_is open_is alive_is asked_is d_is =
       d_is
       ∙ ap (λ (n : ℕ). due s.config s.handles n asked) (used_is ∙ ap (λ (t : ShownRecords C). t.conns + t.approved) taken_is)
       ∙ ap (due s.config s.handles (s.records.conns + s.records.approved)) (asked_is ∙ ap (λ (n : ℕ). one (ltb n alive_now)) (open_is ∙ ap (λ (t : ShownRecords C). t.approved) taken_is) ∙ ap (λ (n : ℕ). one (ltb s.records.approved n)) alive_is)
@@ -323,12 +347,6 @@ module _ {C : Type 0} where
 
   -- ---- give up
 
-  -- what the code knows when a get is given up
-  pub record GivesUp (s : Shown C) (at g : ℕ) (why : Reason) (broken : Bool) (now : ℕ) (o : Option Getting) : Type 0 where
-    pub fit : IsFitting s (GiveUp g why None broken)
-    pub now_is : now ≡ max s.latest at
-    pub get_is : o ≡ get s.gets.places g
-
   -- whom a give-up notifies is the oldest waiter, where the get had been notified
   handed_is : (l : Ledger C) (g : ℕ) (st : Getting) (n : Option ℕ) → get_of l g ≡ Some st → n ≡ cond (is_notified st.place) (slice_get (machine.without g (waiting l)) 0) None → n ≡ cond (is_notified st.place) (oldest_waiter l) None
   handed_is l g st n is n_is = go (is_notified st.place) refl n_is
@@ -337,68 +355,62 @@ module _ {C : Type 0} where
       go true on e = e ∙ ap (λ (xs : List ℕ). slice_get xs 0) (without_other (start l).first_get (position l) (gets l) g st is (notified_out st.place on))
       go false off e = e
 
-  pub meets_gave_up : (s : Shown C) (at g : ℕ) (why : Reason) (broken : Bool) (now : ℕ) (o : Option Getting) (left : ShownGets) (n : Option ℕ) (gs : ShownGets) (new : Counts) → GivesUp s at g why broken now o → left ≡ machine.after_get_end g s.gets → n ≡ cond (gets_stand is_notified o) (slice_get left.waiting 0) None → gs ≡ machine.after_notice n left → ((l : Ledger C) → Means l s → counts (Later l at (GiveUp g why None broken) (GaveUp n)) ≡ new) → IsStep s at (GiveUp g why None broken) (GaveUp n) (record s { latest = now; gets = gs; counts = new })
-  meets_gave_up s at g why broken now o left n gs new t left_is n_is gs_is counted = meets_by (λ x. (n ≡ machine.heir_of (get x.gets.places g) (machine.after_get_end g x.gets)) × ((l : Ledger C) → Means l x → counts (Later l at (GiveUp g why None broken) (GaveUp n)) ≡ new)) (λ x. record x { latest = max x.latest at; gets = machine.after_notice n (machine.after_get_end g x.gets); counts = new }) s _ at (GiveUp g why None broken) (GaveUp n) t.fit (n_is ∙ ap (λ (x : ShownGets). machine.heir_of o x) left_is ∙ ap (λ (x : Option Getting). machine.heir_of x (machine.after_get_end g s.gets)) t.get_is, counted)
-      (same_shown _ _ refl t.now_is refl refl (gs_is ∙ ap (machine.after_notice n) left_is) refl)
+  count_given_up : (l : Ledger C) (at g : ℕ) (reason : Named) (broken : Bool) (n : Option ℕ) (was : Counters) → counts l ≡ counts_held was → counts (Later l at (GiveUp g (reason_of reason) None broken) (GaveUp n)) ≡ counts_held (given_up reason (max (latest l) at) (first_wait_of (get (shown l).gets.places g)) was)
+  count_given_up l at g reasons.TimedOut broken n was were =
+      ap (λ (x : Counts). record x { timed_out = x.timed_out + 1; wait_time = 1000 * min most_micros (wait_micros l + micros_since (max (latest l) at) (first_wait_of (get_of l g))) }) were
+      ∙ ap (λ (m : ℕ). record (counts_held was) { timed_out = was.timed_out + 1; wait_time = 1000 * min most_micros (m + micros_since (max (latest l) at) (first_wait_of (get_of l g))) }) (same_micros l was were)
+      ∙ ap (λ (o : Option Getting). counts_held (given_up reasons.TimedOut (max (latest l) at) (first_wait_of o) was)) (shown_get l (shown l) refl g)
+  count_given_up l at g reasons.Cancelled broken n was were = ap (λ (x : Counts). record x { cancelled = x.cancelled + 1 }) were
+
+  -- no connection is handed in, and whether it is broken does not matter
+  pub meets_given_up : {s t : Shown C} (at : ℕ) {g : ℕ} {reason : Named} {held : Option C} (broken : Bool) {now : ℕ} {o : Option Getting} {since : Option ℕ} {left : ShownGets} {test : Bool} {n : Option ℕ} {gs : ShownGets} {was is : Counters} → held ≡ None → s ≡ t → IsFitting t (GiveUp g (reason_of reason) held broken) → now ≡ max s.latest at → o ≡ get s.gets.places g → left ≡ machine.after_get_end g s.gets → test ≡ gets_stand is_notified o → n ≡ cond test (slice_get left.waiting 0) None → gs ≡ machine.after_notice n left → s.counts ≡ counts_held was → since ≡ first_wait_of o → (reason ≡ reasons.TimedOut → is ≡ given_up reasons.TimedOut now since was) → (reason ≡ reasons.Cancelled → is ≡ given_up reasons.Cancelled now since was) → IsStep s at (GiveUp g (reason_of reason) held broken) (GaveUp n) (record s { latest = now; gets = gs; counts = counts_held is })
+  meets_given_up {s} {t} at {g} {reason} {held} broken {now} {o} {since} {left} {test} {n} {gs} {was} {is} none view fit now_is get_is left_is test_is n_is gs_is were since_is timed let_go =
+      let why : Reason = reason_of reason in
+      let free : IsFitting s (GiveUp g why None broken) = fits_view (GiveUp g why None broken) view (subst (λ (c : Option C). IsFitting t (GiveUp g why c broken)) none fit) in
+      let told : is ≡ given_up reason now since was = given_up_is reason now since timed let_go in
+      subst (λ (c : Option C). IsStep s at (GiveUp g why c broken) (GaveUp n) (record s { latest = now; gets = gs; counts = counts_held is })) (sym none) (meets_by (λ x. (n ≡ machine.heir_of (get x.gets.places g) (machine.after_get_end g x.gets)) × (x.counts ≡ counts_held was)) (λ x. record x { latest = max x.latest at; gets = machine.after_notice n (machine.after_get_end g x.gets); counts = counts_held (given_up reason (max x.latest at) (first_wait_of (get x.gets.places g)) was) }) s _ at (GiveUp g why None broken) (GaveUp n) free
+      (n_is ∙ ap (λ (b : Bool). cond b (slice_get left.waiting 0) None) test_is ∙ ap (λ (x : ShownGets). machine.heir_of o x) left_is ∙ ap (λ (x : Option Getting). machine.heir_of x (machine.after_get_end g s.gets)) get_is, were)
+      (same_shown _ _ refl now_is refl refl (gs_is ∙ ap (machine.after_notice n) left_is) (ap counts_held (told ∙ ap (λ (m : ℕ). given_up reason m since was) now_is ∙ ap (λ (x : Option ℕ). given_up reason (max s.latest at) x was) (since_is ∙ ap (λ (x : Option Getting). first_wait_of x) get_is))))
       (λ l legal f known.
-      let st = giving_is l g why broken f in
+      let st = giving_is l g None f in
       let n_place : n ≡ cond (is_notified st.0.place) (slice_get (machine.without g (waiting l)) 0) None = known.0 ∙ ap (λ (x : Option Getting). machine.heir_of x (machine.after_get_end g (shown l).gets)) (sym (shown_get l (shown l) refl g) ∙ st.1) in
       let out : List (Numbered Getting) = update (start l).first_get g after_end (gets l) in
       let ends : shown_gets (start l).first_get (suc (position l)) (max (get_peak l) (alive_of out)) out ≡ machine.after_get_end g (shown l).gets = shown-ended (start l).first_get (position l) (get_peak l) (gets l) g st.0 (waited_before l) (get_peak_holds l) st.1 in
       let named : IfSome n (λ k. (x : Getting) × (standing_at (start l).first_get out k ≡ Some x)) = named_stands (start l).first_get (suc (position l)) out (is_notified st.0.place) n (n_place ∙ ap (λ (x : ShownGets). cond (is_notified st.0.place) (slice_get x.waiting 0) None) (sym ends)) in (
         gives_up (handed_is l g st.0 n st.1 n_place ∙ ap (λ (x : Option Getting). cond (gets_stand is_notified x) (oldest_waiter l) None) (sym st.1)),
-        same_shown _ _ refl refl refl (records_kept l) (noticed_later (start l).first_get (suc (position l)) (get_peak l) out n named ∙ ap (machine.after_notice n) ends) (known.1 l refl),
-      ))
-
-  -- the statistics after a give-up
-  pub count_timed_out : (s : Shown C) (at g : ℕ) (broken : Bool) (n : Option ℕ) (micros now : ℕ) (o : Option Getting) (l : Ledger C) → s.counts.wait_time ≡ 1000 * micros → now ≡ max s.latest at → o ≡ get s.gets.places g → Means l s → counts (Later l at (GiveUp g TimedOut None broken) (GaveUp n)) ≡ record s.counts { timed_out = s.counts.timed_out + 1; wait_time = 1000 * min most_micros (micros + micros_since now (first_wait_of o)) }
-  count_timed_out s at g broken n micros now o l micros_are now_is o_is means =
-      let told : 1000 * wait_micros l ≡ 1000 * micros = ap (λ (t : Shown C). t.counts.wait_time) means ∙ micros_are in
-      let same : wait_micros l ≡ micros = omega arith in
-      let m_is : max (latest l) at ≡ now = ap (λ (t : Shown C). max t.latest at) means ∙ sym now_is in
-      ap (λ (x : Option Getting). record (counts l) { timed_out = timed_out l + 1; wait_time = 1000 * min most_micros (wait_micros l + micros_since (max (latest l) at) (first_wait_of x)) }) (shown_get l s means g ∙ sym o_is)
-      ∙ ap (λ (m : ℕ). record (counts l) { timed_out = timed_out l + 1; wait_time = 1000 * min most_micros (wait_micros l + micros_since m (first_wait_of o)) }) m_is
-      ∙ ap (λ (m : ℕ). record (counts l) { timed_out = timed_out l + 1; wait_time = 1000 * min most_micros (m + micros_since now (first_wait_of o)) }) same
-      ∙ ap (λ (t : Shown C). record t.counts { timed_out = t.counts.timed_out + 1; wait_time = 1000 * min most_micros (micros + micros_since now (first_wait_of o)) }) means
-
-  pub count_cancelled : (s : Shown C) (at g : ℕ) (broken : Bool) (n : Option ℕ) (l : Ledger C) → Means l s → counts (Later l at (GiveUp g Cancelled None broken) (GaveUp n)) ≡ record s.counts { cancelled = s.counts.cancelled + 1 }
-  count_cancelled s at g broken n l means = ap (λ (t : Shown C). record t.counts { cancelled = t.counts.cancelled + 1 }) means
-
-  -- what the code knows when a get has been given up
-  pub meets_given_up : {s : Shown C} (at : ℕ) {g : ℕ} {reason : Named} {held : Option C} (broken : Bool) {now : ℕ} {o : Option Getting} {since : Option ℕ} {left : ShownGets} {test : Bool} {n : Option ℕ} {gs : ShownGets} {was is : Counters} → held ≡ None → IsFitting s (GiveUp g (reason_of reason) held broken) → now ≡ max s.latest at → o ≡ get s.gets.places g → left ≡ machine.after_get_end g s.gets → test ≡ gets_stand is_notified o → n ≡ cond test (slice_get left.waiting 0) None → gs ≡ machine.after_notice n left → s.counts ≡ counts_held was → since ≡ first_wait_of o → (reason ≡ reasons.TimedOut → is ≡ record was { timed_out = was.timed_out + 1; wait_micros = min most_micros (was.wait_micros + micros_since now since) }) → (reason ≡ reasons.Cancelled → is ≡ record was { cancelled = was.cancelled + 1 }) → IsStep s at (GiveUp g (reason_of reason) held broken) (GaveUp n) (record s { latest = now; gets = gs; counts = counts_held is })
-  meets_given_up {s} at {g} {reason = reasons.TimedOut} {held = None} broken {now} {o} {since} {left} {test} {n} {gs} {was} {is} none fit now_is o_is left_is test_is n_is gs_is were since_is timed let_go =
-      meets_gave_up s at g TimedOut broken now o left n gs (counts_held is) (record { fit = fit; now_is = now_is; get_is = o_is }) left_is (n_is ∙ ap (λ (b : Bool). cond b (slice_get left.waiting 0) None) test_is) gs_is
-      (λ l means.
-      count_timed_out s at g broken n was.wait_micros now o l (ap (λ (x : Counts). x.wait_time) were) now_is o_is means
-      ∙ ap (λ (x : Counts). record x { timed_out = x.timed_out + 1; wait_time = 1000 * min most_micros (was.wait_micros + micros_since now (first_wait_of o)) }) were
-      ∙ ap (λ (x : Option ℕ). record (counts_held was) { timed_out = was.timed_out + 1; wait_time = 1000 * min most_micros (was.wait_micros + micros_since now x) }) (sym since_is)
-      ∙ ap counts_held (sym (timed refl)))
-  meets_given_up {s} at {g} {reason = reasons.Cancelled} {held = None} broken {now} {o} {since} {left} {test} {n} {gs} {was} {is} none fit now_is o_is left_is test_is n_is gs_is were since_is timed let_go =
-      meets_gave_up s at g Cancelled broken now o left n gs (counts_held is) (record { fit = fit; now_is = now_is; get_is = o_is }) left_is (n_is ∙ ap (λ (b : Bool). cond b (slice_get left.waiting 0) None) test_is) gs_is
-      (λ l means. count_cancelled s at g broken n l means ∙ ap (λ (x : Counts). record x { cancelled = x.cancelled + 1 }) were ∙ ap counts_held (sym (let_go refl)))
-  meets_given_up {s} at {g} {reason} {held = (Some c)} broken {now} {o} {since} {left} {test} {n} {gs} {was} {is} none fit now_is o_is left_is test_is n_is gs_is were since_is timed let_go = cc
+        same_shown _ _ refl refl refl (records_kept l) (noticed_later (start l).first_get (suc (position l)) (get_peak l) out n named ∙ ap (machine.after_notice n) ends) (count_given_up l at g reason broken n was known.1),
+      )))
 
   -- ---- look
 
   pub meets_look : {s : Shown C} {at now : ℕ} {alive_now : Bool} → now ≡ max s.latest at → alive_now ≡ ltb 0 s.handles → IsStep s at Look (Looked now alive_now) (record s { latest = now })
-  meets_look {s} {at} {now} {alive_now} now_is alive_is = meets_quiet (λ t. (now ≡ max t.latest at) × (alive_now ≡ ltb 0 t.handles)) s _ at Look (Looked now alive_now) (λ l legal means. refl) (now_is, alive_is) (same_shown _ _ refl now_is refl refl refl refl) (λ l. (refl, refl, refl)) (λ l legal f known. (looks known.0 known.1, refl, refl))
+  meets_look {s} {at} {now} {alive_now} now_is alive_is = meets_quiet (λ t. (now ≡ max t.latest at) × (alive_now ≡ ltb 0 t.handles)) s at Look (Looked now alive_now) (λ l legal means. refl) (now_is, alive_is) now_is refl refl (λ l. (refl, refl, refl)) (λ l legal f known. (looks known.0 known.1, refl, refl))
 
   -- ---- add
 
   -- a refusal changes the latest moment alone
   pub meets_add_broken : {s : Shown C} (at : ℕ) (c : C) {now : ℕ} → IsFitting s (Add c true) → now ≡ max s.latest at → IsStep s at (Add c true) Broken (record s { latest = now })
-  meets_add_broken {s} at c {now} fit now_is = meets_quiet (λ t. Unit {0}) s _ at (Add c true) Broken fit tt (same_shown _ _ refl now_is refl refl refl refl) (λ l. (refl, refl, refl)) (λ l legal f known. (add_broken, refl, refl))
+  meets_add_broken {s} at c {now} fit now_is = meets_quiet (λ t. Unit {0}) s at (Add c true) Broken fit tt now_is refl refl (λ l. (refl, refl, refl)) (λ l legal f known. (add_broken, refl, refl))
 
   pub meets_add_full : {s : Shown C} (at : ℕ) (c : C) {now : ℕ} → IsFitting s (Add c false) → now ≡ max s.latest at → s.records.conns + s.records.approved ≡ s.config.max_size → IsStep s at (Add c false) NoCapacity (record s { latest = now })
-  meets_add_full {s} at c {now} fit now_is full = meets_quiet (λ t. t.records.conns + t.records.approved ≡ t.config.max_size) s _ at (Add c false) NoCapacity fit full (same_shown _ _ refl now_is refl refl refl refl) (λ l. (refl, refl, refl)) (λ l legal f known. (add_full known, refl, refl))
+  meets_add_full {s} at c {now} fit now_is full = meets_quiet (λ t. t.records.conns + t.records.approved ≡ t.config.max_size) s at (Add c false) NoCapacity fit full now_is refl refl (λ l. (refl, refl, refl)) (λ l legal f known. (add_full known, refl, refl))
 
-  pub meets_add_exhausted : {s : Shown C} (at : ℕ) (c : C) {now : ℕ} → IsFitting s (Add c false) → now ≡ max s.latest at → s.records.conns + s.records.approved ≢ s.config.max_size → end_of_numbers ≤ s.records.next → IsStep s at (Add c false) Withheld (record s { latest = now })
-  meets_add_exhausted {s} at c {now} fit now_is room many = meets_quiet (λ t. (t.records.conns + t.records.approved ≢ t.config.max_size) × (end_of_numbers ≤ t.records.next)) s _ at (Add c false) Withheld fit (room, many) (same_shown _ _ refl now_is refl refl refl refl) (λ l. (refl, refl, refl)) (λ l legal f known. (add_exhausted known.0 known.1, refl, refl))
+  -- what the code knows when one is added that is not broken, and there is room
+  pub record Adds (s : Shown C) (at : ℕ) (c : C) (now : ℕ) : Type 0 where
+    pub fit : IsFitting s (Add c false)
+    pub now_is : now ≡ max s.latest at
+    pub room : s.records.conns + s.records.approved ≢ s.config.max_size
 
-  pub meets_add_refused : {s : Shown C} (at : ℕ) (c : C) {now : ℕ} {rs : ShownRecords C} → IsFitting s (Add c false) → now ≡ max s.latest at → s.records.conns + s.records.approved ≢ s.config.max_size → s.records.next < end_of_numbers → s.records.conns + s.records.approved ≡ s.records.peak → rs ≡ s.records → IsStep s at (Add c false) Withheld (record s { latest = now; records = rs })
-  meets_add_refused {s} at c {now} {rs} fit now_is room few full rs_is = meets_quiet (λ t. (t.records.conns + t.records.approved ≢ t.config.max_size) × (t.records.next < end_of_numbers) × (t.records.conns + t.records.approved ≡ t.records.peak)) s _ at (Add c false) Withheld fit (room, few, full) (same_shown _ _ refl now_is refl rs_is refl refl) (λ l. (refl, refl, refl)) (λ l legal f known. (add_refused known.0 known.1 known.2, refl, refl))
+  pub has_room : {s t : Shown C} {at : ℕ} {c : C} {now used : ℕ} → s ≡ t → IsFitting t (Add c false) → now ≡ max s.latest at → used ≡ s.records.conns + s.records.approved → used ≢ s.config.max_size → Adds s at c now
+  has_room {c = c} is fit now_is used_is room = record { fit = fits_view (Add c false) is fit; now_is = now_is; room = λ e. room (used_is ∙ e) }
 
-  pub meets_added : {s : Shown C} (at : ℕ) {k : ℕ} (c : C) {now : ℕ} {rs : ShownRecords C} {n : Option ℕ} {gs : ShownGets} → Notices s n gs → IsFitting s (Add c false) → now ≡ max s.latest at → s.records.conns + s.records.approved ≢ s.config.max_size → s.records.next < end_of_numbers → k ≡ s.records.next → rs ≡ machine.with_peak (machine.after_birth c now s.records) → IsStep s at (Add c false) (Added k n) (record s { latest = now; records = rs; gets = gs })
-  meets_added {s} at {k} c {now} {rs} {n} {gs} told fit now_is room few k_is rs_is = meets_by (λ t. (t.records.conns + t.records.approved ≢ t.config.max_size) × (t.records.next < end_of_numbers) × (k ≡ t.records.next) × (n ≡ slice_get t.gets.waiting 0)) (λ t. record t { latest = max t.latest at; records = machine.with_peak (machine.after_birth c (max t.latest at) t.records); gets = machine.after_notice n t.gets }) s _ at (Add c false) (Added k n) fit (room, few, k_is, told.who)
-      (same_shown _ _ refl now_is refl (rs_is ∙ ap (λ (m : ℕ). machine.with_peak (machine.after_birth c m s.records)) now_is) told.after refl)
+  pub meets_add_exhausted : {s : Shown C} {at : ℕ} {c : C} {now : ℕ} → Adds s at c now → end_of_numbers ≤ s.records.next → IsStep s at (Add c false) Withheld (record s { latest = now })
+  meets_add_exhausted {s} {at} {c} {now} h many = meets_quiet (λ t. (t.records.conns + t.records.approved ≢ t.config.max_size) × (end_of_numbers ≤ t.records.next)) s at (Add c false) Withheld h.fit (h.room, many) h.now_is refl refl (λ l. (refl, refl, refl)) (λ l legal f known. (add_exhausted known.0 known.1, refl, refl))
+
+  pub meets_add_refused : {s : Shown C} {at : ℕ} {c : C} {now : ℕ} {rs : ShownRecords C} → Adds s at c now → s.records.next < end_of_numbers → s.records.conns + s.records.approved ≡ s.records.peak → rs ≡ s.records → IsStep s at (Add c false) Withheld (record s { latest = now; records = rs })
+  meets_add_refused {s} {at} {c} {now} {rs} h few full rs_is = meets_quiet (λ t. (t.records.conns + t.records.approved ≢ t.config.max_size) × (t.records.next < end_of_numbers) × (t.records.conns + t.records.approved ≡ t.records.peak)) s at (Add c false) Withheld h.fit (h.room, few, full) h.now_is rs_is refl (λ l. (refl, refl, refl)) (λ l legal f known. (add_refused known.0 known.1 known.2, refl, refl))
+
+  pub meets_added : {s : Shown C} {at : ℕ} {k : ℕ} {c : C} {now : ℕ} {rs : ShownRecords C} {n : Option ℕ} {gs : ShownGets} → Adds s at c now → Notices s n gs → s.records.next < end_of_numbers → k ≡ s.records.next → rs ≡ machine.with_peak (machine.after_birth c now s.records) → IsStep s at (Add c false) (Added k n) (record s { latest = now; records = rs; gets = gs })
+  meets_added {s} {at} {k} {c} {now} {rs} {n} {gs} h told few k_is rs_is = meets_by (λ t. (t.records.conns + t.records.approved ≢ t.config.max_size) × (t.records.next < end_of_numbers) × (k ≡ t.records.next) × (n ≡ slice_get t.gets.waiting 0)) (λ t. record t { latest = max t.latest at; records = machine.with_peak (machine.after_birth c (max t.latest at) t.records); gets = machine.after_notice n t.gets }) s _ at (Add c false) (Added k n) h.fit (h.room, few, k_is, told.who)
+      (same_shown _ _ refl h.now_is refl (rs_is ∙ ap (λ (m : ℕ). machine.with_peak (machine.after_birth c m s.records)) h.now_is) told.after refl)
       (λ l legal f known. (adds known.0 known.1 known.2 known.3, same_shown _ _ refl refl refl (ap machine.with_peak (shown-born (start l).first (position l) (peak l) (records l) c (max (latest l) at) (entered_before l))) (gets_told l n known.3) refl))

@@ -1,6 +1,5 @@
 -- What holds of every ledger.
-use Rattle.std.proofs.Common.{◌≡◌, ℕ, zero, suc, ◌+◌, ◌≤◌, ◌<◌, max, min, Bool, true, false, cond, eqb, List, [], ◌∷◌, length, map, Option, Some, None, refl, sym, ◌∙◌, arith, option_map, slice_get, ◌-◌}
-use Rattle.std.specs.FinMap.{get}
+use Rattle.std.proofs.Common.{◌≡◌, ℕ, zero, suc, ◌+◌, ◌≤◌, ◌<◌, max, Bool, true, false, cond, eqb, List, [], ◌∷◌, length, map, Option, Some, None, refl, sym, ◌∙◌, arith, option_map, slice_get, ◌-◌}
 use Rattle.bb8_types.specs.declared.standing.Place.{Place}
 use Rattle.bb8_types.specs.declared.standing.Place.TheVariants.{Unclaimed, Claimed, Idle, Held, Guarded}
 use Rattle.bb8_types.specs.declared.standing.Standing.{Standing}
@@ -10,17 +9,16 @@ use Rattle.bb8_types.specs.declared.standing.GetPlace.TheVariants as get_places
 use Rattle.bb8_types.specs.declared.standing.Getting.{Getting}
 use Rattle.bb8_types.specs.declared.api.configuration.QueueStrategy.{QueueStrategy}
 use Rattle.bb8_types.specs.declared.api.configuration.QueueStrategy.TheVariants.{Fifo, Lifo}
-use Rattle.bb8_ledger.specs.Acts.{Act, Begin, Try, CheckedOk, CheckedErr, GiveUp, PutBack, Fill, Claim, Opened, Failed, Add, Reap, Leave, TimedOut}
+use Rattle.bb8_ledger.specs.Acts.{Act, Begin, Try, CheckedOk, CheckedErr, GiveUp, PutBack, Fill, Claim, Opened, Failed, Add, Reap, Leave}
 use Rattle.bb8_ledger.specs.Answers.{Answer, Begun, Served, Taken, Waiting, Kept, Closed, GaveUp, Granted, Entered, Late, GivenBack, Added, Reaped, Left, Unfit}
 use Rattle.bb8_ledger.specs.Answers as answers
 use Rattle.bb8_types.specs.Numbered.{Numbered, update, in_order, tally, one, after_end, after_end_where}
-use Rattle.bb8_ledger.specs.Ledger.{Ledger, Opening, Later, Start, start, position, latest, handles, records, records_after, gets, gets_after, conns, approved, conns_of, idle_of, alive, peak, get_peak, idle_at, unnotified_at, at_place, entry, new_get, get_at_place, at_wait, with_notice, wait_micros, wait_of, idle, idle_count}
+use Rattle.bb8_ledger.specs.Ledger.{Ledger, Opening, Later, Start, start, position, latest, handles, records, records_after, gets, gets_after, conns, approved, conns_of, idle_of, alive, peak, get_peak, idle_at, unnotified_at, at_place, entry, new_get, get_at_place, at_wait, with_notice, idle, idle_count}
 use Rattle.bb8_types.specs.Places.{is_unnotified, gets_stand, stands, is_idle, is_conn, is_out, is_reaped, is_left, with_place, birth_in, get_with_place, get_in_wait, first_of}
 use Rattle.bb8_types.proofs.Numbered.{Before}
 use Rattle.bb8_types.proofs.Numbered as numbered
 use Rattle.bb8_ledger.proofs.Standings.{before-approve}
 use Rattle.bb8_types.proofs.Places.{and_right}
-use Rattle.bb8_types.specs.Bounds.{most_micros}
 
 -- a test that a get's place fails
 off_get : (p : GetPlace) (o : Option Getting) → is_unnotified p ≡ false → gets_stand is_unnotified (option_map (get_with_place p) o) ≡ true → ⊥
@@ -41,9 +39,6 @@ waits_before first m now k gs b = numbered.before-update_kept unnotified_at gs f
     pick : (g : Numbered Getting) → ((p : ℕ) → unnotified_at p g ≡ true → p < suc m) → (p : ℕ) (t : Bool) → unnotified_at p (cond t g (record { standing = option_map (get_in_wait now) g.standing; position = m })) ≡ true → p < suc m
     pick g was p true h = was p h
     pick g was p false h = let e : m ≡ p = numbered.tested m p (and_right (gets_stand is_unnotified (option_map (get_in_wait now) g.standing)) _ h).1 in omega arith
-
-capped : (n : ℕ) → min most_micros n ≤ most_micros
-capped n = omega arith
 
 -- somebody is first in a line
 pub first_inside : (strategy : QueueStrategy) (xs : List ℕ) → 0 < length xs → (k : ℕ) × (first_of strategy xs ≡ Some k)
@@ -139,18 +134,6 @@ module _ {C : Type 0} where
   pub get_peak_holds : (l : Ledger C) → alive l ≤ get_peak l
   get_peak_holds (Opening s) = omega arith
   get_peak_holds (Later l at e a) = omega arith
-
-  -- ---- the wait time is a u64 of microseconds
-
-  wait_after : (l : Ledger C) (at : ℕ) (e : Act C) (a : Answer) → wait_micros l ≤ most_micros → wait_micros (Later l at e a) ≤ most_micros
-  wait_after l at e Unfit h = h
-  wait_after l at e (Served k grant) h = capped (wait_micros l + wait_of l at e)
-  wait_after l at (GiveUp g TimedOut held broken) a h = capped (wait_micros l + wait_of l at (GiveUp g TimedOut held broken))
-  wait_after l at _ _ h = h
-
-  pub wait_few : (l : Ledger C) → wait_micros l ≤ most_micros
-  wait_few (Opening s) = omega arith
-  wait_few (Later l at e a) = wait_after l at e a (wait_few l)
 
   -- ---- the idle numbers are as many as the idle records
 

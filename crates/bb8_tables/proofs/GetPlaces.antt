@@ -48,7 +48,7 @@ some_is o h = subst IsSome (sym h.1) refl
 
 -- the line is no longer than there are gets
 pub waiting_fit : (a : Inside) → AreGoodGets a → length a.waiting.items ≤ a.alive
-waiting_fit a good = let l : length a.waiting.items ≤ slab_len a.slots = line_fits _ _ _ _ a.slots a.waiting.items good.waiting in let e : slab_len a.slots ≡ a.alive = good.sizes.places_are in omega arith
+waiting_fit a good = let l : length a.waiting.items ≤ slab_len a.slots = line_fits a.slots a.waiting.items good.waiting in let e : slab_len a.slots ≡ a.alive = good.sizes.places_are in omega arith
 
 -- ---- begin
 
@@ -58,7 +58,7 @@ module _ (a : Inside) (place : ℕ) (slots : Slab (Slot Getting)) (good : AreGoo
   born = record { number = a.next; standing = record { place = Active; first_wait = None } }
 
   pub begin_view : a.alive < a.peak → view_of_gets (record a { next = a.next + 1; slots = slots; alive = a.alive + 1 }) ≡ machine.after_begin (view_of_gets a)
-  begin_view few = same_gets _ _ refl (held_added (λ (x : Slot Getting). x.number) (λ x. x.standing) a.slots slots a.next place born good.table free refl u) refl refl (omega arith)
+  begin_view few = same_gets _ _ refl (held_added good.table free refl u) refl refl (omega arith)
 
 -- ---- pass
 
@@ -91,11 +91,11 @@ module _ (a : Inside) (now place : ℕ) (key : GetKey) (x : Slot Getting) (slots
   line_after =
       let at_key : slabs.get a.slots key.place ≡ Some x = subst (λ (p : ℕ). slabs.get a.slots p ≡ Some x) (sym there) at_place in
       let v : Updates a.slots slots key.place (Some (record x { standing = get_in_wait now x.standing })) = subst (λ (p : ℕ). Updates a.slots slots p (Some (record x { standing = get_in_wait now x.standing }))) (sym there) u in
-      turned_line _ _ _ _ a.slots slots a.waiting.items key x (record x { standing = get_in_wait now x.standing }) good.waiting at_key off v numbered refl
+      turned_line key good.waiting at_key off v numbered refl
 
   pub wait_room : slab_len slots ≡ slab_len a.slots → length a.waiting.items < a.waiting.capacity
   wait_room len =
-      let l : length (a.waiting.items ++ key ∷ []) ≤ slab_len slots = line_fits _ _ _ _ slots (a.waiting.items ++ key ∷ []) line_after in
+      let l : length (a.waiting.items ++ key ∷ []) ≤ slab_len slots = line_fits slots (a.waiting.items ++ key ∷ []) line_after in
       let z = good.sizes in
       omega (arith, length-append a.waiting.items (key ∷ []), z.places_are, z.peak_holds, z.line_room_holds)
 
@@ -104,14 +104,14 @@ module _ (a : Inside) (now place : ℕ) (key : GetKey) (x : Slot Getting) (slots
       let z = good.sizes in
       let w : waiting.capacity ≡ a.waiting.capacity = ap (λ (b : Buffer GetKey). b.capacity) pushed in
       record {
-        table = table_set (λ (y : Slot Getting). y.number) a.slots slots a.next place x (record x { standing = get_in_wait now x.standing }) good.table at_place refl u;
+        table = table_set good.table at_place refl u;
         waiting = subst (λ (b : Buffer GetKey). IsWaitingLine slots.slots b.items) (sym pushed) line_after;
         sizes = record { places_are = len ∙ z.places_are; peak_holds = z.peak_holds; alive_few = z.alive_few; room_holds = omega (arith, z.room_holds); line_room_holds = omega (arith, z.line_room_holds) };
       }
 
   pub wait_view : (waiting : Buffer GetKey) → waiting ≡ buffer (a.waiting.items ++ key ∷ []) a.waiting.capacity → view_of_gets (record a { slots = slots; waiting = waiting }) ≡ machine.after_wait now key.number (view_of_gets a)
   wait_view waiting pushed = same_gets _ _ refl
-      (held_set (λ (y : Slot Getting). y.number) (λ y. y.standing) a.slots slots a.next place x (record x { standing = get_in_wait now x.standing }) good.table at_place refl u
+      (held_set good.table at_place refl u
       ∙ ap (λ (q : ℕ). insert (view_of_gets a).places q (get_in_wait now x.standing)) numbered
       ∙ ap (λ (o : Option Getting). insert (view_of_gets a).places key.number (machine.getting_since now o)) (sym (shown_at a key.number place x good at_place numbered)))
       (ap (λ (b : Buffer GetKey). map (λ (k : GetKey). k.number) b.items) pushed ∙ map_push (λ (k : GetKey). k.number) a.waiting.items key)
@@ -133,8 +133,8 @@ module _ (a : Inside) (key : GetKey) (slots : Slab (Slot Getting)) (waiting : Bu
       let x = noticed_stands in
       let w : waiting.capacity ≡ a.waiting.capacity = ap (λ (b : Buffer GetKey). b.capacity) popped in
       record {
-        table = table_set (λ (y : Slot Getting). y.number) a.slots slots a.next key.place x.0 (record x.0 { standing = get_with_place (Waiting true) x.0.standing }) good.table x.1 refl (sets x.0 x.1);
-        waiting = subst (λ (ks : List GetKey). IsWaitingLine slots.slots ks) (sym cut) (cut_line _ _ _ _ a.slots slots a.waiting.items 0 key _ good.waiting first (sets x.0 x.1));
+        table = table_set good.table x.1 refl (sets x.0 x.1);
+        waiting = subst (λ (ks : List GetKey). IsWaitingLine slots.slots ks) (sym cut) (cut_line 0 good.waiting first (sets x.0 x.1));
         sizes = record { places_are = len ∙ z.places_are; peak_holds = z.peak_holds; alive_few = z.alive_few; room_holds = omega (arith, z.room_holds); line_room_holds = omega (arith, z.line_room_holds) };
       }
 
@@ -142,10 +142,10 @@ module _ (a : Inside) (key : GetKey) (slots : Slab (Slot Getting)) (waiting : Bu
   notice_view =
       let x = noticed_stands in
       same_gets _ _ refl
-      (held_set (λ (y : Slot Getting). y.number) (λ y. y.standing) a.slots slots a.next key.place x.0 (record x.0 { standing = get_with_place (Waiting true) x.0.standing }) good.table x.1 refl (sets x.0 x.1)
+      (held_set good.table x.1 refl (sets x.0 x.1)
       ∙ ap (λ (q : ℕ). insert (view_of_gets a).places q (get_with_place (Waiting true) x.0.standing)) x.2
       ∙ ap (λ (o : Option Getting). insert (view_of_gets a).places key.number (machine.getting_at (Waiting true) o)) (sym (shown_at a key.number key.place x.0 good x.1 x.2)))
-      (ap (map (λ (k : GetKey). k.number)) cut ∙ cut_numbers _ _ _ _ a.slots a.next a.waiting.items 0 key good.table good.waiting first)
+      (ap (map (λ (k : GetKey). k.number)) cut ∙ cut_numbers 0 good.table good.waiting first)
       refl refl
 
 -- ---- end
@@ -158,7 +158,7 @@ stepped_out waits n keys = cond waits (filter (λ (k : GetKey). not (eqb k.numbe
 module _ (a : Inside) (place q : ℕ) (waits : Bool) (x : Slot Getting) (slots : Slab (Slot Getting)) (waiting : Buffer GetKey) (good : AreGoodGets a) (at_place : slabs.get a.slots place ≡ Some x) (same : x.number ≡ q) (waits_is : waits ≡ is_unnotified x.standing.place) (out : waiting ≡ buffer (stepped_out waits q a.waiting.items) a.waiting.capacity) (u : Updates a.slots slots place None) where
   line_out : (b : Bool) → is_unnotified x.standing.place ≡ b → IsWaitingLine slots.slots (stepped_out b q a.waiting.items) × (map (λ (k : GetKey). k.number) (stepped_out b q a.waiting.items) ≡ machine.without q (map (λ (k : GetKey). k.number) a.waiting.items))
   line_out true on = (
-    Slots.line_kept _ _ _ _ a.slots.slots slots.slots _ place (filtered_line _ _ _ _ (λ (k : GetKey). not (eqb k.number q)) a.slots.slots a.waiting.items good.waiting) (others_away a.waiting.items good.waiting) u.others,
+    Slots.line_kept _ _ _ _ a.slots.slots slots.slots _ place (filtered_line (λ (k : GetKey). not (eqb k.number q)) a.slots.slots a.waiting.items good.waiting) (others_away a.waiting.items good.waiting) u.others,
     other_numbers (λ (k : GetKey). k.number) q a.waiting.items,
   )
     where
@@ -166,15 +166,15 @@ module _ (a : Inside) (place q : ℕ) (waits : Bool) (x : Slot Getting) (slots :
       others_away : (keys : List GetKey) → IsWaitingLine a.slots.slots keys → (j : ℕ) (k : GetKey) → slice_get (filter (λ (m : GetKey). not (eqb m.number q)) keys) j ≡ Some k → k.place ≢ place
       others_away keys l j k e there =
           let passes : not (eqb k.number q) ≡ true = filter_passes (λ (m : GetKey). not (eqb m.number q)) keys j k e in
-          let stands = (filtered_line _ _ _ _ (λ (m : GetKey). not (eqb m.number q)) a.slots.slots keys l).each j k e in
+          let stands = (filtered_line (λ (m : GetKey). not (eqb m.number q)) a.slots.slots keys l).each j k e in
           let alike : Some stands.0 ≡ Some x = sym stands.1 ∙ ap (λ (p : ℕ). get_or a.slots.slots p None) there ∙ at_place in
           let is : x ≡ stands.0 = cc in
           let number : k.number ≡ q = sym stands.2 ∙ ap (λ (s : Slot Getting). s.number) (sym is) ∙ same in
           let clash : not (eqb k.number q) ≡ false = ap (λ (n : ℕ). not (eqb n q)) number ∙ ap not (eqb_self q) in
           cc
   line_out false off = (
-    Slots.line_kept _ _ _ _ a.slots.slots slots.slots a.waiting.items place good.waiting (avoids _ _ _ _ a.slots a.waiting.items place x good.waiting at_place off) u.others,
-    sym (none_without (λ (k : GetKey). k.number) q a.waiting.items (λ j k e number. let stands = good.waiting.each j k e in avoids _ _ _ _ a.slots a.waiting.items place x good.waiting at_place off j k e (good.table.distinct k.place place stands.0 x stands.1 at_place (stands.2 ∙ number ∙ sym same)))),
+    Slots.line_kept _ _ _ _ a.slots.slots slots.slots a.waiting.items place good.waiting (avoids a.slots a.waiting.items place x good.waiting at_place off) u.others,
+    sym (none_without (λ (k : GetKey). k.number) q a.waiting.items (λ j k e number. let stands = good.waiting.each j k e in avoids a.slots a.waiting.items place x good.waiting at_place off j k e (good.table.distinct k.place place stands.0 x stands.1 at_place (stands.2 ∙ number ∙ sym same)))),
   )
 
   outside : IsWaitingLine slots.slots waiting.items × (map (λ (k : GetKey). k.number) waiting.items ≡ machine.without q (map (λ (k : GetKey). k.number) a.waiting.items))
@@ -185,12 +185,12 @@ module _ (a : Inside) (place q : ℕ) (waits : Bool) (x : Slot Getting) (slots :
       let z = good.sizes in
       let w : waiting.capacity ≡ a.waiting.capacity = ap (λ (b : Buffer GetKey). b.capacity) out in
       record {
-        table = table_removed (λ (y : Slot Getting). y.number) a.slots slots a.next place good.table u;
+        table = table_removed good.table u;
         waiting = outside.0;
         sizes = record { places_are = omega (arith, z.places_are); peak_holds = omega (arith, z.peak_holds); alive_few = omega (arith, z.alive_few); room_holds = omega (arith, z.room_holds); line_room_holds = omega (arith, z.line_room_holds) };
       }
 
   pub end_view : view_of_gets (record a { slots = slots; waiting = waiting; alive = a.alive - 1 }) ≡ machine.after_get_end q (view_of_gets a)
   end_view = same_gets _ _ refl
-      (held_removed (λ (y : Slot Getting). y.number) (λ y. y.standing) a.slots slots a.next place x good.table at_place u ∙ ap (remove (view_of_gets a).places) same)
+      (held_removed good.table at_place u ∙ ap (remove (view_of_gets a).places) same)
       outside.1 refl refl

@@ -89,48 +89,53 @@ module _ {K : Type 0} (p : K → Bool) (xs : List K) where
 
 -- ---- lines into a table
 
-module _ {X K : Type 0} (number : X → ℕ) (test : X → Bool) (key leads : K → ℕ) where
-  -- each key leads to a slot that has its number and passes, and no two lead to one place
-  abbrev pub IsLineInto : List (Option X) → List K → Type 0
-  IsLineInto = IsLine number test key leads
+filtered_avoids : {K : Type 0} (leads : K → ℕ) (p : K → Bool) (keys : List K) (place : ℕ) → ((j : ℕ) (m : K) → slice_get keys j ≡ Some m → leads m ≢ place) → (j : ℕ) (m : K) → slice_get (filter p keys) j ≡ Some m → leads m ≢ place
+filtered_avoids leads p [] place away j m e = cc
+filtered_avoids {K} leads p (k ∷ keys) place away j m e = go (p k) (filtered_avoids leads p keys place (λ i n f. away (suc i) n f)) j m e
+  where
+    go : (b : Bool) → ((i : ℕ) (n : K) → slice_get (filter p keys) i ≡ Some n → leads n ≢ place) → (i : ℕ) (n : K) → slice_get (cond b (k ∷ filter p keys) (filter p keys)) i ≡ Some n → leads n ≢ place
+    go true others zero n f = away 0 n f
+    go true others (suc i) n f = others i n f
+    go false others i n f = others i n f
 
+module _ {X K : Type 0} {number : X → ℕ} {test : X → Bool} {key leads : K → ℕ} where
   -- a place that does not pass is on no line
-  pub avoids : (old : Slab X) (keys : List K) (place : ℕ) (x : X) → IsLineInto old.slots keys → slabs.get old place ≡ Some x → test x ≡ false → (j : ℕ) (k : K) → slice_get keys j ≡ Some k → leads k ≢ place
+  pub avoids : (old : Slab X) (keys : List K) (place : ℕ) (x : X) → IsLine number test key leads old.slots keys → slabs.get old place ≡ Some x → test x ≡ false → (j : ℕ) (k : K) → slice_get keys j ≡ Some k → leads k ≢ place
   avoids old keys place x l at_place off = Slots.line_avoids _ _ _ _ old.slots keys place l (λ y e t. let same : x ≡ y = let b : Some x ≡ Some y = sym at_place ∙ e in cc in let clash : test y ≡ false = ap test (sym same) ∙ off in cc)
 
-  free_avoids : (old : Slab X) (keys : List K) (place : ℕ) → IsLineInto old.slots keys → slabs.get old place ≡ None → (j : ℕ) (k : K) → slice_get keys j ≡ Some k → leads k ≢ place
+  free_avoids : (old : Slab X) (keys : List K) (place : ℕ) → IsLine number test key leads old.slots keys → slabs.get old place ≡ None → (j : ℕ) (k : K) → slice_get keys j ≡ Some k → leads k ≢ place
   free_avoids old keys place l free = Slots.line_avoids _ _ _ _ old.slots keys place l (λ y e t. let clash : None ≡ Some y = sym free ∙ e in cc)
 
   -- a place that is on no line changes
-  pub other_line : (old new : Slab X) (keys : List K) (place : ℕ) (x : X) (slot : Option X) → IsLineInto old.slots keys → slabs.get old place ≡ Some x → test x ≡ false → Updates old new place slot → IsLineInto new.slots keys
-  other_line old new keys place x slot l at_place off u = Slots.line_kept _ _ _ _ old.slots new.slots keys place l (avoids old keys place x l at_place off) u.others
+  pub other_line : {old new : Slab X} {keys : List K} {place : ℕ} {x : X} {slot : Option X} → IsLine number test key leads old.slots keys → slabs.get old place ≡ Some x → test x ≡ false → Updates old new place slot → IsLine number test key leads new.slots keys
+  other_line {old} {new} {keys} {place} {x} l at_place off u = Slots.line_kept _ _ _ _ old.slots new.slots keys place l (avoids old keys place x l at_place off) u.others
 
   -- a free place is taken
-  pub free_line : (old new : Slab X) (keys : List K) (place : ℕ) (slot : Option X) → IsLineInto old.slots keys → slabs.get old place ≡ None → Updates old new place slot → IsLineInto new.slots keys
-  free_line old new keys place slot l free u = Slots.line_kept _ _ _ _ old.slots new.slots keys place l (free_avoids old keys place l free) u.others
+  pub free_line : {old new : Slab X} {keys : List K} {place : ℕ} {slot : Option X} → IsLine number test key leads old.slots keys → slabs.get old place ≡ None → Updates old new place slot → IsLine number test key leads new.slots keys
+  free_line {old} {new} {keys} {place} l free u = Slots.line_kept _ _ _ _ old.slots new.slots keys place l (free_avoids old keys place l free) u.others
 
   -- a key comes to the back, whose place passes from now on
-  pushed_line : (old new : Slab X) (keys : List K) (k : K) (y : X) → IsLineInto old.slots keys → ((j : ℕ) (m : K) → slice_get keys j ≡ Some m → leads m ≢ leads k) → Updates old new (leads k) (Some y) → number y ≡ key k → test y ≡ true → IsLineInto new.slots (keys ++ k ∷ [])
+  pushed_line : (old new : Slab X) (keys : List K) (k : K) (y : X) → IsLine number test key leads old.slots keys → ((j : ℕ) (m : K) → slice_get keys j ≡ Some m → leads m ≢ leads k) → Updates old new (leads k) (Some y) → number y ≡ key k → test y ≡ true → IsLine number test key leads new.slots (keys ++ k ∷ [])
   pushed_line old new keys k y l away u same on = Slots.line_pushed _ _ _ _ new.slots keys k y (Slots.line_kept _ _ _ _ old.slots new.slots keys (leads k) l away u.others) away u.changed same on
 
   -- its place did not pass before
-  pub turned_line : (old new : Slab X) (keys : List K) (k : K) (x y : X) → IsLineInto old.slots keys → slabs.get old (leads k) ≡ Some x → test x ≡ false → Updates old new (leads k) (Some y) → number y ≡ key k → test y ≡ true → IsLineInto new.slots (keys ++ k ∷ [])
-  turned_line old new keys k x y l at_place off u same on = pushed_line old new keys k y l (avoids old keys (leads k) x l at_place off) u same on
+  pub turned_line : {old new : Slab X} {keys : List K} (k : K) {x y : X} → IsLine number test key leads old.slots keys → slabs.get old (leads k) ≡ Some x → test x ≡ false → Updates old new (leads k) (Some y) → number y ≡ key k → test y ≡ true → IsLine number test key leads new.slots (keys ++ k ∷ [])
+  turned_line {old} {new} {keys} k {x} {y} l at_place off u same on = pushed_line old new keys k y l (avoids old keys (leads k) x l at_place off) u same on
 
   -- its place was free
-  pub added_line : (old new : Slab X) (keys : List K) (k : K) (y : X) → IsLineInto old.slots keys → slabs.get old (leads k) ≡ None → Updates old new (leads k) (Some y) → number y ≡ key k → test y ≡ true → IsLineInto new.slots (keys ++ k ∷ [])
-  added_line old new keys k y l free u same on = pushed_line old new keys k y l (free_avoids old keys (leads k) l free) u same on
+  pub added_line : {old new : Slab X} {keys : List K} (k : K) {y : X} → IsLine number test key leads old.slots keys → slabs.get old (leads k) ≡ None → Updates old new (leads k) (Some y) → number y ≡ key k → test y ≡ true → IsLine number test key leads new.slots (keys ++ k ∷ [])
+  added_line {old} {new} {keys} k {y} l free u same on = pushed_line old new keys k y l (free_avoids old keys (leads k) l free) u same on
 
   -- the key at an index goes, and its place changes
-  pub cut_line : (old new : Slab X) (keys : List K) (i : ℕ) (k : K) (slot : Option X) → IsLineInto old.slots keys → slice_get keys i ≡ Some k → Updates old new (leads k) slot → IsLineInto new.slots (cut_at i keys)
-  cut_line old new keys i k slot l e u = Slots.line_kept _ _ _ _ old.slots new.slots (cut_at i keys) (leads k) (Slots.line_cut _ _ _ _ old.slots keys i l) (Slots.line_cut_avoids _ _ _ _ old.slots keys i k l e) u.others
+  pub cut_line : {old new : Slab X} {keys : List K} (i : ℕ) {k : K} {slot : Option X} → IsLine number test key leads old.slots keys → slice_get keys i ≡ Some k → Updates old new (leads k) slot → IsLine number test key leads new.slots (cut_at i keys)
+  cut_line {old} {new} {keys} i {k} l e u = Slots.line_kept _ _ _ _ old.slots new.slots (cut_at i keys) (leads k) (Slots.line_cut _ _ _ _ old.slots keys i l) (Slots.line_cut_avoids _ _ _ _ old.slots keys i k l e) u.others
 
   -- so the line of numbers loses its number
-  pub cut_numbers : (slots : Slab X) (next : ℕ) (keys : List K) (i : ℕ) (k : K) → IsTable number slots next → IsLineInto slots.slots keys → slice_get keys i ≡ Some k → map key (cut_at i keys) ≡ machine.without (key k) (map key keys)
-  cut_numbers slots next keys i k t l e = Slots.cut_without key keys i k e (Slots.line_numbers _ _ _ _ slots.slots keys t.distinct l)
+  pub cut_numbers : {slots : Slab X} {next : ℕ} {keys : List K} (i : ℕ) {k : K} → IsTable number slots next → IsLine number test key leads slots.slots keys → slice_get keys i ≡ Some k → map key (cut_at i keys) ≡ machine.without (key k) (map key keys)
+  cut_numbers {slots} {keys = keys} i {k} t l e = Slots.cut_without key keys i k e (Slots.line_numbers _ _ _ _ slots.slots keys t.distinct l)
 
   -- a line without some of its keys is a line
-  line_cons : (xs : List (Option X)) (k : K) (keys : List K) (x : X) → get_or xs (leads k) None ≡ Some x → number x ≡ key k → test x ≡ true → IsLineInto xs keys → ((j : ℕ) (m : K) → slice_get keys j ≡ Some m → leads m ≢ leads k) → IsLineInto xs (k ∷ keys)
+  line_cons : (xs : List (Option X)) (k : K) (keys : List K) (x : X) → get_or xs (leads k) None ≡ Some x → number x ≡ key k → test x ≡ true → IsLine number test key leads xs keys → ((j : ℕ) (m : K) → slice_get keys j ≡ Some m → leads m ≢ leads k) → IsLine number test key leads xs (k ∷ keys)
   line_cons xs k keys x at_k same on l away = record { each = each; once = once }
     where
       each : (j : ℕ) (m : K) → slice_get (k ∷ keys) j ≡ Some m → (y : X) × (get_or xs (leads m) None ≡ Some y) × (number y ≡ key m) × (test y ≡ true)
@@ -143,28 +148,19 @@ module _ {X K : Type 0} (number : X → ℕ) (test : X → Bool) (key leads : K 
       once (suc i) zero a b e f s = absurd (away i a e (s ∙ ap leads (let both : Some k ≡ Some b = f in let is : b ≡ k = cc in is)))
       once (suc i) (suc j) a b e f s = ap suc (l.once i j a b e f s)
 
-  filtered_avoids : (p : K → Bool) (keys : List K) (place : ℕ) → ((j : ℕ) (m : K) → slice_get keys j ≡ Some m → leads m ≢ place) → (j : ℕ) (m : K) → slice_get (filter p keys) j ≡ Some m → leads m ≢ place
-  filtered_avoids p [] place away j m e = cc
-  filtered_avoids p (k ∷ keys) place away j m e = go (p k) (filtered_avoids p keys place (λ i n f. away (suc i) n f)) j m e
-    where
-      go : (b : Bool) → ((i : ℕ) (n : K) → slice_get (filter p keys) i ≡ Some n → leads n ≢ place) → (i : ℕ) (n : K) → slice_get (cond b (k ∷ filter p keys) (filter p keys)) i ≡ Some n → leads n ≢ place
-      go true others zero n f = away 0 n f
-      go true others (suc i) n f = others i n f
-      go false others i n f = others i n f
-
-  pub filtered_line : (p : K → Bool) (xs : List (Option X)) (keys : List K) → IsLineInto xs keys → IsLineInto xs (filter p keys)
+  pub filtered_line : (p : K → Bool) (xs : List (Option X)) (keys : List K) → IsLine number test key leads xs keys → IsLine number test key leads xs (filter p keys)
   filtered_line p xs [] l = l
   filtered_line p xs (k ∷ keys) l =
-      let rest : IsLineInto xs (filter p keys) = filtered_line p xs keys (Slots.line_rest _ _ _ _ xs k keys l) in
+      let rest : IsLine number test key leads xs (filter p keys) = filtered_line p xs keys (Slots.line_rest _ _ _ _ xs k keys l) in
       let x = l.each 0 k refl in
-      go (p k) rest (line_cons xs k (filter p keys) x.0 x.1 x.2 x.3 rest (filtered_avoids p keys (leads k) (Slots.line_rest_avoids _ _ _ _ xs k keys l)))
+      go (p k) rest (line_cons xs k (filter p keys) x.0 x.1 x.2 x.3 rest (filtered_avoids leads p keys (leads k) (Slots.line_rest_avoids _ _ _ _ xs k keys l)))
     where
-      go : (b : Bool) → IsLineInto xs (filter p keys) → IsLineInto xs (k ∷ filter p keys) → IsLineInto xs (cond b (k ∷ filter p keys) (filter p keys))
+      go : (b : Bool) → IsLine number test key leads xs (filter p keys) → IsLine number test key leads xs (k ∷ filter p keys) → IsLine number test key leads xs (cond b (k ∷ filter p keys) (filter p keys))
       go true without with_it = with_it
       go false without with_it = without
 
   -- a line is no longer than there are things in the table
-  pub line_fits : (slots : Slab X) (keys : List K) → IsLineInto slots.slots keys → length keys ≤ slab_len slots
+  pub line_fits : (slots : Slab X) (keys : List K) → IsLine number test key leads slots.slots keys → length keys ≤ slab_len slots
   line_fits slots keys l =
       let a : length keys ≤ tally is_some slots.slots = Slots.line_length _ _ _ _ is_some refl (λ x e. refl) keys slots.slots l in
       let b : tally is_some slots.slots ≡ slab_len slots = counted slots.slots in

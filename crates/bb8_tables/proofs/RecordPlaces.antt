@@ -104,7 +104,7 @@ module _ {C : Type 0} where
   -- another place at a number
   places_set : (a : Inside C) (slots : Slab (Slot (Standing C))) (i q : ℕ) (x : Slot (Standing C)) (p : Place C) → AreGoodRecords a → slabs.get a.slots i ≡ Some x → x.number ≡ q → Updates a.slots slots i (Some (record x { standing = with_place p x.standing })) → values_at (λ (s : Slot (Standing C)). s.number) (λ s. s.standing) slots.slots ≡ insert (view_of_records a).places q (machine.standing_at p (get (view_of_records a).places q))
   places_set a slots i q x p good e same u =
-      held_set (λ (s : Slot (Standing C)). s.number) (λ s. s.standing) a.slots slots a.next i x (record x { standing = with_place p x.standing }) good.table e refl u
+      held_set good.table e refl u
       ∙ ap (λ (n : ℕ). insert (view_of_records a).places n (with_place p x.standing)) same
       ∙ ap (λ (o : Option (Standing C)). insert (view_of_records a).places q (machine.standing_at p o)) (sym (shown_at a i q x good e same))
 
@@ -118,9 +118,9 @@ module _ {C : Type 0} where
         let new : Slot (Standing C) = record x.0 { standing = with_place Claimed x.0.standing } in
         let u : Updates a.slots slots key.place (Some new) = sets x.0 x.1 in
         record {
-          table = table_set (λ (s : Slot (Standing C)). s.number) a.slots slots a.next key.place x.0 new good.table x.1 refl u;
-          idle = other_line _ _ _ _ a.slots slots a.idle.items key.place x.0 _ good.idle x.1 (ap is_idle was) u;
-          unclaimed = rw (rest, Slots.drop_is_cut a.unclaimed.items) (cut_line _ _ _ _ a.slots slots a.unclaimed.items 0 key _ good.unclaimed (sym first) u);
+          table = table_set good.table x.1 refl u;
+          idle = other_line good.idle x.1 (ap is_idle was) u;
+          unclaimed = rw (rest, Slots.drop_is_cut a.unclaimed.items) (cut_line 0 good.unclaimed (sym first) u);
           conns_are = (let t : tally (passes is_conn) slots.slots + 0 ≡ a.conns + 0 = conns_set a slots key.place (Some x.0) (Some new) false false good x.1 u (ap is_conn was) refl in omega arith);
           approved_are = (let t : tally (passes is_approval) slots.slots + 1 ≡ a.approved + 1 = approved_set a slots key.place (Some x.0) (Some new) true true good x.1 u (ap is_approval was) refl in omega arith);
           sizes = let s = good.sizes in let c : unclaimed.capacity ≡ a.unclaimed.capacity = ap (λ (b : Buffer Key). b.capacity) rest in record { places_are = omega arith; peak_holds = s.peak_holds; peak_few = s.peak_few; place_room_holds = omega arith; idle_room_holds = s.idle_room_holds; unclaimed_room_holds = omega arith };
@@ -149,9 +149,9 @@ module _ {C : Type 0} where
         let new : Slot (Standing C) = record x.0 { standing = with_place Guarded x.0.standing } in
         let u : Updates a.slots slots key.place (Some new) = sets x.0 x.1 in
         record {
-          table = table_set (λ (s : Slot (Standing C)). s.number) a.slots slots a.next key.place x.0 new good.table x.1 refl u;
-          idle = rw rest (cut_line _ _ _ _ a.slots slots a.idle.items where_first key _ good.idle (sym first) u);
-          unclaimed = other_line _ _ _ _ a.slots slots a.unclaimed.items key.place x.0 _ good.unclaimed x.1 (ap is_unclaimed was.1) u;
+          table = table_set good.table x.1 refl u;
+          idle = rw rest (cut_line where_first good.idle (sym first) u);
+          unclaimed = other_line good.unclaimed x.1 (ap is_unclaimed was.1) u;
           conns_are = (let t : tally (passes is_conn) slots.slots + 1 ≡ a.conns + 1 = conns_set a slots key.place (Some x.0) (Some new) true true good x.1 u (ap is_conn was.1) refl in omega arith);
           approved_are = (let t : tally (passes is_approval) slots.slots + 0 ≡ a.approved + 0 = approved_set a slots key.place (Some x.0) (Some new) false false good x.1 u (ap is_approval was.1) refl in omega arith);
           sizes = let s = good.sizes in let c : idle.capacity ≡ a.idle.capacity = ap (λ (b : Buffer Key). b.capacity) rest in record { places_are = omega arith; peak_holds = s.peak_holds; peak_few = s.peak_few; place_room_holds = omega arith; idle_room_holds = omega arith; unclaimed_room_holds = s.unclaimed_room_holds };
@@ -162,7 +162,7 @@ module _ {C : Type 0} where
         let x = good.idle.each where_first key (sym first) in
         same_records _ _ refl
         (places_set a slots key.place key.number x.0 Guarded good x.1 x.2 (sets x.0 x.1))
-        (ap (λ (b : Buffer Key). map (λ (k : Key). k.number) b.items) rest ∙ cut_numbers _ _ _ _ a.slots a.next a.idle.items where_first key good.table good.idle (sym first))
+        (ap (λ (b : Buffer Key). map (λ (k : Key). k.number) b.items) rest ∙ cut_numbers where_first good.table good.idle (sym first))
         refl refl refl refl
 
     -- the number that is taken is the first one
@@ -227,7 +227,7 @@ module _ {C : Type 0} where
     line_after =
         let at_key : slabs.get a.slots key.place ≡ Some x = subst (λ (p : ℕ). slabs.get a.slots p ≡ Some x) (sym placed_there) at_place in
         let u : Updates a.slots slots key.place (Some entering) = subst (λ (p : ℕ). Updates a.slots slots p (Some entering)) (sym placed_there) (sets x at_place) in
-        turned_line _ _ _ _ a.slots slots a.idle.items key x entering good.idle at_key not_idle u numbered is_idle_now
+        turned_line key good.idle at_key not_idle u numbered is_idle_now
 
     -- there is room for the key
     pub enter_room : length a.idle.items < a.idle.capacity
@@ -246,9 +246,9 @@ module _ {C : Type 0} where
         let c : one opening ≤ a.approved = enter_counted in
         let e : one opening + one (not opening) ≡ 1 = either opening in
         record {
-          table = table_set (λ (y : Slot (Standing C)). y.number) a.slots slots a.next place x entering good.table at_place refl (sets x at_place);
+          table = table_set good.table at_place refl (sets x at_place);
           idle = rw pushed line_after;
-          unclaimed = other_line _ _ _ _ a.slots slots a.unclaimed.items place x _ good.unclaimed at_place not_unclaimed (sets x at_place);
+          unclaimed = other_line good.unclaimed at_place not_unclaimed (sets x at_place);
           conns_are = omega arith;
           approved_are = omega arith;
           sizes = let z = good.sizes in let w : idle.capacity ≡ a.idle.capacity = ap (λ (b : Buffer Key). b.capacity) pushed in record { places_are = omega arith; peak_holds = omega arith; peak_few = good.sizes.peak_few; place_room_holds = omega arith; idle_room_holds = omega arith; unclaimed_room_holds = z.unclaimed_room_holds };
@@ -256,7 +256,7 @@ module _ {C : Type 0} where
 
     pub enter_view : (idle : Buffer Key) (n m : ℕ) → idle ≡ buffer (a.idle.items ++ key ∷ []) a.idle.capacity → n ≡ a.conns + one opening → m ≡ a.approved - one opening → view_of_records (record a { slots = slots; idle = idle; conns = n; approved = m }) ≡ machine.after_entry opening key.number s (view_of_records a)
     enter_view idle n m pushed n_is m_is = same_records _ _ refl
-        (held_set (λ (y : Slot (Standing C)). y.number) (λ y. y.standing) a.slots slots a.next place x entering good.table at_place refl (sets x at_place) ∙ ap (λ (q : ℕ). insert (view_of_records a).places q s) numbered)
+        (held_set good.table at_place refl (sets x at_place) ∙ ap (λ (q : ℕ). insert (view_of_records a).places q s) numbered)
         (ap (λ (b : Buffer Key). map (λ (k : Key). k.number) b.items) pushed ∙ map_push (λ (k : Key). k.number) a.idle.items key)
         refl n_is m_is refl
 
@@ -282,9 +282,9 @@ module _ {C : Type 0} where
         let v : tally (passes is_approval) slots.slots + one opening ≡ a.approved + 0 = approved_less in
         let e : one opening + one (not opening) ≡ 1 = either opening in
         record {
-          table = table_removed (λ (s : Slot (Standing C)). s.number) a.slots slots a.next place good.table frees;
-          idle = other_line _ _ _ _ a.slots slots a.idle.items place x _ good.idle at_place (ap is_idle was ∙ idle_from C opening) frees;
-          unclaimed = other_line _ _ _ _ a.slots slots a.unclaimed.items place x _ good.unclaimed at_place (ap is_unclaimed was ∙ unclaimed_from C opening) frees;
+          table = table_removed good.table frees;
+          idle = other_line good.idle at_place (ap is_idle was ∙ idle_from C opening) frees;
+          unclaimed = other_line good.unclaimed at_place (ap is_unclaimed was ∙ unclaimed_from C opening) frees;
           conns_are = omega arith;
           approved_are = omega arith;
           sizes = let s = good.sizes in record { places_are = omega arith; peak_holds = omega arith; peak_few = good.sizes.peak_few; place_room_holds = omega arith; idle_room_holds = s.idle_room_holds; unclaimed_room_holds = s.unclaimed_room_holds };
@@ -292,7 +292,7 @@ module _ {C : Type 0} where
 
     pub close_view : (n m : ℕ) → n ≡ a.conns - one (not opening) → m ≡ a.approved - one opening → view_of_records (record a { slots = slots; conns = n; approved = m }) ≡ machine.after_close opening q (view_of_records a)
     close_view n m n_is m_is = same_records _ _ refl
-        (held_removed (λ (y : Slot (Standing C)). y.number) (λ y. y.standing) a.slots slots a.next place x good.table at_place frees ∙ ap (remove (view_of_records a).places) numbered)
+        (held_removed good.table at_place frees ∙ ap (remove (view_of_records a).places) numbered)
         refl refl n_is m_is refl
 
   -- ---- approve
@@ -310,13 +310,13 @@ module _ {C : Type 0} where
     new_approval false = refl
 
     line_added : (b : Bool) (new : Slot (Standing C)) → new.number ≡ a.next → new.standing.place ≡ cond b Claimed Unclaimed → Updates a.slots slots place (Some new) → IsLineOf is_unclaimed slots.slots (a.unclaimed.items ++ cond b [] ((record { number = a.next; place = place }) ∷ []))
-    line_added true new same stands_there v = rw (append-nil a.unclaimed.items) (free_line _ _ _ _ a.slots slots a.unclaimed.items place _ good.unclaimed free v)
-    line_added false new same stands_there v = added_line _ _ _ _ a.slots slots a.unclaimed.items (record { number = a.next; place = place }) new good.unclaimed free v same (ap is_unclaimed stands_there)
+    line_added true new same stands_there v = rw (append-nil a.unclaimed.items) (free_line good.unclaimed free v)
+    line_added false new same stands_there v = added_line (record { number = a.next; place = place }) good.unclaimed free v same (ap is_unclaimed stands_there)
 
     pub approve_good : a.conns + a.approved < a.peak → slab_len slots ≡ slab_len a.slots + 1 → slots.capacity ≡ a.slots.capacity → AreGoodRecords (record a { next = a.next + 1; slots = slots; unclaimed = unclaimed; approved = a.approved + 1 })
     approve_good free_room len room = record {
-      table = table_added (λ (s : Slot (Standing C)). s.number) a.slots slots a.next place added good.table free refl u;
-      idle = free_line _ _ _ _ a.slots slots a.idle.items place _ good.idle free u;
+      table = table_added good.table free refl u;
+      idle = free_line good.idle free u;
       unclaimed = rw pushed (line_added claimed_now added refl refl u);
       conns_are = (let t : tally (passes is_conn) slots.slots + 0 ≡ a.conns + 0 = conns_set a slots place None (Some added) false false good free u refl (not_conn claimed_now) in omega arith);
       approved_are = (let t : tally (passes is_approval) slots.slots + 0 ≡ a.approved + 1 = approved_set a slots place None (Some added) false true good free u refl (new_approval claimed_now) in omega arith);
@@ -329,7 +329,7 @@ module _ {C : Type 0} where
 
     pub approve_view : view_of_records (record a { next = a.next + 1; slots = slots; unclaimed = unclaimed; approved = a.approved + 1 }) ≡ machine.after_approval claimed_now (view_of_records a)
     approve_view = same_records _ _ refl
-        (held_added (λ (s : Slot (Standing C)). s.number) (λ s. s.standing) a.slots slots a.next place added good.table free refl u)
+        (held_added good.table free refl u)
         refl
         (ap (λ (b : Buffer Key). map (λ (k : Key). k.number) b.items) pushed ∙ numbers_added claimed_now)
         refl refl refl
@@ -343,9 +343,9 @@ module _ {C : Type 0} where
 
     pub born_good : a.conns + a.approved < a.peak → slab_len slots ≡ slab_len a.slots + 1 → slots.capacity ≡ a.slots.capacity → AreGoodRecords (record a { next = a.next + 1; slots = slots; idle = idle; conns = a.conns + 1 })
     born_good free_room len room = record {
-      table = table_added (λ (s : Slot (Standing C)). s.number) a.slots slots a.next place newborn good.table free refl u;
-      idle = rw pushed (added_line _ _ _ _ a.slots slots a.idle.items (record { number = a.next; place = place }) newborn good.idle free u refl refl);
-      unclaimed = free_line _ _ _ _ a.slots slots a.unclaimed.items place _ good.unclaimed free u;
+      table = table_added good.table free refl u;
+      idle = rw pushed (added_line (record { number = a.next; place = place }) good.idle free u refl refl);
+      unclaimed = free_line good.unclaimed free u;
       conns_are = (let t : tally (passes is_conn) slots.slots + 0 ≡ a.conns + 1 = conns_set a slots place None (Some newborn) false true good free u refl refl in omega arith);
       approved_are = (let t : tally (passes is_approval) slots.slots + 0 ≡ a.approved + 0 = approved_set a slots place None (Some newborn) false false good free u refl refl in omega arith);
       sizes = let s = good.sizes in let c : idle.capacity ≡ a.idle.capacity = ap (λ (b : Buffer Key). b.capacity) pushed in record { places_are = omega arith; peak_holds = omega arith; peak_few = good.sizes.peak_few; place_room_holds = omega arith; idle_room_holds = omega arith; unclaimed_room_holds = s.unclaimed_room_holds };
@@ -353,6 +353,6 @@ module _ {C : Type 0} where
 
     pub born_view : view_of_records (record a { next = a.next + 1; slots = slots; idle = idle; conns = a.conns + 1 }) ≡ machine.after_birth conn now (view_of_records a)
     born_view = same_records _ _ refl
-        (held_added (λ (s : Slot (Standing C)). s.number) (λ s. s.standing) a.slots slots a.next place newborn good.table free refl u)
+        (held_added good.table free refl u)
         (ap (λ (b : Buffer Key). map (λ (k : Key). k.number) b.items) pushed ∙ map_push (λ (k : Key). k.number) a.idle.items (record { number = a.next; place = place }))
         refl refl refl refl

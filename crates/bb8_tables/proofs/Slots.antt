@@ -4,6 +4,7 @@ use Rattle.std.specs.FinMap.{FinMap, insert, remove, get, get-empty}
 use Rattle.slab.specs.Slab as slabs
 use Rattle.slab.specs.Slab.{Slab, Updates}
 use Rattle.bb8_types.specs.Numbered.{tally, one}
+use Rattle.bb8_tables.specs.declared.table.Slot.{Slot}
 use Rattle.bb8_tables.specs.Slots.{values_at, Holds, IsLine, IsTable, IsDistinct, cut_at}
 use Rattle.bb8_types.proofs.Numbered.{same_or_not, get_inserted, get_removed, same_gets}
 
@@ -223,11 +224,6 @@ none_cut [] i e = refl
 none_cut (k ∷ ks) zero e = cc
 none_cut (k ∷ ks) (suc i) e = ap (λ (ms : List _). k ∷ ms) (none_cut ks i e)
 
-pub length_cut : {K : Type 0} (ks : List K) (i : ℕ) (k : K) → slice_get ks i ≡ Some k → length (cut_at i ks) + 1 ≡ length ks
-length_cut [] i k e = cc
-length_cut (x ∷ ks) zero k e = omega arith
-length_cut (x ∷ ks) (suc i) k e = let ih : length (cut_at i ks) + 1 ≡ length ks = length_cut ks i k e in omega arith
-
 module _ {K : Type 0} (key : K → ℕ) where
   others_kept : (q : ℕ) (ks : List K) → ((j : ℕ) (m : K) → slice_get ks j ≡ Some m → key m ≢ q) → filter (λ p. not (eqb p q)) (map key ks) ≡ map key ks
   others_kept q [] other = refl
@@ -382,10 +378,10 @@ module _ {X K : Type 0} (number : X → ℕ) (test : X → Bool) (key leads : K 
 
 -- ---- what a change does to a table
 
-module _ {X : Type 0} (number : X → ℕ) where
+module _ {X : Type 0} {number : X → ℕ} where
   -- another value at a place, with the same number
-  pub table_set : (old new : Slab X) (next place : ℕ) (was x : X) → IsTable number old next → slabs.get old place ≡ Some was → number was ≡ number x → Updates old new place (Some x) → IsTable number new next
-  table_set old new next place was x t at_place same u = record {
+  pub table_set : {old new : Slab X} {next place : ℕ} {was x : X} → IsTable number old next → slabs.get old place ≡ Some was → number was ≡ number x → Updates old new place (Some x) → IsTable number new next
+  table_set {old} {new} {next} {place} {was} {x} t at_place same u = record {
     distinct = distinct_changed number old.slots new.slots place (Some x) t.distinct (u.changed, u.others) (λ a b i e f s. let is : x ≡ a = cc in t.distinct i place b was f at_place (s ∙ ap number (sym is) ∙ sym same));
     below = λ i y e. ⊎_elim
         (λ (h : (i ≡ place) × (Some x ≡ Some y)). let is : x ≡ y = cc in let l : number was < next = t.below place was at_place in let e1 : number was ≡ number y = same ∙ ap number is in omega arith)
@@ -394,8 +390,8 @@ module _ {X : Type 0} (number : X → ℕ) where
   }
 
   -- the next number at a free place
-  pub table_added : (old new : Slab X) (next place : ℕ) (x : X) → IsTable number old next → slabs.get old place ≡ None → number x ≡ next → Updates old new place (Some x) → IsTable number new (next + 1)
-  table_added old new next place x t free is_next u = record {
+  pub table_added : {old new : Slab X} {next place : ℕ} {x : X} → IsTable number old next → slabs.get old place ≡ None → number x ≡ next → Updates old new place (Some x) → IsTable number new (next + 1)
+  table_added {old} {new} {next} {place} {x} t free is_next u = record {
     distinct = distinct_changed number old.slots new.slots place (Some x) t.distinct (u.changed, u.others) (λ a b i e f s. absurd (let is : x ≡ a = cc in let l : number b < next = t.below i b f in let e1 : number b ≡ number x = s ∙ ap number (sym is) in omega arith));
     below = λ i y e. ⊎_elim
         (λ (h : (i ≡ place) × (Some x ≡ Some y)). let is : x ≡ y = cc in let e1 : number x ≡ number y = ap number is in omega arith)
@@ -404,8 +400,8 @@ module _ {X : Type 0} (number : X → ℕ) where
   }
 
   -- a place is freed
-  pub table_removed : (old new : Slab X) (next place : ℕ) → IsTable number old next → Updates old new place None → IsTable number new next
-  table_removed old new next place t u = record {
+  pub table_removed : {old new : Slab X} {next place : ℕ} → IsTable number old next → Updates old new place None → IsTable number new next
+  table_removed {old} {new} {next} {place} t u = record {
     distinct = distinct_changed number old.slots new.slots place None t.distinct (u.changed, u.others) (λ a b i e f s. cc);
     below = λ i y e. ⊎_elim
         (λ (h : (i ≡ place) × (None ≡ Some y)). cc)
@@ -414,12 +410,15 @@ module _ {X : Type 0} (number : X → ℕ) where
   }
 
 -- what it holds then
-module _ {X S : Type 0} (number : X → ℕ) (value : X → S) where
-  pub held_set : (old new : Slab X) (next place : ℕ) (was x : X) → IsTable number old next → slabs.get old place ≡ Some was → number was ≡ number x → Updates old new place (Some x) → values_at number value new.slots ≡ insert (values_at number value old.slots) (number x) (value x)
-  held_set old new next place was x t at_place same u = held_replaced number value old.slots new.slots place was x t.distinct at_place same (u.changed, u.others)
+module _ {S : Type 0} where
+  abbrev shown : Slab (Slot S) → FinMap nat_cmp S
+  shown slots = values_at (λ (x : Slot S). x.number) (λ x. x.standing) slots.slots
 
-  pub held_added : (old new : Slab X) (next place : ℕ) (x : X) → IsTable number old next → slabs.get old place ≡ None → number x ≡ next → Updates old new place (Some x) → values_at number value new.slots ≡ insert (values_at number value old.slots) (number x) (value x)
-  held_added old new next place x t free is_next u = held_taken number value old.slots new.slots place x t.distinct free (λ i y e s. let l : number y < next = t.below i y e in omega arith) (u.changed, u.others)
+  pub held_set : {old new : Slab (Slot S)} {next place : ℕ} {was x : Slot S} → IsTable (λ (y : Slot S). y.number) old next → slabs.get old place ≡ Some was → was.number ≡ x.number → Updates old new place (Some x) → shown new ≡ insert (shown old) x.number x.standing
+  held_set {old} {new} {next} {place} {was} {x} t at_place same u = held_replaced (λ (y : Slot S). y.number) (λ y. y.standing) old.slots new.slots place was x t.distinct at_place same (u.changed, u.others)
 
-  pub held_removed : (old new : Slab X) (next place : ℕ) (was : X) → IsTable number old next → slabs.get old place ≡ Some was → Updates old new place None → values_at number value new.slots ≡ remove (values_at number value old.slots) (number was)
-  held_removed old new next place was t at_place u = held_freed number value old.slots new.slots place was t.distinct at_place (u.changed, u.others)
+  pub held_added : {old new : Slab (Slot S)} {next place : ℕ} {x : Slot S} → IsTable (λ (y : Slot S). y.number) old next → slabs.get old place ≡ None → x.number ≡ next → Updates old new place (Some x) → shown new ≡ insert (shown old) x.number x.standing
+  held_added {old} {new} {next} {place} {x} t free is_next u = held_taken (λ (y : Slot S). y.number) (λ y. y.standing) old.slots new.slots place x t.distinct free (λ i y e s. let l : y.number < next = t.below i y e in omega arith) (u.changed, u.others)
+
+  pub held_removed : {old new : Slab (Slot S)} {next place : ℕ} {was : Slot S} → IsTable (λ (y : Slot S). y.number) old next → slabs.get old place ≡ Some was → Updates old new place None → shown new ≡ remove (shown old) was.number
+  held_removed {old} {new} {next} {place} {was} t at_place u = held_freed (λ (y : Slot S). y.number) (λ y. y.standing) old.slots new.slots place was t.distinct at_place (u.changed, u.others)

@@ -1,41 +1,37 @@
-use Rattle.std.proofs.Common.{◌<◌, sym, ◌∙◌, refl, arith}
+use Rattle.std.proofs.Common.{refl, arith}
 use Rattle.bb8_ledger.specs.Acts as acts
 use Rattle.bb8_ledger.specs.Answers as answers
 use Rattle.bb8_core.specs.Pool.{view_of}
 use Rattle.bb8_core.proofs.Fitting.{shown_fits}
 use Rattle.bb8_core.proofs.Steps.{meets_begun, meets_memory, meets_exhausted, left, used_up, led, at_view, fits_view}
 use Rattle.bb8_core.proofs.internals.PoolInternals.begin.Goals as goal
-use Rattle.bb8_types.specs.Bounds.{end_of_numbers}
-
-pub invariant_of-self : goal.invariant_of-self
-invariant_of-self g c = led c.args.at.0 acts.Begin answers.Exhausted c.self.invariant
-    (meets_exhausted c.args.at.0 (fits_view acts.Begin c.self.view_is c.requires) c.max-self-inside.ensures (used_up c.self.inside.gets.next (sym c.has_number.ensures ∙ c.if-not-has_number.true)))
 
 pub returns-then-not-has_number : goal.returns-then-not-has_number
 returns-then-not-has_number g c = at_view c.args.at.0 acts.Begin answers.Exhausted c.self.view_is
-    (meets_exhausted c.args.at.0 (fits_view acts.Begin c.self.view_is c.requires) c.max-self-inside.ensures (used_up c.self.inside.gets.next (sym c.has_number.ensures ∙ c.if-not-has_number.true)))
+    (meets_exhausted c.args.at.0 (fits_view acts.Begin c.self.view_is c.requires) c.max-self-inside.ensures (used_up _ c.has_number.ensures c.if-not-has_number.true))
+
+pub invariant_of-self : goal.invariant_of-self
+invariant_of-self g c = led _ c.args.at.0 acts.Begin answers.Exhausted c.self.view_is c.self.invariant (returns-then-not-has_number g c)
 
 pub begin-requires : goal.begin-requires
-begin-requires g c = left c.self.inside.gets.next (sym c.has_number.ensures ∙ c.if-not-has_number.false)
-
-pub invariant_of-self-in-None : goal.invariant_of-self-in-None
-invariant_of-self-in-None g c = led c.args.at.0 acts.Begin answers.Memory c.self.invariant
-    (meets_memory c.args.at.0 (fits_view acts.Begin c.self.view_is c.requires) c.max-self-inside.ensures (left c.self.inside.gets.next (sym c.has_number.ensures ∙ c.if-not-has_number.false)) c.in-None.ensures.none.0 c.in-None.ensures.none.1)
+begin-requires g c = left _ c.has_number.ensures c.if-not-has_number.false
 
 pub returns-in-None : goal.returns-in-None
 returns-in-None g c = at_view c.args.at.0 acts.Begin answers.Memory c.self.view_is
-    (meets_memory c.args.at.0 (fits_view acts.Begin c.self.view_is c.requires) c.max-self-inside.ensures (left c.self.inside.gets.next (sym c.has_number.ensures ∙ c.if-not-has_number.false)) c.in-None.ensures.none.0 c.in-None.ensures.none.1)
+    (meets_memory c.args.at.0 (fits_view acts.Begin c.self.view_is c.requires) c.max-self-inside.ensures (left _ c.has_number.ensures c.if-not-has_number.false) c.in-None.ensures.none.0 c.in-None.ensures.none.1)
+
+pub invariant_of-self-in-None : goal.invariant_of-self-in-None
+invariant_of-self-in-None g c = led _ c.args.at.0 acts.Begin answers.Memory c.self.view_is c.self.invariant (returns-in-None g c)
 
 pub overflow_add-self : goal.overflow_add-self
 overflow_add-self g c =
     let fit = shown_fits (view_of c.self.inside) c.self.invariant in
-    let few : c.self.inside.gets.next < end_of_numbers = left c.self.inside.gets.next (sym c.has_number.ensures ∙ c.if-not-has_number.false) in
+    let few = left c.self.inside.gets.next c.has_number.ensures c.if-not-has_number.false in
     omega (arith, fit.started_few)
-
-pub invariant_of-self-in-Some : goal.invariant_of-self-in-Some
-invariant_of-self-in-Some g c = led c.args.at.0 acts.Begin (answers.Begun c.in-Some.get.number) c.self.invariant
-    (meets_begun c.args.at.0 (fits_view acts.Begin c.self.view_is c.requires) c.max-self-inside.ensures (left c.self.inside.gets.next (sym c.has_number.ensures ∙ c.if-not-has_number.false)) c.in-Some.ensures.some.1 refl c.in-Some.ensures.some.0)
 
 pub returns-in-Some : goal.returns-in-Some
 returns-in-Some g c = at_view c.args.at.0 acts.Begin (answers.Begun c.in-Some.get.number) c.self.view_is
-    (meets_begun c.args.at.0 (fits_view acts.Begin c.self.view_is c.requires) c.max-self-inside.ensures (left c.self.inside.gets.next (sym c.has_number.ensures ∙ c.if-not-has_number.false)) c.in-Some.ensures.some.1 refl c.in-Some.ensures.some.0)
+    (meets_begun c.args.at.0 (fits_view acts.Begin c.self.view_is c.requires) c.max-self-inside.ensures (left _ c.has_number.ensures c.if-not-has_number.false) c.in-Some.ensures.some.1 refl c.in-Some.ensures.some.0)
+
+pub invariant_of-self-in-Some : goal.invariant_of-self-in-Some
+invariant_of-self-in-Some g c = led _ c.args.at.0 acts.Begin (answers.Begun c.in-Some.get.number) c.self.view_is c.self.invariant (returns-in-Some g c)

@@ -1,4 +1,4 @@
-use Rattle.std.proofs.Common.{◌≡◌, ◌≢◌, ◌<◌, ℕ, max, Option, Some, None, IfSome, IfNone, option_map, slice_get, arith}
+use Rattle.std.proofs.Common.{◌≡◌, ◌≢◌, ℕ, max, Option, Some, None, IfSome, IfNone, option_map, slice_get}
 use Rattle.bb8_ledger.specs.Acts as acts
 use Rattle.bb8_ledger.specs.Answers as answers
 use Rattle.bb8_tables.specs.declared.keys.Key.{Key}
@@ -9,26 +9,21 @@ use Rattle.bb8_tables.specs.Views.{ShownRecords}
 use Rattle.bb8_core.proofs.Steps.{IsStep, meets_claim, meets_claim_none, meets_claim_ended, led, at_view}
 use Rattle.bb8_core.proofs.internals.PoolInternals.claim.Goals as goal
 
-open_now : (n : ℕ) → n ≢ 0 → 0 < n
-open_now n h = omega arith
-
 -- where one is unclaimed, and where none is
-meets_claimed : {C : Type 0} (s : Shown C) (at : ℕ) (o : Option Key) (now : ℕ) (rs : ShownRecords C) → now ≡ max s.latest at → 0 < s.handles → IfSome o (λ key. (slice_get s.records.unclaimed 0 ≡ Some key.number) × (rs ≡ machine.after_claim key.number s.records)) → IfNone o ((slice_get s.records.unclaimed 0 ≡ None) × (rs ≡ s.records)) → IsStep s at acts.Claim (answers.Claimed (option_map (λ (k : Key). k.number) o)) (record s { latest = now; records = rs })
-meets_claimed s at None now rs now_is open_it some none = meets_claim_none now_is open_it none.0 none.1
-meets_claimed s at (Some key) now rs now_is open_it some none = meets_claim now_is open_it some.0 some.1
-
-pub invariant_of-self : goal.invariant_of-self
-invariant_of-self g c = led c.args.at.0 acts.Claim answers.Ended c.self.invariant
-    (meets_claim_ended c.max-self-inside.ensures c.if-self-eq0.true)
+meets_claimed : {C : Type 0} (s : Shown C) (at : ℕ) (o : Option Key) (now : ℕ) (rs : ShownRecords C) → now ≡ max s.latest at → s.handles ≢ 0 → IfSome o (λ key. (slice_get s.records.unclaimed 0 ≡ Some key.number) × (rs ≡ machine.after_claim key.number s.records)) → IfNone o ((slice_get s.records.unclaimed 0 ≡ None) × (rs ≡ s.records)) → IsStep s at acts.Claim (answers.Claimed (option_map (λ (k : Key). k.number) o)) (record s { latest = now; records = rs })
+meets_claimed s at None now rs now_is alive_now some none = meets_claim_none now_is alive_now none.0 none.1
+meets_claimed s at (Some key) now rs now_is alive_now some none = meets_claim now_is alive_now some.0 some.1
 
 pub returns-then-self-eq0 : goal.returns-then-self-eq0
 returns-then-self-eq0 g c = at_view c.args.at.0 acts.Claim answers.Ended c.self.view_is
     (meets_claim_ended c.max-self-inside.ensures c.if-self-eq0.true)
 
-pub invariant_of-self-2 : goal.invariant_of-self-2
-invariant_of-self-2 g c = led c.args.at.0 acts.Claim (answers.Claimed (option_map (λ (k : Key). k.number) c.claim.result)) c.self.invariant
-    (meets_claimed (view_of c.self.inside) c.args.at.0 c.claim.result c.max-self-inside.result c.claim.new.self c.max-self-inside.ensures (open_now c.self.inside.handles c.if-self-eq0.false) c.claim.ensures.some c.claim.ensures.none)
+pub invariant_of-self : goal.invariant_of-self
+invariant_of-self g c = led _ c.args.at.0 acts.Claim answers.Ended c.self.view_is c.self.invariant (returns-then-self-eq0 g c)
 
 pub returns : goal.returns
 returns g c = at_view c.args.at.0 acts.Claim (answers.Claimed (option_map (λ (k : Key). k.number) c.claim.result)) c.self.view_is
-    (meets_claimed (view_of c.self.inside) c.args.at.0 c.claim.result c.max-self-inside.result c.claim.new.self c.max-self-inside.ensures (open_now c.self.inside.handles c.if-self-eq0.false) c.claim.ensures.some c.claim.ensures.none)
+    (meets_claimed (view_of c.self.inside) c.args.at.0 c.claim.result c.max-self-inside.result c.claim.new.self c.max-self-inside.ensures c.if-self-eq0.false c.claim.ensures.some c.claim.ensures.none)
+
+pub invariant_of-self-2 : goal.invariant_of-self-2
+invariant_of-self-2 g c = led _ c.args.at.0 acts.Claim (answers.Claimed (option_map (λ (k : Key). k.number) c.claim.result)) c.self.view_is c.self.invariant (returns g c)

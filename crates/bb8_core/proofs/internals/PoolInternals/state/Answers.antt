@@ -14,16 +14,14 @@ told_is a b c d x y connections idle counts = λ i. record { connections = conne
 pub statistics-requires : goal.statistics-requires
 statistics-requires g c = let fit = shown_fits (view_of c.self.inside) c.self.invariant in omega (arith, fit.answered)
 
-pub invariant_of-self : goal.invariant_of-self
-invariant_of-self g c = led c.args.at.0 acts.State _ c.self.invariant
-    (meets_state c.max-self-inside.ensures (λ l means. told_is _ _ _ _ _ _ c.connections.ensures c.idle_connections.ensures c.statistics.ensures ∙ figures_told (view_of c.self.inside) l means))
-
-pub returns-clause-step : goal.returns-clause-step
-returns-clause-step g c = at_view c.args.at.0 acts.State _ c.self.view_is
-    (meets_state c.max-self-inside.ensures (λ l means. told_is _ _ _ _ _ _ c.connections.ensures c.idle_connections.ensures c.statistics.ensures ∙ figures_told (view_of c.self.inside) l means))
-
 pub returns-clause-figures : goal.returns-clause-figures
 returns-clause-figures g c = λ l means. told_is _ _ _ _ _ _ c.connections.ensures c.idle_connections.ensures c.statistics.ensures ∙ figures_told (view_of c.self.inside) l (means ∙ sym c.self.view_is)
+
+pub returns-clause-step : goal.returns-clause-step
+returns-clause-step g c = at_view c.args.at.0 acts.State _ c.self.view_is (meets_state c.max-self-inside.ensures (λ l means. returns-clause-figures g c l (means ∙ c.self.view_is)))
+
+pub invariant_of-self : goal.invariant_of-self
+invariant_of-self g c = led _ c.args.at.0 acts.State _ c.self.view_is c.self.invariant (returns-clause-step g c)
 
 pub returns-clause-size : goal.returns-clause-size
 returns-clause-size g c =

@@ -1,80 +1,51 @@
-use Rattle.std.proofs.Common.{◌≡◌, ℕ, ◌≤◌, ◌+◌, ◌-◌, ap, sym, refl, ◌∙◌, arith, subst}
+use Rattle.std.proofs.Common.{ℕ, sym, refl, ◌∙◌, arith, subst}
 use Rattle.bb8_types.specs.declared.standing.Place.TheVariants.{Idle}
 use Rattle.bb8_ledger.specs.Acts as acts
 use Rattle.bb8_ledger.specs.Answers as answers
-use Rattle.bb8_core.specs.Decided as decided
 use Rattle.bb8_core.specs.Pool.{view_of}
-use Rattle.bb8_types.specs.Settings.{settings_of}
-use Rattle.bb8_tables.specs.Views.{ShownRecords}
 use Rattle.bb8_types.specs.Grants.{IsNoGrant}
-use Rattle.bb8_core.proofs.Fitting.{shown_record, shown_fits, want_few, fit_try, fit_waits, alive_shown}
-use Rattle.bb8_ledger.proofs.Laws.{due_few}
-use Rattle.bb8_core.proofs.Steps.{meets_served_counted, meets_waits_on, meets_waits, due_waiting, led, at_view, fits_view}
+use Rattle.bb8_core.proofs.Fitting.{shown_record, due_fits, fit_try, fit_waits, ended_few}
+use Rattle.bb8_core.proofs.Steps.{grants, tries, meets_served, meets_waits_on, meets_waits, due_waiting, led, at_view}
 use Rattle.bb8_core.proofs.internals.PoolInternals.try_get.Goals as goal
-
-pub invariant_of-self : goal.invariant_of-self
-invariant_of-self g c = led c.args.at.0 (acts.Try c.args.get.number) (answers.Waiting c.of_nothing.result) c.self.invariant
-    (meets_waits_on (record { fit = fits_view (acts.Try c.args.get.number) c.self.view_is c.requires; now_is = c.max-now.ensures; get_is = c.getting-getting.ensures }) (sym c.is_unnotified.ensures ∙ c.if-is_unnotified.true) (subst (λ (n : ℕ). IsNoGrant n c.of_nothing.result) c.next_number.ensures c.of_nothing.ensures))
 
 pub returns-then-is_unnotified-clause-step : goal.returns-then-is_unnotified-clause-step
 returns-then-is_unnotified-clause-step g c = at_view c.args.at.0 (acts.Try c.args.get.number) (answers.Waiting c.of_nothing.result) c.self.view_is
-    (meets_waits_on (record { fit = fits_view (acts.Try c.args.get.number) c.self.view_is c.requires; now_is = c.max-now.ensures; get_is = c.getting-getting.ensures }) (sym c.is_unnotified.ensures ∙ c.if-is_unnotified.true) (subst (λ (n : ℕ). IsNoGrant n c.of_nothing.result) c.next_number.ensures c.of_nothing.ensures))
+    (meets_waits_on (tries c.self.view_is c.requires c.max-now.ensures c.getting-getting.ensures) (sym c.is_unnotified.ensures ∙ c.if-is_unnotified.true) (subst (λ (n : ℕ). IsNoGrant n c.of_nothing.result) c.next_number.ensures c.of_nothing.ensures))
+
+pub invariant_of-self : goal.invariant_of-self
+invariant_of-self g c = led _ c.args.at.0 (acts.Try c.args.get.number) (answers.Waiting c.of_nothing.result) c.self.view_is c.self.invariant (returns-then-is_unnotified-clause-step g c)
 
 pub grant-grant-requires : goal.grant-grant-requires
-grant-grant-requires g c =
-    let a = c.self.inside in
-    let fit = shown_fits (view_of a) c.self.invariant in
-    let few : c.due-due.result ≤ a.config.max_size - c.used-taken.result = rw c.due-due.ensures (due_few (settings_of a.config) a.handles c.used-taken.result c.one-asked.result) in
-    let used : c.used-taken.result ≡ c.take.new.self.conns + c.take.new.self.approved = c.used-taken.ensures in
-    let conns : c.take.new.self.conns ≡ a.records.conns = ap (λ (s : ShownRecords g.row.C.Denot). s.conns) c.in-None.ensures.none.1 in
-    let approved : c.take.new.self.approved ≡ a.records.approved = ap (λ (s : ShownRecords g.row.C.Denot). s.approved) c.in-None.ensures.none.1 in
-    omega (arith, fit.size)
+grant-grant-requires g c = omega (arith, due_fits (view_of c.self.inside) _ c.self.invariant (omega arith) c.in-None.ensures.none.1 c.used-taken.ensures c.due-due.ensures)
 
 pub wait-requires : goal.wait-requires
-wait-requires g c = fit_waits (view_of c.self.inside) c.args.get.number c.getting-getting.result c.self.invariant (fits_view (acts.Try c.args.get.number) c.self.view_is c.requires) c.getting-getting.ensures (sym c.is_unnotified.ensures ∙ c.if-is_unnotified.false)
-
-pub invariant_of-self-in-None : goal.invariant_of-self-in-None
-invariant_of-self-in-None g c = led c.args.at.0 (acts.Try c.args.get.number) (answers.Waiting c.grant-grant.result) c.self.invariant
-    (meets_waits (record { fit = fits_view (acts.Try c.args.get.number) c.self.view_is c.requires; now_is = c.max-now.ensures; get_is = c.getting-getting.ensures }) (sym c.is_unnotified.ensures ∙ c.if-is_unnotified.false) c.in-None.ensures.none.0 c.in-None.ensures.none.1 (due_waiting (view_of c.self.inside) c.take.new.self c.used-taken.result c.one-asked.result c.approved.result c.alive.result c.due-due.result c.in-None.ensures.none.1 c.used-taken.ensures c.approved.ensures c.alive.ensures c.one-asked.ensures.value c.due-due.ensures) c.grant-grant.ensures.granted c.grant-grant.ensures.state c.wait.ensures)
+wait-requires g c = fit_waits c.args.get.number c.self.view_is c.self.invariant c.requires c.getting-getting.ensures (sym c.is_unnotified.ensures ∙ c.if-is_unnotified.false)
 
 pub returns-in-None-clause-step : goal.returns-in-None-clause-step
 returns-in-None-clause-step g c = at_view c.args.at.0 (acts.Try c.args.get.number) (answers.Waiting c.grant-grant.result) c.self.view_is
-    (meets_waits (record { fit = fits_view (acts.Try c.args.get.number) c.self.view_is c.requires; now_is = c.max-now.ensures; get_is = c.getting-getting.ensures }) (sym c.is_unnotified.ensures ∙ c.if-is_unnotified.false) c.in-None.ensures.none.0 c.in-None.ensures.none.1 (due_waiting (view_of c.self.inside) c.take.new.self c.used-taken.result c.one-asked.result c.approved.result c.alive.result c.due-due.result c.in-None.ensures.none.1 c.used-taken.ensures c.approved.ensures c.alive.ensures c.one-asked.ensures.value c.due-due.ensures) c.grant-grant.ensures.granted c.grant-grant.ensures.state c.wait.ensures)
+    (meets_waits (tries c.self.view_is c.requires c.max-now.ensures c.getting-getting.ensures) (sym c.is_unnotified.ensures ∙ c.if-is_unnotified.false) c.in-None.ensures.none.0 c.in-None.ensures.none.1 (due_waiting (view_of c.self.inside) c.in-None.ensures.none.1 c.used-taken.ensures c.approved.ensures c.alive.ensures c.one-asked.ensures.value c.due-due.ensures) c.grant-grant.ensures.granted c.grant-grant.ensures.state c.wait.ensures)
+
+pub invariant_of-self-in-None : goal.invariant_of-self-in-None
+invariant_of-self-in-None g c = led _ c.args.at.0 (acts.Try c.args.get.number) (answers.Waiting c.grant-grant.result) c.self.view_is c.self.invariant (returns-in-None-clause-step g c)
 
 pub finish-requires : goal.finish-requires
-finish-requires g c = fit_waits (view_of c.self.inside) c.args.get.number c.getting-getting.result c.self.invariant (fits_view (acts.Try c.args.get.number) c.self.view_is c.requires) c.getting-getting.ensures (sym c.is_unnotified.ensures ∙ c.if-is_unnotified.false)
+finish-requires g c = fit_waits c.args.get.number c.self.view_is c.self.invariant c.requires c.getting-getting.ensures (sym c.is_unnotified.ensures ∙ c.if-is_unnotified.false)
 
 pub serve-requires-clause-direct : goal.serve-requires-clause-direct
-serve-requires-clause-direct g c =
-    let fit = shown_fits (view_of c.self.inside) c.self.invariant in
-    let st = fit_try (view_of c.self.inside) c.args.get.number c.self.invariant (fits_view (acts.Try c.args.get.number) c.self.view_is c.requires) in
-    let some : 1 ≤ c.self.inside.gets.alive = alive_shown (view_of c.self.inside) c.args.get.number st.0 c.self.invariant st.1 in
-    omega (arith, fit.answered, fit.started_few, c.finish.ensures.numbers)
+serve-requires-clause-direct g c = omega (arith, ended_few (view_of c.self.inside) c.args.get.number c.self.invariant (fit_try c.args.get.number c.self.view_is c.self.invariant c.requires) c.finish.ensures.numbers)
 
 pub serve-requires-clause-waited : goal.serve-requires-clause-waited
-serve-requires-clause-waited g c =
-    let fit = shown_fits (view_of c.self.inside) c.self.invariant in
-    let st = fit_try (view_of c.self.inside) c.args.get.number c.self.invariant (fits_view (acts.Try c.args.get.number) c.self.view_is c.requires) in
-    let some : 1 ≤ c.self.inside.gets.alive = alive_shown (view_of c.self.inside) c.args.get.number st.0 c.self.invariant st.1 in
-    omega (arith, fit.answered, fit.started_few, c.finish.ensures.numbers)
+serve-requires-clause-waited g c = omega (arith, ended_few (view_of c.self.inside) c.args.get.number c.self.invariant (fit_try c.args.get.number c.self.view_is c.self.invariant c.requires) c.finish.ensures.numbers)
 
 pub grant-grant-requires-in-Some : goal.grant-grant-requires-in-Some
-grant-grant-requires-in-Some g c =
-    let a = c.self.inside in
-    let fit = shown_fits (view_of a) c.self.invariant in
-    let few : decided.want (settings_of a.config) a.handles c.take.new.self ≤ a.config.max_size - (c.take.new.self.conns + c.take.new.self.approved) = want_few (settings_of a.config) a.handles c.take.new.self in
-    let is : c.want-wanted.result ≡ decided.want (settings_of a.config) a.handles c.take.new.self = c.want-wanted.ensures in
-    let conns : c.take.new.self.conns ≡ a.records.conns = ap (λ (s : ShownRecords g.row.C.Denot). s.conns) c.in-Some.ensures.some.2 in
-    let approved : c.take.new.self.approved ≡ a.records.approved = ap (λ (s : ShownRecords g.row.C.Denot). s.approved) c.in-Some.ensures.some.2 in
-    omega (arith, fit.size)
-
-pub invariant_of-self-in-Some : goal.invariant_of-self-in-Some
-invariant_of-self-in-Some g c = led c.args.at.0 (acts.Try c.args.get.number) (answers.Served c.in-Some.key.number c.grant-grant-in-Some.result) c.self.invariant
-    (meets_served_counted c.self.inside.counters (record { fit = fits_view (acts.Try c.args.get.number) c.self.view_is c.requires; now_is = c.max-now.ensures; get_is = c.getting-getting.ensures }) (sym c.is_unnotified.ensures ∙ c.if-is_unnotified.false) c.in-Some.ensures.some.0 c.in-Some.ensures.some.2 c.want-wanted.ensures c.grant-grant-in-Some.ensures.granted c.grant-grant-in-Some.ensures.state c.finish.ensures.state refl c.first_wait.ensures c.serve.ensures)
+grant-grant-requires-in-Some g c = omega (arith, due_fits (view_of c.self.inside) _ c.self.invariant (omega arith) c.in-Some.ensures.some.2 refl c.want-wanted.ensures)
 
 pub returns-in-Some-clause-step : goal.returns-in-Some-clause-step
 returns-in-Some-clause-step g c = at_view c.args.at.0 (acts.Try c.args.get.number) (answers.Served c.in-Some.key.number c.grant-grant-in-Some.result) c.self.view_is
-    (meets_served_counted c.self.inside.counters (record { fit = fits_view (acts.Try c.args.get.number) c.self.view_is c.requires; now_is = c.max-now.ensures; get_is = c.getting-getting.ensures }) (sym c.is_unnotified.ensures ∙ c.if-is_unnotified.false) c.in-Some.ensures.some.0 c.in-Some.ensures.some.2 c.want-wanted.ensures c.grant-grant-in-Some.ensures.granted c.grant-grant-in-Some.ensures.state c.finish.ensures.state refl c.first_wait.ensures c.serve.ensures)
+    (meets_served c.self.inside.counters (tries c.self.view_is c.requires c.max-now.ensures c.getting-getting.ensures) (sym c.is_unnotified.ensures ∙ c.if-is_unnotified.false) c.in-Some.ensures.some.0 (grants c.in-Some.ensures.some.2 c.want-wanted.ensures c.grant-grant-in-Some.ensures.granted c.grant-grant-in-Some.ensures.state) c.finish.ensures.state refl c.first_wait.ensures c.serve.ensures)
+
+pub invariant_of-self-in-Some : goal.invariant_of-self-in-Some
+invariant_of-self-in-Some g c = led _ c.args.at.0 (acts.Try c.args.get.number) (answers.Served c.in-Some.key.number c.grant-grant-in-Some.result) c.self.view_is c.self.invariant (returns-in-Some-clause-step g c)
 
 pub returns-in-Some-clause-connection : goal.returns-in-Some-clause-connection
 returns-in-Some-clause-connection g c = λ l legal means.
