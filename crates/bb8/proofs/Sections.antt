@@ -55,9 +55,9 @@ module _ {C : Type 0} where
       let moved : out_of new ≡ out_of old = same k.moves in
       omega (arith, moved, size, parts)
 
-  -- no step changes the size
-  pub kept_size : (old new : Shown C) (at : ℕ) (e : Act C) (a : Answer) (n : ℕ) → HasLedger old → Meets old at e a new → n ≡ old.config.max_size → n ≡ new.config.max_size
-  kept_size old new at e a n h meets is = is ∙ sym (ap (λ (c : Settings). c.max_size) (counted old at e a new h meets).config)
+  -- no step changes the settings
+  pub kept_settings : (old new : Shown C) (at : ℕ) (e : Act C) (a : Answer) (settings : Settings) → HasLedger old → Meets old at e a new → old.config ≡ settings → new.config ≡ settings
+  kept_settings old new at e a settings h meets is = (counted old at e a new h meets).config ∙ is
 
   -- where one more goes out there is a part for it
   pub has_part : (old new : Shown C) (at : ℕ) (e : Act C) (a : Answer) (rest : ℕ) → HasLedger old → Meets old at e a new → (Moves e a (out_of old) (out_of new) → out_of new ≡ out_of old + 1) → out_of old + rest ≡ old.config.max_size → 1 ≤ rest

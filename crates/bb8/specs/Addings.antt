@@ -1,8 +1,9 @@
 -- What the caller of an adding is told.
-use Rattle.std.specs.Prelude.{◌≡◌, ℕ, Bool, true, false, Result, Ok, Err}
+use Rattle.std.specs.Prelude.{◌≡◌, Bool, true, false, Result, Ok, Err}
 use Rattle.bb8_types.specs.declared.api.errors.AddError.{AddError}
 use Rattle.bb8_types.specs.declared.api.errors.AddError.TheVariants.{Broken, NoCapacity, Withheld}
 use Rattle.bb8_types.specs.declared.api.moments.Moment.{Moment}
+use Rattle.bb8_types.specs.Settings.{Settings}
 use Rattle.bb8_ledger.specs.Acts as acts
 use Rattle.bb8_ledger.specs.Answers as answers
 use Rattle.bb8_ledger.specs.Answers.{Answer}
@@ -18,14 +19,14 @@ IsTold answers.Unfit broken after (Err (NoCapacity c)) = c ≡ after
 IsTold answers.Withheld broken after (Err (Withheld c)) = (broken ≡ false) × (c ≡ after)
 IsTold _ broken after _ = ⊥
 
--- An adding of a connection: it is asked whether it is broken, the clock is read, some state of that size that keeps the limits answers
+-- An adding of a connection: it is asked whether it is broken, the clock is read, some state of a pool with these settings answers
 -- the adding of what is left of it, and the caller is told so.
-pub record IsAdding {C : Type 0} (Breaks : C → Bool → C → Type 0) (Tells : Moment → Type 0) (size : ℕ) (conn : C) (result : Result (Unit {0}) (AddError C)) : Type 0 where
+pub record IsAdding {C : Type 0} (Breaks : C → Bool → C → Type 0) (Tells : Moment → Type 0) (settings : Settings) (conn : C) (result : Result (Unit {0}) (AddError C)) : Type 0 where
   pub broken : Bool
   pub after : C
   pub asked : Breaks conn broken after
   pub at : Moment
   pub read : Tells at
   pub answer : Answer
-  pub step : OnSome at.0 (acts.Add after broken) answer (λ s. s.config.max_size ≡ size)
+  pub step : OnSome settings at.0 (acts.Add after broken) answer
   pub told : IsTold answer broken after result

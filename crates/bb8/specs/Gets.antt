@@ -1,35 +1,38 @@
 -- What callers see of a get: its polls, and what it answers at last.
 use Rattle.std.specs.Prelude.{◌≡◌, Result}
-use Rattle.std.specs.declared.sync.ledger.Ledger.{Ghosts as LedgerOf}
+use Rattle.bb8.specs.declared.locked.Parts.{Ghosts as PartsOf}
 use Rattle.std.specs.declared.fmt.Debug.{Ghosts as DebugOf}
 use Rattle.futures.specs.declared.task.Poll.{Poll}
 use Rattle.bb8_types.specs.declared.api.errors.RunError.{RunError}
 use Rattle.bb8_types.specs.declared.api.managers.ManageConnection.{Ghosts as ManagerOf}
 use Rattle.bb8_types.specs.declared.api.moments.Moment.{Moment}
-use Rattle.bb8_tables.specs.declared.keys.Key.{Key}
 use Rattle.bb8.specs.declared.get.future.GetFuture.{GetFuture}
-use Rattle.bb8.specs.declared.locked.Locked.{Locked}
+use Rattle.bb8.specs.declared.get.home.Taken.{Taken}
 use Rattle.bb8.specs.declared.locked.Part.{Part}
 use Rattle.bb8.specs.declared.pool.PooledConnection.{PooledConnection}
-use Rattle.bb8.specs.Linked.{LinkPolls, LinkGives, MakesGuard, MakesPoll}
-use Rattle.bb8.specs.Pools.{clock_for, settings_for, stage_of}
+use Rattle.bb8.specs.Linked.{LinkPolls, LinkGives, LinkCancels, MakesGuard, MakesPoll}
+use Rattle.bb8.specs.Pools.{stage_of}
 
-module _ {M S Z K R L C E N V A : Type 0} {m : ManagerOf M C E N V} {d : DebugOf E} {l : LedgerOf L} where
+module _ {M S Z K R L C E N V A : Type 0} {m : ManagerOf M C E N V} {d : DebugOf E} {l : PartsOf L} where
   -- the guard, which is of the get's pool, has the connection that was served, and its part
-  abbrev pub Guards : GetFuture M S Z K R L C E N V A m d l → Key × C × Part L → PooledConnection M S Z K R L C E N V A m d l → Type 0
-  Guards future served guard = (guard.shared.now ≡ future.shared.now) × (guard.taken ≡ record { key = served.0; conn = served.1; part = served.2 })
+  abbrev pub Guards : GetFuture M S Z K R L C E N V A m d l → Taken C (Part L) → PooledConnection M S Z K R L C E N V A m d l → Type 0
+  Guards future served guard = (guard.shared.now ≡ future.shared.now) × (guard.taken ≡ served)
 
   module _ (tells : K → Moment → Type 0) where
     -- a poll of the get: where it stood, what it answers, and where it stands then
     abbrev pub PollsGet : GetFuture M S Z K R L C E N V A m d l → Poll (Result (PooledConnection M S Z K R L C E N V A m d l) (RunError E)) → GetFuture M S Z K R L C E N V A m d l → Type 0
     PollsGet future answer after =
-        (given : Poll (Result (Key × C × Part L) (RunError E)))
-        × LinkPolls (Locked C L l) (tells (clock_for future)) l.parts (settings_for future).connection_timeout (stage_of future) given (stage_of after)
+        (given : Poll (Result (Taken C (Part L)) (RunError E)))
+        × LinkPolls tells future.shared.now (stage_of future) given (stage_of after)
         × MakesPoll (Guards future) given answer
 
     -- what the get may answer at last
     abbrev pub GivesGet : GetFuture M S Z K R L C E N V A m d l → Result (PooledConnection M S Z K R L C E N V A m d l) (RunError E) → Type 0
     GivesGet future out =
-        (given : Result (Key × C × Part L) (RunError E))
-        × LinkGives (Locked C L l) (tells (clock_for future)) l.parts (settings_for future).connection_timeout (stage_of future) given
+        (given : Result (Taken C (Part L)) (RunError E))
+        × LinkGives tells future.shared.now (stage_of future) given
         × MakesGuard (Guards future) given out
+
+    -- the get is let go: given up as cancelled, where it began and was not answered
+    abbrev pub CancelsGet : GetFuture M S Z K R L C E N V A m d l → Type 0
+    CancelsGet future = LinkCancels tells future.shared.now (stage_of future)

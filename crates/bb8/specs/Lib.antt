@@ -2,8 +2,8 @@ pub mod Addings
 pub mod Choices
 pub mod Gets
 pub mod Homes
-pub mod Ledgers
 pub mod Linked
+pub mod Parts
 pub mod Polls
 pub mod Pools
 pub mod Sections

@@ -4,12 +4,12 @@ use Rattle.std.specs.Arc.{arc_value}
 use Rattle.std.specs.declared.fmt.Debug.{Ghosts as DebugOf}
 use Rattle.bb8_types.specs.declared.api.managers.ManageConnection.{Ghosts as ManagerOf}
 use Rattle.bb8_types.specs.Settings.{Settings, settings_of}
-use Rattle.std.specs.declared.sync.ledger.Ledger.{Ghosts as LedgerOf}
+use Rattle.bb8.specs.declared.locked.Parts.{Ghosts as PartsOf}
 use Rattle.bb8.specs.declared.pool.Pool.{Pool}
 use Rattle.bb8.specs.declared.get.future.GetFuture.{GetFuture}
 use Rattle.bb8.specs.declared.get.state.Stage.{Stage}
 
-module _ {M S Z K R L C E N V A : Type 0} {m : ManagerOf M C E N V} {d : DebugOf E} {l : LedgerOf L} where
+module _ {M S Z K R L C E N V A : Type 0} {m : ManagerOf M C E N V} {d : DebugOf E} {l : PartsOf L} where
   -- the settings of a pool
   abbrev pub settings_in : Pool M S Z K R L C E N V A m d l → Settings
   settings_in pool = settings_of (arc_value pool.shared).config
@@ -22,10 +22,6 @@ module _ {M S Z K R L C E N V A : Type 0} {m : ManagerOf M C E N V} {d : DebugOf
   abbrev pub stage_of : GetFuture M S Z K R L C E N V A m d l → Stage
   stage_of future = future.get.stage
 
-  -- the settings of the pool that a get is of
-  abbrev pub settings_for : GetFuture M S Z K R L C E N V A m d l → Settings
-  settings_for future = settings_of future.shared.now.config
-
   -- the error sink of a pool
   abbrev pub sink_in : Pool M S Z K R L C E N V A m d l → S
   sink_in pool = (arc_value pool.shared).error_sink
@@ -37,10 +33,6 @@ module _ {M S Z K R L C E N V A : Type 0} {m : ManagerOf M C E N V} {d : DebugOf
   -- the clock of a pool
   abbrev pub clock_in : Pool M S Z K R L C E N V A m d l → K
   clock_in pool = (arc_value pool.shared).clock
-
-  -- the clock that a get reads
-  abbrev pub clock_for : GetFuture M S Z K R L C E N V A m d l → K
-  clock_for future = future.shared.now.clock
 
   -- the get is of that pool
   abbrev pub IsOf : GetFuture M S Z K R L C E N V A m d l → Pool M S Z K R L C E N V A m d l → Type 0

@@ -3,50 +3,49 @@ ghost use Rattle.std.specs.Prelude.{◌≡◌, ◌≤◌, ◌<◌, Bool, true, f
 ghost use Rattle.std.specs.Arc.{arc_value};
 ghost use Rattle.bb8_types.specs.Settings.{settings_of, default_settings, is_lawful};
 ghost use Rattle.bb8_core.specs.StepAnswers.{add_told, Refuses};
-ghost use Rattle.bb8.specs.Ledgers.{IsBlankOf};
+ghost use Rattle.bb8.specs.Parts.{IsBlankOf, HasBegun};
 ghost use Rattle.bb8.specs.Addings.{IsTold, IsAdding};
 ghost use Rattle.bb8.specs.States.{IsShown};
 ghost use Rattle.bb8.specs.Sections.{returned, OnFit, IsSorted};
 
 use crate::Builder;
-use crate::get::{GetFuture, StartGet};
-use crate::locked::{Locked, Size, Taken, open_ledger};
+use crate::get::{Calls, GetFuture, Outside, StartGet, Taken};
+use crate::locked::{Locked, Part, Parts, begin_pool};
 use crate::locks::Locks;
 use bb8_core::api::{
     AddError, Clock, Config, CustomizeConnection, ErrorSink, ManageConnection, Memory,
     NopCustomizer, NopErrorSink, SetClock, State,
 };
-use bb8_core::internals::{AddAnswer, PoolInternals};
+use bb8_core::internals::{AddAnswer, PutBackAnswer};
 use std::alloc::Global;
 use std::fmt;
 use std::fmt::{Debug, Formatter};
 use std::ops::{Deref, DerefMut};
-use std::sync::ledger::{Blank, Ledger, Total};
+use std::sync::ledger::{Blank, Total};
 use std::sync::{Arc, Mutex, Wait};
 
 /// What the handles and guards of one pool share.
 #[derive(Drop)]
-pub(crate) struct Shared<M: ManageConnection, S, Z, K, R, L: Ledger> {
+pub(crate) struct Shared<M: ManageConnection, S, Z, K, R, L: Parts> {
     pub manager: M,
     pub error_sink: S,
     pub customizer: Z,
     pub clock: K,
     pub rt: R,
     pub config: Config,
-    pub size: Size<L>,
-    /// How many parts the pool's ledger has, for whoever holds several of them.
+    /// How many parts there are, for whoever holds several of them.
     pub total: Total<L>,
     pub locked: Mutex<Locked<M::Connection, L>>,
     ghost whole: { total.amount ≡ config.max_size },
-    ghost sized: { size.max_size ≡ config.max_size },
+    ghost settled: { settings_of config ≡ L.settings },
 }
 
 /// A pool of connections that threads share by reference. It lends connections out as guards, which give them back when they are
 /// dropped.
 ///
 /// As upstream, but for the type parameters: beside the manager `M` there are the error sink `S`, the customizer `Z`, the clock `K` and
-/// the runtime `R` that the pool was built with, and the ledger `L`, by which the connections that are out are counted in proofs;
-/// it takes no room at run time. Dropping the pool closes its idle connections. A call of the pool's may wait for the lock.
+/// the runtime `R` that the pool was built with, and the parts `L`, by which the connections that are out are counted in proofs, and which
+/// say there which settings the pool has; they take no room at run time. Dropping the pool closes its idle connections. A call of the pool's may wait for the lock.
 #[derive(Drop)]
 pub struct Pool<
     M: ManageConnection,
@@ -54,7 +53,7 @@ pub struct Pool<
     Z: CustomizeConnection<M::Connection, M::Error>,
     K: Clock,
     R: Locks,
-    L: Ledger,
+    L: Parts,
 > {
     pub(crate) shared: Arc<Shared<M, S, Z, K, R, L>, Global>,
 }
@@ -62,7 +61,8 @@ pub struct Pool<
 /// A guard: a connection that is out, which dereferences to the connection. As upstream.
 ///
 /// When it is dropped it asks the manager's `has_broken`, reads the pool's clock, and gives the connection back under the pool's lock,
-/// for which it may wait. A connection that is then closed is dropped after the lock.
+/// for which it may wait. A connection that is then closed is dropped after the lock. A guard that is forgotten keeps its connection and
+/// its part: the pool has one connection less to lend from then on.
 pub struct PooledConnection<
     'a,
     M: ManageConnection,
@@ -70,10 +70,10 @@ pub struct PooledConnection<
     Z: CustomizeConnection<M::Connection, M::Error>,
     K: Clock,
     R: Locks,
-    L: Ledger,
+    L: Parts,
 > {
     pub(crate) shared: &'a Shared<M, S, Z, K, R, L>,
-    pub(crate) taken: Taken<M::Connection, L>,
+    pub(crate) taken: Taken<M::Connection, Part<L>>,
 }
 
 impl<
@@ -86,18 +86,19 @@ impl<
     /// A pool that begins with no connection, and waits for none: the approvals for the first ones, up to `min_idle`, are granted, and
     /// whoever turns a driver of the pool opens them.
     ///
-    /// As upstream, but that the clock and the runtime are handed in, with an empty ledger of `max_size` parts, and that memory can be
+    /// As upstream, but that the clock and the runtime are handed in, with a blank of `max_size` parts, and that memory can be
     /// refused: then, and where a first approval was withheld for want of memory, the answer is `Memory` and all that was handed in
     /// is dropped. The settings have to be lawful, where upstream panics, and until checks are made they have `test_on_check_out` off.
     pub fn build_unchecked<
         K: Clock,
         R: Wait + AllocGlobal + Send + Sync + Drop + 'static,
-        L: Ledger,
+        L: Parts,
     >(self, manager: M, clock: K, rt: R, blank: Blank) -> Result<Pool<M, S, Z, K, R, L>, Memory>
         requires lawful { is_lawful self.settings ≡ true }
         requires check { self.settings.test_on_check_out ≡ false }
-        requires ledger { IsBlankOf blank self.settings.max_size L.name L.parts }
+        requires parts { IsBlankOf blank self.settings L.name L.parts L.settings }
         ensures settings { IfOk result (λ pool. settings_in pool ≡ self.settings) }
+        ensures first { IfOk result (λ _. HasBegun M.Connection (K.tells clock) self.settings) }
         ensures manager { IfOk result (λ pool. manager_in pool ≡ manager) }
         ensures clock { IfOk result (λ pool. clock_in pool ≡ clock) }
         ensures sink { IfOk result (λ pool. sink_in pool ≡ self.error_sink) }
@@ -105,13 +106,8 @@ impl<
     {
         let (config, error_sink, customizer) = self.into_parts();
         let at = clock.now();
-        let mut core = PoolInternals::new(rt.alloc(), config);
-        let granted = core.fill(at, false);
-        if granted.withheld > 0 {
-            return Err(Memory);
-        }
         let alloc = rt.alloc();
-        let (total, locked) = open_ledger(core, blank, config.max_size);
+        let (total, locked) = begin_pool(alloc, config, at, blank)?;
         let shared = Shared {
             manager,
             error_sink,
@@ -119,13 +115,52 @@ impl<
             clock,
             rt,
             config,
-            size: Size::of(config.max_size),
             total,
             locked: Mutex::new(locked),
         };
         match Arc::new(alloc, shared) {
             Ok(shared) => Ok(Pool { shared }),
             Err(_) => Err(Memory),
+        }
+    }
+}
+
+/// What the guards of a pool do with what its handles share, as a method of an impl, so that drops can call it.
+pub(crate) trait Returns {
+    type Taken;
+
+    /// Gives a connection back.
+    fn give_back(&self, taken: Self::Taken);
+}
+
+impl<M: ManageConnection, S, Z, K: Clock, R: Locks, L: Parts> Returns for Shared<M, S, Z, K, R, L> {
+    ghost use Rattle.bb8.specs.Linked.{LinkReturns};
+
+    type Taken = Taken<M::Connection, Part<L>>;
+
+    /// The connection is asked whether it is broken, and the clock is read, before the lock is taken. What was closed, or came back as the
+    /// return did not fit, is dropped once the lock is free again.
+    fn give_back(&self, taken: Taken<M::Connection, Part<L>>)
+        ensures { LinkReturns K.tells self.now taken }
+    {
+        let Taken {
+            key,
+            mut connection,
+            part,
+        } = taken;
+        let mut calls = Calls::new(&self.manager, &self.clock);
+        let broken = calls.has_broken(&mut connection);
+        let at = calls.now();
+        let taken = Taken {
+            key,
+            connection,
+            part,
+        };
+        let answer = self.rt.take(&self.locked).put_back(at, taken, broken);
+        match answer {
+            Ok(PutBackAnswer::Kept(_)) => {}
+            Ok(PutBackAnswer::Closed(closed, ..)) => calls.let_go(closed),
+            Err(unfit) => calls.let_go(unfit),
         }
     }
 }
@@ -171,7 +206,7 @@ impl<
     Z: CustomizeConnection<M::Connection, M::Error>,
     K: Clock,
     R: Wait + Send + Sync + Drop + 'static,
-    L: Ledger,
+    L: Parts,
 > PoolCalls for &'a Pool<M, S, Z, K, R, L> {
     ghost use Rattle.bb8.specs.Pools.{clock_in, manager_in, settings_in, stage_of, IsOf};
     ghost use Rattle.bb8.specs.declared.get.state.Stage.TheVariants.{Fresh as IsFresh};
@@ -188,29 +223,23 @@ impl<
     }
 
     fn add(self, mut conn: M::Connection) -> Result<(), AddError<M::Connection>>
-        ensures { IsAdding (M.breaks (manager_in self.now)) (K.tells (clock_in self.now)) L.parts conn result }
+        ensures { IsAdding (M.breaks (manager_in self.now)) (K.tells (clock_in self.now)) (settings_in self.now) conn result }
     {
         let shared = &*self.shared;
         let broken = shared.manager.has_broken(&mut conn);
         let at = shared.clock.now();
-        let answer = {
-            let mut locked = shared.locked.lock(&shared.rt);
-            locked.limits();
-            locked.add(at, conn, broken)
-        };
+        let answer = shared.locked.lock(&shared.rt).add(at, conn, broken);
         told(answer)
     }
 
     fn state(self) -> State
-        ensures ledger { IsShown M.Connection (K.tells (clock_in self.now)) L.parts result }
+        ensures shown { IsShown M.Connection (K.tells (clock_in self.now)) (settings_in self.now) result }
         ensures size { result.connections ≤ (settings_in self.now).max_size }
         ensures idle { result.idle_connections ≤ result.connections }
     {
         let shared = &*self.shared;
         let at = shared.clock.now();
-        let mut locked = shared.locked.lock(&shared.rt);
-        locked.limits();
-        locked.state(at)
+        shared.locked.lock(&shared.rt).state(at)
     }
 }
 
@@ -220,7 +249,7 @@ impl<
     Z: CustomizeConnection<M::Connection, M::Error>,
     K: Clock,
     R: Wait + Send + Sync + Drop + 'static,
-    L: Ledger,
+    L: Parts,
 > Pool<M, S, Z, K, R, L> {
     ghost use Rattle.bb8.specs.Pools.{clock_in, manager_in, settings_in};
 
@@ -229,15 +258,19 @@ impl<
     ///
     /// A refusal hands the connection back, as `has_broken` left it: `Broken` where that found it broken, else `NoCapacity` where
     /// connections and open approvals are `max_size` already, else `Withheld` where no memory or no number was left for it.
+    ///
+    /// An approval is open until its connection was opened. A get that found nothing idle may have had one granted, which stays open where
+    /// nobody turns a driver of the pool, also once that get was let go: then an adding may find no room although fewer connections than
+    /// `max_size` are there.
     pub fn add(&self, conn: M::Connection) -> Result<(), AddError<M::Connection>>
-        ensures { IsAdding (M.breaks (manager_in self.now)) (K.tells (clock_in self.now)) L.parts conn result }
+        ensures { IsAdding (M.breaks (manager_in self.now)) (K.tells (clock_in self.now)) (settings_in self.now) conn result }
     {
         PoolCalls::add(self, conn)
     }
 
     /// How many connections the pool has, how many of them are idle, and what has happened to it. As upstream.
     pub fn state(&self) -> State
-        ensures ledger { IsShown M.Connection (K.tells (clock_in self.now)) L.parts result }
+        ensures shown { IsShown M.Connection (K.tells (clock_in self.now)) (settings_in self.now) result }
         ensures size { result.connections ≤ (settings_in self.now).max_size }
         ensures idle { result.idle_connections ≤ result.connections }
     {
@@ -251,7 +284,7 @@ impl<
     Z: CustomizeConnection<M::Connection, M::Error>,
     K: Clock,
     R: Locks,
-    L: Ledger,
+    L: Parts,
 > Pool<M, S, Z, K, R, L> {
     ghost use Rattle.bb8.specs.Pools.{settings_in};
 
@@ -263,14 +296,7 @@ impl<
     }
 }
 
-impl<M: ManageConnection, R: Locks, L: Ledger> Pool<
-    M,
-    NopErrorSink,
-    NopCustomizer,
-    SetClock,
-    R,
-    L,
-> {
+impl<M: ManageConnection, R: Locks, L: Parts> Pool<M, NopErrorSink, NopCustomizer, SetClock, R, L> {
     /// A builder with each setting at its default. As upstream; it is a call of the pools whose errors go nowhere, whose connections
     /// nothing prepares and whose moment is set.
     pub fn builder() -> Builder<M>
@@ -286,7 +312,7 @@ impl<
     Z: CustomizeConnection<M::Connection, M::Error>,
     K: Clock,
     R: Locks,
-    L: Ledger,
+    L: Parts,
 > Debug for Pool<M, S, Z, K, R, L> {
     /// `Pool(..)`, without its parts. Our own: upstream prints an address.
     fn fmt<W: fmt::Write>(&self, f: &mut Formatter<W>) -> fmt::Result {
@@ -300,15 +326,11 @@ impl<
     Z: CustomizeConnection<M::Connection, M::Error>,
     K: Clock,
     R: Locks,
-    L: Ledger,
+    L: Parts,
 > Drop for PooledConnection<'_, M, S, Z, K, R, L> {
     fn drop(self) {
-        let PooledConnection { shared, mut taken } = self;
-        let broken = shared.manager.has_broken(&mut taken.conn);
-        let at = shared.clock.now();
-        let closed = shared.rt.take(&shared.locked).put_back(at, taken, broken);
-        // The lock is free again: a connection that was closed is dropped outside of it.
-        drop(closed);
+        let PooledConnection { shared, taken } = self;
+        shared.give_back(taken);
     }
 }
 
@@ -318,14 +340,14 @@ impl<
     Z: CustomizeConnection<M::Connection, M::Error>,
     K: Clock,
     R: Locks,
-    L: Ledger,
+    L: Parts,
 > Deref for PooledConnection<'_, M, S, Z, K, R, L> {
     type Target = M::Connection;
 
-    ghost deref_gives = { λ guard conn. conn ≡ guard.taken.conn };
+    ghost deref_gives = { λ guard connection. connection ≡ guard.taken.connection };
 
     fn deref(&self) -> &M::Connection {
-        &self.taken.conn
+        &self.taken.connection
     }
 }
 
@@ -335,11 +357,11 @@ impl<
     Z: CustomizeConnection<M::Connection, M::Error>,
     K: Clock,
     R: Locks,
-    L: Ledger,
+    L: Parts,
 > DerefMut for PooledConnection<'_, M, S, Z, K, R, L> {
     fn deref_mut(&mut self) -> &mut M::Connection {
         let taken = &mut self.taken;
-        &mut taken.conn
+        &mut taken.connection
     }
 }
 
@@ -349,13 +371,13 @@ impl<
     Z: CustomizeConnection<M::Connection, M::Error>,
     K: Clock,
     R: Locks,
-    L: Ledger,
+    L: Parts,
 > Debug for PooledConnection<'_, M, S, Z, K, R, L>
 where
     M::Connection: Debug,
 {
     /// As the connection prints. As upstream.
     fn fmt<W: fmt::Write>(&self, f: &mut Formatter<W>) -> fmt::Result {
-        self.taken.conn.fmt(f)
+        self.taken.connection.fmt(f)
     }
 }

@@ -2,7 +2,9 @@
 ghost use Rattle.std.specs.Prelude.{◌≡◌, ◌<◌, ◌==◌};
 ghost use Rattle.futures.specs.declared.task.Poll.TheVariants.{Pending};
 
+mod clocks;
 mod future;
+mod gates;
 mod get;
 mod pool;
 mod rows;

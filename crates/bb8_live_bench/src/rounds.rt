@@ -1,16 +1,15 @@
 //! The rounds.
 
 use crate::manager::{NumberPool, Runtime};
-use bb8::{Memory, PoolCalls, PoolLedger};
+use bb8::{Memory, PoolCalls, PoolParts};
 use futures::executor::block_on;
 use futures::future::ready;
 use futures::task::Poll;
 use futures::test::MockTask;
-use std::sync::ledger::Ledger;
 use std::thread::{Threads, join};
 
 /// So many gets, each polled once by hand, with their guards dropped: how many were served.
-pub fn polled<R: Runtime, L: Ledger>(
+pub fn polled<R: Runtime, L: PoolParts>(
     rt: &R,
     pool: &NumberPool<R, L>,
     rounds: u64,
@@ -29,7 +28,7 @@ pub fn polled<R: Runtime, L: Ledger>(
 }
 
 /// The same by an executor for each get.
-pub fn blocked<R: Runtime, L: Ledger>(
+pub fn blocked<R: Runtime, L: PoolParts>(
     rt: &R,
     pool: &NumberPool<R, L>,
     rounds: u64,
@@ -66,13 +65,13 @@ trait Job {
 
 /// So many gets, each polled once by hand, with their guards dropped.
 #[derive(Drop)]
-struct Rounds<'a, R: Runtime, L: Ledger> {
+struct Rounds<'a, R: Runtime, L: PoolParts> {
     pool: &'a NumberPool<R, L>,
     rt: R,
     rounds: u64,
 }
 
-impl<R: Runtime, L: Ledger> Job for Rounds<'_, R, L> {
+impl<R: Runtime, L: PoolParts> Job for Rounds<'_, R, L> {
     fn run(&self) -> u64 {
         let Ok(task) = MockTask::new(&self.rt) else {
             return 0;
@@ -98,7 +97,7 @@ fn four_times<R: Threads + Sync>(rt: &R, job: &(impl Job + Sync)) -> ((u64, u64)
 }
 
 /// Four threads of so many rounds each.
-pub fn shared_by_four<R: Runtime + Threads, L: PoolLedger>(
+pub fn shared_by_four<R: Runtime + Threads, L: PoolParts>(
     rt: R,
     pool: &NumberPool<R, L>,
     rounds: u64,

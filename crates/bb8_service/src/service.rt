@@ -1,8 +1,8 @@
 //! What the threads of the service do with the pool.
-ghost use Rattle.bb8.specs.Ledgers.{IsBlankOf};
+ghost use Rattle.bb8.specs.Parts.{IsBlankOf, unchecked_of};
 
 use crate::counters::{Counter, Counters};
-use bb8::{Builder, MachineClock, NopCustomizer, NopErrorSink, Pool, PoolCalls, PoolLedger, State};
+use bb8::{Builder, MachineClock, NopCustomizer, NopErrorSink, Pool, PoolCalls, PoolParts, State};
 use futures::executor::block_on;
 use std::fmt;
 use std::random::RandomSource;
@@ -65,12 +65,12 @@ trait Job {
 
 /// A number of gets, each of which is given back before the next.
 #[derive(Drop)]
-struct Rounds<'a, R: Runtime, L: PoolLedger> {
+struct Rounds<'a, R: Runtime, L: PoolParts> {
     pool: &'a CounterPool<R, L>,
     rt: R,
 }
 
-impl<R: Runtime, L: PoolLedger> Job for Rounds<'_, R, L> {
+impl<R: Runtime, L: PoolParts> Job for Rounds<'_, R, L> {
     fn run(&self) -> u64 {
         let mut served: u64 = 0;
         for _ in 0..ROUNDS {
@@ -94,15 +94,15 @@ fn run_all<R: Runtime>(rt: &R, job: &(impl Job + Sync)) -> Option<u64> {
 }
 
 /// How often the two connections of a pool were used.
-fn uses_of<R: Runtime, L: PoolLedger>(rt: &R, pool: &CounterPool<R, L>) -> Option<u64> {
+fn uses_of<R: Runtime, L: PoolParts>(rt: &R, pool: &CounterPool<R, L>) -> Option<u64> {
     let first = block_on(rt, pool.get()).ok()?.ok()?;
     let second = block_on(rt, pool.get()).ok()?.ok()?;
     Some(first.uses.saturating_add(second.uses))
 }
 
 /// Builds the pool, adds two connections, and lets the threads share them. None where memory was refused, or a get was not served.
-pub fn serve<R: Runtime, L: PoolLedger>(rt: R, blank: Blank) -> Option<Summary>
-    requires { IsBlankOf blank 2 L.name L.parts }
+pub fn serve<R: Runtime, L: PoolParts>(rt: R, blank: Blank) -> Option<Summary>
+    requires { IsBlankOf blank (unchecked_of 2) L.name L.parts L.settings }
 {
     let pool: CounterPool<R, L> = Builder::new()
         .max_size(2)

@@ -1,21 +1,24 @@
 //! The future of a get.
 ghost use Rattle.std.specs.Prelude.{◌≡◌};
 
-use super::state::{GetState, Stage};
-use crate::locked::{Part, Taken};
+use super::calls::Calls;
+use super::home::{GetHome, Taken};
+use super::outside::Outside;
+use super::state::GetState;
+use crate::locked::{Part, Parts};
 use crate::locks::Locks;
 use crate::pool::{Pool, PooledConnection, Shared};
 use bb8_core::api::{Clock, CustomizeConnection, ErrorSink, ManageConnection, RunError};
-use bb8_core::internals::Key;
+use bb8_core::internals::Reason;
 use futures::Future;
 use futures::task::{Context, Poll};
 use std::sync::Wait;
-use std::sync::ledger::Ledger;
 
 /// What `Pool::get` answers: a get that does nothing until it is polled.
 ///
-/// Each poll reads the pool's clock, and takes the pool's lock once. One that is pending asks to be polled again. When it
-/// is dropped before its answer, it gives the get up as cancelled. Our own: upstream's get is an async function.
+/// Each poll reads the pool's clock, and takes the pool's lock once. One that is pending asks to be polled again at once. When it is dropped
+/// before its answer, it gives the get up as cancelled; one that was not polled or was answered is dropped without a reading of the clock
+/// and without the lock. Our own: upstream's get is an async function.
 pub struct GetFuture<
     'a,
     M: ManageConnection,
@@ -23,10 +26,60 @@ pub struct GetFuture<
     Z: CustomizeConnection<M::Connection, M::Error>,
     K: Clock,
     R: Locks,
-    L: Ledger,
+    L: Parts,
 > {
     shared: &'a Shared<M, S, Z, K, R, L>,
     get: GetState<M::Connection, Part<L>>,
+}
+
+/// What the gets of a pool do with what its handles share, as methods of an impl, so that polls and drops can call them.
+pub(crate) trait Gets {
+    type Get;
+
+    type Served;
+
+    /// One poll of a get.
+    fn poll_get(&self, get: &mut Self::Get) -> Poll<Self::Served>;
+
+    /// Lets a get go.
+    fn cancel_get(&self, get: Self::Get);
+}
+
+/// The clock is read before the lock is taken, and the lock once.
+impl<M: ManageConnection, S, Z, K: Clock, R: Locks, L: Parts> Gets for Shared<M, S, Z, K, R, L> {
+    ghost use Rattle.bb8.specs.Linked.{LinkCancels, LinkPolls};
+
+    type Get = GetState<M::Connection, Part<L>>;
+
+    type Served = Result<Taken<M::Connection, Part<L>>, RunError<M::Error>>;
+
+    fn poll_get(
+        &self,
+        get: &mut GetState<M::Connection, Part<L>>,
+    ) -> Poll<Result<Taken<M::Connection, Part<L>>, RunError<M::Error>>>
+        ensures { LinkPolls K.tells self.now get.old.stage result get.new.stage }
+    {
+        if get.is_done() {
+            return Poll::Pending;
+        }
+        let mut calls = Calls::new(&self.manager, &self.clock);
+        let at = calls.now();
+        let mut locked = self.rt.take(&self.locked);
+        get.poll_at(&mut *locked, at, self.config.connection_timeout)
+    }
+
+    fn cancel_get(&self, get: GetState<M::Connection, Part<L>>)
+        ensures { LinkCancels K.tells self.now get.stage }
+    {
+        if let Some(open) = get.into_open() {
+            let mut calls = Calls::new(&self.manager, &self.clock);
+            let at = calls.now();
+            let _ = self
+                .rt
+                .take(&self.locked)
+                .give_up(at, open, Reason::Cancelled);
+        }
+    }
 }
 
 impl<
@@ -35,11 +88,17 @@ impl<
     Z: CustomizeConnection<M::Connection, M::Error>,
     K: Clock,
     R: Wait + Send + Sync + Drop + 'static,
-    L: Ledger,
+    L: Parts,
 > GetFuture<'_, M, S, Z, K, R, L> {
-    /// Lets the get go, as a drop does, for which it may wait for the lock. Our own.
-    pub fn cancel(self) {
-        drop(self)
+    ghost use Rattle.bb8.specs.Gets.{CancelsGet};
+
+    /// Lets the get go, as a drop does, for which it may wait for the lock: one that began and was not answered is given up as cancelled.
+    /// Our own.
+    pub fn cancel(self)
+        ensures { CancelsGet K.tells self.entry }
+    {
+        let GetFuture { shared, get } = self;
+        shared.cancel_get(get);
     }
 }
 
@@ -49,12 +108,16 @@ impl<
     Z: CustomizeConnection<M::Connection, M::Error>,
     K: Clock,
     R: Locks,
-    L: Ledger,
+    L: Parts,
 > Pool<M, S, Z, K, R, L> {
     ghost use Rattle.bb8.specs.Pools.{stage_of, IsOf};
     ghost use Rattle.bb8.specs.declared.get.state.Stage.TheVariants.{Fresh as IsFresh};
 
     /// Gets a connection: an idle one, or the first that comes in the get's turn. As upstream, but for the future's name.
+    ///
+    /// A get that finds nothing idle waits, and may have an approval granted to open a connection. Without a driver of the pool nobody opens
+    /// it, so the get waits for a connection that comes back or is added, and the approval stays open, which may leave no room for an
+    /// adding. A poll that is pending asks to be polled again at once, so an executor does not sleep while a get waits.
     ///
     /// It answers `TimedOut` once `connection_timeout` has passed since the first poll, and `Memory` or `Exhausted` where the get could
     /// not begin.
@@ -80,7 +143,7 @@ impl<
     Z: CustomizeConnection<M::Connection, M::Error>,
     K: Clock,
     R: Locks,
-    L: Ledger,
+    L: Parts,
 > StartGet for &'a Pool<M, S, Z, K, R, L> {
     ghost use Rattle.bb8.specs.Pools.{stage_of, IsOf};
     ghost use Rattle.bb8.specs.declared.get.state.Stage.TheVariants.{Fresh as IsFresh};
@@ -104,25 +167,19 @@ impl<
     Z: CustomizeConnection<M::Connection, M::Error>,
     K: Clock,
     R: Locks,
-    L: Ledger,
+    L: Parts,
 > Drop for GetFuture<'_, M, S, Z, K, R, L> {
     fn drop(self) {
-        let GetFuture { shared, mut get } = self;
-        // Neither a get that was not polled nor one that was answered has begun anything that is to be given up.
-        if get.is_open() {
-            let at = shared.clock.now();
-            get.cancel_step(&mut *shared.rt.take(&shared.locked), at);
-        }
+        let GetFuture { shared, get } = self;
+        shared.cancel_get(get);
     }
 }
 
-/// What a poll of the future does, as methods of an impl, so that `poll` can call them.
+/// What a poll of the future does with what was served, as a method of an impl, so that `poll` can call it.
 trait OnLink {
     type Served;
 
     type Answer;
-
-    fn poll_link(&mut self) -> Poll<Self::Served>;
 
     fn guarded(&self, served: Self::Served) -> Self::Answer;
 }
@@ -133,46 +190,26 @@ impl<
     S: ErrorSink<M::Error>,
     Z: CustomizeConnection<M::Connection, M::Error>,
     K: Clock,
-    R: Wait + Send + Sync + Drop + 'static,
-    L: Ledger,
+    R: Locks,
+    L: Parts,
 > OnLink for GetFuture<'a, M, S, Z, K, R, L> {
-    type Served = Result<(Key, M::Connection, Part<L>), RunError<M::Error>>;
+    ghost use Rattle.bb8.specs.Gets.{Guards};
+    ghost use Rattle.bb8.specs.Linked.{MakesGuard};
+
+    type Served = Result<Taken<M::Connection, Part<L>>, RunError<M::Error>>;
 
     type Answer = Result<PooledConnection<'a, M, S, Z, K, R, L>, RunError<M::Error>>;
-
-    ghost use Rattle.bb8.specs.Gets.{Guards};
-    ghost use Rattle.bb8.specs.Linked.{LinkPolls, MakesGuard};
-    ghost use Rattle.bb8.specs.Pools.{clock_for, settings_for, stage_of};
-    ghost use Rattle.bb8.specs.declared.locked.Locked.{Locked as LockedOf};
-
-    /// One poll on the pool's lock, at the clock's reading.
-    fn poll_link(&mut self) -> Poll<Result<(Key, M::Connection, Part<L>), RunError<M::Error>>>
-        ensures table { LinkPolls (LockedOf M.Connection L L.Ledger) (K.tells (clock_for self.old)) L.parts (settings_for self.old).connection_timeout (stage_of self.old) result (stage_of self.new) }
-        ensures pool { self.new.shared.now ≡ self.old.shared.now }
-    {
-        if let Stage::Done = self.get.stage {
-            return Poll::Pending;
-        }
-        let shared = self.shared;
-        let at = shared.clock.now();
-        let mut locked = shared.rt.take(&shared.locked);
-        self.get
-            .poll_step(&mut *locked, at, shared.config.connection_timeout)
-    }
 
     /// The guard of what was served.
     fn guarded(
         &self,
-        served: Result<(Key, M::Connection, Part<L>), RunError<M::Error>>,
+        served: Result<Taken<M::Connection, Part<L>>, RunError<M::Error>>,
     ) -> Result<PooledConnection<'a, M, S, Z, K, R, L>, RunError<M::Error>>
         ensures { MakesGuard (Guards self.now) served result }
     {
         let shared = self.shared;
         match served {
-            Ok((key, conn, part)) => Ok(PooledConnection {
-                shared,
-                taken: Taken { key, conn, part },
-            }),
+            Ok(taken) => Ok(PooledConnection { shared, taken }),
             Err(error) => Err(error),
         }
     }
@@ -185,7 +222,7 @@ impl<
     Z: CustomizeConnection<M::Connection, M::Error>,
     K: Clock,
     R: Wait + Send + Sync + Drop + 'static,
-    L: Ledger,
+    L: Parts,
 > Future for GetFuture<'a, M, S, Z, K, R, L> {
     ghost use Rattle.std.specs.Prelude.{⊤};
     ghost use Rattle.futures.specs.Poll.{IfReady, OnPending};
@@ -206,7 +243,8 @@ impl<
         ensures registered { OnPending result (Covers cx.new (λ _. ⊥)) }
         ensures kept { Keeps cx.old cx.new }
     {
-        let answer = match self.poll_link() {
+        let shared = self.shared;
+        let answer = match shared.poll_get(&mut self.get) {
             Poll::Ready(answer) => answer,
             Poll::Pending => return cx.yield_now(),
         };

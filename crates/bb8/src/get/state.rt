@@ -1,12 +1,13 @@
-//! The poll of a get.
+//! The poll of a get, and its letting go.
 ghost use Rattle.std.specs.Prelude.{◌≡◌};
 ghost use Rattle.std.specs.Duration.{as_nanos};
-ghost use Rattle.bb8.specs.Polls.{is_begun, IsDeadline, Tries, Advances, Settles, Polls, Cancels};
+ghost use Rattle.bb8.specs.Polls.{is_done, open_get, IsDeadline, Tries, Advances, Settles, Goes, Polls, Cancels};
 ghost use Rattle.bb8.specs.declared.get.state.Stage.TheVariants.{Done as IsDone, Fresh as IsFresh};
 
-use super::home::{BeginStep, GetHome, ServeStep, TryStep};
+use super::home::{GetHome, Taken, Tried, Unfit};
+use super::outside::Outside;
 use bb8_core::api::{Moment, RunError};
-use bb8_core::internals::{GetKey, Key, Reason};
+use bb8_core::internals::{BeginAnswer, GetKey, Reason};
 use futures::task::Poll;
 use std::marker::PhantomData;
 use std::mem;
@@ -27,18 +28,16 @@ pub enum Stage {
 }
 
 /// What a poll does after its step: it answers, or the get stands somewhere else and its deadline is looked at. Our own.
-#[derive(Drop)]
 pub enum Next<C, P, E> {
     /// It answers this.
-    Answer(Result<(Key, C, P), RunError<E>>),
+    Answer(Result<Taken<C, P>, RunError<E>>),
     /// The get stands here.
     Stand(Stage),
 }
 
 /// A get of a connection `C`, which comes with a `P`: what a future of a get holds beside its pool. Our own.
 ///
-/// It does nothing until it is polled, and holds no connection between two polls.
-#[derive(Drop)]
+/// It does nothing until it is polled, and holds no connection between two polls. It cannot be dropped but by `cancel_step`.
 pub struct GetState<C, P> {
     pub(super) stage: Stage,
     served: PhantomData<(C, P)>,
@@ -53,7 +52,7 @@ fn deadline(moment: Moment, timeout: Duration) -> Option<Moment>
 }
 
 /// One try of a get.
-fn take<C: Drop, E, H: GetHome<C>>(
+fn take<C, E, H: GetHome<C>>(
     home: &mut H,
     moment: Moment,
     get: GetKey,
@@ -62,14 +61,14 @@ fn take<C: Drop, E, H: GetHome<C>>(
     ensures { Tries H.GetHome moment get deadline home.old result home.new }
 {
     match home.try_get(moment, get) {
-        TryStep::Served(key, connection, part, _) => Next::Answer(Ok((key, connection, part))),
-        TryStep::Waiting(_) => Next::Stand(Stage::Waiting(get, deadline)),
-        TryStep::Unfit => Next::Answer(Err(RunError::TimedOut)),
+        Ok(Tried::Served(taken, _)) => Next::Answer(Ok(taken)),
+        Ok(Tried::Waiting(_)) => Next::Stand(Stage::Waiting(get, deadline)),
+        Err(Unfit) => Next::Answer(Err(RunError::TimedOut)),
     }
 }
 
 /// What a get does at its first poll: it begins and tries, in one step where the home can.
-fn start<C: Drop, E, H: GetHome<C>>(
+fn start<C, E, H: GetHome<C>>(
     home: &mut H,
     moment: Moment,
     timeout: Duration,
@@ -77,25 +76,18 @@ fn start<C: Drop, E, H: GetHome<C>>(
     ensures { Advances H.GetHome moment (as_nanos timeout) IsFresh home.old result home.new }
 {
     match home.serve(moment) {
-        Some(
-            ServeStep {
-                key,
-                connection,
-                part,
-                ..
-            },
-        ) => Next::Answer(Ok((key, connection, part))),
+        Some((taken, _)) => Next::Answer(Ok(taken)),
         None => match home.begin(moment) {
-            BeginStep::Begun(get) => take(home, moment, get, deadline(moment, timeout)),
-            BeginStep::Memory => Next::Answer(Err(RunError::Memory)),
-            BeginStep::Exhausted => Next::Answer(Err(RunError::Exhausted)),
-            BeginStep::Unfit => Next::Answer(Err(RunError::TimedOut)),
+            Ok(BeginAnswer::Begun(get)) => take(home, moment, get, deadline(moment, timeout)),
+            Ok(BeginAnswer::Memory) => Next::Answer(Err(RunError::Memory)),
+            Ok(BeginAnswer::Exhausted) => Next::Answer(Err(RunError::Exhausted)),
+            Err(Unfit) => Next::Answer(Err(RunError::TimedOut)),
         },
     }
 }
 
 /// What a get does at a poll before its deadline is looked at.
-fn advance<C: Drop, E, H: GetHome<C>>(
+fn advance<C, E, H: GetHome<C>>(
     home: &mut H,
     moment: Moment,
     timeout: Duration,
@@ -112,7 +104,7 @@ fn advance<C: Drop, E, H: GetHome<C>>(
     }
 }
 
-impl<C: Drop, P: Drop> GetState<C, P> {
+impl<C, P> GetState<C, P> {
     /// A get that was not polled yet. Our own.
     pub fn new() -> Self
         ensures { result.stage ≡ IsFresh }
@@ -123,34 +115,43 @@ impl<C: Drop, P: Drop> GetState<C, P> {
         }
     }
 
-    /// Whether the get began and was not answered. Our own.
-    pub fn is_open(&self) -> bool
-        ensures { result ≡ is_begun self.now.stage }
+    /// Whether the get was answered: each further poll is pending. Our own.
+    pub fn is_done(&self) -> bool
+        ensures { result ≡ is_done self.now.stage }
     {
-        match self.stage {
-            Stage::Trying(..) | Stage::Waiting(..) => true,
-            Stage::Fresh | Stage::Done => false,
-        }
+        matches!(self.stage, Stage::Done)
     }
 
-    /// One poll of the get over a home, at a reading `at` of the clock; `timeout` is the pool's `connection_timeout`. Our own: upstream's
-    /// get is an async function.
+    /// One poll of the get over a home; `timeout` is the pool's `connection_timeout`. Our own: upstream's get is an async function.
     ///
-    /// The first poll begins the get and sets its deadline. Each poll tries once, and then compares the deadline. It answers a
-    /// connection; `TimedOut` once the deadline has come, or where the home knows no such get or no handle; `Memory` or `Exhausted`
-    /// where the get could not begin. After an answer, and after a `cancel_step`, each poll is pending and changes nothing.
-    pub fn poll_step<E: Drop, H: GetHome<C, Part = P>>(
+    /// It reads the clock once. The first poll begins the get and sets its deadline. Each poll tries once, and then compares the deadline.
+    /// It answers a connection; `TimedOut` once the deadline has come, or where the home knows no such get or no handle; `Memory` or
+    /// `Exhausted` where the get could not begin. After an answer each poll is pending, reads no clock and makes no step.
+    pub fn poll_step<E, W: Outside<C>, H: GetHome<C, Part = P>>(
+        &mut self,
+        outside: &mut W,
+        home: &mut H,
+        timeout: Duration,
+    ) -> Poll<Result<Taken<C, P>, RunError<E>>>
+        ensures { Polls H.GetHome W.Outside (as_nanos timeout) self.old.stage home.old outside.old result self.new.stage home.new outside.new }
+    {
+        if self.is_done() {
+            return Poll::Pending;
+        }
+        let at = outside.now();
+        self.poll_at(home, at, timeout)
+    }
+
+    /// What a poll of a get that was not answered does once the clock is read: all that it does to its home.
+    pub(crate) fn poll_at<E, H: GetHome<C, Part = P>>(
         &mut self,
         home: &mut H,
         at: Moment,
         timeout: Duration,
-    ) -> Poll<Result<(Key, C, P), RunError<E>>>
-        ensures { Polls H.GetHome at (as_nanos timeout) self.old.stage home.old result self.new.stage home.new }
+    ) -> Poll<Result<Taken<C, P>, RunError<E>>>
+        ensures { Goes H.GetHome at (as_nanos timeout) self.old.stage home.old result self.new.stage home.new }
     {
         let stage = mem::replace(&mut self.stage, Stage::Done);
-        if let Stage::Done = stage {
-            return Poll::Pending;
-        }
         let moment = home.look(at).moment;
         match advance(home, moment, timeout, stage) {
             Next::Answer(answer) => Poll::Ready(answer),
@@ -164,7 +165,7 @@ impl<C: Drop, P: Drop> GetState<C, P> {
         home: &mut H,
         moment: Moment,
         stage: Stage,
-    ) -> Poll<Result<(Key, C, P), RunError<E>>>
+    ) -> Poll<Result<Taken<C, P>, RunError<E>>>
         requires { self.old.stage ≡ IsDone }
         ensures { Settles H.GetHome moment stage home.old result self.new.stage home.new }
     {
@@ -178,20 +179,30 @@ impl<C: Drop, P: Drop> GetState<C, P> {
         Poll::Pending
     }
 
-    /// Lets the get go, at a reading `at` of the clock: one that began and was not answered is given up as cancelled. The same as a drop
-    /// of a get's future. Our own: upstream's caller drops its future.
-    pub fn cancel_step<H: GetHome<C, Part = P>>(&mut self, home: &mut H, at: Moment)
-        ensures home { Cancels H.GetHome at self.old.stage home.old home.new }
-        ensures done { self.new.stage ≡ IsDone }
+    /// Lets the get go: one that began and was not answered is given up as cancelled, at a reading of the clock. Nothing is called where
+    /// it was not polled yet, or was answered. The same as a drop of a get's future. Our own: upstream's caller drops its future.
+    pub fn cancel_step<W: Outside<C>, H: GetHome<C, Part = P>>(self, outside: &mut W, home: &mut H)
+        ensures { Cancels H.GetHome W.Outside self.stage home.old outside.old home.new outside.new }
     {
-        let stage = mem::replace(&mut self.stage, Stage::Done);
-        if let Stage::Trying(get, _) | Stage::Waiting(get, _) = stage {
+        if let Some(get) = self.into_open() {
+            let at = outside.now();
             let _ = home.give_up(at, get, Reason::Cancelled);
+        }
+    }
+
+    /// Ends the get, and tells which one its home has to give up: the one that began and was not answered.
+    pub(crate) fn into_open(self) -> Option<GetKey>
+        ensures { result ≡ open_get self.stage }
+    {
+        let GetState { stage, served: _ } = self;
+        match stage {
+            Stage::Trying(get, _) | Stage::Waiting(get, _) => Some(get),
+            Stage::Fresh | Stage::Done => None,
         }
     }
 }
 
-impl<C: Drop, P: Drop> Default for GetState<C, P> {
+impl<C, P> Default for GetState<C, P> {
     ghost is_default = { λ get. get.stage ≡ IsFresh };
 
     /// A get that was not polled yet.

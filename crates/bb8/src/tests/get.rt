@@ -5,7 +5,8 @@ ghost use Rattle.bb8_core.specs.Run.{act_with};
 ghost use Rattle.bb8_core.specs.Shown.{Means};
 ghost use Rattle.bb8_ledger.specs.Table.{IsLegal, takes};
 
-use crate::get::GetState;
+use super::{Refused, SlowManager, StoppedClock};
+use crate::get::{Calls, GetState, Taken};
 use crate::{Config, Moment, RunError, Statistics};
 use bb8_core::internals::{AddAnswer, Key, PoolInternals};
 use bb8_core::replay::{Act, Event, fits};
@@ -18,7 +19,7 @@ use std::time::Duration;
 const SECOND: u64 = 1_000_000_000;
 
 /// What a poll of a get answers: the number of the connection and the connection.
-type Polled = Poll<Result<(u64, u64), RunError<u8>>>;
+type Polled = Poll<Result<(u64, u64), RunError<Refused>>>;
 
 /// A pool that checks no connection before it hands it out. Its gets begin at that number.
 fn pool_from(rt: &impl Abort, alloc: Global, max_size: u32, first_get: u64) -> PoolInternals<u64> {
@@ -37,11 +38,28 @@ fn pool_of(rt: &impl Abort, alloc: Global, max_size: u32) -> PoolInternals<u64> 
 
 /// Polls a get at a reading of the clock. It waits for a second at most.
 fn poll(pool: &mut PoolInternals<u64>, get: &mut GetState<u64, ()>, at: u64) -> Polled {
-    match get.poll_step::<u8, PoolInternals<u64>>(pool, Moment(at), Duration::from_nanos(SECOND)) {
-        Poll::Ready(Ok((key, connection, ()))) => Poll::Ready(Ok((key.number, connection))),
+    let clock = StoppedClock(Moment(at));
+    let mut calls = Calls::new(&SlowManager, &clock);
+    match get.poll_step(&mut calls, pool, Duration::from_nanos(SECOND)) {
+        Poll::Ready(
+            Ok(
+                Taken {
+                    key,
+                    connection,
+                    part: (),
+                },
+            ),
+        ) => Poll::Ready(Ok((key.number, connection))),
         Poll::Ready(Err(error)) => Poll::Ready(Err(error)),
         Poll::Pending => Poll::Pending,
     }
+}
+
+/// Lets a get go at a reading of the clock.
+fn cancel(pool: &mut PoolInternals<u64>, get: GetState<u64, ()>, at: u64) {
+    let clock = StoppedClock(Moment(at));
+    let mut calls = Calls::new(&SlowManager, &clock);
+    get.cancel_step(&mut calls, pool);
 }
 
 /// Asserts that what happens fits.
@@ -85,6 +103,7 @@ fn times_out(rt: HostRuntime) {
     let statistics = statistics_of(&mut pool);
     assert_eq!(rt; statistics.get_timed_out, 1);
     assert_eq!(rt; statistics.get_wait_time.as_micros(), 1_000_000);
+    cancel(&mut pool, get, SECOND);
 }
 
 /// The first approval, which nobody claims, has the number 0; so the connection that is added has the number 1.
@@ -99,6 +118,7 @@ fn is_served_at_its_deadline(rt: HostRuntime) {
     let statistics = statistics_of(&mut pool);
     assert_eq!(rt; statistics.get_waited, 1);
     assert_eq!(rt; statistics.get_wait_time.as_micros(), 1_000_000);
+    cancel(&mut pool, get, SECOND);
 }
 
 #[test]
@@ -118,6 +138,9 @@ fn deadlines_at_the_end_of_the_clock(rt: HostRuntime) {
         Poll::Ready(Err(RunError::TimedOut))
     );
     assert_eq!(rt; poll(&mut pool, &mut endless, last), Poll::Pending);
+    cancel(&mut pool, get, last);
+    cancel(&mut pool, endless, last);
+    assert_eq!(rt; statistics_of(&mut pool).get_cancelled, 1);
 }
 
 #[test]
@@ -128,9 +151,8 @@ fn serves_after_a_cancelled_get(rt: HostRuntime) {
     assert_eq!(rt; poll(&mut pool, &mut first, 0), Poll::Ready(Ok((0, 7))));
     let mut second = GetState::new();
     assert_eq!(rt; poll(&mut pool, &mut second, 0), Poll::Pending);
-    second.cancel_step(&mut pool, Moment(0));
+    cancel(&mut pool, second, 0);
     put_back(&rt, &mut pool, key, 7);
-    assert_eq!(rt; poll(&mut pool, &mut second, 0), Poll::Pending);
     let mut third = GetState::new();
     assert_eq!(rt; poll(&mut pool, &mut third, 0), Poll::Ready(Ok((0, 7))));
     let statistics = statistics_of(&mut pool);
@@ -138,6 +160,8 @@ fn serves_after_a_cancelled_get(rt: HostRuntime) {
     assert_eq!(rt; statistics.get_direct, 2);
     assert_eq!(rt; statistics.get_cancelled, 1);
     assert_eq!(rt; statistics.pending_gets(), 0);
+    cancel(&mut pool, first, 0);
+    cancel(&mut pool, third, 0);
 }
 
 #[test]
@@ -150,6 +174,7 @@ fn needs_a_number(rt: HostRuntime) {
         Poll::Ready(Err(RunError::Exhausted))
     );
     assert_eq!(rt; poll(&mut pool, &mut get, 0), Poll::Pending);
+    cancel(&mut pool, get, 0);
 }
 
 /// A get that was answered or never polled makes no step at all: not even the pool's moment moves.
@@ -162,9 +187,8 @@ fn rests_after_its_answer(rt: HostRuntime) {
     put_back(&rt, &mut pool, key, 7);
     let before = pool.state(Moment(0));
     assert_eq!(rt; poll(&mut pool, &mut get, SECOND), Poll::Pending);
-    get.cancel_step(&mut pool, Moment(SECOND));
-    GetState::<u64, ()>::default().cancel_step(&mut pool, Moment(SECOND));
-    assert_eq!(rt; poll(&mut pool, &mut get, 2 * SECOND), Poll::Pending);
+    cancel(&mut pool, get, SECOND);
+    cancel(&mut pool, GetState::default(), 2 * SECOND);
     assert_eq!(rt; pool.look(Moment(0)).moment, Moment(0));
     assert_eq!(rt; pool.state(Moment(0)), before);
 }

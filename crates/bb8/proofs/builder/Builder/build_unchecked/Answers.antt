@@ -1,7 +1,7 @@
-use Rattle.std.proofs.Common.{false, ap, ◌∙◌}
-use Rattle.bb8_types.specs.Settings.{is_lawful}
-use Rattle.bb8.proofs.Sections.{none_out}
+use Rattle.std.proofs.Common.{rules}
 use Rattle.bb8.proofs.builder.Builder.build_unchecked.Goals as goal
 
-pub open_ledger-total-requires-clause-none_out : goal.open_ledger-total-requires-clause-none_out
-open_ledger-total-requires-clause-none_out g c = none_out _ 0 0 _ _ c.now-at.result.0 false c.fill-granted.result (ap is_lawful c.into_parts-error_sink.ensures.settings ∙ c.requires.lawful) c.new-core.ensures c.fill-granted.ensures
+pub returns-in-Ok-clause-first : goal.returns-in-Ok-clause-first
+returns-in-Ok-clause-first g c =
+    let begun = rw c.into_parts-error_sink.ensures.settings at c.in_ok-total.ensures.first in
+    (c.now-at.result, search rules, (c.in_ok-total.locked.core, begun))

@@ -1,6 +1,0 @@
-use Rattle.bb8_ledger.specs.Acts as acts
-use Rattle.bb8.proofs.Sections.{kept_size, unmoved}
-use Rattle.bb8.proofs.locked.Locked.look.Goals as goal
-
-pub invariant_of-self : goal.invariant_of-self
-invariant_of-self g c = record { parts = unmoved _ _ _ acts.Look _ _ c.limits.ensures.ledger.0 c.look.ensures (λ m. m) c.args.self.now.parts; amount = c.args.self.now.amount; sized = kept_size _ _ _ acts.Look _ _ c.limits.ensures.ledger.0 c.look.ensures c.args.self.now.sized }
