@@ -2,11 +2,12 @@ pub mod Addings
 pub mod Choices
 pub mod Gets
 pub mod Homes
-pub mod Ledgers
 pub mod Linked
+pub mod Parts
 pub mod Polls
 pub mod Pools
 pub mod Sections
+pub mod Services
 pub mod States
 pub use Rattle.bb8_types.specs.Errors
 pub use Rattle.bb8_types.specs.Figures

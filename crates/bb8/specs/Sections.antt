@@ -43,7 +43,7 @@ module _ {C : Type 0} where
   ServesWithin old at key conn grant new = (g : ℕ) × (between : Shown C) × IsWithinLimits between × (between.config.max_size ≡ old.config.max_size) × Meets old at Begin (answers.Begun g) between × Meets between at (Try g) (answers.Served key.number grant) new × HandsOut between (tries.Served key conn grant)
 
 module _ {C L : Type 0} where
-  -- the answer of a try without the part of the ledger
+  -- the answer of a try without the part
   abbrev pub in_core : Tried C L → TryAnswer C
   in_core (Served taken grant) = tries.Served taken.key taken.conn grant
   in_core (Waiting grant) = tries.Waiting grant

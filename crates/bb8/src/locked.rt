@@ -18,13 +18,13 @@ use bb8_core::internals::{
 use std::marker::{Brand, PhantomData};
 use std::sync::ledger::{Blank, Ledger, Share, Total};
 
-/// A ledger by which the connections of a pool are counted that threads share. A program names `Brand`. Our own.
-pub trait PoolLedger: Ledger + Send + Sync + 'static {}
+/// Parts by which the connections of a pool are counted that threads share. A program names `Brand`. Our own.
+pub trait PoolParts: Ledger + Send + Sync {}
 
-impl PoolLedger for Brand {}
+impl PoolParts for Brand {}
 
-/// How many parts the pool's ledger has, which is the pool's `max_size`. It ties what the lock holds to what stands beside the lock: of
-/// one ledger there is one number of parts.
+/// How many parts the pool has, which is its `max_size`. It ties what the lock holds to what stands beside the lock: of one `L` there is
+/// one number of parts.
 #[derive(Drop)]
 pub(crate) struct Size<L: Ledger> {
     pub max_size: u32,
@@ -44,7 +44,7 @@ impl<L: Ledger> Size<L> {
     }
 }
 
-/// What the lock holds: the state, and the parts of the pool's ledger that go with no connection. Each connection that is out has one
+/// What the lock holds: the state, and the pool's parts that go with no connection. Each connection that is out has one
 /// part with it, so parts and connections out are together as many as `max_size`.
 #[derive(Drop)]
 pub(crate) struct Locked<C, L: Ledger> {
@@ -56,7 +56,7 @@ pub(crate) struct Locked<C, L: Ledger> {
     ghost sized: { size.max_size ≡ core.config.max_size },
 }
 
-/// One part of the pool's ledger.
+/// One of the pool's parts.
 #[derive(Drop)]
 pub(crate) struct Part<L: Ledger> {
     pub share: Share<L>,
@@ -64,7 +64,7 @@ pub(crate) struct Part<L: Ledger> {
     ghost counts: { share.amount ≡ 1 },
 }
 
-/// A connection that is out, with its part of the ledger.
+/// A connection that is out, with its part.
 #[derive(Drop)]
 pub(crate) struct Taken<C, L: Ledger> {
     pub key: Key,
@@ -85,7 +85,7 @@ pub(crate) enum Tried<C, L: Ledger> {
 #[derive(Clone, Copy, Debug)]
 pub(crate) struct Unfit;
 
-/// Opens the ledger of a new pool: all its parts stand beside the state, and the total says how many there are.
+/// Opens the parts of a new pool: all of them stand beside the state, and the total says how many there are.
 pub(crate) fn open_ledger<C: Drop, L: Ledger>(
     core: PoolInternals<C>,
     blank: Blank,
@@ -137,7 +137,7 @@ impl<C: Drop, L: Ledger> Locked<C, L> {
         Ok(core.begin(at))
     }
 
-    /// Begins a get and serves it at once, where that takes no memory. The connection goes out with a part of the ledger.
+    /// Begins a get and serves it at once, where that takes no memory. The connection goes out with a part.
     pub(crate) fn serve_at_once(&mut self, at: Moment) -> Option<(Taken<C, L>, Grant)>
         ensures { IfSome result (λ r. ServesWithin self.old.core at.0 r.0.key r.0.conn r.1 self.new.core) }
     {
@@ -163,7 +163,7 @@ impl<C: Drop, L: Ledger> Locked<C, L> {
         }
     }
 
-    /// Serves a get with an idle connection, or lets it wait. The connection goes out with a part of the ledger.
+    /// Serves a get with an idle connection, or lets it wait. The connection goes out with a part.
     pub(crate) fn try_get(&mut self, at: Moment, get: GetKey) -> Result<Tried<C, L>, Unfit>
         ensures step { Meets self.old.core at.0 (acts.Try get.number) (answered (λ t. try_told (in_core t)) result) self.new.core }
         ensures connection { HandsOutOf self.old.core result }

@@ -3,7 +3,7 @@ ghost use Rattle.std.specs.Prelude.{◌≡◌, ◌≤◌, ◌<◌, Bool, true, f
 ghost use Rattle.std.specs.Arc.{arc_value};
 ghost use Rattle.bb8_types.specs.Settings.{settings_of, default_settings, is_lawful};
 ghost use Rattle.bb8_core.specs.StepAnswers.{add_told, Refuses};
-ghost use Rattle.bb8.specs.Ledgers.{IsBlankOf};
+ghost use Rattle.bb8.specs.Parts.{IsBlankOf};
 ghost use Rattle.bb8.specs.Addings.{IsTold, IsAdding};
 ghost use Rattle.bb8.specs.States.{IsShown};
 ghost use Rattle.bb8.specs.Sections.{returned, OnFit, IsSorted};
@@ -34,7 +34,7 @@ pub(crate) struct Shared<M: ManageConnection, S, Z, K, R, L: Ledger> {
     pub rt: R,
     pub config: Config,
     pub size: Size<L>,
-    /// How many parts the pool's ledger has, for whoever holds several of them.
+    /// How many parts the pool has, for whoever holds several of them.
     pub total: Total<L>,
     pub locked: Mutex<Locked<M::Connection, L>>,
     ghost whole: { total.amount ≡ config.max_size },
@@ -45,8 +45,8 @@ pub(crate) struct Shared<M: ManageConnection, S, Z, K, R, L: Ledger> {
 /// dropped.
 ///
 /// As upstream, but for the type parameters: beside the manager `M` there are the error sink `S`, the customizer `Z`, the clock `K` and
-/// the runtime `R` that the pool was built with, and the ledger `L`, by which the connections that are out are counted in proofs;
-/// it takes no room at run time. Dropping the pool closes its idle connections. A call of the pool's may wait for the lock.
+/// the runtime `R` that the pool was built with, and the parts `L`, by which the connections that are out are counted in proofs;
+/// they take no room at run time. Dropping the pool closes its idle connections. A call of the pool's may wait for the lock.
 #[derive(Drop)]
 pub struct Pool<
     M: ManageConnection,
@@ -86,7 +86,7 @@ impl<
     /// A pool that begins with no connection, and waits for none: the approvals for the first ones, up to `min_idle`, are granted, and
     /// whoever turns a driver of the pool opens them.
     ///
-    /// As upstream, but that the clock and the runtime are handed in, with an empty ledger of `max_size` parts, and that memory can be
+    /// As upstream, but that the clock and the runtime are handed in, with a blank of `max_size` parts, and that memory can be
     /// refused: then, and where a first approval was withheld for want of memory, the answer is `Memory` and all that was handed in
     /// is dropped. The settings have to be lawful, where upstream panics, and until checks are made they have `test_on_check_out` off.
     pub fn build_unchecked<
@@ -96,7 +96,7 @@ impl<
     >(self, manager: M, clock: K, rt: R, blank: Blank) -> Result<Pool<M, S, Z, K, R, L>, Memory>
         requires lawful { is_lawful self.settings ≡ true }
         requires check { self.settings.test_on_check_out ≡ false }
-        requires ledger { IsBlankOf blank self.settings.max_size L.name L.parts }
+        requires parts { IsBlankOf blank self.settings.max_size L.name L.parts }
         ensures settings { IfOk result (λ pool. settings_in pool ≡ self.settings) }
         ensures manager { IfOk result (λ pool. manager_in pool ≡ manager) }
         ensures clock { IfOk result (λ pool. clock_in pool ≡ clock) }

@@ -6,6 +6,7 @@ mod future;
 mod get;
 mod pool;
 mod rows;
+mod serving;
 mod threads;
 
 use crate::{

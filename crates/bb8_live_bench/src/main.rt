@@ -8,12 +8,12 @@
 #![tactic(auto)]
 
 ghost use Rattle.std.specs.Prelude.{◌<◌};
-ghost use Rattle.bb8.specs.Ledgers.{IsBlankOf};
+ghost use Rattle.bb8.specs.Parts.{IsBlankOf};
 
 mod manager;
 mod rounds;
 
-use bb8::{Builder, Memory, Moment, PoolLedger, SetClock};
+use bb8::{Builder, Memory, Moment, PoolParts, SetClock};
 use manager::{NumberManager, NumberPool, Runtime};
 use rounds::{blocked, polled, polled_ready, shared_by_four};
 use std::marker::Brand;
@@ -42,14 +42,14 @@ fn mode_of(name: &str) -> Option<Mode> {
 }
 
 /// How many gets were served of those that the mode makes over a full pool.
-fn run<R: Runtime + Threads, L: PoolLedger>(
+fn run<R: Runtime + Threads, L: PoolParts>(
     rt: R,
     blank: Blank,
     mode: Mode,
     rounds: u64,
     size: u32,
 ) -> Result<u64, Memory>
-    requires ledger { IsBlankOf blank size L.name L.parts }
+    requires parts { IsBlankOf blank size L.name L.parts }
     requires some { 0 < size }
 {
     let clock = SetClock::new(rt.alloc(), Moment(0))?;

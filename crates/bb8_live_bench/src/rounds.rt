@@ -1,7 +1,7 @@
 //! The rounds.
 
 use crate::manager::{NumberPool, Runtime};
-use bb8::{Memory, PoolCalls, PoolLedger};
+use bb8::{Memory, PoolCalls, PoolParts};
 use futures::executor::block_on;
 use futures::future::ready;
 use futures::task::Poll;
@@ -98,7 +98,7 @@ fn four_times<R: Threads + Sync>(rt: &R, job: &(impl Job + Sync)) -> ((u64, u64)
 }
 
 /// Four threads of so many rounds each.
-pub fn shared_by_four<R: Runtime + Threads, L: PoolLedger>(
+pub fn shared_by_four<R: Runtime + Threads, L: PoolParts>(
     rt: R,
     pool: &NumberPool<R, L>,
     rounds: u64,

@@ -1,8 +1,8 @@
 //! The future of a get, polled by hand.
-ghost use Rattle.bb8.specs.Ledgers.{IsBlankOf};
+ghost use Rattle.bb8.specs.Parts.{IsBlankOf};
 
 use super::{NumberPool, Runtime, SlowManager};
-use crate::{Builder, Memory, Moment, PoolLedger, RunError, SetClock};
+use crate::{Builder, Memory, Moment, PoolParts, RunError, SetClock};
 use futures::task::Poll;
 use futures::test::MockTask;
 use std::marker::Brand;
@@ -11,7 +11,7 @@ use std::test::Fail;
 use std::time::Duration;
 
 /// A pool of one connection: a get is served, others wait, and one of those is let go, one is served, and one times out.
-fn waits<R: Runtime, L: PoolLedger>(rt: R, blank: Blank) -> Result<(), Memory>
+fn waits<R: Runtime, L: PoolParts>(rt: R, blank: Blank) -> Result<(), Memory>
     requires { IsBlankOf blank 1 L.name L.parts }
 {
     let clock = SetClock::new(rt.alloc(), Moment(5))?;
@@ -60,7 +60,7 @@ fn waits_for_one(rt: HostRuntime) -> Result<(), Fail> {
 }
 
 /// The one connection is out; a get waits for it and is let go, and the next one is served at its first poll.
-fn serves_the_third<R: Runtime, L: PoolLedger>(rt: R, blank: Blank) -> Result<(), Memory>
+fn serves_the_third<R: Runtime, L: PoolParts>(rt: R, blank: Blank) -> Result<(), Memory>
     requires { IsBlankOf blank 1 L.name L.parts }
 {
     let clock = SetClock::new(rt.alloc(), Moment(0))?;
@@ -98,7 +98,7 @@ fn serves_after_a_cancelled_caller(rt: HostRuntime) -> Result<(), Fail> {
 }
 
 /// A get that waits since the moment 0 is polled at its deadline, one second later; before that poll a connection is added, or not.
-fn polled_at_the_deadline<R: Runtime, L: PoolLedger>(
+fn polled_at_the_deadline<R: Runtime, L: PoolParts>(
     rt: R,
     blank: Blank,
     is_added: bool,
@@ -140,7 +140,7 @@ fn tries_before_it_times_out(rt: HostRuntime) -> Result<(), Fail> {
 
 /// A get whose deadline is the greatest moment times out there; one that was first polled later has no deadline. After its answer a poll
 /// is pending, and changes nothing.
-fn ends_with_the_clock<R: Runtime, L: PoolLedger>(rt: R, blank: Blank) -> Result<(), Memory>
+fn ends_with_the_clock<R: Runtime, L: PoolParts>(rt: R, blank: Blank) -> Result<(), Memory>
     requires { IsBlankOf blank 2 L.name L.parts }
 {
     let clock = SetClock::new(rt.alloc(), Moment(18_446_744_072_709_551_615))?;

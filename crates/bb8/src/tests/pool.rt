@@ -1,9 +1,9 @@
 //! A pool behind its lock: what goes out comes back, and what is broken or too old does not stay.
-ghost use Rattle.bb8.specs.Ledgers.{IsBlankOf};
+ghost use Rattle.bb8.specs.Parts.{IsBlankOf};
 
 use super::{NumberPool, Runtime, SlowManager};
 use crate::{
-    AddError, Builder, Moment, NopCustomizer, NopErrorSink, PoolLedger, PooledConnection, SetClock,
+    AddError, Builder, Moment, NopCustomizer, NopErrorSink, PoolParts, PooledConnection, SetClock,
 };
 use futures::task::Poll;
 use futures::test::MockTask;
@@ -13,7 +13,7 @@ use std::test::Fail;
 use std::time::Duration;
 
 /// The guard of a get that is polled once. A get that would wait is let go.
-fn guard<'a, R: Runtime, L: PoolLedger>(
+fn guard<'a, R: Runtime, L: PoolParts>(
     task: &MockTask,
     pool: &'a NumberPool<R, L>,
 ) -> Option<PooledConnection<'a, SlowManager, NopErrorSink, NopCustomizer, SetClock, R, L>> {
@@ -24,7 +24,7 @@ fn guard<'a, R: Runtime, L: PoolLedger>(
 }
 
 /// Lends the connections 7 and 8 of a pool of two, and takes them back: whole, broken, and too old.
-fn lends<R: Runtime, L: PoolLedger>(rt: R, blank: Blank) -> Result<(), Fail>
+fn lends<R: Runtime, L: PoolParts>(rt: R, blank: Blank) -> Result<(), Fail>
     requires { IsBlankOf blank 2 L.name L.parts }
 {
     let clock = SetClock::new(rt.alloc(), Moment(5))?;
@@ -72,7 +72,7 @@ fn lends<R: Runtime, L: PoolLedger>(rt: R, blank: Blank) -> Result<(), Fail>
 fn is_shared<T: Send + Sync>(_: &T) {}
 
 /// The two first approvals of a pool of two leave no room for a connection that is added.
-fn keeps_room<R: Runtime, L: PoolLedger>(rt: R, blank: Blank) -> Result<(), Fail>
+fn keeps_room<R: Runtime, L: PoolParts>(rt: R, blank: Blank) -> Result<(), Fail>
     requires { IsBlankOf blank 2 L.name L.parts }
 {
     let clock = SetClock::new(rt.alloc(), Moment(5))?;

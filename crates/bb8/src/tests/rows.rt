@@ -1,8 +1,8 @@
 //! Worked rows of gets that wait, through a pool. The test plays the driver that opens connections.
-ghost use Rattle.bb8.specs.Ledgers.{IsBlankOf};
+ghost use Rattle.bb8.specs.Parts.{IsBlankOf};
 
 use super::{NumberPool, Runtime, SlowManager};
-use crate::{Builder, Clock, Memory, Moment, PoolLedger, QueueStrategy, SetClock};
+use crate::{Builder, Clock, Memory, Moment, PoolParts, QueueStrategy, SetClock};
 use bb8_core::internals::{ClaimAnswer, OpenedAnswer};
 use futures::task::Poll;
 use futures::test::MockTask;
@@ -11,7 +11,7 @@ use std::sync::ledger::Blank;
 use std::test::Fail;
 
 /// Opens the connection of the next approval, as a driver of the pool would, and tells its number. None where no approval is unclaimed.
-fn open<R: Runtime, L: PoolLedger>(pool: &NumberPool<R, L>, connection: u64) -> Option<u64> {
+fn open<R: Runtime, L: PoolParts>(pool: &NumberPool<R, L>, connection: u64) -> Option<u64> {
     let shared = &*pool.shared;
     let at = shared.clock.now();
     let claimed = shared.locked.lock(&shared.rt).claim(at);
@@ -29,7 +29,7 @@ fn open<R: Runtime, L: PoolLedger>(pool: &NumberPool<R, L>, connection: u64) -> 
 }
 
 /// A newer get takes the connection that was opened for one that waits, which waits again and is served at its return.
-fn overtakes<R: Runtime, L: PoolLedger>(rt: R, blank: Blank) -> Result<(), Memory>
+fn overtakes<R: Runtime, L: PoolParts>(rt: R, blank: Blank) -> Result<(), Memory>
     requires { IsBlankOf blank 1 L.name L.parts }
 {
     let clock = SetClock::new(rt.alloc(), Moment(0))?;
@@ -70,7 +70,7 @@ fn newer_get_overtakes(rt: HostRuntime) -> Result<(), Fail> {
 }
 
 /// Two gets wait for one connection. The one that its return notified is cancelled, and the other one is left, and is served.
-fn hands_on<R: Runtime, L: PoolLedger>(rt: R, blank: Blank) -> Result<(), Memory>
+fn hands_on<R: Runtime, L: PoolParts>(rt: R, blank: Blank) -> Result<(), Memory>
     requires { IsBlankOf blank 1 L.name L.parts }
 {
     let clock = SetClock::new(rt.alloc(), Moment(0))?;
@@ -108,7 +108,7 @@ fn cancelled_get_hands_on(rt: HostRuntime) -> Result<(), Fail> {
 }
 
 /// A get waits 5999 nanoseconds for the only connection, which count as 5 microseconds.
-fn waits_shortly<R: Runtime, L: PoolLedger>(rt: R, blank: Blank) -> Result<(), Memory>
+fn waits_shortly<R: Runtime, L: PoolParts>(rt: R, blank: Blank) -> Result<(), Memory>
     requires { IsBlankOf blank 1 L.name L.parts }
 {
     let clock = SetClock::new(rt.alloc(), Moment(0))?;
@@ -143,7 +143,7 @@ fn short_wait_counts_in_whole_microseconds(rt: HostRuntime) -> Result<(), Fail> 
 }
 
 /// A connection that came back serves the next get; a second one is opened only for a get that finds none.
-fn uses_again<R: Runtime, L: PoolLedger>(rt: R, blank: Blank) -> Result<(), Memory>
+fn uses_again<R: Runtime, L: PoolParts>(rt: R, blank: Blank) -> Result<(), Memory>
     requires { IsBlankOf blank 100 L.name L.parts }
 {
     let clock = SetClock::new(rt.alloc(), Moment(0))?;

@@ -1,8 +1,8 @@
 //! Two threads that get and return through one pool.
-ghost use Rattle.bb8.specs.Ledgers.{IsBlankOf};
+ghost use Rattle.bb8.specs.Parts.{IsBlankOf};
 
 use super::{NumberPool, Runtime, SlowManager};
-use crate::{Builder, Memory, Moment, PoolCalls, PoolLedger, SetClock};
+use crate::{Builder, Memory, Moment, PoolCalls, PoolParts, SetClock};
 use futures::executor::block_on;
 use std::marker::Brand;
 use std::sync::ledger::Blank;
@@ -17,12 +17,12 @@ trait Job {
 
 /// A thousand gets of the connection 7, each of which is given back before the next.
 #[derive(Drop)]
-struct Rounds<'a, R: Runtime, L: PoolLedger> {
+struct Rounds<'a, R: Runtime, L: PoolParts> {
     pool: &'a NumberPool<R, L>,
     rt: R,
 }
 
-impl<R: Runtime, L: PoolLedger> Job for Rounds<'_, R, L> {
+impl<R: Runtime, L: PoolParts> Job for Rounds<'_, R, L> {
     /// Whether each get was served.
     fn run(&self) -> bool {
         for _ in 0..1000u32 {
@@ -41,7 +41,7 @@ fn twice(rt: &impl Threads, job: &(impl Job + Sync)) -> (bool, bool) {
 }
 
 /// Two threads share a pool of one connection. Each get is served in its turn, and at the end the connection is idle.
-fn shares_one<R: Runtime + Threads, L: PoolLedger>(rt: R, blank: Blank) -> Result<(), Memory>
+fn shares_one<R: Runtime + Threads, L: PoolParts>(rt: R, blank: Blank) -> Result<(), Memory>
     requires { IsBlankOf blank 1 L.name L.parts }
 {
     let clock = SetClock::new(rt.alloc(), Moment(0))?;
