@@ -7,6 +7,7 @@ pub mod Parts
 pub mod Polls
 pub mod Pools
 pub mod Sections
+pub mod Services
 pub mod States
 pub use Rattle.bb8_types.specs.Errors
 pub use Rattle.bb8_types.specs.Figures

@@ -1,31 +1,82 @@
 //! A pool of connections: its builder, and all that `bb8_core` gives to a user.
 //!
-//! Build a pool, get a connection, use it, give it back. The pool's type names a runtime `R`, for its lock, and the parts `L` by which the
-//! connections that are out are counted, as many as `max_size`; they also say which settings the pool has. So whoever uses a pool is a
-//! function over both, which a `main` calls as `serve::<HostRuntime, Brand>(rt, Blank::new(4))`:
+//! A program whose threads share a pool has three parts: a manager, which opens and checks connections; a service, which says what is
+//! done before the threads run, in each, and after them; and a `main`, which builds the pool and runs the service over it. No proof
+//! file belongs to them. `Runtime` is the program's own list of bounds, `Wait` and what its calls ask for. In whole: `bb8_service`.
 //!
 //! ```text
-//! let pool: Pool<Manager, NopErrorSink, NopCustomizer, SetClock, R, L> = Builder::new()
-//!     .max_size(4)
-//!     .test_on_check_out(false)
-//!     .build_unchecked(manager, clock, rt, blank)?;
-//! pool.add(connection)?;                               // until a driver opens connections, they are added
-//! let mut get = pool.get();                            // a future: nothing happens until it is polled
-//! if let Poll::Ready(Ok(mut guard)) = get.poll(&mut context) {
-//!     guard.send(b"hello");                            // the guard dereferences to the connection
-//! }                                                    // dropped, it gives the connection back
+//! impl ManageConnection for Counters {
+//!     type Connection = Counter;
+//!     type Error = Infallible;
+//!     type Connecting = ();                            // what is kept between two polls of an opening
+//!     type Checking = ();                              // and of a check
+//!     fn connect(&self) { .. }                         // begins an opening
+//!     fn poll_connect(&self, ..) -> Poll<Result<Counter, Infallible>> { .. }
+//!     fn is_valid(&self, ..) { .. }                    // begins a check
+//!     fn poll_valid(&self, ..) -> Poll<Result<(), Infallible>> { .. }
+//!     fn has_broken(&self, ..) -> bool { .. }          // asked when a connection comes back
+//! }
+//!
+//! type CounterPool<R, L> = Pool<Counters, NopErrorSink, NopCustomizer, MachineClock<R>, R, L>;
+//!
+//! struct SharedCounters<R: Runtime> { rt: R }
+//!
+//! impl<R: Runtime> Service<Counters, NopErrorSink, NopCustomizer, MachineClock<R>, R>
+//!     for SharedCounters<R> {
+//!     type Told = u64;
+//!     type Outcome = Option<Summary>;
+//!
+//!     fn begin<L: PoolParts>(&self, pool: &CounterPool<R, L>) -> Result<(), Option<Summary>> {
+//!         for _ in 0..2u8 {                            // until a driver opens connections, they are added
+//!             if PoolCalls::add(pool, Counter { uses: 0 }).is_err() {
+//!                 return Err(None);
+//!             }
+//!         }
+//!         Ok(())
+//!     }
+//!
+//!     fn run<L: PoolParts>(&self, pool: &CounterPool<R, L>, _thread: usize) -> u64 {
+//!         let mut served: u64 = 0;
+//!         for _ in 0..ROUNDS {
+//!             if let Ok(Ok(mut guard)) = block_on(&self.rt, PoolCalls::get(pool)) {
+//!                 guard.uses = guard.uses.saturating_add(1);
+//!                 served = served.saturating_add(1);
+//!             }                                        // the guard gives the connection back
+//!         }
+//!         served
+//!     }
+//!
+//!     fn end<L: PoolParts>(&self, pool: &CounterPool<R, L>, told: &[u64]) -> Option<Summary> { .. }
+//! }
+//!
+//! fn main(rt: HostRuntime) -> io::Result<ExitCode> {
+//!     let service = SharedCounters { rt };
+//!     let outcome = Builder::new()
+//!         .max_size(2)
+//!         .test_on_check_out(false)
+//!         .serve(Counters, MachineClock(rt), rt, THREADS, &service);
+//!     match outcome { .. }
+//! }
 //! ```
 //!
-//! A test in `tests/future.rt` goes this way. The program `bb8_service` is one whose threads share a pool: what a thread runs calls the
-//! pool by `PoolCalls`, the clock is a `MachineClock`, and the function over both says
+//! The methods of an impl call the pool by `PoolCalls`; elsewhere it is `pool.get()`. A program that starts its threads itself, or
+//! none, has a function over the runtime and the parts `L`, of which there are `max_size`, in place of the service. The parts also say
+//! which settings the pool has: `unchecked_of` gives the default ones, but for the size and with no check.
 //!
-//! - `R: Wait + AllocGlobal + Send + Sync + Drop + 'static`, and what else it needs of its runtime;
-//! - `L: PoolParts`, or `L: Parts` where no thread shares the pool;
-//! - `requires { IsBlankOf blank (unchecked_of 4) L.name L.parts L.settings }`, with the settings that its builder has: `unchecked_of`
-//!   gives the default ones, but for the size and with no check.
+//! ```text
+//! fn run<R: Runtime, L: PoolParts>(rt: R, blank: Blank) -> Result<u64, Memory>
+//!     requires { IsBlankOf blank (unchecked_of 4) L.name L.parts L.settings }
+//! {
+//!     let pool: CounterPool<R, L> = Builder::new().max_size(4).test_on_check_out(false)
+//!         .build_unchecked(Counters, MachineClock(rt), rt, blank)?;
+//!     ..
+//! }
+//! ```
 //!
-//! Its caller picks, in `proofs/CALLER/Invariants.antt`, the name and the number of the parts, `ghosts-serve-L-Ledger`, and the settings,
-//! `ghosts-serve-L-Parts`.
+//! Here `Runtime` is `Wait + AllocGlobal + Send + Sync + Drop + 'static`, and what else the program needs of it; `L: Parts` is enough
+//! where no thread shares the pool. `main` calls it as `run::<HostRuntime, Brand>(rt, Blank::new(4))`, and one proof file,
+//! `proofs/main/Invariants.antt`, says the name and the number of the parts (`ghosts-run-L-Ledger`) and the settings
+//! (`ghosts-run-L-Parts`), as in `bb8_live_bench`.
 #![tactic(auto)]
 
 mod builder;
@@ -35,6 +86,7 @@ mod locked;
 mod locks;
 mod machine;
 pub mod pool;
+mod serving;
 #[cfg(test)]
 mod tests;
 
@@ -49,3 +101,4 @@ pub use locked::{Parts, PoolParts};
 pub use locks::Locks;
 pub use machine::MachineClock;
 pub use pool::{Pool, PoolCalls, PooledConnection};
+pub use serving::Service;

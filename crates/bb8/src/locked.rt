@@ -34,7 +34,7 @@ impl Parts for Brand {
 }
 
 /// The parts of a pool that threads share. A program names `Brand`. Our own.
-pub trait PoolParts: Parts + Send + Sync + 'static {}
+pub trait PoolParts: Parts + Send + Sync {}
 
 impl PoolParts for Brand {}
 

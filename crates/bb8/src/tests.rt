@@ -8,6 +8,7 @@ mod gates;
 mod get;
 mod pool;
 mod rows;
+mod serving;
 mod threads;
 
 use crate::{

@@ -4,19 +4,24 @@
 mod counters;
 mod service;
 
-use crate::service::serve;
+use crate::counters::Counters;
+use crate::service::{SharedCounters, THREADS};
+use bb8::{Builder, MachineClock};
 use std::io;
-use std::marker::Brand;
 use std::process::ExitCode;
-use std::sync::ledger::Blank;
 
 /// Runs the service over a pool of two connections, and prints what came of it.
 fn main(rt: HostRuntime) -> io::Result<ExitCode> {
-    match serve::<HostRuntime, Brand>(rt, Blank::new(2)) {
-        Some(summary) => {
+    let service = SharedCounters { rt };
+    let outcome = Builder::new()
+        .max_size(2)
+        .test_on_check_out(false)
+        .serve(Counters, MachineClock(rt), rt, THREADS, &service);
+    match outcome {
+        Ok(Some(summary)) => {
             println!(rt; "{summary}")?;
             Ok(ExitCode::SUCCESS)
         }
-        None => Ok(ExitCode::FAILURE),
+        _ => Ok(ExitCode::FAILURE),
     }
 }

@@ -1,0 +1,35 @@
+-- What a service is run over, and what comes of it.
+use Rattle.std.specs.Prelude.{◌≡◌, ℕ, ◌<◌, ◌⊎◌, List, length, slice_index_or, Result, Ok, Err}
+use Rattle.std.specs.declared.fmt.Debug.{Ghosts as DebugOf}
+use Rattle.bb8.specs.declared.locked.Parts.{Ghosts as PartsOf}
+use Rattle.bb8_types.specs.declared.api.managers.ManageConnection.{Ghosts as ManagerOf}
+use Rattle.bb8_types.specs.Settings.{Settings}
+use Rattle.bb8.specs.declared.pool.Pool.{Pool}
+use Rattle.bb8.specs.Pools.{settings_in, manager_in, clock_in}
+
+-- what a pool is built of, as far as a service sees it
+pub record Basis (M K : Type 0) : Type 0 where
+  pub settings : Settings
+  pub manager : M
+  pub clock : K
+
+-- settings, a manager and a clock as such
+abbrev pub basis : {M K : Type 0} → Settings → M → K → Basis M K
+basis settings manager clock = record { settings = settings; manager = manager; clock = clock }
+
+module _ {M S Z K R L C E N V A : Type 0} {m : ManagerOf M C E N V} {d : DebugOf E} {l : PartsOf L} where
+  -- what a pool was built of
+  abbrev pub basis_of : Pool M S Z K R L C E N V A m d l → Basis M K
+  basis_of pool = basis (settings_in pool) (manager_in pool) (clock_in pool)
+
+-- so many threads told this, each of them something that the thread of its number may tell
+pub record EachTold {T : Type 0} (Tells : ℕ → T → Type 0) (threads : ℕ) (told : List T) : Type 0 where
+  pub all : length told ≡ threads
+  pub each : (thread : ℕ) (x : T) → thread < threads → Tells thread (slice_index_or told thread x)
+
+-- What may come of a service over a pool of that basis, in so many threads: it stopped as it began, or it began, so many threads ran, and
+-- it ended with what they told.
+abbrev pub IsOutcome : {B T O : Type 0} → (B → Result (Unit {0}) O → Type 0) → (B → ℕ → T → Type 0) → (B → List T → O → Type 0) → B → ℕ → O → Type 0
+IsOutcome {T = T} Begins Tells Ends basis threads outcome =
+    Begins basis (Err outcome)
+    ⊎ (Begins basis (Ok tt) × ((told : List T) × EachTold (Tells basis) threads told × Ends basis told outcome))
