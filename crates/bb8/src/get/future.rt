@@ -4,7 +4,7 @@ ghost use Rattle.std.specs.Prelude.{◌≡◌};
 use super::calls::Calls;
 use super::home::{GetHome, Taken};
 use super::outside::Outside;
-use super::state::GetState;
+use super::state::{GetState, Stage};
 use crate::locked::{Part, Parts};
 use crate::locks::Locks;
 use crate::pool::{Pool, PooledConnection, Shared};
@@ -71,13 +71,15 @@ impl<M: ManageConnection, S, Z, K: Clock, R: Locks, L: Parts> Gets for Shared<M,
     fn cancel_get(&self, get: GetState<M::Connection, Part<L>>)
         ensures { LinkCancels K.tells self.now get.stage }
     {
-        if let Some(open) = get.into_open() {
-            let mut calls = Calls::new(&self.manager, &self.clock);
-            let at = calls.now();
-            let _ = self
-                .rt
-                .take(&self.locked)
-                .give_up(at, open, Reason::Cancelled);
+        let GetState { stage, served: _ } = get;
+        match stage {
+            Stage::Fresh | Stage::Done => {}
+            Stage::Trying(open, _) | Stage::Waiting(open, _) => {
+                let mut calls = Calls::new(&self.manager, &self.clock);
+                let at = calls.now();
+                let mut locked = self.rt.take(&self.locked);
+                let _ = locked.give_up(at, open, Reason::Cancelled);
+            }
         }
     }
 }
@@ -175,46 +177,6 @@ impl<
     }
 }
 
-/// What a poll of the future does with what was served, as a method of an impl, so that `poll` can call it.
-trait OnLink {
-    type Served;
-
-    type Answer;
-
-    fn guarded(&self, served: Self::Served) -> Self::Answer;
-}
-
-impl<
-    'a,
-    M: ManageConnection,
-    S: ErrorSink<M::Error>,
-    Z: CustomizeConnection<M::Connection, M::Error>,
-    K: Clock,
-    R: Locks,
-    L: Parts,
-> OnLink for GetFuture<'a, M, S, Z, K, R, L> {
-    ghost use Rattle.bb8.specs.Gets.{Guards};
-    ghost use Rattle.bb8.specs.Linked.{MakesGuard};
-
-    type Served = Result<Taken<M::Connection, Part<L>>, RunError<M::Error>>;
-
-    type Answer = Result<PooledConnection<'a, M, S, Z, K, R, L>, RunError<M::Error>>;
-
-    /// The guard of what was served.
-    fn guarded(
-        &self,
-        served: Result<Taken<M::Connection, Part<L>>, RunError<M::Error>>,
-    ) -> Result<PooledConnection<'a, M, S, Z, K, R, L>, RunError<M::Error>>
-        ensures { MakesGuard (Guards self.now) served result }
-    {
-        let shared = self.shared;
-        match served {
-            Ok(taken) => Ok(PooledConnection { shared, taken }),
-            Err(error) => Err(error),
-        }
-    }
-}
-
 impl<
     'a,
     M: ManageConnection,
@@ -248,6 +210,9 @@ impl<
             Poll::Ready(answer) => answer,
             Poll::Pending => return cx.yield_now(),
         };
-        Poll::Ready(self.guarded(answer))
+        match answer {
+            Ok(taken) => Poll::Ready(Ok(PooledConnection { shared, taken })),
+            Err(error) => Poll::Ready(Err(error)),
+        }
     }
 }

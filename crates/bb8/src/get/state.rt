@@ -1,7 +1,7 @@
 //! The poll of a get, and its letting go.
 ghost use Rattle.std.specs.Prelude.{◌≡◌};
 ghost use Rattle.std.specs.Duration.{as_nanos};
-ghost use Rattle.bb8.specs.Polls.{is_done, open_get, IsDeadline, Tries, Advances, Settles, Goes, Polls, Cancels};
+ghost use Rattle.bb8.specs.Polls.{is_done, IsDeadline, Tries, Advances, Settles, Goes, Polls, Cancels};
 ghost use Rattle.bb8.specs.declared.get.state.Stage.TheVariants.{Done as IsDone, Fresh as IsFresh};
 
 use super::home::{GetHome, Taken, Tried, Unfit};
@@ -40,7 +40,7 @@ pub enum Next<C, P, E> {
 /// It does nothing until it is polled, and holds no connection between two polls. It cannot be dropped but by `cancel_step`.
 pub struct GetState<C, P> {
     pub(super) stage: Stage,
-    served: PhantomData<(C, P)>,
+    pub(super) served: PhantomData<(C, P)>,
 }
 
 /// The moment at which a get gives up that was first polled at `moment`. None, and so never, where that is past the greatest moment.
@@ -184,20 +184,13 @@ impl<C, P> GetState<C, P> {
     pub fn cancel_step<W: Outside<C>, H: GetHome<C, Part = P>>(self, outside: &mut W, home: &mut H)
         ensures { Cancels H.GetHome W.Outside self.stage home.old outside.old home.new outside.new }
     {
-        if let Some(get) = self.into_open() {
-            let at = outside.now();
-            let _ = home.give_up(at, get, Reason::Cancelled);
-        }
-    }
-
-    /// Ends the get, and tells which one its home has to give up: the one that began and was not answered.
-    pub(crate) fn into_open(self) -> Option<GetKey>
-        ensures { result ≡ open_get self.stage }
-    {
         let GetState { stage, served: _ } = self;
         match stage {
-            Stage::Trying(get, _) | Stage::Waiting(get, _) => Some(get),
-            Stage::Fresh | Stage::Done => None,
+            Stage::Fresh | Stage::Done => {}
+            Stage::Trying(get, _) | Stage::Waiting(get, _) => {
+                let at = outside.now();
+                let _ = home.give_up(at, get, Reason::Cancelled);
+            }
         }
     }
 }

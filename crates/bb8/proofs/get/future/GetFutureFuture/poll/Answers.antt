@@ -1,3 +1,4 @@
+use Rattle.std.proofs.Common.{Ok, Err, refl}
 use Rattle.futures.specs.declared.task.Poll.TheVariants.{Ready, Pending}
 use Rattle.bb8.specs.Linked.{Answers}
 use Rattle.bb8.proofs.get.future.GetFutureFuture.poll.Goals as goal
@@ -10,8 +11,22 @@ returns-in-Pending-clause-same g c =
     rw c.yield_now.ensures.pending
     (λ x gives. (gives.0, Answers.later _ _ _ c.in-Pending.ensures gives.1, gives.2))
 
-pub returns-clause-table : goal.returns-clause-table
-returns-clause-table g c = (Ready c.in-Ready.answer, c.in-Ready.ensures, c.guarded.ensures)
+pub returns-in-Ok-clause-table : goal.returns-in-Ok-clause-table
+returns-in-Ok-clause-table g c =
+    let polled = rw c.in-Ok.is at c.in-Ready.ensures in
+    (Ready (Ok c.in-Ok.taken), polled, (refl, refl))
 
-pub returns-clause-value : goal.returns-clause-value
-returns-clause-value g c = (c.in-Ready.answer, Answers.now _ _ _ c.in-Ready.ensures, c.guarded.ensures)
+pub returns-in-Ok-clause-value : goal.returns-in-Ok-clause-value
+returns-in-Ok-clause-value g c =
+    let polled = rw c.in-Ok.is at c.in-Ready.ensures in
+    (Ok c.in-Ok.taken, Answers.now _ _ _ polled, (refl, refl))
+
+pub returns-in-Err-clause-table : goal.returns-in-Err-clause-table
+returns-in-Err-clause-table g c =
+    let polled = rw c.in-Err.is at c.in-Ready.ensures in
+    (Ready (Err c.in-Err.error), polled, refl)
+
+pub returns-in-Err-clause-value : goal.returns-in-Err-clause-value
+returns-in-Err-clause-value g c =
+    let polled = rw c.in-Err.is at c.in-Ready.ensures in
+    (Err c.in-Err.error, Answers.now _ _ _ polled, refl)
