@@ -1,15 +1,15 @@
 -- What the condition of a step says of what is shown.
-use Rattle.std.proofs.Common.{◌≡◌, ℕ, ◌≤◌, Bool, true, false, Option, Some, None, is_some, refl, sym, ap, ◌∙◌, subst, ◌+◌, length, ◌-◌}
+use Rattle.std.proofs.Common.{◌≡◌, ℕ, ◌≤◌, Bool, true, false, Option, Some, None, is_some, refl, sym, ap, ◌∙◌, subst, ◌+◌, length, ◌-◌, ◌<◌, arith}
+use Rattle.std.proofs.lemmas.Bool.{ltb-true}
 use Rattle.std.specs.FinMap.{get}
-use Rattle.bb8_types.specs.declared.standing.Place.TheVariants.{Claimed, Guarded}
 use Rattle.bb8_types.specs.declared.standing.Standing.{Standing}
 use Rattle.bb8_types.specs.declared.standing.Getting.{Getting}
-use Rattle.bb8_ledger.specs.Acts.{Try, GiveUp, PutBack, Opened, Reason}
+use Rattle.bb8_ledger.specs.Acts.{Try, GiveUp, PutBack, Failed, Leave, Reason}
 use Rattle.bb8_ledger.specs.Ledger.{Ledger, conns, approved, alive, get_of, start, handles, records, gets, record_of}
-use Rattle.bb8_types.specs.Places.{holds, stands, gets_stand, is_unnotified, is_claimed, is_guarded}
+use Rattle.bb8_types.specs.Places.{holds, stands, gets_stand, is_unnotified, is_claimed, is_guarded, is_out}
 use Rattle.bb8_ledger.specs.Table.{takes, agree, IsLegal, fits}
 use Rattle.bb8_core.specs.Shown.{Shown, HasLedger, IsFitting, Means}
-use Rattle.bb8_types.proofs.Places.{standing_is, claimed_is, guarded_is, and_right}
+use Rattle.bb8_types.proofs.Places.{standing_is, claimed_is, guarded_is, guarded_out, and_right}
 use Rattle.bb8_ledger.proofs.Stage.{nobody_holds}
 use Rattle.bb8_ledger.proofs.Laws.{alive_get, trying_is, alive_is, out_counted, claimed_counted, Fits, all_fit, due_few}
 use Rattle.bb8_types.specs.Numbered.{Numbered}
@@ -71,26 +71,34 @@ module _ {C : Type 0} where
       let few : 1 ≤ alive h.0 = alive_is h.0 g st (shown_get h.0 s h.2 g ∙ is) in
       subst (λ (t : Shown C). 1 ≤ t.gets.alive) h.2 few
 
-  pub fit_claimed : (s : Shown C) (k : ℕ) (c : C) → HasLedger s → IsFitting s (Opened k c) → (st : Standing C) × (get s.records.places k ≡ Some st) × (st.place ≡ Claimed)
-  fit_claimed s k c h fit =
+  -- where a handle leaves, one is alive
+  pub fit_leave : (s : Shown C) → HasLedger s → IsFitting s Leave → 1 ≤ s.handles
+  fit_leave s h fit =
+      let some : 0 < handles h.0 = ltb-true 0 (handles h.0) (fit h.0 h.1 h.2) in
+      subst (λ (t : Shown C). 1 ≤ t.handles) h.2 (omega arith)
+
+  -- a claimed approval brings its connection just where it may fail
+  pub fit_claimed : (s : Shown C) (k : ℕ) → HasLedger s → IsFitting s (Failed k) → (st : Standing C) × (get s.records.places k ≡ Some st) × (is_claimed st.place ≡ true)
+  fit_claimed s k h fit =
       let claimed : stands is_claimed (get s.records.places k) ≡ true = ap (stands is_claimed) (sym (shown_record h.0 s h.2 k)) ∙ fit h.0 h.1 h.2 in
-      let st = standing_is is_claimed (get s.records.places k) claimed in
-      (st.0, st.1, claimed_is st.0.place st.2)
+      standing_is is_claimed (get s.records.places k) claimed
 
-  pub fit_guarded : (s : Shown C) (k : ℕ) (c : C) (b : Bool) → HasLedger s → IsFitting s (PutBack k c b) → (st : Standing C) × (get s.records.places k ≡ Some st) × (st.place ≡ Guarded)
-  fit_guarded s k c b h fit =
+  guarded_stands : (s : Shown C) (k : ℕ) (c : C) (b : Bool) → HasLedger s → IsFitting s (PutBack k c b) → (st : Standing C) × (get s.records.places k ≡ Some st) × (is_guarded st.place ≡ true)
+  guarded_stands s k c b h fit =
       let guarded : stands is_guarded (get s.records.places k) ≡ true = ap (stands is_guarded) (sym (shown_record h.0 s h.2 k)) ∙ fit h.0 h.1 h.2 in
-      let st = standing_is is_guarded (get s.records.places k) guarded in
-      (st.0, st.1, guarded_is st.0.place st.2)
+      standing_is is_guarded (get s.records.places k) guarded
 
-  pub claimed_shown : (s : Shown C) (k : ℕ) (c : C) → HasLedger s → IsFitting s (Opened k c) → 1 ≤ s.records.approved
-  claimed_shown s k c h fit =
-      let st = fit_claimed s k c h fit in
-      let few : 1 ≤ approved h.0 = claimed_counted h.0 k st.0 (shown_record h.0 s h.2 k ∙ st.1) st.2 in
+  pub fit_guarded : (s : Shown C) (k : ℕ) (c : C) (b : Bool) → HasLedger s → IsFitting s (PutBack k c b) → (st : Standing C) × (get s.records.places k ≡ Some st) × (is_out st.place ≡ true)
+  fit_guarded s k c b h fit = let st = guarded_stands s k c b h fit in (st.0, st.1, guarded_out st.0.place st.2)
+
+  pub claimed_shown : (s : Shown C) (k : ℕ) → HasLedger s → IsFitting s (Failed k) → 1 ≤ s.records.approved
+  claimed_shown s k h fit =
+      let st = fit_claimed s k h fit in
+      let few : 1 ≤ approved h.0 = claimed_counted h.0 k st.0 (shown_record h.0 s h.2 k ∙ st.1) (claimed_is st.0.place st.2) in
       subst (λ (t : Shown C). 1 ≤ t.records.approved) h.2 few
 
   pub guarded_shown : (s : Shown C) (k : ℕ) (c : C) (b : Bool) → HasLedger s → IsFitting s (PutBack k c b) → 1 ≤ s.records.conns
   guarded_shown s k c b h fit =
-      let st = fit_guarded s k c b h fit in
-      let few : 1 ≤ conns h.0 = out_counted h.0 k st.0 (shown_record h.0 s h.2 k ∙ st.1) st.2 in
+      let st = guarded_stands s k c b h fit in
+      let few : 1 ≤ conns h.0 = out_counted h.0 k st.0 (shown_record h.0 s h.2 k ∙ st.1) (guarded_is st.0.place st.2) in
       subst (λ (t : Shown C). 1 ≤ t.records.conns) h.2 few

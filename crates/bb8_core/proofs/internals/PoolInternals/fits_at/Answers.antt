@@ -21,3 +21,6 @@ returns-in-PutBack g c = rw c.in-PutBack.is (λ conn l legal means. c.is_guarded
 
 pub returns-in-Opened : goal.returns-in-Opened
 returns-in-Opened g c = rw c.in-Opened.is (λ conn l legal means. c.is_claimed.ensures ∙ sym (ap (stands is_claimed) (shown_record l (view_of c.self.inside) (means ∙ sym c.self.view_is) c.in-Opened.number)))
+
+pub returns-in-Failed : goal.returns-in-Failed
+returns-in-Failed g c = rw c.in-Failed.is (λ conn. c.fits_failed.ensures)
