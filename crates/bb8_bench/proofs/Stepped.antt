@@ -19,7 +19,7 @@ use Rattle.bb8_tables.specs.Views.{ShownRecords}
 use Rattle.bb8_tables.specs.Machine as machine
 use Rattle.bb8_types.proofs.Numbered as numbered
 use Rattle.bb8_types.proofs.Numbered.{change}
-use Rattle.bb8_types.proofs.Places.{standing_is, claimed_is, guarded_is, and_right}
+use Rattle.bb8_types.proofs.Places.{standing_is, guarded_out, and_right}
 use Rattle.bb8_core.proofs.ShownRecords.{shown-claimed, shown-entered}
 use Rattle.bb8_ledger.proofs.Facts.{entered_before}
 use Rattle.bb8_core.proofs.Fitting.{shown_record, shown_get}
@@ -148,7 +148,7 @@ module _ (s t : Shown ℕ) (l : Ledger ℕ) (means : Means l s) where
       let guarded : stands is_guarded (record_of l k) ≡ true = ap (stands is_guarded) (shown_record l s means k) ∙ out in
       let st = standing_is is_guarded (record_of l k) guarded in
       let now : ℕ = max (latest l) at in
-      let is = shown-entered (start l).first (position l) 0 (records l) false k st.0 c st.0.birth now (at_entry c now (position l)) (entered_before l) st.1 (guarded_is st.0.place st.2) (λ r e. ap (λ (o : Option (Standing ℕ)). entry c (birth_in o) now (position l)) e) in
+      let is = shown-entered (start l).first (position l) 0 (records l) false k st.0 c st.0.birth now (at_entry c now (position l)) (entered_before l) st.1 (guarded_out st.0.place st.2) (λ r e. ap (λ (o : Option (Standing ℕ)). entry c (birth_in o) now (position l)) e) in
       sym (ap (λ (x : Shown ℕ). x.records.idle) new) ∙ ap (λ (x : ShownRecords ℕ). x.idle) is ∙ ap (λ (x : Shown ℕ). x.records.idle ++ k ∷ []) means
 
   -- ---- claim and open
@@ -176,7 +176,7 @@ module _ (s t : Shown ℕ) (l : Ledger ℕ) (means : Means l s) where
       let there : stands is_claimed (record_of l k) ≡ true = ap (stands is_claimed) (shown_record l s means k) ∙ claimed_now in
       let st = standing_is is_claimed (record_of l k) there in
       let now : ℕ = max (latest l) at in
-      let is = shown-entered (start l).first (position l) 0 (records l) true k st.0 c now now (λ r. entry c now now (position l)) (entered_before l) st.1 (claimed_is st.0.place st.2) (λ r e. refl) in (
+      let is = shown-entered (start l).first (position l) 0 (records l) true k st.0 c now now (λ r. entry c now now (position l)) (entered_before l) st.1 st.2 (λ r e. refl) in (
         sym (ap (λ (x : Shown ℕ). x.records.idle) new) ∙ ap (λ (x : ShownRecords ℕ). x.idle) is ∙ ap (λ (x : Shown ℕ). x.records.idle ++ k ∷ []) means,
         sym (ap (λ (x : Shown ℕ). x.records.unclaimed) new) ∙ ap (λ (x : ShownRecords ℕ). x.unclaimed) is ∙ ap (λ (x : Shown ℕ). x.records.unclaimed) means,
       )

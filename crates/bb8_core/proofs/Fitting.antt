@@ -1,16 +1,16 @@
 -- What the condition of a step says of what is shown.
 use Rattle.std.proofs.Common.{◌≡◌, ℕ, ◌≤◌, Bool, true, false, Option, Some, None, is_some, refl, sym, ap, ◌∙◌, subst, ◌+◌, ◌-◌, ◌<◌, arith}
+use Rattle.std.proofs.lemmas.Bool.{ltb-true}
 use Rattle.std.specs.FinMap.{get}
 use Rattle.bb8_types.specs.declared.standing.Place.{Place}
-use Rattle.bb8_types.specs.declared.standing.Place.TheVariants.{Claimed, Guarded}
 use Rattle.bb8_types.specs.declared.standing.Standing.{Standing}
 use Rattle.bb8_types.specs.declared.standing.Getting.{Getting}
-use Rattle.bb8_ledger.specs.Acts.{Try, GiveUp, Cancelled}
-use Rattle.bb8_ledger.specs.Ledger.{Ledger, conns, approved, alive, get_of, start, records, gets, record_of}
-use Rattle.bb8_types.specs.Places.{holds, stands, gets_stand, is_unnotified, is_claimed, is_guarded}
+use Rattle.bb8_ledger.specs.Acts.{Try, GiveUp, Leave, Cancelled}
+use Rattle.bb8_ledger.specs.Ledger.{Ledger, conns, approved, alive, get_of, start, handles, records, gets, record_of}
+use Rattle.bb8_types.specs.Places.{holds, stands, gets_stand, is_unnotified, is_claimed, is_guarded, is_out}
 use Rattle.bb8_ledger.specs.Table.{takes, agree, IsLegal}
 use Rattle.bb8_core.specs.Shown.{Shown, HasLedger, IsFitting, Means}
-use Rattle.bb8_types.proofs.Places.{standing_is, claimed_is, guarded_is, and_right}
+use Rattle.bb8_types.proofs.Places.{standing_is, claimed_is, guarded_is, guarded_out, and_right}
 use Rattle.bb8_ledger.proofs.Stage.{nobody_holds}
 use Rattle.bb8_ledger.proofs.Laws.{alive_get, trying_is, alive_is, out_counted, claimed_counted, Fits, all_fit, due_few}
 use Rattle.bb8_types.specs.Numbered.{Numbered}
@@ -50,26 +50,33 @@ module _ {C : Type 0} where
   placed : {s t : Shown C} (test : Place C → Bool) (k : ℕ) → s ≡ t → HasLedger s → IsPlaced test t k → (st : Standing C) × (get s.records.places k ≡ Some st) × (test st.place ≡ true)
   placed {s} test k is h fit = standing_is test (get s.records.places k) (ap (stands test) (sym (shown_record h.0 s h.2 k)) ∙ fit h.0 h.1 (h.2 ∙ is))
 
-  pub fit_claimed : {s t : Shown C} (k : ℕ) → s ≡ t → HasLedger s → IsPlaced is_claimed t k → (st : Standing C) × (get s.records.places k ≡ Some st) × (st.place ≡ Claimed)
-  fit_claimed k is h fit = let st = placed is_claimed k is h fit in (st.0, st.1, claimed_is st.0.place st.2)
+  pub fit_claimed : {s t : Shown C} (k : ℕ) → s ≡ t → HasLedger s → IsPlaced is_claimed t k → (st : Standing C) × (get s.records.places k ≡ Some st) × (is_claimed st.place ≡ true)
+  fit_claimed k is h fit = placed is_claimed k is h fit
 
-  pub fit_guarded : {s t : Shown C} (k : ℕ) → s ≡ t → HasLedger s → IsPlaced is_guarded t k → (st : Standing C) × (get s.records.places k ≡ Some st) × (st.place ≡ Guarded)
-  fit_guarded k is h fit = let st = placed is_guarded k is h fit in (st.0, st.1, guarded_is st.0.place st.2)
+  -- what a guard holds is out
+  pub fit_guarded : {s t : Shown C} (k : ℕ) → s ≡ t → HasLedger s → IsPlaced is_guarded t k → (st : Standing C) × (get s.records.places k ≡ Some st) × (is_out st.place ≡ true)
+  fit_guarded k is h fit = let st = placed is_guarded k is h fit in (st.0, st.1, guarded_out st.0.place st.2)
 
   -- a connection more may be counted as created, and as closed
   pub created_few : {s t : Shown C} (k : ℕ) → s ≡ t → HasLedger s → IsPlaced is_claimed t k → s.records.next ≤ end_of_numbers → s.counts.created < end_of_numbers
   created_few {s} k is h fit few =
       let st = fit_claimed k is h fit in
-      let some : 1 ≤ approved h.0 = claimed_counted h.0 k st.0 (shown_record h.0 s h.2 k ∙ st.1) st.2 in
+      let some : 1 ≤ approved h.0 = claimed_counted h.0 k st.0 (shown_record h.0 s h.2 k ∙ st.1) (claimed_is st.0.place st.2) in
       let shown_some : 1 ≤ s.records.approved = subst (λ (t : Shown C). 1 ≤ t.records.approved) h.2 some in
       omega (arith, (shown_fits s h).created_few)
 
   pub closed_few : {s t : Shown C} (k : ℕ) → s ≡ t → HasLedger s → IsPlaced is_guarded t k → s.records.next ≤ end_of_numbers → s.counts.broken + s.counts.max_lifetime < end_of_numbers
   closed_few {s} k is h fit few =
-      let st = fit_guarded k is h fit in
-      let some : 1 ≤ conns h.0 = out_counted h.0 k st.0 (shown_record h.0 s h.2 k ∙ st.1) st.2 in
+      let st = placed is_guarded k is h fit in
+      let some : 1 ≤ conns h.0 = out_counted h.0 k st.0 (shown_record h.0 s h.2 k ∙ st.1) (guarded_is st.0.place st.2) in
       let shown_some : 1 ≤ s.records.conns = subst (λ (t : Shown C). 1 ≤ t.records.conns) h.2 some in
       omega (arith, (shown_fits s h).closed_few)
+
+  -- where a handle leaves, one is alive
+  pub fit_leave : {s t : Shown C} → s ≡ t → HasLedger s → IsFitting t Leave → 1 ≤ s.handles
+  fit_leave is h fit =
+      let some : 0 < handles h.0 = ltb-true 0 (handles h.0) (fit h.0 h.1 (h.2 ∙ is)) in
+      subst (λ (x : Shown C). 1 ≤ x.handles) h.2 (omega arith)
 
   -- a get that tries stands, and so does one that is given up, whatever the reason
   pub fit_try : {s t : Shown C} (g : ℕ) → s ≡ t → HasLedger s → IsFitting t (Try g) → (st : Getting) × (get s.gets.places g ≡ Some st)

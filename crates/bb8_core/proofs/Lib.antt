@@ -1,4 +1,5 @@
 pub mod ShownRecords
+pub mod ShownLeft
 pub mod ShownGets
 pub mod Fitting
 pub mod Steps

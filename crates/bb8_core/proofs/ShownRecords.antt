@@ -2,10 +2,10 @@
 use Rattle.std.proofs.Common.{◌≡◌, ℕ, zero, suc, ◌+◌, ◌-◌, ◌<◌, ◌≤◌, Bool, true, false, eqb, ◌&&◌, List, [], ◌∷◌, ◌++◌, Option, Some, slice_get, drop, option_and_then, option_map, refl, sym, ap, ◌∙◌, arith, length, length-append, append-nil, cond, not}
 use Rattle.std.specs.FinMap.{insert, get}
 use Rattle.bb8_types.specs.declared.standing.Place.{Place}
-use Rattle.bb8_types.specs.declared.standing.Place.TheVariants.{Unclaimed, Claimed, Idle, Guarded}
+use Rattle.bb8_types.specs.declared.standing.Place.TheVariants.{Unclaimed, Claimed, Idle}
 use Rattle.bb8_types.specs.declared.standing.Standing.{Standing}
 use Rattle.bb8_types.specs.Numbered.{Numbered, at, update, numbers, one, standings, standing_at, after_end}
-use Rattle.bb8_types.specs.Places.{stands, is_conn, is_approval, is_unclaimed, is_idle, with_place}
+use Rattle.bb8_types.specs.Places.{stands, is_conn, is_approval, is_unclaimed, is_idle, with_place, comes_from}
 use Rattle.bb8_ledger.specs.Ledger.{idle_at, conns_of, approved_of, at_place, approval, with_approvals, entry}
 use Rattle.bb8_tables.specs.Views.{ShownRecords, no_records}
 use Rattle.bb8_core.specs.Shown.{shown_records}
@@ -77,38 +77,38 @@ module _ {C : Type 0} where
         (let e : approved_of (change first k new rs) + 0 ≡ approved_of rs + 0 = approved-change first rs k new r false false m.1 (tested is_approval r was.0 (Idle place.0) was.1 place.1) (ap (stands is_approval) is ∙ ap not conn_now) in omega arith)
         refl
 
-    -- a claimed approval, or a connection that a guard held, ends
-    pub shown-closed : (opening : Bool) (k : ℕ) (s : Standing C) → standing_at first rs k ≡ Some s → s.place ≡ cond opening Claimed Guarded → shown_records first p top (update first k after_end rs) ≡ machine.after_close opening k before
+    -- a claimed approval, or a connection that was out, ends
+    pub shown-closed : (opening : Bool) (k : ℕ) (s : Standing C) → standing_at first rs k ≡ Some s → comes_from opening s.place ≡ true → shown_records first p top (update first k after_end rs) ≡ machine.after_close opening k before
     shown-closed opening k s h place =
         let m = numbered.standing_found rs first k s h in
         let r : Numbered (Standing C) = m.0 in
         let new : Numbered (Standing C) = after_end r in
-        let test : (t : Place C → Bool) (x : Bool) → t (cond opening Claimed Guarded) ≡ x → stands t r.standing ≡ x = λ t x e. tested t r s (cond opening Claimed Guarded) m.2 place ∙ e in
+        let test : (t : Place C → Bool) (x : Bool) → t s.place ≡ x → stands t r.standing ≡ x = λ t x e. tested t r s s.place m.2 refl ∙ e in
         ap (shown_records first p top) (numbered.update_is rs first k after_end r m.1)
         ∙ same_records _ _
         (ap (λ (n : ℕ). first + n) (numbered.length-change rs first k new))
         (numbered.numbered-change_none (λ (x : Numbered (Standing C)). x.standing) rs first k new r m.1 refl)
-        (numbered.in_order-change_kept idle_at rs first k new r m.1 p (λ q l. sym (not_idle r (test is_idle false (idle_from C opening)) q)))
-        (numbered.numbers-change_kept (λ x. stands is_unclaimed x.standing) rs first k new r m.1 (sym (test is_unclaimed false (unclaimed_from C opening))))
-        (let e : conns_of (change first k new rs) + one (not opening) ≡ conns_of rs + 0 = conns-change first rs k new r (not opening) false m.1 (test is_conn (not opening) (conn_from C opening)) refl in omega arith)
-        (let e : approved_of (change first k new rs) + one opening ≡ approved_of rs + 0 = approved-change first rs k new r opening false m.1 (test is_approval opening (approval_from C opening)) refl in omega arith)
+        (numbered.in_order-change_kept idle_at rs first k new r m.1 p (λ q l. sym (not_idle r (test is_idle false (idle_from opening s.place place)) q)))
+        (numbered.numbers-change_kept (λ x. stands is_unclaimed x.standing) rs first k new r m.1 (sym (test is_unclaimed false (unclaimed_from opening s.place place))))
+        (let e : conns_of (change first k new rs) + one (not opening) ≡ conns_of rs + 0 = conns-change first rs k new r (not opening) false m.1 (test is_conn (not opening) (conn_from opening s.place place)) refl in omega arith)
+        (let e : approved_of (change first k new rs) + one opening ≡ approved_of rs + 0 = approved-change first rs k new r opening false m.1 (test is_approval opening (approval_from opening s.place place)) refl in omega arith)
         refl
 
     -- the number k enters at this position, which was a claimed approval or out
-    pub shown-entered : (opening : Bool) (k : ℕ) (s : Standing C) (c : C) (birth now : ℕ) (f : Numbered (Standing C) → Numbered (Standing C)) → Before idle_at p rs → standing_at first rs k ≡ Some s → s.place ≡ cond opening Claimed Guarded → ((r : Numbered (Standing C)) → r.standing ≡ Some s → f r ≡ entry c birth now p) → shown_records first (suc p) top (update first k f rs) ≡ machine.after_entry opening k (record { place = Idle c; birth = birth; entered = now }) before
+    pub shown-entered : (opening : Bool) (k : ℕ) (s : Standing C) (c : C) (birth now : ℕ) (f : Numbered (Standing C) → Numbered (Standing C)) → Before idle_at p rs → standing_at first rs k ≡ Some s → comes_from opening s.place ≡ true → ((r : Numbered (Standing C)) → r.standing ≡ Some s → f r ≡ entry c birth now p) → shown_records first (suc p) top (update first k f rs) ≡ machine.after_entry opening k (record { place = Idle c; birth = birth; entered = now }) before
     shown-entered opening k s c birth now f b h place is =
         let m = numbered.standing_found rs first k s h in
         let r : Numbered (Standing C) = m.0 in
         let new : Numbered (Standing C) = entry c birth now p in
-        let test : (t : Place C → Bool) (x : Bool) → t (cond opening Claimed Guarded) ≡ x → stands t r.standing ≡ x = λ t x e. tested t r s (cond opening Claimed Guarded) m.2 place ∙ e in
+        let test : (t : Place C → Bool) (x : Bool) → t s.place ≡ x → stands t r.standing ≡ x = λ t x e. tested t r s s.place m.2 refl ∙ e in
         ap (shown_records first (suc p) top) (numbered.update_is rs first k f r m.1 ∙ ap (λ (x : Numbered (Standing C)). change first k x rs) (is r m.2))
         ∙ same_records _ _
         (ap (λ (n : ℕ). first + n) (numbered.length-change rs first k new))
         (numbered.numbered-change_some (λ (x : Numbered (Standing C)). x.standing) rs first k new r (record { place = Idle c; birth = birth; entered = now }) m.1 refl)
-        (numbered.in_order-enter idle_at rs first k p new r b m.1 (not_idle r (test is_idle false (idle_from C opening))) (numbered.eqb_self p) (λ q below. numbered.ne_test p q (λ e. omega arith)))
-        (numbered.numbers-change_kept (λ x. stands is_unclaimed x.standing) rs first k new r m.1 (sym (test is_unclaimed false (unclaimed_from C opening))))
-        (conns_are opening (conns_of (change first k new rs)) (conns_of rs) (conns-change first rs k new r (not opening) true m.1 (test is_conn (not opening) (conn_from C opening)) refl))
-        (approved_are opening (approved_of (change first k new rs)) (approved_of rs) (approved-change first rs k new r opening false m.1 (test is_approval opening (approval_from C opening)) refl))
+        (numbered.in_order-enter idle_at rs first k p new r b m.1 (not_idle r (test is_idle false (idle_from opening s.place place))) (numbered.eqb_self p) (λ q below. numbered.ne_test p q (λ e. omega arith)))
+        (numbered.numbers-change_kept (λ x. stands is_unclaimed x.standing) rs first k new r m.1 (sym (test is_unclaimed false (unclaimed_from opening s.place place))))
+        (conns_are opening (conns_of (change first k new rs)) (conns_of rs) (conns-change first rs k new r (not opening) true m.1 (test is_conn (not opening) (conn_from opening s.place place)) refl))
+        (approved_are opening (approved_of (change first k new rs)) (approved_of rs) (approved-change first rs k new r opening false m.1 (test is_approval opening (approval_from opening s.place place)) refl))
         refl
       where
         conns_are : (o : Bool) (n m : ℕ) → n + one (not o) ≡ m + 1 → n ≡ m + one o

@@ -1,5 +1,5 @@
 -- Each step, from what it does to what is shown to what it does on every legal ledger.
-use Rattle.std.proofs.Common.{◌≡◌, ℕ, suc, ◌+◌, ◌*◌, ◌<◌, ◌≤◌, max, min, Bool, true, false, not, eqb, ◌&&◌, ◌||◌, List, length, Option, Some, None, slice_get, refl, sym, ap, ◌∙◌, arith, subst, is_some, MatchBool, ◌≢◌, IfSome, cond, ltb}
+use Rattle.std.proofs.Common.{◌≡◌, ℕ, suc, ◌+◌, ◌-◌, ◌*◌, ◌<◌, ◌≤◌, max, min, Bool, true, false, not, eqb, ◌&&◌, ◌||◌, List, length, Option, Some, None, slice_get, refl, sym, ap, ◌∙◌, arith, subst, is_some, MatchBool, ◌≢◌, IfSome, cond, ltb}
 use Rattle.std.specs.FinMap.{get}
 use Rattle.std.proofs.lemmas.Bool.Decides.{leb_tells, nat_tests}
 use Rattle.bb8_types.specs.declared.grants.Grant.{Grant}
@@ -12,28 +12,29 @@ use Rattle.bb8_types.specs.declared.reasons.Reason.TheVariants as reasons
 use Rattle.bb8_core.specs.StepAnswers.{reason_of}
 use Rattle.bb8_tables.specs.Counted.{counts_held}
 use Rattle.bb8_types.specs.Figures.{Counts, Figures}
-use Rattle.bb8_ledger.specs.Acts.{Act, Begin, Try, GiveUp, PutBack, Fill, Claim, Opened, State, Add, Look, Reason}
-use Rattle.bb8_ledger.specs.Answers.{Answer, Begun, Memory, Exhausted, Served, Kept, Closed, Granted, Ended, Entered, Late, Shown as ShownFigures, Broken, NoCapacity, Withheld, Added, GaveUp, Looked}
+use Rattle.bb8_ledger.specs.Acts.{Act, Begin, Try, GiveUp, PutBack, Fill, Claim, Opened, Failed, State, Add, Join, Leave, Look, Reason}
+use Rattle.bb8_ledger.specs.Answers.{Answer, Begun, Memory, Exhausted, Served, Kept, Closed, Granted, Ended, Entered, Late, GivenBack, Shown as ShownFigures, Broken, NoCapacity, Withheld, Added, GaveUp, Joined, Left, Looked}
 use Rattle.bb8_ledger.specs.Answers as answers
 use Rattle.bb8_types.specs.Numbered.{Numbered, update, in_order, standing_at, one, after_end}
-use Rattle.bb8_ledger.specs.Ledger.{at_entry, Ledger, Later, start, position, latest, handles, records, gets, peak, get_peak, alive, idle, record_of, get_of, idle_at, at_place, entry, with_approvals, conns_of, approved_of, alive_of, counts, figures, wait_micros, next, with_notice, unnotified_at, oldest_waiter, waiting}
-use Rattle.bb8_types.specs.Places.{first_of, first_place, first_wait_of, is_claimed, is_guarded, is_unnotified, gets_stand, birth_in, is_expired, micros_since, is_notified}
-use Rattle.bb8_ledger.specs.Table.{IsLegal, Row, begins, begin_refused, begin_exhausted, serves, keeps, returns_closed, fills, claims, claim_ended, opens, opens_late, shows, takes, closes, IsWant, is_brought, adds, add_broken, add_full, add_exhausted, add_refused, waits_on, waits, gives_up, looks}
+use Rattle.bb8_ledger.specs.Ledger.{at_entry, Ledger, Later, start, position, latest, handles, records, gets, peak, get_peak, alive, idle, record_of, get_of, idle_at, at_place, entry, with_approvals, idle_count, conns_of, approved_of, alive_of, counts, figures, wait_micros, next, with_notice, unnotified_at, oldest_waiter, waiting}
+use Rattle.bb8_types.specs.Places.{stands, first_of, first_place, first_wait_of, is_claimed, is_guarded, is_unnotified, gets_stand, birth_in, is_expired, micros_since, is_notified}
+use Rattle.bb8_ledger.specs.Table.{IsLegal, Row, begins, begin_refused, begin_exhausted, serves, keeps, returns_closed, fills, claims, claim_ended, opens, opens_late, fails, shows, takes, closes, IsWant, is_brought, adds, add_broken, add_full, add_exhausted, add_refused, waits_on, waits, gives_up, joins, join_exhausted, leaves, looks}
 use Rattle.bb8_types.specs.Grants.{due, lacking, IsGranted, IsNoGrant}
 use Rattle.bb8_core.specs.Shown.{Shown, shown, shown_records, shown_gets, Means, Meets, HasLedger, IsFitting}
 use Rattle.bb8_tables.specs.Views.{ShownRecords, ShownGets}
 use Rattle.bb8_tables.specs.Machine as machine
 use Rattle.bb8_core.specs.Decided as decided
-use Rattle.bb8_types.proofs.Numbered.{Before}
+use Rattle.bb8_types.proofs.Numbered.{Before, before_later, ne_test}
 use Rattle.bb8_core.proofs.ShownRecords.{shown-claimed, shown-taken, shown-closed, shown-entered, shown-approve, raised_same, shown-born}
-use Rattle.bb8_types.proofs.Places.{standing_is, claimed_is, guarded_is, and_right}
+use Rattle.bb8_types.proofs.Places.{standing_is, claimed_is, guarded_out, and_right}
 use Rattle.bb8_core.proofs.ShownRecords as of_records
+use Rattle.bb8_core.proofs.ShownLeft.{shut, shown-left, left_few}
 use Rattle.bb8_core.proofs.ShownGets.{shown-kept, shown-begun, shown-ended, shown-waits, noticed_later, first_waits, without_other, notified_out}
 use Rattle.bb8_ledger.proofs.Facts.{entered_before, waited_before, put_before, ended_before, peak_holds, get_peak_holds, idle_counted, idle_tally}
 use Rattle.bb8_core.proofs.Fitting.{shown_record, shown_get, giving_is}
 use Rattle.bb8_ledger.proofs.Stage.{unchecked}
 use Rattle.bb8_ledger.proofs.Laws.{trying_is, claimed_counted, waits_on_gets}
-use Rattle.bb8_types.specs.Bounds.{end_of_numbers, most_micros}
+use Rattle.bb8_types.specs.Bounds.{end_of_numbers, most_handles, most_micros}
 
 fitting : (b : Bool) (P Q : Type 0) → b ≡ true → P → MatchBool b P Q
 fitting true P Q e p = p
@@ -187,18 +188,26 @@ module _ {C : Type 0} where
       (same_shown _ _ refl now_is refl (rs_is ∙ ap (λ (m : ℕ). machine.after_entry true k (record { place = Idle c; birth = m; entered = m }) s.records) now_is) told.after new_is)
       (λ l legal f known.
       let st = standing_is is_claimed (record_of l k) f in
-      let place = claimed_is st.0.place st.2 in
-      let some : 1 ≤ approved_of (records l) = claimed_counted l k st.0 st.1 place in
+      let some : 1 ≤ approved_of (records l) = claimed_counted l k st.0 st.1 (claimed_is st.0.place st.2) in
       let few : conns_of (records l) + approved_of (records l) ≤ peak l = peak_holds l in
-      let is = shown-entered (start l).first (position l) (peak l) (records l) true k st.0 c (max (latest l) at) (max (latest l) at) (λ r. entry c (max (latest l) at) (max (latest l) at) (position l)) (entered_before l) st.1 place (λ r e. refl) in
+      let is = shown-entered (start l).first (position l) (peak l) (records l) true k st.0 c (max (latest l) at) (max (latest l) at) (λ r. entry c (max (latest l) at) (max (latest l) at) (position l)) (entered_before l) st.1 st.2 (λ r e. refl) in
       (opens known.0 known.1, same_shown _ _ refl refl refl (ap machine.with_peak is ∙ raised_same _ (omega arith)) (gets_told l n known.1) refl))
 
-  pub meets_late : {s : Shown C} (at : ℕ) {k : ℕ} (c : C) {now : ℕ} {rs : ShownRecords C} → IsFitting s (Opened k c) → now ≡ max s.latest at → s.handles ≡ 0 → rs ≡ machine.after_close true k s.records → IsStep s at (Opened k c) (Late k) (record s { latest = now; records = rs })
-  meets_late {s} at {k} c {now} {rs} fit now_is ended_now rs_is = meets_by (λ t. t.handles ≡ 0) (λ t. record t { latest = max t.latest at; records = machine.after_close true k t.records }) s _ at (Opened k c) (Late k) fit ended_now (same_shown _ _ refl now_is refl rs_is refl refl) (λ l legal f none.
+  -- a claimed approval ends
+  approval_ended : (l : Ledger C) (k : ℕ) → stands is_claimed (record_of l k) ≡ true → shown_records (start l).first (suc (position l)) (max (peak l) (conns_of (update (start l).first k after_end (records l)) + approved_of (update (start l).first k after_end (records l)))) (update (start l).first k after_end (records l)) ≡ machine.after_close true k (shown l).records
+  approval_ended l k f =
       let st = standing_is is_claimed (record_of l k) f in
-      let is : shown_records (start l).first (suc (position l)) (peak l) (update (start l).first k after_end (records l)) ≡ machine.after_close true k (shown l).records = shown-closed (start l).first (suc (position l)) (peak l) (records l) true k st.0 st.1 (claimed_is st.0.place st.2) ∙ ap (machine.after_close true k) (later_shown l) in
+      let is : shown_records (start l).first (suc (position l)) (peak l) (update (start l).first k after_end (records l)) ≡ machine.after_close true k (shown l).records = shown-closed (start l).first (suc (position l)) (peak l) (records l) true k st.0 st.1 st.2 ∙ ap (machine.after_close true k) (later_shown l) in
       let few : conns_of (records l) + approved_of (records l) ≤ peak l = peak_holds l in
-      (opens_late none, same_shown _ _ refl refl refl (still_raised l _ _ is (omega arith)) (gets_kept l) refl))
+      still_raised l _ _ is (omega arith)
+
+  pub meets_late : {s : Shown C} (at : ℕ) {k : ℕ} (c : C) {now : ℕ} {rs : ShownRecords C} → IsFitting s (Opened k c) → now ≡ max s.latest at → s.handles ≡ 0 → rs ≡ machine.after_close true k s.records → IsStep s at (Opened k c) (Late k) (record s { latest = now; records = rs })
+  meets_late {s} at {k} c {now} {rs} fit now_is ended_now rs_is = meets_by (λ t. t.handles ≡ 0) (λ t. record t { latest = max t.latest at; records = machine.after_close true k t.records }) s _ at (Opened k c) (Late k) fit ended_now (same_shown _ _ refl now_is refl rs_is refl refl) (λ l legal f none. (opens_late none, same_shown _ _ refl refl refl (approval_ended l k f) (gets_kept l) refl))
+
+  -- ---- failed
+
+  pub meets_failed : {s : Shown C} (at : ℕ) {k now : ℕ} {rs : ShownRecords C} → IsFitting s (Failed k) → now ≡ max s.latest at → rs ≡ machine.after_close true k s.records → IsStep s at (Failed k) GivenBack (record s { latest = now; records = rs })
+  meets_failed {s} at {k} {now} {rs} fit now_is rs_is = meets_by (λ t. Unit {0}) (λ t. record t { latest = max t.latest at; records = machine.after_close true k t.records }) s _ at (Failed k) GivenBack fit tt (same_shown _ _ refl now_is refl rs_is refl refl) (λ l legal f known. (fails, same_shown _ _ refl refl refl (approval_ended l k f) (gets_kept l) refl))
 
   -- ---- put_back
 
@@ -230,7 +239,7 @@ module _ {C : Type 0} where
       let st = standing_is is_guarded (record_of l k) f in
       let few : conns_of (records l) + approved_of (records l) ≤ peak l = peak_holds l in
       let m : ℕ = max (latest l) at in
-      let is = shown-entered (start l).first (position l) (peak l) (records l) false k st.0 c (birth_in (record_of l k)) m (at_entry c m (position l)) (entered_before l) st.1 (guarded_is st.0.place st.2) (λ r e. ap (λ (o : Option (Standing C)). entry c (birth_in o) m (position l)) (e ∙ sym st.1)) in
+      let is = shown-entered (start l).first (position l) (peak l) (records l) false k st.0 c (birth_in (record_of l k)) m (at_entry c m (position l)) (entered_before l) st.1 (guarded_out st.0.place st.2) (λ r e. ap (λ (o : Option (Standing C)). entry c (birth_in o) m (position l)) (e ∙ sym st.1)) in
       (keeps (closes_is l at k broken ∙ known.0) known.1, same_shown _ _ refl refl refl (ap machine.with_peak is ∙ raised_same _ (omega arith) ∙ ap (λ (o : Option (Standing C)). machine.after_entry false k (record { place = Idle c; birth = birth_in o; entered = m }) (shown l).records) (shown_record l (shown l) refl k)) (gets_told l n known.1) refl))
 
   -- the statistics after a return that closed
@@ -245,8 +254,8 @@ module _ {C : Type 0} where
       (λ l legal f known.
       let st = standing_is is_guarded (record_of l k) f in
       let shut : List (Numbered (Standing C)) = update (start l).first k after_end (records l) in
-      let is = shown-closed (start l).first (position l) (peak l) (records l) false k st.0 st.1 (guarded_is st.0.place st.2) in
-      let later = shown-closed (start l).first (suc (position l)) (peak l) (records l) false k st.0 st.1 (guarded_is st.0.place st.2) ∙ ap (machine.after_close false k) (later_shown l) in (
+      let is = shown-closed (start l).first (position l) (peak l) (records l) false k st.0 st.1 (guarded_out st.0.place st.2) in
+      let later = shown-closed (start l).first (suc (position l)) (peak l) (records l) false k st.0 st.1 (guarded_out st.0.place st.2) ∙ ap (machine.after_close false k) (later_shown l) in (
         returns_closed (closes_is l at k broken ∙ known.0) (want_is l shut grant _ (ended_before (position l) (start l).first k (records l) (entered_before l)) is known.1) known.2,
         same_shown _ _ refl refl refl (changed false l grant.count shut _ later) (gets_told l n known.2) (ap (λ (o : Option (Standing C)). record (shown l).counts { broken = (shown l).counts.broken + one broken; max_lifetime = (shown l).counts.max_lifetime + one (not broken && is_expired (start l).config.max_lifetime (max (latest l) at) (birth_in o)) }) (shown_record l (shown l) refl k)),
       ))
@@ -385,6 +394,37 @@ module _ {C : Type 0} where
 
   pub meets_look : {s : Shown C} {at now : ℕ} {alive_now : Bool} → now ≡ max s.latest at → alive_now ≡ ltb 0 s.handles → IsStep s at Look (Looked now alive_now) (record s { latest = now })
   meets_look {s} {at} {now} {alive_now} now_is alive_is = meets_quiet (λ t. (now ≡ max t.latest at) × (alive_now ≡ ltb 0 t.handles)) s at Look (Looked now alive_now) (λ l legal means. refl) (now_is, alive_is) now_is refl refl (λ l. (refl, refl, refl)) (λ l legal f known. (looks known.0 known.1, refl, refl))
+
+  -- ---- join
+
+  pub meets_joined : {s : Shown C} {at now : ℕ} → IsFitting s Join → now ≡ max s.latest at → s.handles < most_handles → IsStep s at Join Joined (record s { latest = now; handles = s.handles + 1 })
+  meets_joined {s} {at} {now} fit now_is few = meets_by (λ t. t.handles < most_handles) (λ t. record t { latest = max t.latest at; handles = t.handles + 1 }) s _ at Join Joined fit few (same_shown _ _ refl now_is refl refl refl refl) (λ l legal f known. (joins known, same_shown _ _ refl refl refl (records_kept l) (gets_kept l) refl))
+
+  pub meets_join_exhausted : {s : Shown C} {at now : ℕ} → IsFitting s Join → now ≡ max s.latest at → most_handles ≤ s.handles → IsStep s at Join Exhausted (record s { latest = now })
+  meets_join_exhausted {s} {at} {now} fit now_is many = meets_quiet (λ t. most_handles ≤ t.handles) s at Join Exhausted fit many now_is refl refl (λ l. (refl, refl, refl)) (λ l legal f known. (join_exhausted known, refl, refl))
+
+  -- ---- leave
+
+  -- the records after the leave of a handle, where it is the last one or not
+  abbrev left_shown : (l : Ledger C) (b : Bool) → ShownRecords C
+  left_shown l b = let rs : List (Numbered (Standing C)) = cond b (shut (records l)) (records l) in shown_records (start l).first (suc (position l)) (max (peak l) (conns_of rs + approved_of rs)) rs
+
+  pub meets_left_last : {s : Shown C} {at now n : ℕ} {rs : ShownRecords C} → IsFitting s Leave → now ≡ max s.latest at → s.handles ≡ 1 → n ≡ length s.records.idle → rs ≡ machine.after_leave s.records → IsStep s at Leave (Left n) (record s { latest = now; handles = 0; records = rs })
+  meets_left_last {s} {at} {now} {n} {rs} fit now_is last n_is rs_is = meets_by (λ t. (t.handles ≡ 1) × (n ≡ length t.records.idle)) (λ t. record t { latest = max t.latest at; handles = 0; records = machine.after_leave t.records }) s _ at Leave (Left n) fit (last, n_is) (same_shown _ _ refl now_is refl rs_is refl refl)
+      (λ l legal f known.
+      let on : eqb (handles l) 1 ≡ true = ap (λ (m : ℕ). eqb m 1) known.0 in
+      let is : shown_records (start l).first (suc (position l)) (peak l) (shut (records l)) ≡ machine.after_leave (shown l).records = shown-left (start l).first (suc (position l)) (peak l) (records l) (before_later idle_at (records l) (position l) (entered_before l)) ∙ ap machine.after_leave (later_shown l) in
+      let few : conns_of (records l) + approved_of (records l) ≤ peak l = peak_holds l in
+      let fewer : (machine.after_leave (shown l).records).conns + (machine.after_leave (shown l).records).approved ≤ conns_of (records l) + approved_of (records l) = left_few (shown l).records in (
+        leaves (known.1 ∙ idle_tally l ∙ ap (λ (b : Bool). cond b (idle_count l) 0) (sym on)),
+        same_shown _ _ refl refl (ap (λ (m : ℕ). m - 1) known.0) (ap (left_shown l) on ∙ still_raised l (shut (records l)) _ is (omega arith)) (gets_kept l) refl,
+      ))
+
+  pub meets_left : {s : Shown C} {at now : ℕ} → IsFitting s Leave → now ≡ max s.latest at → s.handles ≢ 1 → IsStep s at Leave (Left 0) (record s { latest = now; handles = s.handles - 1 })
+  meets_left {s} {at} {now} fit now_is more = meets_by (λ t. t.handles ≢ 1) (λ t. record t { latest = max t.latest at; handles = t.handles - 1 }) s _ at Leave (Left 0) fit more (same_shown _ _ refl now_is refl refl refl refl)
+      (λ l legal f known.
+      let off : eqb (handles l) 1 ≡ false = ne_test (handles l) 1 known in
+      (leaves (ap (λ (b : Bool). cond b (idle_count l) 0) (sym off)), same_shown _ _ refl refl refl (ap (left_shown l) off ∙ records_kept l) (gets_kept l) refl))
 
   -- ---- add
 

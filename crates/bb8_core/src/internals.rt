@@ -13,12 +13,12 @@ ghost use Rattle.bb8_types.specs.Settings.{settings_of, is_lawful};
 ghost use Rattle.bb8_types.specs.Figures.{figures_of};
 ghost use Rattle.bb8_core.specs.Run.{opening};
 ghost use Rattle.bb8_core.specs.Shown.{Means, Meets, IsFitting, TellsFitting, IsRecordIn, IsNoRecordIn, IsGetIn, IsNoGetIn, IsWithinLimits};
-ghost use Rattle.bb8_core.specs.StepAnswers.{begin_told, try_told, reason_of, give_up_told, put_back_told, claim_told, opened_told, add_told, look_told, HandsOut, ServesAtOnce, GivesBack, HandsBack, Refuses};
+ghost use Rattle.bb8_core.specs.StepAnswers.{begin_told, try_told, reason_of, give_up_told, put_back_told, claim_told, opened_told, failed_told, add_told, join_told, leave_told, look_told, HandsOut, ServesAtOnce, GivesBack, HandsBack, Refuses};
 ghost use Rattle.bb8_tables.specs.Keys.{notified_of};
 
 pub use crate::answers::{
-    AddAnswer, AtOnce, BeginAnswer, ClaimAnswer, GiveUpAnswer, Looked, OpenedAnswer, PutBackAnswer,
-    TryAnswer,
+    AddAnswer, AtOnce, BeginAnswer, ClaimAnswer, FailedAnswer, GiveUpAnswer, JoinAnswer,
+    LeaveAnswer, Looked, OpenedAnswer, PutBackAnswer, TryAnswer,
 };
 use bb8_tables::counters::Counters;
 use bb8_tables::gets::{Gets, first_wait, is_notified, is_unnotified};
@@ -325,6 +325,16 @@ impl<C: Drop> PoolInternals<C> {
         OpenedAnswer::Entered(self.gets.notify())
     }
 
+    /// Ends a claimed approval that brought no connection. Nobody is notified.
+    pub fn failed(&mut self, at: Moment, approval: Key) -> FailedAnswer
+        requires { IsFitting self.old (acts.Failed approval.number) }
+        ensures { Meets self.old at.0 (acts.Failed approval.number) (failed_told result) self.new }
+    {
+        self.latest = self.latest.max(at.0);
+        self.records.close(approval, true);
+        FailedAnswer::GivenBack
+    }
+
     /// Adds a connection that no approval brought, born now. A broken one is refused first; then any, where connections and open approvals
     /// are as many as `max_size`; then, where no number is left, or there are as many of them as ever were and memory for one more was
     /// refused.
@@ -370,6 +380,33 @@ impl<C: Drop> PoolInternals<C> {
             idle_connections: self.records.idle_connections(),
             statistics: self.counters.statistics(),
         }
+    }
+
+    /// Adds a handle, where fewer than 4,294,967,295 are alive.
+    pub fn join(&mut self, at: Moment) -> JoinAnswer
+        requires { IsFitting self.old acts.Join }
+        ensures { Meets self.old at.0 acts.Join (join_told result) self.new }
+    {
+        self.latest = self.latest.max(at.0);
+        if self.handles >= u32::MAX as u64 {
+            return JoinAnswer::Exhausted;
+        }
+        self.handles += 1;
+        JoinAnswer::Joined
+    }
+
+    /// Takes a handle away. With the last one all idle connections and all unclaimed approvals end; the connections are dropped here.
+    pub fn leave(&mut self, at: Moment) -> LeaveAnswer
+        requires { IsFitting self.old acts.Leave }
+        ensures { Meets self.old at.0 acts.Leave (leave_told result) self.new }
+    {
+        self.latest = self.latest.max(at.0);
+        if self.handles == 1 {
+            self.handles = 0;
+            return LeaveAnswer::Left(self.records.leave());
+        }
+        self.handles -= 1;
+        LeaveAnswer::Left(0)
     }
 
     /// The effective moment, and whether a handle is alive.
@@ -436,6 +473,27 @@ impl<C: Drop> PoolInternals<C> {
         ensures { (conn : C) → TellsFitting self.now (acts.Opened a.number conn) result }
     {
         self.records.is_claimed(a)
+    }
+
+    /// Whether the approval of this key is claimed and may end without a connection.
+    pub fn fits_failed(&self, approval: Key) -> bool
+        ensures { TellsFitting self.now (acts.Failed approval.number) result }
+    {
+        self.records.is_claimed(approval)
+    }
+
+    /// Whether a handle may be added: while one is alive.
+    pub fn fits_join(&self) -> bool
+        ensures { TellsFitting self.now acts.Join result }
+    {
+        self.fits_begin()
+    }
+
+    /// Whether a handle may be dropped: while one is alive.
+    pub fn fits_leave(&self) -> bool
+        ensures { TellsFitting self.now acts.Leave result }
+    {
+        self.fits_join()
     }
 
     /// The key of a connection or approval that has not ended, by its number.

@@ -15,7 +15,8 @@ mod hints;
 
 use self::hints::Hints;
 use crate::answers::{
-    AddAnswer, BeginAnswer, ClaimAnswer, GiveUpAnswer, OpenedAnswer, PutBackAnswer, TryAnswer,
+    AddAnswer, BeginAnswer, ClaimAnswer, FailedAnswer, GiveUpAnswer, JoinAnswer, LeaveAnswer,
+    OpenedAnswer, PutBackAnswer, TryAnswer,
 };
 use crate::internals::PoolInternals;
 use bb8_tables::keys::{GetKey, Key};
@@ -46,8 +47,11 @@ impl Known {
     fn place(&self, act: Act) -> usize {
         match act {
             Act::Try(get) | Act::GiveUp(get, _, _) => self.gets.place(get),
-            Act::PutBack(number, _) | Act::Opened(number) => self.records.place(number),
-            Act::Begin | Act::Fill(_) | Act::Claim | Act::Add(_) | Act::State | Act::Look => 0,
+            Act::PutBack(number, _) | Act::Opened(number) | Act::Failed(number) => {
+                self.records.place(number)
+            }
+            Act::Begin | Act::Fill(_) | Act::Claim | Act::Add(_) => 0,
+            Act::State | Act::Join | Act::Leave | Act::Look => 0,
         }
     }
 }
@@ -70,6 +74,9 @@ fn fits_at<C: Drop>(pool: &PoolInternals<C>, act: Act, place: usize) -> bool
         Act::GiveUp(number, _, _) => pool.fits_give_up(GetKey { number, place }),
         Act::PutBack(number, _) => pool.fits_put_back(Key { number, place }),
         Act::Opened(number) => pool.fits_opened(Key { number, place }),
+        Act::Failed(number) => pool.fits_failed(Key { number, place }),
+        Act::Join => pool.fits_join(),
+        Act::Leave => pool.fits_leave(),
         Act::Fill(_) | Act::Claim | Act::State | Act::Look => true,
     }
 }
@@ -152,6 +159,15 @@ fn opened(pool: &mut PoolInternals<u64>, at: Moment, key: Key) -> Answer
     }
 }
 
+fn failed(pool: &mut PoolInternals<u64>, at: Moment, key: Key) -> Answer
+    requires { IsFitting pool.old (acts.Failed key.number) }
+    ensures { Meets pool.old at.0 (acts.Failed key.number) (answer_of result) pool.new }
+{
+    match pool.failed(at, key) {
+        FailedAnswer::GivenBack => Answer::GivenBack,
+    }
+}
+
 fn add(pool: &mut PoolInternals<u64>, known: &mut Known, at: Moment, broken: bool) -> Answer
     requires { IsFitting pool.old (acts.Add pool.old.records.next broken) }
     ensures { Meets pool.old at.0 (acts.Add pool.old.records.next broken) (answer_of result) pool.new }
@@ -165,6 +181,25 @@ fn add(pool: &mut PoolInternals<u64>, known: &mut Known, at: Moment, broken: boo
         AddAnswer::Broken(_) => Answer::Broken,
         AddAnswer::NoCapacity(_) => Answer::NoCapacity,
         AddAnswer::Withheld(_) => Answer::Withheld,
+    }
+}
+
+fn join(pool: &mut PoolInternals<u64>, at: Moment) -> Answer
+    requires { IsFitting pool.old acts.Join }
+    ensures { Meets pool.old at.0 acts.Join (answer_of result) pool.new }
+{
+    match pool.join(at) {
+        JoinAnswer::Joined => Answer::Joined,
+        JoinAnswer::Exhausted => Answer::Exhausted,
+    }
+}
+
+fn leave(pool: &mut PoolInternals<u64>, at: Moment) -> Answer
+    requires { IsFitting pool.old acts.Leave }
+    ensures { Meets pool.old at.0 acts.Leave (answer_of result) pool.new }
+{
+    match pool.leave(at) {
+        LeaveAnswer::Left(closed) => Answer::Left(closed),
     }
 }
 
@@ -193,8 +228,11 @@ fn apply(pool: &mut PoolInternals<u64>, known: &mut Known, event: Event) -> Answ
         Act::Fill(claimed) => Answer::Granted(pool.fill(event.at, claimed)),
         Act::Claim => claim(pool, known, event.at),
         Act::Opened(number) => opened(pool, event.at, Key { number, place }),
+        Act::Failed(number) => failed(pool, event.at, Key { number, place }),
         Act::Add(broken) => add(pool, known, event.at, broken),
         Act::State => Answer::Shown(pool.state(event.at)),
+        Act::Join => join(pool, event.at),
+        Act::Leave => leave(pool, event.at),
         Act::Look => look(pool, event.at),
     }
 }

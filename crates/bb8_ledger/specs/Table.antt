@@ -42,10 +42,7 @@ module _ {C : Type 0} where
   is_brought l (Try g) = not (start l).config.test_on_check_out
   is_brought l (CheckedOk g) = false
   is_brought l (CheckedErr g broken) = false
-  is_brought l (Failed a) = false
   is_brought l Reap = false
-  is_brought l Join = false
-  is_brought l Leave = false
   is_brought l _ = true
 
   -- which events the code takes

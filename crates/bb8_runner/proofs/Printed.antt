@@ -5,7 +5,7 @@ use Rattle.std.specs.List.{All}
 use Rattle.std.proofs.lemmas.List.Elements.{All-nil, All-weaker}
 use Rattle.bb8_types.specs.Figures.{Counts, Figures, figures_of}
 use Rattle.bb8_core.specs.declared.replay.events.Answer.{Answer}
-use Rattle.bb8_core.specs.declared.replay.events.Answer.TheVariants.{Begun, Memory, Exhausted, Served, Waiting, Kept, Closed, GaveUp, Granted, Claimed, Ended, Entered, Late, Added, Broken, NoCapacity, Withheld, Shown, Looked, Unfit}
+use Rattle.bb8_core.specs.declared.replay.events.Answer.TheVariants.{Begun, Memory, Exhausted, Served, Waiting, Kept, Closed, GaveUp, Granted, Claimed, Ended, Entered, Late, GivenBack, Added, Broken, NoCapacity, Withheld, Shown, Joined, Left, Looked, Unfit}
 use Rattle.bb8_types.specs.declared.grants.Grant.{Grant}
 use Rattle.bb8_runner.specs.Text.{grant_text, notifies_text, sizes_text, gets_text, opened_text, closed_text, state_text, answer_text}
 use Rattle.bb8_runner.proofs.Bytes.{IsOver, AreOver, over, are_over, decimal_over, joined}
@@ -75,11 +75,14 @@ answer_visible (Claimed None) = are_over 31 (codes "none") refl
 answer_visible Ended = are_over 31 (codes "ended") refl
 answer_visible (Entered a notified) = word (codes "entered ") _ refl (after a _ (notifies_visible notified))
 answer_visible (Late a) = word (codes "late ") _ refl (number a)
+answer_visible GivenBack = are_over 31 (codes "given back") refl
 answer_visible (Added k notified) = word (codes "added ") _ refl (after k _ (notifies_visible notified))
 answer_visible Broken = are_over 31 (codes "broken") refl
 answer_visible NoCapacity = are_over 31 (codes "full") refl
 answer_visible Withheld = are_over 31 (codes "withheld") refl
 answer_visible (Shown state) = state_visible (figures_of state)
+answer_visible Joined = are_over 31 (codes "joined") refl
+answer_visible (Left n) = word (codes "left ") _ refl (number n)
 answer_visible (Looked m true) = word (codes "looked ") _ refl (after m.0 _ (are_over 31 (codes " open") refl))
 answer_visible (Looked m false) = word (codes "looked ") _ refl (after m.0 _ (are_over 31 (codes " closed") refl))
 answer_visible Unfit = are_over 31 (codes "unfit") refl

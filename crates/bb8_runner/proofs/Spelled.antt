@@ -4,7 +4,7 @@ use Rattle.std.specs.Fmt.{decimal}
 use Rattle.std.specs.Str.{bytes_eq}
 use Rattle.std.proofs.lemmas.Slice.Eq.{bytes_eq-Decides}
 use Rattle.bb8_core.specs.declared.replay.events.Act.{Act}
-use Rattle.bb8_core.specs.declared.replay.events.Act.TheVariants.{Begin, Try, GiveUp, PutBack, Fill, Claim, Opened, Add, State, Look}
+use Rattle.bb8_core.specs.declared.replay.events.Act.TheVariants.{Begin, Try, GiveUp, PutBack, Fill, Claim, Opened, Failed, Add, State, Join, Leave, Look}
 use Rattle.bb8_types.specs.declared.reasons.Reason.TheVariants.{TimedOut, Cancelled}
 use Rattle.bb8_core.specs.declared.replay.events.Event.{Event}
 use Rattle.bb8_runner.specs.Grammar.{◌>>=◌, number_of, plain_act, worded_act, numbered_act, broken_act, act_of, event_of_fields}
@@ -23,12 +23,15 @@ act_read (Fill false) h = refl
 act_read Claim h = refl
 act_read (Add false) h = refl
 act_read State h = refl
+act_read Join h = refl
+act_read Leave h = refl
 act_read Look h = refl
 act_read (Try n) h = ap (λ o. unwrap_or (option_map (numbered_act (codes "try")) o) (worded_act (codes "try") (decimal n))) (number_read 64 n h h)
 act_read (GiveUp n TimedOut false) h = ap (λ o. unwrap_or (option_map (numbered_act (codes "timeout")) o) (worded_act (codes "timeout") (decimal n))) (number_read 64 n h h)
 act_read (GiveUp n Cancelled false) h = ap (λ o. unwrap_or (option_map (numbered_act (codes "cancel")) o) (worded_act (codes "cancel") (decimal n))) (number_read 64 n h h)
 act_read (PutBack n false) h = ap (λ o. unwrap_or (option_map (numbered_act (codes "return")) o) (worded_act (codes "return") (decimal n))) (number_read 64 n h h)
 act_read (Opened n) h = ap (λ o. unwrap_or (option_map (numbered_act (codes "open")) o) (worded_act (codes "open") (decimal n))) (number_read 64 n h h)
+act_read (Failed n) h = ap (λ o. unwrap_or (option_map (numbered_act (codes "fail")) o) (worded_act (codes "fail") (decimal n))) (number_read 64 n h h)
 act_read (GiveUp n TimedOut true) h = ap (λ o. o >>= broken_act (codes "timeout")) (number_read 64 n h h)
 act_read (GiveUp n Cancelled true) h = ap (λ o. o >>= broken_act (codes "cancel")) (number_read 64 n h h)
 act_read (PutBack n true) h = ap (λ o. o >>= broken_act (codes "return")) (number_read 64 n h h)
@@ -51,8 +54,10 @@ plain_spelled verb a =
     step verb (codes "claim") Claim _ a P (λ v. (v, refl, tt)) (
     step verb (codes "add") (Add false) _ a P (λ v. (v, refl, tt)) (
     step verb (codes "state") State _ a P (λ v. (v, refl, tt)) (
+    step verb (codes "join") Join _ a P (λ v. (v, refl, tt)) (
+    step verb (codes "leave") Leave _ a P (λ v. (v, refl, tt)) (
     step verb (codes "look") Look _ a P (λ v. (v, refl, tt)) (
-    λ w. absurd (never a w)))))))
+    λ w. absurd (never a w)))))))))
 
 numbered_spelled : (verb arg : List ℕ) (n : ℕ) (a : Act) → n < 2 ^ 64 → arg ≡ decimal n → numbered_act verb n ≡ Some a → SpellsAct verb (arg ∷ []) a
 numbered_spelled verb arg n a small d =
@@ -63,7 +68,8 @@ numbered_spelled verb arg n a small d =
     step verb (codes "cancel") (GiveUp n Cancelled false) _ a P (λ v. (v, s, small)) (
     step verb (codes "return") (PutBack n false) _ a P (λ v. (v, s, small)) (
     step verb (codes "open") (Opened n) _ a P (λ v. (v, s, small)) (
-    λ w. absurd (never a w))))))
+    step verb (codes "fail") (Failed n) _ a P (λ v. (v, s, small)) (
+    λ w. absurd (never a w)))))))
 
 broken_spelled : (verb arg word : List ℕ) (n : ℕ) (a : Act) → n < 2 ^ 64 → arg ≡ decimal n → word ≡ codes "broken" → broken_act verb n ≡ Some a → SpellsAct verb (arg ∷ word ∷ []) a
 broken_spelled verb arg word n a small d b =

@@ -9,7 +9,7 @@ use Rattle.std.proofs.lemmas.List.Splits.{join_with_byte-slice_split, slice_spli
 use Rattle.std.proofs.lemmas.Str.{IsUtf8-from_ascii, IsAscii-append}
 use Rattle.std.proofs.lemmas.Str.Ascii.{IsAscii-cons, IsAscii-nil, IsAscii-from_all}
 use Rattle.bb8_core.specs.declared.replay.events.Act.{Act}
-use Rattle.bb8_core.specs.declared.replay.events.Act.TheVariants.{Begin, Try, GiveUp, PutBack, Fill, Claim, Opened, Add, State, Look}
+use Rattle.bb8_core.specs.declared.replay.events.Act.TheVariants.{Begin, Try, GiveUp, PutBack, Fill, Claim, Opened, Failed, Add, State, Join, Leave, Look}
 use Rattle.bb8_types.specs.declared.reasons.Reason.TheVariants.{TimedOut, Cancelled}
 use Rattle.bb8_core.specs.declared.replay.events.Event.{Event}
 use Rattle.bb8_runner.specs.Grammar.{fields_of, event_of}
@@ -54,8 +54,11 @@ verb_word (PutBack k b) = are_over 32 (codes "return") refl
 verb_word (Fill c) = are_over 32 (codes "fill") refl
 verb_word Claim = are_over 32 (codes "claim") refl
 verb_word (Opened a) = are_over 32 (codes "open") refl
+verb_word (Failed a) = are_over 32 (codes "fail") refl
 verb_word (Add b) = are_over 32 (codes "add") refl
 verb_word State = are_over 32 (codes "state") refl
+verb_word Join = are_over 32 (codes "join") refl
+verb_word Leave = are_over 32 (codes "leave") refl
 verb_word Look = are_over 32 (codes "look") refl
 
 number_word : (n : ℕ) → AreOver 32 (decimal n)
@@ -72,10 +75,13 @@ args_words (GiveUp g why b) = (number_word g, flag_words (codes "broken") b (are
 args_words (PutBack k b) = (number_word k, flag_words (codes "broken") b (are_over 32 (codes "broken") refl))
 args_words (Fill c) = flag_words (codes "claimed") c (are_over 32 (codes "claimed") refl)
 args_words (Opened a) = (number_word a, tt)
+args_words (Failed a) = (number_word a, tt)
 args_words (Add b) = flag_words (codes "broken") b (are_over 32 (codes "broken") refl)
 args_words Begin = tt
 args_words Claim = tt
 args_words State = tt
+args_words Join = tt
+args_words Leave = tt
 args_words Look = tt
 
 event_words : (e : Event) → AreWords (event_fields e)

@@ -2,7 +2,7 @@
 use Rattle.std.specs.Prelude.{◌≡◌, ◌≢◌, ℕ, ◌^◌, ◌<◌, List, [], ◌∷◌, ◌++◌, map, ⊤, Bool, true, false, Option, Some, None, codes, decimal}
 use Rattle.std.specs.List.{join_with_byte}
 use Rattle.bb8_core.specs.declared.replay.events.Act.{Act}
-use Rattle.bb8_core.specs.declared.replay.events.Act.TheVariants.{Begin, Try, GiveUp, PutBack, Fill, Claim, Opened, Add, State, Look}
+use Rattle.bb8_core.specs.declared.replay.events.Act.TheVariants.{Begin, Try, GiveUp, PutBack, Fill, Claim, Opened, Failed, Add, State, Join, Leave, Look}
 use Rattle.bb8_types.specs.declared.reasons.Reason.TheVariants.{TimedOut, Cancelled}
 use Rattle.bb8_core.specs.declared.replay.events.Event.{Event}
 use Rattle.bb8_types.specs.declared.api.configuration.QueueStrategy.{QueueStrategy}
@@ -19,8 +19,11 @@ verb_of (PutBack k b) = codes "return"
 verb_of (Fill c) = codes "fill"
 verb_of Claim = codes "claim"
 verb_of (Opened a) = codes "open"
+verb_of (Failed a) = codes "fail"
 verb_of (Add b) = codes "add"
 verb_of State = codes "state"
+verb_of Join = codes "join"
+verb_of Leave = codes "leave"
 verb_of Look = codes "look"
 
 -- the word, where it is wanted
@@ -35,10 +38,13 @@ args_of (GiveUp g why b) = decimal g ∷ flag (codes "broken") b
 args_of (PutBack k b) = decimal k ∷ flag (codes "broken") b
 args_of (Fill c) = flag (codes "claimed") c
 args_of (Opened a) = decimal a ∷ []
+args_of (Failed a) = decimal a ∷ []
 args_of (Add b) = flag (codes "broken") b
 args_of Begin = []
 args_of Claim = []
 args_of State = []
+args_of Join = []
+args_of Leave = []
 args_of Look = []
 
 -- the number that the act names is a u64
@@ -47,11 +53,14 @@ FitsAct (Try g) = g < 2 ^ 64
 FitsAct (GiveUp g why b) = g < 2 ^ 64
 FitsAct (PutBack k b) = k < 2 ^ 64
 FitsAct (Opened a) = a < 2 ^ 64
+FitsAct (Failed a) = a < 2 ^ 64
 FitsAct Begin = ⊤
 FitsAct (Fill c) = ⊤
 FitsAct Claim = ⊤
 FitsAct (Add b) = ⊤
 FitsAct State = ⊤
+FitsAct Join = ⊤
+FitsAct Leave = ⊤
 FitsAct Look = ⊤
 
 -- the moment and the number that the act names are u64

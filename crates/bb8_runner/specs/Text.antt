@@ -2,7 +2,7 @@
 use Rattle.std.specs.Prelude.{ℕ, ◌/◌, ◌==◌, List, [], ◌∷◌, ◌++◌, true, false, Option, Some, None, codes, decimal, if◌then◌else◌, flat_map}
 use Rattle.bb8_types.specs.Figures.{Counts, Figures, figures_of}
 use Rattle.bb8_core.specs.declared.replay.events.Answer.{Answer}
-use Rattle.bb8_core.specs.declared.replay.events.Answer.TheVariants.{Begun, Memory, Exhausted, Served, Waiting, Kept, Closed, GaveUp, Granted, Claimed, Ended, Entered, Late, Added, Broken, NoCapacity, Withheld, Shown, Looked, Unfit}
+use Rattle.bb8_core.specs.declared.replay.events.Answer.TheVariants.{Begun, Memory, Exhausted, Served, Waiting, Kept, Closed, GaveUp, Granted, Claimed, Ended, Entered, Late, GivenBack, Added, Broken, NoCapacity, Withheld, Shown, Joined, Left, Looked, Unfit}
 use Rattle.bb8_types.specs.declared.grants.Grant.{Grant}
 
 -- ` grant N at F` where something was granted, and ` withheld W` where something was withheld
@@ -53,11 +53,14 @@ answer_text (Claimed None) = codes "none"
 answer_text Ended = codes "ended"
 answer_text (Entered a notified) = codes "entered " ++ (decimal a ++ notifies_text notified)
 answer_text (Late a) = codes "late " ++ decimal a
+answer_text GivenBack = codes "given back"
 answer_text (Added k notified) = codes "added " ++ (decimal k ++ notifies_text notified)
 answer_text Broken = codes "broken"
 answer_text NoCapacity = codes "full"
 answer_text Withheld = codes "withheld"
 answer_text (Shown state) = state_text (figures_of state)
+answer_text Joined = codes "joined"
+answer_text (Left n) = codes "left " ++ decimal n
 answer_text (Looked m true) = codes "looked " ++ (decimal m.0 ++ codes " open")
 answer_text (Looked m false) = codes "looked " ++ (decimal m.0 ++ codes " closed")
 answer_text Unfit = codes "unfit"

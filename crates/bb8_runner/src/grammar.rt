@@ -41,6 +41,8 @@ fn plain_act(verb: &str) -> Option<Act>
         "claim" => Some(Act::Claim),
         "add" => Some(Act::Add(false)),
         "state" => Some(Act::State),
+        "join" => Some(Act::Join),
+        "leave" => Some(Act::Leave),
         "look" => Some(Act::Look),
         _ => None,
     }
@@ -67,6 +69,7 @@ fn numbered_act(verb: &str, n: u64) -> Option<Act>
         "cancel" => Some(Act::GiveUp(n, Reason::Cancelled, false)),
         "return" => Some(Act::PutBack(n, false)),
         "open" => Some(Act::Opened(n)),
+        "fail" => Some(Act::Failed(n)),
         _ => None,
     }
 }

@@ -13,7 +13,9 @@ use std::test::Fail;
 use std::time::Duration;
 
 mod generated;
+mod generated_handles;
 mod generated_waits;
+mod handles;
 mod judged;
 mod original;
 mod rows;
@@ -113,12 +115,16 @@ const EACH_ANSWER: &[u8] = b"\
     ended\n\
     entered 8 notifies 0\n\
     late 8\n\
+    given back\n\
     added 9 notifies 4\n\
     added 9\n\
     broken\n\
     full\n\
     withheld\n\
     state connections 21 idle 13 started 100 direct 31 waited 32 timed_out 5 cancelled 6 wait_us 5999 created 7 broken 8 invalid 9 lifetime 10 idle_timeout 11\n\
+    joined\n\
+    left 4294967295\n\
+    left 0\n\
     looked 18446744073709551615 open\n\
     looked 0 closed\n\
     unfit\n\
@@ -212,12 +218,16 @@ fn prints_each_answer(rt: HostRuntime) -> Result<(), Fail> {
         Answer::Ended,
         Answer::Entered(8, Some(0)),
         Answer::Late(8),
+        Answer::GivenBack,
         Answer::Added(9, Some(4)),
         Answer::Added(9, None),
         Answer::Broken,
         Answer::NoCapacity,
         Answer::Withheld,
         Answer::Shown(state()),
+        Answer::Joined,
+        Answer::Left(4_294_967_295),
+        Answer::Left(0),
         Answer::Looked(Moment(18_446_744_073_709_551_615), true),
         Answer::Looked(Moment(0), false),
         Answer::Unfit,

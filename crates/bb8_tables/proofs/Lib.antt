@@ -3,4 +3,5 @@ pub mod Slots
 pub mod Lines
 pub mod RecordPlaces
 pub mod Approvals
+pub mod Ended
 pub mod GetPlaces

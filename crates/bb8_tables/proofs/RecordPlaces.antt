@@ -13,7 +13,7 @@ use Rattle.bb8_tables.specs.declared.keys.Key.{Key}
 use Rattle.bb8_tables.specs.declared.table.Slot.{Slot}
 use Rattle.bb8_tables.specs.declared.records.Records.TheInside.{Inside}
 use Rattle.bb8_types.specs.declared.api.configuration.QueueStrategy.{QueueStrategy}
-use Rattle.bb8_types.specs.Places.{is_idle, is_unclaimed, is_conn, is_approval, with_place, first_place, first_of}
+use Rattle.bb8_types.specs.Places.{is_idle, is_unclaimed, is_conn, is_approval, with_place, first_place, first_of, comes_from}
 use Rattle.bb8_tables.specs.Slots.{values_at, cut_at}
 use Rattle.bb8_tables.specs.State.{view_of_records, AreGoodRecords, passes, IsLineOf}
 use Rattle.bb8_types.specs.Numbered.{tally, one}
@@ -75,11 +75,11 @@ module _ {C : Type 0} where
   shown_absent a q h = Slots.held_absent (λ (s : Slot (Standing C)). s.number) (λ s. s.standing) a.slots.slots q h
 
   -- the record that is shown of a number stands where the number was found
-  abbrev pub Shows : Inside C → ℕ → Place C → Type 0
-  Shows a q p = (s : Standing C) × (get (view_of_records a).places q ≡ Some s) × (s.place ≡ p)
+  abbrev pub Shows : Inside C → ℕ → (Place C → Bool) → Type 0
+  Shows a q test = (s : Standing C) × (get (view_of_records a).places q ≡ Some s) × (test s.place ≡ true)
 
-  pub stood : (a : Inside C) (q i : ℕ) (x : Slot (Standing C)) (p : Place C) → AreGoodRecords a → Shows a q p → slabs.get a.slots i ≡ Some x → x.number ≡ q → x.standing.place ≡ p
-  stood a q i x p good h e same = ap (λ (s : Standing C). s.place) (stands_is a q i h.0 x good h.1 e same) ∙ h.2
+  pub stood : (a : Inside C) (q i : ℕ) (x : Slot (Standing C)) (test : Place C → Bool) → AreGoodRecords a → Shows a q test → slabs.get a.slots i ≡ Some x → x.number ≡ q → test x.standing.place ≡ true
+  stood a q i x test good h e same = ap (λ (s : Standing C). test s.place) (stands_is a q i h.0 x good h.1 e same) ∙ h.2
 
   -- a look-up that finds nothing, or a slot
   pub none_shown : (a : Inside C) (q : ℕ) (s : ShownRecords C) → view_of_records a ≡ s → ((i : ℕ) (x : Slot (Standing C)) → slabs.get a.slots i ≡ Some x → x.number ≢ q) → get s.places q ≡ None
@@ -191,21 +191,21 @@ module _ {C : Type 0} where
   -- ---- enter
 
   -- a claimed approval, or a connection that was out, becomes idle
-  module _ (a : Inside C) (opening : Bool) (place : ℕ) (key : Key) (x : Slot (Standing C)) (s : Standing C) (slots : Slab (Slot (Standing C))) (good : AreGoodRecords a) (at_place : slabs.get a.slots place ≡ Some x) (was : x.standing.place ≡ cond opening Claimed Guarded) (numbered : x.number ≡ key.number) (placed_there : key.place ≡ place) (is_idle_now : is_idle s.place ≡ true) (sets : SetsTo a.slots slots place (λ _. s)) where
+  module _ (a : Inside C) (opening : Bool) (place : ℕ) (key : Key) (x : Slot (Standing C)) (s : Standing C) (slots : Slab (Slot (Standing C))) (good : AreGoodRecords a) (at_place : slabs.get a.slots place ≡ Some x) (was : comes_from opening x.standing.place ≡ true) (numbered : x.number ≡ key.number) (placed_there : key.place ≡ place) (is_idle_now : is_idle s.place ≡ true) (sets : SetsTo a.slots slots place (λ _. s)) where
     abbrev entering : Slot (Standing C)
     entering = record x { standing = s }
 
     not_idle : is_idle x.standing.place ≡ false
-    not_idle = ap is_idle was ∙ idle_from C opening
+    not_idle = idle_from opening x.standing.place was
 
     not_unclaimed : is_unclaimed x.standing.place ≡ false
-    not_unclaimed = ap is_unclaimed was ∙ unclaimed_from C opening
+    not_unclaimed = unclaimed_from opening x.standing.place was
 
     conn_was : is_conn x.standing.place ≡ not opening
-    conn_was = ap is_conn was ∙ conn_from C opening
+    conn_was = conn_from opening x.standing.place was
 
     approval_was : is_approval x.standing.place ≡ opening
-    approval_was = ap is_approval was ∙ approval_from C opening
+    approval_was = approval_from opening x.standing.place was
 
     conn_is : is_conn s.place ≡ true
     conn_is = idle_conn s.place is_idle_now
@@ -263,12 +263,12 @@ module _ {C : Type 0} where
   -- ---- close
 
   -- a claimed approval, or a connection that was out, ends
-  module _ (a : Inside C) (opening : Bool) (place q : ℕ) (x : Slot (Standing C)) (slots : Slab (Slot (Standing C))) (good : AreGoodRecords a) (at_place : slabs.get a.slots place ≡ Some x) (numbered : x.number ≡ q) (was : x.standing.place ≡ cond opening Claimed Guarded) (frees : Updates a.slots slots place None) where
+  module _ (a : Inside C) (opening : Bool) (place q : ℕ) (x : Slot (Standing C)) (slots : Slab (Slot (Standing C))) (good : AreGoodRecords a) (at_place : slabs.get a.slots place ≡ Some x) (numbered : x.number ≡ q) (was : comes_from opening x.standing.place ≡ true) (frees : Updates a.slots slots place None) where
     conns_less : tally (passes is_conn) slots.slots + one (not opening) ≡ a.conns + 0
-    conns_less = conns_set a slots place (Some x) None (not opening) false good at_place frees (ap is_conn was ∙ conn_from C opening) refl
+    conns_less = conns_set a slots place (Some x) None (not opening) false good at_place frees (conn_from opening x.standing.place was) refl
 
     approved_less : tally (passes is_approval) slots.slots + one opening ≡ a.approved + 0
-    approved_less = approved_set a slots place (Some x) None opening false good at_place frees (ap is_approval was ∙ approval_from C opening) refl
+    approved_less = approved_set a slots place (Some x) None opening false good at_place frees (approval_from opening x.standing.place was) refl
 
     pub close_counted : one (not opening) ≤ a.conns
     close_counted = let e : tally (passes is_conn) slots.slots + one (not opening) ≡ a.conns + 0 = conns_less in omega arith
@@ -283,8 +283,8 @@ module _ {C : Type 0} where
         let e : one opening + one (not opening) ≡ 1 = either opening in
         record {
           table = table_removed good.table frees;
-          idle = other_line good.idle at_place (ap is_idle was ∙ idle_from C opening) frees;
-          unclaimed = other_line good.unclaimed at_place (ap is_unclaimed was ∙ unclaimed_from C opening) frees;
+          idle = other_line good.idle at_place (idle_from opening x.standing.place was) frees;
+          unclaimed = other_line good.unclaimed at_place (unclaimed_from opening x.standing.place was) frees;
           conns_are = omega arith;
           approved_are = omega arith;
           sizes = let s = good.sizes in record { places_are = omega arith; peak_holds = omega arith; peak_few = good.sizes.peak_few; place_room_holds = omega arith; idle_room_holds = s.idle_room_holds; unclaimed_room_holds = s.unclaimed_room_holds };
@@ -356,3 +356,71 @@ module _ {C : Type 0} where
         (held_added good.table free refl u)
         (ap (λ (b : Buffer Key). map (λ (k : Key). k.number) b.items) pushed ∙ map_push (λ (k : Key). k.number) a.idle.items (record { number = a.next; place = place }))
         refl refl refl refl
+
+  -- ---- the first in line ends
+
+  -- the idle connection that is first ends
+  module _ (a : Inside C) (key : Key) (slots : Slab (Slot (Standing C))) (line : Buffer Key) (good : AreGoodRecords a) (first : Some key ≡ slice_get a.idle.items 0) (rest : line ≡ buffer (drop 1 a.idle.items) a.idle.capacity) (frees : Updates a.slots slots key.place None) where
+    idle_end_fewer : tally (passes is_conn) slots.slots + 1 ≡ a.conns + 0
+    idle_end_fewer =
+        let x = good.idle.each 0 key (sym first) in
+        conns_set a slots key.place (Some x.0) None true false good x.1 frees (ap is_conn ((idle_is x.0.standing.place x.3).1)) refl
+
+    pub idle_end_counted : 1 ≤ a.conns
+    idle_end_counted = let t : tally (passes is_conn) slots.slots + 1 ≡ a.conns + 0 = idle_end_fewer in omega arith
+
+    pub idle_end_good : slab_len slots + 1 ≡ slab_len a.slots → slots.capacity ≡ a.slots.capacity → AreGoodRecords (record a { slots = slots; idle = line; conns = a.conns - 1 })
+    idle_end_good len room =
+        let x = good.idle.each 0 key (sym first) in
+        let t : tally (passes is_conn) slots.slots + 1 ≡ a.conns + 0 = idle_end_fewer in
+        let v : tally (passes is_approval) slots.slots + 0 ≡ a.approved + 0 = approved_set a slots key.place (Some x.0) None false false good x.1 frees (ap is_approval ((idle_is x.0.standing.place x.3).1)) refl in
+        let c : line.capacity ≡ a.idle.capacity = ap (λ (b : Buffer Key). b.capacity) rest in
+        let s = good.sizes in
+        record {
+          table = table_removed good.table frees;
+          idle = rw (rest, Slots.drop_is_cut a.idle.items) (cut_line 0 good.idle (sym first) frees);
+          unclaimed = other_line good.unclaimed x.1 (ap is_unclaimed ((idle_is x.0.standing.place x.3).1)) frees;
+          conns_are = omega arith;
+          approved_are = omega arith;
+          sizes = record { places_are = omega arith; peak_holds = omega arith; peak_few = s.peak_few; place_room_holds = omega arith; idle_room_holds = omega arith; unclaimed_room_holds = s.unclaimed_room_holds };
+        }
+
+    pub idle_end_view : view_of_records (record a { slots = slots; idle = line; conns = a.conns - 1 }) ≡ machine.after_idle_end key.number (view_of_records a)
+    idle_end_view =
+        let x = good.idle.each 0 key (sym first) in
+        let gone = held_removed good.table x.1 frees ∙ ap (remove (view_of_records a).places) x.2 in
+        let shorter = ap (λ (b : Buffer Key). map (λ (k : Key). k.number) b.items) rest ∙ sym (drop-map (λ (k : Key). k.number) 1 a.idle.items) in
+        same_records _ _ refl gone shorter refl refl refl refl
+
+  -- the unclaimed approval that is first ends
+  module _ (a : Inside C) (key : Key) (slots : Slab (Slot (Standing C))) (line : Buffer Key) (good : AreGoodRecords a) (first : Some key ≡ slice_get a.unclaimed.items 0) (rest : line ≡ buffer (drop 1 a.unclaimed.items) a.unclaimed.capacity) (frees : Updates a.slots slots key.place None) where
+    unclaimed_end_fewer : tally (passes is_approval) slots.slots + 1 ≡ a.approved + 0
+    unclaimed_end_fewer =
+        let x = good.unclaimed.each 0 key (sym first) in
+        approved_set a slots key.place (Some x.0) None true false good x.1 frees (ap is_approval (unclaimed_is x.0.standing.place x.3)) refl
+
+    pub unclaimed_end_counted : 1 ≤ a.approved
+    unclaimed_end_counted = let t : tally (passes is_approval) slots.slots + 1 ≡ a.approved + 0 = unclaimed_end_fewer in omega arith
+
+    pub unclaimed_end_good : slab_len slots + 1 ≡ slab_len a.slots → slots.capacity ≡ a.slots.capacity → AreGoodRecords (record a { slots = slots; unclaimed = line; approved = a.approved - 1 })
+    unclaimed_end_good len room =
+        let x = good.unclaimed.each 0 key (sym first) in
+        let t : tally (passes is_approval) slots.slots + 1 ≡ a.approved + 0 = unclaimed_end_fewer in
+        let v : tally (passes is_conn) slots.slots + 0 ≡ a.conns + 0 = conns_set a slots key.place (Some x.0) None false false good x.1 frees (ap is_conn (unclaimed_is x.0.standing.place x.3)) refl in
+        let c : line.capacity ≡ a.unclaimed.capacity = ap (λ (b : Buffer Key). b.capacity) rest in
+        let s = good.sizes in
+        record {
+          table = table_removed good.table frees;
+          unclaimed = rw (rest, Slots.drop_is_cut a.unclaimed.items) (cut_line 0 good.unclaimed (sym first) frees);
+          idle = other_line good.idle x.1 (ap is_idle (unclaimed_is x.0.standing.place x.3)) frees;
+          approved_are = omega arith;
+          conns_are = omega arith;
+          sizes = record { places_are = omega arith; peak_holds = omega arith; peak_few = s.peak_few; place_room_holds = omega arith; unclaimed_room_holds = omega arith; idle_room_holds = s.idle_room_holds };
+        }
+
+    pub unclaimed_end_view : view_of_records (record a { slots = slots; unclaimed = line; approved = a.approved - 1 }) ≡ machine.after_unclaimed_end key.number (view_of_records a)
+    unclaimed_end_view =
+        let x = good.unclaimed.each 0 key (sym first) in
+        let gone = held_removed good.table x.1 frees ∙ ap (remove (view_of_records a).places) x.2 in
+        let shorter = ap (λ (b : Buffer Key). map (λ (k : Key). k.number) b.items) rest ∙ sym (drop-map (λ (k : Key). k.number) 1 a.unclaimed.items) in
+        same_records _ _ refl gone refl shorter refl refl refl

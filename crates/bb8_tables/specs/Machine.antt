@@ -39,6 +39,28 @@ module _ {C : Type 0} where
   abbrev pub after_close : Bool → ℕ → ShownRecords C → ShownRecords C
   after_close opening k s = record s { places = remove s.places k; conns = s.conns - one (not opening); approved = s.approved - one opening }
 
+  -- the idle connection that is first in line ends
+  abbrev pub after_idle_end : ℕ → ShownRecords C → ShownRecords C
+  after_idle_end k s = record s { places = remove s.places k; idle = drop 1 s.idle; conns = s.conns - 1 }
+
+  -- the unclaimed approval that is first in line ends
+  abbrev pub after_unclaimed_end : ℕ → ShownRecords C → ShownRecords C
+  after_unclaimed_end k s = record s { places = remove s.places k; unclaimed = drop 1 s.unclaimed; approved = s.approved - 1 }
+
+  -- these idle connections end, one after another
+  abbrev pub after_idle_ends : List ℕ → ShownRecords C → ShownRecords C
+  after_idle_ends [] s = s
+  after_idle_ends (k ∷ ks) s = after_idle_ends ks (after_idle_end k s)
+
+  -- these unclaimed approvals end, one after another
+  abbrev pub after_unclaimed_ends : List ℕ → ShownRecords C → ShownRecords C
+  after_unclaimed_ends [] s = s
+  after_unclaimed_ends (k ∷ ks) s = after_unclaimed_ends ks (after_unclaimed_end k s)
+
+  -- what the last handle leaves: all idle connections end, and all unclaimed approvals
+  abbrev pub after_leave : ShownRecords C → ShownRecords C
+  after_leave s = after_unclaimed_ends (after_idle_ends s.idle s).unclaimed (after_idle_ends s.idle s)
+
   -- one approval more, claimed or in line
   abbrev pub after_approval : Bool → ShownRecords C → ShownRecords C
   after_approval claimed_now s = record s { next = s.next + 1; places = insert s.places s.next (record { place = cond claimed_now Claimed Unclaimed; birth = 0; entered = 0 }); unclaimed = s.unclaimed ++ cond claimed_now [] (s.next ∷ []); approved = s.approved + 1 }

@@ -152,9 +152,9 @@ impl<C: Drop> Records<C> {
         }
     }
 
-    /// Makes a connection idle, which a claimed approval brought or a guard held.
+    /// Makes a connection idle, which a claimed approval brought, or a guard or a get held.
     pub fn enter(&mut self, k: Key, conn: C, birth: u64, now: u64, opening: bool)
-        requires { (s : Standing C) × (map.get self.old.places k.number ≡ Some s) × (s.place ≡ cond opening Claimed Guarded) }
+        requires { (s : Standing C) × (map.get self.old.places k.number ≡ Some s) × (places.comes_from opening s.place ≡ true) }
         ensures state { self.new ≡ machine.after_entry opening k.number (record { place = Idle conn; birth = birth; entered = now }) self.old }
         ensures numbers { self.old.next ≤ end_of_numbers }
     {
@@ -178,9 +178,9 @@ impl<C: Drop> Records<C> {
         }
     }
 
-    /// Ends a claimed approval, or a connection that a guard held.
+    /// Ends a claimed approval, or a connection that a guard or a get held.
     pub fn close(&mut self, k: Key, opening: bool)
-        requires { (s : Standing C) × (map.get self.old.places k.number ≡ Some s) × (s.place ≡ cond opening Claimed Guarded) }
+        requires { (s : Standing C) × (map.get self.old.places k.number ≡ Some s) × (places.comes_from opening s.place ≡ true) }
         ensures state { self.new ≡ machine.after_close opening k.number self.old }
         ensures numbers { self.old.next ≤ end_of_numbers }
     {
@@ -192,6 +192,67 @@ impl<C: Drop> Records<C> {
                 self.approved -= one(opening);
             }
         }
+    }
+
+    /// Ends the idle connection that entered first.
+    fn end_idle(&mut self) -> Option<Key>
+        ensures some { IfSome result (λ key. (slice_get self.old.idle 0 ≡ Some key.number) × (self.new ≡ machine.after_idle_end key.number self.old)) }
+        ensures none { IfNone result ((slice_get self.old.idle 0 ≡ None) × (self.new ≡ self.old)) }
+    {
+        match self.idle.pop() {
+            None => None,
+            Some(key) => {
+                self.slots.remove(key.place);
+                self.conns -= 1;
+                Some(key)
+            }
+        }
+    }
+
+    /// Ends the unclaimed approval of the least number.
+    fn end_unclaimed(&mut self) -> Option<Key>
+        ensures some { IfSome result (λ key. (slice_get self.old.unclaimed 0 ≡ Some key.number) × (self.new ≡ machine.after_unclaimed_end key.number self.old)) }
+        ensures none { IfNone result ((slice_get self.old.unclaimed 0 ≡ None) × (self.new ≡ self.old)) }
+    {
+        match self.unclaimed.pop() {
+            None => None,
+            Some(key) => {
+                self.slots.remove(key.place);
+                self.approved -= 1;
+                Some(key)
+            }
+        }
+    }
+
+    /// Ends all idle connections, and tells how many they were.
+    fn end_idles(&mut self) -> u32
+        ensures many { result ≡ length self.old.idle }
+        ensures state { self.new ≡ machine.after_idle_ends self.old.idle self.old }
+    {
+        let many = self.idle_connections();
+        for _ in 0..many {
+            let _ = self.end_idle();
+        }
+        many
+    }
+
+    /// Ends all unclaimed approvals.
+    fn end_unclaimeds(&mut self)
+        ensures { self.new ≡ machine.after_unclaimed_ends self.old.unclaimed self.old }
+    {
+        for _ in 0..self.unclaimed.len() {
+            let _ = self.end_unclaimed();
+        }
+    }
+
+    /// Ends all that nobody holds or claimed: the idle connections, which are counted, and the unclaimed approvals.
+    pub fn leave(&mut self) -> u32
+        ensures many { result ≡ length self.old.idle }
+        ensures state { self.new ≡ machine.after_leave self.old }
+    {
+        let many = self.end_idles();
+        self.end_unclaimeds();
+        many
     }
 
     /// Makes room for a higher peak.

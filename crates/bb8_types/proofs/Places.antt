@@ -1,29 +1,13 @@
 -- Places by their tests.
-use Rattle.std.proofs.Common.{◌≡◌, ◌-◌, Bool, true, false, ◌&&◌, Option, Some, None, refl, cond, not}
+use Rattle.std.proofs.Common.{◌≡◌, ◌-◌, Bool, true, false, ◌&&◌, Option, Some, None, refl, ap, not}
 use Rattle.bb8_types.specs.declared.standing.Place.{Place}
 use Rattle.bb8_types.specs.declared.standing.Place.TheVariants.{Unclaimed, Claimed, Idle, Held, Guarded}
 use Rattle.bb8_types.specs.declared.standing.Standing.{Standing}
-use Rattle.bb8_types.specs.Places.{stands, is_conn, is_approval, is_unclaimed, is_claimed, is_guarded, is_idle}
+use Rattle.bb8_types.specs.Places.{stands, is_conn, is_approval, is_unclaimed, is_claimed, is_guarded, is_idle, is_out, comes_from}
 
 pub and_right : (a b : Bool) → (a && b) ≡ true → (a ≡ true) × (b ≡ true)
 and_right true b e = (refl, e)
 and_right false b e = cc
-
-pub idle_from : (C : Type 0) (o : Bool) → is_idle {C = C} (cond o Claimed Guarded) ≡ false
-idle_from C true = refl
-idle_from C false = refl
-
-pub unclaimed_from : (C : Type 0) (o : Bool) → is_unclaimed {C = C} (cond o Claimed Guarded) ≡ false
-unclaimed_from C true = refl
-unclaimed_from C false = refl
-
-pub conn_from : (C : Type 0) (o : Bool) → is_conn {C = C} (cond o Claimed Guarded) ≡ not o
-conn_from C true = refl
-conn_from C false = refl
-
-pub approval_from : (C : Type 0) (o : Bool) → is_approval {C = C} (cond o Claimed Guarded) ≡ o
-approval_from C true = refl
-approval_from C false = refl
 
 module _ {C : Type 0} where
   -- the record that stands in a place that passes
@@ -58,3 +42,32 @@ module _ {C : Type 0} where
   guarded_is (Idle c) h = cc
   guarded_is (Held g) h = cc
   guarded_is Guarded h = refl
+
+  -- what a guard holds is out
+  pub guarded_out : (p : Place C) → is_guarded p ≡ true → is_out p ≡ true
+  guarded_out p h = ap is_out (guarded_is p h)
+
+  -- a connection that is out, by its tests
+  out_tests : (p : Place C) → is_out p ≡ true → (is_idle p ≡ false) × (is_unclaimed p ≡ false) × (is_conn p ≡ true)
+  out_tests Unclaimed h = cc
+  out_tests Claimed h = cc
+  out_tests (Idle c) h = cc
+  out_tests (Held g) h = (refl, refl, refl)
+  out_tests Guarded h = (refl, refl, refl)
+
+  -- a record that enters or ends, by its tests
+  pub idle_from : (opening : Bool) (p : Place C) → comes_from opening p ≡ true → is_idle p ≡ false
+  idle_from true p h = ap is_idle (claimed_is p h)
+  idle_from false p h = (out_tests p h).0
+
+  pub unclaimed_from : (opening : Bool) (p : Place C) → comes_from opening p ≡ true → is_unclaimed p ≡ false
+  unclaimed_from true p h = ap is_unclaimed (claimed_is p h)
+  unclaimed_from false p h = (out_tests p h).1
+
+  pub conn_from : (opening : Bool) (p : Place C) → comes_from opening p ≡ true → is_conn p ≡ not opening
+  conn_from true p h = ap is_conn (claimed_is p h)
+  conn_from false p h = (out_tests p h).2
+
+  pub approval_from : (opening : Bool) (p : Place C) → comes_from opening p ≡ true → is_approval p ≡ opening
+  approval_from true p h = ap is_approval (claimed_is p h)
+  approval_from false p h = ap not (out_tests p h).2

@@ -1,5 +1,5 @@
 -- Where a record or a get stands, what is read off its place, and which one of a line goes out.
-use Rattle.std.specs.Prelude.{ℕ, ◌-◌, ◌/◌, Bool, true, false, ◌&&◌, ◌||◌, not, eqb, leb, List, length, slice_get, Option, Some, None}
+use Rattle.std.specs.Prelude.{ℕ, ◌-◌, ◌/◌, Bool, true, false, ◌&&◌, ◌||◌, not, cond, eqb, leb, List, length, slice_get, Option, Some, None}
 use Rattle.bb8_types.specs.declared.standing.Place.{Place}
 use Rattle.bb8_types.specs.declared.standing.Place.TheVariants.{Unclaimed, Claimed, Idle, Held, Guarded}
 use Rattle.bb8_types.specs.declared.standing.Standing.{Standing}
@@ -72,6 +72,10 @@ is_out Claimed = false
 is_out (Idle c) = false
 is_out (Held g) = true
 is_out Guarded = true
+
+-- where a record stands that enters or ends: a claimed approval where one is opened, a connection that is out otherwise
+abbrev pub comes_from : {C : Type 0} → Bool → Place C → Bool
+comes_from opening p = cond opening (is_claimed p) (is_out p)
 
 -- whether a record stands in a place that passes a test
 abbrev pub stands : {C : Type 0} → (Place C → Bool) → Option (Standing C) → Bool

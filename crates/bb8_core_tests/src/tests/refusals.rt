@@ -1,11 +1,13 @@
 //! A run in which any one request for memory is refused: `rt try --test --fail-alloc N` refuses the Nth one of each test.
 //! These tests hold with a refusal and without; the others need all of their memory.
 
-use super::steps::{Link, NOW, add, begin, give_up, opened, put_back, try_get};
+use super::steps::{
+    Link, NOW, add, begin, failed, give_up, join, leave, opened, put_back, try_get,
+};
 use super::{first_script, unchecked};
 use bb8_core::internals::{
-    AddAnswer, BeginAnswer, ClaimAnswer, GetKey, GiveUpAnswer, Grant, OpenedAnswer, PoolInternals,
-    PutBackAnswer, Reason, TryAnswer,
+    AddAnswer, BeginAnswer, ClaimAnswer, FailedAnswer, GetKey, GiveUpAnswer, Grant, JoinAnswer,
+    LeaveAnswer, OpenedAnswer, PoolInternals, PutBackAnswer, Reason, TryAnswer,
 };
 use bb8_core::replay::{Act, Answer, Event, fits, replay};
 use std::process::Abort;
@@ -357,6 +359,20 @@ fn answer(rt: &impl Abort, pool: &mut PoolInternals<Link>, next: u64, act: Act) 
         }
         Act::Add(broken) => added(rt, pool, next, broken),
         Act::State => Answer::Shown(pool.state(NOW)),
+        Act::Failed(number) => {
+            let key = pool.find(number).expect(rt, "the approval stands");
+            match failed(rt, pool, key) {
+                FailedAnswer::GivenBack => Answer::GivenBack,
+            }
+        }
+        Act::Join => match join(rt, pool) {
+            JoinAnswer::Joined => Answer::Joined,
+            JoinAnswer::Exhausted => Answer::Exhausted,
+        },
+        Act::Leave => {
+            let LeaveAnswer::Left(closed) = leave(rt, pool);
+            Answer::Left(closed)
+        }
         Act::Look => Answer::Looked(NOW, pool.look(NOW).alive),
     }
 }

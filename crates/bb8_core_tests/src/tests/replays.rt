@@ -243,6 +243,73 @@ fn closes_what_comes_back_broken_or_too_old(rt: HostRuntime) -> Result<(), Fail>
 }
 
 #[test]
+fn failed_opening_makes_room_and_notifies_nobody(rt: HostRuntime) -> Result<(), Fail> {
+    let lines = [
+        (0, Act::Begin, Answer::Begun(0)),
+        (0, Act::Try(0), Answer::Waiting(granted(0, 1))),
+        (0, Act::Failed(0), Answer::Unfit),
+        (0, Act::Claim, Answer::Claimed(Some(0))),
+        (0, Act::Failed(0), Answer::GivenBack),
+        (0, Act::Failed(0), Answer::Unfit),
+        (0, Act::Opened(0), Answer::Unfit),
+        (0, Act::Add(false), Answer::Added(1, Some(0))),
+    ];
+    let state = shown_after(&rt, rt.alloc(), unchecked(1, None), &lines)?;
+    assert_eq!(rt;
+        (state.connections, state.statistics.connections_created),
+        (1, 0)
+    );
+    Ok(())
+}
+
+#[test]
+fn handles_join(rt: HostRuntime) -> Result<(), Fail> {
+    let lines = [
+        (0, Act::Join, Answer::Joined),
+        (7, Act::Join, Answer::Joined),
+        (0, Act::Look, Answer::Looked(Moment(7), true)),
+    ];
+    let state = shown_after(&rt, rt.alloc(), unchecked(1, None), &lines)?;
+    assert_eq!(rt; state, served(0, 0, 0, 0));
+    Ok(())
+}
+
+#[test]
+fn last_handle_ends_what_nobody_holds(rt: HostRuntime) -> Result<(), Fail> {
+    let lines = [
+        (0, Act::Fill(false), Answer::Granted(granted(0, 3))),
+        (0, Act::Claim, Answer::Claimed(Some(0))),
+        (0, Act::Claim, Answer::Claimed(Some(1))),
+        (0, Act::Opened(0), Answer::Entered(0, None)),
+        (0, Act::Add(false), Answer::Added(3, None)),
+        (0, Act::Begin, Answer::Begun(0)),
+        (0, Act::Try(0), Answer::Served(0, granted(4, 0))),
+        (0, Act::Begin, Answer::Begun(1)),
+        (0, Act::Join, Answer::Joined),
+        (0, Act::Leave, Answer::Left(0)),
+        (0, Act::Leave, Answer::Left(1)),
+        (0, Act::Leave, Answer::Unfit),
+        (0, Act::Join, Answer::Unfit),
+        (0, Act::Begin, Answer::Unfit),
+        (0, Act::Add(false), Answer::Unfit),
+        (0, Act::Claim, Answer::Ended),
+        (0, Act::Opened(1), Answer::Late(1)),
+        (0, Act::Try(1), Answer::Waiting(granted(4, 0))),
+        (
+            0,
+            Act::PutBack(0, false),
+            Answer::Closed(0, granted(4, 0), Some(1)),
+        ),
+        (0, Act::Look, Answer::Looked(Moment(0), false)),
+    ];
+    let state = shown_after(&rt, rt.alloc(), unchecked(4, Some(3)), &lines)?;
+    let mut wanted = served(0, 0, 2, 1);
+    wanted.statistics.connections_created = 1;
+    assert_eq!(rt; state, wanted);
+    Ok(())
+}
+
+#[test]
 fn claims_in_the_order_of_numbers(rt: HostRuntime) -> Result<(), Fail> {
     let claimed = [
         (0, Act::Fill(true), Answer::Granted(granted(0, 2))),

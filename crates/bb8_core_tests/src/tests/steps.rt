@@ -8,8 +8,8 @@ ghost use Rattle.bb8_ledger.specs.Table.{IsLegal, takes};
 use super::{granted, served, unchecked};
 use bb8_core::api::{Config, Moment, QueueStrategy};
 use bb8_core::internals::{
-    AddAnswer, BeginAnswer, ClaimAnswer, GetKey, GiveUpAnswer, Grant, Key, OpenedAnswer,
-    PoolInternals, PutBackAnswer, Reason, TryAnswer,
+    AddAnswer, BeginAnswer, ClaimAnswer, FailedAnswer, GetKey, GiveUpAnswer, Grant, JoinAnswer,
+    Key, LeaveAnswer, OpenedAnswer, PoolInternals, PutBackAnswer, Reason, TryAnswer,
 };
 use bb8_core::replay::{Act, Event, fits};
 use std::alloc::Global;
@@ -97,6 +97,24 @@ pub(super) fn opened(
 ) -> OpenedAnswer<Link> {
     assert_fits(rt, pool, Act::Opened(key.number));
     pool.opened(NOW, key, conn)
+}
+
+/// Ends a claimed approval that brought nothing.
+pub(super) fn failed(rt: &impl Abort, pool: &mut PoolInternals<Link>, key: Key) -> FailedAnswer {
+    assert_fits(rt, pool, Act::Failed(key.number));
+    pool.failed(NOW, key)
+}
+
+/// Adds a handle while one is alive.
+pub(super) fn join(rt: &impl Abort, pool: &mut PoolInternals<Link>) -> JoinAnswer {
+    assert_fits(rt, pool, Act::Join);
+    pool.join(NOW)
+}
+
+/// Takes a handle away while one is alive.
+pub(super) fn leave(rt: &impl Abort, pool: &mut PoolInternals<Link>) -> LeaveAnswer {
+    assert_fits(rt, pool, Act::Leave);
+    pool.leave(NOW)
 }
 
 /// Adds a connection while a handle is alive.

@@ -176,3 +176,26 @@ fn judges_lines_of_waiting(rt: HostRuntime) -> Result<(), Fail> {
     }
     Ok(())
 }
+
+/// Inputs whose line 2 is a failed opening, a join or a leave but for one thing.
+const NO_FAILURE_OR_HANDLE: [&[u8]; 9] = [
+    b"config\n0 fail\n",
+    b"config\n0 fail +1\n",
+    b"config\n0 fail 1 broken\n",
+    b"config\n0 failed 1\n",
+    b"config\n0 join 1\n",
+    b"config\n0 joined\n",
+    b"config\n0 leave 0\n",
+    b"config\n0 leave \n",
+    b"config\n0 Leave\n",
+];
+
+#[test]
+fn judges_lines_of_failures_and_handles(rt: HostRuntime) -> Result<(), Fail> {
+    for input in NO_FAILURE_OR_HANDLE {
+        let (end, written) = run(&rt, input)?;
+        assert_eq!(rt; end, Verdict::Bad);
+        assert_eq!(rt; written.as_slice(), LINE_TWO);
+    }
+    Ok(())
+}

@@ -5,7 +5,10 @@
 //! approves connections; numbers count the calls of `connect` and the `add`s that succeeded. Two fields of the state
 //! line, `cancelled` and `wait_us`, are counted as the port counts them. No line of these files comes from the port.
 
-use super::{FIRST_ANSWERS, FIRST_SCRIPT, generated, generated_waits, run, worked};
+use super::{
+    FIRST_ANSWERS, FIRST_SCRIPT, generated, generated_handles, generated_waits, handles, run,
+    worked,
+};
 use crate::verdict::Verdict;
 use std::test::Fail;
 
@@ -66,6 +69,29 @@ fn answers_generated_scripts_of_waiting_as_the_original(rt: HostRuntime) -> Resu
         (
             generated_waits::ONE_FIFO_SCRIPT,
             generated_waits::ONE_FIFO_ANSWERS,
+        ),
+    ];
+    for (script, answers) in pairs {
+        assert!(rt; answers_as_the_original(&rt, script, answers)?);
+    }
+    Ok(())
+}
+
+#[test]
+fn answers_scripts_of_handles_and_failures_as_the_original(rt: HostRuntime) -> Result<(), Fail> {
+    let pairs = [
+        (handles::OWNED_GUARDS_SCRIPT, handles::OWNED_GUARDS_ANSWERS),
+        (
+            handles::FAILED_OPENING_SCRIPT,
+            handles::FAILED_OPENING_ANSWERS,
+        ),
+        (
+            generated_handles::HANDLES_LIFO_SCRIPT,
+            generated_handles::HANDLES_LIFO_ANSWERS,
+        ),
+        (
+            generated_handles::FAILURES_LIFO_SCRIPT,
+            generated_handles::FAILURES_LIFO_ANSWERS,
         ),
     ];
     for (script, answers) in pairs {

@@ -6,7 +6,7 @@ use bb8_core::replay::{Act, Event, Reason};
 use std::test::Fail;
 
 /// Each form of an event once, with the greatest and the least number and moment among them.
-const SPELLED: [(&[u8], u64, Act); 19] = [
+const SPELLED: [(&[u8], u64, Act); 22] = [
     (b"0 begin", 0, Act::Begin),
     (b"1 try 0", 1, Act::Try(0)),
     (
@@ -31,9 +31,16 @@ const SPELLED: [(&[u8], u64, Act); 19] = [
     (b"0 fill claimed", 0, Act::Fill(true)),
     (b"10 claim", 10, Act::Claim),
     (b"0 open 10", 0, Act::Opened(10)),
+    (
+        b"0 fail 18446744073709551614",
+        0,
+        Act::Failed(18_446_744_073_709_551_614),
+    ),
     (b"0 add", 0, Act::Add(false)),
     (b"0 add broken", 0, Act::Add(true)),
     (b"0 state", 0, Act::State),
+    (b"3 join", 3, Act::Join),
+    (b"4 leave", 4, Act::Leave),
     (b"0 look", 0, Act::Look),
     (
         b"18446744073709551615 look",

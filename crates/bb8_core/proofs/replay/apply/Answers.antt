@@ -20,6 +20,15 @@ put_back-requires c = λ l legal means. subst (λ (a : Named). takes l (act_of l
 pub opened-requires : goal.opened-requires
 opened-requires c = λ l legal means. subst (λ (a : Named). takes l (act_of l a) ≡ true) c.in-Opened.is (sym (c.fits_at.ensures (λ k. k) l legal means) ∙ c.if-not-fits_at.false)
 
+pub failed-requires : goal.failed-requires
+failed-requires c = λ l legal means. subst (λ (a : Named). takes l (act_of l a) ≡ true) c.in-Failed.is (sym (c.fits_at.ensures (λ k. k) l legal means) ∙ c.if-not-fits_at.false)
+
+pub join-requires : goal.join-requires
+join-requires c = λ l legal means. subst (λ (a : Named). takes l (act_of l a) ≡ true) c.in-Join.is (sym (c.fits_at.ensures (λ k. k) l legal means) ∙ c.if-not-fits_at.false)
+
+pub leave-requires : goal.leave-requires
+leave-requires c = λ l legal means. subst (λ (a : Named). takes l (act_of l a) ≡ true) c.in-Leave.is (sym (c.fits_at.ensures (λ k. k) l legal means) ∙ c.if-not-fits_at.false)
+
 pub add-requires : goal.add-requires
 add-requires c = λ l legal means. subst (λ (a : Named). takes l (act_of l a) ≡ true) c.in-Add.is (sym (c.fits_at.ensures (λ k. k) l legal means) ∙ c.if-not-fits_at.false)
 

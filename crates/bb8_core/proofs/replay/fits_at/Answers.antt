@@ -21,3 +21,6 @@ returns-in-PutBack g c = rw c.in-PutBack.is (λ conn. c.fits_put_back.ensures (c
 
 pub returns-in-Opened : goal.returns-in-Opened
 returns-in-Opened g c = rw c.in-Opened.is (λ conn. c.fits_opened.ensures (conn c.in-Opened.number))
+
+pub returns-in-Failed : goal.returns-in-Failed
+returns-in-Failed g c = rw c.in-Failed.is (λ conn. c.fits_failed.ensures)

@@ -1,0 +1,161 @@
+-- What the leave of the last handle does to what is shown: idle connections and unclaimed approvals end, one after another.
+use Rattle.std.proofs.Common.{◌≡◌, ◌≢◌, ℕ, suc, ◌+◌, ◌-◌, ◌<◌, ◌≤◌, Bool, true, false, cond, eqb, ◌&&◌, ◌||◌, List, [], ◌∷◌, map, length, drop, slice_get, Option, Some, None, refl, sym, ap, ◌∙◌, arith, ⊎_elim}
+use Rattle.bb8_types.specs.declared.standing.Place.{Place}
+use Rattle.bb8_types.specs.declared.standing.Place.TheVariants.{Unclaimed, Idle}
+use Rattle.bb8_types.specs.declared.standing.Standing.{Standing}
+use Rattle.bb8_types.specs.Numbered.{Numbered, at, update, numbers, in_order, tally, one, after_end, after_end_where}
+use Rattle.bb8_types.specs.Places.{stands, is_conn, is_approval, is_unclaimed, is_idle, is_left}
+use Rattle.bb8_ledger.specs.Ledger.{idle_at, conns_of, approved_of}
+use Rattle.bb8_tables.specs.Views.{ShownRecords}
+use Rattle.bb8_core.specs.Shown.{shown_records}
+use Rattle.bb8_tables.specs.Machine as machine
+use Rattle.bb8_types.proofs.Numbered.{change, Before, same_or_not, change_below}
+use Rattle.bb8_types.proofs.Numbered as numbered
+use Rattle.bb8_types.proofs.Places.{and_right, standing_is, unclaimed_is, idle_is}
+use Rattle.bb8_ledger.proofs.Standings.{tested, conns-change, approved-change}
+use Rattle.bb8_ledger.proofs.Facts.{ended_before, idle_counted}
+use Rattle.bb8_tables.proofs.Views.{same_records}
+
+-- an element is changed to one that a function makes the same
+map-change : {R S : Type 0} (f : R → S) (rs : List R) (n k : ℕ) (new old : R) → at n rs k ≡ Some old → f new ≡ f old → map f (change n k new rs) ≡ map f rs
+map-change f [] n k new old h e = refl
+map-change f (r ∷ rs) n k new old h e =
+    ⊎_elim
+    (λ (t : (eqb k n ≡ true) × (k ≡ n)).
+    let is : Some r ≡ Some old = rw t.0 at h in
+    let same : r ≡ old = cc in
+    let rest : change (suc n) k new rs ≡ rs = change_below rs (suc n) k new (omega arith) in
+    rw (t.0, rest, e, same) refl)
+    (λ (t : (eqb k n ≡ false) × (k ≢ n)).
+    let ih : map f (change (suc n) k new rs) ≡ map f rs = map-change f rs (suc n) k new old (rw t.0 at h) e in
+    rw (t.0, ih) refl)
+    (same_or_not k n)
+
+module _ {C : Type 0} where
+  -- a record stands idle since one position
+  idle_once : (p q : ℕ) (r : Numbered (Standing C)) → idle_at p r ≡ true → idle_at q r ≡ true → p ≡ q
+  idle_once p q r a b = sym (numbered.tested r.position p (and_right (stands is_idle r.standing) _ a).1) ∙ numbered.tested r.position q (and_right (stands is_idle r.standing) _ b).1
+
+  -- what the leave of the last handle makes of the records
+  abbrev pub shut : List (Numbered (Standing C)) → List (Numbered (Standing C))
+  shut = map (after_end_where is_left)
+
+  -- a record that would end then has ended already
+  shut_ended : (first k : ℕ) (rs : List (Numbered (Standing C))) (r : Numbered (Standing C)) → at first rs k ≡ Some r → is_left r.standing ≡ true → shut (update first k after_end rs) ≡ shut rs
+  shut_ended first k rs r h left_now = ap shut (numbered.update_is rs first k after_end r h) ∙ map-change (after_end_where is_left) rs first k (after_end r) r h (ap (λ (b : Bool). cond b (after_end r) r) (sym left_now))
+
+  -- which places end
+  idle_left : (s : Standing C) → is_idle s.place ≡ true → is_left (Some s) ≡ true
+  idle_left s h = ap (λ (b : Bool). b || is_unclaimed s.place) h
+
+  unclaimed_left : (s : Standing C) → is_unclaimed s.place ≡ true → is_left (Some s) ≡ true
+  unclaimed_left s h = let place : s.place ≡ Unclaimed = unclaimed_is s.place h in ap (λ (p : Place C). is_idle p || is_unclaimed p) place
+
+  module _ (first p top : ℕ) where
+    abbrev show : List (Numbered (Standing C)) → ShownRecords C
+    show = shown_records first p top
+
+    -- the idle connection that is first ends
+    shown-idle_end : (rs : List (Numbered (Standing C))) (k : ℕ) (rest : List ℕ) → in_order idle_at first rs p ≡ k ∷ rest → (show (update first k after_end rs) ≡ machine.after_idle_end k (show rs)) × (shut (update first k after_end rs) ≡ shut rs)
+    shown-idle_end rs k rest h =
+        let m : (r : Numbered (Standing C)) × (at first rs k ≡ Some r) × (q : ℕ) × (q < p) × (idle_at q r ≡ true) = numbered.in_order_member idle_at rs first p 0 k (ap (λ (xs : List ℕ). slice_get xs 0) h) in
+        let r : Numbered (Standing C) = m.0 in
+        let was = standing_is is_idle r.standing (and_right (stands is_idle r.standing) _ m.4).0 in
+        let place = idle_is was.0.place was.2 in
+        let shows =
+        ap show (numbered.update_is rs first k after_end r m.1)
+        ∙ same_records (show (change first k (after_end r) rs)) (machine.after_idle_end k (show rs))
+        (ap (λ (n : ℕ). first + n) (numbered.length-change rs first k (after_end r)))
+        (numbered.numbered-change_none (λ (x : Numbered (Standing C)). x.standing) rs first k (after_end r) r m.1 refl)
+        (numbered.in_order-change_head idle_at idle_once rs first k rest (after_end r) (λ q. refl) p h ∙ sym (ap (drop 1) h))
+        (numbered.numbers-change_kept (λ x. stands is_unclaimed x.standing) rs first k (after_end r) r m.1 (sym (tested is_unclaimed r was.0 (Idle place.0) was.1 place.1)))
+        (let e : conns_of (change first k (after_end r) rs) + 1 ≡ conns_of rs + 0 = conns-change first rs k (after_end r) r true false m.1 (tested is_conn r was.0 (Idle place.0) was.1 place.1) refl in omega arith)
+        (let e : approved_of (change first k (after_end r) rs) + 0 ≡ approved_of rs + 0 = approved-change first rs k (after_end r) r false false m.1 (tested is_approval r was.0 (Idle place.0) was.1 place.1) refl in omega arith)
+        refl in
+        (shows, shut_ended first k rs r m.1 (ap is_left was.1 ∙ idle_left was.0 was.2))
+
+    -- the unclaimed approval that is first ends
+    shown-unclaimed_end : (rs : List (Numbered (Standing C))) (k : ℕ) (rest : List ℕ) → numbers (λ r. stands is_unclaimed r.standing) first rs ≡ k ∷ rest → (show (update first k after_end rs) ≡ machine.after_unclaimed_end k (show rs)) × (shut (update first k after_end rs) ≡ shut rs)
+    shown-unclaimed_end rs k rest h =
+        let m : (r : Numbered (Standing C)) × (at first rs k ≡ Some r) × (stands is_unclaimed r.standing ≡ true) = numbered.numbers_member (λ r. stands is_unclaimed r.standing) rs first 0 k (ap (λ (xs : List ℕ). slice_get xs 0) h) in
+        let r : Numbered (Standing C) = m.0 in
+        let was = standing_is is_unclaimed r.standing m.2 in
+        let place : was.0.place ≡ Unclaimed = unclaimed_is was.0.place was.2 in
+        let shows =
+        ap show (numbered.update_is rs first k after_end r m.1)
+        ∙ same_records (show (change first k (after_end r) rs)) (machine.after_unclaimed_end k (show rs))
+        (ap (λ (n : ℕ). first + n) (numbered.length-change rs first k (after_end r)))
+        (numbered.numbered-change_none (λ (x : Numbered (Standing C)). x.standing) rs first k (after_end r) r m.1 refl)
+        (numbered.in_order-change_kept idle_at rs first k (after_end r) r m.1 p (λ q l. sym (ap (λ (b : Bool). b && eqb r.position q) (tested is_idle r was.0 Unclaimed was.1 place))))
+        (numbered.numbers-change_head (λ x. stands is_unclaimed x.standing) rs first k rest (after_end r) h refl ∙ sym (ap (drop 1) h))
+        (let e : conns_of (change first k (after_end r) rs) + 0 ≡ conns_of rs + 0 = conns-change first rs k (after_end r) r false false m.1 (tested is_conn r was.0 Unclaimed was.1 place) refl in omega arith)
+        (let e : approved_of (change first k (after_end r) rs) + 1 ≡ approved_of rs + 0 = approved-change first rs k (after_end r) r true false m.1 (tested is_approval r was.0 Unclaimed was.1 place) refl in omega arith)
+        refl in
+        (shows, shut_ended first k rs r m.1 (ap is_left was.1 ∙ unclaimed_left was.0 was.2))
+
+    -- records that are left alone by all that ends
+    record Ends (rs : List (Numbered (Standing C))) (s : ShownRecords C) : Type 0 where
+      pub to : List (Numbered (Standing C))
+      pub shows : show to ≡ s
+      pub same : shut to ≡ shut rs
+      pub before : Before idle_at p to
+      pub no_idle : in_order idle_at first to p ≡ []
+
+    -- all idle connections end
+    idles_end : (xs : List ℕ) (rs : List (Numbered (Standing C))) → Before idle_at p rs → in_order idle_at first rs p ≡ xs → Ends rs (machine.after_idle_ends xs (show rs))
+    idles_end [] rs b h = record { to = rs; shows = refl; same = refl; before = b; no_idle = h }
+    idles_end (k ∷ xs) rs b h =
+        let step = shown-idle_end rs k xs h in
+        let next = idles_end xs (update first k after_end rs) (ended_before p first k rs b) (ap (λ (s : ShownRecords C). s.idle) step.0 ∙ ap (drop 1) h) in
+        record { to = next.to; shows = next.shows ∙ ap (machine.after_idle_ends xs) step.0; same = next.same ∙ step.1; before = next.before; no_idle = next.no_idle }
+
+    -- all unclaimed approvals end
+    unclaimeds_end : (xs : List ℕ) (rs : List (Numbered (Standing C))) → Before idle_at p rs → numbers (λ r. stands is_unclaimed r.standing) first rs ≡ xs → in_order idle_at first rs p ≡ [] → (e : Ends rs (machine.after_unclaimed_ends xs (show rs))) × (numbers (λ r. stands is_unclaimed r.standing) first e.to ≡ [])
+    unclaimeds_end [] rs b h i = (record { to = rs; shows = refl; same = refl; before = b; no_idle = i }, h)
+    unclaimeds_end (k ∷ xs) rs b h i =
+        let step = shown-unclaimed_end rs k xs h in
+        let next = unclaimeds_end xs (update first k after_end rs) (ended_before p first k rs b) (ap (λ (s : ShownRecords C). s.unclaimed) step.0 ∙ ap (drop 1) h) (ap (λ (s : ShownRecords C). s.idle) step.0 ∙ i) in
+        (record { to = next.0.to; shows = next.0.shows ∙ ap (machine.after_unclaimed_ends xs) step.0; same = next.0.same ∙ step.1; before = next.0.before; no_idle = next.0.no_idle }, next.1)
+
+    -- where nothing is idle or unclaimed, nothing ends
+    nothing_left : (rs : List (Numbered (Standing C))) (n : ℕ) → tally (λ r. stands is_idle r.standing) rs ≡ 0 → numbers (λ r. stands is_unclaimed r.standing) n rs ≡ [] → shut rs ≡ rs
+    nothing_left [] n i u = refl
+    nothing_left (r ∷ rs) n i u = go (nothing_left rs (suc n)) (stands is_idle r.standing) (stands is_unclaimed r.standing) refl refl i u
+      where
+        stays : (o : Option (Standing C)) → stands is_idle o ≡ false → stands is_unclaimed o ≡ false → is_left o ≡ false
+        stays None a b = refl
+        stays (Some s) a b = ap (λ (x : Bool). x || is_unclaimed s.place) a ∙ b
+
+        go : (tally (λ x. stands is_idle x.standing) rs ≡ 0 → numbers (λ x. stands is_unclaimed x.standing) (suc n) rs ≡ [] → shut rs ≡ rs) → (a b : Bool) → stands is_idle r.standing ≡ a → stands is_unclaimed r.standing ≡ b → one a + tally (λ x. stands is_idle x.standing) rs ≡ 0 → cond b (n ∷ numbers (λ x. stands is_unclaimed x.standing) (suc n) rs) (numbers (λ x. stands is_unclaimed x.standing) (suc n) rs) ≡ [] → shut (r ∷ rs) ≡ r ∷ rs
+        go others true b idle_now unclaimed_now t m = absurd (omega arith)
+        go others false true idle_now unclaimed_now t m = cc
+        go others false false idle_now unclaimed_now t m =
+            let few : tally (λ x. stands is_idle x.standing) rs ≡ 0 = omega arith in
+            let rest : shut rs ≡ rs = others few m in
+            let off : is_left r.standing ≡ false = stays r.standing idle_now unclaimed_now in
+            rw (off, rest) refl
+
+    -- what the leave of the last handle shows
+    pub shown-left : (rs : List (Numbered (Standing C))) → Before idle_at p rs → show (shut rs) ≡ machine.after_leave (show rs)
+    shown-left rs b =
+        let idle = idles_end (in_order idle_at first rs p) rs b refl in
+        let all = unclaimeds_end (numbers (λ r. stands is_unclaimed r.standing) first idle.to) idle.to idle.before refl idle.no_idle in
+        let none : tally (λ r. stands is_idle r.standing) all.0.to ≡ 0 = sym (idle_counted first p all.0.to all.0.before) ∙ ap length all.0.no_idle in
+        ap show (sym (all.0.same ∙ idle.same) ∙ nothing_left all.0.to first none all.1)
+        ∙ all.0.shows
+        ∙ ap (λ (s : ShownRecords C). machine.after_unclaimed_ends s.unclaimed s) idle.shows
+
+  -- no more is left than there was
+  idles_few : (xs : List ℕ) (s : ShownRecords C) → (machine.after_idle_ends xs s).conns + (machine.after_idle_ends xs s).approved ≤ s.conns + s.approved
+  idles_few [] s = omega arith
+  idles_few (k ∷ xs) s = let rest : (machine.after_idle_ends xs (machine.after_idle_end k s)).conns + (machine.after_idle_ends xs (machine.after_idle_end k s)).approved ≤ s.conns - 1 + s.approved = idles_few xs (machine.after_idle_end k s) in omega arith
+
+  unclaimeds_few : (xs : List ℕ) (s : ShownRecords C) → (machine.after_unclaimed_ends xs s).conns + (machine.after_unclaimed_ends xs s).approved ≤ s.conns + s.approved
+  unclaimeds_few [] s = omega arith
+  unclaimeds_few (k ∷ xs) s = let rest : (machine.after_unclaimed_ends xs (machine.after_unclaimed_end k s)).conns + (machine.after_unclaimed_ends xs (machine.after_unclaimed_end k s)).approved ≤ s.conns + (s.approved - 1) = unclaimeds_few xs (machine.after_unclaimed_end k s) in omega arith
+
+  pub left_few : (s : ShownRecords C) → (machine.after_leave s).conns + (machine.after_leave s).approved ≤ s.conns + s.approved
+  left_few s =
+      let idle = idles_few s.idle s in
+      let all = unclaimeds_few (machine.after_idle_ends s.idle s).unclaimed (machine.after_idle_ends s.idle s) in
+      omega arith
