@@ -48,7 +48,9 @@ module _ {C : Type 0} where
   within s h = (h, λ l legal means. (keeps_limits l legal, keeps_laws l legal, keeps_promises l legal))
 
   -- a step that moves nothing leaves the parts as they are
-  pub unmoved : (old new : Shown C) (at : ℕ) (e : Act C) (a : Answer) (rest : ℕ) → HasLedger old → Meets old at e a new → (Moves e a (out_of old) (out_of new) → out_of new ≡ out_of old) → out_of old + rest ≡ old.config.max_size → out_of new + rest ≡ new.config.max_size
+  pub unmoved : (old new : Shown C) (at : ℕ) (e : Act C) (a : Answer) (rest : ℕ) → HasLedger old → Meets old at e a new
+      → (Moves e a (out_of old) (out_of new) → out_of new ≡ out_of old) → out_of old + rest ≡ old.config.max_size
+      → out_of new + rest ≡ new.config.max_size
   unmoved old new at e a rest h meets same parts =
       let k = counted old at e a new h meets in
       let size : new.config.max_size ≡ old.config.max_size = ap (λ (c : Settings). c.max_size) k.config in
@@ -60,7 +62,8 @@ module _ {C : Type 0} where
   kept_settings old new at e a settings h meets is = (counted old at e a new h meets).config ∙ is
 
   -- where one more goes out there is a part for it
-  pub has_part : (old new : Shown C) (at : ℕ) (e : Act C) (a : Answer) (rest : ℕ) → HasLedger old → Meets old at e a new → (Moves e a (out_of old) (out_of new) → out_of new ≡ out_of old + 1) → out_of old + rest ≡ old.config.max_size → 1 ≤ rest
+  pub has_part : (old new : Shown C) (at : ℕ) (e : Act C) (a : Answer) (rest : ℕ) → HasLedger old → Meets old at e a new
+      → (Moves e a (out_of old) (out_of new) → out_of new ≡ out_of old + 1) → out_of old + rest ≡ old.config.max_size → 1 ≤ rest
   has_part old new at e a rest h meets more parts =
       let k = counted old at e a new h meets in
       let size : new.config.max_size ≡ old.config.max_size = ap (λ (c : Settings). c.max_size) k.config in
@@ -68,7 +71,9 @@ module _ {C : Type 0} where
       omega (arith, moved, size, parts, k.few)
 
   -- one more goes out with a part
-  pub gone_out : (old new : Shown C) (at : ℕ) (e : Act C) (a : Answer) (rest less : ℕ) → HasLedger old → Meets old at e a new → (Moves e a (out_of old) (out_of new) → out_of new ≡ out_of old + 1) → out_of old + rest ≡ old.config.max_size → less + 1 ≡ rest → out_of new + less ≡ new.config.max_size
+  pub gone_out : (old new : Shown C) (at : ℕ) (e : Act C) (a : Answer) (rest less : ℕ) → HasLedger old → Meets old at e a new
+      → (Moves e a (out_of old) (out_of new) → out_of new ≡ out_of old + 1) → out_of old + rest ≡ old.config.max_size → less + 1 ≡ rest
+      → out_of new + less ≡ new.config.max_size
   gone_out old new at e a rest less h meets more parts split =
       let k = counted old at e a new h meets in
       let size : new.config.max_size ≡ old.config.max_size = ap (λ (c : Settings). c.max_size) k.config in
@@ -76,7 +81,9 @@ module _ {C : Type 0} where
       omega (arith, moved, size, parts, split)
 
   -- one comes back with its part
-  pub come_back : (old new : Shown C) (at : ℕ) (e : Act C) (a : Answer) (rest : ℕ) → HasLedger old → Meets old at e a new → (Moves e a (out_of old) (out_of new) → out_of new + 1 ≡ out_of old) → out_of old + rest ≡ old.config.max_size → out_of new + (rest + 1) ≡ new.config.max_size
+  pub come_back : (old new : Shown C) (at : ℕ) (e : Act C) (a : Answer) (rest : ℕ) → HasLedger old → Meets old at e a new
+      → (Moves e a (out_of old) (out_of new) → out_of new + 1 ≡ out_of old) → out_of old + rest ≡ old.config.max_size
+      → out_of new + (rest + 1) ≡ new.config.max_size
   come_back old new at e a rest h meets less parts =
       let k = counted old at e a new h meets in
       let size : new.config.max_size ≡ old.config.max_size = ap (λ (c : Settings). c.max_size) k.config in
@@ -110,7 +117,9 @@ module _ {C : Type 0} where
       (λ f is. absurd (let clash : true ≡ false = says h.0 h.1 h.2 ∙ f in cc)))
 
   -- a new state has nothing out, also once its first approvals are granted
-  pub none_out : (config : Config) (first first_get : ℕ) (old new : Shown C) (at : ℕ) (claimed : Bool) (grant : Grant) → is_lawful (settings_of config) ≡ true → Means (opening config first first_get) old → Meets old at (Fill claimed) (Granted grant) new → out_of new ≡ 0
+  pub none_out : (config : Config) (first first_get : ℕ) (old new : Shown C) (at : ℕ) (claimed : Bool) (grant : Grant)
+      → is_lawful (settings_of config) ≡ true → Means (opening config first first_get) old → Meets old at (Fill claimed) (Granted grant) new
+      → out_of new ≡ 0
   none_out config first first_get old new at claimed grant lawful means meets =
       let k = counted old at (Fill claimed) (Granted grant) new (opening config first first_get, lawful, means) meets in
       k.moves ∙ ap out_of (sym means)

@@ -38,7 +38,11 @@ impl<M, S, Z> Model for Builder<M, S, Z> {
 
 impl<M, S, Z> Builder<M, S, Z> {
     fn from_parts(config: Config, error_sink: S, connection_customizer: Z) -> Self
-        ensures { result ≡ record { settings = settings_of config; error_sink = error_sink; connection_customizer = connection_customizer } }
+        ensures { result ≡ record {
+          settings = settings_of config;
+          error_sink = error_sink;
+          connection_customizer = connection_customizer;
+        } }
     {
         Builder {
             config,
@@ -114,7 +118,10 @@ impl<
     /// Whether an idle connection is checked by the manager's `is_valid` before it is handed out; one that does not pass is closed. On by
     /// default. As upstream.
     pub fn test_on_check_out(mut self, test_on_check_out: bool) -> Self
-        ensures { result ≡ record self { settings = record self.settings { test_on_check_out = test_on_check_out } } }
+        ensures { result ≡ record self {
+          settings =
+              record self.settings { test_on_check_out = test_on_check_out };
+        } }
     {
         self.config.test_on_check_out = test_on_check_out;
         self
@@ -127,7 +134,10 @@ impl<
     /// unlawful.
     pub fn max_lifetime(mut self, max_lifetime: Option<Duration>) -> Self
         requires { ForSome max_lifetime (λ limit. 0 < as_nanos limit) }
-        ensures { result ≡ record self { settings = record self.settings { max_lifetime = option_map as_nanos max_lifetime } } }
+        ensures { result ≡ record self {
+          settings =
+              record self.settings { max_lifetime = option_map as_nanos max_lifetime };
+        } }
     {
         self.config.max_lifetime = max_lifetime;
         self
@@ -141,7 +151,10 @@ impl<
     /// `reaper_rate` of zero makes the settings unlawful.
     pub fn idle_timeout(mut self, idle_timeout: Option<Duration>) -> Self
         requires { ForSome idle_timeout (λ limit. 0 < as_nanos limit) }
-        ensures { result ≡ record self { settings = record self.settings { idle_timeout = option_map as_nanos idle_timeout } } }
+        ensures { result ≡ record self {
+          settings =
+              record self.settings { idle_timeout = option_map as_nanos idle_timeout };
+        } }
     {
         self.config.idle_timeout = idle_timeout;
         self
@@ -154,7 +167,10 @@ impl<
     /// clock never times out.
     pub fn connection_timeout(mut self, connection_timeout: Duration) -> Self
         requires { 0 < as_nanos connection_timeout }
-        ensures { result ≡ record self { settings = record self.settings { connection_timeout = as_nanos connection_timeout } } }
+        ensures { result ≡ record self {
+          settings =
+              record self.settings { connection_timeout = as_nanos connection_timeout };
+        } }
     {
         self.config.connection_timeout = connection_timeout;
         self
@@ -165,7 +181,10 @@ impl<
     ///
     /// Where it is off, the first failure ends the opening. Off suits a program that knows by itself that its server is down.
     pub fn retry_connection(mut self, retry_connection: bool) -> Self
-        ensures { result ≡ record self { settings = record self.settings { retry_connection = retry_connection } } }
+        ensures { result ≡ record self {
+          settings =
+              record self.settings { retry_connection = retry_connection };
+        } }
     {
         self.config.retry_connection = retry_connection;
         self
@@ -177,7 +196,10 @@ impl<
     /// Zero makes the settings unlawful where one of the two is set, where upstream panics; otherwise it is of no effect. Upstream has
     /// this setting for its tests.
     pub fn reaper_rate(mut self, reaper_rate: Duration) -> Self
-        ensures { result ≡ record self { settings = record self.settings { reaper_rate = as_nanos reaper_rate } } }
+        ensures { result ≡ record self {
+          settings =
+              record self.settings { reaper_rate = as_nanos reaper_rate };
+        } }
     {
         self.config.reaper_rate = reaper_rate;
         self
@@ -188,7 +210,10 @@ impl<
     /// `Fifo` spreads the load over all connections, so that few become idle for long. `Lifo` uses as few connections as it can, so that
     /// the others reach `idle_timeout`.
     pub fn queue_strategy(mut self, queue_strategy: QueueStrategy) -> Self
-        ensures { result ≡ record self { settings = record self.settings { queue_strategy = queue_strategy } } }
+        ensures { result ≡ record self {
+          settings =
+              record self.settings { queue_strategy = queue_strategy };
+        } }
     {
         self.config.queue_strategy = queue_strategy;
         self
@@ -197,7 +222,11 @@ impl<
     /// Where errors go that no caller of the pool waits for; the sink that was set before is dropped. `NopErrorSink` by default. As
     /// upstream, but that the sink's type becomes part of the builder's.
     pub fn error_sink<T: ErrorSink<M::Error>>(self, error_sink: T) -> Builder<M, T, Z>
-        ensures { result ≡ record { settings = self.settings; error_sink = error_sink; connection_customizer = self.connection_customizer } }
+        ensures { result ≡ record {
+          settings = self.settings;
+          error_sink = error_sink;
+          connection_customizer = self.connection_customizer;
+        } }
     {
         Builder::from_parts(self.config, error_sink, self.connection_customizer)
     }
@@ -208,7 +237,11 @@ impl<
         self,
         connection_customizer: T,
     ) -> Builder<M, S, T>
-        ensures { result ≡ record { settings = self.settings; error_sink = self.error_sink; connection_customizer = connection_customizer } }
+        ensures { result ≡ record {
+          settings = self.settings;
+          error_sink = self.error_sink;
+          connection_customizer = connection_customizer;
+        } }
     {
         Builder::from_parts(self.config, self.error_sink, connection_customizer)
     }

@@ -13,7 +13,8 @@ pub struct FirstPoll<M: ManageConnection> {
 
 /// Makes one `connect` of a manager and polls it once, at the moment `moment`: a way to try a manager without a pool. Our own helper.
 pub fn first_connect<M: ManageConnection>(manager: &M, moment: Moment) -> FirstPoll<M>
-    ensures { (begun : M.Connecting) × M.connects manager.now begun × M.connect_answers manager.now begun moment result.answer result.connecting }
+    ensures { (begun : M.Connecting) × M.connects manager.now begun
+        × M.connect_answers manager.now begun moment result.answer result.connecting }
 {
     let mut connecting = manager.connect();
     let answer = manager.poll_connect(&mut connecting, moment);

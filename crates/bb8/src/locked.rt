@@ -115,7 +115,9 @@ impl<C: Drop, L: Parts> Locked<C, L> {
         taken: Taken<C, Part<L>>,
         broken: bool,
     ) -> Result<PutBackAnswer<C>, C>
-        ensures step { StepsIn L.settings self.old.core at.0 (acts.PutBack taken.key.number taken.connection broken) (returned (put_back_told taken.key.number) result) self.new.core }
+        ensures step { StepsIn L.settings self.old.core at.0
+            (acts.PutBack taken.key.number taken.connection broken)
+            (returned (put_back_told taken.key.number) result) self.new.core }
         ensures connection { OnFit (GivesBack taken.connection) (λ c. c ≡ taken.connection) result }
     {
         self.limits();
@@ -137,7 +139,8 @@ impl<C: Drop, L: Parts> Locked<C, L> {
 
     /// Adds a connection that no approval brought. Where that does not fit, the connection comes back as the error.
     pub(crate) fn add(&mut self, at: Moment, conn: C, broken: bool) -> Result<AddAnswer<C>, C>
-        ensures step { StepsIn L.settings self.old.core at.0 (acts.Add conn broken) (returned add_told result) self.new.core }
+        ensures step { StepsIn L.settings self.old.core at.0 (acts.Add conn broken)
+            (returned add_told result) self.new.core }
         ensures connection { OnFit (Refuses conn) (λ same. same ≡ conn) result }
         ensures sorted { IfOk result (λ answer. IsSorted broken answer) }
     {
@@ -151,7 +154,8 @@ impl<C: Drop, L: Parts> Locked<C, L> {
 
     /// Claims the unclaimed approval of the least number, for whoever opens its connection.
     pub(crate) fn claim(&mut self, at: Moment) -> ClaimAnswer
-        ensures { StepsIn L.settings self.old.core at.0 acts.Claim (claim_told result) self.new.core }
+        ensures { StepsIn L.settings self.old.core at.0 acts.Claim
+            (claim_told result) self.new.core }
     {
         self.limits();
         let Locked { core, .. } = self;
@@ -165,7 +169,8 @@ impl<C: Drop, L: Parts> Locked<C, L> {
         approval: Key,
         conn: C,
     ) -> Result<OpenedAnswer<C>, C>
-        ensures step { StepsIn L.settings self.old.core at.0 (acts.Opened approval.number conn) (returned (opened_told approval.number) result) self.new.core }
+        ensures step { StepsIn L.settings self.old.core at.0 (acts.Opened approval.number conn)
+            (returned (opened_told approval.number) result) self.new.core }
         ensures connection { OnFit (HandsBack conn) (λ same. same ≡ conn) result }
     {
         self.limits();
@@ -178,7 +183,8 @@ impl<C: Drop, L: Parts> Locked<C, L> {
 
     /// What the pool tells of itself.
     pub(crate) fn state(&mut self, at: Moment) -> State
-        ensures step { StepsIn L.settings self.old.core at.0 acts.State (answers.Shown (figures_of result)) self.new.core }
+        ensures step { StepsIn L.settings self.old.core at.0 acts.State
+            (answers.Shown (figures_of result)) self.new.core }
         ensures size { result.connections ≤ L.settings.max_size }
         ensures idle { result.idle_connections ≤ result.connections }
     {

@@ -167,7 +167,8 @@ impl<M: ManageConnection, S, Z, K: Clock, R: Locks, L: Parts> Returns for Shared
 
 /// What the caller of an adding is told. A pool whose last handle left would have no capacity; whoever calls it has one.
 fn told<C: Drop>(answer: Result<AddAnswer<C>, C>) -> Result<(), AddError<C>>
-    ensures { (broken : Bool) (after : C) → OnFit (Refuses after) (λ same. same ≡ after) answer → IfOk answer (IsSorted broken) → IsTold (returned add_told answer) broken after result }
+    ensures { (broken : Bool) (after : C) → OnFit (Refuses after) (λ same. same ≡ after) answer
+        → IfOk answer (IsSorted broken) → IsTold (returned add_told answer) broken after result }
 {
     match answer {
         Ok(AddAnswer::Added(_, _)) => Ok(()),
@@ -223,7 +224,8 @@ impl<
     }
 
     fn add(self, mut conn: M::Connection) -> Result<(), AddError<M::Connection>>
-        ensures { IsAdding (M.breaks (manager_in self.now)) (K.tells (clock_in self.now)) (settings_in self.now) conn result }
+        ensures { IsAdding (M.breaks (manager_in self.now)) (K.tells (clock_in self.now))
+            (settings_in self.now) conn result }
     {
         let shared = &*self.shared;
         let broken = shared.manager.has_broken(&mut conn);
@@ -233,7 +235,8 @@ impl<
     }
 
     fn state(self) -> State
-        ensures shown { IsShown M.Connection (K.tells (clock_in self.now)) (settings_in self.now) result }
+        ensures shown { IsShown M.Connection (K.tells (clock_in self.now))
+            (settings_in self.now) result }
         ensures size { result.connections ≤ (settings_in self.now).max_size }
         ensures idle { result.idle_connections ≤ result.connections }
     {
@@ -263,14 +266,16 @@ impl<
     /// nobody turns a driver of the pool, also once that get was let go: then an adding may find no room although fewer connections than
     /// `max_size` are there.
     pub fn add(&self, conn: M::Connection) -> Result<(), AddError<M::Connection>>
-        ensures { IsAdding (M.breaks (manager_in self.now)) (K.tells (clock_in self.now)) (settings_in self.now) conn result }
+        ensures { IsAdding (M.breaks (manager_in self.now)) (K.tells (clock_in self.now))
+            (settings_in self.now) conn result }
     {
         PoolCalls::add(self, conn)
     }
 
     /// How many connections the pool has, how many of them are idle, and what has happened to it. As upstream.
     pub fn state(&self) -> State
-        ensures shown { IsShown M.Connection (K.tells (clock_in self.now)) (settings_in self.now) result }
+        ensures shown { IsShown M.Connection (K.tells (clock_in self.now))
+            (settings_in self.now) result }
         ensures size { result.connections ≤ (settings_in self.now).max_size }
         ensures idle { result.idle_connections ≤ result.connections }
     {

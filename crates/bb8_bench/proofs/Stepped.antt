@@ -56,14 +56,17 @@ at-approve zero first k r rs e = e
 at-approve (suc n) first k r rs e =
     let before : List (Numbered (Standing ℕ)) = with_approvals false n rs in
     let ih : at_number first before k ≡ Some r = at-approve n first k r rs e in
-    let other : eqb k (first + length before) ≡ false = numbered.ne_test k (first + length before) (λ same. let past : at_number first before k ≡ None = numbered.at-past before first k (omega arith) in let clash : Some r ≡ None = sym ih ∙ past in cc) in
+    let other : eqb k (first + length before) ≡ false =
+    numbered.ne_test k (first + length before) (λ same. let past : at_number first before k ≡ None =
+    numbered.at-past before first k (omega arith) in let clash : Some r ≡ None = sym ih ∙ past in cc) in
     numbered.at-append before (approval false) first k ∙ ap (λ (b : Bool). cond b (Some (approval false)) (at_number first before k)) other ∙ ih
 
 length-approve : (n : ℕ) → length (with_approvals {C = ℕ} false n []) ≡ n
 length-approve zero = refl
 length-approve (suc n) =
     let ih : length (with_approvals {C = ℕ} false n []) ≡ n = length-approve n in
-    let more : length (with_approvals {C = ℕ} false n [] ++ approval false ∷ []) ≡ length (with_approvals {C = ℕ} false n []) + 1 = length-append (with_approvals {C = ℕ} false n []) (approval false ∷ []) in
+    let more : length (with_approvals {C = ℕ} false n [] ++ approval false ∷ []) ≡ length (with_approvals {C = ℕ} false n []) + 1 =
+    length-append (with_approvals {C = ℕ} false n []) (approval false ∷ []) in
     omega arith
 
 unclaimed-approve : (n : ℕ) → numbers (λ (r : Numbered (Standing ℕ)). stands is_unclaimed r.standing) 0 (with_approvals false n []) ≡ upto n
@@ -100,7 +103,9 @@ module _ (s t : Shown ℕ) (l : Ledger ℕ) (means : Means l s) where
   -- ---- begin
 
   pub begun_idle : (at g : ℕ) → Means (Later l at Begin (Begun g)) t → t.records.idle ≡ s.records.idle
-  begun_idle at g new = sym (ap (λ (x : Shown ℕ). x.records.idle) new) ∙ numbered.in_order-later idle_at (records l) (start l).first (position l) (entered_before l) ∙ ap (λ (x : Shown ℕ). x.records.idle) means
+  begun_idle at g new = sym (ap (λ (x : Shown ℕ). x.records.idle) new)
+      ∙ numbered.in_order-later idle_at (records l) (start l).first (position l) (entered_before l)
+      ∙ ap (λ (x : Shown ℕ). x.records.idle) means
 
   given : (at g : ℕ) → Row l at Begin (Begun g) → g ≡ next_get l
   given at g (begins is few) = is
@@ -110,11 +115,14 @@ module _ (s t : Shown ℕ) (l : Ledger ℕ) (means : Means l s) where
       let open_now : ltb 0 (handles l) ≡ true = lt-ltb 0 (handles l) (subst (λ (n : ℕ). 0 < n) (sym (ap (λ (x : Shown ℕ). x.handles) means)) ready.handles) in
       let is : g ≡ next_get l = given at g (by_row (takes l Begin) _ _ open_now allowed) in
       let last : eqb g (next_get l) ≡ true = ap (eqb g) (sym is) ∙ numbered.eqb_self g in
-      let found : at_number (start l).first_get (gets l ++ new_get ∷ []) g ≡ Some new_get = numbered.at-append (gets l) new_get (start l).first_get g ∙ ap (λ (b : Bool). cond b (Some new_get) (at_number (start l).first_get (gets l) g)) last in
+      let found : at_number (start l).first_get (gets l ++ new_get ∷ []) g ≡ Some new_get =
+      numbered.at-append (gets l) new_get (start l).first_get g
+      ∙ ap (λ (b : Bool). cond b (Some new_get) (at_number (start l).first_get (gets l) g)) last in
       ap (gets_stand is_trying) (sym (shown_get (Later l at Begin (Begun g)) t new g) ∙ ap (option_and_then (λ (r : Numbered Getting). r.standing)) found)
 
   pub begun_fits : (at g : ℕ) → IsServing s → 0 < length s.records.idle → Allowed l at Begin (Begun g) → Means (Later l at Begin (Begun g)) t → IsFitting t (Try g)
-  begun_fits at g ready some allowed new = try_fits t g (serving at Begin (Begun g) refl new ready) (subst (λ (xs : List ℕ). 0 < length xs) (sym (begun_idle at g new)) some) (begun_tries at g ready allowed new)
+  begun_fits at g ready some allowed new = try_fits t g (serving at Begin (Begun g) refl new ready)
+      (subst (λ (xs : List ℕ). 0 < length xs) (sym (begun_idle at g new)) some) (begun_tries at g ready allowed new)
 
   -- ---- try
 
@@ -122,23 +130,31 @@ module _ (s t : Shown ℕ) (l : Ledger ℕ) (means : Means l s) where
   first_out at g k grant (serves not_waiting off first want) = first
 
   -- what a served try leaves: the line without its first, which is out
-  pub served : (at g k : ℕ) (grant : Grant) → IsServing s → takes l (Try g) ≡ true → Allowed l at (Try g) (Served k grant) → Means (Later l at (Try g) (Served k grant)) t → (s.records.idle ≡ k ∷ t.records.idle) × (stands is_guarded (get t.records.places k) ≡ true)
+  pub served : (at g k : ℕ) (grant : Grant) → IsServing s → takes l (Try g) ≡ true → Allowed l at (Try g) (Served k grant)
+      → Means (Later l at (Try g) (Served k grant)) t → (s.records.idle ≡ k ∷ t.records.idle)
+      × (stands is_guarded (get t.records.places k) ≡ true)
   served at g k grant ready fit allowed new =
       let strategy : (start l).config.queue_strategy ≡ _ = ap (λ (x : Shown ℕ). x.config.queue_strategy) means ∙ ready.oldest in
       let first : slice_get (idle l) 0 ≡ Some k = subst (λ (q : QueueStrategy). first_of q (idle l) ≡ Some k) strategy (first_out at g k grant (by_row (takes l (Try g)) _ _ fit allowed)) in
       let line = head (idle l) k first in
-      let m : (r : Numbered (Standing ℕ)) × (at_number (start l).first (records l) k ≡ Some r) × (q : ℕ) × (q < position l) × (idle_at q r ≡ true) = numbered.in_order_member idle_at (records l) (start l).first (position l) 0 k first in
+      let m : (r : Numbered (Standing ℕ)) × (at_number (start l).first (records l) k ≡ Some r) × (q : ℕ) × (q < position l)
+      × (idle_at q r ≡ true) = numbered.in_order_member idle_at (records l) (start l).first (position l) 0 k first in
       let was = standing_is is_idle m.0.standing (and_right (stands is_idle m.0.standing) _ m.4).0 in
       let rs : List (Numbered (Standing ℕ)) = update (start l).first k (at_place Guarded) (records l) in
       let rs_is : rs ≡ change (start l).first k (at_place Guarded m.0) (records l) = numbered.update_is (records l) (start l).first k (at_place Guarded) m.0 m.1 in
       let rest : in_order idle_at (start l).first rs (suc (position l)) ≡ line.0 =
       ap (λ (xs : List (Numbered (Standing ℕ))). in_order idle_at (start l).first xs (suc (position l))) rs_is
-      ∙ numbered.in_order-change_head idle_at one_place (records l) (start l).first k line.0 (at_place Guarded m.0) (λ p. not_idle m.0.standing (eqb m.0.position p)) (suc (position l)) (numbered.in_order-later idle_at (records l) (start l).first (position l) (entered_before l) ∙ line.1) in
+      ∙ numbered.in_order-change_head idle_at one_place (records l) (start l).first k line.0 (at_place Guarded m.0)
+      (λ p. not_idle m.0.standing (eqb m.0.position p)) (suc (position l))
+      (numbered.in_order-later idle_at (records l) (start l).first (position l) (entered_before l) ∙ line.1) in
       let idle_new : t.records.idle ≡ line.0 = sym (ap (λ (x : Shown ℕ). x.records.idle) new) ∙ idle-approve grant.count (start l).first (suc (position l)) rs ∙ rest in
-      let there : at_number (start l).first rs k ≡ Some (at_place Guarded m.0) = ap (λ (xs : List (Numbered (Standing ℕ))). at_number (start l).first xs k) rs_is ∙ numbered.at-change_same (records l) (start l).first k (at_place Guarded m.0) m.0 m.1 in
+      let there : at_number (start l).first rs k ≡ Some (at_place Guarded m.0) =
+      ap (λ (xs : List (Numbered (Standing ℕ))). at_number (start l).first xs k) rs_is
+      ∙ numbered.at-change_same (records l) (start l).first k (at_place Guarded m.0) m.0 m.1 in
       let still : at_number (start l).first (with_approvals false grant.count rs) k ≡ Some (at_place Guarded m.0) = at-approve grant.count (start l).first k (at_place Guarded m.0) rs there in (
         sym (ap (λ (x : Shown ℕ). x.records.idle) means) ∙ line.1 ∙ ap (λ (xs : List ℕ). k ∷ xs) (sym idle_new),
-        ap (stands is_guarded) (sym (shown_record (Later l at (Try g) (Served k grant)) t new k) ∙ ap (option_and_then (λ (r : Numbered (Standing ℕ)). r.standing)) still ∙ ap (option_map (with_place Guarded)) was.1),
+        ap (stands is_guarded) (sym (shown_record (Later l at (Try g) (Served k grant)) t new k)
+            ∙ ap (option_and_then (λ (r : Numbered (Standing ℕ)). r.standing)) still ∙ ap (option_map (with_place Guarded)) was.1),
       )
 
   -- ---- return
@@ -148,7 +164,9 @@ module _ (s t : Shown ℕ) (l : Ledger ℕ) (means : Means l s) where
       let guarded : stands is_guarded (record_of l k) ≡ true = ap (stands is_guarded) (shown_record l s means k) ∙ out in
       let st = standing_is is_guarded (record_of l k) guarded in
       let now : ℕ = max (latest l) at in
-      let is = shown-entered (start l).first (position l) 0 (records l) false k st.0 c st.0.birth now (at_entry c now (position l)) (entered_before l) st.1 (guarded_out st.0.place st.2) (λ r e. ap (λ (o : Option (Standing ℕ)). entry c (birth_in o) now (position l)) e) in
+      let is = shown-entered (start l).first (position l) 0 (records l) false k st.0 c st.0.birth now (at_entry c now (position l))
+      (entered_before l) st.1 (guarded_out st.0.place st.2)
+      (λ r e. ap (λ (o : Option (Standing ℕ)). entry c (birth_in o) now (position l)) e) in
       sym (ap (λ (x : Shown ℕ). x.records.idle) new) ∙ ap (λ (x : ShownRecords ℕ). x.idle) is ∙ ap (λ (x : Shown ℕ). x.records.idle ++ k ∷ []) means
 
   -- ---- claim and open
@@ -157,21 +175,29 @@ module _ (s t : Shown ℕ) (l : Ledger ℕ) (means : Means l s) where
   first_unclaimed at k (claims open_now first) = first
 
   -- what a claim leaves: the line of the unclaimed without its first, which is claimed
-  pub claimed : (at k : ℕ) → Allowed l at Claim (answers.Claimed (Some k)) → Means (Later l at Claim (answers.Claimed (Some k))) t → (s.records.unclaimed ≡ k ∷ t.records.unclaimed) × (t.records.idle ≡ s.records.idle) × (stands is_claimed (get t.records.places k) ≡ true)
+  pub claimed : (at k : ℕ) → Allowed l at Claim (answers.Claimed (Some k)) → Means (Later l at Claim (answers.Claimed (Some k))) t
+      → (s.records.unclaimed ≡ k ∷ t.records.unclaimed) × (t.records.idle ≡ s.records.idle)
+      × (stands is_claimed (get t.records.places k) ≡ true)
   claimed at k allowed new =
       let first : slice_get (unclaimed l) 0 ≡ Some k = first_unclaimed at k allowed in
       let line = head (unclaimed l) k first in
       let is = shown-claimed (start l).first (suc (position l)) 0 (records l) k first in
       let before : ShownRecords ℕ = shown_records (start l).first (suc (position l)) 0 (records l) in
       let now : Standing ℕ = machine.standing_at Claimed (get before.places k) in
-      let there : get t.records.places k ≡ Some now = sym (ap (λ (x : Shown ℕ). get x.records.places k) new) ∙ ap (λ (x : ShownRecords ℕ). get x.places k) is ∙ numbered.get_inserted before.places k now k ∙ ap (λ (b : Bool). cond b (Some now) (get before.places k)) (numbered.eqb_self k) in
+      let there : get t.records.places k ≡ Some now = sym (ap (λ (x : Shown ℕ). get x.records.places k) new)
+      ∙ ap (λ (x : ShownRecords ℕ). get x.places k) is ∙ numbered.get_inserted before.places k now k
+      ∙ ap (λ (b : Bool). cond b (Some now) (get before.places k)) (numbered.eqb_self k) in
       let rest : t.records.unclaimed ≡ line.0 = sym (ap (λ (x : Shown ℕ). x.records.unclaimed) new) ∙ ap (λ (x : ShownRecords ℕ). x.unclaimed) is ∙ ap (drop 1) line.1 in (
         sym (ap (λ (x : Shown ℕ). x.records.unclaimed) means) ∙ line.1 ∙ ap (λ (xs : List ℕ). k ∷ xs) (sym rest),
-        sym (ap (λ (x : Shown ℕ). x.records.idle) new) ∙ ap (λ (x : ShownRecords ℕ). x.idle) is ∙ numbered.in_order-later idle_at (records l) (start l).first (position l) (entered_before l) ∙ ap (λ (x : Shown ℕ). x.records.idle) means,
+        sym (ap (λ (x : Shown ℕ). x.records.idle) new) ∙ ap (λ (x : ShownRecords ℕ). x.idle) is
+            ∙ numbered.in_order-later idle_at (records l) (start l).first (position l) (entered_before l)
+            ∙ ap (λ (x : Shown ℕ). x.records.idle) means,
         ap (stands is_claimed) there ∙ claimed_place (get before.places k),
       )
 
-  pub entered : (at k c : ℕ) (n : Option ℕ) → stands is_claimed (get s.records.places k) ≡ true → Means (Later l at (Opened k c) (Entered k n)) t → (t.records.idle ≡ s.records.idle ++ k ∷ []) × (t.records.unclaimed ≡ s.records.unclaimed)
+  pub entered : (at k c : ℕ) (n : Option ℕ) → stands is_claimed (get s.records.places k) ≡ true
+      → Means (Later l at (Opened k c) (Entered k n)) t → (t.records.idle ≡ s.records.idle ++ k ∷ [])
+      × (t.records.unclaimed ≡ s.records.unclaimed)
   entered at k c n claimed_now new =
       let there : stands is_claimed (record_of l k) ≡ true = ap (stands is_claimed) (shown_record l s means k) ∙ claimed_now in
       let st = standing_is is_claimed (record_of l k) there in
@@ -186,8 +212,15 @@ module _ (s t : Shown ℕ) (l : Ledger ℕ) (means : Means l s) where
   -- what a fill leaves where there were no records yet
   pub filled : (at : ℕ) (grant : Grant) → records l ≡ [] → (start l).first ≡ 0 → Means (Later l at (Fill false) (Granted grant)) t → (t.records.idle ≡ []) × (t.records.unclaimed ≡ upto grant.count)
   filled at grant none first new = (
-    sym (ap (λ (x : Shown ℕ). x.records.idle) new) ∙ idle-approve grant.count (start l).first (suc (position l)) (records l) ∙ numbered.in_order-later idle_at (records l) (start l).first (position l) (entered_before l) ∙ ap (λ (rs : List (Numbered (Standing ℕ))). in_order idle_at (start l).first rs (position l)) none ∙ nobody (position l) (start l).first,
-    sym (ap (λ (x : Shown ℕ). x.records.unclaimed) new) ∙ ap (λ (rs : List (Numbered (Standing ℕ))). numbers (λ (r : Numbered (Standing ℕ)). stands is_unclaimed r.standing) (start l).first (with_approvals false grant.count rs)) none ∙ ap (λ (n : ℕ). numbers (λ (r : Numbered (Standing ℕ)). stands is_unclaimed r.standing) n (with_approvals false grant.count [])) first ∙ unclaimed-approve grant.count,
+    sym (ap (λ (x : Shown ℕ). x.records.idle) new) ∙ idle-approve grant.count (start l).first (suc (position l)) (records l)
+        ∙ numbered.in_order-later idle_at (records l) (start l).first (position l) (entered_before l)
+        ∙ ap (λ (rs : List (Numbered (Standing ℕ))). in_order idle_at (start l).first rs (position l)) none
+        ∙ nobody (position l) (start l).first,
+    sym (ap (λ (x : Shown ℕ). x.records.unclaimed) new)
+        ∙ ap (λ (rs : List (Numbered (Standing ℕ))). numbers (λ (r : Numbered (Standing ℕ)). stands is_unclaimed r.standing) (start l).first
+        (with_approvals false grant.count rs)) none ∙ ap
+        (λ (n : ℕ). numbers (λ (r : Numbered (Standing ℕ)). stands is_unclaimed r.standing) n (with_approvals false grant.count [])) first
+        ∙ unclaimed-approve grant.count,
   )
     where
       nobody : (m n : ℕ) → in_order (idle_at {C = ℕ}) n [] m ≡ []

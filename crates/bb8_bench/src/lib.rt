@@ -45,7 +45,8 @@ pub extern "C" fn core_fill_drain(alloc: Global, size: u32) -> u64
 /// memory was refused, and where `out` is too short; then `out` is unchanged. Our own.
 #[unsafe(no_mangle)]
 pub extern "C" fn script_run(alloc: Global, input: &[u8], out: &mut [u8]) -> u64
-    ensures written { ((result ≡ 0) × (out.new ≡ out.old)) ⊎ IsWritten input.now out.old result out.new }
+    ensures written { ((result ≡ 0) × (out.new ≡ out.old))
+        ⊎ IsWritten input.now out.old result out.new }
 {
     run_over(alloc, input, out).unwrap_or(0)
 }

@@ -13,7 +13,8 @@ pub(crate) const NOW: Moment = Moment(0);
 
 /// As by default, but that no connection is checked, and that the pool fills itself.
 fn full_config(size: u32) -> Config
-    ensures { settings_of result ≡ record default_settings { max_size = size; min_idle = Some size; test_on_check_out = false } }
+    ensures { settings_of result ≡ record
+        default_settings { max_size = size; min_idle = Some size; test_on_check_out = false } }
 {
     let config = Config::default();
     Config {
@@ -33,7 +34,8 @@ fn full_config(size: u32) -> Config
 fn open_one(pool: &mut PoolInternals<u64>) -> Option<u64>
     requires { IsServing pool.old }
     ensures serving { IfSome result (λ k. IsServing pool.new) }
-    ensures claimed { IfSome result (λ k. pool.old.records.unclaimed ≡ k ∷ pool.new.records.unclaimed) }
+    ensures claimed { IfSome result
+        (λ k. pool.old.records.unclaimed ≡ k ∷ pool.new.records.unclaimed) }
     ensures entered { IfSome result (λ k. pool.new.records.idle ≡ pool.old.records.idle ++ k ∷ []) }
 {
     // It does nothing, and tells the proof of a ledger behind the state.

@@ -7,7 +7,8 @@ use std::alloc::Global;
 
 /// Writes a text over the front of a slice, where it fits: how many bytes it has.
 fn write_over(text: &[u8], out: &mut [u8]) -> Option<u64>
-    ensures some { IfSome result (λ n. (n ≡ length text.now) × (out.new ≡ text.now ++ drop n out.old)) }
+    ensures some { IfSome result (λ n. (n ≡ length text.now)
+        × (out.new ≡ text.now ++ drop n out.old)) }
     ensures none { IfNone result (out.new ≡ out.old) }
 {
     let n = text.len();

@@ -26,8 +26,10 @@ fn serve_in_steps(pool: &mut PoolInternals<u64>) -> Option<(Key, u64)>
     requires serving { IsServing pool.old }
     requires some { 0 < length pool.old.records.idle }
     ensures serving { IfSome result (λ r. IsServing pool.new) }
-    ensures first { IfSome result (λ r. pool.old.records.idle ≡ r.0.number ∷ pool.new.records.idle) }
-    ensures out { IfSome result (λ r. stands is_guarded (map.get pool.new.records.places r.0.number) ≡ true) }
+    ensures first { IfSome result
+        (λ r. pool.old.records.idle ≡ r.0.number ∷ pool.new.records.idle) }
+    ensures out { IfSome result (λ r. stands is_guarded
+        (map.get pool.new.records.places r.0.number) ≡ true) }
 {
     // It does nothing, and tells the proof of a ledger behind the state.
     pool.limits();
@@ -44,8 +46,10 @@ fn serve(pool: &mut PoolInternals<u64>) -> Option<(Key, u64)>
     requires serving { IsServing pool.old }
     requires some { 0 < length pool.old.records.idle }
     ensures serving { IfSome result (λ r. IsServing pool.new) }
-    ensures first { IfSome result (λ r. pool.old.records.idle ≡ r.0.number ∷ pool.new.records.idle) }
-    ensures out { IfSome result (λ r. stands is_guarded (map.get pool.new.records.places r.0.number) ≡ true) }
+    ensures first { IfSome result
+        (λ r. pool.old.records.idle ≡ r.0.number ∷ pool.new.records.idle) }
+    ensures out { IfSome result (λ r. stands is_guarded
+        (map.get pool.new.records.places r.0.number) ≡ true) }
 {
     // It does nothing, and tells the proof of a ledger behind the state.
     pool.limits();
@@ -60,7 +64,8 @@ fn give_back(pool: &mut PoolInternals<u64>, key: Key, conn: u64) -> Option<()>
     requires serving { IsServing pool.old }
     requires out { stands is_guarded (map.get pool.old.records.places key.number) ≡ true }
     ensures serving { IfSome result (λ u. IsServing pool.new) }
-    ensures last { IfSome result (λ u. pool.new.records.idle ≡ pool.old.records.idle ++ key.number ∷ []) }
+    ensures last { IfSome result (λ u. pool.new.records.idle ≡ pool.old.records.idle
+        ++ key.number ∷ []) }
 {
     // It does nothing, and tells the proof of a ledger behind the state.
     pool.limits();

@@ -41,11 +41,22 @@ module _ {C : Type 0} where
       ∙ ap (λ (b : Bool). not b && gets_stand is_trying (get (between s now).gets.places s.gets.next)) off
       ∙ ap (gets_stand is_trying) (stands_new s now)
 
-  pub meets_begun_between : {s : Shown C} (at : ℕ) {now n : ℕ} → n ≡ s.gets.next → IsFitting s Begin → now ≡ max s.latest at → s.gets.next < end_of_numbers → IsStep s at Begin (Begun n) (between s now)
+  pub meets_begun_between : {s : Shown C} (at : ℕ) {now n : ℕ} → n ≡ s.gets.next → IsFitting s Begin → now ≡ max s.latest at
+      → s.gets.next < end_of_numbers → IsStep s at Begin (Begun n) (between s now)
   meets_begun_between at n_is fit now_is few = meets_begun at fit now_is few refl refl n_is
 
   -- what is done to the fields, from the state between on
-  pub meets_served_between : (s : Shown C) {at now n k : ℕ} {grant : Grant} {rs : ShownRecords C} {gs : ShownGets} (was : Counters) {is : Counters} → n ≡ s.gets.next → s.config.test_on_check_out ≡ false → now ≡ max s.latest at → first_of s.config.queue_strategy s.records.idle ≡ Some k → Grants s false (machine.after_take Guarded k s.records) grant rs → gs ≡ machine.after_get_end s.gets.next (machine.after_begin s.gets) → s.counts ≡ counts_held was → is ≡ served (record was { started = was.started + 1 }) now never → IsStep (between s now) at (Try n) (Served k grant) (record s { latest = now; records = rs; gets = gs; counts = counts_held is })
+  pub meets_served_between : (s : Shown C) {at now n k : ℕ} {grant : Grant} {rs : ShownRecords C} {gs : ShownGets}
+      (was : Counters) {is : Counters} → n ≡ s.gets.next → s.config.test_on_check_out ≡ false → now ≡ max s.latest at
+      → first_of s.config.queue_strategy s.records.idle ≡ Some k → Grants s false (machine.after_take Guarded k s.records) grant rs
+      → gs ≡ machine.after_get_end s.gets.next (machine.after_begin s.gets) → s.counts ≡ counts_held was
+      → is ≡ served (record was { started = was.started + 1 }) now never
+      → IsStep (between s now) at (Try n) (Served k grant) (record s { latest = now; records = rs; gets = gs; counts = counts_held is })
   meets_served_between s {at} {now} {n} {k} {grant = grant} {rs = rs} {gs = gs} was {is} n_is off now_is first granted gs_is were counted =
       let again : now ≡ max now at = omega (arith, now_is) in
-      subst (λ (m : ℕ). IsStep (between s now) at (Try m) (Served k grant) (record s { latest = now; records = rs; gets = gs; counts = counts_held is })) (sym n_is) (meets_served (record was { started = was.started + 1 }) (record { fit = fits_between s now off; now_is = again; get_is = sym (stands_new s now) }) refl first (record { granted = granted.granted; after = granted.after }) gs_is (ap (λ (x : Counts). record x { started = x.started + 1 }) were) refl counted)
+      subst (λ (m : ℕ). IsStep (between s now) at (Try m) (Served k grant)
+      (record s { latest = now; records = rs; gets = gs; counts = counts_held is })) (sym n_is)
+      (meets_served (record was { started = was.started + 1 })
+      (record { fit = fits_between s now off; now_is = again; get_is = sym (stands_new s now) }) refl first
+      (record { granted = granted.granted; after = granted.after }) gs_is
+      (ap (λ (x : Counts). record x { started = x.started + 1 }) were) refl counted)

@@ -35,7 +35,9 @@ module _ {C : Type 0} where
   shown_fits s h = subst (λ (t : Shown C). Fits t.config.max_size t.records.conns t.records.approved t.records.next t.gets.alive t.gets.next t.counts) h.2 (all_fit h.0 h.1)
 
   -- What is due of what is asked is within the size, where what is taken is no more than what a state shows.
-  pub due_fits : (s : Shown C) {taken was : ShownRecords C} {used n : ℕ} (asked : ℕ) → HasLedger s → was.conns + was.approved ≤ s.records.conns + s.records.approved → taken ≡ was → used ≡ taken.conns + taken.approved → n ≡ due s.config s.handles used asked → taken.conns + taken.approved + n ≤ s.config.max_size
+  pub due_fits : (s : Shown C) {taken was : ShownRecords C} {used n : ℕ} (asked : ℕ) → HasLedger s
+      → was.conns + was.approved ≤ s.records.conns + s.records.approved → taken ≡ was → used ≡ taken.conns + taken.approved
+      → n ≡ due s.config s.handles used asked → taken.conns + taken.approved + n ≤ s.config.max_size
   due_fits s {taken} {was} {used} {n} asked h few taken_is used_is n_is =
       let same : used ≡ was.conns + was.approved = used_is ∙ ap (λ (t : ShownRecords C). t.conns + t.approved) taken_is in
       let least : due s.config s.handles used asked ≤ s.config.max_size - used = due_few s.config s.handles used asked in
@@ -100,11 +102,13 @@ module _ {C : Type 0} where
       some (Some k) none e = none k refl
 
   -- a get that tries and stands in no line
-  pub fit_waits : {s t : Shown C} {o : Option Getting} (g : ℕ) → s ≡ t → HasLedger s → IsFitting t (Try g) → o ≡ get s.gets.places g → gets_stand is_unnotified o ≡ false → (st : Getting) × (get s.gets.places g ≡ Some st) × (is_unnotified st.place ≡ false)
+  pub fit_waits : {s t : Shown C} {o : Option Getting} (g : ℕ) → s ≡ t → HasLedger s → IsFitting t (Try g) → o ≡ get s.gets.places g
+      → gets_stand is_unnotified o ≡ false → (st : Getting) × (get s.gets.places g ≡ Some st) × (is_unnotified st.place ≡ false)
   fit_waits g view h fit is off = let st = fit_try g view h fit in (st.0, st.1, ap (gets_stand is_unnotified) (sym st.1 ∙ sym is) ∙ off)
 
   -- a get that stands has not been counted as ended, so it may be
-  pub ended_few : (s : Shown C) (g : ℕ) → HasLedger s → (st : Getting) × (get s.gets.places g ≡ Some st) → s.gets.next ≤ end_of_numbers → s.counts.direct + s.counts.waited + s.counts.timed_out + s.counts.cancelled < end_of_numbers
+  pub ended_few : (s : Shown C) (g : ℕ) → HasLedger s → (st : Getting) × (get s.gets.places g ≡ Some st) → s.gets.next ≤ end_of_numbers
+      → s.counts.direct + s.counts.waited + s.counts.timed_out + s.counts.cancelled < end_of_numbers
   ended_few s g h st few =
       let some : 1 ≤ alive h.0 = alive_is h.0 g st.0 (shown_get h.0 s h.2 g ∙ st.1) in
       let shown_some : 1 ≤ s.gets.alive = subst (λ (t : Shown C). 1 ≤ t.gets.alive) h.2 some in

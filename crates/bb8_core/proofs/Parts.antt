@@ -63,7 +63,8 @@ module _ {C : Type 0} where
   counted_at : (l : Ledger C) (at : ℕ) (e : Act C) (a : Answer) → IsLegal l → Allowed l at e a → IsCounted (shown l) e a (shown (Later l at e a))
   counted_at l at e a legal allowed = record {
     config = refl;
-    moves = subst (λ (n : ℕ). Moves e a n (out_of (shown (Later l at e a)))) (sym (out_shown l)) (subst (λ (n : ℕ). Moves e a (out l) n) (sym (out_shown (Later l at e a))) (moved_out l at e a legal allowed));
+    moves = subst (λ (n : ℕ). Moves e a n (out_of (shown (Later l at e a)))) (sym (out_shown l))
+        (subst (λ (n : ℕ). Moves e a (out l) n) (sym (out_shown (Later l at e a))) (moved_out l at e a legal allowed));
     few = subst (λ (n : ℕ). n ≤ (start l).config.max_size) (sym (out_shown (Later l at e a))) (out_few (Later l at e a) (legal, allowed));
   }
 

@@ -61,7 +61,9 @@ module _ {C : Type 0} where
 -- ---- lists of events
 
 -- a run is made longer at its end
-pub run_more : (l m : Ledger ℕ) (events : List Event) (answers : List Told) (e : Event) (a : Told) → IsRun l events answers m → Allowed m e.at.0 (act_of m e.act) (answer_of a) → IsRun l (events ++ e ∷ []) (answers ++ a ∷ []) (Later m e.at.0 (act_of m e.act) (answer_of a))
+pub run_more : (l m : Ledger ℕ) (events : List Event) (answers : List Told) (e : Event) (a : Told) → IsRun l events answers m
+    → Allowed m e.at.0 (act_of m e.act) (answer_of a)
+    → IsRun l (events ++ e ∷ []) (answers ++ a ∷ []) (Later m e.at.0 (act_of m e.act) (answer_of a))
 run_more l m [] [] e a r h = (subst (λ (x : Ledger ℕ). Allowed x e.at.0 (act_of x e.act) (answer_of a)) (sym r) h, ap (λ (x : Ledger ℕ). Later x e.at.0 (act_of x e.act) (answer_of a)) r)
 run_more l m [] (b ∷ answers) e a r h = absurd r
 run_more l m (x ∷ events) [] e a r h = absurd r
@@ -83,7 +85,9 @@ run_take l last (x ∷ events) [] r (suc i) = absurd r
 run_take l last (x ∷ events) (b ∷ answers) r (suc i) = let rest = run_take (Later l x.at.0 (act_of l x.act) (answer_of b)) last events answers r.1 i in (rest.0, (r.0, rest.1))
 
 -- so what holds of every legal ledger holds after each beginning
-pub run_after : (Holds : Ledger ℕ → Type 0) → ((m : Ledger ℕ) → IsLegal m → Holds m) → (l last : Ledger ℕ) (events : List Event) (answers : List Told) → IsLegal l → IsRun l events answers last → AfterEach Holds l events answers
+pub run_after : (Holds : Ledger ℕ → Type 0) → ((m : Ledger ℕ) → IsLegal m → Holds m)
+    → (l last : Ledger ℕ) (events : List Event) (answers : List Told) → IsLegal l → IsRun l events answers last
+    → AfterEach Holds l events answers
 run_after Holds of_legal l last events answers legal r i = let m = run_take l last events answers r i in (m.0, m.1, of_legal m.0 (run_legal l m.0 (take i events) (take i answers) legal m.1))
 
 -- one answer an event

@@ -43,7 +43,9 @@ module _ (first p top : ℕ) (gs : List (Numbered Getting)) where
       (ap (max top) more)
 
   -- a get ends
-  pub shown-ended : (k : ℕ) (s : Getting) → Before unnotified_at p gs → alive_of gs ≤ top → standing_at first gs k ≡ Some s → shown_gets first (suc p) (max top (alive_of (update first k after_end gs))) (update first k after_end gs) ≡ machine.after_get_end k before
+  pub shown-ended : (k : ℕ) (s : Getting) → Before unnotified_at p gs → alive_of gs ≤ top → standing_at first gs k ≡ Some s
+      → shown_gets first (suc p) (max top (alive_of (update first k after_end gs)))
+      (update first k after_end gs) ≡ machine.after_get_end k before
   shown-ended k s b few h =
       let m = numbered.standing_found gs first k s h in
       let g : Numbered Getting = m.0 in
@@ -59,12 +61,16 @@ module _ (first p top : ℕ) (gs : List (Numbered Getting)) where
       (omega arith)
 
   -- a get that stands in no line begins to wait
-  pub shown-waits : (now k : ℕ) (s : Getting) → Before unnotified_at p gs → alive_of gs ≤ top → standing_at first gs k ≡ Some s → is_unnotified s.place ≡ false → shown_gets first (suc p) (max top (alive_of (update first k (at_wait now p) gs))) (update first k (at_wait now p) gs) ≡ machine.after_wait now k before
+  pub shown-waits : (now k : ℕ) (s : Getting) → Before unnotified_at p gs → alive_of gs ≤ top → standing_at first gs k ≡ Some s
+      → is_unnotified s.place ≡ false → shown_gets first (suc p) (max top (alive_of (update first k (at_wait now p) gs)))
+      (update first k (at_wait now p) gs) ≡ machine.after_wait now k before
   shown-waits now k s b few h off =
       let m = numbered.standing_found gs first k s h in
       let g : Numbered Getting = m.0 in
       let new : Numbered Getting = record { standing = Some (get_in_wait now s); position = p } in
-      let is : update first k (at_wait now p) gs ≡ change first k new gs = numbered.update_is gs first k (at_wait now p) g m.1 ∙ ap (λ (x : Numbered Getting). change first k x gs) (begins_now now p g (ap (gets_stand is_unnotified) m.2 ∙ off) ∙ ap (waiter now p) m.2) in
+      let is : update first k (at_wait now p) gs ≡ change first k new gs = numbered.update_is gs first k (at_wait now p) g m.1
+      ∙ ap (λ (x : Numbered Getting). change first k x gs)
+      (begins_now now p g (ap (gets_stand is_unnotified) m.2 ∙ off) ∙ ap (waiter now p) m.2) in
       let same : alive_of (change first k new gs) ≡ alive_of gs = ap alive_of (sym is) ∙ begins_alive first now p k gs in
       ap (λ (xs : List (Numbered Getting)). shown_gets first (suc p) (max top (alive_of xs)) xs) is
       ∙ same_gets _ _
@@ -94,11 +100,15 @@ module _ (first p top : ℕ) (gs : List (Numbered Getting)) where
       refl
 
 -- the same, with the peak after it
-pub noticed_later : (first p top : ℕ) (gs : List (Numbered Getting)) (n : Option ℕ) → IfSome n (λ k. (s : Getting) × (standing_at first gs k ≡ Some s)) → shown_gets first p (max top (alive_of (with_notice first n gs))) (with_notice first n gs) ≡ machine.after_notice n (shown_gets first p (max top (alive_of gs)) gs)
+pub noticed_later : (first p top : ℕ) (gs : List (Numbered Getting)) (n : Option ℕ)
+    → IfSome n (λ k. (s : Getting) × (standing_at first gs k ≡ Some s))
+    → shown_gets first p (max top (alive_of (with_notice first n gs))) (with_notice first n gs) ≡ machine.after_notice n
+    (shown_gets first p (max top (alive_of gs)) gs)
 noticed_later first p top gs n named = ap (λ (m : ℕ). shown_gets first p (max top m) (with_notice first n gs)) (notify_alive first n gs) ∙ shown-noticed first p (max top (alive_of gs)) gs n named
 
 -- the first in line waits and was not notified
-pub first_waits : (first p : ℕ) (gs : List (Numbered Getting)) (k : ℕ) → slice_get (in_order unnotified_at first gs p) 0 ≡ Some k → (s : Getting) × (standing_at first gs k ≡ Some s) × (is_unnotified s.place ≡ true)
+pub first_waits : (first p : ℕ) (gs : List (Numbered Getting)) (k : ℕ) → slice_get (in_order unnotified_at first gs p) 0 ≡ Some k
+    → (s : Getting) × (standing_at first gs k ≡ Some s) × (is_unnotified s.place ≡ true)
 first_waits first p gs k e =
     let m = numbered.in_order_member unnotified_at gs first p 0 k e in
     let g : Numbered Getting = m.0 in
@@ -113,11 +123,13 @@ notified_out (Waiting false) e = cc
 notified_out (Holding k) e = cc
 
 -- so the line loses nothing as it goes
-pub without_other : (first p : ℕ) (gs : List (Numbered Getting)) (k : ℕ) (s : Getting) → standing_at first gs k ≡ Some s → is_unnotified s.place ≡ false → machine.without k (in_order unnotified_at first gs p) ≡ in_order unnotified_at first gs p
+pub without_other : (first p : ℕ) (gs : List (Numbered Getting)) (k : ℕ) (s : Getting) → standing_at first gs k ≡ Some s
+    → is_unnotified s.place ≡ false → machine.without k (in_order unnotified_at first gs p) ≡ in_order unnotified_at first gs p
 without_other first p gs k s h off =
     let m = numbered.standing_found gs first k s h in
     let g : Numbered Getting = m.0 in
-    sym (numbered.in_order-change_off unnotified_at gs first k (after_end g) (λ q. refl) p) ∙ numbered.in_order-change_kept unnotified_at gs first k (after_end g) g m.1 p (λ q below. sym (not_in_line g s m.2 off q))
+    sym (numbered.in_order-change_off unnotified_at gs first k (after_end g) (λ q. refl) p)
+    ∙ numbered.in_order-change_kept unnotified_at gs first k (after_end g) g m.1 p (λ q below. sym (not_in_line g s m.2 off q))
 
 -- no get yet
 pub shown-none : (first : ℕ) → shown_gets first 0 0 [] ≡ no_gets first

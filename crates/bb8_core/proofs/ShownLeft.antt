@@ -42,7 +42,8 @@ module _ {C : Type 0} where
 
   -- a record that would end then has ended already
   shut_ended : (first k : ℕ) (rs : List (Numbered (Standing C))) (r : Numbered (Standing C)) → at first rs k ≡ Some r → is_left r.standing ≡ true → shut (update first k after_end rs) ≡ shut rs
-  shut_ended first k rs r h left_now = ap shut (numbered.update_is rs first k after_end r h) ∙ map-change (after_end_where is_left) rs first k (after_end r) r h (ap (λ (b : Bool). cond b (after_end r) r) (sym left_now))
+  shut_ended first k rs r h left_now = ap shut (numbered.update_is rs first k after_end r h)
+      ∙ map-change (after_end_where is_left) rs first k (after_end r) r h (ap (λ (b : Bool). cond b (after_end r) r) (sym left_now))
 
   -- which places end
   idle_left : (s : Standing C) → is_idle s.place ≡ true → is_left (Some s) ≡ true
@@ -56,9 +57,11 @@ module _ {C : Type 0} where
     show = shown_records first p top
 
     -- the idle connection that is first ends
-    shown-idle_end : (rs : List (Numbered (Standing C))) (k : ℕ) (rest : List ℕ) → in_order idle_at first rs p ≡ k ∷ rest → (show (update first k after_end rs) ≡ machine.after_idle_end k (show rs)) × (shut (update first k after_end rs) ≡ shut rs)
+    shown-idle_end : (rs : List (Numbered (Standing C))) (k : ℕ) (rest : List ℕ) → in_order idle_at first rs p ≡ k ∷ rest
+        → (show (update first k after_end rs) ≡ machine.after_idle_end k (show rs)) × (shut (update first k after_end rs) ≡ shut rs)
     shown-idle_end rs k rest h =
-        let m : (r : Numbered (Standing C)) × (at first rs k ≡ Some r) × (q : ℕ) × (q < p) × (idle_at q r ≡ true) = numbered.in_order_member idle_at rs first p 0 k (ap (λ (xs : List ℕ). slice_get xs 0) h) in
+        let m : (r : Numbered (Standing C)) × (at first rs k ≡ Some r) × (q : ℕ) × (q < p)
+        × (idle_at q r ≡ true) = numbered.in_order_member idle_at rs first p 0 k (ap (λ (xs : List ℕ). slice_get xs 0) h) in
         let r : Numbered (Standing C) = m.0 in
         let was = standing_is is_idle r.standing (and_right (stands is_idle r.standing) _ m.4).0 in
         let place = idle_is was.0.place was.2 in
@@ -69,15 +72,23 @@ module _ {C : Type 0} where
         (numbered.numbered-change_none (λ (x : Numbered (Standing C)). x.standing) rs first k (after_end r) r m.1 refl)
         (numbered.in_order-change_head idle_at idle_once rs first k rest (after_end r) (λ q. refl) p h ∙ sym (ap (drop 1) h))
         (numbered.numbers-change_kept (λ x. stands is_unclaimed x.standing) rs first k (after_end r) r m.1 (sym (tested is_unclaimed r was.0 (Idle place.0) was.1 place.1)))
-        (let e : conns_of (change first k (after_end r) rs) + 1 ≡ conns_of rs + 0 = conns-change first rs k (after_end r) r true false m.1 (tested is_conn r was.0 (Idle place.0) was.1 place.1) refl in omega arith)
-        (let e : approved_of (change first k (after_end r) rs) + 0 ≡ approved_of rs + 0 = approved-change first rs k (after_end r) r false false m.1 (tested is_approval r was.0 (Idle place.0) was.1 place.1) refl in omega arith)
+        (let e : conns_of (change first k (after_end r) rs) + 1 ≡ conns_of rs + 0 =
+        conns-change first rs k (after_end r) r true false m.1 (tested is_conn r was.0 (Idle place.0) was.1 place.1) refl in
+        omega arith)
+        (let e : approved_of (change first k (after_end r) rs) + 0 ≡ approved_of rs + 0 =
+        approved-change first rs k (after_end r) r false false m.1 (tested is_approval r was.0 (Idle place.0) was.1 place.1) refl in
+        omega arith)
         refl in
         (shows, shut_ended first k rs r m.1 (ap is_left was.1 ∙ idle_left was.0 was.2))
 
     -- the unclaimed approval that is first ends
-    shown-unclaimed_end : (rs : List (Numbered (Standing C))) (k : ℕ) (rest : List ℕ) → numbers (λ r. stands is_unclaimed r.standing) first rs ≡ k ∷ rest → (show (update first k after_end rs) ≡ machine.after_unclaimed_end k (show rs)) × (shut (update first k after_end rs) ≡ shut rs)
+    shown-unclaimed_end : (rs : List (Numbered (Standing C))) (k : ℕ) (rest : List ℕ)
+        → numbers (λ r. stands is_unclaimed r.standing) first rs ≡ k ∷ rest
+        → (show (update first k after_end rs) ≡ machine.after_unclaimed_end k (show rs)) × (shut (update first k after_end rs) ≡ shut rs)
     shown-unclaimed_end rs k rest h =
-        let m : (r : Numbered (Standing C)) × (at first rs k ≡ Some r) × (stands is_unclaimed r.standing ≡ true) = numbered.numbers_member (λ r. stands is_unclaimed r.standing) rs first 0 k (ap (λ (xs : List ℕ). slice_get xs 0) h) in
+        let m : (r : Numbered (Standing C)) × (at first rs k ≡ Some r)
+        × (stands is_unclaimed r.standing ≡ true) =
+        numbered.numbers_member (λ r. stands is_unclaimed r.standing) rs first 0 k (ap (λ (xs : List ℕ). slice_get xs 0) h) in
         let r : Numbered (Standing C) = m.0 in
         let was = standing_is is_unclaimed r.standing m.2 in
         let place : was.0.place ≡ Unclaimed = unclaimed_is was.0.place was.2 in
@@ -88,8 +99,11 @@ module _ {C : Type 0} where
         (numbered.numbered-change_none (λ (x : Numbered (Standing C)). x.standing) rs first k (after_end r) r m.1 refl)
         (numbered.in_order-change_kept idle_at rs first k (after_end r) r m.1 p (λ q l. sym (ap (λ (b : Bool). b && eqb r.position q) (tested is_idle r was.0 Unclaimed was.1 place))))
         (numbered.numbers-change_head (λ x. stands is_unclaimed x.standing) rs first k rest (after_end r) h refl ∙ sym (ap (drop 1) h))
-        (let e : conns_of (change first k (after_end r) rs) + 0 ≡ conns_of rs + 0 = conns-change first rs k (after_end r) r false false m.1 (tested is_conn r was.0 Unclaimed was.1 place) refl in omega arith)
-        (let e : approved_of (change first k (after_end r) rs) + 1 ≡ approved_of rs + 0 = approved-change first rs k (after_end r) r true false m.1 (tested is_approval r was.0 Unclaimed was.1 place) refl in omega arith)
+        (let e : conns_of (change first k (after_end r) rs) + 0 ≡ conns_of rs + 0 =
+        conns-change first rs k (after_end r) r false false m.1 (tested is_conn r was.0 Unclaimed was.1 place) refl in omega arith)
+        (let e : approved_of (change first k (after_end r) rs) + 1 ≡ approved_of rs + 0 =
+        approved-change first rs k (after_end r) r true false m.1 (tested is_approval r was.0 Unclaimed was.1 place) refl in
+        omega arith)
         refl in
         (shows, shut_ended first k rs r m.1 (ap is_left was.1 ∙ unclaimed_left was.0 was.2))
 
@@ -110,11 +124,14 @@ module _ {C : Type 0} where
         record { to = next.to; shows = next.shows ∙ ap (machine.after_idle_ends xs) step.0; same = next.same ∙ step.1; before = next.before; no_idle = next.no_idle }
 
     -- all unclaimed approvals end
-    unclaimeds_end : (xs : List ℕ) (rs : List (Numbered (Standing C))) → Before idle_at p rs → numbers (λ r. stands is_unclaimed r.standing) first rs ≡ xs → in_order idle_at first rs p ≡ [] → (e : Ends rs (machine.after_unclaimed_ends xs (show rs))) × (numbers (λ r. stands is_unclaimed r.standing) first e.to ≡ [])
+    unclaimeds_end : (xs : List ℕ) (rs : List (Numbered (Standing C))) → Before idle_at p rs
+        → numbers (λ r. stands is_unclaimed r.standing) first rs ≡ xs → in_order idle_at first rs p ≡ []
+        → (e : Ends rs (machine.after_unclaimed_ends xs (show rs))) × (numbers (λ r. stands is_unclaimed r.standing) first e.to ≡ [])
     unclaimeds_end [] rs b h i = (record { to = rs; shows = refl; same = refl; before = b; no_idle = i }, h)
     unclaimeds_end (k ∷ xs) rs b h i =
         let step = shown-unclaimed_end rs k xs h in
-        let next = unclaimeds_end xs (update first k after_end rs) (ended_before p first k rs b) (ap (λ (s : ShownRecords C). s.unclaimed) step.0 ∙ ap (drop 1) h) (ap (λ (s : ShownRecords C). s.idle) step.0 ∙ i) in
+        let next = unclaimeds_end xs (update first k after_end rs) (ended_before p first k rs b)
+        (ap (λ (s : ShownRecords C). s.unclaimed) step.0 ∙ ap (drop 1) h) (ap (λ (s : ShownRecords C). s.idle) step.0 ∙ i) in
         (record { to = next.0.to; shows = next.0.shows ∙ ap (machine.after_unclaimed_ends xs) step.0; same = next.0.same ∙ step.1; before = next.0.before; no_idle = next.0.no_idle }, next.1)
 
     -- where nothing is idle or unclaimed, nothing ends
@@ -126,7 +143,11 @@ module _ {C : Type 0} where
         stays None a b = refl
         stays (Some s) a b = ap (λ (x : Bool). x || is_unclaimed s.place) a ∙ b
 
-        go : (tally (λ x. stands is_idle x.standing) rs ≡ 0 → numbers (λ x. stands is_unclaimed x.standing) (suc n) rs ≡ [] → shut rs ≡ rs) → (a b : Bool) → stands is_idle r.standing ≡ a → stands is_unclaimed r.standing ≡ b → one a + tally (λ x. stands is_idle x.standing) rs ≡ 0 → cond b (n ∷ numbers (λ x. stands is_unclaimed x.standing) (suc n) rs) (numbers (λ x. stands is_unclaimed x.standing) (suc n) rs) ≡ [] → shut (r ∷ rs) ≡ r ∷ rs
+        go : (tally (λ x. stands is_idle x.standing) rs ≡ 0 → numbers (λ x. stands is_unclaimed x.standing) (suc n) rs ≡ [] → shut rs ≡ rs)
+            → (a b : Bool) → stands is_idle r.standing ≡ a → stands is_unclaimed r.standing ≡ b
+            → one a + tally (λ x. stands is_idle x.standing) rs ≡ 0
+            → cond b (n ∷ numbers (λ x. stands is_unclaimed x.standing) (suc n) rs)
+            (numbers (λ x. stands is_unclaimed x.standing) (suc n) rs) ≡ [] → shut (r ∷ rs) ≡ r ∷ rs
         go others true b idle_now unclaimed_now t m = absurd (omega arith)
         go others false true idle_now unclaimed_now t m = cc
         go others false false idle_now unclaimed_now t m =
@@ -148,11 +169,15 @@ module _ {C : Type 0} where
   -- no more is left than there was
   idles_few : (xs : List ℕ) (s : ShownRecords C) → (machine.after_idle_ends xs s).conns + (machine.after_idle_ends xs s).approved ≤ s.conns + s.approved
   idles_few [] s = omega arith
-  idles_few (k ∷ xs) s = let rest : (machine.after_idle_ends xs (machine.after_idle_end k s)).conns + (machine.after_idle_ends xs (machine.after_idle_end k s)).approved ≤ s.conns - 1 + s.approved = idles_few xs (machine.after_idle_end k s) in omega arith
+  idles_few (k ∷ xs) s = let rest : (machine.after_idle_ends xs (machine.after_idle_end k s)).conns +
+      (machine.after_idle_ends xs (machine.after_idle_end k s)).approved ≤ s.conns - 1 + s.approved =
+      idles_few xs (machine.after_idle_end k s) in omega arith
 
   unclaimeds_few : (xs : List ℕ) (s : ShownRecords C) → (machine.after_unclaimed_ends xs s).conns + (machine.after_unclaimed_ends xs s).approved ≤ s.conns + s.approved
   unclaimeds_few [] s = omega arith
-  unclaimeds_few (k ∷ xs) s = let rest : (machine.after_unclaimed_ends xs (machine.after_unclaimed_end k s)).conns + (machine.after_unclaimed_ends xs (machine.after_unclaimed_end k s)).approved ≤ s.conns + (s.approved - 1) = unclaimeds_few xs (machine.after_unclaimed_end k s) in omega arith
+  unclaimeds_few (k ∷ xs) s = let rest : (machine.after_unclaimed_ends xs (machine.after_unclaimed_end k s)).conns +
+      (machine.after_unclaimed_ends xs (machine.after_unclaimed_end k s)).approved ≤ s.conns + (s.approved - 1) =
+      unclaimeds_few xs (machine.after_unclaimed_end k s) in omega arith
 
   pub left_few : (s : ShownRecords C) → (machine.after_leave s).conns + (machine.after_leave s).approved ≤ s.conns + s.approved
   left_few s =

@@ -27,10 +27,15 @@ module _ {C : Type 0} where
   -- ---- one record is changed
 
   -- a record is put into another place
-  places-put : (first : ℕ) (rs : List (Numbered (Standing C))) (k : ℕ) (p : Place C) (r : Numbered (Standing C)) (s : Standing C) → at first rs k ≡ Some r → r.standing ≡ Some s → standings first (change first k (at_place p r) rs) ≡ insert (standings first rs) k (machine.standing_at p (get (standings first rs) k))
+  places-put : (first : ℕ) (rs : List (Numbered (Standing C))) (k : ℕ) (p : Place C) (r : Numbered (Standing C)) (s : Standing C)
+      → at first rs k ≡ Some r → r.standing ≡ Some s
+      → standings first (change first k (at_place p r) rs) ≡ insert (standings first rs) k
+      (machine.standing_at p (get (standings first rs) k))
   places-put first rs k p r s h e =
       numbered.numbered-change_some (λ (x : Numbered (Standing C)). x.standing) rs first k (at_place p r) r (with_place p s) h (ap (option_map (with_place p)) e)
-      ∙ ap (λ (o : Option (Standing C)). insert (standings first rs) k (machine.standing_at p o)) (sym (numbered.get-numbered (λ (x : Numbered (Standing C)). x.standing) rs first k ∙ ap (option_and_then (λ (x : Numbered (Standing C)). x.standing)) h ∙ e))
+      ∙ ap (λ (o : Option (Standing C)). insert (standings first rs) k (machine.standing_at p o))
+      (sym (numbered.get-numbered (λ (x : Numbered (Standing C)). x.standing) rs first k
+      ∙ ap (option_and_then (λ (x : Numbered (Standing C)). x.standing)) h ∙ e))
 
   module _ (first p top : ℕ) (rs : List (Numbered (Standing C))) where
     abbrev before : ShownRecords C
@@ -54,12 +59,17 @@ module _ {C : Type 0} where
         (places-put first rs k Claimed r was.0 m.1 was.1)
         (numbered.in_order-change_kept idle_at rs first k new r m.1 p (λ q l. not_idle new (ap (stands is_idle) is) q ∙ sym (not_idle r (tested is_idle r was.0 Unclaimed was.1 place) q)))
         (head_gone k before.unclaimed _ h (λ rest e. numbered.numbers-change_head (λ x. stands is_unclaimed x.standing) rs first k rest new e (ap (stands is_unclaimed) is)))
-        (let e : conns_of (change first k new rs) + 0 ≡ conns_of rs + 0 = conns-change first rs k new r false false m.1 (tested is_conn r was.0 Unclaimed was.1 place) (ap (stands is_conn) is) in omega arith)
-        (let e : approved_of (change first k new rs) + 1 ≡ approved_of rs + 1 = approved-change first rs k new r true true m.1 (tested is_approval r was.0 Unclaimed was.1 place) (ap (stands is_approval) is) in omega arith)
+        (let e : conns_of (change first k new rs) + 0 ≡ conns_of rs + 0 =
+        conns-change first rs k new r false false m.1 (tested is_conn r was.0 Unclaimed was.1 place) (ap (stands is_conn) is) in
+        omega arith)
+        (let e : approved_of (change first k new rs) + 1 ≡ approved_of rs + 1 =
+        approved-change first rs k new r true true m.1 (tested is_approval r was.0 Unclaimed was.1 place)
+        (ap (stands is_approval) is) in omega arith)
         refl
 
     -- an idle connection goes out
-    pub shown-taken : (out : Place C) (k j : ℕ) → is_idle out ≡ false → is_unclaimed out ≡ false → is_conn out ≡ true → slice_get before.idle j ≡ Some k → shown_records first p top (update first k (at_place out) rs) ≡ machine.after_take out k before
+    pub shown-taken : (out : Place C) (k j : ℕ) → is_idle out ≡ false → is_unclaimed out ≡ false → is_conn out ≡ true
+        → slice_get before.idle j ≡ Some k → shown_records first p top (update first k (at_place out) rs) ≡ machine.after_take out k before
     shown-taken out k j not_idle_now not_unclaimed_now conn_now h =
         let m : (r : Numbered (Standing C)) × (at first rs k ≡ Some r) × (q : ℕ) × (q < p) × (idle_at q r ≡ true) = numbered.in_order_member idle_at rs first p j k h in
         let r : Numbered (Standing C) = m.0 in
@@ -72,13 +82,19 @@ module _ {C : Type 0} where
         (ap (λ (n : ℕ). first + n) (numbered.length-change rs first k new))
         (places-put first rs k out r was.0 m.1 was.1)
         (numbered.in_order-change_off idle_at rs first k new (not_idle new (ap (stands is_idle) is ∙ not_idle_now)) p)
-        (numbered.numbers-change_kept (λ x. stands is_unclaimed x.standing) rs first k new r m.1 (ap (stands is_unclaimed) is ∙ not_unclaimed_now ∙ sym (tested is_unclaimed r was.0 (Idle place.0) was.1 place.1)))
-        (let e : conns_of (change first k new rs) + 1 ≡ conns_of rs + 1 = conns-change first rs k new r true true m.1 (tested is_conn r was.0 (Idle place.0) was.1 place.1) (ap (stands is_conn) is ∙ conn_now) in omega arith)
-        (let e : approved_of (change first k new rs) + 0 ≡ approved_of rs + 0 = approved-change first rs k new r false false m.1 (tested is_approval r was.0 (Idle place.0) was.1 place.1) (ap (stands is_approval) is ∙ ap not conn_now) in omega arith)
+        (numbered.numbers-change_kept (λ x. stands is_unclaimed x.standing) rs first k new r m.1
+        (ap (stands is_unclaimed) is ∙ not_unclaimed_now ∙ sym (tested is_unclaimed r was.0 (Idle place.0) was.1 place.1)))
+        (let e : conns_of (change first k new rs) + 1 ≡ conns_of rs + 1 =
+        conns-change first rs k new r true true m.1 (tested is_conn r was.0 (Idle place.0) was.1 place.1)
+        (ap (stands is_conn) is ∙ conn_now) in omega arith)
+        (let e : approved_of (change first k new rs) + 0 ≡ approved_of rs + 0 =
+        approved-change first rs k new r false false m.1 (tested is_approval r was.0 (Idle place.0) was.1 place.1)
+        (ap (stands is_approval) is ∙ ap not conn_now) in omega arith)
         refl
 
     -- a claimed approval, or a connection that was out, ends
-    pub shown-closed : (opening : Bool) (k : ℕ) (s : Standing C) → standing_at first rs k ≡ Some s → comes_from opening s.place ≡ true → shown_records first p top (update first k after_end rs) ≡ machine.after_close opening k before
+    pub shown-closed : (opening : Bool) (k : ℕ) (s : Standing C) → standing_at first rs k ≡ Some s → comes_from opening s.place ≡ true
+        → shown_records first p top (update first k after_end rs) ≡ machine.after_close opening k before
     shown-closed opening k s h place =
         let m = numbered.standing_found rs first k s h in
         let r : Numbered (Standing C) = m.0 in
@@ -90,12 +106,20 @@ module _ {C : Type 0} where
         (numbered.numbered-change_none (λ (x : Numbered (Standing C)). x.standing) rs first k new r m.1 refl)
         (numbered.in_order-change_kept idle_at rs first k new r m.1 p (λ q l. sym (not_idle r (test is_idle false (idle_from opening s.place place)) q)))
         (numbered.numbers-change_kept (λ x. stands is_unclaimed x.standing) rs first k new r m.1 (sym (test is_unclaimed false (unclaimed_from opening s.place place))))
-        (let e : conns_of (change first k new rs) + one (not opening) ≡ conns_of rs + 0 = conns-change first rs k new r (not opening) false m.1 (test is_conn (not opening) (conn_from opening s.place place)) refl in omega arith)
-        (let e : approved_of (change first k new rs) + one opening ≡ approved_of rs + 0 = approved-change first rs k new r opening false m.1 (test is_approval opening (approval_from opening s.place place)) refl in omega arith)
+        (let e : conns_of (change first k new rs) + one (not opening) ≡ conns_of rs + 0 =
+        conns-change first rs k new r (not opening) false m.1 (test is_conn (not opening) (conn_from opening s.place place)) refl in
+        omega arith)
+        (let e : approved_of (change first k new rs) + one opening ≡ approved_of rs + 0 =
+        approved-change first rs k new r opening false m.1 (test is_approval opening (approval_from opening s.place place)) refl in
+        omega arith)
         refl
 
     -- the number k enters at this position, which was a claimed approval or out
-    pub shown-entered : (opening : Bool) (k : ℕ) (s : Standing C) (c : C) (birth now : ℕ) (f : Numbered (Standing C) → Numbered (Standing C)) → Before idle_at p rs → standing_at first rs k ≡ Some s → comes_from opening s.place ≡ true → ((r : Numbered (Standing C)) → r.standing ≡ Some s → f r ≡ entry c birth now p) → shown_records first (suc p) top (update first k f rs) ≡ machine.after_entry opening k (record { place = Idle c; birth = birth; entered = now }) before
+    pub shown-entered : (opening : Bool) (k : ℕ) (s : Standing C) (c : C) (birth now : ℕ)
+        (f : Numbered (Standing C) → Numbered (Standing C)) → Before idle_at p rs → standing_at first rs k ≡ Some s
+        → comes_from opening s.place ≡ true → ((r : Numbered (Standing C)) → r.standing ≡ Some s → f r ≡ entry c birth now p)
+        → shown_records first (suc p) top (update first k f rs) ≡ machine.after_entry opening k
+        (record { place = Idle c; birth = birth; entered = now }) before
     shown-entered opening k s c birth now f b h place is =
         let m = numbered.standing_found rs first k s h in
         let r : Numbered (Standing C) = m.0 in
@@ -105,10 +129,12 @@ module _ {C : Type 0} where
         ∙ same_records _ _
         (ap (λ (n : ℕ). first + n) (numbered.length-change rs first k new))
         (numbered.numbered-change_some (λ (x : Numbered (Standing C)). x.standing) rs first k new r (record { place = Idle c; birth = birth; entered = now }) m.1 refl)
-        (numbered.in_order-enter idle_at rs first k p new r b m.1 (not_idle r (test is_idle false (idle_from opening s.place place))) (numbered.eqb_self p) (λ q below. numbered.ne_test p q (λ e. omega arith)))
+        (numbered.in_order-enter idle_at rs first k p new r b m.1 (not_idle r (test is_idle false (idle_from opening s.place place)))
+        (numbered.eqb_self p) (λ q below. numbered.ne_test p q (λ e. omega arith)))
         (numbered.numbers-change_kept (λ x. stands is_unclaimed x.standing) rs first k new r m.1 (sym (test is_unclaimed false (unclaimed_from opening s.place place))))
         (conns_are opening (conns_of (change first k new rs)) (conns_of rs) (conns-change first rs k new r (not opening) true m.1 (test is_conn (not opening) (conn_from opening s.place place)) refl))
-        (approved_are opening (approved_of (change first k new rs)) (approved_of rs) (approved-change first rs k new r opening false m.1 (test is_approval opening (approval_from opening s.place place)) refl))
+        (approved_are opening (approved_of (change first k new rs)) (approved_of rs)
+        (approved-change first rs k new r opening false m.1 (test is_approval opening (approval_from opening s.place place)) refl))
         refl
       where
         conns_are : (o : Bool) (n m : ℕ) → n + one (not o) ≡ m + 1 → n ≡ m + one o
@@ -135,9 +161,14 @@ module _ {C : Type 0} where
         (omega (arith, length-append rs (approval claimed ∷ [])))
         (numbered.numbered-append_some (λ (x : Numbered (Standing C)). x.standing) rs first (approval claimed) (record { place = cond claimed Claimed Unclaimed; birth = 0; entered = 0 }) refl)
         (numbered.in_order-append idle_at rs first (approval claimed) (λ q. never_idle claimed q) p)
-        (numbered.numbers-append (λ x. stands is_unclaimed x.standing) rs (approval claimed) first ∙ ap (λ (xs : List ℕ). numbers (λ x. stands is_unclaimed x.standing) first rs ++ xs) (unclaimed_where claimed))
-        (let e : conns_of (rs ++ approval claimed ∷ []) ≡ conns_of rs + one (is_conn {C = C} (cond claimed Claimed Unclaimed)) = numbered.tally-append (λ x. stands is_conn x.standing) rs (approval claimed) in let z : one (is_conn {C = C} (cond claimed Claimed Unclaimed)) ≡ 0 = no_conn claimed in omega arith)
-        (let e : approved_of (rs ++ approval claimed ∷ []) ≡ approved_of rs + one (is_approval {C = C} (cond claimed Claimed Unclaimed)) = numbered.tally-append (λ x. stands is_approval x.standing) rs (approval claimed) in let z : one (is_approval {C = C} (cond claimed Claimed Unclaimed)) ≡ 1 = an_approval claimed in omega arith)
+        (numbered.numbers-append (λ x. stands is_unclaimed x.standing) rs (approval claimed) first
+        ∙ ap (λ (xs : List ℕ). numbers (λ x. stands is_unclaimed x.standing) first rs ++ xs) (unclaimed_where claimed))
+        (let e : conns_of (rs ++ approval claimed ∷ []) ≡ conns_of rs + one (is_conn {C = C} (cond claimed Claimed Unclaimed)) =
+        numbered.tally-append (λ x. stands is_conn x.standing) rs (approval claimed) in
+        let z : one (is_conn {C = C} (cond claimed Claimed Unclaimed)) ≡ 0 = no_conn claimed in omega arith)
+        (let e : approved_of (rs ++ approval claimed ∷ []) ≡ approved_of rs + one (is_approval {C = C} (cond claimed Claimed Unclaimed)) =
+        numbered.tally-append (λ x. stands is_approval x.standing) rs (approval claimed) in
+        let z : one (is_approval {C = C} (cond claimed Claimed Unclaimed)) ≡ 1 = an_approval claimed in omega arith)
         refl
       where
         never_idle : (b : Bool) (q : ℕ) → idle_at {C = C} q (approval b) ≡ false
@@ -156,7 +187,8 @@ module _ {C : Type 0} where
         an_approval true = refl
         an_approval false = refl
 
-  pub shown-approve : (claimed : Bool) (n first p top : ℕ) (rs : List (Numbered (Standing C))) → shown_records first p top (with_approvals claimed n rs) ≡ machine.after_approvals claimed n (shown_records first p top rs)
+  pub shown-approve : (claimed : Bool) (n first p top : ℕ) (rs : List (Numbered (Standing C)))
+      → shown_records first p top (with_approvals claimed n rs) ≡ machine.after_approvals claimed n (shown_records first p top rs)
   shown-approve claimed zero first p top rs = refl
   shown-approve claimed (suc n) first p top rs = shown-approve_one first p top (with_approvals claimed n rs) claimed ∙ ap (machine.after_approval claimed) (shown-approve claimed n first p top rs)
 

@@ -56,14 +56,19 @@ open_now : (n : ℕ) → n ≢ 0 → 0 < n
 open_now n h = omega arith
 
 -- whoever is named stands there
-named_stands : (first p : ℕ) (gs : List (Numbered Getting)) (b : Bool) (n : Option ℕ) → n ≡ cond b (slice_get (in_order unnotified_at first gs p) 0) None → IfSome n (λ k. (s : Getting) × (standing_at first gs k ≡ Some s))
+named_stands : (first p : ℕ) (gs : List (Numbered Getting)) (b : Bool) (n : Option ℕ)
+    → n ≡ cond b (slice_get (in_order unnotified_at first gs p) 0) None → IfSome n (λ k. (s : Getting) × (standing_at first gs k ≡ Some s))
 named_stands first p gs b None e = tt
 named_stands first p gs true (Some k) e = let w = first_waits first p gs k (sym e) in (w.0, w.1)
 named_stands first p gs false (Some k) e = cc
 
 -- the counters after a get was served that first waited then
 abbrev pub served : Counters → ℕ → Option ℕ → Counters
-served was now since = record was { direct = was.direct + one (not (is_some since)); waited = was.waited + one (is_some since); wait_micros = min most_micros (was.wait_micros + micros_since now since) }
+served was now since = record was {
+  direct = was.direct + one (not (is_some since));
+  waited = was.waited + one (is_some since);
+  wait_micros = min most_micros (was.wait_micros + micros_since now since);
+}
 
 -- the counters after a give-up for this reason, of a get that first waited then
 abbrev given_up : Named → ℕ → Option ℕ → Counters → Counters
@@ -71,7 +76,9 @@ given_up reasons.TimedOut now since was = record was { timed_out = was.timed_out
 given_up reasons.Cancelled now since was = record was { cancelled = was.cancelled + 1 }
 
 -- what the code says of the counters, one clause a reason
-given_up_is : (reason : Named) (now : ℕ) (since : Option ℕ) {was is : Counters} → (reason ≡ reasons.TimedOut → is ≡ given_up reasons.TimedOut now since was) → (reason ≡ reasons.Cancelled → is ≡ given_up reasons.Cancelled now since was) → is ≡ given_up reason now since was
+given_up_is : (reason : Named) (now : ℕ) (since : Option ℕ) {was is : Counters}
+    → (reason ≡ reasons.TimedOut → is ≡ given_up reasons.TimedOut now since was)
+    → (reason ≡ reasons.Cancelled → is ≡ given_up reasons.Cancelled now since was) → is ≡ given_up reason now since was
 given_up_is reasons.TimedOut now since timed let_go = timed refl
 given_up_is reasons.Cancelled now since timed let_go = let_go refl
 
@@ -101,7 +108,9 @@ module _ {C : Type 0} where
   gets_kept l = shown-kept (start l).first_get (position l) (get_peak l) (gets l) (waited_before l) (get_peak_holds l)
 
   -- A step is proved of what a ledger shows: what is known of the state is known of that, and the new state is told by the old one.
-  pub meets_by : (Known : Shown C → Type 0) (next : Shown C → Shown C) (s new : Shown C) (at : ℕ) (e : Act C) (a : Answer) → IsFitting s e → Known s → new ≡ next s → ((l : Ledger C) → IsLegal l → takes l e ≡ true → Known (shown l) → Row l at e a × (shown (Later l at e a) ≡ next (shown l))) → IsStep s at e a new
+  pub meets_by : (Known : Shown C → Type 0) (next : Shown C → Shown C) (s new : Shown C) (at : ℕ) (e : Act C) (a : Answer) → IsFitting s e
+      → Known s → new ≡ next s → ((l : Ledger C) → IsLegal l → takes l e ≡ true → Known (shown l) → Row l at e a
+      × (shown (Later l at e a) ≡ next (shown l))) → IsStep s at e a new
   meets_by Known next s new at e a fit known is step = record {
     meets = λ l legal means.
         let taken : takes l e ≡ true = fit l legal means in
@@ -110,8 +119,15 @@ module _ {C : Type 0} where
   }
 
   -- the same of an event that changes the latest moment alone
-  meets_quiet : (Known : Shown C → Type 0) (s : Shown C) {now : ℕ} {rs : ShownRecords C} {gs : ShownGets} (at : ℕ) (e : Act C) (a : Answer) → IsFitting s e → Known s → now ≡ max s.latest at → rs ≡ s.records → gs ≡ s.gets → ((l : Ledger C) → (latest (Later l at e a) ≡ max (latest l) at) × (handles (Later l at e a) ≡ handles l) × (counts (Later l at e a) ≡ counts l)) → ((l : Ledger C) → IsLegal l → takes l e ≡ true → Known (shown l) → Row l at e a × (records (Later l at e a) ≡ records l) × (gets (Later l at e a) ≡ gets l)) → IsStep s at e a (record s { latest = now; records = rs; gets = gs })
-  meets_quiet Known s at e a fit known now_is rs_is gs_is quiet row = meets_by Known (λ t. record t { latest = max t.latest at }) s _ at e a fit known (same_shown _ _ refl now_is refl rs_is gs_is refl) (λ l legal f k.
+  meets_quiet : (Known : Shown C → Type 0) (s : Shown C) {now : ℕ} {rs : ShownRecords C} {gs : ShownGets} (at : ℕ) (e : Act C) (a : Answer)
+      → IsFitting s e → Known s → now ≡ max s.latest at → rs ≡ s.records → gs ≡ s.gets
+      → ((l : Ledger C) → (latest (Later l at e a) ≡ max (latest l) at) × (handles (Later l at e a) ≡ handles l)
+      × (counts (Later l at e a) ≡ counts l)) → ((l : Ledger C) → IsLegal l → takes l e ≡ true → Known (shown l) → Row l at e a
+      × (records (Later l at e a) ≡ records l) × (gets (Later l at e a) ≡ gets l))
+      → IsStep s at e a (record s { latest = now; records = rs; gets = gs })
+  meets_quiet Known s at e a fit known now_is rs_is gs_is quiet row =
+      meets_by Known (λ t. record t { latest = max t.latest at }) s _ at e a fit known (same_shown _ _ refl now_is refl rs_is gs_is refl)
+      (λ l legal f k.
       let same = quiet l in
       let r = row l legal f k in (
         r.0,
@@ -130,7 +146,9 @@ module _ {C : Type 0} where
     pub who : n ≡ slice_get s.gets.waiting 0
     pub after : gs ≡ machine.after_notice n s.gets
 
-  gets_told : (l : Ledger C) (n : Option ℕ) → n ≡ oldest_waiter l → shown_gets (start l).first_get (suc (position l)) (max (get_peak l) (alive_of (with_notice (start l).first_get n (gets l)))) (with_notice (start l).first_get n (gets l)) ≡ machine.after_notice n (shown l).gets
+  gets_told : (l : Ledger C) (n : Option ℕ) → n ≡ oldest_waiter l
+      → shown_gets (start l).first_get (suc (position l)) (max (get_peak l) (alive_of (with_notice (start l).first_get n (gets l))))
+      (with_notice (start l).first_get n (gets l)) ≡ machine.after_notice n (shown l).gets
   gets_told l n is = noticed_later (start l).first_get (suc (position l)) (get_peak l) (gets l) n (stands n (sym is)) ∙ ap (machine.after_notice n) (gets_kept l)
     where
       stands : (m : Option ℕ) → oldest_waiter l ≡ m → IfSome m (λ k. (g : Getting) × (get_of l k ≡ Some g))
@@ -138,7 +156,11 @@ module _ {C : Type 0} where
       stands (Some k) e = let w = first_waits (start l).first_get (position l) (gets l) k e in (w.0, w.1)
 
   -- records that were changed without entry, and approvals that were granted then
-  changed : (claimed : Bool) (l : Ledger C) (n : ℕ) (rs : List (Numbered (Standing C))) (new : ShownRecords C) → shown_records (start l).first (suc (position l)) (peak l) rs ≡ new → shown_records (start l).first (suc (position l)) (max (peak l) (conns_of (with_approvals claimed n rs) + approved_of (with_approvals claimed n rs))) (with_approvals claimed n rs) ≡ machine.with_peak (machine.after_approvals claimed n new)
+  changed : (claimed : Bool) (l : Ledger C) (n : ℕ) (rs : List (Numbered (Standing C))) (new : ShownRecords C)
+      → shown_records (start l).first (suc (position l)) (peak l) rs ≡ new
+      → shown_records (start l).first (suc (position l))
+      (max (peak l) (conns_of (with_approvals claimed n rs) + approved_of (with_approvals claimed n rs)))
+      (with_approvals claimed n rs) ≡ machine.with_peak (machine.after_approvals claimed n new)
   changed claimed l n rs new is = ap machine.with_peak (shown-approve claimed n (start l).first (suc (position l)) (peak l) rs ∙ ap (machine.after_approvals claimed n) is)
 
   -- what is granted of what is wanted, once the records have changed to these
@@ -146,74 +168,136 @@ module _ {C : Type 0} where
     pub granted : machine.IsGrant was (decided.want s.config s.handles was) grant
     pub after : rs ≡ machine.after_grant claimed grant was
 
-  pub grants : {s : Shown C} {claimed : Bool} {taken was : ShownRecords C} {wanted : ℕ} {grant : Grant} {rs : ShownRecords C} → taken ≡ was → wanted ≡ decided.want s.config s.handles taken → machine.IsGrant taken wanted grant → rs ≡ machine.after_grant claimed grant taken → Grants s claimed was grant rs
+  pub grants : {s : Shown C} {claimed : Bool} {taken was : ShownRecords C} {wanted : ℕ} {grant : Grant} {rs : ShownRecords C} → taken ≡ was
+      → wanted ≡ decided.want s.config s.handles taken → machine.IsGrant taken wanted grant → rs ≡ machine.after_grant claimed grant taken
+      → Grants s claimed was grant rs
   grants {s} {claimed} {taken} {grant = grant} taken_is wanted_is granted rs_is = record {
     granted = subst (λ (x : ShownRecords C). machine.IsGrant x (decided.want s.config s.handles x) grant) taken_is (subst (λ (m : ℕ). machine.IsGrant taken m grant) wanted_is granted);
     after = rs_is ∙ ap (machine.after_grant claimed grant) taken_is;
   }
 
   -- what is granted of what is wanted, by tallies
-  want_is : (l : Ledger C) (rs : List (Numbered (Standing C))) (g : Grant) (new : ShownRecords C) → Before idle_at (position l) rs → shown_records (start l).first (position l) (peak l) rs ≡ new → machine.IsGrant new (decided.want (start l).config (handles l) new) g → IsWant l rs g
+  want_is : (l : Ledger C) (rs : List (Numbered (Standing C))) (g : Grant) (new : ShownRecords C) → Before idle_at (position l) rs
+      → shown_records (start l).first (position l) (peak l) rs ≡ new → machine.IsGrant new (decided.want (start l).config (handles l) new) g
+      → IsWant l rs g
   want_is l rs g new before is granted =
-      let wants : ShownRecords C → ℕ → Type 0 = λ x n. IsGranted x.next (x.conns + x.approved) x.peak (due (start l).config (handles l) (x.conns + x.approved) (lacking (start l).config (n + x.approved))) g in
-      subst (wants (shown_records (start l).first (position l) (peak l) rs)) (idle_counted (start l).first (position l) rs before) (subst (λ (x : ShownRecords C). wants x (length x.idle)) (sym is) granted)
+      let wants : ShownRecords C → ℕ → Type 0 = λ x n. IsGranted x.next (x.conns + x.approved) x.peak
+      (due (start l).config (handles l) (x.conns + x.approved) (lacking (start l).config (n + x.approved))) g in
+      subst (wants (shown_records (start l).first (position l) (peak l) rs)) (idle_counted (start l).first (position l) rs before)
+      (subst (λ (x : ShownRecords C). wants x (length x.idle)) (sym is) granted)
 
   -- records that are no more than before keep the peak
-  still_raised : (l : Ledger C) (rs : List (Numbered (Standing C))) (new : ShownRecords C) → shown_records (start l).first (suc (position l)) (peak l) rs ≡ new → new.conns + new.approved ≤ peak l → shown_records (start l).first (suc (position l)) (max (peak l) (conns_of rs + approved_of rs)) rs ≡ new
+  still_raised : (l : Ledger C) (rs : List (Numbered (Standing C))) (new : ShownRecords C)
+      → shown_records (start l).first (suc (position l)) (peak l) rs ≡ new → new.conns + new.approved ≤ peak l
+      → shown_records (start l).first (suc (position l)) (max (peak l) (conns_of rs + approved_of rs)) rs ≡ new
   still_raised l rs new is few = raised_same _ (subst (λ (t : ShownRecords C). t.conns + t.approved ≤ peak l) (sym is) few) ∙ is
 
   -- ---- fill
 
-  pub meets_fill : {s : Shown C} {at : ℕ} {claimed : Bool} {g : Grant} {now : ℕ} {rs : ShownRecords C} → now ≡ max s.latest at → Grants s claimed s.records g rs → IsStep s at (Fill claimed) (Granted g) (record s { latest = now; records = rs })
-  meets_fill {s} {at} {claimed} {g} {now} {rs} now_is granted = meets_by (λ t. machine.IsGrant t.records (decided.want t.config t.handles t.records) g) (λ t. record t { latest = max t.latest at; records = machine.after_grant claimed g t.records }) s _ at (Fill claimed) (Granted g) (λ l legal means. refl) granted.granted (same_shown _ _ refl now_is refl granted.after refl refl)
-      (λ l legal f granted_l. (fills (want_is l (records l) g _ (entered_before l) refl granted_l), same_shown _ _ refl refl refl (changed claimed l g.count (records l) _ (later_shown l)) (gets_kept l) refl))
+  pub meets_fill : {s : Shown C} {at : ℕ} {claimed : Bool} {g : Grant} {now : ℕ} {rs : ShownRecords C} → now ≡ max s.latest at
+      → Grants s claimed s.records g rs → IsStep s at (Fill claimed) (Granted g) (record s { latest = now; records = rs })
+  meets_fill {s} {at} {claimed} {g} {now} {rs} now_is granted =
+      meets_by (λ t. machine.IsGrant t.records (decided.want t.config t.handles t.records) g)
+      (λ t. record t { latest = max t.latest at; records = machine.after_grant claimed g t.records }) s _ at (Fill claimed) (Granted g)
+      (λ l legal means. refl) granted.granted (same_shown _ _ refl now_is refl granted.after refl refl)
+      (λ l legal f granted_l. (
+        fills (want_is l (records l) g _ (entered_before l) refl granted_l),
+        same_shown _ _ refl refl refl
+            (changed claimed l g.count (records l) _ (later_shown l)) (gets_kept l) refl,
+      ))
 
   -- ---- claim
 
-  pub meets_claim : {s : Shown C} {at k now : ℕ} {rs : ShownRecords C} → now ≡ max s.latest at → s.handles ≢ 0 → slice_get s.records.unclaimed 0 ≡ Some k → rs ≡ machine.after_claim k s.records → IsStep s at Claim (answers.Claimed (Some k)) (record s { latest = now; records = rs })
-  meets_claim {s} {at} {k} {now} {rs} now_is alive_now first rs_is = meets_by (λ t. (0 < t.handles) × (slice_get t.records.unclaimed 0 ≡ Some k)) (λ t. record t { latest = max t.latest at; records = machine.after_claim k t.records }) s _ at Claim (answers.Claimed (Some k)) (λ l legal means. refl) (open_now _ alive_now, first) (same_shown _ _ refl now_is refl rs_is refl refl) (λ l legal f known.
-      let is : shown_records (start l).first (suc (position l)) (peak l) (update (start l).first k (at_place Claimed) (records l)) ≡ machine.after_claim k (shown l).records = shown-claimed (start l).first (suc (position l)) (peak l) (records l) k known.1 ∙ ap (machine.after_claim k) (later_shown l) in
+  pub meets_claim : {s : Shown C} {at k now : ℕ} {rs : ShownRecords C} → now ≡ max s.latest at → s.handles ≢ 0
+      → slice_get s.records.unclaimed 0 ≡ Some k → rs ≡ machine.after_claim k s.records
+      → IsStep s at Claim (answers.Claimed (Some k)) (record s { latest = now; records = rs })
+  meets_claim {s} {at} {k} {now} {rs} now_is alive_now first rs_is =
+      meets_by (λ t. (0 < t.handles) × (slice_get t.records.unclaimed 0 ≡ Some k))
+      (λ t. record t { latest = max t.latest at; records = machine.after_claim k t.records }) s _ at Claim (answers.Claimed (Some k))
+      (λ l legal means. refl) (open_now _ alive_now, first) (same_shown _ _ refl now_is refl rs_is refl refl) (λ l legal f known.
+      let is : shown_records (start l).first (suc (position l)) (peak l)
+      (update (start l).first k (at_place Claimed) (records l)) ≡ machine.after_claim k (shown l).records =
+      shown-claimed (start l).first (suc (position l)) (peak l) (records l) k known.1 ∙ ap (machine.after_claim k) (later_shown l) in
       (claims known.0 known.1, same_shown _ _ refl refl refl (still_raised l _ _ is (peak_holds l)) (gets_kept l) refl))
 
-  pub meets_claim_none : {s : Shown C} {at now : ℕ} {rs : ShownRecords C} → now ≡ max s.latest at → s.handles ≢ 0 → slice_get s.records.unclaimed 0 ≡ None → rs ≡ s.records → IsStep s at Claim (answers.Claimed None) (record s { latest = now; records = rs })
-  meets_claim_none {s} {at} {now} {rs} now_is alive_now none rs_is = meets_quiet (λ t. (0 < t.handles) × (slice_get t.records.unclaimed 0 ≡ None)) s at Claim (answers.Claimed None) (λ l legal means. refl) (open_now _ alive_now, none) now_is rs_is refl (λ l. (refl, refl, refl)) (λ l legal f known. (claims known.0 known.1, refl, refl))
+  pub meets_claim_none : {s : Shown C} {at now : ℕ} {rs : ShownRecords C} → now ≡ max s.latest at → s.handles ≢ 0
+      → slice_get s.records.unclaimed 0 ≡ None → rs ≡ s.records
+      → IsStep s at Claim (answers.Claimed None) (record s { latest = now; records = rs })
+  meets_claim_none {s} {at} {now} {rs} now_is alive_now none rs_is =
+      meets_quiet (λ t. (0 < t.handles) × (slice_get t.records.unclaimed 0 ≡ None)) s at Claim (answers.Claimed None)
+      (λ l legal means. refl) (open_now _ alive_now, none) now_is rs_is refl (λ l. (refl, refl, refl))
+      (λ l legal f known. (claims known.0 known.1, refl, refl))
 
   pub meets_claim_ended : {s : Shown C} {at now : ℕ} → now ≡ max s.latest at → s.handles ≡ 0 → IsStep s at Claim Ended (record s { latest = now })
-  meets_claim_ended {s} {at} {now} now_is ended_now = meets_quiet (λ t. t.handles ≡ 0) s at Claim Ended (λ l legal means. refl) ended_now now_is refl refl (λ l. (refl, refl, refl)) (λ l legal f none. (claim_ended none, refl, refl))
+  meets_claim_ended {s} {at} {now} now_is ended_now =
+      meets_quiet (λ t. t.handles ≡ 0) s at Claim Ended (λ l legal means. refl) ended_now now_is refl refl (λ l. (refl, refl, refl))
+      (λ l legal f none. (claim_ended none, refl, refl))
 
   -- ---- opened
 
-  pub meets_opened : {s : Shown C} (at : ℕ) {k : ℕ} (c : C) {now : ℕ} {rs : ShownRecords C} {n : Option ℕ} {gs : ShownGets} {new : Counts} → IsFitting s (Opened k c) → now ≡ max s.latest at → s.handles ≢ 0 → rs ≡ machine.after_entry true k (record { place = Idle c; birth = now; entered = now }) s.records → Notices s n gs → new ≡ record s.counts { created = s.counts.created + 1 } → IsStep s at (Opened k c) (Entered k n) (record s { latest = now; records = rs; gets = gs; counts = new })
-  meets_opened {s} at {k} c {now} {rs} {n} {gs} {new} fit now_is alive_now rs_is told new_is = meets_by (λ t. (0 < t.handles) × (n ≡ slice_get t.gets.waiting 0)) (λ t. record t { latest = max t.latest at; records = machine.after_entry true k (record { place = Idle c; birth = max t.latest at; entered = max t.latest at }) t.records; gets = machine.after_notice n t.gets; counts = record t.counts { created = t.counts.created + 1 } }) s _ at (Opened k c) (Entered k n) fit (open_now _ alive_now, told.who)
+  pub meets_opened : {s : Shown C} (at : ℕ) {k : ℕ} (c : C) {now : ℕ} {rs : ShownRecords C} {n : Option ℕ} {gs : ShownGets} {new : Counts}
+      → IsFitting s (Opened k c) → now ≡ max s.latest at → s.handles ≢ 0
+      → rs ≡ machine.after_entry true k (record { place = Idle c; birth = now; entered = now }) s.records → Notices s n gs
+      → new ≡ record s.counts { created = s.counts.created + 1 }
+      → IsStep s at (Opened k c) (Entered k n) (record s { latest = now; records = rs; gets = gs; counts = new })
+  meets_opened {s} at {k} c {now} {rs} {n} {gs} {new} fit now_is alive_now rs_is told new_is =
+      meets_by (λ t. (0 < t.handles) × (n ≡ slice_get t.gets.waiting 0))
+      (λ t. record t {
+        latest = max t.latest at;
+        records =
+            machine.after_entry true k (record { place = Idle c; birth = max t.latest at; entered = max t.latest at }) t.records;
+        gets =
+            machine.after_notice n t.gets;
+        counts = record t.counts { created = t.counts.created + 1 };
+      }) s _ at (Opened k c) (Entered k n) fit
+      (open_now _ alive_now, told.who)
       (same_shown _ _ refl now_is refl (rs_is ∙ ap (λ (m : ℕ). machine.after_entry true k (record { place = Idle c; birth = m; entered = m }) s.records) now_is) told.after new_is)
       (λ l legal f known.
       let st = standing_is is_claimed (record_of l k) f in
       let some : 1 ≤ approved_of (records l) = claimed_counted l k st.0 st.1 (claimed_is st.0.place st.2) in
       let few : conns_of (records l) + approved_of (records l) ≤ peak l = peak_holds l in
-      let is = shown-entered (start l).first (position l) (peak l) (records l) true k st.0 c (max (latest l) at) (max (latest l) at) (λ r. entry c (max (latest l) at) (max (latest l) at) (position l)) (entered_before l) st.1 st.2 (λ r e. refl) in
+      let is = shown-entered (start l).first (position l) (peak l) (records l) true k st.0 c (max (latest l) at) (max (latest l) at)
+      (λ r. entry c (max (latest l) at) (max (latest l) at) (position l)) (entered_before l) st.1 st.2 (λ r e. refl) in
       (opens known.0 known.1, same_shown _ _ refl refl refl (ap machine.with_peak is ∙ raised_same _ (omega arith)) (gets_told l n known.1) refl))
 
   -- a claimed approval ends
-  approval_ended : (l : Ledger C) (k : ℕ) → stands is_claimed (record_of l k) ≡ true → shown_records (start l).first (suc (position l)) (max (peak l) (conns_of (update (start l).first k after_end (records l)) + approved_of (update (start l).first k after_end (records l)))) (update (start l).first k after_end (records l)) ≡ machine.after_close true k (shown l).records
+  approval_ended : (l : Ledger C) (k : ℕ) → stands is_claimed (record_of l k) ≡ true
+      → shown_records (start l).first (suc (position l))
+      (max (peak l) (conns_of (update (start l).first k after_end (records l)) + approved_of
+      (update (start l).first k after_end (records l)))) (update (start l).first k after_end (records l)) ≡ machine.after_close true k
+      (shown l).records
   approval_ended l k f =
       let st = standing_is is_claimed (record_of l k) f in
-      let is : shown_records (start l).first (suc (position l)) (peak l) (update (start l).first k after_end (records l)) ≡ machine.after_close true k (shown l).records = shown-closed (start l).first (suc (position l)) (peak l) (records l) true k st.0 st.1 st.2 ∙ ap (machine.after_close true k) (later_shown l) in
+      let is : shown_records (start l).first (suc (position l)) (peak l)
+      (update (start l).first k after_end (records l)) ≡ machine.after_close true k (shown l).records =
+      shown-closed (start l).first (suc (position l)) (peak l) (records l) true k st.0 st.1 st.2
+      ∙ ap (machine.after_close true k) (later_shown l) in
       let few : conns_of (records l) + approved_of (records l) ≤ peak l = peak_holds l in
       still_raised l _ _ is (omega arith)
 
-  pub meets_late : {s : Shown C} (at : ℕ) {k : ℕ} (c : C) {now : ℕ} {rs : ShownRecords C} → IsFitting s (Opened k c) → now ≡ max s.latest at → s.handles ≡ 0 → rs ≡ machine.after_close true k s.records → IsStep s at (Opened k c) (Late k) (record s { latest = now; records = rs })
-  meets_late {s} at {k} c {now} {rs} fit now_is ended_now rs_is = meets_by (λ t. t.handles ≡ 0) (λ t. record t { latest = max t.latest at; records = machine.after_close true k t.records }) s _ at (Opened k c) (Late k) fit ended_now (same_shown _ _ refl now_is refl rs_is refl refl) (λ l legal f none. (opens_late none, same_shown _ _ refl refl refl (approval_ended l k f) (gets_kept l) refl))
+  pub meets_late : {s : Shown C} (at : ℕ) {k : ℕ} (c : C) {now : ℕ} {rs : ShownRecords C} → IsFitting s (Opened k c) → now ≡ max s.latest at
+      → s.handles ≡ 0 → rs ≡ machine.after_close true k s.records
+      → IsStep s at (Opened k c) (Late k) (record s { latest = now; records = rs })
+  meets_late {s} at {k} c {now} {rs} fit now_is ended_now rs_is =
+      meets_by (λ t. t.handles ≡ 0) (λ t. record t { latest = max t.latest at; records = machine.after_close true k t.records }) s _ at
+      (Opened k c) (Late k) fit ended_now (same_shown _ _ refl now_is refl rs_is refl refl)
+      (λ l legal f none. (opens_late none, same_shown _ _ refl refl refl (approval_ended l k f) (gets_kept l) refl))
 
   -- ---- failed
 
-  pub meets_failed : {s : Shown C} (at : ℕ) {k now : ℕ} {rs : ShownRecords C} → IsFitting s (Failed k) → now ≡ max s.latest at → rs ≡ machine.after_close true k s.records → IsStep s at (Failed k) GivenBack (record s { latest = now; records = rs })
-  meets_failed {s} at {k} {now} {rs} fit now_is rs_is = meets_by (λ t. Unit {0}) (λ t. record t { latest = max t.latest at; records = machine.after_close true k t.records }) s _ at (Failed k) GivenBack fit tt (same_shown _ _ refl now_is refl rs_is refl refl) (λ l legal f known. (fails, same_shown _ _ refl refl refl (approval_ended l k f) (gets_kept l) refl))
+  pub meets_failed : {s : Shown C} (at : ℕ) {k now : ℕ} {rs : ShownRecords C} → IsFitting s (Failed k) → now ≡ max s.latest at
+      → rs ≡ machine.after_close true k s.records → IsStep s at (Failed k) GivenBack (record s { latest = now; records = rs })
+  meets_failed {s} at {k} {now} {rs} fit now_is rs_is =
+      meets_by (λ t. Unit {0}) (λ t. record t { latest = max t.latest at; records = machine.after_close true k t.records }) s _ at
+      (Failed k) GivenBack fit tt (same_shown _ _ refl now_is refl rs_is refl refl)
+      (λ l legal f known. (fails, same_shown _ _ refl refl refl (approval_ended l k f) (gets_kept l) refl))
 
   -- ---- put_back
 
   -- what is decided of a returned connection
   closes_is : (l : Ledger C) (at k : ℕ) (broken : Bool) → closes l at k broken ≡ decided.closes (shown l) at k broken
-  closes_is l at k broken = ap (λ (o : Option (Standing C)). broken || (is_expired (start l).config.max_lifetime (max (latest l) at) (birth_in o) || eqb (handles l) 0)) (shown_record l (shown l) refl k)
+  closes_is l at k broken = ap (λ (o : Option (Standing C)). broken
+      || (is_expired (start l).config.max_lifetime (max (latest l) at) (birth_in o) || eqb (handles l) 0)) (shown_record l (shown l) refl k)
 
   -- what the code knows when a connection has come back
   pub record Returned (s : Shown C) (at k : ℕ) (c : C) (broken : Bool) (now birth : ℕ) (aged : Bool) : Type 0 where
@@ -222,60 +306,135 @@ module _ {C : Type 0} where
     pub birth_is : birth ≡ birth_in (get s.records.places k)
     pub aged_is : aged ≡ is_expired s.config.max_lifetime now birth
 
-  pub returned : {s t : Shown C} {at k : ℕ} {c : C} {broken : Bool} {now birth : ℕ} {aged : Bool} → s ≡ t → IsFitting t (PutBack k c broken) → now ≡ max s.latest at → birth ≡ birth_in (get s.records.places k) → aged ≡ is_expired s.config.max_lifetime now birth → Returned s at k c broken now birth aged
+  pub returned : {s t : Shown C} {at k : ℕ} {c : C} {broken : Bool} {now birth : ℕ} {aged : Bool} → s ≡ t → IsFitting t (PutBack k c broken)
+      → now ≡ max s.latest at → birth ≡ birth_in (get s.records.places k) → aged ≡ is_expired s.config.max_lifetime now birth
+      → Returned s at k c broken now birth aged
   returned {k = k} {c = c} {broken = broken} is fit now_is birth_is aged_is = record { fit = fits_view (PutBack k c broken) is fit; now_is = now_is; birth_is = birth_is; aged_is = aged_is }
 
   old_is : (s : Shown C) (at k : ℕ) (c : C) (broken : Bool) (now birth : ℕ) (aged : Bool) → Returned s at k c broken now birth aged → decided.is_old s at k ≡ aged
   old_is s at k c broken now birth aged r = sym (r.aged_is ∙ ap (λ (n : ℕ). is_expired s.config.max_lifetime n birth) r.now_is ∙ ap (is_expired s.config.max_lifetime (max s.latest at)) r.birth_is)
 
   -- so what the code decides of it is what is decided
-  closing_is : {s : Shown C} {at k : ℕ} {c : C} {broken : Bool} {now birth : ℕ} {aged closing : Bool} → Returned s at k c broken now birth aged → (broken || (aged || eqb s.handles 0)) ≡ closing → decided.closes s at k broken ≡ closing
+  closing_is : {s : Shown C} {at k : ℕ} {c : C} {broken : Bool} {now birth : ℕ} {aged closing : Bool}
+      → Returned s at k c broken now birth aged → (broken || (aged || eqb s.handles 0)) ≡ closing → decided.closes s at k broken ≡ closing
   closing_is {s} {at} {k} {c} {broken} {now} {birth} {aged} r is = ap (λ (b : Bool). broken || (b || eqb s.handles 0)) (old_is s at k c broken now birth aged r) ∙ is
 
-  pub meets_returned_kept : {s : Shown C} {at k : ℕ} {c : C} {broken : Bool} {now birth : ℕ} {aged : Bool} {rs : ShownRecords C} {n : Option ℕ} {gs : ShownGets} → Notices s n gs → Returned s at k c broken now birth aged → (broken || (aged || eqb s.handles 0)) ≡ false → rs ≡ machine.after_entry false k (record { place = Idle c; birth = birth; entered = now }) s.records → IsStep s at (PutBack k c broken) (Kept k n) (record s { latest = now; records = rs; gets = gs })
-  meets_returned_kept {s} {at} {k} {c} {broken} {now} {birth} {aged} {rs} {n} {gs} told r keep rs_is = meets_by (λ t. (decided.closes t at k broken ≡ false) × (n ≡ slice_get t.gets.waiting 0)) (λ t. record t { latest = max t.latest at; records = machine.after_entry false k (record { place = Idle c; birth = birth_in (get t.records.places k); entered = max t.latest at }) t.records; gets = machine.after_notice n t.gets }) s _ at (PutBack k c broken) (Kept k n) r.fit (closing_is r keep, told.who)
-      (same_shown _ _ refl r.now_is refl (rs_is ∙ ap (λ (m : ℕ). machine.after_entry false k (record { place = Idle c; birth = m; entered = now }) s.records) r.birth_is ∙ ap (λ (m : ℕ). machine.after_entry false k (record { place = Idle c; birth = birth_in (get s.records.places k); entered = m }) s.records) r.now_is) told.after refl)
+  pub meets_returned_kept : {s : Shown C} {at k : ℕ} {c : C} {broken : Bool} {now birth : ℕ} {aged : Bool} {rs : ShownRecords C} {n : Option
+      ℕ} {gs : ShownGets} → Notices s n gs → Returned s at k c broken now birth aged → (broken || (aged || eqb s.handles 0)) ≡ false
+      → rs ≡ machine.after_entry false k (record { place = Idle c; birth = birth; entered = now }) s.records
+      → IsStep s at (PutBack k c broken) (Kept k n) (record s { latest = now; records = rs; gets = gs })
+  meets_returned_kept {s} {at} {k} {c} {broken} {now} {birth} {aged} {rs} {n} {gs} told r keep rs_is =
+      meets_by (λ t. (decided.closes t at k broken ≡ false) × (n ≡ slice_get t.gets.waiting 0))
+      (λ t. record t {
+        latest = max t.latest at;
+        records =
+            machine.after_entry false k (record { place = Idle c; birth = birth_in (get t.records.places k); entered = max t.latest at })
+            t.records;
+        gets = machine.after_notice n t.gets;
+      }) s _ at (PutBack k c broken) (Kept k n) r.fit (closing_is r keep, told.who)
+      (same_shown _ _ refl r.now_is refl (rs_is ∙ ap
+      (λ (m : ℕ). machine.after_entry false k (record { place = Idle c; birth = m; entered = now }) s.records) r.birth_is
+      ∙ ap (λ (m : ℕ). machine.after_entry false k
+      (record { place = Idle c; birth = birth_in (get s.records.places k); entered = m }) s.records) r.now_is) told.after refl)
       (λ l legal f known.
       let st = standing_is is_guarded (record_of l k) f in
       let few : conns_of (records l) + approved_of (records l) ≤ peak l = peak_holds l in
       let m : ℕ = max (latest l) at in
-      let is = shown-entered (start l).first (position l) (peak l) (records l) false k st.0 c (birth_in (record_of l k)) m (at_entry c m (position l)) (entered_before l) st.1 (guarded_out st.0.place st.2) (λ r e. ap (λ (o : Option (Standing C)). entry c (birth_in o) m (position l)) (e ∙ sym st.1)) in
-      (keeps (closes_is l at k broken ∙ known.0) known.1, same_shown _ _ refl refl refl (ap machine.with_peak is ∙ raised_same _ (omega arith) ∙ ap (λ (o : Option (Standing C)). machine.after_entry false k (record { place = Idle c; birth = birth_in o; entered = m }) (shown l).records) (shown_record l (shown l) refl k)) (gets_told l n known.1) refl))
+      let is = shown-entered (start l).first (position l) (peak l) (records l) false k st.0 c (birth_in (record_of l k)) m
+      (at_entry c m (position l)) (entered_before l) st.1 (guarded_out st.0.place st.2)
+      (λ r e. ap (λ (o : Option (Standing C)). entry c (birth_in o) m (position l)) (e ∙ sym st.1)) in (
+        keeps (closes_is l at k broken ∙ known.0) known.1,
+        same_shown _ _ refl refl refl
+            (ap machine.with_peak is ∙ raised_same _ (omega arith)
+            ∙ ap (λ (o : Option (Standing C)). machine.after_entry false k (record { place = Idle c; birth = birth_in o; entered = m })
+            (shown l).records) (shown_record l (shown l) refl k)) (gets_told l n known.1) refl,
+      ))
 
   -- the statistics after a return that closed
   abbrev counted : Shown C → ℕ → ℕ → Bool → Counts
   counted s at k broken = record s.counts { broken = s.counts.broken + one broken; max_lifetime = s.counts.max_lifetime + one (not broken && decided.is_old s at k) }
 
-  pub meets_returned_closed : {s : Shown C} {at k : ℕ} {c : C} {broken : Bool} {now birth : ℕ} {aged : Bool} {grant : Grant} {rs : ShownRecords C} {n : Option ℕ} {gs : ShownGets} {x y : ℕ} → Notices s n gs → Returned s at k c broken now birth aged → (broken || (aged || eqb s.handles 0)) ≡ true → Grants s false (machine.after_close false k s.records) grant rs → x ≡ one broken → y ≡ one (not broken && aged) → IsStep s at (PutBack k c broken) (Closed k grant n) (record s { latest = now; records = rs; gets = gs; counts = record s.counts { broken = s.counts.broken + x; max_lifetime = s.counts.max_lifetime + y } })
-  meets_returned_closed {s} {at} {k} {c} {broken} {now} {birth} {aged} {grant} {rs} {n} {gs} {x} {y} told r closing granted x_is y_is = meets_by (λ t. (decided.closes t at k broken ≡ true) × machine.IsGrant (machine.after_close false k t.records) (decided.want t.config t.handles (machine.after_close false k t.records)) grant × (n ≡ slice_get t.gets.waiting 0)) (λ t. record t { latest = max t.latest at; records = machine.after_grant false grant (machine.after_close false k t.records); gets = machine.after_notice n t.gets; counts = counted t at k broken }) s _ at (PutBack k c broken) (Closed k grant n) r.fit (closing_is r closing, granted.granted, told.who)
+  pub meets_returned_closed : {s : Shown C} {at k : ℕ} {c : C} {broken : Bool} {now
+      birth : ℕ} {aged : Bool} {grant : Grant} {rs : ShownRecords C} {n : Option ℕ} {gs : ShownGets} {x y : ℕ} → Notices s n gs
+      → Returned s at k c broken now birth aged → (broken || (aged || eqb s.handles 0)) ≡ true
+      → Grants s false (machine.after_close false k s.records) grant rs → x ≡ one broken → y ≡ one (not broken && aged)
+      → IsStep s at (PutBack k c broken) (Closed k grant n)
+      (record s {
+        latest = now;
+        records = rs;
+        gets = gs;
+        counts =
+            record s.counts { broken = s.counts.broken + x; max_lifetime = s.counts.max_lifetime + y };
+      })
+  meets_returned_closed {s} {at} {k} {c} {broken} {now} {birth} {aged} {grant} {rs} {n} {gs} {x} {y} told r closing granted x_is y_is =
+      meets_by (λ t. (decided.closes t at k broken ≡ true)
+      × machine.IsGrant (machine.after_close false k t.records)
+      (decided.want t.config t.handles (machine.after_close false k t.records)) grant × (n ≡ slice_get t.gets.waiting 0))
+      (λ t. record t {
+        latest = max t.latest at;
+        records = machine.after_grant false grant (machine.after_close false k t.records);
+        gets =
+            machine.after_notice n t.gets;
+        counts = counted t at k broken;
+      }) s _ at (PutBack k c broken) (Closed k grant n) r.fit
+      (closing_is r closing, granted.granted, told.who)
       (same_shown _ _ refl r.now_is refl granted.after told.after
       (ap (λ (m : ℕ). record s.counts { broken = s.counts.broken + m; max_lifetime = s.counts.max_lifetime + y }) x_is
-      ∙ ap (λ (m : ℕ). record s.counts { broken = s.counts.broken + one broken; max_lifetime = s.counts.max_lifetime + m }) (y_is ∙ ap (λ (b : Bool). one (not broken && b)) (sym (old_is s at k c broken now birth aged r)))))
+      ∙ ap (λ (m : ℕ). record s.counts { broken = s.counts.broken + one broken; max_lifetime = s.counts.max_lifetime + m })
+      (y_is ∙ ap (λ (b : Bool). one (not broken && b)) (sym (old_is s at k c broken now birth aged r)))))
       (λ l legal f known.
       let st = standing_is is_guarded (record_of l k) f in
       let shut : List (Numbered (Standing C)) = update (start l).first k after_end (records l) in
       let is = shown-closed (start l).first (position l) (peak l) (records l) false k st.0 st.1 (guarded_out st.0.place st.2) in
       let later = shown-closed (start l).first (suc (position l)) (peak l) (records l) false k st.0 st.1 (guarded_out st.0.place st.2) ∙ ap (machine.after_close false k) (later_shown l) in (
         returns_closed (closes_is l at k broken ∙ known.0) (want_is l shut grant _ (ended_before (position l) (start l).first k (records l) (entered_before l)) is known.1) known.2,
-        same_shown _ _ refl refl refl (changed false l grant.count shut _ later) (gets_told l n known.2) (ap (λ (o : Option (Standing C)). record (shown l).counts { broken = (shown l).counts.broken + one broken; max_lifetime = (shown l).counts.max_lifetime + one (not broken && is_expired (start l).config.max_lifetime (max (latest l) at) (birth_in o)) }) (shown_record l (shown l) refl k)),
+        same_shown _ _ refl refl refl (changed false l grant.count shut _ later) (gets_told l n known.2)
+            (ap (λ (o : Option (Standing C)). record (shown l).counts {
+              broken = (shown l).counts.broken + one broken;
+              max_lifetime =
+                  (shown l).counts.max_lifetime + one (not broken && is_expired (start l).config.max_lifetime (max (latest l) at) (birth_in o));
+            })
+            (shown_record l (shown l) refl k)),
       ))
 
   -- ---- begin
 
-  pub meets_begun : {s : Shown C} (at : ℕ) {n now : ℕ} {gs : ShownGets} {new : Counts} → IsFitting s Begin → now ≡ max s.latest at → s.gets.next < end_of_numbers → gs ≡ machine.after_begin s.gets → new ≡ record s.counts { started = s.counts.started + 1 } → n ≡ s.gets.next → IsStep s at Begin (Begun n) (record s { latest = now; gets = gs; counts = new })
-  meets_begun {s} at {n} {now} {gs} {new} fit now_is few gs_is new_is n_is = meets_by (λ t. (t.gets.next < end_of_numbers) × (n ≡ t.gets.next)) (λ t. record t { latest = max t.latest at; gets = machine.after_begin t.gets; counts = record t.counts { started = t.counts.started + 1 } }) s _ at Begin (Begun n) fit (few, n_is) (same_shown _ _ refl now_is refl refl gs_is new_is)
-      (λ l legal f known. (begins known.1 (subst (λ (m : ℕ). m < end_of_numbers) (sym known.1) known.0), same_shown _ _ refl refl refl (records_kept l) (shown-begun (start l).first_get (position l) (get_peak l) (gets l) (waited_before l) (get_peak_holds l)) refl))
+  pub meets_begun : {s : Shown C} (at : ℕ) {n now : ℕ} {gs : ShownGets} {new : Counts} → IsFitting s Begin → now ≡ max s.latest at
+      → s.gets.next < end_of_numbers → gs ≡ machine.after_begin s.gets → new ≡ record s.counts { started = s.counts.started + 1 }
+      → n ≡ s.gets.next → IsStep s at Begin (Begun n) (record s { latest = now; gets = gs; counts = new })
+  meets_begun {s} at {n} {now} {gs} {new} fit now_is few gs_is new_is n_is =
+      meets_by (λ t. (t.gets.next < end_of_numbers) × (n ≡ t.gets.next))
+      (λ t. record t {
+        latest = max t.latest at;
+        gets = machine.after_begin t.gets;
+        counts =
+            record t.counts { started = t.counts.started + 1 };
+      }) s _ at Begin (Begun n) fit (few, n_is)
+      (same_shown _ _ refl now_is refl refl gs_is new_is)
+      (λ l legal f known. (
+        begins known.1 (subst (λ (m : ℕ). m < end_of_numbers) (sym known.1) known.0),
+        same_shown _ _ refl refl refl
+            (records_kept l) (shown-begun (start l).first_get (position l) (get_peak l) (gets l) (waited_before l) (get_peak_holds l)) refl,
+      ))
 
-  pub meets_memory : {s : Shown C} (at : ℕ) {now : ℕ} {gs : ShownGets} → IsFitting s Begin → now ≡ max s.latest at → s.gets.next < end_of_numbers → s.gets.alive ≡ s.gets.peak → gs ≡ s.gets → IsStep s at Begin Memory (record s { latest = now; gets = gs })
-  meets_memory {s} at {now} {gs} fit now_is few full gs_is = meets_quiet (λ t. (t.gets.next < end_of_numbers) × (t.gets.alive ≡ t.gets.peak)) s at Begin Memory fit (few, full) now_is refl gs_is (λ l. (refl, refl, refl)) (λ l legal f known. (begin_refused known.0 known.1, refl, refl))
+  pub meets_memory : {s : Shown C} (at : ℕ) {now : ℕ} {gs : ShownGets} → IsFitting s Begin → now ≡ max s.latest at
+      → s.gets.next < end_of_numbers → s.gets.alive ≡ s.gets.peak → gs ≡ s.gets
+      → IsStep s at Begin Memory (record s { latest = now; gets = gs })
+  meets_memory {s} at {now} {gs} fit now_is few full gs_is =
+      meets_quiet (λ t. (t.gets.next < end_of_numbers) × (t.gets.alive ≡ t.gets.peak)) s at Begin Memory fit (few, full) now_is refl gs_is
+      (λ l. (refl, refl, refl)) (λ l legal f known. (begin_refused known.0 known.1, refl, refl))
 
   pub meets_exhausted : {s : Shown C} (at : ℕ) {now : ℕ} → IsFitting s Begin → now ≡ max s.latest at → end_of_numbers ≤ s.gets.next → IsStep s at Begin Exhausted (record s { latest = now })
-  meets_exhausted {s} at {now} fit now_is many = meets_quiet (λ t. end_of_numbers ≤ t.gets.next) s at Begin Exhausted fit many now_is refl refl (λ l. (refl, refl, refl)) (λ l legal f known. (begin_exhausted known, refl, refl))
+  meets_exhausted {s} at {now} fit now_is many = meets_quiet
+      (λ t. end_of_numbers ≤ t.gets.next) s at Begin Exhausted fit many now_is refl refl (λ l. (refl, refl, refl))
+      (λ l legal f known. (begin_exhausted known, refl, refl))
 
   -- ---- state
 
   pub meets_state : {s : Shown C} {at now : ℕ} {f : Figures} → now ≡ max s.latest at → ((l : Ledger C) → Means l s → f ≡ figures l) → IsStep s at State (ShownFigures f) (record s { latest = now })
-  meets_state {s} {at} {now} {f} now_is told = meets_quiet (λ t. (l : Ledger C) → Means l t → f ≡ figures l) s at State (ShownFigures f) (λ l legal means. refl) told now_is refl refl (λ l. (refl, refl, refl)) (λ l legal fit known. (subst (λ (x : Figures). Row l at State (ShownFigures x)) (sym (known l refl)) shows, refl, refl))
+  meets_state {s} {at} {now} {f} now_is told = meets_quiet (λ t. (l : Ledger C) → Means l t → f ≡ figures l) s at State (ShownFigures f)
+      (λ l legal means. refl) told now_is refl refl (λ l. (refl, refl, refl))
+      (λ l legal fit known. (subst (λ (x : Figures). Row l at State (ShownFigures x)) (sym (known l refl)) shows, refl, refl))
 
   -- what a state shows is what its ledger tells
   pub figures_told : (s : Shown C) (l : Ledger C) → Means l s → record { connections = s.records.conns; idle = length s.records.idle; counts = s.counts } ≡ figures l
@@ -290,7 +449,9 @@ module _ {C : Type 0} where
   same_micros : (l : Ledger C) (was : Counters) → counts l ≡ counts_held was → wait_micros l ≡ was.wait_micros
   same_micros l was were = let told : 1000 * wait_micros l ≡ 1000 * was.wait_micros = ap (λ (x : Counts). x.wait_time) were in omega arith
 
-  count_served : (l : Ledger C) (at g k : ℕ) (grant : Grant) (was : Counters) → counts l ≡ counts_held was → counts (Later l at (Try g) (Served k grant)) ≡ counts_held (served was (max (latest l) at) (first_wait_of (get (shown l).gets.places g)))
+  count_served : (l : Ledger C) (at g k : ℕ) (grant : Grant) (was : Counters) → counts l ≡ counts_held was
+      → counts (Later l at (Try g) (Served k grant)) ≡ counts_held
+      (served was (max (latest l) at) (first_wait_of (get (shown l).gets.places g)))
   count_served l at g k grant was were =
       let since : Option ℕ = first_wait_of (get_of l g) in
       let wait : ℕ = micros_since (max (latest l) at) since in
@@ -311,97 +472,193 @@ module _ {C : Type 0} where
   line_test : (l : Ledger C) (g : ℕ) (b : Bool) → gets_stand is_unnotified (get (shown l).gets.places g) ≡ b → gets_stand is_unnotified (get_of l g) ≡ b
   line_test l g b is = ap (gets_stand is_unnotified) (shown_get l (shown l) refl g) ∙ is
 
-  pub meets_served : {s : Shown C} {at g k : ℕ} {grant : Grant} {now : ℕ} {o : Option Getting} {since : Option ℕ} {rs : ShownRecords C} {gs : ShownGets} (was : Counters) {is : Counters} → Tries s at g now o → gets_stand is_unnotified o ≡ false → first_of s.config.queue_strategy s.records.idle ≡ Some k → Grants s false (machine.after_take Guarded k s.records) grant rs → gs ≡ machine.after_get_end g s.gets → s.counts ≡ counts_held was → since ≡ first_wait_of o → is ≡ served was now since → IsStep s at (Try g) (Served k grant) (record s { latest = now; records = rs; gets = gs; counts = counts_held is })
+  pub meets_served : {s : Shown C} {at g k : ℕ} {grant : Grant} {now : ℕ} {o : Option Getting} {since : Option ℕ} {rs : ShownRecords
+      C} {gs : ShownGets} (was : Counters) {is : Counters} → Tries s at g now o → gets_stand is_unnotified o ≡ false
+      → first_of s.config.queue_strategy s.records.idle ≡ Some k → Grants s false (machine.after_take Guarded k s.records) grant rs
+      → gs ≡ machine.after_get_end g s.gets → s.counts ≡ counts_held was → since ≡ first_wait_of o → is ≡ served was now since
+      → IsStep s at (Try g) (Served k grant) (record s { latest = now; records = rs; gets = gs; counts = counts_held is })
   meets_served {s} {at} {g} {k} {grant} {now} {o} {since} {rs} {gs} was {is} t not_waiting first granted gs_is were since_is counted =
-      meets_by (λ x. (gets_stand is_unnotified (get x.gets.places g) ≡ false) × (first_of x.config.queue_strategy x.records.idle ≡ Some k) × machine.IsGrant (machine.after_take Guarded k x.records) (decided.want x.config x.handles (machine.after_take Guarded k x.records)) grant × (x.counts ≡ counts_held was)) (λ x. record x { latest = max x.latest at; records = machine.after_grant false grant (machine.after_take Guarded k x.records); gets = machine.after_get_end g x.gets; counts = counts_held (served was (max x.latest at) (first_wait_of (get x.gets.places g))) }) s _ at (Try g) (Served k grant) t.fit (ap (gets_stand is_unnotified) (sym t.get_is) ∙ not_waiting, first, granted.granted, were)
-      (same_shown _ _ refl t.now_is refl granted.after gs_is (ap counts_held (counted ∙ ap (λ (m : ℕ). served was m since) t.now_is ∙ ap (served was (max s.latest at)) (since_is ∙ ap (λ (x : Option Getting). first_wait_of x) t.get_is))))
+      meets_by (λ x. (gets_stand is_unnotified (get x.gets.places g) ≡ false) × (first_of x.config.queue_strategy x.records.idle ≡ Some k)
+      × machine.IsGrant (machine.after_take Guarded k x.records)
+      (decided.want x.config x.handles (machine.after_take Guarded k x.records)) grant × (x.counts ≡ counts_held was))
+      (λ x. record x {
+        latest = max x.latest at;
+        records = machine.after_grant false grant (machine.after_take Guarded k x.records);
+        gets = machine.after_get_end g x.gets;
+        counts =
+            counts_held (served was (max x.latest at) (first_wait_of (get x.gets.places g)));
+      }) s _ at (Try g) (Served k grant) t.fit
+      (ap (gets_stand is_unnotified) (sym t.get_is) ∙ not_waiting, first, granted.granted, were)
+      (same_shown _ _ refl t.now_is refl granted.after gs_is
+      (ap counts_held (counted ∙ ap (λ (m : ℕ). served was m since) t.now_is
+      ∙ ap (served was (max s.latest at)) (since_is ∙ ap (λ (x : Option Getting). first_wait_of x) t.get_is))))
       (λ l legal f known.
       let st = trying_is l g f in
       let off : (start l).config.test_on_check_out ≡ false = unchecked l g (and_right (is_brought l (Try g)) _ f).0 in
       let j : ℕ = first_place (start l).config.queue_strategy (length (idle l)) in
       let out : List (Numbered (Standing C)) = update (start l).first k (at_place Guarded) (records l) in
-      let is : shown_records (start l).first (position l) (peak l) out ≡ machine.after_take Guarded k (shown l).records = shown-taken (start l).first (position l) (peak l) (records l) Guarded k j refl refl refl known.1 in
+      let is : shown_records (start l).first (position l) (peak l) out ≡ machine.after_take Guarded k (shown l).records =
+      shown-taken (start l).first (position l) (peak l) (records l) Guarded k j refl refl refl known.1 in
       let first_later : slice_get (shown_records (start l).first (suc (position l)) (peak l) (records l)).idle j ≡ Some k = ap (λ (x : ShownRecords C). slice_get x.idle j) (later_shown l) ∙ known.1 in
-      let later : shown_records (start l).first (suc (position l)) (peak l) out ≡ machine.after_take Guarded k (shown l).records = shown-taken (start l).first (suc (position l)) (peak l) (records l) Guarded k j refl refl refl first_later ∙ ap (machine.after_take Guarded k) (later_shown l) in (
+      let later : shown_records (start l).first (suc (position l)) (peak l) out ≡ machine.after_take Guarded k (shown l).records =
+      shown-taken (start l).first (suc (position l)) (peak l) (records l) Guarded k j refl refl refl first_later
+      ∙ ap (machine.after_take Guarded k) (later_shown l) in (
         serves (line_test l g false known.0) off known.1 (want_is l out grant _ (put_before (position l) (start l).first k Guarded (records l) refl (entered_before l)) is known.2),
-        same_shown _ _ refl refl refl (changed false l grant.count out _ later) (shown-ended (start l).first_get (position l) (get_peak l) (gets l) g st.0 (waited_before l) (get_peak_holds l) st.1) (count_served l at g k grant was known.3),
+        same_shown _ _ refl refl refl (changed false l grant.count out _ later)
+            (shown-ended (start l).first_get (position l) (get_peak l) (gets l) g st.0 (waited_before l) (get_peak_holds l) st.1)
+            (count_served l at g k grant was known.3),
       ))
 
   -- a get that waits and was not notified waits on
-  pub meets_waits_on : {s : Shown C} {at g now : ℕ} {o : Option Getting} {grant : Grant} → Tries s at g now o → gets_stand is_unnotified o ≡ true → IsNoGrant s.records.next grant → IsStep s at (Try g) (answers.Waiting grant) (record s { latest = now })
-  meets_waits_on {s} {at} {g} {now} {o} {grant} t waiting nothing = meets_quiet (λ x. (gets_stand is_unnotified (get x.gets.places g) ≡ true) × IsNoGrant x.records.next grant) s at (Try g) (answers.Waiting grant) t.fit (ap (gets_stand is_unnotified) (sym t.get_is) ∙ waiting, nothing) t.now_is refl refl (λ l. (refl, refl, refl))
+  pub meets_waits_on : {s : Shown C} {at g now : ℕ} {o : Option Getting} {grant : Grant} → Tries s at g now o
+      → gets_stand is_unnotified o ≡ true → IsNoGrant s.records.next grant
+      → IsStep s at (Try g) (answers.Waiting grant) (record s { latest = now })
+  meets_waits_on {s} {at} {g} {now} {o} {grant} t waiting nothing =
+      meets_quiet (λ x. (gets_stand is_unnotified (get x.gets.places g) ≡ true) × IsNoGrant x.records.next grant) s at (Try g)
+      (answers.Waiting grant) t.fit (ap (gets_stand is_unnotified) (sym t.get_is) ∙ waiting, nothing) t.now_is refl refl
+      (λ l. (refl, refl, refl))
       (λ l legal f known.
       let on : gets_stand is_unnotified (get_of l g) ≡ true = ap (gets_stand is_unnotified) (shown_get l (shown l) refl g) ∙ known.0 in
       (waits_on on known.1, ap (λ (m : ℕ). with_approvals false m (records l)) known.1.count, waits_on_gets l at g on))
 
   -- what is due to a get that waits
-  pub due_waiting : (s : Shown C) {taken : ShownRecords C} {used asked open_now alive_now d : ℕ} → taken ≡ s.records → used ≡ taken.conns + taken.approved → open_now ≡ taken.approved → alive_now ≡ s.gets.alive → asked ≡ one (ltb open_now alive_now) → d ≡ due s.config s.handles used asked → d ≡ due s.config s.handles (s.records.conns + s.records.approved) (one (ltb s.records.approved s.gets.alive))
+  pub due_waiting : (s : Shown C) {taken : ShownRecords C} {used asked open_now alive_now d : ℕ} → taken ≡ s.records
+      → used ≡ taken.conns + taken.approved → open_now ≡ taken.approved → alive_now ≡ s.gets.alive → asked ≡ one (ltb open_now alive_now)
+      → d ≡ due s.config s.handles used asked → d ≡ due s.config s.handles (s.records.conns + s.records.approved)
+      (one (ltb s.records.approved s.gets.alive))
   due_waiting s {taken} {used} {asked} {open_now} {alive_now} taken_is used_is open_is alive_is asked_is d_is =
       d_is
       ∙ ap (λ (n : ℕ). due s.config s.handles n asked) (used_is ∙ ap (λ (t : ShownRecords C). t.conns + t.approved) taken_is)
-      ∙ ap (due s.config s.handles (s.records.conns + s.records.approved)) (asked_is ∙ ap (λ (n : ℕ). one (ltb n alive_now)) (open_is ∙ ap (λ (t : ShownRecords C). t.approved) taken_is) ∙ ap (λ (n : ℕ). one (ltb s.records.approved n)) alive_is)
+      ∙ ap (due s.config s.handles (s.records.conns + s.records.approved))
+      (asked_is ∙ ap (λ (n : ℕ). one (ltb n alive_now)) (open_is ∙ ap (λ (t : ShownRecords C). t.approved) taken_is)
+      ∙ ap (λ (n : ℕ). one (ltb s.records.approved n)) alive_is)
 
   -- where nothing is idle, a get waits that did not, or was notified
-  pub meets_waits : {s : Shown C} {at g now : ℕ} {o : Option Getting} {taken : ShownRecords C} {due_now : ℕ} {grant : Grant} {rs : ShownRecords C} {gs : ShownGets} → Tries s at g now o → gets_stand is_unnotified o ≡ false → first_of s.config.queue_strategy s.records.idle ≡ None → taken ≡ s.records → due_now ≡ due s.config s.handles (s.records.conns + s.records.approved) (one (ltb s.records.approved s.gets.alive)) → machine.IsGrant taken due_now grant → rs ≡ machine.after_grant false grant taken → gs ≡ machine.after_wait now g s.gets → IsStep s at (Try g) (answers.Waiting grant) (record s { latest = now; records = rs; gets = gs })
+  pub meets_waits : {s : Shown C} {at g now : ℕ} {o : Option Getting} {taken : ShownRecords
+      C} {due_now : ℕ} {grant : Grant} {rs : ShownRecords C} {gs : ShownGets} → Tries s at g now o → gets_stand is_unnotified o ≡ false
+      → first_of s.config.queue_strategy s.records.idle ≡ None → taken ≡ s.records
+      → due_now ≡ due s.config s.handles (s.records.conns + s.records.approved) (one (ltb s.records.approved s.gets.alive))
+      → machine.IsGrant taken due_now grant → rs ≡ machine.after_grant false grant taken → gs ≡ machine.after_wait now g s.gets
+      → IsStep s at (Try g) (answers.Waiting grant) (record s { latest = now; records = rs; gets = gs })
   meets_waits {s} {at} {g} {now} {o} {taken} {due_now} {grant} {rs} {gs} t not_waiting none taken_is due_is granted rs_is gs_is =
-      let granted_s : machine.IsGrant s.records (due s.config s.handles (s.records.conns + s.records.approved) (one (ltb s.records.approved s.gets.alive))) grant = subst (λ (x : ShownRecords C). machine.IsGrant x (due s.config s.handles (s.records.conns + s.records.approved) (one (ltb s.records.approved s.gets.alive))) grant) taken_is (subst (λ (m : ℕ). machine.IsGrant taken m grant) due_is granted) in
-      meets_by (λ x. (gets_stand is_unnotified (get x.gets.places g) ≡ false) × (first_of x.config.queue_strategy x.records.idle ≡ None) × machine.IsGrant x.records (due x.config x.handles (x.records.conns + x.records.approved) (one (ltb x.records.approved x.gets.alive))) grant) (λ x. record x { latest = max x.latest at; records = machine.after_grant false grant x.records; gets = machine.after_wait (max x.latest at) g x.gets }) s _ at (Try g) (answers.Waiting grant) t.fit (ap (gets_stand is_unnotified) (sym t.get_is) ∙ not_waiting, none, granted_s)
+      let granted_s : machine.IsGrant s.records (due s.config s.handles (s.records.conns + s.records.approved)
+      (one (ltb s.records.approved s.gets.alive))) grant =
+      subst (λ (x : ShownRecords C). machine.IsGrant x
+      (due s.config s.handles (s.records.conns + s.records.approved) (one (ltb s.records.approved s.gets.alive))) grant) taken_is
+      (subst (λ (m : ℕ). machine.IsGrant taken m grant) due_is granted) in
+      meets_by (λ x. (gets_stand is_unnotified (get x.gets.places g) ≡ false) × (first_of x.config.queue_strategy x.records.idle ≡ None)
+      × machine.IsGrant x.records (due x.config x.handles (x.records.conns + x.records.approved)
+      (one (ltb x.records.approved x.gets.alive))) grant)
+      (λ x. record x {
+        latest = max x.latest at;
+        records = machine.after_grant false grant x.records;
+        gets =
+            machine.after_wait (max x.latest at) g x.gets;
+      }) s _ at (Try g) (answers.Waiting grant) t.fit
+      (ap (gets_stand is_unnotified) (sym t.get_is) ∙ not_waiting, none, granted_s)
       (same_shown _ _ refl t.now_is refl (rs_is ∙ ap (machine.after_grant false grant) taken_is) (gs_is ∙ ap (λ (m : ℕ). machine.after_wait m g s.gets) t.now_is) refl)
       (λ l legal f known.
       let st = trying_is l g f in
       let off : gets_stand is_unnotified (get_of l g) ≡ false = line_test l g false known.0 in (
         waits off known.1 known.2,
-        same_shown _ _ refl refl refl (changed false l grant.count (records l) _ (later_shown l)) (shown-waits (start l).first_get (position l) (get_peak l) (gets l) (max (latest l) at) g st.0 (waited_before l) (get_peak_holds l) st.1 (ap (gets_stand is_unnotified) (sym st.1) ∙ off)) refl,
+        same_shown _ _ refl refl refl (changed false l grant.count (records l) _ (later_shown l))
+            (shown-waits (start l).first_get (position l) (get_peak l) (gets l) (max (latest l) at) g st.0 (waited_before l)
+            (get_peak_holds l) st.1 (ap (gets_stand is_unnotified) (sym st.1) ∙ off)) refl,
       ))
 
   -- ---- give up
 
   -- whom a give-up notifies is the oldest waiter, where the get had been notified
-  handed_is : (l : Ledger C) (g : ℕ) (st : Getting) (n : Option ℕ) → get_of l g ≡ Some st → n ≡ cond (is_notified st.place) (slice_get (machine.without g (waiting l)) 0) None → n ≡ cond (is_notified st.place) (oldest_waiter l) None
+  handed_is : (l : Ledger C) (g : ℕ) (st : Getting) (n : Option ℕ) → get_of l g ≡ Some st
+      → n ≡ cond (is_notified st.place) (slice_get (machine.without g (waiting l)) 0) None
+      → n ≡ cond (is_notified st.place) (oldest_waiter l) None
   handed_is l g st n is n_is = go (is_notified st.place) refl n_is
     where
       go : (b : Bool) → is_notified st.place ≡ b → n ≡ cond b (slice_get (machine.without g (waiting l)) 0) None → n ≡ cond b (oldest_waiter l) None
       go true on e = e ∙ ap (λ (xs : List ℕ). slice_get xs 0) (without_other (start l).first_get (position l) (gets l) g st is (notified_out st.place on))
       go false off e = e
 
-  count_given_up : (l : Ledger C) (at g : ℕ) (reason : Named) (broken : Bool) (n : Option ℕ) (was : Counters) → counts l ≡ counts_held was → counts (Later l at (GiveUp g (reason_of reason) None broken) (GaveUp n)) ≡ counts_held (given_up reason (max (latest l) at) (first_wait_of (get (shown l).gets.places g)) was)
+  count_given_up : (l : Ledger C) (at g : ℕ) (reason : Named) (broken : Bool) (n : Option ℕ) (was : Counters) → counts l ≡ counts_held was
+      → counts (Later l at (GiveUp g (reason_of reason) None broken) (GaveUp n)) ≡ counts_held
+      (given_up reason (max (latest l) at) (first_wait_of (get (shown l).gets.places g)) was)
   count_given_up l at g reasons.TimedOut broken n was were =
       ap (λ (x : Counts). record x { timed_out = x.timed_out + 1; wait_time = 1000 * min most_micros (wait_micros l + micros_since (max (latest l) at) (first_wait_of (get_of l g))) }) were
-      ∙ ap (λ (m : ℕ). record (counts_held was) { timed_out = was.timed_out + 1; wait_time = 1000 * min most_micros (m + micros_since (max (latest l) at) (first_wait_of (get_of l g))) }) (same_micros l was were)
+      ∙ ap (λ (m : ℕ). record (counts_held was) {
+        timed_out = was.timed_out + 1;
+        wait_time =
+            1000 * min most_micros (m + micros_since (max (latest l) at) (first_wait_of (get_of l g)));
+      }) (same_micros l was were)
       ∙ ap (λ (o : Option Getting). counts_held (given_up reasons.TimedOut (max (latest l) at) (first_wait_of o) was)) (shown_get l (shown l) refl g)
   count_given_up l at g reasons.Cancelled broken n was were = ap (λ (x : Counts). record x { cancelled = x.cancelled + 1 }) were
 
   -- no connection is handed in, and whether it is broken does not matter
-  pub meets_given_up : {s t : Shown C} (at : ℕ) {g : ℕ} {reason : Named} {held : Option C} (broken : Bool) {now : ℕ} {o : Option Getting} {since : Option ℕ} {left : ShownGets} {test : Bool} {n : Option ℕ} {gs : ShownGets} {was is : Counters} → held ≡ None → s ≡ t → IsFitting t (GiveUp g (reason_of reason) held broken) → now ≡ max s.latest at → o ≡ get s.gets.places g → left ≡ machine.after_get_end g s.gets → test ≡ gets_stand is_notified o → n ≡ cond test (slice_get left.waiting 0) None → gs ≡ machine.after_notice n left → s.counts ≡ counts_held was → since ≡ first_wait_of o → (reason ≡ reasons.TimedOut → is ≡ given_up reasons.TimedOut now since was) → (reason ≡ reasons.Cancelled → is ≡ given_up reasons.Cancelled now since was) → IsStep s at (GiveUp g (reason_of reason) held broken) (GaveUp n) (record s { latest = now; gets = gs; counts = counts_held is })
+  pub meets_given_up : {s t : Shown C} (at : ℕ) {g : ℕ} {reason : Named} {held : Option C}
+      (broken : Bool) {now : ℕ} {o : Option Getting} {since : Option ℕ} {left : ShownGets} {test : Bool} {n : Option
+      ℕ} {gs : ShownGets} {was is : Counters} → held ≡ None → s ≡ t → IsFitting t (GiveUp g (reason_of reason) held broken)
+      → now ≡ max s.latest at → o ≡ get s.gets.places g → left ≡ machine.after_get_end g s.gets → test ≡ gets_stand is_notified o
+      → n ≡ cond test (slice_get left.waiting 0) None → gs ≡ machine.after_notice n left → s.counts ≡ counts_held was
+      → since ≡ first_wait_of o → (reason ≡ reasons.TimedOut → is ≡ given_up reasons.TimedOut now since was)
+      → (reason ≡ reasons.Cancelled → is ≡ given_up reasons.Cancelled now since was)
+      → IsStep s at (GiveUp g (reason_of reason) held broken) (GaveUp n) (record s { latest = now; gets = gs; counts = counts_held is })
   meets_given_up {s} {t} at {g} {reason} {held} broken {now} {o} {since} {left} {test} {n} {gs} {was} {is} none view fit now_is get_is left_is test_is n_is gs_is were since_is timed let_go =
       let why : Reason = reason_of reason in
       let free : IsFitting s (GiveUp g why None broken) = fits_view (GiveUp g why None broken) view (subst (λ (c : Option C). IsFitting t (GiveUp g why c broken)) none fit) in
       let told : is ≡ given_up reason now since was = given_up_is reason now since timed let_go in
-      subst (λ (c : Option C). IsStep s at (GiveUp g why c broken) (GaveUp n) (record s { latest = now; gets = gs; counts = counts_held is })) (sym none) (meets_by (λ x. (n ≡ machine.heir_of (get x.gets.places g) (machine.after_get_end g x.gets)) × (x.counts ≡ counts_held was)) (λ x. record x { latest = max x.latest at; gets = machine.after_notice n (machine.after_get_end g x.gets); counts = counts_held (given_up reason (max x.latest at) (first_wait_of (get x.gets.places g)) was) }) s _ at (GiveUp g why None broken) (GaveUp n) free
-      (n_is ∙ ap (λ (b : Bool). cond b (slice_get left.waiting 0) None) test_is ∙ ap (λ (x : ShownGets). machine.heir_of o x) left_is ∙ ap (λ (x : Option Getting). machine.heir_of x (machine.after_get_end g s.gets)) get_is, were)
-      (same_shown _ _ refl now_is refl refl (gs_is ∙ ap (machine.after_notice n) left_is) (ap counts_held (told ∙ ap (λ (m : ℕ). given_up reason m since was) now_is ∙ ap (λ (x : Option ℕ). given_up reason (max s.latest at) x was) (since_is ∙ ap (λ (x : Option Getting). first_wait_of x) get_is))))
+      subst (λ (c : Option C). IsStep s at (GiveUp g why c broken) (GaveUp n)
+      (record s { latest = now; gets = gs; counts = counts_held is })) (sym none)
+      (meets_by (λ x. (n ≡ machine.heir_of (get x.gets.places g) (machine.after_get_end g x.gets)) × (x.counts ≡ counts_held was))
+      (λ x. record x {
+        latest = max x.latest at;
+        gets = machine.after_notice n (machine.after_get_end g x.gets);
+        counts =
+            counts_held (given_up reason (max x.latest at) (first_wait_of (get x.gets.places g)) was);
+      }) s _ at (GiveUp g why None broken)
+      (GaveUp n) free (
+        n_is ∙ ap (λ (b : Bool). cond b (slice_get left.waiting 0) None) test_is ∙ ap (λ (x : ShownGets). machine.heir_of o x) left_is
+            ∙ ap (λ (x : Option Getting). machine.heir_of x (machine.after_get_end g s.gets)) get_is,
+        were,
+      )
+      (same_shown _ _ refl now_is refl refl (gs_is ∙ ap (machine.after_notice n) left_is)
+      (ap counts_held (told ∙ ap (λ (m : ℕ). given_up reason m since was) now_is
+      ∙ ap (λ (x : Option ℕ). given_up reason (max s.latest at) x was)
+      (since_is ∙ ap (λ (x : Option Getting). first_wait_of x) get_is))))
       (λ l legal f known.
       let st = giving_is l g None f in
-      let n_place : n ≡ cond (is_notified st.0.place) (slice_get (machine.without g (waiting l)) 0) None = known.0 ∙ ap (λ (x : Option Getting). machine.heir_of x (machine.after_get_end g (shown l).gets)) (sym (shown_get l (shown l) refl g) ∙ st.1) in
+      let n_place : n ≡ cond (is_notified st.0.place) (slice_get (machine.without g (waiting l)) 0) None = known.0
+      ∙ ap (λ (x : Option Getting). machine.heir_of x (machine.after_get_end g (shown l).gets))
+      (sym (shown_get l (shown l) refl g) ∙ st.1) in
       let out : List (Numbered Getting) = update (start l).first_get g after_end (gets l) in
-      let ends : shown_gets (start l).first_get (suc (position l)) (max (get_peak l) (alive_of out)) out ≡ machine.after_get_end g (shown l).gets = shown-ended (start l).first_get (position l) (get_peak l) (gets l) g st.0 (waited_before l) (get_peak_holds l) st.1 in
-      let named : IfSome n (λ k. (x : Getting) × (standing_at (start l).first_get out k ≡ Some x)) = named_stands (start l).first_get (suc (position l)) out (is_notified st.0.place) n (n_place ∙ ap (λ (x : ShownGets). cond (is_notified st.0.place) (slice_get x.waiting 0) None) (sym ends)) in (
+      let ends : shown_gets (start l).first_get (suc (position l)) (max (get_peak l) (alive_of out)) out ≡ machine.after_get_end g
+      (shown l).gets = shown-ended (start l).first_get (position l) (get_peak l) (gets l) g st.0 (waited_before l)
+      (get_peak_holds l) st.1 in
+      let named : IfSome n (λ k. (x : Getting) × (standing_at (start l).first_get out k ≡ Some x)) =
+      named_stands (start l).first_get (suc (position l)) out (is_notified st.0.place) n
+      (n_place ∙ ap (λ (x : ShownGets). cond (is_notified st.0.place) (slice_get x.waiting 0) None) (sym ends)) in (
         gives_up (handed_is l g st.0 n st.1 n_place ∙ ap (λ (x : Option Getting). cond (gets_stand is_notified x) (oldest_waiter l) None) (sym st.1)),
-        same_shown _ _ refl refl refl (records_kept l) (noticed_later (start l).first_get (suc (position l)) (get_peak l) out n named ∙ ap (machine.after_notice n) ends) (count_given_up l at g reason broken n was known.1),
+        same_shown _ _ refl refl refl (records_kept l)
+            (noticed_later (start l).first_get (suc (position l)) (get_peak l) out n named ∙ ap (machine.after_notice n) ends)
+            (count_given_up l at g reason broken n was known.1),
       )))
 
   -- ---- look
 
   pub meets_look : {s : Shown C} {at now : ℕ} {alive_now : Bool} → now ≡ max s.latest at → alive_now ≡ ltb 0 s.handles → IsStep s at Look (Looked now alive_now) (record s { latest = now })
-  meets_look {s} {at} {now} {alive_now} now_is alive_is = meets_quiet (λ t. (now ≡ max t.latest at) × (alive_now ≡ ltb 0 t.handles)) s at Look (Looked now alive_now) (λ l legal means. refl) (now_is, alive_is) now_is refl refl (λ l. (refl, refl, refl)) (λ l legal f known. (looks known.0 known.1, refl, refl))
+  meets_look {s} {at} {now} {alive_now} now_is alive_is =
+      meets_quiet (λ t. (now ≡ max t.latest at) × (alive_now ≡ ltb 0 t.handles)) s at Look (Looked now alive_now) (λ l legal means. refl)
+      (now_is, alive_is) now_is refl refl (λ l. (refl, refl, refl)) (λ l legal f known. (looks known.0 known.1, refl, refl))
 
   -- ---- join
 
   pub meets_joined : {s : Shown C} {at now : ℕ} → IsFitting s Join → now ≡ max s.latest at → s.handles < most_handles → IsStep s at Join Joined (record s { latest = now; handles = s.handles + 1 })
-  meets_joined {s} {at} {now} fit now_is few = meets_by (λ t. t.handles < most_handles) (λ t. record t { latest = max t.latest at; handles = t.handles + 1 }) s _ at Join Joined fit few (same_shown _ _ refl now_is refl refl refl refl) (λ l legal f known. (joins known, same_shown _ _ refl refl refl (records_kept l) (gets_kept l) refl))
+  meets_joined {s} {at} {now} fit now_is few = meets_by (λ t. t.handles < most_handles)
+      (λ t. record t { latest = max t.latest at; handles = t.handles + 1 }) s _ at Join Joined fit few
+      (same_shown _ _ refl now_is refl refl refl refl)
+      (λ l legal f known. (joins known, same_shown _ _ refl refl refl (records_kept l) (gets_kept l) refl))
 
   pub meets_join_exhausted : {s : Shown C} {at now : ℕ} → IsFitting s Join → now ≡ max s.latest at → most_handles ≤ s.handles → IsStep s at Join Exhausted (record s { latest = now })
-  meets_join_exhausted {s} {at} {now} fit now_is many = meets_quiet (λ t. most_handles ≤ t.handles) s at Join Exhausted fit many now_is refl refl (λ l. (refl, refl, refl)) (λ l legal f known. (join_exhausted known, refl, refl))
+  meets_join_exhausted {s} {at} {now} fit now_is many =
+      meets_quiet (λ t. most_handles ≤ t.handles) s at Join Exhausted fit many now_is refl refl (λ l. (refl, refl, refl))
+      (λ l legal f known. (join_exhausted known, refl, refl))
 
   -- ---- leave
 
@@ -409,11 +666,18 @@ module _ {C : Type 0} where
   abbrev left_shown : (l : Ledger C) (b : Bool) → ShownRecords C
   left_shown l b = let rs : List (Numbered (Standing C)) = cond b (shut (records l)) (records l) in shown_records (start l).first (suc (position l)) (max (peak l) (conns_of rs + approved_of rs)) rs
 
-  pub meets_left_last : {s : Shown C} {at now n : ℕ} {rs : ShownRecords C} → IsFitting s Leave → now ≡ max s.latest at → s.handles ≡ 1 → n ≡ length s.records.idle → rs ≡ machine.after_leave s.records → IsStep s at Leave (Left n) (record s { latest = now; handles = 0; records = rs })
-  meets_left_last {s} {at} {now} {n} {rs} fit now_is last n_is rs_is = meets_by (λ t. (t.handles ≡ 1) × (n ≡ length t.records.idle)) (λ t. record t { latest = max t.latest at; handles = 0; records = machine.after_leave t.records }) s _ at Leave (Left n) fit (last, n_is) (same_shown _ _ refl now_is refl rs_is refl refl)
+  pub meets_left_last : {s : Shown C} {at now n : ℕ} {rs : ShownRecords C} → IsFitting s Leave → now ≡ max s.latest at → s.handles ≡ 1
+      → n ≡ length s.records.idle → rs ≡ machine.after_leave s.records
+      → IsStep s at Leave (Left n) (record s { latest = now; handles = 0; records = rs })
+  meets_left_last {s} {at} {now} {n} {rs} fit now_is last n_is rs_is =
+      meets_by (λ t. (t.handles ≡ 1) × (n ≡ length t.records.idle))
+      (λ t. record t { latest = max t.latest at; handles = 0; records = machine.after_leave t.records }) s _ at Leave (Left n) fit
+      (last, n_is) (same_shown _ _ refl now_is refl rs_is refl refl)
       (λ l legal f known.
       let on : eqb (handles l) 1 ≡ true = ap (λ (m : ℕ). eqb m 1) known.0 in
-      let is : shown_records (start l).first (suc (position l)) (peak l) (shut (records l)) ≡ machine.after_leave (shown l).records = shown-left (start l).first (suc (position l)) (peak l) (records l) (before_later idle_at (records l) (position l) (entered_before l)) ∙ ap machine.after_leave (later_shown l) in
+      let is : shown_records (start l).first (suc (position l)) (peak l) (shut (records l)) ≡ machine.after_leave (shown l).records =
+      shown-left (start l).first (suc (position l)) (peak l) (records l)
+      (before_later idle_at (records l) (position l) (entered_before l)) ∙ ap machine.after_leave (later_shown l) in
       let few : conns_of (records l) + approved_of (records l) ≤ peak l = peak_holds l in
       let fewer : (machine.after_leave (shown l).records).conns + (machine.after_leave (shown l).records).approved ≤ conns_of (records l) + approved_of (records l) = left_few (shown l).records in (
         leaves (known.1 ∙ idle_tally l ∙ ap (λ (b : Bool). cond b (idle_count l) 0) (sym on)),
@@ -421,7 +685,9 @@ module _ {C : Type 0} where
       ))
 
   pub meets_left : {s : Shown C} {at now : ℕ} → IsFitting s Leave → now ≡ max s.latest at → s.handles ≢ 1 → IsStep s at Leave (Left 0) (record s { latest = now; handles = s.handles - 1 })
-  meets_left {s} {at} {now} fit now_is more = meets_by (λ t. t.handles ≢ 1) (λ t. record t { latest = max t.latest at; handles = t.handles - 1 }) s _ at Leave (Left 0) fit more (same_shown _ _ refl now_is refl refl refl refl)
+  meets_left {s} {at} {now} fit now_is more = meets_by (λ t. t.handles ≢ 1)
+      (λ t. record t { latest = max t.latest at; handles = t.handles - 1 }) s _ at Leave (Left 0) fit more
+      (same_shown _ _ refl now_is refl refl refl refl)
       (λ l legal f known.
       let off : eqb (handles l) 1 ≡ false = ne_test (handles l) 1 known in
       (leaves (ap (λ (b : Bool). cond b (idle_count l) 0) (sym off)), same_shown _ _ refl refl refl (ap (left_shown l) off ∙ records_kept l) (gets_kept l) refl))
@@ -432,8 +698,11 @@ module _ {C : Type 0} where
   pub meets_add_broken : {s : Shown C} (at : ℕ) (c : C) {now : ℕ} → IsFitting s (Add c true) → now ≡ max s.latest at → IsStep s at (Add c true) Broken (record s { latest = now })
   meets_add_broken {s} at c {now} fit now_is = meets_quiet (λ t. Unit {0}) s at (Add c true) Broken fit tt now_is refl refl (λ l. (refl, refl, refl)) (λ l legal f known. (add_broken, refl, refl))
 
-  pub meets_add_full : {s : Shown C} (at : ℕ) (c : C) {now : ℕ} → IsFitting s (Add c false) → now ≡ max s.latest at → s.records.conns + s.records.approved ≡ s.config.max_size → IsStep s at (Add c false) NoCapacity (record s { latest = now })
-  meets_add_full {s} at c {now} fit now_is full = meets_quiet (λ t. t.records.conns + t.records.approved ≡ t.config.max_size) s at (Add c false) NoCapacity fit full now_is refl refl (λ l. (refl, refl, refl)) (λ l legal f known. (add_full known, refl, refl))
+  pub meets_add_full : {s : Shown C} (at : ℕ) (c : C) {now : ℕ} → IsFitting s (Add c false) → now ≡ max s.latest at
+      → s.records.conns + s.records.approved ≡ s.config.max_size → IsStep s at (Add c false) NoCapacity (record s { latest = now })
+  meets_add_full {s} at c {now} fit now_is full =
+      meets_quiet (λ t. t.records.conns + t.records.approved ≡ t.config.max_size) s at (Add c false) NoCapacity fit full now_is refl refl
+      (λ l. (refl, refl, refl)) (λ l legal f known. (add_full known, refl, refl))
 
   -- what the code knows when one is added that is not broken, and there is room
   pub record Adds (s : Shown C) (at : ℕ) (c : C) (now : ℕ) : Type 0 where
@@ -441,16 +710,40 @@ module _ {C : Type 0} where
     pub now_is : now ≡ max s.latest at
     pub room : s.records.conns + s.records.approved ≢ s.config.max_size
 
-  pub has_room : {s t : Shown C} {at : ℕ} {c : C} {now used : ℕ} → s ≡ t → IsFitting t (Add c false) → now ≡ max s.latest at → used ≡ s.records.conns + s.records.approved → used ≢ s.config.max_size → Adds s at c now
+  pub has_room : {s t : Shown C} {at : ℕ} {c : C} {now used : ℕ} → s ≡ t → IsFitting t (Add c false) → now ≡ max s.latest at
+      → used ≡ s.records.conns + s.records.approved → used ≢ s.config.max_size → Adds s at c now
   has_room {c = c} is fit now_is used_is room = record { fit = fits_view (Add c false) is fit; now_is = now_is; room = λ e. room (used_is ∙ e) }
 
   pub meets_add_exhausted : {s : Shown C} {at : ℕ} {c : C} {now : ℕ} → Adds s at c now → end_of_numbers ≤ s.records.next → IsStep s at (Add c false) Withheld (record s { latest = now })
-  meets_add_exhausted {s} {at} {c} {now} h many = meets_quiet (λ t. (t.records.conns + t.records.approved ≢ t.config.max_size) × (end_of_numbers ≤ t.records.next)) s at (Add c false) Withheld h.fit (h.room, many) h.now_is refl refl (λ l. (refl, refl, refl)) (λ l legal f known. (add_exhausted known.0 known.1, refl, refl))
+  meets_add_exhausted {s} {at} {c} {now} h many =
+      meets_quiet (λ t. (t.records.conns + t.records.approved ≢ t.config.max_size) × (end_of_numbers ≤ t.records.next)) s at
+      (Add c false) Withheld h.fit (h.room, many) h.now_is refl refl (λ l. (refl, refl, refl))
+      (λ l legal f known. (add_exhausted known.0 known.1, refl, refl))
 
-  pub meets_add_refused : {s : Shown C} {at : ℕ} {c : C} {now : ℕ} {rs : ShownRecords C} → Adds s at c now → s.records.next < end_of_numbers → s.records.conns + s.records.approved ≡ s.records.peak → rs ≡ s.records → IsStep s at (Add c false) Withheld (record s { latest = now; records = rs })
-  meets_add_refused {s} {at} {c} {now} {rs} h few full rs_is = meets_quiet (λ t. (t.records.conns + t.records.approved ≢ t.config.max_size) × (t.records.next < end_of_numbers) × (t.records.conns + t.records.approved ≡ t.records.peak)) s at (Add c false) Withheld h.fit (h.room, few, full) h.now_is rs_is refl (λ l. (refl, refl, refl)) (λ l legal f known. (add_refused known.0 known.1 known.2, refl, refl))
+  pub meets_add_refused : {s : Shown C} {at : ℕ} {c : C} {now : ℕ} {rs : ShownRecords C} → Adds s at c now → s.records.next < end_of_numbers
+      → s.records.conns + s.records.approved ≡ s.records.peak → rs ≡ s.records
+      → IsStep s at (Add c false) Withheld (record s { latest = now; records = rs })
+  meets_add_refused {s} {at} {c} {now} {rs} h few full rs_is =
+      meets_quiet (λ t. (t.records.conns + t.records.approved ≢ t.config.max_size) × (t.records.next < end_of_numbers)
+      × (t.records.conns + t.records.approved ≡ t.records.peak)) s at (Add c false) Withheld h.fit (h.room, few, full) h.now_is rs_is refl
+      (λ l. (refl, refl, refl)) (λ l legal f known. (add_refused known.0 known.1 known.2, refl, refl))
 
-  pub meets_added : {s : Shown C} {at : ℕ} {k : ℕ} {c : C} {now : ℕ} {rs : ShownRecords C} {n : Option ℕ} {gs : ShownGets} → Adds s at c now → Notices s n gs → s.records.next < end_of_numbers → k ≡ s.records.next → rs ≡ machine.with_peak (machine.after_birth c now s.records) → IsStep s at (Add c false) (Added k n) (record s { latest = now; records = rs; gets = gs })
-  meets_added {s} {at} {k} {c} {now} {rs} {n} {gs} h told few k_is rs_is = meets_by (λ t. (t.records.conns + t.records.approved ≢ t.config.max_size) × (t.records.next < end_of_numbers) × (k ≡ t.records.next) × (n ≡ slice_get t.gets.waiting 0)) (λ t. record t { latest = max t.latest at; records = machine.with_peak (machine.after_birth c (max t.latest at) t.records); gets = machine.after_notice n t.gets }) s _ at (Add c false) (Added k n) h.fit (h.room, few, k_is, told.who)
+  pub meets_added : {s : Shown C} {at : ℕ} {k : ℕ} {c : C} {now : ℕ} {rs : ShownRecords C} {n : Option ℕ} {gs : ShownGets} → Adds s at c now
+      → Notices s n gs → s.records.next < end_of_numbers → k ≡ s.records.next → rs ≡ machine.with_peak (machine.after_birth c now s.records)
+      → IsStep s at (Add c false) (Added k n) (record s { latest = now; records = rs; gets = gs })
+  meets_added {s} {at} {k} {c} {now} {rs} {n} {gs} h told few k_is rs_is =
+      meets_by (λ t. (t.records.conns + t.records.approved ≢ t.config.max_size) × (t.records.next < end_of_numbers) × (k ≡ t.records.next)
+      × (n ≡ slice_get t.gets.waiting 0)) (λ t. record
+      t {
+        latest = max t.latest at;
+        records = machine.with_peak (machine.after_birth c (max t.latest at) t.records);
+        gets =
+            machine.after_notice n t.gets;
+      }) s _ at (Add c false) (Added k n) h.fit (h.room, few, k_is, told.who)
       (same_shown _ _ refl h.now_is refl (rs_is ∙ ap (λ (m : ℕ). machine.with_peak (machine.after_birth c m s.records)) h.now_is) told.after refl)
-      (λ l legal f known. (adds known.0 known.1 known.2 known.3, same_shown _ _ refl refl refl (ap machine.with_peak (shown-born (start l).first (position l) (peak l) (records l) c (max (latest l) at) (entered_before l))) (gets_told l n known.3) refl))
+      (λ l legal f known. (
+        adds known.0 known.1 known.2 known.3,
+        same_shown _ _ refl refl refl
+            (ap machine.with_peak (shown-born (start l).first (position l) (peak l) (records l) c (max (latest l) at) (entered_before l)))
+            (gets_told l n known.3) refl,
+      ))

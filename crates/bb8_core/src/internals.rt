@@ -248,7 +248,8 @@ impl<C: Drop> PoolInternals<C> {
         broken: bool,
     ) -> GiveUpAnswer
         requires { IsFitting self.old (acts.GiveUp get.number (reason_of reason) held broken) }
-        ensures { Meets self.old at.0 (acts.GiveUp get.number (reason_of reason) held broken) (give_up_told result) self.new }
+        ensures { Meets self.old at.0 (acts.GiveUp get.number (reason_of reason) held broken)
+            (give_up_told result) self.new }
     {
         match held {
             Some(_) => unreachable!(),
@@ -267,7 +268,8 @@ impl<C: Drop> PoolInternals<C> {
     /// otherwise it is idle again and keeps its birth.
     pub fn put_back(&mut self, at: Moment, k: Key, conn: C, broken: bool) -> PutBackAnswer<C>
         requires { IsFitting self.old (acts.PutBack k.number conn broken) }
-        ensures step { Meets self.old at.0 (acts.PutBack k.number conn broken) (put_back_told k.number result) self.new }
+        ensures step { Meets self.old at.0 (acts.PutBack k.number conn broken)
+            (put_back_told k.number result) self.new }
         ensures connection { GivesBack conn result }
     {
         let now = self.latest.max(at.0);
@@ -312,7 +314,8 @@ impl<C: Drop> PoolInternals<C> {
     /// and the connection is handed back.
     pub fn opened(&mut self, at: Moment, a: Key, conn: C) -> OpenedAnswer<C>
         requires { IsFitting self.old (acts.Opened a.number conn) }
-        ensures step { Meets self.old at.0 (acts.Opened a.number conn) (opened_told a.number result) self.new }
+        ensures step { Meets self.old at.0 (acts.Opened a.number conn)
+            (opened_told a.number result) self.new }
         ensures connection { HandsBack conn result }
     {
         let now = self.latest.max(at.0);
@@ -371,7 +374,8 @@ impl<C: Drop> PoolInternals<C> {
     /// What the pool tells of itself.
     pub fn state(&mut self, at: Moment) -> State
         ensures step { Meets self.old at.0 acts.State (answers.Shown (figures_of result)) self.new }
-        ensures figures { (l : ledger.Ledger C) → Means l self.old → figures_of result ≡ ledger.figures l }
+        ensures figures { (l : ledger.Ledger C) → Means l self.old
+            → figures_of result ≡ ledger.figures l }
         ensures size { result.connections ≤ self.old.config.max_size }
         ensures idle { result.idle_connections ≤ result.connections }
     {
@@ -432,7 +436,8 @@ impl<C: Drop> PoolInternals<C> {
     pub fn fits_at_once(&self) -> bool
         ensures begin { result ≡ true → IsFitting self.now acts.Begin }
         ensures unchecked { result ≡ true → self.now.config.test_on_check_out ≡ false }
-        ensures open { self.now.config.test_on_check_out ≡ false → TellsFitting self.now acts.Begin result }
+        ensures open { self.now.config.test_on_check_out ≡ false
+            → TellsFitting self.now acts.Begin result }
     {
         !self.config.test_on_check_out && self.fits_begin()
     }

@@ -38,7 +38,9 @@ module _ {R : Type 0} where
   at_same [] n k f = refl
   at_same (r ∷ rs) n k f = pick (eqb k n) (at_same rs (suc n) k f)
     where
-      pick : (b : Bool) → at_number (suc n) (update (suc n) k f rs) k ≡ option_map f (at_number (suc n) rs k) → cond b (Some (cond b (f r) r)) (at_number (suc n) (update (suc n) k f rs) k) ≡ option_map f (cond b (Some r) (at_number (suc n) rs k))
+      pick : (b : Bool) → at_number (suc n) (update (suc n) k f rs) k ≡ option_map f (at_number (suc n) rs k)
+          → cond b (Some (cond b (f r) r)) (at_number (suc n) (update (suc n) k f rs) k) ≡ option_map f
+          (cond b (Some r) (at_number (suc n) rs k))
       pick true ih = refl
       pick false ih = ih
 
@@ -47,7 +49,8 @@ module _ {R : Type 0} where
   at_map [] n q f = refl
   at_map (r ∷ rs) n q f = pick (eqb q n) (at_map rs (suc n) q f)
     where
-      pick : (b : Bool) → at_number (suc n) (map f rs) q ≡ option_map f (at_number (suc n) rs q) → cond b (Some (f r)) (at_number (suc n) (map f rs) q) ≡ option_map f (cond b (Some r) (at_number (suc n) rs q))
+      pick : (b : Bool) → at_number (suc n) (map f rs) q ≡ option_map f (at_number (suc n) rs q)
+          → cond b (Some (f r)) (at_number (suc n) (map f rs) q) ≡ option_map f (cond b (Some r) (at_number (suc n) rs q))
       pick true ih = refl
       pick false ih = ih
 
@@ -59,7 +62,10 @@ module _ {C : Type 0} where
   each_allowed G l at e a allowed unfit row = by_fit (takes l e) _ _ (G a) allowed (λ t r. row (and_right (is_brought l e) _ t).1 r) (λ t is. subst G (sym is) unfit)
 
   -- what holds at the beginning, where an event does not fit, and by each row, holds of each legal ledger
-  pub each_legal : (P : Ledger C → Type 0) → ((s : Start) → is_lawful s.config ≡ true → P (Opening s)) → ((l : Ledger C) (at : ℕ) (e : Act C) → P l → P (Later l at e Unfit)) → ((l : Ledger C) (at : ℕ) (e : Act C) (a : Answer) → IsLegal l → fits l e ≡ true → Row l at e a → P l → P (Later l at e a)) → (l : Ledger C) → IsLegal l → P l
+  pub each_legal : (P : Ledger C → Type 0) → ((s : Start) → is_lawful s.config ≡ true → P (Opening s))
+      → ((l : Ledger C) (at : ℕ) (e : Act C) → P l → P (Later l at e Unfit))
+      → ((l : Ledger C) (at : ℕ) (e : Act C) (a : Answer) → IsLegal l → fits l e ≡ true → Row l at e a → P l → P (Later l at e a))
+      → (l : Ledger C) → IsLegal l → P l
   each_legal P opening unfit row (Opening s) legal = opening s legal
   each_legal P opening unfit row (Later l at e a) legal =
       let before : P l = each_legal P opening unfit row l legal.0 in
@@ -93,7 +99,9 @@ module _ {C : Type 0} where
   to_place p s r e = ap (λ (o : Option (Standing C)). place_of (option_map (with_place p) o)) e
 
   -- a record that a test tells the place of
-  turns_by : (l : Ledger C) (k : ℕ) (test : Place C → Bool) (p : Place C) (q : Option (Place C)) (f : Numbered (Standing C) → Numbered (Standing C)) → ((x : Place C) → test x ≡ true → x ≡ p) → stands test (record_of l k) ≡ true → ((s : Standing C) (r : Numbered (Standing C)) → r.standing ≡ Some s → place_of (f r).standing ≡ q) → Turns l k p q f
+  turns_by : (l : Ledger C) (k : ℕ) (test : Place C → Bool) (p : Place C) (q : Option (Place C))
+      (f : Numbered (Standing C) → Numbered (Standing C)) → ((x : Place C) → test x ≡ true → x ≡ p) → stands test (record_of l k) ≡ true
+      → ((s : Standing C) (r : Numbered (Standing C)) → r.standing ≡ Some s → place_of (f r).standing ≡ q) → Turns l k p q f
   turns_by l k test p q f only h to =
       let s = standing_is test (record_of l k) h in
       record { standing = s.0; was = s.1; from = only s.0.place s.2; to = to s.0 }
@@ -105,13 +113,17 @@ module _ {C : Type 0} where
   held_by g (Held m) h = ap (λ (n : ℕ). Held n) (sym (numbered.tested g m h))
   held_by g Guarded h = cc
 
-  pub held_turns : (l : Ledger C) (g k : ℕ) (q : Option (Place C)) (f : Numbered (Standing C) → Numbered (Standing C)) → stands (is_held_by g) (record_of l k) ≡ true → ((s : Standing C) (r : Numbered (Standing C)) → r.standing ≡ Some s → place_of (f r).standing ≡ q) → Turns l k (Held g) q f
+  pub held_turns : (l : Ledger C) (g k : ℕ) (q : Option (Place C)) (f : Numbered (Standing C) → Numbered (Standing C))
+      → stands (is_held_by g) (record_of l k) ≡ true
+      → ((s : Standing C) (r : Numbered (Standing C)) → r.standing ≡ Some s → place_of (f r).standing ≡ q) → Turns l k (Held g) q f
   held_turns l g k q f = turns_by l k (is_held_by g) (Held g) q f (held_by g)
 
   -- the idle record that goes out
   pub idle_turns : (l : Ledger C) (k : ℕ) (p : Place C) → first_idle l ≡ Some k → (c : C) × Turns l k (Idle c) (Some p) (at_place p)
   idle_turns l k p first =
-      let m : (r : Numbered (Standing C)) × (at_number (start l).first (records l) k ≡ Some r) × (q : ℕ) × (q < position l) × (idle_at q r ≡ true) = numbered.in_order_member idle_at (records l) (start l).first (position l) (first_place (start l).config.queue_strategy (length (idle l))) k first in
+      let m : (r : Numbered (Standing C)) × (at_number (start l).first (records l) k ≡ Some r) × (q : ℕ) × (q < position l)
+      × (idle_at q r ≡ true) = numbered.in_order_member idle_at (records l) (start l).first (position l)
+      (first_place (start l).config.queue_strategy (length (idle l))) k first in
       let was = standing_is is_idle m.0.standing (and_right (stands is_idle m.0.standing) _ m.4).0 in
       let place = idle_is was.0.place was.2 in
       (place.0, record { standing = was.0; was = ap (option_and_then (λ (r : Numbered (Standing C)). r.standing)) m.1 ∙ was.1; from = place.1; to = to_place p was.0 })
@@ -119,8 +131,12 @@ module _ {C : Type 0} where
   -- the approval that is claimed
   pub unclaimed_turns : (l : Ledger C) (k : ℕ) → slice_get (unclaimed l) 0 ≡ Some k → Turns l k Unclaimed (Some Claimed) (at_place Claimed)
   unclaimed_turns l k first =
-      let m : (r : Numbered (Standing C)) × (at_number (start l).first (records l) k ≡ Some r) × (stands is_unclaimed r.standing ≡ true) = numbered.numbers_member (λ r. stands is_unclaimed r.standing) (records l) (start l).first 0 k first in
-      turns_by l k is_unclaimed Unclaimed (Some Claimed) (at_place Claimed) unclaimed_is (ap (λ (o : Option (Numbered (Standing C))). stands is_unclaimed (option_and_then (λ (r : Numbered (Standing C)). r.standing) o)) m.1 ∙ m.2) (to_place Claimed)
+      let m : (r : Numbered (Standing C)) × (at_number (start l).first (records l) k ≡ Some r)
+      × (stands is_unclaimed r.standing ≡ true) = numbered.numbers_member (λ r. stands is_unclaimed r.standing) (records l)
+      (start l).first 0 k first in
+      turns_by l k is_unclaimed Unclaimed (Some Claimed) (at_place Claimed) unclaimed_is
+      (ap (λ (o : Option (Numbered (Standing C))). stands is_unclaimed (option_and_then (λ (r : Numbered (Standing C)). r.standing) o))
+      m.1 ∙ m.2) (to_place Claimed)
 
   -- a guard gives its connection back, which is kept, or closed
   pub returns_turn : (l : Ledger C) (at k : ℕ) (c : C) → stands is_guarded (record_of l k) ≡ true → Turns l k Guarded (Some (Idle c)) (at_entry c (max (latest l) at) (position l))
@@ -149,10 +165,14 @@ module _ {C : Type 0} where
   pub stays_sized : (l : Ledger C) → Sized l None None 0 0 (records l)
   stays_sized l = record { conns_are = refl; approved_are = omega arith; idle_are = refl; out_are = refl; many_are = omega arith }
 
-  turned_tally : (l : Ledger C) (k : ℕ) (p : Place C) (q : Option (Place C)) (f : Numbered (Standing C) → Numbered (Standing C)) (test : Place C → Bool) → Turns l k p q f → tally_places test (with_record l k f) + one (test p) ≡ tally_places test (records l) + one (passes test q)
+  turned_tally : (l : Ledger C) (k : ℕ) (p : Place C) (q : Option (Place C)) (f : Numbered (Standing C) → Numbered (Standing C))
+      (test : Place C → Bool) → Turns l k p q f → tally_places test (with_record l k f) + one (test p) ≡ tally_places test (records l) + one
+      (passes test q)
   turned_tally l k p q f test t =
       let m = numbered.standing_found (records l) (start l).first k t.standing t.was in
-      let moved : tally_places test (with_record l k f) + one (stands test m.0.standing) ≡ tally_places test (records l) + one (stands test (f m.0).standing) = tally_update (λ (r : Numbered (Standing C)). stands test r.standing) (records l) (start l).first k f m.0 m.1 in
+      let moved : tally_places test (with_record l k f) + one (stands test m.0.standing) ≡ tally_places test (records l) + one
+      (stands test (f m.0).standing) = tally_update (λ (r : Numbered (Standing C)). stands test r.standing) (records l)
+      (start l).first k f m.0 m.1 in
       let from : one (stands test m.0.standing) ≡ one (test p) = ap one (ap (stands test) m.2 ∙ ap test t.from) in
       let to : one (stands test (f m.0).standing) ≡ one (passes test q) = ap one (stands_by_place test (f m.0).standing ∙ ap (passes test) (t.to m.0 m.2)) in
       omega arith
@@ -166,10 +186,12 @@ module _ {C : Type 0} where
     many_are = omega (arith, numbered.length-update (records l) (start l).first k f);
   }
 
-  added_tally : (l : Ledger C) (p : Place C) (new : Numbered (Standing C)) (test : Place C → Bool) → place_of new.standing ≡ Some p → tally_places test (records l ++ new ∷ []) ≡ tally_places test (records l) + one (test p)
+  added_tally : (l : Ledger C) (p : Place C) (new : Numbered (Standing C)) (test : Place C → Bool) → place_of new.standing ≡ Some p
+      → tally_places test (records l ++ new ∷ []) ≡ tally_places test (records l) + one (test p)
   added_tally l p new test is =
       let new_is : one (stands test new.standing) ≡ one (test p) = ap one (stands_by_place test new.standing ∙ ap (passes test) is) in
-      let more : tally_places test (records l ++ new ∷ []) ≡ tally_places test (records l) + one (stands test new.standing) = numbered.tally-append (λ (r : Numbered (Standing C)). stands test r.standing) (records l) new in
+      let more : tally_places test (records l ++ new ∷ []) ≡ tally_places test (records l) + one (stands test new.standing) =
+      numbered.tally-append (λ (r : Numbered (Standing C)). stands test r.standing) (records l) new in
       omega arith
 
   added_sized : (l : Ledger C) (p : Place C) (new : Numbered (Standing C)) → place_of new.standing ≡ Some p → Sized l None (Some p) 1 0 (records l ++ new ∷ [])
@@ -186,16 +208,21 @@ module _ {C : Type 0} where
   adds_sized l at c = added_sized l (Idle c) (entry c (max (latest l) at) (max (latest l) at) (position l)) refl
 
   -- approvals are made: each is an approval, claimed or not
-  approve_tally : (test : Place C → Bool) (z : ℕ) (claimed : Bool) (n : ℕ) (rs : List (Numbered (Standing C))) → one (stands test (approval {C = C} claimed).standing) ≡ z → tally_places test (with_approvals claimed n rs) ≡ tally_places test rs + z * n
+  approve_tally : (test : Place C → Bool) (z : ℕ) (claimed : Bool) (n : ℕ) (rs : List (Numbered (Standing C)))
+      → one (stands test (approval {C = C} claimed).standing) ≡ z
+      → tally_places test (with_approvals claimed n rs) ≡ tally_places test rs + z * n
   approve_tally test z claimed zero rs is = omega arith
   approve_tally test z claimed (suc n) rs is =
-      let e : tally_places test (with_approvals claimed n rs ++ approval claimed ∷ []) ≡ tally_places test (with_approvals claimed n rs) + one (stands test (approval {C = C} claimed).standing) = numbered.tally-append (λ (r : Numbered (Standing C)). stands test r.standing) (with_approvals claimed n rs) (approval claimed) in
+      let e : tally_places test (with_approvals claimed n rs ++ approval claimed ∷ []) ≡ tally_places test
+      (with_approvals claimed n rs) + one (stands test (approval {C = C} claimed).standing) =
+      numbered.tally-append (λ (r : Numbered (Standing C)). stands test r.standing) (with_approvals claimed n rs) (approval claimed) in
       let ih : tally_places test (with_approvals claimed n rs) ≡ tally_places test rs + z * n = approve_tally test z claimed n rs is in
       grind (arith, e, ih, is)
 
   pub length-approve : (claimed : Bool) (n : ℕ) (rs : List (Numbered (Standing C))) → length (with_approvals claimed n rs) ≡ length rs + n
   length-approve claimed zero rs = omega arith
-  length-approve claimed (suc n) rs = let ih : length (with_approvals claimed n rs) ≡ length rs + n = length-approve claimed n rs in omega (arith, length-append (with_approvals claimed n rs) (approval claimed ∷ []))
+  length-approve claimed (suc n) rs = let ih : length (with_approvals claimed n rs) ≡ length rs + n = length-approve claimed n rs in
+      omega (arith, length-append (with_approvals claimed n rs) (approval claimed ∷ []))
 
   pub conns-approve : (claimed : Bool) (n : ℕ) (rs : List (Numbered (Standing C))) → conns_of (with_approvals claimed n rs) ≡ conns_of rs
   conns-approve true n rs = omega (arith, approve_tally is_conn 0 true n rs refl)
@@ -213,7 +240,8 @@ module _ {C : Type 0} where
   out-approve true n rs = omega (arith, approve_tally is_out 0 true n rs refl)
   out-approve false n rs = omega (arith, approve_tally is_out 0 false n rs refl)
 
-  pub granted_sized : {l : Ledger C} {p q : Option (Place C)} {more : ℕ} {rs : List (Numbered (Standing C))} (claimed : Bool) (n : ℕ) → Sized l p q more 0 rs → Sized l p q more n (with_approvals claimed n rs)
+  pub granted_sized : {l : Ledger C} {p q : Option (Place C)} {more : ℕ} {rs : List (Numbered (Standing C))} (claimed : Bool) (n : ℕ)
+      → Sized l p q more 0 rs → Sized l p q more n (with_approvals claimed n rs)
   granted_sized {rs = rs} claimed n s = record {
     conns_are = omega (arith, conns-approve claimed n rs, s.conns_are);
     approved_are = omega (arith, approved-approve claimed n rs, s.approved_are);
@@ -241,11 +269,16 @@ module _ {C : Type 0} where
   tests test first rs j = stands test (standing_at first rs j)
 
   -- one record has moved
-  pub turned_tests : {l : Ledger C} {k : ℕ} {p : Place C} {q : Option (Place C)} {f : Numbered (Standing C) → Numbered (Standing C)} (test : Place C → Bool) (j : ℕ) → Turns l k p q f → tests test (start l).first (with_record l k f) j ≡ cond (eqb j k) (passes test q) (tests test (start l).first (records l) j)
+  pub turned_tests : {l : Ledger C} {k : ℕ} {p : Place C} {q : Option (Place C)} {f : Numbered (Standing C) → Numbered (Standing C)}
+      (test : Place C → Bool) (j : ℕ) → Turns l k p q f
+      → tests test (start l).first (with_record l k f) j ≡ cond (eqb j k) (passes test q) (tests test (start l).first (records l) j)
   turned_tests {l} {k} {p} {q} {f} test j t =
       ⊎_elim
-      (λ (s : (eqb j k ≡ true) × (j ≡ k)). subst (λ (i : ℕ). tests test (start l).first (with_record l k f) i ≡ passes test q) (sym s.1) same ∙ sym (ap (λ (b : Bool). cond b (passes test q) (tests test (start l).first (records l) j)) s.0))
-      (λ (s : (eqb j k ≡ false) × (j ≢ k)). ap (λ (o : Option (Numbered (Standing C))). stands test (option_and_then (λ (r : Numbered (Standing C)). r.standing) o)) (at_other (records l) (start l).first k j f s.1) ∙ sym (ap (λ (b : Bool). cond b (passes test q) (tests test (start l).first (records l) j)) s.0))
+      (λ (s : (eqb j k ≡ true) × (j ≡ k)). subst (λ (i : ℕ). tests test (start l).first (with_record l k f) i ≡ passes test q)
+      (sym s.1) same ∙ sym (ap (λ (b : Bool). cond b (passes test q) (tests test (start l).first (records l) j)) s.0))
+      (λ (s : (eqb j k ≡ false) × (j ≢ k)). ap (λ (o : Option (Numbered (Standing C))). stands test
+      (option_and_then (λ (r : Numbered (Standing C)). r.standing) o)) (at_other (records l) (start l).first k j f s.1)
+      ∙ sym (ap (λ (b : Bool). cond b (passes test q) (tests test (start l).first (records l) j)) s.0))
       (numbered.same_or_not j k)
     where
       same : tests test (start l).first (with_record l k f) k ≡ passes test q
@@ -256,21 +289,29 @@ module _ {C : Type 0} where
           ∙ ap (passes test) (t.to m.0 m.2)
 
   -- what passed where it stood
-  pub turned_from : {l : Ledger C} {k : ℕ} {p : Place C} {q : Option (Place C)} {f : Numbered (Standing C) → Numbered (Standing C)} (test : Place C → Bool) → Turns l k p q f → tests test (start l).first (records l) k ≡ test p
+  pub turned_from : {l : Ledger C} {k : ℕ} {p : Place C} {q : Option (Place C)} {f : Numbered (Standing C) → Numbered (Standing C)}
+      (test : Place C → Bool) → Turns l k p q f → tests test (start l).first (records l) k ≡ test p
   turned_from test t = ap (stands test) t.was ∙ ap test t.from
 
   -- a new record that does not pass
-  pub added_tests : (test : Place C → Bool) (first j : ℕ) (new : Numbered (Standing C)) (rs : List (Numbered (Standing C))) → stands test new.standing ≡ false → tests test first (rs ++ new ∷ []) j ≡ tests test first rs j
+  pub added_tests : (test : Place C → Bool) (first j : ℕ) (new : Numbered (Standing C)) (rs : List (Numbered (Standing C)))
+      → stands test new.standing ≡ false → tests test first (rs ++ new ∷ []) j ≡ tests test first rs j
   added_tests test first j new rs off =
       ap (λ (o : Option (Numbered (Standing C))). stands test (option_and_then (λ (r : Numbered (Standing C)). r.standing) o)) (numbered.at-append rs new first j)
       ∙ ⊎_elim
       (λ (t : (eqb j (first + length rs) ≡ true) × (j ≡ first + length rs)).
       let none : at_number first rs j ≡ None = numbered.at-past rs first j (omega arith) in
-      ap (λ (b : Bool). stands test (option_and_then (λ (r : Numbered (Standing C)). r.standing) (cond b (Some new) (at_number first rs j)))) t.0 ∙ off ∙ sym (ap (λ (o : Option (Numbered (Standing C))). stands test (option_and_then (λ (r : Numbered (Standing C)). r.standing) o)) none))
-      (λ (t : (eqb j (first + length rs) ≡ false) × (j ≢ first + length rs)). ap (λ (b : Bool). stands test (option_and_then (λ (r : Numbered (Standing C)). r.standing) (cond b (Some new) (at_number first rs j)))) t.0)
+      ap (λ (b : Bool). stands test (option_and_then (λ (r : Numbered (Standing C)). r.standing)
+      (cond b (Some new) (at_number first rs j)))) t.0 ∙ off
+      ∙ sym (ap (λ (o : Option (Numbered (Standing C))). stands test (option_and_then (λ (r : Numbered (Standing C)). r.standing) o))
+      none))
+      (λ (t : (eqb j (first + length rs) ≡ false) × (j ≢ first + length rs)). ap
+      (λ (b : Bool). stands test (option_and_then (λ (r : Numbered (Standing C)). r.standing)
+      (cond b (Some new) (at_number first rs j)))) t.0)
       (numbered.same_or_not j (first + length rs))
 
-  pub granted_tests : (test : Place C → Bool) (first j : ℕ) (claimed : Bool) (n : ℕ) (rs : List (Numbered (Standing C))) → IsOut test → tests test first (with_approvals claimed n rs) j ≡ tests test first rs j
+  pub granted_tests : (test : Place C → Bool) (first j : ℕ) (claimed : Bool) (n : ℕ) (rs : List (Numbered (Standing C))) → IsOut test
+      → tests test first (with_approvals claimed n rs) j ≡ tests test first rs j
   granted_tests test first j claimed zero rs o = refl
   granted_tests test first j claimed (suc n) rs o = added_tests test first j (approval claimed) (with_approvals claimed n rs) (off claimed) ∙ granted_tests test first j claimed n rs o
     where
@@ -279,7 +320,9 @@ module _ {C : Type 0} where
       off false = o.unclaimed
 
   -- a record that passes does not end
-  spared : (test : Place C → Bool) (sweep : Option (Standing C) → Bool) → ((o : Option (Standing C)) → stands test o ≡ true → sweep o ≡ false) → (r : Numbered (Standing C)) → stands test (after_end_where sweep r).standing ≡ stands test r.standing
+  spared : (test : Place C → Bool) (sweep : Option (Standing C) → Bool)
+      → ((o : Option (Standing C)) → stands test o ≡ true → sweep o ≡ false) → (r : Numbered (Standing C))
+      → stands test (after_end_where sweep r).standing ≡ stands test r.standing
   spared test sweep spares r = pick (sweep r.standing) refl (stands test r.standing) refl
     where
       pick : (b : Bool) → sweep r.standing ≡ b → (d : Bool) → stands test r.standing ≡ d → stands test (cond b (after_end r) r).standing ≡ stands test r.standing
@@ -288,10 +331,16 @@ module _ {C : Type 0} where
       pick true e true g = absurd (let clash : true ≡ false = sym e ∙ spares r.standing g in cc)
 
   -- records end, of which none passed
-  pub swept_tests : (test : Place C → Bool) (sweep : Option (Standing C) → Bool) (first j : ℕ) (rs : List (Numbered (Standing C))) → ((o : Option (Standing C)) → stands test o ≡ true → sweep o ≡ false) → tests test first (map (after_end_where sweep) rs) j ≡ tests test first rs j
-  swept_tests test sweep first j rs spares = ap (λ (o : Option (Numbered (Standing C))). stands test (option_and_then (λ (r : Numbered (Standing C)). r.standing) o)) (at_map rs first j (after_end_where sweep)) ∙ each (at_number first rs j)
+  pub swept_tests : (test : Place C → Bool) (sweep : Option (Standing C) → Bool) (first j : ℕ) (rs : List (Numbered (Standing C)))
+      → ((o : Option (Standing C)) → stands test o ≡ true → sweep o ≡ false)
+      → tests test first (map (after_end_where sweep) rs) j ≡ tests test first rs j
+  swept_tests test sweep first j rs spares = ap (λ (o : Option (Numbered (Standing C))). stands test
+      (option_and_then (λ (r : Numbered (Standing C)). r.standing) o)) (at_map rs first j (after_end_where sweep))
+      ∙ each (at_number first rs j)
     where
-      each : (o : Option (Numbered (Standing C))) → stands test (option_and_then (λ (r : Numbered (Standing C)). r.standing) (option_map (after_end_where sweep) o)) ≡ stands test (option_and_then (λ (r : Numbered (Standing C)). r.standing) o)
+      each : (o : Option (Numbered (Standing C))) → stands test
+          (option_and_then (λ (r : Numbered (Standing C)). r.standing) (option_map (after_end_where sweep) o)) ≡ stands test
+          (option_and_then (λ (r : Numbered (Standing C)). r.standing) o)
       each None = refl
       each (Some r) = spared test sweep spares r
 
@@ -320,7 +369,9 @@ module _ {C : Type 0} where
       go Guarded e = refl
 
   -- the tally of what is out changes with no sweep
-  pub swept_out : (test : Place C → Bool) (sweep : Option (Standing C) → Bool) → ((o : Option (Standing C)) → stands test o ≡ true → sweep o ≡ false) → (rs : List (Numbered (Standing C))) → tally_places test (map (after_end_where sweep) rs) ≡ tally_places test rs
+  pub swept_out : (test : Place C → Bool) (sweep : Option (Standing C) → Bool)
+      → ((o : Option (Standing C)) → stands test o ≡ true → sweep o ≡ false) → (rs : List (Numbered (Standing C)))
+      → tally_places test (map (after_end_where sweep) rs) ≡ tally_places test rs
   swept_out test sweep spares [] = refl
   swept_out test sweep spares (r ∷ rs) =
       let ih : tally_places test (map (after_end_where sweep) rs) ≡ tally_places test rs = swept_out test sweep spares rs in
@@ -328,11 +379,14 @@ module _ {C : Type 0} where
       omega arith
 
   -- a reap ends so many idle connections: by_life of them and more
-  reap_idle : (config : Settings) (now : ℕ) (rs : List (Numbered (Standing C))) → (idle_of (map (after_end_where (is_reaped config now)) rs) + tally (λ r. is_reaped config now r.standing) rs ≡ idle_of rs) × (tally (λ r. lives_out config now r.standing) rs ≤ tally (λ r. is_reaped config now r.standing) rs)
+  reap_idle : (config : Settings) (now : ℕ) (rs : List (Numbered (Standing C)))
+      → (idle_of (map (after_end_where (is_reaped config now)) rs) + tally (λ r. is_reaped config now r.standing) rs ≡ idle_of rs)
+      × (tally (λ r. lives_out config now r.standing) rs ≤ tally (λ r. is_reaped config now r.standing) rs)
   reap_idle config now [] = (refl, omega arith)
   reap_idle config now (r ∷ rs) =
       let ih = reap_idle config now rs in
-      let here : one (stands is_idle (after_end_where (is_reaped config now) r).standing) + one (is_reaped config now r.standing) ≡ one (stands is_idle r.standing) = pick (is_reaped config now r.standing) refl in
+      let here : one (stands is_idle (after_end_where (is_reaped config now) r).standing) + one (is_reaped config now r.standing) ≡ one
+      (stands is_idle r.standing) = pick (is_reaped config now r.standing) refl in
       let less : one (lives_out config now r.standing) ≤ one (is_reaped config now r.standing) = few (idles_out config now r.standing) (lives_out config now r.standing) in
       (omega (arith, ih.0), omega (arith, ih.1))
     where
@@ -367,7 +421,8 @@ module _ {C : Type 0} where
     pub many_are : length rs ≡ length (records l) + n
     pub few : life ≤ closed
 
-  pub reaped_sized : (l : Ledger C) (at : ℕ) → AreReaped l (reap_count is_reaped l at) (reap_count lives_out l at) 0 (map (after_end_where (is_reaped (start l).config (max (latest l) at))) (records l))
+  pub reaped_sized : (l : Ledger C) (at : ℕ) → AreReaped l (reap_count is_reaped l at) (reap_count lives_out l at) 0
+      (map (after_end_where (is_reaped (start l).config (max (latest l) at))) (records l))
   reaped_sized l at =
       let sweep : Option (Standing C) → Bool = is_reaped (start l).config (max (latest l) at) in
       let rs : List (Numbered (Standing C)) = map (after_end_where sweep) (records l) in
@@ -394,10 +449,13 @@ module _ {C : Type 0} where
   }
 
   -- the last leave ends each idle one, and no approval is there that was not
-  left_each : (r : Numbered (Standing C)) → (one (stands is_idle (after_end_where is_left r).standing) ≡ 0) × (one (stands is_approval (after_end_where is_left r).standing) ≤ one (stands is_approval r.standing))
+  left_each : (r : Numbered (Standing C)) → (one (stands is_idle (after_end_where is_left r).standing) ≡ 0)
+      × (one (stands is_approval (after_end_where is_left r).standing) ≤ one (stands is_approval r.standing))
   left_each r = go r.standing refl
     where
-      pick : (o : Option (Standing C)) (b : Bool) → r.standing ≡ o → (b ≡ false → one (stands is_idle o) ≡ 0) → (one (stands is_idle (cond b (after_end r) r).standing) ≡ 0) × (one (stands is_approval (cond b (after_end r) r).standing) ≤ one (stands is_approval r.standing))
+      pick : (o : Option (Standing C)) (b : Bool) → r.standing ≡ o → (b ≡ false → one (stands is_idle o) ≡ 0)
+          → (one (stands is_idle (cond b (after_end r) r).standing) ≡ 0)
+          × (one (stands is_approval (cond b (after_end r) r).standing) ≤ one (stands is_approval r.standing))
       pick o true e idle_is = (refl, omega arith)
       pick o false e idle_is = (ap (λ (x : Option (Standing C)). one (stands is_idle x)) e ∙ idle_is refl, omega arith)
 
@@ -408,7 +466,8 @@ module _ {C : Type 0} where
       by_place (Held g) e = refl
       by_place Guarded e = refl
 
-      go : (o : Option (Standing C)) → r.standing ≡ o → (one (stands is_idle (cond (is_left r.standing) (after_end r) r).standing) ≡ 0) × (one (stands is_approval (cond (is_left r.standing) (after_end r) r).standing) ≤ one (stands is_approval r.standing))
+      go : (o : Option (Standing C)) → r.standing ≡ o → (one (stands is_idle (cond (is_left r.standing) (after_end r) r).standing) ≡ 0)
+          × (one (stands is_approval (cond (is_left r.standing) (after_end r) r).standing) ≤ one (stands is_approval r.standing))
       go None e = pick None (is_left r.standing) e (λ off. refl)
       go (Some s) e = pick (Some s) (is_left r.standing) e (λ off. by_place s.place (sym (ap is_left e) ∙ off))
 
@@ -436,4 +495,11 @@ module _ {C : Type 0} where
           let rs : List (Numbered (Standing C)) = map (after_end_where is_left) (records l) in
           let sweep = left_sweep (records l) in
           let out_is : tally_places is_out rs ≡ out l = swept_out is_out is_left (leave_spares is_out (λ c. refl) refl) (records l) in
-          record { conns_few = omega (arith, conns_split rs, conns_split (records l), sweep.0); approved_few = sweep.1; out_are = out_is; many_are = omega (arith, length-map (records l) (after_end_where is_left)); last = inl (numbered.tested (handles l) 1 e, sweep.0) }
+          record {
+            conns_few = omega (arith, conns_split rs, conns_split (records l), sweep.0);
+            approved_few = sweep.1;
+            out_are = out_is;
+            many_are = omega (arith, length-map (records l) (after_end_where is_left));
+            last =
+                inl (numbered.tested (handles l) 1 e, sweep.0);
+          }

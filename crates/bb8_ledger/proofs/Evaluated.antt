@@ -112,14 +112,17 @@ module _ {C : Type 0} where
   is_row l at Begin (Begun g) = eqb g (next_get l) && ltb g end_of_numbers
   is_row l at Begin Memory = ltb (next_get l) end_of_numbers && eqb (alive l) (get_peak l)
   is_row l at Begin Exhausted = leb end_of_numbers (next_get l)
-  is_row l at (Try g) (Served k grant) = (not (gets_stand is_unnotified (get_of l g)) && not (start l).config.test_on_check_out) && (same (first_idle l) (Some k) && is_want l (with_record l k (at_place Guarded)) grant)
-  is_row l at (Try g) (Taken k grant) = (not (gets_stand is_unnotified (get_of l g)) && (start l).config.test_on_check_out) && (same (first_idle l) (Some k) && is_want l (with_record l k (at_place (Held g))) grant)
+  is_row l at (Try g) (Served k grant) = (not (gets_stand is_unnotified (get_of l g)) && not (start l).config.test_on_check_out)
+      && (same (first_idle l) (Some k) && is_want l (with_record l k (at_place Guarded)) grant)
+  is_row l at (Try g) (Taken k grant) = (not (gets_stand is_unnotified (get_of l g)) && (start l).config.test_on_check_out)
+      && (same (first_idle l) (Some k) && is_want l (with_record l k (at_place (Held g))) grant)
   is_row l at (Try g) (Waiting grant) = cond (gets_stand is_unnotified (get_of l g)) (is_no_grant (next l) grant) (same (first_idle l) None && is_waiting_grant l grant)
   is_row l at (CheckedOk g) (Served k grant) = same (holds (get_of l g)) (Some k) && is_no_grant (next l) grant
   is_row l at (CheckedErr g broken) (Closed k grant n) = (same (holds (get_of l g)) (Some k) && is_want l (with_record l k after_end) grant) && same n (oldest_waiter l)
   is_row l at (GiveUp g why None broken) (GaveUp n) = same n (cond (gets_stand is_notified (get_of l g)) (oldest_waiter l) None)
   is_row l at (GiveUp g why (Some c) broken) (Kept k n) = (same (holds (get_of l g)) (Some k) && not (closes l at k broken)) && same n (oldest_waiter l)
-  is_row l at (GiveUp g why (Some c) broken) (Closed k grant n) = (same (holds (get_of l g)) (Some k) && closes l at k broken) && (is_want l (with_record l k after_end) grant && same n (oldest_waiter l))
+  is_row l at (GiveUp g why (Some c) broken) (Closed k grant n) = (same (holds (get_of l g)) (Some k) && closes l at k broken)
+      && (is_want l (with_record l k after_end) grant && same n (oldest_waiter l))
   is_row l at (PutBack k c broken) (Kept m n) = (eqb m k && not (closes l at k broken)) && same n (oldest_waiter l)
   is_row l at (PutBack k c broken) (Closed m grant n) = (eqb m k && closes l at k broken) && (is_want l (with_record l k after_end) grant && same n (oldest_waiter l))
   is_row l at (Fill claimed) (Granted grant) = is_want l (records l) grant
@@ -133,7 +136,9 @@ module _ {C : Type 0} where
   is_row l at (Add c false) Withheld = differ (conns l + approved l) (start l).config.max_size && cond (leb end_of_numbers (next l)) true (eqb (conns l + approved l) (peak l))
   is_row l at (Add c false) (Added k n) = (differ (conns l + approved l) (start l).config.max_size && ltb (next l) end_of_numbers) && (eqb k (next l) && same n (oldest_waiter l))
   is_row l at Reap Ended = eqb (handles l) 0
-  is_row l at Reap (Reaped closed by_idle by_life grant) = (ltb 0 (handles l) && eqb closed (reap_count is_reaped l at)) && ((eqb by_idle (reap_count idles_out l at) && eqb by_life (reap_count lives_out l at)) && is_want l (map (after_end_where (is_reaped (start l).config (max (latest l) at))) (records l)) grant)
+  is_row l at Reap (Reaped closed by_idle by_life grant) = (ltb 0 (handles l) && eqb closed (reap_count is_reaped l at))
+      && ((eqb by_idle (reap_count idles_out l at) && eqb by_life (reap_count lives_out l at))
+      && is_want l (map (after_end_where (is_reaped (start l).config (max (latest l) at))) (records l)) grant)
   is_row l at Join Joined = ltb (handles l) most_handles
   is_row l at Join Exhausted = leb most_handles (handles l)
   is_row l at Leave (Left n) = eqb n (leave_count l)
@@ -234,9 +239,12 @@ are_allowed-true l [] h = tt
 are_allowed-true l (t ∷ told) h = let u = both h in (is_allowed-true l t.at t.act t.answer u.0, are_allowed-true (Later l t.at t.act t.answer) told u.1)
 
 -- a worked row, by evaluation
-pub by_evaluation : {config : Settings} {first first_get : ℕ} {told : List Told} {shown : Figures} → is_lawful config ≡ true → are_allowed (opening_with config first first_get) told ≡ true → figures (after (opening_with config first first_get) told) ≡ shown → IsRow config first first_get told shown
+pub by_evaluation : {config : Settings} {first first_get : ℕ} {told : List Told} {shown : Figures} → is_lawful config ≡ true
+    → are_allowed (opening_with config first first_get) told ≡ true → figures (after (opening_with config first first_get) told) ≡ shown
+    → IsRow config first first_get told shown
 by_evaluation {config} {first} {first_get} {told} lawful allowed last = record { lawful = lawful; allowed = are_allowed-true (opening_with config first first_get) told allowed; last = last }
 
 -- the waits of a back-off, by evaluation
-pub waits_by_evaluation : {timeout : ℕ} {told : List ℕ} {most : ℕ} → first_waits timeout (suc most) ≡ told → (leb (of_waits.waits timeout most) timeout && ltb timeout (of_waits.waits timeout (suc most))) ≡ true → IsBackOff timeout told most
+pub waits_by_evaluation : {timeout : ℕ} {told : List ℕ} {most : ℕ} → first_waits timeout (suc most) ≡ told
+    → (leb (of_waits.waits timeout most) timeout && ltb timeout (of_waits.waits timeout (suc most))) ≡ true → IsBackOff timeout told most
 waits_by_evaluation first h = let t = both h in record { first = first; within = record { within = leb-true _ _ t.0; past = ltb-true _ _ t.1 } }

@@ -27,7 +27,8 @@ off_get p (Some g) off h = let clash : false ≡ true = sym off ∙ h in cc
 
 module _ (first m : ℕ) where
   get_put_before : (k : ℕ) (p : GetPlace) (gs : List (Numbered Getting)) → is_unnotified p ≡ false → Before unnotified_at m gs → Before unnotified_at m (update first k (get_at_place p) gs)
-  get_put_before k p gs off b = numbered.before-update unnotified_at gs first k (get_at_place p) m b (λ r q h. absurd (off_get p r.standing off (and_right (gets_stand is_unnotified (get_at_place p r).standing) _ h).0))
+  get_put_before k p gs off b = numbered.before-update unnotified_at gs first k (get_at_place p) m b
+      (λ r q h. absurd (off_get p r.standing off (and_right (gets_stand is_unnotified (get_at_place p r).standing) _ h).0))
 
   notify_before : (n : Option ℕ) (gs : List (Numbered Getting)) → Before unnotified_at m gs → Before unnotified_at m (with_notice first n gs)
   notify_before None gs b = b
@@ -36,7 +37,8 @@ module _ (first m : ℕ) where
 waits_before : (first m now k : ℕ) (gs : List (Numbered Getting)) → Before unnotified_at (suc m) gs → Before unnotified_at (suc m) (update first k (at_wait now m) gs)
 waits_before first m now k gs b = numbered.before-update_kept unnotified_at gs first k (at_wait now m) (suc m) b (λ g was p h. pick g was p (gets_stand is_unnotified g.standing) h)
   where
-    pick : (g : Numbered Getting) → ((p : ℕ) → unnotified_at p g ≡ true → p < suc m) → (p : ℕ) (t : Bool) → unnotified_at p (cond t g (record { standing = option_map (get_in_wait now) g.standing; position = m })) ≡ true → p < suc m
+    pick : (g : Numbered Getting) → ((p : ℕ) → unnotified_at p g ≡ true → p < suc m) → (p : ℕ) (t : Bool)
+        → unnotified_at p (cond t g (record { standing = option_map (get_in_wait now) g.standing; position = m })) ≡ true → p < suc m
     pick g was p true h = was p h
     pick g was p false h = let e : m ≡ p = numbered.tested m p (and_right (gets_stand is_unnotified (option_map (get_in_wait now) g.standing)) _ h).1 in omega arith
 
@@ -72,7 +74,8 @@ module _ {C : Type 0} where
       pick r was p true h = cc
       pick r was p false h = was p h
 
-  entry_before : (m first k now : ℕ) (c : C) (birth : Numbered (Standing C) → ℕ) (rs : List (Numbered (Standing C))) → Before idle_at (suc m) rs → Before idle_at (suc m) (update first k (λ r. entry c (birth r) now m) rs)
+  entry_before : (m first k now : ℕ) (c : C) (birth : Numbered (Standing C) → ℕ) (rs : List (Numbered (Standing C)))
+      → Before idle_at (suc m) rs → Before idle_at (suc m) (update first k (λ r. entry c (birth r) now m) rs)
   entry_before m first k now c birth rs b = numbered.before-update idle_at rs first k (λ r. entry c (birth r) now m) (suc m) b (λ r q h. let e : m ≡ q = numbered.tested m q h in omega arith)
 
   records_before : (s : Start) (h m now : ℕ) (rs : List (Numbered (Standing C))) (e : Act C) (a : Answer) → Before idle_at (suc m) rs → Before idle_at (suc m) (records_after s h m now rs e a)

@@ -61,10 +61,18 @@ module _ {C : Type 0} where
 
   -- a get that moves
   pub moved_leaves : (l : Ledger C) (g : ℕ) (p : GetPlace) (s : Getting) → get_of l g ≡ Some s → is_unnotified s.place ≡ false → is_waiting p ≡ false → Leaves l g 1 (get_at_place p)
-  moved_leaves l g p s was off still = record { standing = s; was = was; off = off; out = put_off p still; lives = λ x e. ap (λ (o : Option Getting). one (is_some (option_map (get_with_place p) o))) e }
+  moved_leaves l g p s was off still = record {
+    standing = s;
+    was = was;
+    off = off;
+    out = put_off p still;
+    lives =
+        λ x e. ap (λ (o : Option Getting). one (is_some (option_map (get_with_place p) o))) e;
+  }
 
   -- a get that tries and was not in line
-  pub trier : (l : Ledger C) (g : ℕ) → gets_stand is_trying (get_of l g) ≡ true → gets_stand is_unnotified (get_of l g) ≡ false → (st : Getting) × (get_of l g ≡ Some st) × (is_unnotified st.place ≡ false)
+  pub trier : (l : Ledger C) (g : ℕ) → gets_stand is_trying (get_of l g) ≡ true → gets_stand is_unnotified (get_of l g) ≡ false
+      → (st : Getting) × (get_of l g ≡ Some st) × (is_unnotified st.place ≡ false)
   trier l g f off = let st = getting_is is_trying (get_of l g) f in (st.0, st.1, ap (gets_stand is_unnotified) (sym st.1) ∙ off)
 
   pub trier_leaves : (l : Ledger C) (g : ℕ) → gets_stand is_trying (get_of l g) ≡ true → gets_stand is_unnotified (get_of l g) ≡ false → Leaves l g 0 after_end
@@ -93,13 +101,16 @@ module _ {C : Type 0} where
 
     pub left_alive : alive_of left_gets + 1 ≡ alive l + b
     left_alive =
-        let e : alive_of left_gets + one (is_some left_at.0.standing) ≡ alive l + one (is_some (f left_at.0).standing) = tally_update (λ (y : Numbered Getting). is_some y.standing) (gets l) (start l).first_get g f left_at.0 left_at.1 in
+        let e : alive_of left_gets + one (is_some left_at.0.standing) ≡ alive l + one (is_some (f left_at.0).standing) =
+        tally_update (λ (y : Numbered Getting). is_some y.standing) (gets l) (start l).first_get g f left_at.0 left_at.1 in
         let was : one (is_some left_at.0.standing) ≡ 1 = ap (λ (o : Option Getting). one (is_some o)) left_at.2 in
         omega (arith, t.lives left_at.0 left_at.2)
 
     left_tally : (test : GetPlace → Bool) → gets_stand test (f left_at.0).standing ≡ false → tally_gets test left_gets + one (test t.standing.place) ≡ tally_gets test (gets l)
     left_tally test off =
-        let e : tally_gets test left_gets + one (gets_stand test left_at.0.standing) ≡ tally_gets test (gets l) + one (gets_stand test (f left_at.0).standing) = tally_update (λ (y : Numbered Getting). gets_stand test y.standing) (gets l) (start l).first_get g f left_at.0 left_at.1 in
+        let e : tally_gets test left_gets + one (gets_stand test left_at.0.standing) ≡ tally_gets test (gets l) + one
+        (gets_stand test (f left_at.0).standing) = tally_update (λ (y : Numbered Getting). gets_stand test y.standing) (gets l)
+        (start l).first_get g f left_at.0 left_at.1 in
         let was : one (gets_stand test left_at.0.standing) ≡ one (test t.standing.place) = ap (λ (o : Option Getting). one (gets_stand test o)) left_at.2 in
         let is : one (gets_stand test (f left_at.0).standing) ≡ 0 = ap one off in
         omega arith
@@ -117,7 +128,9 @@ module _ {C : Type 0} where
     left_length = numbered.length-update (gets l) (start l).first_get g f
 
     left_oldest : (n : Option ℕ) → n ≡ oldest_waiter l → n ≡ slice_get (in_order unnotified_at (start l).first_get left_gets (position l)) 0
-    left_oldest n is = is ∙ sym (ap (λ (xs : List ℕ). slice_get xs 0) (same_line (start l).first_get (position l) g f (gets l) left_at.0 left_at.1 (ap (gets_stand is_unnotified) left_at.2 ∙ t.off) (off_unnotified (f left_at.0).standing (t.out left_at.0))))
+    left_oldest n is = is ∙ sym (ap (λ (xs : List ℕ). slice_get xs 0)
+        (same_line (start l).first_get (position l) g f (gets l) left_at.0 left_at.1 (ap (gets_stand is_unnotified) left_at.2 ∙ t.off)
+        (off_unnotified (f left_at.0).standing (t.out left_at.0))))
 
     left_before : Before unnotified_at (position l) left_gets
     left_before = numbered.before-update unnotified_at (gets l) (start l).first_get g f (position l) (waited_before l) (λ x p h. absurd (clash x p h))
@@ -126,7 +139,10 @@ module _ {C : Type 0} where
         clash x p h = let no : false ≡ true = sym (off_unnotified (f x).standing (t.out x)) ∙ (and_right (gets_stand is_unnotified (f x).standing) _ h).0 in cc
 
     -- and the oldest waiter is notified
-    pub left_told : (n : Option ℕ) → n ≡ oldest_waiter l → (tally_gets is_unnotified (with_notice (start l).first_get n left_gets) ≡ unnotified l - 1) × (tally_gets is_notified (with_notice (start l).first_get n left_gets) + one (is_notified t.standing.place) ≡ notified l + min 1 (unnotified l))
+    pub left_told : (n : Option ℕ) → n ≡ oldest_waiter l
+        → (tally_gets is_unnotified (with_notice (start l).first_get n left_gets) ≡ unnotified l - 1)
+        × (tally_gets is_notified (with_notice (start l).first_get n left_gets) + one (is_notified t.standing.place) ≡ notified l + min 1
+        (unnotified l))
     left_told n is =
         let told = notify_counted (start l).first_get (position l) n left_gets left_before (left_oldest n is) in
         (omega (arith, told.0, left_unnotified), omega (arith, told.1, left_unnotified, left_notified))
@@ -144,16 +160,22 @@ module _ {C : Type 0} where
     pub left_line : InLine (start l).first_get (position l) (gets l) → InLine (start l).first_get (suc (position l)) left_gets
     left_line i = line_later (start l).first_get (position l) left_gets (left_in_line i)
 
-    pub left_told_line : (n : Option ℕ) → n ≡ oldest_waiter l → InLine (start l).first_get (position l) (gets l) → InLine (start l).first_get (suc (position l)) (with_notice (start l).first_get n left_gets)
-    left_told_line n is i = line_later (start l).first_get (position l) (with_notice (start l).first_get n left_gets) (line_notified (start l).first_get (position l) n left_gets (left_oldest n is) (left_in_line i))
+    pub left_told_line : (n : Option ℕ) → n ≡ oldest_waiter l → InLine (start l).first_get (position l) (gets l)
+        → InLine (start l).first_get (suc (position l)) (with_notice (start l).first_get n left_gets)
+    left_told_line n is i = line_later (start l).first_get (position l) (with_notice (start l).first_get n left_gets)
+        (line_notified (start l).first_get (position l) n left_gets (left_oldest n is) (left_in_line i))
 
 -- ---- what the gets hold
 
 -- what a get holds once another has changed, or it itself
-pub changed_holds : (first g : ℕ) (f : Numbered Getting → Numbered Getting) (gs : List (Numbered Getting)) (q k : ℕ) → holds (standing_at first (update first g f gs) q) ≡ Some k → ((q ≡ g) × (x : Numbered Getting) × (holds (f x).standing ≡ Some k)) ⊎ ((q ≢ g) × (holds (standing_at first gs q) ≡ Some k))
+pub changed_holds : (first g : ℕ) (f : Numbered Getting → Numbered Getting) (gs : List (Numbered Getting)) (q k : ℕ)
+    → holds (standing_at first (update first g f gs) q) ≡ Some k → ((q ≡ g) × (x : Numbered Getting) × (holds (f x).standing ≡ Some k))
+    ⊎ ((q ≢ g) × (holds (standing_at first gs q) ≡ Some k))
 changed_holds first g f gs q k h =
     ⊎_elim
-    (λ (t : (eqb q g ≡ true) × (q ≡ g)). let i = it (at_number first gs g) (sym (ap (λ (o : Option (Numbered Getting)). holds (option_and_then (λ (x : Numbered Getting). x.standing) o)) (ap (λ (i : ℕ). at_number first (update first g f gs) i) t.1 ∙ at_same gs first g f)) ∙ h) in inl (t.1, i.0, i.1))
+    (λ (t : (eqb q g ≡ true) × (q ≡ g)). let i = it (at_number first gs g)
+    (sym (ap (λ (o : Option (Numbered Getting)). holds (option_and_then (λ (x : Numbered Getting). x.standing) o))
+    (ap (λ (i : ℕ). at_number first (update first g f gs) i) t.1 ∙ at_same gs first g f)) ∙ h) in inl (t.1, i.0, i.1))
     (λ (t : (eqb q g ≡ false) × (q ≢ g)). inr (t.1, sym (ap (λ (o : Option (Numbered Getting)). holds (option_and_then (λ (x : Numbered Getting). x.standing) o)) (at_other gs first g q f t.1)) ∙ h))
     (numbered.same_or_not q g)
   where
@@ -162,7 +184,9 @@ changed_holds first g f gs q k h =
     it (Some x) e = (x, e)
 
 -- a get that holds something was not changed, where what is changed holds nothing
-pub other_holds : (first g : ℕ) (f : Numbered Getting → Numbered Getting) (gs : List (Numbered Getting)) (q k : ℕ) → ((x : Numbered Getting) → holds (f x).standing ≡ None) → holds (standing_at first (update first g f gs) q) ≡ Some k → (q ≢ g) × (holds (standing_at first gs q) ≡ Some k)
+pub other_holds : (first g : ℕ) (f : Numbered Getting → Numbered Getting) (gs : List (Numbered Getting)) (q k : ℕ)
+    → ((x : Numbered Getting) → holds (f x).standing ≡ None) → holds (standing_at first (update first g f gs) q) ≡ Some k → (q ≢ g)
+    × (holds (standing_at first gs q) ≡ Some k)
 other_holds first g f gs q k nothing h =
     ⊎_elim
     (λ (t : (q ≡ g) × (x : Numbered Getting) × (holds (f x).standing ≡ Some k)). absurd (let clash : None ≡ Some k = sym (nothing t.1) ∙ t.2 in cc))
@@ -209,7 +233,9 @@ told_holds first None gs q k h = h
 told_holds first (Some g) gs q k h = (other_holds first g (get_at_place (Waiting true)) gs q k (put_nothing (Waiting true) refl) h).1
 
 pub begun_holds : (first : ℕ) (gs : List (Numbered Getting)) (q k : ℕ) → holds (standing_at first (gs ++ new_get ∷ []) q) ≡ Some k → holds (standing_at first gs q) ≡ Some k
-begun_holds first gs q k h = pick (eqb q (first + length gs)) (sym (ap (λ (o : Option (Numbered Getting)). holds (option_and_then (λ (x : Numbered Getting). x.standing) o)) (numbered.at-append gs new_get first q)) ∙ h)
+begun_holds first gs q k h = pick (eqb q (first + length gs))
+    (sym (ap (λ (o : Option (Numbered Getting)). holds (option_and_then (λ (x : Numbered Getting). x.standing) o))
+    (numbered.at-append gs new_get first q)) ∙ h)
   where
     pick : (b : Bool) → holds (option_and_then (λ (x : Numbered Getting). x.standing) (cond b (Some new_get) (at_number first gs q))) ≡ Some k → holds (standing_at first gs q) ≡ Some k
     pick true e = cc

@@ -77,7 +77,8 @@ not_lost zero n v m less more = inr (omega arith)
 not_lost (suc u) n v m less more = inl (omega arith)
 
 -- what is granted reaches what is wanted, or the size, or something was withheld
-made_good : (least size had have took taken count withheld : ℕ) → count + withheld ≡ min (least - had) (size - took) → have ≡ had + count → taken ≡ took + count → (least ≤ have) ⊎ (size ≤ taken) ⊎ (0 < withheld)
+made_good : (least size had have took taken count withheld : ℕ) → count + withheld ≡ min (least - had) (size - took) → have ≡ had + count
+    → taken ≡ took + count → (least ≤ have) ⊎ (size ≤ taken) ⊎ (0 < withheld)
 made_good least size had have took taken count (suc withheld) split more full = inr (inr (omega arith))
 made_good least size had have took taken count zero split more full =
     ⊎_elim
@@ -103,7 +104,8 @@ module _ {C : Type 0} where
   AllFit l = Fits (start l).config.max_size (conns l) (approved l) (next l) (alive l) (next_get l) (counts l)
 
   -- what a grant leaves within the size
-  granted_few : (l : Ledger C) (rs : List (Numbered (Standing C))) (g : Grant) → IsWant l rs g → conns_of rs + approved_of rs ≤ (start l).config.max_size → conns_of rs + approved_of rs + g.count ≤ (start l).config.max_size
+  granted_few : (l : Ledger C) (rs : List (Numbered (Standing C))) (g : Grant) → IsWant l rs g
+      → conns_of rs + approved_of rs ≤ (start l).config.max_size → conns_of rs + approved_of rs + g.count ≤ (start l).config.max_size
   granted_few l rs g want few =
       let taken : ℕ = conns_of rs + approved_of rs in
       let asked : ℕ = lacking (start l).config (idle_of rs + approved_of rs) in
@@ -115,13 +117,16 @@ module _ {C : Type 0} where
   pub out_counted : (l : Ledger C) (k : ℕ) (s : Standing C) → record_of l k ≡ Some s → s.place ≡ Guarded → 1 ≤ conns l
   out_counted l k s h place =
       let m = numbered.standing_found (records l) (start l).first k s h in
-      let e : conns_of (numbered.change (start l).first k (after_end m.0) (records l)) + 1 ≡ conns l + 0 = conns-change (start l).first (records l) k (after_end m.0) m.0 true false m.1 (tested is_conn m.0 s Guarded m.2 place) refl in
+      let e : conns_of (numbered.change (start l).first k (after_end m.0) (records l)) + 1 ≡ conns l + 0 =
+      conns-change (start l).first (records l) k (after_end m.0) m.0 true false m.1 (tested is_conn m.0 s Guarded m.2 place) refl in
       omega arith
 
   pub claimed_counted : (l : Ledger C) (k : ℕ) (s : Standing C) → record_of l k ≡ Some s → s.place ≡ Claimed → 1 ≤ approved l
   claimed_counted l k s h place =
       let m = numbered.standing_found (records l) (start l).first k s h in
-      let e : approved_of (numbered.change (start l).first k (after_end m.0) (records l)) + 1 ≡ approved l + 0 = approved-change (start l).first (records l) k (after_end m.0) m.0 true false m.1 (tested is_approval m.0 s Claimed m.2 place) refl in
+      let e : approved_of (numbered.change (start l).first k (after_end m.0) (records l)) + 1 ≡ approved l + 0 =
+      approved-change (start l).first (records l) k (after_end m.0) m.0 true false m.1
+      (tested is_approval m.0 s Claimed m.2 place) refl in
       omega arith
 
   -- nobody is idle where nobody is first
@@ -186,7 +191,9 @@ module _ {C : Type 0} where
   given_up_length l g n = notify_length (start l).first_get n (update (start l).first_get g after_end (gets l)) ∙ numbered.length-update (gets l) (start l).first_get g after_end
 
   -- a get that gives up counts once
-  gave_up : (l : Ledger C) (at g : ℕ) (why : Reason) (held : Option C) (broken : Bool) (a : Answer) → (a ≡ Unfit → ⊥) → timed_out (Later l at (GiveUp g why held broken) a) + cancelled (Later l at (GiveUp g why held broken) a) ≡ timed_out l + cancelled l + 1
+  gave_up : (l : Ledger C) (at g : ℕ) (why : Reason) (held : Option C) (broken : Bool) (a : Answer) → (a ≡ Unfit → ⊥)
+      → timed_out (Later l at (GiveUp g why held broken) a) + cancelled
+      (Later l at (GiveUp g why held broken) a) ≡ timed_out l + cancelled l + 1
   gave_up l at g why held broken Unfit off = absurd (off refl)
   gave_up l at g TimedOut held broken _ off = omega arith
   gave_up l at g Cancelled held broken _ off = omega arith
@@ -203,74 +210,278 @@ module _ {C : Type 0} where
       record { size = h.size; started_few = omega (arith, h.started_few); answered = omega (arith, h.answered); created_few = h.created_few; closed_few = h.closed_few }
   row_fits l at _ _ legal f (waits_on {g} {grant} on nothing) h =
       let z = granted_sized false grant.count (stays_sized l) in
-      record { size = omega (arith, h.size, z.conns_are, z.approved_are, nothing.count); started_few = omega (arith, h.started_few, waits_length l at g); answered = omega (arith, h.answered, waits_alive l at g); created_few = omega (arith, h.created_few, z.approved_are, z.many_are); closed_few = omega (arith, h.closed_few, z.conns_are, z.approved_are, z.many_are) }
+      record {
+        size = omega (arith, h.size, z.conns_are, z.approved_are, nothing.count);
+        started_few =
+            omega (arith, h.started_few, waits_length l at g);
+        answered = omega (arith, h.answered, waits_alive l at g);
+        created_few =
+            omega (arith, h.created_few, z.approved_are, z.many_are);
+        closed_few =
+            omega (arith, h.closed_few, z.conns_are, z.approved_are, z.many_are);
+      }
   row_fits l at _ _ legal f (serves {g} {k} {grant} not_waiting off first want) h =
       let z = turned_sized (idle_turns l k Guarded first).1 in
       let y = granted_sized false grant.count z in
       let t = trier_leaves l g f not_waiting in
-      record { size = omega (arith, granted_few l _ grant want (omega (arith, h.size, z.conns_are, z.approved_are)), y.conns_are, y.approved_are, z.conns_are, z.approved_are); started_few = omega (arith, h.started_few, left_length t); answered = omega (arith, h.answered, left_alive t, served_once l (Try g)); created_few = omega (arith, h.created_few, y.approved_are, y.many_are); closed_few = omega (arith, h.closed_few, y.conns_are, y.approved_are, y.many_are) }
+      record {
+        size = omega (
+          arith,
+          granted_few l _ grant want
+              (omega (arith, h.size, z.conns_are, z.approved_are)),
+          y.conns_are,
+          y.approved_are,
+          z.conns_are,
+          z.approved_are,
+        );
+        started_few =
+            omega (arith, h.started_few, left_length t);
+        answered = omega (arith, h.answered, left_alive t, served_once l (Try g));
+        created_few = omega (arith, h.created_few, y.approved_are, y.many_are);
+        closed_few =
+            omega (arith, h.closed_few, y.conns_are, y.approved_are, y.many_are);
+      }
   row_fits l at _ _ legal f (takes_out {g} {k} {grant} not_waiting on first want) h =
       let z = turned_sized (idle_turns l k (Held g) first).1 in
       let y = granted_sized false grant.count z in
       let t = trier_holds l g k f not_waiting in
-      record { size = omega (arith, granted_few l _ grant want (omega (arith, h.size, z.conns_are, z.approved_are)), y.conns_are, y.approved_are, z.conns_are, z.approved_are); started_few = omega (arith, h.started_few, left_length t); answered = omega (arith, h.answered, left_alive t); created_few = omega (arith, h.created_few, y.approved_are, y.many_are); closed_few = omega (arith, h.closed_few, y.conns_are, y.approved_are, y.many_are) }
+      record {
+        size = omega (
+          arith,
+          granted_few l _ grant want
+              (omega (arith, h.size, z.conns_are, z.approved_are)),
+          y.conns_are,
+          y.approved_are,
+          z.conns_are,
+          z.approved_are,
+        );
+        started_few =
+            omega (arith, h.started_few, left_length t);
+        answered = omega (arith, h.answered, left_alive t);
+        created_few =
+            omega (arith, h.created_few, y.approved_are, y.many_are);
+        closed_few =
+            omega (arith, h.closed_few, y.conns_are, y.approved_are, y.many_are);
+      }
   row_fits l at _ _ legal f (waits {g} {grant} not_waiting none granted) h =
       let z = granted_sized false grant.count (stays_sized l) in
       let asked : ℕ = one (ltb (approved l) (alive l)) in
       let split : grant.count + grant.withheld ≡ due (start l).config (handles l) (conns l + approved l) asked = granted.split in
-      let less : due (start l).config (handles l) (conns l + approved l) asked ≤ (start l).config.max_size - (conns l + approved l) = due_few (start l).config (handles l) (conns l + approved l) asked in
-      record { size = omega (arith, h.size, z.conns_are, z.approved_are); started_few = omega (arith, h.started_few, waits_length l at g); answered = omega (arith, h.answered, waits_alive l at g); created_few = omega (arith, h.created_few, z.approved_are, z.many_are); closed_few = omega (arith, h.closed_few, z.conns_are, z.approved_are, z.many_are) }
+      let less : due (start l).config (handles l) (conns l + approved l) asked ≤ (start l).config.max_size - (conns l + approved l) =
+      due_few (start l).config (handles l) (conns l + approved l) asked in
+      record {
+        size = omega (arith, h.size, z.conns_are, z.approved_are);
+        started_few = omega (arith, h.started_few, waits_length l at g);
+        answered = omega (arith, h.answered, waits_alive l at g);
+        created_few = omega (arith, h.created_few, z.approved_are, z.many_are);
+        closed_few = omega (arith, h.closed_few, z.conns_are, z.approved_are, z.many_are);
+      }
   row_fits l at _ _ legal f (checks {g} {k} {grant} holds_it nothing) h =
       let z = turned_sized (checks_turn l g k legal holds_it) in
       let t = (holder_ends l g k holds_it).0 in
-      record { size = omega (arith, h.size, z.conns_are, z.approved_are); started_few = omega (arith, h.started_few, left_length t); answered = omega (arith, h.answered, left_alive t, served_once l (CheckedOk g)); created_few = omega (arith, h.created_few, z.approved_are, z.many_are); closed_few = omega (arith, h.closed_few, z.conns_are, z.approved_are, z.many_are) }
+      record {
+        size = omega (arith, h.size, z.conns_are, z.approved_are);
+        started_few = omega (arith, h.started_few, left_length t);
+        answered = omega (arith, h.answered, left_alive t, served_once l (CheckedOk g));
+        created_few =
+            omega (arith, h.created_few, z.approved_are, z.many_are);
+        closed_few =
+            omega (arith, h.closed_few, z.conns_are, z.approved_are, z.many_are);
+      }
   row_fits l at _ _ legal f (check_fails {g} {k} {broken = b} {grant} {n} holds_it want is) h =
       let z = turned_sized (drops_turn l g k legal holds_it) in
       let y = granted_sized false grant.count z in
       let t = (holder_turns l g k holds_it).0 in
-      record { size = omega (arith, granted_few l _ grant want (omega (arith, h.size, z.conns_are, z.approved_are)), y.conns_are, y.approved_are, z.conns_are, z.approved_are); started_few = omega (arith, h.started_few, left_told_length t n); answered = omega (arith, h.answered, left_told_alive t n); created_few = omega (arith, h.created_few, y.approved_are, y.many_are); closed_few = omega (arith, h.closed_few, one_of b (expires l at k), y.conns_are, y.approved_are, y.many_are) }
-  row_fits l at _ _ legal f (gives_up {g} {why} {broken} {n} is) h = record { size = h.size; started_few = omega (arith, h.started_few, given_up_length l g n); answered = omega (arith, h.answered, alive_given_up l g n (and_right (is_some (get_of l g)) _ f).0, gave_up l at g why None broken (GaveUp n) (λ e. cc)); created_few = h.created_few; closed_few = h.closed_few }
+      record {
+        size = omega (
+          arith,
+          granted_few l _ grant want
+              (omega (arith, h.size, z.conns_are, z.approved_are)),
+          y.conns_are,
+          y.approved_are,
+          z.conns_are,
+          z.approved_are,
+        );
+        started_few =
+            omega (arith, h.started_few, left_told_length t n);
+        answered = omega (arith, h.answered, left_told_alive t n);
+        created_few =
+            omega (arith, h.created_few, y.approved_are, y.many_are);
+        closed_few =
+            omega (arith, h.closed_few, one_of b (expires l at k), y.conns_are, y.approved_are, y.many_are);
+      }
+  row_fits l at _ _ legal f (gives_up {g} {why} {broken} {n} is) h =
+      record {
+        size = h.size;
+        started_few = omega (arith, h.started_few, given_up_length l g n);
+        answered =
+            omega (
+              arith,
+              h.answered,
+              alive_given_up l g n (and_right (is_some (get_of l g)) _ f).0,
+              gave_up l at g why None broken (GaveUp n)
+                  (λ e. cc),
+            );
+        created_few = h.created_few;
+        closed_few = h.closed_few;
+      }
   row_fits l at _ _ legal f (gives_up_kept {g} {k} {why} {c} {broken = b} {n} holds_it keep is) h =
       let z = turned_sized (hands_in_turn l at g k c legal holds_it) in
       let t = (holder_ends l g k holds_it).0 in
-      record { size = omega (arith, h.size, z.conns_are, z.approved_are); started_few = omega (arith, h.started_few, left_told_length t n); answered = omega (arith, h.answered, left_told_alive t n, gave_up l at g why (Some c) b (Kept k n) (λ e. cc)); created_few = omega (arith, h.created_few, z.approved_are, z.many_are); closed_few = omega (arith, h.closed_few, z.conns_are, z.approved_are, z.many_are) }
+      record {
+        size = omega (arith, h.size, z.conns_are, z.approved_are);
+        started_few = omega (arith, h.started_few, left_told_length t n);
+        answered = omega (arith, h.answered, left_told_alive t n, gave_up l at g why (Some c) b (Kept k n) (λ e. cc));
+        created_few =
+            omega (arith, h.created_few, z.approved_are, z.many_are);
+        closed_few =
+            omega (arith, h.closed_few, z.conns_are, z.approved_are, z.many_are);
+      }
   row_fits l at _ _ legal f (gives_up_closed {g} {k} {why} {c} {broken = b} {grant} {n} holds_it shut want is) h =
       let z = turned_sized (drops_turn l g k legal holds_it) in
       let y = granted_sized false grant.count z in
       let t = (holder_ends l g k holds_it).0 in
-      record { size = omega (arith, granted_few l _ grant want (omega (arith, h.size, z.conns_are, z.approved_are)), y.conns_are, y.approved_are, z.conns_are, z.approved_are); started_few = omega (arith, h.started_few, left_told_length t n); answered = omega (arith, h.answered, left_told_alive t n, gave_up l at g why (Some c) b (Closed k grant n) (λ e. cc)); created_few = omega (arith, h.created_few, y.approved_are, y.many_are); closed_few = omega (arith, h.closed_few, one_of b (expires l at k), y.conns_are, y.approved_are, y.many_are) }
+      record {
+        size = omega (
+          arith,
+          granted_few l _ grant want
+              (omega (arith, h.size, z.conns_are, z.approved_are)),
+          y.conns_are,
+          y.approved_are,
+          z.conns_are,
+          z.approved_are,
+        );
+        started_few =
+            omega (arith, h.started_few, left_told_length t n);
+        answered =
+            omega (arith, h.answered, left_told_alive t n, gave_up l at g why (Some c) b (Closed k grant n) (λ e. cc));
+        created_few =
+            omega (arith, h.created_few, y.approved_are, y.many_are);
+        closed_few =
+            omega (arith, h.closed_few, one_of b (expires l at k), y.conns_are, y.approved_are, y.many_are);
+      }
   row_fits l at _ _ legal f (keeps {k} {c} {n} keep is) h =
       let z = turned_sized (returns_turn l at k c f) in
-      record { size = omega (arith, h.size, z.conns_are, z.approved_are); started_few = omega (arith, h.started_few, told_length l n); answered = omega (arith, h.answered, told_alive l n); created_few = omega (arith, h.created_few, z.approved_are, z.many_are); closed_few = omega (arith, h.closed_few, z.conns_are, z.approved_are, z.many_are) }
+      record {
+        size = omega (arith, h.size, z.conns_are, z.approved_are);
+        started_few = omega (arith, h.started_few, told_length l n);
+        answered = omega (arith, h.answered, told_alive l n);
+        created_few = omega (arith, h.created_few, z.approved_are, z.many_are);
+        closed_few = omega (arith, h.closed_few, z.conns_are, z.approved_are, z.many_are);
+      }
   row_fits l at _ _ legal f (returns_closed {k} {c} {broken = b} {grant} {n} shut want is) h =
       let z = turned_sized (closes_turn l k f) in
       let y = granted_sized false grant.count z in
-      record { size = omega (arith, granted_few l _ grant want (omega (arith, h.size, z.conns_are, z.approved_are)), y.conns_are, y.approved_are, z.conns_are, z.approved_are); started_few = omega (arith, h.started_few, told_length l n); answered = omega (arith, h.answered, told_alive l n); created_few = omega (arith, h.created_few, y.approved_are, y.many_are); closed_few = omega (arith, h.closed_few, one_of b (expires l at k), y.conns_are, y.approved_are, y.many_are) }
+      record {
+        size = omega (
+          arith,
+          granted_few l _ grant want
+              (omega (arith, h.size, z.conns_are, z.approved_are)),
+          y.conns_are,
+          y.approved_are,
+          z.conns_are,
+          z.approved_are,
+        );
+        started_few =
+            omega (arith, h.started_few, told_length l n);
+        answered = omega (arith, h.answered, told_alive l n);
+        created_few =
+            omega (arith, h.created_few, y.approved_are, y.many_are);
+        closed_few =
+            omega (arith, h.closed_few, one_of b (expires l at k), y.conns_are, y.approved_are, y.many_are);
+      }
   row_fits l at _ _ legal f (fills {claimed} {grant} want) h =
       let z = granted_sized claimed grant.count (stays_sized l) in
-      record { size = omega (arith, granted_few l (records l) grant want h.size, z.conns_are, z.approved_are); started_few = h.started_few; answered = h.answered; created_few = omega (arith, h.created_few, z.approved_are, z.many_are); closed_few = omega (arith, h.closed_few, z.conns_are, z.approved_are, z.many_are) }
+      record {
+        size = omega (arith, granted_few l (records l) grant want h.size, z.conns_are, z.approved_are);
+        started_few = h.started_few;
+        answered = h.answered;
+        created_few = omega (arith, h.created_few, z.approved_are, z.many_are);
+        closed_few =
+            omega (arith, h.closed_few, z.conns_are, z.approved_are, z.many_are);
+      }
   row_fits l at _ _ legal f (claims {k = Some k} open_now first) h =
       let z = turned_sized (unclaimed_turns l k first) in
-      record { size = omega (arith, h.size, z.conns_are, z.approved_are); started_few = h.started_few; answered = h.answered; created_few = omega (arith, h.created_few, z.approved_are, z.many_are); closed_few = omega (arith, h.closed_few, z.conns_are, z.approved_are, z.many_are) }
+      record {
+        size = omega (arith, h.size, z.conns_are, z.approved_are);
+        started_few = h.started_few;
+        answered = h.answered;
+        created_few =
+            omega (arith, h.created_few, z.approved_are, z.many_are);
+        closed_few =
+            omega (arith, h.closed_few, z.conns_are, z.approved_are, z.many_are);
+      }
   row_fits l at _ _ legal f (opens {k} {c} {n} open_now is) h =
       let z = turned_sized (opens_turn l at k c f) in
-      record { size = omega (arith, h.size, z.conns_are, z.approved_are); started_few = omega (arith, h.started_few, told_length l n); answered = omega (arith, h.answered, told_alive l n); created_few = omega (arith, h.created_few, z.approved_are, z.many_are); closed_few = omega (arith, h.closed_few, z.conns_are, z.approved_are, z.many_are) }
+      record {
+        size = omega (arith, h.size, z.conns_are, z.approved_are);
+        started_few = omega (arith, h.started_few, told_length l n);
+        answered = omega (arith, h.answered, told_alive l n);
+        created_few = omega (arith, h.created_few, z.approved_are, z.many_are);
+        closed_few = omega (arith, h.closed_few, z.conns_are, z.approved_are, z.many_are);
+      }
   row_fits l at _ _ legal f (opens_late {k} none) h =
       let z = turned_sized (ends_turn l k f) in
-      record { size = omega (arith, h.size, z.conns_are, z.approved_are); started_few = h.started_few; answered = h.answered; created_few = omega (arith, h.created_few, z.approved_are, z.many_are); closed_few = omega (arith, h.closed_few, z.conns_are, z.approved_are, z.many_are) }
+      record {
+        size = omega (arith, h.size, z.conns_are, z.approved_are);
+        started_few = h.started_few;
+        answered = h.answered;
+        created_few =
+            omega (arith, h.created_few, z.approved_are, z.many_are);
+        closed_few =
+            omega (arith, h.closed_few, z.conns_are, z.approved_are, z.many_are);
+      }
   row_fits l at _ _ legal f (fails {k}) h =
       let z = turned_sized (ends_turn l k f) in
-      record { size = omega (arith, h.size, z.conns_are, z.approved_are); started_few = h.started_few; answered = h.answered; created_few = omega (arith, h.created_few, z.approved_are, z.many_are); closed_few = omega (arith, h.closed_few, z.conns_are, z.approved_are, z.many_are) }
+      record {
+        size = omega (arith, h.size, z.conns_are, z.approved_are);
+        started_few = h.started_few;
+        answered = h.answered;
+        created_few =
+            omega (arith, h.created_few, z.approved_are, z.many_are);
+        closed_few =
+            omega (arith, h.closed_few, z.conns_are, z.approved_are, z.many_are);
+      }
   row_fits l at _ _ legal f (adds {k} {c} {n} room few is who) h =
       let z = adds_sized l at c in
-      record { size = omega (arith, h.size, room, z.conns_are, z.approved_are); started_few = omega (arith, h.started_few, told_length l n); answered = omega (arith, h.answered, told_alive l n); created_few = omega (arith, h.created_few, z.approved_are, z.many_are); closed_few = omega (arith, h.closed_few, z.conns_are, z.approved_are, z.many_are) }
+      record {
+        size = omega (arith, h.size, room, z.conns_are, z.approved_are);
+        started_few = omega (arith, h.started_few, told_length l n);
+        answered = omega (arith, h.answered, told_alive l n);
+        created_few = omega (arith, h.created_few, z.approved_are, z.many_are);
+        closed_few = omega (arith, h.closed_few, z.conns_are, z.approved_are, z.many_are);
+      }
   row_fits l at _ _ legal f (reaps {closed} {by_idle} {by_life} {grant} open_now closed_is by_idle_is by_life_is want) h =
       let z = reaped_sized l at in
       let y = granted_reaped grant.count z in
-      record { size = omega (arith, granted_few l _ grant want (omega (arith, h.size, z.conns_are, z.approved_are)), y.conns_are, y.approved_are, z.conns_are, z.approved_are); started_few = h.started_few; answered = h.answered; created_few = omega (arith, h.created_few, y.approved_are, y.many_are); closed_few = omega (arith, h.closed_few, y.conns_are, y.approved_are, y.many_are, y.few, by_life_is) }
+      record {
+        size = omega (
+          arith,
+          granted_few l _ grant want
+              (omega (arith, h.size, z.conns_are, z.approved_are)),
+          y.conns_are,
+          y.approved_are,
+          z.conns_are,
+          z.approved_are,
+        );
+        started_few =
+            h.started_few;
+        answered = h.answered;
+        created_few = omega (arith, h.created_few, y.approved_are, y.many_are);
+        closed_few =
+            omega (arith, h.closed_few, y.conns_are, y.approved_are, y.many_are, y.few, by_life_is);
+      }
   row_fits l at _ _ legal f (leaves {n} is) h =
       let z = left_sized l at n in
-      record { size = omega (arith, h.size, z.conns_few, z.approved_few); started_few = h.started_few; answered = h.answered; created_few = omega (arith, h.created_few, z.approved_few, z.many_are); closed_few = omega (arith, h.closed_few, z.conns_few, z.approved_few, z.many_are) }
+      record {
+        size = omega (arith, h.size, z.conns_few, z.approved_few);
+        started_few = h.started_few;
+        answered = h.answered;
+        created_few =
+            omega (arith, h.created_few, z.approved_few, z.many_are);
+        closed_few =
+            omega (arith, h.closed_few, z.conns_few, z.approved_few, z.many_are);
+      }
   row_fits l at _ _ legal f _ h = h
 
   pub all_fit : (l : Ledger C) → IsLegal l → AllFit l
@@ -287,14 +498,22 @@ module _ {C : Type 0} where
   AllServe l = Serves (handles l) (start l).config.max_size (conns l) (approved l) (idle_count l) (unnotified l) (notified l) (lost l)
 
   -- the oldest waiter is notified
-  told_counted : (l : Ledger C) (n : Option ℕ) → n ≡ oldest_waiter l → (tally_gets is_unnotified (with_notice (start l).first_get n (gets l)) ≡ unnotified l - 1) × (tally_gets is_notified (with_notice (start l).first_get n (gets l)) ≡ notified l + min 1 (unnotified l))
+  told_counted : (l : Ledger C) (n : Option ℕ) → n ≡ oldest_waiter l
+      → (tally_gets is_unnotified (with_notice (start l).first_get n (gets l)) ≡ unnotified l - 1)
+      × (tally_gets is_notified (with_notice (start l).first_get n (gets l)) ≡ notified l + min 1 (unnotified l))
   told_counted l n is = notify_counted (start l).first_get (position l) n (gets l) (waited_before l) is
 
   -- which get is notified where a get gives up
-  handed_to : (l : Ledger C) (g : ℕ) (n : Option ℕ) (st : Getting) → get_of l g ≡ Some st → n ≡ cond (gets_stand is_notified (get_of l g)) (oldest_waiter l) None → n ≡ cond (gets_stand is_notified (Some st)) (slice_get (in_order unnotified_at (start l).first_get (gets l) (position l)) 0) None
+  handed_to : (l : Ledger C) (g : ℕ) (n : Option ℕ) (st : Getting) → get_of l g ≡ Some st
+      → n ≡ cond (gets_stand is_notified (get_of l g)) (oldest_waiter l) None
+      → n ≡ cond (gets_stand is_notified (Some st)) (slice_get (in_order unnotified_at (start l).first_get (gets l) (position l)) 0) None
   handed_to l g n st h is = is ∙ ap (λ (o : Option Getting). cond (gets_stand is_notified o) (oldest_waiter l) None) h
 
-  given_up : (l : Ledger C) (g : ℕ) (n : Option ℕ) → is_some (get_of l g) ≡ true → n ≡ cond (gets_stand is_notified (get_of l g)) (oldest_waiter l) None → IsGivenUp (unnotified l) (notified l) (tally_gets is_unnotified (with_notice (start l).first_get n (update (start l).first_get g after_end (gets l)))) (tally_gets is_notified (with_notice (start l).first_get n (update (start l).first_get g after_end (gets l))))
+  given_up : (l : Ledger C) (g : ℕ) (n : Option ℕ) → is_some (get_of l g) ≡ true
+      → n ≡ cond (gets_stand is_notified (get_of l g)) (oldest_waiter l) None
+      → IsGivenUp (unnotified l) (notified l) (tally_gets is_unnotified
+      (with_notice (start l).first_get n (update (start l).first_get g after_end (gets l))))
+      (tally_gets is_notified (with_notice (start l).first_get n (update (start l).first_get g after_end (gets l))))
   given_up l g n some is =
       let st = alive_get (get_of l g) some in
       let m = getting l g st.0 st.1 in
@@ -308,15 +527,18 @@ module _ {C : Type 0} where
   row_serves l at _ _ legal f (waits_on {g} {grant} on nothing) h =
       let z = granted_sized false grant.count (stays_sized l) in
       let same = waits_on_gets l at g on in
-      serves_same h (omega (arith, z.conns_are)) (omega (arith, z.approved_are, nothing.count)) (omega (arith, z.idle_are)) (ap (tally_gets is_unnotified) same) (ap (tally_gets is_notified) same) (omega (arith, nothing.withheld))
+      serves_same h (omega (arith, z.conns_are)) (omega (arith, z.approved_are, nothing.count)) (omega (arith, z.idle_are))
+      (ap (tally_gets is_unnotified) same) (ap (tally_gets is_notified) same) (omega (arith, nothing.withheld))
   row_serves l at _ _ legal f (serves {g} {k} {grant} not_waiting off first want) h =
       let z = granted_sized false grant.count (turned_sized (idle_turns l k Guarded first).1) in
       let t = trier_leaves l g f not_waiting in
-      serves_served h grant.count (one (is_notified t.standing.place)) (omega (arith, z.conns_are)) (omega (arith, z.approved_are)) (omega (arith, z.idle_are)) (left_unnotified t) (left_notified t) (one_few (is_notified t.standing.place)) (omega arith)
+      serves_served h grant.count (one (is_notified t.standing.place)) (omega (arith, z.conns_are)) (omega (arith, z.approved_are))
+      (omega (arith, z.idle_are)) (left_unnotified t) (left_notified t) (one_few (is_notified t.standing.place)) (omega arith)
   row_serves l at _ _ legal f (takes_out {g} {k} {grant} not_waiting on first want) h =
       let z = granted_sized false grant.count (turned_sized (idle_turns l k (Held g) first).1) in
       let t = trier_holds l g k f not_waiting in
-      serves_served h grant.count (one (is_notified t.standing.place)) (omega (arith, z.conns_are)) (omega (arith, z.approved_are)) (omega (arith, z.idle_are)) (left_unnotified t) (left_notified t) (one_few (is_notified t.standing.place)) (omega arith)
+      serves_served h grant.count (one (is_notified t.standing.place)) (omega (arith, z.conns_are)) (omega (arith, z.approved_are))
+      (omega (arith, z.idle_are)) (left_unnotified t) (left_notified t) (one_few (is_notified t.standing.place)) (omega arith)
   row_serves l at _ _ legal f (waits {g} {grant} not_waiting none granted) h =
       let st = trier l g f not_waiting in
       let m = getting l g st.0 st.1 in
@@ -324,10 +546,13 @@ module _ {C : Type 0} where
       let z = granted_sized false grant.count (stays_sized l) in
       let was : one (is_unnotified st.0.place) ≡ 0 = ap one st.2 in
       let standing : gets_stand is_unnotified m.0.standing ≡ false = ap (gets_stand is_unnotified) m.2 ∙ st.2 in
-      let u : tally_gets is_unnotified gs + one (is_unnotified st.0.place) ≡ unnotified l + 1 = begins_counted is_unnotified (start l).first_get (max (latest l) at) (position l) g (gets l) m.0 st.0 m.1 m.2 standing in
-      let n : tally_gets is_notified gs + one (is_notified st.0.place) ≡ notified l + 0 = begins_counted is_notified (start l).first_get (max (latest l) at) (position l) g (gets l) m.0 st.0 m.1 m.2 standing in
+      let u : tally_gets is_unnotified gs + one (is_unnotified st.0.place) ≡ unnotified l + 1 =
+      begins_counted is_unnotified (start l).first_get (max (latest l) at) (position l) g (gets l) m.0 st.0 m.1 m.2 standing in
+      let n : tally_gets is_notified gs + one (is_notified st.0.place) ≡ notified l + 0 =
+      begins_counted is_notified (start l).first_get (max (latest l) at) (position l) g (gets l) m.0 st.0 m.1 m.2 standing in
       let asked : ℕ = one (ltb (approved l) (alive l)) in
-      let few : tally_gets is_unnotified gs + tally_gets is_notified gs ≤ alive l = subst (λ (v : ℕ). tally_gets is_unnotified gs + tally_gets is_notified gs ≤ v) (waits_alive l at g) (waiters_few gs) in
+      let few : tally_gets is_unnotified gs + tally_gets is_notified gs ≤ alive l =
+      subst (λ (v : ℕ). tally_gets is_unnotified gs + tally_gets is_notified gs ≤ v) (waits_alive l at g) (waiters_few gs) in
       serves_waits h (alive l) grant.count grant.withheld (one (is_notified st.0.place)) asked
       (one_or_enough (approved l) (alive l))
       (λ open_now. granted.split ∙ due_open (start l).config (handles l) (conns l + approved l) asked open_now)
@@ -343,8 +568,12 @@ module _ {C : Type 0} where
       serves_closed h grant.count (omega (arith, z.conns_are)) (omega (arith, z.approved_are)) (omega (arith, z.idle_are)) told.0 (omega (arith, told.1, ap one t.1)) (omega arith)
   row_serves l at _ _ legal f (gives_up {g} {why} {broken} {n} is) h =
       ⊎_elim
-      (λ (t : (b : ℕ) × (unnotified (Later l at (GiveUp g why None broken) (GaveUp n)) + b ≡ unnotified l) × (notified (Later l at (GiveUp g why None broken) (GaveUp n)) ≡ notified l)). serves_given_up h t.0 refl refl refl t.1 t.2 (omega arith))
-      (λ (t : (unnotified (Later l at (GiveUp g why None broken) (GaveUp n)) ≡ unnotified l - 1) × (notified (Later l at (GiveUp g why None broken) (GaveUp n)) + 1 ≡ notified l + min 1 (unnotified l))). serves_handed_on h refl refl refl t.0 t.1 (omega arith))
+      (λ (t : (b : ℕ) × (unnotified (Later l at (GiveUp g why None broken) (GaveUp n)) + b ≡ unnotified l)
+      × (notified (Later l at (GiveUp g why None broken) (GaveUp n)) ≡ notified l)). serves_given_up h t.0 refl refl refl t.1 t.2
+      (omega arith))
+      (λ (t : (unnotified (Later l at (GiveUp g why None broken) (GaveUp n)) ≡ unnotified l - 1)
+      × (notified (Later l at (GiveUp g why None broken) (GaveUp n)) + 1 ≡ notified l + min 1 (unnotified l))). serves_handed_on h refl
+      refl refl t.0 t.1 (omega arith))
       (given_up l g n (and_right (is_some (get_of l g)) _ f).0 is)
   row_serves l at _ _ legal f (gives_up_kept {g} {k} {c} {n} holds_it keep is) h =
       let z = turned_sized (hands_in_turn l at g k c legal holds_it) in
@@ -423,41 +652,142 @@ module _ {C : Type 0} where
 
   row_gives : (l : Ledger C) (at : ℕ) (e : Act C) (a : Answer) → IsLegal l → fits l e ≡ true → Row l at e a → GivesNext l at e a
   row_gives l at _ _ legal f (begins {g} is few) = record { first = tt; more = omega arith; get = is; more_gets = omega (arith, length-append (gets l) (new_get ∷ [])) }
-  row_gives l at _ _ legal f (waits_on {g} {grant} on nothing) = record { first = nothing.first; more = omega (arith, length-approve false grant.count (records l)); get = tt; more_gets = as_many_gets l _ (waits_length l at g) }
-  row_gives l at _ _ legal f (serves {g} {k} {grant} not_waiting off first want) = record { first = changed_first l k (at_place Guarded) grant want; more = omega (arith, (granted_sized false grant.count (turned_sized (idle_turns l k Guarded first).1)).many_are); get = tt; more_gets = as_many_gets l _ (left_length (trier_leaves l g f not_waiting)) }
-  row_gives l at _ _ legal f (takes_out {g} {k} {grant} not_waiting on first want) = record { first = changed_first l k (at_place (Held g)) grant want; more = omega (arith, (granted_sized false grant.count (turned_sized (idle_turns l k (Held g) first).1)).many_are); get = tt; more_gets = as_many_gets l _ (left_length (trier_holds l g k f not_waiting)) }
-  row_gives l at _ _ legal f (waits {g} {grant} not_waiting none granted) = record { first = granted.first; more = omega (arith, length-approve false grant.count (records l)); get = tt; more_gets = as_many_gets l _ (waits_length l at g) }
-  row_gives l at _ _ legal f (checks {g} {k} {grant} holds_it nothing) = record { first = nothing.first; more = omega (arith, nothing.count, (turned_sized (checks_turn l g k legal holds_it)).many_are); get = tt; more_gets = as_many_gets l _ (left_length (holder_ends l g k holds_it).0) }
-  row_gives l at _ _ legal f (check_fails {g} {k} {grant} {n} holds_it want is) = record { first = changed_first l k after_end grant want; more = omega (arith, (granted_sized false grant.count (turned_sized (drops_turn l g k legal holds_it))).many_are); get = tt; more_gets = as_many_gets l _ (left_told_length (holder_turns l g k holds_it).0 n) }
+  row_gives l at _ _ legal f (waits_on {g} {grant} on nothing) =
+      record {
+        first = nothing.first;
+        more = omega (arith, length-approve false grant.count (records l));
+        get = tt;
+        more_gets =
+            as_many_gets l _ (waits_length l at g);
+      }
+  row_gives l at _ _ legal f (serves {g} {k} {grant} not_waiting off first want) =
+      record {
+        first = changed_first l k (at_place Guarded) grant want;
+        more =
+            omega (arith, (granted_sized false grant.count (turned_sized (idle_turns l k Guarded first).1)).many_are);
+        get = tt;
+        more_gets =
+            as_many_gets l _ (left_length (trier_leaves l g f not_waiting));
+      }
+  row_gives l at _ _ legal f (takes_out {g} {k} {grant} not_waiting on first want) =
+      record {
+        first = changed_first l k (at_place (Held g)) grant want;
+        more =
+            omega (arith, (granted_sized false grant.count (turned_sized (idle_turns l k (Held g) first).1)).many_are);
+        get = tt;
+        more_gets =
+            as_many_gets l _ (left_length (trier_holds l g k f not_waiting));
+      }
+  row_gives l at _ _ legal f (waits {g} {grant} not_waiting none granted) =
+      record {
+        first = granted.first;
+        more = omega (arith, length-approve false grant.count (records l));
+        get = tt;
+        more_gets =
+            as_many_gets l _ (waits_length l at g);
+      }
+  row_gives l at _ _ legal f (checks {g} {k} {grant} holds_it nothing) =
+      record {
+        first = nothing.first;
+        more = omega (arith, nothing.count, (turned_sized (checks_turn l g k legal holds_it)).many_are);
+        get =
+            tt;
+        more_gets = as_many_gets l _ (left_length (holder_ends l g k holds_it).0);
+      }
+  row_gives l at _ _ legal f (check_fails {g} {k} {grant} {n} holds_it want is) =
+      record {
+        first = changed_first l k after_end grant want;
+        more =
+            omega (arith, (granted_sized false grant.count (turned_sized (drops_turn l g k legal holds_it))).many_are);
+        get = tt;
+        more_gets =
+            as_many_gets l _ (left_told_length (holder_turns l g k holds_it).0 n);
+      }
   row_gives l at _ _ legal f (gives_up {g} {n} is) = record { first = tt; more = omega arith; get = tt; more_gets = as_many_gets l _ (given_up_length l g n) }
-  row_gives l at _ _ legal f (gives_up_kept {g} {k} {c} {n} holds_it keep is) = record { first = tt; more = omega (arith, (turned_sized (hands_in_turn l at g k c legal holds_it)).many_are); get = tt; more_gets = as_many_gets l _ (left_told_length (holder_ends l g k holds_it).0 n) }
-  row_gives l at _ _ legal f (gives_up_closed {g} {k} {grant} {n} holds_it shut want is) = record { first = changed_first l k after_end grant want; more = omega (arith, (granted_sized false grant.count (turned_sized (drops_turn l g k legal holds_it))).many_are); get = tt; more_gets = as_many_gets l _ (left_told_length (holder_ends l g k holds_it).0 n) }
-  row_gives l at _ _ legal f (keeps {k} {c} {n} keep is) = record { first = tt; more = omega (arith, (turned_sized (returns_turn l at k c f)).many_are); get = tt; more_gets = as_many_gets l _ (told_length l n) }
-  row_gives l at _ _ legal f (returns_closed {k} {grant} {n} shut want is) = record { first = changed_first l k after_end grant want; more = omega (arith, (granted_sized false grant.count (turned_sized (closes_turn l k f))).many_are); get = tt; more_gets = as_many_gets l _ (told_length l n) }
+  row_gives l at _ _ legal f (gives_up_kept {g} {k} {c} {n} holds_it keep is) =
+      record {
+        first = tt;
+        more = omega (arith, (turned_sized (hands_in_turn l at g k c legal holds_it)).many_are);
+        get = tt;
+        more_gets =
+            as_many_gets l _ (left_told_length (holder_ends l g k holds_it).0 n);
+      }
+  row_gives l at _ _ legal f (gives_up_closed {g} {k} {grant} {n} holds_it shut want is) =
+      record {
+        first = changed_first l k after_end grant want;
+        more =
+            omega (arith, (granted_sized false grant.count (turned_sized (drops_turn l g k legal holds_it))).many_are);
+        get = tt;
+        more_gets =
+            as_many_gets l _ (left_told_length (holder_ends l g k holds_it).0 n);
+      }
+  row_gives l at _ _ legal f (keeps {k} {c} {n} keep is) =
+      record {
+        first = tt;
+        more = omega (arith, (turned_sized (returns_turn l at k c f)).many_are);
+        get = tt;
+        more_gets =
+            as_many_gets l _ (told_length l n);
+      }
+  row_gives l at _ _ legal f (returns_closed {k} {grant} {n} shut want is) =
+      record {
+        first = changed_first l k after_end grant want;
+        more =
+            omega (arith, (granted_sized false grant.count (turned_sized (closes_turn l k f))).many_are);
+        get = tt;
+        more_gets =
+            as_many_gets l _ (told_length l n);
+      }
   row_gives l at _ _ legal f (fills {claimed} {grant} want) = record { first = want.first; more = omega (arith, length-approve claimed grant.count (records l)); get = tt; more_gets = gets_same l }
   row_gives l at _ _ legal f (claims {k = Some k} open_now first) = record { first = tt; more = omega (arith, (turned_sized (unclaimed_turns l k first)).many_are); get = tt; more_gets = gets_same l }
-  row_gives l at _ _ legal f (opens {k} {c} {n} open_now is) = record { first = tt; more = omega (arith, (turned_sized (opens_turn l at k c f)).many_are); get = tt; more_gets = as_many_gets l _ (told_length l n) }
+  row_gives l at _ _ legal f (opens {k} {c} {n} open_now is) =
+      record {
+        first = tt;
+        more = omega (arith, (turned_sized (opens_turn l at k c f)).many_are);
+        get = tt;
+        more_gets =
+            as_many_gets l _ (told_length l n);
+      }
   row_gives l at _ _ legal f (opens_late {k} none) = record { first = tt; more = omega (arith, (turned_sized (ends_turn l k f)).many_are); get = tt; more_gets = gets_same l }
   row_gives l at _ _ legal f (fails {k}) = record { first = tt; more = omega (arith, (turned_sized (ends_turn l k f)).many_are); get = tt; more_gets = gets_same l }
   row_gives l at _ _ legal f (adds {k} {c} {n} room few is who) = record { first = is; more = omega (arith, (adds_sized l at c).many_are); get = tt; more_gets = as_many_gets l _ (told_length l n) }
-  row_gives l at _ _ legal f (reaps {grant} open_now closed_is by_idle_is by_life_is want) = record { first = want.first ∙ ap (λ (n : ℕ). (start l).first + n) (length-map (records l) _); more = omega (arith, (granted_reaped grant.count (reaped_sized l at)).many_are); get = tt; more_gets = gets_same l }
+  row_gives l at _ _ legal f (reaps {grant} open_now closed_is by_idle_is by_life_is want) =
+      record {
+        first = want.first ∙ ap (λ (n : ℕ). (start l).first + n) (length-map (records l) _);
+        more =
+            omega (arith, (granted_reaped grant.count (reaped_sized l at)).many_are);
+        get = tt;
+        more_gets = gets_same l;
+      }
   row_gives l at _ _ legal f (leaves {n} is) = record { first = tt; more = omega (arith, (left_sized l at n).many_are); get = tt; more_gets = gets_same l }
   row_gives l at _ _ legal f _ = record { first = tt; more = omega arith; get = tt; more_gets = gets_same l }
 
   never_again : (l : Ledger C) → IsLegal l → NeverGivesAgain l
-  never_again = each_legal NeverGivesAgain (λ s lawful. tt) (λ l at e before. (before, record { first = tt; more = omega arith; get = tt; more_gets = gets_same l })) (λ l at e a legal f row before. (before, row_gives l at e a legal f row))
+  never_again = each_legal NeverGivesAgain (λ s lawful. tt)
+      (λ l at e before. (before, record { first = tt; more = omega arith; get = tt; more_gets = gets_same l }))
+      (λ l at e a legal f row before. (before, row_gives l at e a legal f row))
 
   -- ---- what is wanted is made good
 
   -- once what is wanted of records is granted
-  want_made_good : (l : Ledger C) (rs : List (Numbered (Standing C))) (claimed : Bool) (g : Grant) → IsWant l rs g → 0 < handles l → (unwrap_or (start l).config.min_idle 0 ≤ idle_of (with_approvals claimed g.count rs) + approved_of (with_approvals claimed g.count rs)) ⊎ ((start l).config.max_size ≤ conns_of (with_approvals claimed g.count rs) + approved_of (with_approvals claimed g.count rs)) ⊎ (0 < g.withheld)
+  want_made_good : (l : Ledger C) (rs : List (Numbered (Standing C))) (claimed : Bool) (g : Grant) → IsWant l rs g → 0 < handles l
+      → (unwrap_or (start l).config.min_idle 0 ≤ idle_of (with_approvals claimed g.count rs) + approved_of
+      (with_approvals claimed g.count rs)) ⊎ ((start l).config.max_size ≤ conns_of (with_approvals claimed g.count rs) + approved_of
+      (with_approvals claimed g.count rs)) ⊎ (0 < g.withheld)
   want_made_good l rs claimed g want open_now =
       let split : g.count + g.withheld ≡ due (start l).config (handles l) (conns_of rs + approved_of rs) (lacking (start l).config (idle_of rs + approved_of rs)) = want.split in
-      let all : due (start l).config (handles l) (conns_of rs + approved_of rs) (lacking (start l).config (idle_of rs + approved_of rs)) ≡ min (lacking (start l).config (idle_of rs + approved_of rs)) ((start l).config.max_size - (conns_of rs + approved_of rs)) = due_open (start l).config (handles l) (conns_of rs + approved_of rs) (lacking (start l).config (idle_of rs + approved_of rs)) open_now in
+      let all : due (start l).config (handles l) (conns_of rs + approved_of rs)
+      (lacking (start l).config (idle_of rs + approved_of rs)) ≡ min (lacking (start l).config (idle_of rs + approved_of rs))
+      ((start l).config.max_size - (conns_of rs + approved_of rs)) =
+      due_open (start l).config (handles l) (conns_of rs + approved_of rs)
+      (lacking (start l).config (idle_of rs + approved_of rs)) open_now in
       let c : conns_of (with_approvals claimed g.count rs) ≡ conns_of rs = conns-approve claimed g.count rs in
       let a : approved_of (with_approvals claimed g.count rs) ≡ approved_of rs + g.count = approved-approve claimed g.count rs in
       let i : idle_of (with_approvals claimed g.count rs) ≡ idle_of rs = idle-approve claimed g.count rs in
-      made_good (unwrap_or (start l).config.min_idle 0) (start l).config.max_size (idle_of rs + approved_of rs) (idle_of (with_approvals claimed g.count rs) + approved_of (with_approvals claimed g.count rs)) (conns_of rs + approved_of rs) (conns_of (with_approvals claimed g.count rs) + approved_of (with_approvals claimed g.count rs)) g.count g.withheld (split ∙ all) (omega arith) (omega arith)
+      made_good (unwrap_or (start l).config.min_idle 0) (start l).config.max_size (idle_of rs + approved_of rs)
+      (idle_of (with_approvals claimed g.count rs) + approved_of (with_approvals claimed g.count rs)) (conns_of rs + approved_of rs)
+      (conns_of (with_approvals claimed g.count rs) + approved_of (with_approvals claimed g.count rs)) g.count g.withheld (split ∙ all)
+      (omega arith) (omega arith)
 
   row_makes_good : (l : Ledger C) (at : ℕ) (e : Act C) (a : Answer) → Row l at e a → MakesGood (Later l at e a) e a
   row_makes_good l at _ _ (serves {k} {grant} not_waiting off first want) = want_made_good l (with_record l k (at_place Guarded)) false grant want
@@ -466,14 +796,22 @@ module _ {C : Type 0} where
   row_makes_good l at _ _ (gives_up_closed {k} {grant} holds_it shut want is) = want_made_good l (with_record l k after_end) false grant want
   row_makes_good l at _ _ (returns_closed {k} {grant} shut want is) = want_made_good l (with_record l k after_end) false grant want
   row_makes_good l at _ _ (fills {claimed} {grant} want) = want_made_good l (records l) claimed grant want
-  row_makes_good l at _ _ (reaps {grant} open_now closed_is by_idle_is by_life_is want) = want_made_good l (map (after_end_where (is_reaped (start l).config (max (latest l) at))) (records l)) false grant want
+  row_makes_good l at _ _ (reaps {grant} open_now closed_is by_idle_is by_life_is want) =
+      want_made_good l (map (after_end_where (is_reaped (start l).config (max (latest l) at))) (records l)) false grant want
   row_makes_good l at _ _ _ = tt
 
   makes_good : (l : Ledger C) → IsLegal l → AlwaysMakesGood l
   makes_good = each_legal AlwaysMakesGood (λ s lawful. tt) (λ l at e before. (before, tt)) (λ l at e a legal f row before. (before, row_makes_good l at e a row))
 
   pub keeps_laws : (l : Ledger C) → IsLegal l → KeepsLaws l
-  keeps_laws l legal = record { numbers = never_again l legal; returned = never_twice l legal; replenished = makes_good l legal; answered = (all_fit l legal).answered; pending = omega (arith, (all_fit l legal).answered) }
+  keeps_laws l legal = record {
+    numbers = never_again l legal;
+    returned = never_twice l legal;
+    replenished = makes_good l legal;
+    answered =
+        (all_fit l legal).answered;
+    pending = omega (arith, (all_fit l legal).answered);
+  }
 
   -- ---- the promises
 
@@ -498,7 +836,8 @@ module _ {C : Type 0} where
   row_in_line l at _ _ f (gives_up {g} {n} is) i =
       let st = alive_get (get_of l g) (and_right (is_some (get_of l g)) _ f).0 in
       let m = getting l g st.0 st.1 in
-      line_later (start l).first_get (position l) (with_notice (start l).first_get n (update (start l).first_get g after_end (gets l))) (line_given_up (start l).first_get (position l) g n (gets l) m.0 st.0 m.1 m.2 (handed_to l g n st.0 st.1 is) i)
+      line_later (start l).first_get (position l) (with_notice (start l).first_get n (update (start l).first_get g after_end (gets l)))
+      (line_given_up (start l).first_get (position l) g n (gets l) m.0 st.0 m.1 m.2 (handed_to l g n st.0 st.1 is) i)
   row_in_line l at _ _ f (gives_up_kept {g} {k} {n} holds_it keep is) i = left_told_line (holder_ends l g k holds_it).0 n is i
   row_in_line l at _ _ f (gives_up_closed {g} {k} {n} holds_it shut want is) i = left_told_line (holder_ends l g k holds_it).0 n is i
   row_in_line l at _ _ f (keeps {n} keep is) i = told_in_line l n is i
@@ -509,7 +848,13 @@ module _ {C : Type 0} where
 
   -- those who wait stand in line
   pub all_in_line : (l : Ledger C) → IsLegal l → AllInLine l
-  all_in_line = each_legal AllInLine (λ s lawful. record { below = λ g a e w. cc; apart = λ g h a b e d w v same. cc; turn = λ g h a b e d w v. cc }) (λ l at e i. line_later (start l).first_get (position l) (gets l) i) (λ l at e a legal f row i. row_in_line l at e a f row i)
+  all_in_line = each_legal AllInLine (λ s lawful. record {
+    below = λ g a e w. cc;
+    apart = λ g h a b e d w v same. cc;
+    turn =
+        λ g h a b e d w v. cc;
+  }) (λ l at e i. line_later (start l).first_get (position l) (gets l) i)
+      (λ l at e a legal f row i. row_in_line l at e a f row i)
 
   -- an event forgets no notification
   abbrev Remembers : Ledger C → ℕ → Act C → Answer → Type 0
@@ -528,8 +873,12 @@ module _ {C : Type 0} where
   row_remembers l at _ _ f (check_fails {g} {k} {n} holds_it want is) = let t = holder_turns l g k holds_it in inl (omega (arith, (left_told t.0 n is).1, ap one t.1))
   row_remembers l at _ _ f (gives_up {g} {why} {broken} {n} is) =
       ⊎_elim
-      (λ (t : (b : ℕ) × (unnotified (Later l at (GiveUp g why None broken) (GaveUp n)) + b ≡ unnotified l) × (notified (Later l at (GiveUp g why None broken) (GaveUp n)) ≡ notified l)). inl (omega (arith, t.2)))
-      (λ (t : (unnotified (Later l at (GiveUp g why None broken) (GaveUp n)) ≡ unnotified l - 1) × (notified (Later l at (GiveUp g why None broken) (GaveUp n)) + 1 ≡ notified l + min 1 (unnotified l))). not_lost (unnotified l) (notified l) (unnotified (Later l at (GiveUp g why None broken) (GaveUp n))) (notified (Later l at (GiveUp g why None broken) (GaveUp n))) t.0 t.1)
+      (λ (t : (b : ℕ) × (unnotified (Later l at (GiveUp g why None broken) (GaveUp n)) + b ≡ unnotified l)
+      × (notified (Later l at (GiveUp g why None broken) (GaveUp n)) ≡ notified l)). inl (omega (arith, t.2)))
+      (λ (t : (unnotified (Later l at (GiveUp g why None broken) (GaveUp n)) ≡ unnotified l - 1)
+      × (notified (Later l at (GiveUp g why None broken) (GaveUp n)) + 1 ≡ notified l + min 1 (unnotified l))). not_lost (unnotified l)
+      (notified l) (unnotified (Later l at (GiveUp g why None broken) (GaveUp n)))
+      (notified (Later l at (GiveUp g why None broken) (GaveUp n))) t.0 t.1)
       (given_up l g n (and_right (is_some (get_of l g)) _ f).0 is)
   row_remembers l at _ _ f (gives_up_kept {g} {k} {n} holds_it keep is) = let t = holder_ends l g k holds_it in inl (omega (arith, (left_told t.0 n is).1, ap one t.1))
   row_remembers l at _ _ f (gives_up_closed {g} {k} {n} holds_it shut want is) = let t = holder_ends l g k holds_it in inl (omega (arith, (left_told t.0 n is).1, ap one t.1))

@@ -30,11 +30,14 @@ module _ {C : Type 0} where
   guards = tests is_guarded
 
   -- a record moved that no guard held, and none holds
-  guards_kept : {l : Ledger C} {m : ℕ} {p : Place C} {q : Option (Place C)} {f : Numbered (Standing C) → Numbered (Standing C)} (k : ℕ) → Turns l m p q f → is_guarded p ≡ false → passes is_guarded q ≡ false → guards (start l).first (with_record l m f) k ≡ guards (start l).first (records l) k
+  guards_kept : {l : Ledger C} {m : ℕ} {p : Place C} {q : Option (Place C)} {f : Numbered (Standing C) → Numbered (Standing C)} (k : ℕ)
+      → Turns l m p q f → is_guarded p ≡ false → passes is_guarded q ≡ false
+      → guards (start l).first (with_record l m f) k ≡ guards (start l).first (records l) k
   guards_kept {l} {m} {p} {q} {f} k t was is =
       turned_tests is_guarded k t
       ∙ ⊎_elim
-      (λ (s : (eqb k m ≡ true) × (k ≡ m)). ap (λ (b : Bool). cond b (passes is_guarded q) (guards (start l).first (records l) k)) s.0 ∙ is ∙ sym (ap (guards (start l).first (records l)) s.1 ∙ turned_from is_guarded t ∙ was))
+      (λ (s : (eqb k m ≡ true) × (k ≡ m)). ap (λ (b : Bool). cond b (passes is_guarded q) (guards (start l).first (records l) k)) s.0 ∙ is
+      ∙ sym (ap (guards (start l).first (records l)) s.1 ∙ turned_from is_guarded t ∙ was))
       (λ (s : (eqb k m ≡ false) × (k ≢ m)). ap (λ (b : Bool). cond b (passes is_guarded q) (guards (start l).first (records l) k)) s.0)
       (numbered.same_or_not k m)
 
@@ -47,13 +50,15 @@ module _ {C : Type 0} where
 
   row_lent : (l : Ledger C) (at : ℕ) (e : Act C) (a : Answer) → IsLegal l → fits l e ≡ true → Row l at e a → IsLentRight l → IsLentRight (Later l at e a)
   row_lent l at _ _ legal f (waits_on {grant} on nothing) h = λ k. granted_guards l k false grant.count (records l) ∙ h k
-  row_lent l at _ _ legal f (serves {k = m} {grant} not_waiting off first want) h = λ k. granted_guards l k false grant.count _ ∙ turned_tests is_guarded k (idle_turns l m Guarded first).1 ∙ one_more (eqb k m) _ _ (h k)
+  row_lent l at _ _ legal f (serves {k = m} {grant} not_waiting off first want) h = λ k. granted_guards l k false grant.count _
+      ∙ turned_tests is_guarded k (idle_turns l m Guarded first).1 ∙ one_more (eqb k m) _ _ (h k)
   row_lent l at _ _ legal f (takes_out {g} {k = m} {grant} not_waiting on first want) h = λ k. granted_guards l k false grant.count _ ∙ guards_kept k (idle_turns l m (Held g) first).1 refl refl ∙ h k
   row_lent l at _ _ legal f (waits {grant} not_waiting none granted) h = λ k. granted_guards l k false grant.count (records l) ∙ h k
   row_lent l at _ _ legal f (checks {g} {k = m} holds_it nothing) h = λ k. turned_tests is_guarded k (checks_turn l g m legal holds_it) ∙ one_more (eqb k m) _ _ (h k)
   row_lent l at _ _ legal f (check_fails {g} {k = m} {grant} holds_it want is) h = λ k. granted_guards l k false grant.count _ ∙ guards_kept k (drops_turn l g m legal holds_it) refl refl ∙ h k
   row_lent l at _ _ legal f (gives_up_kept {g} {k = m} {c} holds_it keep is) h = λ k. guards_kept k (hands_in_turn l at g m c legal holds_it) refl refl ∙ h k
-  row_lent l at _ _ legal f (gives_up_closed {g} {k = m} {grant} holds_it shut want is) h = λ k. granted_guards l k false grant.count _ ∙ guards_kept k (drops_turn l g m legal holds_it) refl refl ∙ h k
+  row_lent l at _ _ legal f (gives_up_closed {g} {k = m} {grant} holds_it shut want is) h = λ k. granted_guards l k false grant.count _
+      ∙ guards_kept k (drops_turn l g m legal holds_it) refl refl ∙ h k
   row_lent l at _ _ legal f (keeps {k = m} {c} keep is) h = λ k. turned_tests is_guarded k (returns_turn l at m c f) ∙ one_less (eqb k m) _ _ (h k)
   row_lent l at _ _ legal f (returns_closed {k = m} {grant} shut want is) h = λ k. granted_guards l k false grant.count _ ∙ turned_tests is_guarded k (closes_turn l m f) ∙ one_less (eqb k m) _ _ (h k)
   row_lent l at _ _ legal f (fills {claimed} {grant} want) h = λ k. granted_guards l k claimed grant.count (records l) ∙ h k
@@ -62,7 +67,9 @@ module _ {C : Type 0} where
   row_lent l at _ _ legal f (opens_late {k = m} none) h = λ k. guards_kept k (ends_turn l m f) refl refl ∙ h k
   row_lent l at _ _ legal f (fails {k = m}) h = λ k. guards_kept k (ends_turn l m f) refl refl ∙ h k
   row_lent l at _ _ legal f (adds {c} room few is who) h = λ k. added_tests is_guarded (start l).first k (entry c (max (latest l) at) (max (latest l) at) (position l)) (records l) refl ∙ h k
-  row_lent l at _ _ legal f (reaps {grant} open_now closed_is by_idle_is by_life_is want) h = λ k. granted_guards l k false grant.count _ ∙ swept_tests is_guarded (is_reaped (start l).config (max (latest l) at)) (start l).first k (records l) (reap_spares is_guarded (λ c. refl) (start l).config (max (latest l) at)) ∙ h k
+  row_lent l at _ _ legal f (reaps {grant} open_now closed_is by_idle_is by_life_is want) h = λ k. granted_guards l k false grant.count _
+      ∙ swept_tests is_guarded (is_reaped (start l).config (max (latest l) at)) (start l).first k (records l)
+      (reap_spares is_guarded (λ c. refl) (start l).config (max (latest l) at)) ∙ h k
   row_lent l at _ _ legal f (leaves {n} is) h = λ k. left_tests is_guarded guarded_out l at n k ∙ h k
   row_lent l at _ _ legal f _ h = h
 

@@ -14,10 +14,14 @@ module _ {C : Type 0} where
   tested test r s p e f = ap (stands test) e ∙ ap test f
 
   -- what the sizes are after it
-  pub conns-change : (first : ℕ) (rs : List (Numbered (Standing C))) (k : ℕ) (new old : Numbered (Standing C)) (a b : Bool) → at first rs k ≡ Some old → stands is_conn old.standing ≡ a → stands is_conn new.standing ≡ b → conns_of (change first k new rs) + one a ≡ conns_of rs + one b
+  pub conns-change : (first : ℕ) (rs : List (Numbered (Standing C))) (k : ℕ) (new old : Numbered (Standing C)) (a b : Bool)
+      → at first rs k ≡ Some old → stands is_conn old.standing ≡ a → stands is_conn new.standing ≡ b
+      → conns_of (change first k new rs) + one a ≡ conns_of rs + one b
   conns-change first rs k new old a b h was is = rw (sym (ap one was), sym (ap one is)) (numbered.tally-change (λ r. stands is_conn r.standing) rs first k new old h)
 
-  pub approved-change : (first : ℕ) (rs : List (Numbered (Standing C))) (k : ℕ) (new old : Numbered (Standing C)) (a b : Bool) → at first rs k ≡ Some old → stands is_approval old.standing ≡ a → stands is_approval new.standing ≡ b → approved_of (change first k new rs) + one a ≡ approved_of rs + one b
+  pub approved-change : (first : ℕ) (rs : List (Numbered (Standing C))) (k : ℕ) (new old : Numbered (Standing C)) (a b : Bool)
+      → at first rs k ≡ Some old → stands is_approval old.standing ≡ a → stands is_approval new.standing ≡ b
+      → approved_of (change first k new rs) + one a ≡ approved_of rs + one b
   approved-change first rs k new old a b h was is = rw (sym (ap one was), sym (ap one is)) (numbered.tally-change (λ r. stands is_approval r.standing) rs first k new old h)
 
   pub before-approve : (claimed : Bool) (n m : ℕ) (rs : List (Numbered (Standing C))) → Before idle_at m rs → Before idle_at m (with_approvals claimed n rs)

@@ -51,11 +51,16 @@ module _ {R : Type 0} where
       (numbered.same_or_not p m)
 
   -- the first in the list stands at the least position
-  pub in_order_least : (stands : ℕ → R → Bool) (rs : List R) (n m k : ℕ) → slice_get (in_order stands n rs m) 0 ≡ Some k → (r : R) × (at n rs k ≡ Some r) × (p : ℕ) × (p < m) × (stands p r ≡ true) × ((h q : ℕ) (s : R) → at n rs h ≡ Some s → stands q s ≡ true → q < m → p ≤ q)
+  pub in_order_least : (stands : ℕ → R → Bool) (rs : List R) (n m k : ℕ) → slice_get (in_order stands n rs m) 0 ≡ Some k → (r : R)
+      × (at n rs k ≡ Some r) × (p : ℕ) × (p < m) × (stands p r ≡ true)
+      × ((h q : ℕ) (s : R) → at n rs h ≡ Some s → stands q s ≡ true → q < m → p ≤ q)
   in_order_least stands rs n zero k h = cc
   in_order_least stands rs n (suc m) k h = go (in_order_least stands rs n m k) (in_order stands n rs m) refl h
     where
-      go : (slice_get (in_order stands n rs m) 0 ≡ Some k → (r : R) × (at n rs k ≡ Some r) × (p : ℕ) × (p < m) × (stands p r ≡ true) × ((h q : ℕ) (s : R) → at n rs h ≡ Some s → stands q s ≡ true → q < m → p ≤ q)) → (xs : List ℕ) → in_order stands n rs m ≡ xs → slice_get (xs ++ numbers (stands m) n rs) 0 ≡ Some k → (r : R) × (at n rs k ≡ Some r) × (p : ℕ) × (p < suc m) × (stands p r ≡ true) × ((h q : ℕ) (s : R) → at n rs h ≡ Some s → stands q s ≡ true → q < suc m → p ≤ q)
+      go : (slice_get (in_order stands n rs m) 0 ≡ Some k → (r : R) × (at n rs k ≡ Some r) × (p : ℕ) × (p < m) × (stands p r ≡ true)
+          × ((h q : ℕ) (s : R) → at n rs h ≡ Some s → stands q s ≡ true → q < m → p ≤ q)) → (xs : List ℕ) → in_order stands n rs m ≡ xs
+          → slice_get (xs ++ numbers (stands m) n rs) 0 ≡ Some k → (r : R) × (at n rs k ≡ Some r) × (p : ℕ) × (p < suc m)
+          × (stands p r ≡ true) × ((h q : ℕ) (s : R) → at n rs h ≡ Some s → stands q s ≡ true → q < suc m → p ≤ q)
       go ih [] e first =
           let t : (r : R) × (at n rs k ≡ Some r) × (stands m r ≡ true) = numbered.numbers_member (stands m) rs n 0 k first in (
             t.0,
@@ -71,7 +76,9 @@ module _ {R : Type 0} where
           )
       go ih (x ∷ xs) e first =
           let is : Some x ≡ Some k = first in
-          let t : (r : R) × (at n rs k ≡ Some r) × (p : ℕ) × (p < m) × (stands p r ≡ true) × ((h q : ℕ) (s : R) → at n rs h ≡ Some s → stands q s ≡ true → q < m → p ≤ q) = ih (ap (λ (ys : List ℕ). slice_get ys 0) e ∙ is) in
+          let t : (r : R) × (at n rs k ≡ Some r) × (p : ℕ) × (p < m) × (stands p r ≡ true)
+          × ((h q : ℕ) (s : R) → at n rs h ≡ Some s → stands q s ≡ true → q < m → p ≤ q) =
+          ih (ap (λ (ys : List ℕ). slice_get ys 0) e ∙ is) in
           let under : t.2 < m = t.3 in (
             t.0,
             t.1,
@@ -178,16 +185,19 @@ waiters_few (g ∷ gs) =
 -- ---- how many wait, and how many are alive
 
 -- a get that is alive is counted
-pub alive_counted : (first g : ℕ) (gs : List (Numbered Getting)) (x : Numbered Getting) (s : Getting) → at first gs g ≡ Some x → x.standing ≡ Some s → alive_of (update first g after_end gs) + 1 ≡ alive_of gs
+pub alive_counted : (first g : ℕ) (gs : List (Numbered Getting)) (x : Numbered Getting) (s : Getting) → at first gs g ≡ Some x
+    → x.standing ≡ Some s → alive_of (update first g after_end gs) + 1 ≡ alive_of gs
 alive_counted first g gs x s h is =
     let t : alive_of (update first g after_end gs) + one (is_some x.standing) ≡ alive_of gs + 0 = tally_update (λ (y : Numbered Getting). is_some y.standing) gs first g after_end x h in
     let u : one (is_some x.standing) ≡ 1 = ap (λ (o : Option Getting). one (is_some o)) is in
     omega arith
 
 -- a get ends
-pub ended_counted : (test : GetPlace → Bool) (first g : ℕ) (gs : List (Numbered Getting)) (x : Numbered Getting) (s : Getting) → at first gs g ≡ Some x → x.standing ≡ Some s → tally_gets test (update first g after_end gs) + one (test s.place) ≡ tally_gets test gs
+pub ended_counted : (test : GetPlace → Bool) (first g : ℕ) (gs : List (Numbered Getting)) (x : Numbered Getting) (s : Getting)
+    → at first gs g ≡ Some x → x.standing ≡ Some s → tally_gets test (update first g after_end gs) + one (test s.place) ≡ tally_gets test gs
 ended_counted test first g gs x s h is =
-    let t : tally_gets test (update first g after_end gs) + one (gets_stand test x.standing) ≡ tally_gets test gs + 0 = tally_update (λ (y : Numbered Getting). gets_stand test y.standing) gs first g after_end x h in
+    let t : tally_gets test (update first g after_end gs) + one (gets_stand test x.standing) ≡ tally_gets test gs + 0 =
+    tally_update (λ (y : Numbered Getting). gets_stand test y.standing) gs first g after_end x h in
     let u : one (gets_stand test x.standing) ≡ one (test s.place) = ap (λ (o : Option Getting). one (gets_stand test o)) is in
     omega arith
 
@@ -200,16 +210,23 @@ pub begins_now : (now p : ℕ) (x : Numbered Getting) → gets_stand is_unnotifi
 begins_now now p x off = ap (λ (b : Bool). cond b x (waiter now p x.standing)) off
 
 -- a get that was not notified waits on
-pub waits_on_same : (first now p g : ℕ) (gs : List (Numbered Getting)) (x : Numbered Getting) → at first gs g ≡ Some x → gets_stand is_unnotified x.standing ≡ true → update first g (at_wait now p) gs ≡ gs
+pub waits_on_same : (first now p g : ℕ) (gs : List (Numbered Getting)) (x : Numbered Getting) → at first gs g ≡ Some x
+    → gets_stand is_unnotified x.standing ≡ true → update first g (at_wait now p) gs ≡ gs
 waits_on_same first now p g gs x h on =
     let same : at_wait now p x ≡ x = ap (λ (b : Bool). cond b x (waiter now p x.standing)) on in
     numbered.update_is gs first g (at_wait now p) x h ∙ ap (λ (y : Numbered Getting). change first g y gs) same ∙ change_self gs first g x h
 
-pub begins_counted : (test : GetPlace → Bool) (first now p g : ℕ) (gs : List (Numbered Getting)) (x : Numbered Getting) (s : Getting) → at first gs g ≡ Some x → x.standing ≡ Some s → gets_stand is_unnotified x.standing ≡ false → tally_gets test (update first g (at_wait now p) gs) + one (test s.place) ≡ tally_gets test gs + one (test (Waiting false))
+pub begins_counted : (test : GetPlace → Bool) (first now p g : ℕ) (gs : List (Numbered Getting)) (x : Numbered Getting) (s : Getting)
+    → at first gs g ≡ Some x → x.standing ≡ Some s → gets_stand is_unnotified x.standing ≡ false
+    → tally_gets test (update first g (at_wait now p) gs) + one (test s.place) ≡ tally_gets test gs + one (test (Waiting false))
 begins_counted test first now p g gs x s h is off =
-    let t : tally_gets test (update first g (at_wait now p) gs) + one (gets_stand test x.standing) ≡ tally_gets test gs + one (gets_stand test (at_wait now p x).standing) = tally_update (λ (y : Numbered Getting). gets_stand test y.standing) gs first g (at_wait now p) x h in
+    let t : tally_gets test (update first g (at_wait now p) gs) + one (gets_stand test x.standing) ≡ tally_gets test gs + one
+    (gets_stand test (at_wait now p x).standing) =
+    tally_update (λ (y : Numbered Getting). gets_stand test y.standing) gs first g (at_wait now p) x h in
     let u : one (gets_stand test x.standing) ≡ one (test s.place) = ap (λ (o : Option Getting). one (gets_stand test o)) is in
-    let v : one (gets_stand test (at_wait now p x).standing) ≡ one (test (Waiting false)) = ap (λ (y : Numbered Getting). one (gets_stand test y.standing)) (begins_now now p x off) ∙ ap (λ (o : Option Getting). one (gets_stand test (option_map (get_in_wait now) o))) is in
+    let v : one (gets_stand test (at_wait now p x).standing) ≡ one (test (Waiting false)) =
+    ap (λ (y : Numbered Getting). one (gets_stand test y.standing)) (begins_now now p x off)
+    ∙ ap (λ (o : Option Getting). one (gets_stand test (option_map (get_in_wait now) o))) is in
     omega arith
 
 pub begins_alive : (first now p g : ℕ) (gs : List (Numbered Getting)) → alive_of (update first g (at_wait now p) gs) ≡ alive_of gs
@@ -248,7 +265,10 @@ none_unnotified first m gs b none = sym (waiting_counted first m gs b) ∙ empty
     empty (x ∷ xs) h = cc
 
 -- the first of the unnotified, if there is one, is notified
-pub notify_counted : (first m : ℕ) (n : Option ℕ) (gs : List (Numbered Getting)) → Before unnotified_at m gs → n ≡ slice_get (in_order unnotified_at first gs m) 0 → (tally_gets is_unnotified (with_notice first n gs) ≡ tally_gets is_unnotified gs - 1) × (tally_gets is_notified (with_notice first n gs) ≡ tally_gets is_notified gs + min 1 (tally_gets is_unnotified gs))
+pub notify_counted : (first m : ℕ) (n : Option ℕ) (gs : List (Numbered Getting)) → Before unnotified_at m gs
+    → n ≡ slice_get (in_order unnotified_at first gs m) 0
+    → (tally_gets is_unnotified (with_notice first n gs) ≡ tally_gets is_unnotified gs - 1)
+    × (tally_gets is_notified (with_notice first n gs) ≡ tally_gets is_notified gs + min 1 (tally_gets is_unnotified gs))
 notify_counted first m None gs b is =
     let none : tally_gets is_unnotified gs ≡ 0 = none_unnotified first m gs b (sym is) in
     (omega arith, omega arith)
@@ -262,15 +282,22 @@ notify_counted first m (Some g) gs b is =
     let v : tally_gets is_notified (update first g (get_at_place (Waiting true)) gs) + 0 ≡ tally_gets is_notified gs + 1 = moved is_notified in
     (omega arith, omega arith)
   where
-    moves : (test : GetPlace → Bool) (x : Numbered Getting) (s : Getting) → at first gs g ≡ Some x → x.standing ≡ Some s → s.place ≡ Waiting false → tally_gets test (update first g (get_at_place (Waiting true)) gs) + one (test (Waiting false)) ≡ tally_gets test gs + one (test (Waiting true))
+    moves : (test : GetPlace → Bool) (x : Numbered Getting) (s : Getting) → at first gs g ≡ Some x → x.standing ≡ Some s
+        → s.place ≡ Waiting false → tally_gets test (update first g (get_at_place (Waiting true)) gs) + one
+        (test (Waiting false)) ≡ tally_gets test gs + one (test (Waiting true))
     moves test x s h is place =
-        let t : tally_gets test (update first g (get_at_place (Waiting true)) gs) + one (gets_stand test x.standing) ≡ tally_gets test gs + one (gets_stand test (get_at_place (Waiting true) x).standing) = tally_update (λ (y : Numbered Getting). gets_stand test y.standing) gs first g (get_at_place (Waiting true)) x h in
+        let t : tally_gets test (update first g (get_at_place (Waiting true)) gs) + one
+        (gets_stand test x.standing) ≡ tally_gets test gs + one (gets_stand test (get_at_place (Waiting true) x).standing) =
+        tally_update (λ (y : Numbered Getting). gets_stand test y.standing) gs first g (get_at_place (Waiting true)) x h in
         let u : one (gets_stand test x.standing) ≡ one (test (Waiting false)) = ap (λ (o : Option Getting). one (gets_stand test o)) is ∙ ap (λ (p : GetPlace). one (test p)) place in
-        let v : one (gets_stand test (get_at_place (Waiting true) x).standing) ≡ one (test (Waiting true)) = ap (λ (o : Option Getting). one (gets_stand test (option_map (get_with_place (Waiting true)) o))) is in
+        let v : one (gets_stand test (get_at_place (Waiting true) x).standing) ≡ one (test (Waiting true)) =
+        ap (λ (o : Option Getting). one (gets_stand test (option_map (get_with_place (Waiting true)) o))) is in
         omega arith
 
 -- once a get that was not in the line has changed and is not in it, the line is the same
-pub same_line : (first m g : ℕ) (f : Numbered Getting → Numbered Getting) (gs : List (Numbered Getting)) (x : Numbered Getting) → at first gs g ≡ Some x → gets_stand is_unnotified x.standing ≡ false → gets_stand is_unnotified (f x).standing ≡ false → in_order unnotified_at first (update first g f gs) m ≡ in_order unnotified_at first gs m
+pub same_line : (first m g : ℕ) (f : Numbered Getting → Numbered Getting) (gs : List (Numbered Getting)) (x : Numbered Getting)
+    → at first gs g ≡ Some x → gets_stand is_unnotified x.standing ≡ false → gets_stand is_unnotified (f x).standing ≡ false
+    → in_order unnotified_at first (update first g f gs) m ≡ in_order unnotified_at first gs m
 same_line first m g f gs x h off still =
     ap (λ (xs : List (Numbered Getting)). in_order unnotified_at first xs m) (numbered.update_is gs first g f x h)
     ∙ numbered.in_order-change_kept unnotified_at gs first g (f x) x h m (λ p l. ap (λ (b : Bool). b && eqb (f x).position p) still ∙ sym (ap (λ (b : Bool). b && eqb x.position p) off))
@@ -280,11 +307,15 @@ same_line first m g f gs x h off still =
 -- Who waits waits since a position of its own before this one; each notified waiter since an earlier one than each that was not notified.
 pub record InLine (first p : ℕ) (gs : List (Numbered Getting)) : Type 0 where
   pub below : (g : ℕ) (a : Numbered Getting) → at first gs g ≡ Some a → gets_stand is_waiting a.standing ≡ true → a.position < p
-  pub apart : (g h : ℕ) (a b : Numbered Getting) → at first gs g ≡ Some a → at first gs h ≡ Some b → gets_stand is_waiting a.standing ≡ true → gets_stand is_waiting b.standing ≡ true → a.position ≡ b.position → g ≡ h
-  pub turn : (g h : ℕ) (a b : Numbered Getting) → at first gs g ≡ Some a → at first gs h ≡ Some b → gets_stand is_notified a.standing ≡ true → gets_stand is_unnotified b.standing ≡ true → a.position < b.position
+  pub apart : (g h : ℕ) (a b : Numbered Getting) → at first gs g ≡ Some a → at first gs h ≡ Some b → gets_stand is_waiting a.standing ≡ true
+      → gets_stand is_waiting b.standing ≡ true → a.position ≡ b.position → g ≡ h
+  pub turn : (g h : ℕ) (a b : Numbered Getting) → at first gs g ≡ Some a → at first gs h ≡ Some b → gets_stand is_notified a.standing ≡ true
+      → gets_stand is_unnotified b.standing ≡ true → a.position < b.position
 
 -- who waits now waited before, and nothing changed for it
-line_kept : (first p q : ℕ) (gs new : List (Numbered Getting)) → p ≤ q → ((g : ℕ) (a : Numbered Getting) → at first new g ≡ Some a → gets_stand is_waiting a.standing ≡ true → at first gs g ≡ Some a) → InLine first p gs → InLine first q new
+line_kept : (first p q : ℕ) (gs new : List (Numbered Getting)) → p ≤ q
+    → ((g : ℕ) (a : Numbered Getting) → at first new g ≡ Some a → gets_stand is_waiting a.standing ≡ true → at first gs g ≡ Some a)
+    → InLine first p gs → InLine first q new
 line_kept first p q gs new later from i = record {
   below = λ g a e w. (let l : a.position < p = i.below g a (from g a e w) w in omega arith);
   apart = λ g h a b e f w v same. i.apart g h a b (from g a e w) (from h b f v) w v same;
@@ -306,7 +337,8 @@ line_begun first p gs i = line_kept first p (suc p) gs (gs ++ new_get ∷ []) (o
     pick g a w false e = e
 
 -- a get is changed, and does not wait
-pub line_left : (first p g : ℕ) (f : Numbered Getting → Numbered Getting) (gs : List (Numbered Getting)) (x : Numbered Getting) → at first gs g ≡ Some x → gets_stand is_waiting (f x).standing ≡ false → InLine first p gs → InLine first p (update first g f gs)
+pub line_left : (first p g : ℕ) (f : Numbered Getting → Numbered Getting) (gs : List (Numbered Getting)) (x : Numbered Getting)
+    → at first gs g ≡ Some x → gets_stand is_waiting (f x).standing ≡ false → InLine first p gs → InLine first p (update first g f gs)
 line_left first p g f gs x h off i = subst (InLine first p) (sym (numbered.update_is gs first g f x h)) (line_kept first p p gs (change first g (f x) gs) (omega arith) (λ q a e w.
     ⊎_elim
     (λ (t : (q ≡ g) × (a ≡ f x)). absurd (let clash : false ≡ true = sym off ∙ sym (ap (λ (y : Numbered Getting). gets_stand is_waiting y.standing) t.1) ∙ w in cc))
@@ -314,7 +346,8 @@ line_left first p g f gs x h off i = subst (InLine first p) (sym (numbered.updat
     (changed_at gs first g q (f x) x a h e)) i)
 
 -- a get comes into line last
-line_joined : (first p g : ℕ) (gs : List (Numbered Getting)) (x y : Numbered Getting) → at first gs g ≡ Some x → y.position ≡ p → gets_stand is_notified y.standing ≡ false → InLine first p gs → InLine first (suc p) (change first g y gs)
+line_joined : (first p g : ℕ) (gs : List (Numbered Getting)) (x y : Numbered Getting) → at first gs g ≡ Some x → y.position ≡ p
+    → gets_stand is_notified y.standing ≡ false → InLine first p gs → InLine first (suc p) (change first g y gs)
 line_joined first p g gs x y h last off i = record {
   below = λ q a e w. under q a (changed_at gs first g q y x a h e) w;
   apart = λ q r a b e f w v same. two q r a b (changed_at gs first g q y x a h e) (changed_at gs first g r y x b h f) w v same;
@@ -328,26 +361,37 @@ line_joined first p g gs x y h last off i = record {
     under q a (inl t) w = omega (arith, at_last a t.1)
     under q a (inr t) w = omega (arith, i.below q a t.1 w)
 
-    two : (q r : ℕ) (a b : Numbered Getting) → ((q ≡ g) × (a ≡ y)) ⊎ ((q ≢ g) × (at first gs q ≡ Some a)) → ((r ≡ g) × (b ≡ y)) ⊎ ((r ≢ g) × (at first gs r ≡ Some b)) → gets_stand is_waiting a.standing ≡ true → gets_stand is_waiting b.standing ≡ true → a.position ≡ b.position → q ≡ r
+    two : (q r : ℕ) (a b : Numbered Getting) → ((q ≡ g) × (a ≡ y)) ⊎ ((q ≢ g) × (at first gs q ≡ Some a)) → ((r ≡ g) × (b ≡ y))
+        ⊎ ((r ≢ g) × (at first gs r ≡ Some b)) → gets_stand is_waiting a.standing ≡ true → gets_stand is_waiting b.standing ≡ true
+        → a.position ≡ b.position → q ≡ r
     two q r a b (inl t) (inl u) w v same = t.0 ∙ sym u.0
     two q r a b (inl t) (inr u) w v same = absurd (omega (arith, at_last a t.1, i.below r b u.1 v, same))
     two q r a b (inr t) (inl u) w v same = absurd (omega (arith, at_last b u.1, i.below q a t.1 w, same))
     two q r a b (inr t) (inr u) w v same = i.apart q r a b t.1 u.1 w v same
 
-    in_turn : (q r : ℕ) (a b : Numbered Getting) → ((q ≡ g) × (a ≡ y)) ⊎ ((q ≢ g) × (at first gs q ≡ Some a)) → ((r ≡ g) × (b ≡ y)) ⊎ ((r ≢ g) × (at first gs r ≡ Some b)) → gets_stand is_notified a.standing ≡ true → gets_stand is_unnotified b.standing ≡ true → a.position < b.position
+    in_turn : (q r : ℕ) (a b : Numbered Getting) → ((q ≡ g) × (a ≡ y)) ⊎ ((q ≢ g) × (at first gs q ≡ Some a)) → ((r ≡ g) × (b ≡ y))
+        ⊎ ((r ≢ g) × (at first gs r ≡ Some b)) → gets_stand is_notified a.standing ≡ true → gets_stand is_unnotified b.standing ≡ true
+        → a.position < b.position
     in_turn q r a b (inl t) u w v = absurd (let clash : true ≡ false = sym w ∙ ap (λ (z : Numbered Getting). gets_stand is_notified z.standing) t.1 ∙ off in cc)
     in_turn q r a b (inr t) (inl u) w v = omega (arith, at_last b u.1, i.below q a t.1 (notified_waits a.standing w))
     in_turn q r a b (inr t) (inr u) w v = i.turn q r a b t.1 u.1 w v
 
-pub line_begins : (first now p g : ℕ) (gs : List (Numbered Getting)) (x : Numbered Getting) (s : Getting) → at first gs g ≡ Some x → x.standing ≡ Some s → gets_stand is_unnotified x.standing ≡ false → InLine first p gs → InLine first (suc p) (update first g (at_wait now p) gs)
+pub line_begins : (first now p g : ℕ) (gs : List (Numbered Getting)) (x : Numbered Getting) (s : Getting) → at first gs g ≡ Some x
+    → x.standing ≡ Some s → gets_stand is_unnotified x.standing ≡ false → InLine first p gs
+    → InLine first (suc p) (update first g (at_wait now p) gs)
 line_begins first now p g gs x s h is off i =
     let same : at_wait now p x ≡ waiter now p x.standing = begins_now now p x off in
     let last : (at_wait now p x).position ≡ p = ap (λ (z : Numbered Getting). z.position) same in
-    let not_notified : gets_stand is_notified (at_wait now p x).standing ≡ false = ap (λ (z : Numbered Getting). gets_stand is_notified z.standing) same ∙ ap (λ (o : Option Getting). gets_stand is_notified (option_map (get_in_wait now) o)) is in
+    let not_notified : gets_stand is_notified (at_wait now p x).standing ≡ false =
+    ap (λ (z : Numbered Getting). gets_stand is_notified z.standing) same
+    ∙ ap (λ (o : Option Getting). gets_stand is_notified (option_map (get_in_wait now) o)) is in
     subst (InLine first (suc p)) (sym (numbered.update_is gs first g (at_wait now p) x h)) (line_joined first p g gs x (at_wait now p x) h last not_notified i)
 
 -- the first of the unnotified is notified where it stands
-line_passed : (first p g : ℕ) (gs : List (Numbered Getting)) (x y : Numbered Getting) → at first gs g ≡ Some x → y.position ≡ x.position → gets_stand is_unnotified y.standing ≡ false → gets_stand is_unnotified x.standing ≡ true → ((h : ℕ) (b : Numbered Getting) → at first gs h ≡ Some b → gets_stand is_unnotified b.standing ≡ true → x.position ≤ b.position) → InLine first p gs → InLine first p (change first g y gs)
+line_passed : (first p g : ℕ) (gs : List (Numbered Getting)) (x y : Numbered Getting) → at first gs g ≡ Some x → y.position ≡ x.position
+    → gets_stand is_unnotified y.standing ≡ false → gets_stand is_unnotified x.standing ≡ true
+    → ((h : ℕ) (b : Numbered Getting) → at first gs h ≡ Some b → gets_stand is_unnotified b.standing ≡ true → x.position ≤ b.position)
+    → InLine first p gs → InLine first p (change first g y gs)
 line_passed first p g gs x y h there off on least i = record {
   below = λ q a e w. (let o = before q a (changed_at gs first g q y x a h e) w in omega (arith, o.2, i.below q o.0 o.1 o.3));
   apart = λ q r a b e f w v same.
@@ -358,11 +402,15 @@ line_passed first p g gs x y h there off on least i = record {
 }
   where
     -- who waits now waited before, since the same position
-    before : (q : ℕ) (a : Numbered Getting) → ((q ≡ g) × (a ≡ y)) ⊎ ((q ≢ g) × (at first gs q ≡ Some a)) → gets_stand is_waiting a.standing ≡ true → (b : Numbered Getting) × (at first gs q ≡ Some b) × (b.position ≡ a.position) × (gets_stand is_waiting b.standing ≡ true)
+    before : (q : ℕ) (a : Numbered Getting) → ((q ≡ g) × (a ≡ y)) ⊎ ((q ≢ g) × (at first gs q ≡ Some a))
+        → gets_stand is_waiting a.standing ≡ true → (b : Numbered Getting) × (at first gs q ≡ Some b) × (b.position ≡ a.position)
+        × (gets_stand is_waiting b.standing ≡ true)
     before q a (inl t) w = (x, subst (λ (j : ℕ). at first gs j ≡ Some x) (sym t.0) h, sym (ap (λ (z : Numbered Getting). z.position) t.1 ∙ there), unnotified_waits x.standing on)
     before q a (inr t) w = (a, t.1, refl, w)
 
-    in_turn : (q r : ℕ) (a b : Numbered Getting) → ((q ≡ g) × (a ≡ y)) ⊎ ((q ≢ g) × (at first gs q ≡ Some a)) → ((r ≡ g) × (b ≡ y)) ⊎ ((r ≢ g) × (at first gs r ≡ Some b)) → gets_stand is_notified a.standing ≡ true → gets_stand is_unnotified b.standing ≡ true → a.position < b.position
+    in_turn : (q r : ℕ) (a b : Numbered Getting) → ((q ≡ g) × (a ≡ y)) ⊎ ((q ≢ g) × (at first gs q ≡ Some a)) → ((r ≡ g) × (b ≡ y))
+        ⊎ ((r ≢ g) × (at first gs r ≡ Some b)) → gets_stand is_notified a.standing ≡ true → gets_stand is_unnotified b.standing ≡ true
+        → a.position < b.position
     in_turn q r a b t (inl u) w v = absurd (let clash : true ≡ false = sym v ∙ ap (λ (z : Numbered Getting). gets_stand is_unnotified z.standing) u.1 ∙ off in cc)
     in_turn q r a b (inl t) (inr u) w v =
         let same : a.position ≡ x.position = ap (λ (z : Numbered Getting). z.position) t.1 ∙ there in
@@ -374,13 +422,17 @@ line_passed first p g gs x y h there off on least i = record {
 pub line_notified : (first p : ℕ) (n : Option ℕ) (gs : List (Numbered Getting)) → n ≡ slice_get (in_order unnotified_at first gs p) 0 → InLine first p gs → InLine first p (with_notice first n gs)
 line_notified first p None gs is i = i
 line_notified first p (Some g) gs is i =
-    let t : (x : Numbered Getting) × (at first gs g ≡ Some x) × (q : ℕ) × (q < p) × (unnotified_at q x ≡ true) × ((h r : ℕ) (s : Numbered Getting) → at first gs h ≡ Some s → unnotified_at r s ≡ true → r < p → q ≤ r) = in_order_least unnotified_at gs first p g (sym is) in
+    let t : (x : Numbered Getting) × (at first gs g ≡ Some x) × (q : ℕ) × (q < p) × (unnotified_at q x ≡ true)
+    × ((h r : ℕ) (s : Numbered Getting) → at first gs h ≡ Some s → unnotified_at r s ≡ true → r < p → q ≤ r) =
+    in_order_least unnotified_at gs first p g (sym is) in
     let on : (gets_stand is_unnotified t.0.standing ≡ true) × (eqb t.0.position t.2 ≡ true) = and_right (gets_stand is_unnotified t.0.standing) _ t.4 in
     let here : t.0.position ≡ t.2 = numbered.tested t.0.position t.2 on.1 in
     let s = getting_is is_unnotified t.0.standing on.0 in
     let off : gets_stand is_unnotified (get_at_place (Waiting true) t.0).standing ≡ false = ap (λ (o : Option Getting). gets_stand is_unnotified (option_map (get_with_place (Waiting true)) o)) s.1 in
     let least : (h : ℕ) (b : Numbered Getting) → at first gs h ≡ Some b → gets_stand is_unnotified b.standing ≡ true → t.0.position ≤ b.position =
-    λ h b e w. (let l : t.2 ≤ b.position = t.5 h b.position b e (both (gets_stand is_unnotified b.standing) (eqb b.position b.position) w (numbered.eqb_self b.position)) (i.below h b e (unnotified_waits b.standing w)) in omega arith) in
+    λ h b e w. (let l : t.2 ≤ b.position = t.5 h b.position b e
+    (both (gets_stand is_unnotified b.standing) (eqb b.position b.position) w (numbered.eqb_self b.position))
+    (i.below h b e (unnotified_waits b.standing w)) in omega arith) in
     subst (InLine first p) (sym (numbered.update_is gs first g (get_at_place (Waiting true)) t.0 t.1)) (line_passed first p g gs t.0 (get_at_place (Waiting true) t.0) t.1 refl off on.0 least i)
   where
     both : (a b : Bool) → a ≡ true → b ≡ true → (a && b) ≡ true
@@ -388,7 +440,10 @@ line_notified first p (Some g) gs is i =
     both false b e f = cc
 
 -- a get that ends hands its notification on, where it was notified
-handed : (first m g : ℕ) (n : Option ℕ) (gs : List (Numbered Getting)) (x : Numbered Getting) (s : Getting) → at first gs g ≡ Some x → x.standing ≡ Some s → n ≡ cond (gets_stand is_notified (Some s)) (slice_get (in_order unnotified_at first gs m) 0) None → ((n ≡ None) × (is_notified s.place ≡ false)) ⊎ ((n ≡ slice_get (in_order unnotified_at first (update first g after_end gs) m) 0) × (s.place ≡ Waiting true))
+handed : (first m g : ℕ) (n : Option ℕ) (gs : List (Numbered Getting)) (x : Numbered Getting) (s : Getting) → at first gs g ≡ Some x
+    → x.standing ≡ Some s → n ≡ cond (gets_stand is_notified (Some s)) (slice_get (in_order unnotified_at first gs m) 0) None
+    → ((n ≡ None) × (is_notified s.place ≡ false))
+    ⊎ ((n ≡ slice_get (in_order unnotified_at first (update first g after_end gs) m) 0) × (s.place ≡ Waiting true))
 handed first m g n gs x s h is who = go s.place refl
   where
     line : ℕ → Option ℕ
@@ -405,24 +460,37 @@ handed first m g n gs x s h is who = go s.place refl
         let off : gets_stand is_unnotified x.standing ≡ false = ap (gets_stand is_unnotified) is ∙ ap is_unnotified place in
         inr (on (Waiting true) true place refl ∙ sym (ap (λ (xs : List ℕ). slice_get xs 0) (same_line first m g after_end gs x h off refl)), place)
 
-pub line_given_up : (first p g : ℕ) (n : Option ℕ) (gs : List (Numbered Getting)) (x : Numbered Getting) (s : Getting) → at first gs g ≡ Some x → x.standing ≡ Some s → n ≡ cond (gets_stand is_notified (Some s)) (slice_get (in_order unnotified_at first gs p) 0) None → InLine first p gs → InLine first p (with_notice first n (update first g after_end gs))
+pub line_given_up : (first p g : ℕ) (n : Option ℕ) (gs : List (Numbered Getting)) (x : Numbered Getting) (s : Getting)
+    → at first gs g ≡ Some x → x.standing ≡ Some s
+    → n ≡ cond (gets_stand is_notified (Some s)) (slice_get (in_order unnotified_at first gs p) 0) None → InLine first p gs
+    → InLine first p (with_notice first n (update first g after_end gs))
 line_given_up first p g n gs x s h is who i =
     ⊎_elim
-    (λ (t : (n ≡ None) × (is_notified s.place ≡ false)). subst (λ (o : Option ℕ). InLine first p (with_notice first o (update first g after_end gs))) (sym t.0) (line_left first p g after_end gs x h refl i))
-    (λ (t : (n ≡ slice_get (in_order unnotified_at first (update first g after_end gs) p) 0) × (s.place ≡ Waiting true)). line_notified first p n (update first g after_end gs) t.0 (line_left first p g after_end gs x h refl i))
+    (λ (t : (n ≡ None) × (is_notified s.place ≡ false)). subst
+    (λ (o : Option ℕ). InLine first p (with_notice first o (update first g after_end gs))) (sym t.0)
+    (line_left first p g after_end gs x h refl i))
+    (λ (t : (n ≡ slice_get (in_order unnotified_at first (update first g after_end gs) p) 0) × (s.place ≡ Waiting true)). line_notified
+    first p n (update first g after_end gs) t.0 (line_left first p g after_end gs x h refl i))
     (handed first p g n gs x s h is who)
 
 -- how many wait once a get has given up: one unnotified less at most, or one notification handed on
 abbrev pub IsGivenUp : (u n u' n' : ℕ) → Type 0
 IsGivenUp u n u' n' = ((b : ℕ) × (u' + b ≡ u) × (n' ≡ n)) ⊎ ((u' ≡ u - 1) × (n' + 1 ≡ n + min 1 u))
 
-pub given_up_counted : (first m g : ℕ) (n : Option ℕ) (gs : List (Numbered Getting)) (x : Numbered Getting) (s : Getting) → at first gs g ≡ Some x → x.standing ≡ Some s → n ≡ cond (gets_stand is_notified (Some s)) (slice_get (in_order unnotified_at first gs m) 0) None → Before unnotified_at m gs → IsGivenUp (tally_gets is_unnotified gs) (tally_gets is_notified gs) (tally_gets is_unnotified (with_notice first n (update first g after_end gs))) (tally_gets is_notified (with_notice first n (update first g after_end gs)))
+pub given_up_counted : (first m g : ℕ) (n : Option ℕ) (gs : List (Numbered Getting)) (x : Numbered Getting) (s : Getting)
+    → at first gs g ≡ Some x → x.standing ≡ Some s
+    → n ≡ cond (gets_stand is_notified (Some s)) (slice_get (in_order unnotified_at first gs m) 0) None → Before unnotified_at m gs
+    → IsGivenUp (tally_gets is_unnotified gs) (tally_gets is_notified gs)
+    (tally_gets is_unnotified (with_notice first n (update first g after_end gs)))
+    (tally_gets is_notified (with_notice first n (update first g after_end gs)))
 given_up_counted first m g n gs x s h is who b =
     let u : tally_gets is_unnotified (update first g after_end gs) + one (is_unnotified s.place) ≡ tally_gets is_unnotified gs = ended_counted is_unnotified first g gs x s h is in
     let v : tally_gets is_notified (update first g after_end gs) + one (is_notified s.place) ≡ tally_gets is_notified gs = ended_counted is_notified first g gs x s h is in
     ⊎_elim
     (λ (t : (n ≡ None) × (is_notified s.place ≡ false)).
-    let same : (test : GetPlace → Bool) → tally_gets test (with_notice first n (update first g after_end gs)) ≡ tally_gets test (update first g after_end gs) = λ test. ap (λ (o : Option ℕ). tally_gets test (with_notice first o (update first g after_end gs))) t.0 in
+    let same : (test : GetPlace → Bool) → tally_gets test (with_notice first n (update first g after_end gs)) ≡ tally_gets test
+    (update first g after_end gs) = λ test. ap (λ (o : Option ℕ). tally_gets test (with_notice first o (update first g after_end gs)))
+    t.0 in
     let off : one (is_notified s.place) ≡ 0 = ap one t.1 in
     inl (one (is_unnotified s.place), omega (arith, same is_unnotified), omega (arith, same is_notified)))
     (λ (t : (n ≡ slice_get (in_order unnotified_at first (update first g after_end gs) m) 0) × (s.place ≡ Waiting true)).
@@ -474,9 +542,12 @@ module _ {h m c a i u n l : ℕ} (was : Serves h m c a i u n l) where
   serves_handed_on conns_are approved_are idle_are unnotified_are notified_are lost_is = record { served = omega (arith, was.served); promised = λ open_now. omega (arith, was.promised open_now) }
 
   -- a get begins to wait: so much is due as it needs, and it is granted or withheld
-  pub serves_waits : {c' a' i' u' n' l' : ℕ} (v x w b q : ℕ) → (q ≡ 1) ⊎ (v ≤ a) → (0 < h → x + w ≡ min q (m - (c + a))) → u' + n' ≤ v → i ≡ 0 → c' ≡ c → a' ≡ a + x → i' ≡ i → u' ≡ u + 1 → n' + b ≡ n → b ≤ 1 → l' ≡ l + w → Serves h m c' a' i' u' n' l'
-  serves_waits v x w b q (inl one_asked) due few none conns_are approved_are idle_are unnotified_are notified_are once lost_is = record { served = omega arith; promised = λ open_now. omega (arith, was.promised open_now, due open_now) }
-  serves_waits v x w b q (inr enough) due few none conns_are approved_are idle_are unnotified_are notified_are once lost_is = record { served = omega arith; promised = λ open_now. omega (arith, was.promised open_now, due open_now) }
+  pub serves_waits : {c' a' i' u' n' l' : ℕ} (v x w b q : ℕ) → (q ≡ 1) ⊎ (v ≤ a) → (0 < h → x + w ≡ min q (m - (c + a))) → u' + n' ≤ v
+      → i ≡ 0 → c' ≡ c → a' ≡ a + x → i' ≡ i → u' ≡ u + 1 → n' + b ≡ n → b ≤ 1 → l' ≡ l + w → Serves h m c' a' i' u' n' l'
+  serves_waits v x w b q (inl one_asked) due few none conns_are approved_are idle_are unnotified_are notified_are once lost_is =
+      record { served = omega arith; promised = λ open_now. omega (arith, was.promised open_now, due open_now) }
+  serves_waits v x w b q (inr enough) due few none conns_are approved_are idle_are unnotified_are notified_are once lost_is =
+      record { served = omega arith; promised = λ open_now. omega (arith, was.promised open_now, due open_now) }
 
   -- an approval is given back
   pub serves_lost : {c' a' i' u' n' l' : ℕ} → c' ≡ c → a' + 1 ≡ a → i' ≡ i → u' ≡ u → n' ≡ n → l' ≡ l + 1 → Serves h m c' a' i' u' n' l'

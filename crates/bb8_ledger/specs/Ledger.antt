@@ -15,7 +15,7 @@ use Rattle.bb8_ledger.specs.Acts.{Act, Begin, Try, CheckedOk, CheckedErr, GiveUp
 use Rattle.bb8_ledger.specs.Answers.{Answer, Begun, Served, Taken, Kept, Closed, GaveUp, Granted, Entered, Late, GivenBack, Added, Reaped, Joined, Left, Unfit}
 use Rattle.bb8_ledger.specs.Answers as answers
 use Rattle.bb8_types.specs.Numbered.{Numbered, at, update, numbers, in_order, tally, one, standing_at, after_end, after_end_where}
-use Rattle.bb8_types.specs.Places.{is_conn, is_unclaimed, is_idle, is_approval, is_out, stands, is_unnotified, is_notified, gets_stand, holds, first_wait_of, is_expired, micros_since, is_reaped, is_left, with_place, birth_in, get_with_place, get_in_wait, first_of}
+use Rattle.bb8_types.specs.Places.{is_conn, is_unclaimed, is_idle, is_approval, is_out, stands, is_unnotified, is_notified, gets_stand, first_wait_of, is_expired, micros_since, is_reaped, is_left, with_place, birth_in, get_with_place, get_in_wait, first_of}
 use Rattle.bb8_types.specs.Bounds.{most_micros}
 
 -- What a pool begins with.

@@ -138,7 +138,8 @@ module _ {C : Type 0} where
 
   -- each notified waiter waits since an earlier position than each that was not notified
   abbrev pub AreInTurn : Ledger C → Type 0
-  AreInTurn l = (g h : ℕ) (a b : Numbered Getting) → numbered_get l g ≡ Some a → numbered_get l h ≡ Some b → gets_stand is_notified a.standing ≡ true → gets_stand is_unnotified b.standing ≡ true → a.position < b.position
+  AreInTurn l = (g h : ℕ) (a b : Numbered Getting) → numbered_get l g ≡ Some a → numbered_get l h ≡ Some b
+      → gets_stand is_notified a.standing ≡ true → gets_stand is_unnotified b.standing ≡ true → a.position < b.position
 
   -- The promises to those who wait: no notification is lost or out of turn.
   pub record KeepsPromises (l : Ledger C) : Type 0 where

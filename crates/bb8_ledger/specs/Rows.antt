@@ -74,7 +74,8 @@ adds k = Add k false
 
 -- the figures of a state, in the order in which a state is printed; the wait time in microseconds
 infix 70 connections◌idle◌started◌direct◌waited◌timed_out◌cancelled◌wait_us◌created◌broken◌invalid◌lifetime◌idle_timeout◌
-abbrev pub connections◌idle◌started◌direct◌waited◌timed_out◌cancelled◌wait_us◌created◌broken◌invalid◌lifetime◌idle_timeout◌ : (connections idle started direct waited timed_out cancelled wait_us created broken invalid lifetime idle_timeout : ℕ) → Figures
+abbrev pub connections◌idle◌started◌direct◌waited◌timed_out◌cancelled◌wait_us◌created◌broken◌invalid◌lifetime◌idle_timeout◌ : (connections
+    idle started direct waited timed_out cancelled wait_us created broken invalid lifetime idle_timeout : ℕ) → Figures
 connections c idle i started s direct d waited w timed_out t cancelled x wait_us u created n broken b invalid v lifetime l idle_timeout j = record {
   connections = c;
   idle = i;

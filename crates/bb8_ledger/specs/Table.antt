@@ -1,5 +1,5 @@
 -- The step table: which events fit, and which answers each may have.
-use Rattle.std.specs.Prelude.{◌≡◌, ◌≢◌, ℕ, ◌+◌, ◌-◌, ◌<◌, ◌≤◌, max, Bool, true, false, ◌&&◌, ◌||◌, not, eqb, ltb, cond, Option, Some, None, is_some, slice_get, length, map, List}
+use Rattle.std.specs.Prelude.{◌≡◌, ◌≢◌, ℕ, ◌+◌, ◌<◌, ◌≤◌, max, Bool, true, false, ◌&&◌, ◌||◌, not, eqb, ltb, cond, Option, Some, None, is_some, slice_get, length, map, List}
 use Rattle.std.specs.Bool.{MatchBool}
 use Rattle.bb8_types.specs.declared.grants.Grant.{Grant}
 use Rattle.bb8_types.specs.declared.standing.Standing.{Standing}
@@ -77,16 +77,26 @@ module _ {C : Type 0} where
     begin_refused : next_get l < end_of_numbers → alive l ≡ get_peak l → Row l at Begin Memory
     begin_exhausted : end_of_numbers ≤ next_get l → Row l at Begin Exhausted
     waits_on : {g : ℕ} {grant : Grant} → gets_stand is_unnotified (get_of l g) ≡ true → IsNoGrant (next l) grant → Row l at (Try g) (Waiting grant)
-    serves : {g k : ℕ} {grant : Grant} → gets_stand is_unnotified (get_of l g) ≡ false → (start l).config.test_on_check_out ≡ false → first_idle l ≡ Some k → IsWant l (with_record l k (at_place Guarded)) grant → Row l at (Try g) (Served k grant)
-    takes_out : {g k : ℕ} {grant : Grant} → gets_stand is_unnotified (get_of l g) ≡ false → (start l).config.test_on_check_out ≡ true → first_idle l ≡ Some k → IsWant l (with_record l k (at_place (Held g))) grant → Row l at (Try g) (Taken k grant)
-    waits : {g : ℕ} {grant : Grant} → gets_stand is_unnotified (get_of l g) ≡ false → first_idle l ≡ None → IsGranted (next l) (conns l + approved l) (peak l) (due (start l).config (handles l) (conns l + approved l) (one (ltb (approved l) (alive l)))) grant → Row l at (Try g) (Waiting grant)
+    serves : {g k : ℕ} {grant : Grant} → gets_stand is_unnotified (get_of l g) ≡ false → (start l).config.test_on_check_out ≡ false
+        → first_idle l ≡ Some k → IsWant l (with_record l k (at_place Guarded)) grant → Row l at (Try g) (Served k grant)
+    takes_out : {g k : ℕ} {grant : Grant} → gets_stand is_unnotified (get_of l g) ≡ false → (start l).config.test_on_check_out ≡ true
+        → first_idle l ≡ Some k → IsWant l (with_record l k (at_place (Held g))) grant → Row l at (Try g) (Taken k grant)
+    waits : {g : ℕ} {grant : Grant} → gets_stand is_unnotified (get_of l g) ≡ false → first_idle l ≡ None
+        → IsGranted (next l) (conns l + approved l) (peak l)
+        (due (start l).config (handles l) (conns l + approved l) (one (ltb (approved l) (alive l)))) grant
+        → Row l at (Try g) (Waiting grant)
     checks : {g k : ℕ} {grant : Grant} → holds (get_of l g) ≡ Some k → IsNoGrant (next l) grant → Row l at (CheckedOk g) (Served k grant)
-    check_fails : {g k : ℕ} {broken : Bool} {grant : Grant} {n : Option ℕ} → holds (get_of l g) ≡ Some k → IsWant l (with_record l k after_end) grant → n ≡ oldest_waiter l → Row l at (CheckedErr g broken) (Closed k grant n)
+    check_fails : {g k : ℕ} {broken : Bool} {grant : Grant} {n : Option ℕ} → holds (get_of l g) ≡ Some k
+        → IsWant l (with_record l k after_end) grant → n ≡ oldest_waiter l → Row l at (CheckedErr g broken) (Closed k grant n)
     gives_up : {g : ℕ} {why : Reason} {broken : Bool} {n : Option ℕ} → n ≡ cond (gets_stand is_notified (get_of l g)) (oldest_waiter l) None → Row l at (GiveUp g why None broken) (GaveUp n)
-    gives_up_kept : {g k : ℕ} {why : Reason} {c : C} {broken : Bool} {n : Option ℕ} → holds (get_of l g) ≡ Some k → closes l at k broken ≡ false → n ≡ oldest_waiter l → Row l at (GiveUp g why (Some c) broken) (Kept k n)
-    gives_up_closed : {g k : ℕ} {why : Reason} {c : C} {broken : Bool} {grant : Grant} {n : Option ℕ} → holds (get_of l g) ≡ Some k → closes l at k broken ≡ true → IsWant l (with_record l k after_end) grant → n ≡ oldest_waiter l → Row l at (GiveUp g why (Some c) broken) (Closed k grant n)
+    gives_up_kept : {g k : ℕ} {why : Reason} {c : C} {broken : Bool} {n : Option ℕ} → holds (get_of l g) ≡ Some k
+        → closes l at k broken ≡ false → n ≡ oldest_waiter l → Row l at (GiveUp g why (Some c) broken) (Kept k n)
+    gives_up_closed : {g k : ℕ} {why : Reason} {c : C} {broken : Bool} {grant : Grant} {n : Option ℕ} → holds (get_of l g) ≡ Some k
+        → closes l at k broken ≡ true → IsWant l (with_record l k after_end) grant → n ≡ oldest_waiter l
+        → Row l at (GiveUp g why (Some c) broken) (Closed k grant n)
     keeps : {k : ℕ} {c : C} {broken : Bool} {n : Option ℕ} → closes l at k broken ≡ false → n ≡ oldest_waiter l → Row l at (PutBack k c broken) (Kept k n)
-    returns_closed : {k : ℕ} {c : C} {broken : Bool} {grant : Grant} {n : Option ℕ} → closes l at k broken ≡ true → IsWant l (with_record l k after_end) grant → n ≡ oldest_waiter l → Row l at (PutBack k c broken) (Closed k grant n)
+    returns_closed : {k : ℕ} {c : C} {broken : Bool} {grant : Grant} {n : Option ℕ} → closes l at k broken ≡ true
+        → IsWant l (with_record l k after_end) grant → n ≡ oldest_waiter l → Row l at (PutBack k c broken) (Closed k grant n)
     fills : {claimed : Bool} {grant : Grant} → IsWant l (records l) grant → Row l at (Fill claimed) (Granted grant)
     claims : {k : Option ℕ} → 0 < handles l → slice_get (unclaimed l) 0 ≡ k → Row l at Claim (Claimed k)
     claim_ended : handles l ≡ 0 → Row l at Claim Ended
@@ -99,7 +109,10 @@ module _ {C : Type 0} where
     add_refused : {c : C} → conns l + approved l ≢ (start l).config.max_size → next l < end_of_numbers → conns l + approved l ≡ peak l → Row l at (Add c false) Withheld
     adds : {k : ℕ} {c : C} {n : Option ℕ} → conns l + approved l ≢ (start l).config.max_size → next l < end_of_numbers → k ≡ next l → n ≡ oldest_waiter l → Row l at (Add c false) (Added k n)
     reap_ended : handles l ≡ 0 → Row l at Reap Ended
-    reaps : {closed by_idle by_life : ℕ} {grant : Grant} → 0 < handles l → closed ≡ reap_count is_reaped l at → by_idle ≡ reap_count idles_out l at → by_life ≡ reap_count lives_out l at → IsWant l (map (after_end_where (is_reaped (start l).config (max (latest l) at))) (records l)) grant → Row l at Reap (Reaped closed by_idle by_life grant)
+    reaps : {closed by_idle by_life : ℕ} {grant : Grant} → 0 < handles l → closed ≡ reap_count is_reaped l at
+        → by_idle ≡ reap_count idles_out l at → by_life ≡ reap_count lives_out l at
+        → IsWant l (map (after_end_where (is_reaped (start l).config (max (latest l) at))) (records l)) grant
+        → Row l at Reap (Reaped closed by_idle by_life grant)
     shows : Row l at State (Shown (figures l))
     joins : handles l < most_handles → Row l at Join Joined
     join_exhausted : most_handles ≤ handles l → Row l at Join Exhausted

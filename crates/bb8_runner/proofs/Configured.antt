@@ -33,7 +33,8 @@ cut_at : (name value : List ℕ) → AreOver 61 name → cut (name ++ 61 ∷ val
 unfolding cut
 cut_at name value h =
     let p = position_in name value h in
-    let inside : eqb (length name) (length (name ++ 61 ∷ value)) ≡ false = not_true _ (λ w. omega (arith, length-append name (61 ∷ value), (Decides-eqb (length name) (length (name ++ 61 ∷ value))).0 w)) in
+    let inside : eqb (length name) (length (name ++ 61 ∷ value)) ≡ false =
+    not_true _ (λ w. omega (arith, length-append name (61 ∷ value), (Decides-eqb (length name) (length (name ++ 61 ∷ value))).0 w)) in
     rw (p, inside, take-append_seam name (61 ∷ value), drop-append-add name (61 ∷ value) 1) refl
 
 cut_pick : (b : Bool) (x p : List ℕ × List ℕ) → cond b None (Some x) ≡ Some p → (b ≡ false) × (x ≡ p)
@@ -310,7 +311,8 @@ record AreSet (o : Overrides) (fields : List (List ℕ)) (q : Overrides) : Type 
   unset : AreUnset o settings
   then : q ≡ all_set o settings
 
-more_set : (o p q : Overrides) (field : List ℕ) (parts : List ℕ × List ℕ) (fields : List (List ℕ)) → field ≡ parts.0 ++ 61 ∷ parts.1 → IsSet o parts.0 parts.1 p → AreSet p fields q → AreSet o (field ∷ fields) q
+more_set : (o p q : Overrides) (field : List ℕ) (parts : List ℕ × List ℕ) (fields : List (List ℕ)) → field ≡ parts.0 ++ 61 ∷ parts.1
+    → IsSet o parts.0 parts.1 p → AreSet p fields q → AreSet o (field ∷ fields) q
 unfolding all_set
 more_set o p q field parts fields cut first rest =
     let back = all_were o first.setting rest.settings (subst (λ p. AreUnset p rest.settings) first.then rest.unset) in
@@ -318,16 +320,21 @@ more_set o p q field parts fields cut first rest =
       settings = first.setting ∷ rest.settings;
       fit = (first.fits, rest.fit);
       distinct = (back.0, rest.distinct);
-      spelled = ap (λ x. x ∷ fields) (cut ∙ ap (λ x. x ++ 61 ∷ parts.1) first.named ∙ ap (λ x. name_of first.setting ++ 61 ∷ x) first.valued) ∙ ap (λ xs. setting_field first.setting ∷ xs) rest.spelled;
+      spelled = ap (λ x. x ∷ fields) (cut ∙ ap (λ x. x ++ 61 ∷ parts.1) first.named
+          ∙ ap (λ x. name_of first.setting ++ 61 ∷ x) first.valued) ∙ ap (λ xs. setting_field first.setting ∷ xs) rest.spelled;
       unset = (first.unset, back.1);
       then = rest.then ∙ ap (λ p. all_set p rest.settings) first.then;
     }
 
-setting_next : (o q : Overrides) (field : List ℕ) (fields : List (List ℕ)) (parts : List ℕ × List ℕ) (r : Option Overrides) → ((p : Overrides) → overrides_from p fields ≡ Some q → AreSet p fields q) → cut field ≡ Some parts → with_setting o parts.0 parts.1 ≡ r → (r >>= λ p. overrides_from p fields) ≡ Some q → AreSet o (field ∷ fields) q
+setting_next : (o q : Overrides) (field : List ℕ) (fields : List (List ℕ)) (parts : List ℕ × List ℕ) (r : Option Overrides)
+    → ((p : Overrides) → overrides_from p fields ≡ Some q → AreSet p fields q) → cut field ≡ Some parts → with_setting o parts.0 parts.1 ≡ r
+    → (r >>= λ p. overrides_from p fields) ≡ Some q → AreSet o (field ∷ fields) q
 setting_next o q field fields parts None rest c s e = cc
 setting_next o q field fields parts (Some p) rest c s e = more_set o p q field parts fields (cut_spelled field parts c) (setting_spelled o parts.0 parts.1 p s) (rest p e)
 
-cut_next : (o q : Overrides) (field : List ℕ) (fields : List (List ℕ)) (r : Option (List ℕ × List ℕ)) → ((p : Overrides) → overrides_from p fields ≡ Some q → AreSet p fields q) → cut field ≡ r → (r >>= λ parts. with_setting o parts.0 parts.1 >>= λ p. overrides_from p fields) ≡ Some q → AreSet o (field ∷ fields) q
+cut_next : (o q : Overrides) (field : List ℕ) (fields : List (List ℕ)) (r : Option (List ℕ × List ℕ))
+    → ((p : Overrides) → overrides_from p fields ≡ Some q → AreSet p fields q) → cut field ≡ r
+    → (r >>= λ parts. with_setting o parts.0 parts.1 >>= λ p. overrides_from p fields) ≡ Some q → AreSet o (field ∷ fields) q
 cut_next o q field fields None rest c e = cc
 cut_next o q field fields (Some parts) rest c e = setting_next o q field fields parts (with_setting o parts.0 parts.1) rest c refl e
 

@@ -5,7 +5,9 @@ use Rattle.bb8_core.specs.declared.replay.events.Event.{Event}
 use Rattle.bb8_runner.specs.Grammar.{event_of}
 use Rattle.bb8_runner.specs.Script.{IsFirstNoEvent}
 
-pub first_no_event : (xs : List (Bor (List ℕ))) (i number : ℕ) (events : List Event) (d : Bor (List ℕ)) → i < length xs → map event_of (map (λ x. x.now) (take i xs)) ≡ map Some events → number ≡ i + 2 → event_of (get_or xs i d).now ≡ None → IsFirstNoEvent (map (λ x. x.now) xs) number
+pub first_no_event : (xs : List (Bor (List ℕ))) (i number : ℕ) (events : List Event) (d : Bor (List ℕ)) → i < length xs
+    → map event_of (map (λ x. x.now) (take i xs)) ≡ map Some events → number ≡ i + 2 → event_of (get_or xs i d).now ≡ None
+    → IsFirstNoEvent (map (λ x. x.now) xs) number
 first_no_event xs i number events d below each counted bad =
     let len : length events ≡ i = omega (arith, simp (length-map, length-take) at (ap length each), length-take i xs) in
     record {

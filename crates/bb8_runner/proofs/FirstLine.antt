@@ -25,7 +25,8 @@ module _ (o : Overrides) (xs : List (Bor (List ℕ))) (i : ℕ) (d : Bor (List �
   pub no_setting : (p : List ℕ × List ℕ) → Some p ≡ cut (get_or xs i d).now → None ≡ with_setting o p.0 p.1 → overrides_from o (map (λ x. x.now) (drop i xs)) ≡ None
   no_setting p e f = turn ∙ ap (λ r. r >>= λ p. with_setting o p.0 p.1 >>= λ q. overrides_from q rest) (sym e) ∙ ap (λ r. r >>= λ q. overrides_from q rest) (sym f)
 
-  pub one_more : (p : List ℕ × List ℕ) (q : Overrides) → Some p ≡ cut (get_or xs i d).now → Some q ≡ with_setting o p.0 p.1 → overrides_from o (map (λ x. x.now) (drop i xs)) ≡ overrides_from q (map (λ x. x.now) (drop (i + 1) xs))
+  pub one_more : (p : List ℕ × List ℕ) (q : Overrides) → Some p ≡ cut (get_or xs i d).now → Some q ≡ with_setting o p.0 p.1
+      → overrides_from o (map (λ x. x.now) (drop i xs)) ≡ overrides_from q (map (λ x. x.now) (drop (i + 1) xs))
   unfolding rest
   one_more p q e f = turn ∙ ap (λ r. r >>= λ p. with_setting o p.0 p.1 >>= λ q. overrides_from q rest) (sym e) ∙ ap (λ r. r >>= λ q. overrides_from q rest) (sym f)
 

@@ -84,15 +84,18 @@ worded_spelled : (verb word : List ℕ) (a : Act) → worded_act verb word ≡ S
 worded_spelled verb word a =
     let P : Act → Type 0 = SpellsAct verb (word ∷ []) in
     let same = λ (x y : List ℕ) (t : bytes_eq x y ≡ true). (bytes_eq-Decides x y).0 t in
-    pick (bytes_eq verb (codes "fill") && bytes_eq word (codes "claimed")) (Fill true) _ a P (λ t. let h = both _ _ t in (same verb (codes "fill") h.0, ap (λ x. x ∷ []) (same word (codes "claimed") h.1), tt)) (
-    pick (bytes_eq verb (codes "add") && bytes_eq word (codes "broken")) (Add true) _ a P (λ t. let h = both _ _ t in (same verb (codes "add") h.0, ap (λ x. x ∷ []) (same word (codes "broken") h.1), tt)) (
+    pick (bytes_eq verb (codes "fill") && bytes_eq word (codes "claimed")) (Fill true) _ a P
+    (λ t. let h = both _ _ t in (same verb (codes "fill") h.0, ap (λ x. x ∷ []) (same word (codes "claimed") h.1), tt)) (
+    pick (bytes_eq verb (codes "add") && bytes_eq word (codes "broken")) (Add true) _ a P
+    (λ t. let h = both _ _ t in (same verb (codes "add") h.0, ap (λ x. x ∷ []) (same word (codes "broken") h.1), tt)) (
     λ w. absurd (never a w)))
 
 one_arg : (verb arg : List ℕ) (a : Act) (o : Option ℕ) → number_of 64 arg ≡ o → unwrap_or (option_map (numbered_act verb) o) (worded_act verb arg) ≡ Some a → SpellsAct verb (arg ∷ []) a
 one_arg verb arg a None s e = worded_spelled verb arg a e
 one_arg verb arg a (Some n) s e = let h = number_spelled 64 arg n s in numbered_spelled verb arg n a h.0 h.1 e
 
-two_args : (verb arg word : List ℕ) (a : Act) (b : Bool) (o : Option ℕ) → bytes_eq word (codes "broken") ≡ b → number_of 64 arg ≡ o → cond b (o >>= broken_act verb) None ≡ Some a → SpellsAct verb (arg ∷ word ∷ []) a
+two_args : (verb arg word : List ℕ) (a : Act) (b : Bool) (o : Option ℕ) → bytes_eq word (codes "broken") ≡ b → number_of 64 arg ≡ o
+    → cond b (o >>= broken_act verb) None ≡ Some a → SpellsAct verb (arg ∷ word ∷ []) a
 two_args verb arg word a true (Some n) t s e =
     let h = number_spelled 64 arg n s in
     broken_spelled verb arg word n a h.0 h.1 ((bytes_eq-Decides word (codes "broken")).0 t) e
@@ -106,14 +109,21 @@ act_spelled verb (arg ∷ []) a e = one_arg verb arg a (number_of 64 arg) refl e
 act_spelled verb (arg ∷ word ∷ []) a e = two_args verb arg word a (bytes_eq word (codes "broken")) (number_of 64 arg) refl refl e
 act_spelled verb (arg ∷ word ∷ more ∷ rest) a e = absurd (never a e)
 
-event_step : (moment verb : List ℕ) (args : List (List ℕ)) (e : Event) (n : Option ℕ) (a : Option Act) → number_of 64 moment ≡ n → act_of verb args ≡ a → (n >>= λ at. a >>= λ act. Some (record { at = record { 0 = at }; act = act })) ≡ Some e → SpellsEvent (moment ∷ verb ∷ args) e
+event_step : (moment verb : List ℕ) (args : List (List ℕ)) (e : Event) (n : Option ℕ) (a : Option Act) → number_of 64 moment ≡ n
+    → act_of verb args ≡ a → (n >>= λ at. a >>= λ act. Some (record { at = record { 0 = at }; act = act })) ≡ Some e
+    → SpellsEvent (moment ∷ verb ∷ args) e
 event_step moment verb args e None a s t w = cc
 event_step moment verb args e (Some n) None s t w = cc
 event_step moment verb args e (Some n) (Some a) s t w =
     let h = number_spelled 64 moment n s in
     let g = act_spelled verb args a t in
     let same : (record { at = record { 0 = n }; act = a }) ≡ e = cc in
-    subst (SpellsEvent (moment ∷ verb ∷ args)) same (record { fits = record { moment = h.0; act = g.2 }; spelled = ap (λ x. x ∷ verb ∷ args) h.1 ∙ ap (λ x. decimal n ∷ x ∷ args) g.0 ∙ ap (λ x. decimal n ∷ verb_of a ∷ x) g.1 })
+    subst (SpellsEvent (moment ∷ verb ∷ args)) same
+    (record {
+      fits = record { moment = h.0; act = g.2 };
+      spelled = ap (λ x. x ∷ verb ∷ args) h.1 ∙ ap (λ x. decimal n ∷ x ∷ args) g.0
+          ∙ ap (λ x. decimal n ∷ verb_of a ∷ x) g.1;
+    })
 
 pub event_spelled : (fields : List (List ℕ)) (e : Event) → event_of_fields fields ≡ Some e → SpellsEvent fields e
 unfolding event_of_fields

@@ -11,20 +11,25 @@ ghost use Rattle.bb8_runner.specs.Text.{answer_text, state_text};
 
 /// A line is the event that its fields spell, and no other line is an event.
 pub fn one_spelling()
-    ensures read { (line : List ℕ) (e : Event) → SpellsEvent (fields_of line) e → event_of line ≡ Some e }
-    ensures spelled { (line : List ℕ) (e : Event) → event_of line ≡ Some e → SpellsEvent (fields_of line) e }
+    ensures read { (line : List ℕ) (e : Event) → SpellsEvent (fields_of line) e
+        → event_of line ≡ Some e }
+    ensures spelled { (line : List ℕ) (e : Event) → event_of line ≡ Some e
+        → SpellsEvent (fields_of line) e }
 {}
 
 /// A line is the configuration that its fields spell, and no other line is a configuration.
 pub fn one_configuration()
-    ensures read { (line : List ℕ) (s : Settings) → SpellsSettings (fields_of line) s → settings_of_line line ≡ Some s }
-    ensures spelled { (line : List ℕ) (s : Settings) → settings_of_line line ≡ Some s → SpellsSettings (fields_of line) s }
+    ensures read { (line : List ℕ) (s : Settings) → SpellsSettings (fields_of line) s
+        → settings_of_line line ≡ Some s }
+    ensures spelled { (line : List ℕ) (s : Settings) → settings_of_line line ≡ Some s
+        → SpellsSettings (fields_of line) s }
 {}
 
 /// An event's own line is read as that event, so no two events that differ have the same line.
 pub fn distinct_lines()
     ensures own { (e : Event) → FitsEvent e → event_of (event_line e) ≡ Some e }
-    ensures distinct { (e f : Event) → FitsEvent e → FitsEvent f → event_line e ≡ event_line f → e ≡ f }
+    ensures distinct { (e f : Event) → FitsEvent e → FitsEvent f → event_line e ≡ event_line f
+        → e ≡ f }
 {}
 
 /// No answer and no state line has a line feed inside, so that each is one line of the output.

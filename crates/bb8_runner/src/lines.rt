@@ -57,7 +57,8 @@ fn without_line_feed(input: &[u8]) -> &[u8]
 }
 
 fn pieces_of(alloc: Global, input: &[u8]) -> Result<Vec<&[u8]>, AllocError>
-    ensures { IfOk result (λ lines. map (λ x. x.now) lines.items ≡ slice_split (λ b. b == 10) input.now) }
+    ensures { IfOk result (λ lines. map (λ x. x.now) lines.items ≡ slice_split
+        (λ b. b == 10) input.now) }
 {
     input.split(|b| *b == b'\n').collect(alloc)
 }
@@ -71,7 +72,8 @@ pub fn lines_of(alloc: Global, input: &[u8]) -> Result<Vec<&[u8]>, AllocError>
 }
 
 fn events_of(alloc: Global, lines: &[&[u8]]) -> Result<Vec<Event>, NoScript>
-    ensures read { IfOk result (λ events. map event_of (map (λ x. x.now) lines.now) ≡ map Some events.items) }
+    ensures read { IfOk result (λ events. map event_of
+        (map (λ x. x.now) lines.now) ≡ map Some events.items) }
     ensures bad { IfErr result (λ e. IsEventFault (map (λ x. x.now) lines.now) e) }
 {
     let mut events = Vec::new(alloc);
@@ -90,7 +92,8 @@ fn events_of(alloc: Global, lines: &[&[u8]]) -> Result<Vec<Event>, NoScript>
 /// first bad line.
 pub fn script_of(alloc: Global, lines: &[&[u8]]) -> Result<Script, NoScript>
     ensures lawful { IfOk result (λ s. is_lawful (settings_of s.config) ≡ true) }
-    ensures read { IfOk result (λ s. Spells (map (λ x. x.now) lines.now) (settings_of s.config) s.events.items) }
+    ensures read { IfOk result (λ s. Spells (map (λ x. x.now) lines.now)
+        (settings_of s.config) s.events.items) }
     ensures bad { IfErr result (λ e. IsFault (map (λ x. x.now) lines.now) e) }
 {
     let [first, others @ ..] = lines else {

@@ -162,7 +162,8 @@ fn config_from(overrides: Overrides) -> Config
 #[tactic(auto, unfolding(crate::specs::Opening::settings_of_fields))]
 fn config_of_fields(fields: &[&str]) -> Option<Config>
     ensures lawful { IfSome result (λ config. is_lawful (settings_of config) ≡ true) }
-    ensures read { option_map settings_of result ≡ settings_of_fields (map (λ x. x.now) fields.now) }
+    ensures read { option_map settings_of result ≡ settings_of_fields
+        (map (λ x. x.now) fields.now) }
 {
     let [word, fields @ ..] = fields else {
         return None;
@@ -177,8 +178,10 @@ fn config_of_fields(fields: &[&str]) -> Option<Config>
 /// The configuration that a line is: the word `config` and settings, each at most once. None where it is none that a pool can hold to,
 /// Err where memory was refused.
 pub fn config_of(alloc: Global, line: &[u8]) -> Result<Option<Config>, AllocError>
-    ensures lawful { IfOk result (λ config. IfSome config (λ config. is_lawful (settings_of config) ≡ true)) }
-    ensures read { IfOk result (λ config. option_map settings_of config ≡ settings_of_line line.now) }
+    ensures lawful { IfOk result (λ config. IfSome config
+        (λ config. is_lawful (settings_of config) ≡ true)) }
+    ensures read { IfOk result (λ config. option_map settings_of config ≡ settings_of_line
+        line.now) }
 {
     let Ok(text) = str::from_utf8(line) else {
         return Ok(None);

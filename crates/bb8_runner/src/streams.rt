@@ -19,7 +19,8 @@ pub trait Source {
 
     /// All that is left to read. `Read` where a read failed, `Memory` where memory was refused.
     fn read_whole(&mut self, alloc: Global) -> Result<Vec<u8>, Fault>
-        ensures bytes { IfOk result (λ input. IfSome (remaining self.old) (λ bytes. input.items ≡ bytes)) }
+        ensures bytes { IfOk result (λ input. IfSome (remaining self.old)
+            (λ bytes. input.items ≡ bytes)) }
         ensures end { OnOk result (IsAtEnd (remaining self.new)) }
         ensures failed { IsErrOf result Fault.Read → read_fails self.old self.new }
         ensures reads { IfErr result (λ e. e ≢ Fault.Write) };

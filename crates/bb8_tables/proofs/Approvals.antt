@@ -25,7 +25,8 @@ module _ {C : Type 0} where
   approve-peak c zero p s = refl
   approve-peak c (suc n) p s = ap (machine.after_approval c) (approve-peak c n p s)
 
-  pub approve-raised : (c : Bool) (n p : ℕ) (s : ShownRecords C) → p ≡ max s.peak (s.conns + s.approved + n) → machine.after_approvals c n (record s { peak = p }) ≡ machine.with_peak (machine.after_approvals c n s)
+  pub approve-raised : (c : Bool) (n p : ℕ) (s : ShownRecords C) → p ≡ max s.peak (s.conns + s.approved + n)
+      → machine.after_approvals c n (record s { peak = p }) ≡ machine.with_peak (machine.after_approvals c n s)
   approve-raised c n p s is =
       approve-peak c n p s
       ∙ ap (λ (q : ℕ). record (machine.after_approvals c n s) { peak = q })

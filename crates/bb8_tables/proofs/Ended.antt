@@ -6,7 +6,9 @@ use Rattle.bb8_tables.specs.Machine as machine
 
 module _ {C : Type 0} where
   -- one more of the idles has ended
-  pub idles_step : (s t : ShownRecords C) (o : Option Key) → IfSome o (λ key. (slice_get s.idle 0 ≡ Some key.number) × (t ≡ machine.after_idle_end key.number s)) → IfNone o ((slice_get s.idle 0 ≡ None) × (t ≡ s)) → machine.after_idle_ends t.idle t ≡ machine.after_idle_ends s.idle s
+  pub idles_step : (s t : ShownRecords C) (o : Option Key)
+      → IfSome o (λ key. (slice_get s.idle 0 ≡ Some key.number) × (t ≡ machine.after_idle_end key.number s))
+      → IfNone o ((slice_get s.idle 0 ≡ None) × (t ≡ s)) → machine.after_idle_ends t.idle t ≡ machine.after_idle_ends s.idle s
   idles_step s t None some none = ap (λ (x : ShownRecords C). machine.after_idle_ends x.idle x) none.1
   idles_step s t (Some key) some none = ap (λ (x : ShownRecords C). machine.after_idle_ends x.idle x) some.1 ∙ go s.idle some.0
     where
@@ -15,7 +17,9 @@ module _ {C : Type 0} where
       go (x ∷ xs) h = let same : key.number ≡ x = cc in ap (λ (k : ℕ). machine.after_idle_ends xs (machine.after_idle_end k s)) same
 
   -- so the line is shorter by one
-  pub idles_shorter : (s t : ShownRecords C) (o : Option Key) (n m : ℕ) → IfSome o (λ key. (slice_get s.idle 0 ≡ Some key.number) × (t ≡ machine.after_idle_end key.number s)) → IfNone o ((slice_get s.idle 0 ≡ None) × (t ≡ s)) → n < m → length s.idle + n ≡ m → length t.idle + (n + 1) ≡ m
+  pub idles_shorter : (s t : ShownRecords C) (o : Option Key) (n m : ℕ)
+      → IfSome o (λ key. (slice_get s.idle 0 ≡ Some key.number) × (t ≡ machine.after_idle_end key.number s))
+      → IfNone o ((slice_get s.idle 0 ≡ None) × (t ≡ s)) → n < m → length s.idle + n ≡ m → length t.idle + (n + 1) ≡ m
   idles_shorter s t None n m some none less is = absurd (empty s.idle none.0 is)
     where
       empty : (xs : List ℕ) → slice_get xs 0 ≡ None → length xs + n ≡ m → ⊥
@@ -39,7 +43,10 @@ module _ {C : Type 0} where
       go (x ∷ xs) e = absurd (omega arith)
 
   -- one more of the unclaimeds has ended
-  pub unclaimeds_step : (s t : ShownRecords C) (o : Option Key) → IfSome o (λ key. (slice_get s.unclaimed 0 ≡ Some key.number) × (t ≡ machine.after_unclaimed_end key.number s)) → IfNone o ((slice_get s.unclaimed 0 ≡ None) × (t ≡ s)) → machine.after_unclaimed_ends t.unclaimed t ≡ machine.after_unclaimed_ends s.unclaimed s
+  pub unclaimeds_step : (s t : ShownRecords C) (o : Option Key)
+      → IfSome o (λ key. (slice_get s.unclaimed 0 ≡ Some key.number) × (t ≡ machine.after_unclaimed_end key.number s))
+      → IfNone o ((slice_get s.unclaimed 0 ≡ None) × (t ≡ s))
+      → machine.after_unclaimed_ends t.unclaimed t ≡ machine.after_unclaimed_ends s.unclaimed s
   unclaimeds_step s t None some none = ap (λ (x : ShownRecords C). machine.after_unclaimed_ends x.unclaimed x) none.1
   unclaimeds_step s t (Some key) some none = ap (λ (x : ShownRecords C). machine.after_unclaimed_ends x.unclaimed x) some.1 ∙ go s.unclaimed some.0
     where
@@ -48,7 +55,9 @@ module _ {C : Type 0} where
       go (x ∷ xs) h = let same : key.number ≡ x = cc in ap (λ (k : ℕ). machine.after_unclaimed_ends xs (machine.after_unclaimed_end k s)) same
 
   -- so the line is shorter by one
-  pub unclaimeds_shorter : (s t : ShownRecords C) (o : Option Key) (n m : ℕ) → IfSome o (λ key. (slice_get s.unclaimed 0 ≡ Some key.number) × (t ≡ machine.after_unclaimed_end key.number s)) → IfNone o ((slice_get s.unclaimed 0 ≡ None) × (t ≡ s)) → n < m → length s.unclaimed + n ≡ m → length t.unclaimed + (n + 1) ≡ m
+  pub unclaimeds_shorter : (s t : ShownRecords C) (o : Option Key) (n m : ℕ)
+      → IfSome o (λ key. (slice_get s.unclaimed 0 ≡ Some key.number) × (t ≡ machine.after_unclaimed_end key.number s))
+      → IfNone o ((slice_get s.unclaimed 0 ≡ None) × (t ≡ s)) → n < m → length s.unclaimed + n ≡ m → length t.unclaimed + (n + 1) ≡ m
   unclaimeds_shorter s t None n m some none less is = absurd (empty s.unclaimed none.0 is)
     where
       empty : (xs : List ℕ) → slice_get xs 0 ≡ None → length xs + n ≡ m → ⊥

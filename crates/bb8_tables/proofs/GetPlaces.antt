@@ -22,7 +22,8 @@ use Rattle.bb8_tables.proofs.Views.{same_gets}
 use Rattle.bb8_tables.proofs.Slots
 
 pub shown_at : (a : Inside) (q i : ℕ) (x : Slot Getting) → AreGoodGets a → slabs.get a.slots i ≡ Some x → x.number ≡ q → get (view_of_gets a).places q ≡ Some x.standing
-shown_at a q i x good e same = subst (λ (n : ℕ). get (view_of_gets a).places n ≡ Some x.standing) same (Slots.held_at (λ (s : Slot Getting). s.number) (λ s. s.standing) a.slots.slots i x good.table.distinct e)
+shown_at a q i x good e same = subst (λ (n : ℕ). get (view_of_gets a).places n ≡ Some x.standing) same
+    (Slots.held_at (λ (s : Slot Getting). s.number) (λ s. s.standing) a.slots.slots i x good.table.distinct e)
 
 -- a look-up that finds nothing, or a slot
 pub none_shown : (a : Inside) (q : ℕ) (s : ShownGets) → view_of_gets a ≡ s → ((i : ℕ) (x : Slot Getting) → slabs.get a.slots i ≡ Some x → x.number ≢ q) → get s.places q ≡ None
@@ -35,7 +36,9 @@ pub never_absent : (o : Option Getting) (G : Type 0) → IsSome o → o ≡ None
 never_absent o G some none = absurd (let clash : IsSome {T = Getting} None = rw none at some in cc)
 
 -- a get is shown as it stands
-pub stands_is : (a : Inside) (q i : ℕ) (x : Slot Getting) (s : ShownGets) → AreGoodGets a → view_of_gets a ≡ s → slabs.get a.slots i ≡ Some x → x.number ≡ q → (g : Getting) × (get s.places q ≡ Some g) × (is_unnotified g.place ≡ false) → is_unnotified x.standing.place ≡ false
+pub stands_is : (a : Inside) (q i : ℕ) (x : Slot Getting) (s : ShownGets) → AreGoodGets a → view_of_gets a ≡ s
+    → slabs.get a.slots i ≡ Some x → x.number ≡ q → (g : Getting) × (get s.places q ≡ Some g) × (is_unnotified g.place ≡ false)
+    → is_unnotified x.standing.place ≡ false
 stands_is a q i x s good is e same shown =
     let both : Some x.standing ≡ Some shown.0 = sym (some_shown a q i x s good is e same) ∙ shown.1 in
     let alike : x.standing ≡ shown.0 = cc in
@@ -53,7 +56,8 @@ waiting_fit a good = let l : length a.waiting.items ≤ slab_len a.slots = line_
 -- ---- begin
 
 -- a new get at a free place
-module _ (a : Inside) (place : ℕ) (slots : Slab (Slot Getting)) (good : AreGoodGets a) (free : slabs.get a.slots place ≡ None) (u : Updates a.slots slots place (Some (record { number = a.next; standing = record { place = Active; first_wait = None } }))) where
+module _ (a : Inside) (place : ℕ) (slots : Slab (Slot Getting)) (good : AreGoodGets a) (free : slabs.get a.slots place ≡ None)
+    (u : Updates a.slots slots place (Some (record { number = a.next; standing = record { place = Active; first_wait = None } }))) where
   abbrev born : Slot Getting
   born = record { number = a.next; standing = record { place = Active; first_wait = None } }
 
@@ -86,11 +90,14 @@ module _ (a : Inside) (good : AreGoodGets a) where
 -- ---- wait
 
 -- a get that stands in no line begins to wait
-module _ (a : Inside) (now place : ℕ) (key : GetKey) (x : Slot Getting) (slots : Slab (Slot Getting)) (good : AreGoodGets a) (at_place : slabs.get a.slots place ≡ Some x) (off : is_unnotified x.standing.place ≡ false) (numbered : x.number ≡ key.number) (there : key.place ≡ place) (u : Updates a.slots slots place (Some (record x { standing = get_in_wait now x.standing }))) where
+module _ (a : Inside) (now place : ℕ) (key : GetKey) (x : Slot Getting) (slots : Slab (Slot Getting)) (good : AreGoodGets a)
+    (at_place : slabs.get a.slots place ≡ Some x) (off : is_unnotified x.standing.place ≡ false) (numbered : x.number ≡ key.number)
+    (there : key.place ≡ place) (u : Updates a.slots slots place (Some (record x { standing = get_in_wait now x.standing }))) where
   line_after : IsWaitingLine slots.slots (a.waiting.items ++ key ∷ [])
   line_after =
       let at_key : slabs.get a.slots key.place ≡ Some x = subst (λ (p : ℕ). slabs.get a.slots p ≡ Some x) (sym there) at_place in
-      let v : Updates a.slots slots key.place (Some (record x { standing = get_in_wait now x.standing })) = subst (λ (p : ℕ). Updates a.slots slots p (Some (record x { standing = get_in_wait now x.standing }))) (sym there) u in
+      let v : Updates a.slots slots key.place (Some (record x { standing = get_in_wait now x.standing })) =
+      subst (λ (p : ℕ). Updates a.slots slots p (Some (record x { standing = get_in_wait now x.standing }))) (sym there) u in
       turned_line key good.waiting at_key off v numbered refl
 
   pub wait_room : slab_len slots ≡ slab_len a.slots → length a.waiting.items < a.waiting.capacity
@@ -99,17 +106,26 @@ module _ (a : Inside) (now place : ℕ) (key : GetKey) (x : Slot Getting) (slots
       let z = good.sizes in
       omega (arith, length-append a.waiting.items (key ∷ []), z.places_are, z.peak_holds, z.line_room_holds)
 
-  pub wait_good : (waiting : Buffer GetKey) → slab_len slots ≡ slab_len a.slots → slots.capacity ≡ a.slots.capacity → waiting ≡ buffer (a.waiting.items ++ key ∷ []) a.waiting.capacity → AreGoodGets (record a { slots = slots; waiting = waiting })
+  pub wait_good : (waiting : Buffer GetKey) → slab_len slots ≡ slab_len a.slots → slots.capacity ≡ a.slots.capacity
+      → waiting ≡ buffer (a.waiting.items ++ key ∷ []) a.waiting.capacity → AreGoodGets (record a { slots = slots; waiting = waiting })
   wait_good waiting len room pushed =
       let z = good.sizes in
       let w : waiting.capacity ≡ a.waiting.capacity = ap (λ (b : Buffer GetKey). b.capacity) pushed in
       record {
         table = table_set good.table at_place refl u;
         waiting = subst (λ (b : Buffer GetKey). IsWaitingLine slots.slots b.items) (sym pushed) line_after;
-        sizes = record { places_are = len ∙ z.places_are; peak_holds = z.peak_holds; alive_few = z.alive_few; room_holds = omega (arith, z.room_holds); line_room_holds = omega (arith, z.line_room_holds) };
+        sizes = record {
+          places_are = len ∙ z.places_are;
+          peak_holds = z.peak_holds;
+          alive_few = z.alive_few;
+          room_holds =
+              omega (arith, z.room_holds);
+          line_room_holds = omega (arith, z.line_room_holds);
+        };
       }
 
-  pub wait_view : (waiting : Buffer GetKey) → waiting ≡ buffer (a.waiting.items ++ key ∷ []) a.waiting.capacity → view_of_gets (record a { slots = slots; waiting = waiting }) ≡ machine.after_wait now key.number (view_of_gets a)
+  pub wait_view : (waiting : Buffer GetKey) → waiting ≡ buffer (a.waiting.items ++ key ∷ []) a.waiting.capacity
+      → view_of_gets (record a { slots = slots; waiting = waiting }) ≡ machine.after_wait now key.number (view_of_gets a)
   wait_view waiting pushed = same_gets _ _ refl
       (held_set good.table at_place refl u
       ∙ ap (λ (q : ℕ). insert (view_of_gets a).places q (get_in_wait now x.standing)) numbered
@@ -120,7 +136,10 @@ module _ (a : Inside) (now place : ℕ) (key : GetKey) (x : Slot Getting) (slots
 -- ---- notify
 
 -- the first in line is notified
-module _ (a : Inside) (key : GetKey) (slots : Slab (Slot Getting)) (waiting : Buffer GetKey) (good : AreGoodGets a) (first : slice_get a.waiting.items 0 ≡ Some key) (popped : waiting ≡ buffer (drop 1 a.waiting.items) a.waiting.capacity) (sets : (x : Slot Getting) → slabs.get a.slots key.place ≡ Some x → Updates a.slots slots key.place (Some (record x { standing = get_with_place (Waiting true) x.standing }))) where
+module _ (a : Inside) (key : GetKey) (slots : Slab (Slot Getting)) (waiting : Buffer GetKey) (good : AreGoodGets a)
+    (first : slice_get a.waiting.items 0 ≡ Some key) (popped : waiting ≡ buffer (drop 1 a.waiting.items) a.waiting.capacity)
+    (sets : (x : Slot Getting) → slabs.get a.slots key.place ≡ Some x
+    → Updates a.slots slots key.place (Some (record x { standing = get_with_place (Waiting true) x.standing }))) where
   pub noticed_stands : (x : Slot Getting) × (slabs.get a.slots key.place ≡ Some x) × (x.number ≡ key.number) × (is_unnotified x.standing.place ≡ true)
   noticed_stands = good.waiting.each 0 key first
 
@@ -135,7 +154,14 @@ module _ (a : Inside) (key : GetKey) (slots : Slab (Slot Getting)) (waiting : Bu
       record {
         table = table_set good.table x.1 refl (sets x.0 x.1);
         waiting = subst (λ (ks : List GetKey). IsWaitingLine slots.slots ks) (sym cut) (cut_line 0 good.waiting first (sets x.0 x.1));
-        sizes = record { places_are = len ∙ z.places_are; peak_holds = z.peak_holds; alive_few = z.alive_few; room_holds = omega (arith, z.room_holds); line_room_holds = omega (arith, z.line_room_holds) };
+        sizes = record {
+          places_are = len ∙ z.places_are;
+          peak_holds = z.peak_holds;
+          alive_few = z.alive_few;
+          room_holds =
+              omega (arith, z.room_holds);
+          line_room_holds = omega (arith, z.line_room_holds);
+        };
       }
 
   pub notice_view : view_of_gets (record a { slots = slots; waiting = waiting }) ≡ machine.after_notice (Some key.number) (view_of_gets a)
@@ -155,10 +181,17 @@ abbrev pub stepped_out : Bool → ℕ → List GetKey → List GetKey
 stepped_out waits n keys = cond waits (filter (λ (k : GetKey). not (eqb k.number n)) keys) keys
 
 -- a get ends, which stands in line or not
-module _ (a : Inside) (place q : ℕ) (waits : Bool) (x : Slot Getting) (slots : Slab (Slot Getting)) (waiting : Buffer GetKey) (good : AreGoodGets a) (at_place : slabs.get a.slots place ≡ Some x) (same : x.number ≡ q) (waits_is : waits ≡ is_unnotified x.standing.place) (out : waiting ≡ buffer (stepped_out waits q a.waiting.items) a.waiting.capacity) (u : Updates a.slots slots place None) where
-  line_out : (b : Bool) → is_unnotified x.standing.place ≡ b → IsWaitingLine slots.slots (stepped_out b q a.waiting.items) × (map (λ (k : GetKey). k.number) (stepped_out b q a.waiting.items) ≡ machine.without q (map (λ (k : GetKey). k.number) a.waiting.items))
+module _ (a : Inside) (place q : ℕ) (waits : Bool) (x : Slot Getting) (slots : Slab (Slot Getting)) (waiting : Buffer GetKey)
+    (good : AreGoodGets a) (at_place : slabs.get a.slots place ≡ Some x) (same : x.number ≡ q)
+    (waits_is : waits ≡ is_unnotified x.standing.place) (out : waiting ≡ buffer (stepped_out waits q a.waiting.items) a.waiting.capacity)
+    (u : Updates a.slots slots place None) where
+  line_out : (b : Bool) → is_unnotified x.standing.place ≡ b → IsWaitingLine slots.slots (stepped_out b q a.waiting.items)
+      × (map (λ (k : GetKey). k.number) (stepped_out b q a.waiting.items) ≡ machine.without q
+      (map (λ (k : GetKey). k.number) a.waiting.items))
   line_out true on = (
-    Slots.line_kept _ _ _ _ a.slots.slots slots.slots _ place (filtered_line (λ (k : GetKey). not (eqb k.number q)) a.slots.slots a.waiting.items good.waiting) (others_away a.waiting.items good.waiting) u.others,
+    Slots.line_kept _ _ _ _ a.slots.slots slots.slots _ place
+        (filtered_line (λ (k : GetKey). not (eqb k.number q)) a.slots.slots a.waiting.items good.waiting)
+        (others_away a.waiting.items good.waiting) u.others,
     other_numbers (λ (k : GetKey). k.number) q a.waiting.items,
   )
     where
@@ -174,11 +207,16 @@ module _ (a : Inside) (place q : ℕ) (waits : Bool) (x : Slot Getting) (slots :
           cc
   line_out false off = (
     Slots.line_kept _ _ _ _ a.slots.slots slots.slots a.waiting.items place good.waiting (avoids a.slots a.waiting.items place x good.waiting at_place off) u.others,
-    sym (none_without (λ (k : GetKey). k.number) q a.waiting.items (λ j k e number. let stands = good.waiting.each j k e in avoids a.slots a.waiting.items place x good.waiting at_place off j k e (good.table.distinct k.place place stands.0 x stands.1 at_place (stands.2 ∙ number ∙ sym same)))),
+    sym (none_without (λ (k : GetKey). k.number) q a.waiting.items
+        (λ j k e number. let stands = good.waiting.each j k e in
+        avoids a.slots a.waiting.items place x good.waiting at_place off j k e
+        (good.table.distinct k.place place stands.0 x stands.1 at_place (stands.2 ∙ number ∙ sym same)))),
   )
 
   outside : IsWaitingLine slots.slots waiting.items × (map (λ (k : GetKey). k.number) waiting.items ≡ machine.without q (map (λ (k : GetKey). k.number) a.waiting.items))
-  outside = subst (λ (ks : List GetKey). IsWaitingLine slots.slots ks × (map (λ (k : GetKey). k.number) ks ≡ machine.without q (map (λ (k : GetKey). k.number) a.waiting.items))) (sym (ap (λ (b : Buffer GetKey). b.items) out)) (line_out waits (sym waits_is))
+  outside = subst (λ (ks : List GetKey). IsWaitingLine slots.slots ks
+      × (map (λ (k : GetKey). k.number) ks ≡ machine.without q (map (λ (k : GetKey). k.number) a.waiting.items)))
+      (sym (ap (λ (b : Buffer GetKey). b.items) out)) (line_out waits (sym waits_is))
 
   pub end_good : slab_len slots + 1 ≡ slab_len a.slots → slots.capacity ≡ a.slots.capacity → AreGoodGets (record a { slots = slots; waiting = waiting; alive = a.alive - 1 })
   end_good len room =
@@ -187,7 +225,14 @@ module _ (a : Inside) (place q : ℕ) (waits : Bool) (x : Slot Getting) (slots :
       record {
         table = table_removed good.table u;
         waiting = outside.0;
-        sizes = record { places_are = omega (arith, z.places_are); peak_holds = omega (arith, z.peak_holds); alive_few = omega (arith, z.alive_few); room_holds = omega (arith, z.room_holds); line_room_holds = omega (arith, z.line_room_holds) };
+        sizes = record {
+          places_are = omega (arith, z.places_are);
+          peak_holds = omega (arith, z.peak_holds);
+          alive_few =
+              omega (arith, z.alive_few);
+          room_holds = omega (arith, z.room_holds);
+          line_room_holds = omega (arith, z.line_room_holds);
+        };
       }
 
   pub end_view : view_of_gets (record a { slots = slots; waiting = waiting; alive = a.alive - 1 }) ≡ machine.after_get_end q (view_of_gets a)

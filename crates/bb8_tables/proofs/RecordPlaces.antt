@@ -34,9 +34,12 @@ module _ {C : Type 0} where
   SetsTo old new place f = (x : Slot (Standing C)) → slabs.get old place ≡ Some x → Updates old new place (Some (record x { standing = f x.standing }))
 
   -- how the tally of the places that pass changes
-  tally_set : (test : Place C → Bool) (old new : Slab (Slot (Standing C))) (place n : ℕ) (was is : Option (Slot (Standing C))) → tally (passes test) old.slots ≡ n → slabs.get old place ≡ was → Updates old new place is → tally (passes test) new.slots + one (passes test was) ≡ n + one (passes test is)
+  tally_set : (test : Place C → Bool) (old new : Slab (Slot (Standing C))) (place n : ℕ) (was is : Option (Slot (Standing C)))
+      → tally (passes test) old.slots ≡ n → slabs.get old place ≡ was → Updates old new place is
+      → tally (passes test) new.slots + one (passes test was) ≡ n + one (passes test is)
   tally_set test old new place n was is are at_place u =
-      let t : tally (passes test) new.slots + one (passes test (get_or old.slots place None)) ≡ tally (passes test) old.slots + one (passes test (get_or new.slots place None)) = Slots.tally_changed (passes test) refl old.slots new.slots place u.others in
+      let t : tally (passes test) new.slots + one (passes test (get_or old.slots place None)) ≡ tally (passes test) old.slots + one
+      (passes test (get_or new.slots place None)) = Slots.tally_changed (passes test) refl old.slots new.slots place u.others in
       let a : one (passes test (get_or old.slots place None)) ≡ one (passes test was) = ap (λ (o : Option (Slot (Standing C))). one (passes test o)) at_place in
       let b : one (passes test (get_or new.slots place None)) ≡ one (passes test is) = ap (λ (o : Option (Slot (Standing C))). one (passes test o)) u.changed in
       omega arith
@@ -57,7 +60,9 @@ module _ {C : Type 0} where
 
   pub unclaimed_fit : (a : Inside C) → AreGoodRecords a → length a.unclaimed.items ≤ a.approved
   unclaimed_fit a good =
-      let l : length a.unclaimed.items ≤ tally (passes is_approval) a.slots.slots = Slots.line_length _ _ _ _ (passes is_approval) refl (λ x e. unclaimed_approval x.standing.place e) a.unclaimed.items a.slots.slots good.unclaimed in
+      let l : length a.unclaimed.items ≤ tally (passes is_approval) a.slots.slots =
+      Slots.line_length _ _ _ _ (passes is_approval) refl
+      (λ x e. unclaimed_approval x.standing.place e) a.unclaimed.items a.slots.slots good.unclaimed in
       let e : tally (passes is_approval) a.slots.slots ≡ a.approved = good.approved_are in
       omega arith
 
@@ -65,10 +70,12 @@ module _ {C : Type 0} where
 
   -- what is shown of the number at a place
   pub shown_at : (a : Inside C) (i q : ℕ) (x : Slot (Standing C)) → AreGoodRecords a → slabs.get a.slots i ≡ Some x → x.number ≡ q → get (view_of_records a).places q ≡ Some x.standing
-  shown_at a i q x good e same = subst (λ (n : ℕ). get (view_of_records a).places n ≡ Some x.standing) same (Slots.held_at (λ (s : Slot (Standing C)). s.number) (λ s. s.standing) a.slots.slots i x good.table.distinct e)
+  shown_at a i q x good e same = subst (λ (n : ℕ). get (view_of_records a).places n ≡ Some x.standing) same
+      (Slots.held_at (λ (s : Slot (Standing C)). s.number) (λ s. s.standing) a.slots.slots i x good.table.distinct e)
 
   -- so it stands there as it is shown
-  pub stands_is : (a : Inside C) (q i : ℕ) (s : Standing C) (x : Slot (Standing C)) → AreGoodRecords a → get (view_of_records a).places q ≡ Some s → slabs.get a.slots i ≡ Some x → x.number ≡ q → x.standing ≡ s
+  pub stands_is : (a : Inside C) (q i : ℕ) (s : Standing C) (x : Slot (Standing C)) → AreGoodRecords a
+      → get (view_of_records a).places q ≡ Some s → slabs.get a.slots i ≡ Some x → x.number ≡ q → x.standing ≡ s
   stands_is a q i s x good h e same = let both : Some x.standing ≡ Some s = sym (shown_at a i q x good e same) ∙ h in cc
 
   pub shown_absent : (a : Inside C) (q : ℕ) → ((i : ℕ) (x : Slot (Standing C)) → slabs.get a.slots i ≡ Some x → x.number ≢ q) → get (view_of_records a).places q ≡ None
@@ -85,24 +92,33 @@ module _ {C : Type 0} where
   pub none_shown : (a : Inside C) (q : ℕ) (s : ShownRecords C) → view_of_records a ≡ s → ((i : ℕ) (x : Slot (Standing C)) → slabs.get a.slots i ≡ Some x → x.number ≢ q) → get s.places q ≡ None
   none_shown a q s is none = ap (λ (t : ShownRecords C). get t.places q) (sym is) ∙ shown_absent a q none
 
-  pub some_shown : (a : Inside C) (q i : ℕ) (x y : Slot (Standing C)) (s : ShownRecords C) → AreGoodRecords a → view_of_records a ≡ s → slabs.get a.slots i ≡ Some x → x.number ≡ q → Some y ≡ slabs.get a.slots i → get s.places q ≡ Some y.standing
+  pub some_shown : (a : Inside C) (q i : ℕ) (x y : Slot (Standing C)) (s : ShownRecords C) → AreGoodRecords a → view_of_records a ≡ s
+      → slabs.get a.slots i ≡ Some x → x.number ≡ q → Some y ≡ slabs.get a.slots i → get s.places q ≡ Some y.standing
   some_shown a q i x y s good is e same found =
       let alike : x ≡ y = let both : Some x ≡ Some y = sym e ∙ sym found in cc in
       ap (λ (t : ShownRecords C). get t.places q) (sym is) ∙ shown_at a i q x good e same ∙ ap (λ (z : Slot (Standing C)). Some z.standing) alike
 
-  pub never_absent : (a : Inside C) (q : ℕ) (s : Standing C) (G : Type 0) → get (view_of_records a).places q ≡ Some s → ((i : ℕ) (x : Slot (Standing C)) → slabs.get a.slots i ≡ Some x → x.number ≢ q) → G
+  pub never_absent : (a : Inside C) (q : ℕ) (s : Standing C) (G : Type 0) → get (view_of_records a).places q ≡ Some s
+      → ((i : ℕ) (x : Slot (Standing C)) → slabs.get a.slots i ≡ Some x → x.number ≢ q) → G
   never_absent a q s G h none = absurd (let clash : Some s ≡ None = sym h ∙ shown_absent a q none in cc)
 
   -- ---- the sizes after a place has changed from one test to another
 
-  conns_set : (a : Inside C) (slots : Slab (Slot (Standing C))) (i : ℕ) (was is : Option (Slot (Standing C))) (m n : Bool) → AreGoodRecords a → slabs.get a.slots i ≡ was → Updates a.slots slots i is → passes is_conn was ≡ m → passes is_conn is ≡ n → tally (passes is_conn) slots.slots + one m ≡ a.conns + one n
+  conns_set : (a : Inside C) (slots : Slab (Slot (Standing C))) (i : ℕ) (was is : Option (Slot (Standing C))) (m n : Bool)
+      → AreGoodRecords a → slabs.get a.slots i ≡ was → Updates a.slots slots i is → passes is_conn was ≡ m → passes is_conn is ≡ n
+      → tally (passes is_conn) slots.slots + one m ≡ a.conns + one n
   conns_set a slots i was is m n good e u was_m is_n = rw (sym (ap one was_m), sym (ap one is_n)) (tally_set is_conn a.slots slots i a.conns was is good.conns_are e u)
 
-  approved_set : (a : Inside C) (slots : Slab (Slot (Standing C))) (i : ℕ) (was is : Option (Slot (Standing C))) (m n : Bool) → AreGoodRecords a → slabs.get a.slots i ≡ was → Updates a.slots slots i is → passes is_approval was ≡ m → passes is_approval is ≡ n → tally (passes is_approval) slots.slots + one m ≡ a.approved + one n
+  approved_set : (a : Inside C) (slots : Slab (Slot (Standing C))) (i : ℕ) (was is : Option (Slot (Standing C))) (m n : Bool)
+      → AreGoodRecords a → slabs.get a.slots i ≡ was → Updates a.slots slots i is → passes is_approval was ≡ m → passes is_approval is ≡ n
+      → tally (passes is_approval) slots.slots + one m ≡ a.approved + one n
   approved_set a slots i was is m n good e u was_m is_n = rw (sym (ap one was_m), sym (ap one is_n)) (tally_set is_approval a.slots slots i a.approved was is good.approved_are e u)
 
   -- another place at a number
-  places_set : (a : Inside C) (slots : Slab (Slot (Standing C))) (i q : ℕ) (x : Slot (Standing C)) (p : Place C) → AreGoodRecords a → slabs.get a.slots i ≡ Some x → x.number ≡ q → Updates a.slots slots i (Some (record x { standing = with_place p x.standing })) → values_at (λ (s : Slot (Standing C)). s.number) (λ s. s.standing) slots.slots ≡ insert (view_of_records a).places q (machine.standing_at p (get (view_of_records a).places q))
+  places_set : (a : Inside C) (slots : Slab (Slot (Standing C))) (i q : ℕ) (x : Slot (Standing C)) (p : Place C) → AreGoodRecords a
+      → slabs.get a.slots i ≡ Some x → x.number ≡ q → Updates a.slots slots i (Some (record x { standing = with_place p x.standing }))
+      → values_at (λ (s : Slot (Standing C)). s.number) (λ s. s.standing) slots.slots ≡ insert (view_of_records a).places q
+      (machine.standing_at p (get (view_of_records a).places q))
   places_set a slots i q x p good e same u =
       held_set good.table e refl u
       ∙ ap (λ (n : ℕ). insert (view_of_records a).places n (with_place p x.standing)) same
@@ -110,7 +126,9 @@ module _ {C : Type 0} where
 
   -- ---- claim
 
-  module _ (a : Inside C) (key : Key) (slots : Slab (Slot (Standing C))) (unclaimed : Buffer Key) (good : AreGoodRecords a) (first : Some key ≡ slice_get a.unclaimed.items 0) (rest : unclaimed ≡ buffer (drop 1 a.unclaimed.items) a.unclaimed.capacity) (sets : SetsTo a.slots slots key.place (with_place Claimed)) where
+  module _ (a : Inside C) (key : Key) (slots : Slab (Slot (Standing C))) (unclaimed : Buffer Key) (good : AreGoodRecords a)
+      (first : Some key ≡ slice_get a.unclaimed.items 0) (rest : unclaimed ≡ buffer (drop 1 a.unclaimed.items) a.unclaimed.capacity)
+      (sets : SetsTo a.slots slots key.place (with_place Claimed)) where
     pub claim_good : slab_len slots ≡ slab_len a.slots → slots.capacity ≡ a.slots.capacity → AreGoodRecords (record a { slots = slots; unclaimed = unclaimed })
     claim_good len room =
         let x = good.unclaimed.each 0 key (sym first) in
@@ -122,8 +140,17 @@ module _ {C : Type 0} where
           idle = other_line good.idle x.1 (ap is_idle was) u;
           unclaimed = rw (rest, Slots.drop_is_cut a.unclaimed.items) (cut_line 0 good.unclaimed (sym first) u);
           conns_are = (let t : tally (passes is_conn) slots.slots + 0 ≡ a.conns + 0 = conns_set a slots key.place (Some x.0) (Some new) false false good x.1 u (ap is_conn was) refl in omega arith);
-          approved_are = (let t : tally (passes is_approval) slots.slots + 1 ≡ a.approved + 1 = approved_set a slots key.place (Some x.0) (Some new) true true good x.1 u (ap is_approval was) refl in omega arith);
-          sizes = let s = good.sizes in let c : unclaimed.capacity ≡ a.unclaimed.capacity = ap (λ (b : Buffer Key). b.capacity) rest in record { places_are = omega arith; peak_holds = s.peak_holds; peak_few = s.peak_few; place_room_holds = omega arith; idle_room_holds = s.idle_room_holds; unclaimed_room_holds = omega arith };
+          approved_are = (let t : tally (passes is_approval) slots.slots + 1 ≡ a.approved + 1 =
+              approved_set a slots key.place (Some x.0) (Some new) true true good x.1 u (ap is_approval was) refl in omega arith);
+          sizes = let s = good.sizes in let c : unclaimed.capacity ≡ a.unclaimed.capacity = ap (λ (b : Buffer Key). b.capacity) rest in
+              record {
+                places_are = omega arith;
+                peak_holds = s.peak_holds;
+                peak_few = s.peak_few;
+                place_room_holds = omega arith;
+                idle_room_holds = s.idle_room_holds;
+                unclaimed_room_holds = omega arith;
+              };
         }
 
     pub claim_view : view_of_records (record a { slots = slots; unclaimed = unclaimed }) ≡ machine.after_claim key.number (view_of_records a)
@@ -138,7 +165,10 @@ module _ {C : Type 0} where
 
   -- ---- take
 
-  module _ (a : Inside C) (strategy : QueueStrategy) (key : Key) (slots : Slab (Slot (Standing C))) (idle : Buffer Key) (good : AreGoodRecords a) (first : Some key ≡ slice_get a.idle.items (first_place strategy (length a.idle.items))) (rest : idle ≡ buffer (cut_at (first_place strategy (length a.idle.items)) a.idle.items) a.idle.capacity) (sets : SetsTo a.slots slots key.place (with_place Guarded)) where
+  module _ (a : Inside C) (strategy : QueueStrategy) (key : Key) (slots : Slab (Slot (Standing C))) (idle : Buffer Key)
+      (good : AreGoodRecords a) (first : Some key ≡ slice_get a.idle.items (first_place strategy (length a.idle.items)))
+      (rest : idle ≡ buffer (cut_at (first_place strategy (length a.idle.items)) a.idle.items) a.idle.capacity)
+      (sets : SetsTo a.slots slots key.place (with_place Guarded)) where
     abbrev where_first : ℕ
     where_first = first_place strategy (length a.idle.items)
 
@@ -153,8 +183,17 @@ module _ {C : Type 0} where
           idle = rw rest (cut_line where_first good.idle (sym first) u);
           unclaimed = other_line good.unclaimed x.1 (ap is_unclaimed was.1) u;
           conns_are = (let t : tally (passes is_conn) slots.slots + 1 ≡ a.conns + 1 = conns_set a slots key.place (Some x.0) (Some new) true true good x.1 u (ap is_conn was.1) refl in omega arith);
-          approved_are = (let t : tally (passes is_approval) slots.slots + 0 ≡ a.approved + 0 = approved_set a slots key.place (Some x.0) (Some new) false false good x.1 u (ap is_approval was.1) refl in omega arith);
-          sizes = let s = good.sizes in let c : idle.capacity ≡ a.idle.capacity = ap (λ (b : Buffer Key). b.capacity) rest in record { places_are = omega arith; peak_holds = s.peak_holds; peak_few = s.peak_few; place_room_holds = omega arith; idle_room_holds = omega arith; unclaimed_room_holds = s.unclaimed_room_holds };
+          approved_are = (let t : tally (passes is_approval) slots.slots + 0 ≡ a.approved + 0 =
+              approved_set a slots key.place (Some x.0) (Some new) false false good x.1 u (ap is_approval was.1) refl in omega arith);
+          sizes = let s = good.sizes in let c : idle.capacity ≡ a.idle.capacity = ap (λ (b : Buffer Key). b.capacity) rest in
+              record {
+                places_are = omega arith;
+                peak_holds = s.peak_holds;
+                peak_few = s.peak_few;
+                place_room_holds = omega arith;
+                idle_room_holds = omega arith;
+                unclaimed_room_holds = s.unclaimed_room_holds;
+              };
         }
 
     pub take_view : view_of_records (record a { slots = slots; idle = idle }) ≡ machine.after_take Guarded key.number (view_of_records a)
@@ -170,7 +209,10 @@ module _ {C : Type 0} where
     taken_first = rw (length-map a.idle.items (λ (k : Key). k.number)) (slice_get-map (λ (k : Key). k.number) a.idle.items where_first ∙ ap (option_map (λ (k : Key). k.number)) (sym first))
 
     -- the connection that is taken is the one that is shown of its number
-    pub taken_connection : (conn : C) (place : Place C) → ((x : Slot (Standing C)) → slabs.get a.slots key.place ≡ Some x → place ≡ x.standing.place) → place ≡ Idle conn → (birth entered : ℕ) × (get (view_of_records a).places key.number ≡ Some (record { place = Idle conn; birth = birth; entered = entered }))
+    pub taken_connection : (conn : C) (place : Place C)
+        → ((x : Slot (Standing C)) → slabs.get a.slots key.place ≡ Some x → place ≡ x.standing.place) → place ≡ Idle conn
+        → (birth entered : ℕ) × (get (view_of_records a).places key.number ≡ Some
+        (record { place = Idle conn; birth = birth; entered = entered }))
     taken_connection conn place was is =
         let x = good.idle.each where_first key (sym first) in
         (x.0.standing.birth, x.0.standing.entered, shown_at a key.place key.number x.0 good x.1 x.2 ∙ ap (λ (p : Place C). Some (with_place p x.0.standing)) (sym (was x.0 x.1) ∙ is))
@@ -182,16 +224,23 @@ module _ {C : Type 0} where
         absurd (let clash : true ≡ false = sym x.3 ∙ ap is_idle (sym (was x.0 x.1)) ∙ off in cc)
 
   -- a pop of an empty line
-  pub idle_same : (a : Inside C) (strategy : QueueStrategy) (idle : Buffer Key) → slice_get a.idle.items (first_place strategy (length a.idle.items)) ≡ None → idle ≡ buffer (cut_at (first_place strategy (length a.idle.items)) a.idle.items) a.idle.capacity → idle ≡ a.idle
+  pub idle_same : (a : Inside C) (strategy : QueueStrategy) (idle : Buffer Key)
+      → slice_get a.idle.items (first_place strategy (length a.idle.items)) ≡ None
+      → idle ≡ buffer (cut_at (first_place strategy (length a.idle.items)) a.idle.items) a.idle.capacity → idle ≡ a.idle
   idle_same a strategy idle empty rest = rest ∙ ap (λ (ks : List Key). buffer ks a.idle.capacity) (Slots.none_cut a.idle.items (first_place strategy (length a.idle.items)) empty)
 
   pub idle_none : (a : Inside C) (strategy : QueueStrategy) → slice_get a.idle.items (first_place strategy (length a.idle.items)) ≡ None → first_of strategy (view_of_records a).idle ≡ None
-  idle_none a strategy empty = rw (length-map a.idle.items (λ (k : Key). k.number)) (slice_get-map (λ (k : Key). k.number) a.idle.items (first_place strategy (length a.idle.items)) ∙ ap (option_map (λ (k : Key). k.number)) empty)
+  idle_none a strategy empty = rw (length-map a.idle.items (λ (k : Key). k.number))
+      (slice_get-map (λ (k : Key). k.number) a.idle.items (first_place strategy (length a.idle.items))
+      ∙ ap (option_map (λ (k : Key). k.number)) empty)
 
   -- ---- enter
 
   -- a claimed approval, or a connection that was out, becomes idle
-  module _ (a : Inside C) (opening : Bool) (place : ℕ) (key : Key) (x : Slot (Standing C)) (s : Standing C) (slots : Slab (Slot (Standing C))) (good : AreGoodRecords a) (at_place : slabs.get a.slots place ≡ Some x) (was : comes_from opening x.standing.place ≡ true) (numbered : x.number ≡ key.number) (placed_there : key.place ≡ place) (is_idle_now : is_idle s.place ≡ true) (sets : SetsTo a.slots slots place (λ _. s)) where
+  module _ (a : Inside C) (opening : Bool) (place : ℕ) (key : Key) (x : Slot (Standing C)) (s : Standing C)
+      (slots : Slab (Slot (Standing C))) (good : AreGoodRecords a) (at_place : slabs.get a.slots place ≡ Some x)
+      (was : comes_from opening x.standing.place ≡ true) (numbered : x.number ≡ key.number) (placed_there : key.place ≡ place)
+      (is_idle_now : is_idle s.place ≡ true) (sets : SetsTo a.slots slots place (λ _. s)) where
     abbrev entering : Slot (Standing C)
     entering = record x { standing = s }
 
@@ -232,14 +281,18 @@ module _ {C : Type 0} where
     -- there is room for the key
     pub enter_room : length a.idle.items < a.idle.capacity
     enter_room =
-        let l : length (a.idle.items ++ key ∷ []) ≤ tally (passes is_conn) slots.slots = Slots.line_length _ _ _ _ (passes is_conn) refl (λ x e. idle_conn x.standing.place e) (a.idle.items ++ key ∷ []) slots.slots line_after in
+        let l : length (a.idle.items ++ key ∷ []) ≤ tally (passes is_conn) slots.slots =
+        Slots.line_length _ _ _ _ (passes is_conn) refl (λ x e. idle_conn x.standing.place e)
+        (a.idle.items ++ key ∷ []) slots.slots line_after in
         let t : tally (passes is_conn) slots.slots + one (not opening) ≡ a.conns + 1 = conns_after in
         let c : one opening ≤ a.approved = enter_counted in
         let e : one opening + one (not opening) ≡ 1 = either opening in
         let z = good.sizes in
         omega (arith, length-append a.idle.items (key ∷ []))
 
-    pub enter_good : (idle : Buffer Key) (n m : ℕ) → slab_len slots ≡ slab_len a.slots → slots.capacity ≡ a.slots.capacity → idle ≡ buffer (a.idle.items ++ key ∷ []) a.idle.capacity → n ≡ a.conns + one opening → m ≡ a.approved - one opening → AreGoodRecords (record a { slots = slots; idle = idle; conns = n; approved = m })
+    pub enter_good : (idle : Buffer Key) (n m : ℕ) → slab_len slots ≡ slab_len a.slots → slots.capacity ≡ a.slots.capacity
+        → idle ≡ buffer (a.idle.items ++ key ∷ []) a.idle.capacity → n ≡ a.conns + one opening → m ≡ a.approved - one opening
+        → AreGoodRecords (record a { slots = slots; idle = idle; conns = n; approved = m })
     enter_good idle n m len room pushed n_is m_is =
         let t : tally (passes is_conn) slots.slots + one (not opening) ≡ a.conns + 1 = conns_after in
         let v : tally (passes is_approval) slots.slots + one opening ≡ a.approved + 0 = approved_after in
@@ -251,10 +304,20 @@ module _ {C : Type 0} where
           unclaimed = other_line good.unclaimed at_place not_unclaimed (sets x at_place);
           conns_are = omega arith;
           approved_are = omega arith;
-          sizes = let z = good.sizes in let w : idle.capacity ≡ a.idle.capacity = ap (λ (b : Buffer Key). b.capacity) pushed in record { places_are = omega arith; peak_holds = omega arith; peak_few = good.sizes.peak_few; place_room_holds = omega arith; idle_room_holds = omega arith; unclaimed_room_holds = z.unclaimed_room_holds };
+          sizes = let z = good.sizes in let w : idle.capacity ≡ a.idle.capacity = ap (λ (b : Buffer Key). b.capacity) pushed in
+              record {
+                places_are = omega arith;
+                peak_holds = omega arith;
+                peak_few = good.sizes.peak_few;
+                place_room_holds = omega arith;
+                idle_room_holds = omega arith;
+                unclaimed_room_holds = z.unclaimed_room_holds;
+              };
         }
 
-    pub enter_view : (idle : Buffer Key) (n m : ℕ) → idle ≡ buffer (a.idle.items ++ key ∷ []) a.idle.capacity → n ≡ a.conns + one opening → m ≡ a.approved - one opening → view_of_records (record a { slots = slots; idle = idle; conns = n; approved = m }) ≡ machine.after_entry opening key.number s (view_of_records a)
+    pub enter_view : (idle : Buffer Key) (n m : ℕ) → idle ≡ buffer (a.idle.items ++ key ∷ []) a.idle.capacity → n ≡ a.conns + one opening
+        → m ≡ a.approved - one opening → view_of_records
+        (record a { slots = slots; idle = idle; conns = n; approved = m }) ≡ machine.after_entry opening key.number s (view_of_records a)
     enter_view idle n m pushed n_is m_is = same_records _ _ refl
         (held_set good.table at_place refl (sets x at_place) ∙ ap (λ (q : ℕ). insert (view_of_records a).places q s) numbered)
         (ap (λ (b : Buffer Key). map (λ (k : Key). k.number) b.items) pushed ∙ map_push (λ (k : Key). k.number) a.idle.items key)
@@ -263,7 +326,9 @@ module _ {C : Type 0} where
   -- ---- close
 
   -- a claimed approval, or a connection that was out, ends
-  module _ (a : Inside C) (opening : Bool) (place q : ℕ) (x : Slot (Standing C)) (slots : Slab (Slot (Standing C))) (good : AreGoodRecords a) (at_place : slabs.get a.slots place ≡ Some x) (numbered : x.number ≡ q) (was : comes_from opening x.standing.place ≡ true) (frees : Updates a.slots slots place None) where
+  module _ (a : Inside C) (opening : Bool) (place q : ℕ) (x : Slot (Standing C)) (slots : Slab (Slot (Standing C)))
+      (good : AreGoodRecords a) (at_place : slabs.get a.slots place ≡ Some x) (numbered : x.number ≡ q)
+      (was : comes_from opening x.standing.place ≡ true) (frees : Updates a.slots slots place None) where
     conns_less : tally (passes is_conn) slots.slots + one (not opening) ≡ a.conns + 0
     conns_less = conns_set a slots place (Some x) None (not opening) false good at_place frees (conn_from opening x.standing.place was) refl
 
@@ -276,7 +341,8 @@ module _ {C : Type 0} where
     pub close_approved : one opening ≤ a.approved
     close_approved = let e : tally (passes is_approval) slots.slots + one opening ≡ a.approved + 0 = approved_less in omega arith
 
-    pub close_good : (n m : ℕ) → slab_len slots + 1 ≡ slab_len a.slots → slots.capacity ≡ a.slots.capacity → n ≡ a.conns - one (not opening) → m ≡ a.approved - one opening → AreGoodRecords (record a { slots = slots; conns = n; approved = m })
+    pub close_good : (n m : ℕ) → slab_len slots + 1 ≡ slab_len a.slots → slots.capacity ≡ a.slots.capacity → n ≡ a.conns - one (not opening)
+        → m ≡ a.approved - one opening → AreGoodRecords (record a { slots = slots; conns = n; approved = m })
     close_good n m len room n_is m_is =
         let t : tally (passes is_conn) slots.slots + one (not opening) ≡ a.conns + 0 = conns_less in
         let v : tally (passes is_approval) slots.slots + one opening ≡ a.approved + 0 = approved_less in
@@ -287,17 +353,33 @@ module _ {C : Type 0} where
           unclaimed = other_line good.unclaimed at_place (unclaimed_from opening x.standing.place was) frees;
           conns_are = omega arith;
           approved_are = omega arith;
-          sizes = let s = good.sizes in record { places_are = omega arith; peak_holds = omega arith; peak_few = good.sizes.peak_few; place_room_holds = omega arith; idle_room_holds = s.idle_room_holds; unclaimed_room_holds = s.unclaimed_room_holds };
+          sizes = let s = good.sizes in record {
+            places_are = omega arith;
+            peak_holds = omega arith;
+            peak_few = good.sizes.peak_few;
+            place_room_holds = omega arith;
+            idle_room_holds = s.idle_room_holds;
+            unclaimed_room_holds = s.unclaimed_room_holds;
+          };
         }
 
-    pub close_view : (n m : ℕ) → n ≡ a.conns - one (not opening) → m ≡ a.approved - one opening → view_of_records (record a { slots = slots; conns = n; approved = m }) ≡ machine.after_close opening q (view_of_records a)
+    pub close_view : (n m : ℕ) → n ≡ a.conns - one (not opening) → m ≡ a.approved - one opening
+        → view_of_records (record a { slots = slots; conns = n; approved = m }) ≡ machine.after_close opening q (view_of_records a)
     close_view n m n_is m_is = same_records _ _ refl
         (held_removed good.table at_place frees ∙ ap (remove (view_of_records a).places) numbered)
         refl refl n_is m_is refl
 
   -- ---- approve
 
-  module _ (a : Inside C) (claimed_now : Bool) (place : ℕ) (slots : Slab (Slot (Standing C))) (unclaimed : Buffer Key) (good : AreGoodRecords a) (free : slabs.get a.slots place ≡ None) (u : Updates a.slots slots place (Some (record { number = a.next; standing = record { place = cond claimed_now Claimed Unclaimed; birth = 0; entered = 0 } }))) (pushed : unclaimed ≡ buffer (a.unclaimed.items ++ cond claimed_now [] ((record { number = a.next; place = place }) ∷ [])) a.unclaimed.capacity) where
+  module _ (a : Inside C) (claimed_now : Bool) (place : ℕ) (slots : Slab (Slot (Standing C))) (unclaimed : Buffer Key)
+      (good : AreGoodRecords a) (free : slabs.get a.slots place ≡ None)
+      (u : Updates a.slots slots place (Some (record {
+        number = a.next;
+        standing =
+            record { place = cond claimed_now Claimed Unclaimed; birth = 0; entered = 0 };
+      })))
+      (pushed : unclaimed ≡ buffer (a.unclaimed.items ++ cond claimed_now [] ((record { number = a.next; place = place }) ∷ []))
+      a.unclaimed.capacity) where
     abbrev added : Slot (Standing C)
     added = record { number = a.next; standing = record { place = cond claimed_now Claimed Unclaimed; birth = 0; entered = 0 } }
 
@@ -309,21 +391,35 @@ module _ {C : Type 0} where
     new_approval true = refl
     new_approval false = refl
 
-    line_added : (b : Bool) (new : Slot (Standing C)) → new.number ≡ a.next → new.standing.place ≡ cond b Claimed Unclaimed → Updates a.slots slots place (Some new) → IsLineOf is_unclaimed slots.slots (a.unclaimed.items ++ cond b [] ((record { number = a.next; place = place }) ∷ []))
+    line_added : (b : Bool) (new : Slot (Standing C)) → new.number ≡ a.next → new.standing.place ≡ cond b Claimed Unclaimed
+        → Updates a.slots slots place (Some new) → IsLineOf is_unclaimed slots.slots
+        (a.unclaimed.items ++ cond b [] ((record { number = a.next; place = place }) ∷ []))
     line_added true new same stands_there v = rw (append-nil a.unclaimed.items) (free_line good.unclaimed free v)
     line_added false new same stands_there v = added_line (record { number = a.next; place = place }) good.unclaimed free v same (ap is_unclaimed stands_there)
 
-    pub approve_good : a.conns + a.approved < a.peak → slab_len slots ≡ slab_len a.slots + 1 → slots.capacity ≡ a.slots.capacity → AreGoodRecords (record a { next = a.next + 1; slots = slots; unclaimed = unclaimed; approved = a.approved + 1 })
+    pub approve_good : a.conns + a.approved < a.peak → slab_len slots ≡ slab_len a.slots + 1 → slots.capacity ≡ a.slots.capacity
+        → AreGoodRecords (record a { next = a.next + 1; slots = slots; unclaimed = unclaimed; approved = a.approved + 1 })
     approve_good free_room len room = record {
       table = table_added good.table free refl u;
       idle = free_line good.idle free u;
       unclaimed = rw pushed (line_added claimed_now added refl refl u);
       conns_are = (let t : tally (passes is_conn) slots.slots + 0 ≡ a.conns + 0 = conns_set a slots place None (Some added) false false good free u refl (not_conn claimed_now) in omega arith);
-      approved_are = (let t : tally (passes is_approval) slots.slots + 0 ≡ a.approved + 1 = approved_set a slots place None (Some added) false true good free u refl (new_approval claimed_now) in omega arith);
-      sizes = let s = good.sizes in let c : unclaimed.capacity ≡ a.unclaimed.capacity = ap (λ (b : Buffer Key). b.capacity) pushed in record { places_are = omega arith; peak_holds = omega arith; peak_few = good.sizes.peak_few; place_room_holds = omega arith; idle_room_holds = s.idle_room_holds; unclaimed_room_holds = omega arith };
+      approved_are = (let t : tally (passes is_approval) slots.slots + 0 ≡ a.approved + 1 =
+          approved_set a slots place None (Some added) false true good free u refl (new_approval claimed_now) in omega arith);
+      sizes = let s = good.sizes in let c : unclaimed.capacity ≡ a.unclaimed.capacity = ap (λ (b : Buffer Key). b.capacity) pushed in
+          record {
+            places_are = omega arith;
+            peak_holds = omega arith;
+            peak_few = good.sizes.peak_few;
+            place_room_holds = omega arith;
+            idle_room_holds = s.idle_room_holds;
+            unclaimed_room_holds = omega arith;
+          };
     }
 
-    numbers_added : (b : Bool) → map (λ (k : Key). k.number) (a.unclaimed.items ++ cond b [] ((record { number = a.next; place = place }) ∷ [])) ≡ map (λ (k : Key). k.number) a.unclaimed.items ++ cond b [] (a.next ∷ [])
+    numbers_added : (b : Bool) → map (λ (k : Key). k.number)
+        (a.unclaimed.items ++ cond b [] ((record { number = a.next; place = place }) ∷ [])) ≡ map (λ (k : Key). k.number) a.unclaimed.items
+        ++ cond b [] (a.next ∷ [])
     numbers_added true = ap (map (λ (k : Key). k.number)) (append-nil a.unclaimed.items) ∙ sym (append-nil (map (λ (k : Key). k.number) a.unclaimed.items))
     numbers_added false = map_push (λ (k : Key). k.number) a.unclaimed.items (record { number = a.next; place = place })
 
@@ -337,18 +433,30 @@ module _ {C : Type 0} where
   -- ---- bear
 
   -- a connection under the next number, at a free place
-  module _ (a : Inside C) (place now : ℕ) (conn : C) (slots : Slab (Slot (Standing C))) (idle : Buffer Key) (good : AreGoodRecords a) (free : slabs.get a.slots place ≡ None) (u : Updates a.slots slots place (Some (record { number = a.next; standing = record { place = Idle conn; birth = now; entered = now } }))) (pushed : idle ≡ buffer (a.idle.items ++ (record { number = a.next; place = place }) ∷ []) a.idle.capacity) where
+  module _ (a : Inside C) (place now : ℕ) (conn : C) (slots : Slab (Slot (Standing C))) (idle : Buffer Key) (good : AreGoodRecords a)
+      (free : slabs.get a.slots place ≡ None) (u : Updates a.slots slots place
+      (Some (record { number = a.next; standing = record { place = Idle conn; birth = now; entered = now } })))
+      (pushed : idle ≡ buffer (a.idle.items ++ (record { number = a.next; place = place }) ∷ []) a.idle.capacity) where
     abbrev newborn : Slot (Standing C)
     newborn = record { number = a.next; standing = record { place = Idle conn; birth = now; entered = now } }
 
-    pub born_good : a.conns + a.approved < a.peak → slab_len slots ≡ slab_len a.slots + 1 → slots.capacity ≡ a.slots.capacity → AreGoodRecords (record a { next = a.next + 1; slots = slots; idle = idle; conns = a.conns + 1 })
+    pub born_good : a.conns + a.approved < a.peak → slab_len slots ≡ slab_len a.slots + 1 → slots.capacity ≡ a.slots.capacity
+        → AreGoodRecords (record a { next = a.next + 1; slots = slots; idle = idle; conns = a.conns + 1 })
     born_good free_room len room = record {
       table = table_added good.table free refl u;
       idle = rw pushed (added_line (record { number = a.next; place = place }) good.idle free u refl refl);
       unclaimed = free_line good.unclaimed free u;
       conns_are = (let t : tally (passes is_conn) slots.slots + 0 ≡ a.conns + 1 = conns_set a slots place None (Some newborn) false true good free u refl refl in omega arith);
       approved_are = (let t : tally (passes is_approval) slots.slots + 0 ≡ a.approved + 0 = approved_set a slots place None (Some newborn) false false good free u refl refl in omega arith);
-      sizes = let s = good.sizes in let c : idle.capacity ≡ a.idle.capacity = ap (λ (b : Buffer Key). b.capacity) pushed in record { places_are = omega arith; peak_holds = omega arith; peak_few = good.sizes.peak_few; place_room_holds = omega arith; idle_room_holds = omega arith; unclaimed_room_holds = s.unclaimed_room_holds };
+      sizes = let s = good.sizes in let c : idle.capacity ≡ a.idle.capacity = ap (λ (b : Buffer Key). b.capacity) pushed in
+          record {
+            places_are = omega arith;
+            peak_holds = omega arith;
+            peak_few = good.sizes.peak_few;
+            place_room_holds = omega arith;
+            idle_room_holds = omega arith;
+            unclaimed_room_holds = s.unclaimed_room_holds;
+          };
     }
 
     pub born_view : view_of_records (record a { next = a.next + 1; slots = slots; idle = idle; conns = a.conns + 1 }) ≡ machine.after_birth conn now (view_of_records a)
@@ -360,7 +468,9 @@ module _ {C : Type 0} where
   -- ---- the first in line ends
 
   -- the idle connection that is first ends
-  module _ (a : Inside C) (key : Key) (slots : Slab (Slot (Standing C))) (line : Buffer Key) (good : AreGoodRecords a) (first : Some key ≡ slice_get a.idle.items 0) (rest : line ≡ buffer (drop 1 a.idle.items) a.idle.capacity) (frees : Updates a.slots slots key.place None) where
+  module _ (a : Inside C) (key : Key) (slots : Slab (Slot (Standing C))) (line : Buffer Key) (good : AreGoodRecords a)
+      (first : Some key ≡ slice_get a.idle.items 0) (rest : line ≡ buffer (drop 1 a.idle.items) a.idle.capacity)
+      (frees : Updates a.slots slots key.place None) where
     idle_end_fewer : tally (passes is_conn) slots.slots + 1 ≡ a.conns + 0
     idle_end_fewer =
         let x = good.idle.each 0 key (sym first) in
@@ -373,7 +483,9 @@ module _ {C : Type 0} where
     idle_end_good len room =
         let x = good.idle.each 0 key (sym first) in
         let t : tally (passes is_conn) slots.slots + 1 ≡ a.conns + 0 = idle_end_fewer in
-        let v : tally (passes is_approval) slots.slots + 0 ≡ a.approved + 0 = approved_set a slots key.place (Some x.0) None false false good x.1 frees (ap is_approval ((idle_is x.0.standing.place x.3).1)) refl in
+        let v : tally (passes is_approval) slots.slots + 0 ≡ a.approved + 0 =
+        approved_set a slots key.place (Some x.0) None false false good x.1 frees
+        (ap is_approval ((idle_is x.0.standing.place x.3).1)) refl in
         let c : line.capacity ≡ a.idle.capacity = ap (λ (b : Buffer Key). b.capacity) rest in
         let s = good.sizes in
         record {
@@ -382,7 +494,14 @@ module _ {C : Type 0} where
           unclaimed = other_line good.unclaimed x.1 (ap is_unclaimed ((idle_is x.0.standing.place x.3).1)) frees;
           conns_are = omega arith;
           approved_are = omega arith;
-          sizes = record { places_are = omega arith; peak_holds = omega arith; peak_few = s.peak_few; place_room_holds = omega arith; idle_room_holds = omega arith; unclaimed_room_holds = s.unclaimed_room_holds };
+          sizes = record {
+            places_are = omega arith;
+            peak_holds = omega arith;
+            peak_few = s.peak_few;
+            place_room_holds = omega arith;
+            idle_room_holds = omega arith;
+            unclaimed_room_holds = s.unclaimed_room_holds;
+          };
         }
 
     pub idle_end_view : view_of_records (record a { slots = slots; idle = line; conns = a.conns - 1 }) ≡ machine.after_idle_end key.number (view_of_records a)
@@ -393,7 +512,9 @@ module _ {C : Type 0} where
         same_records _ _ refl gone shorter refl refl refl refl
 
   -- the unclaimed approval that is first ends
-  module _ (a : Inside C) (key : Key) (slots : Slab (Slot (Standing C))) (line : Buffer Key) (good : AreGoodRecords a) (first : Some key ≡ slice_get a.unclaimed.items 0) (rest : line ≡ buffer (drop 1 a.unclaimed.items) a.unclaimed.capacity) (frees : Updates a.slots slots key.place None) where
+  module _ (a : Inside C) (key : Key) (slots : Slab (Slot (Standing C))) (line : Buffer Key) (good : AreGoodRecords a)
+      (first : Some key ≡ slice_get a.unclaimed.items 0) (rest : line ≡ buffer (drop 1 a.unclaimed.items) a.unclaimed.capacity)
+      (frees : Updates a.slots slots key.place None) where
     unclaimed_end_fewer : tally (passes is_approval) slots.slots + 1 ≡ a.approved + 0
     unclaimed_end_fewer =
         let x = good.unclaimed.each 0 key (sym first) in
@@ -415,7 +536,14 @@ module _ {C : Type 0} where
           idle = other_line good.idle x.1 (ap is_idle (unclaimed_is x.0.standing.place x.3)) frees;
           approved_are = omega arith;
           conns_are = omega arith;
-          sizes = record { places_are = omega arith; peak_holds = omega arith; peak_few = s.peak_few; place_room_holds = omega arith; unclaimed_room_holds = omega arith; idle_room_holds = s.idle_room_holds };
+          sizes = record {
+            places_are = omega arith;
+            peak_holds = omega arith;
+            peak_few = s.peak_few;
+            place_room_holds = omega arith;
+            unclaimed_room_holds = omega arith;
+            idle_room_holds = s.idle_room_holds;
+          };
         }
 
     pub unclaimed_end_view : view_of_records (record a { slots = slots; unclaimed = line; approved = a.approved - 1 }) ≡ machine.after_unclaimed_end key.number (view_of_records a)

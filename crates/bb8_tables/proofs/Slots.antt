@@ -28,9 +28,18 @@ module _ {X S : Type 0} (number : X → ℕ) (value : X → S) where
       absent_more a (suc i) x e = a i x e
   scan (Some y ∷ xs) q =
       ⊎_elim
-      (λ (t : (eqb q (number y) ≡ true) × (q ≡ number y)). inl (zero, y, refl, sym t.1, get_inserted (values_at number value xs) (number y) (value y) q ∙ ap (λ (b : Bool). cond b (Some (value y)) (get (values_at number value xs) q)) t.0))
+      (λ (t : (eqb q (number y) ≡ true) × (q ≡ number y)). inl (
+        zero,
+        y,
+        refl,
+        sym t.1,
+        get_inserted (values_at number value xs) (number y) (value y) q
+            ∙ ap (λ (b : Bool). cond b (Some (value y)) (get (values_at number value xs) q)) t.0,
+      ))
       (λ (t : (eqb q (number y) ≡ false) × (q ≢ number y)).
-      let rest : get (values_at number value (Some y ∷ xs)) q ≡ get (values_at number value xs) q = get_inserted (values_at number value xs) (number y) (value y) q ∙ ap (λ (b : Bool). cond b (Some (value y)) (get (values_at number value xs) q)) t.0 in
+      let rest : get (values_at number value (Some y ∷ xs)) q ≡ get (values_at number value xs) q =
+      get_inserted (values_at number value xs) (number y) (value y) q
+      ∙ ap (λ (b : Bool). cond b (Some (value y)) (get (values_at number value xs) q)) t.0 in
       ⊎_elim
       (λ (f : Found xs q). inl (suc f.0, f.1, f.2, f.3, rest ∙ f.4))
       (λ (n : Absent xs q × (get (values_at number value xs) q ≡ None)). inr (absent_more t.1 n.0, rest ∙ n.1))
@@ -52,7 +61,9 @@ module _ {X S : Type 0} (number : X → ℕ) (value : X → S) where
   Changes old new key slot = (get_or new key None ≡ slot) × ((other : ℕ) → other ≢ key → get_or new other None ≡ get_or old other None)
 
   -- a free place is taken, by a number that no place has
-  pub holds_taken : (old new : List (Option X)) (m : FinMap nat_cmp S) (key : ℕ) (x : X) → Holds number value old m → get_or old key None ≡ None → Absent old (number x) → Changes old new key (Some x) → Holds number value new (insert m (number x) (value x))
+  pub holds_taken : (old new : List (Option X)) (m : FinMap nat_cmp S) (key : ℕ) (x : X) → Holds number value old m
+      → get_or old key None ≡ None → Absent old (number x) → Changes old new key (Some x)
+      → Holds number value new (insert m (number x) (value x))
   holds_taken old new m key x h free fresh c = record {
     each = λ i y e. get_inserted m (number x) (value x) (number y) ∙
         ⊎_elim
@@ -71,7 +82,10 @@ module _ {X S : Type 0} (number : X → ℕ) (value : X → S) where
   }
 
   -- a place gets another value, and keeps its number
-  pub holds_replaced : (old new : List (Option X)) (m : FinMap nat_cmp S) (key : ℕ) (was x : X) → Holds number value old m → get_or old key None ≡ Some was → number was ≡ number x → ((i : ℕ) (y : X) → get_or old i None ≡ Some y → number y ≡ number x → i ≡ key) → Changes old new key (Some x) → Holds number value new (insert m (number x) (value x))
+  pub holds_replaced : (old new : List (Option X)) (m : FinMap nat_cmp S) (key : ℕ) (was x : X) → Holds number value old m
+      → get_or old key None ≡ Some was → number was ≡ number x
+      → ((i : ℕ) (y : X) → get_or old i None ≡ Some y → number y ≡ number x → i ≡ key) → Changes old new key (Some x)
+      → Holds number value new (insert m (number x) (value x))
   holds_replaced old new m key was x h at_key same_number alone c = record {
     each = λ i y e. get_inserted m (number x) (value x) (number y) ∙
         ⊎_elim
@@ -96,7 +110,9 @@ module _ {X S : Type 0} (number : X → ℕ) (value : X → S) where
   }
 
   -- a place is freed
-  pub holds_freed : (old new : List (Option X)) (m : FinMap nat_cmp S) (key : ℕ) (was : X) → Holds number value old m → get_or old key None ≡ Some was → ((i : ℕ) (y : X) → get_or old i None ≡ Some y → number y ≡ number was → i ≡ key) → Changes old new key None → Holds number value new (remove m (number was))
+  pub holds_freed : (old new : List (Option X)) (m : FinMap nat_cmp S) (key : ℕ) (was : X) → Holds number value old m
+      → get_or old key None ≡ Some was → ((i : ℕ) (y : X) → get_or old i None ≡ Some y → number y ≡ number was → i ≡ key)
+      → Changes old new key None → Holds number value new (remove m (number was))
   holds_freed old new m key was h at_key alone c = record {
     each = λ i y e. get_removed m (number was) (number y) ∙
         ⊎_elim
@@ -146,20 +162,27 @@ module _ {X S : Type 0} (number : X → ℕ) (value : X → S) where
   pub held_at : (xs : List (Option X)) (i : ℕ) (x : X) → IsDistinct number xs → get_or xs i None ≡ Some x → get (values_at number value xs) (number x) ≡ Some (value x)
   held_at xs i x d e = (holds_self xs d).each i x e
 
-  pub held_taken : (old new : List (Option X)) (key : ℕ) (x : X) → IsDistinct number old → get_or old key None ≡ None → Absent old (number x) → Changes old new key (Some x) → values_at number value new ≡ insert (values_at number value old) (number x) (value x)
+  pub held_taken : (old new : List (Option X)) (key : ℕ) (x : X) → IsDistinct number old → get_or old key None ≡ None
+      → Absent old (number x) → Changes old new key (Some x)
+      → values_at number value new ≡ insert (values_at number value old) (number x) (value x)
   held_taken old new key x d free fresh c = held_is new _ (holds_taken old new _ key x (holds_self old d) free fresh c)
 
-  pub held_replaced : (old new : List (Option X)) (key : ℕ) (was x : X) → IsDistinct number old → get_or old key None ≡ Some was → number was ≡ number x → Changes old new key (Some x) → values_at number value new ≡ insert (values_at number value old) (number x) (value x)
+  pub held_replaced : (old new : List (Option X)) (key : ℕ) (was x : X) → IsDistinct number old → get_or old key None ≡ Some was
+      → number was ≡ number x → Changes old new key (Some x)
+      → values_at number value new ≡ insert (values_at number value old) (number x) (value x)
   held_replaced old new key was x d at_key same c = held_is new _ (holds_replaced old new _ key was x (holds_self old d) at_key same (λ i y e s. d i key y was e at_key (s ∙ sym same)) c)
 
-  pub held_freed : (old new : List (Option X)) (key : ℕ) (was : X) → IsDistinct number old → get_or old key None ≡ Some was → Changes old new key None → values_at number value new ≡ remove (values_at number value old) (number was)
+  pub held_freed : (old new : List (Option X)) (key : ℕ) (was : X) → IsDistinct number old → get_or old key None ≡ Some was
+      → Changes old new key None → values_at number value new ≡ remove (values_at number value old) (number was)
   held_freed old new key was d at_key c = held_is new _ (holds_freed old new _ key was (holds_self old d) at_key (λ i y e s. d i key y was e at_key s) c)
 
 -- ---- no number stands twice
 
 module _ {X : Type 0} (number : X → ℕ) where
   -- what stands at an index after a change
-  pub changed_cases : (old new : List (Option X)) (key i : ℕ) (slot : Option X) (y : X) → (get_or new key None ≡ slot) × ((other : ℕ) → other ≢ key → get_or new other None ≡ get_or old other None) → get_or new i None ≡ Some y → ((i ≡ key) × (slot ≡ Some y)) ⊎ ((i ≢ key) × (get_or old i None ≡ Some y))
+  pub changed_cases : (old new : List (Option X)) (key i : ℕ) (slot : Option X) (y : X) → (get_or new key None ≡ slot)
+      × ((other : ℕ) → other ≢ key → get_or new other None ≡ get_or old other None) → get_or new i None ≡ Some y
+      → ((i ≡ key) × (slot ≡ Some y)) ⊎ ((i ≢ key) × (get_or old i None ≡ Some y))
   changed_cases old new key i slot y c e =
       ⊎_elim
       (λ (t : (eqb i key ≡ true) × (i ≡ key)). inl (t.1, sym c.0 ∙ subst (λ (j : ℕ). get_or new j None ≡ Some y) t.1 e))
@@ -167,7 +190,9 @@ module _ {X : Type 0} (number : X → ℕ) where
       (same_or_not i key)
 
   -- a change to a number that no other place has
-  pub distinct_changed : (old new : List (Option X)) (key : ℕ) (slot : Option X) → IsDistinct number old → (get_or new key None ≡ slot) × ((other : ℕ) → other ≢ key → get_or new other None ≡ get_or old other None) → ((x y : X) (i : ℕ) → slot ≡ Some x → get_or old i None ≡ Some y → number y ≡ number x → i ≡ key) → IsDistinct number new
+  pub distinct_changed : (old new : List (Option X)) (key : ℕ) (slot : Option X) → IsDistinct number old → (get_or new key None ≡ slot)
+      × ((other : ℕ) → other ≢ key → get_or new other None ≡ get_or old other None)
+      → ((x y : X) (i : ℕ) → slot ≡ Some x → get_or old i None ≡ Some y → number y ≡ number x → i ≡ key) → IsDistinct number new
   distinct_changed old new key slot d c alone i j x y ex ey same =
       ⊎_elim
       (λ (p : (i ≡ key) × (slot ≡ Some x)).
@@ -232,7 +257,9 @@ module _ {K : Type 0} (key : K → ℕ) where
       rw off (ap (λ (ms : List ℕ). key k ∷ ms) (others_kept q ks (λ j m e. other (suc j) m e)))
 
   -- where no number stands twice in a line, it loses one number as it loses its element
-  pub cut_without : (ks : List K) (i : ℕ) (k : K) → slice_get ks i ≡ Some k → ((a b : ℕ) (x y : K) → slice_get ks a ≡ Some x → slice_get ks b ≡ Some y → key x ≡ key y → a ≡ b) → map key (cut_at i ks) ≡ filter (λ q. not (eqb q (key k))) (map key ks)
+  pub cut_without : (ks : List K) (i : ℕ) (k : K) → slice_get ks i ≡ Some k
+      → ((a b : ℕ) (x y : K) → slice_get ks a ≡ Some x → slice_get ks b ≡ Some y → key x ≡ key y → a ≡ b)
+      → map key (cut_at i ks) ≡ filter (λ q. not (eqb q (key k))) (map key ks)
   cut_without [] i k e once = cc
   cut_without (x ∷ ks) zero k e once =
       let is : Some x ≡ Some k = e in
@@ -281,7 +308,8 @@ module _ {X K : Type 0} (number : X → ℕ) (test : X → Bool) (key leads : K 
   line_cut_avoids xs keys i k l at_i j m e s = skip_other i j (l.once (skip i j) i m k (get_cut keys i j m e) at_i s)
 
   -- no number stands twice in a line
-  pub line_numbers : (xs : List (Option X)) (keys : List K) → IsDistinct number xs → IsLine number test key leads xs keys → (a b : ℕ) (x y : K) → slice_get keys a ≡ Some x → slice_get keys b ≡ Some y → key x ≡ key y → a ≡ b
+  pub line_numbers : (xs : List (Option X)) (keys : List K) → IsDistinct number xs → IsLine number test key leads xs keys
+      → (a b : ℕ) (x y : K) → slice_get keys a ≡ Some x → slice_get keys b ≡ Some y → key x ≡ key y → a ≡ b
   line_numbers xs keys d l a b x y e f s =
       let sx = l.each a x e in
       let sy = l.each b y f in
@@ -294,13 +322,15 @@ module _ {X K : Type 0} (number : X → ℕ) (test : X → Bool) (key leads : K 
       off stands.0 (subst (λ (i : ℕ). get_or xs i None ≡ Some stands.0) s stands.1) stands.3
 
   -- what happens at a place that the line avoids
-  pub line_kept : (old new : List (Option X)) (keys : List K) (place : ℕ) → IsLine number test key leads old keys → Avoids keys place → ((other : ℕ) → other ≢ place → get_or new other None ≡ get_or old other None) → IsLine number test key leads new keys
+  pub line_kept : (old new : List (Option X)) (keys : List K) (place : ℕ) → IsLine number test key leads old keys → Avoids keys place
+      → ((other : ℕ) → other ≢ place → get_or new other None ≡ get_or old other None) → IsLine number test key leads new keys
   line_kept old new keys place l avoids others = record {
     each = λ j k e. let stands = l.each j k e in (stands.0, others (leads k) (avoids j k e) ∙ stands.1, stands.2, stands.3);
     once = l.once;
   }
 
-  pub line_pushed : (xs : List (Option X)) (keys : List K) (k : K) (x : X) → IsLine number test key leads xs keys → Avoids keys (leads k) → get_or xs (leads k) None ≡ Some x → number x ≡ key k → test x ≡ true → IsLine number test key leads xs (keys ++ k ∷ [])
+  pub line_pushed : (xs : List (Option X)) (keys : List K) (k : K) (x : X) → IsLine number test key leads xs keys → Avoids keys (leads k)
+      → get_or xs (leads k) None ≡ Some x → number x ≡ key k → test x ≡ true → IsLine number test key leads xs (keys ++ k ∷ [])
   line_pushed xs keys k x l avoids at_k same pass = record {
     each = λ j m e. ⊎_elim
         (λ (h : slice_get keys j ≡ Some m). l.each j m h)
@@ -323,11 +353,15 @@ module _ {X K : Type 0} (number : X → ℕ) (test : X → Bool) (key leads : K 
 module _ {X : Type 0} (p : Option X → Bool) (nothing : p None ≡ false) where
   tally_same : (xs ys : List (Option X)) → ((i : ℕ) → get_or ys i None ≡ get_or xs i None) → tally p ys ≡ tally p xs
   tally_same [] [] h = refl
-  tally_same [] (y ∷ ys) h = let first : y ≡ None = h 0 in let rest : tally p ys ≡ 0 = tally_same [] ys (λ i. h (suc i)) in let e : one (p y) ≡ 0 = ap (λ (o : Option X). one (p o)) first ∙ ap one nothing in omega arith
-  tally_same (x ∷ xs) [] h = let first : None ≡ x = h 0 in let rest : 0 ≡ tally p xs = tally_same xs [] (λ i. h (suc i)) in let e : one (p x) ≡ 0 = ap (λ (o : Option X). one (p o)) (sym first) ∙ ap one nothing in omega arith
-  tally_same (x ∷ xs) (y ∷ ys) h = let first : y ≡ x = h 0 in let rest : tally p ys ≡ tally p xs = tally_same xs ys (λ i. h (suc i)) in let e : one (p y) ≡ one (p x) = ap (λ (o : Option X). one (p o)) first in omega arith
+  tally_same [] (y ∷ ys) h = let first : y ≡ None = h 0 in let rest : tally p ys ≡ 0 = tally_same [] ys (λ i. h (suc i)) in
+      let e : one (p y) ≡ 0 = ap (λ (o : Option X). one (p o)) first ∙ ap one nothing in omega arith
+  tally_same (x ∷ xs) [] h = let first : None ≡ x = h 0 in let rest : 0 ≡ tally p xs = tally_same xs [] (λ i. h (suc i)) in
+      let e : one (p x) ≡ 0 = ap (λ (o : Option X). one (p o)) (sym first) ∙ ap one nothing in omega arith
+  tally_same (x ∷ xs) (y ∷ ys) h = let first : y ≡ x = h 0 in let rest : tally p ys ≡ tally p xs = tally_same xs ys (λ i. h (suc i)) in
+      let e : one (p y) ≡ one (p x) = ap (λ (o : Option X). one (p o)) first in omega arith
 
-  pub tally_changed : (xs ys : List (Option X)) (key : ℕ) → ((other : ℕ) → other ≢ key → get_or ys other None ≡ get_or xs other None) → tally p ys + one (p (get_or xs key None)) ≡ tally p xs + one (p (get_or ys key None))
+  pub tally_changed : (xs ys : List (Option X)) (key : ℕ) → ((other : ℕ) → other ≢ key → get_or ys other None ≡ get_or xs other None)
+      → tally p ys + one (p (get_or xs key None)) ≡ tally p xs + one (p (get_or ys key None))
   tally_changed [] [] key h = refl
   tally_changed [] (y ∷ ys) zero h = let rest : tally p ys ≡ 0 = tally_same [] ys (λ i. h (suc i) (λ e. omega arith)) in let e : one (p None) ≡ 0 = ap one nothing in omega arith
   tally_changed [] (y ∷ ys) (suc key) h =
@@ -364,9 +398,12 @@ module _ {X K : Type 0} (number : X → ℕ) (test : X → Bool) (key leads : K 
       let x = l.each 0 k refl in
       let inside : leads k < length xs = in_list xs (leads k) x.0 x.1 in
       let others : (other : ℕ) → other ≢ leads k → get_or (set xs (leads k) None) other None ≡ get_or xs other None = λ other n. get_or-set_other xs (leads k) other None None n in
-      let rest : IsLine number test key leads (set xs (leads k) None) keys = line_kept number test key leads xs (set xs (leads k) None) keys (leads k) (line_rest number test key leads xs k keys l) (line_rest_avoids number test key leads xs k keys l) others in
+      let rest : IsLine number test key leads (set xs (leads k) None) keys =
+      line_kept number test key leads xs (set xs (leads k) None) keys (leads k) (line_rest number test key leads xs k keys l)
+      (line_rest_avoids number test key leads xs k keys l) others in
       let ih : length keys ≤ tally p (set xs (leads k) None) = line_length keys (set xs (leads k) None) rest in
-      let t : tally p (set xs (leads k) None) + one (p (get_or xs (leads k) None)) ≡ tally p xs + one (p (get_or (set xs (leads k) None) (leads k) None)) = tally_changed p nothing xs (set xs (leads k) None) (leads k) others in
+      let t : tally p (set xs (leads k) None) + one (p (get_or xs (leads k) None)) ≡ tally p xs + one
+      (p (get_or (set xs (leads k) None) (leads k) None)) = tally_changed p nothing xs (set xs (leads k) None) (leads k) others in
       let was : one (p (get_or xs (leads k) None)) ≡ 1 = ap (λ (o : Option X). one (p o)) x.1 ∙ ap one (same x.0 x.3) in
       let is : one (p (get_or (set xs (leads k) None) (leads k) None)) ≡ 0 = ap (λ (o : Option X). one (p o)) (get_or-set_same xs (leads k) None None inside) ∙ ap one nothing in
       omega arith
@@ -380,9 +417,11 @@ module _ {X K : Type 0} (number : X → ℕ) (test : X → Bool) (key leads : K 
 
 module _ {X : Type 0} {number : X → ℕ} where
   -- another value at a place, with the same number
-  pub table_set : {old new : Slab X} {next place : ℕ} {was x : X} → IsTable number old next → slabs.get old place ≡ Some was → number was ≡ number x → Updates old new place (Some x) → IsTable number new next
+  pub table_set : {old new : Slab X} {next place : ℕ} {was x : X} → IsTable number old next → slabs.get old place ≡ Some was
+      → number was ≡ number x → Updates old new place (Some x) → IsTable number new next
   table_set {old} {new} {next} {place} {was} {x} t at_place same u = record {
-    distinct = distinct_changed number old.slots new.slots place (Some x) t.distinct (u.changed, u.others) (λ a b i e f s. let is : x ≡ a = cc in t.distinct i place b was f at_place (s ∙ ap number (sym is) ∙ sym same));
+    distinct = distinct_changed number old.slots new.slots place (Some x) t.distinct (u.changed, u.others)
+        (λ a b i e f s. let is : x ≡ a = cc in t.distinct i place b was f at_place (s ∙ ap number (sym is) ∙ sym same));
     below = λ i y e. ⊎_elim
         (λ (h : (i ≡ place) × (Some x ≡ Some y)). let is : x ≡ y = cc in let l : number was < next = t.below place was at_place in let e1 : number was ≡ number y = same ∙ ap number is in omega arith)
         (λ (h : (i ≢ place) × (get_or old.slots i None ≡ Some y)). t.below i y h.1)
@@ -390,9 +429,12 @@ module _ {X : Type 0} {number : X → ℕ} where
   }
 
   -- the next number at a free place
-  pub table_added : {old new : Slab X} {next place : ℕ} {x : X} → IsTable number old next → slabs.get old place ≡ None → number x ≡ next → Updates old new place (Some x) → IsTable number new (next + 1)
+  pub table_added : {old new : Slab X} {next place : ℕ} {x : X} → IsTable number old next → slabs.get old place ≡ None → number x ≡ next
+      → Updates old new place (Some x) → IsTable number new (next + 1)
   table_added {old} {new} {next} {place} {x} t free is_next u = record {
-    distinct = distinct_changed number old.slots new.slots place (Some x) t.distinct (u.changed, u.others) (λ a b i e f s. absurd (let is : x ≡ a = cc in let l : number b < next = t.below i b f in let e1 : number b ≡ number x = s ∙ ap number (sym is) in omega arith));
+    distinct = distinct_changed number old.slots new.slots place (Some x) t.distinct (u.changed, u.others)
+        (λ a b i e f s. absurd (let is : x ≡ a = cc in let l : number b < next = t.below i b f in let e1 : number b ≡ number x = s
+        ∙ ap number (sym is) in omega arith));
     below = λ i y e. ⊎_elim
         (λ (h : (i ≡ place) × (Some x ≡ Some y)). let is : x ≡ y = cc in let e1 : number x ≡ number y = ap number is in omega arith)
         (λ (h : (i ≢ place) × (get_or old.slots i None ≡ Some y)). let l : number y < next = t.below i y h.1 in omega arith)
@@ -414,11 +456,19 @@ module _ {S : Type 0} where
   abbrev shown : Slab (Slot S) → FinMap nat_cmp S
   shown slots = values_at (λ (x : Slot S). x.number) (λ x. x.standing) slots.slots
 
-  pub held_set : {old new : Slab (Slot S)} {next place : ℕ} {was x : Slot S} → IsTable (λ (y : Slot S). y.number) old next → slabs.get old place ≡ Some was → was.number ≡ x.number → Updates old new place (Some x) → shown new ≡ insert (shown old) x.number x.standing
-  held_set {old} {new} {next} {place} {was} {x} t at_place same u = held_replaced (λ (y : Slot S). y.number) (λ y. y.standing) old.slots new.slots place was x t.distinct at_place same (u.changed, u.others)
+  pub held_set : {old new : Slab (Slot S)} {next place : ℕ} {was x : Slot S} → IsTable (λ (y : Slot S). y.number) old next
+      → slabs.get old place ≡ Some was → was.number ≡ x.number → Updates old new place (Some x)
+      → shown new ≡ insert (shown old) x.number x.standing
+  held_set {old} {new} {next} {place} {was} {x} t at_place same u =
+      held_replaced (λ (y : Slot S). y.number) (λ y. y.standing) old.slots new.slots place was x t.distinct at_place same
+      (u.changed, u.others)
 
-  pub held_added : {old new : Slab (Slot S)} {next place : ℕ} {x : Slot S} → IsTable (λ (y : Slot S). y.number) old next → slabs.get old place ≡ None → x.number ≡ next → Updates old new place (Some x) → shown new ≡ insert (shown old) x.number x.standing
-  held_added {old} {new} {next} {place} {x} t free is_next u = held_taken (λ (y : Slot S). y.number) (λ y. y.standing) old.slots new.slots place x t.distinct free (λ i y e s. let l : y.number < next = t.below i y e in omega arith) (u.changed, u.others)
+  pub held_added : {old new : Slab (Slot S)} {next place : ℕ} {x : Slot S} → IsTable (λ (y : Slot S). y.number) old next
+      → slabs.get old place ≡ None → x.number ≡ next → Updates old new place (Some x) → shown new ≡ insert (shown old) x.number x.standing
+  held_added {old} {new} {next} {place} {x} t free is_next u =
+      held_taken (λ (y : Slot S). y.number) (λ y. y.standing) old.slots new.slots place x t.distinct free
+      (λ i y e s. let l : y.number < next = t.below i y e in omega arith) (u.changed, u.others)
 
-  pub held_removed : {old new : Slab (Slot S)} {next place : ℕ} {was : Slot S} → IsTable (λ (y : Slot S). y.number) old next → slabs.get old place ≡ Some was → Updates old new place None → shown new ≡ remove (shown old) was.number
+  pub held_removed : {old new : Slab (Slot S)} {next place : ℕ} {was : Slot S} → IsTable (λ (y : Slot S). y.number) old next
+      → slabs.get old place ≡ Some was → Updates old new place None → shown new ≡ remove (shown old) was.number
   held_removed {old} {new} {next} {place} {was} t at_place u = held_freed (λ (y : Slot S). y.number) (λ y. y.standing) old.slots new.slots place was t.distinct at_place (u.changed, u.others)

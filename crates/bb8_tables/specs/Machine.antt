@@ -11,7 +11,7 @@ use Rattle.bb8_types.specs.declared.grants.Grant.{Grant}
 use Rattle.bb8_types.specs.Numbered.{one}
 use Rattle.bb8_types.specs.Places.{get_with_place, get_in_wait, gets_stand, is_notified}
 use Rattle.bb8_tables.specs.Views.{ShownRecords, ShownGets}
-use Rattle.bb8_types.specs.Grants.{IsGranted, due}
+use Rattle.bb8_types.specs.Grants.{IsGranted}
 
 -- a line without a number
 abbrev pub without : ℕ → List ℕ → List ℕ
@@ -63,7 +63,14 @@ module _ {C : Type 0} where
 
   -- one approval more, claimed or in line
   abbrev pub after_approval : Bool → ShownRecords C → ShownRecords C
-  after_approval claimed_now s = record s { next = s.next + 1; places = insert s.places s.next (record { place = cond claimed_now Claimed Unclaimed; birth = 0; entered = 0 }); unclaimed = s.unclaimed ++ cond claimed_now [] (s.next ∷ []); approved = s.approved + 1 }
+  after_approval claimed_now s = record s {
+    next = s.next + 1;
+    places =
+        insert s.places s.next (record { place = cond claimed_now Claimed Unclaimed; birth = 0; entered = 0 });
+    unclaimed = s.unclaimed
+        ++ cond claimed_now [] (s.next ∷ []);
+    approved = s.approved + 1;
+  }
 
   -- so many approvals more
   abbrev pub after_approvals : Bool → ℕ → ShownRecords C → ShownRecords C

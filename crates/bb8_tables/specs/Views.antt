@@ -67,7 +67,8 @@ place_code {C} c = code_by (ℕ × (Option C × ℕ)) (coded× coded_ℕ (coded�
     again (Held g) = refl
 
 abbrev standing_code : {C : Type 0} → Coded C → Coded (Standing C)
-standing_code {C} c = code_by (Place C × (ℕ × ℕ)) (coded× (place_code c) (coded× coded_ℕ coded_ℕ)) (λ s. (s.place, (s.birth, s.entered))) (λ p. record { place = p.0; birth = p.1.0; entered = p.1.1 }) (λ _. refl)
+standing_code {C} c = code_by (Place C × (ℕ × ℕ)) (coded× (place_code c) (coded× coded_ℕ coded_ℕ)) (λ s. (s.place, (s.birth, s.entered)))
+    (λ p. record { place = p.0; birth = p.1.0; entered = p.1.1 }) (λ _. refl)
 
 abbrev get_place_code : Coded GetPlace
 get_place_code = code_by (ℕ × (Bool × ℕ)) (coded× coded_ℕ (coded× coded_bool coded_ℕ)) to back again

@@ -68,7 +68,14 @@ impl Counters {
     pub fn serve(&mut self, first_wait: Option<u64>, now: u64)
         requires direct { self.old.direct < end_of_numbers }
         requires waited { self.old.waited < end_of_numbers }
-        ensures { self.new ≡ record self.old { direct = self.old.direct + one (not (is_some first_wait)); waited = self.old.waited + one (is_some first_wait); wait_micros = min most_micros (self.old.wait_micros + micros_since now first_wait) } }
+        ensures { self.new ≡ record self.old {
+          direct =
+              self.old.direct + one (not (is_some first_wait));
+          waited =
+              self.old.waited + one (is_some first_wait);
+          wait_micros =
+              min most_micros (self.old.wait_micros + micros_since now first_wait);
+        } }
     {
         match first_wait {
             None => self.direct += 1,
@@ -85,8 +92,14 @@ impl Counters {
     pub fn give_up(&mut self, reason: Reason, first_wait: Option<u64>, now: u64)
         requires timed_out { self.old.timed_out < end_of_numbers }
         requires cancelled { self.old.cancelled < end_of_numbers }
-        ensures timed_out { reason ≡ TimedOut → self.new ≡ record self.old { timed_out = self.old.timed_out + 1; wait_micros = min most_micros (self.old.wait_micros + micros_since now first_wait) } }
-        ensures cancelled { reason ≡ Cancelled → self.new ≡ record self.old { cancelled = self.old.cancelled + 1 } }
+        ensures timed_out { reason ≡ TimedOut
+            → self.new ≡ record self.old {
+              timed_out = self.old.timed_out + 1;
+              wait_micros =
+                  min most_micros (self.old.wait_micros + micros_since now first_wait);
+            } }
+        ensures cancelled { reason ≡ Cancelled
+            → self.new ≡ record self.old { cancelled = self.old.cancelled + 1 } }
     {
         match reason {
             Reason::TimedOut => {

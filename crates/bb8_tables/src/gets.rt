@@ -106,7 +106,9 @@ fn stands_in_line(slots: &Table<Getting>, place: usize) -> bool
 
 /// Takes a get out of line, where it is in it.
 fn step_out(waiting: &mut Ring<GetKey>, waits: bool, number: u64)
-    ensures { waiting.new ≡ buffer (cond waits (filter (λ (key : GetKey). not (eqb key.number number)) waiting.old.items) waiting.old.items) waiting.old.capacity }
+    ensures { waiting.new ≡ buffer (cond waits
+        (filter (λ (key : GetKey). not (eqb key.number number)) waiting.old.items)
+        waiting.old.items) waiting.old.capacity }
 {
     if waits {
         waiting.remove(number);
@@ -161,8 +163,10 @@ impl Gets {
     /// Makes room for one more get, where there is none yet.
     fn make_room_for_one(&mut self) -> bool
         requires { self.old.next < end_of_numbers }
-        ensures made { result ≡ true → self.new ≡ record self.old { peak = max self.old.peak (self.old.alive + 1) } }
-        ensures refused { result ≡ false → (self.old.alive ≡ self.old.peak) × (self.new ≡ self.old) }
+        ensures made { result ≡ true → self.new ≡ record
+            self.old { peak = max self.old.peak (self.old.alive + 1) } }
+        ensures refused { result ≡ false → (self.old.alive ≡ self.old.peak)
+            × (self.new ≡ self.old) }
     {
         self.alive < self.peak || self.make_room().is_ok()
     }
@@ -191,7 +195,8 @@ impl Gets {
     pub fn has_room(&self) -> bool
         ensures number { result ≡ true → self.now.next < end_of_numbers }
         ensures room { result ≡ true → self.now.alive < self.now.peak }
-        ensures none { result ≡ false → (end_of_numbers ≤ self.now.next) ⊎ (self.now.peak ≤ self.now.alive) }
+        ensures none { result ≡ false → (end_of_numbers ≤ self.now.next)
+            ⊎ (self.now.peak ≤ self.now.alive) }
     {
         self.next < END_OF_NUMBERS && self.alive < self.peak
     }
@@ -201,7 +206,8 @@ impl Gets {
         requires room { self.old.alive < self.old.peak }
         requires number { self.old.next < end_of_numbers }
         ensures number { result ≡ self.old.next }
-        ensures state { self.new ≡ machine.after_get_end self.old.next (machine.after_begin self.old) }
+        ensures state { self.new ≡ machine.after_get_end self.old.next
+            (machine.after_begin self.old) }
     {
         let number = self.next;
         self.next += 1;
@@ -212,7 +218,8 @@ impl Gets {
     #[inline]
     pub fn begin(&mut self) -> Option<GetKey>
         requires { self.old.next < end_of_numbers }
-        ensures some { IfSome result (λ g. (g.number ≡ self.old.next) × (self.new ≡ machine.after_begin self.old)) }
+        ensures some { IfSome result (λ g. (g.number ≡ self.old.next)
+            × (self.new ≡ machine.after_begin self.old)) }
         ensures none { IfNone result ((self.old.alive ≡ self.old.peak) × (self.new ≡ self.old)) }
     {
         if !self.make_room_for_one() {
@@ -223,7 +230,8 @@ impl Gets {
 
     /// Has a get wait, which did not wait or was notified, since this moment if it did not wait before.
     pub fn wait(&mut self, g: GetKey, now: u64)
-        requires { (x : Getting) × (map.get self.old.places g.number ≡ Some x) × (places.is_unnotified x.place ≡ false) }
+        requires { (x : Getting) × (map.get self.old.places g.number ≡ Some x)
+            × (places.is_unnotified x.place ≡ false) }
         ensures { self.new ≡ machine.after_wait now g.number self.old }
     {
         match self.slots.locate(g.number, g.place) {
@@ -273,7 +281,8 @@ impl Gets {
     /// Ends a get that is alive and in no line.
     #[inline]
     pub fn finish(&mut self, g: GetKey)
-        requires { (x : Getting) × (map.get self.old.places g.number ≡ Some x) × (places.is_unnotified x.place ≡ false) }
+        requires { (x : Getting) × (map.get self.old.places g.number ≡ Some x)
+            × (places.is_unnotified x.place ≡ false) }
         ensures state { self.new ≡ machine.after_get_end g.number self.old }
         ensures numbers { self.old.next ≤ end_of_numbers }
     {
@@ -288,7 +297,8 @@ impl Gets {
 
     /// Where the number stands, if the get is alive.
     pub fn find(&self, number: u64) -> Option<GetKey>
-        ensures some { IfSome result (λ g. (g.number ≡ number) × IsSome (map.get self.now.places number)) }
+        ensures some { IfSome result (λ g. (g.number ≡ number)
+            × IsSome (map.get self.now.places number)) }
         ensures none { IfNone result (map.get self.now.places number ≡ None) }
     {
         match self.slots.locate(number, 0) {

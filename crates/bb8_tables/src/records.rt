@@ -94,7 +94,8 @@ fn approval<C>(claimed: bool) -> Standing<C>
 /// Puts a new approval in line, where it is not claimed already.
 fn line_up(unclaimed: &mut Ring<Key>, claimed: bool, key: Key)
     requires { length unclaimed.old.items < unclaimed.old.capacity }
-    ensures { unclaimed.new ≡ buffer (unclaimed.old.items ++ cond claimed [] (key ∷ [])) unclaimed.old.capacity }
+    ensures { unclaimed.new ≡ buffer (unclaimed.old.items ++ cond claimed [] (key ∷ []))
+        unclaimed.old.capacity }
 {
     if !claimed {
         unclaimed.push(key);
@@ -127,8 +128,10 @@ impl<C: Drop> Records<C> {
 
     /// Claims the unclaimed approval of the least number.
     pub fn claim(&mut self) -> Option<Key>
-        ensures some { IfSome result (λ key. (slice_get self.old.unclaimed 0 ≡ Some key.number) × (self.new ≡ machine.after_claim key.number self.old)) }
-        ensures none { IfNone result ((slice_get self.old.unclaimed 0 ≡ None) × (self.new ≡ self.old)) }
+        ensures some { IfSome result (λ key. (slice_get self.old.unclaimed 0 ≡ Some key.number)
+            × (self.new ≡ machine.after_claim key.number self.old)) }
+        ensures none { IfNone result ((slice_get self.old.unclaimed 0 ≡ None)
+            × (self.new ≡ self.old)) }
     {
         match self.unclaimed.pop() {
             None => None,
@@ -141,8 +144,13 @@ impl<C: Drop> Records<C> {
 
     /// Takes out the idle connection that is first, for a guard.
     pub fn take(&mut self, strategy: QueueStrategy) -> Option<(Key, C)>
-        ensures some { IfSome result (λ r. (places.first_of strategy self.old.idle ≡ Some r.0.number) × ((birth entered : ℕ) × (map.get self.old.places r.0.number ≡ Some (record { place = Idle r.1; birth = birth; entered = entered }))) × (self.new ≡ machine.after_take Guarded r.0.number self.old)) }
-        ensures none { IfNone result ((places.first_of strategy self.old.idle ≡ None) × (self.new ≡ self.old)) }
+        ensures some { IfSome result (λ r. (places.first_of strategy self.old.idle ≡ Some
+            r.0.number) × ((birth entered : ℕ)
+            × (map.get self.old.places r.0.number ≡ Some
+            (record { place = Idle r.1; birth = birth; entered = entered })))
+            × (self.new ≡ machine.after_take Guarded r.0.number self.old)) }
+        ensures none { IfNone result ((places.first_of strategy self.old.idle ≡ None)
+            × (self.new ≡ self.old)) }
     {
         match self.idle.pop_by(strategy) {
             None => None,
@@ -155,8 +163,10 @@ impl<C: Drop> Records<C> {
 
     /// Makes a connection idle, which a claimed approval brought, or a guard or a get held.
     pub fn enter(&mut self, k: Key, conn: C, birth: u64, now: u64, opening: bool)
-        requires { (s : Standing C) × (map.get self.old.places k.number ≡ Some s) × (places.comes_from opening s.place ≡ true) }
-        ensures state { self.new ≡ machine.after_entry opening k.number (record { place = Idle conn; birth = birth; entered = now }) self.old }
+        requires { (s : Standing C) × (map.get self.old.places k.number ≡ Some s)
+            × (places.comes_from opening s.place ≡ true) }
+        ensures state { self.new ≡ machine.after_entry opening k.number
+            (record { place = Idle conn; birth = birth; entered = now }) self.old }
         ensures numbers { self.old.next ≤ end_of_numbers }
     {
         match self.slots.locate(k.number, k.place) {
@@ -181,7 +191,8 @@ impl<C: Drop> Records<C> {
 
     /// Ends a claimed approval, or a connection that a guard or a get held.
     pub fn close(&mut self, k: Key, opening: bool)
-        requires { (s : Standing C) × (map.get self.old.places k.number ≡ Some s) × (places.comes_from opening s.place ≡ true) }
+        requires { (s : Standing C) × (map.get self.old.places k.number ≡ Some s)
+            × (places.comes_from opening s.place ≡ true) }
         ensures state { self.new ≡ machine.after_close opening k.number self.old }
         ensures numbers { self.old.next ≤ end_of_numbers }
     {
@@ -197,7 +208,8 @@ impl<C: Drop> Records<C> {
 
     /// Ends the idle connection that entered first.
     fn end_idle(&mut self) -> Option<Key>
-        ensures some { IfSome result (λ key. (slice_get self.old.idle 0 ≡ Some key.number) × (self.new ≡ machine.after_idle_end key.number self.old)) }
+        ensures some { IfSome result (λ key. (slice_get self.old.idle 0 ≡ Some key.number)
+            × (self.new ≡ machine.after_idle_end key.number self.old)) }
         ensures none { IfNone result ((slice_get self.old.idle 0 ≡ None) × (self.new ≡ self.old)) }
     {
         match self.idle.pop() {
@@ -212,8 +224,10 @@ impl<C: Drop> Records<C> {
 
     /// Ends the unclaimed approval of the least number.
     fn end_unclaimed(&mut self) -> Option<Key>
-        ensures some { IfSome result (λ key. (slice_get self.old.unclaimed 0 ≡ Some key.number) × (self.new ≡ machine.after_unclaimed_end key.number self.old)) }
-        ensures none { IfNone result ((slice_get self.old.unclaimed 0 ≡ None) × (self.new ≡ self.old)) }
+        ensures some { IfSome result (λ key. (slice_get self.old.unclaimed 0 ≡ Some key.number)
+            × (self.new ≡ machine.after_unclaimed_end key.number self.old)) }
+        ensures none { IfNone result ((slice_get self.old.unclaimed 0 ≡ None)
+            × (self.new ≡ self.old)) }
     {
         match self.unclaimed.pop() {
             None => None,
@@ -274,8 +288,10 @@ impl<C: Drop> Records<C> {
     /// Makes room for one more record, where there is none yet.
     fn make_room_for_one(&mut self) -> bool
         requires { self.old.conns + self.old.approved < most_records }
-        ensures made { result ≡ true → self.new ≡ record self.old { peak = max self.old.peak (self.old.conns + self.old.approved + 1) } }
-        ensures refused { result ≡ false → (self.old.conns + self.old.approved ≡ self.old.peak) × (self.new ≡ self.old) }
+        ensures made { result ≡ true → self.new ≡ record
+            self.old { peak = max self.old.peak (self.old.conns + self.old.approved + 1) } }
+        ensures refused { result ≡ false → (self.old.conns + self.old.approved ≡ self.old.peak)
+            × (self.new ≡ self.old) }
     {
         let used = self.used();
         used < self.peak || self.make_room(used + 1).is_ok()
@@ -308,8 +324,10 @@ impl<C: Drop> Records<C> {
     pub fn add(&mut self, conn: C, now: u64) -> Result<Key, C>
         requires few { self.old.conns + self.old.approved < most_records }
         requires number { self.old.next < end_of_numbers }
-        ensures ok { IfOk result (λ key. (key.number ≡ self.old.next) × (self.new ≡ machine.with_peak (machine.after_birth conn now self.old))) }
-        ensures err { IfErr result (λ c. (c ≡ conn) × (self.old.conns + self.old.approved ≡ self.old.peak) × (self.new ≡ self.old)) }
+        ensures ok { IfOk result (λ key. (key.number ≡ self.old.next)
+            × (self.new ≡ machine.with_peak (machine.after_birth conn now self.old))) }
+        ensures err { IfErr result (λ c. (c ≡ conn)
+            × (self.old.conns + self.old.approved ≡ self.old.peak) × (self.new ≡ self.old)) }
     {
         if !self.make_room_for_one() {
             return Err(conn);
@@ -433,7 +451,8 @@ impl<C: Drop> Records<C> {
 
     /// Where the number stands, if it does.
     pub fn find(&self, number: u64) -> Option<Key>
-        ensures some { IfSome result (λ key. (key.number ≡ number) × IsSome (map.get self.now.places number)) }
+        ensures some { IfSome result (λ key. (key.number ≡ number)
+            × IsSome (map.get self.now.places number)) }
         ensures none { IfNone result (map.get self.now.places number ≡ None) }
     {
         match self.slots.locate(number, 0) {

@@ -80,7 +80,8 @@ impl<T: Drop> Ring<T> {
     /// Takes the item at the back.
     fn pop_back(&mut self) -> Option<T>
         ensures value { result ≡ slice_get self.old.items (length self.old.items - 1) }
-        ensures items { self.new ≡ buffer (take (length self.old.items - 1) self.old.items) self.old.capacity }
+        ensures items { self.new ≡ buffer
+            (take (length self.old.items - 1) self.old.items) self.old.capacity }
     {
         match &mut self.made {
             Some(ring) => ring.pop_back(),
@@ -90,8 +91,11 @@ impl<T: Drop> Ring<T> {
 
     /// Takes the item that came first, or the one that came last.
     pub fn pop_by(&mut self, strategy: QueueStrategy) -> Option<T>
-        ensures value { result ≡ slice_get self.old.items (first_place strategy (length self.old.items)) }
-        ensures items { self.new ≡ buffer (cut_at (first_place strategy (length self.old.items)) self.old.items) self.old.capacity }
+        ensures value { result ≡ slice_get self.old.items
+            (first_place strategy (length self.old.items)) }
+        ensures items { self.new ≡ buffer
+            (cut_at (first_place strategy (length self.old.items)) self.old.items)
+            self.old.capacity }
     {
         match strategy {
             QueueStrategy::Fifo => self.pop(),
@@ -125,7 +129,8 @@ impl Ring<GetKey> {
     /// Takes the key of that number out of the line, wherever it stands.
     #[cold]
     pub fn remove(&mut self, number: u64)
-        ensures { self.new ≡ buffer (filter (λ (key : GetKey). not (eqb key.number number)) self.old.items) self.old.capacity }
+        ensures { self.new ≡ buffer (filter
+            (λ (key : GetKey). not (eqb key.number number)) self.old.items) self.old.capacity }
     {
         for _ in 0..self.len() {
             if let Some(key) = self.pop() {

@@ -50,8 +50,10 @@ impl<S: Drop> Table<S> {
     /// Where a search finds the number.
     #[cold]
     fn search(&self, number: u64) -> Option<usize>
-        ensures some { IfSome result (λ i. (x : Slot S) × (slabs.get self.now i ≡ Some x) × (x.number ≡ number)) }
-        ensures none { IfNone result ((i : ℕ) (x : Slot S) → slabs.get self.now i ≡ Some x → x.number ≢ number) }
+        ensures some { IfSome result (λ i. (x : Slot S) × (slabs.get self.now i ≡ Some x)
+            × (x.number ≡ number)) }
+        ensures none { IfNone result ((i : ℕ) (x : Slot S) → slabs.get self.now i ≡ Some x
+            → x.number ≢ number) }
     {
         for i in 0..self.slots.capacity() {
             if let Some(slot) = self.slots.get(i) {
@@ -65,8 +67,10 @@ impl<S: Drop> Table<S> {
 
     /// Where the number stands: at the hint, or else where a search finds it.
     pub fn locate(&self, number: u64, hint: usize) -> Option<usize>
-        ensures some { IfSome result (λ i. (x : Slot S) × (slabs.get self.now i ≡ Some x) × (x.number ≡ number)) }
-        ensures none { IfNone result ((i : ℕ) (x : Slot S) → slabs.get self.now i ≡ Some x → x.number ≢ number) }
+        ensures some { IfSome result (λ i. (x : Slot S) × (slabs.get self.now i ≡ Some x)
+            × (x.number ≡ number)) }
+        ensures none { IfNone result ((i : ℕ) (x : Slot S) → slabs.get self.now i ≡ Some x
+            → x.number ≢ number) }
     {
         if let Some(slot) = self.slots.get(hint) {
             if slot.number == number {
@@ -78,8 +82,10 @@ impl<S: Drop> Table<S> {
 
     /// What stands under the number: at the hint, or else where a search finds it.
     pub fn slot(&self, number: u64, hint: usize) -> Option<&Slot<S>>
-        ensures some { IfSome (option_copied result) (λ x. (i : ℕ) × (slabs.get self.now i ≡ Some x) × (x.number ≡ number)) }
-        ensures none { IfNone (option_copied result) ((i : ℕ) (x : Slot S) → slabs.get self.now i ≡ Some x → x.number ≢ number) }
+        ensures some { IfSome (option_copied result)
+            (λ x. (i : ℕ) × (slabs.get self.now i ≡ Some x) × (x.number ≡ number)) }
+        ensures none { IfNone (option_copied result)
+            ((i : ℕ) (x : Slot S) → slabs.get self.now i ≡ Some x → x.number ≢ number) }
     {
         if let Some(slot) = self.slots.get(hint) {
             if slot.number == number {
@@ -123,7 +129,8 @@ impl<S: Drop> Table<S> {
     /// Frees a place.
     pub fn remove(&mut self, place: usize)
         ensures updates { slabs.Updates self.old self.new place None }
-        ensures len { IsSome (slabs.get self.old place) → slabs.slab_len self.new + 1 ≡ slabs.slab_len self.old }
+        ensures len { IsSome (slabs.get self.old place)
+            → slabs.slab_len self.new + 1 ≡ slabs.slab_len self.old }
         ensures capacity { self.new.capacity ≡ self.old.capacity }
     {
         let _ = self.slots.try_remove(place);
@@ -133,7 +140,8 @@ impl<S: Drop> Table<S> {
     pub fn replace(&mut self, place: usize, standing: S) -> S
         requires { IsSome (slabs.get self.old place) }
         ensures value { (x : Slot S) → slabs.get self.old place ≡ Some x → result ≡ x.standing }
-        ensures changed { (x : Slot S) → slabs.get self.old place ≡ Some x → slabs.Updates self.old self.new place (Some (record x { standing = standing })) }
+        ensures changed { (x : Slot S) → slabs.get self.old place ≡ Some x
+            → slabs.Updates self.old self.new place (Some (record x { standing = standing })) }
         ensures len { slabs.slab_len self.new ≡ slabs.slab_len self.old }
         ensures capacity { self.new.capacity ≡ self.old.capacity }
     {
@@ -145,8 +153,11 @@ impl<C: Drop> Table<Standing<C>> {
     /// Puts the record at a place where another kind of record stands, and gives back where it stood.
     pub fn put(&mut self, at: usize, place: Place<C>) -> Place<C>
         requires { IsSome (slabs.get self.old at) }
-        ensures value { (x : Slot (Standing C)) → slabs.get self.old at ≡ Some x → result ≡ x.standing.place }
-        ensures changed { (x : Slot (Standing C)) → slabs.get self.old at ≡ Some x → slabs.Updates self.old self.new at (Some (record x { standing = record x.standing { place = place } })) }
+        ensures value { (x : Slot (Standing C)) → slabs.get self.old at ≡ Some x
+            → result ≡ x.standing.place }
+        ensures changed { (x : Slot (Standing C)) → slabs.get self.old at ≡ Some x
+            → slabs.Updates self.old self.new at
+            (Some (record x { standing = record x.standing { place = place } })) }
         ensures len { slabs.slab_len self.new ≡ slabs.slab_len self.old }
         ensures capacity { self.new.capacity ≡ self.old.capacity }
     {
@@ -158,7 +169,9 @@ impl Table<Getting> {
     /// Has the get that stands at a place stand elsewhere.
     pub fn turn(&mut self, at: usize, place: GetPlace)
         requires { IsSome (slabs.get self.old at) }
-        ensures changed { (x : Slot Getting) → slabs.get self.old at ≡ Some x → slabs.Updates self.old self.new at (Some (record x { standing = record x.standing { place = place } })) }
+        ensures changed { (x : Slot Getting) → slabs.get self.old at ≡ Some x
+            → slabs.Updates self.old self.new at
+            (Some (record x { standing = record x.standing { place = place } })) }
         ensures len { slabs.slab_len self.new ≡ slabs.slab_len self.old }
         ensures capacity { self.new.capacity ≡ self.old.capacity }
     {
@@ -170,7 +183,9 @@ impl Table<Getting> {
     /// Has the get that stands at a place wait, since this moment if it did not wait before.
     pub fn wait(&mut self, at: usize, now: u64)
         requires { IsSome (slabs.get self.old at) }
-        ensures changed { (x : Slot Getting) → slabs.get self.old at ≡ Some x → slabs.Updates self.old self.new at (Some (record x { standing = get_in_wait now x.standing })) }
+        ensures changed { (x : Slot Getting) → slabs.get self.old at ≡ Some x
+            → slabs.Updates self.old self.new at
+            (Some (record x { standing = get_in_wait now x.standing })) }
         ensures len { slabs.slab_len self.new ≡ slabs.slab_len self.old }
         ensures capacity { self.new.capacity ≡ self.old.capacity }
     {

@@ -52,7 +52,8 @@ module _ {R : Type 0} where
   at-append [] r n q = let e : n + 0 ≡ n = omega arith in rw e refl
   at-append (x ∷ rs) r n q =
       let e : suc n + length rs ≡ n + suc (length rs) = omega arith in
-      let ih : at (suc n) (rs ++ r ∷ []) q ≡ cond (eqb q (n + suc (length rs))) (Some r) (at (suc n) rs q) = subst (λ (m : ℕ). at (suc n) (rs ++ r ∷ []) q ≡ cond (eqb q m) (Some r) (at (suc n) rs q)) e (at-append rs r (suc n) q) in
+      let ih : at (suc n) (rs ++ r ∷ []) q ≡ cond (eqb q (n + suc (length rs))) (Some r) (at (suc n) rs q) =
+      subst (λ (m : ℕ). at (suc n) (rs ++ r ∷ []) q ≡ cond (eqb q m) (Some r) (at (suc n) rs q)) e (at-append rs r (suc n) q) in
       ⊎_elim
       (λ (t : (eqb q n ≡ true) × (q ≡ n)).
       let no : eqb q (n + suc (length rs)) ≡ false = ne_eqb q (n + suc (length rs)) (λ s. omega arith) in
@@ -145,7 +146,9 @@ module _ {R : Type 0} where
       rw (t.0, h) (goal (p r)))
       (λ (t : (eqb k n ≡ false) × (k ≢ n)).
       let turned : eqb n k ≡ false = ne_eqb n k (λ e. t.1 (sym e)) in
-      let goal : (b : Bool) → cond b (n ∷ numbers p (suc n) (change (suc n) k new rs)) (numbers p (suc n) (change (suc n) k new rs)) ≡ filter (λ q. not (eqb q k)) (cond b (n ∷ numbers p (suc n) rs) (numbers p (suc n) rs)) =
+      let goal : (b : Bool) → cond b (n ∷ numbers p (suc n) (change (suc n) k new rs))
+      (numbers p (suc n) (change (suc n) k new rs)) ≡ filter (λ q. not (eqb q k))
+      (cond b (n ∷ numbers p (suc n) rs) (numbers p (suc n) rs)) =
       elim [ true ↦ rw turned (ap (λ (t : List ℕ). n ∷ t) ih) | false ↦ ih ] in
       rw t.0 (goal (p r)))
       (same_or_not k n)
@@ -190,8 +193,12 @@ module _ {R : Type 0} where
   numbers-append p [] r n = let e : n + 0 ≡ n = omega arith in rw e refl
   numbers-append p (x ∷ rs) r n =
       let e : suc n + length rs ≡ n + suc (length rs) = omega arith in
-      let ih : numbers p (suc n) (rs ++ r ∷ []) ≡ numbers p (suc n) rs ++ cond (p r) ((n + suc (length rs)) ∷ []) [] = subst (λ (m : ℕ). numbers p (suc n) (rs ++ r ∷ []) ≡ numbers p (suc n) rs ++ cond (p r) (m ∷ []) []) e (numbers-append p rs r (suc n)) in
-      let goal : (b : Bool) → cond b (n ∷ numbers p (suc n) (rs ++ r ∷ [])) (numbers p (suc n) (rs ++ r ∷ [])) ≡ cond b (n ∷ numbers p (suc n) rs) (numbers p (suc n) rs) ++ cond (p r) ((n + suc (length rs)) ∷ []) [] =
+      let ih : numbers p (suc n) (rs ++ r ∷ []) ≡ numbers p (suc n) rs
+      ++ cond (p r) ((n + suc (length rs)) ∷ []) [] =
+      subst (λ (m : ℕ). numbers p (suc n) (rs ++ r ∷ []) ≡ numbers p (suc n) rs ++ cond (p r) (m ∷ []) []) e
+      (numbers-append p rs r (suc n)) in
+      let goal : (b : Bool) → cond b (n ∷ numbers p (suc n) (rs ++ r ∷ [])) (numbers p (suc n) (rs ++ r ∷ [])) ≡ cond b
+      (n ∷ numbers p (suc n) rs) (numbers p (suc n) rs) ++ cond (p r) ((n + suc (length rs)) ∷ []) [] =
       elim [ true ↦ ap (λ (t : List ℕ). n ∷ t) ih | false ↦ ih ] in
       goal (p x)
 
@@ -210,14 +217,17 @@ module _ {R : Type 0} where
   numbers_member p [] n j k h = cc
   numbers_member p (r ∷ rs) n j k h = go (λ i e. numbers_member p rs (suc n) i k e) (p r) refl j h
     where
-      later : ((i : ℕ) → slice_get (numbers p (suc n) rs) i ≡ Some k → (r : R) × (at (suc n) rs k ≡ Some r) × (p r ≡ true)) → (j : ℕ) → slice_get (numbers p (suc n) rs) j ≡ Some k → (x : R) × (at n (r ∷ rs) k ≡ Some x) × (p x ≡ true)
+      later : ((i : ℕ) → slice_get (numbers p (suc n) rs) i ≡ Some k → (r : R) × (at (suc n) rs k ≡ Some r) × (p r ≡ true)) → (j : ℕ)
+          → slice_get (numbers p (suc n) rs) j ≡ Some k → (x : R) × (at n (r ∷ rs) k ≡ Some x) × (p x ≡ true)
       later ih j h =
           let m : (x : R) × (at (suc n) rs k ≡ Some x) × (p x ≡ true) = ih j h in
           let l : suc n ≤ k = numbers_from p rs (suc n) j k h in
           let other : eqb k n ≡ false = ne_eqb k n (λ s. omega arith) in
           (m.0, rw other m.1, m.2)
 
-      go : ((i : ℕ) → slice_get (numbers p (suc n) rs) i ≡ Some k → (r : R) × (at (suc n) rs k ≡ Some r) × (p r ≡ true)) → (b : Bool) → p r ≡ b → (j : ℕ) → slice_get (cond b (n ∷ numbers p (suc n) rs) (numbers p (suc n) rs)) j ≡ Some k → (x : R) × (at n (r ∷ rs) k ≡ Some x) × (p x ≡ true)
+      go : ((i : ℕ) → slice_get (numbers p (suc n) rs) i ≡ Some k → (r : R) × (at (suc n) rs k ≡ Some r) × (p r ≡ true)) → (b : Bool)
+          → p r ≡ b → (j : ℕ) → slice_get (cond b (n ∷ numbers p (suc n) rs) (numbers p (suc n) rs)) j ≡ Some k → (x : R)
+          × (at n (r ∷ rs) k ≡ Some x) × (p x ≡ true)
       go ih false e j h = later ih j h
       go ih true e zero h =
           let is : Some n ≡ Some k = h in
@@ -231,7 +241,8 @@ module _ {R : Type 0} where
   numbers-change_head p [] n k rest new h off = cc
   numbers-change_head p (r ∷ rs) n k rest new h off = go (λ e. numbers-change_head p rs (suc n) k rest new e off) (p r) refl h
     where
-      go : (numbers p (suc n) rs ≡ k ∷ rest → numbers p (suc n) (change (suc n) k new rs) ≡ rest) → (b : Bool) → p r ≡ b → cond b (n ∷ numbers p (suc n) rs) (numbers p (suc n) rs) ≡ k ∷ rest → numbers p n (change n k new (r ∷ rs)) ≡ rest
+      go : (numbers p (suc n) rs ≡ k ∷ rest → numbers p (suc n) (change (suc n) k new rs) ≡ rest) → (b : Bool) → p r ≡ b
+          → cond b (n ∷ numbers p (suc n) rs) (numbers p (suc n) rs) ≡ k ∷ rest → numbers p n (change n k new (r ∷ rs)) ≡ rest
       go ih true e h =
           let same : k ≡ n = cc in
           let tail : numbers p (suc n) rs ≡ rest = cc in
@@ -249,14 +260,16 @@ module _ {R : Type 0} where
   abbrev pub Stands : (ℕ → R → Bool) → Type 0
   Stands stands = (p q : ℕ) (r : R) → stands p r ≡ true → stands q r ≡ true → p ≡ q
 
-  pub in_order-change_off : (stands : ℕ → R → Bool) (rs : List R) (n k : ℕ) (new : R) → ((p : ℕ) → stands p new ≡ false) → (m : ℕ) → in_order stands n (change n k new rs) m ≡ filter (λ q. not (eqb q k)) (in_order stands n rs m)
+  pub in_order-change_off : (stands : ℕ → R → Bool) (rs : List R) (n k : ℕ) (new : R) → ((p : ℕ) → stands p new ≡ false) → (m : ℕ)
+      → in_order stands n (change n k new rs) m ≡ filter (λ q. not (eqb q k)) (in_order stands n rs m)
   in_order-change_off stands rs n k new off zero = refl
   in_order-change_off stands rs n k new off (suc m) =
       let ih : in_order stands n (change n k new rs) m ≡ filter (λ q. not (eqb q k)) (in_order stands n rs m) = in_order-change_off stands rs n k new off m in
       let here : numbers (stands m) n (change n k new rs) ≡ filter (λ q. not (eqb q k)) (numbers (stands m) n rs) = numbers-change_off (stands m) rs n k new (off m) in
       rw (ih, here) (sym (filter-append (λ q. not (eqb q k)) (in_order stands n rs m) (numbers (stands m) n rs)))
 
-  pub in_order-change_kept : (stands : ℕ → R → Bool) (rs : List R) (n k : ℕ) (new old : R) → at n rs k ≡ Some old → (m : ℕ) → ((p : ℕ) → p < m → stands p new ≡ stands p old) → in_order stands n (change n k new rs) m ≡ in_order stands n rs m
+  pub in_order-change_kept : (stands : ℕ → R → Bool) (rs : List R) (n k : ℕ) (new old : R) → at n rs k ≡ Some old → (m : ℕ)
+      → ((p : ℕ) → p < m → stands p new ≡ stands p old) → in_order stands n (change n k new rs) m ≡ in_order stands n rs m
   in_order-change_kept stands rs n k new old h zero same = refl
   in_order-change_kept stands rs n k new old h (suc m) same =
       let ih : in_order stands n (change n k new rs) m ≡ in_order stands n rs m = in_order-change_kept stands rs n k new old h m (λ p l. same p (omega arith)) in
@@ -267,7 +280,8 @@ module _ {R : Type 0} where
   in_order-append stands rs n new off zero = refl
   in_order-append stands rs n new off (suc m) =
       let ih : in_order stands n (rs ++ new ∷ []) m ≡ in_order stands n rs m = in_order-append stands rs n new off m in
-      let here : numbers (stands m) n (rs ++ new ∷ []) ≡ numbers (stands m) n rs = numbers-append (stands m) rs new n ∙ ap (λ (b : Bool). numbers (stands m) n rs ++ cond b ((n + length rs) ∷ []) []) (off m) ∙ append-nil (numbers (stands m) n rs) in
+      let here : numbers (stands m) n (rs ++ new ∷ []) ≡ numbers (stands m) n rs = numbers-append (stands m) rs new n
+      ∙ ap (λ (b : Bool). numbers (stands m) n rs ++ cond b ((n + length rs) ∷ []) []) (off m) ∙ append-nil (numbers (stands m) n rs) in
       rw (ih, here) refl
 
   pub before_later : (stands : ℕ → R → Bool) (rs : List R) (m : ℕ) → Before stands m rs → Before stands (suc m) rs
@@ -287,7 +301,8 @@ module _ {R : Type 0} where
       pick false = b.0
 
   -- an element that is changed stands below m, where it did before
-  pub before-update_kept : (stands : ℕ → R → Bool) (rs : List R) (n k : ℕ) (f : R → R) (m : ℕ) → Before stands m rs → ((r : R) → ((p : ℕ) → stands p r ≡ true → p < m) → (p : ℕ) → stands p (f r) ≡ true → p < m) → Before stands m (update n k f rs)
+  pub before-update_kept : (stands : ℕ → R → Bool) (rs : List R) (n k : ℕ) (f : R → R) (m : ℕ) → Before stands m rs
+      → ((r : R) → ((p : ℕ) → stands p r ≡ true → p < m) → (p : ℕ) → stands p (f r) ≡ true → p < m) → Before stands m (update n k f rs)
   before-update_kept stands [] n k f m b h = tt
   before-update_kept stands (r ∷ rs) n k f m b h = (pick (eqb k n), before-update_kept stands rs (suc n) k f m b.1 h)
     where
@@ -295,7 +310,8 @@ module _ {R : Type 0} where
       pick true = h r b.0
       pick false = b.0
 
-  pub before-map : (stands : ℕ → R → Bool) (rs : List R) (f : R → R) (m : ℕ) → Before stands m rs → ((r : R) → ((p : ℕ) → stands p r ≡ true → p < m) → (p : ℕ) → stands p (f r) ≡ true → p < m) → Before stands m (map f rs)
+  pub before-map : (stands : ℕ → R → Bool) (rs : List R) (f : R → R) (m : ℕ) → Before stands m rs
+      → ((r : R) → ((p : ℕ) → stands p r ≡ true → p < m) → (p : ℕ) → stands p (f r) ≡ true → p < m) → Before stands m (map f rs)
   before-map stands [] f m b h = tt
   before-map stands (r ∷ rs) f m b h = (h r b.0, before-map stands rs f m b.1 h)
 
@@ -315,16 +331,22 @@ module _ {R : Type 0} where
   in_order-later stands rs n m b = let none : numbers (stands m) n rs ≡ [] = none_at stands rs n m b in rw none (append-nil (in_order stands n rs m))
 
   -- an event at which the number k enters, that did not stand anywhere
-  pub in_order-enter : (stands : ℕ → R → Bool) (rs : List R) (n k m : ℕ) (new old : R) → Before stands m rs → at n rs k ≡ Some old → ((p : ℕ) → stands p old ≡ false) → stands m new ≡ true → ((p : ℕ) → p < m → stands p new ≡ false) → in_order stands n (change n k new rs) (suc m) ≡ in_order stands n rs m ++ k ∷ []
+  pub in_order-enter : (stands : ℕ → R → Bool) (rs : List R) (n k m : ℕ) (new old : R) → Before stands m rs → at n rs k ≡ Some old
+      → ((p : ℕ) → stands p old ≡ false) → stands m new ≡ true → ((p : ℕ) → p < m → stands p new ≡ false)
+      → in_order stands n (change n k new rs) (suc m) ≡ in_order stands n rs m ++ k ∷ []
   in_order-enter stands rs n k m new old b h off on rest =
       let here : numbers (stands m) n (change n k new rs) ≡ k ∷ [] = numbers-change_on (stands m) rs n k new old (none_at stands rs n m b) h on in
       let front : in_order stands n (change n k new rs) m ≡ in_order stands n rs m = in_order-change_kept stands rs n k new old h m (λ p l. rest p l ∙ sym (off p)) in
       rw (here, front) refl
 
   -- an event at which a new element enters
-  pub in_order-append_new : (stands : ℕ → R → Bool) (rs : List R) (n m : ℕ) (new : R) → Before stands m rs → stands m new ≡ true → ((p : ℕ) → p < m → stands p new ≡ false) → in_order stands n (rs ++ new ∷ []) (suc m) ≡ in_order stands n rs m ++ (n + length rs) ∷ []
+  pub in_order-append_new : (stands : ℕ → R → Bool) (rs : List R) (n m : ℕ) (new : R) → Before stands m rs → stands m new ≡ true
+      → ((p : ℕ) → p < m → stands p new ≡ false) → in_order stands n (rs ++ new ∷ []) (suc m) ≡ in_order stands n rs m
+      ++ (n + length rs) ∷ []
   in_order-append_new stands rs n m new b on off =
-      let here : numbers (stands m) n (rs ++ new ∷ []) ≡ (n + length rs) ∷ [] = numbers-append (stands m) rs new n ∙ ap (λ (xs : List ℕ). xs ++ cond (stands m new) ((n + length rs) ∷ []) []) (none_at stands rs n m b) ∙ ap (λ (t : Bool). cond t ((n + length rs) ∷ []) []) on in
+      let here : numbers (stands m) n (rs ++ new ∷ []) ≡ (n + length rs) ∷ [] = numbers-append (stands m) rs new n
+      ∙ ap (λ (xs : List ℕ). xs ++ cond (stands m new) ((n + length rs) ∷ []) []) (none_at stands rs n m b)
+      ∙ ap (λ (t : Bool). cond t ((n + length rs) ∷ []) []) on in
       let front : in_order stands n (rs ++ new ∷ []) m ≡ in_order stands n rs m = earlier m off in
       rw (here, front) refl
     where
@@ -332,7 +354,9 @@ module _ {R : Type 0} where
       earlier zero none = refl
       earlier (suc q) none =
           let ih : in_order stands n (rs ++ new ∷ []) q ≡ in_order stands n rs q = earlier q (λ p l. none p (omega arith)) in
-          let last : numbers (stands q) n (rs ++ new ∷ []) ≡ numbers (stands q) n rs = numbers-append (stands q) rs new n ∙ ap (λ (t : Bool). numbers (stands q) n rs ++ cond t ((n + length rs) ∷ []) []) (none q (omega arith)) ∙ append-nil (numbers (stands q) n rs) in
+          let last : numbers (stands q) n (rs ++ new ∷ []) ≡ numbers (stands q) n rs = numbers-append (stands q) rs new n
+          ∙ ap (λ (t : Bool). numbers (stands q) n rs ++ cond t ((n + length rs) ∷ []) []) (none q (omega arith))
+          ∙ append-nil (numbers (stands q) n rs) in
           rw (ih, last) refl
 
   pub in_order_member : (stands : ℕ → R → Bool) (rs : List R) (n m j k : ℕ) → slice_get (in_order stands n rs m) j ≡ Some k → (r : R) × (at n rs k ≡ Some r) × (p : ℕ) × (p < m) × (stands p r ≡ true)
@@ -348,7 +372,8 @@ module _ {R : Type 0} where
       (get_joined (in_order stands n rs m) (numbers (stands m) n rs) j k h)
 
   -- the first number no longer stands anywhere
-  pub in_order-change_head : (stands : ℕ → R → Bool) → Stands stands → (rs : List R) (n k : ℕ) (rest : List ℕ) (new : R) → ((p : ℕ) → stands p new ≡ false) → (m : ℕ) → in_order stands n rs m ≡ k ∷ rest → in_order stands n (change n k new rs) m ≡ rest
+  pub in_order-change_head : (stands : ℕ → R → Bool) → Stands stands → (rs : List R) (n k : ℕ) (rest : List ℕ) (new : R)
+      → ((p : ℕ) → stands p new ≡ false) → (m : ℕ) → in_order stands n rs m ≡ k ∷ rest → in_order stands n (change n k new rs) m ≡ rest
   in_order-change_head stands one_place rs n k rest new off zero h = cc
   in_order-change_head stands one_place rs n k rest new off (suc m) h = go (λ front e. in_order-change_head stands one_place rs n k front new off m e) (in_order stands n rs m) refl h
     where
@@ -356,7 +381,9 @@ module _ {R : Type 0} where
       never true clash = absurd (clash refl)
       never false clash = refl
 
-      go : ((front : List ℕ) → in_order stands n rs m ≡ k ∷ front → in_order stands n (change n k new rs) m ≡ front) → (front : List ℕ) → in_order stands n rs m ≡ front → front ++ numbers (stands m) n rs ≡ k ∷ rest → in_order stands n (change n k new rs) (suc m) ≡ rest
+      go : ((front : List ℕ) → in_order stands n rs m ≡ k ∷ front → in_order stands n (change n k new rs) m ≡ front) → (front : List ℕ)
+          → in_order stands n rs m ≡ front → front ++ numbers (stands m) n rs ≡ k ∷ rest
+          → in_order stands n (change n k new rs) (suc m) ≡ rest
       go before [] e h =
           let front : in_order stands n (change n k new rs) m ≡ [] = in_order-change_off stands rs n k new off m ∙ ap (filter (λ q. not (eqb q k))) e in
           rw front (numbers-change_head (stands m) rs n k rest new h (off m))
@@ -381,7 +408,9 @@ module _ {R : Type 0} where
       goal (p r)
 
   -- the elements below a position are counted once more at that position
-  pub length-in_order : (stands : ℕ → R → Bool) (rs : List R) (n : ℕ) (below : ℕ → R → Bool) → ((r : R) → below 0 r ≡ false) → ((m : ℕ) (r : R) → one (below (suc m) r) ≡ one (below m r) + one (stands m r)) → (m : ℕ) → length (in_order stands n rs m) ≡ tally (below m) rs
+  pub length-in_order : (stands : ℕ → R → Bool) (rs : List R) (n : ℕ) (below : ℕ → R → Bool) → ((r : R) → below 0 r ≡ false)
+      → ((m : ℕ) (r : R) → one (below (suc m) r) ≡ one (below m r) + one (stands m r)) → (m : ℕ)
+      → length (in_order stands n rs m) ≡ tally (below m) rs
   length-in_order stands rs n below none more zero = nobody rs
     where
       nobody : (xs : List R) → 0 ≡ tally (below 0) xs
@@ -390,13 +419,15 @@ module _ {R : Type 0} where
   length-in_order stands rs n below none more (suc m) =
       let ih : length (in_order stands n rs m) ≡ tally (below m) rs = length-in_order stands rs n below none more m in
       let here : length (numbers (stands m) n rs) ≡ tally (stands m) rs = length-numbers (stands m) rs n in
-      let joined : length (in_order stands n rs m ++ numbers (stands m) n rs) ≡ length (in_order stands n rs m) + length (numbers (stands m) n rs) = length-append (in_order stands n rs m) (numbers (stands m) n rs) in
+      let joined : length (in_order stands n rs m ++ numbers (stands m) n rs) ≡ length (in_order stands n rs m) + length
+      (numbers (stands m) n rs) = length-append (in_order stands n rs m) (numbers (stands m) n rs) in
       let sum : tally (below (suc m)) rs ≡ tally (below m) rs + tally (stands m) rs = both rs in
       omega arith
     where
       both : (xs : List R) → tally (below (suc m)) xs ≡ tally (below m) xs + tally (stands m) xs
       both [] = refl
-      both (x ∷ xs) = let ih : tally (below (suc m)) xs ≡ tally (below m) xs + tally (stands m) xs = both xs in let e : one (below (suc m) x) ≡ one (below m x) + one (stands m x) = more m x in omega arith
+      both (x ∷ xs) = let ih : tally (below (suc m)) xs ≡ tally (below m) xs + tally (stands m) xs = both xs in
+          let e : one (below (suc m) x) ≡ one (below m x) + one (stands m x) = more m x in omega arith
 
 -- ---- maps
 
@@ -429,7 +460,11 @@ module _ {R S : Type 0} where
       (λ (t : (eqb q n ≡ true) × (q ≡ n)).
       let past : at (suc n) rs q ≡ None = at-below rs (suc n) q (omega arith) in
       let goal : (o : Option S) → get (with_value n o (by_number f (suc n) rs)) q ≡ o =
-      elim [ None ↦ get-numbered f rs (suc n) q ∙ ap (option_and_then f) past | Some s ↦ get_inserted (by_number f (suc n) rs) n s q ∙ ap (λ (b : Bool). cond b (Some s) (get (by_number f (suc n) rs) q)) t.0 ] in
+      elim [
+        | None ↦ get-numbered f rs (suc n) q ∙ ap (option_and_then f) past
+        | Some s ↦ get_inserted (by_number f (suc n) rs) n s q
+            ∙ ap (λ (b : Bool). cond b (Some s) (get (by_number f (suc n) rs) q)) t.0
+      ] in
       goal (f r) ∙ sym (ap (λ (b : Bool). option_and_then f (cond b (Some r) (at (suc n) rs q))) t.0))
       (λ (t : (eqb q n ≡ false) × (q ≢ n)).
       let ih : get (by_number f (suc n) rs) q ≡ option_and_then f (at (suc n) rs q) = get-numbered f rs (suc n) q in
@@ -438,7 +473,8 @@ module _ {R S : Type 0} where
       goal (f r) ∙ sym (ap (λ (b : Bool). option_and_then f (cond b (Some r) (at (suc n) rs q))) t.0))
       (same_or_not q n)
 
-  pub numbered-change_some : (f : R → Option S) (rs : List R) (n k : ℕ) (new old : R) (s : S) → at n rs k ≡ Some old → f new ≡ Some s → by_number f n (change n k new rs) ≡ insert (by_number f n rs) k s
+  pub numbered-change_some : (f : R → Option S) (rs : List R) (n k : ℕ) (new old : R) (s : S) → at n rs k ≡ Some old → f new ≡ Some s
+      → by_number f n (change n k new rs) ≡ insert (by_number f n rs) k s
   numbered-change_some f rs n k new old s h e = same_gets _ _ (λ q.
       get-numbered f (change n k new rs) n q
       ∙ ⊎_elim
@@ -482,12 +518,18 @@ module _ {S : Type 0} where
       go (Some r) e h = (r, e, h)
 
   -- nobody is in line for one that has ended
-  pub ended_before : (on : Option S → Bool) (rs : List (Numbered S)) (n k m : ℕ) → on None ≡ false → Before (λ p r. on r.standing && eqb r.position p) m rs → Before (λ p r. on r.standing && eqb r.position p) m (update n k after_end rs)
-  ended_before on rs n k m off b = before-update (λ p r. on r.standing && eqb r.position p) rs n k after_end m b (λ r p h. absurd (let clash : false ≡ true = sym (ap (λ (x : Bool). x && eqb r.position p) off) ∙ h in cc))
+  pub ended_before : (on : Option S → Bool) (rs : List (Numbered S)) (n k m : ℕ) → on None ≡ false
+      → Before (λ p r. on r.standing && eqb r.position p) m rs
+      → Before (λ p r. on r.standing && eqb r.position p) m (update n k after_end rs)
+  ended_before on rs n k m off b = before-update (λ p r. on r.standing && eqb r.position p) rs n k after_end m b
+      (λ r p h. absurd (let clash : false ≡ true = sym (ap (λ (x : Bool). x && eqb r.position p) off) ∙ h in cc))
 
   -- those in line are as many as those who stand there
-  pub line_counted : (on : Option S → Bool) (rs : List (Numbered S)) (first m : ℕ) → Before (λ p r. on r.standing && eqb r.position p) m rs → length (in_order (λ p r. on r.standing && eqb r.position p) first rs m) ≡ tally (λ r. on r.standing) rs
-  line_counted on rs first m b = length-in_order (λ p r. on r.standing && eqb r.position p) rs first (λ p r. on r.standing && ltb r.position p) (λ r. none (on r.standing) (ltb r.position 0) (le-ltb r.position 0 (omega arith))) (λ p r. more p r.position (on r.standing)) m ∙ all m rs b
+  pub line_counted : (on : Option S → Bool) (rs : List (Numbered S)) (first m : ℕ) → Before (λ p r. on r.standing && eqb r.position p) m rs
+      → length (in_order (λ p r. on r.standing && eqb r.position p) first rs m) ≡ tally (λ r. on r.standing) rs
+  line_counted on rs first m b = length-in_order (λ p r. on r.standing && eqb r.position p) rs first
+      (λ p r. on r.standing && ltb r.position p) (λ r. none (on r.standing) (ltb r.position 0) (le-ltb r.position 0 (omega arith)))
+      (λ p r. more p r.position (on r.standing)) m ∙ all m rs b
     where
       none : (a b : Bool) → b ≡ false → (a && b) ≡ false
       none true b e = e
@@ -506,5 +548,6 @@ module _ {S : Type 0} where
           let ih : tally (λ x. on x.standing && ltb x.position p) xs ≡ tally (λ x. on x.standing) xs = all p xs below.1 in
           let here : (t : Bool) → (t ≡ true → r.position < p) → one (t && ltb r.position p) ≡ one t =
           elim [ true ↦ (λ under. ap one (lt-ltb r.position p (under refl))) | false ↦ (λ under. refl) ] in
-          let e : one (on r.standing && ltb r.position p) ≡ one (on r.standing) = here (on r.standing) (λ t. below.0 r.position (ap (λ (x : Bool). x && eqb r.position r.position) t ∙ eqb_self r.position)) in
+          let e : one (on r.standing && ltb r.position p) ≡ one (on r.standing) =
+          here (on r.standing) (λ t. below.0 r.position (ap (λ (x : Bool). x && eqb r.position r.position) t ∙ eqb_self r.position)) in
           omega arith

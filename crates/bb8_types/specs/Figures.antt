@@ -64,5 +64,19 @@ counts_code =
     (ℕ × (ℕ × (ℕ × (ℕ × (ℕ × (ℕ × (ℕ × (ℕ × (ℕ × (ℕ × ℕ))))))))))
     (coded× coded_ℕ (coded× coded_ℕ (coded× coded_ℕ (coded× coded_ℕ (coded× coded_ℕ (coded× coded_ℕ (coded× coded_ℕ (coded× coded_ℕ (coded× coded_ℕ (coded× coded_ℕ coded_ℕ))))))))))
     (λ s. (s.started, (s.direct, (s.waited, (s.timed_out, (s.cancelled, (s.wait_time, (s.created, (s.broken, (s.invalid, (s.max_lifetime, s.idle_timeout)))))))))))
-    (λ p. record { started = p.0; direct = p.1.0; waited = p.1.1.0; timed_out = p.1.1.1.0; cancelled = p.1.1.1.1.0; wait_time = p.1.1.1.1.1.0; created = p.1.1.1.1.1.1.0; broken = p.1.1.1.1.1.1.1.0; invalid = p.1.1.1.1.1.1.1.1.0; max_lifetime = p.1.1.1.1.1.1.1.1.1.0; idle_timeout = p.1.1.1.1.1.1.1.1.1.1 })
+    (λ p. record {
+      started = p.0;
+      direct = p.1.0;
+      waited = p.1.1.0;
+      timed_out = p.1.1.1.0;
+      cancelled = p.1.1.1.1.0;
+      wait_time =
+          p.1.1.1.1.1.0;
+      created = p.1.1.1.1.1.1.0;
+      broken = p.1.1.1.1.1.1.1.0;
+      invalid = p.1.1.1.1.1.1.1.1.0;
+      max_lifetime =
+          p.1.1.1.1.1.1.1.1.1.0;
+      idle_timeout = p.1.1.1.1.1.1.1.1.1.1;
+    })
     (λ _. refl)

@@ -9,7 +9,6 @@ use Rattle.bb8_types.specs.declared.standing.Getting.{Getting}
 use Rattle.bb8_types.specs.declared.api.configuration.QueueStrategy.{QueueStrategy}
 use Rattle.bb8_types.specs.declared.api.configuration.QueueStrategy.TheVariants.{Fifo, Lifo}
 use Rattle.bb8_types.specs.Settings.{Settings}
-use Rattle.bb8_types.specs.Numbered.{at, numbers, one, after_end}
 
 -- ---- where a record stands
 

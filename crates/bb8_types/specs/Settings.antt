@@ -88,7 +88,20 @@ abbrev pub settings_code : Coded Settings
 settings_code =
     code_by
     Stored
-    (coded× coded_ℕ (coded× (coded_option coded_ℕ) (coded× coded_bool (coded× (coded_option coded_ℕ) (coded× (coded_option coded_ℕ) (coded× coded_ℕ (coded× coded_bool (coded× coded_ℕ strategy_code))))))))
+    (coded× coded_ℕ (coded× (coded_option coded_ℕ)
+    (coded× coded_bool (coded× (coded_option coded_ℕ)
+    (coded× (coded_option coded_ℕ) (coded× coded_ℕ (coded× coded_bool (coded× coded_ℕ strategy_code))))))))
     (λ s. (s.max_size, (s.min_idle, (s.test_on_check_out, (s.max_lifetime, (s.idle_timeout, (s.connection_timeout, (s.retry_connection, (s.reaper_rate, s.queue_strategy)))))))))
-    (λ p. record { max_size = p.0; min_idle = p.1.0; test_on_check_out = p.1.1.0; max_lifetime = p.1.1.1.0; idle_timeout = p.1.1.1.1.0; connection_timeout = p.1.1.1.1.1.0; retry_connection = p.1.1.1.1.1.1.0; reaper_rate = p.1.1.1.1.1.1.1.0; queue_strategy = p.1.1.1.1.1.1.1.1 })
+    (λ p. record {
+      max_size = p.0;
+      min_idle = p.1.0;
+      test_on_check_out = p.1.1.0;
+      max_lifetime = p.1.1.1.0;
+      idle_timeout = p.1.1.1.1.0;
+      connection_timeout = p.1.1.1.1.1.0;
+      retry_connection = p.1.1.1.1.1.1.0;
+      reaper_rate = p.1.1.1.1.1.1.1.0;
+      queue_strategy =
+          p.1.1.1.1.1.1.1.1;
+    })
     (λ _. refl)

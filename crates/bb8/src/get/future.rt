@@ -201,7 +201,8 @@ impl<
         ensures pool { self.new.shared.now ≡ self.old.shared.now }
         ensures value { IfReady result (λ out. GivesGet K.tells self.old out) }
         ensures again { OnPending result ⊤ }
-        ensures same { OnPending result ((x : _) → GivesGet K.tells self.new x → GivesGet K.tells self.old x) }
+        ensures same { OnPending result
+            ((x : _) → GivesGet K.tells self.new x → GivesGet K.tells self.old x) }
         ensures registered { OnPending result (Covers cx.new (λ _. ⊥)) }
         ensures kept { Keeps cx.old cx.new }
     {

@@ -64,8 +64,11 @@ pub trait GetHome<C> {
     /// Begins a get and serves it in one step, where the home can. None where it cannot; what may begin then could begin before.
     /// Our own.
     fn serve(&mut self, _at: Moment) -> Option<(Taken<C, Self::Part>, Grant)>
-        ensures served { IfSome result (λ s. (g : GetKeyOf) × (between : Self) × begins self.old _at (Ok (Begun g)) between × tries between _at g (Ok (Served s.0 s.1)) self.new) }
-        ensures none { IfNone result ((m : MomentOf) (b : Result BeginAnswerOf UnfitOf) (after : Self) → begins self.new m b after → begins self.old m b after) }
+        ensures served { IfSome result (λ s. (g : GetKeyOf) × (between : Self)
+            × begins self.old _at (Ok (Begun g)) between
+            × tries between _at g (Ok (Served s.0 s.1)) self.new) }
+        ensures none { IfNone result ((m : MomentOf) (b : Result BeginAnswerOf UnfitOf)
+            (after : Self) → begins self.new m b after → begins self.old m b after) }
     {
         None
     }

@@ -133,7 +133,9 @@ impl<C, P> GetState<C, P> {
         home: &mut H,
         timeout: Duration,
     ) -> Poll<Result<Taken<C, P>, RunError<E>>>
-        ensures { Polls H.GetHome W.Outside (as_nanos timeout) self.old.stage home.old outside.old result self.new.stage home.new outside.new }
+        ensures { Polls H.GetHome W.Outside
+            (as_nanos timeout) self.old.stage home.old outside.old result self.new.stage home.new
+            outside.new }
     {
         if self.is_done() {
             return Poll::Pending;
@@ -149,7 +151,8 @@ impl<C, P> GetState<C, P> {
         at: Moment,
         timeout: Duration,
     ) -> Poll<Result<Taken<C, P>, RunError<E>>>
-        ensures { Goes H.GetHome at (as_nanos timeout) self.old.stage home.old result self.new.stage home.new }
+        ensures { Goes H.GetHome at (as_nanos timeout) self.old.stage home.old result self.new.stage
+            home.new }
     {
         let stage = mem::replace(&mut self.stage, Stage::Done);
         let moment = home.look(at).moment;

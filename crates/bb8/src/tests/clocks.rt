@@ -18,7 +18,8 @@ fn lends_first<R: Runtime, L: PoolParts>(
     strategy: QueueStrategy,
     connection: u64,
 ) -> Result<(), Memory>
-    requires { IsBlankOf blank (record (unchecked_of 2) { queue_strategy = strategy }) L.name L.parts L.settings }
+    requires { IsBlankOf blank (record (unchecked_of 2) { queue_strategy = strategy }) L.name
+        L.parts L.settings }
 {
     let clock = SetClock::new(rt.alloc(), Moment(0))?;
     let pool: NumberPool<R, L> = Builder::new()
@@ -47,7 +48,8 @@ fn lends_by_the_strategy(rt: HostRuntime) -> Result<(), Fail> {
 
 /// A connection that is added at the moment 20 and lives for 10 stays when it comes back at 29, and is closed when it comes back at 30.
 fn closes_in_time<R: Runtime, L: PoolParts>(rt: R, blank: Blank) -> Result<(), Memory>
-    requires { IsBlankOf blank (record (unchecked_of 1) { max_lifetime = Some 10 }) L.name L.parts L.settings }
+    requires { IsBlankOf blank (record (unchecked_of 1) { max_lifetime = Some 10 }) L.name L.parts
+        L.settings }
 {
     let clock = SetClock::new(rt.alloc(), Moment(5))?;
     let pool: NumberPool<R, L> = Builder::new()
@@ -83,7 +85,8 @@ fn added_connection_is_born_when_it_is_added(rt: HostRuntime) -> Result<(), Fail
 /// Two gets that may wait for 10. The clock is set back under each, once by a copy: it stands still until it comes past where it was, so the
 /// deadline of a get that is first polled meanwhile counts from there.
 fn stands_still<R: Runtime, L: PoolParts>(rt: R, blank: Blank) -> Result<(), Memory>
-    requires { IsBlankOf blank (record (unchecked_of 1) { connection_timeout = 10 }) L.name L.parts L.settings }
+    requires { IsBlankOf blank (record (unchecked_of 1) { connection_timeout = 10 }) L.name L.parts
+        L.settings }
 {
     let clock = SetClock::new(rt.alloc(), Moment(20))?;
     let copy = clock.try_clone()?;

@@ -12,7 +12,8 @@ use std::time::Duration;
 
 /// A pool of one connection: a get is served, others wait, and one of those is let go, one is served, and one times out.
 fn waits<R: Runtime, L: PoolParts>(rt: R, blank: Blank) -> Result<(), Memory>
-    requires { IsBlankOf blank (record (unchecked_of 1) { connection_timeout = 10 }) L.name L.parts L.settings }
+    requires { IsBlankOf blank (record (unchecked_of 1) { connection_timeout = 10 }) L.name L.parts
+        L.settings }
 {
     let clock = SetClock::new(rt.alloc(), Moment(5))?;
     let pool: NumberPool<R, L> = Builder::new()
@@ -103,7 +104,8 @@ fn polled_at_the_deadline<R: Runtime, L: PoolParts>(
     blank: Blank,
     is_added: bool,
 ) -> Result<(), Memory>
-    requires { IsBlankOf blank (record (unchecked_of 2) { connection_timeout = 1_000_000_000 }) L.name L.parts L.settings }
+    requires { IsBlankOf blank (record (unchecked_of 2) { connection_timeout = 1_000_000_000 })
+        L.name L.parts L.settings }
 {
     let clock = SetClock::new(rt.alloc(), Moment(0))?;
     let pool: NumberPool<R, L> = Builder::new()
@@ -141,7 +143,8 @@ fn tries_before_it_times_out(rt: HostRuntime) -> Result<(), Fail> {
 /// A get whose deadline is the greatest moment times out there; one that was first polled later has no deadline. After its answer a poll
 /// is pending, and changes nothing.
 fn ends_with_the_clock<R: Runtime, L: PoolParts>(rt: R, blank: Blank) -> Result<(), Memory>
-    requires { IsBlankOf blank (record (unchecked_of 2) { connection_timeout = 1_000_000_000 }) L.name L.parts L.settings }
+    requires { IsBlankOf blank (record (unchecked_of 2) { connection_timeout = 1_000_000_000 })
+        L.name L.parts L.settings }
 {
     let clock = SetClock::new(rt.alloc(), Moment(18_446_744_072_709_551_615))?;
     let pool: NumberPool<R, L> = Builder::new()

@@ -64,7 +64,8 @@ fn cancel(pool: &mut PoolInternals<u64>, get: GetState<u64, ()>, at: u64) {
 
 /// Asserts that what happens fits.
 fn assert_fits(rt: &impl Abort, pool: &PoolInternals<u64>, act: Act)
-    ensures { (conn : ℕ → ℕ) (l : Ledger ℕ) → IsLegal l → Means l pool.now → takes l (act_with conn l act) ≡ true }
+    ensures { (conn : ℕ → ℕ) (l : Ledger ℕ) → IsLegal l → Means l pool.now
+        → takes l (act_with conn l act) ≡ true }
 {
     if !fits(pool, Event { at: Moment(0), act }) {
         panic!(rt; "{act:?} does not fit");

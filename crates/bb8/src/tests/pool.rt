@@ -26,7 +26,8 @@ fn guard<'a, R: Runtime, L: PoolParts>(
 
 /// Lends the connections 7 and 8 of a pool of two, and takes them back: whole, broken, and too old.
 fn lends<R: Runtime, L: PoolParts>(rt: R, blank: Blank) -> Result<(), Fail>
-    requires { IsBlankOf blank (record (unchecked_of 2) { max_lifetime = Some 10 }) L.name L.parts L.settings }
+    requires { IsBlankOf blank (record (unchecked_of 2) { max_lifetime = Some 10 }) L.name L.parts
+        L.settings }
 {
     let clock = SetClock::new(rt.alloc(), Moment(5))?;
     let task = MockTask::new(&rt)?;
@@ -74,7 +75,8 @@ fn is_shared<T: Send + Sync>(_: &T) {}
 
 /// The two first approvals of a pool of two leave no room for a connection that is added.
 fn keeps_room<R: Runtime, L: PoolParts>(rt: R, blank: Blank) -> Result<(), Fail>
-    requires { IsBlankOf blank (record (unchecked_of 2) { min_idle = Some 2 }) L.name L.parts L.settings }
+    requires { IsBlankOf blank (record (unchecked_of 2) { min_idle = Some 2 }) L.name L.parts
+        L.settings }
 {
     let clock = SetClock::new(rt.alloc(), Moment(5))?;
     let pool: NumberPool<R, L> = Builder::new()

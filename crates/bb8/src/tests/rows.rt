@@ -111,7 +111,8 @@ fn cancelled_get_hands_on(rt: HostRuntime) -> Result<(), Fail> {
 
 /// A get waits 5999 nanoseconds for the only connection, which count as 5 microseconds.
 fn waits_shortly<R: Runtime, L: PoolParts>(rt: R, blank: Blank) -> Result<(), Memory>
-    requires { IsBlankOf blank (record (unchecked_of 1) { min_idle = Some 1 }) L.name L.parts L.settings }
+    requires { IsBlankOf blank (record (unchecked_of 1) { min_idle = Some 1 }) L.name L.parts
+        L.settings }
 {
     let clock = SetClock::new(rt.alloc(), Moment(0))?;
     let pool: NumberPool<R, L> = Builder::new()
@@ -146,7 +147,8 @@ fn short_wait_counts_in_whole_microseconds(rt: HostRuntime) -> Result<(), Fail> 
 
 /// A connection that came back serves the next get; a second one is opened only for a get that finds none.
 fn uses_again<R: Runtime, L: PoolParts>(rt: R, blank: Blank) -> Result<(), Memory>
-    requires { IsBlankOf blank (record (unchecked_of 100) { min_idle = Some 0; queue_strategy = Lifo }) L.name L.parts L.settings }
+    requires { IsBlankOf blank (record
+        (unchecked_of 100) { min_idle = Some 0; queue_strategy = Lifo }) L.name L.parts L.settings }
 {
     let clock = SetClock::new(rt.alloc(), Moment(0))?;
     let pool: NumberPool<R, L> = Builder::new()

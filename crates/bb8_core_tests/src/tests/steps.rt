@@ -30,7 +30,8 @@ pub(super) enum Link {
 
 /// Asserts that what happens fits.
 fn assert_fits(rt: &impl Abort, pool: &PoolInternals<Link>, act: Act)
-    ensures { (conn : ℕ → Link) (l : Ledger Link) → IsLegal l → Means l pool.now → takes l (act_with conn l act) ≡ true }
+    ensures { (conn : ℕ → Link) (l : Ledger Link) → IsLegal l → Means l pool.now
+        → takes l (act_with conn l act) ≡ true }
 {
     if !fits(pool, Event { at: NOW, act }) {
         panic!(rt; "{act:?} does not fit");

@@ -22,6 +22,11 @@ returns-clause-unclaimed c =
 
 pub returns-clause-some : goal.returns-clause-some
 returns-clause-some c =
-    let lawful : is_lawful (record default_settings { max_size = c.args.size; min_idle = Some c.args.size; test_on_check_out = false }) ≡ true = ap is_lawful (sym c.full_config-config.ensures) ∙ sym c.is_lawful.ensures ∙ c.if-not-is_lawful.false in
+    let lawful : is_lawful (record default_settings {
+      max_size = c.args.size;
+      min_idle = Some c.args.size;
+      test_on_check_out =
+          false;
+    }) ≡ true = ap is_lawful (sym c.full_config-config.ensures) ∙ sym c.is_lawful.ensures ∙ c.if-not-is_lawful.false in
     let some : ltb 0 c.args.size ≡ true = (and_right (ltb 0 c.args.size) _ lawful).0 in
     grind (arith, nat_tests, some)

@@ -31,7 +31,8 @@ returns-in-Some-clause-first c =
     let tried = steps.2 l (h.1, begun.0) begun.1 in
     let ready : IsServing t = serving s t h.0 h.2 0 Begin (Begun once.get) refl begun.1 c.requires.serving in
     let idle : t.records.idle ≡ s.records.idle = begun_idle s t h.0 h.2 0 once.get begun.1 in
-    sym idle ∙ (served t c.serve_at_once.new.self l begun.1 0 once.get once.key.number once.grant ready (begun_fits s t h.0 h.2 0 once.get c.requires.serving c.requires.some begun.0 begun.1 l (h.1, begun.0) begun.1) tried.0 tried.1).0
+    sym idle ∙ (served t c.serve_at_once.new.self l begun.1 0 once.get once.key.number once.grant ready
+    (begun_fits s t h.0 h.2 0 once.get c.requires.serving c.requires.some begun.0 begun.1 l (h.1, begun.0) begun.1) tried.0 tried.1).0
 
 pub returns-in-Some-clause-out : goal.returns-in-Some-clause-out
 returns-in-Some-clause-out c =
@@ -44,4 +45,5 @@ returns-in-Some-clause-out c =
     let l : Ledger ℕ = Later h.0 0 Begin (Begun once.get) in
     let tried = steps.2 l (h.1, begun.0) begun.1 in
     let ready : IsServing t = serving s t h.0 h.2 0 Begin (Begun once.get) refl begun.1 c.requires.serving in
-    (served t c.serve_at_once.new.self l begun.1 0 once.get once.key.number once.grant ready (begun_fits s t h.0 h.2 0 once.get c.requires.serving c.requires.some begun.0 begun.1 l (h.1, begun.0) begun.1) tried.0 tried.1).1
+    (served t c.serve_at_once.new.self l begun.1 0 once.get once.key.number once.grant ready
+    (begun_fits s t h.0 h.2 0 once.get c.requires.serving c.requires.some begun.0 begun.1 l (h.1, begun.0) begun.1) tried.0 tried.1).1

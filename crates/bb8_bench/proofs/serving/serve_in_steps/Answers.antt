@@ -39,7 +39,8 @@ returns-clause-first c =
     let tried = subst (λ (r : TryAnswer ℕ). Meets t 0 (Try g) (try_told r) c.try_get.new.self) c.in_ok-key.ensures c.try_get.ensures.step l (h.1, begun.0) begun.1 in
     let ready : IsServing t = serving s t h.0 h.2 0 Begin (Begun g) refl begun.1 c.requires.serving in
     let idle : t.records.idle ≡ s.records.idle = begun_idle s t h.0 h.2 0 g begun.1 in
-    sym idle ∙ (served t c.try_get.new.self l begun.1 0 g k c.in_ok-key.field-0-2 ready (begun_fits s t h.0 h.2 0 g c.requires.serving c.requires.some begun.0 begun.1 l (h.1, begun.0) begun.1) tried.0 tried.1).0
+    sym idle ∙ (served t c.try_get.new.self l begun.1 0 g k c.in_ok-key.field-0-2 ready
+    (begun_fits s t h.0 h.2 0 g c.requires.serving c.requires.some begun.0 begun.1 l (h.1, begun.0) begun.1) tried.0 tried.1).0
 
 pub returns-clause-out : goal.returns-clause-out
 returns-clause-out c =

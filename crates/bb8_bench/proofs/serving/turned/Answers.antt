@@ -15,7 +15,8 @@ loop-preserved c =
     let s : ℕ = c.loop.invariant.2 in
     let n : ℕ = c.args.count - (c.loop.counter + 1) in
     let left : c.args.count - c.loop.counter ≡ suc n = omega arith in
-    let step : turned (c.args.count - c.loop.counter) before ≡ suc k + turned n after = ap (λ (m : ℕ). turned m before) left ∙ ap (turned (suc n)) first ∙ ap (λ (xs : List ℕ). suc k + turned n xs) (sym last) in
+    let step : turned (c.args.count - c.loop.counter) before ≡ suc k + turned n after = ap (λ (m : ℕ). turned m before) left
+    ∙ ap (turned (suc n)) first ∙ ap (λ (xs : List ℕ). suc k + turned n xs) (sym last) in
     let sum : turned c.args.count c.args.pool.now.records.idle ≡ s + turned (c.args.count - c.loop.counter) before = c.loop.invariant.4 in (
       c.in_ok-give_back.ensures.serving,
       omega arith,

@@ -25,8 +25,11 @@ loop-event-preserved c =
     let step = c.apply.ensures before.0 (run_legal first before.0 (take i c.args.events.now) c.loop-event.answers.items c.requires before.1) before.2 in
     let next : Ledger ℕ = Later before.0 e.at.0 (act_of before.0 e.act) (answer_of a) in
     let inside : i < length c.args.events.now = omega arith in
-    let run : IsRun first (take i c.args.events.now ++ e ∷ []) (c.loop-event.answers.items ++ a ∷ []) next = run_more first before.0 (take i c.args.events.now) c.loop-event.answers.items e a before.1 step.0 in
-    let grown : IsRun first (take (i + 1) c.args.events.now) (c.loop-event.answers.items ++ a ∷ []) next = subst (λ (xs : List Event). IsRun first xs (c.loop-event.answers.items ++ a ∷ []) next) (sym (take_more c.args.events.now i (record { at = record { 0 = 0 }; act = acts.Begin }) inside)) run in
+    let run : IsRun first (take i c.args.events.now ++ e ∷ []) (c.loop-event.answers.items ++ a ∷ []) next =
+    run_more first before.0 (take i c.args.events.now) c.loop-event.answers.items e a before.1 step.0 in
+    let grown : IsRun first (take (i + 1) c.args.events.now) (c.loop-event.answers.items ++ a ∷ []) next =
+    subst (λ (xs : List Event). IsRun first xs (c.loop-event.answers.items ++ a ∷ []) next)
+    (sym (take_more c.args.events.now i (record { at = record { 0 = 0 }; act = acts.Begin }) inside)) run in
     (next, subst (λ (xs : List Answer). IsRun first (take (i + 1) c.args.events.now) xs next) (sym c.in_ok-push.ensures.items) grown, step.1)
 
 pub returns-clause-run : goal.returns-clause-run
@@ -41,25 +44,33 @@ returns-clause-answers c =
     let first : Ledger ℕ = opening c.args.config c.args.first_number c.args.first_get in
     let last = c.loop-event.invariant in
     let past : length c.args.events.now ≤ c.loop-event.event-index = omega arith in
-    run_length first last.0 c.args.events.now c.loop-event.answers.items (subst (λ (xs : List Event). IsRun first xs c.loop-event.answers.items last.0) (take_all c.loop-event.event-index c.args.events.now past) last.1)
+    run_length first last.0 c.args.events.now c.loop-event.answers.items
+    (subst (λ (xs : List Event). IsRun first xs c.loop-event.answers.items last.0)
+    (take_all c.loop-event.event-index c.args.events.now past) last.1)
 
 pub returns-clause-limits : goal.returns-clause-limits
 returns-clause-limits c =
     let first : Ledger ℕ = opening c.args.config c.args.first_number c.args.first_get in
     let last = c.loop-event.invariant in
     let past : length c.args.events.now ≤ c.loop-event.event-index = omega arith in
-    run_after KeepsLimits keeps_limits first last.0 c.args.events.now c.loop-event.answers.items c.requires (subst (λ (xs : List Event). IsRun first xs c.loop-event.answers.items last.0) (take_all c.loop-event.event-index c.args.events.now past) last.1)
+    run_after KeepsLimits keeps_limits first last.0 c.args.events.now c.loop-event.answers.items c.requires
+    (subst (λ (xs : List Event). IsRun first xs c.loop-event.answers.items last.0)
+    (take_all c.loop-event.event-index c.args.events.now past) last.1)
 
 pub returns-clause-laws : goal.returns-clause-laws
 returns-clause-laws c =
     let first : Ledger ℕ = opening c.args.config c.args.first_number c.args.first_get in
     let last = c.loop-event.invariant in
     let past : length c.args.events.now ≤ c.loop-event.event-index = omega arith in
-    run_after KeepsLaws keeps_laws first last.0 c.args.events.now c.loop-event.answers.items c.requires (subst (λ (xs : List Event). IsRun first xs c.loop-event.answers.items last.0) (take_all c.loop-event.event-index c.args.events.now past) last.1)
+    run_after KeepsLaws keeps_laws first last.0 c.args.events.now c.loop-event.answers.items c.requires
+    (subst (λ (xs : List Event). IsRun first xs c.loop-event.answers.items last.0)
+    (take_all c.loop-event.event-index c.args.events.now past) last.1)
 
 pub returns-clause-promises : goal.returns-clause-promises
 returns-clause-promises c =
     let first : Ledger ℕ = opening c.args.config c.args.first_number c.args.first_get in
     let last = c.loop-event.invariant in
     let past : length c.args.events.now ≤ c.loop-event.event-index = omega arith in
-    run_after KeepsPromises keeps_promises first last.0 c.args.events.now c.loop-event.answers.items c.requires (subst (λ (xs : List Event). IsRun first xs c.loop-event.answers.items last.0) (take_all c.loop-event.event-index c.args.events.now past) last.1)
+    run_after KeepsPromises keeps_promises first last.0 c.args.events.now c.loop-event.answers.items c.requires
+    (subst (λ (xs : List Event). IsRun first xs c.loop-event.answers.items last.0)
+    (take_all c.loop-event.event-index c.args.events.now past) last.1)

@@ -13,9 +13,13 @@ returns-then-first-eq43 c =
 pub returns-then-first-eq48 : goal.returns-then-first-eq48
 returns-then-first-eq48 c =
     let e = c.as_bytes.ensures.value in
-    c.then_some.ensures ∙ number_is c.args.field.now _ (zero_first c.args.field.now _ c.is_empty.result c.is_empty.ensures (omega (arith, ap length e, length-take {A = ℕ}, length-drop {A = ℕ})) (ap (λ x. get_or x 0 0) (sym e) ∙ c.if-first-eq48.true))
+    c.then_some.ensures ∙ number_is c.args.field.now _
+    (zero_first c.args.field.now _ c.is_empty.result c.is_empty.ensures
+    (omega (arith, ap length e, length-take {A = ℕ}, length-drop {A = ℕ})) (ap (λ x. get_or x 0 0) (sym e) ∙ c.if-first-eq48.true))
 
 pub returns : goal.returns
 returns c =
     let e = ap (λ x. get_or x 0 0) (sym c.as_bytes.ensures.value) in
-    c.ok.ensures.value ∙ number_is c.args.field.now _ (reads_plain c.args.field.now c.parse.result c.parse.ensures.value.0 (λ w. c.if-first-eq43.false (sym e ∙ w)) (λ w. c.if-first-eq48.false (sym e ∙ w)))
+    c.ok.ensures.value ∙ number_is c.args.field.now _
+    (reads_plain c.args.field.now c.parse.result c.parse.ensures.value.0 (λ w. c.if-first-eq43.false (sym e ∙ w))
+    (λ w. c.if-first-eq48.false (sym e ∙ w)))

@@ -3,4 +3,10 @@ use Rattle.bb8.proofs.Sections.{kept_settings, unmoved}
 use Rattle.bb8.proofs.locked.Locked.state.Goals as goal
 
 pub invariant_of-self : goal.invariant_of-self
-invariant_of-self g c = record { parts = unmoved _ _ _ acts.State _ _ c.limits.ensures.limits.0 c.state.ensures.step (λ m. m) c.args.self.now.parts; amount = c.args.self.now.amount; settled = kept_settings _ _ _ acts.State _ _ c.limits.ensures.limits.0 c.state.ensures.step c.args.self.now.settled }
+invariant_of-self g c = record {
+  parts = unmoved _ _ _ acts.State _ _ c.limits.ensures.limits.0 c.state.ensures.step
+      (λ m. m) c.args.self.now.parts;
+  amount = c.args.self.now.amount;
+  settled =
+      kept_settings _ _ _ acts.State _ _ c.limits.ensures.limits.0 c.state.ensures.step c.args.self.now.settled;
+}

@@ -12,7 +12,8 @@ split_off-one-requires-clause-has_parts g c =
     let some = c.in-Some.ensures.some in
     let get = c.in-Some.field-0.get in
     let h = follows _ _ _ acts.Begin (answers.Begun get) c.limits.ensures.limits.0 some.1 in
-    let parts : out_of some.0 + c.args.self.now.rest.parts ≡ some.0.config.max_size = unmoved _ some.0 c.args.at.0 acts.Begin (answers.Begun get) _ c.limits.ensures.limits.0 some.1 (λ m. m) c.args.self.now.parts in
+    let parts : out_of some.0 + c.args.self.now.rest.parts ≡ some.0.config.max_size =
+    unmoved _ some.0 c.args.at.0 acts.Begin (answers.Begun get) _ c.limits.ensures.limits.0 some.1 (λ m. m) c.args.self.now.parts in
     has_part some.0 _ c.args.at.0 (acts.Try get) _ _ h some.2 (λ m. m) parts
 
 pub split_off-one-requires-clause-has_amount : goal.split_off-one-requires-clause-has_amount
@@ -20,7 +21,8 @@ split_off-one-requires-clause-has_amount g c =
     let some = c.in-Some.ensures.some in
     let get = c.in-Some.field-0.get in
     let h = follows _ _ _ acts.Begin (answers.Begun get) c.limits.ensures.limits.0 some.1 in
-    let parts : out_of some.0 + c.args.self.now.rest.parts ≡ some.0.config.max_size = unmoved _ some.0 c.args.at.0 acts.Begin (answers.Begun get) _ c.limits.ensures.limits.0 some.1 (λ m. m) c.args.self.now.parts in
+    let parts : out_of some.0 + c.args.self.now.rest.parts ≡ some.0.config.max_size =
+    unmoved _ some.0 c.args.at.0 acts.Begin (answers.Begun get) _ c.limits.ensures.limits.0 some.1 (λ m. m) c.args.self.now.parts in
     let part : 1 ≤ c.args.self.now.rest.parts = has_part some.0 _ c.args.at.0 (acts.Try get) _ _ h some.2 (λ m. m) parts in
     omega (arith, part, c.args.self.now.amount)
 
@@ -29,7 +31,8 @@ invariant_of-self-in-Some g c =
     let some = c.in-Some.ensures.some in
     let get = c.in-Some.field-0.get in
     let h = follows _ _ _ acts.Begin (answers.Begun get) c.limits.ensures.limits.0 some.1 in
-    let parts : out_of some.0 + c.args.self.now.rest.parts ≡ some.0.config.max_size = unmoved _ some.0 c.args.at.0 acts.Begin (answers.Begun get) _ c.limits.ensures.limits.0 some.1 (λ m. m) c.args.self.now.parts in
+    let parts : out_of some.0 + c.args.self.now.rest.parts ≡ some.0.config.max_size =
+    unmoved _ some.0 c.args.at.0 acts.Begin (answers.Begun get) _ c.limits.ensures.limits.0 some.1 (λ m. m) c.args.self.now.parts in
     let settled : some.0.config ≡ g.L.Parts.settings = kept_settings _ some.0 c.args.at.0 acts.Begin (answers.Begun get) _ c.limits.ensures.limits.0 some.1 c.args.self.now.settled in
     record {
       parts = gone_out some.0 _ c.args.at.0 (acts.Try get) _ _ _ h some.2 (λ m. m) parts c.split_off-one.ensures.parts_left;
@@ -43,7 +46,8 @@ returns-in-Some g c =
     let n = c.in-Some.field-0.get in
     let get : GetKey = record { number = n; place = 0 } in
     let h = follows _ _ _ acts.Begin (answers.Begun n) c.limits.ensures.limits.0 some.1 in
-    let parts : out_of some.0 + c.args.self.now.rest.parts ≡ some.0.config.max_size = unmoved _ some.0 c.args.at.0 acts.Begin (answers.Begun n) _ c.limits.ensures.limits.0 some.1 (λ m. m) c.args.self.now.parts in
+    let parts : out_of some.0 + c.args.self.now.rest.parts ≡ some.0.config.max_size =
+    unmoved _ some.0 c.args.at.0 acts.Begin (answers.Begun n) _ c.limits.ensures.limits.0 some.1 (λ m. m) c.args.self.now.parts in
     let settled : some.0.config ≡ g.L.Parts.settings = kept_settings _ some.0 c.args.at.0 acts.Begin (answers.Begun n) _ c.limits.ensures.limits.0 some.1 c.args.self.now.settled in
     let between : Locked g.row.C.Denot g.row.L.Denot g.L.Parts = record {
       core = some.0;

@@ -7,7 +7,13 @@ pub returns-then-not-fits_try : goal.returns-then-not-fits_try
 returns-then-not-fits_try g c = ((c.limits.ensures.limits, c.limits.ensures.settings, unfit_step c.args.self.now.core c.args.at.0 (acts.Try c.args.get.number) c.if-not-fits_try.ensures), tt)
 
 pub invariant_of-self-in-Waiting-1 : goal.invariant_of-self-in-Waiting-1
-invariant_of-self-in-Waiting-1 g c = record { parts = unmoved _ _ _ (acts.Try c.args.get.number) _ _ c.limits.ensures.limits.0 c.in-Waiting.ensures.step (λ m. m) c.args.self.now.parts; amount = c.args.self.now.amount; settled = kept_settings _ _ _ (acts.Try c.args.get.number) _ _ c.limits.ensures.limits.0 c.in-Waiting.ensures.step c.args.self.now.settled }
+invariant_of-self-in-Waiting-1 g c = record {
+  parts =
+      unmoved _ _ _ (acts.Try c.args.get.number) _ _ c.limits.ensures.limits.0 c.in-Waiting.ensures.step (λ m. m) c.args.self.now.parts;
+  amount = c.args.self.now.amount;
+  settled = kept_settings _ _ _
+      (acts.Try c.args.get.number) _ _ c.limits.ensures.limits.0 c.in-Waiting.ensures.step c.args.self.now.settled;
+}
 
 pub split_off-share-requires-clause-has_parts : goal.split_off-share-requires-clause-has_parts
 split_off-share-requires-clause-has_parts g c = has_part _ _ _ (acts.Try c.args.get.number) _ _ c.limits.ensures.limits.0 c.in-Served.ensures.step (λ m. m) c.args.self.now.parts

@@ -36,14 +36,18 @@ add-requires-clause-number g c = left _ c.has_number.ensures c.if-not-has_number
 
 pub returns-in-Ok-clause-step : goal.returns-in-Ok-clause-step
 returns-in-Ok-clause-step g c = rw c.if-broken.false (at_view c.args.at.0 (acts.Add c.args.conn false) (answers.Added c.in-Ok.key.number (notified_of c.notify.result)) c.self.view_is
-    (meets_added (has_room c.self.view_is c.requires c.max-now.ensures c.used.ensures c.if-used-self.false) (record { who = c.notify.ensures.value; after = c.notify.ensures.state }) (left _ c.has_number.ensures c.if-not-has_number.false) c.in-Ok.ensures.ok.0 c.in-Ok.ensures.ok.1))
+    (meets_added (has_room c.self.view_is c.requires c.max-now.ensures c.used.ensures c.if-used-self.false)
+    (record { who = c.notify.ensures.value; after = c.notify.ensures.state })
+    (left _ c.has_number.ensures c.if-not-has_number.false) c.in-Ok.ensures.ok.0 c.in-Ok.ensures.ok.1))
 
 pub invariant_of-self-in-Ok : goal.invariant_of-self-in-Ok
-invariant_of-self-in-Ok g c = led _ c.args.at.0 (acts.Add c.args.conn c.args.broken) (answers.Added c.in-Ok.key.number (notified_of c.notify.result)) c.self.view_is c.self.invariant (returns-in-Ok-clause-step g c)
+invariant_of-self-in-Ok g c = led _ c.args.at.0 (acts.Add c.args.conn c.args.broken)
+    (answers.Added c.in-Ok.key.number (notified_of c.notify.result)) c.self.view_is c.self.invariant (returns-in-Ok-clause-step g c)
 
 pub returns-in-Err-clause-step : goal.returns-in-Err-clause-step
 returns-in-Err-clause-step g c = rw c.if-broken.false (at_view c.args.at.0 (acts.Add c.args.conn false) answers.Withheld c.self.view_is
-    (meets_add_refused (has_room c.self.view_is c.requires c.max-now.ensures c.used.ensures c.if-used-self.false) (left _ c.has_number.ensures c.if-not-has_number.false) c.in-Err.ensures.err.1 c.in-Err.ensures.err.2))
+    (meets_add_refused (has_room c.self.view_is c.requires c.max-now.ensures c.used.ensures c.if-used-self.false)
+    (left _ c.has_number.ensures c.if-not-has_number.false) c.in-Err.ensures.err.1 c.in-Err.ensures.err.2))
 
 pub invariant_of-self-in-Err : goal.invariant_of-self-in-Err
 invariant_of-self-in-Err g c = led _ c.args.at.0 (acts.Add c.args.conn c.args.broken) answers.Withheld c.self.view_is c.self.invariant (returns-in-Err-clause-step g c)

@@ -18,7 +18,8 @@ begin-requires g c = left _ c.has_number.ensures c.if-not-has_number.false
 
 pub returns-in-None : goal.returns-in-None
 returns-in-None g c = at_view c.args.at.0 acts.Begin answers.Memory c.self.view_is
-    (meets_memory c.args.at.0 (fits_view acts.Begin c.self.view_is c.requires) c.max-self-inside.ensures (left _ c.has_number.ensures c.if-not-has_number.false) c.in-None.ensures.none.0 c.in-None.ensures.none.1)
+    (meets_memory c.args.at.0 (fits_view acts.Begin c.self.view_is c.requires) c.max-self-inside.ensures
+    (left _ c.has_number.ensures c.if-not-has_number.false) c.in-None.ensures.none.0 c.in-None.ensures.none.1)
 
 pub invariant_of-self-in-None : goal.invariant_of-self-in-None
 invariant_of-self-in-None g c = led _ c.args.at.0 acts.Begin answers.Memory c.self.view_is c.self.invariant (returns-in-None g c)
@@ -31,7 +32,8 @@ overflow_add-self g c =
 
 pub returns-in-Some : goal.returns-in-Some
 returns-in-Some g c = at_view c.args.at.0 acts.Begin (answers.Begun c.in-Some.get.number) c.self.view_is
-    (meets_begun c.args.at.0 (fits_view acts.Begin c.self.view_is c.requires) c.max-self-inside.ensures (left _ c.has_number.ensures c.if-not-has_number.false) c.in-Some.ensures.some.1 refl c.in-Some.ensures.some.0)
+    (meets_begun c.args.at.0 (fits_view acts.Begin c.self.view_is c.requires) c.max-self-inside.ensures
+    (left _ c.has_number.ensures c.if-not-has_number.false) c.in-Some.ensures.some.1 refl c.in-Some.ensures.some.0)
 
 pub invariant_of-self-in-Some : goal.invariant_of-self-in-Some
 invariant_of-self-in-Some g c = led _ c.args.at.0 acts.Begin (answers.Begun c.in-Some.get.number) c.self.view_is c.self.invariant (returns-in-Some g c)

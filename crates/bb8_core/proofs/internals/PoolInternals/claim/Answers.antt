@@ -10,7 +10,10 @@ use Rattle.bb8_core.proofs.Steps.{IsStep, meets_claim, meets_claim_none, meets_c
 use Rattle.bb8_core.proofs.internals.PoolInternals.claim.Goals as goal
 
 -- where one is unclaimed, and where none is
-meets_claimed : {C : Type 0} (s : Shown C) (at : ℕ) (o : Option Key) (now : ℕ) (rs : ShownRecords C) → now ≡ max s.latest at → s.handles ≢ 0 → IfSome o (λ key. (slice_get s.records.unclaimed 0 ≡ Some key.number) × (rs ≡ machine.after_claim key.number s.records)) → IfNone o ((slice_get s.records.unclaimed 0 ≡ None) × (rs ≡ s.records)) → IsStep s at acts.Claim (answers.Claimed (option_map (λ (k : Key). k.number) o)) (record s { latest = now; records = rs })
+meets_claimed : {C : Type 0} (s : Shown C) (at : ℕ) (o : Option Key) (now : ℕ) (rs : ShownRecords C) → now ≡ max s.latest at → s.handles ≢ 0
+    → IfSome o (λ key. (slice_get s.records.unclaimed 0 ≡ Some key.number) × (rs ≡ machine.after_claim key.number s.records))
+    → IfNone o ((slice_get s.records.unclaimed 0 ≡ None) × (rs ≡ s.records))
+    → IsStep s at acts.Claim (answers.Claimed (option_map (λ (k : Key). k.number) o)) (record s { latest = now; records = rs })
 meets_claimed s at None now rs now_is alive_now some none = meets_claim_none now_is alive_now none.0 none.1
 meets_claimed s at (Some key) now rs now_is alive_now some none = meets_claim now_is alive_now some.0 some.1
 

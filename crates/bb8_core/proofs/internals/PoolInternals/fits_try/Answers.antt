@@ -9,5 +9,6 @@ pub returns-then-not-self : goal.returns-then-not-self
 returns-then-not-self g c = λ l legal means.
     let number = c.args.get.number in
     let unchecked : c.args.self.now.config.test_on_check_out ≡ false = ap (λ (s : Shown g.row.C.Denot). s.config.test_on_check_out) (sym c.self.view_is) ∙ c.if-not-self.true in
-    let tries : gets_stand is_trying (get c.args.self.now.gets.places number) ≡ c.is_trying.result = ap (λ (s : Shown g.row.C.Denot). gets_stand is_trying (get s.gets.places number)) (sym c.self.view_is) ∙ sym c.is_trying.ensures in
+    let tries : gets_stand is_trying (get c.args.self.now.gets.places number) ≡ c.is_trying.result =
+    ap (λ (s : Shown g.row.C.Denot). gets_stand is_trying (get s.gets.places number)) (sym c.self.view_is) ∙ sym c.is_trying.ensures in
     sym (takes_try l c.args.self.now number means ∙ ap (λ (b : Bool). not b && gets_stand is_trying (get c.args.self.now.gets.places number)) unchecked ∙ tries)

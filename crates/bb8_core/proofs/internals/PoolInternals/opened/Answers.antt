@@ -24,7 +24,9 @@ overflow_add-self g c = omega (arith, created_few c.args.a.number c.self.view_is
 
 pub returns-clause-step : goal.returns-clause-step
 returns-clause-step g c = at_view c.args.at.0 (acts.Opened c.args.a.number c.args.conn) (answers.Entered c.args.a.number (notified_of c.notify.result)) c.self.view_is
-    (meets_opened c.args.at.0 c.args.conn (fits_view (acts.Opened c.args.a.number c.args.conn) c.self.view_is c.requires) c.max-now.ensures c.if-self-eq0.false c.enter.ensures.state (record { who = c.notify.ensures.value; after = c.notify.ensures.state }) refl)
+    (meets_opened c.args.at.0 c.args.conn (fits_view (acts.Opened c.args.a.number c.args.conn) c.self.view_is c.requires) c.max-now.ensures
+    c.if-self-eq0.false c.enter.ensures.state (record { who = c.notify.ensures.value; after = c.notify.ensures.state }) refl)
 
 pub invariant_of-self-2 : goal.invariant_of-self-2
-invariant_of-self-2 g c = led _ c.args.at.0 (acts.Opened c.args.a.number c.args.conn) (answers.Entered c.args.a.number (notified_of c.notify.result)) c.self.view_is c.self.invariant (returns-clause-step g c)
+invariant_of-self-2 g c = led _ c.args.at.0 (acts.Opened c.args.a.number c.args.conn)
+    (answers.Entered c.args.a.number (notified_of c.notify.result)) c.self.view_is c.self.invariant (returns-clause-step g c)

@@ -10,7 +10,9 @@ use Rattle.bb8_core.proofs.internals.PoolInternals.try_get.Goals as goal
 
 pub returns-then-is_unnotified-clause-step : goal.returns-then-is_unnotified-clause-step
 returns-then-is_unnotified-clause-step g c = at_view c.args.at.0 (acts.Try c.args.get.number) (answers.Waiting c.of_nothing.result) c.self.view_is
-    (meets_waits_on (tries c.self.view_is c.requires c.max-now.ensures c.getting-getting.ensures) (sym c.is_unnotified.ensures ∙ c.if-is_unnotified.true) (subst (λ (n : ℕ). IsNoGrant n c.of_nothing.result) c.next_number.ensures c.of_nothing.ensures))
+    (meets_waits_on (tries c.self.view_is c.requires c.max-now.ensures c.getting-getting.ensures)
+    (sym c.is_unnotified.ensures ∙ c.if-is_unnotified.true)
+    (subst (λ (n : ℕ). IsNoGrant n c.of_nothing.result) c.next_number.ensures c.of_nothing.ensures))
 
 pub invariant_of-self : goal.invariant_of-self
 invariant_of-self g c = led _ c.args.at.0 (acts.Try c.args.get.number) (answers.Waiting c.of_nothing.result) c.self.view_is c.self.invariant (returns-then-is_unnotified-clause-step g c)
@@ -23,7 +25,10 @@ wait-requires g c = fit_waits c.args.get.number c.self.view_is c.self.invariant 
 
 pub returns-in-None-clause-step : goal.returns-in-None-clause-step
 returns-in-None-clause-step g c = at_view c.args.at.0 (acts.Try c.args.get.number) (answers.Waiting c.grant-grant.result) c.self.view_is
-    (meets_waits (tries c.self.view_is c.requires c.max-now.ensures c.getting-getting.ensures) (sym c.is_unnotified.ensures ∙ c.if-is_unnotified.false) c.in-None.ensures.none.0 c.in-None.ensures.none.1 (due_waiting (view_of c.self.inside) c.in-None.ensures.none.1 c.used-taken.ensures c.approved.ensures c.alive.ensures c.one-asked.ensures.value c.due-due.ensures) c.grant-grant.ensures.granted c.grant-grant.ensures.state c.wait.ensures)
+    (meets_waits (tries c.self.view_is c.requires c.max-now.ensures c.getting-getting.ensures)
+    (sym c.is_unnotified.ensures ∙ c.if-is_unnotified.false) c.in-None.ensures.none.0 c.in-None.ensures.none.1
+    (due_waiting (view_of c.self.inside) c.in-None.ensures.none.1 c.used-taken.ensures c.approved.ensures c.alive.ensures
+    c.one-asked.ensures.value c.due-due.ensures) c.grant-grant.ensures.granted c.grant-grant.ensures.state c.wait.ensures)
 
 pub invariant_of-self-in-None : goal.invariant_of-self-in-None
 invariant_of-self-in-None g c = led _ c.args.at.0 (acts.Try c.args.get.number) (answers.Waiting c.grant-grant.result) c.self.view_is c.self.invariant (returns-in-None-clause-step g c)
@@ -32,20 +37,32 @@ pub finish-requires : goal.finish-requires
 finish-requires g c = fit_waits c.args.get.number c.self.view_is c.self.invariant c.requires c.getting-getting.ensures (sym c.is_unnotified.ensures ∙ c.if-is_unnotified.false)
 
 pub serve-requires-clause-direct : goal.serve-requires-clause-direct
-serve-requires-clause-direct g c = omega (arith, ended_few (view_of c.self.inside) c.args.get.number c.self.invariant (fit_try c.args.get.number c.self.view_is c.self.invariant c.requires) c.finish.ensures.numbers)
+serve-requires-clause-direct g c = omega (
+  arith,
+  ended_few (view_of c.self.inside) c.args.get.number c.self.invariant
+      (fit_try c.args.get.number c.self.view_is c.self.invariant c.requires) c.finish.ensures.numbers,
+)
 
 pub serve-requires-clause-waited : goal.serve-requires-clause-waited
-serve-requires-clause-waited g c = omega (arith, ended_few (view_of c.self.inside) c.args.get.number c.self.invariant (fit_try c.args.get.number c.self.view_is c.self.invariant c.requires) c.finish.ensures.numbers)
+serve-requires-clause-waited g c = omega (
+  arith,
+  ended_few (view_of c.self.inside) c.args.get.number c.self.invariant
+      (fit_try c.args.get.number c.self.view_is c.self.invariant c.requires) c.finish.ensures.numbers,
+)
 
 pub grant-grant-requires-in-Some : goal.grant-grant-requires-in-Some
 grant-grant-requires-in-Some g c = omega (arith, due_fits (view_of c.self.inside) _ c.self.invariant (omega arith) c.in-Some.ensures.some.2 refl c.want-wanted.ensures)
 
 pub returns-in-Some-clause-step : goal.returns-in-Some-clause-step
 returns-in-Some-clause-step g c = at_view c.args.at.0 (acts.Try c.args.get.number) (answers.Served c.in-Some.key.number c.grant-grant-in-Some.result) c.self.view_is
-    (meets_served c.self.inside.counters (tries c.self.view_is c.requires c.max-now.ensures c.getting-getting.ensures) (sym c.is_unnotified.ensures ∙ c.if-is_unnotified.false) c.in-Some.ensures.some.0 (grants c.in-Some.ensures.some.2 c.want-wanted.ensures c.grant-grant-in-Some.ensures.granted c.grant-grant-in-Some.ensures.state) c.finish.ensures.state refl c.first_wait.ensures c.serve.ensures)
+    (meets_served c.self.inside.counters (tries c.self.view_is c.requires c.max-now.ensures c.getting-getting.ensures)
+    (sym c.is_unnotified.ensures ∙ c.if-is_unnotified.false) c.in-Some.ensures.some.0
+    (grants c.in-Some.ensures.some.2 c.want-wanted.ensures c.grant-grant-in-Some.ensures.granted c.grant-grant-in-Some.ensures.state)
+    c.finish.ensures.state refl c.first_wait.ensures c.serve.ensures)
 
 pub invariant_of-self-in-Some : goal.invariant_of-self-in-Some
-invariant_of-self-in-Some g c = led _ c.args.at.0 (acts.Try c.args.get.number) (answers.Served c.in-Some.key.number c.grant-grant-in-Some.result) c.self.view_is c.self.invariant (returns-in-Some-clause-step g c)
+invariant_of-self-in-Some g c = led _ c.args.at.0 (acts.Try c.args.get.number)
+    (answers.Served c.in-Some.key.number c.grant-grant-in-Some.result) c.self.view_is c.self.invariant (returns-in-Some-clause-step g c)
 
 pub returns-in-Some-clause-connection : goal.returns-in-Some-clause-connection
 returns-in-Some-clause-connection g c = λ l legal means.

@@ -8,4 +8,5 @@ use Rattle.bb8_core.proofs.Runs.{none_in_hand}
 use Rattle.bb8_core_tests.proofs.tests.steps.give_up.Goals as goal
 
 pub give_up-requires : goal.give_up-requires
-give_up-requires g c = λ l legal means. subst (λ (a : Act Link). takes l a ≡ true) (none_in_hand (λ _. Red) l c.args.get.number (reason_of c.args.reason) false legal) (c.assert_fits.ensures (λ _. Red) l legal means)
+give_up-requires g c = λ l legal means. subst (λ (a : Act Link). takes l a ≡ true)
+    (none_in_hand (λ _. Red) l c.args.get.number (reason_of c.args.reason) false legal) (c.assert_fits.ensures (λ _. Red) l legal means)

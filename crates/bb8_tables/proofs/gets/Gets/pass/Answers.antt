@@ -8,4 +8,5 @@ pub invariant_of-self : goal.invariant_of-self
 invariant_of-self c = pass_good c.self.inside c.self.invariant
 
 pub returns-clause-state : goal.returns-clause-state
-returns-clause-state c = pass_view c.self.inside c.self.invariant (rw (← c.self.view_is) at c.requires.room) ∙ ap (λ (s : ShownGets). machine.after_get_end s.next (machine.after_begin s)) c.self.view_is
+returns-clause-state c = pass_view c.self.inside c.self.invariant (rw (← c.self.view_is) at c.requires.room)
+    ∙ ap (λ (s : ShownGets). machine.after_get_end s.next (machine.after_begin s)) c.self.view_is

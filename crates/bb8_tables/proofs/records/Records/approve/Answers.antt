@@ -16,7 +16,14 @@ line_up-requires g c =
 pub invariant_of-self : goal.invariant_of-self
 invariant_of-self g c =
     let free : c.self.inside.conns + c.self.inside.approved < c.self.inside.peak = rw (← c.self.view_is) at c.requires.room in
-    approve_good c.self.inside c.args.claimed c.insert-place.result c.insert-place.new.self c.line_up.new.unclaimed c.self.invariant c.insert-place.ensures.free (subst (λ (s : Standing g.row.C.Denot). Updates c.self.inside.slots c.insert-place.new.self c.insert-place.result (Some (record { number = c.self.inside.next; standing = s }))) c.approval.ensures c.insert-place.ensures.updates) c.line_up.ensures free c.insert-place.ensures.len c.insert-place.ensures.capacity
+    approve_good c.self.inside c.args.claimed c.insert-place.result c.insert-place.new.self c.line_up.new.unclaimed c.self.invariant
+    c.insert-place.ensures.free (subst (λ (s : Standing g.row.C.Denot). Updates c.self.inside.slots c.insert-place.new.self
+    c.insert-place.result (Some (record { number = c.self.inside.next; standing = s }))) c.approval.ensures
+    c.insert-place.ensures.updates) c.line_up.ensures free c.insert-place.ensures.len c.insert-place.ensures.capacity
 
 pub returns : goal.returns
-returns g c = approve_view c.self.inside c.args.claimed c.insert-place.result c.insert-place.new.self c.line_up.new.unclaimed c.self.invariant c.insert-place.ensures.free (subst (λ (s : Standing g.row.C.Denot). Updates c.self.inside.slots c.insert-place.new.self c.insert-place.result (Some (record { number = c.self.inside.next; standing = s }))) c.approval.ensures c.insert-place.ensures.updates) c.line_up.ensures ∙ ap (machine.after_approval c.args.claimed) c.self.view_is
+returns g c = approve_view c.self.inside c.args.claimed c.insert-place.result c.insert-place.new.self c.line_up.new.unclaimed
+    c.self.invariant c.insert-place.ensures.free (subst
+    (λ (s : Standing g.row.C.Denot). Updates c.self.inside.slots c.insert-place.new.self c.insert-place.result
+    (Some (record { number = c.self.inside.next; standing = s }))) c.approval.ensures c.insert-place.ensures.updates) c.line_up.ensures
+    ∙ ap (machine.after_approval c.args.claimed) c.self.view_is

@@ -8,13 +8,17 @@ pub overflow_sub-self : goal.overflow_sub-self
 overflow_sub-self g c =
     let f = c.in-Some.ensures.some in
     let shows : Shows c.self.inside c.args.k.number (comes_from c.args.opening) = rw (← c.self.view_is) at c.requires in
-    rw c.one.ensures.value (close_counted c.self.inside c.args.opening c.in-Some.place c.args.k.number f.0 c.remove.new.self c.self.invariant f.1 f.2 (stood c.self.inside c.args.k.number c.in-Some.place f.0 (comes_from c.args.opening) c.self.invariant shows f.1 f.2) c.remove.ensures.updates)
+    rw c.one.ensures.value (close_counted c.self.inside c.args.opening c.in-Some.place c.args.k.number f.0 c.remove.new.self
+    c.self.invariant f.1 f.2 (stood c.self.inside c.args.k.number c.in-Some.place f.0
+    (comes_from c.args.opening) c.self.invariant shows f.1 f.2) c.remove.ensures.updates)
 
 pub overflow_sub-self-in-Some : goal.overflow_sub-self-in-Some
 overflow_sub-self-in-Some g c =
     let f = c.in-Some.ensures.some in
     let shows : Shows c.self.inside c.args.k.number (comes_from c.args.opening) = rw (← c.self.view_is) at c.requires in
-    rw c.one-in-Some.ensures.value (close_approved c.self.inside c.args.opening c.in-Some.place c.args.k.number f.0 c.remove.new.self c.self.invariant f.1 f.2 (stood c.self.inside c.args.k.number c.in-Some.place f.0 (comes_from c.args.opening) c.self.invariant shows f.1 f.2) c.remove.ensures.updates)
+    rw c.one-in-Some.ensures.value (close_approved c.self.inside c.args.opening c.in-Some.place c.args.k.number f.0 c.remove.new.self
+    c.self.invariant f.1 f.2 (stood c.self.inside c.args.k.number c.in-Some.place f.0
+    (comes_from c.args.opening) c.self.invariant shows f.1 f.2) c.remove.ensures.updates)
 
 pub returns-in-None-clause-state : goal.returns-in-None-clause-state
 returns-in-None-clause-state g c =
@@ -25,11 +29,17 @@ pub returns-in-Some-clause-state : goal.returns-in-Some-clause-state
 returns-in-Some-clause-state g c =
     let f = c.in-Some.ensures.some in
     let shows : Shows c.self.inside c.args.k.number (comes_from c.args.opening) = rw (← c.self.view_is) at c.requires in
-    close_view c.self.inside c.args.opening c.in-Some.place c.args.k.number f.0 c.remove.new.self c.self.invariant f.1 f.2 (stood c.self.inside c.args.k.number c.in-Some.place f.0 (comes_from c.args.opening) c.self.invariant shows f.1 f.2) c.remove.ensures.updates _ _ (ap (λ n. c.self.inside.conns - n) c.one.ensures.value) (ap (λ n. c.self.inside.approved - n) c.one-in-Some.ensures.value)
+    close_view c.self.inside c.args.opening c.in-Some.place c.args.k.number f.0 c.remove.new.self c.self.invariant f.1 f.2
+    (stood c.self.inside c.args.k.number c.in-Some.place f.0 (comes_from c.args.opening) c.self.invariant shows f.1 f.2)
+    c.remove.ensures.updates _ _ (ap (λ n. c.self.inside.conns - n) c.one.ensures.value)
+    (ap (λ n. c.self.inside.approved - n) c.one-in-Some.ensures.value)
     ∙ ap (machine.after_close c.args.opening c.args.k.number) c.self.view_is
 
 pub invariant_of-self : goal.invariant_of-self
 invariant_of-self g c =
     let f = c.in-Some.ensures.some in
     let shows : Shows c.self.inside c.args.k.number (comes_from c.args.opening) = rw (← c.self.view_is) at c.requires in
-    close_good c.self.inside c.args.opening c.in-Some.place c.args.k.number f.0 c.remove.new.self c.self.invariant f.1 f.2 (stood c.self.inside c.args.k.number c.in-Some.place f.0 (comes_from c.args.opening) c.self.invariant shows f.1 f.2) c.remove.ensures.updates _ _ (c.remove.ensures.len (rw f.1 refl)) c.remove.ensures.capacity (ap (λ n. c.self.inside.conns - n) c.one.ensures.value) (ap (λ n. c.self.inside.approved - n) c.one-in-Some.ensures.value)
+    close_good c.self.inside c.args.opening c.in-Some.place c.args.k.number f.0 c.remove.new.self c.self.invariant f.1 f.2
+    (stood c.self.inside c.args.k.number c.in-Some.place f.0 (comes_from c.args.opening) c.self.invariant shows f.1 f.2)
+    c.remove.ensures.updates _ _ (c.remove.ensures.len (rw f.1 refl)) c.remove.ensures.capacity
+    (ap (λ n. c.self.inside.conns - n) c.one.ensures.value) (ap (λ n. c.self.inside.approved - n) c.one-in-Some.ensures.value)

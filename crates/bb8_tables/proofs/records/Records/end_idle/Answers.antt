@@ -12,10 +12,14 @@ overflow_sub-self g c = idle_end_counted c.self.inside c.in-Some.key c.remove.ne
 pub invariant_of-self-in-Some : goal.invariant_of-self-in-Some
 invariant_of-self-in-Some g c =
     let x = c.self.invariant.idle.each 0 c.in-Some.key (sym c.in-Some.ensures.value) in
-    idle_end_good c.self.inside c.in-Some.key c.remove.new.self c.pop.new.self c.self.invariant c.in-Some.ensures.value c.in-Some.ensures.items c.remove.ensures.updates (c.remove.ensures.len (rw x.1 refl)) c.remove.ensures.capacity
+    idle_end_good c.self.inside c.in-Some.key c.remove.new.self c.pop.new.self c.self.invariant c.in-Some.ensures.value
+    c.in-Some.ensures.items c.remove.ensures.updates (c.remove.ensures.len (rw x.1 refl)) c.remove.ensures.capacity
 
 pub returns-in-Some-clause-some : goal.returns-in-Some-clause-some
 returns-in-Some-clause-some g c = (
-  ap (λ (s : ShownRecords g.row.C.Denot). slice_get s.idle 0) (sym c.self.view_is) ∙ slice_get-map (λ (k : Key). k.number) c.self.inside.idle.items 0 ∙ ap (option_map (λ (k : Key). k.number)) (sym c.in-Some.ensures.value),
-  idle_end_view c.self.inside c.in-Some.key c.remove.new.self c.pop.new.self c.self.invariant c.in-Some.ensures.value c.in-Some.ensures.items c.remove.ensures.updates ∙ ap (machine.after_idle_end c.in-Some.key.number) c.self.view_is,
+  ap (λ (s : ShownRecords g.row.C.Denot). slice_get s.idle 0) (sym c.self.view_is)
+      ∙ slice_get-map (λ (k : Key). k.number) c.self.inside.idle.items 0
+      ∙ ap (option_map (λ (k : Key). k.number)) (sym c.in-Some.ensures.value),
+  idle_end_view c.self.inside c.in-Some.key c.remove.new.self c.pop.new.self c.self.invariant c.in-Some.ensures.value
+      c.in-Some.ensures.items c.remove.ensures.updates ∙ ap (machine.after_idle_end c.in-Some.key.number) c.self.view_is,
 )

@@ -25,12 +25,15 @@ returns-in-None-clause-none g c =
 
 pub returns-after-connection_of-clause-none : goal.returns-after-connection_of-clause-none
 returns-after-connection_of-clause-none g c = elim c.match-connection_of.branch [
-  | in-None-connection_of w ↦ never_without c.self.inside c.args.strategy c.in-Some.key c.put.new.self c.pop_by.new.self c.self.invariant c.in-Some.ensures.value c.in-Some.ensures.items c.put.ensures.changed c.put.result _ c.put.ensures.value w.in-None-connection_of.ensures.none
+  | in-None-connection_of w ↦ never_without c.self.inside c.args.strategy c.in-Some.key c.put.new.self c.pop_by.new.self c.self.invariant
+      c.in-Some.ensures.value c.in-Some.ensures.items c.put.ensures.changed c.put.result _ c.put.ensures.value
+      w.in-None-connection_of.ensures.none
   | in-Some-connection_of w ↦ rw w.result-is tt
 ]
 
 pub invariant_of-self-in-Some : goal.invariant_of-self-in-Some
-invariant_of-self-in-Some g c = take_good c.self.inside c.args.strategy c.in-Some.key c.put.new.self c.pop_by.new.self c.self.invariant c.in-Some.ensures.value c.in-Some.ensures.items c.put.ensures.changed c.put.ensures.len c.put.ensures.capacity
+invariant_of-self-in-Some g c = take_good c.self.inside c.args.strategy c.in-Some.key c.put.new.self c.pop_by.new.self c.self.invariant
+    c.in-Some.ensures.value c.in-Some.ensures.items c.put.ensures.changed c.put.ensures.len c.put.ensures.capacity
 
 pub returns-after-connection_of-clause-some : goal.returns-after-connection_of-clause-some
 returns-after-connection_of-clause-some g c =
@@ -38,8 +41,12 @@ returns-after-connection_of-clause-some g c =
     elim c.match-connection_of.branch [
       | in-None-connection_of w ↦ rw w.result-is tt
       | in-Some-connection_of w ↦ rw w.result-is (
-        ap (λ (s : ShownRecords g.row.C.Denot). first_of c.args.strategy s.idle) (sym c.self.view_is) ∙ taken_first c.self.inside c.args.strategy c.in-Some.key c.put.new.self c.pop_by.new.self c.self.invariant c.in-Some.ensures.value c.in-Some.ensures.items c.put.ensures.changed,
-        (let was = took w.in-Some-connection_of.conn c.put.result c.put.ensures.value w.in-Some-connection_of.ensures.some in (was.0, was.1, ap (λ (s : ShownRecords g.row.C.Denot). get s.places c.in-Some.key.number) (sym c.self.view_is) ∙ was.2)),
-        take_view c.self.inside c.args.strategy c.in-Some.key c.put.new.self c.pop_by.new.self c.self.invariant c.in-Some.ensures.value c.in-Some.ensures.items c.put.ensures.changed ∙ ap (machine.after_take Guarded c.in-Some.key.number) c.self.view_is,
+        ap (λ (s : ShownRecords g.row.C.Denot). first_of c.args.strategy s.idle) (sym c.self.view_is)
+            ∙ taken_first c.self.inside c.args.strategy c.in-Some.key c.put.new.self c.pop_by.new.self c.self.invariant
+            c.in-Some.ensures.value c.in-Some.ensures.items c.put.ensures.changed,
+        (let was = took w.in-Some-connection_of.conn c.put.result c.put.ensures.value w.in-Some-connection_of.ensures.some in
+            (was.0, was.1, ap (λ (s : ShownRecords g.row.C.Denot). get s.places c.in-Some.key.number) (sym c.self.view_is) ∙ was.2)),
+        take_view c.self.inside c.args.strategy c.in-Some.key c.put.new.self c.pop_by.new.self c.self.invariant c.in-Some.ensures.value
+            c.in-Some.ensures.items c.put.ensures.changed ∙ ap (machine.after_take Guarded c.in-Some.key.number) c.self.view_is,
       )
     ]
