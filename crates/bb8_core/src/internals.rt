@@ -13,7 +13,7 @@ ghost use Rattle.bb8_types.specs.Settings.{settings_of, is_lawful};
 ghost use Rattle.bb8_types.specs.Figures.{figures_of};
 ghost use Rattle.bb8_core.specs.Run.{opening};
 ghost use Rattle.bb8_core.specs.Shown.{Means, Meets, IsFitting, TellsFitting, IsRecordIn, IsNoRecordIn, IsGetIn, IsNoGetIn, IsWithinLimits};
-ghost use Rattle.bb8_core.specs.StepAnswers.{begin_told, try_told, reason_of, give_up_told, put_back_told, claim_told, opened_told, failed_told, add_told, join_told, leave_told, look_told, HandsOut, ServesAtOnce, GivesBack, HandsBack, Refuses};
+ghost use Rattle.bb8_core.specs.StepAnswers.{begin_told, try_told, reason_of, give_up_told, put_back_told, claim_told, opened_told, failed_told, add_told, join_told, leave_told, look_told, HandsOut, ServesAtOnce, NoneAtOnce, GivesBack, HandsBack, Refuses};
 ghost use Rattle.bb8_tables.specs.Keys.{notified_of};
 
 pub use crate::answers::{
@@ -172,12 +172,13 @@ impl<C: Drop> PoolInternals<C> {
     }
 
     /// Begins a get and serves it, as `begin` and then `try_get` do, where a connection is idle and the get could begin with no memory.
-    /// Otherwise nothing changes.
+    /// Otherwise nothing changes: no connection is idle, no number is left, or as many gets are alive as ever were.
     pub fn serve_at_once(&mut self, at: Moment) -> Option<AtOnce<C>>
         requires begin { IsFitting self.old acts.Begin }
         requires unchecked { self.old.config.test_on_check_out ≡ false }
         ensures some { IfSome result (λ served. ServesAtOnce self.old at.0 served self.new) }
         ensures none { IfNone result (self.new ≡ self.old) }
+        ensures cause { IfNone result (NoneAtOnce self.old) }
     {
         if !self.gets.has_room() {
             return None;
@@ -431,11 +432,9 @@ impl<C: Drop> PoolInternals<C> {
     pub fn fits_at_once(&self) -> bool
         ensures begin { result ≡ true → IsFitting self.now acts.Begin }
         ensures unchecked { result ≡ true → self.now.config.test_on_check_out ≡ false }
+        ensures open { self.now.config.test_on_check_out ≡ false → TellsFitting self.now acts.Begin result }
     {
-        if self.config.test_on_check_out {
-            return false;
-        }
-        self.fits_begin()
+        !self.config.test_on_check_out && self.fits_begin()
     }
 
     /// Whether a connection may be added, whichever it is: while a handle is alive.

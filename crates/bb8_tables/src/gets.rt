@@ -1,5 +1,5 @@
 //! The gets of a pool.
-ghost use Rattle.std.specs.Prelude.{◌≡◌, ℕ, ◌+◌, ◌<◌, ◌≤◌, max, true, false, IsSome, is_some, ltb, cond, filter, not, eqb, slice_get, IfSome, IfNone, OnOk, OnErr, Some, None, []};
+ghost use Rattle.std.specs.Prelude.{◌⊎◌, ◌≡◌, ℕ, ◌+◌, ◌<◌, ◌≤◌, max, true, false, IsSome, is_some, ltb, cond, filter, not, eqb, slice_get, IfSome, IfNone, OnOk, OnErr, Some, None, []};
 ghost use Rattle.std.specs.FinMap as map;
 ghost use Rattle.circular_buffer.specs.Buffer.{buffer};
 ghost use Rattle.slab.specs.Slab as slabs;
@@ -15,6 +15,7 @@ ghost use Rattle.bb8_types.specs.Bounds.{end_of_numbers};
 use crate::keys::GetKey;
 use crate::ring::Ring;
 use crate::table::{Slot, Table};
+use bb8_types::bounds::END_OF_NUMBERS;
 use bb8_types::standing::{GetPlace, Getting};
 use std::alloc::{AllocError, Global};
 use std::marker::Model;
@@ -130,7 +131,7 @@ impl Gets {
     pub fn has_number(&self) -> bool
         ensures { result ≡ ltb self.now.next end_of_numbers }
     {
-        self.next < u64::MAX
+        self.next < END_OF_NUMBERS
     }
 
     /// How many gets are alive.
@@ -190,8 +191,9 @@ impl Gets {
     pub fn has_room(&self) -> bool
         ensures number { result ≡ true → self.now.next < end_of_numbers }
         ensures room { result ≡ true → self.now.alive < self.now.peak }
+        ensures none { result ≡ false → (end_of_numbers ≤ self.now.next) ⊎ (self.now.peak ≤ self.now.alive) }
     {
-        self.next < u64::MAX && self.alive < self.peak
+        self.next < END_OF_NUMBERS && self.alive < self.peak
     }
 
     /// Gives the next number to a get that begins and ends at once, for which there is room.

@@ -14,6 +14,7 @@ use crate::keys::Key;
 use crate::ring::Ring;
 use crate::table::{Slot, Table};
 use bb8_types::api::QueueStrategy;
+use bb8_types::bounds::END_OF_NUMBERS;
 use bb8_types::grants::Grant;
 use bb8_types::standing::{Place, Standing};
 use std::alloc::{AllocError, Global};
@@ -320,7 +321,7 @@ impl<C: Drop> Records<C> {
     pub fn has_number(&self) -> bool
         ensures { result ≡ ltb self.now.next end_of_numbers }
     {
-        self.next < u64::MAX
+        self.next < END_OF_NUMBERS
     }
 
     /// The next number.
@@ -354,7 +355,7 @@ impl<C: Drop> Records<C> {
         ensures state { self.new ≡ machine.after_grant claimed result self.old }
     {
         let taken = self.conns + self.approved;
-        let possible = due.min(u64::MAX - self.next);
+        let possible = due.min(END_OF_NUMBERS - self.next);
         let below = possible.min(self.peak - taken);
         let first = self.next;
         let count = if below < possible && self.make_room(taken + possible).is_ok() {

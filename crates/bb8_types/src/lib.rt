@@ -2,6 +2,7 @@
 #![tactic(auto)]
 
 pub mod api;
+pub mod bounds;
 pub mod grants;
 pub mod reasons;
 pub mod standing;
