@@ -310,7 +310,39 @@ fn added(rt: &impl Abort, pool: &mut PoolInternals<Link>, number: u64, broken: b
     }
 }
 
-/// What the bare state answers. The connection that is served has to be the one that came in.
+/// What the bare state answers to a try. The connection that is served has to be the one that came in.
+fn tried(rt: &impl Abort, pool: &mut PoolInternals<Link>, get: u64) -> Answer {
+    let get = pool.find_get(get).expect(rt, "the get is alive");
+    match try_get(rt, pool, get) {
+        TryAnswer::Served(key, conn, grant) => {
+            assert_eq!(rt; conn, link_of(key.number));
+            Answer::Served(key.number, grant)
+        }
+        TryAnswer::Waiting(grant) => Answer::Waiting(grant),
+    }
+}
+
+/// What the bare state answers to a return.
+fn returned(rt: &impl Abort, pool: &mut PoolInternals<Link>, number: u64, broken: bool) -> Answer {
+    let key = pool.find(number).expect(rt, "the connection is out");
+    match put_back(rt, pool, key, link_of(number), broken) {
+        PutBackAnswer::Kept(notified) => Answer::Kept(number, number_of(notified)),
+        PutBackAnswer::Closed(_, grant, notified) => {
+            Answer::Closed(number, grant, number_of(notified))
+        }
+    }
+}
+
+/// What the bare state answers to an opening.
+fn entered(rt: &impl Abort, pool: &mut PoolInternals<Link>, number: u64) -> Answer {
+    let key = pool.find(number).expect(rt, "the approval stands");
+    match opened(rt, pool, key, link_of(number)) {
+        OpenedAnswer::Entered(notified) => Answer::Entered(number, number_of(notified)),
+        OpenedAnswer::Late(_) => Answer::Late(number),
+    }
+}
+
+/// What the bare state answers.
 fn answer(rt: &impl Abort, pool: &mut PoolInternals<Link>, next: u64, act: Act) -> Answer {
     if !fits(pool, Event { at: NOW, act }) {
         return Answer::Unfit;
@@ -321,42 +353,19 @@ fn answer(rt: &impl Abort, pool: &mut PoolInternals<Link>, next: u64, act: Act) 
             BeginAnswer::Memory => Answer::Memory,
             BeginAnswer::Exhausted => Answer::Exhausted,
         },
-        Act::Try(get) => {
-            let get = pool.find_get(get).expect(rt, "the get is alive");
-            match try_get(rt, pool, get) {
-                TryAnswer::Served(key, conn, grant) => {
-                    assert_eq!(rt; conn, link_of(key.number));
-                    Answer::Served(key.number, grant)
-                }
-                TryAnswer::Waiting(grant) => Answer::Waiting(grant),
-            }
-        }
+        Act::Try(get) => tried(rt, pool, get),
         Act::GiveUp(get, reason, _) => {
             let get = pool.find_get(get).expect(rt, "the get is alive");
             let GiveUpAnswer::GaveUp(notified) = give_up(rt, pool, get, reason);
             Answer::GaveUp(number_of(notified))
         }
-        Act::PutBack(number, broken) => {
-            let key = pool.find(number).expect(rt, "the connection is out");
-            match put_back(rt, pool, key, link_of(number), broken) {
-                PutBackAnswer::Kept(notified) => Answer::Kept(number, number_of(notified)),
-                PutBackAnswer::Closed(_, grant, notified) => {
-                    Answer::Closed(number, grant, number_of(notified))
-                }
-            }
-        }
+        Act::PutBack(number, broken) => returned(rt, pool, number, broken),
         Act::Fill(claimed) => Answer::Granted(pool.fill(NOW, claimed)),
         Act::Claim => match pool.claim(NOW) {
             ClaimAnswer::Claimed(key) => Answer::Claimed(key.map(|key| key.number)),
             ClaimAnswer::Ended => Answer::Ended,
         },
-        Act::Opened(number) => {
-            let key = pool.find(number).expect(rt, "the approval stands");
-            match opened(rt, pool, key, link_of(number)) {
-                OpenedAnswer::Entered(notified) => Answer::Entered(number, number_of(notified)),
-                OpenedAnswer::Late(_) => Answer::Late(number),
-            }
-        }
+        Act::Opened(number) => entered(rt, pool, number),
         Act::Add(broken) => added(rt, pool, next, broken),
         Act::State => Answer::Shown(pool.state(NOW)),
         Act::Failed(number) => {

@@ -303,9 +303,14 @@ fn last_handle_ends_what_nobody_holds(rt: HostRuntime) -> Result<(), Fail> {
         (0, Act::Look, Answer::Looked(Moment(0), false)),
     ];
     let state = shown_after(&rt, rt.alloc(), unchecked(4, Some(3)), &lines)?;
-    let mut wanted = served(0, 0, 2, 1);
-    wanted.statistics.connections_created = 1;
-    assert_eq!(rt; state, wanted);
+    assert_eq!(rt; (state.connections, state.statistics.get_direct), (0, 1));
+    assert_eq!(rt;
+        (
+            state.statistics.connections_created,
+            state.statistics.connections_closed_broken
+        ),
+        (1, 0)
+    );
     Ok(())
 }
 
