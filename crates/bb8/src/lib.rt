@@ -2,32 +2,119 @@
 //!
 //! A program whose threads share a pool has three parts: a manager, which opens and checks connections; a service, which says what is
 //! done before the threads run, in each, and after them; and a `main`, which builds the pool and runs the service over it. No proof
-//! file belongs to them. `Runtime` is the program's own list of bounds, `Wait` and what its calls ask for. In whole: `bb8_service`.
+//! file belongs to them. `Runtime` is the program's own list of bounds, `Wait` and what its calls ask for. In `crates.txt`
+//! such a program stands on `bb8` and `futures`. This is `bb8_service`, whole:
 //!
 //! ```text
+//! use bb8::{
+//!     Builder, MachineClock, ManageConnection, Moment, NopCustomizer, NopErrorSink, Pool, PoolCalls,
+//!     PoolParts, Service, State,
+//! };
+//! use futures::executor::block_on;
+//! use futures::task::Poll;
+//! use std::convert::Infallible;
+//! use std::fmt;
+//! use std::io;
+//! use std::process::ExitCode;
+//! use std::random::RandomSource;
+//! use std::sync::Wait;
+//! use std::time::Clock;
+//!
+//! #[derive(Debug, Drop)]
+//! pub struct Counter {
+//!     pub uses: u64,
+//! }
+//!
+//! #[derive(Drop)]
+//! pub struct Counters;
+//!
 //! impl ManageConnection for Counters {
 //!     type Connection = Counter;
+//!
 //!     type Error = Infallible;
-//!     type Connecting = ();                            // what is kept between two polls of an opening
-//!     type Checking = ();                              // and of a check
-//!     fn connect(&self) { .. }                         // begins an opening
-//!     fn poll_connect(&self, ..) -> Poll<Result<Counter, Infallible>> { .. }
-//!     fn is_valid(&self, ..) { .. }                    // begins a check
-//!     fn poll_valid(&self, ..) -> Poll<Result<(), Infallible>> { .. }
-//!     fn has_broken(&self, ..) -> bool { .. }          // asked when a connection comes back
+//!
+//!     type Connecting = ();
+//!
+//!     type Checking = ();
+//!
+//!     fn connect(&self) {}
+//!
+//!     fn poll_connect(
+//!         &self,
+//!         _connecting: &mut (),
+//!         _moment: Moment,
+//!     ) -> Poll<Result<Counter, Infallible>> {
+//!         Poll::Ready(Ok(Counter { uses: 0 }))
+//!     }
+//!
+//!     fn is_valid(&self, _connection: &mut Counter) {}
+//!
+//!     fn poll_valid(
+//!         &self,
+//!         _connection: &mut Counter,
+//!         _checking: &mut (),
+//!         _moment: Moment,
+//!     ) -> Poll<Result<(), Infallible>> {
+//!         Poll::Ready(Ok(()))
+//!     }
+//!
+//!     fn has_broken(&self, _connection: &mut Counter) -> bool {
+//!         false
+//!     }
 //! }
+//!
+//! pub const THREADS: usize = 4;
+//!
+//! const ROUNDS: u64 = 1000;
+//!
+//! pub trait Runtime: Wait
+//!     + Clock
+//!     + RandomSource
+//!     + AllocGlobal
+//!     + Copy
+//!     + Send
+//!     + Sync
+//!     + Drop
+//!     + 'static {}
+//!
+//! impl<R: Wait + Clock + RandomSource + AllocGlobal + Copy + Send + Sync + Drop + 'static> Runtime
+//!     for R {}
 //!
 //! type CounterPool<R, L> = Pool<Counters, NopErrorSink, NopCustomizer, MachineClock<R>, R, L>;
 //!
-//! struct SharedCounters<R: Runtime> { rt: R }
+//! #[derive(Drop)]
+//! pub struct Summary {
+//!     served: u64,
+//!     uses: u64,
+//!     state: State,
+//! }
+//!
+//! impl fmt::Display for Summary {
+//!     fn fmt<W: fmt::Write>(&self, f: &mut fmt::Formatter<W>) -> fmt::Result {
+//!         writeln!(f, "served {}, used {}", self.served, self.uses)?;
+//!         let State {
+//!             connections,
+//!             idle_connections,
+//!             statistics,
+//!         } = self.state;
+//!         writeln!(f, "connections {connections}, idle {idle_connections}")?;
+//!         write!(f, "gets completed {}", statistics.completed_gets())
+//!     }
+//! }
+//!
+//! #[derive(Drop)]
+//! pub struct SharedCounters<R: Runtime> {
+//!     pub rt: R,
+//! }
 //!
 //! impl<R: Runtime> Service<Counters, NopErrorSink, NopCustomizer, MachineClock<R>, R>
 //!     for SharedCounters<R> {
 //!     type Told = u64;
+//!
 //!     type Outcome = Option<Summary>;
 //!
 //!     fn begin<L: PoolParts>(&self, pool: &CounterPool<R, L>) -> Result<(), Option<Summary>> {
-//!         for _ in 0..2u8 {                            // until a driver opens connections, they are added
+//!         for _ in 0..2u8 {
 //!             if PoolCalls::add(pool, Counter { uses: 0 }).is_err() {
 //!                 return Err(None);
 //!             }
@@ -41,12 +128,27 @@
 //!             if let Ok(Ok(mut guard)) = block_on(&self.rt, PoolCalls::get(pool)) {
 //!                 guard.uses = guard.uses.saturating_add(1);
 //!                 served = served.saturating_add(1);
-//!             }                                        // the guard gives the connection back
+//!             }
 //!         }
 //!         served
 //!     }
 //!
-//!     fn end<L: PoolParts>(&self, pool: &CounterPool<R, L>, told: &[u64]) -> Option<Summary> { .. }
+//!     fn end<L: PoolParts>(&self, pool: &CounterPool<R, L>, told: &[u64]) -> Option<Summary> {
+//!         let served = told
+//!             .iter()
+//!             .fold(0, |sum: u64, one| sum.saturating_add(*one));
+//!         let first = block_on(&self.rt, PoolCalls::get(pool)).ok()?.ok()?;
+//!         let second = block_on(&self.rt, PoolCalls::get(pool)).ok()?.ok()?;
+//!         let uses = first.uses.saturating_add(second.uses);
+//!         drop(first);
+//!         drop(second);
+//!         let state = PoolCalls::state(pool);
+//!         Some(Summary {
+//!             served,
+//!             uses,
+//!             state,
+//!         })
+//!     }
 //! }
 //!
 //! fn main(rt: HostRuntime) -> io::Result<ExitCode> {
@@ -55,7 +157,13 @@
 //!         .max_size(2)
 //!         .test_on_check_out(false)
 //!         .serve(Counters, MachineClock(rt), rt, THREADS, &service);
-//!     match outcome { .. }
+//!     match outcome {
+//!         Ok(Some(summary)) => {
+//!             println!(rt; "{summary}")?;
+//!             Ok(ExitCode::SUCCESS)
+//!         }
+//!         _ => Ok(ExitCode::FAILURE),
+//!     }
 //! }
 //! ```
 //!
