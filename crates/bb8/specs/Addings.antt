@@ -7,7 +7,7 @@ use Rattle.bb8_types.specs.Settings.{Settings}
 use Rattle.bb8_ledger.specs.Acts as acts
 use Rattle.bb8_ledger.specs.Answers as answers
 use Rattle.bb8_ledger.specs.Answers.{Answer}
-use Rattle.bb8.specs.Homes.{OnSome}
+use Rattle.bb8_gets.specs.Homes.{OnSome}
 
 -- What an adding answers its caller, of what the ledger answers, whether the connection was found broken, and how it was left. Where no
 -- handle is alive there is no capacity.

@@ -1,14 +1,14 @@
 -- What callers see of a get: its polls, and what it answers at last.
 use Rattle.std.specs.Prelude.{◌≡◌, Result}
-use Rattle.bb8.specs.declared.locked.Parts.{Ghosts as PartsOf}
+use Rattle.bb8_locked.specs.declared.locked.Parts.{Ghosts as PartsOf}
 use Rattle.std.specs.declared.fmt.Debug.{Ghosts as DebugOf}
 use Rattle.futures.specs.declared.task.Poll.{Poll}
 use Rattle.bb8_types.specs.declared.api.errors.RunError.{RunError}
 use Rattle.bb8_types.specs.declared.api.managers.ManageConnection.{Ghosts as ManagerOf}
 use Rattle.bb8_types.specs.declared.api.moments.Moment.{Moment}
 use Rattle.bb8.specs.declared.get.future.GetFuture.{GetFuture}
-use Rattle.bb8.specs.declared.get.home.Taken.{Taken}
-use Rattle.bb8.specs.declared.locked.Part.{Part}
+use Rattle.bb8_gets.specs.declared.home.Taken.{Taken}
+use Rattle.bb8_locked.specs.declared.locked.Part.{Part}
 use Rattle.bb8.specs.declared.pool.PooledConnection.{PooledConnection}
 use Rattle.bb8.specs.Linked.{LinkPolls, LinkGives, LinkCancels, MakesGuard, MakesPoll}
 use Rattle.bb8.specs.Pools.{stage_of}

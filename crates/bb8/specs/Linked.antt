@@ -1,7 +1,7 @@
 -- A get's polls on a pool: the table at the pool's own manager and clock, and at what its lock holds.
 use Rattle.std.specs.Prelude.{◌≡◌, Bool, false, None, Option, Some, Result, Ok, Err, ⊤}
 use Rattle.std.specs.Bool.{MatchBool}
-use Rattle.bb8.specs.declared.locked.Parts.{Ghosts as PartsOf}
+use Rattle.bb8_locked.specs.declared.locked.Parts.{Ghosts as PartsOf}
 use Rattle.std.specs.declared.fmt.Debug.{Ghosts as DebugOf}
 use Rattle.futures.specs.declared.task.Poll.{Poll}
 use Rattle.futures.specs.declared.task.Poll.TheVariants.{Ready, Pending}
@@ -14,17 +14,18 @@ use Rattle.bb8_ledger.specs.Acts as acts
 use Rattle.bb8_core.specs.StepAnswers.{begin_told, give_up_told, look_told, put_back_told, reason_of, GivesBack}
 use Rattle.bb8_core.specs.declared.answers.PutBackAnswer.{PutBackAnswer}
 use Rattle.bb8_core.specs.declared.answers.PutBackAnswer.TheVariants as put_back
-use Rattle.bb8.specs.declared.get.calls.Calls.{Calls}
-use Rattle.bb8.specs.declared.get.home.GetHome.{Ghosts as HomeOf}
-use Rattle.bb8.specs.declared.get.home.Taken.{Taken}
-use Rattle.bb8.specs.declared.get.outside.Outside.{Ghosts as OutsideOf}
-use Rattle.bb8.specs.declared.get.state.Stage.{Stage}
-use Rattle.bb8.specs.declared.locked.Locked.{Locked}
-use Rattle.bb8.specs.declared.locked.Part.{Part}
+use Rattle.bb8_gets.specs.declared.calls.Calls.{Calls}
+use Rattle.bb8_gets.specs.declared.home.GetHome.{Ghosts as HomeOf}
+use Rattle.bb8_gets.specs.declared.home.Taken.{Taken}
+use Rattle.bb8_gets.specs.declared.outside.Outside.{Ghosts as OutsideOf}
+use Rattle.bb8_gets.specs.declared.state.Stage.{Stage}
+use Rattle.bb8_locked.specs.declared.locked.Locked.{Locked}
+use Rattle.bb8_locked.specs.declared.locked.Part.{Part}
 use Rattle.bb8.specs.declared.pool.Shared.{Shared}
-use Rattle.bb8.specs.Homes.{StepsIn}
-use Rattle.bb8.specs.Sections.{answered, returned, tried_told, HandsOutOf, OnFit}
-use Rattle.bb8.specs.Polls.{is_done, open_get, Reads, Leaves}
+use Rattle.bb8_gets.specs.Homes.{StepsIn}
+use Rattle.bb8_gets.specs.Told.{answered, tried_told, HandsOutOf}
+use Rattle.bb8_locked.specs.Sections.{returned, OnFit}
+use Rattle.bb8_gets.specs.Polls.{is_done, open_get, Reads, Leaves}
 
 -- The relations of what a pool's lock holds as a home: each step leads from the state that stands there to the next one. What the answer is
 -- follows from that very state, which keeps the limits.

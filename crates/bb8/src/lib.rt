@@ -190,7 +190,6 @@
 mod builder;
 mod connecting;
 pub mod get;
-mod locked;
 mod locks;
 mod machine;
 pub mod pool;
@@ -203,9 +202,10 @@ pub use bb8_core::api::{
     NopCustomizer, NopErrorSink, QueueStrategy, RunError, SetClock, State, Statistics,
 };
 pub use bb8_core::{api, internals, replay};
+pub use bb8_locked::{Parts, PoolParts};
 pub use builder::Builder;
 pub use connecting::{FirstPoll, first_connect};
-pub use locked::{Parts, PoolParts};
+
 pub use locks::Locks;
 pub use machine::MachineClock;
 pub use pool::{Pool, PoolCalls, PooledConnection};

@@ -3,20 +3,21 @@ ghost use Rattle.std.specs.Prelude.{◌≡◌, ◌≤◌, ◌<◌, Bool, true, f
 ghost use Rattle.std.specs.Arc.{arc_value};
 ghost use Rattle.bb8_types.specs.Settings.{settings_of, default_settings, is_lawful};
 ghost use Rattle.bb8_core.specs.StepAnswers.{add_told, Refuses};
-ghost use Rattle.bb8.specs.Parts.{IsBlankOf, HasBegun};
+ghost use Rattle.bb8_locked.specs.Parts.{IsBlankOf, HasBegun};
 ghost use Rattle.bb8.specs.Addings.{IsTold, IsAdding};
 ghost use Rattle.bb8.specs.States.{IsShown};
-ghost use Rattle.bb8.specs.Sections.{returned, OnFit, IsSorted};
+ghost use Rattle.bb8_locked.specs.Sections.{returned, OnFit, IsSorted};
 
 use crate::Builder;
-use crate::get::{Calls, GetFuture, Outside, StartGet, Taken};
-use crate::locked::{Locked, Part, Parts, begin_pool};
+use crate::get::{GetFuture, StartGet};
 use crate::locks::Locks;
 use bb8_core::api::{
     AddError, Clock, Config, CustomizeConnection, ErrorSink, ManageConnection, Memory,
     NopCustomizer, NopErrorSink, SetClock, State,
 };
 use bb8_core::internals::{AddAnswer, PutBackAnswer};
+use bb8_gets::{Calls, Outside, Taken};
+use bb8_locked::{Locked, Part, Parts, begin_pool};
 use std::alloc::Global;
 use std::fmt;
 use std::fmt::{Debug, Formatter};
@@ -210,7 +211,7 @@ impl<
     L: Parts,
 > PoolCalls for &'a Pool<M, S, Z, K, R, L> {
     ghost use Rattle.bb8.specs.Pools.{clock_in, manager_in, settings_in, stage_of, IsOf};
-    ghost use Rattle.bb8.specs.declared.get.state.Stage.TheVariants.{Fresh as IsFresh};
+    ghost use Rattle.bb8_gets.specs.declared.state.Stage.TheVariants.{Fresh as IsFresh};
 
     type Connection = M::Connection;
 

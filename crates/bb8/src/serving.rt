@@ -1,7 +1,7 @@
 //! A service: threads that share a pool for as long as they run.
 ghost use Rattle.std.specs.Prelude.{◌≡◌, ℕ, ⊤, List, Result, IfOk, true, false};
 ghost use Rattle.bb8_types.specs.Settings.{is_lawful};
-ghost use Rattle.bb8.specs.Parts.{IsBlankOf};
+ghost use Rattle.bb8_locked.specs.Parts.{IsBlankOf};
 ghost use Rattle.bb8.specs.Services.{Basis, basis, basis_of, EachTold, IsOutcome};
 
 use crate::locked::PoolParts;

@@ -1,15 +1,12 @@
 //! The future of a get.
 ghost use Rattle.std.specs.Prelude.{◌≡◌};
 
-use super::calls::Calls;
-use super::home::{GetHome, Taken};
-use super::outside::Outside;
-use super::state::{GetState, Stage};
-use crate::locked::{Part, Parts};
 use crate::locks::Locks;
 use crate::pool::{Pool, PooledConnection, Shared};
 use bb8_core::api::{Clock, CustomizeConnection, ErrorSink, ManageConnection, RunError};
 use bb8_core::internals::Reason;
+use bb8_gets::{Calls, GetHome, GetState, Outside, Stage, Taken};
+use bb8_locked::{Part, Parts};
 use futures::Future;
 use futures::task::{Context, Poll};
 use std::sync::Wait;
@@ -71,8 +68,7 @@ impl<M: ManageConnection, S, Z, K: Clock, R: Locks, L: Parts> Gets for Shared<M,
     fn cancel_get(&self, get: GetState<M::Connection, Part<L>>)
         ensures { LinkCancels K.tells self.now get.stage }
     {
-        let GetState { stage, served: _ } = get;
-        match stage {
+        match get.into_stage() {
             Stage::Fresh | Stage::Done => {}
             Stage::Trying(open, _) | Stage::Waiting(open, _) => {
                 let mut calls = Calls::new(&self.manager, &self.clock);
@@ -113,7 +109,7 @@ impl<
     L: Parts,
 > Pool<M, S, Z, K, R, L> {
     ghost use Rattle.bb8.specs.Pools.{stage_of, IsOf};
-    ghost use Rattle.bb8.specs.declared.get.state.Stage.TheVariants.{Fresh as IsFresh};
+    ghost use Rattle.bb8_gets.specs.declared.state.Stage.TheVariants.{Fresh as IsFresh};
 
     /// Gets a connection: an idle one, or the first that comes in the get's turn. As upstream, but for the future's name.
     ///
@@ -148,7 +144,7 @@ impl<
     L: Parts,
 > StartGet for &'a Pool<M, S, Z, K, R, L> {
     ghost use Rattle.bb8.specs.Pools.{stage_of, IsOf};
-    ghost use Rattle.bb8.specs.declared.get.state.Stage.TheVariants.{Fresh as IsFresh};
+    ghost use Rattle.bb8_gets.specs.declared.state.Stage.TheVariants.{Fresh as IsFresh};
 
     type Get = GetFuture<'a, M, S, Z, K, R, L>;
 

@@ -1,5 +1,5 @@
 //! A manager is asked about a connection while the pool answers another thread: no call of it is made under the lock.
-ghost use Rattle.bb8.specs.Parts.{IsBlankOf, unchecked_of};
+ghost use Rattle.bb8_locked.specs.Parts.{IsBlankOf, unchecked_of};
 
 use super::{Refused, Runtime};
 use crate::{

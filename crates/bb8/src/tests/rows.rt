@@ -1,6 +1,6 @@
 //! Worked rows of gets that wait, through a pool. The test plays the driver that opens connections.
 ghost use Rattle.std.specs.Prelude.{Some};
-ghost use Rattle.bb8.specs.Parts.{IsBlankOf, unchecked_of};
+ghost use Rattle.bb8_locked.specs.Parts.{IsBlankOf, unchecked_of};
 ghost use Rattle.bb8_types.specs.declared.api.configuration.QueueStrategy.TheVariants.{Lifo};
 
 use super::{NumberPool, Runtime, SlowManager};

@@ -1,7 +1,7 @@
 use Rattle.std.proofs.Common.{sym, ◌∙◌, rules}
 use Rattle.std.specs.Arc.{arc_value}
 use Rattle.bb8_core.specs.StepAnswers.{add_told}
-use Rattle.bb8.specs.Sections.{returned}
+use Rattle.bb8_locked.specs.Sections.{returned}
 use Rattle.bb8.proofs.pool.RefPoolPoolCalls.add.Goals as goal
 
 pub returns : goal.returns

@@ -1,4 +1,4 @@
-use Rattle.bb8.specs.Parts.{unchecked_of}
+use Rattle.bb8_locked.specs.Parts.{unchecked_of}
 use Rattle.bb8.proofs.tests.rows.cancelled_get_hands_on.Given as goal
 
 abbrev pub ghosts-hands_on-L-Ledger : goal.ghosts-hands_on-L-Ledger

@@ -1,4 +1,4 @@
-use Rattle.bb8.specs.Parts.{unchecked_of}
+use Rattle.bb8_locked.specs.Parts.{unchecked_of}
 use Rattle.bb8.proofs.tests.rows.newer_get_overtakes.Given as goal
 
 abbrev pub ghosts-overtakes-L-Ledger : goal.ghosts-overtakes-L-Ledger

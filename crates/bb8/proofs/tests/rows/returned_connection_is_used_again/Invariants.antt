@@ -1,5 +1,5 @@
 use Rattle.std.specs.Prelude.{Some}
-use Rattle.bb8.specs.Parts.{unchecked_of}
+use Rattle.bb8_locked.specs.Parts.{unchecked_of}
 use Rattle.bb8_types.specs.declared.api.configuration.QueueStrategy.TheVariants.{Lifo}
 use Rattle.bb8.proofs.tests.rows.returned_connection_is_used_again.Given as goal
 

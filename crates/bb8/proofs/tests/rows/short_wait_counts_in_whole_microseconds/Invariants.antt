@@ -1,5 +1,5 @@
 use Rattle.std.specs.Prelude.{Some}
-use Rattle.bb8.specs.Parts.{unchecked_of}
+use Rattle.bb8_locked.specs.Parts.{unchecked_of}
 use Rattle.bb8.proofs.tests.rows.short_wait_counts_in_whole_microseconds.Given as goal
 
 abbrev pub ghosts-waits_shortly-L-Ledger : goal.ghosts-waits_shortly-L-Ledger

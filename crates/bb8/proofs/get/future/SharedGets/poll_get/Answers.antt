@@ -1,5 +1,5 @@
 use Rattle.std.proofs.Common.{◌≡◌, false, sym, ◌∙◌}
-use Rattle.bb8.specs.Polls.{is_done}
+use Rattle.bb8_gets.specs.Polls.{is_done}
 use Rattle.bb8.proofs.get.future.SharedGets.poll_get.Goals as goal
 
 pub returns : goal.returns

@@ -1,0 +1,13 @@
+//! A get that is polled: its states, and its polls over any home and any calls outside.
+#![tactic(auto)]
+
+mod calls;
+mod home;
+mod outside;
+mod plain;
+mod state;
+
+pub use calls::Calls;
+pub use home::{GetHome, Taken, Tried, Unfit};
+pub use outside::Outside;
+pub use state::{GetState, Next, Stage};

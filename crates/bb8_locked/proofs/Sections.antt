@@ -1,0 +1,129 @@
+-- What holds of the sections of a pool.
+use Rattle.std.proofs.Common.{◌≡◌, ℕ, ◌+◌, ◌≤◌, Bool, true, false, None, refl, sym, ap, ◌∙◌, arith}
+use Rattle.bb8_core.specs.declared.answers.GiveUpAnswer.{GiveUpAnswer}
+use Rattle.bb8_core.specs.declared.answers.GiveUpAnswer.TheVariants.{GaveUp}
+use Rattle.bb8_core.specs.declared.answers.PutBackAnswer.{PutBackAnswer}
+use Rattle.bb8_core.specs.declared.answers.PutBackAnswer.TheVariants.{Kept, Closed}
+use Rattle.bb8_core.specs.declared.answers.AddAnswer.{AddAnswer}
+use Rattle.bb8_core.specs.declared.answers.AddAnswer.TheVariants as adding
+use Rattle.bb8_types.specs.declared.api.configuration.Config.{Config}
+use Rattle.bb8_types.specs.declared.grants.Grant.{Grant}
+use Rattle.bb8_types.specs.Settings.{Settings, settings_of, is_lawful}
+use Rattle.bb8_ledger.specs.Acts.{Act, GiveUp, PutBack, Fill, Add, Reason}
+use Rattle.bb8_ledger.specs.Answers.{Answer, Broken, Granted, Unfit}
+use Rattle.bb8_ledger.specs.Ledger.{Ledger, Later}
+use Rattle.bb8_core.specs.StepAnswers.{give_up_told, put_back_told, add_told}
+use Rattle.bb8_ledger.specs.Table.{takes, IsLegal, Row, add_broken, add_full, add_exhausted, add_refused, adds}
+use Rattle.bb8_core.specs.Shown.{Shown, Means, Meets, IsFitting, HasLedger, IsWithinLimits}
+use Rattle.bb8_core.specs.Run.{opening}
+use Rattle.bb8_locked.specs.Sections.{IsSorted}
+use Rattle.bb8_core.specs.Parts.{out_of, Moves}
+use Rattle.bb8_core.proofs.Parts.{counted}
+use Rattle.bb8_ledger.proofs.Effects.{by_fit}
+use Rattle.bb8_core.proofs.Runs.{unfit_now}
+use Rattle.bb8_ledger.proofs.Laws.{keeps_limits, keeps_laws, keeps_promises}
+
+-- an answer that a connection was refused as broken
+abbrev refuses_broken : Answer → Bool
+refuses_broken Broken = true
+refuses_broken _ = false
+
+module _ {C : Type 0} where
+  -- Such an event is taken on each legal ledger that the state means, or on none.
+  abbrev pub Says : Shown C → Act C → Bool → Type 0
+  Says s e b = (l : Ledger C) → IsLegal l → Means l s → b ≡ takes l e
+
+  pub fitting : (s : Shown C) (e : Act C) → Says s e true → IsFitting s e
+  fitting s e says = λ l legal means. sym (says l legal means)
+
+  pub unfit_step : (s : Shown C) (at : ℕ) (e : Act C) → Says s e false → Meets s at e Unfit s
+  unfit_step s at e says = λ l legal means. unfit_now l s at e (sym (says l legal means)) means
+
+  -- a step leads to a state that has a ledger
+  pub follows : (s new : Shown C) (at : ℕ) (e : Act C) (a : Answer) → HasLedger s → Meets s at e a new → HasLedger new
+  follows s new at e a h m = let step = m h.0 h.1 h.2 in (Later h.0 at e a, (h.1, step.0), step.1)
+
+  -- whatever has a ledger keeps the limits
+  pub within : (s : Shown C) → HasLedger s → IsWithinLimits s
+  within s h = (h, λ l legal means. (keeps_limits l legal, keeps_laws l legal, keeps_promises l legal))
+
+  -- a step that moves nothing leaves the parts as they are
+  pub unmoved : (old new : Shown C) (at : ℕ) (e : Act C) (a : Answer) (rest : ℕ) → HasLedger old → Meets old at e a new
+      → (Moves e a (out_of old) (out_of new) → out_of new ≡ out_of old) → out_of old + rest ≡ old.config.max_size
+      → out_of new + rest ≡ new.config.max_size
+  unmoved old new at e a rest h meets same parts =
+      let k = counted old at e a new h meets in
+      let size : new.config.max_size ≡ old.config.max_size = ap (λ (c : Settings). c.max_size) k.config in
+      let moved : out_of new ≡ out_of old = same k.moves in
+      omega (arith, moved, size, parts)
+
+  -- no step changes the settings
+  pub kept_settings : (old new : Shown C) (at : ℕ) (e : Act C) (a : Answer) (settings : Settings) → HasLedger old → Meets old at e a new → old.config ≡ settings → new.config ≡ settings
+  kept_settings old new at e a settings h meets is = (counted old at e a new h meets).config ∙ is
+
+  -- where one more goes out there is a part for it
+  pub has_part : (old new : Shown C) (at : ℕ) (e : Act C) (a : Answer) (rest : ℕ) → HasLedger old → Meets old at e a new
+      → (Moves e a (out_of old) (out_of new) → out_of new ≡ out_of old + 1) → out_of old + rest ≡ old.config.max_size → 1 ≤ rest
+  has_part old new at e a rest h meets more parts =
+      let k = counted old at e a new h meets in
+      let size : new.config.max_size ≡ old.config.max_size = ap (λ (c : Settings). c.max_size) k.config in
+      let moved : out_of new ≡ out_of old + 1 = more k.moves in
+      omega (arith, moved, size, parts, k.few)
+
+  -- one more goes out with a part
+  pub gone_out : (old new : Shown C) (at : ℕ) (e : Act C) (a : Answer) (rest less : ℕ) → HasLedger old → Meets old at e a new
+      → (Moves e a (out_of old) (out_of new) → out_of new ≡ out_of old + 1) → out_of old + rest ≡ old.config.max_size → less + 1 ≡ rest
+      → out_of new + less ≡ new.config.max_size
+  gone_out old new at e a rest less h meets more parts split =
+      let k = counted old at e a new h meets in
+      let size : new.config.max_size ≡ old.config.max_size = ap (λ (c : Settings). c.max_size) k.config in
+      let moved : out_of new ≡ out_of old + 1 = more k.moves in
+      omega (arith, moved, size, parts, split)
+
+  -- one comes back with its part
+  pub come_back : (old new : Shown C) (at : ℕ) (e : Act C) (a : Answer) (rest : ℕ) → HasLedger old → Meets old at e a new
+      → (Moves e a (out_of old) (out_of new) → out_of new + 1 ≡ out_of old) → out_of old + rest ≡ old.config.max_size
+      → out_of new + (rest + 1) ≡ new.config.max_size
+  come_back old new at e a rest h meets less parts =
+      let k = counted old at e a new h meets in
+      let size : new.config.max_size ≡ old.config.max_size = ap (λ (c : Settings). c.max_size) k.config in
+      let moved : out_of new + 1 ≡ out_of old = less k.moves in
+      omega (arith, moved, size, parts)
+
+  -- a return brings one back
+  pub put_it_back : (k : ℕ) (c : C) (b : Bool) (answer : PutBackAnswer C) (before after : ℕ) → Moves (PutBack k c b) (put_back_told k answer) before after → after + 1 ≡ before
+  put_it_back k c b (Kept n) before after moves = moves
+  put_it_back k c b (Closed conn grant n) before after moves = moves
+
+  -- an adding is refused as broken just where the connection is broken
+  add_row : (l : Ledger C) (at : ℕ) (c : C) (b : Bool) (a : Answer) → Row l at (Add c b) a → refuses_broken a ≡ b
+  add_row l at c _ _ add_broken = refl
+  add_row l at c _ _ (add_full full) = refl
+  add_row l at c _ _ (add_exhausted room many) = refl
+  add_row l at c _ _ (add_refused room few full) = refl
+  add_row l at c _ _ (adds room few is who) = refl
+
+  sorted_as : (answer : AddAnswer C) (b : Bool) → refuses_broken (add_told answer) ≡ b → IsSorted b answer
+  sorted_as (adding.Added k n) b is = sym is
+  sorted_as (adding.Broken c) b is = sym is
+  sorted_as (adding.NoCapacity c) b is = sym is
+  sorted_as (adding.Withheld c) b is = sym is
+
+  pub add_sorted : (old new : Shown C) (at : ℕ) (c : C) (b : Bool) (answer : AddAnswer C) → HasLedger old → Says old (Add c b) true → Meets old at (Add c b) (add_told answer) new → IsSorted b answer
+  add_sorted old new at c b answer h says meets =
+      sorted_as answer b
+      (by_fit (takes h.0 (Add c b)) _ _ (refuses_broken (add_told answer) ≡ b) (meets h.0 h.1 h.2).0
+      (λ f row. add_row h.0 at c b (add_told answer) row)
+      (λ f is. absurd (let clash : true ≡ false = says h.0 h.1 h.2 ∙ f in cc)))
+
+  -- a new state has nothing out, also once its first approvals are granted
+  pub none_out : (config : Config) (first first_get : ℕ) (old new : Shown C) (at : ℕ) (claimed : Bool) (grant : Grant)
+      → is_lawful (settings_of config) ≡ true → Means (opening config first first_get) old → Meets old at (Fill claimed) (Granted grant) new
+      → out_of new ≡ 0
+  none_out config first first_get old new at claimed grant lawful means meets =
+      let k = counted old at (Fill claimed) (Granted grant) new (opening config first first_get, lawful, means) meets in
+      k.moves ∙ ap out_of (sym means)
+
+-- a give-up without a connection moves nothing
+pub gave_up : (C : Type 0) (g : ℕ) (why : Reason) (b : Bool) (answer : GiveUpAnswer) (before after : ℕ) → Moves {C = C} (GiveUp g why None b) (give_up_told answer) before after → after ≡ before
+gave_up C g why b (GaveUp n) before after moves = moves

@@ -1,0 +1,284 @@
+//! What the lock of a pool holds, and the sections: what is done to it under one taking of the lock.
+//!
+//! A section is lent the state. Where its event fits it takes one step; where it does not, as no code of this crate brings about, it
+//! answers `Unfit` and changes nothing. No manager, customizer, sink or clock is called here.
+ghost use Rattle.std.specs.Prelude.{◌≡◌, ◌+◌, ◌<◌, ◌≤◌, None, true, false, IfOk};
+ghost use Rattle.bb8_ledger.specs.Acts as acts;
+ghost use Rattle.bb8_ledger.specs.Answers as answers;
+ghost use Rattle.bb8_types.specs.Figures.{figures_of};
+ghost use Rattle.bb8_types.specs.Settings.{Settings, default_settings, is_lawful, settings_of};
+ghost use Rattle.bb8_locked.specs.Parts.{Begins, IsBlankOf};
+ghost use Rattle.bb8_core.specs.StepAnswers.{begin_told, reason_of, give_up_told, put_back_told, claim_told, opened_told, add_told, look_told, GivesBack, HandsBack, Refuses};
+ghost use Rattle.bb8_core.specs.Parts.{out_of};
+ghost use Rattle.bb8_core.specs.Shown.{IsWithinLimits};
+
+use bb8_gets::{GetHome, Taken, Tried, Unfit};
+use bb8_core::api::{Config, Memory, Moment, State};
+use bb8_core::internals::{
+    AddAnswer, AtOnce, BeginAnswer, ClaimAnswer, GetKey, GiveUpAnswer, Grant, Key, Looked,
+    OpenedAnswer, PoolInternals, PutBackAnswer, Reason, TryAnswer,
+};
+use std::alloc::Global;
+use std::marker::Brand;
+use std::sync::ledger::{Blank, Ledger, Share, Total};
+
+/// The parts by which the connections of one pool are counted, as many as its `max_size`, and the settings of that pool. They tie what the
+/// lock holds to what stands beside the lock: of one pool's parts there is one value of settings. Our own.
+pub trait Parts: Ledger {
+    // The settings of the pool that the parts are of.
+    ghost settings: { Settings };
+}
+
+impl Parts for Brand {
+    ghost settings = { default_settings };
+}
+
+/// The parts of a pool that threads share. A program names `Brand`. Our own.
+pub trait PoolParts: Parts + Send + Sync {}
+
+impl PoolParts for Brand {}
+
+/// What the lock holds: the state, which has the pool's settings, and the parts that go with no connection. Each connection that is out has
+/// one part with it, so parts and connections out are together as many as `max_size`.
+#[derive(Drop)]
+pub struct Locked<C, L: Parts> {
+    core: PoolInternals<C>,
+    rest: Share<L>,
+    ghost parts: { out_of core + rest.parts ≡ core.config.max_size },
+    ghost amount: { rest.amount ≡ rest.parts },
+    ghost settled: { core.config ≡ L.settings },
+}
+
+/// One of the parts. It cannot be let go but by a section that takes it back.
+pub struct Part<L: Ledger> {
+    pub share: Share<L>,
+    ghost one: { share.parts ≡ 1 },
+    ghost counts: { share.amount ≡ 1 },
+}
+
+/// Lays out the parts of a new pool beside its state, which has nothing out; the total says how many there are.
+fn lay_out_parts<C: Drop, L: Parts>(
+    core: PoolInternals<C>,
+    blank: Blank,
+    max_size: u32,
+) -> (Total<L>, Locked<C, L>)
+    requires parts { IsBlankOf blank core.config L.name L.parts L.settings }
+    requires same { core.config.max_size ≡ max_size }
+    requires some { 0 < max_size }
+    requires none_out { out_of core ≡ 0 }
+    ensures total { result.0.amount ≡ max_size }
+    ensures state { result.1.core ≡ core }
+{
+    let (mut book, mut rest) = blank.open::<L>();
+    book.add(&mut rest, max_size as u64);
+    (book.close(), Locked { core, rest })
+}
+
+/// What the lock of a new pool holds: the state with the pool's settings, its first approvals, which nobody has claimed, and its parts. It
+/// fails where memory for an approval is refused.
+pub fn begin_pool<C: Drop, L: Parts>(
+    alloc: Global,
+    config: Config,
+    at: Moment,
+    blank: Blank,
+) -> Result<(Total<L>, Locked<C, L>), Memory>
+    requires lawful { is_lawful (settings_of config) ≡ true }
+    requires parts { IsBlankOf blank (settings_of config) L.name L.parts L.settings }
+    ensures total { IfOk result (λ r. r.0.amount ≡ config.max_size) }
+    ensures first { IfOk result (λ r. Begins (settings_of config) at.0 r.1.core) }
+{
+    let mut core = PoolInternals::new(alloc, config);
+    let granted = core.fill(at, false);
+    if granted.withheld > 0 {
+        return Err(Memory);
+    }
+    Ok(lay_out_parts(core, blank, config.max_size))
+}
+
+impl<C: Drop, L: Parts> Locked<C, L> {
+    ghost use Rattle.bb8_gets.specs.Homes.{StepsIn};
+    ghost use Rattle.bb8_locked.specs.Sections.{returned, OnFit, IsSorted};
+
+    /// What holds of the state, whoever holds the lock. It does nothing.
+    fn limits(&self)
+        ensures limits { IsWithinLimits self.now.core }
+        ensures settings { self.now.core.config ≡ L.settings }
+    {
+        self.core.limits();
+    }
+
+    /// Takes back a connection that was out, and its part. Where that does not fit, the connection comes back as the error, and its part
+    /// is gone.
+    pub fn put_back(
+        &mut self,
+        at: Moment,
+        taken: Taken<C, Part<L>>,
+        broken: bool,
+    ) -> Result<PutBackAnswer<C>, C>
+        ensures step { StepsIn L.settings self.old.core at.0
+            (acts.PutBack taken.key.number taken.connection broken)
+            (returned (put_back_told taken.key.number) result) self.new.core }
+        ensures connection { OnFit (GivesBack taken.connection) (λ c. c ≡ taken.connection) result }
+    {
+        self.limits();
+        let Locked { core, rest, .. } = self;
+        let Taken {
+            key,
+            connection,
+            part,
+        } = taken;
+        let Part { share } = part;
+        if !core.fits_put_back(key) {
+            drop(share);
+            return Err(connection);
+        }
+        let answer = core.put_back(at, key, connection, broken);
+        rest.merge(share);
+        Ok(answer)
+    }
+
+    /// Adds a connection that no approval brought. Where that does not fit, the connection comes back as the error.
+    pub fn add(&mut self, at: Moment, conn: C, broken: bool) -> Result<AddAnswer<C>, C>
+        ensures step { StepsIn L.settings self.old.core at.0 (acts.Add conn broken)
+            (returned add_told result) self.new.core }
+        ensures connection { OnFit (Refuses conn) (λ same. same ≡ conn) result }
+        ensures sorted { IfOk result (λ answer. IsSorted broken answer) }
+    {
+        self.limits();
+        let Locked { core, .. } = self;
+        if !core.fits_add() {
+            return Err(conn);
+        }
+        Ok(core.add(at, conn, broken))
+    }
+
+    /// Claims the unclaimed approval of the least number, for whoever opens its connection.
+    pub fn claim(&mut self, at: Moment) -> ClaimAnswer
+        ensures { StepsIn L.settings self.old.core at.0 acts.Claim
+            (claim_told result) self.new.core }
+    {
+        self.limits();
+        let Locked { core, .. } = self;
+        core.claim(at)
+    }
+
+    /// Makes idle the connection that a claimed approval brought. Where that does not fit, the connection comes back as the error.
+    pub fn opened(
+        &mut self,
+        at: Moment,
+        approval: Key,
+        conn: C,
+    ) -> Result<OpenedAnswer<C>, C>
+        ensures step { StepsIn L.settings self.old.core at.0 (acts.Opened approval.number conn)
+            (returned (opened_told approval.number) result) self.new.core }
+        ensures connection { OnFit (HandsBack conn) (λ same. same ≡ conn) result }
+    {
+        self.limits();
+        let Locked { core, .. } = self;
+        if !core.fits_opened(approval) {
+            return Err(conn);
+        }
+        Ok(core.opened(at, approval, conn))
+    }
+
+    /// What the pool tells of itself.
+    pub fn state(&mut self, at: Moment) -> State
+        ensures step { StepsIn L.settings self.old.core at.0 acts.State
+            (answers.Shown (figures_of result)) self.new.core }
+        ensures size { result.connections ≤ L.settings.max_size }
+        ensures idle { result.idle_connections ≤ result.connections }
+    {
+        self.limits();
+        let Locked { core, .. } = self;
+        core.state(at)
+    }
+}
+
+/// What a pool's lock holds as a home: a poll holds the lock for all its steps, and each leads from the state that stands there to the
+/// next one. A connection goes out with one of the parts.
+impl<C: Drop, L: Parts> GetHome<C> for Locked<C, L> {
+    ghost use Rattle.bb8_gets.specs.Homes.{StepsIn};
+    ghost use Rattle.bb8_gets.specs.Told.{answered, tried_told, HandsOutOf};
+
+    type Part = Part<L>;
+
+    ghost looks = { λ h at seen h'. StepsIn L.settings h.core at.0 acts.Look (look_told seen) h'.core };
+
+    ghost begins = { λ h at b h'. StepsIn L.settings h.core at.0 acts.Begin (answered begin_told b) h'.core };
+
+    ghost tries = { λ h at get t h'. StepsIn L.settings h.core at.0 (acts.Try get.number) (tried_told t) h'.core × HandsOutOf h.core t };
+
+    ghost gives_up = { λ h at get reason a h'. StepsIn L.settings h.core at.0 (acts.GiveUp get.number (reason_of reason) None false) (answered give_up_told a) h'.core };
+
+    fn look(&mut self, at: Moment) -> Looked {
+        self.limits();
+        let Locked { core, .. } = self;
+        core.look(at)
+    }
+
+    /// It is served at once where that takes no memory.
+    fn serve(&mut self, at: Moment) -> Option<(Taken<C, Part<L>>, Grant)> {
+        self.limits();
+        let Locked { core, rest, .. } = self;
+        if !core.fits_at_once() {
+            return None;
+        }
+        match core.serve_at_once(at) {
+            None => None,
+            Some(
+                AtOnce {
+                    key,
+                    conn,
+                    grant,
+                    ..
+                },
+            ) => {
+                let one = rest.split_off(1, 1);
+                let taken = Taken {
+                    key,
+                    connection: conn,
+                    part: Part { share: one },
+                };
+                Some((taken, grant))
+            }
+        }
+    }
+
+    fn begin(&mut self, at: Moment) -> Result<BeginAnswer, Unfit> {
+        self.limits();
+        let Locked { core, .. } = self;
+        if !core.fits_begin() {
+            return Err(Unfit);
+        }
+        Ok(core.begin(at))
+    }
+
+    fn try_get(&mut self, at: Moment, get: GetKey) -> Result<Tried<C, Part<L>>, Unfit> {
+        self.limits();
+        let Locked { core, rest, .. } = self;
+        if !core.fits_try(get) {
+            return Err(Unfit);
+        }
+        match core.try_get(at, get) {
+            TryAnswer::Waiting(grant) => Ok(Tried::Waiting(grant)),
+            TryAnswer::Served(key, connection, grant) => {
+                let share = rest.split_off(1, 1);
+                let taken = Taken {
+                    key,
+                    connection,
+                    part: Part { share },
+                };
+                Ok(Tried::Served(taken, grant))
+            }
+        }
+    }
+
+    fn give_up(&mut self, at: Moment, get: GetKey, reason: Reason) -> Result<GiveUpAnswer, Unfit> {
+        self.limits();
+        let Locked { core, .. } = self;
+        if !core.fits_give_up(get) {
+            return Err(Unfit);
+        }
+        Ok(core.give_up(at, get, reason, None, false))
+    }
+}
