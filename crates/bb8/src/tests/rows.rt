@@ -3,7 +3,7 @@ ghost use Rattle.std.specs.Prelude.{Some};
 ghost use Rattle.bb8_locked.specs.Parts.{IsBlankOf, unchecked_of};
 ghost use Rattle.bb8_types.specs.declared.api.configuration.QueueStrategy.TheVariants.{Lifo};
 
-use super::{NumberPool, Runtime, SlowManager};
+use super::{NumberPool, Runtime, Numbers};
 use crate::{Builder, Clock, Memory, Moment, PoolParts, QueueStrategy, SetClock};
 use bb8_core::internals::{ClaimAnswer, OpenedAnswer};
 use futures::task::Poll;
@@ -38,7 +38,7 @@ fn overtakes<R: Runtime, L: PoolParts>(rt: R, blank: Blank) -> Result<(), Memory
     let pool: NumberPool<R, L> = Builder::new()
         .max_size(1)
         .test_on_check_out(false)
-        .build_unchecked(SlowManager, clock, rt, blank)?;
+        .build_unchecked(Numbers, clock, rt, blank)?;
     let Ok(task) = MockTask::new(&rt) else {
         return Err(Memory);
     };
@@ -79,7 +79,7 @@ fn hands_on<R: Runtime, L: PoolParts>(rt: R, blank: Blank) -> Result<(), Memory>
     let pool: NumberPool<R, L> = Builder::new()
         .max_size(1)
         .test_on_check_out(false)
-        .build_unchecked(SlowManager, clock, rt, blank)?;
+        .build_unchecked(Numbers, clock, rt, blank)?;
     let Ok(task) = MockTask::new(&rt) else {
         return Err(Memory);
     };
@@ -119,7 +119,7 @@ fn waits_shortly<R: Runtime, L: PoolParts>(rt: R, blank: Blank) -> Result<(), Me
         .max_size(1)
         .min_idle(Some(1))
         .test_on_check_out(false)
-        .build_unchecked(SlowManager, clock.try_clone()?, rt, blank)?;
+        .build_unchecked(Numbers, clock.try_clone()?, rt, blank)?;
     let Ok(task) = MockTask::new(&rt) else {
         return Err(Memory);
     };
@@ -156,7 +156,7 @@ fn uses_again<R: Runtime, L: PoolParts>(rt: R, blank: Blank) -> Result<(), Memor
         .min_idle(Some(0))
         .queue_strategy(QueueStrategy::Lifo)
         .test_on_check_out(false)
-        .build_unchecked(SlowManager, clock, rt, blank)?;
+        .build_unchecked(Numbers, clock, rt, blank)?;
     let Ok(task) = MockTask::new(&rt) else {
         return Err(Memory);
     };

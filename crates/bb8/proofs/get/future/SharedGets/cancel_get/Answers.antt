@@ -1,4 +1,4 @@
-use Rattle.std.proofs.Common.{Some, inl, inr}
+use Rattle.std.proofs.Common.{Some, inl, inr, sym, ◌∙◌}
 use Rattle.bb8.specs.Linked.{LinkLeaves}
 use Rattle.bb8.proofs.get.future.SharedGets.cancel_get.Goals as goal
 
@@ -12,4 +12,5 @@ returns-in-Trying g c =
       (c.new-calls.ensures.manager, c.new-calls.ensures.clock),
       (c.now-at.result, c.now-at.ensures, (c.give_up.result, c.give_up.ensures)),
     ) in
-    elim c.in-Trying.is [ inl w ↦ rw w.1 left | inr w ↦ rw w.1 left ]
+    let stood = sym c.into_stage.ensures in
+    elim c.in-Trying.is [ inl w ↦ rw (stood ∙ w.1) left | inr w ↦ rw (stood ∙ w.1) left ]

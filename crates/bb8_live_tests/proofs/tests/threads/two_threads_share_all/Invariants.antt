@@ -1,0 +1,8 @@
+use Rattle.bb8_locked.specs.Parts.{unchecked_of}
+use Rattle.bb8_live_tests.proofs.tests.threads.two_threads_share_all.Given as goal
+
+abbrev pub ghosts-shares_all-L-Ledger : goal.ghosts-shares_all-L-Ledger
+ghosts-shares_all-L-Ledger g a = record { name = a.blank.name; parts = a.blank.parts }
+
+abbrev pub ghosts-shares_all-L-Parts : goal.ghosts-shares_all-L-Parts
+ghosts-shares_all-L-Parts g a = record { settings = unchecked_of 3 }

@@ -1,0 +1,299 @@
+//! What the tests share; every setter and every error once, and each trait implemented once and called through its bound.
+ghost use Rattle.std.specs.Prelude.{◌≡◌, ◌<◌, ◌==◌};
+ghost use Rattle.futures.specs.declared.task.Poll.TheVariants.{Pending};
+
+mod clocks;
+mod future;
+mod gates;
+mod get;
+mod pool;
+mod serving;
+mod threads;
+
+use bb8::{
+    AddError, Builder, Clock, Config, CustomizeConnection, ErrorSink, FirstPoll, ManageConnection,
+    Memory, Moment, NopCustomizer, NopErrorSink, Pool, QueueStrategy, RunError, SetClock,
+    first_connect,
+};
+use futures::task::Poll;
+use std::error::Error;
+use std::fmt;
+use std::process::Abort;
+use std::random::RandomSource;
+use std::sync::Wait;
+use std::test::Fail;
+use std::time::Duration;
+
+/// What a test of a pool asks of its runtime.
+trait Runtime: Abort + Wait + RandomSource + AllocGlobal + Copy + Send + Sync + Drop + 'static {}
+
+impl<R: Abort + Wait + RandomSource + AllocGlobal + Copy + Send + Sync + Drop + 'static> Runtime
+    for R {}
+
+/// A pool whose connections are numbers.
+type NumberPool<R, L> = Pool<SlowManager, NopErrorSink, NopCustomizer, SetClock, R, L>;
+
+/// Opens connection 7 at the moment 5, finds even connections valid, and calls 0 broken.
+#[derive(Drop)]
+struct SlowManager;
+
+#[derive(Clone, Copy, Debug, PartialEq, Eq)]
+struct Refused(u8);
+
+impl fmt::Display for Refused {
+    fn fmt<W: fmt::Write>(&self, f: &mut fmt::Formatter<W>) -> fmt::Result {
+        write!(f, "error {}", self.0)
+    }
+}
+
+impl Error for Refused {}
+
+impl ManageConnection for SlowManager {
+    type Connection = u64;
+
+    type Error = Refused;
+
+    type Connecting = ();
+
+    type Checking = ();
+
+    ghost connect_answers = { λ _ _ moment answer _. moment.0 < 5 → answer ≡ Pending };
+
+    ghost breaks = { λ _ connection answer after. (answer ≡ (connection == 0)) × (after ≡ connection) };
+
+    fn connect(&self) {}
+
+    fn poll_connect(&self, _connecting: &mut (), moment: Moment) -> Poll<Result<u64, Refused>> {
+        if moment.0 < 5 {
+            return Poll::Pending;
+        }
+        Poll::Ready(Ok(7))
+    }
+
+    fn is_valid(&self, _connection: &mut u64) {}
+
+    fn poll_valid(
+        &self,
+        connection: &mut u64,
+        _checking: &mut (),
+        _moment: Moment,
+    ) -> Poll<Result<(), Refused>> {
+        let valid = *connection % 2 == 0;
+        Poll::Ready(if valid { Ok(()) } else { Err(Refused(1)) })
+    }
+
+    fn has_broken(&self, connection: &mut u64) -> bool {
+        *connection == 0
+    }
+}
+
+/// Adds one to each connection.
+#[derive(Clone, Copy)]
+struct AddsOne;
+
+impl CustomizeConnection<u64, Refused> for AddsOne {
+    type Acquiring = ();
+
+    fn on_acquire(&self, _connection: &mut u64) {}
+
+    fn poll_acquire(
+        &self,
+        connection: &mut u64,
+        _acquiring: &mut (),
+        _moment: Moment,
+    ) -> Poll<Result<(), Refused>> {
+        *connection = connection.saturating_add(1);
+        Poll::Ready(Ok(()))
+    }
+}
+
+#[derive(Clone, Copy)]
+struct OtherSink;
+
+impl ErrorSink<Refused> for OtherSink {
+    fn sink(&self, _error: Refused) {}
+}
+
+#[derive(Drop)]
+struct StoppedClock(Moment);
+
+impl Clock for StoppedClock {
+    fn now(&self) -> Moment {
+        self.0
+    }
+}
+
+/// A connection with neither `Display` nor `Debug`.
+#[derive(Drop)]
+struct Plain;
+
+fn check_defaults(rt: &impl Abort, config: Config) {
+    assert_eq!(rt; config.max_size, 10);
+    assert_eq!(rt; config.min_idle, None);
+    assert!(rt; config.test_on_check_out);
+    assert_eq!(rt; config.max_lifetime, Some(Duration::from_secs(1800)));
+    assert_eq!(rt; config.idle_timeout, Some(Duration::from_secs(600)));
+    assert_eq!(rt; config.connection_timeout, Duration::from_secs(30));
+    assert!(rt; config.retry_connection);
+    assert_eq!(rt; config.reaper_rate, Duration::from_secs(30));
+    assert_eq!(rt; config.queue_strategy, QueueStrategy::Fifo);
+    assert!(rt; config.is_lawful());
+}
+
+#[test]
+fn defaults(rt: HostRuntime) {
+    check_defaults(&rt, Config::from(&Builder::<SlowManager>::new()));
+    check_defaults(&rt, Config::from(&Builder::<SlowManager>::default()));
+}
+
+#[test]
+fn sets_all(rt: HostRuntime) {
+    let builder = Builder::<SlowManager>::new()
+        .max_size(3)
+        .min_idle(Some(2))
+        .test_on_check_out(false)
+        .max_lifetime(Some(Duration::from_secs(60)))
+        .idle_timeout(None)
+        .connection_timeout(Duration::from_millis(1500))
+        .retry_connection(false)
+        .reaper_rate(Duration::from_secs(5))
+        .queue_strategy(QueueStrategy::Lifo)
+        .error_sink(OtherSink)
+        .connection_customizer(AddsOne);
+    let config = Config::from(&builder);
+    assert_eq!(rt; config.max_size, 3);
+    assert_eq!(rt; config.min_idle, Some(2));
+    assert!(rt; !config.test_on_check_out);
+    assert_eq!(rt; config.max_lifetime, Some(Duration::from_secs(60)));
+    assert_eq!(rt; config.idle_timeout, None);
+    assert_eq!(rt; config.connection_timeout, Duration::from_millis(1500));
+    assert!(rt; !config.retry_connection);
+    assert_eq!(rt; config.reaper_rate, Duration::from_secs(5));
+    assert_eq!(rt; config.queue_strategy, QueueStrategy::Lifo);
+    assert!(rt; config.is_lawful());
+}
+
+#[test]
+fn prints_errors(rt: HostRuntime) -> Result<(), Fail> {
+    let run_errors = [
+        (RunError::from(Refused(3)), "error 3"),
+        (RunError::TimedOut, "Timed out in bb8"),
+        (RunError::Memory, "No memory in bb8"),
+        (RunError::Exhausted, "Numbers used up in bb8"),
+    ];
+    for (error, text) in &run_errors {
+        assert_eq!(rt; format!(in rt.alloc(); "{error}")?.as_str(), *text);
+    }
+    let add_errors = [
+        (
+            AddError::Broken(Plain),
+            "The connection was broken before it could be added",
+        ),
+        (
+            AddError::NoCapacity(Plain),
+            "Unable to add the connection to the pool due to insufficient capacity",
+        ),
+        (
+            AddError::Withheld(Plain),
+            "No memory or number to add the connection",
+        ),
+    ];
+    for (error, text) in &add_errors {
+        assert_eq!(rt; format!(in rt.alloc(); "{error}")?.as_str(), *text);
+    }
+    assert_eq!(rt;
+        format!(in rt.alloc(); "{Memory}")?.as_str(),
+        "No memory in bb8"
+    );
+    Ok(())
+}
+
+#[test]
+fn equal_errors(rt: HostRuntime) {
+    let errors = [
+        RunError::User(Refused(3)),
+        RunError::User(Refused(4)),
+        RunError::TimedOut,
+        RunError::Memory,
+        RunError::Exhausted,
+    ];
+    for (i, error) in errors.iter().enumerate() {
+        for (j, other) in errors.iter().enumerate() {
+            assert_eq!(rt; error == other, i == j, "at {i} and {j}");
+        }
+    }
+    let refused = [
+        AddError::Broken(5),
+        AddError::Broken(6),
+        AddError::NoCapacity(5),
+        AddError::Withheld(5),
+    ];
+    for (i, error) in refused.iter().enumerate() {
+        for (j, other) in refused.iter().enumerate() {
+            assert_eq!(rt; error == other, i == j, "at {i} and {j}");
+        }
+    }
+}
+
+/// The connection that a manager opens at a moment and a customizer prepares, and the error that came instead, which goes to a sink.
+fn opened<M, S, Z, K>(manager: &M, sink: &S, customizer: &Z, clock: &K) -> Option<M::Connection>
+where
+    M: ManageConnection,
+    S: ErrorSink<M::Error>,
+    Z: CustomizeConnection<M::Connection, M::Error>,
+    K: Clock,
+{
+    let moment = clock.now();
+    let FirstPoll { answer, .. } = first_connect(manager, moment);
+    let mut connection = match answer {
+        Poll::Ready(Ok(connection)) => connection,
+        Poll::Ready(Err(error)) => {
+            sink.sink(error);
+            return None;
+        }
+        Poll::Pending => return None,
+    };
+    let mut acquiring = customizer.on_acquire(&mut connection);
+    match customizer.poll_acquire(&mut connection, &mut acquiring, moment) {
+        Poll::Ready(Ok(())) => {}
+        Poll::Ready(Err(error)) => {
+            sink.sink(error);
+            return None;
+        }
+        Poll::Pending => return None,
+    }
+    let mut checking = manager.is_valid(&mut connection);
+    match manager.poll_valid(&mut connection, &mut checking, moment) {
+        Poll::Ready(Ok(())) if !manager.has_broken(&mut connection) => Some(connection),
+        _ => None,
+    }
+}
+
+/// What a first poll before the moment 5 answers: the manager's own relation tells it to a caller of `first_connect`.
+fn early_answer(moment: Moment) -> Poll<Result<u64, Refused>>
+    requires { moment.0 < 5 }
+    ensures { result ≡ Pending }
+{
+    let FirstPoll { answer, .. } = first_connect(&SlowManager, moment);
+    answer
+}
+
+#[test]
+fn opens_by_hand(rt: HostRuntime) {
+    let early = StoppedClock(Moment(4));
+    let late = StoppedClock(Moment(5));
+    assert_eq!(rt; early_answer(Moment(4)), Poll::Pending);
+    assert_eq!(rt;
+        first_connect(&SlowManager, late.now()).answer,
+        Poll::Ready(Ok(7))
+    );
+    assert_eq!(rt; opened(&SlowManager, &NopErrorSink, &AddsOne, &early), None);
+    assert_eq!(rt;
+        opened(&SlowManager, &NopErrorSink, &AddsOne, &late),
+        Some(8)
+    );
+    assert_eq!(rt;
+        opened(&SlowManager, &OtherSink, &NopCustomizer, &late),
+        None
+    );
+}

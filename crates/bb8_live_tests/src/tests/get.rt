@@ -1,0 +1,195 @@
+//! Gets that are polled by hand over the plain state.
+ghost use Rattle.std.specs.Prelude.{◌≡◌, ℕ, true};
+ghost use Rattle.bb8_ledger.specs.Ledger.{Ledger};
+ghost use Rattle.bb8_core.specs.Run.{act_with};
+ghost use Rattle.bb8_core.specs.Shown.{Means};
+ghost use Rattle.bb8_ledger.specs.Table.{IsLegal, takes};
+
+use super::{Refused, SlowManager, StoppedClock};
+use bb8_gets::{Calls, GetState, Taken};
+use bb8::{Config, Moment, RunError, Statistics};
+use bb8_core::internals::{AddAnswer, Key, PoolInternals};
+use bb8_core::replay::{Act, Event, fits};
+use futures::task::Poll;
+use std::alloc::Global;
+use std::process::Abort;
+use std::time::Duration;
+
+/// One second in nanoseconds.
+const SECOND: u64 = 1_000_000_000;
+
+/// What a poll of a get answers: the number of the connection and the connection.
+type Polled = Poll<Result<(u64, u64), RunError<Refused>>>;
+
+/// A pool that checks no connection before it hands it out. Its gets begin at that number.
+fn pool_from(rt: &impl Abort, alloc: Global, max_size: u32, first_get: u64) -> PoolInternals<u64> {
+    let config = Config {
+        max_size,
+        test_on_check_out: false,
+        ..Config::default()
+    };
+    assert!(rt; config.is_lawful());
+    PoolInternals::starting_at(alloc, config, 0, first_get)
+}
+
+fn pool_of(rt: &impl Abort, alloc: Global, max_size: u32) -> PoolInternals<u64> {
+    pool_from(rt, alloc, max_size, 0)
+}
+
+/// Polls a get at a reading of the clock. It waits for a second at most.
+fn poll(pool: &mut PoolInternals<u64>, get: &mut GetState<u64, ()>, at: u64) -> Polled {
+    let clock = StoppedClock(Moment(at));
+    let mut calls = Calls::new(&SlowManager, &clock);
+    match get.poll_step(&mut calls, pool, Duration::from_nanos(SECOND)) {
+        Poll::Ready(
+            Ok(
+                Taken {
+                    key,
+                    connection,
+                    part: (),
+                },
+            ),
+        ) => Poll::Ready(Ok((key.number, connection))),
+        Poll::Ready(Err(error)) => Poll::Ready(Err(error)),
+        Poll::Pending => Poll::Pending,
+    }
+}
+
+/// Lets a get go at a reading of the clock.
+fn cancel(pool: &mut PoolInternals<u64>, get: GetState<u64, ()>, at: u64) {
+    let clock = StoppedClock(Moment(at));
+    let mut calls = Calls::new(&SlowManager, &clock);
+    get.cancel_step(&mut calls, pool);
+}
+
+/// Asserts that what happens fits.
+fn assert_fits(rt: &impl Abort, pool: &PoolInternals<u64>, act: Act)
+    ensures { (conn : ℕ → ℕ) (l : Ledger ℕ) → IsLegal l → Means l pool.now
+        → takes l (act_with conn l act) ≡ true }
+{
+    if !fits(pool, Event { at: Moment(0), act }) {
+        panic!(rt; "{act:?} does not fit");
+    }
+}
+
+/// Adds a connection, and tells its key.
+fn add(rt: &impl Abort, pool: &mut PoolInternals<u64>, at: u64, connection: u64) -> Key {
+    assert_fits(rt, pool, Act::Add(false));
+    let AddAnswer::Added(key, _) = pool.add(Moment(at), connection, false) else {
+        panic!(rt; "{connection} was not added");
+    };
+    key
+}
+
+/// Gives back a connection that a guard holds.
+fn put_back(rt: &impl Abort, pool: &mut PoolInternals<u64>, key: Key, connection: u64) {
+    assert_fits(rt, pool, Act::PutBack(key.number, false));
+    drop(pool.put_back(Moment(0), key, connection, false));
+}
+
+fn statistics_of(pool: &mut PoolInternals<u64>) -> Statistics {
+    pool.state(Moment(0)).statistics
+}
+
+#[test]
+fn times_out(rt: HostRuntime) {
+    let mut pool = pool_of(&rt, rt.alloc(), 2);
+    let mut get = GetState::new();
+    assert_eq!(rt; poll(&mut pool, &mut get, 0), Poll::Pending);
+    assert_eq!(rt; poll(&mut pool, &mut get, SECOND - 1), Poll::Pending);
+    assert_eq!(rt;
+        poll(&mut pool, &mut get, SECOND),
+        Poll::Ready(Err(RunError::TimedOut))
+    );
+    let statistics = statistics_of(&mut pool);
+    assert_eq!(rt; statistics.get_timed_out, 1);
+    assert_eq!(rt; statistics.get_wait_time.as_micros(), 1_000_000);
+    cancel(&mut pool, get, SECOND);
+}
+
+/// The first approval, which nobody claims, has the number 0; so the connection that is added has the number 1.
+#[test]
+fn is_served_at_its_deadline(rt: HostRuntime) {
+    let mut pool = pool_of(&rt, rt.alloc(), 2);
+    let mut get = GetState::new();
+    assert_eq!(rt; poll(&mut pool, &mut get, 0), Poll::Pending);
+    let key = add(&rt, &mut pool, SECOND, 7);
+    assert_eq!(rt; key.number, 1);
+    assert_eq!(rt; poll(&mut pool, &mut get, SECOND), Poll::Ready(Ok((1, 7))));
+    let statistics = statistics_of(&mut pool);
+    assert_eq!(rt; statistics.get_waited, 1);
+    assert_eq!(rt; statistics.get_wait_time.as_micros(), 1_000_000);
+    cancel(&mut pool, get, SECOND);
+}
+
+#[test]
+fn deadlines_at_the_end_of_the_clock(rt: HostRuntime) {
+    let last = u64::MAX;
+    let mut pool = pool_of(&rt, rt.alloc(), 2);
+    let mut get = GetState::new();
+    let mut endless = GetState::new();
+    assert_eq!(rt; poll(&mut pool, &mut get, last - SECOND), Poll::Pending);
+    assert_eq!(rt;
+        poll(&mut pool, &mut endless, last - SECOND + 1),
+        Poll::Pending
+    );
+    assert_eq!(rt; poll(&mut pool, &mut get, last - 1), Poll::Pending);
+    assert_eq!(rt;
+        poll(&mut pool, &mut get, last),
+        Poll::Ready(Err(RunError::TimedOut))
+    );
+    assert_eq!(rt; poll(&mut pool, &mut endless, last), Poll::Pending);
+    cancel(&mut pool, get, last);
+    cancel(&mut pool, endless, last);
+    assert_eq!(rt; statistics_of(&mut pool).get_cancelled, 1);
+}
+
+#[test]
+fn serves_after_a_cancelled_get(rt: HostRuntime) {
+    let mut pool = pool_of(&rt, rt.alloc(), 1);
+    let key = add(&rt, &mut pool, 0, 7);
+    let mut first = GetState::new();
+    assert_eq!(rt; poll(&mut pool, &mut first, 0), Poll::Ready(Ok((0, 7))));
+    let mut second = GetState::new();
+    assert_eq!(rt; poll(&mut pool, &mut second, 0), Poll::Pending);
+    cancel(&mut pool, second, 0);
+    put_back(&rt, &mut pool, key, 7);
+    let mut third = GetState::new();
+    assert_eq!(rt; poll(&mut pool, &mut third, 0), Poll::Ready(Ok((0, 7))));
+    let statistics = statistics_of(&mut pool);
+    assert_eq!(rt; statistics.get_started, 3);
+    assert_eq!(rt; statistics.get_direct, 2);
+    assert_eq!(rt; statistics.get_cancelled, 1);
+    assert_eq!(rt; statistics.pending_gets(), 0);
+    cancel(&mut pool, first, 0);
+    cancel(&mut pool, third, 0);
+}
+
+#[test]
+fn needs_a_number(rt: HostRuntime) {
+    let mut pool = pool_from(&rt, rt.alloc(), 1, u64::MAX);
+    add(&rt, &mut pool, 0, 7);
+    let mut get = GetState::new();
+    assert_eq!(rt;
+        poll(&mut pool, &mut get, 0),
+        Poll::Ready(Err(RunError::Exhausted))
+    );
+    assert_eq!(rt; poll(&mut pool, &mut get, 0), Poll::Pending);
+    cancel(&mut pool, get, 0);
+}
+
+/// A get that was answered or never polled makes no step at all: not even the pool's moment moves.
+#[test]
+fn rests_after_its_answer(rt: HostRuntime) {
+    let mut pool = pool_of(&rt, rt.alloc(), 1);
+    let key = add(&rt, &mut pool, 0, 7);
+    let mut get = GetState::new();
+    assert_eq!(rt; poll(&mut pool, &mut get, 0), Poll::Ready(Ok((0, 7))));
+    put_back(&rt, &mut pool, key, 7);
+    let before = pool.state(Moment(0));
+    assert_eq!(rt; poll(&mut pool, &mut get, SECOND), Poll::Pending);
+    cancel(&mut pool, get, SECOND);
+    cancel(&mut pool, GetState::default(), 2 * SECOND);
+    assert_eq!(rt; pool.look(Moment(0)).moment, Moment(0));
+    assert_eq!(rt; pool.state(Moment(0)), before);
+}

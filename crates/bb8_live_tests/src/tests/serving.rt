@@ -1,0 +1,145 @@
+//! A service over a pool: what is called, how often, and under which number.
+ghost use Rattle.std.specs.Prelude.{◌≡◌, Ok, IfOk, length};
+
+use super::{NumberPool, Runtime, SlowManager};
+use bb8::{
+    Builder, Memory, Moment, NopCustomizer, NopErrorSink, PoolCalls, PoolParts, Service, SetClock,
+};
+use futures::executor::block_on;
+use std::sync::atomic::{AtomicU64, Ordering};
+use std::test::Fail;
+use std::thread::Threads;
+
+/// Counts its calls.
+#[derive(Drop)]
+struct Counted<R> {
+    rt: R,
+    /// The connection that it adds as it begins.
+    connection: u64,
+    begun: AtomicU64,
+    run: AtomicU64,
+    ended: AtomicU64,
+}
+
+impl<R: Runtime> Counted<R> {
+    fn new(rt: R, connection: u64) -> Self {
+        Counted {
+            rt,
+            connection,
+            begun: AtomicU64::new(0),
+            run: AtomicU64::new(0),
+            ended: AtomicU64::new(0),
+        }
+    }
+
+    /// How often it began, ran and ended.
+    fn calls(&self) -> (u64, u64, u64) {
+        (
+            self.begun.load(Ordering::SeqCst),
+            self.run.load(Ordering::SeqCst),
+            self.ended.load(Ordering::SeqCst),
+        )
+    }
+}
+
+impl<R: Runtime> Service<SlowManager, NopErrorSink, NopCustomizer, SetClock, R> for Counted<R> {
+    /// The thread's number, where its get was served.
+    type Told = Option<usize>;
+
+    /// Whether the threads of all numbers told, in order; none where the connection was not added.
+    type Outcome = Option<bool>;
+
+    fn begin<L: PoolParts>(&self, pool: &NumberPool<R, L>) -> Result<(), Option<bool>> {
+        self.begun.fetch_add(1, Ordering::SeqCst);
+        match PoolCalls::add(pool, self.connection) {
+            Ok(()) => Ok(()),
+            Err(_) => Err(None),
+        }
+    }
+
+    fn run<L: PoolParts>(&self, pool: &NumberPool<R, L>, thread: usize) -> Option<usize> {
+        self.run.fetch_add(1, Ordering::SeqCst);
+        match block_on(&self.rt, PoolCalls::get(pool)) {
+            Ok(Ok(guard)) if *guard == self.connection => Some(thread),
+            _ => None,
+        }
+    }
+
+    fn end<L: PoolParts>(&self, _pool: &NumberPool<R, L>, told: &[Option<usize>]) -> Option<bool> {
+        self.ended.fetch_add(1, Ordering::SeqCst);
+        let in_order = told
+            .iter()
+            .enumerate()
+            .all(|(thread, number)| *number == Some(thread));
+        Some(in_order && told.len() == 4)
+    }
+}
+
+/// Four threads over a pool of two connections, of which one is added.
+fn serve_four<R: Runtime + Threads>(rt: R, service: &Counted<R>) -> Result<Option<bool>, Memory> {
+    let clock = SetClock::new(rt.alloc(), Moment(0))?;
+    Builder::new()
+        .max_size(2)
+        .test_on_check_out(false)
+        .serve(SlowManager, clock, rt, 4, service)
+}
+
+#[test]
+fn each_thread_runs_once_under_its_number(rt: HostRuntime) -> Result<(), Fail> {
+    let service = Counted::new(rt, 7);
+    assert_eq!(rt; serve_four(rt, &service)?, Some(true));
+    assert_eq!(rt; service.calls(), (1, 4, 1));
+    Ok(())
+}
+
+#[test]
+fn no_thread_runs_where_the_service_does_not_begin(rt: HostRuntime) -> Result<(), Fail> {
+    let service = Counted::new(rt, 0);
+    assert_eq!(rt; serve_four(rt, &service)?, None);
+    assert_eq!(rt; service.calls(), (1, 0, 0));
+    Ok(())
+}
+
+/// Tells how many threads ran.
+#[derive(Clone, Copy)]
+struct HowMany;
+
+impl<R: Runtime> Service<SlowManager, NopErrorSink, NopCustomizer, SetClock, R> for HowMany {
+    type Told = ();
+
+    type Outcome = usize;
+
+    ghost suits = { λ _ basis. basis.settings.max_size ≡ 3 };
+
+    ghost begins = { λ _ _ answer. answer ≡ Ok tt };
+
+    ghost ends = { λ _ _ told outcome. outcome ≡ length told };
+
+    fn begin<L: PoolParts>(&self, _pool: &NumberPool<R, L>) -> Result<(), usize> {
+        Ok(())
+    }
+
+    fn run<L: PoolParts>(&self, _pool: &NumberPool<R, L>, _thread: usize) {}
+
+    fn end<L: PoolParts>(&self, _pool: &NumberPool<R, L>, told: &[()]) -> usize {
+        told.len()
+    }
+}
+
+/// How many threads ran: the service's own relations tell it to a caller of `serve`.
+fn how_many<R: Runtime + Threads>(rt: R, threads: usize) -> Result<usize, Memory>
+    ensures { IfOk result (λ ran. ran ≡ threads) }
+{
+    let clock = SetClock::new(rt.alloc(), Moment(0))?;
+    Builder::new()
+        .max_size(3)
+        .test_on_check_out(false)
+        .serve(SlowManager, clock, rt, threads, &HowMany)
+}
+
+#[test]
+fn as_many_threads_run_as_are_asked_for(rt: HostRuntime) -> Result<(), Fail> {
+    assert_eq!(rt; how_many(rt, 0)?, 0);
+    assert_eq!(rt; how_many(rt, 5)?, 5);
+    Ok(())
+}

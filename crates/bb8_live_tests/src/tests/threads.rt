@@ -1,0 +1,180 @@
+//! Two threads that get and return through one pool.
+ghost use Rattle.bb8_locked.specs.Parts.{IsBlankOf, unchecked_of};
+
+use super::{NumberPool, Refused, Runtime, SlowManager};
+use bb8::{
+    Builder, ManageConnection, Memory, Moment, NopCustomizer, NopErrorSink, Pool, PoolCalls,
+    PoolParts, SetClock,
+};
+use futures::executor::block_on;
+use futures::task::Poll;
+use futures::test::MockTask;
+use std::marker::Brand;
+use std::sync::ledger::Blank;
+use std::test::Fail;
+use std::thread::{Threads, join};
+
+/// What a thread of a test does.
+trait Job {
+    /// Does it, and tells whether all went as it should.
+    fn run(&self) -> bool;
+}
+
+/// A thousand gets of the connection 7, each of which is given back before the next.
+#[derive(Drop)]
+struct Rounds<'a, R: Runtime, L: PoolParts> {
+    pool: &'a NumberPool<R, L>,
+    rt: R,
+}
+
+impl<R: Runtime, L: PoolParts> Job for Rounds<'_, R, L> {
+    /// Whether each get was served.
+    fn run(&self) -> bool {
+        for _ in 0..1000u32 {
+            match block_on(&self.rt, PoolCalls::get(self.pool)) {
+                Ok(Ok(guard)) if *guard == 7 => {}
+                _ => return false,
+            }
+        }
+        true
+    }
+}
+
+/// Runs a job on two threads.
+fn twice(rt: &impl Threads, job: &(impl Job + Sync)) -> (bool, bool) {
+    join(rt, || job.run(), || job.run())
+}
+
+/// Two threads share a pool of one connection. Each get is served in its turn, and at the end the connection is idle.
+fn shares_one<R: Runtime + Threads, L: PoolParts>(rt: R, blank: Blank) -> Result<(), Memory>
+    requires { IsBlankOf blank (unchecked_of 1) L.name L.parts L.settings }
+{
+    let clock = SetClock::new(rt.alloc(), Moment(0))?;
+    let pool: NumberPool<R, L> = Builder::new()
+        .max_size(1)
+        .test_on_check_out(false)
+        .build_unchecked(SlowManager, clock, rt, blank)?;
+    assert_eq!(&rt; pool.add(7), Ok(()));
+    assert_eq!(&rt; twice(&rt, &Rounds { pool: &pool, rt }), (true, true));
+    let state = pool.state();
+    assert_eq!(&rt; (state.connections, state.idle_connections), (1, 1));
+    assert_eq!(&rt; state.statistics.get_started, 2000);
+    assert_eq!(&rt; state.statistics.completed_gets(), 2000);
+    assert_eq!(&rt; state.statistics.pending_gets(), 0);
+    Ok(())
+}
+
+#[test]
+fn two_threads_share_one(rt: HostRuntime) -> Result<(), Fail> {
+    shares_one::<HostRuntime, Brand>(rt, Blank::new(1))?;
+    Ok(())
+}
+
+/// A connection that counts how many hold it.
+#[derive(Drop)]
+struct Held {
+    holders: u64,
+}
+
+/// Opens nothing, and finds each connection valid and whole.
+#[derive(Drop)]
+struct HeldManager;
+
+impl ManageConnection for HeldManager {
+    type Connection = Held;
+
+    type Error = Refused;
+
+    type Connecting = ();
+
+    type Checking = ();
+
+    fn connect(&self) {}
+
+    fn poll_connect(&self, _connecting: &mut (), _moment: Moment) -> Poll<Result<Held, Refused>> {
+        Poll::Pending
+    }
+
+    fn is_valid(&self, _connection: &mut Held) {}
+
+    fn poll_valid(
+        &self,
+        _connection: &mut Held,
+        _checking: &mut (),
+        _moment: Moment,
+    ) -> Poll<Result<(), Refused>> {
+        Poll::Ready(Ok(()))
+    }
+
+    fn has_broken(&self, connection: &mut Held) -> bool {
+        connection.holders != 0
+    }
+}
+
+/// A pool whose connections count their holders.
+type HeldPool<R, L> = Pool<HeldManager, NopErrorSink, NopCustomizer, SetClock, R, L>;
+
+/// A thousand rounds, in each of which the clock moves, a connection is added where there is room, the state is read, a get is let go after
+/// a poll, and one is served, whose connection nobody else may hold.
+#[derive(Drop)]
+struct Mixed<'a, R: Runtime, L: PoolParts> {
+    pool: &'a HeldPool<R, L>,
+    clock: &'a SetClock,
+    rt: R,
+}
+
+impl<R: Runtime, L: PoolParts> Job for Mixed<'_, R, L> {
+    /// Whether each connection had one holder at a time, and the state kept its bounds.
+    fn run(&self) -> bool {
+        let Ok(task) = MockTask::new(&self.rt) else {
+            return false;
+        };
+        for round in 0..1000u64 {
+            self.clock.set(Moment(round));
+            let _ = PoolCalls::add(self.pool, Held { holders: 0 });
+            let state = PoolCalls::state(self.pool);
+            if state.connections > 3 || state.idle_connections > state.connections {
+                return false;
+            }
+            let _ = task.poll(&mut PoolCalls::get(self.pool));
+            let Ok(Ok(mut guard)) = block_on(&self.rt, PoolCalls::get(self.pool)) else {
+                return false;
+            };
+            guard.holders = guard.holders.saturating_add(1);
+            if guard.holders != 1 {
+                return false;
+            }
+            guard.holders = 0;
+        }
+        true
+    }
+}
+
+/// Two threads share a pool of up to three connections in all that it does.
+fn shares_all<R: Runtime + Threads, L: PoolParts>(rt: R, blank: Blank) -> Result<(), Memory>
+    requires { IsBlankOf blank (unchecked_of 3) L.name L.parts L.settings }
+{
+    let clock = SetClock::new(rt.alloc(), Moment(0))?;
+    let pool: HeldPool<R, L> = Builder::new()
+        .max_size(3)
+        .test_on_check_out(false)
+        .build_unchecked(HeldManager, clock.try_clone()?, rt, blank)?;
+    let mixed = Mixed {
+        pool: &pool,
+        clock: &clock,
+        rt,
+    };
+    assert_eq!(&rt; twice(&rt, &mixed), (true, true));
+    let state = pool.state();
+    assert_eq!(&rt; state.connections, state.idle_connections);
+    assert_eq!(&rt; state.statistics.connections_closed_broken, 0);
+    assert_eq!(&rt; state.statistics.pending_gets(), 0);
+    assert_eq!(&rt; state.statistics.get_started, 4000);
+    Ok(())
+}
+
+#[test]
+fn two_threads_share_all(rt: HostRuntime) -> Result<(), Fail> {
+    shares_all::<HostRuntime, Brand>(rt, Blank::new(3))?;
+    Ok(())
+}
