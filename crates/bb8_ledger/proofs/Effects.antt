@@ -293,6 +293,18 @@ module _ {C : Type 0} where
       (test : Place C → Bool) → Turns l k p q f → tests test (start l).first (records l) k ≡ test p
   turned_from test t = ap (stands test) t.was ∙ ap test t.from
 
+  -- a record moved that did not pass, and does not then
+  pub kept_tests : {l : Ledger C} {k : ℕ} {p : Place C} {q : Option (Place C)} {f : Numbered (Standing C) → Numbered (Standing C)}
+      (test : Place C → Bool) (j : ℕ) → Turns l k p q f → test p ≡ false → passes test q ≡ false
+      → tests test (start l).first (with_record l k f) j ≡ tests test (start l).first (records l) j
+  kept_tests {l} {k} {p} {q} {f} test j t was is =
+      turned_tests test j t
+      ∙ ⊎_elim
+      (λ (s : (eqb j k ≡ true) × (j ≡ k)). ap (λ (b : Bool). cond b (passes test q) (tests test (start l).first (records l) j)) s.0 ∙ is
+      ∙ sym (ap (tests test (start l).first (records l)) s.1 ∙ turned_from test t ∙ was))
+      (λ (s : (eqb j k ≡ false) × (j ≢ k)). ap (λ (b : Bool). cond b (passes test q) (tests test (start l).first (records l) j)) s.0)
+      (numbered.same_or_not j k)
+
   -- a new record that does not pass
   pub added_tests : (test : Place C → Bool) (first j : ℕ) (new : Numbered (Standing C)) (rs : List (Numbered (Standing C)))
       → stands test new.standing ≡ false → tests test first (rs ++ new ∷ []) j ≡ tests test first rs j

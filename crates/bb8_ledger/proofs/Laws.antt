@@ -25,7 +25,8 @@ use Rattle.bb8_ledger.proofs.Waiters.{getting_is, waiters_few, alive_counted, be
 use Rattle.bb8_ledger.proofs.Effects.{each_legal, returns_turn, closes_turn, opens_turn, ends_turn, idle_turns, unclaimed_turns, stays_sized, turned_sized, adds_sized, granted_sized, conns-approve, approved-approve, idle-approve, length-approve, reaped_sized, granted_reaped, left_sized}
 use Rattle.bb8_ledger.proofs.GetEffects.{trier, trier_leaves, trier_holds, holder_ends, holder_turns, left_alive, left_unnotified, left_notified, left_length, left_told, left_told_alive, left_told_length, left_line, left_told_line}
 use Rattle.bb8_ledger.proofs.Lent.{never_twice}
-use Rattle.bb8_ledger.proofs.Held.{all_held, checks_turn, drops_turn, hands_in_turn}
+use Rattle.bb8_ledger.proofs.Checked.{never_unchecked}
+use Rattle.bb8_ledger.proofs.Held.{all_held, all_holding, checks_turn, drops_turn, hands_in_turn}
 
 -- The sizes and the statistics of a ledger fit together.
 pub record Fits (max_size conns approved next alive next_get : ℕ) (c : Counts) : Type 0 where
@@ -633,7 +634,7 @@ module _ {C : Type 0} where
   keeps_limits l legal = record {
     size = (all_fit l legal).size;
     each = conns_split (records l);
-    held = all_held l legal;
+    held = λ g k. (all_held l legal g k, all_holding l legal g k);
     served = ⊎_elim (λ (e : unnotified l ≡ 0). inl e) (λ (e : idle_count l - notified l ≡ 0). inr (omega arith)) (either_none (unnotified l) (idle_count l - notified l) (all_serve l legal).served);
   }
 
@@ -807,6 +808,7 @@ module _ {C : Type 0} where
   keeps_laws l legal = record {
     numbers = never_again l legal;
     returned = never_twice l legal;
+    checked = never_unchecked l legal;
     replenished = makes_good l legal;
     answered =
         (all_fit l legal).answered;

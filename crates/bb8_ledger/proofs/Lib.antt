@@ -6,5 +6,6 @@ pub mod GetEffects
 pub mod Held
 pub mod Stage
 pub mod Lent
+pub mod Checked
 pub mod Laws
 pub mod Evaluated
