@@ -1,10 +1,10 @@
 -- What one event does to the gets, where a get that was not in line ends or moves to a place where it does not wait.
-use Rattle.std.proofs.Common.{◌≡◌, ◌≢◌, ℕ, suc, ◌+◌, ◌-◌, min, Bool, true, false, cond, eqb, List, [], ◌∷◌, ◌++◌, length, Option, Some, None, is_some, slice_get, option_map, option_and_then, refl, sym, ap, ◌∙◌, ⊎_elim, arith}
+use Rattle.std.proofs.Common.{max, ◌≡◌, ◌≢◌, ℕ, suc, ◌+◌, ◌-◌, min, Bool, true, false, cond, eqb, List, [], ◌∷◌, ◌++◌, length, Option, Some, None, is_some, slice_get, option_map, option_and_then, refl, sym, ap, ◌∙◌, ⊎_elim, arith}
 use Rattle.bb8_types.specs.declared.standing.GetPlace.{GetPlace}
 use Rattle.bb8_types.specs.declared.standing.GetPlace.TheVariants.{Active, Waiting, Holding}
 use Rattle.bb8_types.specs.declared.standing.Getting.{Getting}
 use Rattle.bb8_types.specs.Numbered.{Numbered, at as at_number, update, in_order, one, standing_at, after_end}
-use Rattle.bb8_ledger.specs.Ledger.{Ledger, start, position, gets, alive, notified, unnotified, unnotified_at, oldest_waiter, get_of, tally_gets, alive_of, new_get, get_at_place, at_wait, with_notice}
+use Rattle.bb8_ledger.specs.Ledger.{Ledger, start, position, latest, gets, alive, notified, unnotified, unnotified_at, oldest_waiter, get_of, tally_gets, alive_of, new_get, get_at_place, at_wait, with_notice}
 use Rattle.bb8_types.specs.Places.{holds, held_in, gets_stand, is_notified, is_unnotified, get_with_place, get_in_wait, is_trying}
 use Rattle.bb8_types.proofs.Numbered.{Before}
 use Rattle.bb8_types.proofs.Numbered as numbered
@@ -164,6 +164,19 @@ module _ {C : Type 0} where
         → InLine (start l).first_get (suc (position l)) (with_notice (start l).first_get n left_gets)
     left_told_line n is i = line_later (start l).first_get (position l) (with_notice (start l).first_get n left_gets)
         (line_notified (start l).first_get (position l) n left_gets (left_oldest n is) (left_in_line i))
+
+-- ---- how many gets there ever were
+
+module _ {C : Type 0} where
+  -- as many, where one waits, is notified, or gives up
+  pub waits_length : (l : Ledger C) (at g : ℕ) → length (update (start l).first_get g (at_wait (max (latest l) at) (position l)) (gets l)) ≡ length (gets l)
+  waits_length l at g = numbered.length-update (gets l) (start l).first_get g (at_wait (max (latest l) at) (position l))
+
+  pub told_length : (l : Ledger C) (n : Option ℕ) → length (with_notice (start l).first_get n (gets l)) ≡ length (gets l)
+  told_length l n = notify_length (start l).first_get n (gets l)
+
+  pub given_up_length : (l : Ledger C) (g : ℕ) (n : Option ℕ) → length (with_notice (start l).first_get n (update (start l).first_get g after_end (gets l))) ≡ length (gets l)
+  given_up_length l g n = notify_length (start l).first_get n (update (start l).first_get g after_end (gets l)) ∙ numbered.length-update (gets l) (start l).first_get g after_end
 
 -- ---- what the gets hold
 

@@ -7,5 +7,7 @@ pub mod Held
 pub mod Stage
 pub mod Lent
 pub mod Checked
+pub mod Numbers
+pub mod Wants
 pub mod Laws
 pub mod Evaluated
