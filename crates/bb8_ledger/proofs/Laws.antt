@@ -25,6 +25,7 @@ use Rattle.bb8_ledger.proofs.GetEffects.{waits_length, told_length, given_up_len
 use Rattle.bb8_ledger.proofs.Lent.{never_twice}
 use Rattle.bb8_ledger.proofs.Numbers.{never_again}
 use Rattle.bb8_ledger.proofs.Wants.{either_none, due_open, makes_good}
+use Rattle.bb8_ledger.proofs.Reaps.{never_reaps_twice}
 use Rattle.bb8_ledger.proofs.Checked.{never_unchecked}
 use Rattle.bb8_ledger.proofs.Held.{all_held, all_holding, checks_turn, drops_turn, hands_in_turn}
 
@@ -617,6 +618,7 @@ module _ {C : Type 0} where
     returned = never_twice l legal;
     checked = never_unchecked l legal;
     replenished = makes_good l legal;
+    reaped = never_reaps_twice l legal;
     answered =
         (all_fit l legal).answered;
     pending = omega (arith, (all_fit l legal).answered);

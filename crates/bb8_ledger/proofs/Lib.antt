@@ -9,5 +9,6 @@ pub mod Lent
 pub mod Checked
 pub mod Numbers
 pub mod Wants
+pub mod Reaps
 pub mod Laws
 pub mod Evaluated

@@ -1,4 +1,4 @@
--- What is wanted is made good; and a second reap at the same moment wants nothing more.
+-- What is wanted is made good.
 use Rattle.std.proofs.Common.{◌≡◌, ◌⊎◌, ℕ, zero, suc, ◌+◌, ◌-◌, ◌<◌, ◌≤◌, max, min, Bool, false, cond, List, map, refl, ap, ◌∙◌, inl, inr, ⊎_elim, arith}
 use Rattle.std.specs.Option.{unwrap_or}
 use Rattle.bb8_types.specs.declared.grants.Grant.{Grant}
@@ -57,7 +57,7 @@ module _ {C : Type 0} where
       (conns_of (with_approvals claimed g.count rs) + approved_of (with_approvals claimed g.count rs)) g.count g.withheld (split ∙ all)
       (omega arith) (omega arith)
 
-  row_makes_good : (l : Ledger C) (at : ℕ) (e : Act C) (a : Answer) → Row l at e a → MakesGood (Later l at e a) e a
+  pub row_makes_good : (l : Ledger C) (at : ℕ) (e : Act C) (a : Answer) → Row l at e a → MakesGood (Later l at e a) e a
   row_makes_good l at _ _ (serves {k} {grant} not_waiting off first want) = want_made_good l (with_record l k (at_place Guarded)) false grant want
   row_makes_good l at _ _ (takes_out {g} {k} {grant} not_waiting on first want) = want_made_good l (with_record l k (at_place (Held g))) false grant want
   row_makes_good l at _ _ (check_fails {k} {grant} holds_it want is) = want_made_good l (with_record l k after_end) false grant want

@@ -1,5 +1,5 @@
 -- The limits that every state keeps, the laws of every run, and the promises to those who wait.
-use Rattle.std.specs.Prelude.{◌≡◌, ◌⊎◌, ◌↔◌, ◌+◌, ◌-◌, ◌<◌, ◌≤◌, ℕ, Bool, ◌&&◌, ◌||◌, not, cond, eqb, Option, Some, None, true, false, ⊤}
+use Rattle.std.specs.Prelude.{◌≡◌, ◌⊎◌, ◌↔◌, ◌+◌, ◌-◌, ◌<◌, ◌≤◌, ℕ, max, Bool, ◌&&◌, ◌||◌, not, cond, eqb, Option, Some, None, true, false, ⊤}
 use Rattle.std.specs.Option.{unwrap_or}
 use Rattle.bb8_types.specs.declared.grants.Grant.{Grant}
 use Rattle.bb8_types.specs.declared.standing.Getting.{Getting}
@@ -7,7 +7,7 @@ use Rattle.bb8_ledger.specs.Acts.{Act, Try, CheckedOk, GiveUp, PutBack}
 use Rattle.bb8_ledger.specs.Answers.{Answer, Begun, Served, Taken, Waiting, Kept, Closed, Granted, GivenBack, Added, Reaped, Unfit}
 use Rattle.bb8_types.specs.Figures.{pending}
 use Rattle.bb8_types.specs.Numbered.{Numbered}
-use Rattle.bb8_ledger.specs.Ledger.{Ledger, Opening, Later, start, handles, conns, approved, idle_count, out, unnotified, notified, record_of, get_of, numbered_get, next, next_get, alive, counts}
+use Rattle.bb8_ledger.specs.Ledger.{Ledger, Opening, Later, start, latest, handles, conns, approved, idle_count, out, unnotified, notified, record_of, get_of, numbered_get, next, next_get, alive, counts}
 use Rattle.bb8_types.specs.Places.{holds, stands, gets_stand, is_held_by, is_notified, is_unnotified}
 
 -- how many numbers an answer gives to new approvals and connections
@@ -127,14 +127,31 @@ module _ {C : Type 0} where
   AlwaysMakesGood (Opening s) = ⊤
   AlwaysMakesGood (Later l at e a) = AlwaysMakesGood l × MakesGood (Later l at e a) e a
 
+  -- what the latest event granted, where it was a reap
+  abbrev pub reap_granted : Ledger C → Option Grant
+  reap_granted (Later l at e (Reaped closed by_idle by_life grant)) = Some grant
+  reap_granted _ = None
+
+  -- a reap right after another, at its effective moment, closes nothing, and grants nothing where that one withheld nothing
+  abbrev pub ReapsOnce : Ledger C → ℕ → Answer → Type 0
+  ReapsOnce l at (Reaped closed by_idle by_life grant) = (before : Grant) → reap_granted l ≡ Some before → max (latest l) at ≡ latest l
+      → (closed ≡ 0) × (before.withheld ≡ 0 → grant.count ≡ 0)
+  ReapsOnce l at _ = ⊤
+
+  -- so no two reaps right after each other do what one does
+  abbrev pub NeverReapsTwice : Ledger C → Type 0
+  NeverReapsTwice (Opening s) = ⊤
+  NeverReapsTwice (Later l at e a) = NeverReapsTwice l × ReapsOnce l at a
+
   -- The laws of every run: no number is used again, no connection is served again before its guard gave it back, none is served unchecked
-  -- where the check is on, what is lacking of min_idle is made good as far as there is room, the gets that began are those that were
-  -- answered and those that are alive, and so those that the statistics call pending are alive.
+  -- where the check is on, what is lacking of min_idle is made good as far as there is room, a reap leaves nothing to a second one, the
+  -- gets that began are those that were answered and those that are alive, and so those that the statistics call pending are alive.
   pub record KeepsLaws (l : Ledger C) : Type 0 where
     pub numbers : NeverGivesAgain l
     pub returned : NeverServesTwice l
     pub checked : NeverServesUnchecked l
     pub replenished : AlwaysMakesGood l
+    pub reaped : NeverReapsTwice l
     pub answered : (counts l).direct + (counts l).waited + (counts l).timed_out + (counts l).cancelled + alive l ≡ (counts l).started
     pub pending : pending (counts l) ≡ alive l
 
