@@ -57,7 +57,7 @@ module _ {C : Type 0} where
   row_reaped l at _ _ _ = λ before is. cc
 
   all_reaped : (l : Ledger C) → IsLegal l → IsReaped l
-  all_reaped = each_legal IsReaped (λ s lawful before is. cc) (λ l at e h before is. cc) (λ l at e a legal f row h. row_reaped l at e a row)
+  all_reaped = each_legal IsReaped (λ s lawful before is. cc) (λ l at e h. h) (λ l at e a legal f row h. row_reaped l at e a row)
 
   -- what is wanted once nothing is to be ended, where what was wanted is made good
   wants_none : (l : Ledger C) (rs : List (Numbered (Standing C))) (g : Grant) → IsWant l rs g → 0 < handles l → conns_of rs ≡ conns l

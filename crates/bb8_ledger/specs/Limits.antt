@@ -127,18 +127,20 @@ module _ {C : Type 0} where
   AlwaysMakesGood (Opening s) = ⊤
   AlwaysMakesGood (Later l at e a) = AlwaysMakesGood l × MakesGood (Later l at e a) e a
 
-  -- what the latest event granted, where it was a reap
+  -- what the latest event that fitted granted, where it was a reap
   abbrev pub reap_granted : Ledger C → Option Grant
+  reap_granted (Later l at e Unfit) = reap_granted l
   reap_granted (Later l at e (Reaped closed by_idle by_life grant)) = Some grant
   reap_granted _ = None
 
-  -- a reap right after another, at its effective moment, closes nothing, and grants nothing where that one withheld nothing
+  -- a reap after another, at its effective moment and with nothing between that fitted, closes nothing, and grants nothing where that one
+  -- withheld nothing
   abbrev pub ReapsOnce : Ledger C → ℕ → Answer → Type 0
   ReapsOnce l at (Reaped closed by_idle by_life grant) = (before : Grant) → reap_granted l ≡ Some before → max (latest l) at ≡ latest l
       → (closed ≡ 0) × (before.withheld ≡ 0 → grant.count ≡ 0)
   ReapsOnce l at _ = ⊤
 
-  -- so no two reaps right after each other do what one does
+  -- so a reap leaves nothing to a second one
   abbrev pub NeverReapsTwice : Ledger C → Type 0
   NeverReapsTwice (Opening s) = ⊤
   NeverReapsTwice (Later l at e a) = NeverReapsTwice l × ReapsOnce l at a
