@@ -9,12 +9,12 @@ use Rattle.bb8_ledger.specs.Acts.{Act, Leave}
 use Rattle.bb8_ledger.specs.Answers.{Answer, Left}
 use Rattle.bb8_types.specs.Numbered.{Numbered, update, after_end, after_end_where}
 use Rattle.bb8_ledger.specs.Ledger.{Ledger, Later, start, position, latest, handles, records, gets, record_of, get_of, at_place, entry, at_entry, with_approvals, get_at_place, at_wait, with_notice, oldest_waiter}
-use Rattle.bb8_types.specs.Places.{holds, stands, gets_stand, is_held_by, is_reaped, is_left, is_trying, is_notified}
+use Rattle.bb8_types.specs.Places.{holds, stands, gets_stand, is_held_by, is_left, is_trying, is_notified}
 use Rattle.bb8_ledger.specs.Table.{Row, begins, waits_on, serves, takes_out, waits, checks, check_fails, gives_up, gives_up_kept, gives_up_closed, keeps, returns_closed, fills, claims, opens, opens_late, fails, adds, reaps, leaves, IsLegal, fits, with_record, agree}
 use Rattle.bb8_types.proofs.Numbered as numbered
 use Rattle.bb8_types.proofs.Places.{and_right}
 use Rattle.bb8_ledger.proofs.Waiters.{getting_is}
-use Rattle.bb8_ledger.proofs.Effects.{each_legal, passes, Turns, to_place, returns_turn, closes_turn, opens_turn, ends_turn, held_turns, idle_turns, unclaimed_turns, IsOut, held_out, tests, turned_tests, turned_from, kept_tests, added_tests, granted_tests, swept_tests, reap_spares, leave_spares}
+use Rattle.bb8_ledger.proofs.Effects.{each_legal, passes, Turns, to_place, returns_turn, closes_turn, opens_turn, ends_turn, held_turns, idle_turns, unclaimed_turns, IsOut, held_out, tests, turned_tests, turned_from, kept_tests, added_tests, granted_tests, swept_tests, reap_tests, leave_spares}
 use Rattle.bb8_ledger.proofs.GetEffects.{held_at, dropped_same, quiet_same, taken_same, told_same, begun_same, put_nothing, waits_nothing, trying_quiet, oldest_quiet}
 
 -- whether it is k that is held
@@ -169,8 +169,7 @@ module _ {C : Type 0} where
       ∙ sym (added_tests (is_held_by g) (start l).first k (entry c (max (latest l) at) (max (latest l) at) (position l)) (records l) refl)
   row_hold l at _ _ f (reaps {grant} open_now closed_is by_idle_is by_life_is want) h =
       λ g k. h g k
-      ∙ sym (swept_tests (is_held_by g) (is_reaped (start l).config (max (latest l) at)) (start l).first k (records l)
-      (reap_spares (is_held_by g) (λ c. refl) (start l).config (max (latest l) at)))
+      ∙ sym (reap_tests (is_held_by g) (held_out g) l at k)
       ∙ granted (start l).first _ g k false grant.count
   row_hold l at _ _ f (leaves {n} is) h = λ g k. h g k ∙ sym (left_tests (is_held_by g) (held_out g) l at n k)
   row_hold l at _ _ f _ h = h

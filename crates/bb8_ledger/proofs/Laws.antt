@@ -11,8 +11,8 @@ use Rattle.bb8_ledger.specs.Acts.{Act, Try, CheckedOk, GiveUp, Leave, Reason, Ti
 use Rattle.bb8_ledger.specs.Answers.{Answer, Kept, Closed, GaveUp, Left, Unfit}
 use Rattle.bb8_types.specs.Numbered.{Numbered, at as at_number, update, in_order, one, after_end}
 use Rattle.bb8_ledger.specs.Ledger.{Ledger, Opening, Later, start, position, latest, records, gets, handles, next, next_get, conns, approved, idle_count, conns_of, approved_of, idle_of, alive, alive_of, notified, unnotified, idle, unnotified_at, first_idle, oldest_waiter, record_of, get_of, tally_gets, new_get, at_wait, with_notice, expires, counts, waited_since, timed_out, cancelled}
-use Rattle.bb8_types.specs.Places.{is_conn, is_approval, gets_stand, is_notified, is_unnotified, is_reaped, is_trying}
-use Rattle.bb8_ledger.specs.Table.{Row, begins, waits_on, serves, takes_out, waits, checks, check_fails, gives_up, gives_up_kept, gives_up_closed, keeps, returns_closed, fills, claims, opens, opens_late, fails, adds, reaps, joins, leaves, reap_count, IsWant, IsLegal, takes, fits, is_brought}
+use Rattle.bb8_types.specs.Places.{is_conn, is_approval, gets_stand, is_notified, is_unnotified, is_trying}
+use Rattle.bb8_ledger.specs.Table.{Row, begins, waits_on, serves, takes_out, waits, checks, check_fails, gives_up, gives_up_kept, gives_up_closed, keeps, returns_closed, fills, claims, opens, opens_late, fails, adds, reaps, joins, leaves, reaped_at, IsWant, IsLegal, takes, fits, is_brought}
 use Rattle.bb8_types.specs.Grants.{due, lacking}
 use Rattle.bb8_ledger.specs.Limits.{KeepsLimits, KeepsLaws, KeepsPromises, NeverForgets, MayLower, lost}
 use Rattle.bb8_ledger.proofs.Standings.{conns-change, approved-change, tested}
@@ -588,7 +588,7 @@ module _ {C : Type 0} where
       serves_entered h (omega (arith, z.conns_are, z.approved_are)) (omega (arith, z.approved_are)) (omega (arith, z.idle_are)) told.0 told.1 (omega arith)
   row_serves l at _ _ legal f (reaps {closed} {grant} open_now closed_is by_idle_is by_life_is want) h =
       let z = granted_reaped grant.count (reaped_sized l at) in
-      serves_reaped h (reap_count is_reaped l at) grant.count (all_fit l legal).size z.conns_are z.approved_are z.idle_are refl refl (omega arith)
+      serves_reaped h (length (reaped_at l at)) grant.count (all_fit l legal).size z.conns_are z.approved_are z.idle_are refl refl (omega arith)
   row_serves l at _ _ legal f (joins few) h = serves_joined h (is_open (handles l) f) (omega arith)
   row_serves l at _ _ legal f (leaves {n} is) h =
       ⊎_elim

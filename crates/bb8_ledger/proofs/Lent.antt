@@ -6,10 +6,10 @@ use Rattle.bb8_ledger.specs.Acts.{Act}
 use Rattle.bb8_ledger.specs.Answers.{Answer}
 use Rattle.bb8_types.specs.Numbered.{Numbered}
 use Rattle.bb8_ledger.specs.Ledger.{Ledger, Later, start, position, latest, records, entry, with_approvals}
-use Rattle.bb8_types.specs.Places.{is_guarded, is_reaped}
+use Rattle.bb8_types.specs.Places.{is_guarded}
 use Rattle.bb8_ledger.specs.Table.{Row, waits_on, serves, takes_out, waits, checks, check_fails, gives_up_kept, gives_up_closed, keeps, returns_closed, fills, claims, opens, opens_late, fails, adds, reaps, leaves, IsLegal, fits}
 use Rattle.bb8_ledger.specs.Limits.{is_lent, ServesUnlent, NeverServesTwice}
-use Rattle.bb8_ledger.proofs.Effects.{each_legal, returns_turn, closes_turn, opens_turn, ends_turn, idle_turns, unclaimed_turns, guarded_out, tests, turned_tests, turned_from, kept_tests, added_tests, granted_tests, swept_tests, reap_spares}
+use Rattle.bb8_ledger.proofs.Effects.{each_legal, returns_turn, closes_turn, opens_turn, ends_turn, idle_turns, unclaimed_turns, guarded_out, tests, turned_tests, turned_from, kept_tests, added_tests, granted_tests, reap_tests}
 use Rattle.bb8_ledger.proofs.Held.{left_tests, checks_turn, drops_turn, hands_in_turn}
 
 -- one more is lent
@@ -54,8 +54,7 @@ module _ {C : Type 0} where
   row_lent l at _ _ legal f (fails {k = m}) h = λ k. kept_tests is_guarded k (ends_turn l m f) refl refl ∙ h k
   row_lent l at _ _ legal f (adds {c} room few is who) h = λ k. added_tests is_guarded (start l).first k (entry c (max (latest l) at) (max (latest l) at) (position l)) (records l) refl ∙ h k
   row_lent l at _ _ legal f (reaps {grant} open_now closed_is by_idle_is by_life_is want) h = λ k. granted_guards l k false grant.count _
-      ∙ swept_tests is_guarded (is_reaped (start l).config (max (latest l) at)) (start l).first k (records l)
-      (reap_spares is_guarded (λ c. refl) (start l).config (max (latest l) at)) ∙ h k
+      ∙ reap_tests is_guarded guarded_out l at k ∙ h k
   row_lent l at _ _ legal f (leaves {n} is) h = λ k. left_tests is_guarded guarded_out l at n k ∙ h k
   row_lent l at _ _ legal f _ h = h
 

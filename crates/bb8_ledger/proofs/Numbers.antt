@@ -1,6 +1,5 @@
 -- No number is used again.
 use Rattle.std.proofs.Common.{◌≡◌, ℕ, ◌+◌, true, false, List, [], ◌∷◌, length, Some, ap, ◌∙◌, arith, length-append}
-use Rattle.std.proofs.lemmas.List.{length-map}
 use Rattle.bb8_types.specs.declared.grants.Grant.{Grant}
 use Rattle.bb8_types.specs.declared.standing.Place.TheVariants.{Held, Guarded}
 use Rattle.bb8_types.specs.declared.standing.Standing.{Standing}
@@ -131,7 +130,7 @@ module _ {C : Type 0} where
   row_gives l at _ _ legal f (adds {k} {c} {n} room few is who) = record { first = is; more = omega (arith, (adds_sized l at c).many_are); get = tt; more_gets = as_many_gets l _ (told_length l n) }
   row_gives l at _ _ legal f (reaps {grant} open_now closed_is by_idle_is by_life_is want) =
       record {
-        first = want.first ∙ ap (λ (n : ℕ). (start l).first + n) (length-map (records l) _);
+        first = omega (arith, want.first, (reaped_sized l at).many_are);
         more =
             omega (arith, (granted_reaped grant.count (reaped_sized l at)).many_are);
         get = tt;

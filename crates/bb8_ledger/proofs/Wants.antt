@@ -1,5 +1,5 @@
 -- What is wanted is made good.
-use Rattle.std.proofs.Common.{◌≡◌, ◌⊎◌, ℕ, zero, suc, ◌+◌, ◌-◌, ◌<◌, ◌≤◌, max, min, Bool, false, cond, List, map, refl, ap, ◌∙◌, inl, inr, ⊎_elim, arith}
+use Rattle.std.proofs.Common.{◌≡◌, ◌⊎◌, ℕ, zero, suc, ◌+◌, ◌-◌, ◌<◌, ◌≤◌, min, Bool, false, cond, List, refl, ap, ◌∙◌, inl, inr, ⊎_elim, arith}
 use Rattle.std.specs.Option.{unwrap_or}
 use Rattle.bb8_types.specs.declared.grants.Grant.{Grant}
 use Rattle.bb8_types.specs.declared.standing.Place.TheVariants.{Held, Guarded}
@@ -7,10 +7,9 @@ use Rattle.bb8_types.specs.declared.standing.Standing.{Standing}
 use Rattle.bb8_types.specs.Settings.{Settings}
 use Rattle.bb8_ledger.specs.Acts.{Act}
 use Rattle.bb8_ledger.specs.Answers.{Answer}
-use Rattle.bb8_types.specs.Numbered.{Numbered, after_end, after_end_where}
-use Rattle.bb8_ledger.specs.Ledger.{Ledger, Later, start, latest, records, handles, conns_of, approved_of, idle_of, at_place, with_approvals}
-use Rattle.bb8_types.specs.Places.{is_reaped}
-use Rattle.bb8_ledger.specs.Table.{Row, serves, takes_out, check_fails, gives_up_closed, returns_closed, fills, reaps, IsWant, IsLegal, with_record}
+use Rattle.bb8_types.specs.Numbered.{Numbered, after_end}
+use Rattle.bb8_ledger.specs.Ledger.{with_ended, Ledger, Later, start, records, handles, conns_of, approved_of, idle_of, at_place, with_approvals}
+use Rattle.bb8_ledger.specs.Table.{reaped_at, Row, serves, takes_out, check_fails, gives_up_closed, returns_closed, fills, reaps, IsWant, IsLegal, with_record}
 use Rattle.bb8_types.specs.Grants.{due, lacking}
 use Rattle.bb8_ledger.specs.Limits.{MakesGood, AlwaysMakesGood}
 use Rattle.bb8_types.proofs.Numbered as numbered
@@ -65,7 +64,7 @@ module _ {C : Type 0} where
   row_makes_good l at _ _ (returns_closed {k} {grant} shut want is) = want_made_good l (with_record l k after_end) false grant want
   row_makes_good l at _ _ (fills {claimed} {grant} want) = want_made_good l (records l) claimed grant want
   row_makes_good l at _ _ (reaps {grant} open_now closed_is by_idle_is by_life_is want) =
-      want_made_good l (map (after_end_where (is_reaped (start l).config (max (latest l) at))) (records l)) false grant want
+      want_made_good l (with_ended (start l).first (reaped_at l at) (records l)) false grant want
   row_makes_good l at _ _ _ = tt
 
   pub makes_good : (l : Ledger C) → IsLegal l → AlwaysMakesGood l
