@@ -1,16 +1,17 @@
 -- What one event of a legal ledger does to the records and to the gets, by the place that it moves from and the place that it moves to.
-use Rattle.std.proofs.Common.{◌≡◌, ◌≢◌, ◌⊎◌, ℕ, zero, suc, ◌+◌, ◌*◌, ◌<◌, ◌≤◌, max, Bool, ◌&&◌, ◌||◌, true, false, cond, eqb, List, [], ◌∷◌, ◌++◌, length, map, Option, Some, None, slice_get, option_map, option_and_then, refl, sym, ap, ◌∙◌, ⊎_elim, inl, inr, arith, subst, length-append, ne_eqb, MatchBool}
+use Rattle.std.proofs.Common.{◌≡◌, ◌≢◌, ◌⊎◌, ℕ, zero, suc, ◌+◌, ◌*◌, ◌<◌, ◌≤◌, max, Bool, ◌&&◌, ◌||◌, true, false, not, cond, eqb, List, [], ◌∷◌, ◌++◌, length, map, Option, Some, None, slice_get, option_map, option_and_then, refl, sym, ap, ◌∙◌, ⊎_elim, inl, inr, arith, subst, length-append, ne_eqb, MatchBool}
 use Rattle.std.proofs.lemmas.List.{length-map}
+use Rattle.std.proofs.lemmas.List.Filters.{length-filter_both}
 use Rattle.bb8_types.specs.declared.standing.Place.{Place}
 use Rattle.bb8_types.specs.declared.standing.Place.TheVariants.{Unclaimed, Claimed, Idle, Held, Guarded}
 use Rattle.bb8_types.specs.declared.standing.Standing.{Standing}
 use Rattle.bb8_types.specs.Settings.{Settings, is_lawful}
 use Rattle.bb8_ledger.specs.Acts.{Act, Leave}
 use Rattle.bb8_ledger.specs.Answers.{Answer, Left, Unfit}
-use Rattle.bb8_types.specs.Numbered.{Numbered, at as at_number, update, tally, one, standing_at, after_end, after_end_where}
-use Rattle.bb8_ledger.specs.Ledger.{Ledger, Opening, Later, Start, start, position, latest, handles, records, conns, approved, idle_count, out, idle, idle_at, first_idle, unclaimed, record_of, tally_places, conns_of, approved_of, idle_of, at_place, entry, at_entry, approval, with_approvals}
-use Rattle.bb8_types.specs.Places.{first_place, stands, is_conn, is_approval, is_idle, is_out, is_unclaimed, is_claimed, is_guarded, is_held_by, is_reaped, idles_out, lives_out, is_left, with_place}
-use Rattle.bb8_ledger.specs.Table.{Row, IsLegal, Allowed, takes, fits, is_brought, with_record, reap_count}
+use Rattle.bb8_types.specs.Numbered.{Numbered, at as at_number, update, numbers, tally, one, standing_at, after_end, after_end_where}
+use Rattle.bb8_ledger.specs.Ledger.{Ledger, Opening, Later, Start, start, position, latest, handles, records, conns, approved, idle_count, out, idle, idle_at, first_idle, unclaimed, record_of, with_ended, tally_places, conns_of, approved_of, idle_of, at_place, entry, at_entry, approval, with_approvals}
+use Rattle.bb8_types.specs.Places.{first_place, stands, is_conn, is_approval, is_idle, is_out, is_unclaimed, is_claimed, is_guarded, is_held_by, is_reaped, lives_out, is_left, with_place}
+use Rattle.bb8_ledger.specs.Table.{Row, IsLegal, Allowed, takes, fits, is_brought, with_record, reaped_at, reap_count}
 use Rattle.bb8_types.proofs.Places.{standing_is, unclaimed_is, claimed_is, guarded_is, idle_is, and_right}
 use Rattle.bb8_types.proofs.Numbered as numbered
 use Rattle.bb8_ledger.proofs.Facts.{conns_split}
@@ -293,6 +294,18 @@ module _ {C : Type 0} where
       (test : Place C → Bool) → Turns l k p q f → tests test (start l).first (records l) k ≡ test p
   turned_from test t = ap (stands test) t.was ∙ ap test t.from
 
+  -- a record moved that did not pass, and does not then
+  pub kept_tests : {l : Ledger C} {k : ℕ} {p : Place C} {q : Option (Place C)} {f : Numbered (Standing C) → Numbered (Standing C)}
+      (test : Place C → Bool) (j : ℕ) → Turns l k p q f → test p ≡ false → passes test q ≡ false
+      → tests test (start l).first (with_record l k f) j ≡ tests test (start l).first (records l) j
+  kept_tests {l} {k} {p} {q} {f} test j t was is =
+      turned_tests test j t
+      ∙ ⊎_elim
+      (λ (s : (eqb j k ≡ true) × (j ≡ k)). ap (λ (b : Bool). cond b (passes test q) (tests test (start l).first (records l) j)) s.0 ∙ is
+      ∙ sym (ap (tests test (start l).first (records l)) s.1 ∙ turned_from test t ∙ was))
+      (λ (s : (eqb j k ≡ false) × (j ≢ k)). ap (λ (b : Bool). cond b (passes test q) (tests test (start l).first (records l) j)) s.0)
+      (numbered.same_or_not j k)
+
   -- a new record that does not pass
   pub added_tests : (test : Place C → Bool) (first j : ℕ) (new : Numbered (Standing C)) (rs : List (Numbered (Standing C)))
       → stands test new.standing ≡ false → tests test first (rs ++ new ∷ []) j ≡ tests test first rs j
@@ -345,7 +358,7 @@ module _ {C : Type 0} where
       each (Some r) = spared test sweep spares r
 
   -- what a reap ends is idle
-  pub reap_spares : (test : Place C → Bool) → ((c : C) → test (Idle c) ≡ false) → (config : Settings) (now : ℕ) (o : Option (Standing C)) → stands test o ≡ true → is_reaped config now o ≡ false
+  reap_spares : (test : Place C → Bool) → ((c : C) → test (Idle c) ≡ false) → (config : Settings) (now : ℕ) (o : Option (Standing C)) → stands test o ≡ true → is_reaped config now o ≡ false
   reap_spares test off config now None h = refl
   reap_spares test off config now (Some s) h = go s.place h _ _
     where
@@ -369,7 +382,7 @@ module _ {C : Type 0} where
       go Guarded e = refl
 
   -- the tally of what is out changes with no sweep
-  pub swept_out : (test : Place C → Bool) (sweep : Option (Standing C) → Bool)
+  swept_out : (test : Place C → Bool) (sweep : Option (Standing C) → Bool)
       → ((o : Option (Standing C)) → stands test o ≡ true → sweep o ≡ false) → (rs : List (Numbered (Standing C)))
       → tally_places test (map (after_end_where sweep) rs) ≡ tally_places test rs
   swept_out test sweep spares [] = refl
@@ -378,24 +391,16 @@ module _ {C : Type 0} where
       let here : one (stands test (after_end_where sweep r).standing) ≡ one (stands test r.standing) = ap one (spared test sweep spares r) in
       omega arith
 
-  -- a reap ends so many idle connections: by_life of them and more
+  -- a reap ends so many idle connections
   reap_idle : (config : Settings) (now : ℕ) (rs : List (Numbered (Standing C)))
-      → (idle_of (map (after_end_where (is_reaped config now)) rs) + tally (λ r. is_reaped config now r.standing) rs ≡ idle_of rs)
-      × (tally (λ r. lives_out config now r.standing) rs ≤ tally (λ r. is_reaped config now r.standing) rs)
-  reap_idle config now [] = (refl, omega arith)
+      → idle_of (map (after_end_where (is_reaped config now)) rs) + tally (λ r. is_reaped config now r.standing) rs ≡ idle_of rs
+  reap_idle config now [] = refl
   reap_idle config now (r ∷ rs) =
-      let ih = reap_idle config now rs in
+      let ih : idle_of (map (after_end_where (is_reaped config now)) rs) + tally (λ x. is_reaped config now x.standing) rs ≡ idle_of rs = reap_idle config now rs in
       let here : one (stands is_idle (after_end_where (is_reaped config now) r).standing) + one (is_reaped config now r.standing) ≡ one
       (stands is_idle r.standing) = pick (is_reaped config now r.standing) refl in
-      let less : one (lives_out config now r.standing) ≤ one (is_reaped config now r.standing) = few (idles_out config now r.standing) (lives_out config now r.standing) in
-      (omega (arith, ih.0), omega (arith, ih.1))
+      omega arith
     where
-      few : (a b : Bool) → one b ≤ one (a || b)
-      few true true = omega arith
-      few true false = omega arith
-      few false true = omega arith
-      few false false = omega arith
-
       off : (b : Bool) → stands is_idle r.standing ≡ b → is_reaped config now r.standing ≡ true → one b ≡ 1
       off true e h = refl
       off false e h = absurd (let clash : false ≡ true = sym (idle_reaped r.standing e) ∙ h in cc)
@@ -421,22 +426,64 @@ module _ {C : Type 0} where
     pub many_are : length rs ≡ length (records l) + n
     pub few : life ≤ closed
 
-  pub reaped_sized : (l : Ledger C) (at : ℕ) → AreReaped l (reap_count is_reaped l at) (reap_count lives_out l at) 0
-      (map (after_end_where (is_reaped (start l).config (max (latest l) at))) (records l))
+  -- those of a list of numbers end, none of which is the first of the row
+  ended_skip : (ks : List ℕ) (n : ℕ) (r : Numbered (Standing C)) (rs : List (Numbered (Standing C))) → ((j k : ℕ) → slice_get ks j ≡ Some k → n < k)
+      → with_ended n ks (r ∷ rs) ≡ r ∷ with_ended (suc n) ks rs
+  ended_skip [] n r rs above = refl
+  ended_skip (k ∷ ks) n r rs above =
+      ap (λ (b : Bool). with_ended n ks (cond b (after_end r) r ∷ update (suc n) k after_end rs)) (ne_eqb k n (λ same. let less : n < k = above 0 k refl in omega arith))
+      ∙ ended_skip ks n r (update (suc n) k after_end rs) (λ j m e. above (suc j) m e)
+
+  -- the ends of those that pass a test, one after another, are a sweep
+  pub ended_swept : (test : Option (Standing C) → Bool) (n : ℕ) (rs : List (Numbered (Standing C))) → with_ended n (numbers (λ r. test r.standing) n rs) rs ≡ map (after_end_where test) rs
+  ended_swept test n [] = refl
+  ended_swept test n (r ∷ rs) = pick (test r.standing) (ended_swept test (suc n) rs)
+    where
+      ks : List ℕ
+      ks = numbers (λ x. test x.standing) (suc n) rs
+
+      skip : (x : Numbered (Standing C)) → with_ended n ks (x ∷ rs) ≡ x ∷ with_ended (suc n) ks rs
+      skip x = ended_skip ks n x rs (λ j k e. let least : suc n ≤ k = numbered.numbers_from (λ y. test y.standing) rs (suc n) j k e in omega arith)
+
+      pick : (b : Bool) → with_ended (suc n) ks rs ≡ map (after_end_where test) rs
+          → with_ended n (cond b (n ∷ ks) ks) (r ∷ rs) ≡ cond b (after_end r) r ∷ map (after_end_where test) rs
+      pick true ih =
+          ap (λ (b : Bool). with_ended n ks (cond b (after_end r) r ∷ update (suc n) n after_end rs)) (numbered.eqb_self n)
+          ∙ ap (λ (xs : List (Numbered (Standing C))). with_ended n ks (after_end r ∷ xs)) (numbered.update_below rs (suc n) n after_end (omega arith))
+          ∙ skip (after_end r)
+          ∙ ap (λ (xs : List (Numbered (Standing C))). after_end r ∷ xs) ih
+      pick false ih = skip r ∙ ap (λ (xs : List (Numbered (Standing C))). r ∷ xs) ih
+
+  -- the records after a reap are those of a sweep
+  reap_sweeps : (l : Ledger C) (at : ℕ) → with_ended (start l).first (reaped_at l at) (records l) ≡ map
+      (after_end_where (is_reaped (start l).config (max (latest l) at))) (records l)
+  reap_sweeps l at = ended_swept (is_reaped (start l).config (max (latest l) at)) (start l).first (records l)
+
+  -- a reap spares what is out
+  pub reap_tests : (test : Place C → Bool) → IsOut test → (l : Ledger C) (at j : ℕ)
+      → tests test (start l).first (with_ended (start l).first (reaped_at l at) (records l)) j ≡ tests test (start l).first (records l) j
+  reap_tests test out l at j =
+      ap (λ (rs : List (Numbered (Standing C))). tests test (start l).first rs j) (reap_sweeps l at)
+      ∙ swept_tests test (is_reaped (start l).config (max (latest l) at)) (start l).first j (records l)
+      (reap_spares test out.idle (start l).config (max (latest l) at))
+
+  pub reaped_sized : (l : Ledger C) (at : ℕ) → AreReaped l (length (reaped_at l at)) (reap_count lives_out l at) 0
+      (with_ended (start l).first (reaped_at l at) (records l))
   reaped_sized l at =
       let sweep : Option (Standing C) → Bool = is_reaped (start l).config (max (latest l) at) in
       let rs : List (Numbered (Standing C)) = map (after_end_where sweep) (records l) in
       let idle_is = reap_idle (start l).config (max (latest l) at) (records l) in
+      let closed_is : length (reaped_at l at) ≡ tally (λ r. sweep r.standing) (records l) = numbered.length-numbers (λ r. sweep r.standing) (records l) (start l).first in
       let out_is : tally_places is_out rs ≡ out l = swept_out is_out sweep (reap_spares is_out (λ c. refl) (start l).config (max (latest l) at)) (records l) in
       let approved_is : approved_of rs ≡ approved l = swept_out is_approval sweep (reap_spares is_approval (λ c. refl) (start l).config (max (latest l) at)) (records l) in
-      record {
-        conns_are = omega (arith, conns_split rs, conns_split (records l), idle_is.0);
+      subst (AreReaped l (length (reaped_at l at)) (reap_count lives_out l at) 0) (sym (reap_sweeps l at)) (record {
+        conns_are = omega (arith, conns_split rs, conns_split (records l), idle_is);
         approved_are = omega arith;
-        idle_are = idle_is.0;
+        idle_are = omega arith;
         out_are = out_is;
         many_are = omega (arith, length-map (records l) (after_end_where sweep));
-        few = idle_is.1;
-      }
+        few = omega (arith, length-filter_both (λ k. lives_out (start l).config (max (latest l) at) (record_of l k)) (λ k. not (lives_out (start l).config (max (latest l) at) (record_of l k))) (λ k. refl) (reaped_at l at));
+      })
 
   pub granted_reaped : {l : Ledger C} {closed life : ℕ} {rs : List (Numbered (Standing C))} (n : ℕ) → AreReaped l closed life 0 rs → AreReaped l closed life n (with_approvals false n rs)
   granted_reaped {rs = rs} n s = record {

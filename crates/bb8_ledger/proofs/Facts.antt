@@ -13,8 +13,8 @@ use Rattle.bb8_ledger.specs.Acts.{Act, Begin, Try, CheckedOk, CheckedErr, GiveUp
 use Rattle.bb8_ledger.specs.Answers.{Answer, Begun, Served, Taken, Waiting, Kept, Closed, GaveUp, Granted, Entered, Late, GivenBack, Added, Reaped, Left, Unfit}
 use Rattle.bb8_ledger.specs.Answers as answers
 use Rattle.bb8_types.specs.Numbered.{Numbered, update, in_order, tally, one, after_end, after_end_where}
-use Rattle.bb8_ledger.specs.Ledger.{Ledger, Opening, Later, Start, start, position, latest, handles, records, records_after, gets, gets_after, conns, approved, conns_of, idle_of, alive, peak, get_peak, idle_at, unnotified_at, at_place, entry, new_get, get_at_place, at_wait, with_notice, idle, idle_count}
-use Rattle.bb8_types.specs.Places.{is_unnotified, gets_stand, stands, is_idle, is_conn, is_out, is_reaped, is_left, with_place, birth_in, get_with_place, get_in_wait, first_of}
+use Rattle.bb8_ledger.specs.Ledger.{Ledger, Opening, Later, Start, start, position, latest, handles, records, records_after, reaped, with_ended, gets, gets_after, conns, approved, conns_of, idle_of, alive, peak, get_peak, idle_at, unnotified_at, at_place, entry, new_get, get_at_place, at_wait, with_notice, idle, idle_count}
+use Rattle.bb8_types.specs.Places.{is_unnotified, gets_stand, stands, is_idle, is_conn, is_out, is_left, with_place, birth_in, get_with_place, get_in_wait, first_of}
 use Rattle.bb8_types.proofs.Numbered.{Before}
 use Rattle.bb8_types.proofs.Numbered as numbered
 use Rattle.bb8_ledger.proofs.Standings.{before-approve}
@@ -74,6 +74,10 @@ module _ {C : Type 0} where
       pick r was p true h = cc
       pick r was p false h = was p h
 
+  ended_all_before : (m first : ℕ) (ks : List ℕ) (rs : List (Numbered (Standing C))) → Before idle_at m rs → Before idle_at m (with_ended first ks rs)
+  ended_all_before m first [] rs b = b
+  ended_all_before m first (k ∷ ks) rs b = ended_all_before m first ks (update first k after_end rs) (ended_before m first k rs b)
+
   entry_before : (m first k now : ℕ) (c : C) (birth : Numbered (Standing C) → ℕ) (rs : List (Numbered (Standing C)))
       → Before idle_at (suc m) rs → Before idle_at (suc m) (update first k (λ r. entry c (birth r) now m) rs)
   entry_before m first k now c birth rs b = numbered.before-update idle_at rs first k (λ r. entry c (birth r) now m) (suc m) b (λ r q h. let e : m ≡ q = numbered.tested m q h in omega arith)
@@ -95,7 +99,7 @@ module _ {C : Type 0} where
   records_before s h m now rs (Opened k c) (Late j) b = ended_before (suc m) s.first k rs b
   records_before s h m now rs (Failed k) GivenBack b = ended_before (suc m) s.first k rs b
   records_before s h m now rs (Add c broken) (Added k n) b = numbered.before-append idle_at rs (entry c now now m) (suc m) b (λ p t. let e : m ≡ p = numbered.tested m p t in omega arith)
-  records_before s h m now rs Reap (Reaped closed by_idle by_life grant) b = before-approve false grant.count (suc m) _ (ended_where_before (suc m) (is_reaped s.config now) rs b)
+  records_before s h m now rs Reap (Reaped closed by_idle by_life grant) b = before-approve false grant.count (suc m) _ (ended_all_before (suc m) s.first (reaped s now rs) rs b)
   records_before s h m now rs Leave (Left c) b = last (eqb h 1)
     where
       last : (t : Bool) → Before idle_at (suc m) (cond t (map (after_end_where is_left) rs) rs)

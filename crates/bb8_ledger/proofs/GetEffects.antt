@@ -1,10 +1,10 @@
 -- What one event does to the gets, where a get that was not in line ends or moves to a place where it does not wait.
-use Rattle.std.proofs.Common.{◌≡◌, ◌≢◌, ◌⊎◌, ℕ, suc, ◌+◌, ◌-◌, min, Bool, true, false, cond, eqb, List, [], ◌∷◌, ◌++◌, length, Option, Some, None, is_some, slice_get, option_map, option_and_then, refl, sym, ap, ◌∙◌, ⊎_elim, arith, inl, inr}
+use Rattle.std.proofs.Common.{max, ◌≡◌, ◌≢◌, ℕ, suc, ◌+◌, ◌-◌, min, Bool, true, false, cond, eqb, List, [], ◌∷◌, ◌++◌, length, Option, Some, None, is_some, slice_get, option_map, option_and_then, refl, sym, ap, ◌∙◌, ⊎_elim, arith}
 use Rattle.bb8_types.specs.declared.standing.GetPlace.{GetPlace}
 use Rattle.bb8_types.specs.declared.standing.GetPlace.TheVariants.{Active, Waiting, Holding}
 use Rattle.bb8_types.specs.declared.standing.Getting.{Getting}
 use Rattle.bb8_types.specs.Numbered.{Numbered, at as at_number, update, in_order, one, standing_at, after_end}
-use Rattle.bb8_ledger.specs.Ledger.{Ledger, start, position, gets, alive, notified, unnotified, unnotified_at, oldest_waiter, get_of, tally_gets, alive_of, new_get, get_at_place, at_wait, with_notice}
+use Rattle.bb8_ledger.specs.Ledger.{Ledger, start, position, latest, gets, alive, notified, unnotified, unnotified_at, oldest_waiter, get_of, tally_gets, alive_of, new_get, get_at_place, at_wait, with_notice}
 use Rattle.bb8_types.specs.Places.{holds, held_in, gets_stand, is_notified, is_unnotified, get_with_place, get_in_wait, is_trying}
 use Rattle.bb8_types.proofs.Numbered.{Before}
 use Rattle.bb8_types.proofs.Numbered as numbered
@@ -165,33 +165,28 @@ module _ {C : Type 0} where
     left_told_line n is i = line_later (start l).first_get (position l) (with_notice (start l).first_get n left_gets)
         (line_notified (start l).first_get (position l) n left_gets (left_oldest n is) (left_in_line i))
 
+-- ---- how many gets there ever were
+
+module _ {C : Type 0} where
+  -- as many, where one waits, is notified, or gives up
+  pub waits_length : (l : Ledger C) (at g : ℕ) → length (update (start l).first_get g (at_wait (max (latest l) at) (position l)) (gets l)) ≡ length (gets l)
+  waits_length l at g = numbered.length-update (gets l) (start l).first_get g (at_wait (max (latest l) at) (position l))
+
+  pub told_length : (l : Ledger C) (n : Option ℕ) → length (with_notice (start l).first_get n (gets l)) ≡ length (gets l)
+  told_length l n = notify_length (start l).first_get n (gets l)
+
+  pub given_up_length : (l : Ledger C) (g : ℕ) (n : Option ℕ) → length (with_notice (start l).first_get n (update (start l).first_get g after_end (gets l))) ≡ length (gets l)
+  given_up_length l g n = notify_length (start l).first_get n (update (start l).first_get g after_end (gets l)) ∙ numbered.length-update (gets l) (start l).first_get g after_end
+
 -- ---- what the gets hold
 
--- what a get holds once another has changed, or it itself
-pub changed_holds : (first g : ℕ) (f : Numbered Getting → Numbered Getting) (gs : List (Numbered Getting)) (q k : ℕ)
-    → holds (standing_at first (update first g f gs) q) ≡ Some k → ((q ≡ g) × (x : Numbered Getting) × (holds (f x).standing ≡ Some k))
-    ⊎ ((q ≢ g) × (holds (standing_at first gs q) ≡ Some k))
-changed_holds first g f gs q k h =
-    ⊎_elim
-    (λ (t : (eqb q g ≡ true) × (q ≡ g)). let i = it (at_number first gs g)
-    (sym (ap (λ (o : Option (Numbered Getting)). holds (option_and_then (λ (x : Numbered Getting). x.standing) o))
-    (ap (λ (i : ℕ). at_number first (update first g f gs) i) t.1 ∙ at_same gs first g f)) ∙ h) in inl (t.1, i.0, i.1))
-    (λ (t : (eqb q g ≡ false) × (q ≢ g)). inr (t.1, sym (ap (λ (o : Option (Numbered Getting)). holds (option_and_then (λ (x : Numbered Getting). x.standing) o)) (at_other gs first g q f t.1)) ∙ h))
-    (numbered.same_or_not q g)
-  where
-    it : (o : Option (Numbered Getting)) → holds (option_and_then (λ (x : Numbered Getting). x.standing) (option_map f o)) ≡ Some k → (x : Numbered Getting) × (holds (f x).standing ≡ Some k)
-    it None e = cc
-    it (Some x) e = (x, e)
+-- what the get q holds, of these gets
+abbrev pub held_at : ℕ → List (Numbered Getting) → ℕ → Option ℕ
+held_at first gs q = holds (standing_at first gs q)
 
--- a get that holds something was not changed, where what is changed holds nothing
-pub other_holds : (first g : ℕ) (f : Numbered Getting → Numbered Getting) (gs : List (Numbered Getting)) (q k : ℕ)
-    → ((x : Numbered Getting) → holds (f x).standing ≡ None) → holds (standing_at first (update first g f gs) q) ≡ Some k → (q ≢ g)
-    × (holds (standing_at first gs q) ≡ Some k)
-other_holds first g f gs q k nothing h =
-    ⊎_elim
-    (λ (t : (q ≡ g) × (x : Numbered Getting) × (holds (f x).standing ≡ Some k)). absurd (let clash : None ≡ Some k = sym (nothing t.1) ∙ t.2 in cc))
-    (λ (t : (q ≢ g) × (holds (standing_at first gs q) ≡ Some k)). t)
-    (changed_holds first g f gs q k h)
+-- what stands behind a number holds this
+abbrev behind : Option (Numbered Getting) → Option ℕ
+behind o = holds (option_and_then (λ (x : Numbered Getting). x.standing) o)
 
 -- a place at which nothing is held
 pub put_nothing : (p : GetPlace) → held_in p ≡ None → (x : Numbered Getting) → holds (get_at_place p x).standing ≡ None
@@ -201,42 +196,107 @@ put_nothing p none x = go x.standing
     go None = refl
     go (Some s) = none
 
-pub put_holds : (j k : ℕ) (x : Numbered Getting) → holds (get_at_place (Holding j) x).standing ≡ Some k → j ≡ k
-put_holds j k x h = go x.standing h
+-- a get at a place that holds nothing
+pub stands_quiet : (test : GetPlace → Bool) → ((k : ℕ) → test (Holding k) ≡ false) → (o : Option Getting) → gets_stand test o ≡ true → holds o ≡ None
+stands_quiet test off None e = refl
+stands_quiet test off (Some s) e = go s.place e
   where
-    go : (o : Option Getting) → holds (option_map (get_with_place (Holding j)) o) ≡ Some k → j ≡ k
-    go None e = cc
-    go (Some s) e = cc
+    go : (p : GetPlace) → test p ≡ true → held_in p ≡ None
+    go Active e = refl
+    go (Waiting b) e = refl
+    go (Holding k) e = absurd (let clash : false ≡ true = sym (off k) ∙ e in cc)
 
 pub waits_nothing : (now p : ℕ) (x : Numbered Getting) → holds (at_wait now p x).standing ≡ None
 waits_nothing now p x = pick (gets_stand is_unnotified x.standing) refl
   where
-    still : (o : Option Getting) → gets_stand is_unnotified o ≡ true → holds o ≡ None
-    still None e = refl
-    still (Some s) e = go s.place e
-      where
-        go : (q : GetPlace) → is_unnotified q ≡ true → held_in q ≡ None
-        go Active e = refl
-        go (Waiting b) e = refl
-        go (Holding k) e = cc
-
     free : (o : Option Getting) → holds (option_map (get_in_wait now) o) ≡ None
     free None = refl
     free (Some s) = refl
 
     pick : (b : Bool) → gets_stand is_unnotified x.standing ≡ b → holds (cond b x (record { standing = option_map (get_in_wait now) x.standing; position = p })).standing ≡ None
-    pick true e = still x.standing e
+    pick true e = stands_quiet is_unnotified (λ k. refl) x.standing e
     pick false e = free x.standing
 
-pub told_holds : (first : ℕ) (n : Option ℕ) (gs : List (Numbered Getting)) (q k : ℕ) → holds (standing_at first (with_notice first n gs) q) ≡ Some k → holds (standing_at first gs q) ≡ Some k
+-- a get that tries holds nothing
+pub trying_quiet : (o : Option Getting) → gets_stand is_trying o ≡ true → holds o ≡ None
+trying_quiet = stands_quiet is_trying (λ k. refl)
+
+-- nor does the oldest waiter
+pub oldest_quiet : {C : Type 0} (l : Ledger C) (n : Option ℕ) → n ≡ oldest_waiter l → (g : ℕ) → n ≡ Some g → holds (get_of l g) ≡ None
+oldest_quiet l n is g e =
+    let m = numbered.in_order_member unnotified_at (gets l) (start l).first_get (position l) 0 g (sym is ∙ e) in
+    ap (λ (o : Option (Numbered Getting)). holds (option_and_then (λ (x : Numbered Getting). x.standing) o)) m.1
+    ∙ stands_quiet is_unnotified (λ k. refl) m.0.standing (and_right (gets_stand is_unnotified m.0.standing) _ m.4).0
+
+-- one get has changed, and holds this then
+changed_same : (first g : ℕ) (f : Numbered Getting → Numbered Getting) (gs : List (Numbered Getting)) (q : ℕ) (o : Option ℕ)
+    → behind (option_map f (at_number first gs g)) ≡ o → held_at first (update first g f gs) q ≡ cond (eqb q g) o (held_at first gs q)
+changed_same first g f gs q o is =
+    ⊎_elim
+    (λ (t : (eqb q g ≡ true) × (q ≡ g)). ap (held_at first (update first g f gs)) t.1 ∙ ap behind (at_same gs first g f) ∙ is ∙ sym (ap (λ (b : Bool). cond b o (held_at first gs q)) t.0))
+    (λ (t : (eqb q g ≡ false) × (q ≢ g)). ap behind (at_other gs first g q f t.1) ∙ sym (ap (λ (b : Bool). cond b o (held_at first gs q)) t.0))
+    (numbered.same_or_not q g)
+
+-- it holds nothing
+pub dropped_same : (first g : ℕ) (f : Numbered Getting → Numbered Getting) (gs : List (Numbered Getting)) (q : ℕ)
+    → ((x : Numbered Getting) → holds (f x).standing ≡ None) → held_at first (update first g f gs) q ≡ cond (eqb q g) None (held_at first gs q)
+dropped_same first g f gs q nothing = changed_same first g f gs q None (it (at_number first gs g))
+  where
+    it : (o : Option (Numbered Getting)) → behind (option_map f o) ≡ None
+    it None = refl
+    it (Some x) = nothing x
+
+-- nor did it before
+pub quiet_same : (first g : ℕ) (f : Numbered Getting → Numbered Getting) (gs : List (Numbered Getting)) (q : ℕ)
+    → ((x : Numbered Getting) → holds (f x).standing ≡ None) → held_at first gs g ≡ None
+    → held_at first (update first g f gs) q ≡ held_at first gs q
+quiet_same first g f gs q nothing quiet =
+    dropped_same first g f gs q nothing
+    ∙ ⊎_elim
+    (λ (t : (eqb q g ≡ true) × (q ≡ g)). ap (λ (b : Bool). cond b None (held_at first gs q)) t.0 ∙ sym (ap (held_at first gs) t.1 ∙ quiet))
+    (λ (t : (eqb q g ≡ false) × (q ≢ g)). ap (λ (b : Bool). cond b None (held_at first gs q)) t.0)
+    (numbered.same_or_not q g)
+
+-- it takes the connection j
+pub taken_same : (first g j : ℕ) (gs : List (Numbered Getting)) (q : ℕ) (s : Getting) → standing_at first gs g ≡ Some s
+    → held_at first (update first g (get_at_place (Holding j)) gs) q ≡ cond (eqb q g) (Some j) (held_at first gs q)
+taken_same first g j gs q s there =
+    let m = numbered.standing_found gs first g s there in
+    changed_same first g (get_at_place (Holding j)) gs q (Some j)
+    (ap (λ (o : Option (Numbered Getting)). behind (option_map (get_at_place (Holding j)) o)) m.1
+    ∙ ap (λ (o : Option Getting). holds (option_map (get_with_place (Holding j)) o)) m.2)
+
+-- a get that holds nothing is notified, or none
+pub told_same : (first : ℕ) (n : Option ℕ) (gs : List (Numbered Getting)) (q : ℕ) → ((g : ℕ) → n ≡ Some g → held_at first gs g ≡ None)
+    → held_at first (with_notice first n gs) q ≡ held_at first gs q
+told_same first None gs q quiet = refl
+told_same first (Some g) gs q quiet = quiet_same first g (get_at_place (Waiting true)) gs q (put_nothing (Waiting true) refl) (quiet g refl)
+
+-- a get begins
+pub begun_same : (first : ℕ) (gs : List (Numbered Getting)) (q : ℕ) → held_at first (gs ++ new_get ∷ []) q ≡ held_at first gs q
+begun_same first gs q =
+    ap behind (numbered.at-append gs new_get first q)
+    ∙ ⊎_elim
+    (λ (t : (eqb q (first + length gs) ≡ true) × (q ≡ first + length gs)).
+    ap (λ (b : Bool). behind (cond b (Some new_get) (at_number first gs q))) t.0
+    ∙ sym (ap behind (numbered.at-past gs first q (omega (arith, t.1)))))
+    (λ (t : (eqb q (first + length gs) ≡ false) × (q ≢ first + length gs)). ap (λ (b : Bool). behind (cond b (Some new_get) (at_number first gs q))) t.0)
+    (numbered.same_or_not q (first + length gs))
+
+-- a get that holds something was not changed, where what is changed holds nothing
+pub other_holds : (first g : ℕ) (f : Numbered Getting → Numbered Getting) (gs : List (Numbered Getting)) (q k : ℕ)
+    → ((x : Numbered Getting) → holds (f x).standing ≡ None) → held_at first (update first g f gs) q ≡ Some k → (q ≢ g)
+    × (held_at first gs q ≡ Some k)
+other_holds first g f gs q k nothing now =
+    let is : cond (eqb q g) None (held_at first gs q) ≡ Some k = sym (dropped_same first g f gs q nothing) ∙ now in
+    ⊎_elim
+    (λ (t : (eqb q g ≡ true) × (q ≡ g)). absurd (let clash : None ≡ Some k = sym (ap (λ (b : Bool). cond b None (held_at first gs q)) t.0) ∙ is in cc))
+    (λ (t : (eqb q g ≡ false) × (q ≢ g)). (t.1, sym (ap (λ (b : Bool). cond b None (held_at first gs q)) t.0) ∙ is))
+    (numbered.same_or_not q g)
+
+pub told_holds : (first : ℕ) (n : Option ℕ) (gs : List (Numbered Getting)) (q k : ℕ) → held_at first (with_notice first n gs) q ≡ Some k → held_at first gs q ≡ Some k
 told_holds first None gs q k h = h
 told_holds first (Some g) gs q k h = (other_holds first g (get_at_place (Waiting true)) gs q k (put_nothing (Waiting true) refl) h).1
 
-pub begun_holds : (first : ℕ) (gs : List (Numbered Getting)) (q k : ℕ) → holds (standing_at first (gs ++ new_get ∷ []) q) ≡ Some k → holds (standing_at first gs q) ≡ Some k
-begun_holds first gs q k h = pick (eqb q (first + length gs))
-    (sym (ap (λ (o : Option (Numbered Getting)). holds (option_and_then (λ (x : Numbered Getting). x.standing) o))
-    (numbered.at-append gs new_get first q)) ∙ h)
-  where
-    pick : (b : Bool) → holds (option_and_then (λ (x : Numbered Getting). x.standing) (cond b (Some new_get) (at_number first gs q))) ≡ Some k → holds (standing_at first gs q) ≡ Some k
-    pick true e = cc
-    pick false e = e
+pub begun_holds : (first : ℕ) (gs : List (Numbered Getting)) (q k : ℕ) → held_at first (gs ++ new_get ∷ []) q ≡ Some k → held_at first gs q ≡ Some k
+begun_holds first gs q k h = sym (begun_same first gs q) ∙ h

@@ -1,5 +1,5 @@
--- What a get holds is out in that get's hands.
-use Rattle.std.proofs.Common.{◌≡◌, ◌≢◌, ℕ, max, Bool, true, false, cond, eqb, List, Option, Some, None, map, refl, sym, ap, ◌∙◌, ⊎_elim, ne_eqb}
+-- What a get holds is out in that get's hands, and what is out in its hands it holds.
+use Rattle.std.proofs.Common.{◌≡◌, ℕ, max, Bool, true, false, cond, eqb, ◌&&◌, List, Option, Some, None, is_some, map, refl, sym, ap, ◌∙◌}
 use Rattle.bb8_types.specs.declared.standing.Place.{Place}
 use Rattle.bb8_types.specs.declared.standing.Place.TheVariants.{Idle, Held, Guarded}
 use Rattle.bb8_types.specs.declared.standing.Standing.{Standing}
@@ -7,13 +7,24 @@ use Rattle.bb8_types.specs.declared.standing.GetPlace.TheVariants.{Active, Holdi
 use Rattle.bb8_types.specs.declared.standing.Getting.{Getting}
 use Rattle.bb8_ledger.specs.Acts.{Act, Leave}
 use Rattle.bb8_ledger.specs.Answers.{Answer, Left}
-use Rattle.bb8_types.specs.Numbered.{Numbered, update, standing_at, after_end, after_end_where}
-use Rattle.bb8_ledger.specs.Ledger.{Ledger, Later, start, position, latest, handles, records, gets, record_of, get_of, at_place, entry, at_entry, with_approvals, get_at_place, at_wait}
-use Rattle.bb8_types.specs.Places.{holds, stands, is_held_by, is_reaped, is_left}
-use Rattle.bb8_ledger.specs.Table.{Row, begins, waits_on, serves, takes_out, waits, checks, check_fails, gives_up, gives_up_kept, gives_up_closed, keeps, returns_closed, fills, claims, opens, opens_late, fails, adds, reaps, leaves, IsLegal, fits, with_record}
+use Rattle.bb8_types.specs.Numbered.{Numbered, update, after_end, after_end_where}
+use Rattle.bb8_ledger.specs.Ledger.{Ledger, Later, start, position, latest, handles, records, gets, record_of, get_of, at_place, entry, at_entry, with_approvals, get_at_place, at_wait, with_notice, oldest_waiter}
+use Rattle.bb8_types.specs.Places.{holds, stands, gets_stand, is_held_by, is_left, is_trying, is_notified}
+use Rattle.bb8_ledger.specs.Table.{Row, begins, waits_on, serves, takes_out, waits, checks, check_fails, gives_up, gives_up_kept, gives_up_closed, keeps, returns_closed, fills, claims, opens, opens_late, fails, adds, reaps, leaves, IsLegal, fits, with_record, agree}
 use Rattle.bb8_types.proofs.Numbered as numbered
-use Rattle.bb8_ledger.proofs.Effects.{each_legal, passes, Turns, to_place, returns_turn, closes_turn, opens_turn, ends_turn, held_turns, idle_turns, unclaimed_turns, IsOut, held_out, tests, turned_tests, turned_from, added_tests, granted_tests, swept_tests, reap_spares, leave_spares}
-use Rattle.bb8_ledger.proofs.GetEffects.{changed_holds, other_holds, put_nothing, put_holds, waits_nothing, told_holds, begun_holds}
+use Rattle.bb8_types.proofs.Places.{and_right}
+use Rattle.bb8_ledger.proofs.Waiters.{getting_is}
+use Rattle.bb8_ledger.proofs.Effects.{each_legal, passes, Turns, to_place, returns_turn, closes_turn, opens_turn, ends_turn, held_turns, idle_turns, unclaimed_turns, IsOut, held_out, tests, turned_tests, turned_from, kept_tests, added_tests, granted_tests, swept_tests, reap_tests, leave_spares}
+use Rattle.bb8_ledger.proofs.GetEffects.{held_at, dropped_same, quiet_same, taken_same, told_same, begun_same, put_nothing, waits_nothing, trying_quiet, oldest_quiet}
+
+-- whether it is k that is held
+abbrev is_it : ℕ → Option ℕ → Bool
+is_it k None = false
+is_it k (Some j) = eqb k j
+
+it_is : (k : ℕ) (o : Option ℕ) → is_it k o ≡ true → o ≡ Some k
+it_is k None e = cc
+it_is k (Some j) e = ap (λ (i : ℕ). Some i) (sym (numbered.tested k j e))
 
 module _ {C : Type 0} where
   -- the leave of a handle spares what is out
@@ -26,104 +37,154 @@ module _ {C : Type 0} where
 
   -- ---- who holds what
 
-  abbrev pub AllHeld : Ledger C → Type 0
-  AllHeld l = (g k : ℕ) → holds (get_of l g) ≡ Some k → stands (is_held_by g) (record_of l k) ≡ true
+  -- A get holds a connection just where that connection is out in its hands.
+  abbrev AllHold : Ledger C → Type 0
+  AllHold l = (g k : ℕ) → is_it k (holds (get_of l g)) ≡ tests (is_held_by g) (start l).first (records l) k
 
-  -- what a get holds stays with it where another record has moved
-  still_held : {l : Ledger C} {j : ℕ} {p : Place C} {q : Option (Place C)} {f : Numbered (Standing C) → Numbered (Standing C)} (g k : ℕ)
-      → Turns l j p q f → is_held_by g p ≡ false → tests (is_held_by g) (start l).first (records l) k ≡ true
-      → tests (is_held_by g) (start l).first (with_record l j f) k ≡ true
-  still_held {l} {j} {p} {q} {f} g k t off h =
-      turned_tests (is_held_by g) k t
-      ∙ ⊎_elim
-      (λ (s : (eqb k j ≡ true) × (k ≡ j)). absurd (let clash : false ≡ true = sym (turned_from (is_held_by g) t ∙ off)
-      ∙ sym (ap (λ (i : ℕ). tests (is_held_by g) (start l).first (records l) i) s.1) ∙ h in cc))
-      (λ (s : (eqb k j ≡ false) × (k ≢ j)). ap (λ (b : Bool). cond b (passes (is_held_by g) q) (tests (is_held_by g) (start l).first (records l) k)) s.0 ∙ h)
-      (numbered.same_or_not k j)
+  -- a record moved that no get held, and none holds
+  unheld : {l : Ledger C} {j : ℕ} {p : Place C} {q : Option (Place C)} {f : Numbered (Standing C) → Numbered (Standing C)} (g k : ℕ)
+      → Turns l j p q f → is_held_by g p ≡ false → passes (is_held_by g) q ≡ false
+      → tests (is_held_by g) (start l).first (records l) k ≡ tests (is_held_by g) (start l).first (with_record l j f) k
+  unheld g k t was is = sym (kept_tests (is_held_by g) k t was is)
 
-  granted_held : (first : ℕ) (rs : List (Numbered (Standing C))) (g k : ℕ) (claimed : Bool) (n : ℕ) → tests (is_held_by g) first rs k ≡ true
-      → tests (is_held_by g) first (with_approvals claimed n rs) k ≡ true
-  granted_held first rs g k claimed n h = granted_tests (is_held_by g) first k claimed n rs (held_out g) ∙ h
+  -- approvals are made, which no get holds
+  granted : (first : ℕ) (rs : List (Numbered (Standing C))) (g k : ℕ) (claimed : Bool) (n : ℕ) → tests (is_held_by g) first rs k ≡ tests (is_held_by g) first (with_approvals claimed n rs) k
+  granted first rs g k claimed n = sym (granted_tests (is_held_by g) first k claimed n rs (held_out g))
 
-  -- the get that takes a connection holds it
-  taken_held : (l : Ledger C) (q j g k : ℕ) → AllHeld l → (c : C) × Turns l j (Idle c) (Some (Held q)) (at_place (Held q))
-      → holds (standing_at (start l).first_get (update (start l).first_get q (get_at_place (Holding j)) (gets l)) g) ≡ Some k
-      → tests (is_held_by g) (start l).first (with_record l j (at_place (Held q))) k ≡ true
-  taken_held l q j g k h t now =
-      ⊎_elim
-      (λ (s : (g ≡ q) × (x : Numbered Getting) × (holds (get_at_place (Holding j) x).standing ≡ Some k)).
-      turned_tests (is_held_by g) k t.1
-      ∙ ap (λ (b : Bool). cond b (eqb g q) (tests (is_held_by g) (start l).first (records l) k)) (ap (eqb k) (put_holds j k s.1 s.2) ∙ numbered.eqb_self k)
-      ∙ ap (eqb g) (sym s.0)
-      ∙ numbered.eqb_self g)
-      (λ (s : (g ≢ q) × (holds (get_of l g) ≡ Some k)). still_held g k t.1 refl (h g k s.1))
-      (changed_holds (start l).first_get q (get_at_place (Holding j)) (gets l) g k now)
+  -- the connection of a get that holds it is out in its hands
+  in_hand : (l : Ledger C) (g k : ℕ) → AllHold l → holds (get_of l g) ≡ Some k → tests (is_held_by g) (start l).first (records l) k ≡ true
+  in_hand l g k h holds_it = sym (h g k) ∙ ap (is_it k) holds_it ∙ numbered.eqb_self k
 
-  -- a get lets go of what it holds
+  -- the get q lets go of what it holds
   let_go : {l : Ledger C} {q j : ℕ} {to : Option (Place C)} {f : Numbered (Standing C) → Numbered (Standing C)}
-      (d : Numbered Getting → Numbered Getting) (g k : ℕ) → AllHeld l → Turns l j (Held q) to f
-      → ((x : Numbered Getting) → holds (d x).standing ≡ None)
-      → holds (standing_at (start l).first_get (update (start l).first_get q d (gets l)) g) ≡ Some k
-      → tests (is_held_by g) (start l).first (with_record l j f) k ≡ true
-  let_go {l} {q} {j} {to} {f} d g k h t nothing now =
-      let other : (g ≢ q) × (holds (get_of l g) ≡ Some k) = other_holds (start l).first_get q d (gets l) g k nothing now in
-      still_held g k t (ne_eqb g q other.0) (h g k other.1)
+      (d : Numbered Getting → Numbered Getting) (g k : ℕ) → AllHold l → holds (get_of l q) ≡ Some j → Turns l j (Held q) to f
+      → passes (is_held_by g) to ≡ false → ((x : Numbered Getting) → holds (d x).standing ≡ None)
+      → is_it k (held_at (start l).first_get (update (start l).first_get q d (gets l)) g) ≡ tests (is_held_by g) (start l).first (with_record l j f) k
+  let_go {l} {q} {j} {to} {f} d g k h holds_it t off nothing =
+      ap (is_it k) (dropped_same (start l).first_get q d (gets l) g nothing)
+      ∙ pick (eqb g q) (eqb k j) refl refl
+      ∙ sym (turned_tests (is_held_by g) k t ∙ ap (λ (b : Bool). cond (eqb k j) b (tests (is_held_by g) (start l).first (records l) k)) off)
+    where
+      pick : (a b : Bool) → eqb g q ≡ a → eqb k j ≡ b → is_it k (cond a None (holds (get_of l g))) ≡ cond b false (tests (is_held_by g) (start l).first (records l) k)
+      pick true true same it = refl
+      pick true false same it = sym (sym (h g k) ∙ ap (λ (i : ℕ). is_it k (holds (get_of l i))) (numbered.tested g q same) ∙ ap (is_it k) holds_it ∙ it)
+      pick false true same it = h g k ∙ ap (tests (is_held_by g) (start l).first (records l)) (numbered.tested k j it) ∙ turned_from (is_held_by g) t ∙ same
+      pick false false same it = h g k
 
-  row_held : (l : Ledger C) (at : ℕ) (e : Act C) (a : Answer) → fits l e ≡ true → Row l at e a → AllHeld l → AllHeld (Later l at e a)
-  row_held l at _ _ f (begins is few) h = λ g k now. h g k (begun_holds (start l).first_get (gets l) g k now)
-  row_held l at _ _ f (waits_on {g = q} {grant} on nothing) h =
-      λ g k now. granted_held (start l).first _ g k false grant.count
-      (h g k (other_holds (start l).first_get q (at_wait (max (latest l) at) (position l)) (gets l) g k
-      (waits_nothing (max (latest l) at) (position l)) now).1)
-  row_held l at _ _ f (serves {g = q} {k = j} {grant} not_waiting off first want) h =
-      λ g k now. granted_held (start l).first _ g k false grant.count
-      (still_held g k (idle_turns l j Guarded first).1 refl
-      (h g k (other_holds (start l).first_get q after_end (gets l) g k (λ x. refl) now).1))
-  row_held l at _ _ f (takes_out {g = q} {k = j} {grant} not_waiting on first want) h =
-      λ g k now. granted_held (start l).first _ g k false grant.count (taken_held l q j g k h (idle_turns l j (Held q) first) now)
-  row_held l at _ _ f (waits {g = q} {grant} not_waiting none granted) h =
-      λ g k now. granted_held (start l).first _ g k false grant.count
-      (h g k (other_holds (start l).first_get q (at_wait (max (latest l) at) (position l)) (gets l) g k
-      (waits_nothing (max (latest l) at) (position l)) now).1)
-  row_held l at _ _ f (checks {g = q} {k = j} holds_it nothing) h =
-      λ g k now. let_go after_end g k h (held_turns l q j (Some Guarded) (at_place Guarded) (h q j holds_it) (to_place Guarded))
-      (λ x. refl) now
-  row_held l at _ _ f (check_fails {g = q} {k = j} {grant} {n} holds_it want is) h =
-      λ g k now. granted_held (start l).first _ g k false grant.count
-      (let_go (get_at_place Active) g k h (held_turns l q j None after_end (h q j holds_it) (λ s r e. refl)) (put_nothing Active refl)
-      (told_holds (start l).first_get n (update (start l).first_get q (get_at_place Active) (gets l)) g k now))
-  row_held l at _ _ f (gives_up {g = q} {n} is) h =
-      λ g k now. h g k (other_holds (start l).first_get q after_end (gets l) g k (λ x. refl)
-      (told_holds (start l).first_get n (update (start l).first_get q after_end (gets l)) g k now)).1
-  row_held l at _ _ f (gives_up_kept {g = q} {k = j} {c} {n} holds_it keep is) h =
-      λ g k now. let_go after_end g k h (held_turns l q j (Some (Idle c)) (at_entry c (max (latest l) at) (position l)) (h q j holds_it)
-      (λ s r e. refl)) (λ x. refl) (told_holds (start l).first_get n (update (start l).first_get q after_end (gets l)) g k now)
-  row_held l at _ _ f (gives_up_closed {g = q} {k = j} {grant} {n} holds_it shut want is) h =
-      λ g k now. granted_held (start l).first _ g k false grant.count
-      (let_go after_end g k h (held_turns l q j None after_end (h q j holds_it) (λ s r e. refl)) (λ x. refl)
-      (told_holds (start l).first_get n (update (start l).first_get q after_end (gets l)) g k now))
-  row_held l at _ _ f (keeps {k = j} {c} {n} keep is) h = λ g k now. still_held g k (returns_turn l at j c f) refl (h g k (told_holds (start l).first_get n (gets l) g k now))
-  row_held l at _ _ f (returns_closed {k = j} {grant} {n} shut want is) h =
-      λ g k now. granted_held (start l).first _ g k false grant.count
-      (still_held g k (closes_turn l j f) refl (h g k (told_holds (start l).first_get n (gets l) g k now)))
-  row_held l at _ _ f (fills {claimed} {grant} want) h = λ g k now. granted_held (start l).first _ g k claimed grant.count (h g k now)
-  row_held l at _ _ f (claims {k = Some j} open_now first) h = λ g k now. still_held g k (unclaimed_turns l j first) refl (h g k now)
-  row_held l at _ _ f (opens {k = j} {c} {n} open_now is) h = λ g k now. still_held g k (opens_turn l at j c f) refl (h g k (told_holds (start l).first_get n (gets l) g k now))
-  row_held l at _ _ f (opens_late {k = j} none) h = λ g k now. still_held g k (ends_turn l j f) refl (h g k now)
-  row_held l at _ _ f (fails {k = j}) h = λ g k now. still_held g k (ends_turn l j f) refl (h g k now)
-  row_held l at _ _ f (adds {c} {n} room few is who) h =
-      λ g k now. added_tests (is_held_by g) (start l).first k (entry c (max (latest l) at) (max (latest l) at) (position l))
-      (records l) refl ∙ h g k (told_holds (start l).first_get n (gets l) g k now)
-  row_held l at _ _ f (reaps {grant} open_now closed_is by_idle_is by_life_is want) h =
-      λ g k now. granted_held (start l).first _ g k false grant.count
-      (swept_tests (is_held_by g) (is_reaped (start l).config (max (latest l) at)) (start l).first k (records l)
-      (reap_spares (is_held_by g) (λ c. refl) (start l).config (max (latest l) at)) ∙ h g k now)
-  row_held l at _ _ f (leaves {n} is) h = λ g k now. left_tests (is_held_by g) (held_out g) l at n k ∙ h g k now
-  row_held l at _ _ f _ h = h
+  -- the get q takes an idle connection
+  takes : (l : Ledger C) (q j g k : ℕ) → AllHold l → gets_stand is_trying (get_of l q) ≡ true → (c : C) × Turns l j (Idle c) (Some (Held q)) (at_place (Held q))
+      → is_it k (held_at (start l).first_get (update (start l).first_get q (get_at_place (Holding j)) (gets l)) g) ≡ tests (is_held_by g)
+      (start l).first (with_record l j (at_place (Held q))) k
+  takes l q j g k h tries t =
+      let st = getting_is is_trying (get_of l q) tries in
+      ap (is_it k) (taken_same (start l).first_get q j (gets l) g st.0 st.1)
+      ∙ pick (eqb g q) (eqb k j) refl refl
+      ∙ sym (turned_tests (is_held_by g) k t.1)
+    where
+      pick : (a b : Bool) → eqb g q ≡ a → eqb k j ≡ b → is_it k (cond a (Some j) (holds (get_of l g))) ≡ cond b (eqb g q) (tests (is_held_by g) (start l).first (records l) k)
+      pick true true same it = it ∙ sym same
+      pick true false same it =
+          it ∙ sym (sym (h g k) ∙ ap (λ (i : ℕ). is_it k (holds (get_of l i))) (numbered.tested g q same) ∙ ap (is_it k) (trying_quiet (get_of l q) tries))
+      pick false true same it = h g k ∙ ap (tests (is_held_by g) (start l).first (records l)) (numbered.tested k j it) ∙ turned_from (is_held_by g) t.1 ∙ sym same
+      pick false false same it = h g k
+
+  -- the get q, which held nothing, moves or ends, and holds nothing
+  stays : (l : Ledger C) (q : ℕ) (d : Numbered Getting → Numbered Getting) (g k : ℕ) → holds (get_of l q) ≡ None → ((x : Numbered Getting) → holds (d x).standing ≡ None)
+      → is_it k (held_at (start l).first_get (update (start l).first_get q d (gets l)) g) ≡ is_it k (holds (get_of l g))
+  stays l q d g k quiet nothing = ap (is_it k) (quiet_same (start l).first_get q d (gets l) g nothing quiet)
+
+  -- the oldest waiter is notified, which holds nothing
+  told : (l : Ledger C) (n : Option ℕ) (g k : ℕ) → n ≡ oldest_waiter l → is_it k (held_at (start l).first_get (with_notice (start l).first_get n (gets l)) g) ≡ is_it k (holds (get_of l g))
+  told l n g k is = ap (is_it k) (told_same (start l).first_get n (gets l) g (oldest_quiet l n is))
+
+  -- and so it is once a get has moved or ended that holds nothing then
+  told_after : (l : Ledger C) (q : ℕ) (d : Numbered Getting → Numbered Getting) (n : Option ℕ) (g k : ℕ)
+      → ((m : ℕ) → n ≡ Some m → holds (get_of l m) ≡ None) → ((x : Numbered Getting) → holds (d x).standing ≡ None)
+      → is_it k (held_at (start l).first_get (with_notice (start l).first_get n (update (start l).first_get q d (gets l))) g) ≡ is_it k
+      (held_at (start l).first_get (update (start l).first_get q d (gets l)) g)
+  told_after l q d n g k quiet nothing =
+      ap (is_it k) (told_same (start l).first_get n (update (start l).first_get q d (gets l)) g
+      (λ m e. dropped_same (start l).first_get q d (gets l) m nothing ∙ none (eqb m q) (quiet m e)))
+    where
+      none : (b : Bool) {o : Option ℕ} → o ≡ None → cond b None o ≡ None
+      none true e = refl
+      none false e = e
+
+  -- a get that gives up and hands nothing in holds nothing
+  free_quiet : (l : Ledger C) (g : ℕ) → (is_some (get_of l g) && agree false (is_some (holds (get_of l g)))) ≡ true → holds (get_of l g) ≡ None
+  free_quiet l g f = go (holds (get_of l g)) (and_right (is_some (get_of l g)) _ f).1
+    where
+      go : (o : Option ℕ) → agree false (is_some o) ≡ true → o ≡ None
+      go None e = refl
+      go (Some k) e = cc
+
+  -- to whom it hands its notification on holds nothing
+  handed_quiet : (l : Ledger C) (n : Option ℕ) (g : ℕ) → n ≡ cond (gets_stand is_notified (get_of l g)) (oldest_waiter l) None → (m : ℕ) → n ≡ Some m → holds (get_of l m) ≡ None
+  handed_quiet l n g is m e = pick (gets_stand is_notified (get_of l g)) (sym is ∙ e)
+    where
+      pick : (b : Bool) → cond b (oldest_waiter l) None ≡ Some m → holds (get_of l m) ≡ None
+      pick true to = oldest_quiet l (oldest_waiter l) refl m to
+      pick false to = cc
+
+  row_hold : (l : Ledger C) (at : ℕ) (e : Act C) (a : Answer) → fits l e ≡ true → Row l at e a → AllHold l → AllHold (Later l at e a)
+  row_hold l at _ _ f (begins is few) h = λ g k. ap (is_it k) (begun_same (start l).first_get (gets l) g) ∙ h g k
+  row_hold l at _ _ f (waits_on {g = q} {grant} on nothing) h =
+      λ g k. stays l q (at_wait (max (latest l) at) (position l)) g k (trying_quiet (get_of l q) f) (waits_nothing (max (latest l) at) (position l))
+      ∙ h g k ∙ granted (start l).first _ g k false grant.count
+  row_hold l at _ _ f (serves {g = q} {k = j} {grant} not_waiting off first want) h =
+      λ g k. stays l q after_end g k (trying_quiet (get_of l q) f) (λ x. refl)
+      ∙ h g k ∙ unheld g k (idle_turns l j Guarded first).1 refl refl ∙ granted (start l).first _ g k false grant.count
+  row_hold l at _ _ f (takes_out {g = q} {k = j} {grant} not_waiting on first want) h =
+      λ g k. takes l q j g k h f (idle_turns l j (Held q) first) ∙ granted (start l).first _ g k false grant.count
+  row_hold l at _ _ f (waits {g = q} {grant} not_waiting none granted_it) h =
+      λ g k. stays l q (at_wait (max (latest l) at) (position l)) g k (trying_quiet (get_of l q) f) (waits_nothing (max (latest l) at) (position l))
+      ∙ h g k ∙ granted (start l).first _ g k false grant.count
+  row_hold l at _ _ f (checks {g = q} {k = j} holds_it nothing) h =
+      λ g k. let_go after_end g k h holds_it (held_turns l q j (Some Guarded) (at_place Guarded) (in_hand l q j h holds_it) (to_place Guarded)) refl (λ x. refl)
+  row_hold l at _ _ f (check_fails {g = q} {k = j} {grant} {n} holds_it want is) h =
+      λ g k. told_after l q (get_at_place Active) n g k (oldest_quiet l n is) (put_nothing Active refl)
+      ∙ let_go (get_at_place Active) g k h holds_it (held_turns l q j None after_end (in_hand l q j h holds_it) (λ s r e. refl)) refl (put_nothing Active refl)
+      ∙ granted (start l).first _ g k false grant.count
+  row_hold l at _ _ f (gives_up {g = q} {n} is) h =
+      λ g k. told_after l q after_end n g k (handed_quiet l n q is) (λ x. refl)
+      ∙ stays l q after_end g k (free_quiet l q f) (λ x. refl) ∙ h g k
+  row_hold l at _ _ f (gives_up_kept {g = q} {k = j} {c} {n} holds_it keep is) h =
+      λ g k. told_after l q after_end n g k (oldest_quiet l n is) (λ x. refl)
+      ∙ let_go after_end g k h holds_it (held_turns l q j (Some (Idle c)) (at_entry c (max (latest l) at) (position l))
+      (in_hand l q j h holds_it) (λ s r e. refl)) refl (λ x. refl)
+  row_hold l at _ _ f (gives_up_closed {g = q} {k = j} {grant} {n} holds_it shut want is) h =
+      λ g k. told_after l q after_end n g k (oldest_quiet l n is) (λ x. refl)
+      ∙ let_go after_end g k h holds_it (held_turns l q j None after_end (in_hand l q j h holds_it) (λ s r e. refl)) refl (λ x. refl)
+      ∙ granted (start l).first _ g k false grant.count
+  row_hold l at _ _ f (keeps {k = j} {c} {n} keep is) h = λ g k. told l n g k is ∙ h g k ∙ unheld g k (returns_turn l at j c f) refl refl
+  row_hold l at _ _ f (returns_closed {k = j} {grant} {n} shut want is) h =
+      λ g k. told l n g k is ∙ h g k ∙ unheld g k (closes_turn l j f) refl refl ∙ granted (start l).first _ g k false grant.count
+  row_hold l at _ _ f (fills {claimed} {grant} want) h = λ g k. h g k ∙ granted (start l).first _ g k claimed grant.count
+  row_hold l at _ _ f (claims {k = Some j} open_now first) h = λ g k. h g k ∙ unheld g k (unclaimed_turns l j first) refl refl
+  row_hold l at _ _ f (opens {k = j} {c} {n} open_now is) h = λ g k. told l n g k is ∙ h g k ∙ unheld g k (opens_turn l at j c f) refl refl
+  row_hold l at _ _ f (opens_late {k = j} none) h = λ g k. h g k ∙ unheld g k (ends_turn l j f) refl refl
+  row_hold l at _ _ f (fails {k = j}) h = λ g k. h g k ∙ unheld g k (ends_turn l j f) refl refl
+  row_hold l at _ _ f (adds {c} {n} room few is who) h =
+      λ g k. told l n g k who ∙ h g k
+      ∙ sym (added_tests (is_held_by g) (start l).first k (entry c (max (latest l) at) (max (latest l) at) (position l)) (records l) refl)
+  row_hold l at _ _ f (reaps {grant} open_now closed_is by_idle_is by_life_is want) h =
+      λ g k. h g k
+      ∙ sym (reap_tests (is_held_by g) (held_out g) l at k)
+      ∙ granted (start l).first _ g k false grant.count
+  row_hold l at _ _ f (leaves {n} is) h = λ g k. h g k ∙ sym (left_tests (is_held_by g) (held_out g) l at n k)
+  row_hold l at _ _ f _ h = h
 
   -- so it is in every legal ledger
-  pub all_held : (l : Ledger C) → IsLegal l → AllHeld l
-  all_held = each_legal AllHeld (λ s lawful g k now. cc) (λ l at e h. h) (λ l at e a legal f row h. row_held l at e a f row h)
+  all_hold : (l : Ledger C) → IsLegal l → AllHold l
+  all_hold = each_legal AllHold (λ s lawful g k. refl) (λ l at e h. h) (λ l at e a legal f row h. row_hold l at e a f row h)
+
+  -- what a get holds is out in its hands
+  pub all_held : (l : Ledger C) → IsLegal l → (g k : ℕ) → holds (get_of l g) ≡ Some k → stands (is_held_by g) (record_of l k) ≡ true
+  all_held l legal g k = in_hand l g k (all_hold l legal)
+
+  -- and what is out in its hands it holds
+  pub all_holding : (l : Ledger C) → IsLegal l → (g k : ℕ) → stands (is_held_by g) (record_of l k) ≡ true → holds (get_of l g) ≡ Some k
+  all_holding l legal g k out = it_is k (holds (get_of l g)) (all_hold l legal g k ∙ out)
 
   -- ---- the record that a get holds
 

@@ -1,8 +1,6 @@
 -- What holds of every legal ledger: the limits, the laws, and the promises to those who wait.
-use Rattle.std.proofs.Common.{◌≡◌, ◌⊎◌, ℕ, zero, suc, ◌+◌, ◌-◌, ◌<◌, ◌≤◌, max, min, Bool, true, false, cond, not, eqb, ◌&&◌, List, [], ◌∷◌, ◌++◌, length, map, Option, Some, None, slice_get, refl, sym, ap, ◌∙◌, inl, inr, ⊎_elim, arith, subst, length-append, is_some, ltb}
-use Rattle.std.specs.Option.{unwrap_or}
+use Rattle.std.proofs.Common.{◌≡◌, ◌⊎◌, ℕ, zero, suc, ◌+◌, ◌-◌, ◌<◌, ◌≤◌, max, min, Bool, true, false, cond, not, eqb, ◌&&◌, List, [], ◌∷◌, ◌++◌, length, Option, Some, None, slice_get, refl, sym, ap, ◌∙◌, inl, inr, ⊎_elim, arith, subst, length-append, is_some, ltb}
 use Rattle.std.proofs.lemmas.Bool.Decides.{nat_tests}
-use Rattle.std.proofs.lemmas.List.{length-map}
 use Rattle.bb8_types.specs.declared.grants.Grant.{Grant}
 use Rattle.bb8_types.specs.declared.standing.Place.TheVariants.{Claimed, Held, Guarded}
 use Rattle.bb8_types.specs.declared.standing.Standing.{Standing}
@@ -11,21 +9,25 @@ use Rattle.bb8_types.specs.Settings.{Settings, is_lawful}
 use Rattle.bb8_types.specs.Figures.{Counts}
 use Rattle.bb8_ledger.specs.Acts.{Act, Try, CheckedOk, GiveUp, Leave, Reason, TimedOut, Cancelled}
 use Rattle.bb8_ledger.specs.Answers.{Answer, Kept, Closed, GaveUp, Left, Unfit}
-use Rattle.bb8_types.specs.Numbered.{Numbered, at as at_number, update, in_order, one, after_end, after_end_where}
-use Rattle.bb8_ledger.specs.Ledger.{Ledger, Opening, Later, start, position, latest, records, gets, handles, next, next_get, conns, approved, idle_count, conns_of, approved_of, idle_of, alive, alive_of, notified, unnotified, idle, unnotified_at, first_idle, oldest_waiter, record_of, get_of, tally_gets, at_place, with_approvals, new_get, at_wait, with_notice, expires, counts, waited_since, timed_out, cancelled}
-use Rattle.bb8_types.specs.Places.{is_conn, is_approval, gets_stand, is_notified, is_unnotified, is_reaped, is_trying}
-use Rattle.bb8_ledger.specs.Table.{Row, begins, waits_on, serves, takes_out, waits, checks, check_fails, gives_up, gives_up_kept, gives_up_closed, keeps, returns_closed, fills, claims, opens, opens_late, fails, adds, reaps, joins, leaves, reap_count, IsWant, IsLegal, takes, fits, is_brought, with_record}
+use Rattle.bb8_types.specs.Numbered.{Numbered, at as at_number, update, in_order, one, after_end}
+use Rattle.bb8_ledger.specs.Ledger.{Ledger, Opening, Later, start, position, latest, records, gets, handles, next, next_get, conns, approved, idle_count, conns_of, approved_of, idle_of, alive, alive_of, notified, unnotified, idle, unnotified_at, first_idle, oldest_waiter, record_of, get_of, tally_gets, new_get, at_wait, with_notice, expires, counts, waited_since, timed_out, cancelled}
+use Rattle.bb8_types.specs.Places.{is_conn, is_approval, gets_stand, is_notified, is_unnotified, is_trying}
+use Rattle.bb8_ledger.specs.Table.{Row, begins, waits_on, serves, takes_out, waits, checks, check_fails, gives_up, gives_up_kept, gives_up_closed, keeps, returns_closed, fills, claims, opens, opens_late, fails, adds, reaps, joins, leaves, reaped_at, IsWant, IsLegal, takes, fits, is_brought}
 use Rattle.bb8_types.specs.Grants.{due, lacking}
-use Rattle.bb8_ledger.specs.Limits.{KeepsLimits, GivesNext, NeverGivesAgain, MakesGood, AlwaysMakesGood, KeepsLaws, KeepsPromises, NeverForgets, MayLower, lost}
+use Rattle.bb8_ledger.specs.Limits.{KeepsLimits, KeepsLaws, KeepsPromises, NeverForgets, MayLower, lost}
 use Rattle.bb8_ledger.proofs.Standings.{conns-change, approved-change, tested}
 use Rattle.bb8_types.proofs.Places.{and_right}
 use Rattle.bb8_types.proofs.Numbered as numbered
 use Rattle.bb8_ledger.proofs.Facts.{waited_before, conns_split, idle_tally, first_inside}
-use Rattle.bb8_ledger.proofs.Waiters.{getting_is, waiters_few, alive_counted, begins_counted, begins_alive, waits_on_same, notify_length, notify_alive, notify_counted, given_up_counted, IsGivenUp, InLine, line_later, line_begun, line_begins, line_notified, line_given_up, Serves, serves_same, serves_filled, serves_served, serves_entered, serves_closed, serves_late, serves_given_up, serves_handed_on, serves_waits, serves_lost, serves_reaped, serves_joined, serves_left, serves_left_open}
-use Rattle.bb8_ledger.proofs.Effects.{each_legal, returns_turn, closes_turn, opens_turn, ends_turn, idle_turns, unclaimed_turns, stays_sized, turned_sized, adds_sized, granted_sized, conns-approve, approved-approve, idle-approve, length-approve, reaped_sized, granted_reaped, left_sized}
-use Rattle.bb8_ledger.proofs.GetEffects.{trier, trier_leaves, trier_holds, holder_ends, holder_turns, left_alive, left_unnotified, left_notified, left_length, left_told, left_told_alive, left_told_length, left_line, left_told_line}
+use Rattle.bb8_ledger.proofs.Waiters.{getting_is, waiters_few, alive_counted, begins_counted, begins_alive, waits_on_same, notify_alive, notify_counted, given_up_counted, IsGivenUp, InLine, line_later, line_begun, line_begins, line_notified, line_given_up, Serves, serves_same, serves_filled, serves_served, serves_entered, serves_closed, serves_late, serves_given_up, serves_handed_on, serves_waits, serves_lost, serves_reaped, serves_joined, serves_left, serves_left_open}
+use Rattle.bb8_ledger.proofs.Effects.{each_legal, returns_turn, closes_turn, opens_turn, ends_turn, idle_turns, unclaimed_turns, stays_sized, turned_sized, adds_sized, granted_sized, reaped_sized, granted_reaped, left_sized}
+use Rattle.bb8_ledger.proofs.GetEffects.{waits_length, told_length, given_up_length, trier, trier_leaves, trier_holds, holder_ends, holder_turns, left_alive, left_unnotified, left_notified, left_length, left_told, left_told_alive, left_told_length, left_line, left_told_line}
 use Rattle.bb8_ledger.proofs.Lent.{never_twice}
-use Rattle.bb8_ledger.proofs.Held.{all_held, checks_turn, drops_turn, hands_in_turn}
+use Rattle.bb8_ledger.proofs.Numbers.{never_again}
+use Rattle.bb8_ledger.proofs.Wants.{either_none, due_open, makes_good}
+use Rattle.bb8_ledger.proofs.Reaps.{never_reaps_twice}
+use Rattle.bb8_ledger.proofs.Checked.{never_unchecked}
+use Rattle.bb8_ledger.proofs.Held.{all_held, all_holding, checks_turn, drops_turn, hands_in_turn}
 
 -- The sizes and the statistics of a ledger fit together.
 pub record Fits (max_size conns approved next alive next_get : ℕ) (c : Counts) : Type 0 where
@@ -57,12 +59,6 @@ either_one : (b : Bool) → one (not b) + one b ≡ 1
 either_one true = refl
 either_one false = refl
 
--- one of two numbers is nothing where the less of them is
-either_none : (x y : ℕ) → min x y ≡ 0 → (x ≡ 0) ⊎ (y ≡ 0)
-either_none zero y h = inl refl
-either_none (suc x) zero h = inr refl
-either_none (suc x) (suc y) h = absurd (omega arith)
-
 -- one is asked for, or there are enough
 one_or_enough : (have need : ℕ) → (one (ltb have need) ≡ 1) ⊎ (need ≤ have)
 one_or_enough have need = go (ltb have need) refl
@@ -75,20 +71,6 @@ one_or_enough have need = go (ltb have need) refl
 not_lost : (u n v m : ℕ) → v ≡ u - 1 → m + 1 ≡ n + min 1 u → (n ≤ m) ⊎ (v ≡ 0)
 not_lost zero n v m less more = inr (omega arith)
 not_lost (suc u) n v m less more = inl (omega arith)
-
--- what is granted reaches what is wanted, or the size, or something was withheld
-made_good : (least size had have took taken count withheld : ℕ) → count + withheld ≡ min (least - had) (size - took) → have ≡ had + count
-    → taken ≡ took + count → (least ≤ have) ⊎ (size ≤ taken) ⊎ (0 < withheld)
-made_good least size had have took taken count (suc withheld) split more full = inr (inr (omega arith))
-made_good least size had have took taken count zero split more full =
-    ⊎_elim
-    (λ (e : least - have ≡ 0). inl (omega arith))
-    (λ (e : size - taken ≡ 0). inr (inl (omega arith)))
-    (either_none (least - have) (size - taken) (omega arith))
-
--- what is due while a handle is alive
-due_open : (config : Settings) (handles taken asked : ℕ) → 0 < handles → due config handles taken asked ≡ min asked (config.max_size - taken)
-due_open config handles taken asked open_now = ap (λ (b : Bool). cond b 0 (min asked (config.max_size - taken))) (numbered.ne_test handles 0 (λ e. omega arith))
 
 -- a handle is alive
 is_open : (n : ℕ) → ltb 0 n ≡ true → 0 < n
@@ -157,9 +139,6 @@ module _ {C : Type 0} where
   waits_alive : (l : Ledger C) (at g : ℕ) → alive_of (update (start l).first_get g (at_wait (max (latest l) at) (position l)) (gets l)) ≡ alive l
   waits_alive l at g = begins_alive (start l).first_get (max (latest l) at) (position l) g (gets l)
 
-  waits_length : (l : Ledger C) (at g : ℕ) → length (update (start l).first_get g (at_wait (max (latest l) at) (position l)) (gets l)) ≡ length (gets l)
-  waits_length l at g = numbered.length-update (gets l) (start l).first_get g (at_wait (max (latest l) at) (position l))
-
   -- the get of a number that is alive, with its position
   getting : (l : Ledger C) (g : ℕ) (st : Getting) → get_of l g ≡ Some st → (x : Numbered Getting) × (at_number (start l).first_get (gets l) g ≡ Some x) × (x.standing ≡ Some st)
   getting l g st h = numbered.standing_found (gets l) (start l).first_get g st h
@@ -180,15 +159,9 @@ module _ {C : Type 0} where
       let e : alive_of (update (start l).first_get g after_end (gets l)) + 1 ≡ alive l = alive_counted (start l).first_get g (gets l) m.0 st.0 m.1 m.2 in
       omega (arith, notify_alive (start l).first_get n (update (start l).first_get g after_end (gets l)))
 
-  -- one of the gets is notified: as many are alive, and as many there ever were
+  -- one of the gets is notified: as many are alive
   told_alive : (l : Ledger C) (n : Option ℕ) → alive_of (with_notice (start l).first_get n (gets l)) ≡ alive l
   told_alive l n = notify_alive (start l).first_get n (gets l)
-
-  told_length : (l : Ledger C) (n : Option ℕ) → length (with_notice (start l).first_get n (gets l)) ≡ length (gets l)
-  told_length l n = notify_length (start l).first_get n (gets l)
-
-  given_up_length : (l : Ledger C) (g : ℕ) (n : Option ℕ) → length (with_notice (start l).first_get n (update (start l).first_get g after_end (gets l))) ≡ length (gets l)
-  given_up_length l g n = notify_length (start l).first_get n (update (start l).first_get g after_end (gets l)) ∙ numbered.length-update (gets l) (start l).first_get g after_end
 
   -- a get that gives up counts once
   gave_up : (l : Ledger C) (at g : ℕ) (why : Reason) (held : Option C) (broken : Bool) (a : Answer) → (a ≡ Unfit → ⊥)
@@ -615,7 +588,7 @@ module _ {C : Type 0} where
       serves_entered h (omega (arith, z.conns_are, z.approved_are)) (omega (arith, z.approved_are)) (omega (arith, z.idle_are)) told.0 told.1 (omega arith)
   row_serves l at _ _ legal f (reaps {closed} {grant} open_now closed_is by_idle_is by_life_is want) h =
       let z = granted_reaped grant.count (reaped_sized l at) in
-      serves_reaped h (reap_count is_reaped l at) grant.count (all_fit l legal).size z.conns_are z.approved_are z.idle_are refl refl (omega arith)
+      serves_reaped h (length (reaped_at l at)) grant.count (all_fit l legal).size z.conns_are z.approved_are z.idle_are refl refl (omega arith)
   row_serves l at _ _ legal f (joins few) h = serves_joined h (is_open (handles l) f) (omega arith)
   row_serves l at _ _ legal f (leaves {n} is) h =
       ⊎_elim
@@ -633,181 +606,19 @@ module _ {C : Type 0} where
   keeps_limits l legal = record {
     size = (all_fit l legal).size;
     each = conns_split (records l);
-    held = all_held l legal;
+    held = λ g k. (all_held l legal g k, all_holding l legal g k);
     served = ⊎_elim (λ (e : unnotified l ≡ 0). inl e) (λ (e : idle_count l - notified l ≡ 0). inr (omega arith)) (either_none (unnotified l) (idle_count l - notified l) (all_serve l legal).served);
   }
 
-  -- ---- no number is used again
-
-  -- what is granted once a record has changed begins at the next number
-  changed_first : (l : Ledger C) (k : ℕ) (f : Numbered (Standing C) → Numbered (Standing C)) (g : Grant) → IsWant l (update (start l).first k f (records l)) g → g.first ≡ next l
-  changed_first l k f g want = want.first ∙ ap (λ (n : ℕ). (start l).first + n) (numbered.length-update (records l) (start l).first k f)
-
-  -- a number of gets that is the same
-  gets_same : (l : Ledger C) → next_get l ≡ next_get l + 0
-  gets_same l = omega arith
-
-  as_many_gets : (l : Ledger C) (gs : List (Numbered Getting)) → length gs ≡ length (gets l) → (start l).first_get + length gs ≡ next_get l + 0
-  as_many_gets l gs same = omega arith
-
-  row_gives : (l : Ledger C) (at : ℕ) (e : Act C) (a : Answer) → IsLegal l → fits l e ≡ true → Row l at e a → GivesNext l at e a
-  row_gives l at _ _ legal f (begins {g} is few) = record { first = tt; more = omega arith; get = is; more_gets = omega (arith, length-append (gets l) (new_get ∷ [])) }
-  row_gives l at _ _ legal f (waits_on {g} {grant} on nothing) =
-      record {
-        first = nothing.first;
-        more = omega (arith, length-approve false grant.count (records l));
-        get = tt;
-        more_gets =
-            as_many_gets l _ (waits_length l at g);
-      }
-  row_gives l at _ _ legal f (serves {g} {k} {grant} not_waiting off first want) =
-      record {
-        first = changed_first l k (at_place Guarded) grant want;
-        more =
-            omega (arith, (granted_sized false grant.count (turned_sized (idle_turns l k Guarded first).1)).many_are);
-        get = tt;
-        more_gets =
-            as_many_gets l _ (left_length (trier_leaves l g f not_waiting));
-      }
-  row_gives l at _ _ legal f (takes_out {g} {k} {grant} not_waiting on first want) =
-      record {
-        first = changed_first l k (at_place (Held g)) grant want;
-        more =
-            omega (arith, (granted_sized false grant.count (turned_sized (idle_turns l k (Held g) first).1)).many_are);
-        get = tt;
-        more_gets =
-            as_many_gets l _ (left_length (trier_holds l g k f not_waiting));
-      }
-  row_gives l at _ _ legal f (waits {g} {grant} not_waiting none granted) =
-      record {
-        first = granted.first;
-        more = omega (arith, length-approve false grant.count (records l));
-        get = tt;
-        more_gets =
-            as_many_gets l _ (waits_length l at g);
-      }
-  row_gives l at _ _ legal f (checks {g} {k} {grant} holds_it nothing) =
-      record {
-        first = nothing.first;
-        more = omega (arith, nothing.count, (turned_sized (checks_turn l g k legal holds_it)).many_are);
-        get =
-            tt;
-        more_gets = as_many_gets l _ (left_length (holder_ends l g k holds_it).0);
-      }
-  row_gives l at _ _ legal f (check_fails {g} {k} {grant} {n} holds_it want is) =
-      record {
-        first = changed_first l k after_end grant want;
-        more =
-            omega (arith, (granted_sized false grant.count (turned_sized (drops_turn l g k legal holds_it))).many_are);
-        get = tt;
-        more_gets =
-            as_many_gets l _ (left_told_length (holder_turns l g k holds_it).0 n);
-      }
-  row_gives l at _ _ legal f (gives_up {g} {n} is) = record { first = tt; more = omega arith; get = tt; more_gets = as_many_gets l _ (given_up_length l g n) }
-  row_gives l at _ _ legal f (gives_up_kept {g} {k} {c} {n} holds_it keep is) =
-      record {
-        first = tt;
-        more = omega (arith, (turned_sized (hands_in_turn l at g k c legal holds_it)).many_are);
-        get = tt;
-        more_gets =
-            as_many_gets l _ (left_told_length (holder_ends l g k holds_it).0 n);
-      }
-  row_gives l at _ _ legal f (gives_up_closed {g} {k} {grant} {n} holds_it shut want is) =
-      record {
-        first = changed_first l k after_end grant want;
-        more =
-            omega (arith, (granted_sized false grant.count (turned_sized (drops_turn l g k legal holds_it))).many_are);
-        get = tt;
-        more_gets =
-            as_many_gets l _ (left_told_length (holder_ends l g k holds_it).0 n);
-      }
-  row_gives l at _ _ legal f (keeps {k} {c} {n} keep is) =
-      record {
-        first = tt;
-        more = omega (arith, (turned_sized (returns_turn l at k c f)).many_are);
-        get = tt;
-        more_gets =
-            as_many_gets l _ (told_length l n);
-      }
-  row_gives l at _ _ legal f (returns_closed {k} {grant} {n} shut want is) =
-      record {
-        first = changed_first l k after_end grant want;
-        more =
-            omega (arith, (granted_sized false grant.count (turned_sized (closes_turn l k f))).many_are);
-        get = tt;
-        more_gets =
-            as_many_gets l _ (told_length l n);
-      }
-  row_gives l at _ _ legal f (fills {claimed} {grant} want) = record { first = want.first; more = omega (arith, length-approve claimed grant.count (records l)); get = tt; more_gets = gets_same l }
-  row_gives l at _ _ legal f (claims {k = Some k} open_now first) = record { first = tt; more = omega (arith, (turned_sized (unclaimed_turns l k first)).many_are); get = tt; more_gets = gets_same l }
-  row_gives l at _ _ legal f (opens {k} {c} {n} open_now is) =
-      record {
-        first = tt;
-        more = omega (arith, (turned_sized (opens_turn l at k c f)).many_are);
-        get = tt;
-        more_gets =
-            as_many_gets l _ (told_length l n);
-      }
-  row_gives l at _ _ legal f (opens_late {k} none) = record { first = tt; more = omega (arith, (turned_sized (ends_turn l k f)).many_are); get = tt; more_gets = gets_same l }
-  row_gives l at _ _ legal f (fails {k}) = record { first = tt; more = omega (arith, (turned_sized (ends_turn l k f)).many_are); get = tt; more_gets = gets_same l }
-  row_gives l at _ _ legal f (adds {k} {c} {n} room few is who) = record { first = is; more = omega (arith, (adds_sized l at c).many_are); get = tt; more_gets = as_many_gets l _ (told_length l n) }
-  row_gives l at _ _ legal f (reaps {grant} open_now closed_is by_idle_is by_life_is want) =
-      record {
-        first = want.first ∙ ap (λ (n : ℕ). (start l).first + n) (length-map (records l) _);
-        more =
-            omega (arith, (granted_reaped grant.count (reaped_sized l at)).many_are);
-        get = tt;
-        more_gets = gets_same l;
-      }
-  row_gives l at _ _ legal f (leaves {n} is) = record { first = tt; more = omega (arith, (left_sized l at n).many_are); get = tt; more_gets = gets_same l }
-  row_gives l at _ _ legal f _ = record { first = tt; more = omega arith; get = tt; more_gets = gets_same l }
-
-  never_again : (l : Ledger C) → IsLegal l → NeverGivesAgain l
-  never_again = each_legal NeverGivesAgain (λ s lawful. tt)
-      (λ l at e before. (before, record { first = tt; more = omega arith; get = tt; more_gets = gets_same l }))
-      (λ l at e a legal f row before. (before, row_gives l at e a legal f row))
-
-  -- ---- what is wanted is made good
-
-  -- once what is wanted of records is granted
-  want_made_good : (l : Ledger C) (rs : List (Numbered (Standing C))) (claimed : Bool) (g : Grant) → IsWant l rs g → 0 < handles l
-      → (unwrap_or (start l).config.min_idle 0 ≤ idle_of (with_approvals claimed g.count rs) + approved_of
-      (with_approvals claimed g.count rs)) ⊎ ((start l).config.max_size ≤ conns_of (with_approvals claimed g.count rs) + approved_of
-      (with_approvals claimed g.count rs)) ⊎ (0 < g.withheld)
-  want_made_good l rs claimed g want open_now =
-      let split : g.count + g.withheld ≡ due (start l).config (handles l) (conns_of rs + approved_of rs) (lacking (start l).config (idle_of rs + approved_of rs)) = want.split in
-      let all : due (start l).config (handles l) (conns_of rs + approved_of rs)
-      (lacking (start l).config (idle_of rs + approved_of rs)) ≡ min (lacking (start l).config (idle_of rs + approved_of rs))
-      ((start l).config.max_size - (conns_of rs + approved_of rs)) =
-      due_open (start l).config (handles l) (conns_of rs + approved_of rs)
-      (lacking (start l).config (idle_of rs + approved_of rs)) open_now in
-      let c : conns_of (with_approvals claimed g.count rs) ≡ conns_of rs = conns-approve claimed g.count rs in
-      let a : approved_of (with_approvals claimed g.count rs) ≡ approved_of rs + g.count = approved-approve claimed g.count rs in
-      let i : idle_of (with_approvals claimed g.count rs) ≡ idle_of rs = idle-approve claimed g.count rs in
-      made_good (unwrap_or (start l).config.min_idle 0) (start l).config.max_size (idle_of rs + approved_of rs)
-      (idle_of (with_approvals claimed g.count rs) + approved_of (with_approvals claimed g.count rs)) (conns_of rs + approved_of rs)
-      (conns_of (with_approvals claimed g.count rs) + approved_of (with_approvals claimed g.count rs)) g.count g.withheld (split ∙ all)
-      (omega arith) (omega arith)
-
-  row_makes_good : (l : Ledger C) (at : ℕ) (e : Act C) (a : Answer) → Row l at e a → MakesGood (Later l at e a) e a
-  row_makes_good l at _ _ (serves {k} {grant} not_waiting off first want) = want_made_good l (with_record l k (at_place Guarded)) false grant want
-  row_makes_good l at _ _ (takes_out {g} {k} {grant} not_waiting on first want) = want_made_good l (with_record l k (at_place (Held g))) false grant want
-  row_makes_good l at _ _ (check_fails {k} {grant} holds_it want is) = want_made_good l (with_record l k after_end) false grant want
-  row_makes_good l at _ _ (gives_up_closed {k} {grant} holds_it shut want is) = want_made_good l (with_record l k after_end) false grant want
-  row_makes_good l at _ _ (returns_closed {k} {grant} shut want is) = want_made_good l (with_record l k after_end) false grant want
-  row_makes_good l at _ _ (fills {claimed} {grant} want) = want_made_good l (records l) claimed grant want
-  row_makes_good l at _ _ (reaps {grant} open_now closed_is by_idle_is by_life_is want) =
-      want_made_good l (map (after_end_where (is_reaped (start l).config (max (latest l) at))) (records l)) false grant want
-  row_makes_good l at _ _ _ = tt
-
-  makes_good : (l : Ledger C) → IsLegal l → AlwaysMakesGood l
-  makes_good = each_legal AlwaysMakesGood (λ s lawful. tt) (λ l at e before. (before, tt)) (λ l at e a legal f row before. (before, row_makes_good l at e a row))
+  -- ---- the laws
 
   pub keeps_laws : (l : Ledger C) → IsLegal l → KeepsLaws l
   keeps_laws l legal = record {
     numbers = never_again l legal;
     returned = never_twice l legal;
+    checked = never_unchecked l legal;
     replenished = makes_good l legal;
+    reaped = never_reaps_twice l legal;
     answered =
         (all_fit l legal).answered;
     pending = omega (arith, (all_fit l legal).answered);

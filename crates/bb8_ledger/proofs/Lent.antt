@@ -1,17 +1,15 @@
 -- The connections that are lent are those that guards hold; so no connection is served twice.
-use Rattle.std.proofs.Common.{◌≡◌, ◌≢◌, ℕ, max, Bool, true, false, cond, not, eqb, ◌&&◌, ◌||◌, List, Option, Some, refl, sym, ap, ◌∙◌, ⊎_elim}
-use Rattle.bb8_types.specs.declared.standing.Place.{Place}
+use Rattle.std.proofs.Common.{◌≡◌, ℕ, max, Bool, true, false, cond, not, eqb, ◌&&◌, ◌||◌, List, Some, refl, sym, ◌∙◌}
 use Rattle.bb8_types.specs.declared.standing.Place.TheVariants.{Guarded, Held}
 use Rattle.bb8_types.specs.declared.standing.Standing.{Standing}
 use Rattle.bb8_ledger.specs.Acts.{Act}
 use Rattle.bb8_ledger.specs.Answers.{Answer}
 use Rattle.bb8_types.specs.Numbered.{Numbered}
 use Rattle.bb8_ledger.specs.Ledger.{Ledger, Later, start, position, latest, records, entry, with_approvals}
-use Rattle.bb8_types.specs.Places.{is_guarded, is_reaped}
-use Rattle.bb8_ledger.specs.Table.{Row, waits_on, serves, takes_out, waits, checks, check_fails, gives_up_kept, gives_up_closed, keeps, returns_closed, fills, claims, opens, opens_late, fails, adds, reaps, leaves, IsLegal, fits, with_record}
+use Rattle.bb8_types.specs.Places.{is_guarded}
+use Rattle.bb8_ledger.specs.Table.{Row, waits_on, serves, takes_out, waits, checks, check_fails, gives_up_kept, gives_up_closed, keeps, returns_closed, fills, claims, opens, opens_late, fails, adds, reaps, leaves, IsLegal, fits}
 use Rattle.bb8_ledger.specs.Limits.{is_lent, ServesUnlent, NeverServesTwice}
-use Rattle.bb8_types.proofs.Numbered as numbered
-use Rattle.bb8_ledger.proofs.Effects.{each_legal, passes, Turns, returns_turn, closes_turn, opens_turn, ends_turn, idle_turns, unclaimed_turns, guarded_out, tests, turned_tests, turned_from, added_tests, granted_tests, swept_tests, reap_spares}
+use Rattle.bb8_ledger.proofs.Effects.{each_legal, returns_turn, closes_turn, opens_turn, ends_turn, idle_turns, unclaimed_turns, guarded_out, tests, turned_tests, turned_from, kept_tests, added_tests, granted_tests, reap_tests}
 use Rattle.bb8_ledger.proofs.Held.{left_tests, checks_turn, drops_turn, hands_in_turn}
 
 -- one more is lent
@@ -29,18 +27,6 @@ module _ {C : Type 0} where
   abbrev guards : ℕ → List (Numbered (Standing C)) → ℕ → Bool
   guards = tests is_guarded
 
-  -- a record moved that no guard held, and none holds
-  guards_kept : {l : Ledger C} {m : ℕ} {p : Place C} {q : Option (Place C)} {f : Numbered (Standing C) → Numbered (Standing C)} (k : ℕ)
-      → Turns l m p q f → is_guarded p ≡ false → passes is_guarded q ≡ false
-      → guards (start l).first (with_record l m f) k ≡ guards (start l).first (records l) k
-  guards_kept {l} {m} {p} {q} {f} k t was is =
-      turned_tests is_guarded k t
-      ∙ ⊎_elim
-      (λ (s : (eqb k m ≡ true) × (k ≡ m)). ap (λ (b : Bool). cond b (passes is_guarded q) (guards (start l).first (records l) k)) s.0 ∙ is
-      ∙ sym (ap (guards (start l).first (records l)) s.1 ∙ turned_from is_guarded t ∙ was))
-      (λ (s : (eqb k m ≡ false) × (k ≢ m)). ap (λ (b : Bool). cond b (passes is_guarded q) (guards (start l).first (records l) k)) s.0)
-      (numbered.same_or_not k m)
-
   granted_guards : (l : Ledger C) (k : ℕ) (claimed : Bool) (n : ℕ) (rs : List (Numbered (Standing C))) → guards (start l).first (with_approvals claimed n rs) k ≡ guards (start l).first rs k
   granted_guards l k claimed n rs = granted_tests is_guarded (start l).first k claimed n rs guarded_out
 
@@ -52,24 +38,23 @@ module _ {C : Type 0} where
   row_lent l at _ _ legal f (waits_on {grant} on nothing) h = λ k. granted_guards l k false grant.count (records l) ∙ h k
   row_lent l at _ _ legal f (serves {k = m} {grant} not_waiting off first want) h = λ k. granted_guards l k false grant.count _
       ∙ turned_tests is_guarded k (idle_turns l m Guarded first).1 ∙ one_more (eqb k m) _ _ (h k)
-  row_lent l at _ _ legal f (takes_out {g} {k = m} {grant} not_waiting on first want) h = λ k. granted_guards l k false grant.count _ ∙ guards_kept k (idle_turns l m (Held g) first).1 refl refl ∙ h k
+  row_lent l at _ _ legal f (takes_out {g} {k = m} {grant} not_waiting on first want) h = λ k. granted_guards l k false grant.count _ ∙ kept_tests is_guarded k (idle_turns l m (Held g) first).1 refl refl ∙ h k
   row_lent l at _ _ legal f (waits {grant} not_waiting none granted) h = λ k. granted_guards l k false grant.count (records l) ∙ h k
   row_lent l at _ _ legal f (checks {g} {k = m} holds_it nothing) h = λ k. turned_tests is_guarded k (checks_turn l g m legal holds_it) ∙ one_more (eqb k m) _ _ (h k)
-  row_lent l at _ _ legal f (check_fails {g} {k = m} {grant} holds_it want is) h = λ k. granted_guards l k false grant.count _ ∙ guards_kept k (drops_turn l g m legal holds_it) refl refl ∙ h k
-  row_lent l at _ _ legal f (gives_up_kept {g} {k = m} {c} holds_it keep is) h = λ k. guards_kept k (hands_in_turn l at g m c legal holds_it) refl refl ∙ h k
+  row_lent l at _ _ legal f (check_fails {g} {k = m} {grant} holds_it want is) h = λ k. granted_guards l k false grant.count _ ∙ kept_tests is_guarded k (drops_turn l g m legal holds_it) refl refl ∙ h k
+  row_lent l at _ _ legal f (gives_up_kept {g} {k = m} {c} holds_it keep is) h = λ k. kept_tests is_guarded k (hands_in_turn l at g m c legal holds_it) refl refl ∙ h k
   row_lent l at _ _ legal f (gives_up_closed {g} {k = m} {grant} holds_it shut want is) h = λ k. granted_guards l k false grant.count _
-      ∙ guards_kept k (drops_turn l g m legal holds_it) refl refl ∙ h k
+      ∙ kept_tests is_guarded k (drops_turn l g m legal holds_it) refl refl ∙ h k
   row_lent l at _ _ legal f (keeps {k = m} {c} keep is) h = λ k. turned_tests is_guarded k (returns_turn l at m c f) ∙ one_less (eqb k m) _ _ (h k)
   row_lent l at _ _ legal f (returns_closed {k = m} {grant} shut want is) h = λ k. granted_guards l k false grant.count _ ∙ turned_tests is_guarded k (closes_turn l m f) ∙ one_less (eqb k m) _ _ (h k)
   row_lent l at _ _ legal f (fills {claimed} {grant} want) h = λ k. granted_guards l k claimed grant.count (records l) ∙ h k
-  row_lent l at _ _ legal f (claims {k = Some m} open_now first) h = λ k. guards_kept k (unclaimed_turns l m first) refl refl ∙ h k
-  row_lent l at _ _ legal f (opens {k = m} {c} open_now is) h = λ k. guards_kept k (opens_turn l at m c f) refl refl ∙ h k
-  row_lent l at _ _ legal f (opens_late {k = m} none) h = λ k. guards_kept k (ends_turn l m f) refl refl ∙ h k
-  row_lent l at _ _ legal f (fails {k = m}) h = λ k. guards_kept k (ends_turn l m f) refl refl ∙ h k
+  row_lent l at _ _ legal f (claims {k = Some m} open_now first) h = λ k. kept_tests is_guarded k (unclaimed_turns l m first) refl refl ∙ h k
+  row_lent l at _ _ legal f (opens {k = m} {c} open_now is) h = λ k. kept_tests is_guarded k (opens_turn l at m c f) refl refl ∙ h k
+  row_lent l at _ _ legal f (opens_late {k = m} none) h = λ k. kept_tests is_guarded k (ends_turn l m f) refl refl ∙ h k
+  row_lent l at _ _ legal f (fails {k = m}) h = λ k. kept_tests is_guarded k (ends_turn l m f) refl refl ∙ h k
   row_lent l at _ _ legal f (adds {c} room few is who) h = λ k. added_tests is_guarded (start l).first k (entry c (max (latest l) at) (max (latest l) at) (position l)) (records l) refl ∙ h k
   row_lent l at _ _ legal f (reaps {grant} open_now closed_is by_idle_is by_life_is want) h = λ k. granted_guards l k false grant.count _
-      ∙ swept_tests is_guarded (is_reaped (start l).config (max (latest l) at)) (start l).first k (records l)
-      (reap_spares is_guarded (λ c. refl) (start l).config (max (latest l) at)) ∙ h k
+      ∙ reap_tests is_guarded guarded_out l at k ∙ h k
   row_lent l at _ _ legal f (leaves {n} is) h = λ k. left_tests is_guarded guarded_out l at n k ∙ h k
   row_lent l at _ _ legal f _ h = h
 

@@ -6,5 +6,9 @@ pub mod GetEffects
 pub mod Held
 pub mod Stage
 pub mod Lent
+pub mod Checked
+pub mod Numbers
+pub mod Wants
+pub mod Reaps
 pub mod Laws
 pub mod Evaluated

@@ -57,6 +57,16 @@ module _ {C : Type 0} where
   abbrev pub at_entry : C → ℕ → ℕ → Numbered (Standing C) → Numbered (Standing C)
   at_entry c now position r = entry c (birth_in r.standing) now position
 
+  -- Reaped: the numbers of the records that a reap at a moment ends, which are the idle ones that are idle too long or live too long. This is
+  -- the one place of that rule.
+  abbrev pub reaped : Start → ℕ → List (Numbered (Standing C)) → List ℕ
+  reaped s now rs = numbers (λ r. is_reaped s.config now r.standing) s.first rs
+
+  -- the records once those of these numbers have ended
+  abbrev pub with_ended : ℕ → List ℕ → List (Numbered (Standing C)) → List (Numbered (Standing C))
+  with_ended first [] rs = rs
+  with_ended first (k ∷ ks) rs = with_ended first ks (update first k after_end rs)
+
   -- the records after an event: what the pool began with, its handles, the position of the event and its effective moment are given
   abbrev pub records_after : Start → ℕ → ℕ → ℕ → List (Numbered (Standing C)) → Act C → Answer → List (Numbered (Standing C))
   records_after s handles position now rs e Unfit = rs
@@ -75,7 +85,7 @@ module _ {C : Type 0} where
   records_after s handles position now rs (Opened k c) (Late m) = update s.first k after_end rs
   records_after s handles position now rs (Failed k) GivenBack = update s.first k after_end rs
   records_after s handles position now rs (Add c broken) (Added k n) = rs ++ entry c now now position ∷ []
-  records_after s handles position now rs Reap (Reaped closed by_idle by_life grant) = with_approvals false grant.count (map (after_end_where (is_reaped s.config now)) rs)
+  records_after s handles position now rs Reap (Reaped closed by_idle by_life grant) = with_approvals false grant.count (with_ended s.first (reaped s now rs) rs)
   records_after s handles position now rs Leave (Left c) = cond (eqb handles 1) (map (after_end_where is_left) rs) rs
   records_after s handles position now rs _ _ = rs
 

@@ -1,13 +1,13 @@
 -- The limits that every state keeps, the laws of every run, and the promises to those who wait.
-use Rattle.std.specs.Prelude.{◌≡◌, ◌⊎◌, ◌+◌, ◌-◌, ◌<◌, ◌≤◌, ℕ, Bool, ◌&&◌, ◌||◌, not, eqb, Some, true, false, ⊤}
+use Rattle.std.specs.Prelude.{◌≡◌, ◌⊎◌, ◌↔◌, ◌+◌, ◌-◌, ◌<◌, ◌≤◌, ℕ, max, Bool, ◌&&◌, ◌||◌, not, cond, eqb, Option, Some, None, true, false, ⊤}
 use Rattle.std.specs.Option.{unwrap_or}
 use Rattle.bb8_types.specs.declared.grants.Grant.{Grant}
 use Rattle.bb8_types.specs.declared.standing.Getting.{Getting}
-use Rattle.bb8_ledger.specs.Acts.{Act, Try, GiveUp, PutBack}
-use Rattle.bb8_ledger.specs.Answers.{Answer, Begun, Served, Taken, Waiting, Kept, Closed, Granted, GivenBack, Added, Reaped}
+use Rattle.bb8_ledger.specs.Acts.{Act, Try, CheckedOk, GiveUp, PutBack}
+use Rattle.bb8_ledger.specs.Answers.{Answer, Begun, Served, Taken, Waiting, Kept, Closed, Granted, GivenBack, Added, Reaped, Unfit}
 use Rattle.bb8_types.specs.Figures.{pending}
 use Rattle.bb8_types.specs.Numbered.{Numbered}
-use Rattle.bb8_ledger.specs.Ledger.{Ledger, Opening, Later, start, handles, conns, approved, idle_count, out, unnotified, notified, record_of, get_of, numbered_get, next, next_get, alive, counts}
+use Rattle.bb8_ledger.specs.Ledger.{Ledger, Opening, Later, start, latest, handles, conns, approved, idle_count, out, unnotified, notified, record_of, get_of, numbered_get, next, next_get, alive, counts}
 use Rattle.bb8_types.specs.Places.{holds, stands, gets_stand, is_held_by, is_notified, is_unnotified}
 
 -- how many numbers an answer gives to new approvals and connections
@@ -49,12 +49,13 @@ lost_by (Waiting grant) = grant.withheld
 lost_by _ = 0
 
 module _ {C : Type 0} where
-  -- Connections and open approvals are within the size; each connection is idle or out; what a get holds is out in its hands, and so in
-  -- nobody else's; while some waiter is not notified, the idle ones do not outnumber the notified waiters.
+  -- Connections and open approvals are within the size; each connection is idle or out; a get holds a connection just where that one is out
+  -- in its hands, so none has two holders, and none is held by a get that ended; while some waiter is not notified, the idle ones do not
+  -- outnumber the notified waiters.
   pub record KeepsLimits (l : Ledger C) : Type 0 where
     pub size : conns l + approved l ≤ (start l).config.max_size
     pub each : conns l ≡ idle_count l + out l
-    pub held : (g k : ℕ) → holds (get_of l g) ≡ Some k → stands (is_held_by g) (record_of l k) ≡ true
+    pub held : (g k : ℕ) → (holds (get_of l g) ≡ Some k) ↔ (stands (is_held_by g) (record_of l k) ≡ true)
     pub served : (unnotified l ≡ 0) ⊎ (idle_count l ≤ notified l)
 
   -- An answer gives the next numbers, and they are next no more.
@@ -87,6 +88,27 @@ module _ {C : Type 0} where
   NeverServesTwice (Opening s) = ⊤
   NeverServesTwice (Later l at e a) = NeverServesTwice l × ServesUnlent l a
 
+  -- the answer of the last try of the get g that fitted
+  abbrev pub last_try : Ledger C → ℕ → Option Answer
+  last_try (Opening s) g = None
+  last_try (Later l at e Unfit) g = last_try l g
+  last_try (Later l at (Try h) a) g = cond (eqb g h) (Some a) (last_try l g)
+  last_try (Later l at e a) g = last_try l g
+
+  -- the last try of the get g that fitted took the connection k to be checked
+  abbrev pub HasTaken : Ledger C → ℕ → ℕ → Type 0
+  HasTaken l g k = (grant : Grant) × (last_try l g ≡ Some (Taken k grant))
+
+  -- with the check on, only a check that passed serves a connection, and to the get whose last fitting try took it
+  abbrev pub ServesChecked : Ledger C → Act C → Answer → Type 0
+  ServesChecked l e (Served k grant) = (start l).config.test_on_check_out ≡ true → (g : ℕ) × (e ≡ CheckedOk g) × HasTaken l g k
+  ServesChecked l e _ = ⊤
+
+  -- so no connection is served unchecked
+  abbrev pub NeverServesUnchecked : Ledger C → Type 0
+  NeverServesUnchecked (Opening s) = ⊤
+  NeverServesUnchecked (Later l at e a) = NeverServesUnchecked l × ServesChecked l e a
+
   -- while a handle is alive, idle connections and open approvals reach min_idle, or the size is reached, or something was withheld
   abbrev pub IsMadeGood : Ledger C → Grant → Type 0
   IsMadeGood l g = 0 < handles l → (unwrap_or (start l).config.min_idle 0 ≤ idle_count l + approved l) ⊎ ((start l).config.max_size ≤ conns l + approved l) ⊎ (0 < g.withheld)
@@ -105,13 +127,33 @@ module _ {C : Type 0} where
   AlwaysMakesGood (Opening s) = ⊤
   AlwaysMakesGood (Later l at e a) = AlwaysMakesGood l × MakesGood (Later l at e a) e a
 
-  -- The laws of every run: no number is used again, no connection is served again before its guard gave it back, what is lacking of
-  -- min_idle is made good as far as there is room, the gets that began are those that were answered and those that are alive, and so those
-  -- that the statistics call pending are alive.
+  -- what the latest event that fitted granted, where it was a reap
+  abbrev pub reap_granted : Ledger C → Option Grant
+  reap_granted (Later l at e Unfit) = reap_granted l
+  reap_granted (Later l at e (Reaped closed by_idle by_life grant)) = Some grant
+  reap_granted _ = None
+
+  -- a reap after another, at its effective moment and with nothing between that fitted, closes nothing, and grants nothing where that one
+  -- withheld nothing
+  abbrev pub ReapsOnce : Ledger C → ℕ → Answer → Type 0
+  ReapsOnce l at (Reaped closed by_idle by_life grant) = (before : Grant) → reap_granted l ≡ Some before → max (latest l) at ≡ latest l
+      → (closed ≡ 0) × (before.withheld ≡ 0 → grant.count ≡ 0)
+  ReapsOnce l at _ = ⊤
+
+  -- so a reap leaves nothing to a second one
+  abbrev pub NeverReapsTwice : Ledger C → Type 0
+  NeverReapsTwice (Opening s) = ⊤
+  NeverReapsTwice (Later l at e a) = NeverReapsTwice l × ReapsOnce l at a
+
+  -- The laws of every run: no number is used again, no connection is served again before its guard gave it back, none is served unchecked
+  -- where the check is on, what is lacking of min_idle is made good as far as there is room, a reap leaves nothing to a second one, the
+  -- gets that began are those that were answered and those that are alive, and so those that the statistics call pending are alive.
   pub record KeepsLaws (l : Ledger C) : Type 0 where
     pub numbers : NeverGivesAgain l
     pub returned : NeverServesTwice l
+    pub checked : NeverServesUnchecked l
     pub replenished : AlwaysMakesGood l
+    pub reaped : NeverReapsTwice l
     pub answered : (counts l).direct + (counts l).waited + (counts l).timed_out + (counts l).cancelled + alive l ≡ (counts l).started
     pub pending : pending (counts l) ≡ alive l
 

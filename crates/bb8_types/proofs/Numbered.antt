@@ -399,7 +399,7 @@ module _ {R : Type 0} where
 
   -- ---- how many stand by position
 
-  length-numbers : (p : R → Bool) (rs : List R) (n : ℕ) → length (numbers p n rs) ≡ tally p rs
+  pub length-numbers : (p : R → Bool) (rs : List R) (n : ℕ) → length (numbers p n rs) ≡ tally p rs
   length-numbers p [] n = refl
   length-numbers p (r ∷ rs) n =
       let ih : length (numbers p (suc n) rs) ≡ tally p rs = length-numbers p rs (suc n) in

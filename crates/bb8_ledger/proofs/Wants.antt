@@ -1,0 +1,71 @@
+-- What is wanted is made good.
+use Rattle.std.proofs.Common.{◌≡◌, ◌⊎◌, ℕ, zero, suc, ◌+◌, ◌-◌, ◌<◌, ◌≤◌, min, Bool, false, cond, List, refl, ap, ◌∙◌, inl, inr, ⊎_elim, arith}
+use Rattle.std.specs.Option.{unwrap_or}
+use Rattle.bb8_types.specs.declared.grants.Grant.{Grant}
+use Rattle.bb8_types.specs.declared.standing.Place.TheVariants.{Held, Guarded}
+use Rattle.bb8_types.specs.declared.standing.Standing.{Standing}
+use Rattle.bb8_types.specs.Settings.{Settings}
+use Rattle.bb8_ledger.specs.Acts.{Act}
+use Rattle.bb8_ledger.specs.Answers.{Answer}
+use Rattle.bb8_types.specs.Numbered.{Numbered, after_end}
+use Rattle.bb8_ledger.specs.Ledger.{with_ended, Ledger, Later, start, records, handles, conns_of, approved_of, idle_of, at_place, with_approvals}
+use Rattle.bb8_ledger.specs.Table.{reaped_at, Row, serves, takes_out, check_fails, gives_up_closed, returns_closed, fills, reaps, IsWant, IsLegal, with_record}
+use Rattle.bb8_types.specs.Grants.{due, lacking}
+use Rattle.bb8_ledger.specs.Limits.{MakesGood, AlwaysMakesGood}
+use Rattle.bb8_types.proofs.Numbered as numbered
+use Rattle.bb8_ledger.proofs.Effects.{each_legal, conns-approve, approved-approve, idle-approve}
+
+-- one of two numbers is nothing where the less of them is
+pub either_none : (x y : ℕ) → min x y ≡ 0 → (x ≡ 0) ⊎ (y ≡ 0)
+either_none zero y h = inl refl
+either_none (suc x) zero h = inr refl
+either_none (suc x) (suc y) h = absurd (omega arith)
+
+-- what is granted reaches what is wanted, or the size, or something was withheld
+made_good : (least size had have took taken count withheld : ℕ) → count + withheld ≡ min (least - had) (size - took) → have ≡ had + count
+    → taken ≡ took + count → (least ≤ have) ⊎ (size ≤ taken) ⊎ (0 < withheld)
+made_good least size had have took taken count (suc withheld) split more full = inr (inr (omega arith))
+made_good least size had have took taken count zero split more full =
+    ⊎_elim
+    (λ (e : least - have ≡ 0). inl (omega arith))
+    (λ (e : size - taken ≡ 0). inr (inl (omega arith)))
+    (either_none (least - have) (size - taken) (omega arith))
+
+-- what is due while a handle is alive
+pub due_open : (config : Settings) (handles taken asked : ℕ) → 0 < handles → due config handles taken asked ≡ min asked (config.max_size - taken)
+due_open config handles taken asked open_now = ap (λ (b : Bool). cond b 0 (min asked (config.max_size - taken))) (numbered.ne_test handles 0 (λ e. omega arith))
+
+module _ {C : Type 0} where
+  -- once what is wanted of records is granted
+  want_made_good : (l : Ledger C) (rs : List (Numbered (Standing C))) (claimed : Bool) (g : Grant) → IsWant l rs g → 0 < handles l
+      → (unwrap_or (start l).config.min_idle 0 ≤ idle_of (with_approvals claimed g.count rs) + approved_of
+      (with_approvals claimed g.count rs)) ⊎ ((start l).config.max_size ≤ conns_of (with_approvals claimed g.count rs) + approved_of
+      (with_approvals claimed g.count rs)) ⊎ (0 < g.withheld)
+  want_made_good l rs claimed g want open_now =
+      let split : g.count + g.withheld ≡ due (start l).config (handles l) (conns_of rs + approved_of rs) (lacking (start l).config (idle_of rs + approved_of rs)) = want.split in
+      let all : due (start l).config (handles l) (conns_of rs + approved_of rs)
+      (lacking (start l).config (idle_of rs + approved_of rs)) ≡ min (lacking (start l).config (idle_of rs + approved_of rs))
+      ((start l).config.max_size - (conns_of rs + approved_of rs)) =
+      due_open (start l).config (handles l) (conns_of rs + approved_of rs)
+      (lacking (start l).config (idle_of rs + approved_of rs)) open_now in
+      let c : conns_of (with_approvals claimed g.count rs) ≡ conns_of rs = conns-approve claimed g.count rs in
+      let a : approved_of (with_approvals claimed g.count rs) ≡ approved_of rs + g.count = approved-approve claimed g.count rs in
+      let i : idle_of (with_approvals claimed g.count rs) ≡ idle_of rs = idle-approve claimed g.count rs in
+      made_good (unwrap_or (start l).config.min_idle 0) (start l).config.max_size (idle_of rs + approved_of rs)
+      (idle_of (with_approvals claimed g.count rs) + approved_of (with_approvals claimed g.count rs)) (conns_of rs + approved_of rs)
+      (conns_of (with_approvals claimed g.count rs) + approved_of (with_approvals claimed g.count rs)) g.count g.withheld (split ∙ all)
+      (omega arith) (omega arith)
+
+  pub row_makes_good : (l : Ledger C) (at : ℕ) (e : Act C) (a : Answer) → Row l at e a → MakesGood (Later l at e a) e a
+  row_makes_good l at _ _ (serves {k} {grant} not_waiting off first want) = want_made_good l (with_record l k (at_place Guarded)) false grant want
+  row_makes_good l at _ _ (takes_out {g} {k} {grant} not_waiting on first want) = want_made_good l (with_record l k (at_place (Held g))) false grant want
+  row_makes_good l at _ _ (check_fails {k} {grant} holds_it want is) = want_made_good l (with_record l k after_end) false grant want
+  row_makes_good l at _ _ (gives_up_closed {k} {grant} holds_it shut want is) = want_made_good l (with_record l k after_end) false grant want
+  row_makes_good l at _ _ (returns_closed {k} {grant} shut want is) = want_made_good l (with_record l k after_end) false grant want
+  row_makes_good l at _ _ (fills {claimed} {grant} want) = want_made_good l (records l) claimed grant want
+  row_makes_good l at _ _ (reaps {grant} open_now closed_is by_idle_is by_life_is want) =
+      want_made_good l (with_ended (start l).first (reaped_at l at) (records l)) false grant want
+  row_makes_good l at _ _ _ = tt
+
+  pub makes_good : (l : Ledger C) → IsLegal l → AlwaysMakesGood l
+  makes_good = each_legal AlwaysMakesGood (λ s lawful. tt) (λ l at e before. (before, tt)) (λ l at e a legal f row before. (before, row_makes_good l at e a row))
