@@ -3,4 +3,4 @@
 
 mod locked;
 
-pub use locked::{Locked, Part, Parts, PoolParts, begin_pool};
+pub use locked::{Handle, Joining, Locked, NewPool, Part, Parts, PoolParts, begin_pool};
