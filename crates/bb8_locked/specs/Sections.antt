@@ -16,6 +16,7 @@ returned told (Err c) = answers.Unfit
 abbrev pub joining_told : Joining → Answer
 joining_told (joining.Joined handle) = answers.Joined
 joining_told joining.Exhausted = answers.Exhausted
+joining_told joining.Unfit = answers.Unfit
 
 -- what holds of the answer where the section fits, and of the connection where it does not
 abbrev pub OnFit : {A C : Type 0} → (A → Type 0) → (C → Type 0) → Result A C → Type 0

@@ -20,6 +20,8 @@ pub enum Joining {
     Joined(Handle),
     /// As many handles are alive as may be: 4,294,967,295.
     Exhausted,
+    /// The step does not fit, as no handle is alive; nothing has changed.
+    Unfit,
 }
 
 impl Handle {
@@ -34,19 +36,18 @@ impl<C: Drop, L: Parts> Locked<C, L> {
     ghost use Rattle.bb8_gets.specs.Told.{answered};
     ghost use Rattle.bb8_locked.specs.Sections.{joining_told};
 
-    /// Makes one handle more, where as many may be alive. `Unfit` where none is alive.
-    pub fn join(&mut self, at: Moment) -> Result<Joining, Unfit>
-        ensures { StepsIn L.settings self.old.core at.0 acts.Join
-            (answered joining_told result) self.new.core }
+    /// Makes one handle more, where one is alive and another may be.
+    pub fn join(&mut self, at: Moment) -> Joining
+        ensures { StepsIn L.settings self.old.core at.0 acts.Join (joining_told result) self.new.core }
     {
         self.limits();
         let Locked { core, .. } = self;
         if !core.fits_join() {
-            return Err(Unfit);
+            return Joining::Unfit;
         }
         match core.join(at) {
-            JoinAnswer::Joined => Ok(Joining::Joined(Handle { _alive: () })),
-            JoinAnswer::Exhausted => Ok(Joining::Exhausted),
+            JoinAnswer::Joined => Joining::Joined(Handle { _alive: () }),
+            JoinAnswer::Exhausted => Joining::Exhausted,
         }
     }
 
