@@ -3,6 +3,7 @@ pub mod Choices
 pub mod Gets
 pub mod Handles
 pub mod Linked
+pub mod Owned
 pub mod Pools
 pub mod Services
 pub mod States

@@ -193,6 +193,7 @@ pub mod get;
 mod handles;
 mod locks;
 mod machine;
+pub mod owned;
 pub mod pool;
 mod serving;
 #[cfg(test)]
@@ -208,5 +209,6 @@ pub use builder::Builder;
 pub use connecting::{FirstPoll, first_connect};
 pub use locks::Locks;
 pub use machine::MachineClock;
+pub use owned::OwnedConnection;
 pub use pool::{Pool, PoolCalls, PooledConnection};
 pub use serving::Service;

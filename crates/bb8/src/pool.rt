@@ -12,6 +12,7 @@ use crate::Builder;
 use crate::get::{GetFuture, StartGet};
 use crate::handles::{Holding, Joins, Leaves};
 use crate::locks::Locks;
+use crate::owned::{GetOwnedFuture, StartOwned};
 use bb8_core::api::{
     AddError, Clock, Config, CustomizeConnection, ErrorSink, ManageConnection, Memory,
     NopCustomizer, NopErrorSink, RunError, SetClock, State,
@@ -210,8 +211,14 @@ pub trait PoolCalls {
     /// The future of a get. Our own.
     type Get;
 
+    /// The future of a get with a handle of its own. Our own.
+    type GetOwned;
+
     /// As `Pool::get`. Our own.
     fn get(self) -> Self::Get;
+
+    /// As `Pool::get_owned`. Our own.
+    fn get_owned(self) -> Self::GetOwned;
 
     /// As `Pool::add`. Our own.
     fn add(self, conn: Self::Connection) -> Result<(), AddError<Self::Connection>>;
@@ -233,6 +240,7 @@ impl<
     L: Parts,
 > PoolCalls for &'a Pool<M, S, Z, K, R, L> {
     ghost use Rattle.bb8.specs.Handles.{IsClone};
+    ghost use Rattle.bb8.specs.Owned.{BeginsOwning};
     ghost use Rattle.bb8.specs.Pools.{clock_in, manager_in, settings_in, stage_of, IsOf};
     ghost use Rattle.bb8_gets.specs.declared.state.Stage.TheVariants.{Fresh as IsFresh};
 
@@ -244,11 +252,19 @@ impl<
 
     type Get = GetFuture<'a, M, S, Z, K, R, L>;
 
+    type GetOwned = GetOwnedFuture<M, S, Z, K, R, L>;
+
     fn get(self) -> GetFuture<'a, M, S, Z, K, R, L>
         ensures new { stage_of result ≡ IsFresh }
         ensures pool { IsOf result self.now }
     {
         self.start_get()
+    }
+
+    fn get_owned(self) -> GetOwnedFuture<M, S, Z, K, R, L>
+        ensures { BeginsOwning K.tells self.now result.owning }
+    {
+        self.start_owned()
     }
 
     fn add(self, mut conn: M::Connection) -> Result<(), AddError<M::Connection>>
