@@ -1,6 +1,7 @@
 pub mod Addings
 pub mod Choices
 pub mod Gets
+pub mod GuardLists
 pub mod Handles
 pub mod Linked
 pub mod Owned

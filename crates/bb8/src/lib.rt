@@ -190,6 +190,7 @@
 mod builder;
 mod connecting;
 pub mod get;
+pub mod guards;
 mod handles;
 mod locks;
 mod machine;
@@ -207,6 +208,7 @@ pub use bb8_core::{api, internals, replay};
 pub use bb8_locked::{Parts, PoolParts};
 pub use builder::Builder;
 pub use connecting::{FirstPoll, first_connect};
+pub use guards::Guards;
 pub use locks::Locks;
 pub use machine::MachineClock;
 pub use owned::OwnedConnection;

@@ -140,6 +140,25 @@ impl<
     }
 }
 
+impl<
+    'a,
+    M: ManageConnection,
+    S: ErrorSink<M::Error>,
+    Z: CustomizeConnection<M::Connection, M::Error>,
+    K: Clock,
+    R: Locks,
+    L: Parts,
+> PooledConnection<'a, M, S, Z, K, R, L> {
+    /// The connection and its part, with where they go back to.
+    pub(crate) fn into_parts(self) -> (&'a Shared<M, S, Z, K, R, L>, Taken<M::Connection, Part<L>>)
+        ensures pool { result.0.now ≡ self.entry.shared.now }
+        ensures taken { result.1 ≡ self.entry.taken }
+    {
+        let PooledConnection { shared, taken } = self;
+        (shared, taken)
+    }
+}
+
 /// What the guards of a pool do with what its handles share, as a method of an impl, so that drops can call it.
 pub(crate) trait Returns {
     type Taken;
