@@ -1,7 +1,10 @@
 pub mod Addings
 pub mod Choices
 pub mod Gets
+pub mod GuardLists
+pub mod Handles
 pub mod Linked
+pub mod Owned
 pub mod Pools
 pub mod Services
 pub mod States

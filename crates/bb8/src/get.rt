@@ -4,4 +4,4 @@ mod future;
 
 pub use bb8_gets::{GetHome, GetState, Next, Outside, Stage, Taken, Tried, Unfit};
 pub use future::GetFuture;
-pub(crate) use future::StartGet;
+pub(crate) use future::{Gets, StartGet};

@@ -190,8 +190,11 @@
 mod builder;
 mod connecting;
 pub mod get;
+pub mod guards;
+mod handles;
 mod locks;
 mod machine;
+pub mod owned;
 pub mod pool;
 mod serving;
 #[cfg(test)]
@@ -205,8 +208,9 @@ pub use bb8_core::{api, internals, replay};
 pub use bb8_locked::{Parts, PoolParts};
 pub use builder::Builder;
 pub use connecting::{FirstPoll, first_connect};
-
+pub use guards::Guards;
 pub use locks::Locks;
 pub use machine::MachineClock;
+pub use owned::OwnedConnection;
 pub use pool::{Pool, PoolCalls, PooledConnection};
 pub use serving::Service;

@@ -10,14 +10,16 @@ ghost use Rattle.bb8_locked.specs.Sections.{returned, OnFit, IsSorted};
 
 use crate::Builder;
 use crate::get::{GetFuture, StartGet};
+use crate::handles::{Holding, Joins, Leaves};
 use crate::locks::Locks;
+use crate::owned::{GetOwnedFuture, StartOwned};
 use bb8_core::api::{
     AddError, Clock, Config, CustomizeConnection, ErrorSink, ManageConnection, Memory,
-    NopCustomizer, NopErrorSink, SetClock, State,
+    NopCustomizer, NopErrorSink, RunError, SetClock, State,
 };
 use bb8_core::internals::{AddAnswer, PutBackAnswer};
 use bb8_gets::{Calls, Outside, Taken};
-use bb8_locked::{Locked, Part, Parts, begin_pool};
+use bb8_locked::{Handle, Locked, NewPool, Part, Parts, begin_pool};
 use std::alloc::Global;
 use std::fmt;
 use std::fmt::{Debug, Formatter};
@@ -41,13 +43,15 @@ pub(crate) struct Shared<M: ManageConnection, S, Z, K, R, L: Parts> {
     ghost settled: { settings_of config ≡ L.settings },
 }
 
-/// A pool of connections that threads share by reference. It lends connections out as guards, which give them back when they are
-/// dropped.
+/// A handle of a pool of connections. Threads share one by reference, or have one each (`try_clone`). It lends connections out as guards,
+/// which give them back when they are dropped.
 ///
 /// As upstream, but for the type parameters: beside the manager `M` there are the error sink `S`, the customizer `Z`, the clock `K` and
 /// the runtime `R` that the pool was built with, and the parts `L`, by which the connections that are out are counted in proofs, and which
-/// say there which settings the pool has; they take no room at run time. Dropping the pool closes its idle connections. A call of the pool's may wait for the lock.
-#[derive(Drop)]
+/// say there which settings the pool has; they take no room at run time. A call of the pool's may wait for the lock.
+///
+/// When a handle is dropped it reads the clock and leaves under the lock. The last one closes all idle connections, which are dropped
+/// under the lock, and ends all approvals that nobody has claimed.
 pub struct Pool<
     M: ManageConnection,
     S: ErrorSink<M::Error>,
@@ -57,6 +61,7 @@ pub struct Pool<
     L: Parts,
 > {
     pub(crate) shared: Arc<Shared<M, S, Z, K, R, L>, Global>,
+    pub(crate) handle: Handle,
 }
 
 /// A guard: a connection that is out, which dereferences to the connection. As upstream.
@@ -108,7 +113,11 @@ impl<
         let (config, error_sink, customizer) = self.into_parts();
         let at = clock.now();
         let alloc = rt.alloc();
-        let (total, locked) = begin_pool(alloc, config, at, blank)?;
+        let NewPool {
+            total,
+            locked,
+            handle,
+        } = begin_pool(alloc, config, at, blank)?;
         let shared = Shared {
             manager,
             error_sink,
@@ -120,9 +129,33 @@ impl<
             locked: Mutex::new(locked),
         };
         match Arc::new(alloc, shared) {
-            Ok(shared) => Ok(Pool { shared }),
-            Err(_) => Err(Memory),
+            Ok(shared) => Ok(Pool { shared, handle }),
+            Err(refused) => {
+                let shared = refused.value;
+                let Shared { locked, .. } = shared;
+                let _ = locked.into_inner().leave(at, handle);
+                Err(Memory)
+            }
         }
+    }
+}
+
+impl<
+    'a,
+    M: ManageConnection,
+    S: ErrorSink<M::Error>,
+    Z: CustomizeConnection<M::Connection, M::Error>,
+    K: Clock,
+    R: Locks,
+    L: Parts,
+> PooledConnection<'a, M, S, Z, K, R, L> {
+    /// The connection and its part, with where they go back to.
+    pub(crate) fn into_parts(self) -> (&'a Shared<M, S, Z, K, R, L>, Taken<M::Connection, Part<L>>)
+        ensures pool { result.0.now ≡ self.entry.shared.now }
+        ensures taken { result.1 ≡ self.entry.taken }
+    {
+        let PooledConnection { shared, taken } = self;
+        (shared, taken)
     }
 }
 
@@ -188,17 +221,32 @@ pub trait PoolCalls {
     /// What the pool lends. Our own.
     type Connection;
 
+    /// What the manager answers where something fails. Our own.
+    type Error;
+
+    /// A handle of the pool. Our own.
+    type Handle;
+
     /// The future of a get. Our own.
     type Get;
 
+    /// The future of a get with a handle of its own. Our own.
+    type GetOwned;
+
     /// As `Pool::get`. Our own.
     fn get(self) -> Self::Get;
+
+    /// As `Pool::get_owned`. Our own.
+    fn get_owned(self) -> Self::GetOwned;
 
     /// As `Pool::add`. Our own.
     fn add(self, conn: Self::Connection) -> Result<(), AddError<Self::Connection>>;
 
     /// As `Pool::state`. Our own.
     fn state(self) -> State;
+
+    /// As `Pool::try_clone`. Our own.
+    fn try_clone(self) -> Result<Self::Handle, RunError<Self::Error>>;
 }
 
 impl<
@@ -210,18 +258,32 @@ impl<
     R: Wait + Send + Sync + Drop + 'static,
     L: Parts,
 > PoolCalls for &'a Pool<M, S, Z, K, R, L> {
+    ghost use Rattle.bb8.specs.Handles.{IsClone};
+    ghost use Rattle.bb8.specs.Owned.{BeginsOwning};
     ghost use Rattle.bb8.specs.Pools.{clock_in, manager_in, settings_in, stage_of, IsOf};
     ghost use Rattle.bb8_gets.specs.declared.state.Stage.TheVariants.{Fresh as IsFresh};
 
     type Connection = M::Connection;
 
+    type Error = M::Error;
+
+    type Handle = Pool<M, S, Z, K, R, L>;
+
     type Get = GetFuture<'a, M, S, Z, K, R, L>;
+
+    type GetOwned = GetOwnedFuture<M, S, Z, K, R, L>;
 
     fn get(self) -> GetFuture<'a, M, S, Z, K, R, L>
         ensures new { stage_of result ≡ IsFresh }
         ensures pool { IsOf result self.now }
     {
         self.start_get()
+    }
+
+    fn get_owned(self) -> GetOwnedFuture<M, S, Z, K, R, L>
+        ensures { BeginsOwning K.tells self.now result.owning }
+    {
+        self.start_owned()
     }
 
     fn add(self, mut conn: M::Connection) -> Result<(), AddError<M::Connection>>
@@ -244,6 +306,15 @@ impl<
         let shared = &*self.shared;
         let at = shared.clock.now();
         shared.locked.lock(&shared.rt).state(at)
+    }
+
+    fn try_clone(self) -> Result<Pool<M, S, Z, K, R, L>, RunError<M::Error>>
+        ensures { IsClone K.tells self.now result }
+    {
+        match self.join() {
+            Ok(Holding { shared, handle }) => Ok(Pool { shared, handle }),
+            Err(error) => Err(error),
+        }
     }
 }
 
@@ -309,6 +380,20 @@ impl<M: ManageConnection, R: Locks, L: Parts> Pool<M, NopErrorSink, NopCustomize
         ensures { result.settings ≡ default_settings }
     {
         Builder::new()
+    }
+}
+
+impl<
+    M: ManageConnection,
+    S: ErrorSink<M::Error>,
+    Z: CustomizeConnection<M::Connection, M::Error>,
+    K: Clock,
+    R: Locks,
+    L: Parts,
+> Drop for Pool<M, S, Z, K, R, L> {
+    fn drop(self) {
+        let Pool { shared, handle } = self;
+        shared.leave(handle);
     }
 }
 

@@ -6,6 +6,8 @@ mod clocks;
 mod future;
 mod gates;
 mod get;
+mod guards;
+mod handles;
 mod pool;
 mod serving;
 mod threads;

@@ -2,6 +2,8 @@
 use Rattle.std.specs.Prelude.{◌≡◌, Bool, true, false, Result, Ok, Err}
 use Rattle.bb8_core.specs.declared.answers.AddAnswer.{AddAnswer}
 use Rattle.bb8_core.specs.declared.answers.AddAnswer.TheVariants as adding
+use Rattle.bb8_locked.specs.declared.locked.handles.Joining.{Joining}
+use Rattle.bb8_locked.specs.declared.locked.handles.Joining.TheVariants as joining
 use Rattle.bb8_ledger.specs.Answers as answers
 use Rattle.bb8_ledger.specs.Answers.{Answer}
 
@@ -9,6 +11,12 @@ use Rattle.bb8_ledger.specs.Answers.{Answer}
 abbrev pub returned : {A C : Type 0} → (A → Answer) → Result A C → Answer
 returned told (Ok a) = told a
 returned told (Err c) = answers.Unfit
+
+-- the answer to the making of a handle
+abbrev pub joining_told : Joining → Answer
+joining_told (joining.Joined handle) = answers.Joined
+joining_told joining.Exhausted = answers.Exhausted
+joining_told joining.Unfit = answers.Unfit
 
 -- what holds of the answer where the section fits, and of the connection where it does not
 abbrev pub OnFit : {A C : Type 0} → (A → Type 0) → (C → Type 0) → Result A C → Type 0

@@ -12,12 +12,15 @@ ghost use Rattle.bb8_core.specs.StepAnswers.{begin_told, reason_of, give_up_told
 ghost use Rattle.bb8_core.specs.Parts.{out_of};
 ghost use Rattle.bb8_core.specs.Shown.{IsWithinLimits};
 
-use bb8_gets::{GetHome, Taken, Tried, Unfit};
+mod handles;
+
 use bb8_core::api::{Config, Memory, Moment, State};
 use bb8_core::internals::{
     AddAnswer, AtOnce, BeginAnswer, ClaimAnswer, GetKey, GiveUpAnswer, Grant, Key, Looked,
     OpenedAnswer, PoolInternals, PutBackAnswer, Reason, TryAnswer,
 };
+use bb8_gets::{GetHome, Taken, Tried, Unfit};
+pub use handles::{Handle, Joining};
 use std::alloc::Global;
 use std::marker::Brand;
 use std::sync::ledger::{Blank, Ledger, Share, Total};
@@ -56,6 +59,16 @@ pub struct Part<L: Ledger> {
     ghost counts: { share.amount ≡ 1 },
 }
 
+/// What a new pool is made of. Our own.
+pub struct NewPool<C, L: Parts> {
+    /// How many parts there are.
+    pub total: Total<L>,
+    /// What its lock holds.
+    pub locked: Locked<C, L>,
+    /// Its one handle.
+    pub handle: Handle,
+}
+
 /// Lays out the parts of a new pool beside its state, which has nothing out; the total says how many there are.
 fn lay_out_parts<C: Drop, L: Parts>(
     core: PoolInternals<C>,
@@ -74,25 +87,30 @@ fn lay_out_parts<C: Drop, L: Parts>(
     (book.close(), Locked { core, rest })
 }
 
-/// What the lock of a new pool holds: the state with the pool's settings, its first approvals, which nobody has claimed, and its parts. It
-/// fails where memory for an approval is refused.
+/// A new pool with one handle: its lock holds the state with the pool's settings, its first approvals, which nobody has claimed, and its
+/// parts. It fails where memory for an approval is refused.
 pub fn begin_pool<C: Drop, L: Parts>(
     alloc: Global,
     config: Config,
     at: Moment,
     blank: Blank,
-) -> Result<(Total<L>, Locked<C, L>), Memory>
+) -> Result<NewPool<C, L>, Memory>
     requires lawful { is_lawful (settings_of config) ≡ true }
     requires parts { IsBlankOf blank (settings_of config) L.name L.parts L.settings }
-    ensures total { IfOk result (λ r. r.0.amount ≡ config.max_size) }
-    ensures first { IfOk result (λ r. Begins (settings_of config) at.0 r.1.core) }
+    ensures total { IfOk result (λ new. new.total.amount ≡ config.max_size) }
+    ensures first { IfOk result (λ new. Begins (settings_of config) at.0 new.locked.core) }
 {
     let mut core = PoolInternals::new(alloc, config);
     let granted = core.fill(at, false);
     if granted.withheld > 0 {
         return Err(Memory);
     }
-    Ok(lay_out_parts(core, blank, config.max_size))
+    let (total, locked) = lay_out_parts(core, blank, config.max_size);
+    Ok(NewPool {
+        total,
+        locked,
+        handle: Handle::first(),
+    })
 }
 
 impl<C: Drop, L: Parts> Locked<C, L> {
@@ -163,12 +181,7 @@ impl<C: Drop, L: Parts> Locked<C, L> {
     }
 
     /// Makes idle the connection that a claimed approval brought. Where that does not fit, the connection comes back as the error.
-    pub fn opened(
-        &mut self,
-        at: Moment,
-        approval: Key,
-        conn: C,
-    ) -> Result<OpenedAnswer<C>, C>
+    pub fn opened(&mut self, at: Moment, approval: Key, conn: C) -> Result<OpenedAnswer<C>, C>
         ensures step { StepsIn L.settings self.old.core at.0 (acts.Opened approval.number conn)
             (returned (opened_told approval.number) result) self.new.core }
         ensures connection { OnFit (HandsBack conn) (λ same. same ≡ conn) result }

@@ -178,3 +178,58 @@ fn two_threads_share_all(rt: HostRuntime) -> Result<(), Fail> {
     shares_all::<HostRuntime, Brand>(rt, Blank::new(3))?;
     Ok(())
 }
+
+/// A thousand rounds, in each of which a handle is made, a get of that handle's has one of its own, and the handle is dropped before the guard,
+/// whose connection nobody else may hold.
+#[derive(Drop)]
+struct Cloned<'a, R: Runtime, L: PoolParts> {
+    pool: &'a HeldPool<R, L>,
+    rt: R,
+}
+
+impl<R: Runtime, L: PoolParts> Job for Cloned<'_, R, L> {
+    /// Whether each connection had one holder at a time.
+    fn run(&self) -> bool {
+        for _ in 0..1000u32 {
+            let Ok(clone) = PoolCalls::try_clone(self.pool) else {
+                return false;
+            };
+            let Ok(Ok(mut guard)) = block_on(&self.rt, PoolCalls::get_owned(&clone)) else {
+                return false;
+            };
+            drop(clone);
+            guard.holders = guard.holders.saturating_add(1);
+            if guard.holders != 1 {
+                return false;
+            }
+            guard.holders = 0;
+        }
+        true
+    }
+}
+
+/// Two threads share a pool of two connections by handles and guards of their own.
+fn shares_handles<R: Runtime + Threads, L: PoolParts>(rt: R, blank: Blank) -> Result<(), Memory>
+    requires { IsBlankOf blank (unchecked_of 2) L.name L.parts L.settings }
+{
+    let clock = SetClock::new(rt.alloc(), Moment(0))?;
+    let pool: HeldPool<R, L> = Builder::new()
+        .max_size(2)
+        .test_on_check_out(false)
+        .build_unchecked(HeldManager, clock, rt, blank)?;
+    assert!(&rt; pool.add(Held { holders: 0 }).is_ok());
+    assert!(&rt; pool.add(Held { holders: 0 }).is_ok());
+    assert_eq!(&rt; twice(&rt, &Cloned { pool: &pool, rt }), (true, true));
+    let state = pool.state();
+    assert_eq!(&rt; (state.connections, state.idle_connections), (2, 2));
+    assert_eq!(&rt; state.statistics.connections_closed_broken, 0);
+    assert_eq!(&rt; state.statistics.completed_gets(), 2000);
+    assert_eq!(&rt; state.statistics.pending_gets(), 0);
+    Ok(())
+}
+
+#[test]
+fn two_threads_share_handles(rt: HostRuntime) -> Result<(), Fail> {
+    shares_handles::<HostRuntime, Brand>(rt, Blank::new(2))?;
+    Ok(())
+}

@@ -4,10 +4,10 @@ use Rattle.bb8_ledger.specs.Ledger.{opening_with}
 use Rattle.bb8_locked.proofs.Sections.{none_out}
 use Rattle.bb8_locked.proofs.locked.begin_pool.Goals as goal
 
-pub lay_out_parts-requires-clause-none_out : goal.lay_out_parts-requires-clause-none_out
-lay_out_parts-requires-clause-none_out g c = none_out _ 0 0 _ _ c.args.at.0 false c.fill-granted.result c.requires.lawful c.new-core.ensures c.fill-granted.ensures
+pub lay_out_parts-total-requires-clause-none_out : goal.lay_out_parts-total-requires-clause-none_out
+lay_out_parts-total-requires-clause-none_out g c = none_out _ 0 0 _ _ c.args.at.0 false c.fill-granted.result c.requires.lawful c.new-core.ensures c.fill-granted.ensures
 
 pub returns-clause-first : goal.returns-clause-first
 returns-clause-first g c =
     let step = c.fill-granted.ensures (opening_with (settings_of c.args.config) 0 0) c.requires.lawful c.new-core.ensures in
-    (c.fill-granted.result, omega arith, step.0, rw c.lay_out_parts.ensures.state step.1)
+    (c.fill-granted.result, omega arith, step.0, rw c.lay_out_parts-total.ensures.state step.1)

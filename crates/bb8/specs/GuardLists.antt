@@ -1,0 +1,38 @@
+-- What callers see of a list of guards: the connections that its guards hold, in order, how many they are, and how many they may be.
+use Rattle.std.specs.Prelude.{◌≡◌, ℕ, List, vec_len}
+use Rattle.std.specs.Arc.{arc_value}
+use Rattle.std.specs.declared.fmt.Debug.{Ghosts as DebugOf}
+use Rattle.bb8_types.specs.declared.api.clocks.Clock.{Ghosts as ClockOf}
+use Rattle.bb8_types.specs.declared.api.customizers.CustomizeConnection.{Ghosts as CustomizerOf}
+use Rattle.bb8_types.specs.declared.api.managers.ManageConnection.{Ghosts as ManagerOf}
+use Rattle.bb8_types.specs.declared.api.sinks.ErrorSink.{Ghosts as SinkOf}
+use Rattle.bb8_locked.specs.declared.locked.Parts.{Ghosts as PartsOf}
+use Rattle.bb8.specs.declared.guards.Guards.{Guards}
+use Rattle.bb8.specs.declared.pool.Pool.{Pool}
+use Rattle.bb8.specs.declared.pool.PooledConnection.{PooledConnection}
+
+module _ {M S Z K R L C E N V A : Type 0} {m : ManagerOf M C E N V} {d : DebugOf E} {l : PartsOf L} where
+  -- the connection of a guard
+  abbrev pub connection_of : PooledConnection M S Z K R L C E N V A m d l → C
+  connection_of guard = guard.taken.connection
+
+module _ {M S Z K R L C E N V A : Type 0} {m : ManagerOf M C E N V} {d : DebugOf E} {s : SinkOf S E} {z : CustomizerOf Z C E A} {k : ClockOf K} {l : PartsOf L} where
+  -- the connections of the guards of a list
+  abbrev pub connections_in : Guards M S Z K R L C E N V A m d s z k l → List C
+  connections_in guards = guards.connections.items
+
+  -- how many guards a list has
+  abbrev pub number_in : Guards M S Z K R L C E N V A m d s z k l → ℕ
+  number_in guards = vec_len guards.connections
+
+  -- how many guards a list may have: as many as its pool may have connections
+  abbrev pub most_in : Guards M S Z K R L C E N V A m d s z k l → ℕ
+  most_in guards = guards.shared.now.config.max_size
+
+  -- the list is of guards of this pool
+  abbrev pub IsListOf : Guards M S Z K R L C E N V A m d s z k l → Pool M S Z K R L C E N V A m d l → Type 0
+  IsListOf guards pool = guards.shared.now ≡ arc_value pool.shared
+
+  -- both lists are of one pool
+  abbrev pub AreOfOne : Guards M S Z K R L C E N V A m d s z k l → Guards M S Z K R L C E N V A m d s z k l → Type 0
+  AreOfOne guards others = guards.shared.now ≡ others.shared.now

@@ -1,0 +1,185 @@
+//! A list of guards of one pool, of which there are never more than the pool's `max_size`.
+ghost use Rattle.std.specs.Prelude.{◌≡◌, ◌+◌, ◌<◌, ◌≤◌, ◌↔◌, true, [], ◌∷◌, ◌++◌, take, drop, slice_index_or, vec_len, OnOk, IfErr, IfSome, IfNone, IsSome};
+
+use crate::locks::Locks;
+use crate::pool::{Pool, PooledConnection, Shared};
+use bb8_core::api::{Clock, CustomizeConnection, ErrorSink, ManageConnection};
+use bb8_core::internals::Key;
+use bb8_gets::Taken;
+use bb8_locked::{Gathered, Parts};
+use std::alloc::Global;
+
+/// Where a connection of a list goes back to, and its key.
+#[derive(Drop)]
+struct Ticket<'a, M: ManageConnection, S, Z, K, R, L: Parts> {
+    shared: &'a Shared<M, S, Z, K, R, L>,
+    key: Key,
+}
+
+/// A list of guards of one pool, which has at most as many as the pool's `max_size`: its guards' parts say so. When it is dropped it drops
+/// each of its guards, for which it may wait for the lock. Our own.
+pub struct Guards<
+    'a,
+    M: ManageConnection,
+    S: ErrorSink<M::Error>,
+    Z: CustomizeConnection<M::Connection, M::Error>,
+    K: Clock,
+    R: Locks,
+    L: Parts,
+> {
+    shared: &'a Shared<M, S, Z, K, R, L>,
+    tickets: Vec<Ticket<'a, M, S, Z, K, R, L>>,
+    connections: Vec<M::Connection>,
+    parts: Gathered<L>,
+    ghost one_each: { vec_len tickets ≡ vec_len connections },
+    ghost parts_of: { parts ≡ vec_len connections },
+    ghost within: { vec_len connections ≤ shared.now.config.max_size },
+}
+
+impl<
+    'a,
+    M: ManageConnection,
+    S: ErrorSink<M::Error>,
+    Z: CustomizeConnection<M::Connection, M::Error>,
+    K: Clock,
+    R: Locks,
+    L: Parts,
+> Guards<'a, M, S, Z, K, R, L> {
+    ghost use Rattle.bb8.specs.GuardLists.{connection_of, connections_in, most_in, number_in, AreOfOne, IsListOf};
+
+    /// An empty list of guards of this pool. It takes no memory. Our own.
+    pub fn new(alloc: Global, pool: &'a Pool<M, S, Z, K, R, L>) -> Self
+        ensures empty { connections_in result ≡ [] }
+        ensures pool { IsListOf result pool.now }
+    {
+        let shared = &*pool.shared;
+        Guards {
+            shared,
+            tickets: Vec::new(alloc),
+            connections: Vec::new(alloc),
+            parts: Gathered::none(),
+        }
+    }
+
+    /// How many guards there are. Our own.
+    pub fn len(&self) -> usize
+        ensures number { result ≡ number_in self.now }
+        ensures within { result ≤ most_in self.now }
+    {
+        self.connections.len()
+    }
+
+    /// Whether there is no guard. Our own.
+    pub fn is_empty(&self) -> bool
+        ensures { result ≡ true ↔ number_in self.now ≡ 0 }
+    {
+        self.connections.is_empty()
+    }
+
+    /// Adds a guard at the end. It comes back, and the list is as before, where memory for it was refused. Our own.
+    pub fn push(
+        &mut self,
+        guard: PooledConnection<'a, M, S, Z, K, R, L>,
+    ) -> Result<(), PooledConnection<'a, M, S, Z, K, R, L>>
+        ensures added { OnOk result
+            (connections_in self.new ≡ connections_in self.old ++ connection_of guard.entry ∷ []) }
+        ensures refused { IfErr result (λ back. connection_of back ≡ connection_of guard.entry) }
+        ensures same { IfErr result (λ _. connections_in self.new ≡ connections_in self.old) }
+        ensures pool { AreOfOne self.new self.old }
+    {
+        let (shared, taken) = guard.into_parts();
+        let Taken {
+            key,
+            connection,
+            part,
+        } = taken;
+        if self.tickets.push(Ticket { shared, key }).is_err() {
+            return Err(PooledConnection {
+                shared,
+                taken: Taken {
+                    key,
+                    connection,
+                    part,
+                },
+            });
+        }
+        match self.connections.push(connection) {
+            Ok(()) => {
+                self.parts.put(part, &self.shared.total);
+                Ok(())
+            }
+            Err(refused) => {
+                let connection = refused.value;
+                self.tickets.pop();
+                let taken = Taken {
+                    key,
+                    connection,
+                    part,
+                };
+                Err(PooledConnection { shared, taken })
+            }
+        }
+    }
+
+    /// Takes the guard of an index out; the ones behind it move up. None where there is no such index. Our own.
+    pub fn remove(&mut self, index: usize) -> Option<PooledConnection<'a, M, S, Z, K, R, L>>
+        ensures guard { IfSome result (λ guard. connection_of guard
+            ≡ slice_index_or (connections_in self.old) index (connection_of guard)) }
+        ensures closed { IfSome result (λ _. connections_in self.new
+            ≡ take index (connections_in self.old) ++ drop (index + 1) (connections_in self.old)) }
+        ensures some { IsSome result ↔ (index < number_in self.old) }
+        ensures none { IfNone result (connections_in self.new ≡ connections_in self.old) }
+        ensures pool { AreOfOne self.new self.old }
+    {
+        if index >= self.connections.len() {
+            return None;
+        }
+        let Ticket { shared, key } = self.tickets.remove(index);
+        let connection = self.connections.remove(index);
+        let part = self.parts.take_one();
+        let taken = Taken {
+            key,
+            connection,
+            part,
+        };
+        Some(PooledConnection { shared, taken })
+    }
+
+    /// The connection of the guard of an index. None where there is no such index. Our own.
+    pub fn get_mut(&mut self, index: usize) -> Option<&mut M::Connection>
+        ensures some { IsSome result ↔ (index < number_in self.old) }
+        ensures connection { IfSome result (λ connection. connection.now
+            ≡ slice_index_or (connections_in self.old) index connection.now) }
+    {
+        self.connections.get_mut(index)
+    }
+}
+
+impl<
+    M: ManageConnection,
+    S: ErrorSink<M::Error>,
+    Z: CustomizeConnection<M::Connection, M::Error>,
+    K: Clock,
+    R: Locks,
+    L: Parts,
+> Drop for Guards<'_, M, S, Z, K, R, L> {
+    fn drop(self) {
+        let Guards {
+            shared: _,
+            mut tickets,
+            mut connections,
+            mut parts,
+        } = self;
+        while let Some(connection) = connections.pop() {
+            if let Some(Ticket { shared, key }) = tickets.pop() {
+                let part = parts.take_one();
+                let taken = Taken {
+                    key,
+                    connection,
+                    part,
+                };
+                drop(PooledConnection { shared, taken });
+            }
+        }
+    }
+}

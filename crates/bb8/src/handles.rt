@@ -1,0 +1,90 @@
+//! The handles of a pool: how one more is made, and how one leaves.
+ghost use Rattle.std.specs.Prelude.{◌≡◌};
+ghost use Rattle.std.specs.Arc.{arc_value};
+
+use crate::locks::Locks;
+use crate::pool::{Pool, PoolCalls, Shared};
+use bb8_core::api::{Clock, CustomizeConnection, ErrorSink, ManageConnection, RunError};
+use bb8_locked::{Handle, Joining, Parts};
+use std::alloc::Global;
+use std::sync::{Arc, Wait};
+
+/// What a handle does with what its pool shares, as methods of impls, so that drops and polls can call them.
+pub(crate) trait Leaves {
+    /// Lets a handle leave.
+    fn leave(&self, handle: Handle);
+}
+
+impl<M: ManageConnection, S, Z, K: Clock, R: Locks, L: Parts> Leaves for Shared<M, S, Z, K, R, L> {
+    ghost use Rattle.bb8.specs.Handles.{Leaves as HandleLeaves};
+
+    /// The clock is read before the lock is taken. What the last handle closes is dropped under the lock.
+    fn leave(&self, handle: Handle)
+        ensures { HandleLeaves K.tells self.now }
+    {
+        let at = self.clock.now();
+        let _ = self.rt.take(&self.locked).leave(at, handle);
+    }
+}
+
+/// A handle beside what it shares with the others of its pool. It cannot be dropped, so whoever lets it go has to say how.
+pub(crate) struct Holding<M: ManageConnection, S, Z, K, R, L: Parts> {
+    pub shared: Arc<Shared<M, S, Z, K, R, L>, Global>,
+    pub handle: Handle,
+}
+
+/// The making of a handle, as a method of an impl, so that methods of others can call it.
+pub(crate) trait Joins {
+    type Joined;
+
+    fn join(self) -> Self::Joined;
+}
+
+impl<
+    'a,
+    M: ManageConnection,
+    S: ErrorSink<M::Error>,
+    Z: CustomizeConnection<M::Connection, M::Error>,
+    K: Clock,
+    R: Locks,
+    L: Parts,
+> Joins for &'a Pool<M, S, Z, K, R, L> {
+    ghost use Rattle.bb8.specs.Handles.{IsHandleOf};
+
+    type Joined = Result<Holding<M, S, Z, K, R, L>, RunError<M::Error>>;
+
+    fn join(self) -> Result<Holding<M, S, Z, K, R, L>, RunError<M::Error>>
+        ensures { IsHandleOf K.tells (arc_value self.now.shared) result }
+    {
+        let Ok(shared) = Arc::try_clone(&self.shared) else {
+            return Err(RunError::Memory);
+        };
+        let at = shared.clock.now();
+        let joined = shared.rt.take(&shared.locked).join(at);
+        match joined {
+            Joining::Joined(handle) => Ok(Holding { shared, handle }),
+            Joining::Exhausted | Joining::Unfit => Err(RunError::Exhausted),
+        }
+    }
+}
+
+impl<
+    M: ManageConnection,
+    S: ErrorSink<M::Error>,
+    Z: CustomizeConnection<M::Connection, M::Error>,
+    K: Clock,
+    R: Wait + Send + Sync + Drop + 'static,
+    L: Parts,
+> Pool<M, S, Z, K, R, L> {
+    ghost use Rattle.bb8.specs.Handles.{IsClone};
+
+    /// One handle more of the same pool. The pool lives as long as one of its handles; the drop of the last one closes all that is idle.
+    ///
+    /// It answers `Exhausted` where 4,294,967,295 handles are alive, and `Memory` where sharing the pool was refused memory; the pool is
+    /// then as before. Upstream's `Clone`, which refuses nothing.
+    pub fn try_clone(&self) -> Result<Self, RunError<M::Error>>
+        ensures { IsClone K.tells self.now result }
+    {
+        PoolCalls::try_clone(self)
+    }
+}

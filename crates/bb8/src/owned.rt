@@ -1,0 +1,381 @@
+//! Gets and guards that have a handle of their own.
+ghost use Rattle.std.specs.Prelude.{◌≡◌};
+ghost use Rattle.std.specs.Arc.{arc_value};
+
+use crate::get::Gets;
+use crate::handles::{Holding, Joins, Leaves};
+use crate::locks::Locks;
+use crate::pool::{Pool, PoolCalls, Returns};
+use bb8_core::api::{Clock, CustomizeConnection, ErrorSink, ManageConnection, RunError};
+use bb8_gets::{GetState, Taken};
+use bb8_locked::{Part, Parts};
+use futures::Future;
+use futures::task::{Context, Poll};
+use std::fmt::{Debug, Formatter};
+use std::ops::{Deref, DerefMut};
+use std::sync::Wait;
+use std::{fmt, mem};
+
+/// A guard that has a handle of its own, so that its pool lives as long as the guard does. It dereferences to the connection. Upstream's
+/// `PooledConnection<'static>`.
+///
+/// When it is dropped it gives the connection back as `PooledConnection` does, and then its handle leaves.
+pub struct OwnedConnection<
+    M: ManageConnection,
+    S: ErrorSink<M::Error>,
+    Z: CustomizeConnection<M::Connection, M::Error>,
+    K: Clock,
+    R: Locks,
+    L: Parts,
+> {
+    holding: Holding<M, S, Z, K, R, L>,
+    taken: Taken<M::Connection, Part<L>>,
+}
+
+/// Where a get with a handle of its own stands before its answer.
+pub(crate) enum Owning<M: ManageConnection, S, Z, K, R, L: Parts> {
+    /// The handle was refused.
+    Refused(RunError<M::Error>),
+    /// It has its handle.
+    Open(Holding<M, S, Z, K, R, L>, GetState<M::Connection, Part<L>>),
+}
+
+/// What `Pool::get_owned` answers: a get with a handle of its own, or why it has none, and nothing once it was answered.
+///
+/// Each poll is as one of `GetFuture`. When it is dropped before its answer, it gives the get up as cancelled, and its handle leaves; the
+/// handle of one that was served goes with the guard, and that of one that was refused leaves at its answer. Our own: upstream's get is an
+/// async function.
+pub struct GetOwnedFuture<
+    M: ManageConnection,
+    S: ErrorSink<M::Error>,
+    Z: CustomizeConnection<M::Connection, M::Error>,
+    K: Clock,
+    R: Locks,
+    L: Parts,
+> {
+    owning: Option<Owning<M, S, Z, K, R, L>>,
+}
+
+/// How a handle goes that a get or a guard has, as methods of an impl, so that polls and drops can call them.
+trait Owns {
+    type Get;
+
+    type Taken;
+
+    /// Lets a get go, and then the handle.
+    fn cancel_owned(self, get: Self::Get);
+
+    /// Gives a connection back, and then lets the handle leave.
+    fn give_back_owned(self, taken: Self::Taken);
+}
+
+impl<
+    M: ManageConnection,
+    S: ErrorSink<M::Error>,
+    Z: CustomizeConnection<M::Connection, M::Error>,
+    K: Clock,
+    R: Locks,
+    L: Parts,
+> Owns for Holding<M, S, Z, K, R, L> {
+    ghost use Rattle.bb8.specs.Handles.{Leaves as HandleLeaves};
+    ghost use Rattle.bb8.specs.Linked.{LinkCancels, LinkReturns};
+
+    type Get = GetState<M::Connection, Part<L>>;
+
+    type Taken = Taken<M::Connection, Part<L>>;
+
+    fn cancel_owned(self, get: GetState<M::Connection, Part<L>>)
+        ensures get { LinkCancels K.tells (arc_value self.shared) get.stage }
+        ensures handle { HandleLeaves K.tells (arc_value self.shared) }
+    {
+        let Holding { shared, handle } = self;
+        shared.cancel_get(get);
+        shared.leave(handle);
+    }
+
+    fn give_back_owned(self, taken: Taken<M::Connection, Part<L>>)
+        ensures connection { LinkReturns K.tells (arc_value self.shared) taken }
+        ensures handle { HandleLeaves K.tells (arc_value self.shared) }
+    {
+        let Holding { shared, handle } = self;
+        shared.give_back(taken);
+        shared.leave(handle);
+    }
+}
+
+/// What a poll answers, and what stands then.
+pub(crate) struct Stood<
+    M: ManageConnection,
+    S: ErrorSink<M::Error>,
+    Z: CustomizeConnection<M::Connection, M::Error>,
+    K: Clock,
+    R: Locks,
+    L: Parts,
+> {
+    answer: Poll<Result<OwnedConnection<M, S, Z, K, R, L>, RunError<M::Error>>>,
+    owning: Option<Owning<M, S, Z, K, R, L>>,
+}
+
+/// What the future does with what stands, as methods of an impl, so that its poll and its drop can call them.
+trait OnOwning {
+    type Owning;
+
+    type Stood;
+
+    /// One poll of what stands.
+    fn poll_owning(owning: Self::Owning) -> Self::Stood;
+
+    /// Lets go of what stands.
+    fn cancel_owning(owning: Self::Owning);
+}
+
+impl<
+    M: ManageConnection,
+    S: ErrorSink<M::Error>,
+    Z: CustomizeConnection<M::Connection, M::Error>,
+    K: Clock,
+    R: Locks,
+    L: Parts,
+> OnOwning for GetOwnedFuture<M, S, Z, K, R, L> {
+    ghost use Rattle.bb8.specs.Owned.{CancelsOwning, OwningPolls};
+
+    type Owning = Option<Owning<M, S, Z, K, R, L>>;
+
+    type Stood = Stood<M, S, Z, K, R, L>;
+
+    fn poll_owning(owning: Option<Owning<M, S, Z, K, R, L>>) -> Stood<M, S, Z, K, R, L>
+        ensures { OwningPolls K.tells owning result.answer result.owning }
+    {
+        match owning {
+            None => Stood {
+                answer: Poll::Pending,
+                owning: None,
+            },
+            Some(Owning::Refused(error)) => Stood {
+                answer: Poll::Ready(Err(error)),
+                owning: None,
+            },
+            Some(Owning::Open(holding, mut get)) => match holding.shared.poll_get(&mut get) {
+                Poll::Pending => Stood {
+                    answer: Poll::Pending,
+                    owning: Some(Owning::Open(holding, get)),
+                },
+                Poll::Ready(Err(error)) => {
+                    holding.cancel_owned(get);
+                    Stood {
+                        answer: Poll::Ready(Err(error)),
+                        owning: None,
+                    }
+                }
+                Poll::Ready(Ok(taken)) => {
+                    // The get was answered: to let it go calls nothing.
+                    holding.shared.cancel_get(get);
+                    Stood {
+                        answer: Poll::Ready(Ok(OwnedConnection { holding, taken })),
+                        owning: None,
+                    }
+                }
+            },
+        }
+    }
+
+    fn cancel_owning(owning: Option<Owning<M, S, Z, K, R, L>>)
+        ensures { CancelsOwning K.tells owning }
+    {
+        match owning {
+            None => {}
+            Some(Owning::Refused(error)) => drop(error),
+            Some(Owning::Open(holding, get)) => holding.cancel_owned(get),
+        }
+    }
+}
+
+/// What `Pool::get_owned` does, as a method of an impl, so that such methods can call it.
+pub(crate) trait StartOwned {
+    type Get;
+
+    fn start_owned(self) -> Self::Get;
+}
+
+impl<
+    'a,
+    M: ManageConnection,
+    S: ErrorSink<M::Error>,
+    Z: CustomizeConnection<M::Connection, M::Error>,
+    K: Clock,
+    R: Locks,
+    L: Parts,
+> StartOwned for &'a Pool<M, S, Z, K, R, L> {
+    ghost use Rattle.bb8.specs.Owned.{BeginsOwning};
+
+    type Get = GetOwnedFuture<M, S, Z, K, R, L>;
+
+    fn start_owned(self) -> GetOwnedFuture<M, S, Z, K, R, L>
+        ensures { BeginsOwning K.tells self.now result.owning }
+    {
+        let owning = match self.join() {
+            Ok(holding) => Owning::Open(holding, GetState::new()),
+            Err(error) => Owning::Refused(error),
+        };
+        GetOwnedFuture {
+            owning: Some(owning),
+        }
+    }
+}
+
+impl<
+    M: ManageConnection,
+    S: ErrorSink<M::Error>,
+    Z: CustomizeConnection<M::Connection, M::Error>,
+    K: Clock,
+    R: Wait + Send + Sync + Drop + 'static,
+    L: Parts,
+> Pool<M, S, Z, K, R, L> {
+    ghost use Rattle.bb8.specs.Owned.{BeginsOwning};
+
+    /// Gets a connection as `get` does, with a handle of its own, so that neither the get nor its guard borrows the pool. As upstream, but
+    /// that the handle is made at this call, where upstream makes it once the get is served.
+    ///
+    /// A handle that is refused, as by `try_clone`, is the answer of the first poll, and then no get begins.
+    pub fn get_owned(&self) -> GetOwnedFuture<M, S, Z, K, R, L>
+        ensures { BeginsOwning K.tells self.now result.owning }
+    {
+        PoolCalls::get_owned(self)
+    }
+}
+
+impl<
+    M: ManageConnection,
+    S: ErrorSink<M::Error>,
+    Z: CustomizeConnection<M::Connection, M::Error>,
+    K: Clock,
+    R: Wait + Send + Sync + Drop + 'static,
+    L: Parts,
+> GetOwnedFuture<M, S, Z, K, R, L> {
+    ghost use Rattle.bb8.specs.Owned.{CancelsOwning};
+
+    /// Lets the get go, as a drop does, for which it may wait for the lock: one that began and was not answered is given up as cancelled,
+    /// and its handle leaves. Our own.
+    pub fn cancel(self)
+        ensures { CancelsOwning K.tells self.owning }
+    {
+        let GetOwnedFuture { owning } = self;
+        Self::cancel_owning(owning);
+    }
+}
+
+impl<
+    M: ManageConnection,
+    S: ErrorSink<M::Error>,
+    Z: CustomizeConnection<M::Connection, M::Error>,
+    K: Clock,
+    R: Locks,
+    L: Parts,
+> Drop for GetOwnedFuture<M, S, Z, K, R, L> {
+    fn drop(self) {
+        let GetOwnedFuture { owning } = self;
+        Self::cancel_owning(owning);
+    }
+}
+
+impl<
+    M: ManageConnection,
+    S: ErrorSink<M::Error>,
+    Z: CustomizeConnection<M::Connection, M::Error>,
+    K: Clock,
+    R: Wait + Send + Sync + Drop + 'static,
+    L: Parts,
+> Future for GetOwnedFuture<M, S, Z, K, R, L> {
+    ghost use Rattle.std.specs.Prelude.{⊤};
+    ghost use Rattle.futures.specs.Poll.{IfReady, OnPending};
+    ghost use Rattle.futures.specs.Task.{Covers, Keeps};
+    ghost use Rattle.bb8.specs.Owned.{GivesOwned, PollsOwned};
+
+    type Output = Result<OwnedConnection<M, S, Z, K, R, L>, RunError<M::Error>>;
+
+    ghost gives = { λ future out. GivesOwned K.tells future out };
+
+    /// One poll at the clock's reading. It is pending while the get waits before its deadline, and after its answer.
+    fn poll(&mut self, cx: &mut Context<'_>) -> Poll<Self::Output>
+        ensures table { PollsOwned K.tells self.old result self.new }
+        ensures value { IfReady result (λ out. GivesOwned K.tells self.old out) }
+        ensures again { OnPending result ⊤ }
+        ensures same { OnPending result
+            ((x : _) → GivesOwned K.tells self.new x → GivesOwned K.tells self.old x) }
+        ensures registered { OnPending result (Covers cx.new (λ _. ⊥)) }
+        ensures kept { Keeps cx.old cx.new }
+    {
+        let owning = mem::replace(&mut self.owning, None);
+        let Stood { answer, owning } = Self::poll_owning(owning);
+        match mem::replace(&mut self.owning, owning) {
+            None => {}
+            Some(_) => unreachable!(),
+        }
+        match answer {
+            Poll::Ready(answer) => Poll::Ready(answer),
+            Poll::Pending => cx.yield_now(),
+        }
+    }
+}
+
+impl<
+    M: ManageConnection,
+    S: ErrorSink<M::Error>,
+    Z: CustomizeConnection<M::Connection, M::Error>,
+    K: Clock,
+    R: Locks,
+    L: Parts,
+> Drop for OwnedConnection<M, S, Z, K, R, L> {
+    fn drop(self) {
+        let OwnedConnection { holding, taken } = self;
+        holding.give_back_owned(taken);
+    }
+}
+
+impl<
+    M: ManageConnection,
+    S: ErrorSink<M::Error>,
+    Z: CustomizeConnection<M::Connection, M::Error>,
+    K: Clock,
+    R: Locks,
+    L: Parts,
+> Deref for OwnedConnection<M, S, Z, K, R, L> {
+    type Target = M::Connection;
+
+    ghost deref_gives = { λ guard connection. connection ≡ guard.taken.connection };
+
+    fn deref(&self) -> &M::Connection {
+        &self.taken.connection
+    }
+}
+
+impl<
+    M: ManageConnection,
+    S: ErrorSink<M::Error>,
+    Z: CustomizeConnection<M::Connection, M::Error>,
+    K: Clock,
+    R: Locks,
+    L: Parts,
+> DerefMut for OwnedConnection<M, S, Z, K, R, L> {
+    fn deref_mut(&mut self) -> &mut M::Connection {
+        let taken = &mut self.taken;
+        &mut taken.connection
+    }
+}
+
+impl<
+    M: ManageConnection,
+    S: ErrorSink<M::Error>,
+    Z: CustomizeConnection<M::Connection, M::Error>,
+    K: Clock,
+    R: Locks,
+    L: Parts,
+> Debug for OwnedConnection<M, S, Z, K, R, L>
+where
+    M::Connection: Debug,
+{
+    /// As the connection prints. As upstream.
+    fn fmt<W: fmt::Write>(&self, f: &mut Formatter<W>) -> fmt::Result {
+        self.taken.connection.fmt(f)
+    }
+}

@@ -1,0 +1,8 @@
+use Rattle.bb8.specs.Parts.{unchecked_of}
+use Rattle.bb8_live_tests.proofs.tests.threads.two_threads_share_handles.Given as goal
+
+abbrev pub ghosts-shares_handles-L-Ledger : goal.ghosts-shares_handles-L-Ledger
+ghosts-shares_handles-L-Ledger g a = record { name = a.blank.name; parts = a.blank.parts }
+
+abbrev pub ghosts-shares_handles-L-Parts : goal.ghosts-shares_handles-L-Parts
+ghosts-shares_handles-L-Parts g a = record { settings = unchecked_of 2 }

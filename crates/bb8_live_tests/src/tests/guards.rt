@@ -1,0 +1,59 @@
+//! A list of guards.
+ghost use Rattle.bb8.specs.Parts.{IsBlankOf, unchecked_of};
+
+use super::{NumberPool, Runtime, SlowManager};
+use bb8::{Builder, Guards, Moment, PoolParts, SetClock};
+use futures::task::Poll;
+use futures::test::MockTask;
+use std::marker::Brand;
+use std::sync::ledger::Blank;
+use std::test::Fail;
+
+/// Three guards go into a list. The first is taken out and closes the row, one is changed in its place, and the drop of the list gives back
+/// what is left.
+fn gathers<R: Runtime, L: PoolParts>(rt: R, blank: Blank) -> Result<(), Fail>
+    requires { IsBlankOf blank (unchecked_of 3) L.name L.parts L.settings }
+{
+    let clock = SetClock::new(rt.alloc(), Moment(0))?;
+    let task = MockTask::new(&rt)?;
+    let pool: NumberPool<R, L> = Builder::new()
+        .max_size(3)
+        .test_on_check_out(false)
+        .build_unchecked(SlowManager, clock, rt, blank)?;
+    let mut guards = Guards::new(rt.alloc(), &pool);
+    assert!(&rt; guards.is_empty());
+    for connection in 7..10u64 {
+        assert_eq!(&rt; pool.add(connection), Ok(()));
+        let Poll::Ready(Ok(guard)) = task.poll(&mut pool.get()) else {
+            panic!(&rt; "not served");
+        };
+        assert!(&rt; guards.push(guard).is_ok());
+    }
+    assert_eq!(&rt; guards.len(), 3);
+    assert_eq!(&rt; pool.state().idle_connections, 0);
+    let Some(first) = guards.remove(0) else {
+        panic!(&rt; "no guard");
+    };
+    assert_eq!(&rt; *first, 7);
+    assert!(&rt; guards.remove(2).is_none());
+    let Some(last) = guards.get_mut(1) else {
+        panic!(&rt; "no guard");
+    };
+    assert_eq!(&rt; *last, 9);
+    *last = 0;
+    assert_eq!(&rt; guards.get_mut(0).copied(), Some(8));
+    assert_eq!(&rt; guards.get_mut(2), None);
+    drop(first);
+    assert_eq!(&rt; pool.state().idle_connections, 1);
+    assert_eq!(&rt; guards.len(), 2);
+    drop(guards);
+    let state = pool.state();
+    assert_eq!(&rt; (state.connections, state.idle_connections), (2, 2));
+    assert_eq!(&rt; state.statistics.connections_closed_broken, 1);
+    Ok(())
+}
+
+#[test]
+fn succeeds_to_gather_three_guards(rt: HostRuntime) -> Result<(), Fail> {
+    gathers::<HostRuntime, Brand>(rt, Blank::new(3))
+}
