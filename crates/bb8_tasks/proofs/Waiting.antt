@@ -1,5 +1,5 @@
 -- The waits of the back-off, as plain numbers.
-use Rattle.std.proofs.Common.{◌≡◌, ℕ, zero, suc, ◌+◌, ◌-◌, ◌*◌, ◌/◌, ◌^◌, ◌<◌, ◌≤◌, min, ◌⊎◌, inl, inr, lit<, subst, sym, ap, refl, add-one, arith}
+use Rattle.std.proofs.Common.{◌≡◌, ℕ, zero, suc, ◌+◌, ◌-◌, ◌*◌, ◌/◌, ◌^◌, ◌<◌, ◌≤◌, inl, inr, lit<, subst, sym, ap, refl, add-one, arith}
 use Rattle.std.proofs.Math.Nat.{pow-le-pow_right, min-eq_left, one-le-pow}
 use Rattle.std.proofs.lemmas.Bool.{cases_lt}
 use Rattle.bb8_ledger.specs.Waits.{wait, waits, IsMostWaits}

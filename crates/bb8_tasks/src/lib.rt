@@ -1,6 +1,13 @@
 //! The polled tasks of a pool: the opening of a connection, with its waits between tries.
 #![tactic(auto)]
 
+mod home;
+mod opener;
+mod plain;
+mod replenish;
 mod waits;
 
+pub use home::{FailedStep, Home, OpenedStep};
+pub use opener::{Opener, PoolOpener};
+pub use replenish::{Next, Replenish, ReplenishAnswer, Stage, Tries};
 pub use waits::wait_after;

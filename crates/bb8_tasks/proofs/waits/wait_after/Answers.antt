@@ -1,4 +1,4 @@
-use Rattle.std.proofs.Common.{◌≡◌, ◌*◌, ◌^◌, ◌<◌, ◌≤◌, ◌%◌, ◌/◌, lit<, sym, ap, ◌∙◌, min, arith}
+use Rattle.std.proofs.Common.{◌≡◌, ◌*◌, ◌^◌, ◌%◌, lit<, arith}
 use Rattle.std.proofs.lemmas.Nat.{shl_whole}
 use Rattle.std.specs.Duration.{as_nanos}
 use Rattle.bb8_tasks.proofs.Waiting.{wait-long}
