@@ -43,7 +43,8 @@ waits-past t k fits half far =
     let a = waits-more t k in let b = waits-more t (k + 1) in let c = waits-more t (k + 1 + 1) in let d = waits-more t (k + 1 + 1 + 1) in
     let p = wait-long t (k + 1) fits (omega arith) in let q = wait-long t (k + 1 + 1) fits (omega arith) in
     let r = wait-long t (k + 1 + 1 + 1) fits (omega arith) in let s = wait-long t (k + 1 + 1 + 1 + 1) fits (omega arith) in
-    four (waits t k) (waits t (k + 1)) (waits t (k + 1 + 1)) (waits t (k + 1 + 1 + 1)) (waits t (k + 1 + 1 + 1 + 1)) (wait t (k + 1)) (wait t (k + 1 + 1)) (wait t (k + 1 + 1 + 1)) (wait t (k + 1 + 1 + 1 + 1)) a b c d p q r s
+    four (waits t k) (waits t (k + 1)) (waits t (k + 1 + 1)) (waits t (k + 1 + 1 + 1)) (waits t (k + 1 + 1 + 1 + 1))
+    (wait t (k + 1)) (wait t (k + 1 + 1)) (wait t (k + 1 + 1 + 1)) (wait t (k + 1 + 1 + 1 + 1)) a b c d p q r s
   where
     four : (v w x y z e f g h : ℕ) → w ≡ v + e → x ≡ w + f → y ≡ x + g → z ≡ y + h → e ≡ t / 2 → f ≡ t / 2 → g ≡ t / 2 → h ≡ t / 2 → t < z
     four v w x y z e f g h a b c d p q r s = omega arith

@@ -31,6 +31,10 @@ abbrev pub failed_once_more : Tries → Tries
 failed_once_more tries = record { start = tries.start; failures = min (tries.failures + 1) 4294967295 }
 
 module _ {C V A : Type 0} where
+  -- a task for this approval that was not polled yet
+  abbrev pub fresh : Key → Replenish C V A
+  fresh approval = record { approval = approval; latest = record { 0 = 0 }; stage = Start }
+
   -- whether a task that stands so has ended
   abbrev pub is_done : Stage C V A → Bool
   is_done Start = false

@@ -26,7 +26,8 @@ pub trait Opener<C, E> {
     // Holds before a connection's preparation is begun, of the preparation, of the connection then, and after it.
     ghost acquires: { Self → C → Self.Acquiring → C → Self → Type 0 };
 
-    // Holds before a poll of a connection's preparation at a moment, of the answer, of the connection and the preparation then, and after it.
+    // Holds before a poll of a connection's preparation at a moment, of the answer, of the connection and the preparation then, and after
+    // it.
     ghost acquire_answers: { Self → C → Self.Acquiring → MomentOf → PollOf (Result (Unit {0}) E) → C → Self.Acquiring → Self → Type 0 };
 
     // Holds before a connection is dropped, and after it.

@@ -1,8 +1,8 @@
 //! The task that opens the connection of one approval, and its poll.
 ghost use Rattle.std.specs.Prelude.{◌≡◌};
 ghost use Rattle.std.specs.Duration.{as_nanos};
-ghost use Rattle.bb8_tasks.specs.Replenishing.{IsDue, failed_once_more, is_done, Drops, Fails, Enters, Acquires, Connects, Begins, Advances, Proceeds, Polls, LetsGo};
-ghost use Rattle.bb8_tasks.specs.declared.replenish.Stage.TheVariants.{Start as IsStart, Done as IsDone};
+ghost use Rattle.bb8_tasks.specs.Replenishing.{IsDue, failed_once_more, is_done, Drops, Fails, Enters, Acquires, Connects, Begins, Advances, Proceeds, Polls, LetsGo, fresh};
+ghost use Rattle.bb8_tasks.specs.declared.replenish.Stage.TheVariants.{Done as IsDone};
 
 use super::home::{Home, OpenedStep};
 use super::opener::Opener;
@@ -299,9 +299,7 @@ pub struct Replenish<C, V, A> {
 impl<C, V: Drop, A: Drop> Replenish<C, V, A> {
     /// A task for an approval, which was not polled yet. Our own.
     pub fn new(approval: Key) -> Self
-        ensures approval { result.approval ≡ approval }
-        ensures latest { result.latest ≡ record { 0 = 0 } }
-        ensures stage { result.stage ≡ IsStart }
+        ensures { result ≡ fresh approval }
     {
         Replenish {
             approval,
