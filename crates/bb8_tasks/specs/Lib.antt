@@ -1,0 +1,4 @@
+pub mod Bounded
+pub mod Homes
+pub mod Played
+pub mod Replenishing

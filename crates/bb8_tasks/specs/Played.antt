@@ -1,0 +1,71 @@
+-- Replays of one replenishing over a list of polls.
+use Rattle.std.specs.Prelude.{◌≡◌, ℕ, ◌+◌, min, Bool, true, None, Result, Ok, Err, List, [], ◌∷◌}
+use Rattle.futures.specs.declared.task.Poll.{Poll}
+use Rattle.futures.specs.declared.task.Poll.TheVariants.{Ready, Pending}
+use Rattle.bb8_types.specs.declared.api.moments.Moment.{Moment}
+use Rattle.bb8_tasks.specs.declared.backoff.Reply.{Reply}
+use Rattle.bb8_tasks.specs.declared.backoff.Reply.TheVariants as replies
+use Rattle.bb8_tasks.specs.declared.backoff.Scripted.{Scripted}
+use Rattle.bb8_tasks.specs.declared.backoff.Steady.{Steady}
+use Rattle.bb8_tasks.specs.declared.home.FailedStep.TheVariants as failing
+use Rattle.bb8_tasks.specs.declared.home.Home.{Ghosts as HomeOf}
+use Rattle.bb8_tasks.specs.declared.home.OpenedStep.TheVariants as opening
+use Rattle.bb8_tasks.specs.declared.opener.Opener.{Ghosts as OpenerOf}
+use Rattle.bb8_tasks.specs.declared.replenish.Replenish.{Replenish}
+use Rattle.bb8_tasks.specs.declared.replenish.ReplenishAnswer.{ReplenishAnswer}
+use Rattle.bb8_tasks.specs.Replenishing.{fresh, Polls}
+
+-- the answer of a poll of an opening that a reply stands for
+abbrev pub told : Reply → Poll (Result (Unit {0}) (Unit {0}))
+told replies.Pending = Pending
+told replies.Ok = Ready (Ok tt)
+told replies.Err = Ready (Err tt)
+
+-- one more opening was begun; a poll counts to 255
+abbrev pub begun : Scripted → Scripted
+begun script = record { reply = script.reply; tries = min (script.tries + 1) 255 }
+
+-- the relations of an opener that answers by its reply, and whose preparations are ready at once
+abbrev pub scripted : OpenerOf Scripted (Unit {0}) (Unit {0}) (Unit {0}) (Unit {0})
+scripted = record {
+  connects = λ script _ after. after ≡ begun script;
+  connect_answers = λ script _ _ answer _ after. (answer ≡ told script.reply) × (after ≡ script);
+  acquires = λ script _ _ _ after. after ≡ script;
+  acquire_answers = λ script _ _ _ answer _ _ after. (answer ≡ Ready (Ok tt)) × (after ≡ script);
+  lets_go = λ script _ after. after ≡ script;
+}
+
+-- the relations of a home that keeps a handle and enters what is opened
+abbrev pub steady : HomeOf Steady (Unit {0})
+steady = record {
+  looks = λ _ at seen _. seen ≡ record { moment = at; alive = true };
+  opens = λ _ _ _ _ step _. step ≡ opening.Entered None;
+  fails = λ _ _ _ step _. step ≡ failing.GivenBack;
+}
+
+-- a task whose connections, openings and preparations are nothing
+abbrev pub Task : Type 0
+Task = Replenish (Unit {0}) (Unit {0}) (Unit {0})
+
+-- the task of a replay, which was not polled yet
+abbrev pub first_task : Task
+first_task = fresh (record { number = 0; place = 0 })
+
+module _ (timeout : ℕ) (retry : Bool) where
+  -- one poll by the table, at its moment and with its reply: it begins so many openings
+  abbrev pub Polled : Moment × Reply → Task → ℕ → ReplenishAnswer (Unit {0}) → Task → Type 0
+  Polled p t tries answer t' =
+      (home : Steady) × (home' : Steady) × (after : Scripted)
+      × Polls steady scripted timeout retry p.0 t home (record { reply = p.1; tries = 0 }) answer t' home' after × (tries ≡ after.tries)
+
+  -- polls by the table, one after another: the answers, and how many openings they begin
+  abbrev pub Runs : Task → List (Moment × Reply) → List (ReplenishAnswer (Unit {0})) → ℕ → Task → Type 0
+  Runs t [] [] tries t' = (tries ≡ 0) × (t' ≡ t)
+  Runs t [] (a ∷ answers) tries t' = ⊥
+  Runs t (p ∷ polls) [] tries t' = ⊥
+  Runs t (p ∷ polls) (a ∷ answers) tries t' =
+      (first : ℕ) × (between : Task) × (rest : ℕ) × Polled p t first a between × Runs between polls answers rest t' × (tries ≡ first + rest)
+
+  -- the polls of a task that was not polled before
+  abbrev pub Plays : List (Moment × Reply) → List (ReplenishAnswer (Unit {0})) → ℕ → Type 0
+  Plays polls answers tries = (last : Task) × Runs first_task polls answers tries last

@@ -1,0 +1,55 @@
+//! What the tasks of a pool make their steps on.
+ghost use Rattle.bb8_types.specs.declared.api.moments.Moment.{Moment as MomentOf};
+ghost use Rattle.bb8_tables.specs.declared.keys.Key.{Key as KeyOf};
+ghost use Rattle.bb8_core.specs.declared.answers.Looked.{Looked as LookedOf};
+ghost use Rattle.bb8_tasks.specs.declared.home.FailedStep.{FailedStep as FailedStepOf};
+ghost use Rattle.bb8_tasks.specs.declared.home.OpenedStep.{OpenedStep as OpenedStepOf};
+
+use bb8_core::api::Moment;
+use bb8_core::internals::{GetKey, Key, Looked};
+
+/// What the opening of a connection answers at a home. A connection that it hands back cannot be let go but by name. Our own.
+pub enum OpenedStep<C> {
+    /// The connection is idle; the get that was notified.
+    Entered(Option<GetKey>),
+    /// No handle is alive: the approval ended, and the connection is handed back.
+    Late(C),
+    /// The step does not fit, as no such approval is claimed: nothing changed, and the connection is handed back.
+    Unfit(C),
+}
+
+/// What the giving back of an approval answers at a home. Our own.
+#[derive(Clone, Copy, Debug, PartialEq, Eq)]
+pub enum FailedStep {
+    /// The approval ended.
+    GivenBack,
+    /// The step does not fit, as no such approval is claimed, and nothing changed.
+    Unfit,
+}
+
+/// The steps that the tasks of a pool make, on connections `C`: the plain state of a pool is such a home. Our own.
+///
+/// Each step has a ghost member, a relation between the home, what the step was given, what it answered, and the home then. It has no
+/// default: what is proved of a task's polls holds for every choice.
+pub trait Home<C> {
+    // Holds of a home, a reading of the clock, what a look at it may answer, and the home then.
+    ghost looks: { Self → MomentOf → LookedOf → Self → Type 0 };
+
+    // Holds of a home, a moment, an approval, the connection that was opened for it, what that may answer, and the home then.
+    ghost opens: { Self → MomentOf → KeyOf → C → OpenedStepOf C → Self → Type 0 };
+
+    // Holds of a home, a moment, an approval, what giving it back may answer, and the home then.
+    ghost fails: { Self → MomentOf → KeyOf → FailedStepOf → Self → Type 0 };
+
+    /// The effective moment at this reading of the clock, and whether a handle is alive. Our own.
+    fn look(&mut self, at: Moment) -> Looked
+        ensures { looks self.old at result self.new };
+
+    /// Enters the connection that was opened for an approval. Our own.
+    fn opened(&mut self, at: Moment, approval: Key, connection: C) -> OpenedStep<C>
+        ensures { opens self.old at approval connection result self.new };
+
+    /// Gives back an approval for which no connection was opened. Our own.
+    fn failed(&mut self, at: Moment, approval: Key) -> FailedStep
+        ensures { fails self.old at approval result self.new };
+}

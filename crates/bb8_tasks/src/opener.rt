@@ -1,0 +1,134 @@
+//! What the opening of connections calls outside of the pool's state.
+ghost use Rattle.std.specs.Prelude.{◌≡◌, Result};
+ghost use Rattle.futures.specs.declared.task.Poll.{Poll as PollOf};
+ghost use Rattle.bb8_types.specs.declared.api.moments.Moment.{Moment as MomentOf};
+
+use bb8_core::api::{CustomizeConnection, ManageConnection, Moment};
+use futures::task::Poll;
+
+/// The calls by which connections `C` are opened and prepared, which may fail with an `E`, and where they are let go. Our own.
+///
+/// Each call changes the value that it is made of, by a relation that says nothing else and has no default. So a chain of these relations
+/// is the list of all calls, in their order: one that is made twice, left out or made at another place does not fit it.
+pub trait Opener<C, E> {
+    /// A connection that is being opened.
+    type Connecting: Drop;
+
+    /// A connection's preparation that is under way.
+    type Acquiring: Drop;
+
+    // Holds before an opening is begun, of the opening, and after it.
+    ghost connects: { Self → Self.Connecting → Self → Type 0 };
+
+    // Holds before a poll of an opening at a moment, of the answer, of the opening then, and after it.
+    ghost connect_answers: { Self → Self.Connecting → MomentOf → PollOf (Result C E) → Self.Connecting → Self → Type 0 };
+
+    // Holds before a connection's preparation is begun, of the preparation, of the connection then, and after it.
+    ghost acquires: { Self → C → Self.Acquiring → C → Self → Type 0 };
+
+    // Holds before a poll of a connection's preparation at a moment, of the answer, of the connection and the preparation then, and after
+    // it.
+    ghost acquire_answers: { Self → C → Self.Acquiring → MomentOf → PollOf (Result (Unit {0}) E) → C → Self.Acquiring → Self → Type 0 };
+
+    // Holds before a connection is dropped, and after it.
+    ghost lets_go: { Self → C → Self → Type 0 };
+
+    /// Begins to open a connection. Our own.
+    fn connect(&mut self) -> Self::Connecting
+        ensures { connects self.old result self.new };
+
+    /// Goes on with an opening. Our own.
+    fn poll_connect(
+        &mut self,
+        connecting: &mut Self::Connecting,
+        moment: Moment,
+    ) -> Poll<Result<C, E>>
+        ensures { connect_answers self.old connecting.old moment result connecting.new self.new };
+
+    /// Begins to prepare a connection. Our own.
+    fn on_acquire(&mut self, connection: &mut C) -> Self::Acquiring
+        ensures { acquires self.old connection.old result connection.new self.new };
+
+    /// Goes on with a connection's preparation. Our own.
+    fn poll_acquire(
+        &mut self,
+        connection: &mut C,
+        acquiring: &mut Self::Acquiring,
+        moment: Moment,
+    ) -> Poll<Result<(), E>>
+        ensures { acquire_answers self.old connection.old acquiring.old moment result connection.new
+            acquiring.new self.new };
+
+    /// Drops a connection. Our own.
+    fn let_go(&mut self, connection: C)
+        ensures { lets_go self.old connection self.new };
+}
+
+/// The manager and the customizer of a pool, by which its connections are opened and prepared. Our own.
+#[derive(Drop)]
+pub struct PoolOpener<'a, M, Z> {
+    manager: &'a M,
+    customizer: &'a Z,
+}
+
+impl<'a, M, Z> PoolOpener<'a, M, Z> {
+    /// The calls of these two. Our own.
+    pub fn new(manager: &'a M, customizer: &'a Z) -> Self
+        ensures manager { result.manager.now ≡ manager.now }
+        ensures customizer { result.customizer.now ≡ customizer.now }
+    {
+        PoolOpener {
+            manager,
+            customizer,
+        }
+    }
+}
+
+/// Each relation is the user's own, and no call changes which manager and customizer these are.
+impl<M: ManageConnection, Z: CustomizeConnection<M::Connection, M::Error>> Opener<
+    M::Connection,
+    M::Error,
+> for PoolOpener<'_, M, Z> {
+    type Connecting = M::Connecting;
+
+    type Acquiring = Z::Acquiring;
+
+    ghost connects = { λ opener v after. M.connects opener.manager.now v × (after ≡ opener) };
+
+    ghost connect_answers = { λ opener v m answer v' after. M.connect_answers opener.manager.now v m answer v' × (after ≡ opener) };
+
+    ghost acquires = { λ opener c a c' after. Z.acquires opener.customizer.now c a c' × (after ≡ opener) };
+
+    ghost acquire_answers = { λ opener c a m answer c' a' after. Z.acquire_answers opener.customizer.now c a m answer c' a' × (after ≡ opener) };
+
+    ghost lets_go = { λ opener _ after. after ≡ opener };
+
+    fn connect(&mut self) -> M::Connecting {
+        self.manager.connect()
+    }
+
+    fn poll_connect(
+        &mut self,
+        connecting: &mut M::Connecting,
+        moment: Moment,
+    ) -> Poll<Result<M::Connection, M::Error>> {
+        self.manager.poll_connect(connecting, moment)
+    }
+
+    fn on_acquire(&mut self, connection: &mut M::Connection) -> Z::Acquiring {
+        self.customizer.on_acquire(connection)
+    }
+
+    fn poll_acquire(
+        &mut self,
+        connection: &mut M::Connection,
+        acquiring: &mut Z::Acquiring,
+        moment: Moment,
+    ) -> Poll<Result<(), M::Error>> {
+        self.customizer.poll_acquire(connection, acquiring, moment)
+    }
+
+    fn let_go(&mut self, connection: M::Connection) {
+        drop(connection)
+    }
+}

@@ -1,0 +1,41 @@
+//! The plain state of a pool as a home of tasks.
+ghost use Rattle.bb8_ledger.specs.Acts as acts;
+ghost use Rattle.bb8_core.specs.StepAnswers.{look_told};
+ghost use Rattle.bb8_tasks.specs.Homes.{Steps, failed_told, opened_told, HandsBack};
+
+use super::home::{FailedStep, Home, OpenedStep};
+use bb8_core::api::Moment;
+use bb8_core::internals::{FailedAnswer, Key, Looked, OpenedAnswer, PoolInternals};
+
+/// Each step asks first whether it fits, and answers `Unfit` and changes nothing where it does not. A connection that comes back is the one
+/// that was handed in.
+impl<C: Drop> Home<C> for PoolInternals<C> {
+    ghost looks = { λ pool at seen after. Steps pool at.0 acts.Look (look_told seen) after };
+
+    ghost opens = { λ pool at a c step after. Steps pool at.0 (acts.Opened a.number c) (opened_told a.number step) after × HandsBack c step };
+
+    ghost fails = { λ pool at a step after. Steps pool at.0 (acts.Failed a.number) (failed_told step) after };
+
+    fn look(&mut self, at: Moment) -> Looked {
+        PoolInternals::look(self, at)
+    }
+
+    fn opened(&mut self, at: Moment, approval: Key, connection: C) -> OpenedStep<C> {
+        if !self.fits_opened(approval) {
+            return OpenedStep::Unfit(connection);
+        }
+        match PoolInternals::opened(self, at, approval, connection) {
+            OpenedAnswer::Entered(notified) => OpenedStep::Entered(notified),
+            OpenedAnswer::Late(connection) => OpenedStep::Late(connection),
+        }
+    }
+
+    fn failed(&mut self, at: Moment, approval: Key) -> FailedStep {
+        if !self.fits_failed(approval) {
+            return FailedStep::Unfit;
+        }
+        match PoolInternals::failed(self, at, approval) {
+            FailedAnswer::GivenBack => FailedStep::GivenBack,
+        }
+    }
+}

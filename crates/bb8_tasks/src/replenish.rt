@@ -1,0 +1,377 @@
+//! The task that opens the connection of one approval, and its poll.
+ghost use Rattle.std.specs.Prelude.{◌≡◌};
+ghost use Rattle.std.specs.Duration.{as_nanos};
+ghost use Rattle.bb8_tasks.specs.Replenishing.{IsDue, failed_once_more, is_done, Drops, Fails, Enters, Acquires, Connects, Begins, Advances, Proceeds, Polls, LetsGo, fresh};
+ghost use Rattle.bb8_tasks.specs.declared.replenish.Stage.TheVariants.{Done as IsDone};
+
+use super::home::{Home, OpenedStep};
+use super::opener::Opener;
+use super::waits::wait_after;
+use bb8_core::api::{Config, Moment};
+use bb8_core::internals::Key;
+use futures::task::Poll;
+use std::mem;
+use std::time::Duration;
+
+/// What a poll of a replenishing answers. Our own.
+#[derive(Drop, Debug, PartialEq, Eq)]
+pub enum ReplenishAnswer<E> {
+    /// The task goes on, and asks to be polled again.
+    Pending,
+    /// A try failed with this error, and the task tries again later.
+    Retrying(E),
+    /// The last try failed with this error: the approval was given back, and the task ended.
+    Failed(E),
+    /// The connection is the pool's, and the task ended.
+    Entered,
+    /// No handle was alive when the connection came: it was dropped, and the task ended.
+    Late,
+    /// The approval was given back, or was not known any more, and the task ended; or it had ended before.
+    GivenBack,
+}
+
+/// The tries of a replenishing so far. Our own.
+#[derive(Clone, Copy, Debug)]
+pub struct Tries {
+    /// The moment of the first one.
+    pub start: Moment,
+    /// How many failed. It stays at the greatest number.
+    pub failures: u32,
+}
+
+/// Where a replenishing stands between its polls. It cannot be let go but by name. Our own.
+pub enum Stage<C, V, A> {
+    /// It was not polled yet.
+    Start,
+    /// A connection is being opened.
+    Connecting(Tries, V),
+    /// The connection is open, and is being prepared.
+    Acquiring(Tries, C, A),
+    /// A try failed. The next one is due at this moment, or never.
+    Sleeping(Tries, Option<Moment>),
+    /// It ended.
+    Done,
+}
+
+/// What a poll answers, and where it leaves the task. Our own.
+pub struct Next<C, V, A, E> {
+    /// The answer.
+    pub answer: ReplenishAnswer<E>,
+    /// The stage then.
+    pub stage: Stage<C, V, A>,
+}
+
+/// What the rows of one poll are given: two settings, the approval and the effective moment.
+#[derive(Clone, Copy)]
+struct Row {
+    timeout: Duration,
+    retry: bool,
+    approval: Key,
+    moment: Moment,
+}
+
+/// The moment that lies so far after another. None, and so never, where it is past the greatest moment.
+fn moment_after(moment: Moment, span: Duration) -> Option<Moment>
+    ensures { IsDue moment (as_nanos span) result }
+{
+    let nanos = u64::try_from(span.as_nanos()).ok()?;
+    Some(Moment(moment.0.checked_add(nanos)?))
+}
+
+/// The tries after one more failure.
+fn one_more(tries: Tries) -> Tries
+    ensures { result ≡ failed_once_more tries }
+{
+    Tries {
+        start: tries.start,
+        failures: tries.failures.saturating_add(1),
+    }
+}
+
+/// A row's answer, and the stage in which it leaves the task.
+fn leaves<C, V, A, E>(answer: ReplenishAnswer<E>, stage: Stage<C, V, A>) -> Next<C, V, A, E>
+    ensures answer { result.answer ≡ answer }
+    ensures stage { result.stage ≡ stage }
+{
+    Next { answer, stage }
+}
+
+/// Drops what a task holds.
+fn let_go<C, E, W: Opener<C, E>>(opener: &mut W, stage: Stage<C, W::Connecting, W::Acquiring>)
+    ensures { Drops W.Opener stage opener.old opener.new }
+{
+    match stage {
+        Stage::Acquiring(_, connection, acquiring) => {
+            drop(acquiring);
+            opener.let_go(connection);
+        }
+        Stage::Connecting(_, connecting) => drop(connecting),
+        Stage::Sleeping(_tries, _due) => {}
+        Stage::Start | Stage::Done => {}
+    }
+}
+
+impl<C, V: Drop, A: Drop> Stage<C, V, A> {
+    /// Whether the task has ended.
+    fn is_done(&self) -> bool
+        ensures { result ≡ is_done self.now }
+    {
+        match self {
+            Stage::Done => true,
+            Stage::Start | Stage::Connecting(..) | Stage::Acquiring(..) | Stage::Sleeping(..) => {
+                false
+            }
+        }
+    }
+}
+
+impl Row {
+    /// A failure.
+    fn fail<C, V, A, E, H: Home<C>>(self, home: &mut H, tries: Tries, error: E) -> Next<C, V, A, E>
+        ensures { Fails H.Home (as_nanos self.timeout) self.retry self.approval self.moment
+            tries error home.old result home.new }
+    {
+        let elapsed = u128::from(self.moment.0.saturating_sub(tries.start.0));
+        if !self.retry || elapsed > self.timeout.as_nanos() {
+            let _ = home.failed(self.moment, self.approval);
+            return leaves(ReplenishAnswer::Failed(error), Stage::Done);
+        }
+        let tries = one_more(tries);
+        let due = moment_after(self.moment, wait_after(tries.failures, self.timeout));
+        leaves(
+            ReplenishAnswer::Retrying(error),
+            Stage::Sleeping(tries, due),
+        )
+    }
+
+    /// The connection is entered.
+    fn enter<C, E, W: Opener<C, E>, H: Home<C>>(
+        self,
+        opener: &mut W,
+        home: &mut H,
+        connection: C,
+    ) -> Next<C, W::Connecting, W::Acquiring, E>
+        ensures { Enters H.Home (as_nanos self.timeout) self.retry self.approval self.moment
+            W.Opener connection home.old opener.old result home.new opener.new }
+    {
+        match home.opened(self.moment, self.approval, connection) {
+            OpenedStep::Entered(_) => leaves(ReplenishAnswer::Entered, Stage::Done),
+            OpenedStep::Late(connection) => {
+                opener.let_go(connection);
+                leaves(ReplenishAnswer::Late, Stage::Done)
+            }
+            OpenedStep::Unfit(connection) => {
+                opener.let_go(connection);
+                leaves(ReplenishAnswer::GivenBack, Stage::Done)
+            }
+        }
+    }
+
+    /// The preparation is polled.
+    fn acquire<C, E, W: Opener<C, E>, H: Home<C>>(
+        self,
+        opener: &mut W,
+        home: &mut H,
+        tries: Tries,
+        mut connection: C,
+        mut acquiring: W::Acquiring,
+    ) -> Next<C, W::Connecting, W::Acquiring, E>
+        ensures { Acquires H.Home (as_nanos self.timeout) self.retry self.approval self.moment
+            W.Opener tries connection acquiring home.old opener.old result home.new opener.new }
+    {
+        match opener.poll_acquire(&mut connection, &mut acquiring, self.moment) {
+            Poll::Pending => leaves(
+                ReplenishAnswer::Pending,
+                Stage::Acquiring(tries, connection, acquiring),
+            ),
+            Poll::Ready(Ok(())) => self.enter(opener, home, connection),
+            Poll::Ready(Err(error)) => {
+                opener.let_go(connection);
+                self.fail(home, tries, error)
+            }
+        }
+    }
+
+    /// The opening is polled.
+    fn connect<C, E, W: Opener<C, E>, H: Home<C>>(
+        self,
+        opener: &mut W,
+        home: &mut H,
+        tries: Tries,
+        mut connecting: W::Connecting,
+    ) -> Next<C, W::Connecting, W::Acquiring, E>
+        ensures { Connects H.Home (as_nanos self.timeout) self.retry self.approval self.moment
+            W.Opener tries connecting home.old opener.old result home.new opener.new }
+    {
+        match opener.poll_connect(&mut connecting, self.moment) {
+            Poll::Pending => leaves(
+                ReplenishAnswer::Pending,
+                Stage::Connecting(tries, connecting),
+            ),
+            Poll::Ready(Ok(mut connection)) => {
+                let acquiring = opener.on_acquire(&mut connection);
+                self.acquire(opener, home, tries, connection, acquiring)
+            }
+            Poll::Ready(Err(error)) => self.fail(home, tries, error),
+        }
+    }
+
+    /// An opening is begun.
+    fn begin<C, E, W: Opener<C, E>, H: Home<C>>(
+        self,
+        opener: &mut W,
+        home: &mut H,
+        tries: Tries,
+    ) -> Next<C, W::Connecting, W::Acquiring, E>
+        ensures { Begins H.Home (as_nanos self.timeout) self.retry self.approval self.moment
+            W.Opener tries home.old opener.old result home.new opener.new }
+    {
+        let connecting = opener.connect();
+        self.connect(opener, home, tries, connecting)
+    }
+
+    /// The row of the task's stage, where a handle is alive.
+    fn advance<C, E, W: Opener<C, E>, H: Home<C>>(
+        self,
+        opener: &mut W,
+        home: &mut H,
+        stage: Stage<C, W::Connecting, W::Acquiring>,
+    ) -> Next<C, W::Connecting, W::Acquiring, E>
+        ensures { Advances H.Home (as_nanos self.timeout) self.retry self.approval self.moment
+            W.Opener stage home.old opener.old result home.new opener.new }
+    {
+        match stage {
+            Stage::Start => {
+                let tries = Tries {
+                    start: self.moment,
+                    failures: 0,
+                };
+                self.begin(opener, home, tries)
+            }
+            Stage::Connecting(tries, connecting) => self.connect(opener, home, tries, connecting),
+            Stage::Acquiring(tries, connection, acquiring) => {
+                self.acquire(opener, home, tries, connection, acquiring)
+            }
+            Stage::Sleeping(tries, Some(due)) => {
+                if due <= self.moment {
+                    self.begin(opener, home, tries)
+                } else {
+                    leaves(ReplenishAnswer::Pending, Stage::Sleeping(tries, Some(due)))
+                }
+            }
+            Stage::Sleeping(tries, None) => {
+                leaves(ReplenishAnswer::Pending, Stage::Sleeping(tries, None))
+            }
+            Stage::Done => leaves(ReplenishAnswer::GivenBack, Stage::Done),
+        }
+    }
+
+    /// What a task does after its look.
+    fn proceed<C, E, W: Opener<C, E>, H: Home<C>>(
+        self,
+        opener: &mut W,
+        home: &mut H,
+        alive: bool,
+        stage: Stage<C, W::Connecting, W::Acquiring>,
+    ) -> Next<C, W::Connecting, W::Acquiring, E>
+        ensures { Proceeds H.Home (as_nanos self.timeout) self.retry self.approval self.moment
+            W.Opener alive stage home.old opener.old result home.new opener.new }
+    {
+        if alive {
+            return self.advance(opener, home, stage);
+        }
+        let_go(opener, stage);
+        let _ = home.failed(self.moment, self.approval);
+        leaves(ReplenishAnswer::GivenBack, Stage::Done)
+    }
+}
+
+/// The opening of the connection of an approval: a `C` is a connection, a `V` one that is being opened, an `A` a preparation. Our own:
+/// upstream's is a spawned task.
+///
+/// It does nothing until it is polled. It cannot be dropped but by `give_back`, as its approval goes back to its home.
+pub struct Replenish<C, V, A> {
+    approval: Key,
+    latest: Moment,
+    stage: Stage<C, V, A>,
+}
+
+impl<C, V: Drop, A: Drop> Replenish<C, V, A> {
+    /// A task for an approval, which was not polled yet. Our own.
+    pub fn new(approval: Key) -> Self
+        ensures { result ≡ fresh approval }
+    {
+        Replenish {
+            approval,
+            latest: Moment(0),
+            stage: Stage::Start,
+        }
+    }
+
+    /// Puts another stage in the place of one that has ended.
+    fn stand(&mut self, stage: Stage<C, V, A>)
+        requires { self.old.stage ≡ IsDone }
+        ensures { self.new ≡ record { approval = self.old.approval; latest = self.old.latest; stage = stage } }
+    {
+        match mem::replace(&mut self.stage, stage) {
+            Stage::Done => {}
+            _ => unreachable!(),
+        }
+    }
+
+    /// One poll of the task over a home, at a reading `at` of the clock. Our own.
+    ///
+    /// It looks at the home first, and begins one opening at most. A try that failed is made again later, where `retry_connection` is set
+    /// and no more than the `connection_timeout` has passed since the first one; else its approval is given back. After an answer other
+    /// than `Pending` and `Retrying` each poll answers `GivenBack`, calls nothing and changes nothing.
+    pub fn poll<E, W: Opener<C, E, Connecting = V, Acquiring = A>, H: Home<C>>(
+        &mut self,
+        at: Moment,
+        opener: &mut W,
+        config: &Config,
+        home: &mut H,
+    ) -> ReplenishAnswer<E>
+        ensures { Polls H.Home W.Opener (as_nanos config.now.connection_timeout)
+            config.now.retry_connection at self.old home.old opener.old result self.new home.new
+            opener.new }
+    {
+        if self.stage.is_done() {
+            return ReplenishAnswer::GivenBack;
+        }
+        let seen = home.look(at);
+        let moment = Moment(seen.moment.0.max(self.latest.0));
+        self.latest = moment;
+        let row = Row {
+            timeout: config.connection_timeout,
+            retry: config.retry_connection,
+            approval: self.approval,
+            moment,
+        };
+        let stage = mem::replace(&mut self.stage, Stage::Done);
+        let Next { answer, stage } = row.proceed(opener, home, seen.alive, stage);
+        self.stand(stage);
+        answer
+    }
+
+    /// Lets the task go, at a reading `at` of the clock: where it has not ended, what it holds is dropped, and its approval given back.
+    /// Our own.
+    pub fn give_back<E, W: Opener<C, E, Connecting = V, Acquiring = A>, H: Home<C>>(
+        self,
+        at: Moment,
+        opener: &mut W,
+        home: &mut H,
+    )
+        ensures { LetsGo H.Home W.Opener at self home.old opener.old home.new opener.new }
+    {
+        let Replenish {
+            approval,
+            latest: _,
+            stage,
+        } = self;
+        if stage.is_done() {
+            return let_go(opener, stage);
+        }
+        let_go(opener, stage);
+        let _ = home.failed(at, approval);
+    }
+}
