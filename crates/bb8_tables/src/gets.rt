@@ -94,6 +94,21 @@ pub fn first_wait(getting: Option<Getting>) -> Option<u64>
     }
 }
 
+/// The number of the connection that a get holds, if it holds one.
+pub fn held(getting: Option<Getting>) -> Option<u64>
+    ensures { result ≡ places.holds getting }
+{
+    match getting {
+        Some(
+            Getting {
+                place: GetPlace::Holding(number),
+                ..
+            },
+        ) => Some(number),
+        _ => None,
+    }
+}
+
 /// Whether the get that stands at a place waits and was not notified.
 fn stands_in_line(slots: &Table<Getting>, place: usize) -> bool
     ensures { result ≡ waits_at (slabs.get slots.now place) }
@@ -243,6 +258,19 @@ impl Gets {
                     place,
                 });
             }
+        }
+    }
+
+    /// Has a get stand elsewhere that stands in no line: it holds a connection now, or is active again.
+    pub fn turn(&mut self, g: GetKey, place: GetPlace)
+        requires off { places.is_unnotified place ≡ false }
+        requires stands { (x : Getting) × (map.get self.old.places g.number ≡ Some x)
+            × (places.is_unnotified x.place ≡ false) }
+        ensures { self.new ≡ machine.after_turn place g.number self.old }
+    {
+        match self.slots.locate(g.number, g.place) {
+            None => {}
+            Some(at) => self.slots.turn(at, place),
         }
     }
 
