@@ -232,7 +232,10 @@ fn owned_get_leaves_at_its_answer(rt: HostRuntime) -> Result<(), Fail> {
     leaves_at_its_answer::<HostRuntime, Brand>(rt, Blank::new(1))
 }
 
-/// An owned guard is read, written and printed as its connection.
+/// It may go to another thread.
+fn is_sent<T: Send>(_: &T) {}
+
+/// An owned guard is read, written and printed as its connection, and may go to another thread, as its get may.
 fn derefs<R: Runtime, L: PoolParts>(rt: R, blank: Blank) -> Result<(), Fail>
     requires { IsBlankOf blank (unchecked_of 1) L.name L.parts L.settings }
 {
@@ -243,9 +246,12 @@ fn derefs<R: Runtime, L: PoolParts>(rt: R, blank: Blank) -> Result<(), Fail>
         .test_on_check_out(false)
         .build_unchecked(SlowManager, clock, rt, blank)?;
     assert_eq!(&rt; pool.add(7), Ok(()));
-    let Poll::Ready(Ok(mut guard)) = task.poll(&mut pool.get_owned()) else {
+    let mut get = pool.get_owned();
+    is_sent(&get);
+    let Poll::Ready(Ok(mut guard)) = task.poll(&mut get) else {
         panic!(&rt; "not served");
     };
+    is_sent(&guard);
     assert_eq!(&rt; *guard, 7);
     assert_eq!(&rt; format!(in rt.alloc(); "{guard:?}")?.as_str(), "7");
     *guard = 0;
