@@ -127,31 +127,31 @@ impl<
 }
 
 /// What the guards of a pool do with what its handles share, as a method of an impl, so that drops can call it.
-pub(crate) trait Returns {
-    type Taken;
-
+pub(crate) trait Returns<C, E, V, P> {
     /// Gives a connection back.
-    fn give_back(&self, taken: Self::Taken);
+    fn give_back<W: Outside<C, E, Checking = V>>(&self, outside: &mut W, taken: Taken<C, P>);
 }
 
-impl<M: ManageConnection, S, Z, K: Clock, R: Locks, L: Parts> Returns for Shared<M, S, Z, K, R, L> {
+impl<M: ManageConnection, S, Z, K, R: Locks, L: Parts> Returns<M::Connection, M::Error, M::Checking, Part<L>>
+    for Shared<M, S, Z, K, R, L> {
     ghost use Rattle.bb8.specs.Linked.{LinkReturns};
-
-    type Taken = Taken<M::Connection, Part<L>>;
 
     /// The connection is asked whether it is broken, and the clock is read, before the lock is taken. What was closed, or came back as the
     /// return did not fit, is dropped once the lock is free again.
-    fn give_back(&self, taken: Taken<M::Connection, Part<L>>)
-        ensures { LinkReturns K.tells self.now taken }
+    fn give_back<W: Outside<M::Connection, M::Error, Checking = M::Checking>>(
+        &self,
+        outside: &mut W,
+        taken: Taken<M::Connection, Part<L>>,
+    )
+        ensures { LinkReturns W.Outside self.now taken outside.old outside.new }
     {
         let Taken {
             key,
             mut connection,
             part,
         } = taken;
-        let mut calls = Calls::new(&self.manager, &self.clock);
-        let broken = calls.has_broken(&mut connection);
-        let at = calls.now();
+        let broken = outside.has_broken(&mut connection);
+        let at = outside.now();
         let taken = Taken {
             key,
             connection,
@@ -160,8 +160,8 @@ impl<M: ManageConnection, S, Z, K: Clock, R: Locks, L: Parts> Returns for Shared
         let answer = self.rt.take(&self.locked).put_back(at, taken, broken);
         match answer {
             Ok(PutBackAnswer::Kept(_)) => {}
-            Ok(PutBackAnswer::Closed(closed, ..)) => calls.let_go(closed),
-            Err(unfit) => calls.let_go(unfit),
+            Ok(PutBackAnswer::Closed(closed, ..)) => outside.let_go(closed),
+            Err(unfit) => outside.let_go(unfit),
         }
     }
 }
@@ -336,7 +336,8 @@ impl<
 > Drop for PooledConnection<'_, M, S, Z, K, R, L> {
     fn drop(self) {
         let PooledConnection { shared, taken } = self;
-        shared.give_back(taken);
+        let mut calls = Calls::new(&shared.manager, &shared.error_sink, &shared.clock);
+        shared.give_back(&mut calls, taken);
     }
 }
 

@@ -8,7 +8,7 @@ use Rattle.bb8_core.specs.StepAnswers.{HandsOut, try_told}
 use Rattle.bb8_core.specs.Shown.{Shown}
 use Rattle.bb8_gets.specs.declared.home.Unfit.{Unfit}
 use Rattle.bb8_gets.specs.declared.home.Tried.{Tried}
-use Rattle.bb8_gets.specs.declared.home.Tried.TheVariants.{Served, Waiting}
+use Rattle.bb8_gets.specs.declared.home.Tried.TheVariants as tried
 
 -- a step's answer, by plain numbers
 abbrev pub answered : {A : Type 0} → (A → Answer) → Result A Unfit → Answer
@@ -18,8 +18,9 @@ answered told (Err u) = answers.Unfit
 module _ {C P : Type 0} where
   -- the answer of a try without what goes with the connection
   abbrev pub in_core : Tried C P → TryAnswer C
-  in_core (Served taken grant) = tries.Served taken.key taken.connection grant
-  in_core (Waiting grant) = tries.Waiting grant
+  in_core (tried.Served taken grant) = tries.Served taken.key taken.connection grant
+  in_core (tried.Taken taken grant) = tries.Waiting grant
+  in_core (tried.Waiting grant) = tries.Waiting grant
 
   -- a try's answer, by plain numbers
   abbrev pub tried_told : Result (Tried C P) Unfit → Answer

@@ -1,6 +1,6 @@
 use Rattle.bb8_ledger.specs.Acts as acts
 use Rattle.bb8_locked.proofs.Sections.{kept_settings, unmoved}
-use Rattle.bb8_locked.proofs.locked.LockedGetHome.look.Goals as goal
+use Rattle.bb8_locked.proofs.home.LockedGetHome.look.Goals as goal
 
 pub invariant_of-self : goal.invariant_of-self
 invariant_of-self g c = record {

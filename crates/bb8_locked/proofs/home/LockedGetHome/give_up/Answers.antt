@@ -2,15 +2,7 @@ use Rattle.std.proofs.Common.{false, None}
 use Rattle.bb8_ledger.specs.Acts as acts
 use Rattle.bb8_core.specs.StepAnswers.{reason_of}
 use Rattle.bb8_locked.proofs.Sections.{kept_settings, fitting, unfit_step, unmoved, gave_up}
-use Rattle.bb8_locked.proofs.locked.LockedGetHome.give_up.Goals as goal
-
-pub returns-then-not-fits_give_up : goal.returns-then-not-fits_give_up
-returns-then-not-fits_give_up g c = (
-  c.limits.ensures.limits,
-  c.limits.ensures.settings,
-  unfit_step c.args.self.now.core c.args.at.0
-      (acts.GiveUp c.args.get.number (reason_of c.args.reason) None false) (c.if-not-fits_give_up.ensures (reason_of c.args.reason) false),
-)
+use Rattle.bb8_locked.proofs.home.LockedGetHome.give_up.Goals as goal
 
 pub give_up-requires : goal.give_up-requires
 give_up-requires g c = fitting c.args.self.now.core (acts.GiveUp c.args.get.number (reason_of c.args.reason) None false) (c.if-not-fits_give_up.ensures (reason_of c.args.reason) false)

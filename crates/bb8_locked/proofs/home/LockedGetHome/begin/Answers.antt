@@ -1,6 +1,6 @@
 use Rattle.bb8_ledger.specs.Acts as acts
 use Rattle.bb8_locked.proofs.Sections.{kept_settings, unfit_step, unmoved}
-use Rattle.bb8_locked.proofs.locked.LockedGetHome.begin.Goals as goal
+use Rattle.bb8_locked.proofs.home.LockedGetHome.begin.Goals as goal
 
 pub returns-then-not-fits_begin : goal.returns-then-not-fits_begin
 returns-then-not-fits_begin g c = (c.limits.ensures.limits, c.limits.ensures.settings, unfit_step c.args.self.now.core c.args.at.0 acts.Begin c.if-not-fits_begin.ensures)

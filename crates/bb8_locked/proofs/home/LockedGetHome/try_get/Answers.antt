@@ -1,7 +1,7 @@
 use Rattle.std.proofs.Common.{◌≤◌, arith}
 use Rattle.bb8_ledger.specs.Acts as acts
 use Rattle.bb8_locked.proofs.Sections.{kept_settings, unfit_step, unmoved, has_part, gone_out}
-use Rattle.bb8_locked.proofs.locked.LockedGetHome.try_get.Goals as goal
+use Rattle.bb8_locked.proofs.home.LockedGetHome.try_get.Goals as goal
 
 pub returns-then-not-fits_try : goal.returns-then-not-fits_try
 returns-then-not-fits_try g c = ((c.limits.ensures.limits, c.limits.ensures.settings, unfit_step c.args.self.now.core c.args.at.0 (acts.Try c.args.get.number) c.if-not-fits_try.ensures), tt)

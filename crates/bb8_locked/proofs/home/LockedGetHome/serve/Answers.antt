@@ -5,7 +5,7 @@ use Rattle.bb8_core.specs.Parts.{out_of}
 use Rattle.bb8_locked.proofs.Sections.{kept_settings, unmoved, has_part, gone_out, follows, within}
 use Rattle.bb8_tables.specs.declared.keys.GetKey.{GetKey}
 use Rattle.bb8_locked.specs.declared.locked.Locked.{Locked}
-use Rattle.bb8_locked.proofs.locked.LockedGetHome.serve.Goals as goal
+use Rattle.bb8_locked.proofs.home.LockedGetHome.serve.Goals as goal
 
 pub split_off-one-requires-clause-has_parts : goal.split_off-one-requires-clause-has_parts
 split_off-one-requires-clause-has_parts g c =
