@@ -8,7 +8,7 @@
 #![tactic(auto)]
 
 ghost use Rattle.std.specs.Prelude.{◌<◌};
-ghost use Rattle.bb8_locked.specs.Parts.{IsBlankOf, unchecked_of};
+ghost use Rattle.bb8.specs.Parts.{IsBlankOf, unchecked_of};
 
 mod manager;
 mod rounds;

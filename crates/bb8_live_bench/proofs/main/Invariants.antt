@@ -1,4 +1,4 @@
-use Rattle.bb8_locked.specs.Parts.{unchecked_of}
+use Rattle.bb8.specs.Parts.{unchecked_of}
 use Rattle.bb8_live_bench.proofs.main.Given as goal
 
 abbrev pub ghosts-run-L-Ledger : goal.ghosts-run-L-Ledger

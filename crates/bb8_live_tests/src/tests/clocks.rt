@@ -1,6 +1,6 @@
 //! What a pool does at the moments that its clock tells, and in which order it lends.
 ghost use Rattle.std.specs.Prelude.{Some};
-ghost use Rattle.bb8_locked.specs.Parts.{IsBlankOf, unchecked_of};
+ghost use Rattle.bb8.specs.Parts.{IsBlankOf, unchecked_of};
 
 use super::{NumberPool, Runtime, SlowManager};
 use bb8::{Builder, Memory, Moment, PoolParts, QueueStrategy, RunError, SetClock};

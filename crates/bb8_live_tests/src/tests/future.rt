@@ -1,5 +1,5 @@
 //! The future of a get, polled by hand.
-ghost use Rattle.bb8_locked.specs.Parts.{IsBlankOf, unchecked_of};
+ghost use Rattle.bb8.specs.Parts.{IsBlankOf, unchecked_of};
 
 use super::{NumberPool, Runtime, SlowManager};
 use bb8::{Builder, Memory, Moment, PoolParts, RunError, SetClock};

@@ -1,5 +1,5 @@
 //! A manager is asked about a connection while the pool answers another thread: no call of it is made under the lock.
-ghost use Rattle.bb8_locked.specs.Parts.{IsBlankOf, unchecked_of};
+ghost use Rattle.bb8.specs.Parts.{IsBlankOf, unchecked_of};
 
 use super::{Refused, Runtime};
 use bb8::{
@@ -8,7 +8,9 @@ use bb8::{
 };
 use futures::executor::block_on;
 use futures::task::Poll;
+use std::alloc::Global;
 use std::marker::Brand;
+use std::sync::Arc;
 use std::sync::atomic::{AtomicU64, Ordering};
 use std::sync::ledger::Blank;
 use std::test::Fail;
@@ -31,7 +33,7 @@ const LOOKS: u32 = 10_000_000;
 /// Whose `has_broken` waits, where its gate is armed, until another thread has got an answer of the pool.
 #[derive(Drop)]
 struct GateManager {
-    gate: AtomicU64,
+    gate: Arc<AtomicU64, Global>,
 }
 
 impl ManageConnection for GateManager {
@@ -98,6 +100,7 @@ trait Jobs {
 #[derive(Drop)]
 struct AtGate<'a, R: Runtime, L: PoolParts> {
     pool: &'a GatePool<R, L>,
+    gate: Arc<AtomicU64, Global>,
     rt: R,
 }
 
@@ -106,19 +109,17 @@ impl<R: Runtime, L: PoolParts> Jobs for AtGate<'_, R, L> {
         let Ok(Ok(guard)) = block_on(&self.rt, PoolCalls::get(self.pool)) else {
             return false;
         };
-        let gate = &self.pool.shared.manager.gate;
-        gate.store(ARMED, Ordering::SeqCst);
+        self.gate.store(ARMED, Ordering::SeqCst);
         drop(guard);
-        gate.load(Ordering::SeqCst) == PASSED
+        self.gate.load(Ordering::SeqCst) == PASSED
     }
 
     fn ask(&self) -> bool {
-        let gate = &self.pool.shared.manager.gate;
-        if !comes_to(gate, WAITING) {
+        if !comes_to(&self.gate, WAITING) {
             return false;
         }
         let state = PoolCalls::state(self.pool);
-        gate.store(ANSWERED, Ordering::SeqCst);
+        self.gate.store(ANSWERED, Ordering::SeqCst);
         state.connections == 1 && state.idle_connections == 0
     }
 }
@@ -133,15 +134,17 @@ fn answers_meanwhile<R: Runtime + Threads, L: PoolParts>(rt: R, blank: Blank) ->
     requires { IsBlankOf blank (unchecked_of 1) L.name L.parts L.settings }
 {
     let clock = SetClock::new(rt.alloc(), Moment(0))?;
-    let manager = GateManager {
-        gate: AtomicU64::new(OPEN),
+    let gate = Arc::new(rt.alloc(), AtomicU64::new(OPEN))?;
+    let Ok(copy) = Arc::try_clone(&gate) else {
+        return Err(Memory);
     };
+    let manager = GateManager { gate: copy };
     let pool: GatePool<R, L> = Builder::new()
         .max_size(1)
         .test_on_check_out(false)
         .build_unchecked(manager, clock, rt, blank)?;
     assert_eq!(&rt; pool.add(7), Ok(()));
-    assert_eq!(&rt; both(&rt, &AtGate { pool: &pool, rt }), (true, true));
+    assert_eq!(&rt; both(&rt, &AtGate { pool: &pool, gate, rt }), (true, true));
     let state = pool.state();
     assert_eq!(&rt; (state.connections, state.idle_connections), (1, 1));
     Ok(())

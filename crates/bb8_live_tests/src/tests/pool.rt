@@ -1,6 +1,6 @@
 //! A pool behind its lock: what goes out comes back, and what is broken or too old does not stay.
 ghost use Rattle.std.specs.Prelude.{Some};
-ghost use Rattle.bb8_locked.specs.Parts.{IsBlankOf, unchecked_of};
+ghost use Rattle.bb8.specs.Parts.{IsBlankOf, unchecked_of};
 
 use super::{NumberPool, Runtime, SlowManager};
 use bb8::{

@@ -1,5 +1,5 @@
 //! Two threads that get and return through one pool.
-ghost use Rattle.bb8_locked.specs.Parts.{IsBlankOf, unchecked_of};
+ghost use Rattle.bb8.specs.Parts.{IsBlankOf, unchecked_of};
 
 use super::{NumberPool, Refused, Runtime, SlowManager};
 use bb8::{

@@ -1,5 +1,5 @@
 use Rattle.std.specs.Prelude.{Some}
-use Rattle.bb8_locked.specs.Parts.{unchecked_of}
+use Rattle.bb8.specs.Parts.{unchecked_of}
 use Rattle.bb8_live_tests.proofs.tests.clocks.added_connection_is_born_when_it_is_added.Given as goal
 
 abbrev pub ghosts-closes_in_time-L-Ledger : goal.ghosts-closes_in_time-L-Ledger

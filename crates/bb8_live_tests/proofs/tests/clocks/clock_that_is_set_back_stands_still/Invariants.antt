@@ -1,4 +1,4 @@
-use Rattle.bb8_locked.specs.Parts.{unchecked_of}
+use Rattle.bb8.specs.Parts.{unchecked_of}
 use Rattle.bb8_live_tests.proofs.tests.clocks.clock_that_is_set_back_stands_still.Given as goal
 
 abbrev pub ghosts-stands_still-L-Ledger : goal.ghosts-stands_still-L-Ledger

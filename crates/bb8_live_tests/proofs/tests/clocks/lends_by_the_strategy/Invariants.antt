@@ -1,4 +1,4 @@
-use Rattle.bb8_locked.specs.Parts.{unchecked_of}
+use Rattle.bb8.specs.Parts.{unchecked_of}
 use Rattle.bb8_live_tests.proofs.tests.clocks.lends_by_the_strategy.Given as goal
 
 abbrev pub ghosts-lends_first-L-Ledger : goal.ghosts-lends_first-L-Ledger

@@ -1,4 +1,4 @@
-use Rattle.bb8_locked.specs.Parts.{unchecked_of}
+use Rattle.bb8.specs.Parts.{unchecked_of}
 use Rattle.bb8_live_tests.proofs.tests.future.serves_after_a_cancelled_caller.Given as goal
 
 abbrev pub ghosts-serves_the_third-L-Ledger : goal.ghosts-serves_the_third-L-Ledger

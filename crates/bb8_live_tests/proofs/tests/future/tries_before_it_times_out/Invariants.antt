@@ -1,4 +1,4 @@
-use Rattle.bb8_locked.specs.Parts.{unchecked_of}
+use Rattle.bb8.specs.Parts.{unchecked_of}
 use Rattle.bb8_live_tests.proofs.tests.future.tries_before_it_times_out.Given as goal
 
 abbrev pub ghosts-polled_at_the_deadline-L-Ledger : goal.ghosts-polled_at_the_deadline-L-Ledger

@@ -1,4 +1,4 @@
-use Rattle.bb8_locked.specs.Parts.{unchecked_of}
+use Rattle.bb8.specs.Parts.{unchecked_of}
 use Rattle.bb8_live_tests.proofs.tests.future.waits_at_the_end_of_the_clock.Given as goal
 
 abbrev pub ghosts-ends_with_the_clock-L-Ledger : goal.ghosts-ends_with_the_clock-L-Ledger

@@ -1,4 +1,4 @@
-use Rattle.bb8_locked.specs.Parts.{unchecked_of}
+use Rattle.bb8.specs.Parts.{unchecked_of}
 use Rattle.bb8_live_tests.proofs.tests.future.waits_for_one.Given as goal
 
 abbrev pub ghosts-waits-L-Ledger : goal.ghosts-waits-L-Ledger

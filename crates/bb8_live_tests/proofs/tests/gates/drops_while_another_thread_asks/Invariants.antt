@@ -1,4 +1,4 @@
-use Rattle.bb8_locked.specs.Parts.{unchecked_of}
+use Rattle.bb8.specs.Parts.{unchecked_of}
 use Rattle.bb8_live_tests.proofs.tests.gates.drops_while_another_thread_asks.Given as goal
 
 abbrev pub ghosts-answers_meanwhile-L-Ledger : goal.ghosts-answers_meanwhile-L-Ledger

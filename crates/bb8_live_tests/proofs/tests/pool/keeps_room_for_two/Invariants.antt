@@ -1,5 +1,5 @@
 use Rattle.std.specs.Prelude.{Some}
-use Rattle.bb8_locked.specs.Parts.{unchecked_of}
+use Rattle.bb8.specs.Parts.{unchecked_of}
 use Rattle.bb8_live_tests.proofs.tests.pool.keeps_room_for_two.Given as goal
 
 abbrev pub ghosts-keeps_room-L-Ledger : goal.ghosts-keeps_room-L-Ledger

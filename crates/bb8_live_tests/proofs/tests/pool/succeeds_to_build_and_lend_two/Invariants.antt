@@ -1,5 +1,5 @@
 use Rattle.std.specs.Prelude.{Some}
-use Rattle.bb8_locked.specs.Parts.{unchecked_of}
+use Rattle.bb8.specs.Parts.{unchecked_of}
 use Rattle.bb8_live_tests.proofs.tests.pool.succeeds_to_build_and_lend_two.Given as goal
 
 abbrev pub ghosts-lends-L-Ledger : goal.ghosts-lends-L-Ledger

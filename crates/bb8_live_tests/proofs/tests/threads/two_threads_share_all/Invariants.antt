@@ -1,4 +1,4 @@
-use Rattle.bb8_locked.specs.Parts.{unchecked_of}
+use Rattle.bb8.specs.Parts.{unchecked_of}
 use Rattle.bb8_live_tests.proofs.tests.threads.two_threads_share_all.Given as goal
 
 abbrev pub ghosts-shares_all-L-Ledger : goal.ghosts-shares_all-L-Ledger
