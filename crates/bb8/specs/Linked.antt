@@ -1,5 +1,5 @@
 -- A get's polls on a pool: the table at what a pool's lock holds, while it is held, and at the pool's own manager, error sink and clock.
-use Rattle.std.specs.Prelude.{◌≡◌, Bool, None, Option, Some, Result, Ok, Err, ⊤}
+use Rattle.std.specs.Prelude.{◌≡◌, Bool, false, None, Option, Some, Result, Ok, Err, ⊤}
 use Rattle.std.specs.Sync.Mutex.{mutex_guard_value}
 use Rattle.std.specs.declared.sync.MutexGuard.{MutexGuard}
 use Rattle.std.specs.declared.fmt.Debug.{Ghosts as DebugOf}
@@ -10,7 +10,7 @@ use Rattle.bb8_types.specs.declared.api.errors.RunError.{RunError}
 use Rattle.bb8_types.specs.declared.api.managers.ManageConnection.{Ghosts as ManagerOf}
 use Rattle.bb8_types.specs.Settings.{settings_of}
 use Rattle.bb8_ledger.specs.Acts as acts
-use Rattle.bb8_core.specs.StepAnswers.{begin_told, look_told, put_back_told, GivesBack}
+use Rattle.bb8_core.specs.StepAnswers.{begin_told, checked_err_told, give_up_told, look_told, put_back_told, reason_of, GivesBack}
 use Rattle.bb8_core.specs.declared.answers.PutBackAnswer.{PutBackAnswer}
 use Rattle.bb8_core.specs.declared.answers.PutBackAnswer.TheVariants as put_back
 use Rattle.bb8_gets.specs.declared.calls.Calls.{Calls}
@@ -25,7 +25,7 @@ use Rattle.bb8_locked.specs.declared.locked.Parts.{Ghosts as PartsOf}
 use Rattle.bb8.specs.declared.get.link.LinkHome.{LinkHome}
 use Rattle.bb8.specs.declared.pool.Shared.{Shared}
 use Rattle.bb8_gets.specs.Homes.{StepsIn}
-use Rattle.bb8_gets.specs.Told.{answered, tried_told, HandsOutOf}
+use Rattle.bb8_gets.specs.Told.{answered, passed_told, tried_told, HandsBackHeld, HandsBackInvalid, HandsOutOf}
 use Rattle.bb8_gets.specs.Polls.{Polls, Cancels}
 use Rattle.bb8_locked.specs.Sections.{returned, OnFit}
 
@@ -37,10 +37,10 @@ locked_home {l = l} = record {
   looks = λ h at seen h'. StepsIn l.settings h.core at.0 acts.Look (look_told seen) h'.core;
   begins = λ h at b h'. StepsIn l.settings h.core at.0 acts.Begin (answered begin_told b) h'.core;
   tries = λ h at get t h'. StepsIn l.settings h.core at.0 (acts.Try get.number) (tried_told t) h'.core × HandsOutOf h.core t;
-  passes = λ _ _ _ _ _ _ _. ⊤;
-  fails = λ _ _ _ _ _ _. ⊤;
-  gives_up = λ _ _ _ _ _ _. ⊤;
-  gives_back = λ _ _ _ _ _ _ _. ⊤;
+  passes = λ h at get key part a h'. StepsIn l.settings h.core at.0 (acts.CheckedOk get.number) (passed_told h.core.records.next a) h'.core;
+  fails = λ h at get r a h'. StepsIn l.settings h.core at.0 (acts.CheckedErr get.number r.broken) (answered checked_err_told a) h'.core × HandsBackInvalid r.taken.connection a;
+  gives_up = λ h at get reason a h'. StepsIn l.settings h.core at.0 (acts.GiveUp get.number (reason_of reason) None false) (answered give_up_told a) h'.core;
+  gives_back = λ h at get reason r a h'. StepsIn l.settings h.core at.0 (acts.GiveUp get.number (reason_of reason) (Some r.taken.connection) r.broken) (answered give_up_told a) h'.core × HandsBackHeld r.taken.connection a;
 }
 
 module _ {T : Type 0} where

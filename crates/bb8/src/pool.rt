@@ -1,5 +1,5 @@
 //! The pool, and the guard of a connection that is out.
-ghost use Rattle.std.specs.Prelude.{◌≡◌, ◌≤◌, ◌<◌, Bool, true, false, IfOk};
+ghost use Rattle.std.specs.Prelude.{◌≡◌, ◌≤◌, ◌<◌, Bool, true, IfOk};
 ghost use Rattle.std.specs.Arc.{arc_value};
 ghost use Rattle.bb8_types.specs.Settings.{settings_of, default_settings, is_lawful};
 ghost use Rattle.bb8_core.specs.StepAnswers.{add_told, Refuses};
@@ -89,14 +89,13 @@ impl<
     ///
     /// As upstream, but that the clock and the runtime are handed in, with a blank of `max_size` parts, and that memory can be
     /// refused: then, and where a first approval was withheld for want of memory, the answer is `Memory` and all that was handed in
-    /// is dropped. The settings have to be lawful, where upstream panics, and until checks are made they have `test_on_check_out` off.
+    /// is dropped. The settings have to be lawful, where upstream panics.
     pub fn build_unchecked<
         K: Clock,
         R: Wait + AllocGlobal + Send + Sync + Drop + 'static,
         L: Parts,
     >(self, manager: M, clock: K, rt: R, blank: Blank) -> Result<Pool<M, S, Z, K, R, L>, Memory>
         requires lawful { is_lawful self.settings ≡ true }
-        requires check { self.settings.test_on_check_out ≡ false }
         requires parts { IsBlankOf blank self.settings L.name L.parts L.settings }
         ensures settings { IfOk result (λ pool. settings_in pool ≡ self.settings) }
         ensures first { IfOk result (λ _. HasBegun M.Connection (K.tells clock) self.settings) }

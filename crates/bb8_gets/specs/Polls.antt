@@ -12,10 +12,10 @@ use Rattle.bb8_types.specs.declared.reasons.Reason.TheVariants.{TimedOut, Cancel
 use Rattle.bb8_tables.specs.declared.keys.GetKey.{GetKey}
 use Rattle.bb8_core.specs.declared.answers.BeginAnswer.{BeginAnswer}
 use Rattle.bb8_core.specs.declared.answers.BeginAnswer.TheVariants.{Begun, Memory, Exhausted}
-use Rattle.bb8_gets.specs.declared.answers.CheckedErrAnswer.{CheckedErrAnswer}
-use Rattle.bb8_gets.specs.declared.answers.CheckedErrAnswer.TheVariants as failed
-use Rattle.bb8_gets.specs.declared.answers.GiveUpAnswer.{GiveUpAnswer}
-use Rattle.bb8_gets.specs.declared.answers.GiveUpAnswer.TheVariants as given_up
+use Rattle.bb8_core.specs.declared.answers.CheckedErrAnswer.{CheckedErrAnswer}
+use Rattle.bb8_core.specs.declared.answers.CheckedErrAnswer.TheVariants as failed
+use Rattle.bb8_core.specs.declared.answers.GiveUpAnswer.{GiveUpAnswer}
+use Rattle.bb8_core.specs.declared.answers.GiveUpAnswer.TheVariants as given_up
 use Rattle.bb8_core.specs.declared.answers.Looked.{Looked}
 use Rattle.bb8_gets.specs.declared.home.GetHome.{Ghosts as HomeOf}
 use Rattle.bb8_gets.specs.declared.home.Passed.{Passed}

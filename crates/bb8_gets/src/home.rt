@@ -1,13 +1,14 @@
 //! What the polls of a get make their steps on.
-ghost use Rattle.std.specs.Prelude.{Result, Ok, IfSome, IfNone};
+ghost use Rattle.std.specs.Prelude.{◌≡◌, Result, Ok, IfSome, IfNone};
 ghost use Rattle.bb8_types.specs.declared.api.moments.Moment.{Moment as MomentOf};
 ghost use Rattle.bb8_types.specs.declared.reasons.Reason.{Reason as ReasonOf};
 ghost use Rattle.bb8_tables.specs.declared.keys.GetKey.{GetKey as GetKeyOf};
 ghost use Rattle.bb8_tables.specs.declared.keys.Key.{Key as KeyOf};
 ghost use Rattle.bb8_core.specs.declared.answers.BeginAnswer.{BeginAnswer as BeginAnswerOf};
 ghost use Rattle.bb8_core.specs.declared.answers.BeginAnswer.TheVariants.{Begun};
-ghost use Rattle.bb8_gets.specs.declared.answers.CheckedErrAnswer.{CheckedErrAnswer as CheckedErrAnswerOf};
-ghost use Rattle.bb8_gets.specs.declared.answers.GiveUpAnswer.{GiveUpAnswer as GiveUpAnswerOf};
+ghost use Rattle.bb8_core.specs.declared.answers.CheckedErrAnswer.{CheckedErrAnswer as CheckedErrAnswerOf};
+ghost use Rattle.bb8_core.specs.declared.answers.CheckedOkAnswer.TheVariants.{Served as IsServed};
+ghost use Rattle.bb8_core.specs.declared.answers.GiveUpAnswer.{GiveUpAnswer as GiveUpAnswerOf};
 ghost use Rattle.bb8_core.specs.declared.answers.Looked.{Looked as LookedOf};
 ghost use Rattle.bb8_gets.specs.declared.home.Passed.{Passed as PassedOf};
 ghost use Rattle.bb8_gets.specs.declared.home.Returned.{Returned as ReturnedOf};
@@ -15,9 +16,11 @@ ghost use Rattle.bb8_gets.specs.declared.home.Tried.{Tried as TriedOf};
 ghost use Rattle.bb8_gets.specs.declared.home.Tried.TheVariants.{Served};
 ghost use Rattle.bb8_gets.specs.declared.home.Unfit.{Unfit as UnfitOf};
 
-use super::answers::{CheckedErrAnswer, GiveUpAnswer};
 use bb8_core::api::Moment;
-use bb8_core::internals::{BeginAnswer, GetKey, Grant, Key, Looked, Reason};
+use bb8_core::internals::{
+    BeginAnswer, CheckedErrAnswer, CheckedOkAnswer, GetKey, GiveUpAnswer, Grant, Key, Looked,
+    Reason,
+};
 
 /// The step does not fit, as the home knows no such get, or no handle is alive; nothing has changed. Our own.
 #[derive(Clone, Copy, Debug)]
@@ -49,6 +52,17 @@ pub struct Passed<P> {
     pub key: Key,
     /// What goes with it.
     pub part: P,
+}
+
+impl<P> Passed<P> {
+    /// This answer of the pool's state, with what goes with the connection. Our own.
+    pub fn of(answer: CheckedOkAnswer, part: P) -> Self
+        ensures served { answer ≡ IsServed result.key }
+        ensures part { result.part ≡ part }
+    {
+        let CheckedOkAnswer::Served(key) = answer;
+        Passed { key, part }
+    }
 }
 
 /// A connection that a get held and its home takes back. Our own.
@@ -144,12 +158,7 @@ pub trait GetHome<C> {
         ensures { fails self.old at get returned result self.new };
 
     /// Ends a get that is not served and holds no connection. Our own.
-    fn give_up(
-        &mut self,
-        at: Moment,
-        get: GetKey,
-        reason: Reason,
-    ) -> Result<GiveUpAnswer<C>, Unfit>
+    fn give_up(&mut self, at: Moment, get: GetKey, reason: Reason) -> Result<GiveUpAnswer<C>, Unfit>
         ensures { gives_up self.old at get reason result self.new };
 
     /// Ends a get that is not served and holds a connection, which is then idle or closed. Where the step does not fit, the connection

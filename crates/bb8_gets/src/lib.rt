@@ -1,14 +1,13 @@
 //! A get that is polled: its states, and its polls over any home and any calls outside.
 #![tactic(auto)]
 
-mod answers;
 mod calls;
 mod home;
 mod outside;
+mod plain;
 mod rows;
 mod state;
 
-pub use answers::{CheckedErrAnswer, GiveUpAnswer};
 pub use calls::Calls;
 pub use home::{GetHome, Passed, Returned, Taken, Tried, Unfit};
 pub use outside::Outside;

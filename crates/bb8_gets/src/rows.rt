@@ -5,12 +5,11 @@ ghost use Rattle.std.specs.Prelude.{◌≡◌};
 ghost use Rattle.std.specs.Duration.{as_nanos};
 ghost use Rattle.bb8_gets.specs.Polls.{IsDeadline, closed_in, AfterGiveUp, Asks, Fails, Checks, Tries, Begins, Advances, Drops, Leaves, TakesBack, TimesOut, Settles, Goes};
 
-use super::answers::{CheckedErrAnswer, GiveUpAnswer};
 use super::home::{GetHome, Passed, Returned, Taken, Tried, Unfit};
 use super::outside::Outside;
 use super::state::{Begun, Held, Next, Settled, Stage};
 use bb8_core::api::{Moment, RunError};
-use bb8_core::internals::{BeginAnswer, GetKey, Reason};
+use bb8_core::internals::{BeginAnswer, CheckedErrAnswer, GetKey, GiveUpAnswer, Reason};
 use futures::task::Poll;
 use std::time::Duration;
 
@@ -254,14 +253,7 @@ pub(crate) fn leave<C, V: Drop, P, E, W: Outside<C, E, Checking = V>, H: GetHome
 }
 
 /// The giving up of a get that held a connection, which was asked already whether it is broken.
-pub(crate) fn take_back<
-    C,
-    V: Drop,
-    P,
-    E,
-    W: Outside<C, E, Checking = V>,
-    H: GetHome<C, Part = P>,
->(
+pub(crate) fn take_back<C, V: Drop, P, E, W: Outside<C, E, Checking = V>, H: GetHome<C, Part = P>>(
     outside: &mut W,
     home: &mut H,
     moment: Moment,

@@ -1,21 +1,20 @@
 //! What a pool's lock holds as a home of gets.
-ghost use Rattle.std.specs.Prelude.{◌≡◌, ⊤};
+ghost use Rattle.std.specs.Prelude.{◌≡◌, false, None, Some};
 ghost use Rattle.bb8_ledger.specs.Acts as acts;
-ghost use Rattle.bb8_core.specs.StepAnswers.{begin_told, look_told};
+ghost use Rattle.bb8_core.specs.StepAnswers.{begin_told, checked_err_told, give_up_told, look_told, reason_of};
+ghost use Rattle.bb8_gets.specs.Homes.{StepsIn};
+ghost use Rattle.bb8_gets.specs.Told.{answered, passed_told, tried_told, HandsBackHeld, HandsBackInvalid, HandsOutOf};
 
 use crate::locked::{Locked, Part, Parts};
 use bb8_core::api::Moment;
 use bb8_core::internals::{
-    AtOnce, BeginAnswer, GetKey, Grant, Key, Looked, PoolInternals, Reason, TryAnswer,
+    AtOnce, BeginAnswer, CheckedErrAnswer, GetKey, GiveUpAnswer, Grant, Key, Looked, Reason,
+    TryAnswer,
 };
-use bb8_gets::{CheckedErrAnswer, GetHome, GiveUpAnswer, Passed, Returned, Taken, Tried, Unfit};
+use bb8_gets::{GetHome, Passed, Returned, Taken, Tried, Unfit};
 
-/// What a pool's lock holds as a home: a poll holds the lock for all its steps, and each leads from the state that stands there to the
-/// next one. A connection goes out with one of the parts.
+/// Each step leads from the state that stands there to the next one. A connection goes out with one of the parts, and comes back with it.
 impl<C: Drop, L: Parts> GetHome<C> for Locked<C, L> {
-    ghost use Rattle.bb8_gets.specs.Homes.{StepsIn};
-    ghost use Rattle.bb8_gets.specs.Told.{answered, tried_told, HandsOutOf};
-
     type Part = Part<L>;
 
     ghost releases = { λ h h'. h' ≡ h };
@@ -26,14 +25,15 @@ impl<C: Drop, L: Parts> GetHome<C> for Locked<C, L> {
 
     ghost tries = { λ h at get t h'. StepsIn L.settings h.core at.0 (acts.Try get.number) (tried_told t) h'.core × HandsOutOf h.core t };
 
-    ghost passes = { λ _ _ _ _ _ _ _. ⊤ };
+    ghost passes = { λ h at get _ _ a h'. StepsIn L.settings h.core at.0 (acts.CheckedOk get.number) (passed_told h.core.records.next a) h'.core };
 
-    ghost fails = { λ _ _ _ _ _ _. ⊤ };
+    ghost fails = { λ h at get r a h'. StepsIn L.settings h.core at.0 (acts.CheckedErr get.number r.broken) (answered checked_err_told a) h'.core × HandsBackInvalid r.taken.connection a };
 
-    ghost gives_up = { λ _ _ _ _ _ _. ⊤ };
+    ghost gives_up = { λ h at get reason a h'. StepsIn L.settings h.core at.0 (acts.GiveUp get.number (reason_of reason) None false) (answered give_up_told a) h'.core };
 
-    ghost gives_back = { λ _ _ _ _ _ _ _. ⊤ };
+    ghost gives_back = { λ h at get reason r a h'. StepsIn L.settings h.core at.0 (acts.GiveUp get.number (reason_of reason) (Some r.taken.connection) r.broken) (answered give_up_told a) h'.core × HandsBackHeld r.taken.connection a };
 
+    /// Whoever has the lock lets go of it.
     fn release(&mut self) {}
 
     fn look(&mut self, at: Moment) -> Looked {
@@ -96,59 +96,105 @@ impl<C: Drop, L: Parts> GetHome<C> for Locked<C, L> {
                 };
                 Ok(Tried::Served(taken, grant))
             }
+            TryAnswer::Taken(key, connection, grant) => {
+                let share = rest.split_off(1, 1);
+                let taken = Taken {
+                    key,
+                    connection,
+                    part: Part { share },
+                };
+                Ok(Tried::Taken(taken, grant))
+            }
         }
-    }
-
-    fn give_up(&mut self, at: Moment, get: GetKey, reason: Reason) -> Result<GiveUpAnswer<C>, Unfit> {
-        self.limits();
-        let Locked { core, .. } = self;
-        if !core.fits_give_up(get) {
-            return Err(Unfit);
-        }
-        let _ = core.give_up(at, get, reason, None, false);
-        Ok(GiveUpAnswer::GaveUp(None))
     }
 
     fn checked_ok(
         &mut self,
-        _at: Moment,
-        _get: GetKey,
-        _key: Key,
+        at: Moment,
+        get: GetKey,
+        key: Key,
         part: Part<L>,
     ) -> Result<Passed<Part<L>>, Unfit> {
-        let Part { share } = part;
-        drop(share);
-        Err(Unfit)
+        self.limits();
+        let Locked { core, .. } = self;
+        if !core.fits_checked_ok(get) {
+            let Part { share } = part;
+            drop(share);
+            return Err(Unfit);
+        }
+        Ok(Passed::of(core.checked_ok(at, get, key.place), part))
     }
 
     fn checked_err(
         &mut self,
-        _at: Moment,
-        _get: GetKey,
+        at: Moment,
+        get: GetKey,
         returned: Returned<C, Part<L>>,
     ) -> Result<CheckedErrAnswer<C>, C>
-        ensures { ⊤ }
+        ensures step { StepsIn L.settings self.old.core at.0
+            (acts.CheckedErr get.number returned.broken) (answered checked_err_told result)
+            self.new.core }
+        ensures connection { HandsBackInvalid returned.taken.connection result }
     {
-        let Returned { taken, broken: _ } = returned;
-        let Taken { key: _, connection, part } = taken;
+        self.limits();
+        let Locked { core, rest, .. } = self;
+        let Returned { taken, broken } = returned;
+        let Taken {
+            key,
+            connection,
+            part,
+        } = taken;
         let Part { share } = part;
-        drop(share);
-        Err(connection)
+        if !core.fits_checked_err(get) {
+            drop(share);
+            return Err(connection);
+        }
+        let answer = core.checked_err(at, get, connection, broken, key.place);
+        rest.merge(share);
+        Ok(answer)
+    }
+
+    fn give_up(
+        &mut self,
+        at: Moment,
+        get: GetKey,
+        reason: Reason,
+    ) -> Result<GiveUpAnswer<C>, Unfit> {
+        self.limits();
+        let Locked { core, .. } = self;
+        if !core.fits_give_up(get, false) {
+            return Err(Unfit);
+        }
+        Ok(core.give_up(at, get, reason, None, false, 0))
     }
 
     fn give_back(
         &mut self,
-        _at: Moment,
-        _get: GetKey,
-        _reason: Reason,
+        at: Moment,
+        get: GetKey,
+        reason: Reason,
         returned: Returned<C, Part<L>>,
     ) -> Result<GiveUpAnswer<C>, C>
-        ensures { ⊤ }
+        ensures step { StepsIn L.settings self.old.core at.0
+            (acts.GiveUp get.number (reason_of reason) (Some returned.taken.connection)
+            returned.broken) (answered give_up_told result) self.new.core }
+        ensures connection { HandsBackHeld returned.taken.connection result }
     {
-        let Returned { taken, broken: _ } = returned;
-        let Taken { key: _, connection, part } = taken;
+        self.limits();
+        let Locked { core, rest, .. } = self;
+        let Returned { taken, broken } = returned;
+        let Taken {
+            key,
+            connection,
+            part,
+        } = taken;
         let Part { share } = part;
-        drop(share);
-        Err(connection)
+        if !core.fits_give_up(get, true) {
+            drop(share);
+            return Err(connection);
+        }
+        let answer = core.give_up(at, get, reason, Some(connection), broken, key.place);
+        rest.merge(share);
+        Ok(answer)
     }
 }

@@ -12,11 +12,11 @@ ghost use Rattle.bb8_core.specs.StepAnswers.{put_back_told, claim_told, opened_t
 ghost use Rattle.bb8_core.specs.Parts.{out_of};
 ghost use Rattle.bb8_core.specs.Shown.{IsWithinLimits};
 
-use bb8_gets::Taken;
 use bb8_core::api::{Config, Memory, Moment, State};
 use bb8_core::internals::{
     AddAnswer, ClaimAnswer, Key, OpenedAnswer, PoolInternals, PutBackAnswer,
 };
+use bb8_gets::Taken;
 use std::alloc::Global;
 use std::marker::Brand;
 use std::sync::ledger::{Blank, Ledger, Share, Total};
@@ -162,12 +162,7 @@ impl<C: Drop, L: Parts> Locked<C, L> {
     }
 
     /// Makes idle the connection that a claimed approval brought. Where that does not fit, the connection comes back as the error.
-    pub fn opened(
-        &mut self,
-        at: Moment,
-        approval: Key,
-        conn: C,
-    ) -> Result<OpenedAnswer<C>, C>
+    pub fn opened(&mut self, at: Moment, approval: Key, conn: C) -> Result<OpenedAnswer<C>, C>
         ensures step { StepsIn L.settings self.old.core at.0 (acts.Opened approval.number conn)
             (returned (opened_told approval.number) result) self.new.core }
         ensures connection { OnFit (HandsBack conn) (λ same. same ≡ conn) result }

@@ -29,3 +29,18 @@ invariant_of-self-in-Served g c = record {
   amount = omega (arith, c.args.self.now.amount, c.split_off-share.ensures.parts_left, c.split_off-share.ensures.amount_left);
   settled = kept_settings _ _ _ (acts.Try c.args.get.number) _ _ c.limits.ensures.limits.0 c.in-Served.ensures.step c.args.self.now.settled;
 }
+
+pub split_off-share-requires-in-Taken-clause-has_parts : goal.split_off-share-requires-in-Taken-clause-has_parts
+split_off-share-requires-in-Taken-clause-has_parts g c = has_part _ _ _ (acts.Try c.args.get.number) _ _ c.limits.ensures.limits.0 c.in-Taken.ensures.step (λ m. m) c.args.self.now.parts
+
+pub split_off-share-requires-in-Taken-clause-has_amount : goal.split_off-share-requires-in-Taken-clause-has_amount
+split_off-share-requires-in-Taken-clause-has_amount g c =
+    let part : 1 ≤ c.args.self.now.rest.parts = has_part _ _ _ (acts.Try c.args.get.number) _ _ c.limits.ensures.limits.0 c.in-Taken.ensures.step (λ m. m) c.args.self.now.parts in
+    omega (arith, part, c.args.self.now.amount)
+
+pub invariant_of-self-in-Taken : goal.invariant_of-self-in-Taken
+invariant_of-self-in-Taken g c = record {
+  parts = gone_out _ _ _ (acts.Try c.args.get.number) _ _ _ c.limits.ensures.limits.0 c.in-Taken.ensures.step (λ m. m) c.args.self.now.parts c.split_off-share-in-Taken.ensures.parts_left;
+  amount = omega (arith, c.args.self.now.amount, c.split_off-share-in-Taken.ensures.parts_left, c.split_off-share-in-Taken.ensures.amount_left);
+  settled = kept_settings _ _ _ (acts.Try c.args.get.number) _ _ c.limits.ensures.limits.0 c.in-Taken.ensures.step c.args.self.now.settled;
+}
