@@ -6,6 +6,7 @@ use Rattle.circular_buffer.specs.Buffer.{Buffer, buffer}
 use Rattle.slab.specs.Slab as slabs
 use Rattle.slab.specs.Slab.{Slab, Updates, slab_len}
 use Rattle.bb8_tables.specs.declared.keys.GetKey.{GetKey}
+use Rattle.bb8_types.specs.declared.standing.GetPlace.{GetPlace}
 use Rattle.bb8_types.specs.declared.standing.GetPlace.TheVariants.{Active, Waiting}
 use Rattle.bb8_types.specs.declared.standing.Getting.{Getting}
 use Rattle.bb8_tables.specs.declared.table.Slot.{Slot}
@@ -16,7 +17,7 @@ use Rattle.bb8_tables.specs.Slots.{cut_at}
 use Rattle.bb8_tables.specs.State.{view_of_gets, AreGoodGets, IsWaitingLine}
 use Rattle.bb8_tables.specs.Machine as machine
 use Rattle.bb8_tables.proofs.Slots.{held_removed, held_added, held_set, table_set, table_removed}
-use Rattle.bb8_tables.proofs.Lines.{avoids, turned_line, cut_line, cut_numbers, filtered_line, line_fits, other_numbers, none_without, filter_passes}
+use Rattle.bb8_tables.proofs.Lines.{avoids, other_line, turned_line, cut_line, cut_numbers, filtered_line, line_fits, other_numbers, none_without, filter_passes}
 use Rattle.bb8_types.proofs.Numbered.{eqb_self, removed_inserted}
 use Rattle.bb8_tables.proofs.Views.{same_gets}
 use Rattle.bb8_tables.proofs.Slots
@@ -132,6 +133,34 @@ module _ (a : Inside) (now place : ℕ) (key : GetKey) (x : Slot Getting) (slots
       ∙ ap (λ (o : Option Getting). insert (view_of_gets a).places key.number (machine.getting_since now o)) (sym (shown_at a key.number place x good at_place numbered)))
       (ap (λ (b : Buffer GetKey). map (λ (k : GetKey). k.number) b.items) pushed ∙ map_push (λ (k : GetKey). k.number) a.waiting.items key)
       refl refl
+
+-- ---- turn
+
+-- a get that stands in no line stands elsewhere
+module _ (a : Inside) (place q : ℕ) (p : GetPlace) (x : Slot Getting) (slots : Slab (Slot Getting)) (good : AreGoodGets a)
+    (at_place : slabs.get a.slots place ≡ Some x) (same : x.number ≡ q) (off : is_unnotified x.standing.place ≡ false)
+    (u : Updates a.slots slots place (Some (record x { standing = get_with_place p x.standing }))) where
+  pub turn_good : slab_len slots ≡ slab_len a.slots → slots.capacity ≡ a.slots.capacity → AreGoodGets (record a { slots = slots })
+  turn_good len room =
+      let z = good.sizes in
+      record {
+        table = table_set good.table at_place refl u;
+        waiting = other_line good.waiting at_place off u;
+        sizes = record {
+          places_are = len ∙ z.places_are;
+          peak_holds = z.peak_holds;
+          alive_few = z.alive_few;
+          room_holds = omega (arith, z.room_holds);
+          line_room_holds = z.line_room_holds;
+        };
+      }
+
+  pub turn_view : view_of_gets (record a { slots = slots }) ≡ machine.after_turn p q (view_of_gets a)
+  turn_view = same_gets _ _ refl
+      (held_set good.table at_place refl u
+      ∙ ap (λ (n : ℕ). insert (view_of_gets a).places n (get_with_place p x.standing)) same
+      ∙ ap (λ (o : Option Getting). insert (view_of_gets a).places q (machine.getting_at p o)) (sym (shown_at a q place x good at_place same)))
+      refl refl refl
 
 -- ---- notify
 

@@ -9,18 +9,19 @@ use Rattle.circular_buffer.specs.Buffer.{Buffer, buffer}
 use Rattle.bb8_types.specs.declared.standing.Place.{Place}
 use Rattle.bb8_types.specs.declared.standing.Place.TheVariants.{Unclaimed, Claimed, Idle, Guarded}
 use Rattle.bb8_types.specs.declared.standing.Standing.{Standing}
+use Rattle.bb8_types.specs.declared.standing.Holder.{Holder}
 use Rattle.bb8_tables.specs.declared.keys.Key.{Key}
 use Rattle.bb8_tables.specs.declared.table.Slot.{Slot}
 use Rattle.bb8_tables.specs.declared.records.Records.TheInside.{Inside}
 use Rattle.bb8_types.specs.declared.api.configuration.QueueStrategy.{QueueStrategy}
-use Rattle.bb8_types.specs.Places.{is_idle, is_unclaimed, is_conn, is_approval, with_place, first_place, first_of, comes_from}
+use Rattle.bb8_types.specs.Places.{is_idle, is_unclaimed, is_conn, is_approval, is_out, place_with, with_place, first_place, first_of, comes_from}
 use Rattle.bb8_tables.specs.Slots.{values_at, cut_at}
 use Rattle.bb8_tables.specs.State.{view_of_records, AreGoodRecords, passes, IsLineOf}
 use Rattle.bb8_types.specs.Numbered.{tally, one}
 use Rattle.bb8_tables.specs.Views.{ShownRecords}
 use Rattle.bb8_tables.specs.Machine as machine
 use Rattle.bb8_tables.proofs.Views.{same_records}
-use Rattle.bb8_types.proofs.Places.{unclaimed_is, idle_is, idle_from, unclaimed_from, conn_from, approval_from}
+use Rattle.bb8_types.proofs.Places.{unclaimed_is, idle_is, held_conn, idle_from, unclaimed_from, conn_from, approval_from}
 use Rattle.bb8_tables.proofs.Lines.{other_line, free_line, turned_line, added_line, cut_line, cut_numbers}
 use Rattle.bb8_tables.proofs.Slots
 use Rattle.bb8_tables.proofs.Slots.{table_set, held_set, table_added, held_added, table_removed, held_removed}
@@ -168,7 +169,7 @@ module _ {C : Type 0} where
   module _ (a : Inside C) (strategy : QueueStrategy) (key : Key) (slots : Slab (Slot (Standing C))) (idle : Buffer Key)
       (good : AreGoodRecords a) (first : Some key ≡ slice_get a.idle.items (first_place strategy (length a.idle.items)))
       (rest : idle ≡ buffer (cut_at (first_place strategy (length a.idle.items)) a.idle.items) a.idle.capacity)
-      (sets : SetsTo a.slots slots key.place (with_place Guarded)) where
+      (holder : Holder) (out : Place C) (is : out ≡ place_with holder) (sets : SetsTo a.slots slots key.place (with_place out)) where
     abbrev where_first : ℕ
     where_first = first_place strategy (length a.idle.items)
 
@@ -176,15 +177,16 @@ module _ {C : Type 0} where
     take_good len room =
         let x = good.idle.each where_first key (sym first) in
         let was = idle_is x.0.standing.place x.3 in
-        let new : Slot (Standing C) = record x.0 { standing = with_place Guarded x.0.standing } in
+        let new : Slot (Standing C) = record x.0 { standing = with_place out x.0.standing } in
+        let conn_now : is_conn out ≡ true = held_conn out holder is in
         let u : Updates a.slots slots key.place (Some new) = sets x.0 x.1 in
         record {
           table = table_set good.table x.1 refl u;
           idle = rw rest (cut_line where_first good.idle (sym first) u);
           unclaimed = other_line good.unclaimed x.1 (ap is_unclaimed was.1) u;
-          conns_are = (let t : tally (passes is_conn) slots.slots + 1 ≡ a.conns + 1 = conns_set a slots key.place (Some x.0) (Some new) true true good x.1 u (ap is_conn was.1) refl in omega arith);
+          conns_are = (let t : tally (passes is_conn) slots.slots + 1 ≡ a.conns + 1 = conns_set a slots key.place (Some x.0) (Some new) true true good x.1 u (ap is_conn was.1) conn_now in omega arith);
           approved_are = (let t : tally (passes is_approval) slots.slots + 0 ≡ a.approved + 0 =
-              approved_set a slots key.place (Some x.0) (Some new) false false good x.1 u (ap is_approval was.1) refl in omega arith);
+              approved_set a slots key.place (Some x.0) (Some new) false false good x.1 u (ap is_approval was.1) (ap not conn_now) in omega arith);
           sizes = let s = good.sizes in let c : idle.capacity ≡ a.idle.capacity = ap (λ (b : Buffer Key). b.capacity) rest in
               record {
                 places_are = omega arith;
@@ -196,11 +198,12 @@ module _ {C : Type 0} where
               };
         }
 
-    pub take_view : view_of_records (record a { slots = slots; idle = idle }) ≡ machine.after_take Guarded key.number (view_of_records a)
+    pub take_view : view_of_records (record a { slots = slots; idle = idle }) ≡ machine.after_take (place_with holder) key.number (view_of_records a)
     take_view =
         let x = good.idle.each where_first key (sym first) in
         same_records _ _ refl
-        (places_set a slots key.place key.number x.0 Guarded good x.1 x.2 (sets x.0 x.1))
+        (places_set a slots key.place key.number x.0 out good x.1 x.2 (sets x.0 x.1)
+        ∙ ap (λ (p : Place C). insert (view_of_records a).places key.number (machine.standing_at p (get (view_of_records a).places key.number))) is)
         (ap (λ (b : Buffer Key). map (λ (k : Key). k.number) b.items) rest ∙ cut_numbers where_first good.table good.idle (sym first))
         refl refl refl refl
 
@@ -233,6 +236,37 @@ module _ {C : Type 0} where
   idle_none a strategy empty = rw (length-map a.idle.items (λ (k : Key). k.number))
       (slice_get-map (λ (k : Key). k.number) a.idle.items (first_place strategy (length a.idle.items))
       ∙ ap (option_map (λ (k : Key). k.number)) empty)
+
+  -- ---- hand over
+
+  -- a guard takes over a connection that is out
+  module _ (a : Inside C) (place q : ℕ) (x : Slot (Standing C)) (slots : Slab (Slot (Standing C))) (good : AreGoodRecords a)
+      (at_place : slabs.get a.slots place ≡ Some x) (numbered : x.number ≡ q) (was : is_out x.standing.place ≡ true)
+      (sets : SetsTo a.slots slots place (with_place Guarded)) where
+    pub handover_good : slab_len slots ≡ slab_len a.slots → slots.capacity ≡ a.slots.capacity → AreGoodRecords (record a { slots = slots })
+    handover_good len room =
+        let new : Slot (Standing C) = record x { standing = with_place Guarded x.standing } in
+        let u : Updates a.slots slots place (Some new) = sets x at_place in
+        let conn_was : is_conn x.standing.place ≡ true = conn_from false x.standing.place was in
+        record {
+          table = table_set good.table at_place refl u;
+          idle = other_line good.idle at_place (idle_from false x.standing.place was) u;
+          unclaimed = other_line good.unclaimed at_place (unclaimed_from false x.standing.place was) u;
+          conns_are = (let t : tally (passes is_conn) slots.slots + 1 ≡ a.conns + 1 = conns_set a slots place (Some x) (Some new) true true good at_place u conn_was refl in omega arith);
+          approved_are = (let t : tally (passes is_approval) slots.slots + 0 ≡ a.approved + 0 =
+              approved_set a slots place (Some x) (Some new) false false good at_place u (ap not conn_was) refl in omega arith);
+          sizes = let s = good.sizes in record {
+            places_are = omega arith;
+            peak_holds = s.peak_holds;
+            peak_few = s.peak_few;
+            place_room_holds = omega arith;
+            idle_room_holds = s.idle_room_holds;
+            unclaimed_room_holds = s.unclaimed_room_holds;
+          };
+        }
+
+    pub handover_view : view_of_records (record a { slots = slots }) ≡ machine.after_handover q (view_of_records a)
+    handover_view = same_records _ _ refl (places_set a slots place q x Guarded good at_place numbered (sets x at_place)) refl refl refl refl refl
 
   -- ---- enter
 

@@ -12,7 +12,7 @@ ghost use Rattle.bb8_tables.specs.Views.{no_gets};
 ghost use Rattle.bb8_tables.specs.State.{waits_at};
 ghost use Rattle.bb8_types.specs.Bounds.{end_of_numbers};
 
-use crate::keys::GetKey;
+use crate::keys::{GetKey, Key};
 use crate::ring::Ring;
 use crate::table::{Slot, Table};
 use bb8_types::bounds::END_OF_NUMBERS;
@@ -91,6 +91,31 @@ pub fn first_wait(getting: Option<Getting>) -> Option<u64>
     match getting {
         None => None,
         Some(getting) => getting.first_wait,
+    }
+}
+
+/// The number of the connection that a get holds, if it holds one.
+pub fn held(getting: Option<Getting>) -> Option<u64>
+    ensures { result ≡ places.holds getting }
+{
+    match getting {
+        Some(
+            Getting {
+                place: GetPlace::Holding(number),
+                ..
+            },
+        ) => Some(number),
+        _ => None,
+    }
+}
+
+/// The key of the connection that a get holds, which may stand at the hint; that of the number 0, if it holds none.
+pub fn held_key(getting: Option<Getting>, hint: usize) -> Key
+    ensures { (k : ℕ) → places.holds getting ≡ Some k → result.number ≡ k }
+{
+    Key {
+        number: held(getting).unwrap_or(0),
+        place: hint,
     }
 }
 
@@ -243,6 +268,19 @@ impl Gets {
                     place,
                 });
             }
+        }
+    }
+
+    /// Has a get stand elsewhere that stands in no line: it holds a connection now, or is active again.
+    pub fn turn(&mut self, g: GetKey, place: GetPlace)
+        requires off { places.is_unnotified place ≡ false }
+        requires stands { (x : Getting) × (map.get self.old.places g.number ≡ Some x)
+            × (places.is_unnotified x.place ≡ false) }
+        ensures { self.new ≡ machine.after_turn place g.number self.old }
+    {
+        match self.slots.locate(g.number, g.place) {
+            None => {}
+            Some(at) => self.slots.turn(at, place),
         }
     }
 
