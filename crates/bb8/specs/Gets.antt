@@ -10,7 +10,7 @@ use Rattle.bb8.specs.declared.get.future.GetFuture.{GetFuture}
 use Rattle.bb8_gets.specs.declared.home.Taken.{Taken}
 use Rattle.bb8_locked.specs.declared.locked.Part.{Part}
 use Rattle.bb8.specs.declared.pool.PooledConnection.{PooledConnection}
-use Rattle.bb8.specs.Linked.{LinkPolls, LinkGives, LinkCancels, MakesGuard, MakesPoll}
+use Rattle.bb8.specs.Linked.{OwnPolls, OwnGives, OwnCancels, MakesGuard, MakesPoll}
 use Rattle.bb8.specs.Pools.{stage_of}
 
 module _ {M S Z K R L C E N V A : Type 0} {m : ManagerOf M C E N V} {d : DebugOf E} {l : PartsOf L} where
@@ -18,21 +18,21 @@ module _ {M S Z K R L C E N V A : Type 0} {m : ManagerOf M C E N V} {d : DebugOf
   abbrev pub Guards : GetFuture M S Z K R L C E N V A m d l → Taken C (Part L) → PooledConnection M S Z K R L C E N V A m d l → Type 0
   Guards future served guard = (guard.shared.now ≡ future.shared.now) × (guard.taken ≡ served)
 
-  module _ (tells : K → Moment → Type 0) where
+  module _ (sinks : S → E → Type 0) (tells : K → Moment → Type 0) where
     -- a poll of the get: where it stood, what it answers, and where it stands then
     abbrev pub PollsGet : GetFuture M S Z K R L C E N V A m d l → Poll (Result (PooledConnection M S Z K R L C E N V A m d l) (RunError E)) → GetFuture M S Z K R L C E N V A m d l → Type 0
     PollsGet future answer after =
         (given : Poll (Result (Taken C (Part L)) (RunError E)))
-        × LinkPolls tells future.shared.now (stage_of future) given (stage_of after)
+        × OwnPolls sinks tells future.shared.now (stage_of future) given (stage_of after)
         × MakesPoll (Guards future) given answer
 
     -- what the get may answer at last
     abbrev pub GivesGet : GetFuture M S Z K R L C E N V A m d l → Result (PooledConnection M S Z K R L C E N V A m d l) (RunError E) → Type 0
     GivesGet future out =
         (given : Result (Taken C (Part L)) (RunError E))
-        × LinkGives tells future.shared.now (stage_of future) given
+        × OwnGives sinks tells future.shared.now (stage_of future) given
         × MakesGuard (Guards future) given out
 
     -- the get is let go: given up as cancelled, where it began and was not answered
     abbrev pub CancelsGet : GetFuture M S Z K R L C E N V A m d l → Type 0
-    CancelsGet future = LinkCancels tells future.shared.now (stage_of future)
+    CancelsGet future = OwnCancels sinks tells future.shared.now (stage_of future)

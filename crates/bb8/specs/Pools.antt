@@ -8,6 +8,7 @@ use Rattle.bb8_locked.specs.declared.locked.Parts.{Ghosts as PartsOf}
 use Rattle.bb8.specs.declared.pool.Pool.{Pool}
 use Rattle.bb8.specs.declared.get.future.GetFuture.{GetFuture}
 use Rattle.bb8_gets.specs.declared.state.Stage.{Stage}
+use Rattle.bb8_locked.specs.declared.locked.Part.{Part}
 
 module _ {M S Z K R L C E N V A : Type 0} {m : ManagerOf M C E N V} {d : DebugOf E} {l : PartsOf L} where
   -- the settings of a pool
@@ -19,7 +20,7 @@ module _ {M S Z K R L C E N V A : Type 0} {m : ManagerOf M C E N V} {d : DebugOf
   manager_in pool = (arc_value pool.shared).manager
 
   -- where a get stands between its polls
-  abbrev pub stage_of : GetFuture M S Z K R L C E N V A m d l → Stage
+  abbrev pub stage_of : GetFuture M S Z K R L C E N V A m d l → Stage C V (Part L)
   stage_of future = future.get.stage
 
   -- the error sink of a pool

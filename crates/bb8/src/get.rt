@@ -1,7 +1,11 @@
 //! A get of a pool: its future, over the polls of `bb8_gets`.
 
 mod future;
+mod link;
 
-pub use bb8_gets::{GetHome, GetState, Next, Outside, Stage, Taken, Tried, Unfit};
+pub use bb8_gets::{
+    Begun, GetHome, GetState, Held, Next, Outside, Passed, Returned, Settled, Stage, Taken, Tried,
+    Unfit,
+};
 pub use future::GetFuture;
 pub(crate) use future::{Gets, StartGet};

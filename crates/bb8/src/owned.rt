@@ -7,7 +7,7 @@ use crate::handles::{Holding, Joins, Leaves};
 use crate::locks::Locks;
 use crate::pool::{Pool, PoolCalls, Returns};
 use bb8_core::api::{Clock, CustomizeConnection, ErrorSink, ManageConnection, RunError};
-use bb8_gets::{GetState, Taken};
+use bb8_gets::{Calls, GetState, Taken};
 use bb8_locked::{Part, Parts};
 use futures::Future;
 use futures::task::{Context, Poll};
@@ -37,7 +37,7 @@ pub(crate) enum Owning<M: ManageConnection, S, Z, K, R, L: Parts> {
     /// The handle was refused.
     Refused(RunError<M::Error>),
     /// It has its handle.
-    Open(Holding<M, S, Z, K, R, L>, GetState<M::Connection, Part<L>>),
+    Open(Holding<M, S, Z, K, R, L>, GetState<M::Connection, M::Checking, Part<L>>),
 }
 
 /// What `Pool::get_owned` answers: a get with a handle of its own, or why it has none, and nothing once it was answered.
@@ -56,11 +56,19 @@ pub struct GetOwnedFuture<
     owning: Option<Owning<M, S, Z, K, R, L>>,
 }
 
-/// How a handle goes that a get or a guard has, as methods of an impl, so that polls and drops can call them.
+/// What a get or a guard with a handle of its own does, as methods of an impl, so that polls and drops can call them.
 trait Owns {
     type Get;
 
+    type Polled;
+
     type Taken;
+
+    /// One poll of a get.
+    fn poll_owned(&self, get: &mut Self::Get) -> Self::Polled;
+
+    /// Lets a get go.
+    fn let_go(&self, get: Self::Get);
 
     /// Lets a get go, and then the handle.
     fn cancel_owned(self, get: Self::Get);
@@ -78,27 +86,50 @@ impl<
     L: Parts,
 > Owns for Holding<M, S, Z, K, R, L> {
     ghost use Rattle.bb8.specs.Handles.{Leaves as HandleLeaves};
-    ghost use Rattle.bb8.specs.Linked.{LinkCancels, LinkReturns};
+    ghost use Rattle.bb8.specs.Linked.{OwnCancels, OwnPolls, OwnReturns};
 
-    type Get = GetState<M::Connection, Part<L>>;
+    type Get = GetState<M::Connection, M::Checking, Part<L>>;
+
+    type Polled = Poll<Result<Taken<M::Connection, Part<L>>, RunError<M::Error>>>;
 
     type Taken = Taken<M::Connection, Part<L>>;
 
-    fn cancel_owned(self, get: GetState<M::Connection, Part<L>>)
-        ensures get { LinkCancels K.tells (arc_value self.shared) get.stage }
+    fn poll_owned(
+        &self,
+        get: &mut GetState<M::Connection, M::Checking, Part<L>>,
+    ) -> Poll<Result<Taken<M::Connection, Part<L>>, RunError<M::Error>>>
+        ensures { OwnPolls S.sinks K.tells (arc_value self.now.shared) get.old.stage result
+            get.new.stage }
+    {
+        let shared = &*self.shared;
+        let mut calls = Calls::new(&shared.manager, &shared.error_sink, &shared.clock);
+        shared.poll_get(&mut calls, get)
+    }
+
+    fn let_go(&self, get: GetState<M::Connection, M::Checking, Part<L>>)
+        ensures { OwnCancels S.sinks K.tells (arc_value self.now.shared) get.stage }
+    {
+        let shared = &*self.shared;
+        let mut calls = Calls::new(&shared.manager, &shared.error_sink, &shared.clock);
+        shared.cancel_get(&mut calls, get);
+    }
+
+    fn cancel_owned(self, get: GetState<M::Connection, M::Checking, Part<L>>)
+        ensures get { OwnCancels S.sinks K.tells (arc_value self.shared) get.stage }
         ensures handle { HandleLeaves K.tells (arc_value self.shared) }
     {
+        self.let_go(get);
         let Holding { shared, handle } = self;
-        shared.cancel_get(get);
         shared.leave(handle);
     }
 
     fn give_back_owned(self, taken: Taken<M::Connection, Part<L>>)
-        ensures connection { LinkReturns K.tells (arc_value self.shared) taken }
+        ensures connection { OwnReturns S.sinks K.tells (arc_value self.shared) taken }
         ensures handle { HandleLeaves K.tells (arc_value self.shared) }
     {
         let Holding { shared, handle } = self;
-        shared.give_back(taken);
+        let mut calls = Calls::new(&shared.manager, &shared.error_sink, &shared.clock);
+        shared.give_back(&mut calls, taken);
         shared.leave(handle);
     }
 }
@@ -144,7 +175,7 @@ impl<
     type Stood = Stood<M, S, Z, K, R, L>;
 
     fn poll_owning(owning: Option<Owning<M, S, Z, K, R, L>>) -> Stood<M, S, Z, K, R, L>
-        ensures { OwningPolls K.tells owning result.answer result.owning }
+        ensures { OwningPolls S.sinks K.tells owning result.answer result.owning }
     {
         match owning {
             None => Stood {
@@ -155,7 +186,7 @@ impl<
                 answer: Poll::Ready(Err(error)),
                 owning: None,
             },
-            Some(Owning::Open(holding, mut get)) => match holding.shared.poll_get(&mut get) {
+            Some(Owning::Open(holding, mut get)) => match holding.poll_owned(&mut get) {
                 Poll::Pending => Stood {
                     answer: Poll::Pending,
                     owning: Some(Owning::Open(holding, get)),
@@ -169,7 +200,7 @@ impl<
                 }
                 Poll::Ready(Ok(taken)) => {
                     // The get was answered: to let it go calls nothing.
-                    holding.shared.cancel_get(get);
+                    holding.let_go(get);
                     Stood {
                         answer: Poll::Ready(Ok(OwnedConnection { holding, taken })),
                         owning: None,
@@ -180,7 +211,7 @@ impl<
     }
 
     fn cancel_owning(owning: Option<Owning<M, S, Z, K, R, L>>)
-        ensures { CancelsOwning K.tells owning }
+        ensures { CancelsOwning S.sinks K.tells owning }
     {
         match owning {
             None => {}
@@ -257,7 +288,7 @@ impl<
     /// Lets the get go, as a drop does, for which it may wait for the lock: one that began and was not answered is given up as cancelled,
     /// and its handle leaves. Our own.
     pub fn cancel(self)
-        ensures { CancelsOwning K.tells self.owning }
+        ensures { CancelsOwning S.sinks K.tells self.owning }
     {
         let GetOwnedFuture { owning } = self;
         Self::cancel_owning(owning);
@@ -293,15 +324,15 @@ impl<
 
     type Output = Result<OwnedConnection<M, S, Z, K, R, L>, RunError<M::Error>>;
 
-    ghost gives = { λ future out. GivesOwned K.tells future out };
+    ghost gives = { λ future out. GivesOwned S.sinks K.tells future out };
 
     /// One poll at the clock's reading. It is pending while the get waits before its deadline, and after its answer.
     fn poll(&mut self, cx: &mut Context<'_>) -> Poll<Self::Output>
-        ensures table { PollsOwned K.tells self.old result self.new }
-        ensures value { IfReady result (λ out. GivesOwned K.tells self.old out) }
+        ensures table { PollsOwned S.sinks K.tells self.old result self.new }
+        ensures value { IfReady result (λ out. GivesOwned S.sinks K.tells self.old out) }
         ensures again { OnPending result ⊤ }
         ensures same { OnPending result
-            ((x : _) → GivesOwned K.tells self.new x → GivesOwned K.tells self.old x) }
+            ((x : _) → GivesOwned S.sinks K.tells self.new x → GivesOwned S.sinks K.tells self.old x) }
         ensures registered { OnPending result (Covers cx.new (λ _. ⊥)) }
         ensures kept { Keeps cx.old cx.new }
     {

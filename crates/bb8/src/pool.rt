@@ -1,5 +1,5 @@
 //! The pool, and the guard of a connection that is out.
-ghost use Rattle.std.specs.Prelude.{◌≡◌, ◌≤◌, ◌<◌, Bool, true, false, IfOk};
+ghost use Rattle.std.specs.Prelude.{◌≡◌, ◌≤◌, ◌<◌, Bool, true, IfOk};
 ghost use Rattle.std.specs.Arc.{arc_value};
 ghost use Rattle.bb8_types.specs.Settings.{settings_of, default_settings, is_lawful};
 ghost use Rattle.bb8_core.specs.StepAnswers.{add_told, Refuses};
@@ -94,14 +94,13 @@ impl<
     ///
     /// As upstream, but that the clock and the runtime are handed in, with a blank of `max_size` parts, and that memory can be
     /// refused: then, and where a first approval was withheld for want of memory, the answer is `Memory` and all that was handed in
-    /// is dropped. The settings have to be lawful, where upstream panics, and until checks are made they have `test_on_check_out` off.
+    /// is dropped. The settings have to be lawful, where upstream panics.
     pub fn build_unchecked<
         K: Clock,
         R: Wait + AllocGlobal + Send + Sync + Drop + 'static,
         L: Parts,
     >(self, manager: M, clock: K, rt: R, blank: Blank) -> Result<Pool<M, S, Z, K, R, L>, Memory>
         requires lawful { is_lawful self.settings ≡ true }
-        requires check { self.settings.test_on_check_out ≡ false }
         requires parts { IsBlankOf blank self.settings L.name L.parts L.settings }
         ensures settings { IfOk result (λ pool. settings_in pool ≡ self.settings) }
         ensures first { IfOk result (λ _. HasBegun M.Connection (K.tells clock) self.settings) }
@@ -160,31 +159,31 @@ impl<
 }
 
 /// What the guards of a pool do with what its handles share, as a method of an impl, so that drops can call it.
-pub(crate) trait Returns {
-    type Taken;
-
+pub(crate) trait Returns<C, E, V, P> {
     /// Gives a connection back.
-    fn give_back(&self, taken: Self::Taken);
+    fn give_back<W: Outside<C, E, Checking = V>>(&self, outside: &mut W, taken: Taken<C, P>);
 }
 
-impl<M: ManageConnection, S, Z, K: Clock, R: Locks, L: Parts> Returns for Shared<M, S, Z, K, R, L> {
+impl<M: ManageConnection, S, Z, K, R: Locks, L: Parts> Returns<M::Connection, M::Error, M::Checking, Part<L>>
+    for Shared<M, S, Z, K, R, L> {
     ghost use Rattle.bb8.specs.Linked.{LinkReturns};
-
-    type Taken = Taken<M::Connection, Part<L>>;
 
     /// The connection is asked whether it is broken, and the clock is read, before the lock is taken. What was closed, or came back as the
     /// return did not fit, is dropped once the lock is free again.
-    fn give_back(&self, taken: Taken<M::Connection, Part<L>>)
-        ensures { LinkReturns K.tells self.now taken }
+    fn give_back<W: Outside<M::Connection, M::Error, Checking = M::Checking>>(
+        &self,
+        outside: &mut W,
+        taken: Taken<M::Connection, Part<L>>,
+    )
+        ensures { LinkReturns W.Outside self.now taken outside.old outside.new }
     {
         let Taken {
             key,
             mut connection,
             part,
         } = taken;
-        let mut calls = Calls::new(&self.manager, &self.clock);
-        let broken = calls.has_broken(&mut connection);
-        let at = calls.now();
+        let broken = outside.has_broken(&mut connection);
+        let at = outside.now();
         let taken = Taken {
             key,
             connection,
@@ -193,8 +192,8 @@ impl<M: ManageConnection, S, Z, K: Clock, R: Locks, L: Parts> Returns for Shared
         let answer = self.rt.take(&self.locked).put_back(at, taken, broken);
         match answer {
             Ok(PutBackAnswer::Kept(_)) => {}
-            Ok(PutBackAnswer::Closed(closed, ..)) => calls.let_go(closed),
-            Err(unfit) => calls.let_go(unfit),
+            Ok(PutBackAnswer::Closed(closed, ..)) => outside.let_go(closed),
+            Err(unfit) => outside.let_go(unfit),
         }
     }
 }
@@ -421,7 +420,8 @@ impl<
 > Drop for PooledConnection<'_, M, S, Z, K, R, L> {
     fn drop(self) {
         let PooledConnection { shared, taken } = self;
-        shared.give_back(taken);
+        let mut calls = Calls::new(&shared.manager, &shared.error_sink, &shared.clock);
+        shared.give_back(&mut calls, taken);
     }
 }
 

@@ -145,7 +145,6 @@ fn serve_with<
     service: &V,
 ) -> Result<V::Outcome, Memory>
     requires lawful { is_lawful builder.settings ≡ true }
-    requires check { builder.settings.test_on_check_out ≡ false }
     requires parts { IsBlankOf blank builder.settings L.name L.parts L.settings }
     requires suits { V.suits service.now (basis builder.settings manager clock) }
     ensures outcome { IfOk result (IsOutcome
@@ -174,14 +173,13 @@ impl<
     /// dropped. Our own.
     ///
     /// The answer is `Memory` where the pool could not be built, and then the service did not begin; and where what the threads tell
-    /// found no memory, and then some may have run, but the service does not end. Settings and check are as for `build_unchecked`.
+    /// found no memory, and then some may have run, but the service does not end. Settings are as for `build_unchecked`.
     pub fn serve<
         K: Clock,
         R: Threads + Wait + AllocGlobal + Copy + Send + Sync + Drop + 'static,
         V: Service<M, S, Z, K, R>,
     >(self, manager: M, clock: K, rt: R, threads: usize, service: &V) -> Result<V::Outcome, Memory>
         requires lawful { is_lawful self.settings ≡ true }
-        requires check { self.settings.test_on_check_out ≡ false }
         requires suits { V.suits service.now (basis self.settings manager clock) }
         ensures outcome { IfOk result (IsOutcome
             (V.begins service.now) (V.tells service.now) (V.ends service.now)

@@ -1,12 +1,15 @@
 //! What the tests share that play the driver under the pool's lock; all others stand in `bb8_live_tests`.
 
+mod checks;
 mod rows;
 
-use crate::{ManageConnection, Moment, NopCustomizer, NopErrorSink, Pool, SetClock};
+use crate::{Clock, ErrorSink, ManageConnection, Moment, NopCustomizer, Pool, PoolParts, SetClock};
+use bb8_core::internals::{ClaimAnswer, OpenedAnswer};
 use futures::task::Poll;
 use std::process::Abort;
 use std::random::RandomSource;
 use std::sync::Wait;
+use std::sync::atomic::{AtomicU64, Ordering};
 
 /// What a test of a pool asks of its runtime.
 trait Runtime: Abort + Wait + RandomSource + AllocGlobal + Copy + Send + Sync + Drop + 'static {}
@@ -15,11 +18,26 @@ impl<R: Abort + Wait + RandomSource + AllocGlobal + Copy + Send + Sync + Drop + 
     for R {}
 
 /// A pool whose connections are numbers.
-type NumberPool<R, L> = Pool<Numbers, NopErrorSink, NopCustomizer, SetClock, R, L>;
+type NumberPool<R, L> = Pool<Numbers, Errors, NopCustomizer, SetClock, R, L>;
 
 /// Its connections are numbers, of which none is broken. It opens none by itself.
 #[derive(Drop)]
-struct Numbers;
+struct Numbers {
+    /// Connections below this number fail their checks.
+    least_valid: u64,
+    /// From this moment on each connection fails its checks.
+    valid_until: Moment,
+}
+
+impl Numbers {
+    /// All of them pass their checks.
+    fn valid() -> Self {
+        Numbers {
+            least_valid: 0,
+            valid_until: Moment(u64::MAX),
+        }
+    }
+}
 
 impl ManageConnection for Numbers {
     type Connection = u64;
@@ -40,14 +58,54 @@ impl ManageConnection for Numbers {
 
     fn poll_valid(
         &self,
-        _connection: &mut u64,
+        connection: &mut u64,
         _checking: &mut (),
-        _moment: Moment,
+        moment: Moment,
     ) -> Poll<Result<(), ()>> {
-        Poll::Ready(Ok(()))
+        let valid = *connection >= self.least_valid && moment < self.valid_until;
+        Poll::Ready(if valid { Ok(()) } else { Err(()) })
     }
 
     fn has_broken(&self, _connection: &mut u64) -> bool {
         false
+    }
+}
+
+/// Counts the errors that it takes.
+#[derive(Drop)]
+struct Errors {
+    count: AtomicU64,
+}
+
+impl Errors {
+    /// None yet.
+    fn new() -> Self {
+        Errors {
+            count: AtomicU64::new(0),
+        }
+    }
+}
+
+impl ErrorSink<()> for Errors {
+    fn sink(&self, _error: ()) {
+        self.count.fetch_add(1, Ordering::SeqCst);
+    }
+}
+
+/// Opens the connection of the next approval, as a driver of the pool would, and tells its number. None where no approval is unclaimed.
+fn open<R: Runtime, L: PoolParts>(pool: &NumberPool<R, L>, connection: u64) -> Option<u64> {
+    let shared = &*pool.shared;
+    let at = shared.clock.now();
+    let claimed = shared.locked.lock(&shared.rt).claim(at);
+    let ClaimAnswer::Claimed(Some(approval)) = claimed else {
+        return None;
+    };
+    let opened = shared
+        .locked
+        .lock(&shared.rt)
+        .opened(at, approval, connection);
+    match opened {
+        Ok(OpenedAnswer::Entered(_)) => Some(approval.number),
+        Ok(OpenedAnswer::Late(_)) | Err(_) => None,
     }
 }

@@ -1,31 +1,47 @@
-//! The manager and the clock of a pool as what gets and guards call.
+//! The manager, the error sink and the clock of a pool as what gets and guards call.
 ghost use Rattle.std.specs.Prelude.{◌≡◌};
 
 use super::outside::Outside;
-use bb8_core::api::{Clock, ManageConnection, Moment};
+use bb8_core::api::{Clock, ErrorSink, ManageConnection, Moment};
+use futures::task::Poll;
 
-/// The manager and the clock of a pool, which its gets and guards call.
+/// The manager, the error sink and the clock of a pool, which its gets and guards call.
 #[derive(Drop)]
-pub struct Calls<'a, M, K> {
+pub struct Calls<'a, M, S, K> {
     manager: &'a M,
+    sink: &'a S,
     clock: &'a K,
 }
 
-impl<'a, M, K> Calls<'a, M, K> {
-    /// The calls of these two.
-    pub fn new(manager: &'a M, clock: &'a K) -> Self
+impl<'a, M, S, K> Calls<'a, M, S, K> {
+    /// The calls of these three.
+    pub fn new(manager: &'a M, sink: &'a S, clock: &'a K) -> Self
         ensures manager { result.manager.now ≡ manager.now }
+        ensures sink { result.sink.now ≡ sink.now }
         ensures clock { result.clock.now ≡ clock.now }
     {
-        Calls { manager, clock }
+        Calls {
+            manager,
+            sink,
+            clock,
+        }
     }
 }
 
-/// Each relation is the user's own, and no call changes which manager and clock these are.
-impl<M: ManageConnection, K: Clock> Outside<M::Connection> for Calls<'_, M, K> {
+/// Each relation is the user's own, and no call changes which manager, sink and clock these are.
+impl<M: ManageConnection, S: ErrorSink<M::Error>, K: Clock> Outside<M::Connection, M::Error>
+    for Calls<'_, M, S, K> {
+    type Checking = M::Checking;
+
     ghost tells = { λ calls moment after. K.tells calls.clock.now moment × (after ≡ calls) };
 
+    ghost checks = { λ calls c v c' after. M.checks calls.manager.now c v c' × (after ≡ calls) };
+
+    ghost check_answers = { λ calls c v moment answer c' v' after. M.check_answers calls.manager.now c v moment answer c' v' × (after ≡ calls) };
+
     ghost breaks = { λ calls c broken c' after. M.breaks calls.manager.now c broken c' × (after ≡ calls) };
+
+    ghost sinks = { λ calls e after. S.sinks calls.sink.now e × (after ≡ calls) };
 
     ghost lets_go = { λ calls _ after. after ≡ calls };
 
@@ -33,8 +49,25 @@ impl<M: ManageConnection, K: Clock> Outside<M::Connection> for Calls<'_, M, K> {
         self.clock.now()
     }
 
+    fn is_valid(&mut self, connection: &mut M::Connection) -> M::Checking {
+        self.manager.is_valid(connection)
+    }
+
+    fn poll_valid(
+        &mut self,
+        connection: &mut M::Connection,
+        checking: &mut M::Checking,
+        moment: Moment,
+    ) -> Poll<Result<(), M::Error>> {
+        self.manager.poll_valid(connection, checking, moment)
+    }
+
     fn has_broken(&mut self, connection: &mut M::Connection) -> bool {
         self.manager.has_broken(connection)
+    }
+
+    fn sink(&mut self, error: M::Error) {
+        self.sink.sink(error)
     }
 
     fn let_go(&mut self, connection: M::Connection) {

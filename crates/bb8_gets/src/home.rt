@@ -1,18 +1,26 @@
 //! What the polls of a get make their steps on.
-ghost use Rattle.std.specs.Prelude.{Result, Ok, IfSome, IfNone};
+ghost use Rattle.std.specs.Prelude.{◌≡◌, Result, Ok, IfSome, IfNone};
 ghost use Rattle.bb8_types.specs.declared.api.moments.Moment.{Moment as MomentOf};
 ghost use Rattle.bb8_types.specs.declared.reasons.Reason.{Reason as ReasonOf};
 ghost use Rattle.bb8_tables.specs.declared.keys.GetKey.{GetKey as GetKeyOf};
+ghost use Rattle.bb8_tables.specs.declared.keys.Key.{Key as KeyOf};
 ghost use Rattle.bb8_core.specs.declared.answers.BeginAnswer.{BeginAnswer as BeginAnswerOf};
 ghost use Rattle.bb8_core.specs.declared.answers.BeginAnswer.TheVariants.{Begun};
+ghost use Rattle.bb8_core.specs.declared.answers.CheckedErrAnswer.{CheckedErrAnswer as CheckedErrAnswerOf};
+ghost use Rattle.bb8_core.specs.declared.answers.CheckedOkAnswer.TheVariants.{Served as IsServed};
 ghost use Rattle.bb8_core.specs.declared.answers.GiveUpAnswer.{GiveUpAnswer as GiveUpAnswerOf};
 ghost use Rattle.bb8_core.specs.declared.answers.Looked.{Looked as LookedOf};
+ghost use Rattle.bb8_gets.specs.declared.home.Passed.{Passed as PassedOf};
+ghost use Rattle.bb8_gets.specs.declared.home.Returned.{Returned as ReturnedOf};
 ghost use Rattle.bb8_gets.specs.declared.home.Tried.{Tried as TriedOf};
 ghost use Rattle.bb8_gets.specs.declared.home.Tried.TheVariants.{Served};
 ghost use Rattle.bb8_gets.specs.declared.home.Unfit.{Unfit as UnfitOf};
 
 use bb8_core::api::Moment;
-use bb8_core::internals::{BeginAnswer, GetKey, GiveUpAnswer, Grant, Key, Looked, Reason};
+use bb8_core::internals::{
+    BeginAnswer, CheckedErrAnswer, CheckedOkAnswer, GetKey, GiveUpAnswer, Grant, Key, Looked,
+    Reason,
+};
 
 /// The step does not fit, as the home knows no such get, or no handle is alive; nothing has changed. Our own.
 #[derive(Clone, Copy, Debug)]
@@ -22,7 +30,7 @@ pub struct Unfit;
 pub struct Taken<C, P> {
     /// The key of the connection.
     pub key: Key,
-    /// The connection, which a guard holds from now on.
+    /// The connection, which a get or a guard holds from now on.
     pub connection: C,
     /// What goes with it.
     pub part: P,
@@ -30,20 +38,52 @@ pub struct Taken<C, P> {
 
 /// What the try of a get answers. Our own.
 pub enum Tried<C, P> {
-    /// The get ended with this connection, and this was granted.
+    /// The get ended with this connection, which a guard holds from now on, and this was granted.
     Served(Taken<C, P>, Grant),
+    /// The get holds this connection, which is to be checked, and this was granted.
+    Taken(Taken<C, P>, Grant),
     /// The get waits until it is notified, and this was granted.
     Waiting(Grant),
 }
 
-/// The steps that the polls of a get make, on connections `C`: the plain state of a pool is such a home, and so is what a
-/// pool's lock holds. Our own.
+/// What the passing of a check answers: the get ended, and a guard holds its connection from now on. Our own.
+pub struct Passed<P> {
+    /// The key of the connection.
+    pub key: Key,
+    /// What goes with it.
+    pub part: P,
+}
+
+impl<P> Passed<P> {
+    /// This answer of the pool's state, with what goes with the connection. Our own.
+    pub fn of(answer: CheckedOkAnswer, part: P) -> Self
+        ensures served { answer ≡ IsServed result.key }
+        ensures part { result.part ≡ part }
+    {
+        let CheckedOkAnswer::Served(key) = answer;
+        Passed { key, part }
+    }
+}
+
+/// A connection that a get held and its home takes back. Our own.
+pub struct Returned<C, P> {
+    /// The connection, as `has_broken` left it, and what went with it.
+    pub taken: Taken<C, P>,
+    /// What `has_broken` answered.
+    pub broken: bool,
+}
+
+/// The steps that the polls of a get make, on connections `C`: the plain state of a pool is such a home, and so is a pool's lock. Our own.
 ///
 /// Each step has a ghost member, a relation between the home, what the step was given, what it answered, and the home then. It has no
-/// default: what is proved of a get's polls holds for every choice.
+/// default: what is proved of a get's polls holds for every choice. A connection that is closed, or did not fit, is handed back, for
+/// whoever made the step to drop it.
 pub trait GetHome<C> {
     /// What goes with a connection that is handed out. Our own.
     type Part;
+
+    // Holds of a home, and of the home that is let alone then.
+    ghost releases: { Self → Self → Type 0 };
 
     // Holds of a home, a reading of the clock, what a look at it may answer, and the home then.
     ghost looks: { Self → MomentOf → LookedOf → Self → Type 0 };
@@ -54,8 +94,23 @@ pub trait GetHome<C> {
     // Holds of a home, a moment, a get, what a try of it may answer, and the home then.
     ghost tries: { Self → MomentOf → GetKeyOf → Result (TriedOf C Self.Part) UnfitOf → Self → Type 0 };
 
+    // Holds of a home, a moment, a get, the key of its connection and what goes with it, what the passing of its check may answer, and the
+    // home then.
+    ghost passes: { Self → MomentOf → GetKeyOf → KeyOf → Self.Part → Result (PassedOf Self.Part) UnfitOf → Self → Type 0 };
+
+    // Holds of a home, a moment, a get, what it returns, what the failing of its check may answer, and the home then.
+    ghost fails: { Self → MomentOf → GetKeyOf → ReturnedOf C Self.Part → Result (CheckedErrAnswerOf C) C → Self → Type 0 };
+
     // Holds of a home, a moment, a get, why it is given up, what that may answer, and the home then.
-    ghost gives_up: { Self → MomentOf → GetKeyOf → ReasonOf → Result GiveUpAnswerOf UnfitOf → Self → Type 0 };
+    ghost gives_up: { Self → MomentOf → GetKeyOf → ReasonOf → Result (GiveUpAnswerOf C) UnfitOf → Self → Type 0 };
+
+    // Holds of a home, a moment, a get, why it is given up, what it returns, what that may answer, and the home then.
+    ghost gives_back: { Self → MomentOf → GetKeyOf → ReasonOf → ReturnedOf C Self.Part → Result (GiveUpAnswerOf C) C → Self → Type 0 };
+
+    /// Lets the home alone until its next step. It is called between a step and what is then called outside: a home that takes a lock for
+    /// its steps lets go of it here. Our own.
+    fn release(&mut self)
+        ensures { releases self.old self.new };
 
     /// The effective moment at this reading of the clock, and whether a handle is alive. Our own.
     fn look(&mut self, at: Moment) -> Looked
@@ -77,11 +132,43 @@ pub trait GetHome<C> {
     fn begin(&mut self, at: Moment) -> Result<BeginAnswer, Unfit>
         ensures { begins self.old at result self.new };
 
-    /// Serves a get with an idle connection, or lets it wait. Our own.
+    /// Hands an idle connection to a get, which is served with it or is to check it, or lets the get wait. Our own.
     fn try_get(&mut self, at: Moment, get: GetKey) -> Result<Tried<C, Self::Part>, Unfit>
         ensures { tries self.old at get result self.new };
 
+    /// Serves a get with the connection that it holds, as its check was passed: what goes with the connection goes through the home, and
+    /// is gone where the step does not fit. Our own.
+    fn checked_ok(
+        &mut self,
+        at: Moment,
+        get: GetKey,
+        key: Key,
+        part: Self::Part,
+    ) -> Result<Passed<Self::Part>, Unfit>
+        ensures { passes self.old at get key part result self.new };
+
+    /// Closes the connection that a get holds, as its check failed; the get is to try again. Where the step does not fit, the connection
+    /// comes back as the error. Our own.
+    fn checked_err(
+        &mut self,
+        at: Moment,
+        get: GetKey,
+        returned: Returned<C, Self::Part>,
+    ) -> Result<CheckedErrAnswer<C>, C>
+        ensures { fails self.old at get returned result self.new };
+
     /// Ends a get that is not served and holds no connection. Our own.
-    fn give_up(&mut self, at: Moment, get: GetKey, reason: Reason) -> Result<GiveUpAnswer, Unfit>
+    fn give_up(&mut self, at: Moment, get: GetKey, reason: Reason) -> Result<GiveUpAnswer<C>, Unfit>
         ensures { gives_up self.old at get reason result self.new };
+
+    /// Ends a get that is not served and holds a connection, which is then idle or closed. Where the step does not fit, the connection
+    /// comes back as the error. Our own.
+    fn give_back(
+        &mut self,
+        at: Moment,
+        get: GetKey,
+        reason: Reason,
+        returned: Returned<C, Self::Part>,
+    ) -> Result<GiveUpAnswer<C>, C>
+        ensures { gives_back self.old at get reason returned result self.new };
 }

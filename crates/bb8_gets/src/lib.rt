@@ -5,9 +5,10 @@ mod calls;
 mod home;
 mod outside;
 mod plain;
+mod rows;
 mod state;
 
 pub use calls::Calls;
-pub use home::{GetHome, Taken, Tried, Unfit};
+pub use home::{GetHome, Passed, Returned, Taken, Tried, Unfit};
 pub use outside::Outside;
-pub use state::{GetState, Next, Stage};
+pub use state::{Begun, GetState, Held, Next, Settled, Stage};

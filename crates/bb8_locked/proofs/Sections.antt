@@ -1,7 +1,9 @@
 -- What holds of the sections of a pool.
-use Rattle.std.proofs.Common.{◌≡◌, ℕ, ◌+◌, ◌≤◌, Bool, true, false, None, refl, sym, ap, ◌∙◌, arith}
+use Rattle.std.proofs.Common.{◌≡◌, ℕ, ◌+◌, ◌≤◌, Bool, true, false, Option, is_some, refl, sym, ap, ◌∙◌, arith}
 use Rattle.bb8_core.specs.declared.answers.GiveUpAnswer.{GiveUpAnswer}
-use Rattle.bb8_core.specs.declared.answers.GiveUpAnswer.TheVariants.{GaveUp}
+use Rattle.bb8_core.specs.declared.answers.GiveUpAnswer.TheVariants as given_back
+use Rattle.bb8_core.specs.declared.answers.CheckedErrAnswer.{CheckedErrAnswer}
+use Rattle.bb8_core.specs.declared.answers.CheckedErrAnswer.TheVariants as invalid
 use Rattle.bb8_core.specs.declared.answers.PutBackAnswer.{PutBackAnswer}
 use Rattle.bb8_core.specs.declared.answers.PutBackAnswer.TheVariants.{Kept, Closed}
 use Rattle.bb8_core.specs.declared.answers.AddAnswer.{AddAnswer}
@@ -9,11 +11,12 @@ use Rattle.bb8_core.specs.declared.answers.AddAnswer.TheVariants as adding
 use Rattle.bb8_types.specs.declared.api.configuration.Config.{Config}
 use Rattle.bb8_types.specs.declared.grants.Grant.{Grant}
 use Rattle.bb8_types.specs.Settings.{Settings, settings_of, is_lawful}
-use Rattle.bb8_ledger.specs.Acts.{Act, GiveUp, PutBack, Fill, Add, Reason}
+use Rattle.bb8_ledger.specs.Acts.{Act, CheckedErr, GiveUp, PutBack, Fill, Add, Reason}
+use Rattle.bb8_ledger.specs.Answers as answers
 use Rattle.bb8_ledger.specs.Answers.{Answer, Broken, Granted, Unfit}
 use Rattle.bb8_ledger.specs.Ledger.{Ledger, Later}
-use Rattle.bb8_core.specs.StepAnswers.{give_up_told, put_back_told, add_told}
-use Rattle.bb8_ledger.specs.Table.{takes, IsLegal, Row, add_broken, add_full, add_exhausted, add_refused, adds}
+use Rattle.bb8_core.specs.StepAnswers.{checked_err_told, give_up_told, put_back_told, add_told}
+use Rattle.bb8_ledger.specs.Table.{takes, IsLegal, Row, add_broken, add_full, add_exhausted, add_refused, adds, gives_up, gives_up_kept, gives_up_closed}
 use Rattle.bb8_core.specs.Shown.{Shown, Means, Meets, IsFitting, HasLedger, IsWithinLimits}
 use Rattle.bb8_core.specs.Run.{opening}
 use Rattle.bb8_locked.specs.Sections.{IsSorted}
@@ -22,6 +25,12 @@ use Rattle.bb8_core.proofs.Parts.{counted}
 use Rattle.bb8_ledger.proofs.Effects.{by_fit}
 use Rattle.bb8_core.proofs.Runs.{unfit_now}
 use Rattle.bb8_ledger.proofs.Laws.{keeps_limits, keeps_laws, keeps_promises}
+
+-- an answer that a connection came back
+abbrev pub brings_back : Answer → Bool
+brings_back (answers.Kept k n) = true
+brings_back (answers.Closed k grant n) = true
+brings_back _ = false
 
 -- an answer that a connection was refused as broken
 abbrev refuses_broken : Answer → Bool
@@ -124,6 +133,33 @@ module _ {C : Type 0} where
       let k = counted old at (Fill claimed) (Granted grant) new (opening config first first_get, lawful, means) meets in
       k.moves ∙ ap out_of (sym means)
 
--- a give-up without a connection moves nothing
-pub gave_up : (C : Type 0) (g : ℕ) (why : Reason) (b : Bool) (answer : GiveUpAnswer) (before after : ℕ) → Moves {C = C} (GiveUp g why None b) (give_up_told answer) before after → after ≡ before
-gave_up C g why b (GaveUp n) before after moves = moves
+  -- a give-up brings a connection back just where one is handed in
+  give_up_row : (l : Ledger C) (at g : ℕ) (why : Reason) (held : Option C) (b : Bool) (a : Answer) → Row l at (GiveUp g why held b) a → brings_back a ≡ is_some held
+  give_up_row l at g why _ b _ (gives_up who) = refl
+  give_up_row l at g why _ b _ (gives_up_kept holds stays who) = refl
+  give_up_row l at g why _ b _ (gives_up_closed holds closes granted who) = refl
+
+  pub given_up : (old new : Shown C) (at g : ℕ) (why : Reason) (held : Option C) (b : Bool) (a : Answer) → HasLedger old
+      → Says old (GiveUp g why held b) true → Meets old at (GiveUp g why held b) a new → brings_back a ≡ is_some held
+  given_up old new at g why held b a h says meets =
+      by_fit (takes h.0 (GiveUp g why held b)) _ _ (brings_back a ≡ is_some held) (meets h.0 h.1 h.2).0
+      (λ f row. give_up_row h.0 at g why held b a row)
+      (λ f is. absurd (let clash : true ≡ false = says h.0 h.1 h.2 ∙ f in cc))
+
+  -- a give-up that brings none back moves nothing
+  pub gave_up : (g : ℕ) (why : Reason) (held : Option C) (b : Bool) (answer : GiveUpAnswer C) (before after : ℕ) → brings_back (give_up_told answer) ≡ false
+      → Moves (GiveUp g why held b) (give_up_told answer) before after → after ≡ before
+  gave_up g why held b (given_back.GaveUp n) before after none moves = moves
+  gave_up g why held b (given_back.Kept k n) before after none moves = absurd (let clash : true ≡ false = none in cc)
+  gave_up g why held b (given_back.Closed k c grant n) before after none moves = absurd (let clash : true ≡ false = none in cc)
+
+  -- one that brings a connection back brings one
+  pub gave_back : (g : ℕ) (why : Reason) (held : Option C) (b : Bool) (answer : GiveUpAnswer C) (before after : ℕ) → brings_back (give_up_told answer) ≡ true
+      → Moves (GiveUp g why held b) (give_up_told answer) before after → after + 1 ≡ before
+  gave_back g why held b (given_back.GaveUp n) before after some moves = absurd (let clash : false ≡ true = some in cc)
+  gave_back g why held b (given_back.Kept k n) before after some moves = moves
+  gave_back g why held b (given_back.Closed k c grant n) before after some moves = moves
+
+  -- the failing of a check brings one back
+  pub failed_back : (g : ℕ) (b : Bool) (answer : CheckedErrAnswer C) (before after : ℕ) → Moves {C = C} (CheckedErr g b) (checked_err_told answer) before after → after + 1 ≡ before
+  failed_back g b (invalid.Closed k c grant n) before after moves = moves

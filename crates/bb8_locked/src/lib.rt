@@ -2,6 +2,7 @@
 #![tactic(auto)]
 
 mod gathered;
+mod home;
 mod locked;
 
 pub use gathered::Gathered;

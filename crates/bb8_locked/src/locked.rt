@@ -2,13 +2,13 @@
 //!
 //! A section is lent the state. Where its event fits it takes one step; where it does not, as no code of this crate brings about, it
 //! answers `Unfit` and changes nothing. No manager, customizer, sink or clock is called here.
-ghost use Rattle.std.specs.Prelude.{◌≡◌, ◌+◌, ◌<◌, ◌≤◌, None, true, false, IfOk};
+ghost use Rattle.std.specs.Prelude.{◌≡◌, ◌+◌, ◌<◌, ◌≤◌, true, IfOk};
 ghost use Rattle.bb8_ledger.specs.Acts as acts;
 ghost use Rattle.bb8_ledger.specs.Answers as answers;
 ghost use Rattle.bb8_types.specs.Figures.{figures_of};
 ghost use Rattle.bb8_types.specs.Settings.{Settings, default_settings, is_lawful, settings_of};
 ghost use Rattle.bb8_locked.specs.Parts.{Begins, IsBlankOf};
-ghost use Rattle.bb8_core.specs.StepAnswers.{begin_told, reason_of, give_up_told, put_back_told, claim_told, opened_told, add_told, look_told, GivesBack, HandsBack, Refuses};
+ghost use Rattle.bb8_core.specs.StepAnswers.{put_back_told, claim_told, opened_told, add_told, GivesBack, HandsBack, Refuses};
 ghost use Rattle.bb8_core.specs.Parts.{out_of};
 ghost use Rattle.bb8_core.specs.Shown.{IsWithinLimits};
 
@@ -16,10 +16,9 @@ mod handles;
 
 use bb8_core::api::{Config, Memory, Moment, State};
 use bb8_core::internals::{
-    AddAnswer, AtOnce, BeginAnswer, ClaimAnswer, GetKey, GiveUpAnswer, Grant, Key, Looked,
-    OpenedAnswer, PoolInternals, PutBackAnswer, Reason, TryAnswer,
+    AddAnswer, ClaimAnswer, Key, OpenedAnswer, PoolInternals, PutBackAnswer,
 };
-use bb8_gets::{GetHome, Taken, Tried, Unfit};
+use bb8_gets::Taken;
 pub use handles::{Handle, Joining};
 use std::alloc::Global;
 use std::marker::Brand;
@@ -45,8 +44,8 @@ impl PoolParts for Brand {}
 /// one part with it, so parts and connections out are together as many as `max_size`.
 #[derive(Drop)]
 pub struct Locked<C, L: Parts> {
-    core: PoolInternals<C>,
-    rest: Share<L>,
+    pub(crate) core: PoolInternals<C>,
+    pub(crate) rest: Share<L>,
     ghost parts: { out_of core + rest.parts ≡ core.config.max_size },
     ghost amount: { rest.amount ≡ rest.parts },
     ghost settled: { core.config ≡ L.settings },
@@ -118,7 +117,7 @@ impl<C: Drop, L: Parts> Locked<C, L> {
     ghost use Rattle.bb8_locked.specs.Sections.{returned, OnFit, IsSorted};
 
     /// What holds of the state, whoever holds the lock. It does nothing.
-    fn limits(&self)
+    pub(crate) fn limits(&self)
         ensures limits { IsWithinLimits self.now.core }
         ensures settings { self.now.core.config ≡ L.settings }
     {
@@ -204,94 +203,5 @@ impl<C: Drop, L: Parts> Locked<C, L> {
         self.limits();
         let Locked { core, .. } = self;
         core.state(at)
-    }
-}
-
-/// What a pool's lock holds as a home: a poll holds the lock for all its steps, and each leads from the state that stands there to the
-/// next one. A connection goes out with one of the parts.
-impl<C: Drop, L: Parts> GetHome<C> for Locked<C, L> {
-    ghost use Rattle.bb8_gets.specs.Homes.{StepsIn};
-    ghost use Rattle.bb8_gets.specs.Told.{answered, tried_told, HandsOutOf};
-
-    type Part = Part<L>;
-
-    ghost looks = { λ h at seen h'. StepsIn L.settings h.core at.0 acts.Look (look_told seen) h'.core };
-
-    ghost begins = { λ h at b h'. StepsIn L.settings h.core at.0 acts.Begin (answered begin_told b) h'.core };
-
-    ghost tries = { λ h at get t h'. StepsIn L.settings h.core at.0 (acts.Try get.number) (tried_told t) h'.core × HandsOutOf h.core t };
-
-    ghost gives_up = { λ h at get reason a h'. StepsIn L.settings h.core at.0 (acts.GiveUp get.number (reason_of reason) None false) (answered give_up_told a) h'.core };
-
-    fn look(&mut self, at: Moment) -> Looked {
-        self.limits();
-        let Locked { core, .. } = self;
-        core.look(at)
-    }
-
-    /// It is served at once where that takes no memory.
-    fn serve(&mut self, at: Moment) -> Option<(Taken<C, Part<L>>, Grant)> {
-        self.limits();
-        let Locked { core, rest, .. } = self;
-        if !core.fits_at_once() {
-            return None;
-        }
-        match core.serve_at_once(at) {
-            None => None,
-            Some(
-                AtOnce {
-                    key,
-                    conn,
-                    grant,
-                    ..
-                },
-            ) => {
-                let one = rest.split_off(1, 1);
-                let taken = Taken {
-                    key,
-                    connection: conn,
-                    part: Part { share: one },
-                };
-                Some((taken, grant))
-            }
-        }
-    }
-
-    fn begin(&mut self, at: Moment) -> Result<BeginAnswer, Unfit> {
-        self.limits();
-        let Locked { core, .. } = self;
-        if !core.fits_begin() {
-            return Err(Unfit);
-        }
-        Ok(core.begin(at))
-    }
-
-    fn try_get(&mut self, at: Moment, get: GetKey) -> Result<Tried<C, Part<L>>, Unfit> {
-        self.limits();
-        let Locked { core, rest, .. } = self;
-        if !core.fits_try(get) {
-            return Err(Unfit);
-        }
-        match core.try_get(at, get) {
-            TryAnswer::Waiting(grant) => Ok(Tried::Waiting(grant)),
-            TryAnswer::Served(key, connection, grant) => {
-                let share = rest.split_off(1, 1);
-                let taken = Taken {
-                    key,
-                    connection,
-                    part: Part { share },
-                };
-                Ok(Tried::Served(taken, grant))
-            }
-        }
-    }
-
-    fn give_up(&mut self, at: Moment, get: GetKey, reason: Reason) -> Result<GiveUpAnswer, Unfit> {
-        self.limits();
-        let Locked { core, .. } = self;
-        if !core.fits_give_up(get) {
-            return Err(Unfit);
-        }
-        Ok(core.give_up(at, get, reason, None, false))
     }
 }

@@ -1,11 +1,11 @@
 //! The future of a get.
 ghost use Rattle.std.specs.Prelude.{◌≡◌};
 
+use super::link::LinkHome;
 use crate::locks::Locks;
 use crate::pool::{Pool, PooledConnection, Shared};
 use bb8_core::api::{Clock, CustomizeConnection, ErrorSink, ManageConnection, RunError};
-use bb8_core::internals::Reason;
-use bb8_gets::{Calls, GetHome, GetState, Outside, Stage, Taken};
+use bb8_gets::{Calls, GetState, Outside, Taken};
 use bb8_locked::{Part, Parts};
 use futures::Future;
 use futures::task::{Context, Poll};
@@ -13,9 +13,10 @@ use std::sync::Wait;
 
 /// What `Pool::get` answers: a get that does nothing until it is polled.
 ///
-/// Each poll reads the pool's clock, and takes the pool's lock once. One that is pending asks to be polled again at once. When it is dropped
-/// before its answer, it gives the get up as cancelled; one that was not polled or was answered is dropped without a reading of the clock
-/// and without the lock. Our own: upstream's get is an async function.
+/// Each poll reads the pool's clock. It takes the pool's lock once where no check is made, and lets go of it before each call of the manager,
+/// the error sink or the clock. One that is pending asks to be polled again at once. When it is dropped before its answer, it gives the
+/// get up as cancelled; one that was not polled or was answered is dropped without a reading of the clock and without the lock. Our
+/// own: upstream's get is an async function.
 pub struct GetFuture<
     'a,
     M: ManageConnection,
@@ -26,57 +27,48 @@ pub struct GetFuture<
     L: Parts,
 > {
     shared: &'a Shared<M, S, Z, K, R, L>,
-    get: GetState<M::Connection, Part<L>>,
+    get: GetState<M::Connection, M::Checking, Part<L>>,
 }
 
 /// What the gets of a pool do with what its handles share, as methods of an impl, so that polls and drops can call them.
-pub(crate) trait Gets {
-    type Get;
-
-    type Served;
-
+pub(crate) trait Gets<C, E, V, P> {
     /// One poll of a get.
-    fn poll_get(&self, get: &mut Self::Get) -> Poll<Self::Served>;
+    fn poll_get<W: Outside<C, E, Checking = V>>(
+        &self,
+        outside: &mut W,
+        get: &mut GetState<C, V, P>,
+    ) -> Poll<Result<Taken<C, P>, RunError<E>>>;
 
     /// Lets a get go.
-    fn cancel_get(&self, get: Self::Get);
+    fn cancel_get<W: Outside<C, E, Checking = V>>(&self, outside: &mut W, get: GetState<C, V, P>);
 }
 
-/// The clock is read before the lock is taken, and the lock once.
-impl<M: ManageConnection, S, Z, K: Clock, R: Locks, L: Parts> Gets for Shared<M, S, Z, K, R, L> {
+/// Nothing is called outside under the lock: the table releases its home before each such call.
+impl<M: ManageConnection, S, Z, K, R: Locks, L: Parts> Gets<M::Connection, M::Error, M::Checking, Part<L>>
+    for Shared<M, S, Z, K, R, L> {
     ghost use Rattle.bb8.specs.Linked.{LinkCancels, LinkPolls};
 
-    type Get = GetState<M::Connection, Part<L>>;
-
-    type Served = Result<Taken<M::Connection, Part<L>>, RunError<M::Error>>;
-
-    fn poll_get(
+    fn poll_get<W: Outside<M::Connection, M::Error, Checking = M::Checking>>(
         &self,
-        get: &mut GetState<M::Connection, Part<L>>,
+        outside: &mut W,
+        get: &mut GetState<M::Connection, M::Checking, Part<L>>,
     ) -> Poll<Result<Taken<M::Connection, Part<L>>, RunError<M::Error>>>
-        ensures { LinkPolls K.tells self.now get.old.stage result get.new.stage }
+        ensures { LinkPolls W.Outside self.now get.old.stage outside.old
+            (record { answer = result; stage = get.new.stage }) outside.new }
     {
-        if get.is_done() {
-            return Poll::Pending;
-        }
-        let mut calls = Calls::new(&self.manager, &self.clock);
-        let at = calls.now();
-        let mut locked = self.rt.take(&self.locked);
-        get.poll_at(&mut *locked, at, self.config.connection_timeout)
+        let mut link = LinkHome::new(&self.locked, &self.rt);
+        get.poll_step(outside, &mut link, self.config.connection_timeout)
     }
 
-    fn cancel_get(&self, get: GetState<M::Connection, Part<L>>)
-        ensures { LinkCancels K.tells self.now get.stage }
+    fn cancel_get<W: Outside<M::Connection, M::Error, Checking = M::Checking>>(
+        &self,
+        outside: &mut W,
+        get: GetState<M::Connection, M::Checking, Part<L>>,
+    )
+        ensures { LinkCancels W.Outside self.now get.stage outside.old outside.new }
     {
-        match get.into_stage() {
-            Stage::Fresh | Stage::Done => {}
-            Stage::Trying(open, _) | Stage::Waiting(open, _) => {
-                let mut calls = Calls::new(&self.manager, &self.clock);
-                let at = calls.now();
-                let mut locked = self.rt.take(&self.locked);
-                let _ = locked.give_up(at, open, Reason::Cancelled);
-            }
-        }
+        let mut link = LinkHome::new(&self.locked, &self.rt);
+        get.cancel_step(outside, &mut link);
     }
 }
 
@@ -93,10 +85,11 @@ impl<
     /// Lets the get go, as a drop does, for which it may wait for the lock: one that began and was not answered is given up as cancelled.
     /// Our own.
     pub fn cancel(self)
-        ensures { CancelsGet K.tells self.entry }
+        ensures { CancelsGet S.sinks K.tells self.entry }
     {
         let GetFuture { shared, get } = self;
-        shared.cancel_get(get);
+        let mut calls = Calls::new(&shared.manager, &shared.error_sink, &shared.clock);
+        shared.cancel_get(&mut calls, get);
     }
 }
 
@@ -169,7 +162,8 @@ impl<
 > Drop for GetFuture<'_, M, S, Z, K, R, L> {
     fn drop(self) {
         let GetFuture { shared, get } = self;
-        shared.cancel_get(get);
+        let mut calls = Calls::new(&shared.manager, &shared.error_sink, &shared.clock);
+        shared.cancel_get(&mut calls, get);
     }
 }
 
@@ -189,21 +183,22 @@ impl<
 
     type Output = Result<PooledConnection<'a, M, S, Z, K, R, L>, RunError<M::Error>>;
 
-    ghost gives = { λ future out. GivesGet K.tells future out };
+    ghost gives = { λ future out. GivesGet S.sinks K.tells future out };
 
     /// One poll at the clock's reading. It is pending while the get waits before its deadline, and after its answer.
     fn poll(&mut self, cx: &mut Context<'_>) -> Poll<Self::Output>
-        ensures table { PollsGet K.tells self.old result self.new }
+        ensures table { PollsGet S.sinks K.tells self.old result self.new }
         ensures pool { self.new.shared.now ≡ self.old.shared.now }
-        ensures value { IfReady result (λ out. GivesGet K.tells self.old out) }
+        ensures value { IfReady result (λ out. GivesGet S.sinks K.tells self.old out) }
         ensures again { OnPending result ⊤ }
         ensures same { OnPending result
-            ((x : _) → GivesGet K.tells self.new x → GivesGet K.tells self.old x) }
+            ((x : _) → GivesGet S.sinks K.tells self.new x → GivesGet S.sinks K.tells self.old x) }
         ensures registered { OnPending result (Covers cx.new (λ _. ⊥)) }
         ensures kept { Keeps cx.old cx.new }
     {
         let shared = self.shared;
-        let answer = match shared.poll_get(&mut self.get) {
+        let mut calls = Calls::new(&shared.manager, &shared.error_sink, &shared.clock);
+        let answer = match shared.poll_get(&mut calls, &mut self.get) {
             Poll::Ready(answer) => answer,
             Poll::Pending => return cx.yield_now(),
         };

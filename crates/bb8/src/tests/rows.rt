@@ -3,32 +3,13 @@ ghost use Rattle.std.specs.Prelude.{Some};
 ghost use Rattle.bb8_locked.specs.Parts.{IsBlankOf, unchecked_of};
 ghost use Rattle.bb8_types.specs.declared.api.configuration.QueueStrategy.TheVariants.{Lifo};
 
-use super::{NumberPool, Runtime, Numbers};
-use crate::{Builder, Clock, Memory, Moment, PoolParts, QueueStrategy, SetClock};
-use bb8_core::internals::{ClaimAnswer, OpenedAnswer};
+use super::{Errors, NumberPool, Numbers, Runtime, open};
+use crate::{Builder, Memory, Moment, PoolParts, QueueStrategy, SetClock};
 use futures::task::Poll;
 use futures::test::MockTask;
 use std::marker::Brand;
 use std::sync::ledger::Blank;
 use std::test::Fail;
-
-/// Opens the connection of the next approval, as a driver of the pool would, and tells its number. None where no approval is unclaimed.
-fn open<R: Runtime, L: PoolParts>(pool: &NumberPool<R, L>, connection: u64) -> Option<u64> {
-    let shared = &*pool.shared;
-    let at = shared.clock.now();
-    let claimed = shared.locked.lock(&shared.rt).claim(at);
-    let ClaimAnswer::Claimed(Some(approval)) = claimed else {
-        return None;
-    };
-    let opened = shared
-        .locked
-        .lock(&shared.rt)
-        .opened(at, approval, connection);
-    match opened {
-        Ok(OpenedAnswer::Entered(_)) => Some(approval.number),
-        Ok(OpenedAnswer::Late(_)) | Err(_) => None,
-    }
-}
 
 /// A newer get takes the connection that was opened for one that waits, which waits again and is served at its return.
 fn overtakes<R: Runtime, L: PoolParts>(rt: R, blank: Blank) -> Result<(), Memory>
@@ -38,7 +19,8 @@ fn overtakes<R: Runtime, L: PoolParts>(rt: R, blank: Blank) -> Result<(), Memory
     let pool: NumberPool<R, L> = Builder::new()
         .max_size(1)
         .test_on_check_out(false)
-        .build_unchecked(Numbers, clock, rt, blank)?;
+        .error_sink(Errors::new())
+        .build_unchecked(Numbers::valid(), clock, rt, blank)?;
     let Ok(task) = MockTask::new(&rt) else {
         return Err(Memory);
     };
@@ -79,7 +61,8 @@ fn hands_on<R: Runtime, L: PoolParts>(rt: R, blank: Blank) -> Result<(), Memory>
     let pool: NumberPool<R, L> = Builder::new()
         .max_size(1)
         .test_on_check_out(false)
-        .build_unchecked(Numbers, clock, rt, blank)?;
+        .error_sink(Errors::new())
+        .build_unchecked(Numbers::valid(), clock, rt, blank)?;
     let Ok(task) = MockTask::new(&rt) else {
         return Err(Memory);
     };
@@ -119,7 +102,8 @@ fn waits_shortly<R: Runtime, L: PoolParts>(rt: R, blank: Blank) -> Result<(), Me
         .max_size(1)
         .min_idle(Some(1))
         .test_on_check_out(false)
-        .build_unchecked(Numbers, clock.try_clone()?, rt, blank)?;
+        .error_sink(Errors::new())
+        .build_unchecked(Numbers::valid(), clock.try_clone()?, rt, blank)?;
     let Ok(task) = MockTask::new(&rt) else {
         return Err(Memory);
     };
@@ -156,7 +140,8 @@ fn uses_again<R: Runtime, L: PoolParts>(rt: R, blank: Blank) -> Result<(), Memor
         .min_idle(Some(0))
         .queue_strategy(QueueStrategy::Lifo)
         .test_on_check_out(false)
-        .build_unchecked(Numbers, clock, rt, blank)?;
+        .error_sink(Errors::new())
+        .build_unchecked(Numbers::valid(), clock, rt, blank)?;
     let Ok(task) = MockTask::new(&rt) else {
         return Err(Memory);
     };

@@ -7,7 +7,7 @@ ghost use Rattle.bb8_ledger.specs.Table.{IsLegal, takes};
 
 use super::{Refused, SlowManager, StoppedClock};
 use bb8_gets::{Calls, GetState, Taken};
-use bb8::{Config, Moment, RunError, Statistics};
+use bb8::{Config, Moment, NopErrorSink, RunError, Statistics};
 use bb8_core::internals::{AddAnswer, Key, PoolInternals};
 use bb8_core::replay::{Act, Event, fits};
 use futures::task::Poll;
@@ -37,9 +37,9 @@ fn pool_of(rt: &impl Abort, alloc: Global, max_size: u32) -> PoolInternals<u64> 
 }
 
 /// Polls a get at a reading of the clock. It waits for a second at most.
-fn poll(pool: &mut PoolInternals<u64>, get: &mut GetState<u64, ()>, at: u64) -> Polled {
+fn poll(pool: &mut PoolInternals<u64>, get: &mut GetState<u64, (), ()>, at: u64) -> Polled {
     let clock = StoppedClock(Moment(at));
-    let mut calls = Calls::new(&SlowManager, &clock);
+    let mut calls = Calls::new(&SlowManager, &NopErrorSink, &clock);
     match get.poll_step(&mut calls, pool, Duration::from_nanos(SECOND)) {
         Poll::Ready(
             Ok(
@@ -56,9 +56,9 @@ fn poll(pool: &mut PoolInternals<u64>, get: &mut GetState<u64, ()>, at: u64) -> 
 }
 
 /// Lets a get go at a reading of the clock.
-fn cancel(pool: &mut PoolInternals<u64>, get: GetState<u64, ()>, at: u64) {
+fn cancel(pool: &mut PoolInternals<u64>, get: GetState<u64, (), ()>, at: u64) {
     let clock = StoppedClock(Moment(at));
-    let mut calls = Calls::new(&SlowManager, &clock);
+    let mut calls = Calls::new(&SlowManager, &NopErrorSink, &clock);
     get.cancel_step(&mut calls, pool);
 }
 

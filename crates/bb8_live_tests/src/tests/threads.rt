@@ -1,5 +1,6 @@
 //! Two threads that get and return through one pool.
 ghost use Rattle.bb8.specs.Parts.{IsBlankOf, unchecked_of};
+ghost use Rattle.bb8.specs.Settings.{default_settings};
 
 use super::{NumberPool, Refused, Runtime, SlowManager};
 use bb8::{
@@ -76,7 +77,7 @@ struct Held {
     holders: u64,
 }
 
-/// Opens nothing, and finds each connection valid and whole.
+/// Opens nothing, and finds a connection valid and whole where nobody holds it.
 #[derive(Drop)]
 struct HeldManager;
 
@@ -99,11 +100,15 @@ impl ManageConnection for HeldManager {
 
     fn poll_valid(
         &self,
-        _connection: &mut Held,
+        connection: &mut Held,
         _checking: &mut (),
         _moment: Moment,
     ) -> Poll<Result<(), Refused>> {
-        Poll::Ready(Ok(()))
+        Poll::Ready(if connection.holders == 0 {
+            Ok(())
+        } else {
+            Err(Refused(3))
+        })
     }
 
     fn has_broken(&self, connection: &mut Held) -> bool {
@@ -150,14 +155,20 @@ impl<R: Runtime, L: PoolParts> Job for Mixed<'_, R, L> {
     }
 }
 
-/// Two threads share a pool of up to three connections in all that it does.
-fn shares_all<R: Runtime + Threads, L: PoolParts>(rt: R, blank: Blank) -> Result<(), Memory>
-    requires { IsBlankOf blank (unchecked_of 3) L.name L.parts L.settings }
+/// Two threads share a pool of up to three connections in all that it does. Each connection is checked before it is lent, or none.
+fn shares_all<R: Runtime + Threads, L: PoolParts>(
+    rt: R,
+    blank: Blank,
+    checks: bool,
+) -> Result<(), Memory>
+    requires { IsBlankOf blank
+        (record default_settings { max_size = 3; test_on_check_out = checks }) L.name L.parts
+        L.settings }
 {
     let clock = SetClock::new(rt.alloc(), Moment(0))?;
     let pool: HeldPool<R, L> = Builder::new()
         .max_size(3)
-        .test_on_check_out(false)
+        .test_on_check_out(checks)
         .build_unchecked(HeldManager, clock.try_clone()?, rt, blank)?;
     let mixed = Mixed {
         pool: &pool,
@@ -168,6 +179,7 @@ fn shares_all<R: Runtime + Threads, L: PoolParts>(rt: R, blank: Blank) -> Result
     let state = pool.state();
     assert_eq!(&rt; state.connections, state.idle_connections);
     assert_eq!(&rt; state.statistics.connections_closed_broken, 0);
+    assert_eq!(&rt; state.statistics.connections_closed_invalid, 0);
     assert_eq!(&rt; state.statistics.pending_gets(), 0);
     assert_eq!(&rt; state.statistics.get_started, 4000);
     Ok(())
@@ -175,7 +187,13 @@ fn shares_all<R: Runtime + Threads, L: PoolParts>(rt: R, blank: Blank) -> Result
 
 #[test]
 fn two_threads_share_all(rt: HostRuntime) -> Result<(), Fail> {
-    shares_all::<HostRuntime, Brand>(rt, Blank::new(3))?;
+    shares_all::<HostRuntime, Brand>(rt, Blank::new(3), false)?;
+    Ok(())
+}
+
+#[test]
+fn two_threads_share_all_with_checks(rt: HostRuntime) -> Result<(), Fail> {
+    shares_all::<HostRuntime, Brand>(rt, Blank::new(3), true)?;
     Ok(())
 }
 

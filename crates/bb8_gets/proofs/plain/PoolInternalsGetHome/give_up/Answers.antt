@@ -8,8 +8,8 @@ pub returns-then-not-fits_give_up : goal.returns-then-not-fits_give_up
 returns-then-not-fits_give_up g c =
     λ l legal means.
     let misfit : takes l (acts.GiveUp c.args.get.number (reason_of c.args.reason) None false) ≡ false =
-    sym (c.fits_give_up.ensures (reason_of c.args.reason) false l legal means) ∙ c.if-not-fits_give_up.true in
+    sym (c.fits_give_up.ensures (reason_of c.args.reason) None false refl l legal means) ∙ c.if-not-fits_give_up.true in
     rw misfit (refl, refl)
 
 pub give_up-requires : goal.give_up-requires
-give_up-requires g c = λ l legal means. sym (c.fits_give_up.ensures (reason_of c.args.reason) false l legal means) ∙ c.if-not-fits_give_up.false
+give_up-requires g c = λ l legal means. sym (c.fits_give_up.ensures (reason_of c.args.reason) None false refl l legal means) ∙ c.if-not-fits_give_up.false
