@@ -205,7 +205,6 @@ pub use bb8_core::{api, internals, replay};
 pub use bb8_locked::{Parts, PoolParts};
 pub use builder::Builder;
 pub use connecting::{FirstPoll, first_connect};
-
 pub use locks::Locks;
 pub use machine::MachineClock;
 pub use pool::{Pool, PoolCalls, PooledConnection};
