@@ -164,8 +164,12 @@ pub(crate) trait Returns<C, E, V, P> {
     fn give_back<W: Outside<C, E, Checking = V>>(&self, outside: &mut W, taken: Taken<C, P>);
 }
 
-impl<M: ManageConnection, S, Z, K, R: Locks, L: Parts> Returns<M::Connection, M::Error, M::Checking, Part<L>>
-    for Shared<M, S, Z, K, R, L> {
+impl<M: ManageConnection, S, Z, K, R: Locks, L: Parts> Returns<
+    M::Connection,
+    M::Error,
+    M::Checking,
+    Part<L>,
+> for Shared<M, S, Z, K, R, L> {
     ghost use Rattle.bb8.specs.Linked.{LinkReturns};
 
     /// The connection is asked whether it is broken, and the clock is read, before the lock is taken. What was closed, or came back as the

@@ -44,8 +44,12 @@ pub(crate) trait Gets<C, E, V, P> {
 }
 
 /// Nothing is called outside under the lock: the table releases its home before each such call.
-impl<M: ManageConnection, S, Z, K, R: Locks, L: Parts> Gets<M::Connection, M::Error, M::Checking, Part<L>>
-    for Shared<M, S, Z, K, R, L> {
+impl<M: ManageConnection, S, Z, K, R: Locks, L: Parts> Gets<
+    M::Connection,
+    M::Error,
+    M::Checking,
+    Part<L>,
+> for Shared<M, S, Z, K, R, L> {
     ghost use Rattle.bb8.specs.Linked.{LinkCancels, LinkPolls};
 
     fn poll_get<W: Outside<M::Connection, M::Error, Checking = M::Checking>>(

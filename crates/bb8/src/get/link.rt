@@ -1,13 +1,14 @@
 //! A lock as a home of gets.
 ghost use Rattle.std.specs.Prelude.{◌≡◌, None};
 ghost use Rattle.bb8.specs.Linked.{Leads, StartsAt};
-
 ghost use Rattle.std.specs.Sync.Mutex.{mutex_guard_value};
 
 use crate::locks::Locks;
 use bb8_core::api::Moment;
-use bb8_core::internals::{BeginAnswer, GetKey, Grant, Key, Looked, Reason};
-use bb8_gets::{CheckedErrAnswer, GetHome, GiveUpAnswer, Passed, Returned, Taken, Tried, Unfit};
+use bb8_core::internals::{
+    BeginAnswer, CheckedErrAnswer, GetKey, GiveUpAnswer, Grant, Key, Looked, Reason,
+};
+use bb8_gets::{GetHome, Passed, Returned, Taken, Tried, Unfit};
 use std::sync::{Mutex, MutexGuard};
 
 /// The lock of a home as a home: it is taken at a step where it is not held, and held until it is released.
