@@ -5,6 +5,7 @@ use Rattle.std.specs.FinMap.{insert, remove, get}
 use Rattle.bb8_types.specs.Numbered.{tally, one}
 use Rattle.bb8_tables.specs.Lined.{Lined, slot_at}
 use Rattle.bb8_tables.specs.Spelled.{Absent}
+use Rattle.bb8_types.specs.declared.standing.GetPlace.{GetPlace}
 use Rattle.bb8_types.specs.declared.standing.GetPlace.TheVariants.{Active, Waiting}
 use Rattle.bb8_types.specs.declared.standing.Getting.{Getting}
 use Rattle.bb8_tables.specs.declared.table.Slot.{Slot}
@@ -15,7 +16,7 @@ use Rattle.bb8_tables.specs.Slots.{number_in, numbers_at}
 use Rattle.bb8_tables.specs.State.{view_of_gets, AreGoodGets, AreWaitingPlaces}
 use Rattle.bb8_tables.specs.Machine as machine
 use Rattle.bb8_tables.proofs.Slots.{Updates, set_updates, inside, held_removed, held_added, held_set, table_set, table_added, table_removed}
-use Rattle.bb8_tables.proofs.Lines.{free_avoids, left_away, turned_line, free_line, same_line, places_without, places_absent}
+use Rattle.bb8_tables.proofs.Lines.{free_avoids, left_away, other_line, turned_line, free_line, same_line, places_without, places_absent}
 use Rattle.bb8_tables.proofs.Numbers.{numbers_kept, numbers_all, numbers_same, numbers_push, numbers_without, numbers_fresh}
 use Rattle.bb8_types.proofs.Numbered.{removed_inserted}
 use Rattle.bb8_tables.proofs.Views.{same_gets}
@@ -184,6 +185,40 @@ wait_absent a place x good at_place off = places_absent a.slots.slots a.slots.li
 -- it stands there while it waits
 pub waits_stands : (a : Inside) (now place : ℕ) (x : Slot Getting) (mid : Lined (Slot Getting)) → slot_at a.slots place ≡ Some x → Restands a.slots mid place (get_in_wait now) → IsSome (slot_at mid place)
 waits_stands a now place x mid at_place sets = subst IsSome (sym (restood a.slots mid mid place (get_in_wait now) x at_place sets refl).changed) refl
+
+-- ---- turn
+
+-- a get that stands in no line stands elsewhere
+module _ (a : Inside) (place q : ℕ) (p : GetPlace) (x : Slot Getting) (slots : Lined (Slot Getting)) (good : AreGoodGets a)
+    (at_place : slot_at a.slots place ≡ Some x) (number_is : x.number ≡ q) (off : is_unnotified x.standing.place ≡ false)
+    (sets : Restands a.slots slots place (get_with_place p)) where
+  abbrev turned : Slot Getting
+  turned = record x { standing = get_with_place p x.standing }
+
+  turn_updates : Updates a.slots.slots slots.slots place (Some turned)
+  turn_updates = restood a.slots slots slots place (get_with_place p) x at_place sets refl
+
+  turn_line : slots.line ≡ a.slots.line
+  turn_line = ap (λ (t : Lined (Slot Getting)). t.line) (sets x at_place)
+
+  pub turn_good : AreGoodGets (record a { slots = slots })
+  turn_good =
+      let z = good.sizes in
+      let t : tally is_some slots.slots + 1 ≡ a.alive + 1 = places_set a slots.slots place (Some x) (Some turned) good at_place turn_updates in
+      let f : length slots.free ≡ length a.slots.free = ap (λ (t : Lined (Slot Getting)). length t.free) (sets x at_place) in
+      record {
+        table = table_set good.table at_place refl turn_updates;
+        waiting = subst (λ (xs : List ℕ). AreWaitingPlaces slots.slots xs) (sym turn_line) (other_line good.waiting at_place off turn_updates);
+        sizes = record { places_are = omega arith; peak_holds = z.peak_holds; alive_few = z.alive_few; room_holds = omega (arith, z.room_holds) };
+      }
+
+  pub turn_view : view_of_gets (record a { slots = slots }) ≡ machine.after_turn p q (view_of_gets a)
+  turn_view = same_gets _ _ refl
+      (held_set good.table at_place refl turn_updates
+      ∙ ap (λ (k : ℕ). insert (view_of_gets a).places k (get_with_place p x.standing)) number_is
+      ∙ ap (λ (o : Option Getting). insert (view_of_gets a).places q (machine.getting_at p o)) (sym (shown_at a q place x good at_place number_is)))
+      (ap (numbers_at numbered slots.slots) turn_line ∙ numbers_same numbered a.slots.slots slots.slots place x turned a.slots.line at_place refl turn_updates)
+      refl refl
 
 -- ---- notify
 

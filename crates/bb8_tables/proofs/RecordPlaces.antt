@@ -9,18 +9,19 @@ use Rattle.circular_buffer.specs.Buffer.{Buffer, buffer}
 use Rattle.bb8_types.specs.declared.standing.Place.{Place}
 use Rattle.bb8_types.specs.declared.standing.Place.TheVariants.{Unclaimed, Claimed, Idle, Guarded}
 use Rattle.bb8_types.specs.declared.standing.Standing.{Standing}
+use Rattle.bb8_types.specs.declared.standing.Holder.{Holder}
 use Rattle.bb8_tables.specs.declared.keys.Key.{Key}
 use Rattle.bb8_tables.specs.declared.table.Slot.{Slot}
 use Rattle.bb8_tables.specs.declared.records.Records.TheInside.{Inside}
 use Rattle.bb8_types.specs.declared.api.configuration.QueueStrategy.{QueueStrategy}
-use Rattle.bb8_types.specs.Places.{is_idle, is_unclaimed, is_conn, is_approval, with_place, first_place, first_of, comes_from}
+use Rattle.bb8_types.specs.Places.{is_idle, is_unclaimed, is_conn, is_approval, is_out, place_with, with_place, first_place, first_of, comes_from}
 use Rattle.bb8_tables.specs.Slots.{values_at, number_in, numbers_at}
 use Rattle.bb8_tables.specs.State.{view_of_records, AreGoodRecords, passes, IsLineOf, ArePlacesOf}
 use Rattle.bb8_types.specs.Numbered.{tally, one}
 use Rattle.bb8_tables.specs.Views.{ShownRecords}
 use Rattle.bb8_tables.specs.Machine as machine
 use Rattle.bb8_tables.proofs.Views.{same_records}
-use Rattle.bb8_types.proofs.Places.{unclaimed_is, idle_is, idle_from, unclaimed_from, conn_from, approval_from}
+use Rattle.bb8_types.proofs.Places.{unclaimed_is, idle_is, held_conn, idle_from, unclaimed_from, conn_from, approval_from}
 use Rattle.bb8_tables.proofs.Lines.{other_line, free_line, turned_line, added_line, shorter_line, same_line, avoids, free_avoids, left_away, places_without, places_absent, free_absent, without_first}
 use Rattle.bb8_tables.proofs.Numbers.{numbers_kept, numbers_all, numbers_same, numbers_push, numbers_without}
 use Rattle.bb8_tables.proofs.Spelled.{without_absent}
@@ -220,10 +221,10 @@ module _ {C : Type 0} where
 
   -- ---- take
 
-  module _ (a : Inside C) (strategy : QueueStrategy) (place number : ℕ) (mid slots : Lined (Slot (Standing C)))
+  module _ (a : Inside C) (strategy : QueueStrategy) (place number : ℕ) (holder : Holder) (out : Place C) (mid slots : Lined (Slot (Standing C)))
       (good : AreGoodRecords a) (first : Some place ≡ slice_get a.slots.line (first_place strategy (length a.slots.line)))
-      (number_is : (x : Slot (Standing C)) → slot_at a.slots place ≡ Some x → number ≡ x.number)
-      (sets : Restands a.slots mid place (with_place Guarded)) (out : slots ≡ record mid { line = machine.without place mid.line }) where
+      (number_is : (x : Slot (Standing C)) → slot_at a.slots place ≡ Some x → number ≡ x.number) (is : out ≡ place_with holder)
+      (sets : Restands a.slots mid place (with_place out)) (gone : slots ≡ record mid { line = machine.without place mid.line }) where
     abbrev where_first : ℕ
     where_first = first_place strategy (length a.slots.line)
 
@@ -231,34 +232,37 @@ module _ {C : Type 0} where
     taken = let x = good.idle.each where_first place (sym first) in (x.0, x.1, x.3)
 
     abbrev taken_now : Slot (Standing C)
-    taken_now = record taken.0 { standing = with_place Guarded taken.0.standing }
+    taken_now = record taken.0 { standing = with_place out taken.0.standing }
 
     taken_line : slots.line ≡ machine.without place a.slots.line
-    taken_line = ap (λ (t : Lined (Slot (Standing C))). t.line) out ∙ ap (λ (t : Lined (Slot (Standing C))). machine.without place t.line) (sets taken.0 taken.1)
+    taken_line = ap (λ (t : Lined (Slot (Standing C))). t.line) gone ∙ ap (λ (t : Lined (Slot (Standing C))). machine.without place t.line) (sets taken.0 taken.1)
 
     taken_free : length slots.free ≡ length a.slots.free
-    taken_free = ap (λ (t : Lined (Slot (Standing C))). length t.free) out ∙ ap (λ (t : Lined (Slot (Standing C))). length t.free) (sets taken.0 taken.1)
+    taken_free = ap (λ (t : Lined (Slot (Standing C))). length t.free) gone ∙ ap (λ (t : Lined (Slot (Standing C))). length t.free) (sets taken.0 taken.1)
 
     taken_updates : Updates a.slots.slots slots.slots place (Some taken_now)
-    taken_updates = restood a.slots mid slots place (with_place Guarded) taken.0 taken.1 sets (ap (λ (t : Lined (Slot (Standing C))). t.slots) out)
+    taken_updates = restood a.slots mid slots place (with_place out) taken.0 taken.1 sets (ap (λ (t : Lined (Slot (Standing C))). t.slots) gone)
 
     pub take_good : AreGoodRecords (record a { slots = slots })
     take_good =
         let was = idle_is taken.0.standing.place taken.2 in
         let free : length slots.free ≡ length a.slots.free = taken_free in
+        let conn_now : is_conn out ≡ true = held_conn out holder is in
         record {
           table = table_set good.table taken.1 refl taken_updates;
           idle = subst (λ (xs : List ℕ). ArePlacesOf is_idle slots.slots xs) (sym taken_line) (places_without good.idle taken_updates);
           unclaimed = other_line good.unclaimed taken.1 (ap is_unclaimed was.1) taken_updates;
-          conns_are = (let t : tally (passes is_conn) slots.slots + 1 ≡ a.conns + 1 = conns_set a slots.slots place (Some taken.0) (Some taken_now) true true good taken.1 taken_updates (ap is_conn was.1) refl in omega arith);
+          conns_are = (let t : tally (passes is_conn) slots.slots + 1 ≡ a.conns + 1 =
+              conns_set a slots.slots place (Some taken.0) (Some taken_now) true true good taken.1 taken_updates (ap is_conn was.1) conn_now in omega arith);
           approved_are = (let t : tally (passes is_approval) slots.slots + 0 ≡ a.approved + 0 =
-              approved_set a slots.slots place (Some taken.0) (Some taken_now) false false good taken.1 taken_updates (ap is_approval was.1) refl in omega arith);
+              approved_set a slots.slots place (Some taken.0) (Some taken_now) false false good taken.1 taken_updates (ap is_approval was.1) (ap not conn_now) in omega arith);
           sizes = let s = good.sizes in record { peak_holds = s.peak_holds; peak_few = s.peak_few; room_holds = omega (arith, s.room_holds); unclaimed_room_holds = s.unclaimed_room_holds };
         }
 
-    pub take_view : view_of_records (record a { slots = slots }) ≡ machine.after_take Guarded number (view_of_records a)
+    pub take_view : view_of_records (record a { slots = slots }) ≡ machine.after_take (place_with holder) number (view_of_records a)
     take_view = same_records _ _ refl
-        (places_set a slots.slots place number taken.0 Guarded good taken.1 (sym (number_is taken.0 taken.1)) taken_updates)
+        (places_set a slots.slots place number taken.0 out good taken.1 (sym (number_is taken.0 taken.1)) taken_updates
+        ∙ ap (λ (p : Place C). insert (view_of_records a).places number (machine.standing_at p (get (view_of_records a).places number))) is)
         (ap (numbers_at numbered slots.slots) taken_line
         ∙ numbers_same numbered a.slots.slots slots.slots place taken.0 taken_now (machine.without place a.slots.line) taken.1 refl taken_updates
         ∙ numbers_without numbered a.slots.slots a.slots.line place taken.0 good.table.distinct good.idle taken.1
@@ -297,6 +301,41 @@ module _ {C : Type 0} where
   idle_none a strategy empty = rw (length-map a.slots.line (λ (i : ℕ). number_in numbered (slot_at a.slots i)))
       (slice_get-map (λ (i : ℕ). number_in numbered (slot_at a.slots i)) a.slots.line (first_place strategy (length a.slots.line))
       ∙ ap (option_map (λ (i : ℕ). number_in numbered (slot_at a.slots i))) empty)
+
+  -- ---- hand over
+
+  -- a guard takes over a connection that is out
+  module _ (a : Inside C) (place q : ℕ) (x : Slot (Standing C)) (slots : Lined (Slot (Standing C))) (good : AreGoodRecords a)
+      (at_place : slot_at a.slots place ≡ Some x) (number_is : x.number ≡ q) (was : is_out x.standing.place ≡ true)
+      (sets : Restands a.slots slots place (with_place Guarded)) where
+    abbrev guarded_now : Slot (Standing C)
+    guarded_now = record x { standing = with_place Guarded x.standing }
+
+    handover_updates : Updates a.slots.slots slots.slots place (Some guarded_now)
+    handover_updates = restood a.slots slots slots place (with_place Guarded) x at_place sets refl
+
+    handover_line : slots.line ≡ a.slots.line
+    handover_line = ap (λ (t : Lined (Slot (Standing C))). t.line) (sets x at_place)
+
+    pub handover_good : AreGoodRecords (record a { slots = slots })
+    handover_good =
+        let conn_was : is_conn x.standing.place ≡ true = conn_from false x.standing.place was in
+        let free : length slots.free ≡ length a.slots.free = ap (λ (t : Lined (Slot (Standing C))). length t.free) (sets x at_place) in
+        record {
+          table = table_set good.table at_place refl handover_updates;
+          idle = subst (λ (xs : List ℕ). ArePlacesOf is_idle slots.slots xs) (sym handover_line) (other_line good.idle at_place (idle_from false x.standing.place was) handover_updates);
+          unclaimed = other_line good.unclaimed at_place (unclaimed_from false x.standing.place was) handover_updates;
+          conns_are = (let t : tally (passes is_conn) slots.slots + 1 ≡ a.conns + 1 = conns_set a slots.slots place (Some x) (Some guarded_now) true true good at_place handover_updates conn_was refl in omega arith);
+          approved_are = (let t : tally (passes is_approval) slots.slots + 0 ≡ a.approved + 0 =
+              approved_set a slots.slots place (Some x) (Some guarded_now) false false good at_place handover_updates (ap not conn_was) refl in omega arith);
+          sizes = let s = good.sizes in record { peak_holds = s.peak_holds; peak_few = s.peak_few; room_holds = omega (arith, s.room_holds); unclaimed_room_holds = s.unclaimed_room_holds };
+        }
+
+    pub handover_view : view_of_records (record a { slots = slots }) ≡ machine.after_handover q (view_of_records a)
+    handover_view = same_records _ _ refl
+        (places_set a slots.slots place q x Guarded good at_place number_is handover_updates)
+        (ap (numbers_at numbered slots.slots) handover_line ∙ numbers_same numbered a.slots.slots slots.slots place x guarded_now a.slots.line at_place refl handover_updates)
+        refl refl refl refl
 
   -- ---- enter
 

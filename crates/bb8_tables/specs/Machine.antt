@@ -2,7 +2,7 @@
 use Rattle.std.specs.Prelude.{ℕ, zero, suc, ◌+◌, ◌-◌, max, Bool, true, false, cond, not, eqb, List, [], ◌∷◌, ◌++◌, filter, drop, slice_get, Option, Some, None}
 use Rattle.std.specs.FinMap.{insert, remove, get}
 use Rattle.bb8_types.specs.declared.standing.Place.{Place}
-use Rattle.bb8_types.specs.declared.standing.Place.TheVariants.{Unclaimed, Claimed, Idle}
+use Rattle.bb8_types.specs.declared.standing.Place.TheVariants.{Unclaimed, Claimed, Idle, Guarded}
 use Rattle.bb8_types.specs.declared.standing.Standing.{Standing}
 use Rattle.bb8_types.specs.declared.standing.GetPlace.{GetPlace}
 use Rattle.bb8_types.specs.declared.standing.GetPlace.TheVariants.{Active, Waiting}
@@ -30,6 +30,10 @@ module _ {C : Type 0} where
   -- an idle connection goes out
   abbrev pub after_take : Place C → ℕ → ShownRecords C → ShownRecords C
   after_take p k s = record s { places = insert s.places k (standing_at p (get s.places k)); idle = without k s.idle }
+
+  -- a guard takes over a connection that is out
+  abbrev pub after_handover : ℕ → ShownRecords C → ShownRecords C
+  after_handover k s = record s { places = insert s.places k (standing_at Guarded (get s.places k)) }
 
   -- an approval, or a connection that was out, becomes idle
   abbrev pub after_entry : Bool → ℕ → Standing C → ShownRecords C → ShownRecords C
@@ -114,6 +118,10 @@ getting_since now (Some g) = get_in_wait now g
 -- the get of that number waits, last in line
 abbrev pub after_wait : ℕ → ℕ → ShownGets → ShownGets
 after_wait now g s = record s { places = insert s.places g (getting_since now (get s.places g)); waiting = s.waiting ++ g ∷ [] }
+
+-- the get of that number, which is in no line, stands elsewhere
+abbrev pub after_turn : GetPlace → ℕ → ShownGets → ShownGets
+after_turn p g s = record s { places = insert s.places g (getting_at p (get s.places g)) }
 
 -- the get that is named is notified, and is in line no more
 abbrev pub after_notice : Option ℕ → ShownGets → ShownGets

@@ -88,6 +88,21 @@ pub fn first_wait(getting: Option<Getting>) -> Option<u64>
     }
 }
 
+/// The number of the connection that a get holds, if it holds one.
+pub fn held(getting: Option<Getting>) -> Option<u64>
+    ensures { result ≡ places.holds getting }
+{
+    match getting {
+        Some(
+            Getting {
+                place: GetPlace::Holding(number),
+                ..
+            },
+        ) => Some(number),
+        _ => None,
+    }
+}
+
 impl Gets {
     /// No gets, which take no memory.
     pub fn new(alloc: Global, first: u64) -> Self
@@ -208,6 +223,19 @@ impl Gets {
                 self.slots.wait(place, now);
                 self.slots.line_up(place);
             }
+        }
+    }
+
+    /// Has a get stand elsewhere that stands in no line: it holds a connection now, or is active again.
+    pub fn turn(&mut self, g: GetKey, place: GetPlace)
+        requires off { places.is_unnotified place ≡ false }
+        requires stands { (x : Getting) × (map.get self.old.places g.number ≡ Some x)
+            × (places.is_unnotified x.place ≡ false) }
+        ensures { self.new ≡ machine.after_turn place g.number self.old }
+    {
+        match self.slots.locate(g.number, g.place) {
+            None => {}
+            Some(at) => self.slots.turn(at, place),
         }
     }
 

@@ -5,7 +5,7 @@ ghost use Rattle.bb8_types.specs.Places as places;
 ghost use Rattle.bb8_tables.specs.Machine as machine;
 ghost use Rattle.bb8_types.specs.Numbered as numbered;
 ghost use Rattle.bb8_tables.specs.Views.{no_records};
-ghost use Rattle.bb8_types.specs.declared.standing.Place.TheVariants.{Unclaimed, Claimed, Idle, Guarded};
+ghost use Rattle.bb8_types.specs.declared.standing.Place.TheVariants.{Unclaimed, Claimed, Idle};
 ghost use Rattle.circular_buffer.specs.Buffer.{buffer};
 ghost use Rattle.bb8_types.specs.declared.standing.Standing.{Standing};
 ghost use Rattle.bb8_types.specs.Bounds.{end_of_numbers, most_records};
@@ -16,7 +16,7 @@ use crate::table::{Slot, Table};
 use bb8_types::api::QueueStrategy;
 use bb8_types::bounds::END_OF_NUMBERS;
 use bb8_types::grants::Grant;
-use bb8_types::standing::{Place, Standing};
+use bb8_types::standing::{Holder, Place, Standing};
 use std::alloc::{AllocError, Global};
 use std::marker::Model;
 
@@ -71,6 +71,16 @@ fn is_guarded_place<C>(place: &Place<C>) -> bool
     match place {
         Place::Guarded => true,
         Place::Unclaimed | Place::Claimed | Place::Idle(_) | Place::Held(_) => false,
+    }
+}
+
+/// Where a connection stands that somebody holds.
+fn place_of<C>(holder: Holder) -> Place<C>
+    ensures { result ≡ places.place_with holder }
+{
+    match holder {
+        Holder::Guard => Place::Guarded,
+        Holder::Get(number) => Place::Held(number),
     }
 }
 
@@ -140,13 +150,14 @@ impl<C: Drop> Records<C> {
         }
     }
 
-    /// Takes out the idle connection that is first, for a guard.
-    pub fn take(&mut self, strategy: QueueStrategy) -> Option<(Key, C)>
+    /// Takes out the idle connection that is first, for whoever holds it from now on.
+    pub fn take(&mut self, strategy: QueueStrategy, holder: Holder) -> Option<(Key, C)>
         ensures some { IfSome result (λ r. (places.first_of strategy self.old.idle ≡ Some
             r.0.number) × ((birth entered : ℕ)
             × (map.get self.old.places r.0.number ≡ Some
             (record { place = Idle r.1; birth = birth; entered = entered })))
-            × (self.new ≡ machine.after_take Guarded r.0.number self.old)) }
+            × (self.new ≡ machine.after_take (places.place_with holder) r.0.number
+            self.old)) }
         ensures none { IfNone result ((places.first_of strategy self.old.idle ≡ None)
             × (self.new ≡ self.old)) }
     {
@@ -154,11 +165,30 @@ impl<C: Drop> Records<C> {
             None => None,
             Some(place) => {
                 let number = self.slots.number_at(place);
-                let was = self.slots.put(place, Place::Guarded);
+                let was = self.slots.put(place, place_of(holder));
                 self.slots.step_out(place);
                 match connection_of(was) {
                     None => None,
                     Some(conn) => Some((Key { number, place }, conn)),
+                }
+            }
+        }
+    }
+
+    /// Has a guard take over a connection that is out, and tells where it stands.
+    pub fn hand_over(&mut self, k: Key) -> Key
+        requires { (s : Standing C) × (map.get self.old.places k.number ≡ Some s)
+            × (places.is_out s.place ≡ true) }
+        ensures key { result.number ≡ k.number }
+        ensures state { self.new ≡ machine.after_handover k.number self.old }
+    {
+        match self.slots.locate(k.number, k.place) {
+            None => k,
+            Some(place) => {
+                let _ = self.slots.put(place, Place::Guarded);
+                Key {
+                    number: k.number,
+                    place,
                 }
             }
         }

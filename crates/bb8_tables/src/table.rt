@@ -338,7 +338,7 @@ impl<S: Drop + Vacant> Table<S> {
         } }
     {
         let _links = &self.links;
-        self.unlink(Order::Line, place);
+        self.step_out(place);
         self.unlink(Order::Births, place);
         self.clear(place);
         self.push(Order::Free, place);

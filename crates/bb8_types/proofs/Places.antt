@@ -3,7 +3,9 @@ use Rattle.std.proofs.Common.{◌≡◌, Bool, true, false, ◌&&◌, Option, So
 use Rattle.bb8_types.specs.declared.standing.Place.{Place}
 use Rattle.bb8_types.specs.declared.standing.Place.TheVariants.{Unclaimed, Claimed, Idle, Held, Guarded}
 use Rattle.bb8_types.specs.declared.standing.Standing.{Standing}
-use Rattle.bb8_types.specs.Places.{stands, is_conn, is_approval, is_unclaimed, is_claimed, is_guarded, is_idle, is_out, comes_from}
+use Rattle.bb8_types.specs.declared.standing.Holder.{Holder}
+use Rattle.bb8_types.specs.declared.standing.Holder.TheVariants.{Guard, Get}
+use Rattle.bb8_types.specs.Places.{stands, is_conn, is_approval, is_unclaimed, is_claimed, is_guarded, is_idle, is_out, place_with, comes_from}
 
 pub and_right : (a b : Bool) → (a && b) ≡ true → (a ≡ true) × (b ≡ true)
 and_right true b e = (refl, e)
@@ -54,6 +56,11 @@ module _ {C : Type 0} where
   out_tests (Idle c) h = cc
   out_tests (Held g) h = (refl, refl, refl)
   out_tests Guarded h = (refl, refl, refl)
+
+  -- a connection that somebody holds is out
+  pub held_conn : (p : Place C) (h : Holder) → p ≡ place_with h → is_conn p ≡ true
+  held_conn p Guard is = ap is_conn is
+  held_conn p (Get g) is = ap is_conn is
 
   -- a record that enters or ends, by its tests
   pub idle_from : (opening : Bool) (p : Place C) → comes_from opening p ≡ true → is_idle p ≡ false

@@ -3,6 +3,8 @@ use Rattle.std.specs.Prelude.{ℕ, ◌-◌, ◌/◌, Bool, true, false, ◌&&◌
 use Rattle.bb8_types.specs.declared.standing.Place.{Place}
 use Rattle.bb8_types.specs.declared.standing.Place.TheVariants.{Unclaimed, Claimed, Idle, Held, Guarded}
 use Rattle.bb8_types.specs.declared.standing.Standing.{Standing}
+use Rattle.bb8_types.specs.declared.standing.Holder.{Holder}
+use Rattle.bb8_types.specs.declared.standing.Holder.TheVariants.{Guard, Get}
 use Rattle.bb8_types.specs.declared.standing.GetPlace.{GetPlace}
 use Rattle.bb8_types.specs.declared.standing.GetPlace.TheVariants.{Active, Waiting, Holding}
 use Rattle.bb8_types.specs.declared.standing.Getting.{Getting}
@@ -71,6 +73,11 @@ is_out Claimed = false
 is_out (Idle c) = false
 is_out (Held g) = true
 is_out Guarded = true
+
+-- where a connection stands that somebody holds
+abbrev pub place_with : {C : Type 0} → Holder → Place C
+place_with Guard = Guarded
+place_with (Get g) = Held g
 
 -- where a record stands that enters or ends: a claimed approval where one is opened, a connection that is out otherwise
 abbrev pub comes_from : {C : Type 0} → Bool → Place C → Bool

@@ -1,7 +1,6 @@
 use Rattle.std.proofs.Common.{refl, ap, sym, ◌∙◌}
 use Rattle.std.specs.FinMap.{get}
-use Rattle.bb8_types.specs.declared.standing.Place.TheVariants.{Guarded}
-use Rattle.bb8_types.specs.Places.{first_of}
+use Rattle.bb8_types.specs.Places.{first_of, place_with}
 use Rattle.bb8_tables.specs.Machine as machine
 use Rattle.bb8_tables.specs.Views.{ShownRecords}
 use Rattle.bb8_tables.proofs.RecordPlaces.{first_stands, put_stands, take_good, take_view, taken_first, taken_connection, never_without, idle_none}
@@ -19,25 +18,30 @@ returns-in-None-clause-none g c = (ap (λ (s : ShownRecords g.row.C.Denot). firs
 
 pub returns-after-connection_of-clause-none : goal.returns-after-connection_of-clause-none
 returns-after-connection_of-clause-none g c = elim c.match-connection_of.branch [
-  | in-None-connection_of w ↦ never_without c.self.inside c.args.strategy c.in-Some.place c.number_at-number.result c.put-was.new.self c.step_out.new.self c.self.invariant c.in-Some.ensures c.number_at-number.ensures c.put-was.ensures.changed c.step_out.ensures
+  | in-None-connection_of w ↦ never_without c.self.inside c.args.strategy c.in-Some.place c.number_at-number.result c.args.holder c.place_of.result c.put-was.new.self c.step_out.new.self
+      c.self.invariant c.in-Some.ensures c.number_at-number.ensures c.place_of.ensures c.put-was.ensures.changed c.step_out.ensures
       c.put-was.result _ c.put-was.ensures.value w.in-None-connection_of.ensures.none
   | in-Some-connection_of w ↦ rw w.result-is tt
 ]
 
 pub invariant_of-self : goal.invariant_of-self
-invariant_of-self g c = take_good c.self.inside c.args.strategy c.in-Some.place c.number_at-number.result c.put-was.new.self c.step_out.new.self c.self.invariant c.in-Some.ensures c.number_at-number.ensures c.put-was.ensures.changed c.step_out.ensures
+invariant_of-self g c = take_good c.self.inside c.args.strategy c.in-Some.place c.number_at-number.result c.args.holder c.place_of.result c.put-was.new.self c.step_out.new.self
+    c.self.invariant c.in-Some.ensures c.number_at-number.ensures c.place_of.ensures c.put-was.ensures.changed c.step_out.ensures
 
 pub returns-after-connection_of-clause-some : goal.returns-after-connection_of-clause-some
 returns-after-connection_of-clause-some g c =
-    let took = taken_connection c.self.inside c.args.strategy c.in-Some.place c.number_at-number.result c.put-was.new.self c.step_out.new.self c.self.invariant c.in-Some.ensures c.number_at-number.ensures c.put-was.ensures.changed c.step_out.ensures in
+    let took = taken_connection c.self.inside c.args.strategy c.in-Some.place c.number_at-number.result c.args.holder c.place_of.result c.put-was.new.self c.step_out.new.self
+    c.self.invariant c.in-Some.ensures c.number_at-number.ensures c.place_of.ensures c.put-was.ensures.changed c.step_out.ensures in
     elim c.match-connection_of.branch [
       | in-None-connection_of w ↦ rw w.result-is tt
       | in-Some-connection_of w ↦ rw w.result-is (
         ap (λ (s : ShownRecords g.row.C.Denot). first_of c.args.strategy s.idle) (sym c.self.view_is)
-            ∙ taken_first c.self.inside c.args.strategy c.in-Some.place c.number_at-number.result c.put-was.new.self c.step_out.new.self c.self.invariant c.in-Some.ensures c.number_at-number.ensures c.put-was.ensures.changed c.step_out.ensures,
+            ∙ taken_first c.self.inside c.args.strategy c.in-Some.place c.number_at-number.result c.args.holder c.place_of.result c.put-was.new.self c.step_out.new.self
+            c.self.invariant c.in-Some.ensures c.number_at-number.ensures c.place_of.ensures c.put-was.ensures.changed c.step_out.ensures,
         (let was = took w.in-Some-connection_of.conn c.put-was.result c.put-was.ensures.value w.in-Some-connection_of.ensures.some in
             (was.0, was.1, ap (λ (s : ShownRecords g.row.C.Denot). get s.places c.number_at-number.result) (sym c.self.view_is) ∙ was.2)),
-        take_view c.self.inside c.args.strategy c.in-Some.place c.number_at-number.result c.put-was.new.self c.step_out.new.self c.self.invariant c.in-Some.ensures c.number_at-number.ensures c.put-was.ensures.changed c.step_out.ensures
-            ∙ ap (machine.after_take Guarded c.number_at-number.result) c.self.view_is,
+        take_view c.self.inside c.args.strategy c.in-Some.place c.number_at-number.result c.args.holder c.place_of.result c.put-was.new.self c.step_out.new.self
+            c.self.invariant c.in-Some.ensures c.number_at-number.ensures c.place_of.ensures c.put-was.ensures.changed c.step_out.ensures
+            ∙ ap (machine.after_take (place_with c.args.holder) c.number_at-number.result) c.self.view_is,
       )
     ]

@@ -1,0 +1,25 @@
+use Rattle.std.proofs.Common.{◌≡◌, false, ap, ◌∙◌}
+use Rattle.bb8_types.specs.declared.standing.Getting.{Getting}
+use Rattle.bb8_types.specs.Places.{is_unnotified}
+use Rattle.bb8_tables.specs.Machine as machine
+use Rattle.bb8_tables.proofs.GetPlaces.{none_shown, never_absent, some_is, stands_is, turn_good, turn_view}
+use Rattle.bb8_tables.proofs.gets.Gets.turn.Goals as goal
+
+pub invariant_of-self : goal.invariant_of-self
+invariant_of-self c =
+    let f = c.in-Some.ensures.some in
+    turn_good c.self.inside c.in-Some.at c.args.g.number c.args.place f.0 c.turn.new.self c.self.invariant f.1 f.2
+    (stands_is c.self.inside c.args.g.number c.in-Some.at f.0 c.args.self.now c.self.invariant c.self.view_is f.1 f.2 c.requires.stands)
+    c.turn.ensures
+
+pub returns-in-None : goal.returns-in-None
+returns-in-None c = never_absent _ _ (some_is {P = λ (x : Getting). is_unnotified x.place ≡ false} _ c.requires.stands)
+    (none_shown c.self.inside c.args.g.number c.args.self.now c.self.view_is c.in-None.ensures.none)
+
+pub returns-in-Some : goal.returns-in-Some
+returns-in-Some c =
+    let f = c.in-Some.ensures.some in
+    turn_view c.self.inside c.in-Some.at c.args.g.number c.args.place f.0 c.turn.new.self c.self.invariant f.1 f.2
+    (stands_is c.self.inside c.args.g.number c.in-Some.at f.0 c.args.self.now c.self.invariant c.self.view_is f.1 f.2 c.requires.stands)
+    c.turn.ensures
+    ∙ ap (machine.after_turn c.args.place c.args.g.number) c.self.view_is
