@@ -11,13 +11,13 @@ use bb8_core::internals::{
     AtOnce, BeginAnswer, Grant, Key, PoolInternals, PutBackAnswer, TryAnswer,
 };
 
-/// The connection that a try was served, with its key, and what was granted then. None where the get waits.
+/// The connection that a try was served, with its key, and what was granted then. None where the get checks one, or waits.
 fn out_of(answer: TryAnswer<u64>) -> Option<(Key, u64, Grant)>
     ensures { IfSome result (λ r. answer ≡ Served r.0 r.1 r.2) }
 {
     match answer {
         TryAnswer::Served(key, conn, grant) => Some((key, conn, grant)),
-        TryAnswer::Waiting(_) => None,
+        TryAnswer::Taken(..) | TryAnswer::Waiting(_) => None,
     }
 }
 

@@ -1,5 +1,5 @@
 -- A begin and a try in one step.
-use Rattle.std.proofs.Common.{◌≡◌, ℕ, ◌+◌, ◌<◌, max, Bool, false, not, ◌&&◌, cond, Option, Some, None, refl, sym, ap, ◌∙◌, arith, subst}
+use Rattle.std.proofs.Common.{◌≡◌, ℕ, ◌+◌, ◌<◌, max, Bool, false, cond, Option, Some, None, refl, sym, ap, ◌∙◌, arith, subst}
 use Rattle.std.specs.FinMap.{get}
 use Rattle.bb8_types.specs.declared.grants.Grant.{Grant}
 use Rattle.bb8_types.specs.declared.standing.Place.TheVariants.{Guarded}
@@ -35,11 +35,9 @@ module _ {C : Type 0} where
   stands_new : (s : Shown C) (now : ℕ) → get (between s now).gets.places s.gets.next ≡ Some fresh
   stands_new s now = get_inserted s.gets.places s.gets.next fresh s.gets.next ∙ ap (λ (b : Bool). cond b (Some fresh) (get s.gets.places s.gets.next)) (eqb_self s.gets.next)
 
-  fits_between : (s : Shown C) (now : ℕ) → s.config.test_on_check_out ≡ false → IsFitting (between s now) (Try s.gets.next)
-  fits_between s now off l legal means =
-      takes_try l (between s now) s.gets.next means
-      ∙ ap (λ (b : Bool). not b && gets_stand is_trying (get (between s now).gets.places s.gets.next)) off
-      ∙ ap (gets_stand is_trying) (stands_new s now)
+  fits_between : (s : Shown C) (now : ℕ) → IsFitting (between s now) (Try s.gets.next)
+  fits_between s now l legal means =
+      takes_try l (between s now) s.gets.next means ∙ ap (gets_stand is_trying) (stands_new s now)
 
   pub meets_begun_between : {s : Shown C} (at : ℕ) {now n : ℕ} → n ≡ s.gets.next → IsFitting s Begin → now ≡ max s.latest at
       → s.gets.next < end_of_numbers → IsStep s at Begin (Begun n) (between s now)
@@ -57,6 +55,6 @@ module _ {C : Type 0} where
       subst (λ (m : ℕ). IsStep (between s now) at (Try m) (Served k grant)
       (record s { latest = now; records = rs; gets = gs; counts = counts_held is })) (sym n_is)
       (meets_served (record was { started = was.started + 1 })
-      (record { fit = fits_between s now off; now_is = again; get_is = sym (stands_new s now) }) refl first
+      (record { fit = fits_between s now; now_is = again; get_is = sym (stands_new s now) }) refl off first
       (record { granted = granted.granted; after = granted.after }) gs_is
       (ap (λ (x : Counts). record x { started = x.started + 1 }) were) refl counted)

@@ -3,20 +3,24 @@ use Rattle.std.proofs.Common.{◌≡◌, ℕ, ◌≤◌, Bool, true, false, Opti
 use Rattle.std.proofs.lemmas.Bool.{ltb-true}
 use Rattle.std.specs.FinMap.{get}
 use Rattle.bb8_types.specs.declared.standing.Place.{Place}
+use Rattle.bb8_types.specs.declared.standing.Place.TheVariants.{Unclaimed, Claimed, Idle, Held, Guarded}
 use Rattle.bb8_types.specs.declared.standing.Standing.{Standing}
 use Rattle.bb8_types.specs.declared.standing.Getting.{Getting}
-use Rattle.bb8_ledger.specs.Acts.{Try, GiveUp, Leave, Cancelled}
+use Rattle.bb8_ledger.specs.Acts.{Try, GiveUp, Leave, Reason, Cancelled}
 use Rattle.bb8_ledger.specs.Ledger.{Ledger, conns, approved, alive, get_of, start, handles, records, gets, record_of}
-use Rattle.bb8_types.specs.Places.{holds, stands, gets_stand, is_unnotified, is_claimed, is_guarded, is_out}
-use Rattle.bb8_ledger.specs.Table.{takes, agree, IsLegal}
+use Rattle.bb8_types.specs.Places.{holds, stands, gets_stand, is_unnotified, is_claimed, is_guarded, is_held_by, is_out}
+use Rattle.bb8_ledger.specs.Table.{takes, IsLegal}
 use Rattle.bb8_core.specs.Shown.{Shown, HasLedger, IsFitting, Means}
-use Rattle.bb8_types.proofs.Places.{standing_is, claimed_is, guarded_is, guarded_out, and_right}
-use Rattle.bb8_ledger.proofs.Stage.{nobody_holds}
+use Rattle.bb8_types.proofs.Places.{standing_is, claimed_is, guarded_out, and_right}
+use Rattle.bb8_ledger.proofs.GetEffects.{holding_is}
+use Rattle.bb8_ledger.proofs.Held.{all_held}
+use Rattle.bb8_ledger.proofs.Invalid.{few_invalid}
 use Rattle.bb8_ledger.proofs.Laws.{alive_get, trying_is, alive_is, out_counted, claimed_counted, Fits, all_fit, due_few}
 use Rattle.bb8_types.specs.Numbered.{Numbered}
 use Rattle.bb8_types.proofs.Numbered as numbered
 use Rattle.bb8_types.specs.Bounds.{end_of_numbers}
 use Rattle.bb8_types.specs.Grants.{due}
+use Rattle.bb8_types.specs.Settings.{Settings}
 use Rattle.bb8_tables.specs.Views.{ShownRecords}
 
 module _ {C : Type 0} where
@@ -34,7 +38,17 @@ module _ {C : Type 0} where
   pub shown_fits : (s : Shown C) → HasLedger s → Fits s.config.max_size s.records.conns s.records.approved s.records.next s.gets.alive s.gets.next s.counts
   shown_fits s h = subst (λ (t : Shown C). Fits t.config.max_size t.records.conns t.records.approved t.records.next t.gets.alive t.gets.next t.counts) h.2 (all_fit h.0 h.1)
 
-  -- What is due of what is asked is within the size, where what is taken is no more than what a state shows.
+  -- What is due of what is asked is within the size, where what is taken is.
+  pub due_within : (config : Settings) (handles : ℕ) {taken was : ShownRecords C} {n : ℕ} (asked : ℕ)
+      → was.conns + was.approved ≤ config.max_size → taken ≡ was → n ≡ due config handles (taken.conns + taken.approved) asked
+      → taken.conns + taken.approved + n ≤ config.max_size
+  due_within config handles {taken} {was} {n} asked few taken_is n_is =
+      let same : taken.conns + taken.approved ≡ was.conns + was.approved = ap (λ (t : ShownRecords C). t.conns + t.approved) taken_is in
+      let least : due config handles (taken.conns + taken.approved) asked ≤ config.max_size - (taken.conns + taken.approved) =
+      due_few config handles (taken.conns + taken.approved) asked in
+      omega arith
+
+  -- It is so, too, where what is taken is no more than what a state shows.
   pub due_fits : (s : Shown C) {taken was : ShownRecords C} {used n : ℕ} (asked : ℕ) → HasLedger s
       → was.conns + was.approved ≤ s.records.conns + s.records.approved → taken ≡ was → used ≡ taken.conns + taken.approved
       → n ≡ due s.config s.handles used asked → taken.conns + taken.approved + n ≤ s.config.max_size
@@ -42,6 +56,19 @@ module _ {C : Type 0} where
       let same : used ≡ was.conns + was.approved = used_is ∙ ap (λ (t : ShownRecords C). t.conns + t.approved) taken_is in
       let least : due s.config s.handles used asked ≤ s.config.max_size - used = due_few s.config s.handles used asked in
       omega (arith, (shown_fits s h).size)
+
+  -- the record that a get holds is out
+  pub held_record : (l : Ledger C) (g k : ℕ) → IsLegal l → holds (get_of l g) ≡ Some k → (st : Standing C) × (record_of l k ≡ Some st) × (is_out st.place ≡ true)
+  held_record l g k legal held =
+      let st = standing_is (is_held_by g) (record_of l k) (all_held l legal g k held) in
+      (st.0, st.1, held_out st.0.place st.2)
+    where
+      held_out : (p : Place C) → is_held_by g p ≡ true → is_out p ≡ true
+      held_out Unclaimed e = cc
+      held_out Claimed e = cc
+      held_out (Idle c) e = cc
+      held_out (Held h) e = refl
+      held_out Guarded e = refl
 
   -- ---- what a call knows of the state that it finds: the fields show it, and the event fits
 
@@ -59,6 +86,12 @@ module _ {C : Type 0} where
   pub fit_guarded : {s t : Shown C} (k : ℕ) → s ≡ t → HasLedger s → IsPlaced is_guarded t k → (st : Standing C) × (get s.records.places k ≡ Some st) × (is_out st.place ≡ true)
   fit_guarded k is h fit = let st = placed is_guarded k is h fit in (st.0, st.1, guarded_out st.0.place st.2)
 
+  -- a connection that is out is one
+  out_some : (k : ℕ) (s : Shown C) → HasLedger s → (st : Standing C) × (get s.records.places k ≡ Some st) × (is_out st.place ≡ true) → 1 ≤ s.records.conns
+  out_some k s h st =
+      let some : 1 ≤ conns h.0 = out_counted h.0 k st.0 (shown_record h.0 s h.2 k ∙ st.1) st.2 in
+      subst (λ (t : Shown C). 1 ≤ t.records.conns) h.2 some
+
   -- a connection more may be counted as created, and as closed
   pub created_few : {s t : Shown C} (k : ℕ) → s ≡ t → HasLedger s → IsPlaced is_claimed t k → s.records.next ≤ end_of_numbers → s.counts.created < end_of_numbers
   created_few {s} k is h fit few =
@@ -67,12 +100,18 @@ module _ {C : Type 0} where
       let shown_some : 1 ≤ s.records.approved = subst (λ (t : Shown C). 1 ≤ t.records.approved) h.2 some in
       omega (arith, (shown_fits s h).created_few)
 
-  pub closed_few : {s t : Shown C} (k : ℕ) → s ≡ t → HasLedger s → IsPlaced is_guarded t k → s.records.next ≤ end_of_numbers → s.counts.broken + s.counts.max_lifetime < end_of_numbers
-  closed_few {s} k is h fit few =
-      let st = placed is_guarded k is h fit in
-      let some : 1 ≤ conns h.0 = out_counted h.0 k st.0 (shown_record h.0 s h.2 k ∙ st.1) (guarded_is st.0.place st.2) in
-      let shown_some : 1 ≤ s.records.conns = subst (λ (t : Shown C). 1 ≤ t.records.conns) h.2 some in
-      omega (arith, (shown_fits s h).closed_few)
+  pub closed_few : (k : ℕ) (s : Shown C) → HasLedger s → (st : Standing C) × (get s.records.places k ≡ Some st) × (is_out st.place ≡ true)
+      → s.records.next ≤ end_of_numbers → s.counts.broken + s.counts.max_lifetime < end_of_numbers
+  closed_few k s h st few = let some : 1 ≤ s.records.conns = out_some k s h st in omega (arith, (shown_fits s h).closed_few)
+
+  -- and as invalid
+  pub invalid_few : (k : ℕ) (s : Shown C) → HasLedger s → (st : Standing C) × (get s.records.places k ≡ Some st) × (is_out st.place ≡ true)
+      → s.records.next ≤ end_of_numbers → s.counts.invalid < end_of_numbers
+  invalid_few k s h st few =
+      let some : 1 ≤ s.records.conns = out_some k s h st in
+      let less : s.counts.invalid + s.records.conns + s.records.approved ≤ s.records.next =
+      subst (λ (t : Shown C). t.counts.invalid + t.records.conns + t.records.approved ≤ t.records.next) h.2 (few_invalid h.0 h.1) in
+      omega arith
 
   -- where a handle leaves, one is alive
   pub fit_leave : {s t : Shown C} → s ≡ t → HasLedger s → IsFitting t Leave → 1 ≤ s.handles
@@ -90,17 +129,6 @@ module _ {C : Type 0} where
   pub fit_give_up : {s t : Shown C} (g : ℕ) (held : Option C) → s ≡ t → HasLedger s → IsFitting t (GiveUp g Cancelled held false) → (st : Getting) × (get s.gets.places g ≡ Some st)
   fit_give_up {s} g held is h fit = let st = giving_is h.0 g held (fit h.0 h.1 (h.2 ∙ is)) in (st.0, sym (shown_get h.0 s h.2 g) ∙ st.1)
 
-  -- nobody holds a connection, so none is handed in
-  pub holds_none : {s t : Shown C} (g : ℕ) (held : Option C) → s ≡ t → HasLedger s → IsFitting t (GiveUp g Cancelled held false) → held ≡ None
-  holds_none g None is h fit = refl
-  holds_none g (Some c) is h fit =
-      let both = and_right (is_some (get_of h.0 g)) _ (fit h.0 h.1 (h.2 ∙ is)) in
-      absurd (some (holds (get_of h.0 g)) (λ k e. nobody_holds h.0 h.1 g k e) both.1)
-    where
-      some : (o : Option ℕ) → ((k : ℕ) → o ≡ Some k → ⊥) → agree true (is_some o) ≡ true → ⊥
-      some None none e = cc
-      some (Some k) none e = none k refl
-
   -- a get that tries and stands in no line
   pub fit_waits : {s t : Shown C} {o : Option Getting} (g : ℕ) → s ≡ t → HasLedger s → IsFitting t (Try g) → o ≡ get s.gets.places g
       → gets_stand is_unnotified o ≡ false → (st : Getting) × (get s.gets.places g ≡ Some st) × (is_unnotified st.place ≡ false)
@@ -114,3 +142,33 @@ module _ {C : Type 0} where
       let shown_some : 1 ≤ s.gets.alive = subst (λ (t : Shown C). 1 ≤ t.gets.alive) h.2 some in
       let fit = shown_fits s h in
       omega (arith, fit.answered, fit.started_few)
+
+  -- ---- a get that holds a connection
+
+  -- an event that wants it is taken: this is what it holds, by the number that the code reads off it
+  pub fit_holds : {s t : Shown C} {o : Option Getting} {n : ℕ} (g : ℕ) → s ≡ t → HasLedger s
+      → ((l : Ledger C) → IsLegal l → Means l t → is_some (holds (get_of l g)) ≡ true) → o ≡ get s.gets.places g
+      → ((k : ℕ) → holds o ≡ Some k → n ≡ k) → holds o ≡ Some n
+  fit_holds {s} {t} {o} {n} g is h fit get_is names =
+      let some = some_held (holds o) (ap (λ (x : Option Getting). is_some (holds x)) (get_is ∙ sym (shown_get h.0 s h.2 g)) ∙ fit h.0 h.1 (h.2 ∙ is)) in
+      some.1 ∙ ap (λ (k : ℕ). Some k) (sym (names some.0 some.1))
+    where
+      some_held : (x : Option ℕ) → is_some x ≡ true → (k : ℕ) × (x ≡ Some k)
+      some_held None e = cc
+      some_held (Some k) e = (k, refl)
+
+  -- a give-up hands a connection in where the get holds one
+  pub give_up_holds : (l : Ledger C) (g : ℕ) (why : Reason) (c : C) (broken : Bool) → takes l (GiveUp g why (Some c) broken) ≡ true → is_some (holds (get_of l g)) ≡ true
+  give_up_holds l g why c broken f = (and_right (is_some (get_of l g)) _ f).1
+
+  -- what it holds is out
+  pub holds_out : {o : Option Getting} {k : ℕ} (s : Shown C) (g : ℕ) → HasLedger s → o ≡ get s.gets.places g → holds o ≡ Some k
+      → (st : Standing C) × (get s.records.places k ≡ Some st) × (is_out st.place ≡ true)
+  holds_out {o} {k} s g h get_is held =
+      let st = held_record h.0 g k h.1 (ap (λ (x : Option Getting). holds x) (shown_get h.0 s h.2 g ∙ sym get_is) ∙ held) in
+      (st.0, sym (shown_record h.0 s h.2 k) ∙ st.1, st.2)
+
+  -- and it stands in no line
+  pub holds_stands : {o : Option Getting} {k : ℕ} (s : Shown C) (g : ℕ) → o ≡ get s.gets.places g → holds o ≡ Some k
+      → (st : Getting) × (get s.gets.places g ≡ Some st) × (is_unnotified st.place ≡ false)
+  holds_stands {o} {k} s g get_is held = let st = holding_is o k held in (st.0, sym get_is ∙ st.1, ap is_unnotified st.2)

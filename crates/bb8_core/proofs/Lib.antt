@@ -3,6 +3,7 @@ pub mod ShownLeft
 pub mod ShownGets
 pub mod Fitting
 pub mod Steps
+pub mod GetEnds
 pub mod Runs
 pub mod AtOnce
 pub mod Parts

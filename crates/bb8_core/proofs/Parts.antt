@@ -1,18 +1,13 @@
 -- How many connections are out of the pool, step by step.
-use Rattle.std.proofs.Common.{◌≡◌, ℕ, ◌+◌, ◌-◌, ◌≤◌, Bool, length, true, false, ◌&&◌, Option, Some, None, is_some, refl, sym, ap, ◌∙◌, subst, arith}
-use Rattle.std.specs.FinMap.{get}
-use Rattle.bb8_types.specs.declared.standing.Getting.{Getting}
-use Rattle.bb8_ledger.specs.Acts.{Act, Begin, GiveUp, Reason}
+use Rattle.std.proofs.Common.{◌≡◌, ℕ, ◌+◌, ◌-◌, ◌≤◌, length, true, false, Some, refl, sym, ap, ◌∙◌, subst, arith}
+use Rattle.bb8_ledger.specs.Acts.{Act, Begin}
 use Rattle.bb8_ledger.specs.Answers.{Answer, Unfit}
 use Rattle.bb8_types.specs.declared.standing.Place.TheVariants.{Guarded, Held}
-use Rattle.bb8_ledger.specs.Ledger.{Ledger, Later, start, records, conns, idle, idle_count, out, get_of}
-use Rattle.bb8_types.specs.Places.{holds}
-use Rattle.bb8_ledger.specs.Table.{Row, waits_on, serves, takes_out, waits, checks, check_fails, gives_up_kept, gives_up_closed, keeps, returns_closed, fills, claims, opens, opens_late, fails, adds, reaps, leaves, takes, fits, agree, Allowed, IsLegal}
-use Rattle.bb8_core.specs.Shown.{Shown, shown, Means, Meets, HasLedger}
+use Rattle.bb8_ledger.specs.Ledger.{Ledger, Later, start, records, conns, idle, idle_count, out}
+use Rattle.bb8_ledger.specs.Table.{Row, waits_on, serves, takes_out, waits, checks, check_fails, gives_up_kept, gives_up_closed, keeps, returns_closed, fills, claims, opens, opens_late, fails, adds, reaps, leaves, fits, Allowed, IsLegal}
+use Rattle.bb8_core.specs.Shown.{Shown, shown, Meets, HasLedger}
 use Rattle.bb8_core.specs.Parts.{out_of, Moves, IsCounted}
 use Rattle.bb8_ledger.proofs.Facts.{idle_tally, conns_split}
-use Rattle.bb8_core.proofs.Fitting.{shown_get}
-use Rattle.bb8_ledger.proofs.Stage.{nobody_holds}
 use Rattle.bb8_ledger.proofs.Effects.{each_allowed, returns_turn, closes_turn, opens_turn, ends_turn, idle_turns, unclaimed_turns, stays_sized, turned_sized, adds_sized, granted_sized, reaped_sized, granted_reaped, left_sized}
 use Rattle.bb8_ledger.proofs.Held.{checks_turn, drops_turn, hands_in_turn}
 use Rattle.bb8_ledger.proofs.Laws.{all_fit}
@@ -80,12 +75,3 @@ module _ {C : Type 0} where
       let split : conns h.0 ≡ idle_count h.0 + out h.0 = conns_split (records h.0) in
       let few : length (idle h.0) ≤ conns h.0 = omega (arith, idle_tally h.0) in
       subst (λ (t : Shown C). length t.records.idle ≤ t.records.conns) h.2 few
-
-  -- a give-up with no connection in hand is taken just where the get is alive, as none holds one
-  pub takes_give_up_free : (l : Ledger C) (s : Shown C) (g : ℕ) (why : Reason) (broken : Bool) → IsLegal l → Means l s → takes l (GiveUp g why None broken) ≡ is_some (get s.gets.places g)
-  takes_give_up_free l s g why broken legal means = free (is_some (get_of l g)) (holds (get_of l g)) (nobody_holds l legal g) ∙ ap (λ (o : Option Getting). is_some o) (shown_get l s means g)
-    where
-      free : (b : Bool) (o : Option ℕ) → ((k : ℕ) → o ≡ Some k → ⊥) → (b && agree false (is_some o)) ≡ b
-      free true None none = refl
-      free false None none = refl
-      free b (Some k) none = absurd (none k refl)

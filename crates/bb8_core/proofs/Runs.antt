@@ -1,5 +1,5 @@
 -- Runs: what a state says of its ledger's numbers, an event that does not fit, and lists of events.
-use Rattle.std.proofs.Common.{◌≡◌, ℕ, zero, suc, Bool, false, ◌&&◌, not, List, [], ◌∷◌, ◌++◌, take, length, Option, Some, None, option_map, IsSome, IfSome, IfNone, refl, sym, ap, ◌∙◌, subst}
+use Rattle.std.proofs.Common.{◌≡◌, ℕ, zero, suc, Bool, false, ◌&&◌, is_some, List, [], ◌∷◌, ◌++◌, take, length, Option, Some, None, IsSome, IfSome, IfNone, refl, sym, ap, ◌∙◌, subst}
 use Rattle.std.specs.FinMap.{get}
 use Rattle.bb8_tables.specs.declared.keys.Key.{Key}
 use Rattle.bb8_tables.specs.declared.keys.GetKey.{GetKey}
@@ -8,13 +8,12 @@ use Rattle.bb8_core.specs.declared.replay.events.Answer.{Answer as Told}
 use Rattle.bb8_types.specs.declared.standing.Getting.{Getting}
 use Rattle.bb8_ledger.specs.Acts.{Act, Try, GiveUp, Reason}
 use Rattle.bb8_ledger.specs.Answers.{Unfit}
-use Rattle.bb8_ledger.specs.Ledger.{Ledger, Later, start, get_of}
+use Rattle.bb8_ledger.specs.Ledger.{Ledger, Later}
 use Rattle.bb8_types.specs.Places.{gets_stand, holds, is_trying}
-use Rattle.bb8_ledger.specs.Table.{takes, Allowed, IsLegal}
+use Rattle.bb8_ledger.specs.Table.{takes, agree, Allowed, IsLegal}
 use Rattle.bb8_core.specs.Shown.{Shown, shown, Means, IsRecordIn, IsNoRecordIn, IsGetIn, IsNoGetIn}
 use Rattle.bb8_core.specs.Run.{act_of, answer_of, IsRun, AfterEach}
 use Rattle.bb8_core.proofs.Fitting.{shown_record, shown_get}
-use Rattle.bb8_ledger.proofs.Stage.{nobody_holds}
 use Rattle.bb8_core.proofs.Steps.{unfitting, same_shown, records_kept, gets_kept}
 
 module _ {C : Type 0} where
@@ -37,18 +36,13 @@ module _ {C : Type 0} where
   get_absent s t n (Some g) is h = tt
 
   -- which tries are taken, by what is shown
-  pub takes_try : (l : Ledger C) (s : Shown C) (g : ℕ) → Means l s → takes l (Try g) ≡ (not s.config.test_on_check_out && gets_stand is_trying (get s.gets.places g))
-  takes_try l s g means =
-      ap (λ (o : Option Getting). not (start l).config.test_on_check_out && gets_stand is_trying o) (shown_get l s means g)
-      ∙ ap (λ (t : Shown C). not t.config.test_on_check_out && gets_stand is_trying (get s.gets.places g)) means
+  pub takes_try : (l : Ledger C) (s : Shown C) (g : ℕ) → Means l s → takes l (Try g) ≡ gets_stand is_trying (get s.gets.places g)
+  takes_try l s g means = ap (gets_stand is_trying) (shown_get l s means g)
 
-  -- nobody holds a connection, so none is handed in
-  pub none_in_hand : (conn : ℕ → C) (l : Ledger C) (g : ℕ) (why : Reason) (broken : Bool) → IsLegal l → GiveUp g why (option_map conn (holds (get_of l g))) broken ≡ GiveUp g why None broken
-  none_in_hand conn l g why broken legal = go (holds (get_of l g)) (nobody_holds l legal g)
-    where
-      go : (o : Option ℕ) → ((k : ℕ) → o ≡ Some k → ⊥) → GiveUp g why (option_map conn o) broken ≡ GiveUp g why None broken
-      go None none = refl
-      go (Some k) none = absurd (none k refl)
+  -- and which give-ups: the get is alive, and a connection is handed in just where it holds one
+  pub takes_give_up : (l : Ledger C) (s : Shown C) (g : ℕ) (why : Reason) (held : Option C) (broken : Bool) → Means l s
+      → takes l (GiveUp g why held broken) ≡ (is_some (get s.gets.places g) && agree (is_some held) (is_some (holds (get s.gets.places g))))
+  takes_give_up l s g why held broken means = ap (λ (o : Option Getting). is_some o && agree (is_some held) (is_some (holds o))) (shown_get l s means g)
 
   -- ---- an event that does not fit changes nothing
 

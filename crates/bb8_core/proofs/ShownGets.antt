@@ -12,7 +12,7 @@ use Rattle.bb8_core.specs.Shown.{shown_gets}
 use Rattle.bb8_tables.specs.Machine as machine
 use Rattle.bb8_types.proofs.Numbered.{change, Before}
 use Rattle.bb8_types.proofs.Numbered as numbered
-use Rattle.bb8_ledger.proofs.Waiters.{begins_now, waiter, getting_is, alive_counted, begins_alive, notify_alive}
+use Rattle.bb8_ledger.proofs.Waiters.{tally_same, begins_now, waiter, getting_is, alive_counted, begins_alive, notify_alive}
 use Rattle.bb8_types.proofs.Places.{and_right}
 use Rattle.bb8_tables.proofs.Views.{same_gets}
 
@@ -59,6 +59,34 @@ module _ (first p top : ℕ) (gs : List (Numbered Getting)) where
       (numbered.in_order-change_off unnotified_at gs first k new (λ q. refl) (suc p) ∙ ap (machine.without k) (numbered.in_order-later unnotified_at gs first p b))
       (omega arith)
       (omega arith)
+
+  -- a get that stands in no line stands elsewhere, in no line either
+  pub shown-turned : (place : GetPlace) (k : ℕ) (s : Getting) → Before unnotified_at p gs → alive_of gs ≤ top → standing_at first gs k ≡ Some s
+      → is_unnotified s.place ≡ false → is_unnotified place ≡ false
+      → shown_gets first (suc p) (max top (alive_of (update first k (get_at_place place) gs)))
+      (update first k (get_at_place place) gs) ≡ machine.after_turn place k before
+  shown-turned place k s b few h off out =
+      let m = numbered.standing_found gs first k s h in
+      let g : Numbered Getting = m.0 in
+      let new : Numbered Getting = get_at_place place g in
+      let stands : new.standing ≡ Some (get_with_place place s) = ap (option_map (get_with_place place)) m.2 in
+      let is : update first k (get_at_place place) gs ≡ change first k new gs = numbered.update_is gs first k (get_at_place place) g m.1 in
+      let same : alive_of (change first k new gs) ≡ alive_of gs = ap alive_of (sym is)
+      ∙ tally_same (λ (x : Numbered Getting). is_some x.standing) (get_at_place place) (λ x. still_alive x.standing) gs first k in
+      ap (λ (xs : List (Numbered Getting)). shown_gets first (suc p) (max top (alive_of xs)) xs) is
+      ∙ same_gets _ _
+      (ap (λ (n : ℕ). first + n) (numbered.length-change gs first k new))
+      (numbered.numbered-change_some (λ (x : Numbered Getting). x.standing) gs first k new g (get_with_place place s) m.1 stands
+      ∙ ap (λ (o : Option Getting). insert (standings first gs) k (machine.getting_at place o)) (sym (numbered.get-numbered (λ (x : Numbered Getting). x.standing) gs first k ∙ h)))
+      (numbered.in_order-change_kept unnotified_at gs first k new g m.1 (suc p)
+      (λ q below. not_in_line new (get_with_place place s) stands out q ∙ sym (not_in_line g s m.2 off q))
+      ∙ numbered.in_order-later unnotified_at gs first p b)
+      same
+      (omega arith)
+    where
+      still_alive : (o : Option Getting) → is_some (option_map (get_with_place place) o) ≡ is_some o
+      still_alive None = refl
+      still_alive (Some x) = refl
 
   -- a get that stands in no line begins to wait
   pub shown-waits : (now k : ℕ) (s : Getting) → Before unnotified_at p gs → alive_of gs ≤ top → standing_at first gs k ≡ Some s

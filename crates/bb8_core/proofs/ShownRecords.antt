@@ -2,10 +2,10 @@
 use Rattle.std.proofs.Common.{◌≡◌, ℕ, zero, suc, ◌+◌, ◌-◌, ◌<◌, ◌≤◌, Bool, true, false, eqb, ◌&&◌, List, [], ◌∷◌, ◌++◌, Option, Some, slice_get, drop, option_and_then, option_map, refl, sym, ap, ◌∙◌, arith, length, length-append, append-nil, cond, not}
 use Rattle.std.specs.FinMap.{insert, get}
 use Rattle.bb8_types.specs.declared.standing.Place.{Place}
-use Rattle.bb8_types.specs.declared.standing.Place.TheVariants.{Unclaimed, Claimed, Idle}
+use Rattle.bb8_types.specs.declared.standing.Place.TheVariants.{Unclaimed, Claimed, Idle, Guarded}
 use Rattle.bb8_types.specs.declared.standing.Standing.{Standing}
 use Rattle.bb8_types.specs.Numbered.{Numbered, at, update, numbers, one, standings, standing_at, after_end}
-use Rattle.bb8_types.specs.Places.{stands, is_conn, is_approval, is_unclaimed, is_idle, with_place, comes_from}
+use Rattle.bb8_types.specs.Places.{stands, is_conn, is_approval, is_unclaimed, is_idle, is_out, with_place, comes_from}
 use Rattle.bb8_ledger.specs.Ledger.{idle_at, conns_of, approved_of, at_place, approval, with_approvals, entry}
 use Rattle.bb8_tables.specs.Views.{ShownRecords, no_records}
 use Rattle.bb8_core.specs.Shown.{shown_records}
@@ -90,6 +90,30 @@ module _ {C : Type 0} where
         (let e : approved_of (change first k new rs) + 0 ≡ approved_of rs + 0 =
         approved-change first rs k new r false false m.1 (tested is_approval r was.0 (Idle place.0) was.1 place.1)
         (ap (stands is_approval) is ∙ ap not conn_now) in omega arith)
+        refl
+
+    -- a guard takes over a connection that is out
+    pub shown-handed : (k : ℕ) (s : Standing C) → standing_at first rs k ≡ Some s → is_out s.place ≡ true
+        → shown_records first p top (update first k (at_place Guarded) rs) ≡ machine.after_handover k before
+    shown-handed k s h out_now =
+        let m = numbered.standing_found rs first k s h in
+        let r : Numbered (Standing C) = m.0 in
+        let new : Numbered (Standing C) = at_place Guarded r in
+        let is : new.standing ≡ Some (with_place Guarded s) = ap (option_map (with_place Guarded)) m.2 in
+        let test : (t : Place C → Bool) (x : Bool) → t s.place ≡ x → stands t r.standing ≡ x = λ t x e. tested t r s s.place m.2 refl ∙ e in
+        ap (shown_records first p top) (numbered.update_is rs first k (at_place Guarded) r m.1)
+        ∙ same_records _ _
+        (ap (λ (n : ℕ). first + n) (numbered.length-change rs first k new))
+        (places-put first rs k Guarded r s m.1 m.2)
+        (numbered.in_order-change_kept idle_at rs first k new r m.1 p (λ q l. not_idle new (ap (stands is_idle) is) q ∙ sym (not_idle r (test is_idle false (idle_from false s.place out_now)) q)))
+        (numbered.numbers-change_kept (λ x. stands is_unclaimed x.standing) rs first k new r m.1
+        (ap (stands is_unclaimed) is ∙ sym (test is_unclaimed false (unclaimed_from false s.place out_now))))
+        (let e : conns_of (change first k new rs) + 1 ≡ conns_of rs + 1 =
+        conns-change first rs k new r true true m.1 (test is_conn true (conn_from false s.place out_now)) (ap (stands is_conn) is) in
+        omega arith)
+        (let e : approved_of (change first k new rs) + 0 ≡ approved_of rs + 0 =
+        approved-change first rs k new r false false m.1 (test is_approval false (approval_from false s.place out_now))
+        (ap (stands is_approval) is) in omega arith)
         refl
 
     -- a claimed approval, or a connection that was out, ends

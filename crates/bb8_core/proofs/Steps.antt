@@ -3,22 +3,21 @@ use Rattle.std.proofs.Common.{◌≡◌, ℕ, suc, ◌+◌, ◌-◌, ◌*◌, �
 use Rattle.std.specs.FinMap.{get}
 use Rattle.std.proofs.lemmas.Bool.Decides.{leb_tells, nat_tests}
 use Rattle.bb8_types.specs.declared.grants.Grant.{Grant}
-use Rattle.bb8_types.specs.declared.standing.Place.TheVariants.{Claimed, Idle, Guarded}
+use Rattle.bb8_types.specs.declared.standing.Place.{Place}
+use Rattle.bb8_types.specs.declared.standing.Place.TheVariants.{Claimed, Idle, Held, Guarded}
 use Rattle.bb8_types.specs.declared.standing.Standing.{Standing}
+use Rattle.bb8_types.specs.declared.standing.GetPlace.TheVariants.{Holding}
 use Rattle.bb8_types.specs.declared.standing.Getting.{Getting}
 use Rattle.bb8_tables.specs.declared.counters.Counters.{Counters}
-use Rattle.bb8_types.specs.declared.reasons.Reason.{Reason as Named}
-use Rattle.bb8_types.specs.declared.reasons.Reason.TheVariants as reasons
-use Rattle.bb8_core.specs.StepAnswers.{reason_of}
 use Rattle.bb8_tables.specs.Counted.{counts_held}
 use Rattle.bb8_types.specs.Figures.{Counts, Figures}
-use Rattle.bb8_ledger.specs.Acts.{Act, Begin, Try, GiveUp, PutBack, Fill, Claim, Opened, Failed, State, Add, Join, Leave, Look, Reason}
-use Rattle.bb8_ledger.specs.Answers.{Answer, Begun, Memory, Exhausted, Served, Kept, Closed, Granted, Ended, Entered, Late, GivenBack, Shown as ShownFigures, Broken, NoCapacity, Withheld, Added, GaveUp, Joined, Left, Looked}
+use Rattle.bb8_ledger.specs.Acts.{Act, Begin, Try, PutBack, Fill, Claim, Opened, Failed, State, Add, Join, Leave, Look}
+use Rattle.bb8_ledger.specs.Answers.{Answer, Begun, Memory, Exhausted, Served, Taken, Kept, Closed, Granted, Ended, Entered, Late, GivenBack, Shown as ShownFigures, Broken, NoCapacity, Withheld, Added, GaveUp, Joined, Left, Looked}
 use Rattle.bb8_ledger.specs.Answers as answers
-use Rattle.bb8_types.specs.Numbered.{Numbered, update, in_order, standing_at, one, after_end}
-use Rattle.bb8_ledger.specs.Ledger.{at_entry, Ledger, Later, start, position, latest, handles, records, gets, peak, get_peak, alive, idle, record_of, get_of, idle_at, at_place, entry, with_approvals, idle_count, conns_of, approved_of, alive_of, counts, figures, wait_micros, next, with_notice, unnotified_at, oldest_waiter, waiting}
-use Rattle.bb8_types.specs.Places.{stands, first_of, first_place, first_wait_of, is_claimed, is_guarded, is_unnotified, gets_stand, birth_in, is_expired, micros_since, is_notified}
-use Rattle.bb8_ledger.specs.Table.{IsLegal, Row, begins, begin_refused, begin_exhausted, serves, keeps, returns_closed, fills, claims, claim_ended, opens, opens_late, fails, shows, takes, closes, IsWant, is_brought, adds, add_broken, add_full, add_exhausted, add_refused, waits_on, waits, gives_up, joins, join_exhausted, leaves, looks}
+use Rattle.bb8_types.specs.Numbered.{Numbered, update, one, after_end}
+use Rattle.bb8_ledger.specs.Ledger.{at_entry, Ledger, Later, start, position, latest, handles, records, gets, peak, get_peak, alive, idle, record_of, get_of, idle_at, at_place, entry, with_approvals, idle_count, conns_of, approved_of, alive_of, counts, figures, wait_micros, next, with_notice, oldest_waiter, waiting}
+use Rattle.bb8_types.specs.Places.{stands, first_of, first_place, first_wait_of, is_claimed, is_guarded, is_out, is_unnotified, gets_stand, birth_in, is_expired, micros_since}
+use Rattle.bb8_ledger.specs.Table.{IsLegal, Row, begins, begin_refused, begin_exhausted, serves, keeps, returns_closed, takes_out, fills, claims, claim_ended, opens, opens_late, fails, shows, takes, closes, IsWant, with_record, adds, add_broken, add_full, add_exhausted, add_refused, waits_on, waits, joins, join_exhausted, leaves, looks}
 use Rattle.bb8_types.specs.Grants.{due, lacking, IsGranted, IsNoGrant}
 use Rattle.bb8_core.specs.Shown.{Shown, shown, shown_records, shown_gets, Means, Meets, HasLedger, IsFitting}
 use Rattle.bb8_tables.specs.Views.{ShownRecords, ShownGets}
@@ -26,13 +25,12 @@ use Rattle.bb8_tables.specs.Machine as machine
 use Rattle.bb8_core.specs.Decided as decided
 use Rattle.bb8_types.proofs.Numbered.{Before, before_later, ne_test}
 use Rattle.bb8_core.proofs.ShownRecords.{shown-claimed, shown-taken, shown-closed, shown-entered, shown-approve, raised_same, shown-born}
-use Rattle.bb8_types.proofs.Places.{standing_is, claimed_is, guarded_out, and_right}
+use Rattle.bb8_types.proofs.Places.{standing_is, claimed_is, guarded_out, idle_from, unclaimed_from, conn_from}
 use Rattle.bb8_core.proofs.ShownRecords as of_records
 use Rattle.bb8_core.proofs.ShownLeft.{shut, shown-left, left_few}
-use Rattle.bb8_core.proofs.ShownGets.{shown-kept, shown-begun, shown-ended, shown-waits, noticed_later, first_waits, without_other, notified_out}
+use Rattle.bb8_core.proofs.ShownGets.{shown-kept, shown-begun, shown-ended, shown-turned, shown-waits, noticed_later, first_waits}
 use Rattle.bb8_ledger.proofs.Facts.{entered_before, waited_before, put_before, ended_before, peak_holds, get_peak_holds, idle_counted, idle_tally}
-use Rattle.bb8_core.proofs.Fitting.{shown_record, shown_get, giving_is}
-use Rattle.bb8_ledger.proofs.Stage.{unchecked}
+use Rattle.bb8_core.proofs.Fitting.{shown_record, shown_get}
 use Rattle.bb8_ledger.proofs.Laws.{trying_is, claimed_counted, waits_on_gets}
 use Rattle.bb8_types.specs.Bounds.{end_of_numbers, most_handles, most_micros}
 
@@ -55,12 +53,10 @@ used_up {b} n is e = grind (arith, nat_tests, leb_tells (suc n) end_of_numbers)
 open_now : (n : ℕ) → n ≢ 0 → 0 < n
 open_now n h = omega arith
 
--- whoever is named stands there
-named_stands : (first p : ℕ) (gs : List (Numbered Getting)) (b : Bool) (n : Option ℕ)
-    → n ≡ cond b (slice_get (in_order unnotified_at first gs p) 0) None → IfSome n (λ k. (s : Getting) × (standing_at first gs k ≡ Some s))
-named_stands first p gs b None e = tt
-named_stands first p gs true (Some k) e = let w = first_waits first p gs k (sym e) in (w.0, w.1)
-named_stands first p gs false (Some k) e = cc
+-- the first in line is notified, if there is one
+pub record Notices (was : ShownGets) (n : Option ℕ) (gs : ShownGets) : Type 0 where
+  pub who : n ≡ slice_get was.waiting 0
+  pub after : gs ≡ machine.after_notice n was
 
 -- the counters after a get was served that first waited then
 abbrev pub served : Counters → ℕ → Option ℕ → Counters
@@ -70,17 +66,9 @@ served was now since = record was {
   wait_micros = min most_micros (was.wait_micros + micros_since now since);
 }
 
--- the counters after a give-up for this reason, of a get that first waited then
-abbrev given_up : Named → ℕ → Option ℕ → Counters → Counters
-given_up reasons.TimedOut now since was = record was { timed_out = was.timed_out + 1; wait_micros = min most_micros (was.wait_micros + micros_since now since) }
-given_up reasons.Cancelled now since was = record was { cancelled = was.cancelled + 1 }
-
--- what the code says of the counters, one clause a reason
-given_up_is : (reason : Named) (now : ℕ) (since : Option ℕ) {was is : Counters}
-    → (reason ≡ reasons.TimedOut → is ≡ given_up reasons.TimedOut now since was)
-    → (reason ≡ reasons.Cancelled → is ≡ given_up reasons.Cancelled now since was) → is ≡ given_up reason now since was
-given_up_is reasons.TimedOut now since timed let_go = timed refl
-given_up_is reasons.Cancelled now since timed let_go = let_go refl
+-- the counters after a connection was closed that came back
+abbrev pub closed_counters : Counters → Bool → Bool → Counters
+closed_counters was broken aged = record was { broken = was.broken + one broken; max_lifetime = was.max_lifetime + one (not broken && aged) }
 
 module _ {C : Type 0} where
   pub same_shown : (s t : Shown C) → s.config ≡ t.config → s.latest ≡ t.latest → s.handles ≡ t.handles → s.records ≡ t.records → s.gets ≡ t.gets → s.counts ≡ t.counts → s ≡ t
@@ -99,6 +87,13 @@ module _ {C : Type 0} where
 
   pub fits_view : {s t : Shown C} (e : Act C) → s ≡ t → IsFitting t e → IsFitting s e
   fits_view e is f l legal means = f l legal (means ∙ is)
+
+  -- the records and the gets of a ledger, as they are shown after the event that comes next
+  abbrev pub next_records : Ledger C → List (Numbered (Standing C)) → ShownRecords C
+  next_records l rs = shown_records (start l).first (suc (position l)) (max (peak l) (conns_of rs + approved_of rs)) rs
+
+  abbrev pub next_gets : Ledger C → List (Numbered Getting) → ShownGets
+  next_gets l gs = shown_gets (start l).first_get (suc (position l)) (max (get_peak l) (alive_of gs)) gs
 
   -- what an event leaves alone
   pub records_kept : (l : Ledger C) → shown_records (start l).first (suc (position l)) (max (peak l) (conns_of (records l) + approved_of (records l))) (records l) ≡ (shown l).records
@@ -138,13 +133,8 @@ module _ {C : Type 0} where
       ))
 
   -- the records of a ledger, shown one position later
-  later_shown : (l : Ledger C) → shown_records (start l).first (suc (position l)) (peak l) (records l) ≡ (shown l).records
+  pub later_shown : (l : Ledger C) → shown_records (start l).first (suc (position l)) (peak l) (records l) ≡ (shown l).records
   later_shown l = of_records.shown-later (start l).first (position l) (peak l) (records l) (entered_before l)
-
-  -- the first in line is notified, if there is one
-  pub record Notices (s : Shown C) (n : Option ℕ) (gs : ShownGets) : Type 0 where
-    pub who : n ≡ slice_get s.gets.waiting 0
-    pub after : gs ≡ machine.after_notice n s.gets
 
   gets_told : (l : Ledger C) (n : Option ℕ) → n ≡ oldest_waiter l
       → shown_gets (start l).first_get (suc (position l)) (max (get_peak l) (alive_of (with_notice (start l).first_get n (gets l))))
@@ -187,7 +177,7 @@ module _ {C : Type 0} where
       (subst (λ (x : ShownRecords C). wants x (length x.idle)) (sym is) granted)
 
   -- records that are no more than before keep the peak
-  still_raised : (l : Ledger C) (rs : List (Numbered (Standing C))) (new : ShownRecords C)
+  pub still_raised : (l : Ledger C) (rs : List (Numbered (Standing C))) (new : ShownRecords C)
       → shown_records (start l).first (suc (position l)) (peak l) rs ≡ new → new.conns + new.approved ≤ peak l
       → shown_records (start l).first (suc (position l)) (max (peak l) (conns_of rs + approved_of rs)) rs ≡ new
   still_raised l rs new is few = raised_same _ (subst (λ (t : ShownRecords C). t.conns + t.approved ≤ peak l) (sym is) few) ∙ is
@@ -237,7 +227,7 @@ module _ {C : Type 0} where
 
   pub meets_opened : {s : Shown C} (at : ℕ) {k : ℕ} (c : C) {now : ℕ} {rs : ShownRecords C} {n : Option ℕ} {gs : ShownGets} {new : Counts}
       → IsFitting s (Opened k c) → now ≡ max s.latest at → s.handles ≢ 0
-      → rs ≡ machine.after_entry true k (record { place = Idle c; birth = now; entered = now }) s.records → Notices s n gs
+      → rs ≡ machine.after_entry true k (record { place = Idle c; birth = now; entered = now }) s.records → Notices s.gets n gs
       → new ≡ record s.counts { created = s.counts.created + 1 }
       → IsStep s at (Opened k c) (Entered k n) (record s { latest = now; records = rs; gets = gs; counts = new })
   meets_opened {s} at {k} c {now} {rs} {n} {gs} {new} fit now_is alive_now rs_is told new_is =
@@ -295,106 +285,115 @@ module _ {C : Type 0} where
   -- ---- put_back
 
   -- what is decided of a returned connection
-  closes_is : (l : Ledger C) (at k : ℕ) (broken : Bool) → closes l at k broken ≡ decided.closes (shown l) at k broken
+  pub closes_is : (l : Ledger C) (at k : ℕ) (broken : Bool) → closes l at k broken ≡ decided.closes (shown l) at k broken
   closes_is l at k broken = ap (λ (o : Option (Standing C)). broken
       || (is_expired (start l).config.max_lifetime (max (latest l) at) (birth_in o) || eqb (handles l) 0)) (shown_record l (shown l) refl k)
 
   -- what the code knows when a connection has come back
-  pub record Returned (s : Shown C) (at k : ℕ) (c : C) (broken : Bool) (now birth : ℕ) (aged : Bool) : Type 0 where
-    pub fit : IsFitting s (PutBack k c broken)
+  pub record Returned (s : Shown C) (at k now birth : ℕ) (aged : Bool) : Type 0 where
     pub now_is : now ≡ max s.latest at
     pub birth_is : birth ≡ birth_in (get s.records.places k)
     pub aged_is : aged ≡ is_expired s.config.max_lifetime now birth
 
-  pub returned : {s t : Shown C} {at k : ℕ} {c : C} {broken : Bool} {now birth : ℕ} {aged : Bool} → s ≡ t → IsFitting t (PutBack k c broken)
-      → now ≡ max s.latest at → birth ≡ birth_in (get s.records.places k) → aged ≡ is_expired s.config.max_lifetime now birth
-      → Returned s at k c broken now birth aged
-  returned {k = k} {c = c} {broken = broken} is fit now_is birth_is aged_is = record { fit = fits_view (PutBack k c broken) is fit; now_is = now_is; birth_is = birth_is; aged_is = aged_is }
-
-  old_is : (s : Shown C) (at k : ℕ) (c : C) (broken : Bool) (now birth : ℕ) (aged : Bool) → Returned s at k c broken now birth aged → decided.is_old s at k ≡ aged
-  old_is s at k c broken now birth aged r = sym (r.aged_is ∙ ap (λ (n : ℕ). is_expired s.config.max_lifetime n birth) r.now_is ∙ ap (is_expired s.config.max_lifetime (max s.latest at)) r.birth_is)
+  old_is : (s : Shown C) (at k now birth : ℕ) (aged : Bool) → Returned s at k now birth aged → decided.is_old s at k ≡ aged
+  old_is s at k now birth aged r = sym (r.aged_is ∙ ap (λ (n : ℕ). is_expired s.config.max_lifetime n birth) r.now_is ∙ ap (is_expired s.config.max_lifetime (max s.latest at)) r.birth_is)
 
   -- so what the code decides of it is what is decided
-  closing_is : {s : Shown C} {at k : ℕ} {c : C} {broken : Bool} {now birth : ℕ} {aged closing : Bool}
-      → Returned s at k c broken now birth aged → (broken || (aged || eqb s.handles 0)) ≡ closing → decided.closes s at k broken ≡ closing
-  closing_is {s} {at} {k} {c} {broken} {now} {birth} {aged} r is = ap (λ (b : Bool). broken || (b || eqb s.handles 0)) (old_is s at k c broken now birth aged r) ∙ is
+  pub closing_is : {s : Shown C} {at k now birth : ℕ} {aged closing : Bool} (broken : Bool) → Returned s at k now birth aged
+      → (broken || (aged || eqb s.handles 0)) ≡ closing → decided.closes s at k broken ≡ closing
+  closing_is {s} {at} {k} {now} {birth} {aged} broken r is = ap (λ (b : Bool). broken || (b || eqb s.handles 0)) (old_is s at k now birth aged r) ∙ is
 
-  pub meets_returned_kept : {s : Shown C} {at k : ℕ} {c : C} {broken : Bool} {now birth : ℕ} {aged : Bool} {rs : ShownRecords C} {n : Option
-      ℕ} {gs : ShownGets} → Notices s n gs → Returned s at k c broken now birth aged → (broken || (aged || eqb s.handles 0)) ≡ false
-      → rs ≡ machine.after_entry false k (record { place = Idle c; birth = birth; entered = now }) s.records
-      → IsStep s at (PutBack k c broken) (Kept k n) (record s { latest = now; records = rs; gets = gs })
-  meets_returned_kept {s} {at} {k} {c} {broken} {now} {birth} {aged} {rs} {n} {gs} told r keep rs_is =
-      meets_by (λ t. (decided.closes t at k broken ≡ false) × (n ≡ slice_get t.gets.waiting 0))
-      (λ t. record t {
-        latest = max t.latest at;
-        records =
-            machine.after_entry false k (record { place = Idle c; birth = birth_in (get t.records.places k); entered = max t.latest at })
-            t.records;
-        gets = machine.after_notice n t.gets;
-      }) s _ at (PutBack k c broken) (Kept k n) r.fit (closing_is r keep, told.who)
-      (same_shown _ _ refl r.now_is refl (rs_is ∙ ap
-      (λ (m : ℕ). machine.after_entry false k (record { place = Idle c; birth = m; entered = now }) s.records) r.birth_is
-      ∙ ap (λ (m : ℕ). machine.after_entry false k
-      (record { place = Idle c; birth = birth_in (get s.records.places k); entered = m }) s.records) r.now_is) told.after refl)
-      (λ l legal f known.
-      let st = standing_is is_guarded (record_of l k) f in
+  -- the records once it is idle again, with the birth that it had
+  abbrev pub kept_records : Shown C → ℕ → ℕ → C → ShownRecords C
+  kept_records s at k c = machine.after_entry false k (record { place = Idle c; birth = birth_in (get s.records.places k); entered = max s.latest at }) s.records
+
+  pub kept_is : {s : Shown C} {at k now birth : ℕ} (c : C) {aged : Bool} {rs : ShownRecords C} → Returned s at k now birth aged
+      → rs ≡ machine.after_entry false k (record { place = Idle c; birth = birth; entered = now }) s.records → rs ≡ kept_records s at k c
+  kept_is {s} {at} {k} {now} {birth} c r rs_is =
+      rs_is
+      ∙ ap (λ (m : ℕ). machine.after_entry false k (record { place = Idle c; birth = m; entered = now }) s.records) r.birth_is
+      ∙ ap (λ (m : ℕ). machine.after_entry false k (record { place = Idle c; birth = birth_in (get s.records.places k); entered = m }) s.records) r.now_is
+
+  pub kept_shown : (l : Ledger C) (at k : ℕ) (c : C) (st : Standing C) → record_of l k ≡ Some st → is_out st.place ≡ true
+      → next_records l (with_record l k (at_entry c (max (latest l) at) (position l))) ≡ kept_records (shown l) at k c
+  kept_shown l at k c st stands_there out_now =
       let few : conns_of (records l) + approved_of (records l) ≤ peak l = peak_holds l in
       let m : ℕ = max (latest l) at in
-      let is = shown-entered (start l).first (position l) (peak l) (records l) false k st.0 c (birth_in (record_of l k)) m
-      (at_entry c m (position l)) (entered_before l) st.1 (guarded_out st.0.place st.2)
-      (λ r e. ap (λ (o : Option (Standing C)). entry c (birth_in o) m (position l)) (e ∙ sym st.1)) in (
+      let is = shown-entered (start l).first (position l) (peak l) (records l) false k st c (birth_in (record_of l k)) m
+      (at_entry c m (position l)) (entered_before l) stands_there out_now
+      (λ r e. ap (λ (o : Option (Standing C)). entry c (birth_in o) m (position l)) (e ∙ sym stands_there)) in
+      ap machine.with_peak is ∙ raised_same _ (omega arith)
+      ∙ ap (λ (o : Option (Standing C)). machine.after_entry false k (record { place = Idle c; birth = birth_in o; entered = m })
+      (shown l).records) (shown_record l (shown l) refl k)
+
+  -- what is granted once it has ended
+  abbrev pub IsEndGrant : Shown C → ℕ → Grant → Type 0
+  IsEndGrant s k grant = machine.IsGrant (machine.after_close false k s.records) (decided.want s.config s.handles (machine.after_close false k s.records)) grant
+
+  -- the records once it has ended, and approvals were granted
+  abbrev pub ended_records : Shown C → ℕ → Grant → ShownRecords C
+  ended_records s k grant = machine.after_grant false grant (machine.after_close false k s.records)
+
+  pub ended_shown : (l : Ledger C) (k : ℕ) (st : Standing C) (grant : Grant) → record_of l k ≡ Some st → is_out st.place ≡ true
+      → IsEndGrant (shown l) k grant → IsWant l (with_record l k after_end) grant
+      × (next_records l (with_approvals false grant.count (with_record l k after_end)) ≡ ended_records (shown l) k grant)
+  ended_shown l k st grant stands_there out_now granted =
+      let is = shown-closed (start l).first (position l) (peak l) (records l) false k st stands_there out_now in
+      let later = shown-closed (start l).first (suc (position l)) (peak l) (records l) false k st stands_there out_now
+      ∙ ap (machine.after_close false k) (later_shown l) in (
+        want_is l (with_record l k after_end) grant _ (ended_before (position l) (start l).first k (records l) (entered_before l)) is granted,
+        changed false l grant.count (with_record l k after_end) _ later,
+      )
+
+  pub meets_returned_kept : {s : Shown C} {at k : ℕ} {c : C} {broken : Bool} {now birth : ℕ} {aged : Bool} {rs : ShownRecords C} {n : Option
+      ℕ} {gs : ShownGets} → IsFitting s (PutBack k c broken) → Notices s.gets n gs → Returned s at k now birth aged
+      → (broken || (aged || eqb s.handles 0)) ≡ false
+      → rs ≡ machine.after_entry false k (record { place = Idle c; birth = birth; entered = now }) s.records
+      → IsStep s at (PutBack k c broken) (Kept k n) (record s { latest = now; records = rs; gets = gs })
+  meets_returned_kept {s} {at} {k} {c} {broken} {now} {birth} {aged} {rs} {n} {gs} fit told r keep rs_is =
+      meets_by (λ t. (decided.closes t at k broken ≡ false) × (n ≡ slice_get t.gets.waiting 0))
+      (λ t. record t { latest = max t.latest at; records = kept_records t at k c; gets = machine.after_notice n t.gets }) s _ at
+      (PutBack k c broken) (Kept k n) fit (closing_is broken r keep, told.who)
+      (same_shown _ _ refl r.now_is refl (kept_is c r rs_is) told.after refl)
+      (λ l legal f known.
+      let st = standing_is is_guarded (record_of l k) f in (
         keeps (closes_is l at k broken ∙ known.0) known.1,
-        same_shown _ _ refl refl refl
-            (ap machine.with_peak is ∙ raised_same _ (omega arith)
-            ∙ ap (λ (o : Option (Standing C)). machine.after_entry false k (record { place = Idle c; birth = birth_in o; entered = m })
-            (shown l).records) (shown_record l (shown l) refl k)) (gets_told l n known.1) refl,
+        same_shown _ _ refl refl refl (kept_shown l at k c st.0 st.1 (guarded_out st.0.place st.2)) (gets_told l n known.1) refl,
       ))
 
-  -- the statistics after a return that closed
-  abbrev counted : Shown C → ℕ → ℕ → Bool → Counts
-  counted s at k broken = record s.counts { broken = s.counts.broken + one broken; max_lifetime = s.counts.max_lifetime + one (not broken && decided.is_old s at k) }
+  -- what the code counts of it is what is decided
+  pub closed_is : {s : Shown C} {at k now birth : ℕ} {aged : Bool} (was : Counters) {is : Counters} (broken : Bool)
+      → Returned s at k now birth aged → is ≡ closed_counters was broken aged → is ≡ closed_counters was broken (decided.is_old s at k)
+  closed_is {s} {at} {k} {now} {birth} {aged} was broken r is_is = is_is ∙ ap (closed_counters was broken) (sym (old_is s at k now birth aged r))
 
-  pub meets_returned_closed : {s : Shown C} {at k : ℕ} {c : C} {broken : Bool} {now
-      birth : ℕ} {aged : Bool} {grant : Grant} {rs : ShownRecords C} {n : Option ℕ} {gs : ShownGets} {x y : ℕ} → Notices s n gs
-      → Returned s at k c broken now birth aged → (broken || (aged || eqb s.handles 0)) ≡ true
-      → Grants s false (machine.after_close false k s.records) grant rs → x ≡ one broken → y ≡ one (not broken && aged)
+  pub old_shown : (l : Ledger C) (at k : ℕ) → is_expired (start l).config.max_lifetime (max (latest l) at) (birth_in (record_of l k)) ≡ decided.is_old (shown l) at k
+  old_shown l at k = ap (λ (o : Option (Standing C)). is_expired (start l).config.max_lifetime (max (latest l) at) (birth_in o)) (shown_record l (shown l) refl k)
+
+  pub meets_returned_closed : {s : Shown C} {at k : ℕ} {c : C} {broken : Bool} {now birth : ℕ} {aged : Bool} {grant : Grant} {rs : ShownRecords
+      C} {n : Option ℕ} {gs : ShownGets} (was : Counters) {is : Counters} → IsFitting s (PutBack k c broken) → Notices s.gets n gs
+      → Returned s at k now birth aged → (broken || (aged || eqb s.handles 0)) ≡ true → IsEndGrant s k grant → rs ≡ ended_records s k grant
+      → s.counts ≡ counts_held was → is ≡ closed_counters was broken aged
       → IsStep s at (PutBack k c broken) (Closed k grant n)
-      (record s {
-        latest = now;
-        records = rs;
-        gets = gs;
-        counts =
-            record s.counts { broken = s.counts.broken + x; max_lifetime = s.counts.max_lifetime + y };
-      })
-  meets_returned_closed {s} {at} {k} {c} {broken} {now} {birth} {aged} {grant} {rs} {n} {gs} {x} {y} told r closing granted x_is y_is =
-      meets_by (λ t. (decided.closes t at k broken ≡ true)
-      × machine.IsGrant (machine.after_close false k t.records)
-      (decided.want t.config t.handles (machine.after_close false k t.records)) grant × (n ≡ slice_get t.gets.waiting 0))
+      (record s { latest = now; records = rs; gets = gs; counts = counts_held is })
+  meets_returned_closed {s} {at} {k} {c} {broken} {now} {birth} {aged} {grant} {rs} {n} {gs} was {is} fit told r closing granted rs_is were is_is =
+      meets_by (λ t. (decided.closes t at k broken ≡ true) × IsEndGrant t k grant × (n ≡ slice_get t.gets.waiting 0) × (t.counts ≡ counts_held was))
       (λ t. record t {
         latest = max t.latest at;
-        records = machine.after_grant false grant (machine.after_close false k t.records);
-        gets =
-            machine.after_notice n t.gets;
-        counts = counted t at k broken;
-      }) s _ at (PutBack k c broken) (Closed k grant n) r.fit
-      (closing_is r closing, granted.granted, told.who)
-      (same_shown _ _ refl r.now_is refl granted.after told.after
-      (ap (λ (m : ℕ). record s.counts { broken = s.counts.broken + m; max_lifetime = s.counts.max_lifetime + y }) x_is
-      ∙ ap (λ (m : ℕ). record s.counts { broken = s.counts.broken + one broken; max_lifetime = s.counts.max_lifetime + m })
-      (y_is ∙ ap (λ (b : Bool). one (not broken && b)) (sym (old_is s at k c broken now birth aged r)))))
+        records = ended_records t k grant;
+        gets = machine.after_notice n t.gets;
+        counts = counts_held (closed_counters was broken (decided.is_old t at k));
+      }) s _ at (PutBack k c broken) (Closed k grant n) fit (closing_is broken r closing, granted, told.who, were)
+      (same_shown _ _ refl r.now_is refl rs_is told.after (ap counts_held (closed_is was broken r is_is)))
       (λ l legal f known.
       let st = standing_is is_guarded (record_of l k) f in
-      let shut : List (Numbered (Standing C)) = update (start l).first k after_end (records l) in
-      let is = shown-closed (start l).first (position l) (peak l) (records l) false k st.0 st.1 (guarded_out st.0.place st.2) in
-      let later = shown-closed (start l).first (suc (position l)) (peak l) (records l) false k st.0 st.1 (guarded_out st.0.place st.2) ∙ ap (machine.after_close false k) (later_shown l) in (
-        returns_closed (closes_is l at k broken ∙ known.0) (want_is l shut grant _ (ended_before (position l) (start l).first k (records l) (entered_before l)) is known.1) known.2,
-        same_shown _ _ refl refl refl (changed false l grant.count shut _ later) (gets_told l n known.2)
-            (ap (λ (o : Option (Standing C)). record (shown l).counts {
-              broken = (shown l).counts.broken + one broken;
-              max_lifetime =
-                  (shown l).counts.max_lifetime + one (not broken && is_expired (start l).config.max_lifetime (max (latest l) at) (birth_in o));
-            })
-            (shown_record l (shown l) refl k)),
+      let ended = ended_shown l k st.0 grant st.1 (guarded_out st.0.place st.2) known.1 in (
+        returns_closed (closes_is l at k broken ∙ known.0) ended.0 known.2,
+        same_shown _ _ refl refl refl ended.1 (gets_told l n known.2)
+            (ap (λ (x : Counts). record x {
+              broken = x.broken + one broken;
+              max_lifetime = x.max_lifetime + one (not broken && is_expired (start l).config.max_lifetime (max (latest l) at) (birth_in (record_of l k)));
+            }) known.3
+            ∙ ap (λ (b : Bool). counts_held (closed_counters was broken b)) (old_shown l at k)),
       ))
 
   -- ---- begin
@@ -443,13 +442,13 @@ module _ {C : Type 0} where
       ap (λ (t : Shown C). record { connections = t.records.conns; idle = length t.records.idle; counts = t.counts }) (sym means)
       ∙ ap (λ (n : ℕ). record { connections = conns_of (records l); idle = n; counts = counts l }) (idle_tally l)
 
-  -- ---- try, where nothing is checked
+  -- ---- try
 
   -- what the counters keep of the waits is what a ledger tells of them
-  same_micros : (l : Ledger C) (was : Counters) → counts l ≡ counts_held was → wait_micros l ≡ was.wait_micros
+  pub same_micros : (l : Ledger C) (was : Counters) → counts l ≡ counts_held was → wait_micros l ≡ was.wait_micros
   same_micros l was were = let told : 1000 * wait_micros l ≡ 1000 * was.wait_micros = ap (λ (x : Counts). x.wait_time) were in omega arith
 
-  count_served : (l : Ledger C) (at g k : ℕ) (grant : Grant) (was : Counters) → counts l ≡ counts_held was
+  pub count_served : (l : Ledger C) (at g k : ℕ) (grant : Grant) (was : Counters) → counts l ≡ counts_held was
       → counts (Later l at (Try g) (Served k grant)) ≡ counts_held
       (served was (max (latest l) at) (first_wait_of (get (shown l).gets.places g)))
   count_served l at g k grant was were =
@@ -472,15 +471,37 @@ module _ {C : Type 0} where
   line_test : (l : Ledger C) (g : ℕ) (b : Bool) → gets_stand is_unnotified (get (shown l).gets.places g) ≡ b → gets_stand is_unnotified (get_of l g) ≡ b
   line_test l g b is = ap (gets_stand is_unnotified) (shown_get l (shown l) refl g) ∙ is
 
+  -- the first idle connection goes out, and what is wanted then is granted
+  abbrev pub IsTakeGrant : Shown C → Place C → ℕ → Grant → Type 0
+  IsTakeGrant s out k grant = machine.IsGrant (machine.after_take out k s.records) (decided.want s.config s.handles (machine.after_take out k s.records)) grant
+
+  taken_shown : (l : Ledger C) (out : Place C) (k : ℕ) (grant : Grant) → is_out out ≡ true
+      → first_of (start l).config.queue_strategy (shown l).records.idle ≡ Some k → IsTakeGrant (shown l) out k grant
+      → IsWant l (with_record l k (at_place out)) grant
+      × (next_records l (with_approvals false grant.count (with_record l k (at_place out))) ≡ machine.after_grant false grant
+      (machine.after_take out k (shown l).records))
+  taken_shown l out k grant out_now first granted =
+      let j : ℕ = first_place (start l).config.queue_strategy (length (idle l)) in
+      let rs : List (Numbered (Standing C)) = with_record l k (at_place out) in
+      let off = idle_from false out out_now in
+      let is : shown_records (start l).first (position l) (peak l) rs ≡ machine.after_take out k (shown l).records =
+      shown-taken (start l).first (position l) (peak l) (records l) out k j off (unclaimed_from false out out_now)
+      (conn_from false out out_now) first in
+      let first_later : slice_get (shown_records (start l).first (suc (position l)) (peak l) (records l)).idle j ≡ Some k = ap (λ (x : ShownRecords C). slice_get x.idle j) (later_shown l) ∙ first in
+      let later : shown_records (start l).first (suc (position l)) (peak l) rs ≡ machine.after_take out k (shown l).records =
+      shown-taken (start l).first (suc (position l)) (peak l) (records l) out k j off (unclaimed_from false out out_now)
+      (conn_from false out out_now) first_later ∙ ap (machine.after_take out k) (later_shown l) in
+      (want_is l rs grant _ (put_before (position l) (start l).first k out (records l) off (entered_before l)) is granted, changed false l grant.count rs _ later)
+
   pub meets_served : {s : Shown C} {at g k : ℕ} {grant : Grant} {now : ℕ} {o : Option Getting} {since : Option ℕ} {rs : ShownRecords
       C} {gs : ShownGets} (was : Counters) {is : Counters} → Tries s at g now o → gets_stand is_unnotified o ≡ false
-      → first_of s.config.queue_strategy s.records.idle ≡ Some k → Grants s false (machine.after_take Guarded k s.records) grant rs
-      → gs ≡ machine.after_get_end g s.gets → s.counts ≡ counts_held was → since ≡ first_wait_of o → is ≡ served was now since
+      → s.config.test_on_check_out ≡ false → first_of s.config.queue_strategy s.records.idle ≡ Some k
+      → Grants s false (machine.after_take Guarded k s.records) grant rs → gs ≡ machine.after_get_end g s.gets → s.counts ≡ counts_held was
+      → since ≡ first_wait_of o → is ≡ served was now since
       → IsStep s at (Try g) (Served k grant) (record s { latest = now; records = rs; gets = gs; counts = counts_held is })
-  meets_served {s} {at} {g} {k} {grant} {now} {o} {since} {rs} {gs} was {is} t not_waiting first granted gs_is were since_is counted =
-      meets_by (λ x. (gets_stand is_unnotified (get x.gets.places g) ≡ false) × (first_of x.config.queue_strategy x.records.idle ≡ Some k)
-      × machine.IsGrant (machine.after_take Guarded k x.records)
-      (decided.want x.config x.handles (machine.after_take Guarded k x.records)) grant × (x.counts ≡ counts_held was))
+  meets_served {s} {at} {g} {k} {grant} {now} {o} {since} {rs} {gs} was {is} t not_waiting unchecked first granted gs_is were since_is counted =
+      meets_by (λ x. (gets_stand is_unnotified (get x.gets.places g) ≡ false) × (x.config.test_on_check_out ≡ false)
+      × (first_of x.config.queue_strategy x.records.idle ≡ Some k) × IsTakeGrant x Guarded k grant × (x.counts ≡ counts_held was))
       (λ x. record x {
         latest = max x.latest at;
         records = machine.after_grant false grant (machine.after_take Guarded k x.records);
@@ -488,25 +509,43 @@ module _ {C : Type 0} where
         counts =
             counts_held (served was (max x.latest at) (first_wait_of (get x.gets.places g)));
       }) s _ at (Try g) (Served k grant) t.fit
-      (ap (gets_stand is_unnotified) (sym t.get_is) ∙ not_waiting, first, granted.granted, were)
+      (ap (gets_stand is_unnotified) (sym t.get_is) ∙ not_waiting, unchecked, first, granted.granted, were)
       (same_shown _ _ refl t.now_is refl granted.after gs_is
       (ap counts_held (counted ∙ ap (λ (m : ℕ). served was m since) t.now_is
       ∙ ap (served was (max s.latest at)) (since_is ∙ ap (λ (x : Option Getting). first_wait_of x) t.get_is))))
       (λ l legal f known.
       let st = trying_is l g f in
-      let off : (start l).config.test_on_check_out ≡ false = unchecked l g (and_right (is_brought l (Try g)) _ f).0 in
-      let j : ℕ = first_place (start l).config.queue_strategy (length (idle l)) in
-      let out : List (Numbered (Standing C)) = update (start l).first k (at_place Guarded) (records l) in
-      let is : shown_records (start l).first (position l) (peak l) out ≡ machine.after_take Guarded k (shown l).records =
-      shown-taken (start l).first (position l) (peak l) (records l) Guarded k j refl refl refl known.1 in
-      let first_later : slice_get (shown_records (start l).first (suc (position l)) (peak l) (records l)).idle j ≡ Some k = ap (λ (x : ShownRecords C). slice_get x.idle j) (later_shown l) ∙ known.1 in
-      let later : shown_records (start l).first (suc (position l)) (peak l) out ≡ machine.after_take Guarded k (shown l).records =
-      shown-taken (start l).first (suc (position l)) (peak l) (records l) Guarded k j refl refl refl first_later
-      ∙ ap (machine.after_take Guarded k) (later_shown l) in (
-        serves (line_test l g false known.0) off known.1 (want_is l out grant _ (put_before (position l) (start l).first k Guarded (records l) refl (entered_before l)) is known.2),
-        same_shown _ _ refl refl refl (changed false l grant.count out _ later)
+      let taken = taken_shown l Guarded k grant refl known.2 known.3 in (
+        serves (line_test l g false known.0) known.1 known.2 taken.0,
+        same_shown _ _ refl refl refl taken.1
             (shown-ended (start l).first_get (position l) (get_peak l) (gets l) g st.0 (waited_before l) (get_peak_holds l) st.1)
-            (count_served l at g k grant was known.3),
+            (count_served l at g k grant was known.4),
+      ))
+
+  -- where it is checked, the get holds it
+  pub meets_taken : {s : Shown C} {at g k : ℕ} {grant : Grant} {now : ℕ} {o : Option Getting} {rs : ShownRecords C} {gs : ShownGets}
+      → Tries s at g now o → gets_stand is_unnotified o ≡ false → s.config.test_on_check_out ≡ true
+      → first_of s.config.queue_strategy s.records.idle ≡ Some k → Grants s false (machine.after_take (Held g) k s.records) grant rs
+      → gs ≡ machine.after_turn (Holding k) g s.gets
+      → IsStep s at (Try g) (Taken k grant) (record s { latest = now; records = rs; gets = gs })
+  meets_taken {s} {at} {g} {k} {grant} {now} {o} {rs} {gs} t not_waiting checked first granted gs_is =
+      meets_by (λ x. (gets_stand is_unnotified (get x.gets.places g) ≡ false) × (x.config.test_on_check_out ≡ true)
+      × (first_of x.config.queue_strategy x.records.idle ≡ Some k) × IsTakeGrant x (Held g) k grant)
+      (λ x. record x {
+        latest = max x.latest at;
+        records = machine.after_grant false grant (machine.after_take (Held g) k x.records);
+        gets = machine.after_turn (Holding k) g x.gets;
+      }) s _ at (Try g) (Taken k grant) t.fit
+      (ap (gets_stand is_unnotified) (sym t.get_is) ∙ not_waiting, checked, first, granted.granted)
+      (same_shown _ _ refl t.now_is refl granted.after gs_is refl)
+      (λ l legal f known.
+      let st = trying_is l g f in
+      let off : gets_stand is_unnotified (get_of l g) ≡ false = line_test l g false known.0 in
+      let taken = taken_shown l (Held g) k grant refl known.2 known.3 in (
+        takes_out off known.1 known.2 taken.0,
+        same_shown _ _ refl refl refl taken.1
+            (shown-turned (start l).first_get (position l) (get_peak l) (gets l) (Holding k) g st.0 (waited_before l) (get_peak_holds l)
+            st.1 (ap (gets_stand is_unnotified) (sym st.1) ∙ off) refl) refl,
       ))
 
   -- a get that waits and was not notified waits on
@@ -565,80 +604,6 @@ module _ {C : Type 0} where
             (shown-waits (start l).first_get (position l) (get_peak l) (gets l) (max (latest l) at) g st.0 (waited_before l)
             (get_peak_holds l) st.1 (ap (gets_stand is_unnotified) (sym st.1) ∙ off)) refl,
       ))
-
-  -- ---- give up
-
-  -- whom a give-up notifies is the oldest waiter, where the get had been notified
-  handed_is : (l : Ledger C) (g : ℕ) (st : Getting) (n : Option ℕ) → get_of l g ≡ Some st
-      → n ≡ cond (is_notified st.place) (slice_get (machine.without g (waiting l)) 0) None
-      → n ≡ cond (is_notified st.place) (oldest_waiter l) None
-  handed_is l g st n is n_is = go (is_notified st.place) refl n_is
-    where
-      go : (b : Bool) → is_notified st.place ≡ b → n ≡ cond b (slice_get (machine.without g (waiting l)) 0) None → n ≡ cond b (oldest_waiter l) None
-      go true on e = e ∙ ap (λ (xs : List ℕ). slice_get xs 0) (without_other (start l).first_get (position l) (gets l) g st is (notified_out st.place on))
-      go false off e = e
-
-  count_given_up : (l : Ledger C) (at g : ℕ) (reason : Named) (broken : Bool) (n : Option ℕ) (was : Counters) → counts l ≡ counts_held was
-      → counts (Later l at (GiveUp g (reason_of reason) None broken) (GaveUp n)) ≡ counts_held
-      (given_up reason (max (latest l) at) (first_wait_of (get (shown l).gets.places g)) was)
-  count_given_up l at g reasons.TimedOut broken n was were =
-      ap (λ (x : Counts). record x { timed_out = x.timed_out + 1; wait_time = 1000 * min most_micros (wait_micros l + micros_since (max (latest l) at) (first_wait_of (get_of l g))) }) were
-      ∙ ap (λ (m : ℕ). record (counts_held was) {
-        timed_out = was.timed_out + 1;
-        wait_time =
-            1000 * min most_micros (m + micros_since (max (latest l) at) (first_wait_of (get_of l g)));
-      }) (same_micros l was were)
-      ∙ ap (λ (o : Option Getting). counts_held (given_up reasons.TimedOut (max (latest l) at) (first_wait_of o) was)) (shown_get l (shown l) refl g)
-  count_given_up l at g reasons.Cancelled broken n was were = ap (λ (x : Counts). record x { cancelled = x.cancelled + 1 }) were
-
-  -- no connection is handed in, and whether it is broken does not matter
-  pub meets_given_up : {s t : Shown C} (at : ℕ) {g : ℕ} {reason : Named} {held : Option C}
-      (broken : Bool) {now : ℕ} {o : Option Getting} {since : Option ℕ} {left : ShownGets} {test : Bool} {n : Option
-      ℕ} {gs : ShownGets} {was is : Counters} → held ≡ None → s ≡ t → IsFitting t (GiveUp g (reason_of reason) held broken)
-      → now ≡ max s.latest at → o ≡ get s.gets.places g → left ≡ machine.after_get_end g s.gets → test ≡ gets_stand is_notified o
-      → n ≡ cond test (slice_get left.waiting 0) None → gs ≡ machine.after_notice n left → s.counts ≡ counts_held was
-      → since ≡ first_wait_of o → (reason ≡ reasons.TimedOut → is ≡ given_up reasons.TimedOut now since was)
-      → (reason ≡ reasons.Cancelled → is ≡ given_up reasons.Cancelled now since was)
-      → IsStep s at (GiveUp g (reason_of reason) held broken) (GaveUp n) (record s { latest = now; gets = gs; counts = counts_held is })
-  meets_given_up {s} {t} at {g} {reason} {held} broken {now} {o} {since} {left} {test} {n} {gs} {was} {is} none view fit now_is get_is left_is test_is n_is gs_is were since_is timed let_go =
-      let why : Reason = reason_of reason in
-      let free : IsFitting s (GiveUp g why None broken) = fits_view (GiveUp g why None broken) view (subst (λ (c : Option C). IsFitting t (GiveUp g why c broken)) none fit) in
-      let told : is ≡ given_up reason now since was = given_up_is reason now since timed let_go in
-      subst (λ (c : Option C). IsStep s at (GiveUp g why c broken) (GaveUp n)
-      (record s { latest = now; gets = gs; counts = counts_held is })) (sym none)
-      (meets_by (λ x. (n ≡ machine.heir_of (get x.gets.places g) (machine.after_get_end g x.gets)) × (x.counts ≡ counts_held was))
-      (λ x. record x {
-        latest = max x.latest at;
-        gets = machine.after_notice n (machine.after_get_end g x.gets);
-        counts =
-            counts_held (given_up reason (max x.latest at) (first_wait_of (get x.gets.places g)) was);
-      }) s _ at (GiveUp g why None broken)
-      (GaveUp n) free (
-        n_is ∙ ap (λ (b : Bool). cond b (slice_get left.waiting 0) None) test_is ∙ ap (λ (x : ShownGets). machine.heir_of o x) left_is
-            ∙ ap (λ (x : Option Getting). machine.heir_of x (machine.after_get_end g s.gets)) get_is,
-        were,
-      )
-      (same_shown _ _ refl now_is refl refl (gs_is ∙ ap (machine.after_notice n) left_is)
-      (ap counts_held (told ∙ ap (λ (m : ℕ). given_up reason m since was) now_is
-      ∙ ap (λ (x : Option ℕ). given_up reason (max s.latest at) x was)
-      (since_is ∙ ap (λ (x : Option Getting). first_wait_of x) get_is))))
-      (λ l legal f known.
-      let st = giving_is l g None f in
-      let n_place : n ≡ cond (is_notified st.0.place) (slice_get (machine.without g (waiting l)) 0) None = known.0
-      ∙ ap (λ (x : Option Getting). machine.heir_of x (machine.after_get_end g (shown l).gets))
-      (sym (shown_get l (shown l) refl g) ∙ st.1) in
-      let out : List (Numbered Getting) = update (start l).first_get g after_end (gets l) in
-      let ends : shown_gets (start l).first_get (suc (position l)) (max (get_peak l) (alive_of out)) out ≡ machine.after_get_end g
-      (shown l).gets = shown-ended (start l).first_get (position l) (get_peak l) (gets l) g st.0 (waited_before l)
-      (get_peak_holds l) st.1 in
-      let named : IfSome n (λ k. (x : Getting) × (standing_at (start l).first_get out k ≡ Some x)) =
-      named_stands (start l).first_get (suc (position l)) out (is_notified st.0.place) n
-      (n_place ∙ ap (λ (x : ShownGets). cond (is_notified st.0.place) (slice_get x.waiting 0) None) (sym ends)) in (
-        gives_up (handed_is l g st.0 n st.1 n_place ∙ ap (λ (x : Option Getting). cond (gets_stand is_notified x) (oldest_waiter l) None) (sym st.1)),
-        same_shown _ _ refl refl refl (records_kept l)
-            (noticed_later (start l).first_get (suc (position l)) (get_peak l) out n named ∙ ap (machine.after_notice n) ends)
-            (count_given_up l at g reason broken n was known.1),
-      )))
 
   -- ---- look
 
@@ -729,7 +694,7 @@ module _ {C : Type 0} where
       (λ l. (refl, refl, refl)) (λ l legal f known. (add_refused known.0 known.1 known.2, refl, refl))
 
   pub meets_added : {s : Shown C} {at : ℕ} {k : ℕ} {c : C} {now : ℕ} {rs : ShownRecords C} {n : Option ℕ} {gs : ShownGets} → Adds s at c now
-      → Notices s n gs → s.records.next < end_of_numbers → k ≡ s.records.next → rs ≡ machine.with_peak (machine.after_birth c now s.records)
+      → Notices s.gets n gs → s.records.next < end_of_numbers → k ≡ s.records.next → rs ≡ machine.with_peak (machine.after_birth c now s.records)
       → IsStep s at (Add c false) (Added k n) (record s { latest = now; records = rs; gets = gs })
   meets_added {s} {at} {k} {c} {now} {rs} {n} {gs} h told few k_is rs_is =
       meets_by (λ t. (t.records.conns + t.records.approved ≢ t.config.max_size) × (t.records.next < end_of_numbers) × (k ≡ t.records.next)

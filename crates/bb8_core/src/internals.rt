@@ -1,5 +1,5 @@
 //! The locked state of a pool.
-ghost use Rattle.std.specs.Prelude.{◌≡◌, ℕ, Bool, ◌+◌, ◌≤◌, ◌&&◌, ◌||◌, not, cond, eqb, slice_get, IsSome, IfSome, IfNone, true, false, None, Some};
+ghost use Rattle.std.specs.Prelude.{◌≡◌, ℕ, Bool, ◌+◌, ◌≤◌, ◌&&◌, ◌||◌, not, cond, eqb, slice_get, Option, IsSome, is_some, IfSome, IfNone, true, false, None, Some};
 ghost use Rattle.std.specs.FinMap as map;
 ghost use Rattle.bb8_ledger.specs.Acts as acts;
 ghost use Rattle.bb8_ledger.specs.Answers as answers;
@@ -13,20 +13,24 @@ ghost use Rattle.bb8_types.specs.Settings.{settings_of, is_lawful};
 ghost use Rattle.bb8_types.specs.Figures.{figures_of};
 ghost use Rattle.bb8_core.specs.Run.{opening};
 ghost use Rattle.bb8_core.specs.Shown.{Means, Meets, IsFitting, TellsFitting, IsRecordIn, IsNoRecordIn, IsGetIn, IsNoGetIn, IsWithinLimits};
-ghost use Rattle.bb8_core.specs.StepAnswers.{begin_told, try_told, reason_of, give_up_told, put_back_told, claim_told, opened_told, failed_told, add_told, join_told, leave_told, look_told, HandsOut, ServesAtOnce, NoneAtOnce, GivesBack, HandsBack, Refuses};
+ghost use Rattle.bb8_core.specs.StepAnswers.{begin_told, try_told, checked_ok_told, checked_err_told, reason_of, give_up_told, put_back_told, claim_told, opened_told, failed_told, add_told, join_told, leave_told, look_told, HandsOut, ServesAtOnce, NoneAtOnce, GivesBack, GivesBackInvalid, GivesBackHeld, HandsBack, Refuses};
+ghost use Rattle.bb8_types.specs.declared.standing.Holder.TheVariants.{Guard, Get};
+ghost use Rattle.bb8_types.specs.declared.standing.Standing.{Standing};
+ghost use Rattle.bb8_types.specs.Bounds.{end_of_numbers, most_records};
 ghost use Rattle.bb8_tables.specs.Keys.{notified_of};
 
 pub use crate::answers::{
-    AddAnswer, AtOnce, BeginAnswer, ClaimAnswer, FailedAnswer, GiveUpAnswer, JoinAnswer,
-    LeaveAnswer, Looked, OpenedAnswer, PutBackAnswer, TryAnswer,
+    AddAnswer, AtOnce, BeginAnswer, CheckedErrAnswer, CheckedOkAnswer, ClaimAnswer, FailedAnswer,
+    GiveUpAnswer, JoinAnswer, LeaveAnswer, Looked, OpenedAnswer, PutBackAnswer, TryAnswer,
 };
 use bb8_tables::counters::Counters;
-use bb8_tables::gets::{Gets, first_wait, is_notified, is_unnotified};
+use bb8_tables::gets::{Gets, first_wait, held, held_key, is_notified, is_unnotified};
 pub use bb8_tables::keys::{GetKey, Key};
 use bb8_tables::records::{Records, one};
 use bb8_types::api::{Config, Moment, State};
 pub use bb8_types::grants::Grant;
 pub use bb8_types::reasons::Reason;
+use bb8_types::standing::{GetPlace, Holder};
 use std::alloc::Global;
 use std::marker::Model;
 
@@ -110,12 +114,33 @@ fn hand_on(gets: &mut Gets, test: bool) -> Option<GetKey>
     if test { gets.notify() } else { None }
 }
 
-/// One, where the test passes and the one before it does not.
-fn one_first(test: bool, before: bool) -> u64
-    ensures value { result ≡ numbered.one (not before && test) }
-    ensures few { result ≤ numbered.one (not before) }
+/// Who holds a connection that a try takes out: the get, where it is checked before the get is served with it.
+fn holder(config: &Config, get: GetKey) -> Holder
+    ensures { result ≡ cond (settings_of config.now).test_on_check_out (Get get.number) Guard }
 {
-    if before { 0 } else { one(test) }
+    if config.test_on_check_out {
+        Holder::Get(get.number)
+    } else {
+        Holder::Guard
+    }
+}
+
+/// Ends a connection that was out, and grants what is wanted then.
+fn end_out<C: Drop>(config: &Config, handles: u64, records: &mut Records<C>, k: Key) -> Grant
+    requires out { (s : Standing C) × (map.get records.old.places k.number ≡ Some s)
+        × (places.is_out s.place ≡ true) }
+    requires size { records.old.conns + records.old.approved ≤ (settings_of config.now).max_size }
+    requires few { (settings_of config.now).max_size ≤ most_records }
+    ensures granted { machine.IsGrant (machine.after_close false k.number records.old)
+        (decided.want (settings_of config.now) handles (machine.after_close false k.number
+        records.old)) result }
+    ensures state { records.new ≡ machine.after_grant false result
+        (machine.after_close false k.number records.old) }
+    ensures numbers { records.old.next ≤ end_of_numbers }
+{
+    records.close(k, false);
+    let wanted = want(config, handles, records);
+    records.grant(wanted, false)
 }
 
 impl<C: Drop> PoolInternals<C> {
@@ -184,7 +209,7 @@ impl<C: Drop> PoolInternals<C> {
             return None;
         }
         let strategy = self.config.queue_strategy;
-        match self.records.take(strategy) {
+        match self.records.take(strategy, Holder::Guard) {
             None => None,
             Some((key, conn)) => {
                 let now = self.latest.max(at.0);
@@ -204,8 +229,8 @@ impl<C: Drop> PoolInternals<C> {
         }
     }
 
-    /// Serves a get with the idle connection that is first by the queue strategy, which goes to a guard, and grants what is wanted then.
-    /// Where none is idle the get waits from now on, and one approval is granted where gets outnumber open approvals. A get that waits
+    /// Takes out the idle connection that is first by the queue strategy, and grants what is wanted then. Where connections are checked, the
+    /// get holds it until its check is told; otherwise the get is served with it, and it goes to a guard. Where none is idle the get waits from now on, and one approval is granted where gets outnumber open approvals. A get that waits
     /// and was not notified waits on, and nothing changes but the latest moment. No memory is asked for, but for approvals.
     pub fn try_get(&mut self, at: Moment, get: GetKey) -> TryAnswer<C>
         requires { IsFitting self.old (acts.Try get.number) }
@@ -218,7 +243,8 @@ impl<C: Drop> PoolInternals<C> {
         if is_unnotified(getting) {
             return TryAnswer::Waiting(Grant::of_nothing(self.records.next_number()));
         }
-        match self.records.take(self.config.queue_strategy) {
+        let holder = holder(&self.config, get);
+        match self.records.take(self.config.queue_strategy, holder) {
             None => {
                 let asked = one(self.records.approved() < self.gets.alive());
                 let taken = self.records.used();
@@ -228,17 +254,63 @@ impl<C: Drop> PoolInternals<C> {
                 TryAnswer::Waiting(grant)
             }
             Some((key, conn)) => {
-                self.gets.finish(get);
-                self.counters.serve(first_wait(getting), now);
                 let wanted = want(&self.config, self.handles, &self.records);
                 let grant = self.records.grant(wanted, false);
+                if self.config.test_on_check_out {
+                    self.gets.turn(get, GetPlace::Holding(key.number));
+                    return TryAnswer::Taken(key, conn, grant);
+                }
+                self.gets.finish(get);
+                self.counters.serve(first_wait(getting), now);
                 TryAnswer::Served(key, conn, grant)
             }
         }
     }
 
+    /// Serves a get with the connection that it holds, as its check was passed. The connection goes to a guard. It may stand at the hint,
+    /// the place of its key, which may be stale and changes no answer.
+    pub fn checked_ok(&mut self, at: Moment, get: GetKey, hint: usize) -> CheckedOkAnswer
+        requires { IsFitting self.old (acts.CheckedOk get.number) }
+        ensures { Meets self.old at.0 (acts.CheckedOk get.number)
+            (checked_ok_told self.old.records.next result) self.new }
+    {
+        let now = self.latest.max(at.0);
+        self.latest = now;
+        let getting = self.gets.getting(get);
+        let key = self.records.hand_over(held_key(getting, hint));
+        self.gets.finish(get);
+        self.counters.serve(first_wait(getting), now);
+        CheckedOkAnswer::Served(key)
+    }
+
+    /// Closes the connection that a get holds, as its check failed; the get may try again. It counts as invalid, and as broken too where it
+    /// is broken, or else as too old where it has lived too long. The hint is as of `checked_ok`.
+    pub fn checked_err(
+        &mut self,
+        at: Moment,
+        get: GetKey,
+        conn: C,
+        broken: bool,
+        hint: usize,
+    ) -> CheckedErrAnswer<C>
+        requires { IsFitting self.old (acts.CheckedErr get.number broken) }
+        ensures step { Meets self.old at.0 (acts.CheckedErr get.number broken)
+            (checked_err_told result) self.new }
+        ensures connection { GivesBackInvalid conn result }
+    {
+        let now = self.latest.max(at.0);
+        self.latest = now;
+        let key = held_key(self.gets.getting(get), hint);
+        let expired = is_expired(&self.config, now, self.records.birth(key));
+        let grant = end_out(&self.config, self.handles, &mut self.records, key);
+        self.counters.invalid += 1;
+        self.counters.close(broken, expired);
+        self.gets.turn(get, GetPlace::Active);
+        CheckedErrAnswer::Closed(key, conn, grant, self.gets.notify())
+    }
+
     /// Ends a get that is not served, as it timed out or was cancelled. Where it had been notified, the oldest waiter that was not is
-    /// notified in its place. It holds no connection, as no check is made yet.
+    /// notified in its place. A connection that it holds is handed in, and returns as in `put_back`. The hint is as of `checked_ok`.
     pub fn give_up(
         &mut self,
         at: Moment,
@@ -246,21 +318,72 @@ impl<C: Drop> PoolInternals<C> {
         reason: Reason,
         held: Option<C>,
         broken: bool,
-    ) -> GiveUpAnswer
+        hint: usize,
+    ) -> GiveUpAnswer<C>
         requires { IsFitting self.old (acts.GiveUp get.number (reason_of reason) held broken) }
-        ensures { Meets self.old at.0 (acts.GiveUp get.number (reason_of reason) held broken)
+        ensures step { Meets self.old at.0 (acts.GiveUp get.number (reason_of reason) held broken)
             (give_up_told result) self.new }
+        ensures connection { GivesBackHeld held result }
     {
         match held {
-            Some(_) => unreachable!(),
-            None => {
-                let now = self.latest.max(at.0);
-                self.latest = now;
-                let getting = self.gets.getting(get);
-                self.gets.end(get);
-                self.counters.give_up(reason, first_wait(getting), now);
-                GiveUpAnswer::GaveUp(hand_on(&mut self.gets, is_notified(getting)))
-            }
+            None => self.give_up_free(at, get, reason, broken),
+            Some(conn) => self.give_up_held(at, get, reason, conn, broken, hint),
+        }
+    }
+
+    /// Ends a get that is not served and holds nothing.
+    fn give_up_free(
+        &mut self,
+        at: Moment,
+        get: GetKey,
+        reason: Reason,
+        broken: bool,
+    ) -> GiveUpAnswer<C>
+        requires { IsFitting self.old (acts.GiveUp get.number (reason_of reason) None broken) }
+        ensures step { Meets self.old at.0 (acts.GiveUp get.number (reason_of reason) None broken)
+            (give_up_told result) self.new }
+        ensures connection { GivesBackHeld None result }
+    {
+        let now = self.latest.max(at.0);
+        self.latest = now;
+        let getting = self.gets.getting(get);
+        self.gets.end(get);
+        self.counters.give_up(reason, first_wait(getting), now);
+        GiveUpAnswer::GaveUp(hand_on(&mut self.gets, is_notified(getting)))
+    }
+
+    /// Ends a get that is not served and holds this connection.
+    fn give_up_held(
+        &mut self,
+        at: Moment,
+        get: GetKey,
+        reason: Reason,
+        conn: C,
+        broken: bool,
+        hint: usize,
+    ) -> GiveUpAnswer<C>
+        requires { IsFitting self.old
+            (acts.GiveUp get.number (reason_of reason) (Some conn) broken) }
+        ensures step { Meets self.old at.0
+            (acts.GiveUp get.number (reason_of reason) (Some conn) broken)
+            (give_up_told result) self.new }
+        ensures connection { GivesBackHeld (Some conn) result }
+    {
+        let now = self.latest.max(at.0);
+        self.latest = now;
+        let getting = self.gets.getting(get);
+        let key = held_key(getting, hint);
+        self.gets.finish(get);
+        self.counters.give_up(reason, first_wait(getting), now);
+        let birth = self.records.birth(key);
+        let expired = is_expired(&self.config, now, birth);
+        if is_closing(broken, expired, self.handles) {
+            let grant = end_out(&self.config, self.handles, &mut self.records, key);
+            self.counters.close(broken, expired);
+            GiveUpAnswer::Closed(key, conn, grant, self.gets.notify())
+        } else {
+            self.records.enter(key, conn, birth, now, false);
+            GiveUpAnswer::Kept(key, self.gets.notify())
         }
     }
 
@@ -277,11 +400,8 @@ impl<C: Drop> PoolInternals<C> {
         let birth = self.records.birth(k);
         let expired = is_expired(&self.config, now, birth);
         if is_closing(broken, expired, self.handles) {
-            self.records.close(k, false);
-            self.counters.broken += one(broken);
-            self.counters.max_lifetime += one_first(expired, broken);
-            let wanted = want(&self.config, self.handles, &self.records);
-            let grant = self.records.grant(wanted, false);
+            let grant = end_out(&self.config, self.handles, &mut self.records, k);
+            self.counters.close(broken, expired);
             PutBackAnswer::Closed(conn, grant, self.gets.notify())
         } else {
             self.records.enter(k, conn, birth, now, false);
@@ -453,15 +573,40 @@ impl<C: Drop> PoolInternals<C> {
     pub fn fits_try(&self, get: GetKey) -> bool
         ensures { TellsFitting self.now (acts.Try get.number) result }
     {
-        !self.config.test_on_check_out && self.gets.is_trying(get)
+        self.gets.is_trying(get)
     }
 
-    /// Whether the get may be given up with no connection in hand, for whatever reason.
-    pub fn fits_give_up(&self, get: GetKey) -> bool
-        ensures { (why : acts.Reason) (broken : Bool)
-            → TellsFitting self.now (acts.GiveUp get.number why None broken) result }
+    /// Whether the check of the get may be told as passed: where the get holds a connection.
+    pub fn fits_checked_ok(&self, get: GetKey) -> bool
+        ensures { TellsFitting self.now (acts.CheckedOk get.number) result }
     {
-        self.gets.is_alive(get)
+        held(self.gets.getting(get)).is_some()
+    }
+
+    /// Whether the check of the get may be told as failed, with a connection that is broken or not: where the get holds a connection.
+    pub fn fits_checked_err(&self, get: GetKey) -> bool
+        ensures { (broken : Bool) → TellsFitting self.now (acts.CheckedErr get.number broken) result }
+    {
+        self.fits_checked_ok(get)
+    }
+
+    /// Whether the get may be given up, for whatever reason: where it is alive, and a connection is handed in just where it holds one.
+    pub fn fits_give_up(&self, get: GetKey, handing_in: bool) -> bool
+        ensures { (why : acts.Reason) (held : Option C) (broken : Bool) → is_some held ≡ handing_in
+            → TellsFitting self.now (acts.GiveUp get.number why held broken) result }
+    {
+        match self.gets.getting(get) {
+            None => false,
+            Some(getting) => held(Some(getting)).is_some() == handing_in,
+        }
+    }
+
+    /// The number of the connection that the get holds, if it holds one.
+    pub(crate) fn held(&self, get: GetKey) -> Option<u64>
+        ensures { (l : ledger.Ledger C) → Means l self.now
+            → result ≡ places.holds (ledger.get_of l get.number) }
+    {
+        held(self.gets.getting(get))
     }
 
     /// Whether a guard may give back a connection of this key, whichever connection is handed in.

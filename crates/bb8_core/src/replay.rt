@@ -15,12 +15,13 @@ mod hints;
 
 use self::hints::Hints;
 use crate::answers::{
-    AddAnswer, BeginAnswer, ClaimAnswer, FailedAnswer, GiveUpAnswer, JoinAnswer, LeaveAnswer,
-    OpenedAnswer, PutBackAnswer, TryAnswer,
+    AddAnswer, BeginAnswer, CheckedErrAnswer, CheckedOkAnswer, ClaimAnswer, FailedAnswer,
+    GiveUpAnswer, JoinAnswer, LeaveAnswer, OpenedAnswer, PutBackAnswer, TryAnswer,
 };
 use crate::internals::PoolInternals;
 use bb8_tables::keys::{GetKey, Key};
 use bb8_types::api::{Config, Memory, Moment};
+use bb8_types::grants::Grant;
 pub use bb8_types::reasons::Reason;
 pub use events::{Act, Answer, Event};
 use std::alloc::Global;
@@ -46,12 +47,21 @@ impl Known {
     /// Where the record or the get stands that an event names, as far as it is known.
     fn place(&self, act: Act) -> usize {
         match act {
-            Act::Try(get) | Act::GiveUp(get, _, _) => self.gets.place(get),
+            Act::Try(get) | Act::CheckedOk(get) => self.gets.place(get),
+            Act::CheckedErr(get, _) | Act::GiveUp(get, _, _) => self.gets.place(get),
             Act::PutBack(number, _) | Act::Opened(number) | Act::Failed(number) => {
                 self.records.place(number)
             }
             Act::Begin | Act::Fill(_) | Act::Claim | Act::Add(_) => 0,
             Act::State | Act::Join | Act::Leave | Act::Look => 0,
+        }
+    }
+
+    /// Where the connection stands that a get holds, as far as it is known.
+    fn hint(&self, held: Option<u64>) -> usize {
+        match held {
+            None => 0,
+            Some(number) => self.records.place(number),
         }
     }
 }
@@ -71,7 +81,12 @@ fn fits_at<C: Drop>(pool: &PoolInternals<C>, act: Act, place: usize) -> bool
         Act::Begin => pool.fits_begin(),
         Act::Add(_) => pool.fits_add(),
         Act::Try(number) => pool.fits_try(GetKey { number, place }),
-        Act::GiveUp(number, _, _) => pool.fits_give_up(GetKey { number, place }),
+        Act::CheckedOk(number) => pool.fits_checked_ok(GetKey { number, place }),
+        Act::CheckedErr(number, _) => pool.fits_checked_err(GetKey { number, place }),
+        Act::GiveUp(number, _, _) => {
+            let get = GetKey { number, place };
+            pool.fits_give_up(get, pool.held(get).is_some())
+        }
         Act::PutBack(number, _) => pool.fits_put_back(Key { number, place }),
         Act::Opened(number) => pool.fits_opened(Key { number, place }),
         Act::Failed(number) => pool.fits_failed(Key { number, place }),
@@ -104,13 +119,51 @@ fn try_get(pool: &mut PoolInternals<u64>, known: &mut Known, at: Moment, get: Ge
             known.records.note(key.number, key.place);
             Answer::Served(key.number, grant)
         }
+        TryAnswer::Taken(key, _, grant) => {
+            known.records.note(key.number, key.place);
+            Answer::Taken(key.number, grant)
+        }
         TryAnswer::Waiting(grant) => Answer::Waiting(grant),
     }
 }
 
-/// In a replay no get holds a connection yet, so none is handed in.
+fn checked_ok(pool: &mut PoolInternals<u64>, known: &Known, at: Moment, get: GetKey) -> Answer
+    requires { IsFitting pool.old (acts.CheckedOk get.number) }
+    ensures { Meets pool.old at.0 (acts.CheckedOk get.number) (answer_of result) pool.new }
+{
+    let hint = known.hint(pool.held(get));
+    let grant = Grant {
+        first: pool.next_number(),
+        count: 0,
+        withheld: 0,
+    };
+    match pool.checked_ok(at, get, hint) {
+        CheckedOkAnswer::Served(key) => Answer::Served(key.number, grant),
+    }
+}
+
+fn checked_err(
+    pool: &mut PoolInternals<u64>,
+    known: &Known,
+    at: Moment,
+    get: GetKey,
+    broken: bool,
+) -> Answer
+    requires { IsFitting pool.old (acts.CheckedErr get.number broken) }
+    ensures { Meets pool.old at.0 (acts.CheckedErr get.number broken) (answer_of result) pool.new }
+{
+    let held = pool.held(get);
+    match pool.checked_err(at, get, held.unwrap_or(0), broken, known.hint(held)) {
+        CheckedErrAnswer::Closed(key, _, grant, notified) => {
+            Answer::Closed(key.number, grant, number_of(notified))
+        }
+    }
+}
+
+/// The connection that the get holds, which is its number, is handed in.
 fn give_up(
     pool: &mut PoolInternals<u64>,
+    known: &Known,
     at: Moment,
     get: GetKey,
     reason: Reason,
@@ -119,8 +172,13 @@ fn give_up(
     requires { IsTaken pool.old (events.GiveUp get.number reason broken) }
     ensures { Happens pool.old at.0 (events.GiveUp get.number reason broken) result pool.new }
 {
-    match pool.give_up(at, get, reason, None, broken) {
+    let held = pool.held(get);
+    match pool.give_up(at, get, reason, held, broken, known.hint(held)) {
         GiveUpAnswer::GaveUp(notified) => Answer::GaveUp(number_of(notified)),
+        GiveUpAnswer::Kept(key, notified) => Answer::Kept(key.number, number_of(notified)),
+        GiveUpAnswer::Closed(key, _, grant, notified) => {
+            Answer::Closed(key.number, grant, number_of(notified))
+        }
     }
 }
 
@@ -221,8 +279,19 @@ fn apply(pool: &mut PoolInternals<u64>, known: &mut Known, event: Event) -> Answ
     match event.act {
         Act::Begin => begin(pool, known, event.at),
         Act::Try(number) => try_get(pool, known, event.at, GetKey { number, place }),
+        Act::CheckedOk(number) => checked_ok(pool, known, event.at, GetKey { number, place }),
+        Act::CheckedErr(number, broken) => {
+            checked_err(pool, known, event.at, GetKey { number, place }, broken)
+        }
         Act::GiveUp(number, reason, broken) => {
-            give_up(pool, event.at, GetKey { number, place }, reason, broken)
+            give_up(
+                pool,
+                known,
+                event.at,
+                GetKey { number, place },
+                reason,
+                broken,
+            )
         }
         Act::PutBack(number, broken) => put_back(pool, event.at, Key { number, place }, broken),
         Act::Fill(claimed) => Answer::Granted(pool.fill(event.at, claimed)),

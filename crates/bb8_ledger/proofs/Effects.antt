@@ -59,7 +59,7 @@ module _ {C : Type 0} where
 
   -- an event that is allowed did not fit, or it fits and its answer is one of the table; so nothing below asks which events the code takes
   pub each_allowed : (G : Answer → Type 0) (l : Ledger C) (at : ℕ) (e : Act C) (a : Answer) → Allowed l at e a → G Unfit → (fits l e ≡ true → Row l at e a → G a) → G a
-  each_allowed G l at e a allowed unfit row = by_fit (takes l e) _ _ (G a) allowed (λ t r. row (and_right (is_brought l e) _ t).1 r) (λ t is. subst G (sym is) unfit)
+  each_allowed G l at e a allowed unfit row = by_fit (takes l e) _ _ (G a) allowed (λ t r. row (and_right (is_brought e) _ t).1 r) (λ t is. subst G (sym is) unfit)
 
   -- what holds at the beginning, where an event does not fit, and by each row, holds of each legal ledger
   pub each_legal : (P : Ledger C → Type 0) → ((s : Start) → is_lawful s.config ≡ true → P (Opening s))

@@ -13,12 +13,12 @@ use Rattle.bb8_ledger.specs.Acts.{Act, Try, CheckedOk, GiveUp, Leave, Reason, Ti
 use Rattle.bb8_ledger.specs.Answers.{Answer, Kept, Closed, GaveUp, Left, Unfit}
 use Rattle.bb8_types.specs.Numbered.{Numbered, at as at_number, update, in_order, one, after_end, after_end_where}
 use Rattle.bb8_ledger.specs.Ledger.{Ledger, Opening, Later, start, position, latest, records, gets, handles, next, next_get, conns, approved, idle_count, conns_of, approved_of, idle_of, alive, alive_of, notified, unnotified, idle, unnotified_at, first_idle, oldest_waiter, record_of, get_of, tally_gets, at_place, with_approvals, new_get, at_wait, with_notice, expires, counts, waited_since, timed_out, cancelled}
-use Rattle.bb8_types.specs.Places.{is_conn, is_approval, gets_stand, is_notified, is_unnotified, is_reaped, is_trying}
-use Rattle.bb8_ledger.specs.Table.{Row, begins, waits_on, serves, takes_out, waits, checks, check_fails, gives_up, gives_up_kept, gives_up_closed, keeps, returns_closed, fills, claims, opens, opens_late, fails, adds, reaps, joins, leaves, reap_count, IsWant, IsLegal, takes, fits, is_brought, with_record}
+use Rattle.bb8_types.specs.Places.{is_conn, is_approval, is_out, gets_stand, is_notified, is_unnotified, is_reaped, is_trying}
+use Rattle.bb8_ledger.specs.Table.{Row, begins, waits_on, serves, takes_out, waits, checks, check_fails, gives_up, gives_up_kept, gives_up_closed, keeps, returns_closed, fills, claims, opens, opens_late, fails, adds, reaps, joins, leaves, reap_count, IsWant, IsLegal, takes, fits, with_record}
 use Rattle.bb8_types.specs.Grants.{due, lacking}
 use Rattle.bb8_ledger.specs.Limits.{KeepsLimits, GivesNext, NeverGivesAgain, MakesGood, AlwaysMakesGood, KeepsLaws, KeepsPromises, NeverForgets, MayLower, lost}
 use Rattle.bb8_ledger.proofs.Standings.{conns-change, approved-change, tested}
-use Rattle.bb8_types.proofs.Places.{and_right}
+use Rattle.bb8_types.proofs.Places.{and_right, conn_from}
 use Rattle.bb8_types.proofs.Numbered as numbered
 use Rattle.bb8_ledger.proofs.Facts.{waited_before, conns_split, idle_tally, first_inside}
 use Rattle.bb8_ledger.proofs.Waiters.{getting_is, waiters_few, alive_counted, begins_counted, begins_alive, waits_on_same, notify_length, notify_alive, notify_counted, given_up_counted, IsGivenUp, InLine, line_later, line_begun, line_begins, line_notified, line_given_up, Serves, serves_same, serves_filled, serves_served, serves_entered, serves_closed, serves_late, serves_given_up, serves_handed_on, serves_waits, serves_lost, serves_reaped, serves_joined, serves_left, serves_left_open}
@@ -113,12 +113,12 @@ module _ {C : Type 0} where
       let less : due (start l).config (handles l) taken asked ≤ (start l).config.max_size - taken = due_few (start l).config (handles l) taken asked in
       omega arith
 
-  -- a connection that a guard holds, and a claimed approval, are counted
-  pub out_counted : (l : Ledger C) (k : ℕ) (s : Standing C) → record_of l k ≡ Some s → s.place ≡ Guarded → 1 ≤ conns l
-  out_counted l k s h place =
+  -- a connection that is out, and a claimed approval, are counted
+  pub out_counted : (l : Ledger C) (k : ℕ) (s : Standing C) → record_of l k ≡ Some s → is_out s.place ≡ true → 1 ≤ conns l
+  out_counted l k s h out_now =
       let m = numbered.standing_found (records l) (start l).first k s h in
       let e : conns_of (numbered.change (start l).first k (after_end m.0) (records l)) + 1 ≡ conns l + 0 =
-      conns-change (start l).first (records l) k (after_end m.0) m.0 true false m.1 (tested is_conn m.0 s Guarded m.2 place) refl in
+      conns-change (start l).first (records l) k (after_end m.0) m.0 true false m.1 (tested is_conn m.0 s s.place m.2 refl ∙ conn_from false s.place out_now) refl in
       omega arith
 
   pub claimed_counted : (l : Ledger C) (k : ℕ) (s : Standing C) → record_of l k ≡ Some s → s.place ≡ Claimed → 1 ≤ approved l
@@ -144,7 +144,7 @@ module _ {C : Type 0} where
 
   -- a get that tries is alive, and active or waiting
   pub trying_is : (l : Ledger C) (g : ℕ) → takes l (Try g) ≡ true → (st : Getting) × (get_of l g ≡ Some st) × (is_trying st.place ≡ true)
-  trying_is l g f = getting_is is_trying (get_of l g) (and_right (is_brought l (Try g)) _ f).1
+  trying_is l g f = getting_is is_trying (get_of l g) f
 
   -- a get that is alive is counted
   pub alive_is : (l : Ledger C) (g : ℕ) (st : Getting) → get_of l g ≡ Some st → 1 ≤ alive l

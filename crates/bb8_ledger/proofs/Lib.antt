@@ -4,7 +4,7 @@ pub mod Waiters
 pub mod Effects
 pub mod GetEffects
 pub mod Held
-pub mod Stage
+pub mod Invalid
 pub mod Lent
 pub mod Laws
 pub mod Evaluated

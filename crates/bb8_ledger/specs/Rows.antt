@@ -4,8 +4,8 @@ use Rattle.std.specs.Prelude.{◌≡◌, ℕ, zero, suc, ◌*◌, true, false, L
 use Rattle.bb8_types.specs.declared.grants.Grant.{Grant}
 use Rattle.bb8_types.specs.Settings.{Settings, default_settings, is_lawful}
 use Rattle.bb8_types.specs.Figures.{Figures}
-use Rattle.bb8_ledger.specs.Acts.{Act, Begin, Try, CheckedOk, CheckedErr, GiveUp, PutBack, Fill, Claim, Opened, Failed, Add, Reap, Leave, TimedOut, Cancelled}
-use Rattle.bb8_ledger.specs.Answers.{Answer, Begun, Exhausted, Served, Taken, Waiting, Kept, Closed, GaveUp, Granted, Claimed, Ended, Entered, Late, GivenBack, Added, Broken, NoCapacity, Reaped, Left, Unfit}
+use Rattle.bb8_ledger.specs.Acts.{Act, Begin, Try, CheckedOk, CheckedErr, GiveUp, PutBack, Fill, Claim, Opened, Failed, Add, Reap, Join, Leave, TimedOut, Cancelled}
+use Rattle.bb8_ledger.specs.Answers.{Answer, Begun, Exhausted, Served, Taken, Waiting, Kept, Closed, GaveUp, Granted, Claimed, Ended, Entered, Late, GivenBack, Added, Broken, NoCapacity, Reaped, Joined, Left, Unfit}
 use Rattle.bb8_ledger.specs.Ledger.{Ledger, Later, figures, opening_with}
 use Rattle.bb8_ledger.specs.Table.{AllowedBy, fits}
 use Rattle.bb8_ledger.specs.Waits.{wait, IsMostWaits}
@@ -366,4 +366,30 @@ returned_too_old =
     ∷ 0 ▸ Begin ⇒ Begun 0
     ∷ 0 ▸ Try 0 ⇒ Served 0 (grant 0 at 1)
     ∷ 2_000_000_000 ▸ returns 0 ⇒ Closed 0 (grant 0 at 1) None
+    ∷ []
+
+-- a get is let go while it checks: its connection goes back, and the waiter takes it; that one is let go with a broken one
+abbrev pub cancelled_in_check : List Told
+cancelled_in_check =
+    0 ▸ adds 0 ⇒ Added 0 None
+    ∷ 0 ▸ Begin ⇒ Begun 0
+    ∷ 0 ▸ Try 0 ⇒ Taken 0 (grant 0 at 1)
+    ∷ 0 ▸ Begin ⇒ Begun 1
+    ∷ 0 ▸ Try 1 ⇒ Waiting (grant 0 at 1)
+    ∷ 0 ▸ GiveUp 0 Cancelled (Some 0) false ⇒ Kept 0 (Some 1)
+    ∷ 0 ▸ Try 1 ⇒ Taken 0 (grant 0 at 1)
+    ∷ 0 ▸ GiveUp 1 Cancelled (Some 0) true ⇒ Closed 0 (grant 0 at 1) None
+    ∷ []
+
+-- both handles go while a connection is out: it is closed when it comes back, and no handle is made any more
+abbrev pub returned_after_last_handle : List Told
+returned_after_last_handle =
+    0 ▸ adds 0 ⇒ Added 0 None
+    ∷ 0 ▸ Join ⇒ Joined
+    ∷ 0 ▸ Begin ⇒ Begun 0
+    ∷ 0 ▸ Try 0 ⇒ Served 0 (grant 0 at 1)
+    ∷ 0 ▸ Leave ⇒ Left 0
+    ∷ 0 ▸ Leave ⇒ Left 0
+    ∷ 0 ▸ returns 0 ⇒ Closed 0 (grant 0 at 1) None
+    ∷ 0 ▸ Join ⇒ Unfit
     ∷ []

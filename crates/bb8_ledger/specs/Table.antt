@@ -37,17 +37,14 @@ module _ {C : Type 0} where
   fits l Leave = ltb 0 (handles l)
   fits l Look = true
 
-  -- What the code does not take yet: a line goes with the stage that brings its event.
-  abbrev pub is_brought : Ledger C → Act C → Bool
-  is_brought l (Try g) = not (start l).config.test_on_check_out
-  is_brought l (CheckedOk g) = false
-  is_brought l (CheckedErr g broken) = false
-  is_brought l Reap = false
-  is_brought l _ = true
+  -- What the code does not take yet: the line goes with the stage that brings its event.
+  abbrev pub is_brought : Act C → Bool
+  is_brought Reap = false
+  is_brought _ = true
 
   -- which events the code takes
   abbrev pub takes : Ledger C → Act C → Bool
-  takes l e = is_brought l e && fits l e
+  takes l e = is_brought e && fits l e
 
   -- want: what is granted of the approvals that are lacking, once the records have changed to these
   abbrev pub IsWant : Ledger C → List (Numbered (Standing C)) → Grant → Type 0

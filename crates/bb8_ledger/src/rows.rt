@@ -2,7 +2,7 @@
 ghost use Rattle.std.specs.Prelude.{[], ◌∷◌};
 ghost use Rattle.bb8_types.specs.declared.api.configuration.QueueStrategy.TheVariants.{Lifo};
 ghost use Rattle.bb8_types.specs.Settings.{default_settings};
-ghost use Rattle.bb8_ledger.specs.Rows.{IsRow, IsBackOff, two_opened, three_out, first_script, overtaken, handed_on, oldest_first, newest_first, check_failed, reaped_at_the_limit, moment_goes_back, get_numbers_used_up, added_until_full, returned_unfit, none_left_valid, last_handle_left, waited_five_micros, used_again, idled_out, returned_too_old, unchecked, connections◌idle◌started◌direct◌waited◌timed_out◌cancelled◌wait_us◌created◌broken◌invalid◌lifetime◌idle_timeout◌};
+ghost use Rattle.bb8_ledger.specs.Rows.{IsRow, IsBackOff, two_opened, three_out, first_script, overtaken, handed_on, oldest_first, newest_first, check_failed, reaped_at_the_limit, moment_goes_back, get_numbers_used_up, added_until_full, returned_unfit, none_left_valid, last_handle_left, waited_five_micros, used_again, idled_out, returned_too_old, cancelled_in_check, returned_after_last_handle, unchecked, connections◌idle◌started◌direct◌waited◌timed_out◌cancelled◌wait_us◌created◌broken◌invalid◌lifetime◌idle_timeout◌};
 
 /// Worked rows of the definitions: no code stands behind them. Each clause but the last three says of one row that the whole step table
 /// allows the answers of its lines, from its configuration and first numbers on, and that the state shown at the end has these figures.
@@ -28,6 +28,8 @@ pub fn worked_rows()
     ensures used_again { IsRow (record (unchecked 100) { min_idle = Some 0; queue_strategy = Lifo }) 0 0 used_again (connections 2 idle 0 started 3 direct 1 waited 2 timed_out 0 cancelled 0 wait_us 0 created 2 broken 0 invalid 0 lifetime 0 idle_timeout 0) }
     ensures idled_out { IsRow (record (unchecked 5) { min_idle = Some 5; max_lifetime = None; idle_timeout = Some 1_000_000_000 }) 0 0 idled_out (connections 0 idle 0 started 1 direct 1 waited 0 timed_out 0 cancelled 0 wait_us 0 created 5 broken 0 invalid 0 lifetime 0 idle_timeout 5) }
     ensures returned_too_old { IsRow (record (unchecked 1) { max_lifetime = Some 1_000_000_000 }) 0 0 returned_too_old (connections 0 idle 0 started 1 direct 1 waited 0 timed_out 0 cancelled 0 wait_us 0 created 0 broken 0 invalid 0 lifetime 1 idle_timeout 0) }
+    ensures cancelled_in_check { IsRow (record default_settings { max_size = 1 }) 0 0 cancelled_in_check (connections 0 idle 0 started 2 direct 0 waited 0 timed_out 0 cancelled 2 wait_us 0 created 0 broken 1 invalid 0 lifetime 0 idle_timeout 0) }
+    ensures returned_after_last_handle { IsRow (unchecked 1) 0 0 returned_after_last_handle (connections 0 idle 0 started 1 direct 1 waited 0 timed_out 0 cancelled 0 wait_us 0 created 0 broken 0 invalid 0 lifetime 0 idle_timeout 0) }
     ensures waits_of_one_second { IsBackOff 1_000_000_000 (400_000_000 ∷ 500_000_000 ∷ 500_000_000 ∷ []) 2 }
     ensures waits_of_thirty_seconds { IsBackOff 30_000_000_000 (400_000_000 ∷ 800_000_000 ∷ 1_600_000_000 ∷ 3_200_000_000 ∷ 6_400_000_000 ∷ 12_800_000_000 ∷ 15_000_000_000 ∷ []) 6 }
     ensures waits_of_a_tenth_second { IsBackOff 100_000_000 (50_000_000 ∷ 50_000_000 ∷ 50_000_000 ∷ []) 2 }

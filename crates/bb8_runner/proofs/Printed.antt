@@ -5,7 +5,7 @@ use Rattle.std.specs.List.{All}
 use Rattle.std.proofs.lemmas.List.Elements.{All-nil, All-weaker}
 use Rattle.bb8_types.specs.Figures.{Counts, Figures, figures_of}
 use Rattle.bb8_core.specs.declared.replay.events.Answer.{Answer}
-use Rattle.bb8_core.specs.declared.replay.events.Answer.TheVariants.{Begun, Memory, Exhausted, Served, Waiting, Kept, Closed, GaveUp, Granted, Claimed, Ended, Entered, Late, GivenBack, Added, Broken, NoCapacity, Withheld, Shown, Joined, Left, Looked, Unfit}
+use Rattle.bb8_core.specs.declared.replay.events.Answer.TheVariants.{Begun, Memory, Exhausted, Served, Taken, Waiting, Kept, Closed, GaveUp, Granted, Claimed, Ended, Entered, Late, GivenBack, Added, Broken, NoCapacity, Withheld, Shown, Joined, Left, Looked, Unfit}
 use Rattle.bb8_types.specs.declared.grants.Grant.{Grant}
 use Rattle.bb8_runner.specs.Text.{grant_text, notifies_text, sizes_text, gets_text, opened_text, closed_text, state_text, answer_text}
 use Rattle.bb8_runner.proofs.Bytes.{IsOver, AreOver, over, are_over, decimal_over, joined}
@@ -65,6 +65,7 @@ answer_visible (Begun g) = word (codes "begun ") _ refl (number g)
 answer_visible Memory = are_over 31 (codes "memory") refl
 answer_visible Exhausted = are_over 31 (codes "exhausted") refl
 answer_visible (Served k grant) = word (codes "served ") _ refl (after k _ (grant_visible grant))
+answer_visible (Taken k grant) = word (codes "taken ") _ refl (after k _ (grant_visible grant))
 answer_visible (Waiting grant) = word (codes "waiting") _ refl (grant_visible grant)
 answer_visible (Kept k notified) = word (codes "kept ") _ refl (after k _ (notifies_visible notified))
 answer_visible (Closed k grant notified) = word (codes "closed ") _ refl (after k _ (joined 31 (grant_text grant) (notifies_text notified) (grant_visible grant) (notifies_visible notified)))

@@ -4,7 +4,7 @@ use Rattle.std.specs.Fmt.{decimal}
 use Rattle.std.specs.Str.{bytes_eq}
 use Rattle.std.proofs.lemmas.Slice.Eq.{bytes_eq-Decides}
 use Rattle.bb8_core.specs.declared.replay.events.Act.{Act}
-use Rattle.bb8_core.specs.declared.replay.events.Act.TheVariants.{Begin, Try, GiveUp, PutBack, Fill, Claim, Opened, Failed, Add, State, Join, Leave, Look}
+use Rattle.bb8_core.specs.declared.replay.events.Act.TheVariants.{Begin, Try, CheckedOk, CheckedErr, GiveUp, PutBack, Fill, Claim, Opened, Failed, Add, State, Join, Leave, Look}
 use Rattle.bb8_types.specs.declared.reasons.Reason.TheVariants.{TimedOut, Cancelled}
 use Rattle.bb8_core.specs.declared.replay.events.Event.{Event}
 use Rattle.bb8_runner.specs.Grammar.{◌>>=◌, number_of, plain_act, worded_act, numbered_act, broken_act, act_of, event_of_fields}
@@ -27,11 +27,14 @@ act_read Join h = refl
 act_read Leave h = refl
 act_read Look h = refl
 act_read (Try n) h = ap (λ o. unwrap_or (option_map (numbered_act (codes "try")) o) (worded_act (codes "try") (decimal n))) (number_read 64 n h h)
+act_read (CheckedOk n) h = ap (λ o. unwrap_or (option_map (numbered_act (codes "ok")) o) (worded_act (codes "ok") (decimal n))) (number_read 64 n h h)
+act_read (CheckedErr n false) h = ap (λ o. unwrap_or (option_map (numbered_act (codes "err")) o) (worded_act (codes "err") (decimal n))) (number_read 64 n h h)
 act_read (GiveUp n TimedOut false) h = ap (λ o. unwrap_or (option_map (numbered_act (codes "timeout")) o) (worded_act (codes "timeout") (decimal n))) (number_read 64 n h h)
 act_read (GiveUp n Cancelled false) h = ap (λ o. unwrap_or (option_map (numbered_act (codes "cancel")) o) (worded_act (codes "cancel") (decimal n))) (number_read 64 n h h)
 act_read (PutBack n false) h = ap (λ o. unwrap_or (option_map (numbered_act (codes "return")) o) (worded_act (codes "return") (decimal n))) (number_read 64 n h h)
 act_read (Opened n) h = ap (λ o. unwrap_or (option_map (numbered_act (codes "open")) o) (worded_act (codes "open") (decimal n))) (number_read 64 n h h)
 act_read (Failed n) h = ap (λ o. unwrap_or (option_map (numbered_act (codes "fail")) o) (worded_act (codes "fail") (decimal n))) (number_read 64 n h h)
+act_read (CheckedErr n true) h = ap (λ o. o >>= broken_act (codes "err")) (number_read 64 n h h)
 act_read (GiveUp n TimedOut true) h = ap (λ o. o >>= broken_act (codes "timeout")) (number_read 64 n h h)
 act_read (GiveUp n Cancelled true) h = ap (λ o. o >>= broken_act (codes "cancel")) (number_read 64 n h h)
 act_read (PutBack n true) h = ap (λ o. o >>= broken_act (codes "return")) (number_read 64 n h h)
@@ -64,21 +67,24 @@ numbered_spelled verb arg n a small d =
     let P : Act → Type 0 = SpellsAct verb (arg ∷ []) in
     let s = ap (λ x. x ∷ []) d in
     step verb (codes "try") (Try n) _ a P (λ v. (v, s, small)) (
+    step verb (codes "ok") (CheckedOk n) _ a P (λ v. (v, s, small)) (
+    step verb (codes "err") (CheckedErr n false) _ a P (λ v. (v, s, small)) (
     step verb (codes "timeout") (GiveUp n TimedOut false) _ a P (λ v. (v, s, small)) (
     step verb (codes "cancel") (GiveUp n Cancelled false) _ a P (λ v. (v, s, small)) (
     step verb (codes "return") (PutBack n false) _ a P (λ v. (v, s, small)) (
     step verb (codes "open") (Opened n) _ a P (λ v. (v, s, small)) (
     step verb (codes "fail") (Failed n) _ a P (λ v. (v, s, small)) (
-    λ w. absurd (never a w)))))))
+    λ w. absurd (never a w)))))))))
 
 broken_spelled : (verb arg word : List ℕ) (n : ℕ) (a : Act) → n < 2 ^ 64 → arg ≡ decimal n → word ≡ codes "broken" → broken_act verb n ≡ Some a → SpellsAct verb (arg ∷ word ∷ []) a
 broken_spelled verb arg word n a small d b =
     let P : Act → Type 0 = SpellsAct verb (arg ∷ word ∷ []) in
     let s : arg ∷ word ∷ [] ≡ decimal n ∷ codes "broken" ∷ [] = ap (λ x. x ∷ word ∷ []) d ∙ ap (λ x. decimal n ∷ x ∷ []) b in
+    step verb (codes "err") (CheckedErr n true) _ a P (λ v. (v, s, small)) (
     step verb (codes "timeout") (GiveUp n TimedOut true) _ a P (λ v. (v, s, small)) (
     step verb (codes "cancel") (GiveUp n Cancelled true) _ a P (λ v. (v, s, small)) (
     step verb (codes "return") (PutBack n true) _ a P (λ v. (v, s, small)) (
-    λ w. absurd (never a w))))
+    λ w. absurd (never a w)))))
 
 worded_spelled : (verb word : List ℕ) (a : Act) → worded_act verb word ≡ Some a → SpellsAct verb (word ∷ []) a
 worded_spelled verb word a =

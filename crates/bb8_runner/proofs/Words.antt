@@ -9,7 +9,7 @@ use Rattle.std.proofs.lemmas.List.Splits.{join_with_byte-slice_split, slice_spli
 use Rattle.std.proofs.lemmas.Str.{IsUtf8-from_ascii, IsAscii-append}
 use Rattle.std.proofs.lemmas.Str.Ascii.{IsAscii-cons, IsAscii-nil, IsAscii-from_all}
 use Rattle.bb8_core.specs.declared.replay.events.Act.{Act}
-use Rattle.bb8_core.specs.declared.replay.events.Act.TheVariants.{Begin, Try, GiveUp, PutBack, Fill, Claim, Opened, Failed, Add, State, Join, Leave, Look}
+use Rattle.bb8_core.specs.declared.replay.events.Act.TheVariants.{Begin, Try, CheckedOk, CheckedErr, GiveUp, PutBack, Fill, Claim, Opened, Failed, Add, State, Join, Leave, Look}
 use Rattle.bb8_types.specs.declared.reasons.Reason.TheVariants.{TimedOut, Cancelled}
 use Rattle.bb8_core.specs.declared.replay.events.Event.{Event}
 use Rattle.bb8_runner.specs.Grammar.{fields_of, event_of}
@@ -48,6 +48,8 @@ verb_word : (a : Act) → AreOver 32 (verb_of a)
 unfolding over
 verb_word Begin = are_over 32 (codes "begin") refl
 verb_word (Try g) = are_over 32 (codes "try") refl
+verb_word (CheckedOk g) = are_over 32 (codes "ok") refl
+verb_word (CheckedErr g b) = are_over 32 (codes "err") refl
 verb_word (GiveUp g TimedOut b) = are_over 32 (codes "timeout") refl
 verb_word (GiveUp g Cancelled b) = are_over 32 (codes "cancel") refl
 verb_word (PutBack k b) = are_over 32 (codes "return") refl
@@ -71,6 +73,8 @@ flag_words word false h = tt
 args_words : (a : Act) → AreWords (args_of a)
 unfolding over
 args_words (Try g) = (number_word g, tt)
+args_words (CheckedOk g) = (number_word g, tt)
+args_words (CheckedErr g b) = (number_word g, flag_words (codes "broken") b (are_over 32 (codes "broken") refl))
 args_words (GiveUp g why b) = (number_word g, flag_words (codes "broken") b (are_over 32 (codes "broken") refl))
 args_words (PutBack k b) = (number_word k, flag_words (codes "broken") b (are_over 32 (codes "broken") refl))
 args_words (Fill c) = flag_words (codes "claimed") c (are_over 32 (codes "claimed") refl)

@@ -4,7 +4,7 @@ use Rattle.std.specs.List.{slice_split}
 use Rattle.std.specs.Str.{bytes_eq}
 use Rattle.std.specs.Str.Parse.{digits_value}
 use Rattle.bb8_core.specs.declared.replay.events.Act.{Act}
-use Rattle.bb8_core.specs.declared.replay.events.Act.TheVariants.{Begin, Try, GiveUp, PutBack, Fill, Claim, Opened, Failed, Add, State, Join, Leave, Look}
+use Rattle.bb8_core.specs.declared.replay.events.Act.TheVariants.{Begin, Try, CheckedOk, CheckedErr, GiveUp, PutBack, Fill, Claim, Opened, Failed, Add, State, Join, Leave, Look}
 use Rattle.bb8_types.specs.declared.reasons.Reason.TheVariants.{TimedOut, Cancelled}
 use Rattle.bb8_core.specs.declared.replay.events.Event.{Event}
 
@@ -43,20 +43,23 @@ worded_act verb word =
 abbrev pub numbered_act : List ℕ → ℕ → Option Act
 numbered_act verb n =
     if bytes_eq verb (codes "try") then Some (Try n)
+    else (if bytes_eq verb (codes "ok") then Some (CheckedOk n)
+    else (if bytes_eq verb (codes "err") then Some (CheckedErr n false)
     else (if bytes_eq verb (codes "timeout") then Some (GiveUp n TimedOut false)
     else (if bytes_eq verb (codes "cancel") then Some (GiveUp n Cancelled false)
     else (if bytes_eq verb (codes "return") then Some (PutBack n false)
     else (if bytes_eq verb (codes "open") then Some (Opened n)
     else (if bytes_eq verb (codes "fail") then Some (Failed n)
-    else None)))))
+    else None)))))))
 
 -- the verbs with a number and the word `broken` after them
 abbrev pub broken_act : List ℕ → ℕ → Option Act
 broken_act verb n =
-    if bytes_eq verb (codes "timeout") then Some (GiveUp n TimedOut true)
+    if bytes_eq verb (codes "err") then Some (CheckedErr n true)
+    else (if bytes_eq verb (codes "timeout") then Some (GiveUp n TimedOut true)
     else (if bytes_eq verb (codes "cancel") then Some (GiveUp n Cancelled true)
     else (if bytes_eq verb (codes "return") then Some (PutBack n true)
-    else None))
+    else None)))
 
 -- what a verb and its arguments say
 unfoldable pub act_of : List ℕ → List (List ℕ) → Option Act

@@ -2,7 +2,7 @@
 use Rattle.std.specs.Prelude.{◌≡◌, ◌≢◌, ℕ, ◌^◌, ◌<◌, List, [], ◌∷◌, ◌++◌, map, ⊤, Bool, true, false, Option, Some, None, codes, decimal}
 use Rattle.std.specs.List.{join_with_byte}
 use Rattle.bb8_core.specs.declared.replay.events.Act.{Act}
-use Rattle.bb8_core.specs.declared.replay.events.Act.TheVariants.{Begin, Try, GiveUp, PutBack, Fill, Claim, Opened, Failed, Add, State, Join, Leave, Look}
+use Rattle.bb8_core.specs.declared.replay.events.Act.TheVariants.{Begin, Try, CheckedOk, CheckedErr, GiveUp, PutBack, Fill, Claim, Opened, Failed, Add, State, Join, Leave, Look}
 use Rattle.bb8_types.specs.declared.reasons.Reason.TheVariants.{TimedOut, Cancelled}
 use Rattle.bb8_core.specs.declared.replay.events.Event.{Event}
 use Rattle.bb8_types.specs.declared.api.configuration.QueueStrategy.{QueueStrategy}
@@ -13,6 +13,8 @@ use Rattle.bb8_types.specs.Settings.{Settings, default_settings, is_lawful}
 abbrev pub verb_of : Act → List ℕ
 verb_of Begin = codes "begin"
 verb_of (Try g) = codes "try"
+verb_of (CheckedOk g) = codes "ok"
+verb_of (CheckedErr g b) = codes "err"
 verb_of (GiveUp g TimedOut b) = codes "timeout"
 verb_of (GiveUp g Cancelled b) = codes "cancel"
 verb_of (PutBack k b) = codes "return"
@@ -34,6 +36,8 @@ flag word false = []
 -- what stands after the verb
 abbrev pub args_of : Act → List (List ℕ)
 args_of (Try g) = decimal g ∷ []
+args_of (CheckedOk g) = decimal g ∷ []
+args_of (CheckedErr g b) = decimal g ∷ flag (codes "broken") b
 args_of (GiveUp g why b) = decimal g ∷ flag (codes "broken") b
 args_of (PutBack k b) = decimal k ∷ flag (codes "broken") b
 args_of (Fill c) = flag (codes "claimed") c
@@ -50,6 +54,8 @@ args_of Look = []
 -- the number that the act names is a u64
 abbrev pub FitsAct : Act → Type 0
 FitsAct (Try g) = g < 2 ^ 64
+FitsAct (CheckedOk g) = g < 2 ^ 64
+FitsAct (CheckedErr g b) = g < 2 ^ 64
 FitsAct (GiveUp g why b) = g < 2 ^ 64
 FitsAct (PutBack k b) = k < 2 ^ 64
 FitsAct (Opened a) = a < 2 ^ 64

@@ -2,7 +2,7 @@
 use Rattle.std.specs.Prelude.{ℕ, ◌/◌, ◌==◌, List, [], ◌∷◌, ◌++◌, true, false, Option, Some, None, codes, decimal, if◌then◌else◌, flat_map}
 use Rattle.bb8_types.specs.Figures.{Counts, Figures, figures_of}
 use Rattle.bb8_core.specs.declared.replay.events.Answer.{Answer}
-use Rattle.bb8_core.specs.declared.replay.events.Answer.TheVariants.{Begun, Memory, Exhausted, Served, Waiting, Kept, Closed, GaveUp, Granted, Claimed, Ended, Entered, Late, GivenBack, Added, Broken, NoCapacity, Withheld, Shown, Joined, Left, Looked, Unfit}
+use Rattle.bb8_core.specs.declared.replay.events.Answer.TheVariants.{Begun, Memory, Exhausted, Served, Taken, Waiting, Kept, Closed, GaveUp, Granted, Claimed, Ended, Entered, Late, GivenBack, Added, Broken, NoCapacity, Withheld, Shown, Joined, Left, Looked, Unfit}
 use Rattle.bb8_types.specs.declared.grants.Grant.{Grant}
 
 -- ` grant N at F` where something was granted, and ` withheld W` where something was withheld
@@ -43,6 +43,7 @@ answer_text (Begun g) = codes "begun " ++ decimal g
 answer_text Memory = codes "memory"
 answer_text Exhausted = codes "exhausted"
 answer_text (Served k grant) = codes "served " ++ (decimal k ++ grant_text grant)
+answer_text (Taken k grant) = codes "taken " ++ (decimal k ++ grant_text grant)
 answer_text (Waiting grant) = codes "waiting" ++ grant_text grant
 answer_text (Kept k notified) = codes "kept " ++ (decimal k ++ notifies_text notified)
 answer_text (Closed k grant notified) = codes "closed " ++ (decimal k ++ (grant_text grant ++ notifies_text notified))

@@ -65,6 +65,8 @@ fn numbered_act(verb: &str, n: u64) -> Option<Act>
 {
     match verb {
         "try" => Some(Act::Try(n)),
+        "ok" => Some(Act::CheckedOk(n)),
+        "err" => Some(Act::CheckedErr(n, false)),
         "timeout" => Some(Act::GiveUp(n, Reason::TimedOut, false)),
         "cancel" => Some(Act::GiveUp(n, Reason::Cancelled, false)),
         "return" => Some(Act::PutBack(n, false)),
@@ -79,6 +81,7 @@ fn broken_act(verb: &str, n: u64) -> Option<Act>
     ensures { result ≡ broken_act verb.now n }
 {
     match verb {
+        "err" => Some(Act::CheckedErr(n, true)),
         "timeout" => Some(Act::GiveUp(n, Reason::TimedOut, true)),
         "cancel" => Some(Act::GiveUp(n, Reason::Cancelled, true)),
         "return" => Some(Act::PutBack(n, true)),

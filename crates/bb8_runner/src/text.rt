@@ -151,6 +151,7 @@ impl fmt::Display for AnswerText {
             Answer::Memory => write!(f, "memory"),
             Answer::Exhausted => write!(f, "exhausted"),
             Answer::Served(k, grant) => write!(f, "served {k}{}", GrantPart(grant)),
+            Answer::Taken(k, grant) => write!(f, "taken {k}{}", GrantPart(grant)),
             Answer::Waiting(grant) => write!(f, "waiting{}", GrantPart(grant)),
             Answer::Kept(k, notified) => write!(f, "kept {k}{}", NotifiesPart(notified)),
             Answer::Closed(k, grant, notified) => {

@@ -1,5 +1,5 @@
 //! The counters behind a pool's statistics.
-ghost use Rattle.std.specs.Prelude.{◌≡◌, ◌+◌, ◌<◌, ◌≤◌, min, not, is_some};
+ghost use Rattle.std.specs.Prelude.{◌≡◌, ◌+◌, ◌<◌, ◌≤◌, ◌&&◌, min, not, is_some};
 ghost use Rattle.bb8_types.specs.Places.{micros_since};
 ghost use Rattle.bb8_types.specs.Numbered.{one};
 ghost use Rattle.bb8_types.specs.declared.reasons.Reason.TheVariants.{TimedOut, Cancelled};
@@ -109,6 +109,23 @@ impl Counters {
                     .saturating_add(micros_since(now, first_wait));
             }
             Reason::Cancelled => self.cancelled += 1,
+        }
+    }
+
+    /// A connection was closed as it came back: it was broken, or else it had lived too long, or neither.
+    pub fn close(&mut self, broken: bool, expired: bool)
+        requires { self.old.broken + self.old.max_lifetime < end_of_numbers }
+        ensures { self.new ≡ record self.old {
+          broken =
+              self.old.broken + one broken;
+          max_lifetime =
+              self.old.max_lifetime + one (not broken && expired);
+        } }
+    {
+        if broken {
+            self.broken += 1;
+        } else if expired {
+            self.max_lifetime += 1;
         }
     }
 

@@ -8,7 +8,7 @@ ghost use Rattle.bb8_tables.specs.Keys.{notified_of};
 ghost use Rattle.bb8_tables.specs.Views.{no_gets};
 ghost use Rattle.bb8_types.specs.Bounds.{end_of_numbers};
 
-use crate::keys::GetKey;
+use crate::keys::{GetKey, Key};
 use crate::table::{Slot, Table};
 use bb8_types::bounds::END_OF_NUMBERS;
 use bb8_types::standing::{GetPlace, Getting};
@@ -100,6 +100,16 @@ pub fn held(getting: Option<Getting>) -> Option<u64>
             },
         ) => Some(number),
         _ => None,
+    }
+}
+
+/// The key of the connection that a get holds, which may stand at the hint; that of the number 0, if it holds none.
+pub fn held_key(getting: Option<Getting>, hint: usize) -> Key
+    ensures { (k : ℕ) → places.holds getting ≡ Some k → result.number ≡ k }
+{
+    Key {
+        number: held(getting).unwrap_or(0),
+        place: hint,
     }
 }
 

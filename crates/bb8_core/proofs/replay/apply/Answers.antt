@@ -14,6 +14,12 @@ begin-requires c = λ l legal means. subst (λ (a : Named). takes l (act_of l a)
 pub try_get-requires : goal.try_get-requires
 try_get-requires c = λ l legal means. subst (λ (a : Named). takes l (act_of l a) ≡ true) c.in-Try.is (sym (c.fits_at.ensures (λ k. k) l legal means) ∙ c.if-not-fits_at.false)
 
+pub checked_ok-requires : goal.checked_ok-requires
+checked_ok-requires c = λ l legal means. subst (λ (a : Named). takes l (act_of l a) ≡ true) c.in-CheckedOk.is (sym (c.fits_at.ensures (λ k. k) l legal means) ∙ c.if-not-fits_at.false)
+
+pub checked_err-requires : goal.checked_err-requires
+checked_err-requires c = λ l legal means. subst (λ (a : Named). takes l (act_of l a) ≡ true) c.in-CheckedErr.is (sym (c.fits_at.ensures (λ k. k) l legal means) ∙ c.if-not-fits_at.false)
+
 pub put_back-requires : goal.put_back-requires
 put_back-requires c = λ l legal means. subst (λ (a : Named). takes l (act_of l a) ≡ true) c.in-PutBack.is (sym (c.fits_at.ensures (λ k. k) l legal means) ∙ c.if-not-fits_at.false)
 

@@ -60,6 +60,12 @@ returns-clause-idled_out c = by_evaluation refl refl refl
 pub returns-clause-returned_too_old : goal.returns-clause-returned_too_old
 returns-clause-returned_too_old c = by_evaluation refl refl refl
 
+pub returns-clause-cancelled_in_check : goal.returns-clause-cancelled_in_check
+returns-clause-cancelled_in_check c = by_evaluation refl refl refl
+
+pub returns-clause-returned_after_last_handle : goal.returns-clause-returned_after_last_handle
+returns-clause-returned_after_last_handle c = by_evaluation refl refl refl
+
 pub returns-clause-waits_of_one_second : goal.returns-clause-waits_of_one_second
 returns-clause-waits_of_one_second c = waits_by_evaluation refl refl
 

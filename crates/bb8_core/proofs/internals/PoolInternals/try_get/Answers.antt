@@ -1,11 +1,15 @@
-use Rattle.std.proofs.Common.{ℕ, sym, refl, ◌∙◌, arith, subst}
+use Rattle.std.proofs.Common.{ℕ, Bool, cond, sym, ap, refl, ◌∙◌, arith, subst}
 use Rattle.bb8_types.specs.declared.standing.Place.TheVariants.{Idle}
+use Rattle.bb8_types.specs.declared.standing.Holder.{Holder}
+use Rattle.bb8_types.specs.declared.standing.Holder.TheVariants.{Guard, Get}
+use Rattle.bb8_types.specs.Places.{place_with}
+use Rattle.bb8_tables.specs.Machine as machine
 use Rattle.bb8_ledger.specs.Acts as acts
 use Rattle.bb8_ledger.specs.Answers as answers
 use Rattle.bb8_core.specs.Pool.{view_of}
 use Rattle.bb8_types.specs.Grants.{IsNoGrant}
 use Rattle.bb8_core.proofs.Fitting.{shown_record, due_fits, fit_try, fit_waits, ended_few}
-use Rattle.bb8_core.proofs.Steps.{grants, tries, meets_served, meets_waits_on, meets_waits, due_waiting, led, at_view}
+use Rattle.bb8_core.proofs.Steps.{grants, tries, meets_served, meets_taken, meets_waits_on, meets_waits, due_waiting, led, at_view}
 use Rattle.bb8_core.proofs.internals.PoolInternals.try_get.Goals as goal
 
 pub returns-then-is_unnotified-clause-step : goal.returns-then-is_unnotified-clause-step
@@ -33,6 +37,30 @@ returns-in-None-clause-step g c = at_view c.args.at.0 (acts.Try c.args.get.numbe
 pub invariant_of-self-in-None : goal.invariant_of-self-in-None
 invariant_of-self-in-None g c = led _ c.args.at.0 (acts.Try c.args.get.number) (answers.Waiting c.grant-grant.result) c.self.view_is c.self.invariant (returns-in-None-clause-step g c)
 
+pub grant-grant-requires-in-Some : goal.grant-grant-requires-in-Some
+grant-grant-requires-in-Some g c = omega (arith, due_fits (view_of c.self.inside) _ c.self.invariant (omega arith) c.in-Some.ensures.some.2 refl c.want-wanted.ensures)
+
+pub turn-requires-clause-stands : goal.turn-requires-clause-stands
+turn-requires-clause-stands g c = fit_waits c.args.get.number c.self.view_is c.self.invariant c.requires c.getting-getting.ensures (sym c.is_unnotified.ensures ∙ c.if-is_unnotified.false)
+
+pub returns-then-self-clause-step : goal.returns-then-self-clause-step
+returns-then-self-clause-step g c = at_view c.args.at.0 (acts.Try c.args.get.number) (answers.Taken c.in-Some.key.number c.grant-grant-in-Some.result) c.self.view_is
+    (meets_taken (tries c.self.view_is c.requires c.max-now.ensures c.getting-getting.ensures)
+    (sym c.is_unnotified.ensures ∙ c.if-is_unnotified.false) c.if-self.true c.in-Some.ensures.some.0
+    (grants (c.in-Some.ensures.some.2
+    ∙ ap (λ (h : Holder). machine.after_take (place_with h) c.in-Some.key.number c.self.inside.records)
+    (c.holder-holder.ensures ∙ ap (λ (b : Bool). cond b (Get c.args.get.number) Guard) c.if-self.true))
+    c.want-wanted.ensures c.grant-grant-in-Some.ensures.granted c.grant-grant-in-Some.ensures.state) c.turn.ensures)
+
+pub invariant_of-self-then-self : goal.invariant_of-self-then-self
+invariant_of-self-then-self g c = led _ c.args.at.0 (acts.Try c.args.get.number)
+    (answers.Taken c.in-Some.key.number c.grant-grant-in-Some.result) c.self.view_is c.self.invariant (returns-then-self-clause-step g c)
+
+pub returns-then-self-clause-connection : goal.returns-then-self-clause-connection
+returns-then-self-clause-connection g c = λ l legal means.
+    let was = c.in-Some.ensures.some.1 in
+    (record { place = Idle c.in-Some.conn; birth = was.0; entered = was.1 }, shown_record l (view_of c.self.inside) (means ∙ sym c.self.view_is) c.in-Some.key.number ∙ was.2, refl)
+
 pub finish-requires : goal.finish-requires
 finish-requires g c = fit_waits c.args.get.number c.self.view_is c.self.invariant c.requires c.getting-getting.ensures (sym c.is_unnotified.ensures ∙ c.if-is_unnotified.false)
 
@@ -50,21 +78,21 @@ serve-requires-clause-waited g c = omega (
       (fit_try c.args.get.number c.self.view_is c.self.invariant c.requires) c.finish.ensures.numbers,
 )
 
-pub grant-grant-requires-in-Some : goal.grant-grant-requires-in-Some
-grant-grant-requires-in-Some g c = omega (arith, due_fits (view_of c.self.inside) _ c.self.invariant (omega arith) c.in-Some.ensures.some.2 refl c.want-wanted.ensures)
-
-pub returns-in-Some-clause-step : goal.returns-in-Some-clause-step
-returns-in-Some-clause-step g c = at_view c.args.at.0 (acts.Try c.args.get.number) (answers.Served c.in-Some.key.number c.grant-grant-in-Some.result) c.self.view_is
+pub returns-else-self-clause-step : goal.returns-else-self-clause-step
+returns-else-self-clause-step g c = at_view c.args.at.0 (acts.Try c.args.get.number) (answers.Served c.in-Some.key.number c.grant-grant-in-Some.result) c.self.view_is
     (meets_served c.self.inside.counters (tries c.self.view_is c.requires c.max-now.ensures c.getting-getting.ensures)
-    (sym c.is_unnotified.ensures ∙ c.if-is_unnotified.false) c.in-Some.ensures.some.0
-    (grants c.in-Some.ensures.some.2 c.want-wanted.ensures c.grant-grant-in-Some.ensures.granted c.grant-grant-in-Some.ensures.state)
-    c.finish.ensures.state refl c.first_wait.ensures c.serve.ensures)
+    (sym c.is_unnotified.ensures ∙ c.if-is_unnotified.false) c.if-self.false c.in-Some.ensures.some.0
+    (grants (c.in-Some.ensures.some.2
+    ∙ ap (λ (h : Holder). machine.after_take (place_with h) c.in-Some.key.number c.self.inside.records)
+    (c.holder-holder.ensures ∙ ap (λ (b : Bool). cond b (Get c.args.get.number) Guard) c.if-self.false))
+    c.want-wanted.ensures c.grant-grant-in-Some.ensures.granted c.grant-grant-in-Some.ensures.state) c.finish.ensures.state refl
+    c.first_wait.ensures c.serve.ensures)
 
 pub invariant_of-self-in-Some : goal.invariant_of-self-in-Some
 invariant_of-self-in-Some g c = led _ c.args.at.0 (acts.Try c.args.get.number)
-    (answers.Served c.in-Some.key.number c.grant-grant-in-Some.result) c.self.view_is c.self.invariant (returns-in-Some-clause-step g c)
+    (answers.Served c.in-Some.key.number c.grant-grant-in-Some.result) c.self.view_is c.self.invariant (returns-else-self-clause-step g c)
 
-pub returns-in-Some-clause-connection : goal.returns-in-Some-clause-connection
-returns-in-Some-clause-connection g c = λ l legal means.
+pub returns-else-self-clause-connection : goal.returns-else-self-clause-connection
+returns-else-self-clause-connection g c = λ l legal means.
     let was = c.in-Some.ensures.some.1 in
     (record { place = Idle c.in-Some.conn; birth = was.0; entered = was.1 }, shown_record l (view_of c.self.inside) (means ∙ sym c.self.view_is) c.in-Some.key.number ∙ was.2, refl)
