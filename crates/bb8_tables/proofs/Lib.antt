@@ -1,6 +1,9 @@
 pub mod Views
+pub mod Spelled
+pub mod Linked
 pub mod Slots
 pub mod Lines
+pub mod Numbers
 pub mod RecordPlaces
 pub mod Approvals
 pub mod Ended

@@ -1,94 +1,11 @@
--- Lines of keys that lead to the slots of a table, by a test of what stands there.
-use Rattle.std.proofs.Common.{◌≡◌, ◌≢◌, ℕ, zero, suc, ◌+◌, ◌-◌, ◌<◌, ◌≤◌, Bool, true, false, cond, not, eqb, List, [], ◌∷◌, ◌++◌, length, map, filter, drop, take, Option, Some, None, is_some, slice_get, get_or, refl, sym, ap, ◌∙◌, subst, arith, length-append}
-use Rattle.std.specs.List.{count_by}
-use Rattle.std.proofs.lemmas.List.Recursion.{is_count_by}
-use Rattle.std.proofs.lemmas.List.{take_more, drop_more, take_all, drop_all, append_assoc, append-nil, take-append-drop, length-drop}
-use Rattle.std.proofs.lemmas.List.Elements.{filter-append}
-use Rattle.circular_buffer.specs.Buffer.{Buffer, buffer}
-use Rattle.slab.specs.Slab as slabs
-use Rattle.slab.specs.Slab.{Slab, Updates, slab_len}
-use Rattle.bb8_types.specs.Numbered.{tally, one}
-use Rattle.bb8_tables.specs.Slots.{IsLine, IsTable, cut_at}
+-- Lines of keys and of places that lead to the slots of a table, by a test of what stands there.
+use Rattle.std.proofs.Common.{◌≡◌, ◌≢◌, ℕ, zero, suc, Bool, true, false, cond, not, eqb, List, [], ◌∷◌, ◌++◌, filter, drop, Option, Some, None, slice_get, get_or, refl, sym, ap, ◌∙◌, subst, eq-eqb}
+use Rattle.bb8_tables.specs.Slots.{IsLine, ArePlaces}
+use Rattle.bb8_tables.specs.Spelled.{Absent}
 use Rattle.bb8_tables.specs.Machine as machine
-use Rattle.bb8_types.proofs.Numbered as numbered
+use Rattle.bb8_tables.proofs.Spelled.{without_absent}
 use Rattle.bb8_tables.proofs.Slots
-
--- ---- a line that is turned once round, while some keys are left out
-
--- the first key of a line, and what is turned then
-pub turned_first : {K : Type 0} (p : K → Bool) (i : ℕ) (xs : List K) (k : K) → i < length xs
-    → slice_get (drop i xs ++ filter p (take i xs)) 0 ≡ Some k → (drop i xs ≡ k ∷ drop (i + 1) xs) × (take (i + 1) xs ≡ take i xs ++ k ∷ [])
-turned_first {K} p i xs k inside first =
-    let d : drop i xs ≡ get_or xs i k ∷ drop (i + 1) xs = drop_more xs i k inside in
-    let same : Some (get_or xs i k) ≡ Some k = sym (ap (λ (ys : List K). slice_get (ys ++ filter p (take i xs)) 0) d) ∙ first in
-    let is : get_or xs i k ≡ k = cc in
-    (d ∙ ap (λ (x : K). x ∷ drop (i + 1) xs) is, take_more xs i k inside ∙ ap (λ (x : K). take i xs ++ x ∷ []) is)
-
-module _ {K : Type 0} (p : K → Bool) (xs : List K) where
-  -- what is left of a line that is turned
-  abbrev pub turning : ℕ → List K
-  turning i = drop i xs ++ filter p (take i xs)
-
-  filtered_few : (ys : List K) → length (filter p ys) ≤ length ys
-  filtered_few [] = omega arith
-  filtered_few (y ∷ ys) = let ih : length (filter p ys) ≤ length ys = filtered_few ys in go (p y) ih
-    where
-      go : (b : Bool) → length (filter p ys) ≤ length ys → length (cond b (y ∷ filter p ys) (filter p ys)) ≤ length (y ∷ ys)
-      go true ih = omega arith
-      go false ih = omega arith
-
-  pub turning_few : (i : ℕ) → length (turning i) ≤ length xs
-  turning_few i =
-      let a : length (drop i xs ++ filter p (take i xs)) ≡ length (drop i xs) + length (filter p (take i xs)) = length-append (drop i xs) (filter p (take i xs)) in
-      let b : length (filter p (take i xs)) ≤ length (take i xs) = filtered_few (take i xs) in
-      let c : length (take i xs) + length (drop i xs) ≡ length xs = sym (length-append (take i xs) (drop i xs)) ∙ ap length (take-append-drop i xs) in
-      omega arith
-
-  module _ (i : ℕ) (k : K) (self popped : Buffer K) (capacity : ℕ) (inside : i < length xs) (self_is : self ≡ buffer (turning i) capacity)
-      (first : slice_get self.items 0 ≡ Some k) (popped_is : popped ≡ buffer (drop 1 self.items) self.capacity) where
-    split : (drop i xs ≡ k ∷ drop (i + 1) xs) × (take (i + 1) xs ≡ take i xs ++ k ∷ [])
-    split = turned_first p i xs k inside (ap (λ (b : Buffer K). slice_get b.items 0) (sym self_is) ∙ first)
-
-    rest : drop 1 self.items ≡ drop (i + 1) xs ++ filter p (take i xs)
-    rest = ap (λ (b : Buffer K). drop 1 b.items) self_is ∙ ap (λ (ys : List K). drop 1 (ys ++ filter p (take i xs))) split.0
-
-    more : filter p (take (i + 1) xs) ≡ filter p (take i xs) ++ filter p (k ∷ [])
-    more = ap (filter p) split.1 ∙ filter-append p (take i xs) (k ∷ [])
-
-    popped_items : popped ≡ buffer (drop (i + 1) xs ++ filter p (take i xs)) capacity
-    popped_items = popped_is ∙ ap (λ (ys : List K). buffer ys self.capacity) rest ∙ ap (λ (b : Buffer K). buffer (drop (i + 1) xs ++ filter p (take i xs)) b.capacity) self_is
-
-    -- the first key is left out
-    pub left_out : p k ≡ false → popped ≡ buffer (turning (i + 1)) capacity
-    left_out off =
-        let none : filter p (k ∷ []) ≡ [] = ap (λ (b : Bool). cond b (k ∷ []) []) off in
-        popped_items ∙ ap (λ (ys : List K). buffer (drop (i + 1) xs ++ ys) capacity) (sym (more ∙ ap (λ (ys : List K). filter p (take i xs) ++ ys) none ∙ append-nil (filter p (take i xs))))
-
-    -- the first key goes to the back
-    pub kept_back : (pushed : Buffer K) → p k ≡ true → pushed ≡ buffer (popped.items ++ k ∷ []) popped.capacity → pushed ≡ buffer (turning (i + 1)) capacity
-    kept_back pushed on pushed_is =
-        let here : filter p (k ∷ []) ≡ k ∷ [] = ap (λ (b : Bool). cond b (k ∷ []) []) on in
-        pushed_is
-        ∙ ap (λ (b : Buffer K). buffer (b.items ++ k ∷ []) b.capacity) popped_items
-        ∙ ap (λ (ys : List K). buffer ys capacity) (append_assoc (drop (i + 1) xs) (filter p (take i xs)) (k ∷ [])
-        ∙ ap (λ (ys : List K). drop (i + 1) xs ++ ys) (sym (more ∙ ap (λ (ys : List K). filter p (take i xs) ++ ys) here)))
-
-  -- a line that is turned once round has lost what does not pass
-  pub turned_round : (i : ℕ) (self : Buffer K) (capacity : ℕ) → length xs ≤ i → self ≡ buffer (turning i) capacity → self ≡ buffer (filter p xs) capacity
-  turned_round i self capacity past is = is ∙ ap (λ (ys : List K). buffer ys capacity) (ap (λ (ys : List K). ys ++ filter p (take i xs)) (drop_all i xs past) ∙ ap (filter p) (take_all i xs past))
-
-  -- who is first is there before the end
-  pub never_done : (i : ℕ) (self : Buffer K) (capacity : ℕ) (G : Type 0) → i < length xs → self ≡ buffer (turning i) capacity → slice_get self.items 0 ≡ None → G
-  never_done i self capacity G inside is none = absurd (some (drop i xs) (filter p (take i xs)) has (ap (λ (b : Buffer K). slice_get b.items 0) (sym is) ∙ none))
-    where
-      has : 0 < length (drop i xs)
-      has =
-          let c : length (drop i xs) ≡ length xs - i = length-drop i xs in
-          omega arith
-
-      some : (ys zs : List K) → 0 < length ys → slice_get (ys ++ zs) 0 ≡ None → ⊥
-      some [] zs h e = omega arith
-      some (y ∷ ys) zs h e = cc
+use Rattle.bb8_tables.proofs.Slots.{Updates}
 
 -- ---- lines into a table
 
@@ -105,54 +22,52 @@ filtered_avoids {K} leads p (k ∷ keys) place away j m e = go (p k) (filtered_a
 
 module _ {X K : Type 0} {number : X → ℕ} {test : X → Bool} {key leads : K → ℕ} where
   -- a place that does not pass is on no line
-  pub avoids : (old : Slab X) (keys : List K) (place : ℕ) (x : X) → IsLine number test key leads old.slots keys
-      → slabs.get old place ≡ Some x → test x ≡ false → (j : ℕ) (k : K) → slice_get keys j ≡ Some k → leads k ≢ place
-  avoids old keys place x l at_place off = Slots.line_avoids _ _ _ _ old.slots keys place l
+  pub avoids : (old : List (Option X)) (keys : List K) (place : ℕ) (x : X) → IsLine number test key leads old keys
+      → get_or old place None ≡ Some x → test x ≡ false → (j : ℕ) (k : K) → slice_get keys j ≡ Some k → leads k ≢ place
+  avoids old keys place x l at_place off = Slots.line_avoids _ _ _ _ old keys place l
       (λ y e t. let same : x ≡ y = let b : Some x ≡ Some y = sym at_place ∙ e in cc in let clash : test y ≡ false = ap test (sym same)
       ∙ off in cc)
 
-  free_avoids : (old : Slab X) (keys : List K) (place : ℕ) → IsLine number test key leads old.slots keys → slabs.get old place ≡ None → (j : ℕ) (k : K) → slice_get keys j ≡ Some k → leads k ≢ place
-  free_avoids old keys place l free = Slots.line_avoids _ _ _ _ old.slots keys place l (λ y e t. let clash : None ≡ Some y = sym free ∙ e in cc)
+  pub free_avoids : (old : List (Option X)) (keys : List K) (place : ℕ) → IsLine number test key leads old keys → get_or old place None ≡ None → (j : ℕ) (k : K) → slice_get keys j ≡ Some k → leads k ≢ place
+  free_avoids old keys place l free = Slots.line_avoids _ _ _ _ old keys place l (λ y e t. let clash : None ≡ Some y = sym free ∙ e in cc)
 
   -- a place that is on no line changes
-  pub other_line : {old new : Slab X} {keys : List K} {place : ℕ} {x : X} {slot : Option X} → IsLine number test key leads old.slots keys
-      → slabs.get old place ≡ Some x → test x ≡ false → Updates old new place slot → IsLine number test key leads new.slots keys
-  other_line {old} {new} {keys} {place} {x} l at_place off u = Slots.line_kept _ _ _ _ old.slots new.slots keys place l (avoids old keys place x l at_place off) u.others
+  pub other_line : {old new : List (Option X)} {keys : List K} {place : ℕ} {x : X} {slot : Option X} → IsLine number test key leads old keys
+      → get_or old place None ≡ Some x → test x ≡ false → Updates old new place slot → IsLine number test key leads new keys
+  other_line {old} {new} {keys} {place} {x} l at_place off u = Slots.line_kept _ _ _ _ old new keys place l (avoids old keys place x l at_place off) u.others
 
   -- a free place is taken
-  pub free_line : {old new : Slab X} {keys : List K} {place : ℕ} {slot : Option X} → IsLine number test key leads old.slots keys
-      → slabs.get old place ≡ None → Updates old new place slot → IsLine number test key leads new.slots keys
-  free_line {old} {new} {keys} {place} l free u = Slots.line_kept _ _ _ _ old.slots new.slots keys place l (free_avoids old keys place l free) u.others
+  pub free_line : {old new : List (Option X)} {keys : List K} {place : ℕ} {slot : Option X} → IsLine number test key leads old keys
+      → get_or old place None ≡ None → Updates old new place slot → IsLine number test key leads new keys
+  free_line {old} {new} {keys} {place} l free u = Slots.line_kept _ _ _ _ old new keys place l (free_avoids old keys place l free) u.others
 
   -- a key comes to the back, whose place passes from now on
-  pushed_line : (old new : Slab X) (keys : List K) (k : K) (y : X) → IsLine number test key leads old.slots keys
+  pushed_line : (old new : List (Option X)) (keys : List K) (k : K) (y : X) → IsLine number test key leads old keys
       → ((j : ℕ) (m : K) → slice_get keys j ≡ Some m → leads m ≢ leads k) → Updates old new (leads k) (Some y) → number y ≡ key k
-      → test y ≡ true → IsLine number test key leads new.slots (keys ++ k ∷ [])
-  pushed_line old new keys k y l away u same on = Slots.line_pushed _ _ _ _ new.slots keys k y (Slots.line_kept _ _ _ _ old.slots new.slots keys (leads k) l away u.others) away u.changed same on
+      → test y ≡ true → IsLine number test key leads new (keys ++ k ∷ [])
+  pushed_line old new keys k y l away u same on = Slots.line_pushed _ _ _ _ new keys k y (Slots.line_kept _ _ _ _ old new keys (leads k) l away u.others) away u.changed same on
 
   -- its place did not pass before
-  pub turned_line : {old new : Slab X} {keys : List K} (k : K) {x y : X} → IsLine number test key leads old.slots keys
-      → slabs.get old (leads k) ≡ Some x → test x ≡ false → Updates old new (leads k) (Some y) → number y ≡ key k → test y ≡ true
-      → IsLine number test key leads new.slots (keys ++ k ∷ [])
+  pub turned_line : {old new : List (Option X)} {keys : List K} (k : K) {x y : X} → IsLine number test key leads old keys
+      → get_or old (leads k) None ≡ Some x → test x ≡ false → Updates old new (leads k) (Some y) → number y ≡ key k → test y ≡ true
+      → IsLine number test key leads new (keys ++ k ∷ [])
   turned_line {old} {new} {keys} k {x} {y} l at_place off u same on = pushed_line old new keys k y l (avoids old keys (leads k) x l at_place off) u same on
 
   -- its place was free
-  pub added_line : {old new : Slab X} {keys : List K} (k : K) {y : X} → IsLine number test key leads old.slots keys
-      → slabs.get old (leads k) ≡ None → Updates old new (leads k) (Some y) → number y ≡ key k → test y ≡ true
-      → IsLine number test key leads new.slots (keys ++ k ∷ [])
+  pub added_line : {old new : List (Option X)} {keys : List K} (k : K) {y : X} → IsLine number test key leads old keys
+      → get_or old (leads k) None ≡ None → Updates old new (leads k) (Some y) → number y ≡ key k → test y ≡ true
+      → IsLine number test key leads new (keys ++ k ∷ [])
   added_line {old} {new} {keys} k {y} l free u same on = pushed_line old new keys k y l (free_avoids old keys (leads k) l free) u same on
 
-  -- the key at an index goes, and its place changes
-  pub cut_line : {old new : Slab X} {keys : List K} (i : ℕ) {k : K} {slot : Option X} → IsLine number test key leads old.slots keys
-      → slice_get keys i ≡ Some k → Updates old new (leads k) slot → IsLine number test key leads new.slots (cut_at i keys)
-  cut_line {old} {new} {keys} i {k} l e u = Slots.line_kept _ _ _ _ old.slots new.slots (cut_at i keys) (leads k)
-      (Slots.line_cut _ _ _ _ old.slots keys i l) (Slots.line_cut_avoids _ _ _ _ old.slots keys i k l e) u.others
-
-  -- so the line of numbers loses its number
-  pub cut_numbers : {slots : Slab X} {next : ℕ} {keys : List K} (i : ℕ) {k : K} → IsTable number slots next
-      → IsLine number test key leads slots.slots keys → slice_get keys i ≡ Some k
-      → map key (cut_at i keys) ≡ machine.without (key k) (map key keys)
-  cut_numbers {slots} {keys = keys} i {k} t l e = Slots.cut_without key keys i k e (Slots.line_numbers _ _ _ _ slots.slots keys t.distinct l)
+  -- the first key goes, and its place changes
+  pub shorter_line : {old new : List (Option X)} {keys : List K} {k : K} {slot : Option X} → IsLine number test key leads old keys
+      → slice_get keys 0 ≡ Some k → Updates old new (leads k) slot → IsLine number test key leads new (drop 1 keys)
+  shorter_line {old} {new} {keys} {k} l e u = go keys l e
+    where
+      go : (ks : List K) → IsLine number test key leads old ks → slice_get ks 0 ≡ Some k → IsLine number test key leads new (drop 1 ks)
+      go [] l e = absurd (cc)
+      go (x ∷ ks) l e = Slots.line_kept _ _ _ _ old new ks (leads k) (Slots.line_rest _ _ _ _ old x ks l)
+          (let both : Some x ≡ Some k = e in subst (λ (y : K). Slots.Avoids number test key leads ks (leads y)) (let is : x ≡ k = cc in is) (Slots.line_rest_avoids _ _ _ _ old x ks l)) u.others
 
   -- a line without some of its keys is a line
   line_cons : (xs : List (Option X)) (k : K) (keys : List K) (x : X) → get_or xs (leads k) None ≡ Some x → number x ≡ key k → test x ≡ true
@@ -183,37 +98,9 @@ module _ {X K : Type 0} {number : X → ℕ} {test : X → Bool} {key leads : K 
       go true without with_it = with_it
       go false without with_it = without
 
-  -- a line is no longer than there are things in the table
-  pub line_fits : (slots : Slab X) (keys : List K) → IsLine number test key leads slots.slots keys → length keys ≤ slab_len slots
-  line_fits slots keys l =
-      let a : length keys ≤ tally is_some slots.slots = Slots.line_length _ _ _ _ is_some refl (λ x e. refl) keys slots.slots l in
-      let b : tally is_some slots.slots ≡ slab_len slots = counted slots.slots in
-      omega arith
-    where
-      counted : (xs : List (Option X)) → tally is_some xs ≡ count_by is_some xs
-      counted xs = is_count_by (tally is_some) is_some refl (λ x ys. by_case (is_some x) (tally is_some ys)) xs
-        where
-          by_case : (b : Bool) (n : ℕ) → one b + n ≡ cond b (1 + n) n
-          by_case true n = refl
-          by_case false n = omega arith
-
--- the numbers of the keys that have another number than this one
-pub other_numbers : {K : Type 0} (key : K → ℕ) (n : ℕ) (keys : List K) → map key (filter (λ k. not (eqb (key k) n)) keys) ≡ machine.without n (map key keys)
-other_numbers key n [] = refl
-other_numbers {K} key n (k ∷ keys) = go (not (eqb (key k) n)) (other_numbers key n keys)
-  where
-    go : (b : Bool) → map key (filter (λ k. not (eqb (key k) n)) keys) ≡ machine.without n (map key keys)
-        → map key (cond b (k ∷ filter (λ k. not (eqb (key k) n)) keys) (filter (λ k. not (eqb (key k) n)) keys)) ≡ cond b
-        (key k ∷ machine.without n (map key keys)) (machine.without n (map key keys))
-    go true e = ap (λ (xs : List ℕ). key k ∷ xs) e
-    go false e = e
-
--- a line that has no key of that number loses none
-pub none_without : {K : Type 0} (key : K → ℕ) (n : ℕ) (keys : List K) → ((j : ℕ) (k : K) → slice_get keys j ≡ Some k → key k ≢ n) → machine.without n (map key keys) ≡ map key keys
-none_without key n [] away = refl
-none_without {K} key n (k ∷ keys) away = ap (λ (b : Bool). cond (not b) (key k ∷ machine.without n (map key keys))
-    (machine.without n (map key keys))) (numbered.ne_test (key k) n (away 0 k refl))
-    ∙ ap (λ (xs : List ℕ). key k ∷ xs) (none_without key n keys (λ j m e. away (suc j) m e))
+  -- nothing changes at any place
+  pub same_line : {old new : List (Option X)} {keys : List K} → IsLine number test key leads old keys → ((i : ℕ) → get_or new i None ≡ get_or old i None) → IsLine number test key leads new keys
+  same_line l same = record { each = λ j k e. let st = l.each j k e in (st.0, same (leads k) ∙ st.1, st.2, st.3); once = l.once }
 
 -- what is left of a line passes
 pub filter_passes : {K : Type 0} (p : K → Bool) (keys : List K) (j : ℕ) (k : K) → slice_get (filter p keys) j ≡ Some k → p k ≡ true
@@ -224,3 +111,38 @@ filter_passes {K} p (x ∷ keys) j k e = go (p x) refl (λ i f. filter_passes p 
     go true on ih zero f = let both : Some x ≡ Some k = f in let is : k ≡ x = cc in ap p is ∙ on
     go true on ih (suc i) f = ih i f
     go false on ih i f = ih i f
+
+-- a place that none of a line's is, is absent from it
+get_absent : (p : ℕ) (xs : List ℕ) → ((j k : ℕ) → slice_get xs j ≡ Some k → k ≢ p) → Absent p xs
+get_absent p [] h = tt
+get_absent p (x ∷ xs) h = (h 0 x refl, get_absent p xs (λ j k e. h (suc j) k e))
+
+-- what is left when a place leaves is elsewhere
+pub left_away : (places : List ℕ) (place : ℕ) → (j k : ℕ) → slice_get (machine.without place places) j ≡ Some k → k ≢ place
+left_away places place j k e s =
+    let passes : not (eqb k place) ≡ true = filter_passes (λ (m : ℕ). not (eqb m place)) places j k e in
+    let clash : not (eqb k place) ≡ false = ap not (eq-eqb k place s) in
+    let no : true ≡ false = sym passes ∙ clash in
+    cc
+
+-- a line of places, of which one leaves and changes
+module _ {X : Type 0} {test : X → Bool} where
+  pub places_without : {old new : List (Option X)} {places : List ℕ} {place : ℕ} {slot : Option X} → ArePlaces test old places → Updates old new place slot → ArePlaces test new (machine.without place places)
+  places_without {old} {new} {places} {place} l u = Slots.line_kept _ _ _ _ old new (machine.without place places) place (filtered_line (λ (m : ℕ). not (eqb m place)) old places l) (left_away places place) u.others
+
+  -- a place that does not pass is absent
+  pub places_absent : (slots : List (Option X)) (places : List ℕ) (place : ℕ) (x : X) → ArePlaces test slots places → get_or slots place None ≡ Some x → test x ≡ false → Absent place places
+  places_absent slots places place x l at_place off = get_absent place places (avoids slots places place x l at_place off)
+
+  -- nor is a free one
+  pub free_absent : (slots : List (Option X)) (places : List ℕ) (place : ℕ) → ArePlaces test slots places → get_or slots place None ≡ None → Absent place places
+  free_absent slots places place l free = get_absent place places (free_avoids slots places place l free)
+
+  -- the first place stands there once
+  pub without_first : (slots : List (Option X)) (places : List ℕ) (place : ℕ) → ArePlaces test slots places → slice_get places 0 ≡ Some place → machine.without place places ≡ drop 1 places
+  without_first slots [] place l e = absurd (cc)
+  without_first slots (p ∷ places) place l e =
+      let both : Some p ≡ Some place = e in
+      let is : p ≡ place = cc in
+      let rest : Absent p places = get_absent p places (Slots.line_rest_avoids _ _ _ _ slots p places l) in
+      rw (eq-eqb p place is) (without_absent place places (subst (λ (q : ℕ). Absent q places) is rest))

@@ -1,12 +1,25 @@
 -- Laws of tables of places.
-use Rattle.std.proofs.Common.{◌≡◌, ◌≢◌, ◌⊎◌, ℕ, zero, suc, ◌+◌, ◌<◌, ◌≤◌, Bool, true, false, cond, eqb, List, [], ◌∷◌, ◌++◌, length, Option, Some, None, get_or, slice_get, filter, map, not, take, drop, ◌-◌, refl, sym, ap, ◌∙◌, inl, inr, ⊎_elim, arith, ne_eqb, eq-eqb, subst, nat_cmp, set, get_or-set_other, get_or-set_same}
+use Rattle.std.proofs.Common.{◌≡◌, ◌≢◌, ◌⊎◌, ℕ, zero, suc, ◌+◌, ◌<◌, ◌≤◌, Bool, true, false, cond, eqb, List, [], ◌∷◌, ◌++◌, length, Option, Some, None, get_or, slice_get, refl, sym, ap, ◌∙◌, inl, inr, ⊎_elim, arith, ne_eqb, eq-eqb, subst, nat_cmp, set, get_or-set_other, get_or-set_same}
 use Rattle.std.specs.FinMap.{FinMap, insert, remove, get, get-empty}
-use Rattle.slab.specs.Slab as slabs
-use Rattle.slab.specs.Slab.{Slab, Updates}
 use Rattle.bb8_types.specs.Numbered.{tally, one}
 use Rattle.bb8_tables.specs.declared.table.Slot.{Slot}
-use Rattle.bb8_tables.specs.Slots.{values_at, Holds, IsLine, IsTable, IsDistinct, cut_at}
+use Rattle.bb8_tables.specs.Slots.{values_at, Holds, IsLine, IsTable, IsDistinct}
 use Rattle.bb8_types.proofs.Numbered.{same_or_not, get_inserted, get_removed, same_gets}
+
+-- another thing stands at a place, and nothing else has changed
+pub record Updates {X : Type 0} (old new : List (Option X)) (place : ℕ) (slot : Option X) : Type 0 where
+  pub changed : get_or new place None ≡ slot
+  pub others : (other : ℕ) → other ≢ place → get_or new other None ≡ get_or old other None
+
+pub set_updates : {X : Type 0} {old new : List (Option X)} {place : ℕ} (slot : Option X) → place < length old → new ≡ set old place slot → Updates old new place slot
+set_updates {X} {old} {new} {place} slot inside is = subst (λ (ys : List (Option X)). Updates old ys place slot) (sym is)
+    (record { changed = get_or-set_same old place slot None inside; others = λ other n. get_or-set_other old place other slot None n })
+
+-- where something stands is inside
+pub inside : {X : Type 0} (xs : List (Option X)) (i : ℕ) (x : X) → get_or xs i None ≡ Some x → i < length xs
+inside [] i x e = cc
+inside (y ∷ xs) zero x e = omega arith
+inside (y ∷ xs) (suc i) x e = let h : i < length xs = inside xs i x e in omega arith
 
 module _ {X S : Type 0} (number : X → ℕ) (value : X → S) where
   abbrev pub Absent : List (Option X) → ℕ → Type 0
@@ -153,6 +166,12 @@ module _ {X S : Type 0} (number : X → ℕ) (value : X → S) where
         (scan xs q);
   }
 
+  pub held_same : (old new : List (Option X)) → IsDistinct number old → ((i : ℕ) → get_or new i None ≡ get_or old i None) → values_at number value new ≡ values_at number value old
+  held_same old new d same = held_is new _ (record {
+    each = λ i x e. (holds_self old d).each i x (sym (same i) ∙ e);
+    none = λ q absent. (holds_self old d).none q (λ i x e. absent i x (same i ∙ e));
+  })
+
   pub held_absent : (xs : List (Option X)) (q : ℕ) → Absent xs q → get (values_at number value xs) q ≡ None
   held_absent xs q a = ⊎_elim
       (λ (f : Found xs q). absurd (a f.0 f.1 f.2 f.3))
@@ -207,69 +226,6 @@ module _ {X : Type 0} (number : X → ℕ) where
       (changed_cases old new key j slot y c ey))
       (changed_cases old new key i slot x c ex)
 
--- ---- a list without its element at an index
-
--- where an element of it stood
-abbrev skip : ℕ → ℕ → ℕ
-skip zero j = suc j
-skip (suc i) zero = zero
-skip (suc i) (suc j) = suc (skip i j)
-
-skip_once : (i a b : ℕ) → skip i a ≡ skip i b → a ≡ b
-skip_once zero a b e = omega arith
-skip_once (suc i) zero zero e = refl
-skip_once (suc i) zero (suc b) e = let clash : zero ≡ suc (skip i b) = e in omega arith
-skip_once (suc i) (suc a) zero e = let clash : suc (skip i a) ≡ zero = e in omega arith
-skip_once (suc i) (suc a) (suc b) e = let less : suc (skip i a) ≡ suc (skip i b) = e in ap suc (skip_once i a b (omega arith))
-
-skip_other : (i j : ℕ) → skip i j ≢ i
-skip_other zero j e = let clash : suc j ≡ zero = e in omega arith
-skip_other (suc i) zero e = let clash : zero ≡ suc i = e in omega arith
-skip_other (suc i) (suc j) e = let less : suc (skip i j) ≡ suc i = e in skip_other i j (omega arith)
-
-get_cut : {K : Type 0} (ks : List K) (i j : ℕ) (m : K) → slice_get (cut_at i ks) j ≡ Some m → slice_get ks (skip i j) ≡ Some m
-get_cut [] i j m e = cc
-get_cut (k ∷ ks) zero j m e = e
-get_cut (k ∷ ks) (suc i) zero m e = e
-get_cut (k ∷ ks) (suc i) (suc j) m e = get_cut ks i j m e
-
--- without the first one, and without the last one
-pub drop_is_cut : {K : Type 0} (ks : List K) → drop 1 ks ≡ cut_at 0 ks
-drop_is_cut [] = refl
-drop_is_cut (k ∷ ks) = refl
-
-pub take_is_cut : {K : Type 0} (ks : List K) → take (length ks - 1) ks ≡ cut_at (length ks - 1) ks
-take_is_cut [] = refl
-take_is_cut (k ∷ []) = refl
-take_is_cut (k ∷ m ∷ ks) = let e : suc (suc (length ks)) - 1 ≡ suc (length (m ∷ ks) - 1) = omega arith in rw e (ap (λ (ms : List _). k ∷ ms) (take_is_cut (m ∷ ks)))
-
--- nothing is taken from where nothing stands
-pub none_cut : {K : Type 0} (ks : List K) (i : ℕ) → slice_get ks i ≡ None → cut_at i ks ≡ ks
-none_cut [] i e = refl
-none_cut (k ∷ ks) zero e = cc
-none_cut (k ∷ ks) (suc i) e = ap (λ (ms : List _). k ∷ ms) (none_cut ks i e)
-
-module _ {K : Type 0} (key : K → ℕ) where
-  others_kept : (q : ℕ) (ks : List K) → ((j : ℕ) (m : K) → slice_get ks j ≡ Some m → key m ≢ q) → filter (λ p. not (eqb p q)) (map key ks) ≡ map key ks
-  others_kept q [] other = refl
-  others_kept q (k ∷ ks) other =
-      let off : eqb (key k) q ≡ false = ne_eqb _ _ (other 0 k refl) in
-      rw off (ap (λ (ms : List ℕ). key k ∷ ms) (others_kept q ks (λ j m e. other (suc j) m e)))
-
-  -- where no number stands twice in a line, it loses one number as it loses its element
-  pub cut_without : (ks : List K) (i : ℕ) (k : K) → slice_get ks i ≡ Some k
-      → ((a b : ℕ) (x y : K) → slice_get ks a ≡ Some x → slice_get ks b ≡ Some y → key x ≡ key y → a ≡ b)
-      → map key (cut_at i ks) ≡ filter (λ q. not (eqb q (key k))) (map key ks)
-  cut_without [] i k e once = cc
-  cut_without (x ∷ ks) zero k e once =
-      let is : Some x ≡ Some k = e in
-      let same : x ≡ k = cc in
-      let on : eqb (key x) (key k) ≡ true = eq-eqb _ _ (ap key same) in
-      rw on (sym (others_kept (key k) ks (λ j m f s. let clash : suc j ≡ 0 = once (suc j) 0 m x f refl (s ∙ ap key (sym same)) in omega arith)))
-  cut_without (x ∷ ks) (suc i) k e once =
-      let off : eqb (key x) (key k) ≡ false = ne_eqb _ _ (λ s. let clash : 0 ≡ suc i = once 0 (suc i) x k refl e s in omega arith) in
-      rw off (ap (λ (ms : List ℕ). key x ∷ ms) (cut_without ks i k e (λ a b y z f g s. let up : suc a ≡ suc b = once (suc a) (suc b) y z f g s in omega arith)))
-
 -- ---- lines of keys
 
 get-push : {K : Type 0} (ks : List K) (k m : K) (j : ℕ) → slice_get (ks ++ k ∷ []) j ≡ Some m → (slice_get ks j ≡ Some m) ⊎ ((j ≡ length ks) × (k ≡ m))
@@ -296,24 +252,6 @@ module _ {X K : Type 0} (number : X → ℕ) (test : X → Bool) (key leads : K 
 
   pub line_rest_avoids : (xs : List (Option X)) (k : K) (keys : List K) → IsLine number test key leads xs (k ∷ keys) → Avoids keys (leads k)
   line_rest_avoids xs k keys l j m e s = let clash : suc j ≡ 0 = l.once (suc j) 0 m k e refl s in omega arith
-
-  -- a line without the key at an index, and that key's place is on it no more
-  pub line_cut : (xs : List (Option X)) (keys : List K) (i : ℕ) → IsLine number test key leads xs keys → IsLine number test key leads xs (cut_at i keys)
-  line_cut xs keys i l = record {
-    each = λ j k e. l.each (skip i j) k (get_cut keys i j k e);
-    once = λ a b k m e f s. skip_once i a b (l.once (skip i a) (skip i b) k m (get_cut keys i a k e) (get_cut keys i b m f) s);
-  }
-
-  pub line_cut_avoids : (xs : List (Option X)) (keys : List K) (i : ℕ) (k : K) → IsLine number test key leads xs keys → slice_get keys i ≡ Some k → Avoids (cut_at i keys) (leads k)
-  line_cut_avoids xs keys i k l at_i j m e s = skip_other i j (l.once (skip i j) i m k (get_cut keys i j m e) at_i s)
-
-  -- no number stands twice in a line
-  pub line_numbers : (xs : List (Option X)) (keys : List K) → IsDistinct number xs → IsLine number test key leads xs keys
-      → (a b : ℕ) (x y : K) → slice_get keys a ≡ Some x → slice_get keys b ≡ Some y → key x ≡ key y → a ≡ b
-  line_numbers xs keys d l a b x y e f s =
-      let sx = l.each a x e in
-      let sy = l.each b y f in
-      l.once a b x y e f (d (leads x) (leads y) sx.0 sy.0 sx.1 sy.1 (sx.2 ∙ s ∙ sym sy.2))
 
   -- a place that does not pass is on no line
   pub line_avoids : (xs : List (Option X)) (keys : List K) (place : ℕ) → IsLine number test key leads xs keys → ((x : X) → get_or xs place None ≡ Some x → test x ≡ true → ⊥) → Avoids keys place
@@ -351,7 +289,7 @@ module _ {X K : Type 0} (number : X → ℕ) (test : X → Bool) (key leads : K 
 -- ---- tallies
 
 module _ {X : Type 0} (p : Option X → Bool) (nothing : p None ≡ false) where
-  tally_same : (xs ys : List (Option X)) → ((i : ℕ) → get_or ys i None ≡ get_or xs i None) → tally p ys ≡ tally p xs
+  pub tally_same : (xs ys : List (Option X)) → ((i : ℕ) → get_or ys i None ≡ get_or xs i None) → tally p ys ≡ tally p xs
   tally_same [] [] h = refl
   tally_same [] (y ∷ ys) h = let first : y ≡ None = h 0 in let rest : tally p ys ≡ 0 = tally_same [] ys (λ i. h (suc i)) in
       let e : one (p y) ≡ 0 = ap (λ (o : Option X). one (p o)) first ∙ ap one nothing in omega arith
@@ -417,58 +355,58 @@ module _ {X K : Type 0} (number : X → ℕ) (test : X → Bool) (key leads : K 
 
 module _ {X : Type 0} {number : X → ℕ} where
   -- another value at a place, with the same number
-  pub table_set : {old new : Slab X} {next place : ℕ} {was x : X} → IsTable number old next → slabs.get old place ≡ Some was
+  pub table_set : {old new : List (Option X)} {next place : ℕ} {was x : X} → IsTable number old next → get_or old place None ≡ Some was
       → number was ≡ number x → Updates old new place (Some x) → IsTable number new next
   table_set {old} {new} {next} {place} {was} {x} t at_place same u = record {
-    distinct = distinct_changed number old.slots new.slots place (Some x) t.distinct (u.changed, u.others)
+    distinct = distinct_changed number old new place (Some x) t.distinct (u.changed, u.others)
         (λ a b i e f s. let is : x ≡ a = cc in t.distinct i place b was f at_place (s ∙ ap number (sym is) ∙ sym same));
     below = λ i y e. ⊎_elim
         (λ (h : (i ≡ place) × (Some x ≡ Some y)). let is : x ≡ y = cc in let l : number was < next = t.below place was at_place in let e1 : number was ≡ number y = same ∙ ap number is in omega arith)
-        (λ (h : (i ≢ place) × (get_or old.slots i None ≡ Some y)). t.below i y h.1)
-        (changed_cases number old.slots new.slots place i (Some x) y (u.changed, u.others) e);
+        (λ (h : (i ≢ place) × (get_or old i None ≡ Some y)). t.below i y h.1)
+        (changed_cases number old new place i (Some x) y (u.changed, u.others) e);
   }
 
   -- the next number at a free place
-  pub table_added : {old new : Slab X} {next place : ℕ} {x : X} → IsTable number old next → slabs.get old place ≡ None → number x ≡ next
+  pub table_added : {old new : List (Option X)} {next place : ℕ} {x : X} → IsTable number old next → get_or old place None ≡ None → number x ≡ next
       → Updates old new place (Some x) → IsTable number new (next + 1)
   table_added {old} {new} {next} {place} {x} t free is_next u = record {
-    distinct = distinct_changed number old.slots new.slots place (Some x) t.distinct (u.changed, u.others)
+    distinct = distinct_changed number old new place (Some x) t.distinct (u.changed, u.others)
         (λ a b i e f s. absurd (let is : x ≡ a = cc in let l : number b < next = t.below i b f in let e1 : number b ≡ number x = s
         ∙ ap number (sym is) in omega arith));
     below = λ i y e. ⊎_elim
         (λ (h : (i ≡ place) × (Some x ≡ Some y)). let is : x ≡ y = cc in let e1 : number x ≡ number y = ap number is in omega arith)
-        (λ (h : (i ≢ place) × (get_or old.slots i None ≡ Some y)). let l : number y < next = t.below i y h.1 in omega arith)
-        (changed_cases number old.slots new.slots place i (Some x) y (u.changed, u.others) e);
+        (λ (h : (i ≢ place) × (get_or old i None ≡ Some y)). let l : number y < next = t.below i y h.1 in omega arith)
+        (changed_cases number old new place i (Some x) y (u.changed, u.others) e);
   }
 
   -- a place is freed
-  pub table_removed : {old new : Slab X} {next place : ℕ} → IsTable number old next → Updates old new place None → IsTable number new next
+  pub table_removed : {old new : List (Option X)} {next place : ℕ} → IsTable number old next → Updates old new place None → IsTable number new next
   table_removed {old} {new} {next} {place} t u = record {
-    distinct = distinct_changed number old.slots new.slots place None t.distinct (u.changed, u.others) (λ a b i e f s. cc);
+    distinct = distinct_changed number old new place None t.distinct (u.changed, u.others) (λ a b i e f s. cc);
     below = λ i y e. ⊎_elim
         (λ (h : (i ≡ place) × (None ≡ Some y)). cc)
-        (λ (h : (i ≢ place) × (get_or old.slots i None ≡ Some y)). t.below i y h.1)
-        (changed_cases number old.slots new.slots place i None y (u.changed, u.others) e);
+        (λ (h : (i ≢ place) × (get_or old i None ≡ Some y)). t.below i y h.1)
+        (changed_cases number old new place i None y (u.changed, u.others) e);
   }
 
 -- what it holds then
 module _ {S : Type 0} where
-  abbrev shown : Slab (Slot S) → FinMap nat_cmp S
-  shown slots = values_at (λ (x : Slot S). x.number) (λ x. x.standing) slots.slots
+  abbrev shown : List (Option (Slot S)) → FinMap nat_cmp S
+  shown slots = values_at (λ (x : Slot S). x.number) (λ x. x.standing) slots
 
-  pub held_set : {old new : Slab (Slot S)} {next place : ℕ} {was x : Slot S} → IsTable (λ (y : Slot S). y.number) old next
-      → slabs.get old place ≡ Some was → was.number ≡ x.number → Updates old new place (Some x)
+  pub held_set : {old new : List (Option (Slot S))} {next place : ℕ} {was x : Slot S} → IsTable (λ (y : Slot S). y.number) old next
+      → get_or old place None ≡ Some was → was.number ≡ x.number → Updates old new place (Some x)
       → shown new ≡ insert (shown old) x.number x.standing
   held_set {old} {new} {next} {place} {was} {x} t at_place same u =
-      held_replaced (λ (y : Slot S). y.number) (λ y. y.standing) old.slots new.slots place was x t.distinct at_place same
+      held_replaced (λ (y : Slot S). y.number) (λ y. y.standing) old new place was x t.distinct at_place same
       (u.changed, u.others)
 
-  pub held_added : {old new : Slab (Slot S)} {next place : ℕ} {x : Slot S} → IsTable (λ (y : Slot S). y.number) old next
-      → slabs.get old place ≡ None → x.number ≡ next → Updates old new place (Some x) → shown new ≡ insert (shown old) x.number x.standing
+  pub held_added : {old new : List (Option (Slot S))} {next place : ℕ} {x : Slot S} → IsTable (λ (y : Slot S). y.number) old next
+      → get_or old place None ≡ None → x.number ≡ next → Updates old new place (Some x) → shown new ≡ insert (shown old) x.number x.standing
   held_added {old} {new} {next} {place} {x} t free is_next u =
-      held_taken (λ (y : Slot S). y.number) (λ y. y.standing) old.slots new.slots place x t.distinct free
+      held_taken (λ (y : Slot S). y.number) (λ y. y.standing) old new place x t.distinct free
       (λ i y e s. let l : y.number < next = t.below i y e in omega arith) (u.changed, u.others)
 
-  pub held_removed : {old new : Slab (Slot S)} {next place : ℕ} {was : Slot S} → IsTable (λ (y : Slot S). y.number) old next
-      → slabs.get old place ≡ Some was → Updates old new place None → shown new ≡ remove (shown old) was.number
-  held_removed {old} {new} {next} {place} {was} t at_place u = held_freed (λ (y : Slot S). y.number) (λ y. y.standing) old.slots new.slots place was t.distinct at_place (u.changed, u.others)
+  pub held_removed : {old new : List (Option (Slot S))} {next place : ℕ} {was : Slot S} → IsTable (λ (y : Slot S). y.number) old next
+      → get_or old place None ≡ Some was → Updates old new place None → shown new ≡ remove (shown old) was.number
+  held_removed {old} {new} {next} {place} {was} t at_place u = held_freed (λ (y : Slot S). y.number) (λ y. y.standing) old new place was t.distinct at_place (u.changed, u.others)

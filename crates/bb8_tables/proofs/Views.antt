@@ -1,5 +1,5 @@
 -- Views are the same that are the same field by field.
-use Rattle.std.proofs.Common.{◌≡◌}
+use Rattle.std.proofs.Common.{◌≡◌, Result, Ok, Err, OnErr}
 use Rattle.bb8_tables.specs.Views.{ShownRecords, ShownGets}
 
 pub same_records : {C : Type 0} (s t : ShownRecords C) → s.next ≡ t.next → s.places ≡ t.places → s.idle ≡ t.idle → s.unclaimed ≡ t.unclaimed
@@ -18,3 +18,8 @@ same_records s t next places idle unclaimed conns approved peak =
 
 pub same_gets : (s t : ShownGets) → s.next ≡ t.next → s.places ≡ t.places → s.waiting ≡ t.waiting → s.alive ≡ t.alive → s.peak ≡ t.peak → s ≡ t
 same_gets s t next places waiting alive peak = λ i. record { next = next i; places = places i; waiting = waiting i; alive = alive i; peak = peak i }
+
+-- what holds holds where a step failed
+pub on_err : {T E P : Type 0} (r : Result T E) → P → OnErr r P
+on_err (Ok x) p = tt
+on_err (Err x) p = p

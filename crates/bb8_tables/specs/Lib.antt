@@ -1,6 +1,9 @@
 pub mod Keys
 pub mod Views
 pub mod Machine
+pub mod Spelled
+pub mod Lined
+pub mod Linked
 pub mod Slots
 pub mod State
 pub mod Counted

@@ -1,7 +1,6 @@
 -- What a table of places holds, and lines of keys into it.
-use Rattle.std.specs.Prelude.{◌≡◌, ◌≢◌, ◌<◌, ℕ, zero, suc, Bool, true, List, [], ◌∷◌, Option, Some, None, slice_get, get_or}
+use Rattle.std.specs.Prelude.{◌≡◌, ◌≢◌, ◌<◌, ℕ, Bool, true, List, [], ◌∷◌, map, Option, Some, None, slice_get, get_or}
 use Rattle.std.specs.Ordering.{nat_cmp}
-use Rattle.slab.specs.Slab.{Slab}
 use Rattle.std.specs.FinMap.{FinMap, empty, insert, get}
 
 -- the value of each place, under its number
@@ -24,13 +23,20 @@ pub record IsLine {X K : Type 0} (number : X → ℕ) (test : X → Bool) (key :
 abbrev pub IsDistinct : {X : Type 0} → (X → ℕ) → List (Option X) → Type 0
 IsDistinct {X} number xs = (i j : ℕ) (x y : X) → get_or xs i None ≡ Some x → get_or xs j None ≡ Some y → number x ≡ number y → i ≡ j
 
--- a slab whose places have distinct numbers, each given before
-pub record IsTable {X : Type 0} (number : X → ℕ) (slots : Slab X) (next : ℕ) : Type 0 where
-  pub distinct : IsDistinct number slots.slots
-  pub below : (i : ℕ) (x : X) → get_or slots.slots i None ≡ Some x → number x < next
+-- places that have distinct numbers, each given before
+pub record IsTable {X : Type 0} (number : X → ℕ) (slots : List (Option X)) (next : ℕ) : Type 0 where
+  pub distinct : IsDistinct number slots
+  pub below : (i : ℕ) (x : X) → get_or slots i None ≡ Some x → number x < next
 
--- a list without its element at an index
-abbrev pub cut_at : {K : Type 0} → ℕ → List K → List K
-cut_at i [] = []
-cut_at zero (k ∷ ks) = ks
-cut_at (suc i) (k ∷ ks) = k ∷ cut_at i ks
+-- the number of what stands somewhere
+abbrev pub number_in : {X : Type 0} → (X → ℕ) → Option X → ℕ
+number_in number None = 0
+number_in number (Some x) = number x
+
+-- the numbers of what stands at places
+abbrev pub numbers_at : {X : Type 0} → (X → ℕ) → List (Option X) → List ℕ → List ℕ
+numbers_at number xs places = map (λ i. number_in number (get_or xs i None)) places
+
+-- at each of the places stands what passes the test, and no place comes twice
+abbrev pub ArePlaces : {X : Type 0} → (X → Bool) → List (Option X) → List ℕ → Type 0
+ArePlaces {X} test = IsLine (λ (x : X). 0) test (λ (i : ℕ). 0) (λ (i : ℕ). i)

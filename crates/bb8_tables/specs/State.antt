@@ -1,9 +1,7 @@
 -- What the fields of the tables mean, and what holds of them.
-use Rattle.std.specs.Prelude.{◌≡◌, ℕ, ◌+◌, ◌≤◌, List, map, Option, Some, None, Bool, false}
-use Rattle.slab.specs.Slab.{slab_len}
+use Rattle.std.specs.Prelude.{◌≡◌, ℕ, ◌+◌, ◌≤◌, List, map, length, Option, Some, None, is_some, Bool, false}
 use Rattle.bb8_types.specs.declared.standing.Place.{Place}
 use Rattle.bb8_tables.specs.declared.keys.Key.{Key}
-use Rattle.bb8_tables.specs.declared.keys.GetKey.{GetKey}
 use Rattle.bb8_types.specs.declared.standing.Standing.{Standing}
 use Rattle.bb8_types.specs.declared.standing.Getting.{Getting}
 use Rattle.bb8_tables.specs.declared.table.Slot.{Slot}
@@ -12,25 +10,22 @@ use Rattle.bb8_tables.specs.declared.gets.Gets.TheInside.{Inside as GetsInside}
 use Rattle.bb8_types.specs.Places.{is_idle, is_unclaimed, is_conn, is_approval, is_unnotified}
 use Rattle.bb8_types.specs.Numbered.{tally}
 use Rattle.bb8_tables.specs.Views.{ShownRecords, ShownGets}
-use Rattle.bb8_tables.specs.Slots.{values_at, IsLine, IsTable}
+use Rattle.bb8_tables.specs.Slots.{values_at, IsLine, IsTable, ArePlaces, numbers_at}
 use Rattle.bb8_types.specs.Bounds.{most_records}
 
 -- how many records there are, and for how many there is room
-pub record AreSized (places place_room idle_room unclaimed_room conns approved peak : ℕ) : Type 0 where
-  pub places_are : places ≡ conns + approved
+pub record AreSized (free unclaimed_room conns approved peak : ℕ) : Type 0 where
   pub peak_holds : conns + approved ≤ peak
   pub peak_few : peak ≤ most_records
-  pub place_room_holds : peak ≤ place_room
-  pub idle_room_holds : peak ≤ idle_room
+  pub room_holds : peak ≤ conns + approved + free
   pub unclaimed_room_holds : peak ≤ unclaimed_room
 
 -- how many gets there are, and for how many there is room
-pub record AreGetsSized (places place_room line_room alive peak next : ℕ) : Type 0 where
+pub record AreGetsSized (places free alive peak next : ℕ) : Type 0 where
   pub places_are : places ≡ alive
   pub peak_holds : alive ≤ peak
   pub alive_few : alive ≤ next
-  pub room_holds : peak ≤ place_room
-  pub line_room_holds : peak ≤ line_room
+  pub room_holds : peak ≤ alive + free
 
 module _ {C : Type 0} where
   -- what the fields of the records show
@@ -38,7 +33,7 @@ module _ {C : Type 0} where
   view_of_records a = record {
     next = a.next;
     places = values_at (λ (x : Slot (Standing C)). x.number) (λ x. x.standing) a.slots.slots;
-    idle = map (λ k. k.number) a.idle.items;
+    idle = numbers_at (λ (x : Slot (Standing C)). x.number) a.slots.slots a.slots.line;
     unclaimed = map (λ k. k.number) a.unclaimed.items;
     conns = a.conns;
     approved = a.approved;
@@ -49,6 +44,10 @@ module _ {C : Type 0} where
   abbrev pub IsLineOf : (Place C → Bool) → List (Option (Slot (Standing C))) → List Key → Type 0
   IsLineOf test = IsLine (λ (x : Slot (Standing C)). x.number) (λ x. test x.standing.place) (λ (k : Key). k.number) (λ k. k.place)
 
+  -- the places where a record stands that passes a test
+  abbrev pub ArePlacesOf : (Place C → Bool) → List (Option (Slot (Standing C))) → List ℕ → Type 0
+  ArePlacesOf test = ArePlaces (λ (x : Slot (Standing C)). test x.standing.place)
+
   -- whether a record stands there in a place that passes a test
   abbrev pub passes : (Place C → Bool) → Option (Slot (Standing C)) → Bool
   passes test None = false
@@ -56,34 +55,29 @@ module _ {C : Type 0} where
 
   -- the table holds what is numbered, the lines lead to it, and the counts agree
   pub record AreGoodRecords (a : RecordsInside C) : Type 0 where
-    pub table : IsTable (λ (x : Slot (Standing C)). x.number) a.slots a.next
-    pub idle : IsLineOf is_idle a.slots.slots a.idle.items
+    pub table : IsTable (λ (x : Slot (Standing C)). x.number) a.slots.slots a.next
+    pub idle : ArePlacesOf is_idle a.slots.slots a.slots.line
     pub unclaimed : IsLineOf is_unclaimed a.slots.slots a.unclaimed.items
     pub conns_are : tally (passes is_conn) a.slots.slots ≡ a.conns
     pub approved_are : tally (passes is_approval) a.slots.slots ≡ a.approved
-    pub sizes : AreSized (slab_len a.slots) a.slots.capacity a.idle.capacity a.unclaimed.capacity a.conns a.approved a.peak
+    pub sizes : AreSized (length a.slots.free) a.unclaimed.capacity a.conns a.approved a.peak
 
 -- what the fields of the gets show
 abbrev pub view_of_gets : GetsInside → ShownGets
 view_of_gets a = record {
   next = a.next;
   places = values_at (λ (x : Slot Getting). x.number) (λ x. x.standing) a.slots.slots;
-  waiting = map (λ k. k.number) a.waiting.items;
+  waiting = numbers_at (λ (x : Slot Getting). x.number) a.slots.slots a.slots.line;
   alive = a.alive;
   peak = a.peak;
 }
 
--- whether a get stands there that waits and was not notified
-abbrev pub waits_at : Option (Slot Getting) → Bool
-waits_at None = false
-waits_at (Some x) = is_unnotified x.standing.place
-
--- the keys of gets that wait and were not notified
-abbrev pub IsWaitingLine : List (Option (Slot Getting)) → List GetKey → Type 0
-IsWaitingLine = IsLine (λ (x : Slot Getting). x.number) (λ x. is_unnotified x.standing.place) (λ (k : GetKey). k.number) (λ k. k.place)
+-- the places of gets that wait and were not notified
+abbrev pub AreWaitingPlaces : List (Option (Slot Getting)) → List ℕ → Type 0
+AreWaitingPlaces = ArePlaces (λ (x : Slot Getting). is_unnotified x.standing.place)
 
 -- the table holds what is numbered, the line leads to it, and the counts agree
 pub record AreGoodGets (a : GetsInside) : Type 0 where
-  pub table : IsTable (λ (x : Slot Getting). x.number) a.slots a.next
-  pub waiting : IsWaitingLine a.slots.slots a.waiting.items
-  pub sizes : AreGetsSized (slab_len a.slots) a.slots.capacity a.waiting.capacity a.alive a.peak a.next
+  pub table : IsTable (λ (x : Slot Getting). x.number) a.slots.slots a.next
+  pub waiting : AreWaitingPlaces a.slots.slots a.slots.line
+  pub sizes : AreGetsSized (tally is_some a.slots.slots) (length a.slots.free) a.alive a.peak a.next

@@ -1,31 +1,25 @@
 //! The gets of a pool.
 ghost use Rattle.std.specs.Prelude.{◌⊎◌, ◌≡◌, ℕ, ◌+◌, ◌<◌, ◌≤◌, max, true, false, IsSome, is_some, ltb, cond, filter, not, eqb, slice_get, IfSome, IfNone, OnOk, OnErr, Some, None, []};
 ghost use Rattle.std.specs.FinMap as map;
-ghost use Rattle.circular_buffer.specs.Buffer.{buffer};
-ghost use Rattle.slab.specs.Slab as slabs;
-ghost use Rattle.bb8_tables.specs.declared.keys.GetKey.{GetKey};
 ghost use Rattle.bb8_types.specs.declared.standing.Getting.{Getting};
 ghost use Rattle.bb8_types.specs.Places as places;
 ghost use Rattle.bb8_tables.specs.Machine as machine;
 ghost use Rattle.bb8_tables.specs.Keys.{notified_of};
 ghost use Rattle.bb8_tables.specs.Views.{no_gets};
-ghost use Rattle.bb8_tables.specs.State.{waits_at};
 ghost use Rattle.bb8_types.specs.Bounds.{end_of_numbers};
 
 use crate::keys::{GetKey, Key};
-use crate::ring::Ring;
 use crate::table::{Slot, Table};
 use bb8_types::bounds::END_OF_NUMBERS;
 use bb8_types::standing::{GetPlace, Getting};
 use std::alloc::{AllocError, Global};
 use std::marker::Model;
 
-/// The table of gets, with the line of those that wait and were not notified, and its counters.
+/// The table of gets, in whose line are those that wait and were not notified, and its counters.
 #[derive(Drop)]
 pub struct Gets {
     next: u64,
     slots: Table<Getting>,
-    waiting: Ring<GetKey>,
     alive: u64,
     peak: u64,
 }
@@ -119,27 +113,6 @@ pub fn held_key(getting: Option<Getting>, hint: usize) -> Key
     }
 }
 
-/// Whether the get that stands at a place waits and was not notified.
-fn stands_in_line(slots: &Table<Getting>, place: usize) -> bool
-    ensures { result ≡ waits_at (slabs.get slots.now place) }
-{
-    match slots.get(place) {
-        None => false,
-        Some(slot) => is_unnotified(Some(slot.standing)),
-    }
-}
-
-/// Takes a get out of line, where it is in it.
-fn step_out(waiting: &mut Ring<GetKey>, waits: bool, number: u64)
-    ensures { waiting.new ≡ buffer (cond waits
-        (filter (λ (key : GetKey). not (eqb key.number number)) waiting.old.items)
-        waiting.old.items) waiting.old.capacity }
-{
-    if waits {
-        waiting.remove(number);
-    }
-}
-
 impl Gets {
     /// No gets, which take no memory.
     pub fn new(alloc: Global, first: u64) -> Self
@@ -148,7 +121,6 @@ impl Gets {
         Gets {
             next: first,
             slots: Table::new(alloc),
-            waiting: Ring::new(alloc),
             alive: 0,
             peak: 0,
         }
@@ -168,7 +140,7 @@ impl Gets {
         self.alive
     }
 
-    /// Makes room for a higher peak, in the table and in the line, so that waiting needs no memory.
+    /// Makes room for a higher peak. Waiting needs no memory.
     #[cold]
     fn make_room(&mut self) -> Result<(), AllocError>
         requires number { self.old.next < end_of_numbers }
@@ -177,10 +149,6 @@ impl Gets {
         ensures err { OnErr result (self.new ≡ self.old) }
     {
         self.slots.reserve(1)?;
-        let room = self.peak as usize + 1;
-        if self.waiting.capacity() < room {
-            self.waiting.grow(room.saturating_mul(2))?;
-        }
         self.peak += 1;
         Ok(())
     }
@@ -263,10 +231,7 @@ impl Gets {
             None => {}
             Some(place) => {
                 self.slots.wait(place, now);
-                self.waiting.push(GetKey {
-                    number: g.number,
-                    place,
-                });
+                self.slots.line_up(place);
             }
         }
     }
@@ -289,11 +254,13 @@ impl Gets {
         ensures value { notified_of result ≡ slice_get self.old.waiting 0 }
         ensures state { self.new ≡ machine.after_notice (notified_of result) self.old }
     {
-        match self.waiting.pop() {
+        match self.slots.first() {
             None => None,
-            Some(key) => {
-                self.slots.turn(key.place, GetPlace::Waiting(true));
-                Some(key)
+            Some(place) => {
+                let number = self.slots.number_at(place);
+                self.slots.turn(place, GetPlace::Waiting(true));
+                self.slots.step_out(place);
+                Some(GetKey { number, place })
             }
         }
     }
@@ -308,8 +275,6 @@ impl Gets {
         match self.slots.locate(g.number, g.place) {
             None => {}
             Some(place) => {
-                let waits = stands_in_line(&self.slots, place);
-                step_out(&mut self.waiting, waits, g.number);
                 self.slots.remove(place);
                 self.alive -= 1;
             }
@@ -324,13 +289,7 @@ impl Gets {
         ensures state { self.new ≡ machine.after_get_end g.number self.old }
         ensures numbers { self.old.next ≤ end_of_numbers }
     {
-        match self.slots.locate(g.number, g.place) {
-            None => {}
-            Some(place) => {
-                self.slots.remove(place);
-                self.alive -= 1;
-            }
-        }
+        self.end(g);
     }
 
     /// Where the number stands, if the get is alive.

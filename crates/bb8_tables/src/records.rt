@@ -20,12 +20,11 @@ use bb8_types::standing::{Holder, Place, Standing};
 use std::alloc::{AllocError, Global};
 use std::marker::Model;
 
-/// The table of connections and approvals, with its two lines and its counters.
+/// The table of connections and approvals, in whose line are the idle ones, with the line of unclaimed approvals and its counters.
 #[derive(Drop)]
 pub struct Records<C> {
     next: u64,
     slots: Table<Standing<C>>,
-    idle: Ring<Key>,
     unclaimed: Ring<Key>,
     conns: u64,
     approved: u64,
@@ -128,7 +127,6 @@ impl<C: Drop> Records<C> {
         Records {
             next: first,
             slots: Table::new(alloc),
-            idle: Ring::new(alloc),
             unclaimed: Ring::new(alloc),
             conns: 0,
             approved: 0,
@@ -163,12 +161,17 @@ impl<C: Drop> Records<C> {
         ensures none { IfNone result ((places.first_of strategy self.old.idle ≡ None)
             × (self.new ≡ self.old)) }
     {
-        match self.idle.pop_by(strategy) {
+        match self.slots.first_by(strategy) {
             None => None,
-            Some(key) => match connection_of(self.slots.put(key.place, place_of(holder))) {
-                None => None,
-                Some(conn) => Some((key, conn)),
-            },
+            Some(place) => {
+                let number = self.slots.number_at(place);
+                let was = self.slots.put(place, place_of(holder));
+                self.slots.step_out(place);
+                match connection_of(was) {
+                    None => None,
+                    Some(conn) => Some((Key { number, place }, conn)),
+                }
+            }
         }
     }
 
@@ -208,10 +211,7 @@ impl<C: Drop> Records<C> {
                     entered: now,
                 };
                 let _ = self.slots.replace(place, idle);
-                self.idle.push(Key {
-                    number: k.number,
-                    place,
-                });
+                self.slots.line_up(place);
                 let opened = one(opening);
                 self.conns += opened;
                 self.approved -= opened;
@@ -242,12 +242,13 @@ impl<C: Drop> Records<C> {
             × (self.new ≡ machine.after_idle_end key.number self.old)) }
         ensures none { IfNone result ((slice_get self.old.idle 0 ≡ None) × (self.new ≡ self.old)) }
     {
-        match self.idle.pop() {
+        match self.slots.first() {
             None => None,
-            Some(key) => {
-                self.slots.remove(key.place);
+            Some(place) => {
+                let number = self.slots.number_at(place);
+                self.slots.remove(place);
                 self.conns -= 1;
-                Some(key)
+                Some(Key { number, place })
             }
         }
     }
@@ -309,7 +310,6 @@ impl<C: Drop> Records<C> {
     {
         let free = peak - (self.conns + self.approved);
         self.slots.reserve(free as usize)?;
-        self.idle.grow(peak as usize)?;
         self.unclaimed.grow(peak as usize)?;
         self.peak = peak;
         Ok(())
@@ -343,11 +343,10 @@ impl<C: Drop> Records<C> {
                 entered: now,
             },
         });
-        let key = Key { number, place };
-        self.idle.push(key);
+        self.slots.line_up(place);
         self.next += 1;
         self.conns += 1;
-        key
+        Key { number, place }
     }
 
     /// Adds an idle connection that was born now. Memory is asked for only where there are as many records as ever were.
@@ -452,7 +451,7 @@ impl<C: Drop> Records<C> {
     pub fn ready(&self) -> u64
         ensures { result ≡ length self.now.idle + self.now.approved }
     {
-        self.idle.len() as u64 + self.approved
+        self.slots.len() as u64 + self.approved
     }
 
     /// How many connections there are.
@@ -466,7 +465,7 @@ impl<C: Drop> Records<C> {
     pub fn idle_connections(&self) -> u32
         ensures { result ≡ length self.now.idle }
     {
-        self.idle.len() as u32
+        self.slots.len() as u32
     }
 
     /// The birth of the record.

@@ -1,13 +1,19 @@
-//! A table of places, in which each number stands once.
-ghost use Rattle.std.specs.Prelude.{◌≡◌, ◌≢◌, ℕ, ◌+◌, ◌<◌, ◌≤◌, IsSome, IfSome, IfNone, IsOk, OnOk, Some, None, option_copied, []};
-ghost use Rattle.slab.specs.Slab as slabs;
+//! A table of places, in which each number stands once, and some stand in line.
+ghost use Rattle.std.specs.Prelude.{◌≡◌, ◌≢◌, ℕ, ◌+◌, ◌-◌, ◌<◌, ◌≤◌, IsSome, IfSome, IfNone, OnOk, OnErr, Some, None, option_copied, [], slice_get, slice_set, length, ◌++◌, ◌∷◌, Bool, true, false};
 ghost use Rattle.bb8_tables.specs.declared.table.Slot.{Slot};
+ghost use Rattle.bb8_tables.specs.declared.links.Order.TheVariants.{Line, Births, Free};
 ghost use Rattle.bb8_types.specs.declared.standing.Standing.{Standing};
 ghost use Rattle.bb8_types.specs.declared.standing.Getting.{Getting};
-ghost use Rattle.bb8_types.specs.Places.{get_in_wait};
+ghost use Rattle.bb8_types.specs.Bounds.{end_of_numbers};
+ghost use Rattle.bb8_types.specs.Places.{get_in_wait, first_place};
+ghost use Rattle.bb8_tables.specs.Machine.{without};
+ghost use Rattle.bb8_tables.specs.Lined.{slot_at, places_of, with_places, is_same};
+ghost use Rattle.bb8_tables.specs.Spelled.{Absent};
 
+use crate::links::{END, Links, Order, Sizes, Vacant};
+use bb8_types::api::QueueStrategy;
+use bb8_types::bounds::END_OF_NUMBERS;
 use bb8_types::standing::{GetPlace, Getting, Place, Standing};
-use slab::Slab;
 use std::alloc::{AllocError, Global};
 use std::marker::Model;
 use std::mem;
@@ -21,179 +27,434 @@ pub struct Slot<S> {
     pub standing: S,
 }
 
-/// Places, seen as the slab that holds them. Ended places are used again.
+impl<C> Vacant for Standing<C> {
+    fn vacant() -> Self {
+        Standing {
+            place: Place::Unclaimed,
+            birth: 0,
+            entered: 0,
+        }
+    }
+}
+
+impl Vacant for Getting {
+    fn vacant() -> Self {
+        Getting {
+            place: GetPlace::Active,
+            first_wait: None,
+        }
+    }
+}
+
+/// Places, with the line of those that stand in it, and those of connections by birth. Ended places are used again.
 #[derive(Drop)]
 pub struct Table<S> {
-    slots: Slab<Slot<S>>,
+    links: Links<S>,
+    sizes: Sizes,
 }
 
 impl<S> Model for Table<S> {
-    ghost use Rattle.slab.specs.Slab.{Slab};
+    ghost use Rattle.bb8_tables.specs.Lined.{Lined, lined_code};
     ghost use Rattle.bb8_tables.specs.declared.table.Slot.{Slot};
 
-    ghost Value = { Slab (Slot S) };
+    ghost Value = { Lined (Slot S) };
 
-    ghost view = { λ a. a.slots };
+    ghost use Rattle.bb8_tables.specs.Linked.{view_of_table, IsGoodTable};
+
+    ghost view = { view_of_table };
+
+    ghost invariant = { IsGoodTable };
 }
 
 impl<S: Drop> Table<S> {
     /// An empty table, which takes no memory.
     pub fn new(alloc: Global) -> Self
-        ensures slots { result.slots ≡ [] }
-        ensures capacity { result.capacity ≡ 0 }
+        ensures { result ≡ record { slots = []; line = []; births = []; free = [] } }
     {
         Table {
-            slots: Slab::new(alloc),
+            links: Links {
+                entries: Vec::new(alloc),
+            },
+            sizes: Sizes {
+                line: 0,
+                births: 0,
+                free: 0,
+            },
         }
+    }
+
+    /// The place at the old end of an order, which has one.
+    #[inline]
+    fn oldest(&self, order: Order) -> usize
+        requires { 0 < length (places_of order self.now) }
+        ensures { slice_get (places_of order self.now) 0 ≡ Some result }
+    {
+        self.links.link(order, END).after as usize
+    }
+
+    /// The place at the new end of an order, which has one.
+    #[inline]
+    fn newest(&self, order: Order) -> usize
+        requires { 0 < length (places_of order self.now) }
+        ensures { slice_get (places_of order self.now) (length (places_of order self.now) - 1)
+            ≡ Some result }
+    {
+        self.links.link(order, END).before as usize
+    }
+
+    /// The free place at the new end, where there is one.
+    #[inline]
+    fn vacancy(&self) -> usize
+        requires { 0 < length self.now.free }
+        ensures within { result < length self.now.slots }
+        ensures apart { 0 < result }
+        ensures vacant { slot_at self.now result ≡ None }
+        ensures fewer { length (without result self.now.free) + 1 ≡ length self.now.free }
+    {
+        let _links = &self.links;
+        self.newest(Order::Free)
+    }
+
+    /// How many places are free.
+    #[inline]
+    fn room(&self) -> usize
+        ensures { result ≡ length self.now.free }
+    {
+        self.sizes.free
+    }
+
+    /// Puts a place at the new end of an order.
+    #[inline]
+    fn push(&mut self, order: Order, place: usize)
+        requires within { place < length self.old.slots }
+        requires apart { 0 < place }
+        requires absent { Absent place (places_of order self.old) }
+        requires vacant { IsSome (slot_at self.old place) → is_same Free order ≡ false }
+        ensures { self.new ≡ with_places order (places_of order self.old ++ place ∷ []) self.old }
+    {
+        let last = self.links.link(order, END).before;
+        let at = place as u32;
+        self.links.join(order, last, at);
+        self.links.join(order, at, END);
+        self.sizes.set(order, self.sizes.get(order) + 1);
+    }
+
+    /// Takes a place out of an order, where it stands in it.
+    #[inline]
+    fn unlink(&mut self, order: Order, place: usize)
+        requires within { place < length self.old.slots }
+        requires apart { 0 < place }
+        ensures { self.new ≡ with_places order (without place (places_of order self.old)) self.old }
+    {
+        let _links = &self.links;
+        let at = place as u32;
+        let link = self.links.link(order, at);
+        if link.after != at {
+            self.links.join(order, link.before, link.after);
+            self.links.join(order, at, at);
+            self.sizes.set(order, self.sizes.get(order) - 1);
+        }
+    }
+
+    /// Has this stand at a place that is not free.
+    #[inline]
+    fn fill(&mut self, place: usize, slot: Slot<S>)
+        requires within { place < length self.old.slots }
+        requires apart { 0 < place }
+        requires absent { Absent place self.old.free }
+        requires number { slot.number < end_of_numbers }
+        ensures { self.new ≡ record self.old { slots = slice_set self.old.slots place (Some slot) } }
+    {
+        self.links.entries[place].slot = slot;
+    }
+
+    /// Takes a free place, of which there is one.
+    #[inline]
+    pub fn insert(&mut self, slot: Slot<S>) -> usize
+        requires free { 0 < length self.old.free }
+        requires number { slot.number < end_of_numbers }
+        ensures vacant { slot_at self.old result ≡ None }
+        ensures within { result < length self.old.slots }
+        ensures state { self.new ≡ record self.old {
+          slots = slice_set self.old.slots result (Some slot);
+          free = without result self.old.free;
+        } }
+        ensures room { length self.new.free + 1 ≡ length self.old.free }
+    {
+        let place = self.vacancy();
+        self.unlink(Order::Free, place);
+        self.fill(place, slot);
+        place
     }
 
     /// Where a search finds the number.
     #[cold]
     fn search(&self, number: u64) -> Option<usize>
-        ensures some { IfSome result (λ i. (x : Slot S) × (slabs.get self.now i ≡ Some x)
+        ensures some { IfSome result (λ i. (x : Slot S) × (slot_at self.now i ≡ Some x)
             × (x.number ≡ number)) }
-        ensures none { IfNone result ((i : ℕ) (x : Slot S) → slabs.get self.now i ≡ Some x
+        ensures none { IfNone result ((i : ℕ) (x : Slot S) → slot_at self.now i ≡ Some x
             → x.number ≢ number) }
     {
-        for i in 0..self.slots.capacity() {
-            if let Some(slot) = self.slots.get(i) {
-                if slot.number == number {
-                    return Some(i);
-                }
+        for i in 0..self.links.entries.len() {
+            if let Some(_) = self.links.found(number, i) {
+                return Some(i);
             }
         }
         None
     }
 
     /// Where the number stands: at the hint, or else where a search finds it.
+    #[inline]
     pub fn locate(&self, number: u64, hint: usize) -> Option<usize>
-        ensures some { IfSome result (λ i. (x : Slot S) × (slabs.get self.now i ≡ Some x)
+        ensures some { IfSome result (λ i. (x : Slot S) × (slot_at self.now i ≡ Some x)
             × (x.number ≡ number)) }
-        ensures none { IfNone result ((i : ℕ) (x : Slot S) → slabs.get self.now i ≡ Some x
+        ensures none { IfNone result ((i : ℕ) (x : Slot S) → slot_at self.now i ≡ Some x
             → x.number ≢ number) }
     {
-        if let Some(slot) = self.slots.get(hint) {
-            if slot.number == number {
-                return Some(hint);
-            }
+        match self.links.found(number, hint) {
+            Some(_) => Some(hint),
+            None => self.search(number),
         }
-        self.search(number)
     }
 
     /// What stands under the number: at the hint, or else where a search finds it.
+    #[inline]
     pub fn slot(&self, number: u64, hint: usize) -> Option<&Slot<S>>
         ensures some { IfSome (option_copied result)
-            (λ x. (i : ℕ) × (slabs.get self.now i ≡ Some x) × (x.number ≡ number)) }
+            (λ x. (i : ℕ) × (slot_at self.now i ≡ Some x) × (x.number ≡ number)) }
         ensures none { IfNone (option_copied result)
-            ((i : ℕ) (x : Slot S) → slabs.get self.now i ≡ Some x → x.number ≢ number) }
+            ((i : ℕ) (x : Slot S) → slot_at self.now i ≡ Some x → x.number ≢ number) }
     {
-        if let Some(slot) = self.slots.get(hint) {
-            if slot.number == number {
-                return Some(slot);
-            }
-        }
-        match self.search(number) {
-            None => None,
-            Some(place) => self.slots.get(place),
+        match self.links.found(number, hint) {
+            Some(slot) => Some(slot),
+            None => match self.search(number) {
+                None => None,
+                Some(place) => self.links.found(number, place),
+            },
         }
     }
 
-    /// What stands at a place.
-    pub fn get(&self, place: usize) -> Option<&Slot<S>>
-        ensures { option_copied result ≡ slabs.get self.now place }
+    /// The number of what stands at a place.
+    #[inline]
+    pub fn number_at(&self, place: usize) -> u64
+        requires { IsSome (slot_at self.now place) }
+        ensures { (x : Slot S) → slot_at self.now place ≡ Some x → result ≡ x.number }
     {
-        self.slots.get(place)
+        self.links.entries[place].slot.number
     }
 
-    /// Makes room for so many more.
-    pub fn reserve(&mut self, additional: usize) -> Result<(), AllocError>
-        ensures room { OnOk result (slabs.HasRoomFor self.new additional) }
-        ensures succeeds { slabs.HasRoomFor self.old additional → IsOk result }
-        ensures capacity { self.old.capacity ≤ self.new.capacity }
-        ensures kept { self.new.slots ≡ self.old.slots }
+    /// How many places stand in line.
+    #[inline]
+    pub fn len(&self) -> usize
+        ensures { result ≡ length self.now.line }
     {
-        self.slots.reserve(additional)
+        self.sizes.line
     }
 
-    /// Takes a free place, for which there is room.
-    pub fn insert(&mut self, slot: Slot<S>) -> usize
-        requires { slabs.HasRoomFor self.old 1 }
-        ensures free { slabs.get self.old result ≡ None }
-        ensures updates { slabs.Updates self.old self.new result (Some slot) }
-        ensures len { slabs.slab_len self.new ≡ slabs.slab_len self.old + 1 }
-        ensures capacity { self.new.capacity ≡ self.old.capacity }
+    /// The place that came into line first.
+    #[inline]
+    pub fn first(&self) -> Option<usize>
+        ensures { result ≡ slice_get self.now.line 0 }
     {
-        self.slots.insert_reserved(slot)
+        if self.sizes.line == 0 {
+            return None;
+        }
+        Some(self.oldest(Order::Line))
     }
 
-    /// Frees a place.
-    pub fn remove(&mut self, place: usize)
-        ensures updates { slabs.Updates self.old self.new place None }
-        ensures len { IsSome (slabs.get self.old place)
-            → slabs.slab_len self.new + 1 ≡ slabs.slab_len self.old }
-        ensures capacity { self.new.capacity ≡ self.old.capacity }
+    /// The place that came into line first, or the one that came last.
+    #[inline]
+    pub fn first_by(&self, strategy: QueueStrategy) -> Option<usize>
+        ensures { result ≡ slice_get self.now.line
+            (first_place strategy (length self.now.line)) }
     {
-        let _ = self.slots.try_remove(place);
+        if self.sizes.line == 0 {
+            return None;
+        }
+        match strategy {
+            QueueStrategy::Fifo => Some(self.oldest(Order::Line)),
+            QueueStrategy::Lifo => Some(self.newest(Order::Line)),
+        }
+    }
+
+    /// Puts a place at the new end of the line.
+    #[inline]
+    pub fn line_up(&mut self, place: usize)
+        requires stands { IsSome (slot_at self.old place) }
+        requires absent { Absent place self.old.line }
+        ensures { self.new ≡ record self.old { line = self.old.line ++ place ∷ [] } }
+    {
+        let _links = &self.links;
+        self.push(Order::Line, place);
+    }
+
+    /// Takes a place out of line, wherever it stands in it.
+    #[inline]
+    pub fn step_out(&mut self, place: usize)
+        requires { IsSome (slot_at self.old place) }
+        ensures { self.new ≡ record self.old { line = without place self.old.line } }
+    {
+        let _links = &self.links;
+        self.unlink(Order::Line, place);
     }
 
     /// Has something else stand at a place, and gives back what stood there.
+    #[inline]
     pub fn replace(&mut self, place: usize, standing: S) -> S
-        requires { IsSome (slabs.get self.old place) }
-        ensures value { (x : Slot S) → slabs.get self.old place ≡ Some x → result ≡ x.standing }
-        ensures changed { (x : Slot S) → slabs.get self.old place ≡ Some x
-            → slabs.Updates self.old self.new place (Some (record x { standing = standing })) }
-        ensures len { slabs.slab_len self.new ≡ slabs.slab_len self.old }
-        ensures capacity { self.new.capacity ≡ self.old.capacity }
+        requires { IsSome (slot_at self.old place) }
+        ensures value { (x : Slot S) → slot_at self.old place ≡ Some x → result ≡ x.standing }
+        ensures changed { (x : Slot S) → slot_at self.old place ≡ Some x
+            → self.new ≡ record self.old {
+              slots =
+                  slice_set self.old.slots place (Some (record x { standing = standing }));
+            } }
     {
-        mem::replace(&mut self.slots[place].standing, standing)
+        mem::replace(&mut self.links.entries[place].slot.standing, standing)
+    }
+}
+
+impl<S: Drop + Vacant> Table<S> {
+    /// Has nothing stand at a place.
+    #[inline]
+    fn clear(&mut self, place: usize)
+        requires { IsSome (slot_at self.old place) }
+        ensures state { self.new ≡ record self.old { slots = slice_set self.old.slots place None } }
+        ensures absent { Absent place self.old.free }
+    {
+        self.links.entries[place].slot = Slot {
+            number: END_OF_NUMBERS,
+            standing: S::vacant(),
+        };
+    }
+
+    /// Frees a place, wherever it stands in the orders.
+    pub fn remove(&mut self, place: usize)
+        requires { IsSome (slot_at self.old place) }
+        ensures { self.new ≡ record {
+          slots = slice_set self.old.slots place None;
+          line = without place self.old.line;
+          births = without place self.old.births;
+          free = self.old.free ++ place ∷ [];
+        } }
+    {
+        let _links = &self.links;
+        self.step_out(place);
+        self.unlink(Order::Births, place);
+        self.clear(place);
+        self.push(Order::Free, place);
+    }
+
+    /// Adds an entry where nothing stands, which leads to itself.
+    fn append(&mut self) -> Result<(), AllocError>
+        ensures ok { OnOk result (self.new ≡ record self.old { slots = self.old.slots ++ None ∷ [] }) }
+        ensures err { OnErr result (self.new ≡ self.old) }
+        ensures absent { Absent (length self.old.slots) self.old.free }
+    {
+        let place = self.links.entries.len();
+        if place > u32::MAX as usize {
+            return Err(AllocError);
+        }
+        self.links.append(place as u32)
+    }
+
+    /// Adds a free place.
+    fn add_place(&mut self) -> Result<(), AllocError>
+        requires { 0 < length self.old.slots }
+        ensures ok { OnOk result (self.new ≡ record self.old {
+          slots = self.old.slots ++ None ∷ [];
+          free = self.old.free ++ length self.old.slots ∷ [];
+        }) }
+        ensures err { OnErr result (self.new ≡ self.old) }
+    {
+        let place = self.links.entries.len();
+        self.append()?;
+        self.push(Order::Free, place);
+        Ok(())
+    }
+
+    /// Whether there is no entry, not even the one of the ends.
+    fn is_empty(&self) -> bool
+        ensures yes { result ≡ true → length self.now.slots ≡ 0 }
+        ensures no { result ≡ false → 0 < length self.now.slots }
+    {
+        self.links.entries.is_empty()
+    }
+
+    /// Takes the memory for so many more entries.
+    fn grow(&mut self, additional: usize) -> Result<(), AllocError>
+        ensures { self.new ≡ self.old }
+    {
+        self.links.entries.reserve(additional)
+    }
+
+    /// Makes room for so many more in all.
+    pub fn reserve(&mut self, additional: usize) -> Result<(), AllocError>
+        ensures room { OnOk result (additional ≤ length self.new.free) }
+        ensures more { length self.old.free ≤ length self.new.free }
+        ensures kept { (i : ℕ) → slot_at self.new i ≡ slot_at self.old i }
+        ensures line { self.new.line ≡ self.old.line }
+        ensures births { self.new.births ≡ self.old.births }
+    {
+        let missing = additional.saturating_sub(self.room());
+        if missing == 0 {
+            return Ok(());
+        }
+        self.grow(missing.saturating_add(1))?;
+        if self.is_empty() {
+            self.append()?;
+        }
+        for _ in 0..missing {
+            self.add_place()?;
+        }
+        Ok(())
     }
 }
 
 impl<C: Drop> Table<Standing<C>> {
     /// Puts the record at a place where another kind of record stands, and gives back where it stood.
+    #[inline]
     pub fn put(&mut self, at: usize, place: Place<C>) -> Place<C>
-        requires { IsSome (slabs.get self.old at) }
-        ensures value { (x : Slot (Standing C)) → slabs.get self.old at ≡ Some x
+        requires { IsSome (slot_at self.old at) }
+        ensures value { (x : Slot (Standing C)) → slot_at self.old at ≡ Some x
             → result ≡ x.standing.place }
-        ensures changed { (x : Slot (Standing C)) → slabs.get self.old at ≡ Some x
-            → slabs.Updates self.old self.new at
-            (Some (record x { standing = record x.standing { place = place } })) }
-        ensures len { slabs.slab_len self.new ≡ slabs.slab_len self.old }
-        ensures capacity { self.new.capacity ≡ self.old.capacity }
+        ensures changed { (x : Slot (Standing C)) → slot_at self.old at ≡ Some x
+            → self.new ≡ record self.old {
+              slots = slice_set self.old.slots at
+                  (Some (record x { standing = record x.standing { place = place } }));
+            } }
     {
-        mem::replace(&mut self.slots[at].standing.place, place)
+        mem::replace(&mut self.links.entries[at].slot.standing.place, place)
     }
 }
 
 impl Table<Getting> {
     /// Has the get that stands at a place stand elsewhere.
+    #[inline]
     pub fn turn(&mut self, at: usize, place: GetPlace)
-        requires { IsSome (slabs.get self.old at) }
-        ensures changed { (x : Slot Getting) → slabs.get self.old at ≡ Some x
-            → slabs.Updates self.old self.new at
-            (Some (record x { standing = record x.standing { place = place } })) }
-        ensures len { slabs.slab_len self.new ≡ slabs.slab_len self.old }
-        ensures capacity { self.new.capacity ≡ self.old.capacity }
+        requires { IsSome (slot_at self.old at) }
+        ensures { (x : Slot Getting) → slot_at self.old at ≡ Some x
+            → self.new ≡ record self.old {
+              slots = slice_set self.old.slots at
+                  (Some (record x { standing = record x.standing { place = place } }));
+            } }
     {
-        if let Some(slot) = self.slots.get_mut(at) {
-            slot.standing.place = place;
-        }
+        self.links.entries[at].slot.standing.place = place;
     }
 
     /// Has the get that stands at a place wait, since this moment if it did not wait before.
+    #[inline]
     pub fn wait(&mut self, at: usize, now: u64)
-        requires { IsSome (slabs.get self.old at) }
-        ensures changed { (x : Slot Getting) → slabs.get self.old at ≡ Some x
-            → slabs.Updates self.old self.new at
-            (Some (record x { standing = get_in_wait now x.standing })) }
-        ensures len { slabs.slab_len self.new ≡ slabs.slab_len self.old }
-        ensures capacity { self.new.capacity ≡ self.old.capacity }
+        requires { IsSome (slot_at self.old at) }
+        ensures { (x : Slot Getting) → slot_at self.old at ≡ Some x
+            → self.new ≡ record self.old {
+              slots = slice_set self.old.slots at
+                  (Some (record x { standing = get_in_wait now x.standing }));
+            } }
     {
-        if let Some(slot) = self.slots.get_mut(at) {
-            slot.standing = Getting {
-                place: GetPlace::Waiting(false),
-                first_wait: Some(slot.standing.first_wait.unwrap_or(now)),
-            };
-        }
+        let standing = &mut self.links.entries[at].slot.standing;
+        *standing = Getting {
+            place: GetPlace::Waiting(false),
+            first_wait: Some(standing.first_wait.unwrap_or(now)),
+        };
     }
 }

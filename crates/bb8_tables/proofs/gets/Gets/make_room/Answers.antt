@@ -1,10 +1,28 @@
-use Rattle.std.proofs.Common.{◌≡◌, ◌<◌, ◌≤◌, length, arith}
-use Rattle.bb8_tables.proofs.GetPlaces.{waiting_fit}
+use Rattle.std.proofs.Common.{◌≡◌, ◌+◌, ap, ◌∙◌, arith}
+use Rattle.bb8_tables.specs.Views.{ShownGets}
+use Rattle.bb8_tables.proofs.GetPlaces.{kept_good, kept_view}
+use Rattle.bb8_tables.proofs.Views.{on_err}
 use Rattle.bb8_tables.proofs.gets.Gets.make_room.Goals as goal
-use Rattle.bb8_types.specs.Bounds.{end_of_numbers}
 
-pub grow-requires : goal.grow-requires
-grow-requires c = let few : length c.self.inside.waiting.items ≤ c.self.inside.alive = waiting_fit c.self.inside c.self.invariant in
+pub invariant_of-self : goal.invariant_of-self
+invariant_of-self c =
+    let z = c.self.invariant.sizes in
+    let r = c.reserve.ensures in
+    kept_good c.self.inside c.reserve.new.self c.self.inside.peak c.self.invariant r.kept r.line z.peak_holds (omega (arith, z.room_holds, r.more))
+
+pub returns-in_err-reserve-clause-err : goal.returns-in_err-reserve-clause-err
+returns-in_err-reserve-clause-err c =
+    let r = c.reserve.ensures in
+    on_err c.from_residual.result (kept_view c.self.inside c.reserve.new.self c.self.inside.peak c.self.invariant r.kept r.line ∙ c.self.view_is)
+
+pub invariant_of-self-2 : goal.invariant_of-self-2
+invariant_of-self-2 c =
+    let z = c.self.invariant.sizes in
+    let r = c.reserve.ensures in
     let full : c.self.inside.alive ≡ c.self.inside.peak = rw (← c.self.view_is) at c.requires.full in
-    let number : c.self.inside.next < end_of_numbers = rw (← c.self.view_is) at c.requires.number in
-    omega (arith, c.saturating_mul.ensures, c.self.invariant.sizes.alive_few)
+    kept_good c.self.inside c.reserve.new.self (c.self.inside.peak + 1) c.self.invariant r.kept r.line (omega (arith, z.peak_holds)) (omega (arith, c.in_ok-reserve.ensures.room))
+
+pub returns-clause-ok : goal.returns-clause-ok
+returns-clause-ok c =
+    let r = c.reserve.ensures in
+    kept_view c.self.inside c.reserve.new.self (c.self.inside.peak + 1) c.self.invariant r.kept r.line ∙ ap (λ (s : ShownGets). record s { peak = s.peak + 1 }) c.self.view_is

@@ -10,7 +10,7 @@ invariant_of-self c =
     let f = c.in-Some.ensures.some in
     turn_good c.self.inside c.in-Some.at c.args.g.number c.args.place f.0 c.turn.new.self c.self.invariant f.1 f.2
     (stands_is c.self.inside c.args.g.number c.in-Some.at f.0 c.args.self.now c.self.invariant c.self.view_is f.1 f.2 c.requires.stands)
-    (c.turn.ensures.changed f.0 f.1) c.turn.ensures.len c.turn.ensures.capacity
+    c.turn.ensures
 
 pub returns-in-None : goal.returns-in-None
 returns-in-None c = never_absent _ _ (some_is {P = λ (x : Getting). is_unnotified x.place ≡ false} _ c.requires.stands)
@@ -21,5 +21,5 @@ returns-in-Some c =
     let f = c.in-Some.ensures.some in
     turn_view c.self.inside c.in-Some.at c.args.g.number c.args.place f.0 c.turn.new.self c.self.invariant f.1 f.2
     (stands_is c.self.inside c.args.g.number c.in-Some.at f.0 c.args.self.now c.self.invariant c.self.view_is f.1 f.2 c.requires.stands)
-    (c.turn.ensures.changed f.0 f.1)
+    c.turn.ensures
     ∙ ap (machine.after_turn c.args.place c.args.g.number) c.self.view_is

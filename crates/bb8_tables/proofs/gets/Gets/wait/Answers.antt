@@ -1,22 +1,27 @@
-use Rattle.std.proofs.Common.{◌≡◌, false, ap, ◌∙◌, refl}
+use Rattle.std.proofs.Common.{◌≡◌, ℕ, List, false, sym, ap, subst, ◌∙◌}
 use Rattle.bb8_types.specs.declared.standing.Getting.{Getting}
 use Rattle.bb8_types.specs.Places.{is_unnotified}
+use Rattle.bb8_tables.specs.declared.table.Slot.{Slot}
+use Rattle.bb8_tables.specs.Lined.{Lined}
+use Rattle.bb8_tables.specs.Spelled.{Absent}
 use Rattle.bb8_tables.specs.Machine as machine
-use Rattle.bb8_tables.proofs.GetPlaces.{none_shown, never_absent, wait_room, wait_good, wait_view, stands_is, some_is}
+use Rattle.bb8_tables.proofs.GetPlaces.{none_shown, never_absent, waits_stands, wait_absent, wait_good, wait_view, stands_is, some_is}
 use Rattle.bb8_tables.proofs.gets.Gets.wait.Goals as goal
 
-pub push-requires : goal.push-requires
-push-requires c =
+pub line_up-requires-clause-stands : goal.line_up-requires-clause-stands
+line_up-requires-clause-stands c = let f = c.in-Some.ensures.some in waits_stands c.self.inside c.args.now c.in-Some.place f.0 c.wait.new.self f.1 c.wait.ensures
+
+pub line_up-requires-clause-absent : goal.line_up-requires-clause-absent
+line_up-requires-clause-absent c =
     let f = c.in-Some.ensures.some in
-    wait_room c.self.inside c.args.now c.in-Some.place (record { number = c.args.g.number; place = c.in-Some.place }) f.0 c.wait.new.self c.self.invariant f.1
-    (stands_is c.self.inside c.args.g.number c.in-Some.place f.0 c.args.self.now c.self.invariant c.self.view_is f.1 f.2 c.requires) f.2 refl (c.wait.ensures.changed f.0 f.1) c.wait.ensures.len
+    subst (λ (xs : List ℕ). Absent c.in-Some.place xs) (sym (ap (λ (t : Lined (Slot Getting)). t.line) (c.wait.ensures f.0 f.1)))
+    (wait_absent c.self.inside c.in-Some.place f.0 c.self.invariant f.1 (stands_is c.self.inside c.args.g.number c.in-Some.place f.0 c.args.self.now c.self.invariant c.self.view_is f.1 f.2 c.requires))
 
 pub invariant_of-self : goal.invariant_of-self
 invariant_of-self c =
     let f = c.in-Some.ensures.some in
-    wait_good c.self.inside c.args.now c.in-Some.place (record { number = c.args.g.number; place = c.in-Some.place }) f.0 c.wait.new.self c.self.invariant f.1
-    (stands_is c.self.inside c.args.g.number c.in-Some.place f.0 c.args.self.now c.self.invariant c.self.view_is f.1 f.2 c.requires) f.2
-    refl (c.wait.ensures.changed f.0 f.1) c.push.new.self c.wait.ensures.len c.wait.ensures.capacity c.push.ensures
+    wait_good c.self.inside c.args.now c.in-Some.place c.args.g.number f.0 c.wait.new.self c.line_up.new.self c.self.invariant f.1
+    (stands_is c.self.inside c.args.g.number c.in-Some.place f.0 c.args.self.now c.self.invariant c.self.view_is f.1 f.2 c.requires) f.2 c.wait.ensures c.line_up.ensures
 
 pub returns-in-None : goal.returns-in-None
 returns-in-None c = never_absent _ _ (some_is {P = λ (x : Getting). is_unnotified x.place ≡ false} _ c.requires)
@@ -25,7 +30,6 @@ returns-in-None c = never_absent _ _ (some_is {P = λ (x : Getting). is_unnotifi
 pub returns-in-Some : goal.returns-in-Some
 returns-in-Some c =
     let f = c.in-Some.ensures.some in
-    wait_view c.self.inside c.args.now c.in-Some.place (record { number = c.args.g.number; place = c.in-Some.place }) f.0 c.wait.new.self c.self.invariant f.1
-    (stands_is c.self.inside c.args.g.number c.in-Some.place f.0 c.args.self.now c.self.invariant c.self.view_is f.1 f.2 c.requires) f.2
-    refl (c.wait.ensures.changed f.0 f.1) c.push.new.self c.push.ensures
+    wait_view c.self.inside c.args.now c.in-Some.place c.args.g.number f.0 c.wait.new.self c.line_up.new.self c.self.invariant f.1
+    (stands_is c.self.inside c.args.g.number c.in-Some.place f.0 c.args.self.now c.self.invariant c.self.view_is f.1 f.2 c.requires) f.2 c.wait.ensures c.line_up.ensures
     ∙ ap (machine.after_wait c.args.now c.args.g.number) c.self.view_is

@@ -1,5 +1,4 @@
-use Rattle.std.proofs.Common.{◌≤◌, ◌<◌, ◌+◌, length, subst, Some, ap, ◌∙◌, arith}
-use Rattle.slab.specs.Slab.{Updates}
+use Rattle.std.proofs.Common.{◌≡◌, ◌≤◌, ◌<◌, ◌+◌, length, set, subst, Some, ap, ◌∙◌, arith}
 use Rattle.bb8_types.specs.declared.standing.Standing.{Standing}
 use Rattle.bb8_tables.specs.Machine as machine
 use Rattle.bb8_tables.proofs.RecordPlaces.{unclaimed_fit, approve_good, approve_view}
@@ -15,15 +14,19 @@ line_up-requires g c =
 
 pub invariant_of-self : goal.invariant_of-self
 invariant_of-self g c =
-    let free : c.self.inside.conns + c.self.inside.approved < c.self.inside.peak = rw (← c.self.view_is) at c.requires.room in
-    approve_good c.self.inside c.args.claimed c.insert-place.result c.insert-place.new.self c.line_up.new.unclaimed c.self.invariant
-    c.insert-place.ensures.free (subst (λ (s : Standing g.row.C.Denot). Updates c.self.inside.slots c.insert-place.new.self
-    c.insert-place.result (Some (record { number = c.self.inside.next; standing = s }))) c.approval.ensures
-    c.insert-place.ensures.updates) c.line_up.ensures free c.insert-place.ensures.len c.insert-place.ensures.capacity
+    let i = c.insert-place in
+    approve_good c.self.inside c.args.claimed i.result i.new.self c.line_up.new.unclaimed c.self.invariant i.ensures.vacant i.ensures.within
+    (subst (λ (s : Standing g.row.C.Denot). i.new.self ≡ record c.self.inside.slots {
+      slots = set c.self.inside.slots.slots i.result (Some (record { number = c.self.inside.next; standing = s }));
+      free = machine.without i.result c.self.inside.slots.free;
+    }) c.approval.ensures i.ensures.state) i.ensures.room c.line_up.ensures (rw (← c.self.view_is) at c.requires.room)
 
 pub returns : goal.returns
-returns g c = approve_view c.self.inside c.args.claimed c.insert-place.result c.insert-place.new.self c.line_up.new.unclaimed
-    c.self.invariant c.insert-place.ensures.free (subst
-    (λ (s : Standing g.row.C.Denot). Updates c.self.inside.slots c.insert-place.new.self c.insert-place.result
-    (Some (record { number = c.self.inside.next; standing = s }))) c.approval.ensures c.insert-place.ensures.updates) c.line_up.ensures
+returns g c =
+    let i = c.insert-place in
+    approve_view c.self.inside c.args.claimed i.result i.new.self c.line_up.new.unclaimed c.self.invariant i.ensures.vacant i.ensures.within
+    (subst (λ (s : Standing g.row.C.Denot). i.new.self ≡ record c.self.inside.slots {
+      slots = set c.self.inside.slots.slots i.result (Some (record { number = c.self.inside.next; standing = s }));
+      free = machine.without i.result c.self.inside.slots.free;
+    }) c.approval.ensures i.ensures.state) i.ensures.room c.line_up.ensures
     ∙ ap (machine.after_approval c.args.claimed) c.self.view_is

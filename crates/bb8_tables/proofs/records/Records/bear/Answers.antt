@@ -1,24 +1,30 @@
-use Rattle.std.proofs.Common.{◌≤◌, ◌<◌, ◌+◌, length, ap, ◌∙◌, arith}
+use Rattle.std.proofs.Common.{ℕ, List, IsSome, sym, ap, subst, ◌∙◌, refl}
+use Rattle.bb8_types.specs.declared.standing.Standing.{Standing}
+use Rattle.bb8_tables.specs.declared.table.Slot.{Slot}
+use Rattle.bb8_tables.specs.Lined.{Lined}
+use Rattle.bb8_tables.specs.Spelled.{Absent}
 use Rattle.bb8_tables.specs.Machine as machine
-use Rattle.bb8_tables.proofs.RecordPlaces.{idle_fit, born_good, born_view}
+use Rattle.bb8_tables.proofs.Slots.{set_updates}
+use Rattle.bb8_tables.proofs.RecordPlaces.{born_absent, born_good, born_view}
 use Rattle.bb8_tables.proofs.records.Records.bear.Goals as goal
 
-pub push-requires : goal.push-requires
-push-requires g c =
-    let a = c.self.inside in
-    let fit : length a.idle.items ≤ a.conns = idle_fit a c.self.invariant in
-    let free : a.conns + a.approved < a.peak = rw (← c.self.view_is) at c.requires.room in
-    let s = c.self.invariant.sizes in
-    omega arith
+pub line_up-requires-clause-stands : goal.line_up-requires-clause-stands
+line_up-requires-clause-stands g c =
+    let i = c.insert-place in
+    subst IsSome (sym (set_updates _ i.ensures.within (ap (λ (t : Lined (Slot (Standing g.row.C.Denot))). t.slots) i.ensures.state)).changed) refl
+
+pub line_up-requires-clause-absent : goal.line_up-requires-clause-absent
+line_up-requires-clause-absent g c =
+    let i = c.insert-place in
+    subst (λ (xs : List ℕ). Absent i.result xs) (sym (ap (λ (t : Lined (Slot (Standing g.row.C.Denot))). t.line) i.ensures.state)) (born_absent c.self.inside i.result c.self.invariant i.ensures.vacant)
 
 pub invariant_of-self : goal.invariant_of-self
 invariant_of-self g c =
-    let free : c.self.inside.conns + c.self.inside.approved < c.self.inside.peak = rw (← c.self.view_is) at c.requires.room in
-    born_good c.self.inside c.insert-place.result c.args.now c.args.conn c.insert-place.new.self c.push.new.self c.self.invariant
-    c.insert-place.ensures.free c.insert-place.ensures.updates c.push.ensures free c.insert-place.ensures.len
-    c.insert-place.ensures.capacity
+    let i = c.insert-place in
+    born_good c.self.inside i.result c.args.now c.args.conn i.new.self c.line_up.new.self c.self.invariant i.ensures.vacant i.ensures.within i.ensures.state i.ensures.room c.line_up.ensures (rw (← c.self.view_is) at c.requires.room)
 
 pub returns-clause-state : goal.returns-clause-state
-returns-clause-state g c = born_view c.self.inside c.insert-place.result c.args.now c.args.conn c.insert-place.new.self c.push.new.self
-    c.self.invariant c.insert-place.ensures.free c.insert-place.ensures.updates c.push.ensures
+returns-clause-state g c =
+    let i = c.insert-place in
+    born_view c.self.inside i.result c.args.now c.args.conn i.new.self c.line_up.new.self c.self.invariant i.ensures.vacant i.ensures.within i.ensures.state i.ensures.room c.line_up.ensures
     ∙ ap (machine.after_birth c.args.conn c.args.now) c.self.view_is

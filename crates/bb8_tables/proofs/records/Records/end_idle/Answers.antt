@@ -1,25 +1,25 @@
-use Rattle.std.proofs.Common.{sym, ap, ◌∙◌, slice_get, option_map, refl}
-use Rattle.std.proofs.lemmas.Option.{slice_get-map}
-use Rattle.bb8_tables.specs.declared.keys.Key.{Key}
+use Rattle.std.proofs.Common.{slice_get, refl, sym, ap, ◌∙◌}
 use Rattle.bb8_tables.specs.Machine as machine
 use Rattle.bb8_tables.specs.Views.{ShownRecords}
-use Rattle.bb8_tables.proofs.RecordPlaces.{idle_end_counted, idle_end_good, idle_end_view}
+use Rattle.bb8_tables.proofs.RecordPlaces.{first_stands, end_idle_none, idle_end_counted, idle_end_good, idle_end_view, idle_end_first}
 use Rattle.bb8_tables.proofs.records.Records.end_idle.Goals as goal
 
-pub overflow_sub-self : goal.overflow_sub-self
-overflow_sub-self g c = idle_end_counted c.self.inside c.in-Some.key c.remove.new.self c.pop.new.self c.self.invariant c.in-Some.ensures.value c.in-Some.ensures.items c.remove.ensures.updates
+pub remove-requires : goal.remove-requires
+remove-requires g c = first_stands c.self.inside 0 c.in-Some.place c.self.invariant c.in-Some.ensures
 
-pub invariant_of-self-in-Some : goal.invariant_of-self-in-Some
-invariant_of-self-in-Some g c =
-    let x = c.self.invariant.idle.each 0 c.in-Some.key (sym c.in-Some.ensures.value) in
-    idle_end_good c.self.inside c.in-Some.key c.remove.new.self c.pop.new.self c.self.invariant c.in-Some.ensures.value
-    c.in-Some.ensures.items c.remove.ensures.updates (c.remove.ensures.len (rw x.1 refl)) c.remove.ensures.capacity
+pub overflow_sub-self : goal.overflow_sub-self
+overflow_sub-self g c = idle_end_counted c.self.inside c.in-Some.place c.number_at-number.result c.remove.new.self c.self.invariant c.in-Some.ensures c.number_at-number.ensures c.remove.ensures
+
+pub invariant_of-self : goal.invariant_of-self
+invariant_of-self g c = idle_end_good c.self.inside c.in-Some.place c.number_at-number.result c.remove.new.self c.self.invariant c.in-Some.ensures c.number_at-number.ensures c.remove.ensures
+
+pub returns-in-None-clause-none : goal.returns-in-None-clause-none
+returns-in-None-clause-none g c = (ap (λ (s : ShownRecords g.row.C.Denot). slice_get s.idle 0) (sym c.self.view_is) ∙ end_idle_none c.self.inside (sym c.in-None.ensures), refl)
 
 pub returns-in-Some-clause-some : goal.returns-in-Some-clause-some
 returns-in-Some-clause-some g c = (
   ap (λ (s : ShownRecords g.row.C.Denot). slice_get s.idle 0) (sym c.self.view_is)
-      ∙ slice_get-map (λ (k : Key). k.number) c.self.inside.idle.items 0
-      ∙ ap (option_map (λ (k : Key). k.number)) (sym c.in-Some.ensures.value),
-  idle_end_view c.self.inside c.in-Some.key c.remove.new.self c.pop.new.self c.self.invariant c.in-Some.ensures.value
-      c.in-Some.ensures.items c.remove.ensures.updates ∙ ap (machine.after_idle_end c.in-Some.key.number) c.self.view_is,
+      ∙ idle_end_first c.self.inside c.in-Some.place c.number_at-number.result c.remove.new.self c.self.invariant c.in-Some.ensures c.number_at-number.ensures c.remove.ensures,
+  idle_end_view c.self.inside c.in-Some.place c.number_at-number.result c.remove.new.self c.self.invariant c.in-Some.ensures c.number_at-number.ensures c.remove.ensures
+      ∙ ap (machine.after_idle_end c.number_at-number.result) c.self.view_is,
 )

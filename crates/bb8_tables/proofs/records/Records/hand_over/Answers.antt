@@ -23,4 +23,3 @@ invariant_of-self g c =
     let shows : Shows c.self.inside c.args.k.number is_out = rw (← c.self.view_is) at c.requires in
     handover_good c.self.inside c.in-Some.place c.args.k.number f.0 c.put.new.self c.self.invariant f.1 f.2
     (stood c.self.inside c.args.k.number c.in-Some.place f.0 is_out c.self.invariant shows f.1 f.2) c.put.ensures.changed
-    c.put.ensures.len c.put.ensures.capacity

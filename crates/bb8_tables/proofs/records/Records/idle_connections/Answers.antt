@@ -5,5 +5,5 @@ use Rattle.bb8_tables.proofs.records.Records.idle_connections.Goals as goal
 pub overflow_cast-result : goal.overflow_cast-result
 overflow_cast-result g c =
     let s = c.self.invariant.sizes in
-    let fit : length c.self.inside.idle.items ≤ c.self.inside.conns = idle_fit c.self.inside c.self.invariant in
+    let fit : length c.self.inside.slots.line ≤ c.self.inside.conns = idle_fit c.self.inside c.self.invariant in
     omega arith

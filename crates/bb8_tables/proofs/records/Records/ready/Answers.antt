@@ -5,5 +5,5 @@ use Rattle.bb8_tables.proofs.records.Records.ready.Goals as goal
 pub overflow_add-result : goal.overflow_add-result
 overflow_add-result g c =
     let s = c.self.invariant.sizes in
-    let fit : length c.self.inside.idle.items ≤ c.self.inside.conns = idle_fit c.self.inside c.self.invariant in
+    let fit : length c.self.inside.slots.line ≤ c.self.inside.conns = idle_fit c.self.inside c.self.invariant in
     omega arith

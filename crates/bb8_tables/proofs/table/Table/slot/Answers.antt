@@ -1,6 +1,7 @@
-use Rattle.std.proofs.Common.{ap, sym, ◌∙◌}
-use Rattle.slab.specs.Slab as slabs
+use Rattle.std.proofs.Common.{None, get_or, sym, ap, ◌∙◌}
+use Rattle.bb8_tables.specs.declared.table.Slot.{Slot}
+use Rattle.bb8_tables.specs.Lined.{Lined}
 use Rattle.bb8_tables.proofs.table.Table.slot.Goals as goal
 
-pub returns-then-slot-number-clause-some : goal.returns-then-slot-number-clause-some
-returns-then-slot-number-clause-some g c = (c.args.hint, ap (λ s. slabs.get s c.args.hint) (sym c.self.view_is) ∙ sym c.in-Some.ensures, c.if-slot-number.true)
+pub returns-in-Some-clause-some : goal.returns-in-Some-clause-some
+returns-in-Some-clause-some g c = (c.args.hint, ap (λ (t : Lined (Slot g.row.S.Denot)). get_or t.slots c.args.hint None) (sym c.self.view_is) ∙ c.in-Some.ensures.some.0, c.in-Some.ensures.some.1)

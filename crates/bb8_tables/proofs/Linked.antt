@@ -1,0 +1,501 @@
+-- What the steps on links and entries do to what a table shows.
+use Rattle.std.proofs.Common.{◌≡◌, ◌≢◌, get_or-set_other, get_or-set_same, Result, Ok, Err, OnOk, OnErr, cond, ℕ, zero, suc, ◌+◌, ◌-◌, ◌<◌, ◌≤◌, Bool, true, false, eqb, List, [], ◌∷◌, ◌++◌, length, set, slice_get, get_or, Option, Some, None, IsSome, refl, sym, ap, ◌∙◌, ⊎_elim, arith, subst, length-append}
+use Rattle.std.proofs.Math.Seq.{map-set_same}
+use Rattle.std.proofs.lemmas.List.{length-map, map-set}
+use Rattle.std.proofs.lemmas.Option.{slice_get_past, slice_get_read}
+use Rattle.std.proofs.lemmas.Bool.{cases_lt}
+use Rattle.std.proofs.lemmas.Bool.Decides.{eqb_tells}
+use Rattle.std.specs.declared.alloc.AllocError.{AllocError}
+use Rattle.std.specs.Vec.{with_item}
+use Rattle.bb8_types.specs.Bounds.{end_of_numbers}
+use Rattle.bb8_tables.specs.declared.table.Slot.{Slot}
+use Rattle.bb8_tables.specs.declared.links.Order.{Order}
+use Rattle.bb8_tables.specs.declared.links.Order.TheVariants.{Line, Births, Free}
+use Rattle.bb8_tables.specs.declared.links.Link.{Link}
+use Rattle.bb8_tables.specs.declared.links.Entry.{Entry}
+use Rattle.bb8_tables.specs.declared.links.Links.{Links}
+use Rattle.bb8_tables.specs.declared.links.Sizes.{Sizes}
+use Rattle.bb8_tables.specs.declared.table.Table.TheInside.{Inside}
+use Rattle.bb8_tables.specs.Linked.{end, most_places, size_of, with_size, link_in, with_link, after_at, before_at, after_of, before_of, JoinsAt, SameLinks, SameOthers, slot_in, slots_of, spelled, view_of_table, IsGoodTable}
+use Rattle.bb8_tables.specs.Lined.{Lined, is_same, places_of, with_places}
+use Rattle.bb8_tables.specs.Machine.{without}
+use Rattle.bb8_tables.specs.Spelled.{Absent, Spells, walk}
+use Rattle.bb8_tables.proofs.Spelled
+
+-- ---- orders
+
+same_is : (q o : Order) → is_same q o ≡ true → q ≡ o
+same_is Line Line e = refl
+same_is Births Births e = refl
+same_is Free Free e = refl
+same_is Line Births e = cc
+same_is Line Free e = cc
+same_is Births Line e = cc
+same_is Births Free e = cc
+same_is Free Line e = cc
+same_is Free Births e = cc
+
+size_set : (o : Order) (n : ℕ) (s : Sizes) → size_of o (with_size o n s) ≡ n
+size_set Line n s = refl
+size_set Births n s = refl
+size_set Free n s = refl
+
+size_other : (q o : Order) (n : ℕ) (s : Sizes) → is_same q o ≡ false → size_of q (with_size o n s) ≡ size_of q s
+size_other Line Line n s e = cc
+size_other Births Births n s e = cc
+size_other Free Free n s e = cc
+size_other Line Births n s e = refl
+size_other Line Free n s e = refl
+size_other Births Line n s e = refl
+size_other Births Free n s e = refl
+size_other Free Line n s e = refl
+size_other Free Births n s e = refl
+
+module _ {X : Type 0} where
+  -- a table with the places that it has
+  pub same_places : (o : Order) (t : Lined X) (xs : List ℕ) → xs ≡ places_of o t → t ≡ with_places o xs t
+  same_places Line t xs e = ap (λ (ys : List ℕ). record t { line = ys }) (sym e)
+  same_places Births t xs e = ap (λ (ys : List ℕ). record t { births = ys }) (sym e)
+  same_places Free t xs e = ap (λ (ys : List ℕ). record t { free = ys }) (sym e)
+
+  -- a table that differs in one order alone
+  set_places : (o : Order) (t u : Lined X) (xs : List ℕ) → u.slots ≡ t.slots → places_of o u ≡ xs → ((q : Order) → is_same q o ≡ false → places_of q u ≡ places_of q t) → u ≡ with_places o xs t
+  set_places Line t u xs slots here others = λ i. record { slots = slots i; line = here i; births = others Births refl i; free = others Free refl i }
+  set_places Births t u xs slots here others = λ i. record { slots = slots i; line = others Line refl i; births = here i; free = others Free refl i }
+  set_places Free t u xs slots here others = λ i. record { slots = slots i; line = others Line refl i; births = others Births refl i; free = here i }
+
+-- ---- entries
+
+get_set_same : {X : Type 0} (xs : List X) (i : ℕ) (x y : X) → slice_get xs i ≡ Some x → slice_get (set xs i y) i ≡ Some y
+get_set_same [] i x y e = cc
+get_set_same (z ∷ xs) zero x y e = refl
+get_set_same (z ∷ xs) (suc i) x y e = get_set_same xs i x y e
+
+get_set_other : {X : Type 0} (xs : List X) (i j : ℕ) (y : X) → j ≢ i → slice_get (set xs i y) j ≡ slice_get xs j
+get_set_other [] i j y n = refl
+get_set_other (z ∷ xs) zero zero y n = absurd (n refl)
+get_set_other (z ∷ xs) zero (suc j) y n = refl
+get_set_other (z ∷ xs) (suc i) zero y n = refl
+get_set_other (z ∷ xs) (suc i) (suc j) y n = get_set_other xs i j y (λ e. n (ap suc e))
+
+get_or_none : {X : Type 0} (xs : List (Option X)) (i : ℕ) → get_or (xs ++ None ∷ []) i None ≡ get_or xs i None
+get_or_none [] zero = refl
+get_or_none [] (suc i) = refl
+get_or_none (x ∷ xs) zero = refl
+get_or_none (x ∷ xs) (suc i) = get_or_none xs i
+
+get_or_inside : {X : Type 0} (xs : List (Option X)) (i : ℕ) → IsSome (get_or xs i None) → i < length xs
+get_or_inside [] i h = cc
+get_or_inside (x ∷ xs) zero h = omega arith
+get_or_inside (x ∷ xs) (suc i) h = let ih : i < length xs = get_or_inside xs i h in omega arith
+
+module _ {S : Type 0} where
+  slot_relinked : (o : Order) (l : Link) (x : Entry S) → slot_in (with_link o l x) ≡ slot_in x
+  slot_relinked Line l x = refl
+  slot_relinked Births l x = refl
+  slot_relinked Free l x = refl
+
+  -- another link leaves what stands in the entries
+  pub relinked : (xs : List (Entry S)) (i : ℕ) (o : Order) (l : Link) (x y : Entry S) → x ≡ get_or xs i x → y ≡ with_link o l x → slots_of (set xs i y) ≡ slots_of xs
+  relinked xs i o l x y at_i is = map-set_same slot_in xs i y x (ap slot_in is ∙ slot_relinked o l x ∙ ap slot_in at_i)
+
+  -- another slot leaves the links
+  pub same_links : (o : Order) (xs : List (Entry S)) (i : ℕ) (x y : Entry S) → slice_get xs i ≡ Some x → link_in o y ≡ link_in o x → SameLinks o xs (set xs i y)
+  same_links o xs i x y at_i same = record { after = λ j. go (after_at o) (λ k. ap (λ (l : Link). l.after) same) j; before = λ j. go (before_at o) (λ k. ap (λ (l : Link). l.before) same) j }
+    where
+      go : (f : ℕ → Option (Entry S) → ℕ) → ((k : ℕ) → f k (Some y) ≡ f k (Some x)) → (j : ℕ) → f j (slice_get (set xs i y) j) ≡ f j (slice_get xs j)
+      go f e j = ⊎_elim
+          (λ (t : (eqb j i ≡ true) × (j ≡ i)). subst (λ (k : ℕ). f k (slice_get (set xs i y) k) ≡ f k (slice_get xs k)) (sym t.1) (ap (f i) (get_set_same xs i x y at_i) ∙ e i ∙ ap (f i) (sym at_i)))
+          (λ (t : (eqb j i ≡ false) × (j ≢ i)). ap (f j) (get_set_other xs i j y t.1))
+          (eqb_tells j i)
+
+  -- what stands in an entry that is read
+  get_slot : (xs : List (Entry S)) (i : ℕ) (x : Entry S) → slice_get xs i ≡ Some x → get_or (slots_of xs) i None ≡ slot_in x
+  get_slot [] i x e = cc
+  get_slot (z ∷ xs) zero x e = let both : Some z ≡ Some x = e in ap slot_in (let is : z ≡ x = cc in is)
+  get_slot (z ∷ xs) (suc i) x e = get_slot xs i x e
+
+  pub slot_taken : (x : Entry S) → eqb x.slot.number end_of_numbers ≡ false → slot_in x ≡ Some x.slot
+  slot_taken x e = ap (λ (b : Bool). cond b None (Some x.slot)) e
+
+  slot_is : (x : Entry S) (s : Slot S) → slot_in x ≡ Some s → (x.slot ≡ s) × (eqb x.slot.number end_of_numbers ≡ false)
+  slot_is x s e = go (eqb x.slot.number end_of_numbers) refl e
+    where
+      go : (b : Bool) → eqb x.slot.number end_of_numbers ≡ b → cond b None (Some x.slot) ≡ Some s → (x.slot ≡ s) × (eqb x.slot.number end_of_numbers ≡ false)
+      go true t f = cc
+      go false t f = ((let both : Some x.slot ≡ Some s = f in let is : x.slot ≡ s = cc in is), t)
+
+  links_kept : (x y : Entry S) → y.line ≡ x.line → y.births ≡ x.births → y.free ≡ x.free → (o : Order) → link_in o y ≡ link_in o x
+  links_kept x y l b f Line = l
+  links_kept x y l b f Births = b
+  links_kept x y l b f Free = f
+
+  -- ---- a table
+
+  pub shown : (o : Order) (a : Inside S) → places_of o (view_of_table a) ≡ spelled o a
+  shown Line a = refl
+  shown Births a = refl
+  shown Free a = refl
+
+  module _ (a : Inside S) (good : IsGoodTable a) where
+    abbrev entries : List (Entry S)
+    entries = a.links.entries.items
+
+    pub room : length (slots_of entries) ≡ a.links.entries.len
+    room = length-map entries slot_in ∙ sym a.links.entries.ok.0
+
+    pub sized : (o : Order) → length (spelled o a) ≡ size_of o a.sizes
+    sized o = Spelled.length-walk (after_of o entries) (size_of o a.sizes) (after_of o entries end)
+
+    -- what does not lead to itself is inside
+    pub moves_inside : (o : Order) (p : ℕ) → after_of o entries p ≢ p → p < a.links.entries.len
+    moves_inside o p moves = ⊎_elim
+        (λ (h : p < length entries). let e : a.links.entries.len ≡ length entries = a.links.entries.ok.0 in omega arith)
+        (λ (h : length entries ≤ p). absurd (moves (ap (after_at o p) (slice_get_past entries p h))))
+        (cases_lt p (length entries))
+
+    pub back_inside : (o : Order) (p : ℕ) → before_of o entries p ≢ p → p < a.links.entries.len
+    back_inside o p moves = ⊎_elim
+        (λ (h : p < length entries). let e : a.links.entries.len ≡ length entries = a.links.entries.ok.0 in omega arith)
+        (λ (h : length entries ≤ p). absurd (moves (ap (before_at o p) (slice_get_past entries p h))))
+        (cases_lt p (length entries))
+
+    pub size_few : (o : Order) → size_of o a.sizes ≤ a.links.entries.len
+    size_few o = let l : length (spelled o a) ≤ a.links.entries.len = Spelled.spelled_few (after_of o entries) (before_of o entries) end a.links.entries.len (spelled o a) (good.spells o) (moves_inside o) in let e : length (spelled o a) ≡ size_of o a.sizes = sized o in omega arith
+
+    pub oldest_is : (o : Order) → 0 < length (spelled o a) → slice_get (spelled o a) 0 ≡ Some (after_of o entries end)
+    oldest_is o some = go (spelled o a) (good.spells o) some
+      where
+        go : (xs : List ℕ) → Spells (after_of o entries) (before_of o entries) end xs → 0 < length xs → slice_get xs 0 ≡ Some (after_of o entries end)
+        go [] s h = absurd (omega arith)
+        go (x ∷ xs) s h = Spelled.first_is (after_of o entries) (before_of o entries) end x xs s
+
+    pub newest_is : (o : Order) → 0 < length (spelled o a) → slice_get (spelled o a) (length (spelled o a) - 1) ≡ Some (before_of o entries end)
+    newest_is o some = go (spelled o a) (good.spells o) some
+      where
+        go : (xs : List ℕ) → Spells (after_of o entries) (before_of o entries) end xs → 0 < length xs → slice_get xs (length xs - 1) ≡ Some (before_of o entries end)
+        go [] s h = absurd (omega arith)
+        go (x ∷ xs) s h = rw (let e : length (x ∷ xs) - 1 ≡ length xs = omega arith in e) (Spelled.last_is (after_of o entries) (before_of o entries) end x xs s)
+
+    -- what is in an order is inside, and no end
+    pub place_inside : (o : Order) (p j : ℕ) → slice_get (spelled o a) j ≡ Some p → p < a.links.entries.len
+    place_inside o p j e = moves_inside o p (Spelled.member_at (after_of o entries) (before_of o entries) end (spelled o a) (good.spells o) p j e).moves
+
+    pub place_apart : (o : Order) (p j : ℕ) → slice_get (spelled o a) j ≡ Some p → 0 < p
+    place_apart o p j e = ⊎_elim
+        (λ (t : (eqb p 0 ≡ true) × (p ≡ 0)). absurd (Spelled.absent_get end j (spelled o a) (good.spells o).apart (e ∙ ap (λ (q : ℕ). Some q) t.1)))
+        (λ (t : (eqb p 0 ≡ false) × (p ≢ 0)). let no : p ≢ 0 = t.1 in omega arith)
+        (eqb_tells p 0)
+
+    -- nothing stands at a free place
+    pub free_vacant : (p j : ℕ) → slice_get (spelled Free a) j ≡ Some p → get_or (slots_of entries) p None ≡ None
+    free_vacant p j e = go (get_or (slots_of entries) p None) refl
+      where
+        go : (o : Option (Slot S)) → get_or (slots_of entries) p None ≡ o → get_or (slots_of entries) p None ≡ None
+        go None h = h
+        go (Some x) h = absurd (Spelled.absent_get p j (spelled Free a) (good.vacant p (subst IsSome (sym h) refl)) e)
+
+    -- where something stands is inside, and no end
+    pub slot_inside : (p : ℕ) → IsSome (get_or (slots_of entries) p None) → p < a.links.entries.len
+    slot_inside p h = let l : p < length (slots_of entries) = get_or_inside (slots_of entries) p h in let e : length (slots_of entries) ≡ a.links.entries.len = room in omega arith
+
+    pub slot_apart : (p : ℕ) → IsSome (get_or (slots_of entries) p None) → 0 < p
+    slot_apart p h = ⊎_elim
+        (λ (t : (eqb p 0 ≡ true) × (p ≡ 0)). absurd (let h0 : IsSome (get_or (slots_of entries) 0 None) = subst (λ (q : ℕ). IsSome (get_or (slots_of entries) q None)) t.1 h in let clash : IsSome {T = Slot S} None = subst IsSome good.ends h0 in cc))
+        (λ (t : (eqb p 0 ≡ false) × (p ≢ 0)). let no : p ≢ 0 = t.1 in omega arith)
+        (eqb_tells p 0)
+
+    pub stood_apart : (now : Lined (Slot S)) (p : ℕ) → view_of_table a ≡ now → IsSome (get_or now.slots p None) → 0 < p
+    stood_apart now p is h = slot_apart p (subst (λ (t : Lined (Slot S)). IsSome (get_or t.slots p None)) (sym is) h)
+
+    -- ---- an order whose links are the same
+
+    module _ (new : Links S) (sizes : Sizes) (q : Order) (size : size_of q sizes ≡ size_of q a.sizes) (same : SameLinks q entries new.entries.items) where
+      kept : spelled q (record { links = new; sizes = sizes }) ≡ spelled q a
+      kept =
+          let f : after_of q new.entries.items ≡ after_of q entries = λ i p. same.after p i in
+          ap (λ (g : ℕ → ℕ). walk g (size_of q sizes) (g end)) f ∙ ap (λ (n : ℕ). walk (after_of q entries) n (after_of q entries end)) size
+
+      spells_kept : Spells (after_of q new.entries.items) (before_of q new.entries.items) end (spelled q (record { links = new; sizes = sizes }))
+      spells_kept =
+          let f : after_of q entries ≡ after_of q new.entries.items = λ i p. sym (same.after p) i in
+          let g : before_of q entries ≡ before_of q new.entries.items = λ i p. sym (same.before p) i in
+          subst (λ (xs : List ℕ). Spells (after_of q new.entries.items) (before_of q new.entries.items) end xs) (sym kept)
+          (subst (λ (h : ℕ → ℕ). Spells (after_of q new.entries.items) h end (spelled q a)) g
+          (subst (λ (h : ℕ → ℕ). Spells h (before_of q entries) end (spelled q a)) f (good.spells q)))
+
+    -- ---- other links of one order
+
+    module _ (o : Order) (new : Links S) (xs : List ℕ) (n : ℕ) (spells : Spells (after_of o new.entries.items) (before_of o new.entries.items) end xs)
+        (n_is : length xs ≡ n) (others : SameOthers o entries new.entries.items) (slots : slots_of new.entries.items ≡ slots_of entries)
+        (len : new.entries.len ≡ a.links.entries.len)
+        (vacant : is_same Free o ≡ true → (i : ℕ) → IsSome (get_or (slots_of entries) i None) → Absent i xs) where
+      abbrev relinked_inside : Inside S
+      relinked_inside = record { links = new; sizes = with_size o n a.sizes }
+
+      here : spelled o relinked_inside ≡ xs
+      here = Spelled.walked (after_of o new.entries.items) (before_of o new.entries.items) end xs spells (size_of o (with_size o n a.sizes)) (n_is ∙ sym (size_set o n a.sizes))
+
+      elsewhere : (q : Order) → is_same q o ≡ false → spelled q relinked_inside ≡ spelled q a
+      elsewhere q e = kept new (with_size o n a.sizes) q (size_other q o n a.sizes e) (others q e)
+
+      spells_all : (q : Order) → Spells (after_of q new.entries.items) (before_of q new.entries.items) end (spelled q relinked_inside)
+      spells_all q = go (is_same q o) refl
+        where
+          go : (b : Bool) → is_same q o ≡ b → Spells (after_of q new.entries.items) (before_of q new.entries.items) end (spelled q relinked_inside)
+          go true e = subst (λ (r : Order). Spells (after_of r new.entries.items) (before_of r new.entries.items) end (spelled r relinked_inside)) (sym (same_is q o e))
+              (subst (λ (ys : List ℕ). Spells (after_of o new.entries.items) (before_of o new.entries.items) end ys) (sym here) spells)
+          go false e = spells_kept new (with_size o n a.sizes) q (size_other q o n a.sizes e) (others q e)
+
+      vacant_all : (i : ℕ) → IsSome (get_or (slots_of new.entries.items) i None) → Absent i (spelled Free relinked_inside)
+      vacant_all i h = go (is_same Free o) refl
+        where
+          stands : IsSome (get_or (slots_of entries) i None)
+          stands = subst (λ (ys : List (Option (Slot S))). IsSome (get_or ys i None)) slots h
+
+          go : (b : Bool) → is_same Free o ≡ b → Absent i (spelled Free relinked_inside)
+          go true e = subst (λ (r : Order). Absent i (spelled r relinked_inside)) (sym (same_is Free o e)) (subst (λ (ys : List ℕ). Absent i ys) (sym here) (vacant e i stands))
+          go false e = subst (λ (ys : List ℕ). Absent i ys) (sym (elsewhere Free e)) (good.vacant i stands)
+
+      pub relinked_good : IsGoodTable relinked_inside
+      relinked_good = record {
+        spells = spells_all;
+        ends = ap (λ (ys : List (Option (Slot S))). get_or ys end None) slots ∙ good.ends;
+        vacant = vacant_all;
+        few = subst (λ (m : ℕ). m ≤ most_places) (sym len) good.few;
+      }
+
+      pub relinked_view : view_of_table relinked_inside ≡ with_places o xs (view_of_table a)
+      relinked_view = set_places o (view_of_table a) (view_of_table relinked_inside) xs slots (shown o relinked_inside ∙ here)
+          (λ q e. shown q relinked_inside ∙ elsewhere q e ∙ sym (shown q a))
+
+    -- ---- other entries with the same links
+
+    module _ (new : Links S) (same : (o : Order) → SameLinks o entries new.entries.items) (few : new.entries.len ≤ most_places)
+        (ends : get_or (slots_of new.entries.items) end None ≡ None)
+        (vacant : (i : ℕ) → IsSome (get_or (slots_of new.entries.items) i None) → Absent i (spelled Free a)) where
+      abbrev filled_inside : Inside S
+      filled_inside = record { links = new; sizes = a.sizes }
+
+      pub filled_good : IsGoodTable filled_inside
+      filled_good = record {
+        spells = λ o. spells_kept new a.sizes o refl (same o);
+        ends = ends;
+        vacant = λ i h. subst (λ (ys : List ℕ). Absent i ys) (sym (kept new a.sizes Free refl (same Free))) (vacant i h);
+        few = few;
+      }
+
+      pub filled_view : view_of_table filled_inside ≡ record (view_of_table a) { slots = slots_of new.entries.items }
+      filled_view = λ i. record { slots = slots_of new.entries.items; line = kept new a.sizes Line refl (same Line) i; births = kept new a.sizes Births refl (same Births) i; free = kept new a.sizes Free refl (same Free) i }
+
+    -- ---- a place comes to the new end of an order
+
+    module _ (o : Order) (mid new : Links S) (p : ℕ) (j1 : JoinsAt o entries mid.entries.items (before_of o entries end) p) (o1 : SameOthers o entries mid.entries.items)
+        (j2 : JoinsAt o mid.entries.items new.entries.items p end) (o2 : SameOthers o mid.entries.items new.entries.items)
+        (apart : 0 < p) (absent : Absent p (spelled o a)) where
+      pub both_others : SameOthers o entries new.entries.items
+      both_others q e = record { after = λ i. (o2 q e).after i ∙ (o1 q e).after i; before = λ i. (o2 q e).before i ∙ (o1 q e).before i }
+
+      pub push_spells : Spells (after_of o new.entries.items) (before_of o new.entries.items) end (spelled o a ++ p ∷ [])
+      push_spells = Spelled.pushed (after_of o entries) (before_of o entries) (after_of o mid.entries.items) (before_of o mid.entries.items) (after_of o new.entries.items) (before_of o new.entries.items)
+          end p j1 j2 (λ e. omega arith) (spelled o a) (good.spells o) absent
+
+      pub push_size : length (spelled o a ++ p ∷ []) ≡ size_of o a.sizes + 1
+      push_size = let e : length (spelled o a) ≡ size_of o a.sizes = sized o in let f : length (spelled o a ++ p ∷ []) ≡ length (spelled o a) + 1 = length-append (spelled o a) (p ∷ []) in omega arith
+
+      pub push_vacant : (IsSome (get_or (slots_of entries) p None) → is_same Free o ≡ false) → is_same Free o ≡ true → (i : ℕ) → IsSome (get_or (slots_of entries) i None) → Absent i (spelled o a ++ p ∷ [])
+      push_vacant none e i h = Spelled.push_absent i p (spelled o a)
+          (subst (λ (q : Order). Absent i (spelled q a)) (same_is Free o e) (good.vacant i h))
+          (λ s. let clash : true ≡ false = sym e ∙ none (subst (λ (k : ℕ). IsSome (get_or (slots_of entries) k None)) (sym s) h) in cc)
+
+    -- ---- a place leaves an order
+
+    module _ (o : Order) (mid new : Links S) (p : ℕ) (j1 : JoinsAt o entries mid.entries.items (before_of o entries p) (after_of o entries p)) (o1 : SameOthers o entries mid.entries.items)
+        (j2 : JoinsAt o mid.entries.items new.entries.items p p) (o2 : SameOthers o mid.entries.items new.entries.items)
+        (apart : 0 < p) (moves : after_of o entries p ≢ p) where
+      member : Spelled.IsMember (after_of o entries) (before_of o entries) end p (spelled o a)
+      member = Spelled.is_member (after_of o entries) (before_of o entries) end (spelled o a) (good.spells o) p (λ e. omega arith) moves
+
+      pub out_others : SameOthers o entries new.entries.items
+      out_others q e = record { after = λ i. (o2 q e).after i ∙ (o1 q e).after i; before = λ i. (o2 q e).before i ∙ (o1 q e).before i }
+
+      pub out_spells : Spells (after_of o new.entries.items) (before_of o new.entries.items) end (without p (spelled o a))
+      out_spells = Spelled.removed (after_of o entries) (before_of o entries) (after_of o mid.entries.items) (before_of o mid.entries.items) (after_of o new.entries.items) (before_of o new.entries.items)
+          end p j1 j2 (λ e. omega arith) member.back member.forth (spelled o a) (good.spells o)
+
+      pub out_size : length (without p (spelled o a)) ≡ size_of o a.sizes - 1
+      out_size = let e : length (spelled o a) ≡ size_of o a.sizes = sized o in let f : length (without p (spelled o a)) + 1 ≡ length (spelled o a) = member.fewer in omega arith
+
+      pub out_vacant : is_same Free o ≡ true → (i : ℕ) → IsSome (get_or (slots_of entries) i None) → Absent i (without p (spelled o a))
+      out_vacant e i h = Spelled.without_keeps_absent p i (spelled o a) (subst (λ (q : Order). Absent i (spelled q a)) (same_is Free o e) (good.vacant i h))
+
+    -- its neighbours are inside
+    pub before_inside : (o : Order) (p : ℕ) → 0 < p → after_of o entries p ≢ p → before_of o entries p < a.links.entries.len
+    before_inside o p apart moves =
+        let m = Spelled.is_member (after_of o entries) (before_of o entries) end (spelled o a) (good.spells o) p (λ e. omega arith) moves in
+        moves_inside o (before_of o entries p) (λ s. moves (ap (after_of o entries) (sym m.back ∙ s) ∙ m.back))
+
+    pub after_inside : (o : Order) (p : ℕ) → 0 < p → after_of o entries p ≢ p → after_of o entries p < a.links.entries.len
+    after_inside o p apart moves =
+        let m = Spelled.is_member (after_of o entries) (before_of o entries) end (spelled o a) (good.spells o) p (λ e. omega arith) moves in
+        back_inside o (after_of o entries p) (λ s. moves (sym s ∙ m.forth))
+
+    pub size_some : (o : Order) (p : ℕ) → 0 < p → after_of o entries p ≢ p → 0 < size_of o a.sizes
+    size_some o p apart moves =
+        let m = Spelled.is_member (after_of o entries) (before_of o entries) end (spelled o a) (good.spells o) p (λ e. omega arith) moves in
+        let e : length (spelled o a) ≡ size_of o a.sizes = sized o in
+        let f : length (without p (spelled o a)) + 1 ≡ length (spelled o a) = m.fewer in
+        omega arith
+
+    -- a place that leads to itself is in no order
+    pub alone : (o : Order) (p : ℕ) → 0 < p → after_of o entries p ≡ p → without p (spelled o a) ≡ spelled o a
+    alone o p apart e = Spelled.without_absent p (spelled o a) (Spelled.is_absent (after_of o entries) (before_of o entries) end (spelled o a) (good.spells o) p (λ h. omega arith) e)
+
+    -- the newest place is inside
+    pub last_inside : (o : Order) → 0 < a.links.entries.len → before_of o entries end < a.links.entries.len
+    last_inside o some = ⊎_elim
+        (λ (t : (eqb (before_of o entries end) end ≡ true) × (before_of o entries end ≡ end)). let e : before_of o entries end ≡ 0 = t.1 in omega arith)
+        (λ (t : (eqb (before_of o entries end) end ≡ false) × (before_of o entries end ≢ end)). moves_inside o (before_of o entries end)
+        (λ s. t.1 (sym s ∙ Spelled.last_leads (after_of o entries) (before_of o entries) end end (spelled o a) (good.spells o).leads)))
+        (eqb_tells (before_of o entries end) end)
+
+    -- ---- what stands at a place changes
+
+    -- the entry at a place is another one
+    abbrev with_entry : ℕ → Entry S → Inside S
+    with_entry p y = record { links = record { entries = with_item a.links.entries p y }; sizes = a.sizes }
+
+    module _ (p : ℕ) (x y : Entry S) (inside : p < a.links.entries.len) (apart : 0 < p) (at_p : x ≡ get_or entries p x)
+        (line : y.line ≡ x.line) (births : y.births ≡ x.births) (free : y.free ≡ x.free)
+        (vacant : IsSome (slot_in y) → Absent p (spelled Free a)) where
+      pub read : slice_get entries p ≡ Some x
+      read = slice_get_read entries a.links.entries.len p x a.links.entries.ok.0 inside at_p
+
+      set_slots : slots_of (set entries p y) ≡ set (slots_of entries) p (slot_in y)
+      set_slots = map-set slot_in entries p y
+
+      set_links : (o : Order) → SameLinks o entries (set entries p y)
+      set_links o = same_links o entries p x y read (links_kept x y line births free o)
+
+      other_slot : (i : ℕ) → i ≢ p → get_or (slots_of (set entries p y)) i None ≡ get_or (slots_of entries) i None
+      other_slot i n = ap (λ (ys : List (Option (Slot S))). get_or ys i None) set_slots ∙ get_or-set_other (slots_of entries) p i (slot_in y) None n
+
+      this_slot : get_or (slots_of (set entries p y)) p None ≡ slot_in y
+      this_slot = ap (λ (ys : List (Option (Slot S))). get_or ys p None) set_slots
+          ∙ get_or-set_same (slots_of entries) p (slot_in y) None (let e : length (slots_of entries) ≡ a.links.entries.len = room in omega arith)
+
+      set_vacant : (i : ℕ) → IsSome (get_or (slots_of (set entries p y)) i None) → Absent i (spelled Free a)
+      set_vacant i h = ⊎_elim
+          (λ (t : (eqb i p ≡ true) × (i ≡ p)). subst (λ (k : ℕ). Absent k (spelled Free a)) (sym t.1) (vacant (subst IsSome this_slot (subst (λ (k : ℕ). IsSome (get_or (slots_of (set entries p y)) k None)) t.1 h))))
+          (λ (t : (eqb i p ≡ false) × (i ≢ p)). good.vacant i (subst IsSome (other_slot i t.1) h))
+          (eqb_tells i p)
+
+      set_ends : get_or (slots_of (set entries p y)) end None ≡ None
+      set_ends = other_slot end (λ e. let no : 0 ≡ p = e in omega arith) ∙ good.ends
+
+      pub set_good : IsGoodTable (with_entry p y)
+      set_good = filled_good (with_entry p y).links set_links good.few set_ends set_vacant
+
+      pub set_view : (now : Lined (Slot S)) (o : Option (Slot S)) → view_of_table a ≡ now → slot_in y ≡ o → view_of_table (with_entry p y) ≡ record now { slots = set now.slots p o }
+      set_view now o is slot =
+          filled_view (with_entry p y).links set_links good.few set_ends set_vacant
+          ∙ ap (λ (ys : List (Option (Slot S))). record (view_of_table a) { slots = ys }) (set_slots ∙ ap (set (slots_of entries) p) slot)
+          ∙ ap (λ (t : Lined (Slot S)). record t { slots = set t.slots p o }) is
+
+    -- something else stands where something stood, under the same number
+    module _ (p : ℕ) (x y : Entry S) (now : Lined (Slot S)) (is : view_of_table a ≡ now) (stands : IsSome (get_or now.slots p None)) (at_p : x ≡ get_or entries p x)
+        (line : y.line ≡ x.line) (births : y.births ≡ x.births) (free : y.free ≡ x.free) (number : y.slot.number ≡ x.slot.number) where
+      stood : IsSome (get_or (slots_of entries) p None)
+      stood = subst (λ (t : Lined (Slot S)). IsSome (get_or t.slots p None)) (sym is) stands
+
+      stood_inside : p < a.links.entries.len
+      stood_inside = slot_inside p stood
+
+      stood_read : slice_get entries p ≡ Some x
+      stood_read = slice_get_read entries a.links.entries.len p x a.links.entries.ok.0 stood_inside at_p
+
+      pub restood_good : IsGoodTable (with_entry p y)
+      restood_good = set_good p x y stood_inside (slot_apart p stood) at_p line births free (λ h. good.vacant p stood)
+
+      -- what was read is what stood there
+      pub restood_was : (s : Slot S) → get_or now.slots p None ≡ Some s → (x.slot ≡ s) × (eqb x.slot.number end_of_numbers ≡ false)
+      restood_was s e = slot_is x s (sym (get_slot entries p x stood_read) ∙ ap (λ (t : Lined (Slot S)). get_or t.slots p None) is ∙ e)
+
+      pub restood_view : (g : S → S) → y.slot.standing ≡ g x.slot.standing → (s : Slot S) → get_or now.slots p None ≡ Some s
+          → view_of_table (with_entry p y) ≡ record now { slots = set now.slots p (Some (record s { standing = g s.standing })) }
+      restood_view g standing s e =
+          let was = restood_was s e in
+          set_view p x y stood_inside (slot_apart p stood) at_p line births free (λ h. good.vacant p stood) now (Some (record s { standing = g s.standing })) is
+          (slot_taken y (ap (λ (n : ℕ). eqb n end_of_numbers) number ∙ was.1)
+          ∙ ap (λ (z : Slot S). Some z) (let slot : y.slot ≡ record x.slot { standing = g x.slot.standing } = (λ i. record { number = number i; standing = standing i }) in slot)
+          ∙ ap (λ (z : Slot S). Some (record z { standing = g z.standing })) was.0)
+
+    -- ---- one more entry, where nothing stands
+
+    module _ (new : Links S) (r : Result (Unit {0}) AllocError) (ok : OnOk r (slots_of new.entries.items ≡ slots_of entries ++ None ∷ []))
+        (err : OnErr r (slots_of new.entries.items ≡ slots_of entries)) (longer : OnOk r (new.entries.len ≡ a.links.entries.len + 1))
+        (as_long : OnErr r (new.entries.len ≡ a.links.entries.len)) (few : a.links.entries.len < most_places)
+        (links : (o : Order) → SameLinks o entries new.entries.items) where
+      more_slots : (i : ℕ) → get_or (slots_of new.entries.items) i None ≡ get_or (slots_of entries) i None
+      more_slots i = go r ok err
+        where
+          go : (q : Result (Unit {0}) AllocError) → OnOk q (slots_of new.entries.items ≡ slots_of entries ++ None ∷ []) → OnErr q (slots_of new.entries.items ≡ slots_of entries) → get_or (slots_of new.entries.items) i None ≡ get_or (slots_of entries) i None
+          go (Ok u) e f = ap (λ (ys : List (Option (Slot S))). get_or ys i None) e ∙ get_or_none (slots_of entries) i
+          go (Err u) e f = ap (λ (ys : List (Option (Slot S))). get_or ys i None) f
+
+      more_few : new.entries.len ≤ most_places
+      more_few = go r longer as_long
+        where
+          go : (q : Result (Unit {0}) AllocError) → OnOk q (new.entries.len ≡ a.links.entries.len + 1) → OnErr q (new.entries.len ≡ a.links.entries.len) → new.entries.len ≤ most_places
+          go (Ok u) e f = omega arith
+          go (Err u) e f = omega arith
+
+      more_vacant : (i : ℕ) → IsSome (get_or (slots_of new.entries.items) i None) → Absent i (spelled Free a)
+      more_vacant i h = good.vacant i (subst IsSome (more_slots i) h)
+
+      pub more_good : IsGoodTable (record { links = new; sizes = a.sizes })
+      more_good = filled_good new links more_few (more_slots end ∙ good.ends) more_vacant
+
+      more_view : view_of_table (record { links = new; sizes = a.sizes }) ≡ record (view_of_table a) { slots = slots_of new.entries.items }
+      more_view = filled_view new links more_few (more_slots end ∙ good.ends) more_vacant
+
+      pub more_ok : (now : Lined (Slot S)) → view_of_table a ≡ now → OnOk r (view_of_table (record { links = new; sizes = a.sizes }) ≡ record now { slots = now.slots ++ None ∷ [] })
+      more_ok now is = go r ok
+        where
+          go : (q : Result (Unit {0}) AllocError) → OnOk q (slots_of new.entries.items ≡ slots_of entries ++ None ∷ []) → OnOk q (view_of_table (record { links = new; sizes = a.sizes }) ≡ record now { slots = now.slots ++ None ∷ [] })
+          go (Ok u) e = more_view ∙ ap (λ (ys : List (Option (Slot S))). record (view_of_table a) { slots = ys }) e ∙ ap (λ (t : Lined (Slot S)). record t { slots = t.slots ++ None ∷ [] }) is
+          go (Err u) e = tt
+
+      pub more_err : (now : Lined (Slot S)) → view_of_table a ≡ now → OnErr r (view_of_table (record { links = new; sizes = a.sizes }) ≡ now)
+      more_err now is = go r err
+        where
+          go : (q : Result (Unit {0}) AllocError) → OnErr q (slots_of new.entries.items ≡ slots_of entries) → OnErr q (view_of_table (record { links = new; sizes = a.sizes }) ≡ now)
+          go (Ok u) e = tt
+          go (Err u) e = more_view ∙ ap (λ (ys : List (Option (Slot S))). record (view_of_table a) { slots = ys }) e ∙ is
+
+    -- the same entries in other memory
+    module _ (new : Links S) (items : new.entries.items ≡ entries) (len : new.entries.len ≡ a.links.entries.len) where
+      moved_links : (o : Order) → SameLinks o entries new.entries.items
+      moved_links o = subst (λ (ys : List (Entry S)). SameLinks o entries ys) (sym items) (record { after = λ i. refl; before = λ i. refl })
+
+      moved_vacant : (i : ℕ) → IsSome (get_or (slots_of new.entries.items) i None) → Absent i (spelled Free a)
+      moved_vacant i h = good.vacant i (subst (λ (ys : List (Entry S)). IsSome (get_or (slots_of ys) i None)) items h)
+
+      pub moved_good : IsGoodTable (record { links = new; sizes = a.sizes })
+      moved_good = filled_good new moved_links (subst (λ (m : ℕ). m ≤ most_places) (sym len) good.few) (ap (λ (ys : List (Entry S)). get_or (slots_of ys) end None) items ∙ good.ends) moved_vacant
+
+      pub moved_view : (now : Lined (Slot S)) → view_of_table a ≡ now → view_of_table (record { links = new; sizes = a.sizes }) ≡ now
+      moved_view now is = filled_view new moved_links (subst (λ (m : ℕ). m ≤ most_places) (sym len) good.few) (ap (λ (ys : List (Entry S)). get_or (slots_of ys) end None) items ∙ good.ends) moved_vacant
+          ∙ ap (λ (ys : List (Entry S)). record (view_of_table a) { slots = slots_of ys }) items ∙ is
+
+    -- the place after the last entry is in no order
+    pub outside_absent : (o : Order) → Absent a.links.entries.len (spelled o a)
+    outside_absent o = ⊎_elim
+        (λ (t : (eqb a.links.entries.len end ≡ true) × (a.links.entries.len ≡ end)). subst (λ (p : ℕ). Absent p (spelled o a)) (sym t.1) (good.spells o).apart)
+        (λ (t : (eqb a.links.entries.len end ≡ false) × (a.links.entries.len ≢ end)). Spelled.is_absent (after_of o entries) (before_of o entries) end (spelled o a) (good.spells o) a.links.entries.len t.1
+        (ap (after_at o a.links.entries.len) (slice_get_past entries a.links.entries.len (let e : a.links.entries.len ≡ length entries = a.links.entries.ok.0 in omega arith))))
+        (eqb_tells a.links.entries.len end)
+
+    -- a free place is inside, no end, and nothing stands there
+    pub vacancy_is : (p j : ℕ) → slice_get (spelled Free a) j ≡ Some p → length (without p (spelled Free a)) + 1 ≡ length (spelled Free a)
+    vacancy_is p j e = (Spelled.member_at (after_of Free entries) (before_of Free entries) end (spelled Free a) (good.spells Free) p j e).fewer

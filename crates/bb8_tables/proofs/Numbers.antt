@@ -1,0 +1,80 @@
+-- The numbers of what stands at places in line.
+use Rattle.std.proofs.Common.{◌≡◌, ◌≢◌, ℕ, suc, Bool, true, false, cond, not, eqb, List, [], ◌∷◌, ◌++◌, map, Option, Some, None, slice_get, get_or, refl, sym, ap, ◌∙◌, ⊎_elim, subst, eq-eqb, ne_eqb}
+use Rattle.std.proofs.lemmas.List.{map_push}
+use Rattle.std.proofs.lemmas.Bool.Decides.{eqb_tells}
+use Rattle.bb8_tables.specs.Machine.{without}
+use Rattle.bb8_tables.specs.Slots.{IsDistinct, ArePlaces, number_in, numbers_at}
+use Rattle.bb8_tables.proofs.Slots.{Updates}
+
+-- a line without a place, told by something else that tells its places apart
+without_told : (f : ℕ → ℕ) (p : ℕ) (places : List ℕ) → ((j k : ℕ) → slice_get places j ≡ Some k → eqb k p ≡ eqb (f k) (f p)) → map f (without p places) ≡ without (f p) (map f places)
+without_told f p [] h = refl
+without_told f p (k ∷ places) h =
+    go (eqb k p) (without_told f p places (λ j i e. h (suc j) i e))
+    ∙ ap (λ (b : Bool). cond (not b) (f k ∷ without (f p) (map f places)) (without (f p) (map f places))) (h 0 k refl)
+  where
+    go : (b : Bool) → map f (without p places) ≡ without (f p) (map f places) → map f (cond (not b) (k ∷ without p places) (without p places)) ≡ cond (not b) (f k ∷ without (f p) (map f places)) (without (f p) (map f places))
+    go true e = e
+    go false e = ap (λ (xs : List ℕ). f k ∷ xs) e
+
+-- a line of numbers that has not this one loses none
+numbers_other : (f : ℕ → ℕ) (q : ℕ) (places : List ℕ) → ((j k : ℕ) → slice_get places j ≡ Some k → f k ≢ q) → without q (map f places) ≡ map f places
+numbers_other f q [] away = refl
+numbers_other f q (k ∷ places) away =
+    ap (λ (b : Bool). cond (not b) (f k ∷ without q (map f places)) (without q (map f places))) (ne_eqb (f k) q (away 0 k refl))
+    ∙ ap (λ (xs : List ℕ). f k ∷ xs) (numbers_other f q places (λ j m e. away (suc j) m e))
+
+module _ {X : Type 0} (number : X → ℕ) where
+  -- numbers at places where nothing changed
+  pub numbers_kept : (old new : List (Option X)) (place : ℕ) (places : List ℕ) → ((j k : ℕ) → slice_get places j ≡ Some k → k ≢ place)
+      → ((other : ℕ) → other ≢ place → get_or new other None ≡ get_or old other None) → numbers_at number new places ≡ numbers_at number old places
+  numbers_kept old new place [] away others = refl
+  numbers_kept old new place (k ∷ places) away others =
+      ap (λ (o : Option X). number_in number o ∷ numbers_at number new places) (others k (away 0 k refl))
+      ∙ ap (λ (ns : List ℕ). number_in number (get_or old k None) ∷ ns) (numbers_kept old new place places (λ j i e. away (suc j) i e) others)
+
+  -- numbers where nothing changed at all
+  pub numbers_all : (old new : List (Option X)) (places : List ℕ) → ((i : ℕ) → get_or new i None ≡ get_or old i None) → numbers_at number new places ≡ numbers_at number old places
+  numbers_all old new [] same = refl
+  numbers_all old new (k ∷ places) same =
+      ap (λ (o : Option X). number_in number o ∷ numbers_at number new places) (same k)
+      ∙ ap (λ (ns : List ℕ). number_in number (get_or old k None) ∷ ns) (numbers_all old new places same)
+
+  -- numbers where what changed kept its number
+  pub numbers_same : (old new : List (Option X)) (place : ℕ) (x y : X) (places : List ℕ) → get_or old place None ≡ Some x → number y ≡ number x
+      → Updates old new place (Some y) → numbers_at number new places ≡ numbers_at number old places
+  numbers_same old new place x y [] was same u = refl
+  numbers_same old new place x y (k ∷ places) was same u =
+      ap (λ (n : ℕ). n ∷ numbers_at number new places) here
+      ∙ ap (λ (ns : List ℕ). number_in number (get_or old k None) ∷ ns) (numbers_same old new place x y places was same u)
+    where
+      here : number_in number (get_or new k None) ≡ number_in number (get_or old k None)
+      here = ⊎_elim
+          (λ (t : (eqb k place ≡ true) × (k ≡ place)). subst (λ (i : ℕ). number_in number (get_or new i None) ≡ number_in number (get_or old i None)) (sym t.1) (ap (number_in number) u.changed ∙ same ∙ sym (ap (number_in number) was)))
+          (λ (t : (eqb k place ≡ false) × (k ≢ place)). ap (number_in number) (u.others k t.1))
+          (eqb_tells k place)
+
+  -- a place comes to the new end
+  pub numbers_push : (xs : List (Option X)) (places : List ℕ) (place : ℕ) (x : X) → get_or xs place None ≡ Some x → numbers_at number xs (places ++ place ∷ []) ≡ numbers_at number xs places ++ number x ∷ []
+  numbers_push xs places place x e = map_push (λ i. number_in number (get_or xs i None)) places place ∙ ap (λ (o : Option X). numbers_at number xs places ++ number_in number o ∷ []) e
+
+  -- a place goes, so its number does
+  pub numbers_without : {test : X → Bool} (xs : List (Option X)) (places : List ℕ) (place : ℕ) (x : X) → IsDistinct number xs → ArePlaces test xs places
+      → get_or xs place None ≡ Some x → numbers_at number xs (without place places) ≡ without (number x) (numbers_at number xs places)
+  numbers_without xs places place x distinct are e =
+      without_told (λ i. number_in number (get_or xs i None)) place places told
+      ∙ ap (λ (o : Option X). without (number_in number o) (numbers_at number xs places)) e
+    where
+      told : (j k : ℕ) → slice_get places j ≡ Some k → eqb k place ≡ eqb (number_in number (get_or xs k None)) (number_in number (get_or xs place None))
+      told j k f =
+          let stands = are.each j k f in
+          ⊎_elim
+          (λ (t : (eqb k place ≡ true) × (k ≡ place)). t.0 ∙ sym (eq-eqb _ _ (ap (λ (i : ℕ). number_in number (get_or xs i None)) t.1)))
+          (λ (t : (eqb k place ≡ false) × (k ≢ place)). t.0 ∙ sym (ne_eqb _ _ (λ s. t.1 (distinct k place stands.0 x stands.1 e (sym (ap (number_in number) stands.1) ∙ s ∙ ap (number_in number) e)))))
+          (eqb_tells k place)
+
+  -- a number that nothing has is in no line
+  pub numbers_fresh : {test : X → Bool} (xs : List (Option X)) (places : List ℕ) (q : ℕ) → ArePlaces test xs places → ((i : ℕ) (x : X) → get_or xs i None ≡ Some x → number x ≢ q)
+      → without q (numbers_at number xs places) ≡ numbers_at number xs places
+  numbers_fresh xs places q are fresh = numbers_other (λ i. number_in number (get_or xs i None)) q places
+      (λ j k e s. let st = are.each j k e in fresh k st.0 st.1 (sym (ap (number_in number) st.1) ∙ s))

@@ -1,0 +1,303 @@
+-- Laws of links that spell a list of places.
+use Rattle.std.proofs.Common.{◌≡◌, ◌≢◌, ◌⊎◌, ℕ, zero, suc, ◌+◌, ◌<◌, ◌≤◌, true, false, eqb, List, [], ◌∷◌, ◌++◌, length, slice_get, Some, refl, sym, ap, ◌∙◌, inl, inr, ⊎_elim, arith, subst, ne_eqb}
+use Rattle.std.proofs.lemmas.Bool.Decides.{eqb_tells}
+use Rattle.bb8_tables.specs.Spelled.{Absent, walk, Leads, Spells, Joins}
+use Rattle.bb8_tables.specs.Machine.{without}
+
+-- ---- lists of places
+
+pub absent_push : (p q : ℕ) (xs : List ℕ) → Absent p (xs ++ q ∷ []) → Absent p xs × (q ≢ p)
+absent_push p q [] a = (tt, a.0)
+absent_push p q (x ∷ xs) a = let r = absent_push p q xs a.1 in ((a.0, r.0), r.1)
+
+pub push_absent : (p q : ℕ) (xs : List ℕ) → Absent p xs → q ≢ p → Absent p (xs ++ q ∷ [])
+push_absent p q [] a n = (n, tt)
+push_absent p q (x ∷ xs) a n = (a.0, push_absent p q xs a.1 n)
+
+-- a place that is not there leaves the list as it is
+pub without_absent : (p : ℕ) (xs : List ℕ) → Absent p xs → without p xs ≡ xs
+without_absent p [] a = refl
+without_absent p (x ∷ xs) a = let e : eqb x p ≡ false = ne_eqb x p a.0 in rw e (ap (λ (r : List ℕ). x ∷ r) (without_absent p xs a.1))
+
+-- what is not in the list without p is p, or wasn't there
+absent_without : (p q : ℕ) (xs : List ℕ) → q ≢ p → Absent q (without p xs) → Absent q xs
+absent_without p q [] n a = tt
+absent_without p q (x ∷ xs) n a =
+    ⊎_elim
+    (λ (t : (eqb x p ≡ true) × (x ≡ p)). let b : Absent q (without p xs) = rw t.0 at a in ((λ e. n (sym e ∙ t.1)), absent_without p q xs n b))
+    (λ (t : (eqb x p ≡ false) × (x ≢ p)). let b : Absent q (x ∷ without p xs) = rw t.0 at a in (b.0, absent_without p q xs n b.1))
+    (eqb_tells x p)
+
+pub without_keeps_absent : (p q : ℕ) (xs : List ℕ) → Absent q xs → Absent q (without p xs)
+without_keeps_absent p q [] a = tt
+without_keeps_absent p q (x ∷ xs) a =
+    ⊎_elim
+    (λ (t : (eqb x p ≡ true) × (x ≡ p)). rw t.0 (without_keeps_absent p q xs a.1))
+    (λ (t : (eqb x p ≡ false) × (x ≢ p)). rw t.0 (let r : Absent q (x ∷ without p xs) = (a.0, without_keeps_absent p q xs a.1) in r))
+    (eqb_tells x p)
+
+pub absent_without_self : (p : ℕ) (xs : List ℕ) → Absent p (without p xs)
+absent_without_self p [] = tt
+absent_without_self p (x ∷ xs) = ⊎_elim
+    (λ (t : (eqb x p ≡ true) × (x ≡ p)). rw t.0 (absent_without_self p xs))
+    (λ (t : (eqb x p ≡ false) × (x ≢ p)). rw t.0 (let r : Absent p (x ∷ without p xs) = (t.1, absent_without_self p xs) in r))
+    (eqb_tells x p)
+
+-- a place that stands at an index is not absent
+pub absent_get : (p j : ℕ) (xs : List ℕ) → Absent p xs → slice_get xs j ≡ Some p → ⊥
+absent_get p j [] a e = cc
+absent_get p zero (x ∷ xs) a e = a.0 (cc)
+absent_get p (suc j) (x ∷ xs) a e = absent_get p j xs a.1 e
+
+-- ---- places that are told apart, below a bound
+
+abbrev Distinct : List ℕ → Type 0
+Distinct [] = Unit {0}
+Distinct (x ∷ xs) = Absent x xs × Distinct xs
+
+abbrev Below : ℕ → List ℕ → Type 0
+Below n [] = Unit {0}
+Below n (x ∷ xs) = (x < n) × Below n xs
+
+distinct_without : (p : ℕ) (xs : List ℕ) → Distinct xs → Distinct (without p xs)
+distinct_without p [] d = tt
+distinct_without p (x ∷ xs) d =
+    ⊎_elim
+    (λ (t : (eqb x p ≡ true) × (x ≡ p)). rw t.0 (distinct_without p xs d.1))
+    (λ (t : (eqb x p ≡ false) × (x ≢ p)). rw t.0 (let r : Distinct (x ∷ without p xs) = (without_keeps_absent p x xs d.0, distinct_without p xs d.1) in r))
+    (eqb_tells x p)
+
+below_without : (n : ℕ) (xs : List ℕ) → Below (suc n) xs → Below n (without n xs)
+below_without n [] b = tt
+below_without n (x ∷ xs) b =
+    ⊎_elim
+    (λ (t : (eqb x n ≡ true) × (x ≡ n)). rw t.0 (below_without n xs b.1))
+    (λ (t : (eqb x n ≡ false) × (x ≢ n)). rw t.0 (let r : Below n (x ∷ without n xs) = ((let l : x < suc n = b.0 in let no : x ≢ n = t.1 in omega arith), below_without n xs b.1) in r))
+    (eqb_tells x n)
+
+one_fewer : (p : ℕ) (xs : List ℕ) → Distinct xs → length xs ≤ length (without p xs) + 1
+one_fewer p [] d = omega arith
+one_fewer p (x ∷ xs) d =
+    ⊎_elim
+    (λ (t : (eqb x p ≡ true) × (x ≡ p)). let e : without p xs ≡ xs = without_absent p xs (subst (λ (q : ℕ). Absent q xs) t.1 d.0) in rw (t.0, e) (omega arith))
+    (λ (t : (eqb x p ≡ false) × (x ≢ p)). rw t.0 (let ih : length xs ≤ length (without p xs) + 1 = one_fewer p xs d.1 in omega arith))
+    (eqb_tells x p)
+
+-- they are no more than the bound says
+pub few_below : (n : ℕ) (xs : List ℕ) → Distinct xs → Below n xs → length xs ≤ n
+few_below zero [] d b = omega arith
+few_below zero (x ∷ xs) d b = absurd (let l : x < 0 = b.0 in omega arith)
+few_below (suc n) xs d b =
+    let ih : length (without n xs) ≤ n = few_below n (without n xs) (distinct_without n xs d) (below_without n xs b) in
+    let f : length xs ≤ length (without n xs) + 1 = one_fewer n xs d in
+    omega arith
+
+-- ---- the walk along the links gives the list
+
+walk_leads : (after before : ℕ → ℕ) (a z : ℕ) (xs : List ℕ) → Leads after before a xs z → walk after (length xs) (after a) ≡ xs
+walk_leads after before a z [] l = refl
+walk_leads after before a z (x ∷ xs) l =
+    let e : after a ≡ x = l.0 in
+    rw e (ap (λ (r : List ℕ). x ∷ r) (walk_leads after before x z xs l.2))
+
+pub length-walk : (after : ℕ → ℕ) (n a : ℕ) → length (walk after n a) ≡ n
+length-walk after zero a = refl
+length-walk after (suc n) a = ap suc (length-walk after n (after a))
+
+-- ---- what the links say of a place
+
+module _ (after before : ℕ → ℕ) (z : ℕ) where
+  -- the links lead back from z to what leads to z
+  pub last_leads : (a : ℕ) (xs : List ℕ) → Leads after before a xs z → after (before z) ≡ z
+  last_leads a [] l = cc
+  last_leads a (x ∷ xs) l = last_leads x xs l.2
+
+  -- no place stands twice
+  not_again : (c y x : ℕ) (ys : List ℕ) → Leads after before y ys z → before x ≡ c → y ≢ c → Absent c ys → Absent x ys
+  not_again c y x [] l e n a = tt
+  not_again c y x (u ∷ us) l e n a =
+      ((λ s. n (let b : before u ≡ y = l.1 in let same : before u ≡ before x = ap before s in sym b ∙ same ∙ e)), not_again c u x us l.2 e a.0 a.1)
+
+  rest_absent : (c x : ℕ) (xs : List ℕ) → Leads after before c (x ∷ xs) z → Absent c (x ∷ xs) → Absent x xs
+  rest_absent c x xs l a = not_again c x x xs l.2 l.1 a.0 a.1
+
+  distinct : (c : ℕ) (xs : List ℕ) → Leads after before c xs z → Absent c xs → Distinct xs
+  distinct c [] l a = tt
+  distinct c (x ∷ xs) l a = let rest : Absent x xs = rest_absent c x xs l a in (rest, distinct x xs l.2 rest)
+
+  -- what holds of a place in the list
+  pub record IsMember (p : ℕ) (xs : List ℕ) : Type 0 where
+    pub back : after (before p) ≡ p
+    pub forth : before (after p) ≡ p
+    pub moves : after p ≢ p
+    pub fewer : length (without p xs) + 1 ≡ length xs
+
+  member_or_not : (p c : ℕ) (xs : List ℕ) → Leads after before c xs z → Absent c xs → z ≢ p → Absent p xs ⊎ IsMember p xs
+  member_or_not p c [] l a n = inl tt
+  member_or_not p c (x ∷ xs) l a n =
+      let rest : Absent x xs = rest_absent c x xs l a in
+      ⊎_elim
+      (λ (t : (eqb x p ≡ true) × (x ≡ p)). inr (record {
+        back = (let e : after c ≡ x = l.0 in let f : before x ≡ c = l.1 in let g : x ≡ p = t.1 in cc);
+        forth = ahead xs t.1 l.2;
+        moves = moved xs t.1 l.2 rest;
+        fewer = (let e : without p xs ≡ xs = without_absent p xs (subst (λ (q : ℕ). Absent q xs) t.1 rest) in rw (t.0, e) (omega arith));
+      }))
+      (λ (t : (eqb x p ≡ false) × (x ≢ p)).
+      ⊎_elim
+      (λ (h : Absent p xs). inl (t.1, h))
+      (λ (m : IsMember p xs). inr (record { back = m.back; forth = m.forth; moves = m.moves; fewer = rw t.0 (let f : length (without p xs) + 1 ≡ length xs = m.fewer in omega arith) }))
+      (member_or_not p x xs l.2 rest n))
+      (eqb_tells x p)
+    where
+      ahead : (ys : List ℕ) → x ≡ p → Leads after before x ys z → before (after p) ≡ p
+      ahead [] e l = let a : after x ≡ z = l.0 in let b : before z ≡ x = l.1 in cc
+      ahead (y ∷ ys) e l = let a : after x ≡ y = l.0 in let b : before y ≡ x = l.1 in cc
+
+      moved : (ys : List ℕ) → x ≡ p → Leads after before x ys z → Absent x ys → after p ≢ p
+      moved [] e l a s = let f : after x ≡ z = l.0 in n (sym f ∙ ap after e ∙ s)
+      moved (y ∷ ys) e l a s = let f : after x ≡ y = l.0 in a.0 (sym f ∙ ap after e ∙ s ∙ sym e)
+
+-- ---- a place comes to the new end
+
+module _ (af be af1 be1 af2 be2 : ℕ → ℕ) (z p : ℕ) (j1 : Joins af be af1 be1 (be z) p) (j2 : Joins af1 be1 af2 be2 p z) (apart : p ≢ z) where
+  push_leads : (c : ℕ) (xs : List ℕ) → Leads af be c xs z → c ≢ p → Absent p xs → Absent z xs → Leads af2 be2 c (xs ++ p ∷ []) z
+  push_leads c [] l n a b =
+      let e : be z ≡ c = l.1 in
+      let e1 : af2 c ≡ af1 c = j2.after_others c n in
+      let e2 : af1 (be z) ≡ p = j1.after_is in
+      let e3 : be2 p ≡ be1 p = j2.before_others p apart in
+      let e4 : be1 p ≡ be z = j1.before_is in
+      (cc, cc, (j2.after_is, j2.before_is))
+  push_leads c (x ∷ xs) l n a b =
+      let e : af c ≡ x = l.0 in
+      let last : af (be z) ≡ z = last_leads af be z c (x ∷ xs) l in
+      let e1 : af2 c ≡ af1 c = j2.after_others c n in
+      let e2 : af1 c ≡ af c = j1.after_others c (λ s. b.0 (sym e ∙ ap af s ∙ last)) in
+      let e3 : be2 x ≡ be1 x = j2.before_others x b.0 in
+      let e4 : be1 x ≡ be x = j1.before_others x a.0 in
+      let e5 : be x ≡ c = l.1 in
+      (cc, cc, push_leads x xs l.2 a.0 a.1 b.1)
+
+  pub pushed : (xs : List ℕ) → Spells af be z xs → Absent p xs → Spells af2 be2 z (xs ++ p ∷ [])
+  pushed xs s a = record {
+    leads = push_leads z xs s.leads (λ e. apart (sym e)) a s.apart;
+    apart = push_absent z p xs s.apart apart;
+    alone = λ q other b.
+        let r = absent_push q p xs b in
+        let off : q ≢ p = λ e. r.1 (sym e) in
+        let was = s.alone q other r.0 in
+        let w0 : af q ≡ q = was.0 in
+        let w1 : be q ≡ q = was.1 in
+        let last : af (be z) ≡ z = last_leads af be z z xs s.leads in
+        let e1 : af2 q ≡ af1 q = j2.after_others q off in
+        let e2 : af1 q ≡ af q = j1.after_others q (λ e. other (sym w0 ∙ ap af e ∙ last)) in
+        let e3 : be2 q ≡ be1 q = j2.before_others q other in
+        let e4 : be1 q ≡ be q = j1.before_others q off in
+        (cc, cc);
+  }
+
+-- ---- a place goes, wherever it stands
+
+module _ (af be af1 be1 af2 be2 : ℕ → ℕ) (z p : ℕ) (j1 : Joins af be af1 be1 (be p) (af p)) (j2 : Joins af1 be1 af2 be2 p p) (apart : p ≢ z)
+    (back : af (be p) ≡ p) (forth : be (af p) ≡ p) where
+  after_kept : (i : ℕ) → i ≢ p → af i ≢ p → af2 i ≡ af i
+  after_kept i n m = j2.after_others i n ∙ j1.after_others i (λ e. m (ap af e ∙ back))
+
+  before_kept : (i : ℕ) → i ≢ p → be i ≢ p → be2 i ≡ be i
+  before_kept i n m = j2.before_others i n ∙ j1.before_others i (λ e. m (ap be e ∙ forth))
+
+  kept_leads : (c : ℕ) (xs : List ℕ) → Leads af be c xs z → c ≢ p → Absent p xs → Leads af2 be2 c xs z
+  kept_leads c [] l n a = (after_kept c n (λ e. apart (sym e ∙ l.0)) ∙ l.0, before_kept z (λ e. apart (sym e)) (λ e. n (sym l.1 ∙ e)) ∙ l.1)
+  kept_leads c (x ∷ xs) l n a = (after_kept c n (λ e. a.0 (sym l.0 ∙ e)) ∙ l.0, before_kept x a.0 (λ e. n (sym l.1 ∙ e)) ∙ l.1, kept_leads x xs l.2 a.0 a.1)
+
+  bridged_leads : (c : ℕ) (xs : List ℕ) → Leads af be p xs z → be p ≡ c → c ≢ p → Absent p xs → Leads af2 be2 c xs z
+  bridged_leads c [] l e n a =
+      let e1 : af2 c ≡ af1 c = j2.after_others c n in
+      let e2 : af1 (be p) ≡ af p = j1.after_is in
+      let e3 : be2 z ≡ be1 z = j2.before_others z (λ s. apart (sym s)) in
+      let e4 : be1 (af p) ≡ be p = j1.before_is in
+      let e5 : af p ≡ z = l.0 in
+      (cc, cc)
+  bridged_leads c (x ∷ xs) l e n a =
+      let e1 : af2 c ≡ af1 c = j2.after_others c n in
+      let e2 : af1 (be p) ≡ af p = j1.after_is in
+      let e3 : be2 x ≡ be1 x = j2.before_others x a.0 in
+      let e4 : be1 (af p) ≡ be p = j1.before_is in
+      let e5 : af p ≡ x = l.0 in
+      (cc, cc, kept_leads x xs l.2 a.0 a.1)
+
+  remove_leads : (c : ℕ) (xs : List ℕ) → Leads af be c xs z → Absent c xs → c ≢ p → Leads af2 be2 c (without p xs) z
+  remove_leads c [] l a n = kept_leads c [] l n tt
+  remove_leads c (x ∷ xs) l a n =
+      let rest : Absent x xs = rest_absent af be z c x xs l a in
+      ⊎_elim
+      (λ (t : (eqb x p ≡ true) × (x ≡ p)).
+      let absent : Absent p xs = subst (λ (q : ℕ). Absent q xs) t.1 rest in
+      let e : without p xs ≡ xs = without_absent p xs absent in
+      rw (t.0, e) (bridged_leads c xs (subst (λ (q : ℕ). Leads af be q xs z) t.1 l.2) (ap be (sym t.1) ∙ l.1) n absent))
+      (λ (t : (eqb x p ≡ false) × (x ≢ p)).
+      let r : Leads af2 be2 c (x ∷ without p xs) z = (after_kept c n (λ e. t.1 (sym l.0 ∙ e)) ∙ l.0, before_kept x t.1 (λ e. n (sym l.1 ∙ e)) ∙ l.1, remove_leads x xs l.2 rest t.1) in
+      rw t.0 r)
+      (eqb_tells x p)
+
+  pub removed : (xs : List ℕ) → Spells af be z xs → Spells af2 be2 z (without p xs)
+  removed xs s = record {
+    leads = remove_leads z xs s.leads s.apart (λ e. apart (sym e));
+    apart = without_keeps_absent p z xs s.apart;
+    alone = λ q other b.
+        ⊎_elim
+        (λ (t : (eqb q p ≡ true) × (q ≡ p)). (subst (λ (i : ℕ). af2 i ≡ i) (sym t.1) j2.after_is, subst (λ (i : ℕ). be2 i ≡ i) (sym t.1) j2.before_is))
+        (λ (t : (eqb q p ≡ false) × (q ≢ p)).
+        let was = s.alone q other (absent_without p q xs t.1 b) in
+        (after_kept q t.1 (λ e. t.1 (sym was.0 ∙ e)) ∙ was.0, before_kept q t.1 (λ e. t.1 (sym was.1 ∙ e)) ∙ was.1))
+        (eqb_tells q p);
+  }
+
+-- ---- the ends, and who is there
+
+module _ (af be : ℕ → ℕ) (z : ℕ) where
+  last_from : (c x : ℕ) (xs : List ℕ) → Leads af be c (x ∷ xs) z → slice_get (x ∷ xs) (length xs) ≡ Some (be z)
+  last_from c x [] l = let e : be z ≡ x = l.2.1 in ap (λ (q : ℕ). Some q) (sym e)
+  last_from c x (y ∷ ys) l = last_from x y ys l.2
+
+  pub first_is : (x : ℕ) (xs : List ℕ) → Spells af be z (x ∷ xs) → slice_get (x ∷ xs) 0 ≡ Some (af z)
+  first_is x xs s = let e : af z ≡ x = s.leads.0 in ap (λ (q : ℕ). Some q) (sym e)
+
+  pub last_is : (x : ℕ) (xs : List ℕ) → Spells af be z (x ∷ xs) → slice_get (x ∷ xs) (length xs) ≡ Some (be z)
+  last_is x xs s = last_from z x xs s.leads
+
+  module _ (xs : List ℕ) (s : Spells af be z xs) where
+    -- the list that the links spell is what a walk over so many places gives
+    pub walked : (len : ℕ) → length xs ≡ len → walk af len (af z) ≡ xs
+    walked len e = ap (λ (k : ℕ). walk af k (af z)) (sym e) ∙ walk_leads af be z z xs s.leads
+
+    pub is_absent : (p : ℕ) → p ≢ z → af p ≡ p → Absent p xs
+    is_absent p n e = ⊎_elim
+        (λ (a : Absent p xs). a)
+        (λ (m : IsMember af be z p xs). absurd (m.moves e))
+        (member_or_not af be z p z xs s.leads s.apart (λ h. n (sym h)))
+
+    pub is_member : (p : ℕ) → p ≢ z → af p ≢ p → IsMember af be z p xs
+    is_member p n e = ⊎_elim
+        (λ (a : Absent p xs). absurd (e (s.alone p n a).0))
+        (λ (m : IsMember af be z p xs). m)
+        (member_or_not af be z p z xs s.leads s.apart (λ h. n (sym h)))
+
+    pub member_at : (p j : ℕ) → slice_get xs j ≡ Some p → IsMember af be z p xs
+    member_at p j e = ⊎_elim
+        (λ (a : Absent p xs). absurd (absent_get p j xs a e))
+        (λ (m : IsMember af be z p xs). m)
+        (member_or_not af be z p z xs s.leads s.apart (λ h. absent_get z j xs s.apart (e ∙ ap (λ (q : ℕ). Some q) (sym h))))
+
+  -- where only places below a bound lead elsewhere, no more are in the list
+  pub spelled_few : (n : ℕ) (xs : List ℕ) → Spells af be z xs → ((p : ℕ) → af p ≢ p → p < n) → length xs ≤ n
+  spelled_few n xs s inside = few_below n xs (distinct af be z z xs s.leads s.apart) (go z xs s.leads s.apart s.apart)
+    where
+      go : (c : ℕ) (ys : List ℕ) → Leads af be c ys z → Absent c ys → Absent z ys → Below n ys
+      go c [] l a b = tt
+      go c (y ∷ ys) l a b = let rest : Absent y ys = rest_absent af be z c y ys l a in (inside y (λ e. moved y ys l.2 rest b.0 e), go y ys l.2 rest b.1)
+        where
+          moved : (x : ℕ) (us : List ℕ) → Leads af be x us z → Absent x us → x ≢ z → af x ≡ x → ⊥
+          moved x [] l r n e = n (sym e ∙ l.0)
+          moved x (u ∷ us) l r n e = r.0 (sym l.0 ∙ e)

@@ -1,0 +1,18 @@
+use Rattle.std.proofs.Common.{◌≡◌, ℕ, false, Option, Some, None, refl, sym, ap, ◌∙◌}
+use Rattle.std.specs.Option.{unwrap_or}
+use Rattle.bb8_types.specs.declared.standing.GetPlace.TheVariants.{Waiting}
+use Rattle.bb8_types.specs.Places.{get_in_wait, first_or}
+use Rattle.bb8_tables.proofs.Linked
+use Rattle.bb8_tables.proofs.table.Table+Getting.wait.Goals as goal
+
+same_first : (now : ℕ) (o : Option ℕ) → first_or now o ≡ unwrap_or o now
+same_first now None = refl
+same_first now (Some t) = refl
+
+pub invariant_of-self : goal.invariant_of-self
+invariant_of-self c = Linked.restood_good c.self.inside c.self.invariant c.args.at c.index_mut.result.now (record c.index_mut.result.now { slot = record c.index_mut.result.now.slot { standing = record { place = Waiting false; first_wait = Some c.unwrap_or.result } } }) c.args.self.now c.self.view_is c.requires c.index_mut.ensures.value refl refl refl refl
+
+pub returns : goal.returns
+returns c = Linked.restood_view c.self.inside c.self.invariant c.args.at c.index_mut.result.now (record c.index_mut.result.now { slot = record c.index_mut.result.now.slot { standing = record { place = Waiting false; first_wait = Some c.unwrap_or.result } } }) c.args.self.now c.self.view_is c.requires c.index_mut.ensures.value refl refl refl refl
+    (λ s. get_in_wait c.args.now s)
+    (ap (λ (n : ℕ). record { place = Waiting false; first_wait = Some n }) (c.unwrap_or.ensures ∙ sym (same_first c.args.now c.index_mut.result.now.slot.standing.first_wait)))
