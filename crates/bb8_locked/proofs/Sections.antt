@@ -125,6 +125,14 @@ module _ {C : Type 0} where
       (λ f row. add_row h.0 at c b (add_told answer) row)
       (λ f is. absurd (let clash : true ≡ false = says h.0 h.1 h.2 ∙ f in cc)))
 
+  -- a new state keeps its settings as its first approvals are granted
+  pub begun_settings : (config : Config) (first first_get : ℕ) (old new : Shown C) (at : ℕ) (claimed : Bool) (grant : Grant)
+      → is_lawful (settings_of config) ≡ true → Means (opening config first first_get) old → Meets old at (Fill claimed) (Granted grant) new
+      → new.config ≡ settings_of config
+  begun_settings config first first_get old new at claimed grant lawful means meets =
+      kept_settings old new at (Fill claimed) (Granted grant) (settings_of config) (opening config first first_get, lawful, means) meets
+      (ap (λ (s : Shown C). s.config) (sym means))
+
   -- a new state has nothing out, also once its first approvals are granted
   pub none_out : (config : Config) (first first_get : ℕ) (old new : Shown C) (at : ℕ) (claimed : Bool) (grant : Grant)
       → is_lawful (settings_of config) ≡ true → Means (opening config first first_get) old → Meets old at (Fill claimed) (Granted grant) new
