@@ -128,9 +128,10 @@ impl<
         ensures handle { HandleLeaves K.tells (arc_value self.shared) }
     {
         let Holding { shared, handle } = self;
-        let mut calls = Calls::new(&shared.manager, &shared.error_sink, &shared.clock);
-        shared.give_back(&mut calls, taken);
-        shared.leave(handle);
+        let pool = &*shared;
+        let mut calls = Calls::new(&pool.manager, &pool.error_sink, &pool.clock);
+        pool.give_back(&mut calls, taken);
+        pool.leave(handle);
     }
 }
 

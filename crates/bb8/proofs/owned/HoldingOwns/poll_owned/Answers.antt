@@ -2,6 +2,6 @@ use Rattle.bb8.proofs.owned.HoldingOwns.poll_owned.Goals as goal
 
 pub returns : goal.returns
 returns g c =
+    let shared = c.deref-shared.ensures in
     let of = c.new-calls.ensures in
-    let polled = rw c.deref-shared.ensures at c.poll_get.ensures in
-    (c.new-calls.result, c.poll_get.new.outside, (of.manager, of.sink, of.clock), polled)
+    (c.new-calls.result, c.poll_get.new.outside, (rw shared at of.manager, rw shared at of.sink, rw shared at of.clock), rw shared at c.poll_get.ensures)
