@@ -5,7 +5,7 @@ use super::steps::{
     Link, NOW, add, begin, checked_err, checked_ok, give_up_held, put_back, taken_by,
 };
 use super::{Line, SECOND, granted, served, unchecked};
-use bb8_core::api::Config;
+use bb8_core::api::{Config, State, Statistics};
 use bb8_core::internals::{
     AddAnswer, BeginAnswer, CheckedErrAnswer, CheckedOkAnswer, GetKey, GiveUpAnswer, PoolInternals,
     PutBackAnswer,
@@ -34,6 +34,15 @@ fn one_idle(rt: &impl Abort, alloc: Global) -> PoolInternals<Link> {
         panic!(rt; "it was refused, or notified somebody");
     };
     pool
+}
+
+/// What a pool tells of so many connections, which are all idle.
+fn shown(connections: u32, statistics: Statistics) -> State {
+    State {
+        connections,
+        idle_connections: connections,
+        statistics,
+    }
 }
 
 /// A get that began.
@@ -79,10 +88,13 @@ fn succeeds_both_ends_of_a_check(rt: HostRuntime) {
     };
     assert_eq!(rt; (closed.number, conn, grant), (0, Link::Red, granted(1, 0)));
     assert_eq!(rt; fitting(&pool, 1), (true, false, false, false));
-    let mut wanted = served(0, 0, 2, 0);
-    wanted.statistics.get_direct = 1;
-    wanted.statistics.connections_closed_invalid = 1;
-    assert_eq!(rt; pool.state(NOW), wanted);
+    let wanted = Statistics {
+        get_started: 2,
+        get_direct: 1,
+        connections_closed_invalid: 1,
+        ..Statistics::default()
+    };
+    assert_eq!(rt; pool.state(NOW), shown(0, wanted));
     pool.limits();
 }
 
@@ -120,12 +132,14 @@ fn succeeds_give_ups_of_a_held_connection(rt: HostRuntime) {
     };
     assert_eq!(rt; (closed.number, conn, grant), (0, Link::Red, granted(1, 0)));
     assert!(rt; pool.find(0).is_none());
-    let mut wanted = served(0, 0, 2, 0);
-    wanted.statistics.get_direct = 0;
-    wanted.statistics.get_timed_out = 1;
-    wanted.statistics.get_cancelled = 1;
-    wanted.statistics.connections_closed_broken = 1;
-    assert_eq!(rt; pool.state(NOW), wanted);
+    let wanted = Statistics {
+        get_started: 2,
+        get_timed_out: 1,
+        get_cancelled: 1,
+        connections_closed_broken: 1,
+        ..Statistics::default()
+    };
+    assert_eq!(rt; pool.state(NOW), shown(0, wanted));
 }
 
 #[test]
@@ -160,12 +174,14 @@ fn succeeds_replay_of_a_broken_invalid_connection(rt: HostRuntime) -> Result<(),
             Answer::Closed(0, granted(1, 0), None),
         ),
     ];
-    let mut wanted = served(0, 0, 1, 0);
-    wanted.statistics.get_direct = 0;
-    wanted.statistics.connections_closed_broken = 1;
-    wanted.statistics.connections_closed_invalid = 1;
+    let wanted = Statistics {
+        get_started: 1,
+        connections_closed_broken: 1,
+        connections_closed_invalid: 1,
+        ..Statistics::default()
+    };
     let state = shown_after(&rt, rt.alloc(), Config::default(), &lines)?;
-    assert_eq!(rt; state, wanted);
+    assert_eq!(rt; state, shown(0, wanted));
     Ok(())
 }
 
@@ -213,13 +229,17 @@ fn succeeds_replay_where_no_connection_is_valid(rt: HostRuntime) -> Result<(), F
         connection_timeout: Duration::from_secs(1),
         ..checked(2, Some(2))
     };
-    let mut wanted = served(0, 0, 3, 2);
-    wanted.statistics.get_direct = 2;
-    wanted.statistics.get_timed_out = 1;
-    wanted.statistics.get_wait_time = Duration::from_secs(1);
-    wanted.statistics.connections_closed_invalid = 2;
+    let wanted = Statistics {
+        get_started: 3,
+        get_direct: 2,
+        get_timed_out: 1,
+        get_wait_time: Duration::from_secs(1),
+        connections_created: 2,
+        connections_closed_invalid: 2,
+        ..Statistics::default()
+    };
     let state = shown_after(&rt, rt.alloc(), config, &none_left_valid())?;
-    assert_eq!(rt; state, wanted);
+    assert_eq!(rt; state, shown(0, wanted));
     Ok(())
 }
 
@@ -245,13 +265,15 @@ fn succeeds_replay_of_gets_cancelled_in_their_check(rt: HostRuntime) -> Result<(
         ),
         (0, Act::GiveUp(1, Reason::Cancelled, true), Answer::Unfit),
     ];
-    let mut wanted = served(0, 0, 2, 0);
-    wanted.statistics.get_direct = 0;
-    wanted.statistics.get_cancelled = 2;
-    wanted.statistics.connections_closed_broken = 1;
+    let wanted = Statistics {
+        get_started: 2,
+        get_cancelled: 2,
+        connections_closed_broken: 1,
+        ..Statistics::default()
+    };
     let state = shown_after(&rt, rt.alloc(), checked(1, None), &lines)?;
     assert_eq!(rt; state.statistics.pending_gets(), 0);
-    assert_eq!(rt; state, wanted);
+    assert_eq!(rt; state, shown(0, wanted));
     Ok(())
 }
 
