@@ -1,4 +1,5 @@
 pub mod Bounded
 pub mod Homes
 pub mod Played
+pub mod Reaping
 pub mod Replenishing

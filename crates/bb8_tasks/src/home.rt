@@ -4,9 +4,10 @@ ghost use Rattle.bb8_tables.specs.declared.keys.Key.{Key as KeyOf};
 ghost use Rattle.bb8_core.specs.declared.answers.Looked.{Looked as LookedOf};
 ghost use Rattle.bb8_tasks.specs.declared.home.FailedStep.{FailedStep as FailedStepOf};
 ghost use Rattle.bb8_tasks.specs.declared.home.OpenedStep.{OpenedStep as OpenedStepOf};
+ghost use Rattle.bb8_tasks.specs.declared.home.ReapStep.{ReapStep as ReapStepOf};
 
 use bb8_core::api::Moment;
-use bb8_core::internals::{GetKey, Key, Looked};
+use bb8_core::internals::{GetKey, Grant, Key, Looked};
 
 /// What the opening of a connection answers at a home. A connection that it hands back cannot be let go but by name. Our own.
 pub enum OpenedStep<C> {
@@ -52,4 +53,45 @@ pub trait Home<C> {
     /// Gives back an approval for which no connection was opened. Our own.
     fn failed(&mut self, at: Moment, approval: Key) -> FailedStep
         ensures { fails self.old at approval result self.new };
+}
+
+/// What a reap closed and granted. Our own.
+#[derive(Clone, Copy, Debug, PartialEq, Eq)]
+pub struct Reaped {
+    /// How many connections were closed.
+    pub closed: u32,
+    /// How many of them had been idle for the `idle_timeout`.
+    pub by_idle: u32,
+    /// How many of them had lived for the `max_lifetime`.
+    pub by_life: u32,
+    /// What was granted in their place.
+    pub grant: Grant,
+}
+
+/// What a reap answers at a home. Our own.
+#[derive(Clone, Copy, Debug, PartialEq, Eq)]
+pub enum ReapStep {
+    /// This was closed and granted.
+    Reaped(Reaped),
+    /// No handle is alive, and nothing changed but the latest moment.
+    Ended,
+}
+
+/// The steps that a reaper makes. Our own.
+///
+/// Each has a relation, as those of `Home`. No code of the core is such a home yet, as it takes no reap.
+pub trait ReapHome {
+    // Holds of a home, a reading of the clock, what a look at it may answer, and the home then.
+    ghost looks: { Self → MomentOf → LookedOf → Self → Type 0 };
+
+    // Holds of a home, a moment, what a reap may answer, and the home then.
+    ghost reaps: { Self → MomentOf → ReapStepOf → Self → Type 0 };
+
+    /// The effective moment at this reading of the clock, and whether a handle is alive. Our own.
+    fn look(&mut self, at: Moment) -> Looked
+        ensures { looks self.old at result self.new };
+
+    /// Closes the idle connections that idled or lived too long. Our own.
+    fn reap(&mut self, at: Moment) -> ReapStep
+        ensures { reaps self.old at result self.new };
 }

@@ -1,15 +1,20 @@
-//! The polled tasks of a pool: the opening of a connection, with its waits between tries, and its replay over a list of polls.
+//! The polled tasks of a pool: the opening of a connection, with its waits between tries, its replay over a list of polls, and the
+//! reaper.
 #![tactic(auto)]
 
 mod backoff;
 mod home;
 mod opener;
 mod plain;
+mod reaper;
 mod replenish;
+#[cfg(test)]
+mod tests;
 mod waits;
 
 pub use backoff::{Backoff, Reply, replay_backoff};
-pub use home::{FailedStep, Home, OpenedStep};
+pub use home::{FailedStep, Home, OpenedStep, ReapHome, ReapStep, Reaped};
 pub use opener::{Opener, PoolOpener};
+pub use reaper::{Reaper, ReaperAnswer};
 pub use replenish::{Next, Replenish, ReplenishAnswer, Stage, Tries};
 pub use waits::wait_after;

@@ -1,0 +1,5 @@
+//! Tests of the tasks of a pool, against values that were worked out by hand.
+
+mod polls;
+mod reaper;
+mod replays;
