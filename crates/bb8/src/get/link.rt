@@ -150,7 +150,8 @@ impl<'a, C, T: GetHome<C>, R: Locks> GetHome<C> for LinkHome<'a, T, R> {
         reason: Reason,
         returned: Returned<C, T::Part>,
     ) -> Result<GiveUpAnswer<C>, C>
-        ensures { Leads (λ t t'. T.gives_back t at get reason returned result t') self.old.held self.new.held }
+        ensures { Leads (λ t t'. T.gives_back t at get reason returned result t') self.old.held
+            self.new.held }
     {
         let mut guard = self.hold();
         let answer = guard.give_back(at, get, reason, returned);

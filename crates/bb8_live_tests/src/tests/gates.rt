@@ -144,7 +144,17 @@ fn answers_meanwhile<R: Runtime + Threads, L: PoolParts>(rt: R, blank: Blank) ->
         .test_on_check_out(false)
         .build_unchecked(manager, clock, rt, blank)?;
     assert_eq!(&rt; pool.add(7), Ok(()));
-    assert_eq!(&rt; both(&rt, &AtGate { pool: &pool, gate, rt }), (true, true));
+    assert_eq!(&rt;
+        both(
+            &rt,
+            &AtGate {
+                pool: &pool,
+                gate,
+                rt
+            }
+        ),
+        (true, true)
+    );
     let state = pool.state();
     assert_eq!(&rt; (state.connections, state.idle_connections), (1, 1));
     Ok(())

@@ -6,10 +6,10 @@ ghost use Rattle.bb8_core.specs.Shown.{Means};
 ghost use Rattle.bb8_ledger.specs.Table.{IsLegal, takes};
 
 use super::{Refused, SlowManager, StoppedClock};
-use bb8_gets::{Calls, GetState, Taken};
 use bb8::{Config, Moment, NopErrorSink, RunError, Statistics};
 use bb8_core::internals::{AddAnswer, Key, PoolInternals};
 use bb8_core::replay::{Act, Event, fits};
+use bb8_gets::{Calls, GetState, Taken};
 use futures::task::Poll;
 use std::alloc::Global;
 use std::process::Abort;

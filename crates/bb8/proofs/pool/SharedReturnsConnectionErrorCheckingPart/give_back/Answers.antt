@@ -11,7 +11,14 @@ returns-in-Ok-Kept g c = (
     c.now-at.result,
     c.now-at.new.self,
     c.now-at.ensures,
-    (c.put_back-answer.result, c.deref_mut.result.now, c.put_back-answer.new.self, c.put_back-answer.ensures.step, c.put_back-answer.ensures.connection, rw (c.in-Ok-Kept.is, c.in-Ok-Kept.field-0-is) refl),
+    (
+      c.put_back-answer.result,
+      c.deref_mut.result.now,
+      c.put_back-answer.new.self,
+      c.put_back-answer.ensures.step,
+      c.put_back-answer.ensures.connection,
+      rw (c.in-Ok-Kept.is, c.in-Ok-Kept.field-0-is) refl,
+    ),
   ),
 )
 
@@ -25,6 +32,13 @@ returns-in-Ok-Closed g c = (
     c.now-at.result,
     c.now-at.new.self,
     c.now-at.ensures,
-    (c.put_back-answer.result, c.deref_mut.result.now, c.put_back-answer.new.self, c.put_back-answer.ensures.step, c.put_back-answer.ensures.connection, rw (c.in-Ok-Closed.is, c.in-Ok-Closed.field-0-is) c.let_go.ensures),
+    (
+      c.put_back-answer.result,
+      c.deref_mut.result.now,
+      c.put_back-answer.new.self,
+      c.put_back-answer.ensures.step,
+      c.put_back-answer.ensures.connection,
+      rw (c.in-Ok-Closed.is, c.in-Ok-Closed.field-0-is) c.let_go.ensures,
+    ),
   ),
 )

@@ -9,7 +9,7 @@ returns-then-not-fits_give_up-clause-step g c =
     λ l legal means.
     let misfit : takes l (acts.GiveUp c.args.get.number (reason_of c.args.reason) (Some c.args.returned.taken.connection) c.args.returned.broken) ≡ false =
     sym
-        (c.fits_give_up.ensures (reason_of c.args.reason) (Some c.args.returned.taken.connection) c.args.returned.broken refl l legal means)
+    (c.fits_give_up.ensures (reason_of c.args.reason) (Some c.args.returned.taken.connection) c.args.returned.broken refl l legal means)
     ∙ c.if-not-fits_give_up.true in
     rw misfit (refl, refl)
 

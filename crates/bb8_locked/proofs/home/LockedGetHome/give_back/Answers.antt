@@ -7,8 +7,7 @@ use Rattle.bb8_locked.proofs.home.LockedGetHome.give_back.Goals as goal
 
 pub returns-then-not-fits_give_up-clause-step : goal.returns-then-not-fits_give_up-clause-step
 returns-then-not-fits_give_up-clause-step g c =
-    let conn = c.args.returned.taken.connection in
-    (
+    let conn = c.args.returned.taken.connection in (
       c.limits.ensures.limits,
       c.limits.ensures.settings,
       unfit_step c.args.self.now.core c.args.at.0
