@@ -302,11 +302,11 @@ impl<C: Drop> PoolInternals<C> {
         self.latest = now;
         let key = held_key(self.gets.getting(get), hint);
         let expired = is_expired(&self.config, now, self.records.birth(key));
-        let grant = end_out(&self.config, self.handles, &mut self.records, key);
+        let granted = end_out(&self.config, self.handles, &mut self.records, key);
         self.counters.invalid += 1;
         self.counters.close(broken, expired);
         self.gets.turn(get, GetPlace::Active);
-        CheckedErrAnswer::Closed(key, conn, grant, self.gets.notify())
+        CheckedErrAnswer::Closed(key, conn, granted, self.gets.notify())
     }
 
     /// Ends a get that is not served, as it timed out or was cancelled. Where it had been notified, the oldest waiter that was not is

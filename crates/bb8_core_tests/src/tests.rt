@@ -6,6 +6,7 @@ use bb8_core::replay::{Act, Answer};
 use std::time::Duration;
 
 mod at_once;
+mod checks;
 mod refusals;
 mod replays;
 mod steps;

@@ -12,7 +12,9 @@ use std::io::{ErrorKind, Read, Write};
 use std::test::Fail;
 use std::time::Duration;
 
+mod checks;
 mod generated;
+mod generated_checks;
 mod generated_handles;
 mod generated_waits;
 mod handles;
@@ -100,6 +102,8 @@ const EACH_ANSWER: &[u8] = b"\
     exhausted\n\
     served 7 grant 2 at 5 withheld 1\n\
     served 7 withheld 3\n\
+    taken 8 grant 2 at 5 withheld 1\n\
+    taken 8\n\
     waiting grant 2 at 5 withheld 1\n\
     waiting withheld 3\n\
     waiting\n\
@@ -203,6 +207,8 @@ fn prints_each_answer(rt: HostRuntime) -> Result<(), Fail> {
         Answer::Exhausted,
         Answer::Served(7, grant(5, 2, 1)),
         Answer::Served(7, grant(0, 0, 3)),
+        Answer::Taken(8, grant(5, 2, 1)),
+        Answer::Taken(8, grant(6, 0, 0)),
         Answer::Waiting(grant(5, 2, 1)),
         Answer::Waiting(grant(0, 0, 3)),
         Answer::Waiting(grant(9, 0, 0)),

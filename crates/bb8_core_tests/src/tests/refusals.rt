@@ -318,6 +318,7 @@ fn tried(rt: &impl Abort, pool: &mut PoolInternals<Link>, get: u64) -> Answer {
             assert_eq!(rt; conn, link_of(key.number));
             Answer::Served(key.number, grant)
         }
+        TryAnswer::Taken(..) => panic!(rt; "the pool checks nothing"),
         TryAnswer::Waiting(grant) => Answer::Waiting(grant),
     }
 }
@@ -354,10 +355,13 @@ fn answer(rt: &impl Abort, pool: &mut PoolInternals<Link>, next: u64, act: Act) 
             BeginAnswer::Exhausted => Answer::Exhausted,
         },
         Act::Try(get) => tried(rt, pool, get),
+        Act::CheckedOk(_) | Act::CheckedErr(..) => panic!(rt; "the pool checks nothing"),
         Act::GiveUp(get, reason, _) => {
             let get = pool.find_get(get).expect(rt, "the get is alive");
-            let GiveUpAnswer::GaveUp(notified) = give_up(rt, pool, get, reason);
-            Answer::GaveUp(number_of(notified))
+            match give_up(rt, pool, get, reason) {
+                GiveUpAnswer::GaveUp(notified) => Answer::GaveUp(number_of(notified)),
+                _ => panic!(rt; "{get:?} held nothing"),
+            }
         }
         Act::PutBack(number, broken) => returned(rt, pool, number, broken),
         Act::Fill(claimed) => Answer::Granted(pool.fill(NOW, claimed)),

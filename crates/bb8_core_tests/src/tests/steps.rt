@@ -8,8 +8,9 @@ ghost use Rattle.bb8_ledger.specs.Table.{IsLegal, takes};
 use super::{granted, served, unchecked};
 use bb8_core::api::{Config, Moment, QueueStrategy};
 use bb8_core::internals::{
-    AddAnswer, BeginAnswer, ClaimAnswer, FailedAnswer, GetKey, GiveUpAnswer, Grant, JoinAnswer,
-    Key, LeaveAnswer, OpenedAnswer, PoolInternals, PutBackAnswer, Reason, TryAnswer,
+    AddAnswer, BeginAnswer, CheckedErrAnswer, CheckedOkAnswer, ClaimAnswer, FailedAnswer, GetKey,
+    GiveUpAnswer, Grant, JoinAnswer, Key, LeaveAnswer, OpenedAnswer, PoolInternals, PutBackAnswer,
+    Reason, TryAnswer,
 };
 use bb8_core::replay::{Act, Event, fits};
 use std::alloc::Global;
@@ -62,19 +63,75 @@ pub(super) fn served_by(
 ) -> (Key, Link, Grant) {
     match try_get(rt, pool, get) {
         TryAnswer::Served(key, conn, grant) => (key, conn, grant),
+        TryAnswer::Taken(..) => panic!(rt; "the get checks"),
         TryAnswer::Waiting(_) => panic!(rt; "the get waits"),
     }
 }
 
-/// Gives up a get that is alive.
+/// Has a get take a connection that it checks.
+pub(super) fn taken_by(
+    rt: &impl Abort,
+    pool: &mut PoolInternals<Link>,
+    get: GetKey,
+) -> (Key, Link, Grant) {
+    match try_get(rt, pool, get) {
+        TryAnswer::Taken(key, conn, grant) => (key, conn, grant),
+        TryAnswer::Served(..) => panic!(rt; "the get was served unchecked"),
+        TryAnswer::Waiting(_) => panic!(rt; "the get waits"),
+    }
+}
+
+/// Tells that a check was passed.
+pub(super) fn checked_ok(
+    rt: &impl Abort,
+    pool: &mut PoolInternals<Link>,
+    get: GetKey,
+    hint: usize,
+) -> CheckedOkAnswer {
+    assert_fits(rt, pool, Act::CheckedOk(get.number));
+    pool.checked_ok(NOW, get, hint)
+}
+
+/// Tells that a check failed.
+pub(super) fn checked_err(
+    rt: &impl Abort,
+    pool: &mut PoolInternals<Link>,
+    get: GetKey,
+    conn: Link,
+    broken: bool,
+    hint: usize,
+) -> CheckedErrAnswer<Link> {
+    assert_fits(rt, pool, Act::CheckedErr(get.number, broken));
+    pool.checked_err(NOW, get, conn, broken, hint)
+}
+
+/// Gives up a get that is alive and holds nothing.
 pub(super) fn give_up(
     rt: &impl Abort,
     pool: &mut PoolInternals<Link>,
     get: GetKey,
     reason: Reason,
-) -> GiveUpAnswer {
-    assert_fits(rt, pool, Act::GiveUp(get.number, reason, false));
-    pool.give_up(NOW, get, reason, None, false)
+) -> GiveUpAnswer<Link> {
+    if !pool.fits_give_up(get, false) {
+        panic!(rt; "{get:?} is not alive, or holds a connection");
+    }
+    pool.give_up(NOW, get, reason, None, false, 0)
+}
+
+/// Gives up a get that holds a connection, which is handed in.
+pub(super) fn give_up_held(
+    rt: &impl Abort,
+    pool: &mut PoolInternals<Link>,
+    get: GetKey,
+    reason: Reason,
+    conn: Link,
+    broken: bool,
+    hint: usize,
+) -> GiveUpAnswer<Link> {
+    if !pool.fits_give_up(get, true) {
+        panic!(rt; "{get:?} holds no connection");
+    }
+    pool.give_up(NOW, get, reason, Some(conn), broken, hint)
 }
 
 /// Gives back a connection that a guard holds.

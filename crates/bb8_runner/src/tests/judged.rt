@@ -177,6 +177,30 @@ fn judges_lines_of_waiting(rt: HostRuntime) -> Result<(), Fail> {
     Ok(())
 }
 
+/// Inputs whose line 2 is an end of a check but for one thing.
+const NO_END_OF_A_CHECK: [&[u8]; 10] = [
+    b"config\n0 ok\n",
+    b"config\n0 ok 01\n",
+    b"config\n0 ok 1 broken\n",
+    b"config\n0 OK 1\n",
+    b"config\n0 okay 1\n",
+    b"config\n0 err\n",
+    b"config\n0 err broken\n",
+    b"config\n0 err 1 Broken\n",
+    b"config\n0 err 1 broken \n",
+    b"config\n0 error 1\n",
+];
+
+#[test]
+fn judges_lines_of_checks(rt: HostRuntime) -> Result<(), Fail> {
+    for input in NO_END_OF_A_CHECK {
+        let (end, written) = run(&rt, input)?;
+        assert_eq!(rt; end, Verdict::Bad);
+        assert_eq!(rt; written.as_slice(), LINE_TWO);
+    }
+    Ok(())
+}
+
 /// Inputs whose line 2 is a failed opening, a join or a leave but for one thing.
 const NO_FAILURE_OR_HANDLE: [&[u8]; 9] = [
     b"config\n0 fail\n",

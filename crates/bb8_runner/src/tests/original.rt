@@ -6,8 +6,8 @@
 //! line, `cancelled` and `wait_us`, are counted as the port counts them. No line of these files comes from the port.
 
 use super::{
-    FIRST_ANSWERS, FIRST_SCRIPT, generated, generated_handles, generated_waits, handles, run,
-    worked,
+    FIRST_ANSWERS, FIRST_SCRIPT, checks, generated, generated_checks, generated_handles,
+    generated_waits, handles, run, worked,
 };
 use crate::verdict::Verdict;
 use std::test::Fail;
@@ -92,6 +92,29 @@ fn answers_scripts_of_handles_and_failures_as_the_original(rt: HostRuntime) -> R
         (
             generated_handles::FAILURES_LIFO_SCRIPT,
             generated_handles::FAILURES_LIFO_ANSWERS,
+        ),
+    ];
+    for (script, answers) in pairs {
+        assert!(rt; answers_as_the_original(&rt, script, answers)?);
+    }
+    Ok(())
+}
+
+#[test]
+fn answers_scripts_of_checks_as_the_original(rt: HostRuntime) -> Result<(), Fail> {
+    let pairs = [
+        (checks::CANCELLED_SCRIPT, checks::CANCELLED_ANSWERS),
+        (
+            checks::BROKEN_INVALID_SCRIPT,
+            checks::BROKEN_INVALID_ANSWERS,
+        ),
+        (
+            generated_checks::CHECKS_FIFO_SCRIPT,
+            generated_checks::CHECKS_FIFO_ANSWERS,
+        ),
+        (
+            generated_checks::CHECKS_AND_FAILURES_SCRIPT,
+            generated_checks::CHECKS_AND_FAILURES_ANSWERS,
         ),
     ];
     for (script, answers) in pairs {

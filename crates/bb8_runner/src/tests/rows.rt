@@ -1,4 +1,4 @@
-//! Worked rows of both orders, of adding, of returning and of the last handle, as scripts.
+//! Worked rows of both orders, of adding, of returning, of the last handle and of checks, as scripts.
 
 use super::run;
 use crate::verdict::Verdict;
@@ -208,6 +208,98 @@ const AFTER_LAST: (&[u8], &[u8]) = (
     state connections 0 idle 0 started 0 direct 0 waited 0 timed_out 0 cancelled 0 wait_us 0 created 1 broken 0 invalid 0 lifetime 0 idle_timeout 0\n",
 );
 
+/// A connection that fails its check and is broken counts as invalid and as broken.
+const BROKEN_INVALID: (&[u8], &[u8]) = (
+    b"\
+    config\n\
+    0 add\n\
+    0 begin\n\
+    0 try 0\n\
+    0 err 0 broken\n",
+    b"\
+    added 0\n\
+    begun 0\n\
+    taken 0\n\
+    closed 0\n\
+    state connections 0 idle 0 started 1 direct 0 waited 0 timed_out 0 cancelled 0 wait_us 0 created 0 broken 1 invalid 1 lifetime 0 idle_timeout 0\n",
+);
+
+/// Two connections serve two gets; then both fail the check of a third get, which waits and times out.
+const NONE_LEFT_VALID: (&[u8], &[u8]) = (
+    b"\
+    config max_size=2 min_idle=2 timeout=1000000000\n\
+    0 fill\n\
+    0 claim\n\
+    0 claim\n\
+    0 open 0\n\
+    0 open 1\n\
+    0 begin\n\
+    0 try 0\n\
+    0 ok 0\n\
+    0 begin\n\
+    0 try 1\n\
+    0 ok 1\n\
+    0 return 0\n\
+    0 return 1\n\
+    4000000000 begin\n\
+    4000000000 try 2\n\
+    4000000000 err 2\n\
+    4000000000 try 2\n\
+    4000000000 err 2\n\
+    4000000000 try 2\n\
+    5000000000 timeout 2\n",
+    b"\
+    granted grant 2 at 0\n\
+    claimed 0\n\
+    claimed 1\n\
+    entered 0\n\
+    entered 1\n\
+    begun 0\n\
+    taken 0\n\
+    served 0\n\
+    begun 1\n\
+    taken 1\n\
+    served 1\n\
+    kept 0\n\
+    kept 1\n\
+    begun 2\n\
+    taken 0\n\
+    closed 0 grant 1 at 2\n\
+    taken 1\n\
+    closed 1 grant 1 at 3\n\
+    waiting\n\
+    gave up\n\
+    state connections 0 idle 0 started 3 direct 2 waited 0 timed_out 1 cancelled 0 wait_us 1000000 created 2 broken 0 invalid 2 lifetime 0 idle_timeout 0\n",
+);
+
+/// A get is let go in its check, and the one that waits takes its connection; that one is let go with a broken one.
+const CANCELLED_IN_CHECK: (&[u8], &[u8]) = (
+    b"\
+    config max_size=1\n\
+    0 add\n\
+    0 begin\n\
+    0 try 0\n\
+    0 begin\n\
+    0 try 1\n\
+    0 cancel 0\n\
+    0 try 1\n\
+    0 ok 0\n\
+    0 cancel 1 broken\n\
+    0 err 1\n",
+    b"\
+    added 0\n\
+    begun 0\n\
+    taken 0\n\
+    begun 1\n\
+    waiting\n\
+    kept 0 notifies 1\n\
+    taken 0\n\
+    unfit\n\
+    closed 0\n\
+    unfit\n\
+    state connections 0 idle 0 started 2 direct 0 waited 0 timed_out 0 cancelled 2 wait_us 0 created 0 broken 1 invalid 0 lifetime 0 idle_timeout 0\n",
+);
+
 #[test]
 fn answers_the_worked_rows(rt: HostRuntime) -> Result<(), Fail> {
     let rows = [
@@ -220,6 +312,9 @@ fn answers_the_worked_rows(rt: HostRuntime) -> Result<(), Fail> {
         RETURNED_TOO_OLD,
         RETURNED_AFTER_LAST,
         AFTER_LAST,
+        BROKEN_INVALID,
+        NONE_LEFT_VALID,
+        CANCELLED_IN_CHECK,
     ];
     for (script, answers) in rows {
         let (end, written) = run(&rt, script)?;

@@ -6,9 +6,12 @@ use bb8_core::replay::{Act, Event, Reason};
 use std::test::Fail;
 
 /// Each form of an event once, with the greatest and the least number and moment among them.
-const SPELLED: [(&[u8], u64, Act); 22] = [
+const SPELLED: [(&[u8], u64, Act); 25] = [
     (b"0 begin", 0, Act::Begin),
     (b"1 try 0", 1, Act::Try(0)),
+    (b"1 ok 2", 1, Act::CheckedOk(2)),
+    (b"3 err 0", 3, Act::CheckedErr(0, false)),
+    (b"3 err 1 broken", 3, Act::CheckedErr(1, true)),
     (
         b"0 timeout 18446744073709551615",
         0,

@@ -8,12 +8,12 @@ use Rattle.bb8_core.proofs.Steps.{led, at_view, fits_view}
 use Rattle.bb8_core.proofs.GetEnds.{notices, meets_invalid}
 use Rattle.bb8_core.proofs.internals.PoolInternals.checked_err.Goals as goal
 
-pub end_out-grant-requires-clause-out : goal.end_out-grant-requires-clause-out
-end_out-grant-requires-clause-out g c = holds_out (view_of c.self.inside) c.args.get.number c.self.invariant c.getting.ensures
+pub end_out-granted-requires-clause-out : goal.end_out-granted-requires-clause-out
+end_out-granted-requires-clause-out g c = holds_out (view_of c.self.inside) c.args.get.number c.self.invariant c.getting.ensures
     (fit_holds c.args.get.number c.self.view_is c.self.invariant c.requires c.getting.ensures c.held_key-key.ensures)
 
-pub end_out-grant-requires-clause-size : goal.end_out-grant-requires-clause-size
-end_out-grant-requires-clause-size g c = (shown_fits (view_of c.self.inside) c.self.invariant).size
+pub end_out-granted-requires-clause-size : goal.end_out-granted-requires-clause-size
+end_out-granted-requires-clause-size g c = (shown_fits (view_of c.self.inside) c.self.invariant).size
 
 pub overflow_add-self : goal.overflow_add-self
 overflow_add-self g c = omega (
@@ -21,14 +21,14 @@ overflow_add-self g c = omega (
   invalid_few c.held_key-key.result.number (view_of c.self.inside) c.self.invariant
       (holds_out (view_of c.self.inside) c.args.get.number c.self.invariant c.getting.ensures
       (fit_holds c.args.get.number c.self.view_is c.self.invariant c.requires c.getting.ensures c.held_key-key.ensures))
-      c.end_out-grant.ensures.numbers,
+      c.end_out-granted.ensures.numbers,
 )
 
 pub close-requires : goal.close-requires
 close-requires g c = closed_few c.held_key-key.result.number (view_of c.self.inside) c.self.invariant
     (holds_out (view_of c.self.inside) c.args.get.number c.self.invariant c.getting.ensures
     (fit_holds c.args.get.number c.self.view_is c.self.invariant c.requires c.getting.ensures c.held_key-key.ensures))
-    c.end_out-grant.ensures.numbers
+    c.end_out-granted.ensures.numbers
 
 pub turn-requires-clause-stands : goal.turn-requires-clause-stands
 turn-requires-clause-stands g c = holds_stands (view_of c.self.inside) c.args.get.number c.getting.ensures
@@ -36,7 +36,7 @@ turn-requires-clause-stands g c = holds_stands (view_of c.self.inside) c.args.ge
 
 pub returns-clause-step : goal.returns-clause-step
 returns-clause-step g c = at_view c.args.at.0 (acts.CheckedErr c.args.get.number c.args.broken)
-    (answers.Closed c.held_key-key.result.number c.end_out-grant.result (notified_of c.notify.result)) c.self.view_is
+    (answers.Closed c.held_key-key.result.number c.end_out-granted.result (notified_of c.notify.result)) c.self.view_is
     (meets_invalid c.self.inside.counters (fits_view (acts.CheckedErr c.args.get.number c.args.broken) c.self.view_is c.requires)
     (record {
       now_is = c.max-now.ensures;
@@ -44,10 +44,10 @@ returns-clause-step g c = at_view c.args.at.0 (acts.CheckedErr c.args.get.number
       held = fit_holds c.args.get.number c.self.view_is c.self.invariant c.requires c.getting.ensures c.held_key-key.ensures;
     })
     (record { now_is = c.max-now.ensures; birth_is = c.birth.ensures; aged_is = c.is_expired-expired.ensures })
-    c.end_out-grant.ensures.granted c.end_out-grant.ensures.state
+    c.end_out-granted.ensures.granted c.end_out-granted.ensures.state
     (notices c.turn.ensures c.notify.ensures.value c.notify.ensures.state) refl c.close.ensures)
 
 pub invariant_of-self : goal.invariant_of-self
 invariant_of-self g c = led _ c.args.at.0 (acts.CheckedErr c.args.get.number c.args.broken)
-    (answers.Closed c.held_key-key.result.number c.end_out-grant.result (notified_of c.notify.result)) c.self.view_is c.self.invariant
+    (answers.Closed c.held_key-key.result.number c.end_out-granted.result (notified_of c.notify.result)) c.self.view_is c.self.invariant
     (returns-clause-step g c)

@@ -1,0 +1,299 @@
+//! Gets that check what they take: each end of a check, and give-ups that hand a connection in.
+
+use super::replays::shown_after;
+use super::steps::{
+    Link, NOW, add, begin, checked_err, checked_ok, give_up_held, put_back, taken_by,
+};
+use super::{Line, SECOND, granted, served, unchecked};
+use bb8_core::api::{Config, State, Statistics};
+use bb8_core::internals::{
+    AddAnswer, BeginAnswer, CheckedErrAnswer, CheckedOkAnswer, GetKey, GiveUpAnswer, PoolInternals,
+    PutBackAnswer,
+};
+use bb8_core::replay::{Act, Answer, Event, Reason, fits};
+use std::alloc::Global;
+use std::process::Abort;
+use std::test::Fail;
+use std::time::Duration;
+
+/// A pool that checks each connection before it hands it out.
+fn checked(max_size: u32, min_idle: Option<u32>) -> Config {
+    Config {
+        max_size,
+        min_idle,
+        ..Config::default()
+    }
+}
+
+/// A pool with room for one connection, which is idle.
+fn one_idle(rt: &impl Abort, alloc: Global) -> PoolInternals<Link> {
+    let config = checked(1, None);
+    assert!(rt; config.is_lawful());
+    let mut pool = PoolInternals::new(alloc, config);
+    let AddAnswer::Added(_, None) = add(rt, &mut pool, Link::Red, false) else {
+        panic!(rt; "it was refused, or notified somebody");
+    };
+    pool
+}
+
+/// What a pool tells of so many connections, which are all idle.
+fn shown(connections: u32, statistics: Statistics) -> State {
+    State {
+        connections,
+        idle_connections: connections,
+        statistics,
+    }
+}
+
+/// A get that began.
+fn begun(rt: &impl Abort, pool: &mut PoolInternals<Link>) -> GetKey {
+    match begin(rt, pool) {
+        BeginAnswer::Begun(get) => get,
+        _ => panic!(rt; "no get began"),
+    }
+}
+
+/// Whether these fit of a get: a try, both ends of a check; and the return of the connection 0.
+fn fitting(pool: &PoolInternals<Link>, get: u64) -> (bool, bool, bool, bool) {
+    let fits = |act| fits(pool, Event { at: NOW, act });
+    (
+        fits(Act::Try(get)),
+        fits(Act::CheckedOk(get)),
+        fits(Act::CheckedErr(get, true)),
+        fits(Act::PutBack(0, false)),
+    )
+}
+
+#[test]
+fn succeeds_both_ends_of_a_check(rt: HostRuntime) {
+    let mut pool = one_idle(&rt, rt.alloc());
+    let get = begun(&rt, &mut pool);
+    assert_eq!(rt; fitting(&pool, 0), (true, false, false, false));
+    let (key, conn, grant) = taken_by(&rt, &mut pool, get);
+    assert_eq!(rt; (key.number, &conn, grant), (0, &Link::Red, granted(1, 0)));
+    assert_eq!(rt; fitting(&pool, 0), (false, true, true, false));
+    let CheckedOkAnswer::Served(key) = checked_ok(&rt, &mut pool, get, key.place);
+    assert_eq!(rt; key.number, 0);
+    assert_eq!(rt; fitting(&pool, 0), (false, false, false, true));
+    assert_eq!(rt; pool.state(NOW), served(1, 0, 1, 0));
+    let PutBackAnswer::Kept(None) = put_back(&rt, &mut pool, key, conn, false) else {
+        panic!(rt; "it was closed, or notified somebody");
+    };
+    let get = begun(&rt, &mut pool);
+    let (key, conn, _) = taken_by(&rt, &mut pool, get);
+    let CheckedErrAnswer::Closed(closed, conn, grant, None) = checked_err(
+        &rt, &mut pool, get, conn, false, key.place,
+    ) else {
+        panic!(rt; "somebody was notified");
+    };
+    assert_eq!(rt; (closed.number, conn, grant), (0, Link::Red, granted(1, 0)));
+    assert_eq!(rt; fitting(&pool, 1), (true, false, false, false));
+    let wanted = Statistics {
+        get_started: 2,
+        get_direct: 1,
+        connections_closed_invalid: 1,
+        ..Statistics::default()
+    };
+    assert_eq!(rt; pool.state(NOW), shown(0, wanted));
+    pool.limits();
+}
+
+#[test]
+fn succeeds_give_ups_of_a_held_connection(rt: HostRuntime) {
+    let mut pool = one_idle(&rt, rt.alloc());
+    let get = begun(&rt, &mut pool);
+    let (key, conn, _) = taken_by(&rt, &mut pool, get);
+    assert!(rt; !pool.fits_give_up(get, false));
+    let GiveUpAnswer::Kept(kept, None) = give_up_held(
+        &rt,
+        &mut pool,
+        get,
+        Reason::TimedOut,
+        conn,
+        false,
+        key.place,
+    ) else {
+        panic!(rt; "it was closed, or somebody was notified");
+    };
+    assert_eq!(rt; kept.number, 0);
+    assert!(rt; !pool.fits_give_up(get, true));
+    let get = begun(&rt, &mut pool);
+    let (_, conn, _) = taken_by(&rt, &mut pool, get);
+    let GiveUpAnswer::Closed(closed, conn, grant, None) = give_up_held(
+        &rt,
+        &mut pool,
+        get,
+        Reason::Cancelled,
+        conn,
+        true,
+        1_000,
+    ) else {
+        panic!(rt; "it was kept, or somebody was notified");
+    };
+    assert_eq!(rt; (closed.number, conn, grant), (0, Link::Red, granted(1, 0)));
+    assert!(rt; pool.find(0).is_none());
+    let wanted = Statistics {
+        get_started: 2,
+        get_timed_out: 1,
+        get_cancelled: 1,
+        connections_closed_broken: 1,
+        ..Statistics::default()
+    };
+    assert_eq!(rt; pool.state(NOW), shown(0, wanted));
+}
+
+#[test]
+fn stale_hints_name_the_right_connection(rt: HostRuntime) {
+    let config = checked(2, None);
+    assert!(rt; config.is_lawful());
+    let mut pool = PoolInternals::new(rt.alloc(), config);
+    for conn in [Link::Red, Link::Green] {
+        let AddAnswer::Added(..) = add(&rt, &mut pool, conn, false) else {
+            panic!(rt; "it was refused");
+        };
+    }
+    let first = begun(&rt, &mut pool);
+    let (red, _, _) = taken_by(&rt, &mut pool, first);
+    let second = begun(&rt, &mut pool);
+    let (green, _, _) = taken_by(&rt, &mut pool, second);
+    let CheckedOkAnswer::Served(key) = checked_ok(&rt, &mut pool, first, green.place);
+    assert_eq!(rt; (key.number, key.place), (0, red.place));
+    let CheckedOkAnswer::Served(key) = checked_ok(&rt, &mut pool, second, 1_000);
+    assert_eq!(rt; (key.number, key.place), (1, green.place));
+}
+
+#[test]
+fn succeeds_replay_of_a_broken_invalid_connection(rt: HostRuntime) -> Result<(), Fail> {
+    let lines: [Line; 4] = [
+        (0, Act::Add(false), Answer::Added(0, None)),
+        (0, Act::Begin, Answer::Begun(0)),
+        (0, Act::Try(0), Answer::Taken(0, granted(1, 0))),
+        (
+            0,
+            Act::CheckedErr(0, true),
+            Answer::Closed(0, granted(1, 0), None),
+        ),
+    ];
+    let wanted = Statistics {
+        get_started: 1,
+        connections_closed_broken: 1,
+        connections_closed_invalid: 1,
+        ..Statistics::default()
+    };
+    let state = shown_after(&rt, rt.alloc(), Config::default(), &lines)?;
+    assert_eq!(rt; state, shown(0, wanted));
+    Ok(())
+}
+
+/// Two connections serve two gets; then both fail the check of a third get, which waits and times out.
+fn none_left_valid() -> [Line; 20] {
+    [
+        (0, Act::Fill(false), Answer::Granted(granted(0, 2))),
+        (0, Act::Claim, Answer::Claimed(Some(0))),
+        (0, Act::Claim, Answer::Claimed(Some(1))),
+        (0, Act::Opened(0), Answer::Entered(0, None)),
+        (0, Act::Opened(1), Answer::Entered(1, None)),
+        (0, Act::Begin, Answer::Begun(0)),
+        (0, Act::Try(0), Answer::Taken(0, granted(2, 0))),
+        (0, Act::CheckedOk(0), Answer::Served(0, granted(2, 0))),
+        (0, Act::Begin, Answer::Begun(1)),
+        (0, Act::Try(1), Answer::Taken(1, granted(2, 0))),
+        (0, Act::CheckedOk(1), Answer::Served(1, granted(2, 0))),
+        (0, Act::PutBack(0, false), Answer::Kept(0, None)),
+        (0, Act::PutBack(1, false), Answer::Kept(1, None)),
+        (4 * SECOND, Act::Begin, Answer::Begun(2)),
+        (4 * SECOND, Act::Try(2), Answer::Taken(0, granted(2, 0))),
+        (
+            4 * SECOND,
+            Act::CheckedErr(2, false),
+            Answer::Closed(0, granted(2, 1), None),
+        ),
+        (4 * SECOND, Act::Try(2), Answer::Taken(1, granted(3, 0))),
+        (
+            4 * SECOND,
+            Act::CheckedErr(2, false),
+            Answer::Closed(1, granted(3, 1), None),
+        ),
+        (4 * SECOND, Act::Try(2), Answer::Waiting(granted(4, 0))),
+        (
+            5 * SECOND,
+            Act::GiveUp(2, Reason::TimedOut, false),
+            Answer::GaveUp(None),
+        ),
+    ]
+}
+
+#[test]
+fn succeeds_replay_where_no_connection_is_valid(rt: HostRuntime) -> Result<(), Fail> {
+    let config = Config {
+        connection_timeout: Duration::from_secs(1),
+        ..checked(2, Some(2))
+    };
+    let wanted = Statistics {
+        get_started: 3,
+        get_direct: 2,
+        get_timed_out: 1,
+        get_wait_time: Duration::from_secs(1),
+        connections_created: 2,
+        connections_closed_invalid: 2,
+        ..Statistics::default()
+    };
+    let state = shown_after(&rt, rt.alloc(), config, &none_left_valid())?;
+    assert_eq!(rt; state, shown(0, wanted));
+    Ok(())
+}
+
+#[test]
+fn succeeds_replay_of_gets_cancelled_in_their_check(rt: HostRuntime) -> Result<(), Fail> {
+    let lines: [Line; 10] = [
+        (0, Act::Add(false), Answer::Added(0, None)),
+        (0, Act::Begin, Answer::Begun(0)),
+        (0, Act::Try(0), Answer::Taken(0, granted(1, 0))),
+        (0, Act::Begin, Answer::Begun(1)),
+        (0, Act::Try(1), Answer::Waiting(granted(1, 0))),
+        (
+            0,
+            Act::GiveUp(0, Reason::Cancelled, false),
+            Answer::Kept(0, Some(1)),
+        ),
+        (0, Act::CheckedOk(1), Answer::Unfit),
+        (0, Act::Try(1), Answer::Taken(0, granted(1, 0))),
+        (
+            0,
+            Act::GiveUp(1, Reason::Cancelled, true),
+            Answer::Closed(0, granted(1, 0), None),
+        ),
+        (0, Act::GiveUp(1, Reason::Cancelled, true), Answer::Unfit),
+    ];
+    let wanted = Statistics {
+        get_started: 2,
+        get_cancelled: 2,
+        connections_closed_broken: 1,
+        ..Statistics::default()
+    };
+    let state = shown_after(&rt, rt.alloc(), checked(1, None), &lines)?;
+    assert_eq!(rt; state.statistics.pending_gets(), 0);
+    assert_eq!(rt; state, shown(0, wanted));
+    Ok(())
+}
+
+#[test]
+fn succeeds_replay_of_a_return_after_the_last_handle(rt: HostRuntime) -> Result<(), Fail> {
+    let lines: [Line; 8] = [
+        (0, Act::Add(false), Answer::Added(0, None)),
+        (0, Act::Join, Answer::Joined),
+        (0, Act::Begin, Answer::Begun(0)),
+        (0, Act::Try(0), Answer::Served(0, granted(1, 0))),
+        (0, Act::Leave, Answer::Left(0)),
+        (0, Act::Leave, Answer::Left(0)),
+        (
+            0,
+            Act::PutBack(0, false),
+            Answer::Closed(0, granted(1, 0), None),
+        ),
+        (0, Act::Join, Answer::Unfit),
+    ];
+    let state = shown_after(&rt, rt.alloc(), unchecked(1, None), &lines)?;
+    assert_eq!(rt; state, served(0, 0, 1, 0));
+    Ok(())
+}
