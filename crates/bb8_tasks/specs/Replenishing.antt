@@ -142,7 +142,7 @@ module _ {C E V A H W : Type 0} (home : HomeOf H C) (opener : OpenerOf W C E V A
   Polls timeout retry at t h w answer t' h' w' =
       MatchBool (is_done t.stage) ((answer ≡ answers.GivenBack) × (t' ≡ t) × (h' ≡ h) × (w' ≡ w)) (Turns timeout retry at t h w answer t' h' w')
 
-  -- a task that is let go: where it has not ended, what it holds is dropped, and then its approval is given back
+  -- a task that is let go: where it has not ended, what it holds is dropped, and its approval is given back
   abbrev pub LetsGo : Moment → Replenish C V A → H → W → H → W → Type 0
   LetsGo at t h w h' w' =
       MatchBool (is_done t.stage) ((h' ≡ h) × (w' ≡ w))
