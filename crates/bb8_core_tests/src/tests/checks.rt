@@ -1,4 +1,5 @@
 //! Gets that check what they take: each end of a check, and give-ups that hand a connection in.
+ghost use Rattle.std.specs.Prelude.{◌+◌, ◌≤◌};
 
 use super::replays::shown_after;
 use super::steps::{
@@ -45,6 +46,25 @@ fn shown(connections: u32, statistics: Statistics) -> State {
     }
 }
 
+/// So many gets began, were served at once, timed out and were let go.
+fn counted(started: u64, direct: u64, timed_out: u64, cancelled: u64) -> Statistics
+    requires { direct + timed_out + cancelled ≤ started }
+{
+    Statistics {
+        get_started: started,
+        get_direct: direct,
+        get_waited: 0,
+        get_timed_out: timed_out,
+        get_cancelled: cancelled,
+        get_wait_time: Duration::from_nanos(0),
+        connections_created: 0,
+        connections_closed_broken: 0,
+        connections_closed_invalid: 0,
+        connections_closed_max_lifetime: 0,
+        connections_closed_idle_timeout: 0,
+    }
+}
+
 /// A get that began.
 fn begun(rt: &impl Abort, pool: &mut PoolInternals<Link>) -> GetKey {
     match begin(rt, pool) {
@@ -88,9 +108,7 @@ fn succeeds_both_ends_of_a_check(rt: HostRuntime) {
     };
     assert_eq!(rt; (closed.number, conn, grant), (0, Link::Red, granted(1, 0)));
     assert_eq!(rt; fitting(&pool, 1), (true, false, false, false));
-    let mut wanted = Statistics::default();
-    wanted.get_started = 2;
-    wanted.get_direct = 1;
+    let mut wanted = counted(2, 1, 0, 0);
     wanted.connections_closed_invalid = 1;
     assert_eq!(rt; pool.state(NOW), shown(0, wanted));
     pool.limits();
@@ -130,10 +148,7 @@ fn succeeds_give_ups_of_a_held_connection(rt: HostRuntime) {
     };
     assert_eq!(rt; (closed.number, conn, grant), (0, Link::Red, granted(1, 0)));
     assert!(rt; pool.find(0).is_none());
-    let mut wanted = Statistics::default();
-    wanted.get_started = 2;
-    wanted.get_timed_out = 1;
-    wanted.get_cancelled = 1;
+    let mut wanted = counted(2, 0, 1, 1);
     wanted.connections_closed_broken = 1;
     assert_eq!(rt; pool.state(NOW), shown(0, wanted));
 }
@@ -170,8 +185,7 @@ fn succeeds_replay_of_a_broken_invalid_connection(rt: HostRuntime) -> Result<(),
             Answer::Closed(0, granted(1, 0), None),
         ),
     ];
-    let mut wanted = Statistics::default();
-    wanted.get_started = 1;
+    let mut wanted = counted(1, 0, 0, 0);
     wanted.connections_closed_broken = 1;
     wanted.connections_closed_invalid = 1;
     let state = shown_after(&rt, rt.alloc(), Config::default(), &lines)?;
@@ -223,10 +237,7 @@ fn succeeds_replay_where_no_connection_is_valid(rt: HostRuntime) -> Result<(), F
         connection_timeout: Duration::from_secs(1),
         ..checked(2, Some(2))
     };
-    let mut wanted = Statistics::default();
-    wanted.get_started = 3;
-    wanted.get_direct = 2;
-    wanted.get_timed_out = 1;
+    let mut wanted = counted(3, 2, 1, 0);
     wanted.get_wait_time = Duration::from_secs(1);
     wanted.connections_created = 2;
     wanted.connections_closed_invalid = 2;
@@ -257,9 +268,7 @@ fn succeeds_replay_of_gets_cancelled_in_their_check(rt: HostRuntime) -> Result<(
         ),
         (0, Act::GiveUp(1, Reason::Cancelled, true), Answer::Unfit),
     ];
-    let mut wanted = Statistics::default();
-    wanted.get_started = 2;
-    wanted.get_cancelled = 2;
+    let mut wanted = counted(2, 0, 0, 2);
     wanted.connections_closed_broken = 1;
     let state = shown_after(&rt, rt.alloc(), checked(1, None), &lines)?;
     assert_eq!(rt; state.statistics.pending_gets(), 0);
