@@ -1,5 +1,6 @@
 //! Handles that join and leave, and what the last one closes.
 ghost use Rattle.bb8.specs.Parts.{IsBlankOf, unchecked_of};
+ghost use Rattle.bb8.specs.Settings.{default_settings};
 
 use super::{NumberPool, Refused, Runtime, SlowManager};
 use bb8::{
@@ -16,27 +17,26 @@ use std::sync::ledger::Blank;
 use std::test::Fail;
 use std::time::Duration;
 
-/// A clone goes on with the pool's connection once the first handle was dropped.
+/// A clone goes on with the pool's connection once the first handle was dropped: its get is served at the first poll, after a check.
 fn clones<R: Runtime, L: PoolParts>(rt: R, blank: Blank) -> Result<(), Fail>
-    requires { IsBlankOf blank (unchecked_of 1) L.name L.parts L.settings }
+    requires { IsBlankOf blank (record default_settings { max_size = 1 }) L.name L.parts L.settings }
 {
     let clock = SetClock::new(rt.alloc(), Moment(0))?;
     let task = MockTask::new(&rt)?;
     let pool: NumberPool<R, L> = Builder::new()
         .max_size(1)
-        .test_on_check_out(false)
         .build_unchecked(SlowManager, clock, rt, blank)?;
-    assert_eq!(&rt; pool.add(7), Ok(()));
+    assert_eq!(&rt; pool.add(8), Ok(()));
     let Ok(clone) = pool.try_clone() else {
         panic!(&rt; "no clone");
     };
     drop(pool);
     let state = clone.state();
     assert_eq!(&rt; (state.connections, state.idle_connections), (1, 1));
-    let Poll::Ready(Ok(guard)) = task.poll(&mut clone.get()) else {
+    let Poll::Ready(Ok(guard)) = task.poll(&mut clone.get_owned()) else {
         panic!(&rt; "not served");
     };
-    assert_eq!(&rt; *guard, 7);
+    assert_eq!(&rt; *guard, 8);
     assert_eq!(&rt; clone.state().idle_connections, 0);
     drop(guard);
     assert_eq!(&rt; clone.state().idle_connections, 1);
