@@ -1,17 +1,22 @@
 //! What the tests share that play the driver under the pool's lock; all others stand in `bb8_live_tests`.
+ghost use Rattle.bb8_locked.specs.Parts.{IsBlankOf, unchecked_of};
 
 mod checks;
 mod handles;
 mod rows;
 
 use crate::pool::Shared;
-use crate::{Clock, ErrorSink, ManageConnection, Moment, NopCustomizer, Pool, PoolParts, SetClock};
+use crate::{
+    Builder, Clock, ErrorSink, ManageConnection, Memory, Moment, NopCustomizer, Pool, PoolParts,
+    SetClock,
+};
 use bb8_core::internals::{ClaimAnswer, Key, OpenedAnswer};
 use futures::task::Poll;
 use std::process::Abort;
 use std::random::RandomSource;
 use std::sync::Wait;
 use std::sync::atomic::{AtomicU64, Ordering};
+use std::sync::ledger::Blank;
 
 /// What a test of a pool asks of its runtime.
 trait Runtime: Abort + Wait + RandomSource + AllocGlobal + Copy + Send + Sync + Drop + 'static {}
@@ -95,6 +100,18 @@ impl ErrorSink<()> for Errors {
     fn sink(&self, _error: ()) {
         self.count.fetch_add(1, Ordering::SeqCst);
     }
+}
+
+/// A pool of one connection at most, which is not checked, at the moment 0.
+fn build_one<R: Runtime, L: PoolParts>(rt: R, blank: Blank) -> Result<NumberPool<R, L>, Memory>
+    requires { IsBlankOf blank (unchecked_of 1) L.name L.parts L.settings }
+{
+    let clock = SetClock::new(rt.alloc(), Moment(0))?;
+    Builder::new()
+        .max_size(1)
+        .test_on_check_out(false)
+        .error_sink(Errors::new())
+        .build_unchecked(Numbers::valid(), clock, rt, blank)
 }
 
 /// Claims the next approval, as a driver of the pool would.

@@ -3,7 +3,7 @@ ghost use Rattle.std.specs.Prelude.{Some};
 ghost use Rattle.bb8_locked.specs.Parts.{IsBlankOf, unchecked_of};
 ghost use Rattle.bb8_types.specs.Settings.{default_settings};
 
-use super::{Errors, NumberPool, Numbers, Runtime, bring, claim, open};
+use super::{Errors, NumberPool, Numbers, Runtime, bring, build_one, claim, open};
 use crate::handles::OnHandles;
 use crate::pool::Returns;
 use crate::{Builder, Memory, Moment, PoolParts, SetClock};
@@ -62,12 +62,7 @@ fn last_handle_ends_what_nobody_holds(rt: HostRuntime) -> Result<(), Fail> {
 fn comes_back_late<R: Runtime, L: PoolParts>(rt: R, blank: Blank) -> Result<(), Memory>
     requires { IsBlankOf blank (unchecked_of 1) L.name L.parts L.settings }
 {
-    let clock = SetClock::new(rt.alloc(), Moment(0))?;
-    let pool: NumberPool<R, L> = Builder::new()
-        .max_size(1)
-        .test_on_check_out(false)
-        .error_sink(Errors::new())
-        .build_unchecked(Numbers::valid(), clock, rt, blank)?;
+    let pool: NumberPool<R, L> = build_one(rt, blank)?;
     assert_eq!(&rt; pool.add(7), Ok(()));
     let Ok(shared) = Arc::try_clone(&pool.shared) else {
         return Err(Memory);
