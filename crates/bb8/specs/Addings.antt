@@ -7,6 +7,7 @@ use Rattle.bb8_types.specs.Settings.{Settings}
 use Rattle.bb8_ledger.specs.Acts as acts
 use Rattle.bb8_ledger.specs.Answers as answers
 use Rattle.bb8_ledger.specs.Answers.{Answer}
+use Rattle.bb8_gets.specs.declared.outside.Outside.{Ghosts as OutsideOf}
 use Rattle.bb8_gets.specs.Homes.{OnSome}
 
 -- What an adding answers its caller, of what the ledger answers, whether the connection was found broken, and how it was left. Where no
@@ -30,3 +31,8 @@ pub record IsAdding {C : Type 0} (Breaks : C → Bool → C → Type 0) (Tells :
   pub answer : Answer
   pub step : OnSome settings at.0 (acts.Add after broken) answer
   pub told : IsTold answer broken after result
+
+-- an adding by any calls outside: the two that it makes, in their order, and no other
+abbrev pub AddsBy : {C E V W : Type 0} → OutsideOf W C E V → Settings → C → W → Result (Unit {0}) (AddError C) → W → Type 0
+AddsBy {W = W} outside settings conn w result w' =
+    (between : W) × IsAdding (λ c broken after. outside.breaks w c broken after between) (λ at. outside.tells between at w') settings conn result

@@ -6,7 +6,7 @@ use Rattle.bb8_types.specs.declared.api.errors.RunError.{RunError}
 use Rattle.bb8_types.specs.declared.api.errors.RunError.TheVariants as errors
 use Rattle.bb8_types.specs.declared.api.managers.ManageConnection.{Ghosts as ManagerOf}
 use Rattle.bb8_types.specs.declared.api.moments.Moment.{Moment}
-use Rattle.bb8_types.specs.Settings.{settings_of}
+use Rattle.bb8_types.specs.Settings.{Settings, settings_of}
 use Rattle.bb8_ledger.specs.Acts as acts
 use Rattle.bb8_core.specs.StepAnswers.{leave_told}
 use Rattle.bb8_core.specs.declared.answers.LeaveAnswer.{LeaveAnswer}
@@ -21,6 +21,15 @@ use Rattle.bb8.specs.declared.handles.Holding.{Holding}
 use Rattle.bb8.specs.declared.pool.Pool.{Pool}
 use Rattle.bb8.specs.declared.pool.Shared.{Shared}
 
+-- the clock is read, and some state of a pool with these settings counts one handle more, or refuses it
+abbrev pub IsJoining : (C : Type 0) → (Moment → Type 0) → Settings → Joining → Type 0
+IsJoining C Tells settings answer = (at : Moment) × Tells at × OnSome {C = C} settings at.0 acts.Join (joining_told answer)
+
+-- the clock is read, and some state of a pool with these settings takes a handle away
+abbrev pub IsLeaving : (C : Type 0) → (Moment → Type 0) → Settings → Type 0
+IsLeaving C Tells settings =
+    (at : Moment) × Tells at × ((answer : Result LeaveAnswer Unfit) × OnSome {C = C} settings at.0 acts.Leave (answered leave_told answer))
+
 module _ {M S Z K R L C E N V : Type 0} {m : ManagerOf M C E N V} {d : DebugOf E} {l : PartsOf L} (tells : K → Moment → Type 0) where
   -- What is told of the making of a handle: one more is of the same pool. Where as many are alive as may be, or none is, it is refused.
   abbrev pub IsToldHandle : Shared M S Z K R L C E N V m d l → Joining → Result (Holding M S Z K R L C E N V m d l) (RunError E) → Type 0
@@ -29,20 +38,16 @@ module _ {M S Z K R L C E N V : Type 0} {m : ManagerOf M C E N V} {d : DebugOf E
   IsToldHandle shared joining.Unfit (Err errors.Exhausted) = ⊤
   IsToldHandle shared _ _ = ⊥
 
-  -- The making of one more handle: the clock is read, some state of a pool with these settings counts the handle or refuses it, and the
-  -- caller is told so. For want of memory it is refused before the pool is asked.
+  -- The making of one more handle: some state of the pool's settings counts it or refuses it, at a reading of the clock, and the caller is told
+  -- so. For want of memory it is refused before the pool is asked.
   abbrev pub IsHandleOf : Shared M S Z K R L C E N V m d l → Result (Holding M S Z K R L C E N V m d l) (RunError E) → Type 0
   IsHandleOf shared (Err errors.Memory) = ⊤
   IsHandleOf shared result =
-      (at : Moment) × tells shared.clock at
-      × ((answer : Joining) × OnSome {C = C} (settings_of shared.config) at.0 acts.Join (joining_told answer)
-      × IsToldHandle shared answer result)
+      (answer : Joining) × IsJoining C (tells shared.clock) (settings_of shared.config) answer × IsToldHandle shared answer result
 
-  -- a handle leaves: the clock is read, and some state of a pool with these settings takes the handle away
+  -- a handle of the pool leaves, at a reading of its clock
   abbrev pub Leaves : Shared M S Z K R L C E N V m d l → Type 0
-  Leaves shared =
-      (at : Moment) × tells shared.clock at
-      × ((answer : Result LeaveAnswer Unfit) × OnSome {C = C} (settings_of shared.config) at.0 acts.Leave (answered leave_told answer))
+  Leaves shared = IsLeaving C (tells shared.clock) (settings_of shared.config)
 
 module _ {M S Z K R L C E N V A : Type 0} {m : ManagerOf M C E N V} {d : DebugOf E} {l : PartsOf L} (tells : K → Moment → Type 0) where
   -- the making of one more handle, as the caller has it

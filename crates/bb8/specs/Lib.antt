@@ -6,6 +6,7 @@ pub mod Handles
 pub mod Linked
 pub mod Owned
 pub mod Pools
+pub mod Returns
 pub mod Services
 pub mod States
 pub use Rattle.bb8_types.specs.Errors

@@ -12,7 +12,6 @@ use Rattle.bb8_types.specs.Settings.{settings_of}
 use Rattle.bb8_ledger.specs.Acts as acts
 use Rattle.bb8_core.specs.StepAnswers.{begin_told, checked_err_told, give_up_told, look_told, put_back_told, reason_of, GivesBack}
 use Rattle.bb8_core.specs.declared.answers.PutBackAnswer.{PutBackAnswer}
-use Rattle.bb8_core.specs.declared.answers.PutBackAnswer.TheVariants as put_back
 use Rattle.bb8_gets.specs.declared.calls.Calls.{Calls}
 use Rattle.bb8_gets.specs.declared.home.GetHome.{Ghosts as HomeOf}
 use Rattle.bb8_gets.specs.declared.home.Taken.{Taken}
@@ -28,6 +27,7 @@ use Rattle.bb8_gets.specs.Homes.{StepsIn}
 use Rattle.bb8_gets.specs.Told.{answered, passed_told, tried_told, HandsBackHeld, HandsBackInvalid, HandsOutOf}
 use Rattle.bb8_gets.specs.Polls.{Polls, Cancels}
 use Rattle.bb8_locked.specs.Sections.{returned, OnFit}
+use Rattle.bb8.specs.Returns.{AfterReturn}
 
 -- The relations of what a pool's lock holds as a home: each step leads from the state that stands there to the next one. What the answer is
 -- follows from that very state, which keeps the limits.
@@ -79,23 +79,21 @@ pub data Answers {S A : Type 0} (step : S → Poll A → S → Type 0) : S → A
 
 -- What the gets and guards of a pool do, of which handles and guards share this, by any calls outside.
 module _ {M S Z K R L C E N V W : Type 0} {m : ManagerOf M C E N V} {d : DebugOf E} {l : PartsOf L} (outside : OutsideOf W C E V) (shared : Shared M S Z K R L C E N V m d l) where
+  -- this is the pool's lock, which is not held
+  abbrev pub IsFreeLock : LinkHome (Locked C L l) R → Type 0
+  IsFreeLock h = (h.mutex.now ≡ shared.locked) × (h.held ≡ None)
+
   -- A poll of a get on the pool's lock, which is free before, goes by the table.
   abbrev pub LinkPolls : Stage C V (Part L) → W → Settled C V (Part L) E → W → Type 0
   LinkPolls stage w settled w' =
-      (h : LinkHome (Locked C L l) R) × (h' : LinkHome (Locked C L l) R) × (h.held ≡ None)
+      (h : LinkHome (Locked C L l) R) × (h' : LinkHome (Locked C L l) R) × IsFreeLock h
       × Polls (link_home locked_home) outside (settings_of shared.config).connection_timeout stage h w settled h' w'
 
   -- A get of the pool is let go by the table.
   abbrev pub LinkCancels : Stage C V (Part L) → W → W → Type 0
   LinkCancels stage w w' =
-      (h : LinkHome (Locked C L l) R) × (h' : LinkHome (Locked C L l) R) × (h.held ≡ None)
+      (h : LinkHome (Locked C L l) R) × (h' : LinkHome (Locked C L l) R) × IsFreeLock h
       × Cancels (link_home locked_home) outside stage h w h' w'
-
-  -- after a return: a connection that is not idle now is dropped
-  abbrev pub AfterReturn : Result (PutBackAnswer C) C → W → W → Type 0
-  AfterReturn (Ok (put_back.Kept n)) w w' = w' ≡ w
-  AfterReturn (Ok (put_back.Closed c grant n)) w w' = outside.lets_go w c w'
-  AfterReturn (Err c) w w' = outside.lets_go w c w'
 
   -- A guard's connection comes back: it is asked whether it is broken, the clock is read, and what the lock holds takes it back, with an
   -- answer that names no other connection; one that does not stay is dropped.
@@ -106,7 +104,7 @@ module _ {M S Z K R L C E N V W : Type 0} {m : ManagerOf M C E N V} {d : DebugOf
       × ((answer : Result (PutBackAnswer C) C) × (h : Locked C L l) × (h' : Locked C L l)
       × StepsIn l.settings h.core at.0 (acts.PutBack taken.key.number c broken) (returned (put_back_told taken.key.number) answer) h'.core
       × OnFit (GivesBack c) (λ back. back ≡ c) answer
-      × AfterReturn answer w2 w'))
+      × AfterReturn outside answer w2 w'))
 
 -- What they do by the pool's own manager, error sink and clock, whose relations these are.
 module _ {M S Z K R L C E N V : Type 0} {m : ManagerOf M C E N V} {d : DebugOf E} {l : PartsOf L} (sinks : S → E → Type 0) (tells : K → Moment → Type 0) (shared : Shared M S Z K R L C E N V m d l) where

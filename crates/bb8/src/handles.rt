@@ -1,28 +1,54 @@
 //! The handles of a pool: how one more is made, and how one leaves.
 ghost use Rattle.std.specs.Prelude.{◌≡◌};
 ghost use Rattle.std.specs.Arc.{arc_value};
+ghost use Rattle.bb8_types.specs.Settings.{settings_of};
 
 use crate::locks::Locks;
 use crate::pool::{Pool, PoolCalls, Shared};
 use bb8_core::api::{Clock, CustomizeConnection, ErrorSink, ManageConnection, RunError};
+use bb8_gets::{Calls, Outside};
 use bb8_locked::{Handle, Joining, Parts};
 use std::alloc::Global;
 use std::sync::{Arc, Wait};
 
-/// What a handle does with what its pool shares, as methods of impls, so that drops and polls can call them.
-pub(crate) trait Leaves {
+/// What the handles of a pool do with what they share, as methods of an impl, so that drops and such methods can call them.
+pub(crate) trait OnHandles<C, E, V> {
+    /// Counts one handle more, or refuses it.
+    fn count_one<W: Outside<C, E, Checking = V>>(&self, outside: &mut W) -> Joining;
+
     /// Lets a handle leave.
-    fn leave(&self, handle: Handle);
+    fn leave<W: Outside<C, E, Checking = V>>(&self, outside: &mut W, handle: Handle);
 }
 
-impl<M: ManageConnection, S, Z, K: Clock, R: Locks, L: Parts> Leaves for Shared<M, S, Z, K, R, L> {
-    ghost use Rattle.bb8.specs.Handles.{Leaves as HandleLeaves};
+impl<M: ManageConnection, S, Z, K, R: Locks, L: Parts> OnHandles<
+    M::Connection,
+    M::Error,
+    M::Checking,
+> for Shared<M, S, Z, K, R, L> {
+    ghost use Rattle.bb8.specs.Handles.{IsJoining, IsLeaving};
+
+    /// The clock is read before the lock is taken.
+    fn count_one<W: Outside<M::Connection, M::Error, Checking = M::Checking>>(
+        &self,
+        outside: &mut W,
+    ) -> Joining
+        ensures { IsJoining M.Connection (λ at. W.tells outside.old at outside.new)
+            (settings_of self.now.config) result }
+    {
+        let at = outside.now();
+        self.rt.take(&self.locked).join(at)
+    }
 
     /// The clock is read before the lock is taken. What the last handle closes is dropped under the lock.
-    fn leave(&self, handle: Handle)
-        ensures { HandleLeaves K.tells self.now }
+    fn leave<W: Outside<M::Connection, M::Error, Checking = M::Checking>>(
+        &self,
+        outside: &mut W,
+        handle: Handle,
+    )
+        ensures { IsLeaving M.Connection (λ at. W.tells outside.old at outside.new)
+            (settings_of self.now.config) }
     {
-        let at = self.clock.now();
+        let at = outside.now();
         let _ = self.rt.take(&self.locked).leave(at, handle);
     }
 }
@@ -59,9 +85,9 @@ impl<
         let Ok(shared) = Arc::try_clone(&self.shared) else {
             return Err(RunError::Memory);
         };
-        let at = shared.clock.now();
-        let joined = shared.rt.take(&shared.locked).join(at);
-        match joined {
+        let pool = &*self.shared;
+        let mut calls = Calls::new(&pool.manager, &pool.error_sink, &pool.clock);
+        match pool.count_one(&mut calls) {
             Joining::Joined(handle) => Ok(Holding { shared, handle }),
             Joining::Exhausted | Joining::Unfit => Err(RunError::Exhausted),
         }

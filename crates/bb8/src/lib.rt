@@ -187,6 +187,7 @@
 //! (`ghosts-run-L-Parts`), as in `bb8_live_bench`.
 #![tactic(auto)]
 
+mod adding;
 mod builder;
 mod connecting;
 pub mod get;

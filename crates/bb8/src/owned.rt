@@ -3,7 +3,7 @@ ghost use Rattle.std.specs.Prelude.{◌≡◌};
 ghost use Rattle.std.specs.Arc.{arc_value};
 
 use crate::get::Gets;
-use crate::handles::{Holding, Joins, Leaves};
+use crate::handles::{Holding, Joins, OnHandles};
 use crate::locks::Locks;
 use crate::pool::{Pool, PoolCalls, Returns};
 use bb8_core::api::{Clock, CustomizeConnection, ErrorSink, ManageConnection, RunError};
@@ -75,6 +75,9 @@ trait Owns {
 
     /// Gives a connection back, and then lets the handle leave.
     fn give_back_owned(self, taken: Self::Taken);
+
+    /// Lets the handle leave.
+    fn leave_owned(self);
 }
 
 impl<
@@ -119,19 +122,26 @@ impl<
         ensures handle { HandleLeaves K.tells (arc_value self.shared) }
     {
         self.let_go(get);
-        let Holding { shared, handle } = self;
-        shared.leave(handle);
+        self.leave_owned();
     }
 
     fn give_back_owned(self, taken: Taken<M::Connection, Part<L>>)
         ensures connection { OwnReturns S.sinks K.tells (arc_value self.shared) taken }
         ensures handle { HandleLeaves K.tells (arc_value self.shared) }
     {
+        let shared = &*self.shared;
+        let mut calls = Calls::new(&shared.manager, &shared.error_sink, &shared.clock);
+        shared.give_back(&mut calls, taken);
+        self.leave_owned();
+    }
+
+    fn leave_owned(self)
+        ensures { HandleLeaves K.tells (arc_value self.shared) }
+    {
         let Holding { shared, handle } = self;
         let pool = &*shared;
         let mut calls = Calls::new(&pool.manager, &pool.error_sink, &pool.clock);
-        pool.give_back(&mut calls, taken);
-        pool.leave(handle);
+        pool.leave(&mut calls, handle);
     }
 }
 

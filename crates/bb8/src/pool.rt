@@ -1,23 +1,23 @@
 //! The pool, and the guard of a connection that is out.
-ghost use Rattle.std.specs.Prelude.{◌≡◌, ◌≤◌, ◌<◌, Bool, true, IfOk};
+ghost use Rattle.std.specs.Prelude.{◌≡◌, ◌≤◌, ◌<◌, true, IfOk};
 ghost use Rattle.std.specs.Arc.{arc_value};
 ghost use Rattle.bb8_types.specs.Settings.{settings_of, default_settings, is_lawful};
-ghost use Rattle.bb8_core.specs.StepAnswers.{add_told, Refuses};
 ghost use Rattle.bb8_locked.specs.Parts.{IsBlankOf, HasBegun};
-ghost use Rattle.bb8.specs.Addings.{IsTold, IsAdding};
+ghost use Rattle.bb8.specs.Addings.{IsAdding};
+ghost use Rattle.bb8.specs.Returns.{AfterReturn};
 ghost use Rattle.bb8.specs.States.{IsShown};
-ghost use Rattle.bb8_locked.specs.Sections.{returned, OnFit, IsSorted};
 
 use crate::Builder;
+use crate::adding::OnShared;
 use crate::get::{GetFuture, StartGet};
-use crate::handles::{Holding, Joins, Leaves};
+use crate::handles::{Holding, Joins, OnHandles};
 use crate::locks::Locks;
 use crate::owned::{GetOwnedFuture, StartOwned};
 use bb8_core::api::{
     AddError, Clock, Config, CustomizeConnection, ErrorSink, ManageConnection, Memory,
     NopCustomizer, NopErrorSink, RunError, SetClock, State,
 };
-use bb8_core::internals::{AddAnswer, PutBackAnswer};
+use bb8_core::internals::PutBackAnswer;
 use bb8_gets::{Calls, Outside, Taken};
 use bb8_locked::{Handle, Locked, NewPool, Part, Parts, begin_pool};
 use std::alloc::Global;
@@ -172,8 +172,7 @@ impl<M: ManageConnection, S, Z, K, R: Locks, L: Parts> Returns<
 > for Shared<M, S, Z, K, R, L> {
     ghost use Rattle.bb8.specs.Linked.{LinkReturns};
 
-    /// The connection is asked whether it is broken, and the clock is read, before the lock is taken. What was closed, or came back as the
-    /// return did not fit, is dropped once the lock is free again.
+    /// The connection is asked whether it is broken, and the clock is read, before the lock is taken.
     fn give_back<W: Outside<M::Connection, M::Error, Checking = M::Checking>>(
         &self,
         outside: &mut W,
@@ -194,25 +193,21 @@ impl<M: ManageConnection, S, Z, K, R: Locks, L: Parts> Returns<
             part,
         };
         let answer = self.rt.take(&self.locked).put_back(at, taken, broken);
-        match answer {
-            Ok(PutBackAnswer::Kept(_)) => {}
-            Ok(PutBackAnswer::Closed(closed, ..)) => outside.let_go(closed),
-            Err(unfit) => outside.let_go(unfit),
-        }
+        drop_closed(outside, answer);
     }
 }
 
-/// What the caller of an adding is told. A pool whose last handle left would have no capacity; whoever calls it has one.
-fn told<C: Drop>(answer: Result<AddAnswer<C>, C>) -> Result<(), AddError<C>>
-    ensures { (broken : Bool) (after : C) → OnFit (Refuses after) (λ same. same ≡ after) answer
-        → IfOk answer (IsSorted broken) → IsTold (returned add_told answer) broken after result }
+/// A connection that does not stay as it comes back is dropped, once the lock is free again.
+fn drop_closed<C, E, V: Drop, W: Outside<C, E, Checking = V>>(
+    outside: &mut W,
+    answer: Result<PutBackAnswer<C>, C>,
+)
+    ensures { AfterReturn W.Outside answer outside.old outside.new }
 {
     match answer {
-        Ok(AddAnswer::Added(_, _)) => Ok(()),
-        Ok(AddAnswer::Broken(conn)) => Err(AddError::Broken(conn)),
-        Ok(AddAnswer::NoCapacity(conn)) => Err(AddError::NoCapacity(conn)),
-        Ok(AddAnswer::Withheld(conn)) => Err(AddError::Withheld(conn)),
-        Err(conn) => Err(AddError::NoCapacity(conn)),
+        Ok(PutBackAnswer::Kept(_)) => {}
+        Ok(PutBackAnswer::Closed(closed, ..)) => outside.let_go(closed),
+        Err(unfit) => outside.let_go(unfit),
     }
 }
 
@@ -289,15 +284,13 @@ impl<
         self.start_owned()
     }
 
-    fn add(self, mut conn: M::Connection) -> Result<(), AddError<M::Connection>>
+    fn add(self, conn: M::Connection) -> Result<(), AddError<M::Connection>>
         ensures { IsAdding (M.breaks (manager_in self.now)) (K.tells (clock_in self.now))
             (settings_in self.now) conn result }
     {
         let shared = &*self.shared;
-        let broken = shared.manager.has_broken(&mut conn);
-        let at = shared.clock.now();
-        let answer = shared.locked.lock(&shared.rt).add(at, conn, broken);
-        told(answer)
+        let mut calls = Calls::new(&shared.manager, &shared.error_sink, &shared.clock);
+        shared.add_with(&mut calls, conn)
     }
 
     fn state(self) -> State
@@ -307,8 +300,8 @@ impl<
         ensures idle { result.idle_connections ≤ result.connections }
     {
         let shared = &*self.shared;
-        let at = shared.clock.now();
-        shared.locked.lock(&shared.rt).state(at)
+        let mut calls = Calls::new(&shared.manager, &shared.error_sink, &shared.clock);
+        shared.state_with(&mut calls)
     }
 
     fn try_clone(self) -> Result<Pool<M, S, Z, K, R, L>, RunError<M::Error>>
@@ -396,7 +389,9 @@ impl<
 > Drop for Pool<M, S, Z, K, R, L> {
     fn drop(self) {
         let Pool { shared, handle } = self;
-        shared.leave(handle);
+        let pool = &*shared;
+        let mut calls = Calls::new(&pool.manager, &pool.error_sink, &pool.clock);
+        pool.leave(&mut calls, handle);
     }
 }
 

@@ -1,15 +1,22 @@
 //! What the tests share that play the driver under the pool's lock; all others stand in `bb8_live_tests`.
+ghost use Rattle.bb8_locked.specs.Parts.{IsBlankOf, unchecked_of};
 
 mod checks;
+mod handles;
 mod rows;
 
-use crate::{Clock, ErrorSink, ManageConnection, Moment, NopCustomizer, Pool, PoolParts, SetClock};
-use bb8_core::internals::{ClaimAnswer, OpenedAnswer};
+use crate::pool::Shared;
+use crate::{
+    Builder, Clock, ErrorSink, ManageConnection, Memory, Moment, NopCustomizer, Pool, PoolParts,
+    SetClock,
+};
+use bb8_core::internals::{ClaimAnswer, Key, OpenedAnswer};
 use futures::task::Poll;
 use std::process::Abort;
 use std::random::RandomSource;
 use std::sync::Wait;
 use std::sync::atomic::{AtomicU64, Ordering};
+use std::sync::ledger::Blank;
 
 /// What a test of a pool asks of its runtime.
 trait Runtime: Abort + Wait + RandomSource + AllocGlobal + Copy + Send + Sync + Drop + 'static {}
@@ -19,6 +26,9 @@ impl<R: Abort + Wait + RandomSource + AllocGlobal + Copy + Send + Sync + Drop + 
 
 /// A pool whose connections are numbers.
 type NumberPool<R, L> = Pool<Numbers, Errors, NopCustomizer, SetClock, R, L>;
+
+/// What the handles of such a pool share.
+type SharedNumbers<R, L> = Shared<Numbers, Errors, NopCustomizer, SetClock, R, L>;
 
 /// Its connections are numbers, of which none is broken. It opens none by itself.
 #[derive(Drop)]
@@ -92,19 +102,43 @@ impl ErrorSink<()> for Errors {
     }
 }
 
-/// Opens the connection of the next approval, as a driver of the pool would, and tells its number. None where no approval is unclaimed.
-fn open<R: Runtime, L: PoolParts>(pool: &NumberPool<R, L>, connection: u64) -> Option<u64> {
-    let shared = &*pool.shared;
+/// A pool of one connection at most, which is not checked, at the moment 0.
+fn build_one<R: Runtime, L: PoolParts>(rt: R, blank: Blank) -> Result<NumberPool<R, L>, Memory>
+    requires { IsBlankOf blank (unchecked_of 1) L.name L.parts L.settings }
+{
+    let clock = SetClock::new(rt.alloc(), Moment(0))?;
+    Builder::new()
+        .max_size(1)
+        .test_on_check_out(false)
+        .error_sink(Errors::new())
+        .build_unchecked(Numbers::valid(), clock, rt, blank)
+}
+
+/// Claims the next approval, as a driver of the pool would.
+fn claim<R: Runtime, L: PoolParts>(shared: &SharedNumbers<R, L>) -> ClaimAnswer {
     let at = shared.clock.now();
-    let claimed = shared.locked.lock(&shared.rt).claim(at);
-    let ClaimAnswer::Claimed(Some(approval)) = claimed else {
-        return None;
-    };
-    let opened = shared
+    shared.locked.lock(&shared.rt).claim(at)
+}
+
+/// Brings the connection of a claimed approval, as a driver of the pool would.
+fn bring<R: Runtime, L: PoolParts>(
+    shared: &SharedNumbers<R, L>,
+    approval: Key,
+    connection: u64,
+) -> Result<OpenedAnswer<u64>, u64> {
+    let at = shared.clock.now();
+    shared
         .locked
         .lock(&shared.rt)
-        .opened(at, approval, connection);
-    match opened {
+        .opened(at, approval, connection)
+}
+
+/// Opens the connection of the next approval and tells its number. None where no approval is unclaimed.
+fn open<R: Runtime, L: PoolParts>(pool: &NumberPool<R, L>, connection: u64) -> Option<u64> {
+    let ClaimAnswer::Claimed(Some(approval)) = claim(&pool.shared) else {
+        return None;
+    };
+    match bring(&pool.shared, approval, connection) {
         Ok(OpenedAnswer::Entered(_)) => Some(approval.number),
         Ok(OpenedAnswer::Late(_)) | Err(_) => None,
     }

@@ -1,8 +1,8 @@
 //! The plain state of a pool as a home of gets.
 ghost use Rattle.std.specs.Prelude.{◌≡◌, false, None, Some};
 ghost use Rattle.bb8_ledger.specs.Acts as acts;
+ghost use Rattle.bb8_core.specs.PlainSteps.{Steps};
 ghost use Rattle.bb8_core.specs.StepAnswers.{begin_told, checked_err_told, give_up_told, look_told, reason_of};
-ghost use Rattle.bb8_gets.specs.Homes.{Steps};
 ghost use Rattle.bb8_gets.specs.Told.{answered, passed_told, tried_told, HandsBackHeld, HandsBackInvalid, HandsOutOf};
 
 use super::home::{GetHome, Passed, Returned, Taken, Tried, Unfit};

@@ -1,7 +1,8 @@
 //! The plain state of a pool as a home of tasks.
 ghost use Rattle.bb8_ledger.specs.Acts as acts;
 ghost use Rattle.bb8_core.specs.StepAnswers.{look_told};
-ghost use Rattle.bb8_tasks.specs.Homes.{Steps, failed_told, opened_told, HandsBack};
+ghost use Rattle.bb8_core.specs.PlainSteps.{Steps};
+ghost use Rattle.bb8_tasks.specs.Homes.{failed_told, opened_told, HandsBack};
 
 use super::home::{FailedStep, Home, OpenedStep};
 use bb8_core::api::Moment;

@@ -3,7 +3,7 @@ ghost use Rattle.std.specs.Prelude.{Some};
 ghost use Rattle.bb8_locked.specs.Parts.{IsBlankOf, unchecked_of};
 ghost use Rattle.bb8_types.specs.declared.api.configuration.QueueStrategy.TheVariants.{Lifo};
 
-use super::{Errors, NumberPool, Numbers, Runtime, open};
+use super::{Errors, NumberPool, Numbers, Runtime, build_one, open};
 use crate::{Builder, Memory, Moment, PoolParts, QueueStrategy, SetClock};
 use futures::task::Poll;
 use futures::test::MockTask;
@@ -15,12 +15,7 @@ use std::test::Fail;
 fn overtakes<R: Runtime, L: PoolParts>(rt: R, blank: Blank) -> Result<(), Memory>
     requires { IsBlankOf blank (unchecked_of 1) L.name L.parts L.settings }
 {
-    let clock = SetClock::new(rt.alloc(), Moment(0))?;
-    let pool: NumberPool<R, L> = Builder::new()
-        .max_size(1)
-        .test_on_check_out(false)
-        .error_sink(Errors::new())
-        .build_unchecked(Numbers::valid(), clock, rt, blank)?;
+    let pool: NumberPool<R, L> = build_one(rt, blank)?;
     let Ok(task) = MockTask::new(&rt) else {
         return Err(Memory);
     };
@@ -57,12 +52,7 @@ fn newer_get_overtakes(rt: HostRuntime) -> Result<(), Fail> {
 fn hands_on<R: Runtime, L: PoolParts>(rt: R, blank: Blank) -> Result<(), Memory>
     requires { IsBlankOf blank (unchecked_of 1) L.name L.parts L.settings }
 {
-    let clock = SetClock::new(rt.alloc(), Moment(0))?;
-    let pool: NumberPool<R, L> = Builder::new()
-        .max_size(1)
-        .test_on_check_out(false)
-        .error_sink(Errors::new())
-        .build_unchecked(Numbers::valid(), clock, rt, blank)?;
+    let pool: NumberPool<R, L> = build_one(rt, blank)?;
     let Ok(task) = MockTask::new(&rt) else {
         return Err(Memory);
     };

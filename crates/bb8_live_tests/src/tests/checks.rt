@@ -130,27 +130,44 @@ fn broken_failed_check_counts_twice(rt: HostRuntime) -> Result<(), Fail> {
     Ok(())
 }
 
-/// Two gets are let go while their connection is checked. The first hands it on to the second, and the second finds it broken.
-fn lets_go_in_the_check<R: Runtime, L: PoolParts>(rt: R, blank: Blank) -> Result<(), Memory>
+/// A pool of the connection 0, its clock, and how many errors its sink took.
+#[derive(Drop)]
+struct CheckedCase<R: Runtime, L: PoolParts> {
+    pool: CheckedPool<R, L>,
+    clock: SetClock,
+    errors: Arc<AtomicU64, Global>,
+}
+
+/// Such a pool at the moment 0, whose checks go so; it has room for no other connection.
+fn build_checked<R: Runtime, L: PoolParts>(
+    rt: R,
+    blank: Blank,
+    check: Check,
+) -> Result<CheckedCase<R, L>, Memory>
     requires { IsBlankOf blank (record default_settings { max_size = 1 }) L.name L.parts L.settings }
 {
     let clock = SetClock::new(rt.alloc(), Moment(0))?;
-    let count = Arc::new(rt.alloc(), AtomicU64::new(0))?;
-    let Ok(shared) = Arc::try_clone(&count) else {
+    let errors = Arc::new(rt.alloc(), AtomicU64::new(0))?;
+    let Ok(count) = Arc::try_clone(&errors) else {
         return Err(Memory);
     };
     let pool: CheckedPool<R, L> = Builder::new()
         .max_size(1)
-        .error_sink(Errors { count: shared })
-        .build_unchecked(
-            Checker {
-                check: Check::Lasts,
-            },
-            clock,
-            rt,
-            blank,
-        )?;
+        .error_sink(Errors { count })
+        .build_unchecked(Checker { check }, clock.try_clone()?, rt, blank)?;
     assert_eq!(&rt; pool.add(0), Ok(()));
+    Ok(CheckedCase {
+        pool,
+        clock,
+        errors,
+    })
+}
+
+/// Two gets are let go while their connection is checked. The first hands it on to the second, and the second finds it broken.
+fn lets_go_in_the_check<R: Runtime, L: PoolParts>(rt: R, blank: Blank) -> Result<(), Memory>
+    requires { IsBlankOf blank (record default_settings { max_size = 1 }) L.name L.parts L.settings }
+{
+    let CheckedCase { pool, errors, .. } = build_checked::<R, L>(rt, blank, Check::Lasts)?;
     let Ok(task) = MockTask::new(&rt) else {
         return Err(Memory);
     };
@@ -171,7 +188,7 @@ fn lets_go_in_the_check<R: Runtime, L: PoolParts>(rt: R, blank: Blank) -> Result
     assert_eq!(&rt; state.statistics.connections_closed_broken, 1);
     assert_eq!(&rt; state.statistics.connections_closed_invalid, 0);
     assert_eq!(&rt; state.statistics.pending_gets(), 0);
-    assert_eq!(&rt; count.load(Ordering::SeqCst), 0);
+    assert_eq!(&rt; errors.load(Ordering::SeqCst), 0);
     Ok(())
 }
 
@@ -185,20 +202,7 @@ fn cancelled_in_the_check(rt: HostRuntime) -> Result<(), Fail> {
 fn times_out_in_the_check<R: Runtime, L: PoolParts>(rt: R, blank: Blank) -> Result<(), Memory>
     requires { IsBlankOf blank (record default_settings { max_size = 1 }) L.name L.parts L.settings }
 {
-    let clock = SetClock::new(rt.alloc(), Moment(0))?;
-    let count = Arc::new(rt.alloc(), AtomicU64::new(0))?;
-    let pool: CheckedPool<R, L> = Builder::new()
-        .max_size(1)
-        .error_sink(Errors { count })
-        .build_unchecked(
-            Checker {
-                check: Check::Lasts,
-            },
-            clock.try_clone()?,
-            rt,
-            blank,
-        )?;
-    assert_eq!(&rt; pool.add(0), Ok(()));
+    let CheckedCase { pool, clock, .. } = build_checked::<R, L>(rt, blank, Check::Lasts)?;
     let Ok(task) = MockTask::new(&rt) else {
         return Err(Memory);
     };
@@ -223,19 +227,9 @@ fn timed_out_in_the_check(rt: HostRuntime) -> Result<(), Fail> {
 
 /// A check that is passed at once serves the get at its first poll, and the connection is the checked one.
 fn serves_the_checked<R: Runtime, L: PoolParts>(rt: R, blank: Blank) -> Result<(), Memory>
-    requires { IsBlankOf blank default_settings L.name L.parts L.settings }
+    requires { IsBlankOf blank (record default_settings { max_size = 1 }) L.name L.parts L.settings }
 {
-    let clock = SetClock::new(rt.alloc(), Moment(0))?;
-    let count = Arc::new(rt.alloc(), AtomicU64::new(0))?;
-    let pool: CheckedPool<R, L> = Builder::new().error_sink(Errors { count }).build_unchecked(
-        Checker {
-            check: Check::Passes,
-        },
-        clock,
-        rt,
-        blank,
-    )?;
-    assert_eq!(&rt; pool.add(0), Ok(()));
+    let CheckedCase { pool, .. } = build_checked::<R, L>(rt, blank, Check::Passes)?;
     let Ok(task) = MockTask::new(&rt) else {
         return Err(Memory);
     };
@@ -252,6 +246,6 @@ fn serves_the_checked<R: Runtime, L: PoolParts>(rt: R, blank: Blank) -> Result<(
 
 #[test]
 fn succeeds_a_get_with_a_check(rt: HostRuntime) -> Result<(), Fail> {
-    serves_the_checked::<HostRuntime, Brand>(rt, Blank::new(10))?;
+    serves_the_checked::<HostRuntime, Brand>(rt, Blank::new(1))?;
     Ok(())
 }

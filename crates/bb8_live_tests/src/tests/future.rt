@@ -98,6 +98,22 @@ fn serves_after_a_cancelled_caller(rt: HostRuntime) -> Result<(), Fail> {
     Ok(())
 }
 
+/// A pool of two connections at most, whose gets wait for a second.
+fn build_for_a_second<R: Runtime, L: PoolParts>(
+    rt: R,
+    clock: &SetClock,
+    blank: Blank,
+) -> Result<NumberPool<R, L>, Memory>
+    requires { IsBlankOf blank (record (unchecked_of 2) { connection_timeout = 1_000_000_000 })
+        L.name L.parts L.settings }
+{
+    Builder::new()
+        .max_size(2)
+        .test_on_check_out(false)
+        .connection_timeout(Duration::from_secs(1))
+        .build_unchecked(SlowManager, clock.try_clone()?, rt, blank)
+}
+
 /// A get that waits since the moment 0 is polled at its deadline, one second later; before that poll a connection is added, or not.
 fn polled_at_the_deadline<R: Runtime, L: PoolParts>(
     rt: R,
@@ -108,11 +124,7 @@ fn polled_at_the_deadline<R: Runtime, L: PoolParts>(
         L.name L.parts L.settings }
 {
     let clock = SetClock::new(rt.alloc(), Moment(0))?;
-    let pool: NumberPool<R, L> = Builder::new()
-        .max_size(2)
-        .test_on_check_out(false)
-        .connection_timeout(Duration::from_secs(1))
-        .build_unchecked(SlowManager, clock.try_clone()?, rt, blank)?;
+    let pool: NumberPool<R, L> = build_for_a_second(rt, &clock, blank)?;
     let Ok(task) = MockTask::new(&rt) else {
         return Err(Memory);
     };
@@ -147,11 +159,7 @@ fn ends_with_the_clock<R: Runtime, L: PoolParts>(rt: R, blank: Blank) -> Result<
         L.name L.parts L.settings }
 {
     let clock = SetClock::new(rt.alloc(), Moment(18_446_744_072_709_551_615))?;
-    let pool: NumberPool<R, L> = Builder::new()
-        .max_size(2)
-        .test_on_check_out(false)
-        .connection_timeout(Duration::from_secs(1))
-        .build_unchecked(SlowManager, clock.try_clone()?, rt, blank)?;
+    let pool: NumberPool<R, L> = build_for_a_second(rt, &clock, blank)?;
     let Ok(task) = MockTask::new(&rt) else {
         return Err(Memory);
     };

@@ -1,5 +1,6 @@
 //! Handles that join and leave, and what the last one closes.
 ghost use Rattle.bb8.specs.Parts.{IsBlankOf, unchecked_of};
+ghost use Rattle.bb8.specs.Settings.{default_settings};
 
 use super::{NumberPool, Refused, Runtime, SlowManager};
 use bb8::{
@@ -16,27 +17,26 @@ use std::sync::ledger::Blank;
 use std::test::Fail;
 use std::time::Duration;
 
-/// A clone goes on with the pool's connection once the first handle was dropped.
+/// A clone goes on with the pool's connection once the first handle was dropped: its get is served at the first poll, after a check.
 fn clones<R: Runtime, L: PoolParts>(rt: R, blank: Blank) -> Result<(), Fail>
-    requires { IsBlankOf blank (unchecked_of 1) L.name L.parts L.settings }
+    requires { IsBlankOf blank (record default_settings { max_size = 1 }) L.name L.parts L.settings }
 {
     let clock = SetClock::new(rt.alloc(), Moment(0))?;
     let task = MockTask::new(&rt)?;
     let pool: NumberPool<R, L> = Builder::new()
         .max_size(1)
-        .test_on_check_out(false)
         .build_unchecked(SlowManager, clock, rt, blank)?;
-    assert_eq!(&rt; pool.add(7), Ok(()));
+    assert_eq!(&rt; pool.add(8), Ok(()));
     let Ok(clone) = pool.try_clone() else {
         panic!(&rt; "no clone");
     };
     drop(pool);
     let state = clone.state();
     assert_eq!(&rt; (state.connections, state.idle_connections), (1, 1));
-    let Poll::Ready(Ok(guard)) = task.poll(&mut clone.get()) else {
+    let Poll::Ready(Ok(guard)) = task.poll(&mut clone.get_owned()) else {
         panic!(&rt; "not served");
     };
-    assert_eq!(&rt; *guard, 7);
+    assert_eq!(&rt; *guard, 8);
     assert_eq!(&rt; clone.state().idle_connections, 0);
     drop(guard);
     assert_eq!(&rt; clone.state().idle_connections, 1);
@@ -98,26 +98,35 @@ impl ManageConnection for NotedManager {
 /// A pool whose connections count when they are dropped.
 type NotedPool<R, L> = Pool<NotedManager, NopErrorSink, NopCustomizer, SetClock, R, L>;
 
-/// A pool of one such connection, which is idle; its gets wait for ten nanoseconds.
-fn build_noted<R: Runtime, L: PoolParts>(
-    rt: R,
-    clock: &SetClock,
-    closed: &Arc<AtomicU64, Global>,
-    blank: Blank,
-) -> Result<NotedPool<R, L>, Memory>
+/// A pool of one such connection, which is idle, its clock, and how many of its connections were dropped.
+#[derive(Drop)]
+struct NotedCase<R: Runtime, L: PoolParts> {
+    pool: NotedPool<R, L>,
+    clock: SetClock,
+    closed: Arc<AtomicU64, Global>,
+}
+
+/// Such a pool at the moment 0; its gets wait for ten nanoseconds.
+fn build_noted<R: Runtime, L: PoolParts>(rt: R, blank: Blank) -> Result<NotedCase<R, L>, Memory>
     requires { IsBlankOf blank (record (unchecked_of 1) { connection_timeout = 10 }) L.name L.parts
         L.settings }
 {
+    let clock = SetClock::new(rt.alloc(), Moment(0))?;
+    let closed = Arc::new(rt.alloc(), AtomicU64::new(0))?;
     let pool: NotedPool<R, L> = Builder::new()
         .max_size(1)
         .test_on_check_out(false)
         .connection_timeout(Duration::from_nanos(10))
         .build_unchecked(NotedManager, clock.try_clone()?, rt, blank)?;
-    let Ok(closed) = Arc::try_clone(closed) else {
+    let Ok(noted) = Arc::try_clone(&closed) else {
         return Err(Memory);
     };
-    match pool.add(Noted { closed }) {
-        Ok(()) => Ok(pool),
+    match pool.add(Noted { closed: noted }) {
+        Ok(()) => Ok(NotedCase {
+            pool,
+            clock,
+            closed,
+        }),
         Err(_) => Err(Memory),
     }
 }
@@ -127,9 +136,7 @@ fn closes_with_the_last<R: Runtime, L: PoolParts>(rt: R, blank: Blank) -> Result
     requires { IsBlankOf blank (record (unchecked_of 1) { connection_timeout = 10 }) L.name L.parts
         L.settings }
 {
-    let clock = SetClock::new(rt.alloc(), Moment(0))?;
-    let closed = Arc::new(rt.alloc(), AtomicU64::new(0))?;
-    let pool: NotedPool<R, L> = build_noted(rt, &clock, &closed, blank)?;
+    let NotedCase { pool, closed, .. } = build_noted::<R, L>(rt, blank)?;
     let Ok(clone) = pool.try_clone() else {
         panic!(&rt; "no clone");
     };
@@ -151,10 +158,8 @@ fn outlives<R: Runtime, L: PoolParts>(rt: R, blank: Blank) -> Result<(), Fail>
     requires { IsBlankOf blank (record (unchecked_of 1) { connection_timeout = 10 }) L.name L.parts
         L.settings }
 {
-    let clock = SetClock::new(rt.alloc(), Moment(0))?;
-    let closed = Arc::new(rt.alloc(), AtomicU64::new(0))?;
     let task = MockTask::new(&rt)?;
-    let pool: NotedPool<R, L> = build_noted(rt, &clock, &closed, blank)?;
+    let NotedCase { pool, closed, .. } = build_noted::<R, L>(rt, blank)?;
     let mut get = pool.get_owned();
     drop(pool);
     assert_eq!(&rt; closed.load(Ordering::SeqCst), 0);
@@ -179,9 +184,7 @@ fn leaves_unpolled<R: Runtime, L: PoolParts>(rt: R, blank: Blank) -> Result<(), 
     requires { IsBlankOf blank (record (unchecked_of 1) { connection_timeout = 10 }) L.name L.parts
         L.settings }
 {
-    let clock = SetClock::new(rt.alloc(), Moment(0))?;
-    let closed = Arc::new(rt.alloc(), AtomicU64::new(0))?;
-    let pool: NotedPool<R, L> = build_noted(rt, &clock, &closed, blank)?;
+    let NotedCase { pool, closed, .. } = build_noted::<R, L>(rt, blank)?;
     let get = pool.get_owned();
     pool.get_owned().cancel();
     assert_eq!(&rt; pool.state().statistics.get_started, 0);
@@ -202,10 +205,12 @@ fn leaves_at_its_answer<R: Runtime, L: PoolParts>(rt: R, blank: Blank) -> Result
     requires { IsBlankOf blank (record (unchecked_of 1) { connection_timeout = 10 }) L.name L.parts
         L.settings }
 {
-    let clock = SetClock::new(rt.alloc(), Moment(0))?;
-    let closed = Arc::new(rt.alloc(), AtomicU64::new(0))?;
     let task = MockTask::new(&rt)?;
-    let pool: NotedPool<R, L> = build_noted(rt, &clock, &closed, blank)?;
+    let NotedCase {
+        pool,
+        clock,
+        closed,
+    } = build_noted::<R, L>(rt, blank)?;
     let Poll::Ready(Ok(guard)) = task.poll(&mut pool.get_owned()) else {
         panic!(&rt; "not served");
     };

@@ -226,14 +226,20 @@ impl<R: Runtime, L: PoolParts> Job for Cloned<'_, R, L> {
     }
 }
 
-/// Two threads share a pool of two connections by handles and guards of their own.
-fn shares_handles<R: Runtime + Threads, L: PoolParts>(rt: R, blank: Blank) -> Result<(), Memory>
-    requires { IsBlankOf blank (unchecked_of 2) L.name L.parts L.settings }
+/// Two threads share a pool of two connections by handles and guards of their own. Each connection is checked before it is lent, or none.
+fn shares_handles<R: Runtime + Threads, L: PoolParts>(
+    rt: R,
+    blank: Blank,
+    checks: bool,
+) -> Result<(), Memory>
+    requires { IsBlankOf blank
+        (record default_settings { max_size = 2; test_on_check_out = checks }) L.name L.parts
+        L.settings }
 {
     let clock = SetClock::new(rt.alloc(), Moment(0))?;
     let pool: HeldPool<R, L> = Builder::new()
         .max_size(2)
-        .test_on_check_out(false)
+        .test_on_check_out(checks)
         .build_unchecked(HeldManager, clock, rt, blank)?;
     assert!(&rt; pool.add(Held { holders: 0 }).is_ok());
     assert!(&rt; pool.add(Held { holders: 0 }).is_ok());
@@ -241,6 +247,7 @@ fn shares_handles<R: Runtime + Threads, L: PoolParts>(rt: R, blank: Blank) -> Re
     let state = pool.state();
     assert_eq!(&rt; (state.connections, state.idle_connections), (2, 2));
     assert_eq!(&rt; state.statistics.connections_closed_broken, 0);
+    assert_eq!(&rt; state.statistics.connections_closed_invalid, 0);
     assert_eq!(&rt; state.statistics.completed_gets(), 2000);
     assert_eq!(&rt; state.statistics.pending_gets(), 0);
     Ok(())
@@ -248,6 +255,12 @@ fn shares_handles<R: Runtime + Threads, L: PoolParts>(rt: R, blank: Blank) -> Re
 
 #[test]
 fn two_threads_share_handles(rt: HostRuntime) -> Result<(), Fail> {
-    shares_handles::<HostRuntime, Brand>(rt, Blank::new(2))?;
+    shares_handles::<HostRuntime, Brand>(rt, Blank::new(2), false)?;
+    Ok(())
+}
+
+#[test]
+fn two_threads_share_handles_with_checks(rt: HostRuntime) -> Result<(), Fail> {
+    shares_handles::<HostRuntime, Brand>(rt, Blank::new(2), true)?;
     Ok(())
 }

@@ -2,9 +2,6 @@ use Rattle.bb8.proofs.owned.HoldingOwns.give_back_owned.Goals as goal
 
 pub returns-clause-connection : goal.returns-clause-connection
 returns-clause-connection g c =
-    let shared = c.deref-pool.ensures in
+    let shared = c.deref-shared.ensures in
     let of = c.new-calls.ensures in
-    (c.new-calls.result, c.give_back.new.outside, (rw shared at of.manager, rw shared at of.sink, rw shared at of.clock), rw shared at c.give_back.ensures)
-
-pub returns-clause-handle : goal.returns-clause-handle
-returns-clause-handle g c = rw c.deref-pool.ensures at c.leave.ensures
+    (c.new-calls.result, c.give_back.new.outside, (rw shared at of.manager, rw shared at of.sink, rw shared at of.clock), c.give_back.ensures)

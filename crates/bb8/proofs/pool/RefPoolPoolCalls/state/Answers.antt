@@ -1,8 +1,7 @@
-use Rattle.std.proofs.Common.{sym, ◌∙◌, rules}
-use Rattle.std.specs.Arc.{arc_value}
+use Rattle.std.proofs.Common.{rules}
 use Rattle.bb8.proofs.pool.RefPoolPoolCalls.state.Goals as goal
 
 pub returns-clause-shown : goal.returns-clause-shown
 returns-clause-shown g c =
-    let s = c.state.ensures.step in
-    (c.now-at.result, search rules, (c.deref_mut.result.now.core, c.state.new.self.core, (s.0, s.1 ∙ sym (arc_value c.args.self.now.shared).settled, s.2)))
+    let s = rw c.deref-shared.ensures at c.state_with.ensures.shown in
+    (s.0, search rules, s.2)

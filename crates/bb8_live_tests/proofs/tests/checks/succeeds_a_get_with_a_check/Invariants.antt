@@ -5,4 +5,4 @@ abbrev pub ghosts-serves_the_checked-L-Ledger : goal.ghosts-serves_the_checked-L
 ghosts-serves_the_checked-L-Ledger g a = record { name = a.blank.name; parts = a.blank.parts }
 
 abbrev pub ghosts-serves_the_checked-L-Parts : goal.ghosts-serves_the_checked-L-Parts
-ghosts-serves_the_checked-L-Parts g a = record { settings = default_settings }
+ghosts-serves_the_checked-L-Parts g a = record { settings = record default_settings { max_size = 1 } }

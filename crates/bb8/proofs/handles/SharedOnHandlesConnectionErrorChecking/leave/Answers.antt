@@ -1,5 +1,5 @@
 use Rattle.std.proofs.Common.{sym, ◌∙◌}
-use Rattle.bb8.proofs.handles.SharedLeaves.leave.Goals as goal
+use Rattle.bb8.proofs.handles.SharedOnHandlesConnectionErrorChecking.leave.Goals as goal
 
 pub returns : goal.returns
 returns g c =
