@@ -17,9 +17,9 @@ steps_of n = length n.noted + n.missing
 abbrev pub fresh : ℕ → Noted
 fresh number = record { seat = number; noted = []; missing = 0 }
 
--- a step is noted, or its note is missing
+-- A seat makes one step more: its index and answer are noted, or their note is missing.
 abbrev pub Makes : Noted → ℕ → Answer → Noted → Type 0
-Makes old index answer new = (new.seat ≡ old.seat) × (((new.noted ≡ old.noted ++ (index, answer) ∷ []) × (new.missing ≡ old.missing)) ⊎ ((new.noted ≡ old.noted) × (new.missing ≡ old.missing + 1)))
+Makes old index answer new = (new ≡ record old { noted = old.noted ++ (index, answer) ∷ [] }) ⊎ (new ≡ record old { missing = old.missing + 1 })
 
 -- what the notes of a seat say
 abbrev pub notes_of : Notes → Noted
