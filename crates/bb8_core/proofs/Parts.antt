@@ -55,7 +55,7 @@ module _ {C : Type 0} where
   out_few : (l : Ledger C) → IsLegal l → out l ≤ (start l).config.max_size
   out_few l legal = let split : conns l ≡ idle_count l + out l = conns_split (records l) in omega (arith, (all_fit l legal).size)
 
-  counted_at : (l : Ledger C) (at : ℕ) (e : Act C) (a : Answer) → IsLegal l → Allowed l at e a → IsCounted (shown l) e a (shown (Later l at e a))
+  pub counted_at : (l : Ledger C) (at : ℕ) (e : Act C) (a : Answer) → IsLegal l → Allowed l at e a → IsCounted (shown l) e a (shown (Later l at e a))
   counted_at l at e a legal allowed = record {
     config = refl;
     moves = subst (λ (n : ℕ). Moves e a n (out_of (shown (Later l at e a)))) (sym (out_shown l))

@@ -1,5 +1,5 @@
 //! The locked state of a pool.
-ghost use Rattle.std.specs.Prelude.{◌≡◌, ℕ, Bool, ◌+◌, ◌≤◌, ◌&&◌, ◌||◌, not, cond, eqb, slice_get, Option, IsSome, is_some, IfSome, IfNone, true, false, None, Some};
+ghost use Rattle.std.specs.Prelude.{◌≡◌, ℕ, Bool, ◌+◌, ◌≤◌, ◌&&◌, ◌||◌, min, not, cond, eqb, slice_get, Option, IsSome, is_some, IfSome, IfNone, true, false, None, Some};
 ghost use Rattle.std.specs.FinMap as map;
 ghost use Rattle.bb8_ledger.specs.Acts as acts;
 ghost use Rattle.bb8_ledger.specs.Answers as answers;
@@ -11,6 +11,7 @@ ghost use Rattle.bb8_types.specs.Grants as grants;
 ghost use Rattle.bb8_types.specs.Numbered as numbered;
 ghost use Rattle.bb8_types.specs.Settings.{settings_of, is_lawful};
 ghost use Rattle.bb8_types.specs.Figures.{figures_of};
+ghost use Rattle.bb8_core.specs.Endings.{endings_of};
 ghost use Rattle.bb8_core.specs.Run.{opening};
 ghost use Rattle.bb8_core.specs.Shown.{Means, Meets, IsFitting, TellsFitting, IsRecordIn, IsNoRecordIn, IsGetIn, IsNoGetIn, IsWithinLimits};
 ghost use Rattle.bb8_core.specs.StepAnswers.{begin_told, try_told, checked_ok_told, checked_err_told, reason_of, give_up_told, put_back_told, claim_told, opened_told, failed_told, add_told, join_told, leave_told, look_told, HandsOut, ServesAtOnce, NoneAtOnce, GivesBack, GivesBackInvalid, GivesBackHeld, HandsBack, Refuses};
@@ -543,6 +544,17 @@ impl<C: Drop> PoolInternals<C> {
             moment: Moment(self.latest),
             alive: self.handles > 0,
         }
+    }
+
+    /// How many events may still come that end a get, a handle or the lending of a connection: one of each get alive, of each handle alive,
+    /// and of each connection that is out. It stays at the greatest u64. Our own.
+    pub fn endings(&self) -> u64
+        ensures { result ≡ min (endings_of self.now) end_of_numbers }
+    {
+        let out = self.records.connections() - self.records.idle_connections();
+        (self.gets.alive())
+            .saturating_add(self.handles)
+            .saturating_add(out as u64)
     }
 
     /// Whether a get may begin: while a handle is alive.

@@ -36,14 +36,23 @@ fn number_of(notified: Option<GetKey>) -> Option<u64>
     }
 }
 
-/// Where the records and the gets of a replay stood last.
+/// Where the records and the gets of a replay stood last. It spares searches, and changes no answer. Our own.
 #[derive(Drop)]
-struct Known {
+pub struct Known {
     records: Hints,
     gets: Hints,
 }
 
 impl Known {
+    /// Nothing is known yet, of a pool whose connections and approvals have numbers from `first_number` on, and its gets from `first_get`
+    /// on. It takes no memory. Our own.
+    pub fn new(alloc: Global, first_number: u64, first_get: u64) -> Self {
+        Known {
+            records: Hints::new(alloc, first_number),
+            gets: Hints::new(alloc, first_get),
+        }
+    }
+
     /// Where the record or the get stands that an event names, as far as it is known.
     fn place(&self, act: Act) -> usize {
         match act {
@@ -268,8 +277,9 @@ fn look(pool: &mut PoolInternals<u64>, at: Moment) -> Answer
     Answer::Looked(seen.moment, seen.alive)
 }
 
-/// What an event is answered. The connection of a record is its number; that of an `Add` is the next number.
-fn apply(pool: &mut PoolInternals<u64>, known: &mut Known, event: Event) -> Answer
+/// What an event is answered: `Unfit` where it does not fit, and then nothing changes. The connection of a record is its number; that of
+/// an `Add` is the next number. Our own.
+pub fn apply(pool: &mut PoolInternals<u64>, known: &mut Known, event: Event) -> Answer
     ensures { Applies pool.old event result pool.new }
 {
     let place = known.place(event.act);
@@ -340,10 +350,7 @@ pub fn replay_from(
     ensures promises { IfOk result (λ r. AfterEach KeepsPromises (opening config first_number first_get) events.now r.0.items) }
 {
     let mut pool = PoolInternals::starting_at(alloc, config, first_number, first_get);
-    let mut known = Known {
-        records: Hints::new(alloc, first_number),
-        gets: Hints::new(alloc, first_get),
-    };
+    let mut known = Known::new(alloc, first_number, first_get);
     let mut answers = Vec::new(alloc);
     for event in events {
         answers.push(apply(&mut pool, &mut known, *event))?;

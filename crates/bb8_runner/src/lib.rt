@@ -2,14 +2,14 @@
 #![tactic(auto)]
 
 pub mod fault;
-mod grammar;
+pub mod grammar;
 mod laws;
-mod lines;
+pub mod lines;
 mod overrides;
 pub mod script;
 mod settings;
 pub mod streams;
 #[cfg(test)]
 mod tests;
-mod text;
+pub mod text;
 pub mod verdict;

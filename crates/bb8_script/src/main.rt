@@ -1,14 +1,23 @@
-//! Runs a script of events over a pool: reads it from standard input, and writes the answers to standard output.
+//! Runs a script of events over a pool: reads it from standard input, and writes the answers to standard output; or runs it in threads, and
+//! writes what their journal says.
 #![tactic(auto)]
 
-ghost use Rattle.std.specs.Prelude.{◌≡◌, IsErr, Ok};
+ghost use Rattle.std.specs.Prelude.{◌≡◌, ◌≤◌, ℕ, IsErr, Ok, Some};
+ghost use Rattle.bb8_threads.specs.declared.arguments.Mode.TheVariants.{Threads};
 ghost use Rattle.bb8_runner.specs.declared.verdict.Verdict.TheVariants.{Ran, Bad};
 
 use bb8_runner::fault::Fault;
 use bb8_runner::script::run_script;
 use bb8_runner::verdict::Verdict;
-use std::io;
+use bb8_threads::arguments::{Mode, arguments};
+use bb8_threads::script::run_threads;
+use std::env::Env;
+use std::io::ErrorKind;
 use std::process::ExitCode;
+use std::{env, io};
+
+/// The exit status where the arguments are none that the program takes.
+const BAD_ARGUMENTS: u8 = 2;
 
 /// The exit status: 0 where the script ran, 2 after a bad line, and 3 where reading, writing or memory failed.
 fn status_of(outcome: &Result<Verdict, Fault>) -> u8
@@ -23,9 +32,38 @@ fn status_of(outcome: &Result<Verdict, Fault>) -> u8
     }
 }
 
-/// Ends with the status of the script's outcome, and with a word on standard error where that is a fault.
+/// What the arguments ask for; None where they are none that the program takes, also where one is no text. `Memory` where memory for them
+/// was refused.
+fn mode_of<R: Env + AllocGlobal>(rt: &R) -> Result<Option<Mode>, Fault>
+    ensures threads { (n : ℕ) → result ≡ Ok (Some (Threads n)) → 1 ≤ n }
+{
+    match env::args(rt) {
+        Ok(words) => {
+            let words: Vec<String> = words.skip(1).collect(rt.alloc())?;
+            Ok(arguments(&words))
+        }
+        Err(error) => match error.kind() {
+            ErrorKind::OutOfMemory => Err(Fault::Memory),
+            _ => Ok(None),
+        },
+    }
+}
+
+/// Ends with the status of the script's outcome, and with a word on standard error where that is a fault. The arguments are judged before
+/// anything is read.
 fn main(rt: HostRuntime) -> io::Result<ExitCode> {
-    let outcome = run_script(rt.alloc(), &mut rt.reader(), &mut io::writer(&rt));
+    let alloc = rt.alloc();
+    let outcome = match mode_of(&rt) {
+        Ok(None) => {
+            eprintln!(rt; "usage: bb8_script [threads N]")?;
+            return Ok(ExitCode::from(BAD_ARGUMENTS));
+        }
+        Ok(Some(Mode::Script)) => run_script(alloc, &mut rt.reader(), &mut io::writer(&rt)),
+        Ok(Some(Mode::Threads(threads))) => {
+            run_threads(&rt, alloc, threads, &mut rt.reader(), &mut io::writer(&rt))
+        }
+        Err(fault) => Err(fault),
+    };
     if let Err(fault) = &outcome {
         eprintln!(rt; "{fault}")?;
     }

@@ -1,0 +1,130 @@
+-- How many ending events may still come, step by step.
+use Rattle.std.proofs.Common.{◌≡◌, ℕ, ◌+◌, ◌<◌, ◌≤◌, max, Bool, true, false, ◌&&◌, ltb, Option, is_some, refl, sym, ap, ◌∙◌, subst, arith}
+use Rattle.std.proofs.lemmas.Bool.Decides.{nat_tests}
+use Rattle.bb8_core.specs.declared.replay.events.Act.{Act as Named}
+use Rattle.bb8_core.specs.declared.replay.events.Act.TheVariants as named
+use Rattle.bb8_core.specs.declared.replay.events.Answer.{Answer as Told}
+use Rattle.bb8_ledger.specs.Acts.{Act}
+use Rattle.bb8_ledger.specs.Answers.{Answer}
+use Rattle.bb8_ledger.specs.Ledger.{Ledger, Later, start, position, latest, handles, gets, alive, alive_of, get_of, new_get, with_notice}
+use Rattle.bb8_types.specs.Numbered.{update, after_end}
+use Rattle.bb8_ledger.specs.Table.{Row, begins, begin_refused, begin_exhausted, waits_on, serves, takes_out, waits, checks, check_fails, gives_up, gives_up_kept, gives_up_closed, keeps, returns_closed, fills, claims, claim_ended, opens, opens_late, fails, add_broken, add_full, add_exhausted, add_refused, adds, reap_ended, reaps, shows, joins, join_exhausted, leaves, looks, takes, fits, is_brought, Allowed, IsLegal}
+use Rattle.bb8_types.proofs.Places.{and_right}
+use Rattle.bb8_types.proofs.Numbered as numbered
+use Rattle.bb8_ledger.proofs.Waiters.{alive_counted, begins_alive, notify_alive}
+use Rattle.bb8_ledger.proofs.Effects.{by_fit}
+use Rattle.bb8_ledger.proofs.GetEffects.{trier_leaves, trier_holds, holder_ends, holder_turns, left_alive, left_told_alive}
+use Rattle.bb8_ledger.proofs.Laws.{alive_get}
+use Rattle.bb8_core.specs.Shown.{Shown, shown, HasLedger}
+use Rattle.bb8_core.specs.Parts.{out_of, Moves}
+use Rattle.bb8_core.specs.Run.{act_of, answer_of, Happens, IsTaken}
+use Rattle.bb8_core.specs.Endings.{endings_of}
+use Rattle.bb8_core.proofs.Parts.{counted_at}
+use Rattle.bb8_core.proofs.Runs.{unfit_now}
+use Rattle.bb8_journal.specs.Endings.{is_ending, is_named_ending, Ends}
+
+-- a handle is alive
+is_open : (n : ℕ) → ltb 0 n ≡ true → 0 < n
+is_open n e = grind (arith, nat_tests, e)
+
+-- by what a state shows
+ends_shown : (ending : Bool) (before after m n : ℕ) → before ≡ m → after ≡ n → Ends ending before after → Ends ending m n
+ends_shown true before after m n p q h = omega arith
+ends_shown false before after m n p q h = omega arith
+
+module _ {C : Type 0} where
+  -- a get that is given up ends, whoever is notified
+  given_up : (l : Ledger C) (g : ℕ) (n : Option ℕ) → is_some (get_of l g) ≡ true
+      → alive_of (with_notice (start l).first_get n (update (start l).first_get g after_end (gets l))) + 1 ≡ alive l
+  given_up l g n some =
+      let st = alive_get (get_of l g) some in
+      let m = numbered.standing_found (gets l) (start l).first_get g st.0 st.1 in
+      let e : alive_of (update (start l).first_get g after_end (gets l)) + 1 ≡ alive l = alive_counted (start l).first_get g (gets l) m.0 st.0 m.1 m.2 in
+      omega (arith, notify_alive (start l).first_get n (update (start l).first_get g after_end (gets l)))
+
+  -- each row, where so many connections are out before and after it
+  row_ends : (l : Ledger C) (at : ℕ) (e : Act C) (a : Answer) (before after : ℕ) → fits l e ≡ true → Row l at e a → Moves e a before after
+      → Ends (is_ending e) (alive l + (handles l + before)) (alive (Later l at e a) + (handles (Later l at e a) + after))
+  row_ends l at _ _ before after f (begins is few) moves = omega (arith, numbered.tally-append (λ r. is_some r.standing) (gets l) new_get)
+  row_ends l at _ _ before after f (begin_refused few full) moves = omega arith
+  row_ends l at _ _ before after f (begin_exhausted many) moves = omega arith
+  row_ends l at _ _ before after f (waits_on {g} {grant} on nothing) moves = omega (arith, begins_alive (start l).first_get (max (latest l) at) (position l) g (gets l))
+  row_ends l at _ _ before after f (serves {g} {k} {grant} off unchecked first want) moves = omega (arith, left_alive (trier_leaves l g f off))
+  row_ends l at _ _ before after f (takes_out {g} {k} {grant} off checked first want) moves = omega (arith, left_alive (trier_holds l g k f off))
+  row_ends l at _ _ before after f (waits {g} {grant} off none granted) moves = omega (arith, begins_alive (start l).first_get (max (latest l) at) (position l) g (gets l))
+  row_ends l at _ _ before after f (checks {g} {k} holds_it nothing) moves = omega (arith, left_alive (holder_ends l g k holds_it).0)
+  row_ends l at _ _ before after f (check_fails {g} {k} {n = n} holds_it want is) moves = omega (arith, left_told_alive (holder_turns l g k holds_it).0 n)
+  row_ends l at _ _ before after f (gives_up {g} {n = n} is) moves = omega (arith, given_up l g n (and_right (is_some (get_of l g)) _ f).0)
+  row_ends l at _ _ before after f (gives_up_kept {g} {k} {n = n} holds_it keep is) moves = omega (arith, left_told_alive (holder_ends l g k holds_it).0 n)
+  row_ends l at _ _ before after f (gives_up_closed {g} {k} {n = n} holds_it shut want is) moves = omega (arith, left_told_alive (holder_ends l g k holds_it).0 n)
+  row_ends l at _ _ before after f (keeps {n = n} keep is) moves = omega (arith, notify_alive (start l).first_get n (gets l))
+  row_ends l at _ _ before after f (returns_closed {n = n} shut want is) moves = omega (arith, notify_alive (start l).first_get n (gets l))
+  row_ends l at _ _ before after f (fills want) moves = omega arith
+  row_ends l at _ _ before after f (claims some first) moves = omega arith
+  row_ends l at _ _ before after f (claim_ended none) moves = omega arith
+  row_ends l at _ _ before after f (opens {n = n} some is) moves = omega (arith, notify_alive (start l).first_get n (gets l))
+  row_ends l at _ _ before after f (opens_late none) moves = omega arith
+  row_ends l at _ _ before after f fails moves = omega arith
+  row_ends l at _ _ before after f add_broken moves = omega arith
+  row_ends l at _ _ before after f (add_full full) moves = omega arith
+  row_ends l at _ _ before after f (add_exhausted room none) moves = omega arith
+  row_ends l at _ _ before after f (add_refused room few full) moves = omega arith
+  row_ends l at _ _ before after f (adds {n = n} room few is who) moves = omega (arith, notify_alive (start l).first_get n (gets l))
+  row_ends l at _ _ before after f (reap_ended none) moves = omega arith
+  row_ends l at _ _ before after f (reaps some closed by_idle by_life want) moves = omega arith
+  row_ends l at _ _ before after f shows moves = omega arith
+  row_ends l at _ _ before after f (joins few) moves = omega arith
+  row_ends l at _ _ before after f (join_exhausted many) moves = omega arith
+  row_ends l at _ _ before after f (leaves is) moves = omega (arith, is_open (handles l) f)
+  row_ends l at _ _ before after f (looks is open_is) moves = omega arith
+
+  -- the same of what is shown: an event that is taken ends as it says, and one that is not changes nothing
+  ends_at : (l : Ledger C) (at : ℕ) (e : Act C) (a : Answer) → IsLegal l → Allowed l at e a
+      → Ends (takes l e && is_ending e) (endings_of (shown l)) (endings_of (shown (Later l at e a)))
+  ends_at l at e a legal allowed =
+      by_fit (takes l e) _ _ (Ends (takes l e && is_ending e) (endings_of (shown l)) (endings_of (shown (Later l at e a)))) allowed
+      (λ t row. subst (λ (b : Bool). Ends (b && is_ending e) (endings_of (shown l)) (endings_of (shown (Later l at e a)))) (sym t)
+      (row_ends l at e a (out_of (shown l)) (out_of (shown (Later l at e a))) (and_right (is_brought e) _ t).1 row (counted_at l at e a legal allowed).moves))
+      (λ t is. subst (λ (b : Bool). Ends (b && is_ending e) (endings_of (shown l)) (endings_of (shown (Later l at e a)))) (sym t)
+      (let same : endings_of (shown (Later l at e a)) ≡ endings_of (shown l) =
+      ap (λ (b : Answer). endings_of (shown (Later l at e b))) is ∙ ap endings_of (unfit_now l (shown l) at e t refl).1 in omega arith))
+
+-- a named event is an ending one just where the event that it stands for is
+named_ending : (l : Ledger ℕ) (e : Named) → is_ending (act_of l e) ≡ is_named_ending e
+named_ending l named.Begin = refl
+named_ending l (named.Try g) = refl
+named_ending l (named.CheckedOk g) = refl
+named_ending l (named.CheckedErr g broken) = refl
+named_ending l (named.GiveUp g why broken) = refl
+named_ending l (named.PutBack k broken) = refl
+named_ending l (named.Fill claimed) = refl
+named_ending l named.Claim = refl
+named_ending l (named.Opened a) = refl
+named_ending l (named.Failed a) = refl
+named_ending l (named.Add broken) = refl
+named_ending l named.State = refl
+named_ending l named.Join = refl
+named_ending l named.Leave = refl
+named_ending l named.Look = refl
+
+-- it may be taken or not: at most one more
+at_most : (taken : Bool) (before after : ℕ) → Ends taken before after → after ≤ before + 1
+at_most true before after h = omega arith
+at_most false before after h = h
+
+-- In a replay an event leaves at most one ending event more to come.
+pub one_more : (old : Shown ℕ) (at : ℕ) (e : Named) (a : Told) (new : Shown ℕ) → HasLedger old → Happens old at e a new → endings_of new ≤ endings_of old + 1
+one_more old at e a new h happens =
+    let m = happens h.0 h.1 h.2 in
+    at_most (takes h.0 (act_of h.0 e) && is_ending (act_of h.0 e)) _ _
+    (ends_shown _ _ _ _ _ (ap endings_of h.2) (ap endings_of m.1) (ends_at h.0 at (act_of h.0 e) (answer_of a) h.1 m.0))
+
+-- An ending event that is taken leaves fewer.
+pub one_less : (old : Shown ℕ) (at : ℕ) (e : Named) (a : Told) (new : Shown ℕ) → HasLedger old → Happens old at e a new
+    → IsTaken old e → is_named_ending e ≡ true → endings_of new + 1 ≤ endings_of old
+one_less old at e a new h happens taken ending =
+    let m = happens h.0 h.1 h.2 in
+    let is : (takes h.0 (act_of h.0 e) && is_ending (act_of h.0 e)) ≡ true =
+    ap (λ (b : Bool). b && is_ending (act_of h.0 e)) (taken h.0 h.1 h.2) ∙ named_ending h.0 e ∙ ending in
+    subst (λ (b : Bool). Ends b (endings_of old) (endings_of new)) is
+    (ends_shown _ _ _ _ _ (ap endings_of h.2) (ap endings_of m.1) (ends_at h.0 at (act_of h.0 e) (answer_of a) h.1 m.0))

@@ -1,0 +1,13 @@
+use Rattle.std.specs.Prelude.{◌≡◌, ◌+◌, ◌≤◌, map, vec_len, vec_capacity}
+use Rattle.std.specs.List.{range_with_len}
+use Rattle.bb8_journal.specs.Notes.{fresh}
+use Rattle.bb8_journal.proofs.journal.shared.cut.Given as goal
+
+abbrev pub invariant-loop-number : goal.invariant-loop-number
+invariant-loop-number g l = record {
+  seats : l.list.items ≡ map fresh (range_with_len 0 l.number);
+  len : vec_len l.list ≡ l.number;
+  parts : l.rest.parts + l.number ≡ l.seats;
+  amount : l.rest.amount ≡ 0;
+  room : l.seats ≤ vec_capacity l.list;
+}

@@ -1,0 +1,24 @@
+-- Ending events: those for whose entries a journal keeps room.
+use Rattle.std.specs.Prelude.{◌+◌, ◌≤◌, ℕ, Bool, true, false}
+use Rattle.std.specs.Bool.{MatchBool}
+use Rattle.bb8_core.specs.declared.replay.events.Act.{Act as Named}
+use Rattle.bb8_core.specs.declared.replay.events.Act.TheVariants as named
+use Rattle.bb8_ledger.specs.Acts.{Act, GiveUp, PutBack, Leave}
+
+-- a get, a guard or a handle ends
+abbrev pub is_ending : {C : Type 0} → Act C → Bool
+is_ending (GiveUp g why held broken) = true
+is_ending (PutBack k c broken) = true
+is_ending Leave = true
+is_ending _ = false
+
+-- the same of an event by its name in a replay
+abbrev pub is_named_ending : Named → Bool
+is_named_ending (named.GiveUp g why broken) = true
+is_named_ending (named.PutBack k broken) = true
+is_named_ending named.Leave = true
+is_named_ending _ = false
+
+-- An ending event leaves fewer of them to come, and another one at most one more.
+abbrev pub Ends : Bool → ℕ → ℕ → Type 0
+Ends ending before after = MatchBool ending (after + 1 ≤ before) (after ≤ before + 1)

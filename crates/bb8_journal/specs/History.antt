@@ -1,0 +1,44 @@
+-- Histories: entries in the order in which they were made.
+use Rattle.std.specs.Prelude.{ℕ, List, [], map, refl}
+use Rattle.std.specs.Coded.{Coded, code_by, coded×, coded_ℕ, coded_list}
+use Rattle.bb8_core.specs.declared.replay.events.Event.{Event}
+use Rattle.bb8_core.specs.declared.replay.events.Answer.{Answer}
+use Rattle.bb8_journal.specs.declared.journal.entries.Entry.{Entry}
+use Rattle.bb8_types.specs.Settings.{Settings}
+use Rattle.bb8_ledger.specs.Ledger.{Ledger, opening_with}
+use Rattle.bb8_core.specs.Run.{IsRun, AfterEach}
+use Rattle.bb8_core.specs.Shown.{Shown, shown, shown_code, Means}
+
+-- what a journal keeps: its entries, and the state that they lead to
+pub record Kept : Type 0 where
+  pub entries : List Entry
+  pub pool : Shown ℕ
+
+-- an entry of a seat
+abbrev pub entry : ℕ → Event → Answer → Entry
+entry seat event answer = record { seat = seat; event = event; answer = answer }
+
+-- the events of a history
+abbrev pub events_of : List Entry → List Event
+events_of = map (λ e. e.event)
+
+-- what they were answered
+abbrev pub answers_of : List Entry → List Answer
+answers_of = map (λ e. e.answer)
+
+-- A history replays: from the empty ledger of the configuration on, the answers of its entries are allowed for their events, one by one,
+-- and the state means the ledger that they lead to.
+abbrev pub Replays : Settings → List Entry → Shown ℕ → Type 0
+Replays config entries state = (last : Ledger ℕ) × IsRun (opening_with config 0 0) (events_of entries) (answers_of entries) last × Means last state
+
+-- So it is after each beginning of a history.
+abbrev pub AfterEachEntry : (Ledger ℕ → Type 0) → Settings → List Entry → Type 0
+AfterEachEntry Holds config entries = AfterEach Holds (opening_with config 0 0) (events_of entries) (answers_of entries)
+
+-- no entry yet
+abbrev pub unwritten : Settings → Kept
+unwritten config = record { entries = []; pool = shown (opening_with config 0 0) }
+
+-- what a journal keeps is stored as the pair of its fields
+abbrev pub kept_code : Coded Entry → Coded Kept
+kept_code c = code_by (List Entry × Shown ℕ) (coded× (coded_list c) (shown_code coded_ℕ)) (λ k. (k.entries, k.pool)) (λ p. record { entries = p.0; pool = p.1 }) (λ _. refl)

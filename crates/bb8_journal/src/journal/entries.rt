@@ -1,0 +1,231 @@
+//! What the lock of a shared journal holds: a pool, the history of all that was done to it, and the book of the seats' steps.
+ghost use Rattle.std.specs.Prelude.{◌≡◌, ◌+◌, ◌≤◌, ◌++◌, ◌∷◌, [], true, IfOk, OnErr, IsOk, length, vec_len, vec_capacity, map, ℕ};
+ghost use Rattle.std.specs.List.{sum_by};
+ghost use Rattle.bb8_core.specs.declared.replay.events.Answer.{Answer as Told};
+ghost use Rattle.bb8_core.specs.Endings.{endings_of};
+ghost use Rattle.bb8_core.specs.Run.{Applies, IsTaken};
+ghost use Rattle.bb8_core.specs.Shown.{Shown};
+ghost use Rattle.bb8_journal.specs.Endings.{is_named_ending};
+ghost use Rattle.bb8_ledger.specs.Limits.{KeepsLimits, KeepsLaws, KeepsPromises};
+ghost use Rattle.bb8_types.specs.Settings.{settings_of, is_lawful};
+
+use super::lists::with_room;
+use super::seats::{Notes, Seat};
+use bb8_core::api::{Config, Memory};
+use bb8_core::internals::PoolInternals;
+use bb8_core::replay::{Act, Answer, Event, Known, apply, fits};
+use std::alloc::Global;
+use std::marker::{Brand, Model};
+use std::sync::ledger::{Book, Ledger, Share};
+
+/// An event that a seat made, and what it was answered. Entries are counted from 0. Our own, as all of this crate.
+#[derive(Clone, Copy, Debug, PartialEq, Eq)]
+pub struct Entry {
+    /// The number of the seat.
+    pub seat: usize,
+    /// What it made happen; also what did not fit, and changed nothing.
+    pub event: Event,
+    /// What it was answered.
+    pub answer: Answer,
+}
+
+/// No memory for an entry. Nothing has changed.
+#[derive(Clone, Copy, Debug, PartialEq, Eq)]
+pub struct NoRoom;
+
+/// The ledger by which a journal's seats count their steps, one part a seat. It names the configuration that the journal was opened with.
+/// A program names `Brand`.
+pub trait Recorded: Ledger {
+    ghost use Rattle.bb8_types.specs.Settings.{Settings};
+
+    // The configuration.
+    ghost config: { Settings };
+}
+
+impl Recorded for Brand {
+    ghost use Rattle.bb8_types.specs.Settings.{default_settings};
+
+    ghost config = { default_settings };
+}
+
+/// A pool with its history: the entries replay to the pool, they are as many as the book counts steps, and there is room for an entry of
+/// each ending event that may come. Contracts see it as its entries and its pool.
+#[derive(Drop)]
+pub struct Journal<L: Recorded> {
+    pool: PoolInternals<u64>,
+    known: Known,
+    history: Vec<Entry>,
+    steps: Book<L>,
+    rest: Share<L>,
+}
+
+impl<L: Recorded> Model for Journal<L> {
+    ghost use Rattle.std.specs.Prelude.{◌≡◌, ◌+◌, ◌≤◌, true, vec_len, vec_capacity};
+    ghost use Rattle.bb8_core.specs.Endings.{endings_of};
+    ghost use Rattle.bb8_types.specs.Settings.{is_lawful};
+    ghost use Rattle.bb8_journal.specs.History.{Kept, Replays, kept_code};
+    ghost use Rattle.bb8_journal.specs.contracts.journal.entries.Entry as entry_type;
+
+    ghost Value = { Kept };
+
+    ghost coded = { kept_code entry_type.the_row.coded };
+
+    ghost view = { λ j. record { entries = j.history.items; pool = j.pool } };
+
+    ghost invariant = { λ j. record {
+      lawful : is_lawful L.config ≡ true;
+      replays : Replays L.config j.history.items j.pool;
+      counted : vec_len j.history ≡ j.steps.total;
+      roomy : vec_len j.history + endings_of j.pool ≤ vec_capacity j.history;
+      no_part : j.rest.parts ≡ 0;
+      no_amount : j.rest.amount ≡ 0;
+    } };
+}
+
+/// Whether it is an ending event: a get, a guard or a handle ends.
+fn is_ending(act: Act) -> bool
+    ensures { result ≡ is_named_ending act }
+{
+    matches!(act, Act::GiveUp(..) | Act::PutBack(..) | Act::Leave)
+}
+
+/// Makes room for an entry, and for one of each ending event that may come then, if memory is there.
+fn reserve(pool: &PoolInternals<u64>, history: &mut Vec<Entry>) -> bool
+    requires { vec_len history.old + endings_of pool.now ≤ vec_capacity history.old }
+    ensures items { history.new.items ≡ history.old.items }
+    ensures len { vec_len history.new ≡ vec_len history.old }
+    ensures kept { vec_capacity history.old ≤ vec_capacity history.new }
+    ensures room { result ≡ true
+        → vec_len history.new + 2 + endings_of pool.now ≤ vec_capacity history.new }
+{
+    match pool.endings().checked_add(2) {
+        None => false,
+        Some(needed) => history.reserve(needed as usize).is_ok(),
+    }
+}
+
+/// Whether there is room for the entry of an event and for those of the ending events after it. Room is made, if memory is there; where it
+/// is not, a fitting ending event has its room all the same.
+fn make_room(pool: &PoolInternals<u64>, history: &mut Vec<Entry>, event: Event) -> bool
+    requires { vec_len history.old + endings_of pool.now ≤ vec_capacity history.old }
+    ensures items { history.new.items ≡ history.old.items }
+    ensures len { vec_len history.new ≡ vec_len history.old }
+    ensures room { result ≡ true → (answer : Told) (after : Shown ℕ)
+        → Applies pool.now event answer after
+        → vec_len history.new + 1 + endings_of after ≤ vec_capacity history.new }
+    ensures kept { vec_capacity history.old ≤ vec_capacity history.new }
+    ensures ending { IsTaken pool.now event.act → is_named_ending event.act ≡ true
+        → result ≡ true }
+{
+    pool.limits();
+    if reserve(pool, history) {
+        return true;
+    }
+    is_ending(event.act) && fits(pool, event)
+}
+
+impl<L: Recorded> Journal<L> {
+    ghost use Rattle.bb8_journal.specs.Notes.{steps_of, Makes, notes_of};
+    ghost use Rattle.bb8_journal.specs.History.{entry, unwritten, Replays, AfterEachEntry};
+
+    /// Lets an event happen that a seat makes, and writes it down. It answers the entry's index and what the event was answered, `Unfit`
+    /// where it did not fit. `NoRoom` comes where memory for an entry was refused, and never to an ending event that fits: a `GiveUp`, a
+    /// `PutBack` or a `Leave`.
+    pub fn apply(&mut self, seat: &mut Seat<L>, event: Event) -> Result<(u64, Answer), NoRoom>
+        ensures index { IfOk result (λ r. r.0 ≡ length self.old.entries) }
+        ensures entry { IfOk result (λ r.
+            self.new.entries ≡ self.old.entries ++ entry seat.old.seat event r.1 ∷ []) }
+        ensures answer { IfOk result (λ r. Applies self.old.pool event r.1 self.new.pool) }
+        ensures note { IfOk result (λ r. Makes seat.old r.0 r.1 seat.new) }
+        ensures past { IfOk result (λ r. steps_of seat.old ≤ r.0) }
+        ensures no_room { OnErr result ((self.new ≡ self.old) × (seat.new ≡ seat.old)) }
+        ensures ending { IsTaken self.old.pool event.act → is_named_ending event.act ≡ true
+            → IsOk result }
+    {
+        let Journal {
+            pool,
+            known,
+            history,
+            steps,
+            rest: _,
+        } = self;
+        if !make_room(pool, history, event) {
+            return Err(NoRoom);
+        }
+        let index = history.len() as u64;
+        let answer = apply(pool, known, event);
+        history.push_reserved(Entry {
+            seat: seat.number(),
+            event,
+            answer,
+        });
+        seat.count(steps, index, answer);
+        Ok((index, answer))
+    }
+
+    /// What holds of every journal, whoever has it: its entries replay to its pool, and after each beginning of them the pool keeps the
+    /// limits, the laws and the promises. It does nothing.
+    pub fn limits(&self)
+        ensures replays { Replays L.config self.now.entries self.now.pool }
+        ensures limits { AfterEachEntry KeepsLimits L.config self.now.entries }
+        ensures laws { AfterEachEntry KeepsLaws L.config self.now.entries }
+        ensures promises { AfterEachEntry KeepsPromises L.config self.now.entries }
+    {
+        let _ = &self.history;
+    }
+
+    /// With no entry yet. The book is new, and the share has none of its parts. Room is kept for the end of the one handle.
+    pub(crate) fn new(
+        alloc: Global,
+        config: Config,
+        steps: Book<L>,
+        rest: Share<L>,
+    ) -> Result<Journal<L>, Memory>
+        requires lawful { is_lawful (settings_of config) ≡ true }
+        requires config { settings_of config ≡ L.config }
+        requires none { steps.total ≡ 0 }
+        requires no_part { rest.parts ≡ 0 }
+        requires no_amount { rest.amount ≡ 0 }
+        ensures { IfOk result (λ journal. journal ≡ unwritten (settings_of config)) }
+    {
+        let history = with_room(alloc, 1)?;
+        Ok(Journal {
+            pool: PoolInternals::new(alloc, config),
+            known: Known::new(alloc, 0, 0),
+            history,
+            steps,
+            rest,
+        })
+    }
+
+    /// The history, the state that it leads to, and what all seats noted. Each seat's part of the ledger shows how many steps it made, so
+    /// the entries are as many as the steps of all seats. The list of notes is given, and has room for those of each seat.
+    pub(crate) fn close(
+        self,
+        seats: Vec<Seat<L>>,
+        notes: Vec<Notes>,
+    ) -> (Vec<Entry>, PoolInternals<u64>, Vec<Notes>)
+        requires all { length seats.items ≡ L.parts }
+        requires none { vec_len notes ≡ 0 }
+        requires room { length seats.items ≤ vec_capacity notes }
+        ensures same { (result.0.items ≡ self.entries) × (result.1 ≡ self.pool) }
+        ensures counted { length result.0.items ≡ sum_by steps_of seats.items }
+        ensures notes { map notes_of result.2.items ≡ seats.items }
+    {
+        let Journal {
+            pool,
+            known: _,
+            history,
+            mut steps,
+            mut rest,
+        } = self;
+        let mut notes = notes;
+        for seat in seats {
+            let (noted, part) = seat.into_parts();
+            rest.merge(part);
+            notes.push_reserved(noted);
+        }
+        steps.audit(&mut rest);
+        (history, pool, notes)
+    }
+}

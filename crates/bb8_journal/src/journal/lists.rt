@@ -1,0 +1,18 @@
+//! Lists that need no more memory for so many elements.
+ghost use Rattle.std.specs.Prelude.{◌≡◌, ◌≤◌, [], IfOk, vec_len, vec_capacity};
+
+use bb8_core::api::Memory;
+use std::alloc::Global;
+
+/// An empty list with room for so many.
+pub(crate) fn with_room<T: Drop>(alloc: Global, count: usize) -> Result<Vec<T>, Memory>
+    ensures empty { IfOk result (λ list. list.items ≡ []) }
+    ensures len { IfOk result (λ list. vec_len list ≡ 0) }
+    ensures room { IfOk result (λ list. count ≤ vec_capacity list) }
+{
+    let mut list = Vec::new(alloc);
+    match list.reserve(count) {
+        Ok(()) => Ok(list),
+        Err(_) => Err(Memory),
+    }
+}

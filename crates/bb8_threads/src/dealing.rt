@@ -1,0 +1,90 @@
+//! A list of events, dealt to threads: event i, from 0, goes to the seat i mod n.
+ghost use Rattle.std.specs.Prelude.{◌≡◌, ◌<◌, true, IfOk, length};
+ghost use Rattle.std.specs.List.{sum_by};
+ghost use Rattle.bb8_types.specs.Settings.{settings_of, is_lawful};
+ghost use Rattle.bb8_journal.specs.History.{Replays};
+ghost use Rattle.bb8_journal.specs.Notes.{steps_of, notes_of};
+
+use bb8_core::api::{Config, Memory};
+use bb8_core::internals::PoolInternals;
+use bb8_core::replay::Event;
+use bb8_journal::journal::{Entry, Notes, Recorded, Seat, SharedJournal};
+use std::alloc::Global;
+use std::sync::Wait;
+use std::sync::atomic::{AtomicBool, Ordering};
+use std::sync::ledger::Blank;
+use std::thread;
+use std::thread::Threads;
+
+/// What all threads did.
+#[derive(Drop)]
+pub struct Dealt {
+    /// The history.
+    pub entries: Vec<Entry>,
+    /// The state that it leads to.
+    pub pool: PoolInternals<u64>,
+    /// What the seats noted.
+    pub notes: Vec<Notes>,
+}
+
+/// Makes the events of one seat, in order. Where there is no room for one, it says so and stops.
+fn make_own<R: Wait, L: Recorded>(
+    rt: &R,
+    journal: &SharedJournal<L>,
+    seat: Seat<L>,
+    events: &[Event],
+    refused: &AtomicBool,
+) -> Seat<L> {
+    let mut seat = seat;
+    let seats = journal.seats();
+    let first = seat.number();
+    for event in events.iter().skip(first).step_by(seats) {
+        if journal.step(rt, &mut seat, *event).is_err() {
+            refused.store(true, Ordering::SeqCst);
+            break;
+        }
+    }
+    seat
+}
+
+/// Deals the events to as many threads as the blank ledger has parts, over one journal of the configuration. Where a thread cannot be
+/// started, its events are made all the same, one after the other. `Memory` comes where memory was refused, `NoRoom` included.
+pub fn deal<R: Threads + Wait + Sync, L: Recorded + Send + Sync>(
+    rt: &R,
+    alloc: Global,
+    config: Config,
+    blank: Blank,
+    seats: usize,
+    events: &[Event],
+) -> Result<Dealt, Memory>
+    requires lawful { is_lawful (settings_of config) ≡ true }
+    requires config { settings_of config ≡ L.config }
+    requires name { blank.name ≡ L.name }
+    requires parts { blank.parts ≡ L.parts }
+    requires size { blank.parts ≡ seats }
+    requires some { 0 < seats }
+    ensures replays { IfOk result (λ dealt.
+        Replays L.config dealt.entries.items dealt.pool) }
+    ensures counted { IfOk result (λ dealt.
+        length dealt.entries.items ≡ sum_by (λ n. steps_of (notes_of n)) dealt.notes.items) }
+{
+    let (journal, list) = SharedJournal::<L>::new(alloc, config, blank, seats)?;
+    let refused = AtomicBool::new(false);
+    let back = thread::map_vec(
+        rt,
+        list,
+        &|seat| make_own(rt, &journal, seat, events, &refused),
+    );
+    let Ok(back) = back else {
+        return Err(Memory);
+    };
+    if refused.load(Ordering::SeqCst) {
+        return Err(Memory);
+    }
+    let (entries, pool, notes) = journal.close(back);
+    Ok(Dealt {
+        entries,
+        pool,
+        notes,
+    })
+}
