@@ -2,6 +2,7 @@
 ghost use Rattle.std.specs.Prelude.{◌⊎◌, ◌≡◌, ℕ, ◌+◌, ◌<◌, ◌≤◌, max, true, false, IsSome, is_some, ltb, cond, filter, not, eqb, slice_get, IfSome, IfNone, OnOk, OnErr, Some, None, []};
 ghost use Rattle.std.specs.FinMap as map;
 ghost use Rattle.bb8_types.specs.declared.standing.Getting.{Getting};
+ghost use Rattle.bb8_types.specs.Numbered as numbered;
 ghost use Rattle.bb8_types.specs.Places as places;
 ghost use Rattle.bb8_tables.specs.Machine as machine;
 ghost use Rattle.bb8_tables.specs.Keys.{notified_of};
@@ -228,7 +229,7 @@ impl Gets {
             × (places.is_unnotified x.place ≡ false) }
         requires few { lendings.old < end_of_numbers }
         ensures state { self.new ≡ machine.after_wait now g.number self.old }
-        ensures examined { lendings.new ≤ lendings.old + 1 }
+        ensures examined { lendings.new ≡ lendings.old + 1 }
     {
         match self.slots.locate(g.number, g.place) {
             None => {}
@@ -246,7 +247,7 @@ impl Gets {
             × (places.is_unnotified x.place ≡ false) }
         requires few { lendings.old < end_of_numbers }
         ensures state { self.new ≡ machine.after_turn place g.number self.old }
-        ensures examined { lendings.new ≤ lendings.old + 1 }
+        ensures examined { lendings.new ≡ lendings.old + 1 }
     {
         match self.slots.locate(g.number, g.place) {
             None => {}
@@ -261,7 +262,7 @@ impl Gets {
         requires { lendings.old < end_of_numbers }
         ensures value { notified_of result ≡ slice_get self.old.waiting 0 }
         ensures state { self.new ≡ machine.after_notice (notified_of result) self.old }
-        ensures examined { lendings.new ≤ lendings.old + 1 }
+        ensures examined { lendings.new ≡ lendings.old + numbered.one (is_some result) }
     {
         match self.slots.first() {
             None => None,

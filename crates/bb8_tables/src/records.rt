@@ -142,7 +142,7 @@ impl<C: Drop> Records<C> {
             × (self.new ≡ machine.after_claim key.number self.old)) }
         ensures none { IfNone result ((slice_get self.old.unclaimed 0 ≡ None)
             × (self.new ≡ self.old)) }
-        ensures examined { lendings.new ≤ lendings.old + 1 }
+        ensures examined { lendings.new ≡ lendings.old + numbered.one (is_some result) }
     {
         match self.unclaimed.pop() {
             None => None,
@@ -169,7 +169,7 @@ impl<C: Drop> Records<C> {
             self.old)) }
         ensures none { IfNone result ((places.first_of strategy self.old.idle ≡ None)
             × (self.new ≡ self.old)) }
-        ensures examined { lendings.new ≤ lendings.old + 1 }
+        ensures examined { lendings.new ≡ lendings.old + numbered.one (is_some result) }
     {
         match self.slots.first_by(strategy) {
             None => None,
@@ -191,7 +191,7 @@ impl<C: Drop> Records<C> {
         requires few { lendings.old < end_of_numbers }
         ensures key { result.number ≡ k.number }
         ensures state { self.new ≡ machine.after_handover k.number self.old }
-        ensures examined { lendings.new ≤ lendings.old + 1 }
+        ensures examined { lendings.new ≡ lendings.old + 1 }
     {
         match self.slots.locate(k.number, k.place) {
             None => k,
@@ -221,7 +221,7 @@ impl<C: Drop> Records<C> {
         ensures state { self.new ≡ machine.after_entry opening k.number
             (record { place = Idle conn; birth = birth; entered = now }) self.old }
         ensures numbers { self.old.next ≤ end_of_numbers }
-        ensures examined { lendings.new ≤ lendings.old + 1 }
+        ensures examined { lendings.new ≡ lendings.old + 1 }
     {
         match self.slots.locate(k.number, k.place) {
             None => {}

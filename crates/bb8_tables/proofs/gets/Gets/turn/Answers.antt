@@ -23,3 +23,7 @@ returns-in-Some-clause-state c =
     (stands_is c.self.inside c.args.g.number c.in-Some.at f.0 c.args.self.now c.self.invariant c.self.view_is f.1 f.2 c.requires.stands)
     c.turn.ensures.changed
     ∙ ap (machine.after_turn c.args.place c.args.g.number) c.self.view_is
+
+pub returns-in-None-clause-examined : goal.returns-in-None-clause-examined
+returns-in-None-clause-examined c = never_absent _ _ (some_is {P = λ (x : Getting). is_unnotified x.place ≡ false} _ c.requires.stands)
+    (none_shown c.self.inside c.args.g.number c.args.self.now c.self.view_is c.in-None.ensures.none)

@@ -33,3 +33,7 @@ returns-in-Some-clause-state c =
     wait_view c.self.inside c.args.now c.in-Some.place c.args.g.number f.0 c.wait.new.self c.line_up.new.self c.self.invariant f.1
     (stands_is c.self.inside c.args.g.number c.in-Some.place f.0 c.args.self.now c.self.invariant c.self.view_is f.1 f.2 c.requires.stands) f.2 c.wait.ensures.changed c.line_up.ensures
     ∙ ap (machine.after_wait c.args.now c.args.g.number) c.self.view_is
+
+pub returns-in-None-clause-examined : goal.returns-in-None-clause-examined
+returns-in-None-clause-examined c = never_absent _ _ (some_is {P = λ (x : Getting). is_unnotified x.place ≡ false} _ c.requires.stands)
+    (none_shown c.self.inside c.args.g.number c.args.self.now c.self.view_is c.in-None.ensures.none)

@@ -55,3 +55,8 @@ returns-in-Some-clause-state g c =
     c.replace.new.self c.line_up.new.self c.self.invariant f.1 was f.2 refl c.replace.ensures.changed c.line_up.ensures
     _ _ (ap (λ n. c.self.inside.conns + n) c.one-opened.ensures.value) (ap (λ n. c.self.inside.approved - n) c.one-opened.ensures.value)
     ∙ ap (machine.after_entry c.args.opening c.args.k.number _) c.self.view_is
+
+pub returns-in-None-clause-examined : goal.returns-in-None-clause-examined
+returns-in-None-clause-examined g c =
+    let shows : Shows c.self.inside c.args.k.number (comes_from c.args.opening) = rw (← c.self.view_is) at c.requires.out in
+    never_absent c.self.inside c.args.k.number shows.0 _ shows.1 c.in-None.ensures.none

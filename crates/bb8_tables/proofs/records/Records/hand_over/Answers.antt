@@ -23,3 +23,8 @@ invariant_of-self g c =
     let shows : Shows c.self.inside c.args.k.number is_out = rw (← c.self.view_is) at c.requires.out in
     handover_good c.self.inside c.in-Some.place c.args.k.number f.0 c.put.new.self c.self.invariant f.1 f.2
     (stood c.self.inside c.args.k.number c.in-Some.place f.0 is_out c.self.invariant shows f.1 f.2) c.put.ensures.changed
+
+pub returns-in-None-clause-examined : goal.returns-in-None-clause-examined
+returns-in-None-clause-examined g c =
+    let shows : Shows c.self.inside c.args.k.number is_out = rw (← c.self.view_is) at c.requires.out in
+    never_absent c.self.inside c.args.k.number shows.0 _ shows.1 c.in-None.ensures.none

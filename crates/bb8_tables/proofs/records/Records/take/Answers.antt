@@ -45,3 +45,11 @@ returns-after-connection_of-clause-some g c =
             ∙ ap (machine.after_take (place_with c.args.holder) c.put-number.result.0) c.self.view_is,
       )
     ]
+
+pub returns-after-connection_of-clause-examined : goal.returns-after-connection_of-clause-examined
+returns-after-connection_of-clause-examined g c = elim c.match-connection_of.branch [
+  | in-None-connection_of w ↦ never_without c.self.inside c.args.strategy c.in-Some.place c.put-number.result.0 c.args.holder c.place_of.result c.put-number.new.self c.step_out.new.self
+      c.self.invariant c.in-Some.ensures c.put-number.ensures.number c.place_of.ensures c.put-number.ensures.changed c.step_out.ensures
+      c.put-number.result.1 _ c.put-number.ensures.value w.in-None-connection_of.ensures.none
+  | in-Some-connection_of w ↦ rw w.result-is c.put-number.ensures.examined
+]
