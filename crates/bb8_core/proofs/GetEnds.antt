@@ -17,7 +17,7 @@ use Rattle.bb8_types.specs.Numbered.{Numbered, update, in_order, standing_at, on
 use Rattle.bb8_ledger.specs.Ledger.{Ledger, Later, start, position, latest, records, gets, peak, get_peak, get_of, counts, wait_micros, broken, timed_out, cancelled, with_notice, get_at_place, unnotified_at, oldest_waiter, waiting, expires}
 use Rattle.bb8_types.specs.Places.{holds, first_wait_of, is_notified, is_unnotified, gets_stand, micros_since}
 use Rattle.bb8_ledger.specs.Table.{checks, check_fails, gives_up, gives_up_kept, gives_up_closed}
-use Rattle.bb8_core.specs.Shown.{Shown, shown, IsFitting}
+use Rattle.bb8_core.specs.Shown.{Shown, IsFitting}
 use Rattle.bb8_tables.specs.Views.{ShownRecords, ShownGets}
 use Rattle.bb8_tables.specs.Machine as machine
 use Rattle.bb8_core.specs.Decided as decided
@@ -25,7 +25,7 @@ use Rattle.bb8_core.proofs.ShownRecords.{shown-handed}
 use Rattle.bb8_core.proofs.ShownGets.{shown-ended, shown-turned, noticed_later, first_waits, without_other, notified_out}
 use Rattle.bb8_ledger.proofs.Facts.{waited_before, peak_holds, get_peak_holds}
 use Rattle.bb8_ledger.proofs.GetEffects.{holding_is}
-use Rattle.bb8_core.proofs.Fitting.{shown_get, giving_is, held_record}
+use Rattle.bb8_core.proofs.Fitting.{shown, shown_get, giving_is, held_record}
 use Rattle.bb8_core.proofs.Steps.{IsStep, Notices, Returned, meets_by, same_shown, served, count_served, same_micros, next_gets, records_kept, later_shown, still_raised, kept_records, kept_is, kept_shown, closes_is, closing_is, IsEndGrant, ended_records, ended_shown, closed_counters, closed_is, old_shown}
 use Rattle.bb8_types.specs.Bounds.{most_micros}
 

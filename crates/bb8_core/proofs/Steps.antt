@@ -19,7 +19,7 @@ use Rattle.bb8_ledger.specs.Ledger.{at_entry, Ledger, Later, start, position, la
 use Rattle.bb8_types.specs.Places.{stands, first_of, first_place, first_wait_of, is_claimed, is_guarded, is_out, is_unnotified, gets_stand, birth_in, is_expired, micros_since}
 use Rattle.bb8_ledger.specs.Table.{IsLegal, Row, begins, begin_refused, begin_exhausted, serves, keeps, returns_closed, takes_out, fills, claims, claim_ended, opens, opens_late, fails, shows, takes, Allowed, closes, IsWant, with_record, adds, add_broken, add_full, add_exhausted, add_refused, waits_on, waits, joins, join_exhausted, leaves, looks}
 use Rattle.bb8_types.specs.Grants.{due, lacking, IsGranted, IsNoGrant}
-use Rattle.bb8_core.specs.Shown.{Shown, shown, unexamined, shown_records, shown_gets, Means, HasLedger, IsFitting}
+use Rattle.bb8_core.specs.Shown.{Shown, shown_records, shown_gets, Means, Meets, HasLedger, IsFitting}
 use Rattle.bb8_tables.specs.Views.{ShownRecords, ShownGets}
 use Rattle.bb8_tables.specs.Machine as machine
 use Rattle.bb8_core.specs.Decided as decided
@@ -30,7 +30,7 @@ use Rattle.bb8_core.proofs.ShownRecords as of_records
 use Rattle.bb8_core.proofs.ShownLeft.{shut, shown-left, left_few}
 use Rattle.bb8_core.proofs.ShownGets.{shown-kept, shown-begun, shown-ended, shown-turned, shown-waits, noticed_later, first_waits}
 use Rattle.bb8_ledger.proofs.Facts.{entered_before, waited_before, put_before, ended_before, peak_holds, get_peak_holds, idle_counted, idle_tally}
-use Rattle.bb8_core.proofs.Fitting.{shown_record, shown_get}
+use Rattle.bb8_core.proofs.Fitting.{shown, unexamined, bare, beside, as_shown, shown_record, shown_get}
 use Rattle.bb8_ledger.proofs.Laws.{trying_is, claimed_counted, waits_on_gets}
 use Rattle.bb8_types.specs.Bounds.{end_of_numbers, most_handles, most_micros}
 
@@ -74,28 +74,24 @@ module _ {C : Type 0} where
   pub same_shown : (s t : Shown C) → s.examined ≡ t.examined → s.config ≡ t.config → s.latest ≡ t.latest → s.handles ≡ t.handles → s.records ≡ t.records → s.gets ≡ t.gets → s.counts ≡ t.counts → s ≡ t
   same_shown s t examined config latest handles records gets counts = λ i. record { config = config i; latest = latest i; handles = handles i; records = records i; gets = gets i; counts = counts i; examined = examined i }
 
-  -- On each legal ledger that the state means the answer is allowed, and the ledger that it leads to shows this.
-  abbrev pub Leads : Shown C → ℕ → Act C → Answer → Shown C → Type 0
-  Leads s at e a new = (l : Ledger C) → IsLegal l → Means l s → Allowed l at e a × (shown (Later l at e a) ≡ new)
-
-  -- What an event does to a state, as a fact that names the event and the answer.
+  -- What an event does to a state, as a fact that names the event and the answer: on each legal ledger that the state means the answer is
+  -- allowed, and the ledger that it leads to shows this.
   pub record Step (s : Shown C) (at : ℕ) (e : Act C) (a : Answer) (new : Shown C) : Type 0 where
-    pub leads : Leads s at e a new
+    pub leads : (l : Ledger C) → IsLegal l → Means l s → Allowed l at e a × (shown (Later l at e a) ≡ new)
 
   -- whatever was lent
   abbrev pub IsStep : Shown C → ℕ → Act C → Answer → Shown C → Type 0
   IsStep s at e a new = Step s at e a (unexamined new)
 
   -- A step leads from a state that has a ledger to one that has one. The old state is the view of the fields.
-  pub led : {s t : Shown C} (new : Shown C) (at : ℕ) (e : Act C) (a : Answer) → s ≡ t → HasLedger s → Leads t at e a new
-      → (l : Ledger C) × IsLegal l × (shown l ≡ new)
-  led new at e a is h meets = let step = meets h.0 h.1 (h.2 ∙ ap unexamined is) in (Later h.0 at e a, (h.1, step.0), step.1)
+  pub led : {s t : Shown C} (new : Shown C) (at : ℕ) (e : Act C) (a : Answer) → s ≡ t → HasLedger s → Meets t at e a new → HasLedger new
+  led new at e a is h meets = let step = meets h.0 h.1 (as_shown h.0 is h.2) in (Later h.0 at e a, (h.1, step.0), step.1)
 
-  pub at_view : {s t new : Shown C} (at : ℕ) (e : Act C) (a : Answer) → s ≡ t → Step s at e a new → Leads t at e a new
-  at_view at e a is m l legal means = m.leads l legal (means ∙ ap unexamined (sym is))
+  pub at_view : {s t new : Shown C} (at : ℕ) (e : Act C) (a : Answer) → s ≡ t → IsStep s at e a new → Meets t at e a new
+  at_view at e a is m l legal means = let done = m.leads l legal (as_shown l (sym is) means) in (done.0, beside (Later l at e a) done.1)
 
   pub fits_view : {s t : Shown C} (e : Act C) → s ≡ t → IsFitting t e → IsFitting s e
-  fits_view e is f l legal means = f l legal (means ∙ ap unexamined is)
+  fits_view e is f l legal means = f l legal (as_shown l is means)
 
   -- the records and the gets of a ledger, as they are shown after the event that comes next
   abbrev pub next_records : Ledger C → List (Numbered (Standing C)) → ShownRecords C
@@ -118,8 +114,8 @@ module _ {C : Type 0} where
   meets_by Known next s new at e a fit known is step = record {
     leads = λ l legal means.
         let taken : takes l e ≡ true = fit l legal means in
-        let done = step l legal taken (subst Known (sym means) known) in
-        (fitting (takes l e) _ _ taken done.0, done.1 ∙ ap next means ∙ sym is);
+        let done = step l legal taken (subst Known (sym (bare l means)) known) in
+        (fitting (takes l e) _ _ taken done.0, done.1 ∙ ap next (bare l means) ∙ sym is);
   }
 
   -- the same of an event that changes the latest moment alone
@@ -441,7 +437,7 @@ module _ {C : Type 0} where
 
   pub meets_state : {s : Shown C} {at now : ℕ} {f : Figures} → now ≡ max s.latest at → ((l : Ledger C) → Means l s → f ≡ figures l) → IsStep s at State (ShownFigures f) (record s { latest = now })
   meets_state {s} {at} {now} {f} now_is told = meets_quiet (λ t. (l : Ledger C) → Means l t → f ≡ figures l) s at State (ShownFigures f)
-      (λ l legal means. refl) told now_is refl refl (λ l. (refl, refl, refl))
+      (λ l legal means. refl) (λ l means. told l (beside l means)) now_is refl refl (λ l. (refl, refl, refl))
       (λ l legal fit known. (subst (λ (x : Figures). Row l at State (ShownFigures x)) (sym (known l refl)) shows, refl, refl))
 
   -- what a state shows is what its ledger tells

@@ -3,7 +3,7 @@ use Rattle.bb8_types.specs.declared.standing.Place.TheVariants.{Idle}
 use Rattle.bb8_ledger.specs.Acts as acts
 use Rattle.bb8_ledger.specs.Answers as answers
 use Rattle.bb8_core.specs.Pool.{view_of}
-use Rattle.bb8_core.specs.Shown.{Shown, unexamined}
+use Rattle.bb8_core.specs.Shown.{Shown}
 use Rattle.bb8_core.proofs.Fitting.{shown_record, shown_fits, due_fits}
 use Rattle.bb8_core.proofs.Steps.{grants, led, at_view, fits_view}
 use Rattle.bb8_core.proofs.AtOnce.{between, meets_begun_between, meets_served_between}
@@ -30,14 +30,15 @@ returns-in-Some-clause-some g c =
       at_view c.args.at.0 acts.Begin _ c.self.view_is
           (meets_begun_between c.args.at.0 c.pass-get.ensures.number
           (fits_view acts.Begin c.self.view_is c.requires.begin) c.max-now.ensures (c.has_room.ensures.number c.if-not-has_room.false)),
-      (meets_served_between a c.self.inside.counters c.pass-get.ensures.number off c.max-now.ensures c.in-Some.ensures.some.0
+      at_view c.args.at.0 (acts.Try c.pass-get.result) (answers.Served c.in-Some.key.number c.grant-grant.result) refl
+          (meets_served_between a c.self.inside.counters c.pass-get.ensures.number off c.max-now.ensures c.in-Some.ensures.some.0
           (grants c.in-Some.ensures.some.2 c.want-wanted.ensures c.grant-grant.ensures.granted c.grant-grant.ensures.state)
-          c.pass-get.ensures.state refl c.serve.ensures).leads,
+          c.pass-get.ensures.state refl c.serve.ensures),
       λ l legal means. (record { place = Idle c.in-Some.conn; birth = was.0; entered = was.1 }, shown_record l (between a c.max-now.result) means c.in-Some.key.number ∙ was.2, refl),
     )
 
 pub invariant_of-self-in-Some : goal.invariant_of-self-in-Some
 invariant_of-self-in-Some g c =
     let both = returns-in-Some-clause-some g c in
-    let began = led (unexamined both.0) c.args.at.0 acts.Begin (answers.Begun c.pass-get.result) c.self.view_is c.self.invariant both.1 in
-    led {s = both.0} _ c.args.at.0 (acts.Try c.pass-get.result) (answers.Served c.in-Some.key.number c.grant-grant.result) refl began both.2
+    let began = led both.0 c.args.at.0 acts.Begin (answers.Begun c.pass-get.result) c.self.view_is c.self.invariant both.1 in
+    led _ c.args.at.0 (acts.Try c.pass-get.result) (answers.Served c.in-Some.key.number c.grant-grant.result) refl began both.2

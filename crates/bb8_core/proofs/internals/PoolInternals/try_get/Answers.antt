@@ -6,10 +6,9 @@ use Rattle.bb8_types.specs.Places.{place_with}
 use Rattle.bb8_tables.specs.Machine as machine
 use Rattle.bb8_ledger.specs.Acts as acts
 use Rattle.bb8_ledger.specs.Answers as answers
-use Rattle.bb8_core.specs.Shown.{unexamined}
 use Rattle.bb8_core.specs.Pool.{view_of}
 use Rattle.bb8_types.specs.Grants.{IsNoGrant}
-use Rattle.bb8_core.proofs.Fitting.{shown_record, due_fits, fit_try, fit_waits, ended_few}
+use Rattle.bb8_core.proofs.Fitting.{as_shown, shown_record, due_fits, fit_try, fit_waits, ended_few}
 use Rattle.bb8_core.proofs.Steps.{grants, tries, meets_served, meets_taken, meets_waits_on, meets_waits, due_waiting, led, at_view}
 use Rattle.bb8_core.proofs.internals.PoolInternals.try_get.Goals as goal
 
@@ -60,7 +59,7 @@ invariant_of-self-then-self g c = led _ c.args.at.0 (acts.Try c.args.get.number)
 pub returns-then-self-clause-connection : goal.returns-then-self-clause-connection
 returns-then-self-clause-connection g c = λ l legal means.
     let was = c.in-Some.ensures.some.1 in
-    (record { place = Idle c.in-Some.conn; birth = was.0; entered = was.1 }, shown_record l (view_of c.self.inside) (means ∙ ap unexamined (sym c.self.view_is)) c.in-Some.key.number ∙ was.2, refl)
+    (record { place = Idle c.in-Some.conn; birth = was.0; entered = was.1 }, shown_record l (view_of c.self.inside) (as_shown l (sym c.self.view_is) means) c.in-Some.key.number ∙ was.2, refl)
 
 pub finish-requires : goal.finish-requires
 finish-requires g c = fit_waits c.args.get.number c.self.view_is c.self.invariant c.requires c.getting-getting.ensures.value (sym c.is_unnotified.ensures ∙ c.if-is_unnotified.false)
@@ -96,4 +95,4 @@ invariant_of-self-in-Some g c = led _ c.args.at.0 (acts.Try c.args.get.number)
 pub returns-else-self-clause-connection : goal.returns-else-self-clause-connection
 returns-else-self-clause-connection g c = λ l legal means.
     let was = c.in-Some.ensures.some.1 in
-    (record { place = Idle c.in-Some.conn; birth = was.0; entered = was.1 }, shown_record l (view_of c.self.inside) (means ∙ ap unexamined (sym c.self.view_is)) c.in-Some.key.number ∙ was.2, refl)
+    (record { place = Idle c.in-Some.conn; birth = was.0; entered = was.1 }, shown_record l (view_of c.self.inside) (as_shown l (sym c.self.view_is) means) c.in-Some.key.number ∙ was.2, refl)
