@@ -6,7 +6,7 @@ use Rattle.bb8_ledger.specs.Acts.{Act}
 use Rattle.bb8_ledger.specs.Answers as answers
 use Rattle.bb8_ledger.specs.Answers.{Answer}
 use Rattle.bb8_ledger.specs.Ledger.{Ledger, Later}
-use Rattle.bb8_ledger.specs.Table.{takes, Allowed, IsLegal}
+use Rattle.bb8_ledger.specs.Table.{fits, Allowed, IsLegal}
 use Rattle.bb8_core.specs.Shown.{IsWithinLimits, Shown, Means, Meets}
 
 module _ {C : Type 0} where
@@ -15,7 +15,7 @@ module _ {C : Type 0} where
   abbrev pub Steps : Shown C → ℕ → Act C → Answer → Shown C → Type 0
   Steps old at e a new =
       (l : Ledger C) → IsLegal l → Means l old
-      → MatchBool (takes l e) (Allowed l at e a × Means (Later l at e a) new) ((a ≡ answers.Unfit) × (new ≡ old))
+      → MatchBool (fits l e) (Allowed l at e a × Means (Later l at e a) new) ((a ≡ answers.Unfit) × (new ≡ old))
 
   -- A step under the lock of a pool with these settings: from a state that has them and keeps the limits, with this answer, to the next state.
   abbrev pub StepsIn : Settings → Shown C → ℕ → Act C → Answer → Shown C → Type 0
