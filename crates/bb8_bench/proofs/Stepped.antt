@@ -13,7 +13,7 @@ use Rattle.bb8_ledger.specs.Answers as answers
 use Rattle.bb8_types.specs.Numbered.{Numbered, at as at_number, update, numbers, in_order}
 use Rattle.bb8_ledger.specs.Ledger.{Ledger, Later, start, position, latest, handles, handles_after, records, gets, next_get, idle, first_idle, unclaimed, record_of, idle_at, at_place, entry, at_entry, approval, with_approvals, new_get}
 use Rattle.bb8_types.specs.Places.{first_of, stands, is_claimed, is_guarded, is_idle, is_unclaimed, gets_stand, birth_in, with_place, is_trying}
-use Rattle.bb8_ledger.specs.Table.{Row, begins, serves, claims, takes, Allowed}
+use Rattle.bb8_ledger.specs.Table.{Row, begins, serves, claims, fits, Allowed}
 use Rattle.bb8_core.specs.Shown.{Shown, shown_records, Means, IsFitting}
 use Rattle.bb8_tables.specs.Views.{ShownRecords}
 use Rattle.bb8_tables.specs.Machine as machine
@@ -113,7 +113,7 @@ module _ (s t : Shown ℕ) (l : Ledger ℕ) (means : Means l s) where
   pub begun_tries : (at g : ℕ) → IsServing s → Allowed l at Begin (Begun g) → Means (Later l at Begin (Begun g)) t → gets_stand is_trying (get t.gets.places g) ≡ true
   begun_tries at g ready allowed new =
       let open_now : ltb 0 (handles l) ≡ true = lt-ltb 0 (handles l) (subst (λ (n : ℕ). 0 < n) (sym (ap (λ (x : Shown ℕ). x.handles) means)) ready.handles) in
-      let is : g ≡ next_get l = given at g (by_row (takes l Begin) _ _ open_now allowed) in
+      let is : g ≡ next_get l = given at g (by_row (fits l Begin) _ _ open_now allowed) in
       let last : eqb g (next_get l) ≡ true = ap (eqb g) (sym is) ∙ numbered.eqb_self g in
       let found : at_number (start l).first_get (gets l ++ new_get ∷ []) g ≡ Some new_get =
       numbered.at-append (gets l) new_get (start l).first_get g
@@ -130,12 +130,12 @@ module _ (s t : Shown ℕ) (l : Ledger ℕ) (means : Means l s) where
   first_out at g k grant (serves not_waiting off first want) = first
 
   -- what a served try leaves: the line without its first, which is out
-  pub served : (at g k : ℕ) (grant : Grant) → IsServing s → takes l (Try g) ≡ true → Allowed l at (Try g) (Served k grant)
+  pub served : (at g k : ℕ) (grant : Grant) → IsServing s → fits l (Try g) ≡ true → Allowed l at (Try g) (Served k grant)
       → Means (Later l at (Try g) (Served k grant)) t → (s.records.idle ≡ k ∷ t.records.idle)
       × (stands is_guarded (get t.records.places k) ≡ true)
   served at g k grant ready fit allowed new =
       let strategy : (start l).config.queue_strategy ≡ _ = ap (λ (x : Shown ℕ). x.config.queue_strategy) means ∙ ready.oldest in
-      let first : slice_get (idle l) 0 ≡ Some k = subst (λ (q : QueueStrategy). first_of q (idle l) ≡ Some k) strategy (first_out at g k grant (by_row (takes l (Try g)) _ _ fit allowed)) in
+      let first : slice_get (idle l) 0 ≡ Some k = subst (λ (q : QueueStrategy). first_of q (idle l) ≡ Some k) strategy (first_out at g k grant (by_row (fits l (Try g)) _ _ fit allowed)) in
       let line = head (idle l) k first in
       let m : (r : Numbered (Standing ℕ)) × (at_number (start l).first (records l) k ≡ Some r) × (q : ℕ) × (q < position l)
       × (idle_at q r ≡ true) = numbered.in_order_member idle_at (records l) (start l).first (position l) 0 k first in

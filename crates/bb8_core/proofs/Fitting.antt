@@ -9,12 +9,12 @@ use Rattle.bb8_types.specs.declared.standing.Getting.{Getting}
 use Rattle.bb8_ledger.specs.Acts.{Try, GiveUp, Leave, Reason, Cancelled}
 use Rattle.bb8_ledger.specs.Ledger.{Ledger, conns, approved, alive, get_of, start, handles, records, gets, record_of}
 use Rattle.bb8_types.specs.Places.{holds, stands, gets_stand, is_unnotified, is_claimed, is_guarded, is_held_by, is_out}
-use Rattle.bb8_ledger.specs.Table.{takes, IsLegal}
+use Rattle.bb8_ledger.specs.Table.{fits, IsLegal}
 use Rattle.bb8_core.specs.Shown.{Shown, shown_beside, HasLedger, IsFitting, Means}
 use Rattle.bb8_types.proofs.Places.{standing_is, claimed_is, guarded_out, and_right}
 use Rattle.bb8_ledger.proofs.GetEffects.{holding_is}
 use Rattle.bb8_ledger.proofs.Held.{all_held}
-use Rattle.bb8_ledger.proofs.Invalid.{few_invalid}
+use Rattle.bb8_ledger.proofs.Invalid.{few_ended}
 use Rattle.bb8_ledger.proofs.Laws.{alive_get, trying_is, alive_is, out_counted, claimed_counted, Fits, all_fit, due_few}
 use Rattle.bb8_types.specs.Numbered.{Numbered}
 use Rattle.bb8_types.proofs.Numbered as numbered
@@ -76,6 +76,10 @@ module _ {C : Type 0} where
       let least : due s.config s.handles used asked ≤ s.config.max_size - used = due_few s.config s.handles used asked in
       omega (arith, (shown_fits s h).size)
 
+  -- connections that were closed as invalid, or idled out, are no more than the numbers that are free
+  pub ended_shown : (s : Shown C) → HasLedger s → s.counts.invalid + s.counts.idle_timeout + s.records.conns + s.records.approved ≤ s.records.next
+  ended_shown s h = subst (λ (t : Shown C). t.counts.invalid + t.counts.idle_timeout + t.records.conns + t.records.approved ≤ t.records.next) h.2 (few_ended h.0 h.1)
+
   -- the record that a get holds is out
   pub held_record : (l : Ledger C) (g k : ℕ) → IsLegal l → holds (get_of l g) ≡ Some k → (st : Standing C) × (record_of l k ≡ Some st) × (is_out st.place ≡ true)
   held_record l g k legal held =
@@ -128,9 +132,7 @@ module _ {C : Type 0} where
       → s.records.next ≤ end_of_numbers → s.counts.invalid < end_of_numbers
   invalid_few k s h st few =
       let some : 1 ≤ s.records.conns = out_some k s h st in
-      let less : s.counts.invalid + s.records.conns + s.records.approved ≤ s.records.next =
-      subst (λ (t : Shown C). t.counts.invalid + t.records.conns + t.records.approved ≤ t.records.next) h.2 (few_invalid h.0 h.1) in
-      omega arith
+      omega (arith, ended_shown s h)
 
   -- where a handle leaves, one is alive
   pub fit_leave : {s t : Shown C} → s ≡ t → HasLedger s → IsFitting t Leave → 1 ≤ s.handles
@@ -142,7 +144,7 @@ module _ {C : Type 0} where
   pub fit_try : {s t : Shown C} (g : ℕ) → s ≡ t → HasLedger s → IsFitting t (Try g) → (st : Getting) × (get s.gets.places g ≡ Some st)
   fit_try {s} g is h fit = let st = trying_is h.0 g (fit h.0 h.1 (as_shown h.0 is h.2)) in (st.0, sym (shown_get h.0 s h.2 g) ∙ st.1)
 
-  pub giving_is : (l : Ledger C) (g : ℕ) (held : Option C) → takes l (GiveUp g Cancelled held false) ≡ true → (st : Getting) × (get_of l g ≡ Some st)
+  pub giving_is : (l : Ledger C) (g : ℕ) (held : Option C) → fits l (GiveUp g Cancelled held false) ≡ true → (st : Getting) × (get_of l g ≡ Some st)
   giving_is l g held f = alive_get (get_of l g) (and_right (is_some (get_of l g)) _ f).0
 
   pub fit_give_up : {s t : Shown C} (g : ℕ) (held : Option C) → s ≡ t → HasLedger s → IsFitting t (GiveUp g Cancelled held false) → (st : Getting) × (get s.gets.places g ≡ Some st)
@@ -177,7 +179,7 @@ module _ {C : Type 0} where
       some_held (Some k) e = (k, refl)
 
   -- a give-up hands a connection in where the get holds one
-  pub give_up_holds : (l : Ledger C) (g : ℕ) (why : Reason) (c : C) (broken : Bool) → takes l (GiveUp g why (Some c) broken) ≡ true → is_some (holds (get_of l g)) ≡ true
+  pub give_up_holds : (l : Ledger C) (g : ℕ) (why : Reason) (c : C) (broken : Bool) → fits l (GiveUp g why (Some c) broken) ≡ true → is_some (holds (get_of l g)) ≡ true
   give_up_holds l g why c broken f = (and_right (is_some (get_of l g)) _ f).1
 
   -- what it holds is out

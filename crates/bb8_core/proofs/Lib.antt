@@ -1,9 +1,11 @@
 pub mod ShownRecords
 pub mod ShownLeft
+pub mod ShownReaped
 pub mod ShownGets
 pub mod Fitting
 pub mod Steps
 pub mod GetEnds
+pub mod Reaps
 pub mod Runs
 pub mod AtOnce
 pub mod Parts

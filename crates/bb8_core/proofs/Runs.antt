@@ -10,7 +10,7 @@ use Rattle.bb8_ledger.specs.Acts.{Act, Try, GiveUp, Reason}
 use Rattle.bb8_ledger.specs.Answers.{Unfit}
 use Rattle.bb8_ledger.specs.Ledger.{Ledger, Later}
 use Rattle.bb8_types.specs.Places.{gets_stand, holds, is_trying}
-use Rattle.bb8_ledger.specs.Table.{takes, agree, Allowed, IsLegal}
+use Rattle.bb8_ledger.specs.Table.{fits, agree, Allowed, IsLegal}
 use Rattle.bb8_core.specs.Shown.{Shown, Means, IsRecordIn, IsNoRecordIn, IsGetIn, IsNoGetIn}
 use Rattle.bb8_core.specs.Run.{act_of, answer_of, IsRun, AfterEach}
 use Rattle.bb8_core.proofs.Fitting.{shown, bare, beside, as_shown, shown_record, shown_get}
@@ -36,12 +36,12 @@ module _ {C : Type 0} where
   get_absent s t n (Some g) is h = tt
 
   -- which tries are taken, by what is shown
-  pub takes_try : (l : Ledger C) (s : Shown C) (g : ℕ) → Means l s → takes l (Try g) ≡ gets_stand is_trying (get s.gets.places g)
+  pub takes_try : (l : Ledger C) (s : Shown C) (g : ℕ) → Means l s → fits l (Try g) ≡ gets_stand is_trying (get s.gets.places g)
   takes_try l s g means = ap (gets_stand is_trying) (shown_get l s means g)
 
   -- and which give-ups: the get is alive, and a connection is handed in just where it holds one
   pub takes_give_up : (l : Ledger C) (s : Shown C) (g : ℕ) (why : Reason) (held : Option C) (broken : Bool) → Means l s
-      → takes l (GiveUp g why held broken) ≡ (is_some (get s.gets.places g) && agree (is_some held) (is_some (holds (get s.gets.places g))))
+      → fits l (GiveUp g why held broken) ≡ (is_some (get s.gets.places g) && agree (is_some held) (is_some (holds (get s.gets.places g))))
   takes_give_up l s g why held broken means = ap (λ (o : Option Getting). is_some o && agree (is_some held) (is_some (holds o))) (shown_get l s means g)
 
   -- ---- an event that does not fit changes nothing
@@ -49,8 +49,8 @@ module _ {C : Type 0} where
   unfit_shown : (l : Ledger C) (at : ℕ) (e : Act C) → shown (Later l at e Unfit) ≡ shown l
   unfit_shown l at e = same_shown _ _ refl refl refl refl (records_kept l) (gets_kept l) refl
 
-  pub unfit_now : (l : Ledger C) (s : Shown C) (at : ℕ) (e : Act C) → takes l e ≡ false → Means l s → Allowed l at e Unfit × Means (Later l at e Unfit) s
-  unfit_now l s at e misfit means = (unfitting (takes l e) _ _ misfit refl, beside (Later l at e Unfit) (unfit_shown l at e ∙ bare l means))
+  pub unfit_now : (l : Ledger C) (s : Shown C) (at : ℕ) (e : Act C) → fits l e ≡ false → Means l s → Allowed l at e Unfit × Means (Later l at e Unfit) s
+  unfit_now l s at e misfit means = (unfitting (fits l e) _ _ misfit refl, beside (Later l at e Unfit) (unfit_shown l at e ∙ bare l means))
 
 -- ---- lists of events
 

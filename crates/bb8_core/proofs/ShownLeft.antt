@@ -17,7 +17,7 @@ use Rattle.bb8_ledger.proofs.Facts.{ended_before, idle_counted}
 use Rattle.bb8_tables.proofs.Views.{same_records}
 
 -- an element is changed to one that a function makes the same
-map-change : {R S : Type 0} (f : R → S) (rs : List R) (n k : ℕ) (new old : R) → at n rs k ≡ Some old → f new ≡ f old → map f (change n k new rs) ≡ map f rs
+pub map-change : {R S : Type 0} (f : R → S) (rs : List R) (n k : ℕ) (new old : R) → at n rs k ≡ Some old → f new ≡ f old → map f (change n k new rs) ≡ map f rs
 map-change f [] n k new old h e = refl
 map-change f (r ∷ rs) n k new old h e =
     ⊎_elim

@@ -17,7 +17,7 @@ use Rattle.bb8_ledger.specs.Answers as answers
 use Rattle.bb8_types.specs.Numbered.{Numbered, update, one, after_end}
 use Rattle.bb8_ledger.specs.Ledger.{at_entry, Ledger, Later, start, position, latest, handles, records, gets, peak, get_peak, alive, idle, record_of, get_of, idle_at, at_place, entry, with_approvals, idle_count, conns_of, approved_of, alive_of, counts, figures, wait_micros, next, with_notice, oldest_waiter, waiting}
 use Rattle.bb8_types.specs.Places.{stands, first_of, first_place, first_wait_of, is_claimed, is_guarded, is_out, is_unnotified, gets_stand, birth_in, is_expired, micros_since}
-use Rattle.bb8_ledger.specs.Table.{IsLegal, Row, begins, begin_refused, begin_exhausted, serves, keeps, returns_closed, takes_out, fills, claims, claim_ended, opens, opens_late, fails, shows, takes, Allowed, closes, IsWant, with_record, adds, add_broken, add_full, add_exhausted, add_refused, waits_on, waits, joins, join_exhausted, leaves, looks}
+use Rattle.bb8_ledger.specs.Table.{IsLegal, Row, begins, begin_refused, begin_exhausted, serves, keeps, returns_closed, takes_out, fills, claims, claim_ended, opens, opens_late, fails, shows, fits, closes, IsWant, with_record, adds, add_broken, add_full, add_exhausted, add_refused, waits_on, waits, joins, join_exhausted, leaves, looks}
 use Rattle.bb8_types.specs.Grants.{due, lacking, IsGranted, IsNoGrant}
 use Rattle.bb8_core.specs.Shown.{Shown, shown_records, shown_gets, Means, Meets, HasLedger, IsFitting}
 use Rattle.bb8_tables.specs.Views.{ShownRecords, ShownGets}
@@ -50,7 +50,7 @@ pub used_up : {b : Bool} (n : ℕ) → b ≡ ltb n end_of_numbers → b ≡ fals
 used_up {b} n is e = grind (arith, nat_tests, leb_tells (suc n) end_of_numbers)
 
 -- a handle is alive where they are not none
-open_now : (n : ℕ) → n ≢ 0 → 0 < n
+pub open_now : (n : ℕ) → n ≢ 0 → 0 < n
 open_now n h = omega arith
 
 -- the first in line is notified, if there is one
@@ -109,20 +109,20 @@ module _ {C : Type 0} where
 
   -- A step is proved of what a ledger shows: what is known of the state is known of that, and the new state is told by the old one.
   pub meets_by : (Known : Shown C → Type 0) (next : Shown C → Shown C) (s new : Shown C) (at : ℕ) (e : Act C) (a : Answer) → IsFitting s e
-      → Known (unexamined s) → new ≡ next (unexamined s) → ((l : Ledger C) → IsLegal l → takes l e ≡ true → Known (shown l) → Row l at e a
+      → Known (unexamined s) → new ≡ next (unexamined s) → ((l : Ledger C) → IsLegal l → fits l e ≡ true → Known (shown l) → Row l at e a
       × (shown (Later l at e a) ≡ next (shown l))) → Step s at e a new
   meets_by Known next s new at e a fit known is step = record {
     leads = λ l legal means.
-        let taken : takes l e ≡ true = fit l legal means in
+        let taken : fits l e ≡ true = fit l legal means in
         let done = step l legal taken (subst Known (sym (bare l means)) known) in
-        (fitting (takes l e) _ _ taken done.0, done.1 ∙ ap next (bare l means) ∙ sym is);
+        (fitting (fits l e) _ _ taken done.0, done.1 ∙ ap next (bare l means) ∙ sym is);
   }
 
   -- the same of an event that changes the latest moment alone
-  meets_quiet : (Known : Shown C → Type 0) (s : Shown C) {now : ℕ} {rs : ShownRecords C} {gs : ShownGets} (at : ℕ) (e : Act C) (a : Answer)
+  pub meets_quiet : (Known : Shown C → Type 0) (s : Shown C) {now : ℕ} {rs : ShownRecords C} {gs : ShownGets} (at : ℕ) (e : Act C) (a : Answer)
       → IsFitting s e → Known (unexamined s) → now ≡ max s.latest at → rs ≡ s.records → gs ≡ s.gets
       → ((l : Ledger C) → (latest (Later l at e a) ≡ max (latest l) at) × (handles (Later l at e a) ≡ handles l)
-      × (counts (Later l at e a) ≡ counts l)) → ((l : Ledger C) → IsLegal l → takes l e ≡ true → Known (shown l) → Row l at e a
+      × (counts (Later l at e a) ≡ counts l)) → ((l : Ledger C) → IsLegal l → fits l e ≡ true → Known (shown l) → Row l at e a
       × (records (Later l at e a) ≡ records l) × (gets (Later l at e a) ≡ gets l))
       → IsStep s at e a (record s { latest = now; records = rs; gets = gs })
   meets_quiet Known s at e a fit known now_is rs_is gs_is quiet row =
@@ -151,7 +151,7 @@ module _ {C : Type 0} where
       stands (Some k) e = let w = first_waits (start l).first_get (position l) (gets l) k e in (w.0, w.1)
 
   -- records that were changed without entry, and approvals that were granted then
-  changed : (claimed : Bool) (l : Ledger C) (n : ℕ) (rs : List (Numbered (Standing C))) (new : ShownRecords C)
+  pub changed : (claimed : Bool) (l : Ledger C) (n : ℕ) (rs : List (Numbered (Standing C))) (new : ShownRecords C)
       → shown_records (start l).first (suc (position l)) (peak l) rs ≡ new
       → shown_records (start l).first (suc (position l))
       (max (peak l) (conns_of (with_approvals claimed n rs) + approved_of (with_approvals claimed n rs)))
@@ -172,7 +172,7 @@ module _ {C : Type 0} where
   }
 
   -- what is granted of what is wanted, by tallies
-  want_is : (l : Ledger C) (rs : List (Numbered (Standing C))) (g : Grant) (new : ShownRecords C) → Before idle_at (position l) rs
+  pub want_is : (l : Ledger C) (rs : List (Numbered (Standing C))) (g : Grant) (new : ShownRecords C) → Before idle_at (position l) rs
       → shown_records (start l).first (position l) (peak l) rs ≡ new → machine.IsGrant new (decided.want (start l).config (handles l) new) g
       → IsWant l rs g
   want_is l rs g new before is granted =

@@ -5,7 +5,7 @@ use Rattle.bb8_ledger.specs.Acts.{Act}
 use Rattle.bb8_ledger.specs.Answers as answers
 use Rattle.bb8_ledger.specs.Answers.{Answer}
 use Rattle.bb8_ledger.specs.Ledger.{Ledger, Later}
-use Rattle.bb8_ledger.specs.Table.{takes, Allowed, IsLegal}
+use Rattle.bb8_ledger.specs.Table.{fits, Allowed, IsLegal}
 use Rattle.bb8_core.specs.Shown.{Shown, Means}
 
 module _ {C : Type 0} where
@@ -14,4 +14,4 @@ module _ {C : Type 0} where
   abbrev pub Steps : Shown C → ℕ → Act C → Answer → Shown C → Type 0
   Steps old at e a new =
       (l : Ledger C) → IsLegal l → Means l old
-      → MatchBool (takes l e) (Allowed l at e a × Means (Later l at e a) new) ((a ≡ answers.Unfit) × (new ≡ old))
+      → MatchBool (fits l e) (Allowed l at e a × Means (Later l at e a) new) ((a ≡ answers.Unfit) × (new ≡ old))

@@ -14,7 +14,7 @@ ghost use Rattle.bb8_types.specs.Figures.{figures_of};
 ghost use Rattle.bb8_core.specs.Endings.{endings_of};
 ghost use Rattle.bb8_core.specs.Run.{opening};
 ghost use Rattle.bb8_core.specs.Shown.{Means, Meets, IsFitting, TellsFitting, IsRecordIn, IsNoRecordIn, IsGetIn, IsNoGetIn, IsWithinLimits};
-ghost use Rattle.bb8_core.specs.StepAnswers.{begin_told, try_told, checked_ok_told, checked_err_told, reason_of, give_up_told, put_back_told, claim_told, opened_told, failed_told, add_told, join_told, leave_told, look_told, HandsOut, ServesAtOnce, NoneAtOnce, GivesBack, GivesBackInvalid, GivesBackHeld, HandsBack, Refuses};
+ghost use Rattle.bb8_core.specs.StepAnswers.{begin_told, try_told, checked_ok_told, checked_err_told, reason_of, give_up_told, put_back_told, claim_told, opened_told, failed_told, add_told, reap_told, join_told, leave_told, look_told, HandsOut, ServesAtOnce, NoneAtOnce, GivesBack, GivesBackInvalid, GivesBackHeld, HandsBack, Refuses};
 ghost use Rattle.bb8_types.specs.declared.standing.Holder.TheVariants.{Guard, Get};
 ghost use Rattle.bb8_types.specs.declared.standing.Standing.{Standing};
 ghost use Rattle.bb8_types.specs.Bounds.{end_of_numbers, most_records};
@@ -22,7 +22,8 @@ ghost use Rattle.bb8_tables.specs.Keys.{notified_of};
 
 pub use crate::answers::{
     AddAnswer, AtOnce, BeginAnswer, CheckedErrAnswer, CheckedOkAnswer, ClaimAnswer, FailedAnswer,
-    GiveUpAnswer, JoinAnswer, LeaveAnswer, Looked, OpenedAnswer, PutBackAnswer, TryAnswer,
+    GiveUpAnswer, JoinAnswer, LeaveAnswer, Looked, OpenedAnswer, PutBackAnswer, ReapAnswer,
+    TryAnswer,
 };
 use bb8_tables::counters::Counters;
 use bb8_tables::gets::{Gets, first_wait, held, held_key, is_notified, is_unnotified};
@@ -531,6 +532,29 @@ impl<C: Drop> PoolInternals<C> {
         match self.records.add(conn, now) {
             Ok(key) => AddAnswer::Added(key, self.gets.notify(&mut self.lendings)),
             Err(conn) => AddAnswer::Withheld(conn),
+        }
+    }
+
+    /// Closes each idle connection that has been idle for the `idle_timeout` or has lived for the `max_lifetime`, and grants what is wanted
+    /// then. One that is both counts in both. Nobody is notified. The connections are dropped here. Where no handle is alive nothing changes
+    /// but the latest moment.
+    pub fn reap(&mut self, at: Moment) -> ReapAnswer
+        ensures { Meets self.old at.0 acts.Reap (reap_told result) self.new }
+    {
+        let now = self.latest.max(at.0);
+        self.latest = now;
+        if self.handles == 0 {
+            return ReapAnswer::Ended;
+        }
+        let reaped = self.records.reap(&self.config, now);
+        let wanted = want(&self.config, self.handles, &self.records);
+        let grant = self.records.grant(wanted, false);
+        self.counters.reap(reaped.by_idle, reaped.by_life);
+        ReapAnswer::Reaped {
+            closed: reaped.closed,
+            by_idle: reaped.by_idle,
+            by_life: reaped.by_life,
+            grant,
         }
     }
 

@@ -2,7 +2,8 @@
 ghost use Rattle.std.specs.Prelude.{◌≡◌, ℕ, length, true, IfOk};
 ghost use Rattle.bb8_ledger.specs.Acts as acts;
 ghost use Rattle.bb8_ledger.specs.Ledger.{Ledger};
-ghost use Rattle.bb8_ledger.specs.Table.{takes, IsLegal};
+ghost use Rattle.bb8_ledger.specs.Table as table;
+ghost use Rattle.bb8_ledger.specs.Table.{IsLegal};
 ghost use Rattle.bb8_ledger.specs.Limits.{KeepsLimits, KeepsLaws, KeepsPromises};
 ghost use Rattle.bb8_tables.specs.Keys.{notified_of};
 ghost use Rattle.bb8_core.specs.Run.{act_with, answer_of, opening, IsRun, IsTaken, Happens, Applies, AfterEach};
@@ -16,7 +17,7 @@ mod hints;
 use self::hints::Hints;
 use crate::answers::{
     AddAnswer, BeginAnswer, CheckedErrAnswer, CheckedOkAnswer, ClaimAnswer, FailedAnswer,
-    GiveUpAnswer, JoinAnswer, LeaveAnswer, OpenedAnswer, PutBackAnswer, TryAnswer,
+    GiveUpAnswer, JoinAnswer, LeaveAnswer, OpenedAnswer, PutBackAnswer, ReapAnswer, TryAnswer,
 };
 use crate::internals::PoolInternals;
 use bb8_tables::keys::{GetKey, Key};
@@ -62,7 +63,7 @@ impl Known {
                 self.records.place(number)
             }
             Act::Begin | Act::Fill(_) | Act::Claim | Act::Add(_) => 0,
-            Act::State | Act::Join | Act::Leave | Act::Look => 0,
+            Act::Reap | Act::State | Act::Join | Act::Leave | Act::Look => 0,
         }
     }
 
@@ -77,14 +78,14 @@ impl Known {
 
 /// Whether the event fits the state. A connection that it hands in does not matter. Our own.
 pub fn fits<C: Drop>(pool: &PoolInternals<C>, event: Event) -> bool
-    ensures { (conn : ℕ → C) (l : Ledger C) → IsLegal l → Means l pool.now → result ≡ takes l (act_with conn l event.act) }
+    ensures { (conn : ℕ → C) (l : Ledger C) → IsLegal l → Means l pool.now → result ≡ table.fits l (act_with conn l event.act) }
 {
     fits_at(pool, event.act, 0)
 }
 
 /// As `fits`, where the number that the event names may stand at the hint.
 fn fits_at<C: Drop>(pool: &PoolInternals<C>, act: Act, place: usize) -> bool
-    ensures { (conn : ℕ → C) (l : Ledger C) → IsLegal l → Means l pool.now → result ≡ takes l (act_with conn l act) }
+    ensures { (conn : ℕ → C) (l : Ledger C) → IsLegal l → Means l pool.now → result ≡ table.fits l (act_with conn l act) }
 {
     match act {
         Act::Begin => pool.fits_begin(),
@@ -101,7 +102,7 @@ fn fits_at<C: Drop>(pool: &PoolInternals<C>, act: Act, place: usize) -> bool
         Act::Failed(number) => pool.fits_failed(Key { number, place }),
         Act::Join => pool.fits_join(),
         Act::Leave => pool.fits_leave(),
-        Act::Fill(_) | Act::Claim | Act::State | Act::Look => true,
+        Act::Fill(_) | Act::Claim | Act::Reap | Act::State | Act::Look => true,
     }
 }
 
@@ -251,6 +252,25 @@ fn add(pool: &mut PoolInternals<u64>, known: &mut Known, at: Moment, broken: boo
     }
 }
 
+fn reap(pool: &mut PoolInternals<u64>, at: Moment) -> Answer
+    ensures { Meets pool.old at.0 acts.Reap (answer_of result) pool.new }
+{
+    match pool.reap(at) {
+        ReapAnswer::Reaped {
+            closed,
+            by_idle,
+            by_life,
+            grant,
+        } => Answer::Reaped {
+            closed,
+            by_idle,
+            by_life,
+            grant,
+        },
+        ReapAnswer::Ended => Answer::Ended,
+    }
+}
+
 fn join(pool: &mut PoolInternals<u64>, at: Moment) -> Answer
     requires { IsFitting pool.old acts.Join }
     ensures { Meets pool.old at.0 acts.Join (answer_of result) pool.new }
@@ -309,6 +329,7 @@ pub fn apply(pool: &mut PoolInternals<u64>, known: &mut Known, event: Event) -> 
         Act::Opened(number) => opened(pool, event.at, Key { number, place }),
         Act::Failed(number) => failed(pool, event.at, Key { number, place }),
         Act::Add(broken) => add(pool, known, event.at, broken),
+        Act::Reap => reap(pool, event.at),
         Act::State => Answer::Shown(pool.state(event.at)),
         Act::Join => join(pool, event.at),
         Act::Leave => leave(pool, event.at),

@@ -11,7 +11,7 @@ use Rattle.bb8_ledger.specs.Answers.{Answer, Left, Unfit}
 use Rattle.bb8_types.specs.Numbered.{Numbered, at as at_number, update, numbers, tally, one, standing_at, after_end, after_end_where}
 use Rattle.bb8_ledger.specs.Ledger.{Ledger, Opening, Later, Start, start, position, latest, handles, records, conns, approved, idle_count, out, idle, idle_at, first_idle, unclaimed, record_of, with_ended, tally_places, conns_of, approved_of, idle_of, at_place, entry, at_entry, approval, with_approvals}
 use Rattle.bb8_types.specs.Places.{first_place, stands, is_conn, is_approval, is_idle, is_out, is_unclaimed, is_claimed, is_guarded, is_held_by, is_reaped, lives_out, is_left, with_place}
-use Rattle.bb8_ledger.specs.Table.{Row, IsLegal, Allowed, takes, fits, is_brought, with_record, reaped_at, reap_count}
+use Rattle.bb8_ledger.specs.Table.{Row, IsLegal, Allowed, fits, with_record, reaped_at, reap_count}
 use Rattle.bb8_types.proofs.Places.{standing_is, unclaimed_is, claimed_is, guarded_is, idle_is, and_right}
 use Rattle.bb8_types.proofs.Numbered as numbered
 use Rattle.bb8_ledger.proofs.Facts.{conns_split}
@@ -58,9 +58,9 @@ module _ {R : Type 0} where
 module _ {C : Type 0} where
   -- ---- one event after another
 
-  -- an event that is allowed did not fit, or it fits and its answer is one of the table; so nothing below asks which events the code takes
+  -- an event that is allowed did not fit, or it fits and its answer is one of the table
   pub each_allowed : (G : Answer → Type 0) (l : Ledger C) (at : ℕ) (e : Act C) (a : Answer) → Allowed l at e a → G Unfit → (fits l e ≡ true → Row l at e a → G a) → G a
-  each_allowed G l at e a allowed unfit row = by_fit (takes l e) _ _ (G a) allowed (λ t r. row (and_right (is_brought e) _ t).1 r) (λ t is. subst G (sym is) unfit)
+  each_allowed G l at e a allowed unfit row = by_fit (fits l e) _ _ (G a) allowed row (λ t is. subst G (sym is) unfit)
 
   -- what holds at the beginning, where an event does not fit, and by each row, holds of each legal ledger
   pub each_legal : (P : Ledger C → Type 0) → ((s : Start) → is_lawful s.config ≡ true → P (Opening s))

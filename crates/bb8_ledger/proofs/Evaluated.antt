@@ -10,7 +10,7 @@ use Rattle.bb8_ledger.specs.Acts.{Act, Begin, Try, CheckedOk, CheckedErr, GiveUp
 use Rattle.bb8_ledger.specs.Answers.{Answer, Begun, Memory, Exhausted, Served, Taken, Waiting, Kept, Closed, GaveUp, Granted, Claimed, Ended, Entered, Late, GivenBack, Added, Broken, NoCapacity, Withheld, Reaped, Joined, Left, Looked, Unfit}
 use Rattle.bb8_ledger.specs.Ledger.{with_ended, Ledger, Later, start, latest, records, handles, next, next_get, conns, approved, conns_of, approved_of, idle_of, alive, first_idle, oldest_waiter, unclaimed, peak, get_peak, get_of, at_place, figures, opening_with}
 use Rattle.bb8_types.specs.Places.{gets_stand, holds, is_unnotified, is_notified, idles_out, lives_out}
-use Rattle.bb8_ledger.specs.Table.{Row, begins, begin_refused, begin_exhausted, waits_on, serves, takes_out, waits, checks, check_fails, gives_up, gives_up_kept, gives_up_closed, keeps, returns_closed, fills, claims, claim_ended, opens, opens_late, fails, add_broken, add_full, add_exhausted, add_refused, adds, reap_ended, reaps, joins, join_exhausted, leaves, looks, IsWant, AllowedBy, fits, with_record, closes, reap_count, reaped_at, leave_count}
+use Rattle.bb8_ledger.specs.Table.{Row, begins, begin_refused, begin_exhausted, waits_on, serves, takes_out, waits, checks, check_fails, gives_up, gives_up_kept, gives_up_closed, keeps, returns_closed, fills, claims, claim_ended, opens, opens_late, fails, add_broken, add_full, add_exhausted, add_refused, adds, reap_ended, reaps, joins, join_exhausted, leaves, looks, IsWant, Allowed, fits, with_record, closes, reap_count, reaped_at, leave_count}
 use Rattle.bb8_types.specs.Grants.{IsGranted, IsNoGrant, numbers_left, due, lacking}
 use Rattle.bb8_types.specs.Settings.{Settings, is_lawful}
 use Rattle.bb8_types.specs.Figures.{Figures}
@@ -226,7 +226,7 @@ module _ {C : Type 0} where
   abbrev is_allowed : Ledger C → ℕ → Act C → Answer → Bool
   is_allowed l at e a = cond (fits l e) (is_row l at e a) (is_unfit a)
 
-  is_allowed-true : (l : Ledger C) (at : ℕ) (e : Act C) (a : Answer) → is_allowed l at e a ≡ true → AllowedBy fits l at e a
+  is_allowed-true : (l : Ledger C) (at : ℕ) (e : Act C) (a : Answer) → is_allowed l at e a ≡ true → Allowed l at e a
   is_allowed-true l at e a = matched (fits l e) _ _ _ _ (is_row-true l at e a) (is_unfit-true a)
 
 -- whether it allows each answer of a row

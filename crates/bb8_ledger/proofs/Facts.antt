@@ -74,7 +74,7 @@ module _ {C : Type 0} where
       pick r was p true h = cc
       pick r was p false h = was p h
 
-  ended_all_before : (m first : ℕ) (ks : List ℕ) (rs : List (Numbered (Standing C))) → Before idle_at m rs → Before idle_at m (with_ended first ks rs)
+  pub ended_all_before : (m first : ℕ) (ks : List ℕ) (rs : List (Numbered (Standing C))) → Before idle_at m rs → Before idle_at m (with_ended first ks rs)
   ended_all_before m first [] rs b = b
   ended_all_before m first (k ∷ ks) rs b = ended_all_before m first ks (update first k after_end rs) (ended_before m first k rs b)
 

@@ -12,7 +12,7 @@ use Rattle.bb8_ledger.specs.Answers.{Answer, Kept, Closed, GaveUp, Left, Unfit}
 use Rattle.bb8_types.specs.Numbered.{Numbered, at as at_number, update, in_order, one, after_end}
 use Rattle.bb8_ledger.specs.Ledger.{Ledger, Opening, Later, start, position, latest, records, gets, handles, next, next_get, conns, approved, idle_count, conns_of, approved_of, idle_of, alive, alive_of, notified, unnotified, idle, unnotified_at, first_idle, oldest_waiter, record_of, get_of, tally_gets, new_get, at_wait, with_notice, expires, counts, waited_since, timed_out, cancelled}
 use Rattle.bb8_types.specs.Places.{is_conn, is_approval, is_out, gets_stand, is_notified, is_unnotified, is_trying}
-use Rattle.bb8_ledger.specs.Table.{Row, begins, waits_on, serves, takes_out, waits, checks, check_fails, gives_up, gives_up_kept, gives_up_closed, keeps, returns_closed, fills, claims, opens, opens_late, fails, adds, reaps, joins, leaves, reaped_at, IsWant, IsLegal, takes, fits}
+use Rattle.bb8_ledger.specs.Table.{Row, begins, waits_on, serves, takes_out, waits, checks, check_fails, gives_up, gives_up_kept, gives_up_closed, keeps, returns_closed, fills, claims, opens, opens_late, fails, adds, reaps, joins, leaves, reaped_at, IsWant, IsLegal, fits}
 use Rattle.bb8_types.specs.Grants.{due, lacking}
 use Rattle.bb8_ledger.specs.Limits.{KeepsLimits, KeepsLaws, KeepsPromises, NeverForgets, MayLower, lost}
 use Rattle.bb8_ledger.proofs.Standings.{conns-change, approved-change, tested}
@@ -125,7 +125,7 @@ module _ {C : Type 0} where
   -- ---- the get of an event
 
   -- a get that tries is alive, and active or waiting
-  pub trying_is : (l : Ledger C) (g : ℕ) → takes l (Try g) ≡ true → (st : Getting) × (get_of l g ≡ Some st) × (is_trying st.place ≡ true)
+  pub trying_is : (l : Ledger C) (g : ℕ) → fits l (Try g) ≡ true → (st : Getting) × (get_of l g ≡ Some st) × (is_trying st.place ≡ true)
   trying_is l g f = getting_is is_trying (get_of l g) f
 
   -- a get that is alive is counted

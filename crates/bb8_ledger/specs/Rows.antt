@@ -7,7 +7,7 @@ use Rattle.bb8_types.specs.Figures.{Figures}
 use Rattle.bb8_ledger.specs.Acts.{Act, Begin, Try, CheckedOk, CheckedErr, GiveUp, PutBack, Fill, Claim, Opened, Failed, Add, Reap, Join, Leave, TimedOut, Cancelled}
 use Rattle.bb8_ledger.specs.Answers.{Answer, Begun, Exhausted, Served, Taken, Waiting, Kept, Closed, GaveUp, Granted, Claimed, Ended, Entered, Late, GivenBack, Added, Broken, NoCapacity, Reaped, Joined, Left, Unfit}
 use Rattle.bb8_ledger.specs.Ledger.{Ledger, Later, figures, opening_with}
-use Rattle.bb8_ledger.specs.Table.{AllowedBy, fits}
+use Rattle.bb8_ledger.specs.Table.{Allowed}
 use Rattle.bb8_ledger.specs.Waits.{wait, IsMostWaits}
 
 -- ---- what a row says
@@ -26,7 +26,7 @@ after l (t ∷ told) = after (Later l t.at t.act t.answer) told
 -- each answer is one that the whole step table allows
 abbrev pub AreAllowed : Ledger ℕ → List Told → Type 0
 AreAllowed l [] = Unit {0}
-AreAllowed l (t ∷ told) = AllowedBy fits l t.at t.act t.answer × AreAllowed (Later l t.at t.act t.answer) told
+AreAllowed l (t ∷ told) = Allowed l t.at t.act t.answer × AreAllowed (Later l t.at t.act t.answer) told
 
 -- A worked row: from the empty ledger of a lawful configuration, with the first numbers given, the answers are allowed, and the state
 -- that is shown at the end has these figures.

@@ -38,15 +38,6 @@ module _ {C : Type 0} where
   fits l Leave = ltb 0 (handles l)
   fits l Look = true
 
-  -- What the code does not take yet: the line goes with the stage that brings its event.
-  abbrev pub is_brought : Act C → Bool
-  is_brought Reap = false
-  is_brought _ = true
-
-  -- which events the code takes
-  abbrev pub takes : Ledger C → Act C → Bool
-  takes l e = is_brought e && fits l e
-
   -- want: what is granted of the approvals that are lacking, once the records have changed to these
   abbrev pub IsWant : Ledger C → List (Numbered (Standing C)) → Grant → Type 0
   IsWant l rs g =
@@ -121,13 +112,9 @@ module _ {C : Type 0} where
     leaves : {n : ℕ} → n ≡ leave_count l → Row l at Leave (Left n)
     looks : {m : ℕ} {open_now : Bool} → m ≡ max (latest l) at → open_now ≡ ltb 0 (handles l) → Row l at Look (Looked m open_now)
 
-  -- An event that passes a test has an answer of the table, and another one is Unfit.
-  abbrev pub AllowedBy : (Ledger C → Act C → Bool) → Ledger C → ℕ → Act C → Answer → Type 0
-  AllowedBy test l at e a = MatchBool (test l e) (Row l at e a) (a ≡ Unfit)
-
-  -- Allowed answers: the event is taken, or the answer is Unfit.
+  -- Allowed answers: an event that fits has an answer of the table, and another one is Unfit.
   abbrev pub Allowed : Ledger C → ℕ → Act C → Answer → Type 0
-  Allowed = AllowedBy takes
+  Allowed l at e a = MatchBool (fits l e) (Row l at e a) (a ≡ Unfit)
 
   -- A legal ledger: its configuration is lawful, and every answer in it was allowed.
   abbrev pub IsLegal : Ledger C → Type 0

@@ -16,7 +16,7 @@ use Rattle.bb8_ledger.specs.Answers as answers
 use Rattle.bb8_ledger.specs.Answers.{Answer, Broken, Granted, Unfit}
 use Rattle.bb8_ledger.specs.Ledger.{Ledger, Later}
 use Rattle.bb8_core.specs.StepAnswers.{checked_err_told, give_up_told, put_back_told, add_told}
-use Rattle.bb8_ledger.specs.Table.{takes, IsLegal, Row, add_broken, add_full, add_exhausted, add_refused, adds, gives_up, gives_up_kept, gives_up_closed}
+use Rattle.bb8_ledger.specs.Table.{fits, IsLegal, Row, add_broken, add_full, add_exhausted, add_refused, adds, gives_up, gives_up_kept, gives_up_closed}
 use Rattle.bb8_core.specs.Shown.{Shown, Means, Meets, IsFitting, HasLedger, IsWithinLimits}
 use Rattle.bb8_core.specs.Run.{opening}
 use Rattle.bb8_locked.specs.Sections.{IsSorted}
@@ -40,7 +40,7 @@ refuses_broken _ = false
 module _ {C : Type 0} where
   -- Such an event is taken on each legal ledger that the state means, or on none.
   abbrev pub Says : Shown C → Act C → Bool → Type 0
-  Says s e b = (l : Ledger C) → IsLegal l → Means l s → b ≡ takes l e
+  Says s e b = (l : Ledger C) → IsLegal l → Means l s → b ≡ fits l e
 
   pub fitting : (s : Shown C) (e : Act C) → Says s e true → IsFitting s e
   fitting s e says = λ l legal means. sym (says l legal means)
@@ -121,7 +121,7 @@ module _ {C : Type 0} where
   pub add_sorted : (old new : Shown C) (at : ℕ) (c : C) (b : Bool) (answer : AddAnswer C) → HasLedger old → Says old (Add c b) true → Meets old at (Add c b) (add_told answer) new → IsSorted b answer
   add_sorted old new at c b answer h says meets =
       sorted_as answer b
-      (by_fit (takes h.0 (Add c b)) _ _ (refuses_broken (add_told answer) ≡ b) (meets h.0 h.1 h.2).0
+      (by_fit (fits h.0 (Add c b)) _ _ (refuses_broken (add_told answer) ≡ b) (meets h.0 h.1 h.2).0
       (λ f row. add_row h.0 at c b (add_told answer) row)
       (λ f is. absurd (let clash : true ≡ false = says h.0 h.1 h.2 ∙ f in cc)))
 
@@ -150,7 +150,7 @@ module _ {C : Type 0} where
   pub given_up : (old new : Shown C) (at g : ℕ) (why : Reason) (held : Option C) (b : Bool) (a : Answer) → HasLedger old
       → Says old (GiveUp g why held b) true → Meets old at (GiveUp g why held b) a new → brings_back a ≡ is_some held
   given_up old new at g why held b a h says meets =
-      by_fit (takes h.0 (GiveUp g why held b)) _ _ (brings_back a ≡ is_some held) (meets h.0 h.1 h.2).0
+      by_fit (fits h.0 (GiveUp g why held b)) _ _ (brings_back a ≡ is_some held) (meets h.0 h.1 h.2).0
       (λ f row. give_up_row h.0 at g why held b a row)
       (λ f is. absurd (let clash : true ≡ false = says h.0 h.1 h.2 ∙ f in cc))
 

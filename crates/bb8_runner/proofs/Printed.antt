@@ -5,7 +5,7 @@ use Rattle.std.specs.List.{All}
 use Rattle.std.proofs.lemmas.List.Elements.{All-nil, All-weaker}
 use Rattle.bb8_types.specs.Figures.{Counts, Figures, figures_of}
 use Rattle.bb8_core.specs.declared.replay.events.Answer.{Answer}
-use Rattle.bb8_core.specs.declared.replay.events.Answer.TheVariants.{Begun, Memory, Exhausted, Served, Taken, Waiting, Kept, Closed, GaveUp, Granted, Claimed, Ended, Entered, Late, GivenBack, Added, Broken, NoCapacity, Withheld, Shown, Joined, Left, Looked, Unfit}
+use Rattle.bb8_core.specs.declared.replay.events.Answer.TheVariants.{Begun, Memory, Exhausted, Served, Taken, Waiting, Kept, Closed, GaveUp, Granted, Claimed, Ended, Entered, Late, GivenBack, Added, Broken, NoCapacity, Withheld, Reaped, Shown, Joined, Left, Looked, Unfit}
 use Rattle.bb8_types.specs.declared.grants.Grant.{Grant}
 use Rattle.bb8_runner.specs.Text.{grant_text, notifies_text, sizes_text, gets_text, opened_text, closed_text, state_text, answer_text}
 use Rattle.bb8_runner.proofs.Bytes.{IsOver, AreOver, over, are_over, decimal_over, joined}
@@ -81,6 +81,8 @@ answer_visible (Added k notified) = word (codes "added ") _ refl (after k _ (not
 answer_visible Broken = are_over 31 (codes "broken") refl
 answer_visible NoCapacity = are_over 31 (codes "full") refl
 answer_visible Withheld = are_over 31 (codes "withheld") refl
+answer_visible (Reaped closed by_idle by_life grant) = word (codes "reaped ") _ refl (after closed _
+    (word (codes " idle ") _ refl (after by_idle _ (word (codes " life ") _ refl (after by_life _ (grant_visible grant))))))
 answer_visible (Shown state) = state_visible (figures_of state)
 answer_visible Joined = are_over 31 (codes "joined") refl
 answer_visible (Left n) = word (codes "left ") _ refl (number n)

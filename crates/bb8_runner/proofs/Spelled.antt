@@ -4,7 +4,7 @@ use Rattle.std.specs.Fmt.{decimal}
 use Rattle.std.specs.Str.{bytes_eq}
 use Rattle.std.proofs.lemmas.Slice.Eq.{bytes_eq-Decides}
 use Rattle.bb8_core.specs.declared.replay.events.Act.{Act}
-use Rattle.bb8_core.specs.declared.replay.events.Act.TheVariants.{Begin, Try, CheckedOk, CheckedErr, GiveUp, PutBack, Fill, Claim, Opened, Failed, Add, State, Join, Leave, Look}
+use Rattle.bb8_core.specs.declared.replay.events.Act.TheVariants.{Begin, Try, CheckedOk, CheckedErr, GiveUp, PutBack, Fill, Claim, Opened, Failed, Add, Reap, State, Join, Leave, Look}
 use Rattle.bb8_types.specs.declared.reasons.Reason.TheVariants.{TimedOut, Cancelled}
 use Rattle.bb8_core.specs.declared.replay.events.Event.{Event}
 use Rattle.bb8_runner.specs.Grammar.{◌>>=◌, number_of, plain_act, worded_act, numbered_act, broken_act, act_of, event_of_fields}
@@ -22,6 +22,7 @@ act_read Begin h = refl
 act_read (Fill false) h = refl
 act_read Claim h = refl
 act_read (Add false) h = refl
+act_read Reap h = refl
 act_read State h = refl
 act_read Join h = refl
 act_read Leave h = refl
@@ -56,11 +57,12 @@ plain_spelled verb a =
     step verb (codes "fill") (Fill false) _ a P (λ v. (v, refl, tt)) (
     step verb (codes "claim") Claim _ a P (λ v. (v, refl, tt)) (
     step verb (codes "add") (Add false) _ a P (λ v. (v, refl, tt)) (
+    step verb (codes "reap") Reap _ a P (λ v. (v, refl, tt)) (
     step verb (codes "state") State _ a P (λ v. (v, refl, tt)) (
     step verb (codes "join") Join _ a P (λ v. (v, refl, tt)) (
     step verb (codes "leave") Leave _ a P (λ v. (v, refl, tt)) (
     step verb (codes "look") Look _ a P (λ v. (v, refl, tt)) (
-    λ w. absurd (never a w)))))))))
+    λ w. absurd (never a w))))))))))
 
 numbered_spelled : (verb arg : List ℕ) (n : ℕ) (a : Act) → n < 2 ^ 64 → arg ≡ decimal n → numbered_act verb n ≡ Some a → SpellsAct verb (arg ∷ []) a
 numbered_spelled verb arg n a small d =

@@ -9,7 +9,7 @@ use Rattle.std.proofs.lemmas.List.Splits.{join_with_byte-slice_split, slice_spli
 use Rattle.std.proofs.lemmas.Str.{IsUtf8-from_ascii, IsAscii-append}
 use Rattle.std.proofs.lemmas.Str.Ascii.{IsAscii-cons, IsAscii-nil, IsAscii-from_all}
 use Rattle.bb8_core.specs.declared.replay.events.Act.{Act}
-use Rattle.bb8_core.specs.declared.replay.events.Act.TheVariants.{Begin, Try, CheckedOk, CheckedErr, GiveUp, PutBack, Fill, Claim, Opened, Failed, Add, State, Join, Leave, Look}
+use Rattle.bb8_core.specs.declared.replay.events.Act.TheVariants.{Begin, Try, CheckedOk, CheckedErr, GiveUp, PutBack, Fill, Claim, Opened, Failed, Add, Reap, State, Join, Leave, Look}
 use Rattle.bb8_types.specs.declared.reasons.Reason.TheVariants.{TimedOut, Cancelled}
 use Rattle.bb8_core.specs.declared.replay.events.Event.{Event}
 use Rattle.bb8_runner.specs.Grammar.{fields_of, event_of}
@@ -58,6 +58,7 @@ verb_word Claim = are_over 32 (codes "claim") refl
 verb_word (Opened a) = are_over 32 (codes "open") refl
 verb_word (Failed a) = are_over 32 (codes "fail") refl
 verb_word (Add b) = are_over 32 (codes "add") refl
+verb_word Reap = are_over 32 (codes "reap") refl
 verb_word State = are_over 32 (codes "state") refl
 verb_word Join = are_over 32 (codes "join") refl
 verb_word Leave = are_over 32 (codes "leave") refl
@@ -83,6 +84,7 @@ args_words (Failed a) = (number_word a, tt)
 args_words (Add b) = flag_words (codes "broken") b (are_over 32 (codes "broken") refl)
 args_words Begin = tt
 args_words Claim = tt
+args_words Reap = tt
 args_words State = tt
 args_words Join = tt
 args_words Leave = tt

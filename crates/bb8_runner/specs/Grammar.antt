@@ -4,7 +4,7 @@ use Rattle.std.specs.List.{slice_split}
 use Rattle.std.specs.Str.{bytes_eq}
 use Rattle.std.specs.Str.Parse.{digits_value}
 use Rattle.bb8_core.specs.declared.replay.events.Act.{Act}
-use Rattle.bb8_core.specs.declared.replay.events.Act.TheVariants.{Begin, Try, CheckedOk, CheckedErr, GiveUp, PutBack, Fill, Claim, Opened, Failed, Add, State, Join, Leave, Look}
+use Rattle.bb8_core.specs.declared.replay.events.Act.TheVariants.{Begin, Try, CheckedOk, CheckedErr, GiveUp, PutBack, Fill, Claim, Opened, Failed, Add, Reap, State, Join, Leave, Look}
 use Rattle.bb8_types.specs.declared.reasons.Reason.TheVariants.{TimedOut, Cancelled}
 use Rattle.bb8_core.specs.declared.replay.events.Event.{Event}
 
@@ -26,11 +26,12 @@ plain_act verb =
     else (if bytes_eq verb (codes "fill") then Some (Fill false)
     else (if bytes_eq verb (codes "claim") then Some Claim
     else (if bytes_eq verb (codes "add") then Some (Add false)
+    else (if bytes_eq verb (codes "reap") then Some Reap
     else (if bytes_eq verb (codes "state") then Some State
     else (if bytes_eq verb (codes "join") then Some Join
     else (if bytes_eq verb (codes "leave") then Some Leave
     else (if bytes_eq verb (codes "look") then Some Look
-    else None)))))))
+    else None))))))))
 
 -- the verbs with a word after them
 abbrev pub worded_act : List ℕ → List ℕ → Option Act

@@ -2,7 +2,7 @@
 use Rattle.std.specs.Prelude.{◌≡◌, ◌≢◌, ℕ, ◌^◌, ◌<◌, List, [], ◌∷◌, ◌++◌, map, ⊤, Bool, true, false, Option, Some, None, codes, decimal}
 use Rattle.std.specs.List.{join_with_byte}
 use Rattle.bb8_core.specs.declared.replay.events.Act.{Act}
-use Rattle.bb8_core.specs.declared.replay.events.Act.TheVariants.{Begin, Try, CheckedOk, CheckedErr, GiveUp, PutBack, Fill, Claim, Opened, Failed, Add, State, Join, Leave, Look}
+use Rattle.bb8_core.specs.declared.replay.events.Act.TheVariants.{Begin, Try, CheckedOk, CheckedErr, GiveUp, PutBack, Fill, Claim, Opened, Failed, Add, Reap, State, Join, Leave, Look}
 use Rattle.bb8_types.specs.declared.reasons.Reason.TheVariants.{TimedOut, Cancelled}
 use Rattle.bb8_core.specs.declared.replay.events.Event.{Event}
 use Rattle.bb8_types.specs.declared.api.configuration.QueueStrategy.{QueueStrategy}
@@ -23,6 +23,7 @@ verb_of Claim = codes "claim"
 verb_of (Opened a) = codes "open"
 verb_of (Failed a) = codes "fail"
 verb_of (Add b) = codes "add"
+verb_of Reap = codes "reap"
 verb_of State = codes "state"
 verb_of Join = codes "join"
 verb_of Leave = codes "leave"
@@ -46,6 +47,7 @@ args_of (Failed a) = decimal a ∷ []
 args_of (Add b) = flag (codes "broken") b
 args_of Begin = []
 args_of Claim = []
+args_of Reap = []
 args_of State = []
 args_of Join = []
 args_of Leave = []
@@ -64,6 +66,7 @@ FitsAct Begin = ⊤
 FitsAct (Fill c) = ⊤
 FitsAct Claim = ⊤
 FitsAct (Add b) = ⊤
+FitsAct Reap = ⊤
 FitsAct State = ⊤
 FitsAct Join = ⊤
 FitsAct Leave = ⊤

@@ -2,7 +2,7 @@
 use Rattle.std.specs.Prelude.{ℕ, ◌/◌, ◌==◌, List, [], ◌∷◌, ◌++◌, true, false, Option, Some, None, codes, decimal, if◌then◌else◌, flat_map}
 use Rattle.bb8_types.specs.Figures.{Counts, Figures, figures_of}
 use Rattle.bb8_core.specs.declared.replay.events.Answer.{Answer}
-use Rattle.bb8_core.specs.declared.replay.events.Answer.TheVariants.{Begun, Memory, Exhausted, Served, Taken, Waiting, Kept, Closed, GaveUp, Granted, Claimed, Ended, Entered, Late, GivenBack, Added, Broken, NoCapacity, Withheld, Shown, Joined, Left, Looked, Unfit}
+use Rattle.bb8_core.specs.declared.replay.events.Answer.TheVariants.{Begun, Memory, Exhausted, Served, Taken, Waiting, Kept, Closed, GaveUp, Granted, Claimed, Ended, Entered, Late, GivenBack, Added, Broken, NoCapacity, Withheld, Reaped, Shown, Joined, Left, Looked, Unfit}
 use Rattle.bb8_types.specs.declared.grants.Grant.{Grant}
 
 -- ` grant N at F` where something was granted, and ` withheld W` where something was withheld
@@ -59,6 +59,8 @@ answer_text (Added k notified) = codes "added " ++ (decimal k ++ notifies_text n
 answer_text Broken = codes "broken"
 answer_text NoCapacity = codes "full"
 answer_text Withheld = codes "withheld"
+answer_text (Reaped closed by_idle by_life grant) =
+    codes "reaped " ++ (decimal closed ++ (codes " idle " ++ (decimal by_idle ++ (codes " life " ++ (decimal by_life ++ grant_text grant)))))
 answer_text (Shown state) = state_text (figures_of state)
 answer_text Joined = codes "joined"
 answer_text (Left n) = codes "left " ++ decimal n

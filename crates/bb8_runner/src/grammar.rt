@@ -40,6 +40,7 @@ fn plain_act(verb: &str) -> Option<Act>
         "fill" => Some(Act::Fill(false)),
         "claim" => Some(Act::Claim),
         "add" => Some(Act::Add(false)),
+        "reap" => Some(Act::Reap),
         "state" => Some(Act::State),
         "join" => Some(Act::Join),
         "leave" => Some(Act::Leave),

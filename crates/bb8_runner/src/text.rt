@@ -174,6 +174,18 @@ impl fmt::Display for AnswerText {
             Answer::Broken => write!(f, "broken"),
             Answer::NoCapacity => write!(f, "full"),
             Answer::Withheld => write!(f, "withheld"),
+            Answer::Reaped {
+                closed,
+                by_idle,
+                by_life,
+                grant,
+            } => {
+                write!(
+                    f,
+                    "reaped {closed} idle {by_idle} life {by_life}{}",
+                    GrantPart(grant)
+                )
+            }
             Answer::Shown(state) => write!(f, "{}", StateText(state)),
             Answer::Joined => write!(f, "joined"),
             Answer::Left(closed) => write!(f, "left {closed}"),

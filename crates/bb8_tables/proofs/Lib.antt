@@ -7,4 +7,6 @@ pub mod Numbers
 pub mod RecordPlaces
 pub mod Approvals
 pub mod Ended
+pub mod Reaps
+pub mod ReapPlaces
 pub mod GetPlaces

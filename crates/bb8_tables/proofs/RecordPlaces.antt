@@ -116,12 +116,12 @@ module _ {C : Type 0} where
 
   -- ---- the sizes after a place has changed from one test to another
 
-  conns_set : (a : Inside C) (slots : List (Option (Slot (Standing C)))) (i : ℕ) (was is : Option (Slot (Standing C))) (m n : Bool)
+  pub conns_set : (a : Inside C) (slots : List (Option (Slot (Standing C)))) (i : ℕ) (was is : Option (Slot (Standing C))) (m n : Bool)
       → AreGoodRecords a → slot_at a.slots i ≡ was → Updates a.slots.slots slots i is → passes is_conn was ≡ m → passes is_conn is ≡ n
       → tally (passes is_conn) slots + one m ≡ a.conns + one n
   conns_set a slots i was is m n good e u was_m is_n = rw (sym (ap one was_m), sym (ap one is_n)) (tally_set is_conn a.slots.slots slots i a.conns was is good.conns_are e u)
 
-  approved_set : (a : Inside C) (slots : List (Option (Slot (Standing C)))) (i : ℕ) (was is : Option (Slot (Standing C))) (m n : Bool)
+  pub approved_set : (a : Inside C) (slots : List (Option (Slot (Standing C)))) (i : ℕ) (was is : Option (Slot (Standing C))) (m n : Bool)
       → AreGoodRecords a → slot_at a.slots i ≡ was → Updates a.slots.slots slots i is → passes is_approval was ≡ m → passes is_approval is ≡ n
       → tally (passes is_approval) slots + one m ≡ a.approved + one n
   approved_set a slots i was is m n good e u was_m is_n = rw (sym (ap one was_m), sym (ap one is_n)) (tally_set is_approval a.slots.slots slots i a.approved was is good.approved_are e u)

@@ -1,6 +1,8 @@
 pub mod Keys
 pub mod Views
 pub mod Machine
+pub mod Reaps
+pub mod Dues
 pub mod Spelled
 pub mod Lined
 pub mod Linked

@@ -129,6 +129,19 @@ impl Counters {
         }
     }
 
+    /// Connections were closed as they had been idle too long or lived too long; one that is both counts in both.
+    pub fn reap(&mut self, by_idle: u32, by_life: u32)
+        requires by_idle { self.old.idle_timeout + by_idle ≤ end_of_numbers }
+        requires by_life { self.old.max_lifetime + by_life ≤ end_of_numbers }
+        ensures { self.new ≡ record self.old {
+          max_lifetime = self.old.max_lifetime + by_life;
+          idle_timeout = self.old.idle_timeout + by_idle;
+        } }
+    {
+        self.max_lifetime += by_life as u64;
+        self.idle_timeout += by_idle as u64;
+    }
+
     /// The statistics that a user sees.
     pub fn statistics(&self) -> Statistics
         requires { self.now.direct + self.now.waited + self.now.timed_out + self.now.cancelled ≤ self.now.started }

@@ -238,6 +238,20 @@ impl<S: Drop> Table<S> {
         }
     }
 
+    /// How many places there are, with the one of the ends.
+    pub fn places(&self) -> usize
+        ensures { result ≡ length self.now.slots }
+    {
+        self.links.entries.len()
+    }
+
+    /// What stands at a place, if something does.
+    pub fn at(&self, place: usize) -> Option<&Slot<S>>
+        ensures { option_copied result ≡ slot_at self.now place }
+    {
+        self.links.at(place)
+    }
+
     /// The number of what stands at a place.
     #[inline]
     fn number_at(&self, place: usize) -> u64

@@ -1,5 +1,6 @@
 pub mod Bounded
 pub mod Homes
 pub mod Played
+pub mod ReapHomes
 pub mod Reaping
 pub mod Replenishing

@@ -79,7 +79,7 @@ pub enum ReapStep {
 
 /// The steps that a reaper makes. Our own.
 ///
-/// Each has a relation, as those of `Home`. No code of the core is such a home yet, as it takes no reap.
+/// Each has a relation, as those of `Home`. The plain state of a pool is such a home.
 pub trait ReapHome {
     // Holds of a home, a reading of the clock, what a look at it may answer, and the home then.
     ghost looks: { Self → MomentOf → LookedOf → Self → Type 0 };

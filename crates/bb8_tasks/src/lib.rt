@@ -6,6 +6,7 @@ mod backoff;
 mod home;
 mod opener;
 mod plain;
+mod plain_reap;
 mod reaper;
 mod replenish;
 #[cfg(test)]

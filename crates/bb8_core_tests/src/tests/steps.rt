@@ -3,7 +3,7 @@ ghost use Rattle.std.specs.Prelude.{◌≡◌, ℕ, true};
 ghost use Rattle.bb8_ledger.specs.Ledger.{Ledger};
 ghost use Rattle.bb8_core.specs.Run.{act_with};
 ghost use Rattle.bb8_core.specs.Shown.{Means};
-ghost use Rattle.bb8_ledger.specs.Table.{IsLegal, takes};
+ghost use Rattle.bb8_ledger.specs.Table.{IsLegal, fits};
 
 use super::{granted, served, unchecked};
 use bb8_core::api::{Config, Moment, QueueStrategy};
@@ -32,7 +32,7 @@ pub(super) enum Link {
 /// Asserts that what happens fits.
 fn assert_fits(rt: &impl Abort, pool: &PoolInternals<Link>, act: Act)
     ensures { (conn : ℕ → Link) (l : Ledger Link) → IsLegal l → Means l pool.now
-        → takes l (act_with conn l act) ≡ true }
+        → fits l (act_with conn l act) ≡ true }
 {
     if !fits(pool, Event { at: NOW, act }) {
         panic!(rt; "{act:?} does not fit");

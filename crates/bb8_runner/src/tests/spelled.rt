@@ -6,7 +6,7 @@ use bb8_core::replay::{Act, Event, Reason};
 use std::test::Fail;
 
 /// Each form of an event once, with the greatest and the least number and moment among them.
-const SPELLED: [(&[u8], u64, Act); 25] = [
+const SPELLED: [(&[u8], u64, Act); 26] = [
     (b"0 begin", 0, Act::Begin),
     (b"1 try 0", 1, Act::Try(0)),
     (b"1 ok 2", 1, Act::CheckedOk(2)),
@@ -41,6 +41,7 @@ const SPELLED: [(&[u8], u64, Act); 25] = [
     ),
     (b"0 add", 0, Act::Add(false)),
     (b"0 add broken", 0, Act::Add(true)),
+    (b"5 reap", 5, Act::Reap),
     (b"0 state", 0, Act::State),
     (b"3 join", 3, Act::Join),
     (b"4 leave", 4, Act::Leave),

@@ -12,7 +12,7 @@ const LINE_ONE: &[u8] = b"line 1: not a configuration\n";
 const LINE_TWO: &[u8] = b"line 2: not an event\n";
 
 /// Inputs, with how each ends and what it writes: what is good but for one thing is bad, and only the first bad line is told.
-const JUDGED: [(&[u8], Verdict, &[u8]); 75] = [
+const JUDGED: [(&[u8], Verdict, &[u8]); 74] = [
     (b"", Verdict::Bad, LINE_ONE),
     (b"\n", Verdict::Bad, LINE_ONE),
     (b"config\r\n", Verdict::Bad, LINE_ONE),
@@ -114,7 +114,6 @@ const JUDGED: [(&[u8], Verdict, &[u8]); 75] = [
         LINE_TWO,
     ),
     (b"config\n5 tri 0", Verdict::Bad, LINE_TWO),
-    (b"config\n0 reap\n", Verdict::Bad, LINE_TWO),
     (b"config\n0 begin 1\n", Verdict::Bad, LINE_TWO),
     (b"config\n0 try\n", Verdict::Bad, LINE_TWO),
     (b"config\n0 try 1 2\n", Verdict::Bad, LINE_TWO),

@@ -7,7 +7,7 @@
 
 use super::{
     FIRST_ANSWERS, FIRST_SCRIPT, checks, generated, generated_checks, generated_handles,
-    generated_waits, handles, run, worked,
+    generated_reaps, generated_waits, handles, reaps, run, worked,
 };
 use bb8_runner::verdict::Verdict;
 use std::test::Fail;
@@ -115,6 +115,26 @@ fn answers_scripts_of_checks_as_the_original(rt: HostRuntime) -> Result<(), Fail
         (
             generated_checks::CHECKS_AND_FAILURES_SCRIPT,
             generated_checks::CHECKS_AND_FAILURES_ANSWERS,
+        ),
+    ];
+    for (script, answers) in pairs {
+        assert!(rt; answers_as_the_original(&rt, script, answers)?);
+    }
+    Ok(())
+}
+
+#[test]
+fn answers_scripts_of_reaps_as_the_original(rt: HostRuntime) -> Result<(), Fail> {
+    let pairs = [
+        (reaps::IDLED_OUT_SCRIPT, reaps::IDLED_OUT_ANSWERS),
+        (reaps::BOTH_LIMITS_SCRIPT, reaps::BOTH_LIMITS_ANSWERS),
+        (
+            generated_reaps::ALL_EVENTS_FIFO_SCRIPT,
+            generated_reaps::ALL_EVENTS_FIFO_ANSWERS,
+        ),
+        (
+            generated_reaps::ALL_EVENTS_LIFO_SCRIPT,
+            generated_reaps::ALL_EVENTS_LIFO_ANSWERS,
         ),
     ];
     for (script, answers) in pairs {

@@ -1,12 +1,12 @@
 use Rattle.std.proofs.Common.{◌≡◌, false, refl, sym, ◌∙◌}
 use Rattle.bb8_ledger.specs.Acts as acts
-use Rattle.bb8_ledger.specs.Table.{takes}
+use Rattle.bb8_ledger.specs.Table.{fits}
 use Rattle.bb8_tasks.proofs.plain.PoolInternalsHome.opened.Goals as goal
 
 pub returns-then-not-fits_opened : goal.returns-then-not-fits_opened
 returns-then-not-fits_opened g c = (
   λ l legal means.
-      let misfit : takes l (acts.Opened c.args.approval.number c.args.connection) ≡ false =
+      let misfit : fits l (acts.Opened c.args.approval.number c.args.connection) ≡ false =
       sym (c.fits_opened.ensures c.args.connection l legal means) ∙ c.if-not-fits_opened.true in
       rw misfit (refl, refl),
   refl,
