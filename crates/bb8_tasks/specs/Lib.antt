@@ -3,3 +3,4 @@ pub mod Homes
 pub mod Played
 pub mod Reaping
 pub mod Replenishing
+pub mod Sweeping
