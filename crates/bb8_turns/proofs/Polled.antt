@@ -17,11 +17,11 @@ module _ {T E H W : Type 0} (polls : T → H → W → ReplenishAnswer E → T �
   after Late t w ts o w' a = (a.1, a.0, a.2)
   after GivenBack t w ts o w' a = (a.1, a.0, a.2)
 
-  pub polls-each : (ts : List T) (h : H) (w : W) (left : List T) (h' : H) (w' : W) → PollsUntil polls sinks GoOn ts h w None left h' w'
+  pub polls_each : (ts : List T) (h : H) (w : W) (left : List T) (h' : H) (w' : W) → PollsUntil polls sinks GoOn ts h w None left h' w'
       → PollsEach polls sinks ts h w left h' w'
-  polls-each [] h w left h' w' p = (p.1, p.2, p.3)
-  polls-each (t ∷ ts) h w left h' w' (r, t', h1, w1, p, (ts1, now, w2, done, (more, rest, is))) =
+  polls_each [] h w left h' w' p = (p.1, p.2, p.3)
+  polls_each (t ∷ ts) h w left h' w' (r, t', h1, w1, p, (ts1, now, w2, done, (more, rest, is))) =
       let a = after r t' w1 ts1 now w2 done in
       let on : PollsUntil polls sinks GoOn ts h1 w2 None more h' w' =
       subst (λ (x : Option E). Rest polls sinks GoOn x (PollsUntil polls sinks GoOn ts h1 w2) ts h1 w2 None more h' w') a.0 rest in
-      (r, t', h1, w1, p, (w2, a.2, (more, polls-each ts h1 w2 more h' w' on, rw (is, a.1) refl)))
+      (r, t', h1, w1, p, (w2, a.2, (more, polls_each ts h1 w2 more h' w' on, rw (is, a.1) refl)))

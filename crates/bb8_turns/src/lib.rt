@@ -2,6 +2,8 @@
 #![tactic(auto)]
 
 mod claims;
+#[cfg(test)]
+mod tests;
 mod turning;
 
 pub use turning::{Turn, Turning};

@@ -1,7 +1,9 @@
 //! What a driver holds between its turns, and a turn.
-ghost use Rattle.std.specs.Prelude.{◌≡◌, true};
+ghost use Rattle.std.specs.Prelude.{◌≡◌, true, length};
 ghost use Rattle.std.specs.Duration.{as_nanos};
 ghost use Rattle.bb8_types.specs.Settings.{settings_of, is_lawful};
+ghost use Rattle.bb8_tasks.specs.Replenishing.{Polls};
+ghost use Rattle.bb8_turns.specs.Rounds.{PollsEach};
 ghost use Rattle.bb8_turns.specs.Turns.{is_ended, Begins, IsFreshReaper, PollsReaper, Turns, GivesBack};
 
 use super::claims::claim_each;
@@ -50,6 +52,26 @@ fn poll_reaper<H: ReapHome>(reaper: &mut Option<Reaper>, at: Moment, home: &mut 
     }
 }
 
+/// Polls each task once, in the order of their claims, and tells how many they were.
+#[tactic(auto, using(crate::proofs::Polled::polls_each))]
+fn poll_tasks<
+    C,
+    V: Drop,
+    A: Drop,
+    E: Drop,
+    W: Opener<C, E, Connecting = V, Acquiring = A> + Reports<E>,
+    H: Home<C>,
+>(tasks: &mut Tasks<C, V, A>, at: Moment, outside: &mut W, config: &Config, home: &mut H) -> u64
+    ensures number { result ≡ length tasks.old }
+    ensures each { PollsEach (Polls H.Home W.Opener (as_nanos config.now.connection_timeout)
+        config.now.retry_connection at) W.sinks tasks.old home.old outside.old tasks.new home.new
+        outside.new }
+{
+    let number = tasks.len() as u64;
+    tasks.poll_each(at, outside, config, home);
+    number
+}
+
 impl<C, V: Drop, A: Drop> Turning<C, V, A> {
     /// What a driver begins with: no task, and a reaper where `max_lifetime` or `idle_timeout` is set, whose ticks count from the moment
     /// `start` on. Our own.
@@ -84,14 +106,17 @@ impl<C, V: Drop, A: Drop> Turning<C, V, A> {
             };
         };
         poll_reaper(reaper, at, home);
-        let ended = claim_each(tasks, at, home);
-        if ended {
+        if claim_each(tasks, at, home) {
             mem::replace(self, Turning::Ended).give_back(at, outside, home);
-            return Turn { polled: 0, ended };
+            return Turn {
+                polled: 0,
+                ended: true,
+            };
         }
-        let polled = tasks.len() as u64;
-        tasks.poll_each(at, outside, config, home);
-        Turn { polled, ended }
+        Turn {
+            polled: poll_tasks(tasks, at, outside, config, home),
+            ended: false,
+        }
     }
     /// Lets the driver go, at a reading `at` of the clock, and each of its tasks, in their order: the approval of each that has not ended is
     /// given back. Our own.
