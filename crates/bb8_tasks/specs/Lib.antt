@@ -4,3 +4,4 @@ pub mod Played
 pub mod ReapHomes
 pub mod Reaping
 pub mod Replenishing
+pub mod Sweeping

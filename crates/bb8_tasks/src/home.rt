@@ -1,13 +1,14 @@
 //! What the tasks of a pool make their steps on.
 ghost use Rattle.bb8_types.specs.declared.api.moments.Moment.{Moment as MomentOf};
 ghost use Rattle.bb8_tables.specs.declared.keys.Key.{Key as KeyOf};
+ghost use Rattle.bb8_core.specs.declared.answers.ClaimAnswer.{ClaimAnswer as ClaimAnswerOf};
 ghost use Rattle.bb8_core.specs.declared.answers.Looked.{Looked as LookedOf};
 ghost use Rattle.bb8_tasks.specs.declared.home.FailedStep.{FailedStep as FailedStepOf};
 ghost use Rattle.bb8_tasks.specs.declared.home.OpenedStep.{OpenedStep as OpenedStepOf};
 ghost use Rattle.bb8_tasks.specs.declared.home.ReapStep.{ReapStep as ReapStepOf};
 
 use bb8_core::api::Moment;
-use bb8_core::internals::{GetKey, Grant, Key, Looked};
+use bb8_core::internals::{ClaimAnswer, GetKey, Grant, Key, Looked};
 
 /// What the opening of a connection answers at a home. A connection that it hands back cannot be let go but by name. Our own.
 pub enum OpenedStep<C> {
@@ -53,6 +54,18 @@ pub trait Home<C> {
     /// Gives back an approval for which no connection was opened. Our own.
     fn failed(&mut self, at: Moment, approval: Key) -> FailedStep
         ensures { fails self.old at approval result self.new };
+}
+
+/// The step by which a task gets its approval. Our own.
+///
+/// It has a relation, as those of `Home` have.
+pub trait ClaimHome {
+    // Holds of a home, a moment, what claiming an approval may answer, and the home then.
+    ghost claims: { Self → MomentOf → ClaimAnswerOf → Self → Type 0 };
+
+    /// Claims the unclaimed approval of the least number. Our own.
+    fn claim(&mut self, at: Moment) -> ClaimAnswer
+        ensures { claims self.old at result self.new };
 }
 
 /// What a reap closed and granted. Our own.

@@ -1,5 +1,5 @@
-//! The polled tasks of a pool: the opening of a connection, with its waits between tries, its replay over a list of polls, and the
-//! reaper.
+//! The polled tasks of a pool: the opening of a connection, with its waits between tries, its replay over a list of polls, lists of such
+//! tasks, and the reaper.
 #![tactic(auto)]
 
 mod backoff;
@@ -9,13 +9,17 @@ mod plain;
 mod plain_reap;
 mod reaper;
 mod replenish;
+mod rounds;
+mod tasks;
 #[cfg(test)]
 mod tests;
 mod waits;
 
 pub use backoff::{Backoff, Reply, replay_backoff};
-pub use home::{FailedStep, Home, OpenedStep, ReapHome, ReapStep, Reaped};
+pub use home::{ClaimHome, FailedStep, Home, OpenedStep, ReapHome, ReapStep, Reaped};
 pub use opener::{Opener, PoolOpener};
 pub use reaper::{Reaper, ReaperAnswer};
 pub use replenish::{Next, Replenish, ReplenishAnswer, Stage, Tries};
+pub use rounds::{OnFailure, Reports, Round};
+pub use tasks::Tasks;
 pub use waits::wait_after;

@@ -1,12 +1,12 @@
 //! The plain state of a pool as a home of tasks.
 ghost use Rattle.bb8_ledger.specs.Acts as acts;
-ghost use Rattle.bb8_core.specs.StepAnswers.{look_told};
+ghost use Rattle.bb8_core.specs.StepAnswers.{claim_told, look_told};
 ghost use Rattle.bb8_core.specs.PlainSteps.{Steps};
 ghost use Rattle.bb8_tasks.specs.Homes.{failed_told, opened_told, HandsBack};
 
-use super::home::{FailedStep, Home, OpenedStep};
+use super::home::{ClaimHome, FailedStep, Home, OpenedStep};
 use bb8_core::api::Moment;
-use bb8_core::internals::{FailedAnswer, Key, Looked, OpenedAnswer, PoolInternals};
+use bb8_core::internals::{ClaimAnswer, FailedAnswer, Key, Looked, OpenedAnswer, PoolInternals};
 
 /// Each step asks first whether it fits, and answers `Unfit` and changes nothing where it does not. A connection that comes back is the one
 /// that was handed in.
@@ -38,5 +38,14 @@ impl<C: Drop> Home<C> for PoolInternals<C> {
         match PoolInternals::failed(self, at, approval) {
             FailedAnswer::GivenBack => FailedStep::GivenBack,
         }
+    }
+}
+
+/// The step fits at all times.
+impl<C: Drop> ClaimHome for PoolInternals<C> {
+    ghost claims = { λ pool at answer after. Steps pool at.0 acts.Claim (claim_told answer) after };
+
+    fn claim(&mut self, at: Moment) -> ClaimAnswer {
+        PoolInternals::claim(self, at)
     }
 }

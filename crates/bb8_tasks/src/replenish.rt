@@ -353,6 +353,21 @@ impl<C, V: Drop, A: Drop> Replenish<C, V, A> {
         answer
     }
 
+    /// Lets a task go that has ended.
+    pub(crate) fn finish(self)
+        requires { self.stage ≡ IsDone }
+    {
+        let Replenish {
+            approval: _,
+            latest: _,
+            stage,
+        } = self;
+        match stage {
+            Stage::Done => {}
+            _ => unreachable!(),
+        }
+    }
+
     /// Lets the task go, at a reading `at` of the clock: where it has not ended, what it holds is dropped, and its approval given back.
     /// Our own.
     pub fn give_back<E, W: Opener<C, E, Connecting = V, Acquiring = A>, H: Home<C>>(

@@ -1,7 +1,9 @@
 //! Replenishings that are polled by hand over the plain state, with a manager that counts.
 
 use crate::{PoolOpener, Replenish, ReplenishAnswer};
-use bb8_core::api::{Config, CustomizeConnection, ManageConnection, Moment, NopCustomizer};
+use bb8_core::api::{
+    Clock, Config, CustomizeConnection, ManageConnection, Moment, NopCustomizer, NopErrorSink,
+};
 use bb8_core::internals::{ClaimAnswer, Key, PoolInternals};
 use futures::task::Poll;
 use std::alloc::Global;
@@ -98,6 +100,16 @@ impl CustomizeConnection<u64, u64> for Refusing {
     }
 }
 
+/// A clock that stands still at 0.
+#[derive(Drop)]
+struct Still;
+
+impl Clock for Still {
+    fn now(&self) -> Moment {
+        Moment(0)
+    }
+}
+
 /// The settings of a pool of one connection, which is to be idle, with five seconds.
 fn one_in_five_seconds() -> Config {
     Config {
@@ -132,7 +144,7 @@ fn opening_that_always_fails(rt: HostRuntime) {
     let config = one_in_five_seconds();
     let (mut pool, approval) = pool_of_one(&rt, rt.alloc(), config);
     let manager = Counting::new(true);
-    let mut opener = PoolOpener::new(&manager, &NopCustomizer);
+    let mut opener = PoolOpener::new(&manager, &NopErrorSink, &NopCustomizer, &Still);
     let mut task = Replenish::new(approval);
     for (at, answer) in [
         (0, ReplenishAnswer::Retrying(1)),
@@ -163,7 +175,7 @@ fn failed_preparation_is_a_failed_try(rt: HostRuntime) {
     let config = one_in_five_seconds();
     let (mut pool, approval) = pool_of_one(&rt, rt.alloc(), config);
     let manager = Counting::new(false);
-    let mut opener = PoolOpener::new(&manager, &Refusing);
+    let mut opener = PoolOpener::new(&manager, &NopErrorSink, &Refusing, &Still);
     let mut task = Replenish::new(approval);
     let first = task.poll(Moment(0), &mut opener, &config, &mut pool);
     assert_eq!(&rt; first, ReplenishAnswer::Retrying(1));
@@ -185,7 +197,7 @@ fn no_handle_gives_the_approval_back(rt: HostRuntime) {
     let config = one_in_five_seconds();
     let (mut pool, approval) = pool_of_one(&rt, rt.alloc(), config);
     let manager = Counting::new(false);
-    let mut opener = PoolOpener::new(&manager, &Refusing);
+    let mut opener = PoolOpener::new(&manager, &NopErrorSink, &Refusing, &Still);
     let mut task = Replenish::new(approval);
     assert_eq!(&rt;
         task.poll(Moment(0), &mut opener, &config, &mut pool),
@@ -213,7 +225,7 @@ fn task_that_is_let_go_gives_its_approval_back(rt: HostRuntime) {
     let config = one_in_five_seconds();
     let (mut pool, approval) = pool_of_one(&rt, rt.alloc(), config);
     let manager = Counting::new(false);
-    let mut opener = PoolOpener::new(&manager, &NopCustomizer);
+    let mut opener = PoolOpener::new(&manager, &NopErrorSink, &NopCustomizer, &Still);
     let task = Replenish::new(approval);
     task.give_back(Moment(0), &mut opener, &mut pool);
     assert!(&rt; pool.find(approval.number).is_none());
@@ -227,7 +239,7 @@ fn unknown_approval_enters_nothing(rt: HostRuntime) {
     let config = one_in_five_seconds();
     let (mut pool, approval) = pool_of_one(&rt, rt.alloc(), config);
     let manager = Counting::new(false);
-    let mut opener = PoolOpener::new(&manager, &NopCustomizer);
+    let mut opener = PoolOpener::new(&manager, &NopErrorSink, &NopCustomizer, &Still);
     let mut task = Replenish::new(Key {
         number: 7,
         place: 0,

@@ -1,0 +1,241 @@
+//! The tasks of a pool, in the order in which their approvals were claimed.
+ghost use Rattle.std.specs.Prelude.{◌≡◌, ◌++◌, ◌∷◌, ◌+◌, ◌^◌, ◌<◌, ◌↔◌, true, None, [], IfOk, OnErr, length};
+ghost use Rattle.std.specs.Duration.{as_nanos};
+ghost use Rattle.bb8_tasks.specs.Replenishing.{Polls, LetsGo};
+ghost use Rattle.bb8_tasks.specs.Sweeping.{AreFor, TakesOn, PollsUntil, Turns, LetsGoEach, Rounds};
+ghost use Rattle.bb8_tasks.specs.declared.rounds.OnFailure.TheVariants.{GoOn as IsGoOn};
+
+use super::home::{ClaimHome, Home};
+use super::opener::Opener;
+use super::replenish::{Replenish, ReplenishAnswer};
+use super::rounds::{OnFailure, Reports, Round};
+use bb8_core::api::{Config, Memory, Moment};
+use bb8_core::internals::{ClaimAnswer, Grant, Key};
+use std::alloc::Global;
+use std::collections::VecDeque;
+use std::marker::Model;
+
+/// Tasks, in the order in which their approvals were claimed. Our own: upstream spawns each by itself.
+///
+/// They cannot be dropped but by `give_back`, as their approvals go back to their home. Contracts see them as the list of the tasks.
+pub struct Tasks<C, V, A> {
+    queue: VecDeque<Replenish<C, V, A>>,
+}
+
+impl<C, V, A> Model for Tasks<C, V, A> {
+    ghost use Rattle.std.specs.Prelude.{List};
+    ghost use Rattle.bb8_tasks.specs.declared.replenish.Replenish.{Replenish as ReplenishOf};
+
+    ghost Value = { List (ReplenishOf C V A) };
+
+    ghost view = { λ tasks. tasks.queue.items };
+}
+
+impl<C, V: Drop, A: Drop> Tasks<C, V, A> {
+    /// No tasks. Our own.
+    pub fn new(alloc: Global) -> Self
+        ensures { result ≡ [] }
+    {
+        Tasks {
+            queue: VecDeque::new(alloc),
+        }
+    }
+
+    /// A task for each of `count` claimed approvals, whose numbers are those from `first` on; none was polled yet. It fails where memory
+    /// for them is refused. Our own.
+    ///
+    /// Where the approvals stand is guessed, as in a pool that has just begun. A wrong guess costs a search and changes no answer.
+    pub fn for_approvals(alloc: Global, first: u64, count: u32) -> Result<Self, Memory>
+        requires { first + count < 2 ^ 64 }
+        ensures { IfOk result (λ tasks. AreFor first count tasks) }
+    {
+        let Ok(mut queue) = VecDeque::with_capacity(alloc, count as usize) else {
+            return Err(Memory);
+        };
+        for i in 0..count {
+            let approval = Key {
+                number: first + u64::from(i),
+                place: i as usize + 1,
+            };
+            queue.push_back_reserved(Replenish::new(approval));
+        }
+        Ok(Tasks { queue })
+    }
+
+    /// How many they are. Our own.
+    pub fn len(&self) -> usize
+        ensures { result ≡ length self.now }
+    {
+        self.queue.len()
+    }
+
+    /// Whether there is none. Our own.
+    pub fn is_empty(&self) -> bool
+        ensures { result ≡ true ↔ (self.now ≡ []) }
+    {
+        self.queue.is_empty()
+    }
+
+    /// Claims an approval at its home, and takes on its task. The place for the task is made first: where memory for it is refused, no
+    /// approval is claimed. Our own.
+    pub fn claim<H: ClaimHome>(&mut self, at: Moment, home: &mut H) -> Result<ClaimAnswer, Memory>
+        ensures claimed { IfOk result (λ answer. H.claims home.old at answer home.new) }
+        ensures task { IfOk result (λ answer. TakesOn answer self.old self.new) }
+        ensures refused { OnErr result ((self.new ≡ self.old) × (home.new ≡ home.old)) }
+    {
+        if self.queue.reserve(1).is_err() {
+            return Err(Memory);
+        }
+        let answer = home.claim(at);
+        if let ClaimAnswer::Claimed(Some(approval)) = answer {
+            self.queue.push_back_reserved(Replenish::new(approval));
+        }
+        Ok(answer)
+    }
+
+    /// Polls each task once, in their order, at a reading `at` of the clock. Those that end are gone. Our own.
+    ///
+    /// The error of a try that is made again goes to the sink, and so does that of a last try where `on_failure` says so; else the round
+    /// stops with that error, polls no further task, and keeps those.
+    pub fn poll_until<E, W: Opener<C, E, Connecting = V, Acquiring = A> + Reports<E>, H: Home<C>>(
+        &mut self,
+        at: Moment,
+        outside: &mut W,
+        config: &Config,
+        home: &mut H,
+        on_failure: OnFailure,
+    ) -> Option<E>
+        ensures { PollsUntil (Polls H.Home W.Opener (as_nanos config.now.connection_timeout)
+            config.now.retry_connection at) W.sinks on_failure self.old home.old outside.old
+            result self.new home.new outside.new }
+    {
+        let mut stopped = None;
+        let count = self.len();
+        for _ in 0..count {
+            stopped = self.turn(at, outside, config, home, on_failure, stopped);
+        }
+        stopped
+    }
+
+    /// The first task's turn in a round that stopped with an error, or goes on.
+    fn turn<E, W: Opener<C, E, Connecting = V, Acquiring = A> + Reports<E>, H: Home<C>>(
+        &mut self,
+        at: Moment,
+        outside: &mut W,
+        config: &Config,
+        home: &mut H,
+        on_failure: OnFailure,
+        stopped: Option<E>,
+    ) -> Option<E>
+        requires { 0 < length self.old }
+        ensures { Turns (Polls H.Home W.Opener (as_nanos config.now.connection_timeout)
+            config.now.retry_connection at) W.sinks on_failure stopped self.old home.old
+            outside.old result self.new home.new outside.new }
+    {
+        let Some(mut task) = self.queue.pop_front() else {
+            return stopped;
+        };
+        match stopped {
+            Some(error) => {
+                self.queue.push_back_reserved(task);
+                return Some(error);
+            }
+            None => {}
+        }
+        match task.poll(at, outside, config, home) {
+            ReplenishAnswer::Pending => {
+                self.queue.push_back_reserved(task);
+                None
+            }
+            ReplenishAnswer::Retrying(error) => {
+                outside.sink(error);
+                self.queue.push_back_reserved(task);
+                None
+            }
+            ReplenishAnswer::Failed(error) => {
+                task.finish();
+                match on_failure {
+                    OnFailure::Stop => Some(error),
+                    OnFailure::GoOn => {
+                        outside.sink(error);
+                        None
+                    }
+                }
+            }
+            ReplenishAnswer::Entered | ReplenishAnswer::Late | ReplenishAnswer::GivenBack => {
+                task.finish();
+                None
+            }
+        }
+    }
+
+    /// Lets each task go, in their order, so that the approval of each that has not ended is given back. Our own.
+    pub fn give_back<E, W: Opener<C, E, Connecting = V, Acquiring = A>, H: Home<C>>(
+        self,
+        at: Moment,
+        outside: &mut W,
+        home: &mut H,
+    )
+        ensures { LetsGoEach (LetsGo H.Home W.Opener at) self home.old outside.old home.new
+            outside.new }
+    {
+        let Tasks { mut queue } = self;
+        while let Some(task) = queue.pop_front() {
+            task.give_back(at, outside, home);
+        }
+        queue.destroy_empty();
+    }
+
+    /// A round of polls that stops at the first failure of a last try, and then lets all other tasks go. Our own.
+    pub fn round<E, W: Opener<C, E, Connecting = V, Acquiring = A> + Reports<E>, H: Home<C>>(
+        mut self,
+        at: Moment,
+        outside: &mut W,
+        config: &Config,
+        home: &mut H,
+    ) -> Round<Self, E>
+        ensures { Rounds (Polls H.Home W.Opener (as_nanos config.now.connection_timeout)
+            config.now.retry_connection at) W.sinks (LetsGo H.Home W.Opener at) self home.old
+            outside.old result home.new outside.new }
+    {
+        match self.poll_until(at, outside, config, home, OnFailure::Stop) {
+            Some(error) => {
+                self.give_back(at, outside, home);
+                Round::Failed(error)
+            }
+            None => {
+                if self.is_empty() {
+                    self.finish();
+                    return Round::Complete;
+                }
+                Round::Going(self)
+            }
+        }
+    }
+
+    /// Ends where no task is left.
+    fn finish(self)
+        requires { self ≡ [] }
+    {
+        let Tasks { queue } = self;
+        queue.destroy_empty();
+    }
+
+    /// A round of polls that goes on after each failure: each task is polled once, and each error goes to the sink. Our own.
+    pub fn poll_each<E, W: Opener<C, E, Connecting = V, Acquiring = A> + Reports<E>, H: Home<C>>(
+        &mut self,
+        at: Moment,
+        outside: &mut W,
+        config: &Config,
+        home: &mut H,
+    )
+        ensures { PollsUntil (Polls H.Home W.Opener (as_nanos config.now.connection_timeout)
+            config.now.retry_connection at) W.sinks IsGoOn self.old home.old outside.old None
+            self.new home.new outside.new }
+    {
+        match self.poll_until(at, outside, config, home, OnFailure::GoOn) {
+            None => {}
+            Some(_) => unreachable!(),
+        }
+    }
+}

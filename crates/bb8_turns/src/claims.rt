@@ -1,0 +1,25 @@
+//! The claims of a turn.
+ghost use Rattle.bb8_turns.specs.Turns.{Claims};
+
+use bb8_core::api::Moment;
+use bb8_core::internals::ClaimAnswer;
+use bb8_tasks::{ClaimHome, Tasks};
+
+/// Claims approvals until none is unclaimed, and takes on their tasks. It stops where there is no place for one more task, and there makes
+/// no claim. Whether it stopped as no handle is alive.
+pub(crate) fn claim_each<C, V: Drop, A: Drop, H: ClaimHome>(
+    tasks: &mut Tasks<C, V, A>,
+    at: Moment,
+    home: &mut H,
+) -> bool
+    ensures { Claims H.ClaimHome at tasks.old home.old result tasks.new home.new }
+{
+    for _ in tasks.len()..usize::MAX {
+        match tasks.claim(at, home) {
+            Ok(ClaimAnswer::Claimed(Some(_))) => {}
+            Ok(ClaimAnswer::Claimed(None)) | Err(_) => return false,
+            Ok(ClaimAnswer::Ended) => return true,
+        }
+    }
+    false
+}
