@@ -1,5 +1,5 @@
 -- What holds of the sections of a pool.
-use Rattle.std.proofs.Common.{◌≡◌, ℕ, ◌+◌, ◌≤◌, Bool, true, false, Option, is_some, refl, sym, ap, ◌∙◌, arith}
+use Rattle.std.proofs.Common.{◌≡◌, ℕ, ◌+◌, ◌^◌, ◌<◌, ◌≤◌, length, Bool, true, false, Option, is_some, refl, sym, ap, ◌∙◌, arith}
 use Rattle.bb8_core.specs.declared.answers.GiveUpAnswer.{GiveUpAnswer}
 use Rattle.bb8_core.specs.declared.answers.GiveUpAnswer.TheVariants as given_back
 use Rattle.bb8_core.specs.declared.answers.CheckedErrAnswer.{CheckedErrAnswer}
@@ -14,9 +14,9 @@ use Rattle.bb8_types.specs.Settings.{Settings, settings_of, is_lawful}
 use Rattle.bb8_ledger.specs.Acts.{Act, CheckedErr, GiveUp, PutBack, Fill, Add, Reason}
 use Rattle.bb8_ledger.specs.Answers as answers
 use Rattle.bb8_ledger.specs.Answers.{Answer, Broken, Granted, Unfit}
-use Rattle.bb8_ledger.specs.Ledger.{Ledger, Later}
+use Rattle.bb8_ledger.specs.Ledger.{Ledger, Later, next, records}
 use Rattle.bb8_core.specs.StepAnswers.{checked_err_told, give_up_told, put_back_told, add_told}
-use Rattle.bb8_ledger.specs.Table.{fits, IsLegal, Row, add_broken, add_full, add_exhausted, add_refused, adds, gives_up, gives_up_kept, gives_up_closed}
+use Rattle.bb8_ledger.specs.Table.{fits, Allowed, IsLegal, Row, fills, add_broken, add_full, add_exhausted, add_refused, adds, gives_up, gives_up_kept, gives_up_closed}
 use Rattle.bb8_core.specs.Shown.{Shown, Means, Meets, IsFitting, HasLedger, IsWithinLimits}
 use Rattle.bb8_core.specs.Run.{opening}
 use Rattle.bb8_locked.specs.Sections.{IsSorted}
@@ -171,3 +171,11 @@ module _ {C : Type 0} where
   -- the failing of a check brings one back
   pub failed_back : (g : ℕ) (b : Bool) (answer : CheckedErrAnswer C) (before after : ℕ) → Moves {C = C} (CheckedErr g b) (checked_err_told answer) before after → after + 1 ≡ before
   failed_back g b (invalid.Closed k c grant n) before after moves = moves
+
+  -- what a new pool is granted for its first connections has numbers that a u64 can be
+  pub first_numbers : (config : Config) (at : ℕ) (claimed : Bool) (grant : Grant) → Allowed {C = C} (opening config 0 0) at (Fill claimed) (Granted grant)
+      → grant.first + grant.count < 2 ^ 64
+  first_numbers config at claimed grant allowed = filled (opening config 0 0) allowed refl refl
+    where
+      filled : (l : Ledger C) → Row l at (Fill claimed) (Granted grant) → next l ≡ 0 → length (records l) ≡ 0 → grant.first + grant.count < 2 ^ 64
+      filled l (fills want) none empty = let first = want.first in let most = want.most in omega arith

@@ -1,5 +1,5 @@
 -- The parts by which a pool's connections are counted, and how a pool begins.
-use Rattle.std.specs.Prelude.{◌≡◌, ℕ, false}
+use Rattle.std.specs.Prelude.{◌≡◌, ℕ, Bool, false}
 use Rattle.std.specs.declared.sync.ledger.Blank.{Blank}
 use Rattle.bb8_types.specs.declared.api.moments.Moment.{Moment}
 use Rattle.bb8_types.specs.declared.grants.Grant.{Grant}
@@ -21,12 +21,12 @@ pub record IsBlankOf (blank : Blank) (settings : Settings) (name parts : ℕ) (o
 abbrev pub unchecked_of : ℕ → Settings
 unchecked_of size = record default_settings { max_size = size; test_on_check_out = false }
 
--- A pool's state begins as the first approvals are granted, which nobody has claimed. None of them was withheld.
-abbrev pub Begins : {C : Type 0} → Settings → ℕ → Shown C → Type 0
-Begins {C} settings at s =
-    (grant : Grant) × (grant.withheld ≡ 0) × Allowed {C = C} (opening_with settings 0 0) at (Fill false) (Granted grant)
-    × Means {C = C} (Later (opening_with settings 0 0) at (Fill false) (Granted grant)) s
+-- A pool's state begins as this is granted for its first connections, claimed or not. Nothing of it was withheld.
+abbrev pub Begins : {C : Type 0} → Settings → Bool → ℕ → Grant → Shown C → Type 0
+Begins {C} settings claimed at grant s =
+    (grant.withheld ≡ 0) × Allowed {C = C} (opening_with settings 0 0) at (Fill claimed) (Granted grant)
+    × Means {C = C} (Later (opening_with settings 0 0) at (Fill claimed) (Granted grant)) s
 
 -- some state begins so, at a reading of the clock
-abbrev pub HasBegun : (C : Type 0) → (Moment → Type 0) → Settings → Type 0
-HasBegun C Tells settings = (at : Moment) × Tells at × ((s : Shown C) × Begins settings at.0 s)
+abbrev pub HasBegun : (C : Type 0) → (Moment → Type 0) → Settings → Bool → Grant → Type 0
+HasBegun C Tells settings claimed grant = (at : Moment) × Tells at × ((s : Shown C) × Begins settings claimed at.0 grant s)

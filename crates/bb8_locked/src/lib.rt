@@ -4,6 +4,7 @@
 mod gathered;
 mod home;
 mod locked;
+mod opens;
 
 pub use gathered::Gathered;
 pub use locked::{Handle, Joining, Locked, NewPool, Part, Parts, PoolParts, begin_pool};

@@ -2,7 +2,7 @@
 //!
 //! A section is lent the state. Where its event fits it takes one step; where it does not, as no code of this crate brings about, it
 //! answers `Unfit` and changes nothing. No manager, customizer, sink or clock is called here.
-ghost use Rattle.std.specs.Prelude.{◌≡◌, ◌+◌, ◌<◌, ◌≤◌, true, IfOk};
+ghost use Rattle.std.specs.Prelude.{◌≡◌, ◌+◌, ◌^◌, ◌<◌, ◌≤◌, true, IfOk};
 ghost use Rattle.bb8_ledger.specs.Acts as acts;
 ghost use Rattle.bb8_ledger.specs.Answers as answers;
 ghost use Rattle.bb8_types.specs.Figures.{figures_of};
@@ -16,7 +16,7 @@ mod handles;
 
 use bb8_core::api::{Config, Memory, Moment, State};
 use bb8_core::internals::{
-    AddAnswer, ClaimAnswer, Key, OpenedAnswer, PoolInternals, PutBackAnswer,
+    AddAnswer, ClaimAnswer, Grant, Key, OpenedAnswer, PoolInternals, PutBackAnswer,
 };
 use bb8_gets::Taken;
 pub use handles::{Handle, Joining};
@@ -66,6 +66,8 @@ pub struct NewPool<C, L: Parts> {
     pub locked: Locked<C, L>,
     /// Its one handle.
     pub handle: Handle,
+    /// The approvals for its first connections.
+    pub grant: Grant,
 }
 
 /// Lays out the parts of a new pool beside its state, which has nothing out; the total says how many there are.
@@ -86,22 +88,25 @@ fn lay_out_parts<C: Drop, L: Parts>(
     (book.close(), Locked { core, rest })
 }
 
-/// A new pool with one handle: its lock holds the state with the pool's settings, its first approvals, which nobody has claimed, and its
+/// A new pool with one handle: its lock holds the state with the pool's settings, its first approvals, which are claimed or not, and its
 /// parts. It fails where memory for an approval is refused.
 pub fn begin_pool<C: Drop, L: Parts>(
     alloc: Global,
     config: Config,
     at: Moment,
     blank: Blank,
+    claimed: bool,
 ) -> Result<NewPool<C, L>, Memory>
     requires lawful { is_lawful (settings_of config) ≡ true }
     requires parts { IsBlankOf blank (settings_of config) L.name L.parts L.settings }
     ensures total { IfOk result (λ new. new.total.amount ≡ config.max_size) }
-    ensures first { IfOk result (λ new. Begins (settings_of config) at.0 new.locked.core) }
+    ensures first { IfOk result (λ new. Begins (settings_of config) claimed at.0 new.grant
+        new.locked.core) }
+    ensures numbers { IfOk result (λ new. new.grant.first + new.grant.count < 2 ^ 64) }
 {
     let mut core = PoolInternals::new(alloc, config);
-    let granted = core.fill(at, false);
-    if granted.withheld > 0 {
+    let grant = core.fill(at, claimed);
+    if grant.withheld > 0 {
         return Err(Memory);
     }
     let (total, locked) = lay_out_parts(core, blank, config.max_size);
@@ -109,6 +114,7 @@ pub fn begin_pool<C: Drop, L: Parts>(
         total,
         locked,
         handle: Handle::first(),
+        grant,
     })
 }
 

@@ -1,4 +1,6 @@
 pub mod Bounded
+pub mod Building
+pub mod Dedicating
 pub mod Homes
 pub mod Played
 pub mod ReapHomes

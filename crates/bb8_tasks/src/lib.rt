@@ -1,8 +1,10 @@
 //! The polled tasks of a pool: the opening of a connection, with its waits between tries, its replay over a list of polls, lists of such
-//! tasks, and the reaper.
+//! tasks, the opening of a connection that no pool counts, and the reaper.
 #![tactic(auto)]
 
 mod backoff;
+mod building;
+mod dedicated;
 mod home;
 mod opener;
 mod plain;
@@ -16,6 +18,8 @@ mod tests;
 mod waits;
 
 pub use backoff::{Backoff, Reply, replay_backoff};
+pub use building::{Built, Site};
+pub use dedicated::{Dedicated, Opened, Opening};
 pub use home::{ClaimHome, FailedStep, Home, OpenedStep, ReapHome, ReapStep, Reaped};
 pub use opener::{Opener, PoolOpener};
 pub use reaper::{Reaper, ReaperAnswer};
