@@ -17,11 +17,11 @@ use Rattle.bb8_ledger.specs.Acts.{Reap}
 use Rattle.bb8_ledger.specs.Answers.{Reaped, Ended}
 use Rattle.bb8_ledger.specs.Ledger.{Ledger, start, position, latest, records, peak, with_ended}
 use Rattle.bb8_ledger.specs.Table.{reap_ended, reaps, reaped_at}
-use Rattle.bb8_core.specs.Shown.{Shown, shown, shown_records, HasLedger}
+use Rattle.bb8_core.specs.Shown.{Shown, shown_records, HasLedger}
 use Rattle.bb8_core.specs.Decided as decided
 use Rattle.bb8_ledger.proofs.Facts.{entered_before, ended_all_before}
 use Rattle.bb8_ledger.proofs.Effects.{reaped_sized}
-use Rattle.bb8_core.proofs.Fitting.{shown_fits, ended_shown}
+use Rattle.bb8_core.proofs.Fitting.{shown, shown_fits, ended_shown}
 use Rattle.bb8_core.proofs.ShownReaped.{AreEnded, all_ended}
 use Rattle.bb8_core.proofs.Steps.{same_shown, IsStep, meets_by, meets_quiet, Grants, changed, want_is, open_now, later_shown, gets_kept}
 
@@ -64,14 +64,14 @@ module _ {C : Type 0} where
         subst (λ (t : ShownRecords C). machine.IsGrant t (decided.want s.config s.handles t) grant) ended.state granted.granted,
         were,
       )
-      (same_shown _ _ refl now_is refl (granted.after ∙ ap (machine.after_grant false grant) ended.state) refl (ap counts_held is_is))
+      (same_shown _ _ refl refl now_is refl (granted.after ∙ ap (machine.after_grant false grant) ended.state) refl (ap counts_held is_is))
       (λ l legal f known.
       let here : Ended_at l at (position l) ks = ended_at l at (position l) ks told refl known.1 in
       let next : Ended_at l at (suc (position l)) ks = ended_at l at (suc (position l)) ks told (later_shown l) known.1 in
       let to : List (Numbered (Standing C)) = with_ended (start l).first (reaped_at l at) (records l) in (
         reaps known.0 (known.1.closed ∙ here.closed) (known.1.by_idle ∙ here.by_idle) (known.1.by_life ∙ here.by_life)
             (want_is l to grant _ (ended_all_before (position l) (start l).first (reaped_at l at) (records l) (entered_before l)) here.shows known.2),
-        same_shown _ _ refl refl refl
+        same_shown _ _ refl refl refl refl
             (changed false l grant.count to _ (next.shows ∙ ap (after_reap ks) (later_shown l))) (gets_kept l)
             (ap (λ (x : Counts). record x { max_lifetime = x.max_lifetime + told.by_life; idle_timeout = x.idle_timeout + told.by_idle }) known.3),
       ))
