@@ -79,20 +79,16 @@ pub data Answers {S A : Type 0} (step : S → Poll A → S → Type 0) : S → A
 
 -- What the gets and guards of a pool do, of which handles and guards share this, by any calls outside.
 module _ {M S Z K R L C E N V W : Type 0} {m : ManagerOf M C E N V} {d : DebugOf E} {l : PartsOf L} (outside : OutsideOf W C E V) (shared : Shared M S Z K R L C E N V m d l) where
-  -- this is the pool's lock, which is not held
-  abbrev pub IsFreeLock : LinkHome (Locked C L l) R → Type 0
-  IsFreeLock h = (h.mutex.now ≡ shared.locked) × (h.held ≡ None)
-
   -- A poll of a get on the pool's lock, which is free before, goes by the table.
   abbrev pub LinkPolls : Stage C V (Part L) → W → Settled C V (Part L) E → W → Type 0
   LinkPolls stage w settled w' =
-      (h : LinkHome (Locked C L l) R) × (h' : LinkHome (Locked C L l) R) × IsFreeLock h
+      (h : LinkHome (Locked C L l) R) × (h' : LinkHome (Locked C L l) R) × (h.held ≡ None)
       × Polls (link_home locked_home) outside (settings_of shared.config).connection_timeout stage h w settled h' w'
 
   -- A get of the pool is let go by the table.
   abbrev pub LinkCancels : Stage C V (Part L) → W → W → Type 0
   LinkCancels stage w w' =
-      (h : LinkHome (Locked C L l) R) × (h' : LinkHome (Locked C L l) R) × IsFreeLock h
+      (h : LinkHome (Locked C L l) R) × (h' : LinkHome (Locked C L l) R) × (h.held ≡ None)
       × Cancels (link_home locked_home) outside stage h w h' w'
 
   -- A guard's connection comes back: it is asked whether it is broken, the clock is read, and what the lock holds takes it back, with an

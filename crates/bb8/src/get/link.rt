@@ -22,8 +22,7 @@ pub(crate) struct LinkHome<'a, T, R> {
 impl<'a, T, R> LinkHome<'a, T, R> {
     /// The home that takes this lock, which is not held yet.
     pub(crate) fn new(mutex: &'a Mutex<T>, rt: &'a R) -> Self
-        ensures lock { result.mutex.now ≡ mutex.now }
-        ensures free { result.held ≡ None }
+        ensures { result.held ≡ None }
     {
         LinkHome {
             mutex,
