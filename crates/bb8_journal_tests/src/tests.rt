@@ -6,6 +6,7 @@ use bb8_core::replay::{Act, Event};
 
 mod audits;
 mod meeting;
+mod refusals;
 mod scripts;
 
 /// A pool that checks no connection before it hands it out.

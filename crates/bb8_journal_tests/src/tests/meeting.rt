@@ -113,6 +113,8 @@ fn both<R: Threads + Wait + Abort + AllocGlobal + Sync, L: Recorded + Send + Syn
 
 #[test]
 fn seats_meet(rt: HostRuntime) -> Result<(), Fail> {
-    both::<HostRuntime, Brand>(&rt, unchecked(1, Some(1)), Blank::new(2))?;
+    let config = unchecked(1, Some(1));
+    assert!(rt; config.is_lawful());
+    both::<HostRuntime, Brand>(&rt, config, Blank::new(2))?;
     Ok(())
 }
