@@ -23,12 +23,12 @@ use Rattle.bb8_types.proofs.Places.{standing_is, guarded_out, and_right}
 use Rattle.bb8_core.proofs.ShownRecords.{shown-claimed, shown-entered}
 use Rattle.bb8_ledger.proofs.Facts.{entered_before}
 use Rattle.bb8_core.proofs.Fitting.{shown_record, shown_get}
-use Rattle.bb8_core.proofs.Runs.{takes_try}
+use Rattle.bb8_core.proofs.Runs.{shown_try}
 use Rattle.bb8_bench.specs.Lines.{upto}
 use Rattle.bb8_bench.specs.Serving.{IsServing}
 use Rattle.bb8_bench.proofs.Counted.{head}
 
--- an event that is taken is answered by a row
+-- an event that fits is answered by a row
 by_row : (b : Bool) (P Q : Type 0) → b ≡ true → MatchBool b P Q → P
 by_row true P Q e p = p
 by_row false P Q e p = cc
@@ -81,7 +81,7 @@ unclaimed-approve (suc n) =
 -- ---- which step is taken next
 
 pub try_fits : (s : Shown ℕ) (g : ℕ) → IsServing s → 0 < length s.records.idle → gets_stand is_trying (get s.gets.places g) ≡ true → IsFitting s (Try g)
-try_fits s g ready some tries l legal means = takes_try l s g means ∙ tries
+try_fits s g ready some tries l legal means = shown_try l s g means ∙ tries
 
 pub put_back_fits : (s : Shown ℕ) (k c : ℕ) → stands is_guarded (get s.records.places k) ≡ true → IsFitting s (PutBack k c false)
 put_back_fits s k c out l legal means = ap (stands is_guarded) (shown_record l s means k) ∙ out

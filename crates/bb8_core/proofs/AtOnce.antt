@@ -15,7 +15,7 @@ use Rattle.bb8_tables.specs.Counted.{counts_held}
 use Rattle.bb8_core.specs.Shown.{Shown, IsFitting}
 use Rattle.bb8_tables.specs.Views.{ShownRecords, ShownGets}
 use Rattle.bb8_types.proofs.Numbered.{eqb_self, get_inserted}
-use Rattle.bb8_core.proofs.Runs.{takes_try}
+use Rattle.bb8_core.proofs.Runs.{shown_try}
 use Rattle.bb8_core.proofs.Steps.{IsStep, Grants, served, meets_begun, meets_served}
 use Rattle.bb8_types.specs.Bounds.{end_of_numbers}
 
@@ -37,7 +37,7 @@ module _ {C : Type 0} where
 
   fits_between : (s : Shown C) (now : ℕ) → IsFitting (between s now) (Try s.gets.next)
   fits_between s now l legal means =
-      takes_try l (between s now) s.gets.next means ∙ ap (gets_stand is_trying) (stands_new s now)
+      shown_try l (between s now) s.gets.next means ∙ ap (gets_stand is_trying) (stands_new s now)
 
   pub meets_begun_between : {s : Shown C} (at : ℕ) {now n : ℕ} → n ≡ s.gets.next → IsFitting s Begin → now ≡ max s.latest at
       → s.gets.next < end_of_numbers → IsStep s at Begin (Begun n) (between s now)

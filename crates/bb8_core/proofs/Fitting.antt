@@ -166,7 +166,7 @@ module _ {C : Type 0} where
 
   -- ---- a get that holds a connection
 
-  -- an event that wants it is taken: this is what it holds, by the number that the code reads off it
+  -- an event that wants it fits: this is what it holds, by the number that the code reads off it
   pub fit_holds : {s t : Shown C} {o : Option Getting} {n : ℕ} (g : ℕ) → s ≡ t → HasLedger s
       → ((l : Ledger C) → IsLegal l → Means l t → is_some (holds (get_of l g)) ≡ true) → o ≡ get s.gets.places g
       → ((k : ℕ) → holds o ≡ Some k → n ≡ k) → holds o ≡ Some n

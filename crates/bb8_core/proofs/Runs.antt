@@ -35,14 +35,14 @@ module _ {C : Type 0} where
   get_absent s t n None is h = λ l legal means. shown_get l s (as_shown l (sym is) means) n ∙ h
   get_absent s t n (Some g) is h = tt
 
-  -- which tries are taken, by what is shown
-  pub takes_try : (l : Ledger C) (s : Shown C) (g : ℕ) → Means l s → fits l (Try g) ≡ gets_stand is_trying (get s.gets.places g)
-  takes_try l s g means = ap (gets_stand is_trying) (shown_get l s means g)
+  -- which tries fit, by what is shown
+  pub shown_try : (l : Ledger C) (s : Shown C) (g : ℕ) → Means l s → fits l (Try g) ≡ gets_stand is_trying (get s.gets.places g)
+  shown_try l s g means = ap (gets_stand is_trying) (shown_get l s means g)
 
   -- and which give-ups: the get is alive, and a connection is handed in just where it holds one
-  pub takes_give_up : (l : Ledger C) (s : Shown C) (g : ℕ) (why : Reason) (held : Option C) (broken : Bool) → Means l s
+  pub shown_give_up : (l : Ledger C) (s : Shown C) (g : ℕ) (why : Reason) (held : Option C) (broken : Bool) → Means l s
       → fits l (GiveUp g why held broken) ≡ (is_some (get s.gets.places g) && agree (is_some held) (is_some (holds (get s.gets.places g))))
-  takes_give_up l s g why held broken means = ap (λ (o : Option Getting). is_some o && agree (is_some held) (is_some (holds o))) (shown_get l s means g)
+  shown_give_up l s g why held broken means = ap (λ (o : Option Getting). is_some o && agree (is_some held) (is_some (holds o))) (shown_get l s means g)
 
   -- ---- an event that does not fit changes nothing
 

@@ -9,7 +9,7 @@ use Rattle.bb8_ledger.specs.Table.{fits, Allowed, IsLegal}
 use Rattle.bb8_core.specs.Shown.{Shown, Means}
 
 module _ {C : Type 0} where
-  -- A step of a home that is the plain state. On each legal ledger that the state means: where the event is taken the answer is allowed, and
+  -- A step of a home that is the plain state. On each legal ledger that the state means: where the event fits the answer is allowed, and
   -- the new state means the ledger that it leads to; elsewhere the answer is `Unfit`, and the state is as it was.
   abbrev pub Steps : Shown C → ℕ → Act C → Answer → Shown C → Type 0
   Steps old at e a new =

@@ -8,6 +8,7 @@ use std::time::Duration;
 mod at_once;
 mod checks;
 mod crowd;
+mod reaps;
 mod refusals;
 mod replays;
 mod steps;

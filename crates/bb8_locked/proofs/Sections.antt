@@ -38,7 +38,7 @@ refuses_broken Broken = true
 refuses_broken _ = false
 
 module _ {C : Type 0} where
-  -- Such an event is taken on each legal ledger that the state means, or on none.
+  -- Such an event fits each legal ledger that the state means, or none.
   abbrev pub Says : Shown C → Act C → Bool → Type 0
   Says s e b = (l : Ledger C) → IsLegal l → Means l s → b ≡ fits l e
 

@@ -62,11 +62,15 @@ broken_act verb n =
     else (if bytes_eq verb (codes "return") then Some (PutBack n true)
     else None)))
 
+-- the verbs with a number and a word after them
+abbrev pub flagged_act : List ℕ → List ℕ → List ℕ → Option Act
+flagged_act verb arg word = if bytes_eq word (codes "broken") then (number_of 64 arg >>= broken_act verb) else None
+
 -- what a verb and its arguments say
 unfoldable pub act_of : List ℕ → List (List ℕ) → Option Act
 act_of verb [] = plain_act verb
 act_of verb (arg ∷ []) = unwrap_or (option_map (numbered_act verb) (number_of 64 arg)) (worded_act verb arg)
-act_of verb (arg ∷ word ∷ []) = if bytes_eq word (codes "broken") then (number_of 64 arg >>= broken_act verb) else None
+act_of verb (arg ∷ word ∷ []) = flagged_act verb arg word
 act_of verb (arg ∷ word ∷ more ∷ rest) = None
 
 -- a line's fields: what stands between its spaces

@@ -1,6 +1,6 @@
 //! What the lines of a script are read as. The language of scripts is our own.
 ghost use Rattle.std.specs.Prelude.{◌≡◌, map, IfOk, List, ℕ};
-ghost use Rattle.bb8_runner.specs.Grammar.{number_of, plain_act, worded_act, numbered_act, broken_act, act_of, event_of_fields, event_of, fields_of};
+ghost use Rattle.bb8_runner.specs.Grammar.{number_of, plain_act, worded_act, numbered_act, broken_act, flagged_act, act_of, event_of_fields, event_of, fields_of};
 
 use bb8_core::api::Moment;
 use bb8_core::replay::{Act, Event, Reason};
@@ -90,6 +90,16 @@ fn broken_act(verb: &str, n: u64) -> Option<Act>
     }
 }
 
+/// The verbs with a number and a word after them.
+fn flagged_act(verb: &str, arg: &str, word: &str) -> Option<Act>
+    ensures { result ≡ flagged_act verb.now arg.now word.now }
+{
+    if word != "broken" {
+        return None;
+    }
+    broken_act(verb, number(arg)?)
+}
+
 #[tactic(auto, unfolding(crate::specs::Grammar::act_of))]
 fn act_of(verb: &str, args: &[&str]) -> Option<Act>
     ensures { result ≡ act_of verb.now (map (λ x. x.now) args.now) }
@@ -100,12 +110,7 @@ fn act_of(verb: &str, args: &[&str]) -> Option<Act>
             Some(n) => numbered_act(verb, n),
             None => worded_act(verb, arg),
         },
-        [arg, word] => {
-            if *word != "broken" {
-                return None;
-            }
-            broken_act(verb, number(arg)?)
-        }
+        [arg, word] => flagged_act(verb, arg, word),
         _ => None,
     }
 }

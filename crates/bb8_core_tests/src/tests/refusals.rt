@@ -7,7 +7,7 @@ use super::steps::{
 use super::{first_script, unchecked};
 use bb8_core::internals::{
     AddAnswer, BeginAnswer, ClaimAnswer, FailedAnswer, GetKey, GiveUpAnswer, Grant, JoinAnswer,
-    LeaveAnswer, OpenedAnswer, PoolInternals, PutBackAnswer, Reason, TryAnswer,
+    LeaveAnswer, OpenedAnswer, PoolInternals, PutBackAnswer, ReapAnswer, Reason, TryAnswer,
 };
 use bb8_core::replay::{Act, Answer, Event, fits, replay};
 use std::process::Abort;
@@ -343,6 +343,24 @@ fn entered(rt: &impl Abort, pool: &mut PoolInternals<Link>, number: u64) -> Answ
     }
 }
 
+/// What the bare state answers to a reap.
+fn reaped(pool: &mut PoolInternals<Link>) -> Answer {
+    match pool.reap(NOW) {
+        ReapAnswer::Reaped {
+            closed,
+            by_idle,
+            by_life,
+            grant,
+        } => Answer::Reaped {
+            closed,
+            by_idle,
+            by_life,
+            grant,
+        },
+        ReapAnswer::Ended => Answer::Ended,
+    }
+}
+
 /// What the bare state answers.
 fn answer(rt: &impl Abort, pool: &mut PoolInternals<Link>, next: u64, act: Act) -> Answer {
     if !fits(pool, Event { at: NOW, act }) {
@@ -371,6 +389,7 @@ fn answer(rt: &impl Abort, pool: &mut PoolInternals<Link>, next: u64, act: Act) 
         },
         Act::Opened(number) => entered(rt, pool, number),
         Act::Add(broken) => added(rt, pool, next, broken),
+        Act::Reap => reaped(pool),
         Act::State => Answer::Shown(pool.state(NOW)),
         Act::Failed(number) => {
             let key = pool.find(number).expect(rt, "the approval stands");

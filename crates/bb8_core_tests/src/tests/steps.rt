@@ -3,7 +3,8 @@ ghost use Rattle.std.specs.Prelude.{◌≡◌, ℕ, true};
 ghost use Rattle.bb8_ledger.specs.Ledger.{Ledger};
 ghost use Rattle.bb8_core.specs.Run.{act_with};
 ghost use Rattle.bb8_core.specs.Shown.{Means};
-ghost use Rattle.bb8_ledger.specs.Table.{IsLegal, fits};
+ghost use Rattle.bb8_ledger.specs.Table as table;
+ghost use Rattle.bb8_ledger.specs.Table.{IsLegal};
 
 use super::{granted, served, unchecked};
 use bb8_core::api::{Config, Moment, QueueStrategy};
@@ -32,7 +33,7 @@ pub(super) enum Link {
 /// Asserts that what happens fits.
 fn assert_fits(rt: &impl Abort, pool: &PoolInternals<Link>, act: Act)
     ensures { (conn : ℕ → Link) (l : Ledger Link) → IsLegal l → Means l pool.now
-        → fits l (act_with conn l act) ≡ true }
+        → table.fits l (act_with conn l act) ≡ true }
 {
     if !fits(pool, Event { at: NOW, act }) {
         panic!(rt; "{act:?} does not fit");

@@ -3,7 +3,8 @@ ghost use Rattle.std.specs.Prelude.{◌≡◌, ℕ, true};
 ghost use Rattle.bb8_ledger.specs.Ledger.{Ledger};
 ghost use Rattle.bb8_core.specs.Run.{act_with};
 ghost use Rattle.bb8_core.specs.Shown.{Means};
-ghost use Rattle.bb8_ledger.specs.Table.{IsLegal, fits};
+ghost use Rattle.bb8_ledger.specs.Table as table;
+ghost use Rattle.bb8_ledger.specs.Table.{IsLegal};
 
 use super::{Refused, SlowManager, StoppedClock};
 use bb8::{Config, Moment, NopErrorSink, RunError, Statistics};
@@ -65,7 +66,7 @@ fn cancel(pool: &mut PoolInternals<u64>, get: GetState<u64, (), ()>, at: u64) {
 /// Asserts that what happens fits.
 fn assert_fits(rt: &impl Abort, pool: &PoolInternals<u64>, act: Act)
     ensures { (conn : ℕ → ℕ) (l : Ledger ℕ) → IsLegal l → Means l pool.now
-        → fits l (act_with conn l act) ≡ true }
+        → table.fits l (act_with conn l act) ≡ true }
 {
     if !fits(pool, Event { at: Moment(0), act }) {
         panic!(rt; "{act:?} does not fit");
