@@ -3,6 +3,7 @@ pub mod Spelled
 pub mod Linked
 pub mod Slots
 pub mod Lines
+pub mod Orders
 pub mod Numbers
 pub mod RecordPlaces
 pub mod Approvals

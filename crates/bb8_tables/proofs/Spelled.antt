@@ -20,7 +20,7 @@ without_absent p [] a = refl
 without_absent p (x ∷ xs) a = let e : eqb x p ≡ false = ne_eqb x p a.0 in rw e (ap (λ (r : List ℕ). x ∷ r) (without_absent p xs a.1))
 
 -- what is not in the list without p is p, or wasn't there
-absent_without : (p q : ℕ) (xs : List ℕ) → q ≢ p → Absent q (without p xs) → Absent q xs
+pub absent_without : (p q : ℕ) (xs : List ℕ) → q ≢ p → Absent q (without p xs) → Absent q xs
 absent_without p q [] n a = tt
 absent_without p q (x ∷ xs) n a =
     ⊎_elim

@@ -1,7 +1,8 @@
 -- What a table of places holds, and lines of keys into it.
-use Rattle.std.specs.Prelude.{◌≡◌, ◌≢◌, ◌<◌, ℕ, Bool, true, List, [], ◌∷◌, map, Option, Some, None, slice_get, get_or}
+use Rattle.std.specs.Prelude.{◌≡◌, ◌≢◌, ◌<◌, ℕ, Bool, true, false, List, [], ◌∷◌, map, Option, Some, None, slice_get, get_or}
 use Rattle.std.specs.Ordering.{nat_cmp}
 use Rattle.std.specs.FinMap.{FinMap, empty, insert, get}
+use Rattle.bb8_tables.specs.Spelled.{Absent}
 
 -- the value of each place, under its number
 abbrev pub values_at : {X S : Type 0} → (X → ℕ) → (X → S) → List (Option X) → FinMap nat_cmp S
@@ -40,3 +41,8 @@ numbers_at number xs places = map (λ i. number_in number (get_or xs i None)) pl
 -- at each of the places stands what passes the test, and no place comes twice
 abbrev pub ArePlaces : {X : Type 0} → (X → Bool) → List (Option X) → List ℕ → Type 0
 ArePlaces {X} test = IsLine (λ (x : X). 0) test (λ (i : ℕ). 0) (λ (i : ℕ). i)
+
+-- these are all the places at which stands what passes the test, and no place comes twice
+pub record IsOrder {X : Type 0} (test : X → Bool) (slots : List (Option X)) (places : List ℕ) : Type 0 where
+  pub are : ArePlaces test slots places
+  pub all : (i : ℕ) (x : X) → get_or slots i None ≡ Some x → Absent i places → test x ≡ false

@@ -20,7 +20,8 @@ use bb8_types::standing::{Holder, Place, Standing};
 use std::alloc::{AllocError, Global};
 use std::marker::Model;
 
-/// The table of connections and approvals, in whose line are the idle ones, with the line of unclaimed approvals and its counters.
+/// The table of connections and approvals, with the line of unclaimed approvals and its counters. In the table's line are the idle
+/// connections, by their last entry; in its order of births all connections, idle or out.
 #[derive(Drop)]
 pub struct Records<C> {
     next: u64,
@@ -212,6 +213,7 @@ impl<C: Drop> Records<C> {
                 };
                 let _ = self.slots.replace(place, idle);
                 self.slots.line_up(place);
+                self.slots.add_birth(place, opening);
                 let opened = one(opening);
                 self.conns += opened;
                 self.approved -= opened;
@@ -344,6 +346,7 @@ impl<C: Drop> Records<C> {
             },
         });
         self.slots.line_up(place);
+        self.slots.add_birth(place, true);
         self.next += 1;
         self.conns += 1;
         Key { number, place }

@@ -1,5 +1,5 @@
 //! A table of places, in which each number stands once, and some stand in line.
-ghost use Rattle.std.specs.Prelude.{◌≡◌, ◌≢◌, ℕ, ◌+◌, ◌-◌, ◌<◌, ◌≤◌, IsSome, IfSome, IfNone, OnOk, OnErr, Some, None, option_copied, [], slice_get, slice_set, length, ◌++◌, ◌∷◌, Bool, true, false};
+ghost use Rattle.std.specs.Prelude.{◌≡◌, ◌≢◌, ℕ, ◌+◌, ◌-◌, ◌<◌, ◌≤◌, IsSome, IfSome, IfNone, OnOk, OnErr, Some, None, option_copied, [], slice_get, slice_set, length, ◌++◌, ◌∷◌, Bool, true, false, cond};
 ghost use Rattle.bb8_tables.specs.declared.table.Slot.{Slot};
 ghost use Rattle.bb8_tables.specs.declared.links.Order.TheVariants.{Line, Births, Free};
 ghost use Rattle.bb8_types.specs.declared.standing.Standing.{Standing};
@@ -286,6 +286,21 @@ impl<S: Drop> Table<S> {
     {
         let _links = &self.links;
         self.push(Order::Line, place);
+    }
+
+    /// Puts a place at the new end of the order of births, where its connection is new.
+    #[inline]
+    pub fn add_birth(&mut self, place: usize, new: bool)
+        requires stands { IsSome (slot_at self.old place) }
+        requires absent { new ≡ true → Absent place self.old.births }
+        ensures { self.new ≡ record self.old {
+          births = cond new (self.old.births ++ place ∷ []) self.old.births;
+        } }
+    {
+        let _links = &self.links;
+        if new {
+            self.push(Order::Births, place);
+        }
     }
 
     /// Takes a place out of line, wherever it stands in it.
