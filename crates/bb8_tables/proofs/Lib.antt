@@ -3,8 +3,8 @@ pub mod Spelled
 pub mod Linked
 pub mod Slots
 pub mod Lines
-pub mod Orders
 pub mod Numbers
+pub mod Orders
 pub mod RecordPlaces
 pub mod Approvals
 pub mod Ended

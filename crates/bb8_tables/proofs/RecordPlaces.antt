@@ -15,11 +15,11 @@ use Rattle.bb8_tables.specs.declared.keys.Key.{Key}
 use Rattle.bb8_tables.specs.declared.table.Slot.{Slot}
 use Rattle.bb8_tables.specs.declared.records.Records.TheInside.{Inside}
 use Rattle.bb8_types.specs.declared.api.configuration.QueueStrategy.{QueueStrategy}
-use Rattle.bb8_types.specs.Places.{is_idle, is_unclaimed, is_conn, is_approval, is_out, place_with, with_place, first_place, first_of, comes_from}
+use Rattle.bb8_types.specs.Places.{is_idle, is_unclaimed, is_conn, is_approval, is_out, place_with, with_place, first_place, first_of, comes_from, birth_in}
 use Rattle.bb8_tables.specs.Slots.{values_at, number_in, numbers_at}
 use Rattle.bb8_tables.specs.State.{view_of_records, AreGoodRecords, passes, IsLineOf, IsOrderOf}
 use Rattle.bb8_types.specs.Numbered.{tally, one}
-use Rattle.bb8_tables.specs.Views.{ShownRecords}
+use Rattle.bb8_tables.specs.Views.{ShownRecords, NoneAfter}
 use Rattle.bb8_tables.specs.Machine as machine
 use Rattle.bb8_tables.proofs.Views.{same_records}
 use Rattle.bb8_types.proofs.Places.{unclaimed_is, idle_is, held_conn, idle_from, unclaimed_from, conn_from, approval_from}
@@ -91,6 +91,10 @@ module _ {C : Type 0} where
   pub shown_at : (a : Inside C) (i q : ℕ) (x : Slot (Standing C)) → AreGoodRecords a → slot_at a.slots i ≡ Some x → x.number ≡ q → get (view_of_records a).places q ≡ Some x.standing
   shown_at a i q x good e same = subst (λ (n : ℕ). get (view_of_records a).places n ≡ Some x.standing) same
       (Slots.held_at (λ (s : Slot (Standing C)). s.number) (λ s. s.standing) a.slots.slots i x good.table.distinct e)
+
+  -- its moments are no later than those that are shown
+  pub moments : (a : Inside C) (now i : ℕ) (x : Slot (Standing C)) → AreGoodRecords a → NoneAfter now (view_of_records a) → slot_at a.slots i ≡ Some x → (x.standing.birth ≤ now) × (x.standing.entered ≤ now)
+  moments a now i x good late e = late x.number x.standing (shown_at a i x.number x good e refl)
 
   -- so it stands there as it is shown
   pub stands_is : (a : Inside C) (q i : ℕ) (s : Standing C) (x : Slot (Standing C)) → AreGoodRecords a
@@ -177,8 +181,8 @@ module _ {C : Type 0} where
         → peak ≤ unclaimed.capacity → AreGoodRecords (record a { slots = slots; unclaimed = unclaimed; peak = peak })
     kept_good unclaimed items few most room unclaimed_room = record {
       table = record { distinct = λ i j x y e f. good.table.distinct i j x y (sym (kept i) ∙ e) (sym (kept j) ∙ f); below = λ i x e. good.table.below i x (sym (kept i) ∙ e) };
-      idle = subst (λ (xs : List ℕ). IsOrderOf is_idle slots.slots xs) (sym line_is) (same_order good.idle kept);
-      births = subst (λ (xs : List ℕ). IsOrderOf is_conn slots.slots xs) (sym births_are) (same_order good.births kept);
+      idle = subst (λ (xs : List ℕ). IsOrderOf is_idle (λ s. s.entered) slots.slots xs) (sym line_is) (same_order good.idle kept);
+      births = subst (λ (xs : List ℕ). IsOrderOf is_conn (λ s. s.birth) slots.slots xs) (sym births_are) (same_order good.births kept);
       unclaimed = subst (λ (ks : List Key). IsLineOf is_unclaimed slots.slots ks) (sym items) (same_line good.unclaimed kept);
       conns_are = Slots.tally_same (passes is_conn) refl a.slots.slots slots.slots kept ∙ good.conns_are;
       approved_are = Slots.tally_same (passes is_approval) refl a.slots.slots slots.slots kept ∙ good.approved_are;
@@ -207,8 +211,8 @@ module _ {C : Type 0} where
         let free : length slots.free ≡ length a.slots.free = ap (λ (t : Lined (Slot (Standing C))). length t.free) (sets x.0 x.1) in
         record {
           table = table_set good.table x.1 refl u;
-          idle = subst (λ (xs : List ℕ). IsOrderOf is_idle slots.slots xs) (sym same) (other_order good.idle u (ap (passed is_idle) x.1 ∙ ap is_idle was) refl);
-          births = subst (λ (xs : List ℕ). IsOrderOf is_conn slots.slots xs) (sym (ap (λ (t : Lined (Slot (Standing C))). t.births) (sets x.0 x.1))) (other_order good.births u (ap (passed is_conn) x.1 ∙ ap is_conn was) refl);
+          idle = subst (λ (xs : List ℕ). IsOrderOf is_idle (λ s. s.entered) slots.slots xs) (sym same) (other_order good.idle u (ap (passed is_idle) x.1 ∙ ap is_idle was) refl);
+          births = subst (λ (xs : List ℕ). IsOrderOf is_conn (λ s. s.birth) slots.slots xs) (sym (ap (λ (t : Lined (Slot (Standing C))). t.births) (sets x.0 x.1))) (other_order good.births u (ap (passed is_conn) x.1 ∙ ap is_conn was) refl);
           unclaimed = rw rest (shorter_line good.unclaimed (sym first) u);
           conns_are = (let t : tally (passes is_conn) slots.slots + 0 ≡ a.conns + 0 = conns_set a slots.slots key.place (Some x.0) (Some new) false false good x.1 u (ap is_conn was) refl in omega arith);
           approved_are = (let t : tally (passes is_approval) slots.slots + 1 ≡ a.approved + 1 =
@@ -268,8 +272,8 @@ module _ {C : Type 0} where
         let conn_now : is_conn out ≡ true = held_conn out holder is in
         record {
           table = table_set good.table taken.1 refl taken_updates;
-          idle = subst (λ (xs : List ℕ). IsOrderOf is_idle slots.slots xs) (sym taken_line) (left_order good.idle taken_updates (held_idle out holder is));
-          births = subst (λ (xs : List ℕ). IsOrderOf is_conn slots.slots xs) (sym taken_births) (stays_order good.births taken_updates taken.0 taken_now taken.1 (ap is_conn was.1) refl conn_now);
+          idle = subst (λ (xs : List ℕ). IsOrderOf is_idle (λ s. s.entered) slots.slots xs) (sym taken_line) (left_order good.idle taken_updates (held_idle out holder is));
+          births = subst (λ (xs : List ℕ). IsOrderOf is_conn (λ s. s.birth) slots.slots xs) (sym taken_births) (stays_order good.births taken_updates taken.0 taken_now taken.1 (ap is_conn was.1) refl conn_now refl);
           unclaimed = other_line good.unclaimed taken.1 (ap is_unclaimed was.1) taken_updates;
           conns_are = (let t : tally (passes is_conn) slots.slots + 1 ≡ a.conns + 1 =
               conns_set a slots.slots place (Some taken.0) (Some taken_now) true true good taken.1 taken_updates (ap is_conn was.1) conn_now in omega arith);
@@ -342,8 +346,8 @@ module _ {C : Type 0} where
         let free : length slots.free ≡ length a.slots.free = ap (λ (t : Lined (Slot (Standing C))). length t.free) (sets x at_place) in
         record {
           table = table_set good.table at_place refl handover_updates;
-          idle = subst (λ (xs : List ℕ). IsOrderOf is_idle slots.slots xs) (sym handover_line) (other_order good.idle handover_updates (ap (passed is_idle) at_place ∙ idle_from false x.standing.place was) refl);
-          births = subst (λ (xs : List ℕ). IsOrderOf is_conn slots.slots xs) (sym (ap (λ (t : Lined (Slot (Standing C))). t.births) (sets x at_place))) (stays_order good.births handover_updates x guarded_now at_place conn_was refl refl);
+          idle = subst (λ (xs : List ℕ). IsOrderOf is_idle (λ s. s.entered) slots.slots xs) (sym handover_line) (other_order good.idle handover_updates (ap (passed is_idle) at_place ∙ idle_from false x.standing.place was) refl);
+          births = subst (λ (xs : List ℕ). IsOrderOf is_conn (λ s. s.birth) slots.slots xs) (sym (ap (λ (t : Lined (Slot (Standing C))). t.births) (sets x at_place))) (stays_order good.births handover_updates x guarded_now at_place conn_was refl refl refl);
           unclaimed = other_line good.unclaimed at_place (unclaimed_from false x.standing.place was) handover_updates;
           conns_are = (let t : tally (passes is_conn) slots.slots + 1 ≡ a.conns + 1 = conns_set a slots.slots place (Some x) (Some guarded_now) true true good at_place handover_updates conn_was refl in omega arith);
           approved_are = (let t : tally (passes is_approval) slots.slots + 0 ≡ a.approved + 0 =
@@ -400,9 +404,11 @@ module _ {C : Type 0} where
     approval_is : is_approval s.place ≡ false
     approval_is = let c = idle_is s.place is_idle_now in ap is_approval c.1
 
-    born : (o : Bool) → is_conn x.standing.place ≡ not o → IsOrderOf is_conn slots.slots (cond o (a.slots.births ++ place ∷ []) a.slots.births)
-    born true was_none = pushed_order good.births enter_updates entering (ap (passed is_conn) at_place ∙ was_none) refl conn_is
-    born false was_one = stays_order good.births enter_updates x entering at_place was_one refl conn_is
+    born : (o : Bool) (now : ℕ) → is_conn x.standing.place ≡ not o → NoneAfter now (view_of_records a) → s.birth ≡ cond o now x.standing.birth
+        → IsOrderOf is_conn (λ s. s.birth) slots.slots (cond o (a.slots.births ++ place ∷ []) a.slots.births)
+    born true now was_none late birth = pushed_order good.births enter_updates entering (ap (passed is_conn) at_place ∙ was_none) refl conn_is
+        (λ i y e. let l : y.standing.birth ≤ now = (moments a now i y good late e).0 in omega arith)
+    born false now was_one late birth = stays_order good.births enter_updates x entering at_place was_one refl conn_is birth
 
     conns_after : tally (passes is_conn) slots.slots + one (not opening) ≡ a.conns + 1
     conns_after = conns_set a slots.slots place (Some x) (Some entering) (not opening) true good at_place enter_updates conn_was conn_is
@@ -414,8 +420,9 @@ module _ {C : Type 0} where
     pub enter_counted : one opening ≤ a.approved
     enter_counted = let e : tally (passes is_approval) slots.slots + one opening ≡ a.approved + 0 = approved_after in omega arith
 
-    pub enter_good : (n m : ℕ) → n ≡ a.conns + one opening → m ≡ a.approved - one opening → AreGoodRecords (record a { slots = slots; conns = n; approved = m })
-    enter_good n m n_is m_is =
+    pub enter_good : (n m now : ℕ) → n ≡ a.conns + one opening → m ≡ a.approved - one opening → NoneAfter now (view_of_records a) → s.entered ≡ now
+        → s.birth ≡ cond opening now (birth_in (get (view_of_records a).places q)) → AreGoodRecords (record a { slots = slots; conns = n; approved = m })
+    enter_good n m now n_is m_is late entered birth =
         let t : tally (passes is_conn) slots.slots + one (not opening) ≡ a.conns + 1 = conns_after in
         let v : tally (passes is_approval) slots.slots + one opening ≡ a.approved + 0 = approved_after in
         let c : one opening ≤ a.approved = enter_counted in
@@ -423,8 +430,10 @@ module _ {C : Type 0} where
         let f : length slots.free ≡ length a.slots.free = ap (λ (t : Lined (Slot (Standing C))). length t.free) in_line ∙ ap (λ (t : Lined (Slot (Standing C))). length t.free) (sets x at_place) in
         record {
           table = table_set good.table at_place refl enter_updates;
-          idle = subst (λ (xs : List ℕ). IsOrderOf is_idle slots.slots xs) (sym enter_line) (pushed_order good.idle enter_updates entering (ap (passed is_idle) at_place ∙ not_idle) refl is_idle_now);
-          births = subst (λ (xs : List ℕ). IsOrderOf is_conn slots.slots xs) (sym enter_births) (born opening conn_was);
+          idle = subst (λ (xs : List ℕ). IsOrderOf is_idle (λ s. s.entered) slots.slots xs) (sym enter_line) (pushed_order good.idle enter_updates entering (ap (passed is_idle) at_place ∙ not_idle) refl is_idle_now
+              (λ i y h. let l : y.standing.entered ≤ now = (moments a now i y good late h).1 in omega arith));
+          births = subst (λ (xs : List ℕ). IsOrderOf is_conn (λ s. s.birth) slots.slots xs) (sym enter_births)
+              (born opening now conn_was late (birth ∙ ap (λ (r : Option (Standing C)). cond opening now (birth_in r)) (shown_at a place q x good at_place number_is)));
           unclaimed = other_line good.unclaimed at_place not_unclaimed enter_updates;
           conns_are = omega arith;
           approved_are = omega arith;
@@ -492,8 +501,8 @@ module _ {C : Type 0} where
         let e : one opening + one (not opening) ≡ 1 = either opening in
         record {
           table = table_removed good.table frees;
-          idle = subst (λ (xs : List ℕ). IsOrderOf is_idle slots.slots xs) (sym close_line) (other_order good.idle frees (ap (passed is_idle) at_place ∙ idle_from opening x.standing.place was) refl);
-          births = subst (λ (xs : List ℕ). IsOrderOf is_conn slots.slots xs) (sym (ap (λ (t : Lined (Slot (Standing C))). t.births) gone)) (left_order good.births frees refl);
+          idle = subst (λ (xs : List ℕ). IsOrderOf is_idle (λ s. s.entered) slots.slots xs) (sym close_line) (other_order good.idle frees (ap (passed is_idle) at_place ∙ idle_from opening x.standing.place was) refl);
+          births = subst (λ (xs : List ℕ). IsOrderOf is_conn (λ s. s.birth) slots.slots xs) (sym (ap (λ (t : Lined (Slot (Standing C))). t.births) gone)) (left_order good.births frees refl);
           unclaimed = other_line good.unclaimed at_place (unclaimed_from opening x.standing.place was) frees;
           conns_are = omega arith;
           approved_are = omega arith;
@@ -548,8 +557,8 @@ module _ {C : Type 0} where
     pub approve_good : a.conns + a.approved < a.peak → AreGoodRecords (record a { next = a.next + 1; slots = slots; unclaimed = unclaimed; approved = a.approved + 1 })
     approve_good free_room = record {
       table = table_added good.table free refl u;
-      idle = subst (λ (xs : List ℕ). IsOrderOf is_idle slots.slots xs) (sym same_idle) (other_order good.idle u (ap (passed is_idle) free) (not_idle_yet claimed_now));
-      births = subst (λ (xs : List ℕ). IsOrderOf is_conn slots.slots xs) (sym (ap (λ (t : Lined (Slot (Standing C))). t.births) takes)) (other_order good.births u (ap (passed is_conn) free) (not_conn claimed_now));
+      idle = subst (λ (xs : List ℕ). IsOrderOf is_idle (λ s. s.entered) slots.slots xs) (sym same_idle) (other_order good.idle u (ap (passed is_idle) free) (not_idle_yet claimed_now));
+      births = subst (λ (xs : List ℕ). IsOrderOf is_conn (λ s. s.birth) slots.slots xs) (sym (ap (λ (t : Lined (Slot (Standing C))). t.births) takes)) (other_order good.births u (ap (passed is_conn) free) (not_conn claimed_now));
       unclaimed = rw pushed (line_added claimed_now added refl refl u);
       conns_are = (let t : tally (passes is_conn) slots.slots + 0 ≡ a.conns + 0 = conns_set a slots.slots place None (Some added) false false good free u refl (not_conn claimed_now) in omega arith);
       approved_are = (let t : tally (passes is_approval) slots.slots + 0 ≡ a.approved + 1 =
@@ -591,11 +600,11 @@ module _ {C : Type 0} where
     born_births : slots.births ≡ a.slots.births ++ place ∷ []
     born_births = ap (λ (t : Lined (Slot (Standing C))). t.births) in_line ∙ ap (λ (t : Lined (Slot (Standing C))). t.births ++ place ∷ []) takes
 
-    pub born_good : a.conns + a.approved < a.peak → AreGoodRecords (record a { next = a.next + 1; slots = slots; conns = a.conns + 1 })
-    born_good free_room = record {
+    pub born_good : a.conns + a.approved < a.peak → NoneAfter now (view_of_records a) → AreGoodRecords (record a { next = a.next + 1; slots = slots; conns = a.conns + 1 })
+    born_good free_room late = record {
       table = table_added good.table free refl born_updates;
-      idle = subst (λ (xs : List ℕ). IsOrderOf is_idle slots.slots xs) (sym born_line) (pushed_order good.idle born_updates newborn (ap (passed is_idle) free) refl refl);
-      births = subst (λ (xs : List ℕ). IsOrderOf is_conn slots.slots xs) (sym born_births) (pushed_order good.births born_updates newborn (ap (passed is_conn) free) refl refl);
+      idle = subst (λ (xs : List ℕ). IsOrderOf is_idle (λ s. s.entered) slots.slots xs) (sym born_line) (pushed_order good.idle born_updates newborn (ap (passed is_idle) free) refl refl (λ i y e. (moments a now i y good late e).1));
+      births = subst (λ (xs : List ℕ). IsOrderOf is_conn (λ s. s.birth) slots.slots xs) (sym born_births) (pushed_order good.births born_updates newborn (ap (passed is_conn) free) refl refl (λ i y e. (moments a now i y good late e).0));
       unclaimed = free_line good.unclaimed free born_updates;
       conns_are = (let t : tally (passes is_conn) slots.slots + 0 ≡ a.conns + 1 = conns_set a slots.slots place None (Some newborn) false true good free born_updates refl refl in omega arith);
       approved_are = (let t : tally (passes is_approval) slots.slots + 0 ≡ a.approved + 0 = approved_set a slots.slots place None (Some newborn) false false good free born_updates refl refl in omega arith);
@@ -663,8 +672,8 @@ module _ {C : Type 0} where
         let s = good.sizes in
         record {
           table = table_removed good.table ended_updates;
-          idle = subst (λ (xs : List ℕ). IsOrderOf is_idle slots.slots xs) (sym ended_line) (left_order good.idle ended_updates refl);
-          births = subst (λ (xs : List ℕ). IsOrderOf is_conn slots.slots xs) (sym (ap (λ (t : Lined (Slot (Standing C))). t.births) gone)) (left_order good.births ended_updates refl);
+          idle = subst (λ (xs : List ℕ). IsOrderOf is_idle (λ s. s.entered) slots.slots xs) (sym ended_line) (left_order good.idle ended_updates refl);
+          births = subst (λ (xs : List ℕ). IsOrderOf is_conn (λ s. s.birth) slots.slots xs) (sym (ap (λ (t : Lined (Slot (Standing C))). t.births) gone)) (left_order good.births ended_updates refl);
           unclaimed = other_line good.unclaimed ended.1 (ap is_unclaimed ((idle_is ended.0.standing.place ended.2).1)) ended_updates;
           conns_are = omega arith;
           approved_are = omega arith;
@@ -717,8 +726,8 @@ module _ {C : Type 0} where
         record {
           table = table_removed good.table cleared;
           unclaimed = rw rest (shorter_line good.unclaimed (sym first) cleared);
-          idle = subst (λ (xs : List ℕ). IsOrderOf is_idle slots.slots xs) (sym cleared_line) (other_order good.idle cleared (ap (passed is_idle) x.1 ∙ ap is_idle (unclaimed_is x.0.standing.place x.3)) refl);
-          births = subst (λ (xs : List ℕ). IsOrderOf is_conn slots.slots xs) (sym (ap (λ (t : Lined (Slot (Standing C))). t.births) gone)) (left_order good.births cleared refl);
+          idle = subst (λ (xs : List ℕ). IsOrderOf is_idle (λ s. s.entered) slots.slots xs) (sym cleared_line) (other_order good.idle cleared (ap (passed is_idle) x.1 ∙ ap is_idle (unclaimed_is x.0.standing.place x.3)) refl);
+          births = subst (λ (xs : List ℕ). IsOrderOf is_conn (λ s. s.birth) slots.slots xs) (sym (ap (λ (t : Lined (Slot (Standing C))). t.births) gone)) (left_order good.births cleared refl);
           approved_are = omega arith;
           conns_are = omega arith;
           sizes = record { peak_holds = omega (arith, s.peak_holds); peak_few = s.peak_few; room_holds = omega (arith, s.room_holds); unclaimed_room_holds = omega (arith, s.unclaimed_room_holds) };

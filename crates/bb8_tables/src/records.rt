@@ -4,7 +4,7 @@ ghost use Rattle.std.specs.FinMap as map;
 ghost use Rattle.bb8_types.specs.Places as places;
 ghost use Rattle.bb8_tables.specs.Machine as machine;
 ghost use Rattle.bb8_types.specs.Numbered as numbered;
-ghost use Rattle.bb8_tables.specs.Views.{no_records};
+ghost use Rattle.bb8_tables.specs.Views.{no_records, NoneAfter};
 ghost use Rattle.bb8_types.specs.declared.standing.Place.TheVariants.{Unclaimed, Claimed, Idle};
 ghost use Rattle.circular_buffer.specs.Buffer.{buffer};
 ghost use Rattle.bb8_types.specs.declared.standing.Standing.{Standing};
@@ -195,9 +195,13 @@ impl<C: Drop> Records<C> {
         }
     }
 
-    /// Makes a connection idle, which a claimed approval brought, or a guard or a get held.
+    /// Makes a connection idle, which a claimed approval brought, or a guard or a get held. One that was held keeps its birth. No birth and
+    /// no entry may lie after `now`.
     pub fn enter(&mut self, k: Key, conn: C, birth: u64, now: u64, opening: bool)
-        requires { (s : Standing C) × (map.get self.old.places k.number ≡ Some s)
+        requires moments { NoneAfter now self.old }
+        requires birth { birth ≡ cond opening now
+            (places.birth_in (map.get self.old.places k.number)) }
+        requires place { (s : Standing C) × (map.get self.old.places k.number ≡ Some s)
             × (places.comes_from opening s.place ≡ true) }
         ensures state { self.new ≡ machine.after_entry opening k.number
             (record { place = Idle conn; birth = birth; entered = now }) self.old }
@@ -331,6 +335,7 @@ impl<C: Drop> Records<C> {
 
     /// Makes an idle connection of the next number, for which there is room.
     fn bear(&mut self, conn: C, now: u64) -> Key
+        requires moments { NoneAfter now self.old }
         requires room { self.old.conns + self.old.approved < self.old.peak }
         requires number { self.old.next < end_of_numbers }
         ensures key { result.number ≡ self.old.next }
@@ -352,8 +357,10 @@ impl<C: Drop> Records<C> {
         Key { number, place }
     }
 
-    /// Adds an idle connection that was born now. Memory is asked for only where there are as many records as ever were.
+    /// Adds an idle connection that was born now. Memory is asked for only where there are as many records as ever were. No birth and no
+    /// entry may lie after `now`.
     pub fn add(&mut self, conn: C, now: u64) -> Result<Key, C>
+        requires moments { NoneAfter now self.old }
         requires few { self.old.conns + self.old.approved < most_records }
         requires number { self.old.next < end_of_numbers }
         ensures ok { IfOk result (λ key. (key.number ≡ self.old.next)

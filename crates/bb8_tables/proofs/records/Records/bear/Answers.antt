@@ -34,7 +34,7 @@ add_birth-requires-clause-absent g c =
 pub invariant_of-self : goal.invariant_of-self
 invariant_of-self g c =
     let i = c.insert-place in
-    born_good c.self.inside i.result c.args.now c.args.conn i.new.self c.add_birth.new.self c.self.invariant i.ensures.vacant i.ensures.within i.ensures.state i.ensures.room (lined true i.result i.new.self c.line_up.new.self c.add_birth.new.self c.line_up.ensures c.add_birth.ensures) (rw (← c.self.view_is) at c.requires.room)
+    born_good c.self.inside i.result c.args.now c.args.conn i.new.self c.add_birth.new.self c.self.invariant i.ensures.vacant i.ensures.within i.ensures.state i.ensures.room (lined true i.result i.new.self c.line_up.new.self c.add_birth.new.self c.line_up.ensures c.add_birth.ensures) (rw (← c.self.view_is) at c.requires.room) (rw (← c.self.view_is) at c.requires.moments)
 
 pub returns-clause-state : goal.returns-clause-state
 returns-clause-state g c =
