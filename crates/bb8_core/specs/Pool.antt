@@ -14,4 +14,5 @@ module _ {C : Type 0} where
     records = a.records;
     gets = a.gets;
     counts = counts_held a.counters;
+    examined = a.lendings;
   }

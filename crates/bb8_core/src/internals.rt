@@ -26,6 +26,7 @@ pub use crate::answers::{
 use bb8_tables::counters::Counters;
 use bb8_tables::gets::{Gets, first_wait, held, held_key, is_notified, is_unnotified};
 pub use bb8_tables::keys::{GetKey, Key};
+use bb8_tables::lendings::Lendings;
 use bb8_tables::records::{Records, one};
 use bb8_types::api::{Config, Moment, State};
 pub use bb8_types::grants::Grant;
@@ -46,6 +47,7 @@ pub struct PoolInternals<C> {
     records: Records<C>,
     gets: Gets,
     counters: Counters,
+    lendings: Lendings,
 }
 
 impl<C> Model for PoolInternals<C> {
@@ -107,11 +109,13 @@ fn is_closing(broken: bool, expired: bool, handles: u64) -> bool
 }
 
 /// Notifies the oldest waiter that was not notified, where the test passes.
-fn hand_on(gets: &mut Gets, test: bool) -> Option<GetKey>
+fn hand_on(gets: &mut Gets, test: bool, lendings: &mut Lendings) -> Option<GetKey>
+    requires { lendings.old < end_of_numbers }
     ensures value { notified_of result ≡ cond test (slice_get gets.old.waiting 0) None }
     ensures state { gets.new ≡ machine.after_notice (notified_of result) gets.old }
+    ensures examined { lendings.new ≤ lendings.old + 1 }
 {
-    if test { gets.notify() } else { None }
+    if test { gets.notify(lendings) } else { None }
 }
 
 /// Who holds a connection that a try takes out: the get, where it is checked before the get is served with it.
@@ -165,6 +169,7 @@ impl<C: Drop> PoolInternals<C> {
             records: Records::new(alloc, first_number),
             gets: Gets::new(alloc, first_get),
             counters: Counters::NONE,
+            lendings: Lendings::none(),
         }
     }
 
@@ -178,12 +183,21 @@ impl<C: Drop> PoolInternals<C> {
         let _ = &self.config;
     }
 
+    /// How many entries of its tables the latest step lent: each time what stands at a place was read or changed. Our own.
+    pub fn examined(&self) -> u64
+        ensures { result ≡ self.now.examined }
+    {
+        self.lendings.examined()
+    }
+
     /// Begins a get. Memory is asked for only where as many gets are alive as ever were.
     pub fn begin(&mut self, at: Moment) -> BeginAnswer
         requires { IsFitting self.old acts.Begin }
-        ensures { Meets self.old at.0 acts.Begin (begin_told result) self.new }
+        ensures step { Meets self.old at.0 acts.Begin (begin_told result) self.new }
+        ensures examined { self.new.examined ≤ 4 }
     {
         self.latest = self.latest.max(at.0);
+        self.lendings = Lendings::none();
         if !self.gets.has_number() {
             return BeginAnswer::Exhausted;
         }
@@ -204,16 +218,22 @@ impl<C: Drop> PoolInternals<C> {
         ensures some { IfSome result (λ served. ServesAtOnce self.old at.0 served self.new) }
         ensures none { IfNone result (self.new ≡ self.old) }
         ensures cause { IfNone result (NoneAtOnce self.old) }
+        ensures examined { IfSome result (λ served. self.new.examined ≤ 4) }
     {
         if !self.gets.has_room() {
             return None;
         }
         let strategy = self.config.queue_strategy;
-        match self.records.take(strategy, Holder::Guard) {
+        let mut lendings = Lendings::none();
+        match self
+            .records
+            .take(strategy, Holder::Guard, &mut lendings)
+        {
             None => None,
             Some((key, conn)) => {
                 let now = self.latest.max(at.0);
                 self.latest = now;
+                self.lendings = lendings;
                 let get = self.gets.pass();
                 self.counters.started += 1;
                 self.counters.serve(None, now);
@@ -236,28 +256,30 @@ impl<C: Drop> PoolInternals<C> {
         requires { IsFitting self.old (acts.Try get.number) }
         ensures step { Meets self.old at.0 (acts.Try get.number) (try_told result) self.new }
         ensures connection { HandsOut self.old result }
+        ensures examined { self.new.examined ≤ 4 }
     {
         let now = self.latest.max(at.0);
         self.latest = now;
-        let getting = self.gets.getting(get);
+        self.lendings = Lendings::none();
+        let getting = self.gets.getting(get, &mut self.lendings);
         if is_unnotified(getting) {
             return TryAnswer::Waiting(Grant::of_nothing(self.records.next_number()));
         }
         let holder = holder(&self.config, get);
-        match self.records.take(self.config.queue_strategy, holder) {
+        match self.records.take(self.config.queue_strategy, holder, &mut self.lendings) {
             None => {
                 let asked = one(self.records.approved() < self.gets.alive());
                 let taken = self.records.used();
                 let due = due(&self.config, self.handles, taken, asked);
                 let grant = self.records.grant(due, false);
-                self.gets.wait(get, now);
+                self.gets.wait(get, now, &mut self.lendings);
                 TryAnswer::Waiting(grant)
             }
             Some((key, conn)) => {
                 let wanted = want(&self.config, self.handles, &self.records);
                 let grant = self.records.grant(wanted, false);
                 if self.config.test_on_check_out {
-                    self.gets.turn(get, GetPlace::Holding(key.number));
+                    self.gets.turn(get, GetPlace::Holding(key.number), &mut self.lendings);
                     return TryAnswer::Taken(key, conn, grant);
                 }
                 self.gets.finish(get);
@@ -271,13 +293,15 @@ impl<C: Drop> PoolInternals<C> {
     /// the place of its key, which may be stale and changes no answer.
     pub fn checked_ok(&mut self, at: Moment, get: GetKey, hint: usize) -> CheckedOkAnswer
         requires { IsFitting self.old (acts.CheckedOk get.number) }
-        ensures { Meets self.old at.0 (acts.CheckedOk get.number)
+        ensures step { Meets self.old at.0 (acts.CheckedOk get.number)
             (checked_ok_told self.old.records.next result) self.new }
+        ensures examined { self.new.examined ≤ 4 }
     {
         let now = self.latest.max(at.0);
         self.latest = now;
-        let getting = self.gets.getting(get);
-        let key = self.records.hand_over(held_key(getting, hint));
+        self.lendings = Lendings::none();
+        let getting = self.gets.getting(get, &mut self.lendings);
+        let key = self.records.hand_over(held_key(getting, hint), &mut self.lendings);
         self.gets.finish(get);
         self.counters.serve(first_wait(getting), now);
         CheckedOkAnswer::Served(key)
@@ -297,16 +321,18 @@ impl<C: Drop> PoolInternals<C> {
         ensures step { Meets self.old at.0 (acts.CheckedErr get.number broken)
             (checked_err_told result) self.new }
         ensures connection { GivesBackInvalid conn result }
+        ensures examined { self.new.examined ≤ 4 }
     {
         let now = self.latest.max(at.0);
         self.latest = now;
-        let key = held_key(self.gets.getting(get), hint);
-        let expired = is_expired(&self.config, now, self.records.birth(key));
+        self.lendings = Lendings::none();
+        let key = held_key(self.gets.getting(get, &mut self.lendings), hint);
+        let expired = is_expired(&self.config, now, self.records.birth(key, &mut self.lendings));
         let granted = end_out(&self.config, self.handles, &mut self.records, key);
         self.counters.invalid += 1;
         self.counters.close(broken, expired);
-        self.gets.turn(get, GetPlace::Active);
-        CheckedErrAnswer::Closed(key, conn, granted, self.gets.notify())
+        self.gets.turn(get, GetPlace::Active, &mut self.lendings);
+        CheckedErrAnswer::Closed(key, conn, granted, self.gets.notify(&mut self.lendings))
     }
 
     /// Ends a get that is not served, as it timed out or was cancelled. Where it had been notified, the oldest waiter that was not is
@@ -324,6 +350,7 @@ impl<C: Drop> PoolInternals<C> {
         ensures step { Meets self.old at.0 (acts.GiveUp get.number (reason_of reason) held broken)
             (give_up_told result) self.new }
         ensures connection { GivesBackHeld held result }
+        ensures examined { self.new.examined ≤ 4 }
     {
         match held {
             None => self.give_up_free(at, get, reason, broken),
@@ -343,13 +370,15 @@ impl<C: Drop> PoolInternals<C> {
         ensures step { Meets self.old at.0 (acts.GiveUp get.number (reason_of reason) None broken)
             (give_up_told result) self.new }
         ensures connection { GivesBackHeld None result }
+        ensures examined { self.new.examined ≤ 4 }
     {
         let now = self.latest.max(at.0);
         self.latest = now;
-        let getting = self.gets.getting(get);
+        self.lendings = Lendings::none();
+        let getting = self.gets.getting(get, &mut self.lendings);
         self.gets.end(get);
         self.counters.give_up(reason, first_wait(getting), now);
-        GiveUpAnswer::GaveUp(hand_on(&mut self.gets, is_notified(getting)))
+        GiveUpAnswer::GaveUp(hand_on(&mut self.gets, is_notified(getting), &mut self.lendings))
     }
 
     /// Ends a get that is not served and holds this connection.
@@ -368,22 +397,24 @@ impl<C: Drop> PoolInternals<C> {
             (acts.GiveUp get.number (reason_of reason) (Some conn) broken)
             (give_up_told result) self.new }
         ensures connection { GivesBackHeld (Some conn) result }
+        ensures examined { self.new.examined ≤ 4 }
     {
         let now = self.latest.max(at.0);
         self.latest = now;
-        let getting = self.gets.getting(get);
+        self.lendings = Lendings::none();
+        let getting = self.gets.getting(get, &mut self.lendings);
         let key = held_key(getting, hint);
         self.gets.finish(get);
         self.counters.give_up(reason, first_wait(getting), now);
-        let birth = self.records.birth(key);
+        let birth = self.records.birth(key, &mut self.lendings);
         let expired = is_expired(&self.config, now, birth);
         if is_closing(broken, expired, self.handles) {
             let grant = end_out(&self.config, self.handles, &mut self.records, key);
             self.counters.close(broken, expired);
-            GiveUpAnswer::Closed(key, conn, grant, self.gets.notify())
+            GiveUpAnswer::Closed(key, conn, grant, self.gets.notify(&mut self.lendings))
         } else {
-            self.records.enter(key, conn, birth, now, false);
-            GiveUpAnswer::Kept(key, self.gets.notify())
+            self.records.enter(key, conn, birth, now, false, &mut self.lendings);
+            GiveUpAnswer::Kept(key, self.gets.notify(&mut self.lendings))
         }
     }
 
@@ -394,40 +425,46 @@ impl<C: Drop> PoolInternals<C> {
         ensures step { Meets self.old at.0 (acts.PutBack k.number conn broken)
             (put_back_told k.number result) self.new }
         ensures connection { GivesBack conn result }
+        ensures examined { self.new.examined ≤ 4 }
     {
         let now = self.latest.max(at.0);
         self.latest = now;
-        let birth = self.records.birth(k);
+        self.lendings = Lendings::none();
+        let birth = self.records.birth(k, &mut self.lendings);
         let expired = is_expired(&self.config, now, birth);
         if is_closing(broken, expired, self.handles) {
             let grant = end_out(&self.config, self.handles, &mut self.records, k);
             self.counters.close(broken, expired);
-            PutBackAnswer::Closed(conn, grant, self.gets.notify())
+            PutBackAnswer::Closed(conn, grant, self.gets.notify(&mut self.lendings))
         } else {
-            self.records.enter(k, conn, birth, now, false);
-            PutBackAnswer::Kept(self.gets.notify())
+            self.records.enter(k, conn, birth, now, false, &mut self.lendings);
+            PutBackAnswer::Kept(self.gets.notify(&mut self.lendings))
         }
     }
 
     /// Grants what is wanted: as many approvals as idle connections and open approvals are fewer than `min_idle`. They are claimed at
     /// once where that is asked for.
     pub fn fill(&mut self, at: Moment, claimed: bool) -> Grant
-        ensures { Meets self.old at.0 (acts.Fill claimed) (answers.Granted result) self.new }
+        ensures step { Meets self.old at.0 (acts.Fill claimed) (answers.Granted result) self.new }
+        ensures examined { self.new.examined ≤ 4 }
     {
         self.latest = self.latest.max(at.0);
+        self.lendings = Lendings::none();
         let wanted = want(&self.config, self.handles, &self.records);
         self.records.grant(wanted, claimed)
     }
 
     /// Claims the unclaimed approval of the least number.
     pub fn claim(&mut self, at: Moment) -> ClaimAnswer
-        ensures { Meets self.old at.0 acts.Claim (claim_told result) self.new }
+        ensures step { Meets self.old at.0 acts.Claim (claim_told result) self.new }
+        ensures examined { self.new.examined ≤ 4 }
     {
         self.latest = self.latest.max(at.0);
+        self.lendings = Lendings::none();
         if self.handles == 0 {
             return ClaimAnswer::Ended;
         }
-        ClaimAnswer::Claimed(self.records.claim())
+        ClaimAnswer::Claimed(self.records.claim(&mut self.lendings))
     }
 
     /// Makes idle the connection that a claimed approval brought; its birth is now. Where no handle is alive the approval ends instead,
@@ -437,24 +474,28 @@ impl<C: Drop> PoolInternals<C> {
         ensures step { Meets self.old at.0 (acts.Opened a.number conn)
             (opened_told a.number result) self.new }
         ensures connection { HandsBack conn result }
+        ensures examined { self.new.examined ≤ 4 }
     {
         let now = self.latest.max(at.0);
         self.latest = now;
+        self.lendings = Lendings::none();
         if self.handles == 0 {
             self.records.close(a, true);
             return OpenedAnswer::Late(conn);
         }
-        self.records.enter(a, conn, now, now, true);
+        self.records.enter(a, conn, now, now, true, &mut self.lendings);
         self.counters.created += 1;
-        OpenedAnswer::Entered(self.gets.notify())
+        OpenedAnswer::Entered(self.gets.notify(&mut self.lendings))
     }
 
     /// Ends a claimed approval that brought no connection. Nobody is notified.
     pub fn failed(&mut self, at: Moment, approval: Key) -> FailedAnswer
         requires { IsFitting self.old (acts.Failed approval.number) }
-        ensures { Meets self.old at.0 (acts.Failed approval.number) (failed_told result) self.new }
+        ensures step { Meets self.old at.0 (acts.Failed approval.number) (failed_told result) self.new }
+        ensures examined { self.new.examined ≤ 4 }
     {
         self.latest = self.latest.max(at.0);
+        self.lendings = Lendings::none();
         self.records.close(approval, true);
         FailedAnswer::GivenBack
     }
@@ -466,9 +507,11 @@ impl<C: Drop> PoolInternals<C> {
         requires { IsFitting self.old (acts.Add conn broken) }
         ensures step { Meets self.old at.0 (acts.Add conn broken) (add_told result) self.new }
         ensures connection { Refuses conn result }
+        ensures examined { self.new.examined ≤ 4 }
     {
         let now = self.latest.max(at.0);
         self.latest = now;
+        self.lendings = Lendings::none();
         if broken {
             return AddAnswer::Broken(conn);
         }
@@ -479,7 +522,7 @@ impl<C: Drop> PoolInternals<C> {
             return AddAnswer::Withheld(conn);
         }
         match self.records.add(conn, now) {
-            Ok(key) => AddAnswer::Added(key, self.gets.notify()),
+            Ok(key) => AddAnswer::Added(key, self.gets.notify(&mut self.lendings)),
             Err(conn) => AddAnswer::Withheld(conn),
         }
     }
@@ -498,8 +541,10 @@ impl<C: Drop> PoolInternals<C> {
             → figures_of result ≡ ledger.figures l }
         ensures size { result.connections ≤ self.old.config.max_size }
         ensures idle { result.idle_connections ≤ result.connections }
+        ensures examined { self.new.examined ≤ 4 }
     {
         self.latest = self.latest.max(at.0);
+        self.lendings = Lendings::none();
         State {
             connections: self.records.connections(),
             idle_connections: self.records.idle_connections(),
@@ -510,9 +555,11 @@ impl<C: Drop> PoolInternals<C> {
     /// Adds a handle, where fewer than 4,294,967,295 are alive.
     pub fn join(&mut self, at: Moment) -> JoinAnswer
         requires { IsFitting self.old acts.Join }
-        ensures { Meets self.old at.0 acts.Join (join_told result) self.new }
+        ensures step { Meets self.old at.0 acts.Join (join_told result) self.new }
+        ensures examined { self.new.examined ≤ 4 }
     {
         self.latest = self.latest.max(at.0);
+        self.lendings = Lendings::none();
         if self.handles >= u32::MAX as u64 {
             return JoinAnswer::Exhausted;
         }
@@ -526,6 +573,7 @@ impl<C: Drop> PoolInternals<C> {
         ensures { Meets self.old at.0 acts.Leave (leave_told result) self.new }
     {
         self.latest = self.latest.max(at.0);
+        self.lendings = Lendings::none();
         if self.handles == 1 {
             self.handles = 0;
             return LeaveAnswer::Left(self.records.leave());
@@ -536,9 +584,11 @@ impl<C: Drop> PoolInternals<C> {
 
     /// The effective moment, and whether a handle is alive.
     pub fn look(&mut self, at: Moment) -> Looked
-        ensures { Meets self.old at.0 acts.Look (look_told result) self.new }
+        ensures step { Meets self.old at.0 acts.Look (look_told result) self.new }
+        ensures examined { self.new.examined ≤ 4 }
     {
         self.latest = self.latest.max(at.0);
+        self.lendings = Lendings::none();
         Looked {
             moment: Moment(self.latest),
             alive: self.handles > 0,
@@ -580,7 +630,7 @@ impl<C: Drop> PoolInternals<C> {
     pub fn fits_checked_ok(&self, get: GetKey) -> bool
         ensures { TellsFitting self.now (acts.CheckedOk get.number) result }
     {
-        held(self.gets.getting(get)).is_some()
+        held(self.gets.getting(get, &mut Lendings::none())).is_some()
     }
 
     /// Whether the check of the get may be told as failed, with a connection that is broken or not: where the get holds a connection.
@@ -595,7 +645,7 @@ impl<C: Drop> PoolInternals<C> {
         ensures { (why : acts.Reason) (held : Option C) (broken : Bool) → is_some held ≡ handing_in
             → TellsFitting self.now (acts.GiveUp get.number why held broken) result }
     {
-        match self.gets.getting(get) {
+        match self.gets.getting(get, &mut Lendings::none()) {
             None => false,
             Some(getting) => held(Some(getting)).is_some() == handing_in,
         }
@@ -606,7 +656,7 @@ impl<C: Drop> PoolInternals<C> {
         ensures { (l : ledger.Ledger C) → Means l self.now
             → result ≡ places.holds (ledger.get_of l get.number) }
     {
-        held(self.gets.getting(get))
+        held(self.gets.getting(get, &mut Lendings::none()))
     }
 
     /// Whether a guard may give back a connection of this key, whichever connection is handed in.

@@ -2,6 +2,7 @@
 ghost use Rattle.std.specs.Prelude.{◌⊎◌, ◌≡◌, ℕ, ◌+◌, ◌<◌, ◌≤◌, max, true, false, IsSome, is_some, ltb, cond, filter, not, eqb, slice_get, IfSome, IfNone, OnOk, OnErr, Some, None, []};
 ghost use Rattle.std.specs.FinMap as map;
 ghost use Rattle.bb8_types.specs.declared.standing.Getting.{Getting};
+ghost use Rattle.bb8_types.specs.Numbered as numbered;
 ghost use Rattle.bb8_types.specs.Places as places;
 ghost use Rattle.bb8_tables.specs.Machine as machine;
 ghost use Rattle.bb8_tables.specs.Keys.{notified_of};
@@ -9,6 +10,7 @@ ghost use Rattle.bb8_tables.specs.Views.{no_gets};
 ghost use Rattle.bb8_types.specs.Bounds.{end_of_numbers};
 
 use crate::keys::{GetKey, Key};
+use crate::lendings::Lendings;
 use crate::table::{Slot, Table};
 use bb8_types::bounds::END_OF_NUMBERS;
 use bb8_types::standing::{GetPlace, Getting};
@@ -222,43 +224,50 @@ impl Gets {
     }
 
     /// Has a get wait, which did not wait or was notified, since this moment if it did not wait before.
-    pub fn wait(&mut self, g: GetKey, now: u64)
-        requires { (x : Getting) × (map.get self.old.places g.number ≡ Some x)
+    pub fn wait(&mut self, g: GetKey, now: u64, lendings: &mut Lendings)
+        requires stands { (x : Getting) × (map.get self.old.places g.number ≡ Some x)
             × (places.is_unnotified x.place ≡ false) }
-        ensures { self.new ≡ machine.after_wait now g.number self.old }
+        requires few { lendings.old < end_of_numbers }
+        ensures state { self.new ≡ machine.after_wait now g.number self.old }
+        ensures examined { lendings.new ≡ lendings.old + 1 }
     {
         match self.slots.locate(g.number, g.place) {
             None => {}
             Some(place) => {
-                self.slots.wait(place, now);
+                self.slots.wait(place, now, lendings);
                 self.slots.line_up(place);
             }
         }
     }
 
     /// Has a get stand elsewhere that stands in no line: it holds a connection now, or is active again.
-    pub fn turn(&mut self, g: GetKey, place: GetPlace)
+    pub fn turn(&mut self, g: GetKey, place: GetPlace, lendings: &mut Lendings)
         requires off { places.is_unnotified place ≡ false }
         requires stands { (x : Getting) × (map.get self.old.places g.number ≡ Some x)
             × (places.is_unnotified x.place ≡ false) }
-        ensures { self.new ≡ machine.after_turn place g.number self.old }
+        requires few { lendings.old < end_of_numbers }
+        ensures state { self.new ≡ machine.after_turn place g.number self.old }
+        ensures examined { lendings.new ≡ lendings.old + 1 }
     {
         match self.slots.locate(g.number, g.place) {
             None => {}
-            Some(at) => self.slots.turn(at, place),
+            Some(at) => {
+                let _ = self.slots.turn(at, place, lendings);
+            }
         }
     }
 
     /// Notifies the oldest waiter that was not notified.
-    pub fn notify(&mut self) -> Option<GetKey>
+    pub fn notify(&mut self, lendings: &mut Lendings) -> Option<GetKey>
+        requires { lendings.old < end_of_numbers }
         ensures value { notified_of result ≡ slice_get self.old.waiting 0 }
         ensures state { self.new ≡ machine.after_notice (notified_of result) self.old }
+        ensures examined { lendings.new ≡ lendings.old + numbered.one (is_some result) }
     {
         match self.slots.first() {
             None => None,
             Some(place) => {
-                let number = self.slots.number_at(place);
-                self.slots.turn(place, GetPlace::Waiting(true));
+                let number = self.slots.turn(place, GetPlace::Waiting(true), lendings);
                 self.slots.step_out(place);
                 Some(GetKey { number, place })
             }
@@ -275,7 +284,7 @@ impl Gets {
         match self.slots.locate(g.number, g.place) {
             None => {}
             Some(place) => {
-                self.slots.remove(place);
+                let _ = self.slots.remove(place);
                 self.alive -= 1;
             }
         }
@@ -305,10 +314,12 @@ impl Gets {
     }
 
     /// How the get stands, if it is alive.
-    pub fn getting(&self, g: GetKey) -> Option<Getting>
-        ensures { result ≡ map.get self.now.places g.number }
+    pub fn getting(&self, g: GetKey, lendings: &mut Lendings) -> Option<Getting>
+        requires { lendings.old < end_of_numbers }
+        ensures value { result ≡ map.get self.now.places g.number }
+        ensures examined { lendings.new ≡ lendings.old + 1 }
     {
-        match self.slots.slot(g.number, g.place) {
+        match self.slots.slot(g.number, g.place, lendings) {
             None => None,
             Some(slot) => Some(slot.standing),
         }
@@ -318,14 +329,14 @@ impl Gets {
     pub fn is_alive(&self, g: GetKey) -> bool
         ensures { result ≡ is_some (map.get self.now.places g.number) }
     {
-        self.getting(g).is_some()
+        self.getting(g, &mut Lendings::none()).is_some()
     }
 
     /// Whether the get may try.
     pub fn is_trying(&self, g: GetKey) -> bool
         ensures { result ≡ places.gets_stand places.is_trying (map.get self.now.places g.number) }
     {
-        match self.getting(g) {
+        match self.getting(g, &mut Lendings::none()) {
             None => false,
             Some(getting) => is_trying_place(getting.place),
         }

@@ -4,6 +4,7 @@
 pub mod counters;
 pub mod gets;
 pub mod keys;
+pub mod lendings;
 mod links;
 pub mod records;
 mod ring;

@@ -11,6 +11,7 @@ ghost use Rattle.bb8_types.specs.declared.standing.Standing.{Standing};
 ghost use Rattle.bb8_types.specs.Bounds.{end_of_numbers, most_records};
 
 use crate::keys::Key;
+use crate::lendings::Lendings;
 use crate::ring::Ring;
 use crate::table::{Slot, Table};
 use bb8_types::api::QueueStrategy;
@@ -136,23 +137,31 @@ impl<C: Drop> Records<C> {
     }
 
     /// Claims the unclaimed approval of the least number.
-    pub fn claim(&mut self) -> Option<Key>
+    pub fn claim(&mut self, lendings: &mut Lendings) -> Option<Key>
+        requires { lendings.old < end_of_numbers }
         ensures some { IfSome result (λ key. (slice_get self.old.unclaimed 0 ≡ Some key.number)
             × (self.new ≡ machine.after_claim key.number self.old)) }
         ensures none { IfNone result ((slice_get self.old.unclaimed 0 ≡ None)
             × (self.new ≡ self.old)) }
+        ensures examined { lendings.new ≡ lendings.old + numbered.one (is_some result) }
     {
         match self.unclaimed.pop() {
             None => None,
             Some(key) => {
-                let _ = self.slots.put(key.place, Place::Claimed);
+                let _ = self.slots.put(key.place, Place::Claimed, lendings);
                 Some(key)
             }
         }
     }
 
     /// Takes out the idle connection that is first, for whoever holds it from now on.
-    pub fn take(&mut self, strategy: QueueStrategy, holder: Holder) -> Option<(Key, C)>
+    pub fn take(
+        &mut self,
+        strategy: QueueStrategy,
+        holder: Holder,
+        lendings: &mut Lendings,
+    ) -> Option<(Key, C)>
+        requires { lendings.old < end_of_numbers }
         ensures some { IfSome result (λ r. (places.first_of strategy self.old.idle ≡ Some
             r.0.number) × ((birth entered : ℕ)
             × (map.get self.old.places r.0.number ≡ Some
@@ -161,12 +170,12 @@ impl<C: Drop> Records<C> {
             self.old)) }
         ensures none { IfNone result ((places.first_of strategy self.old.idle ≡ None)
             × (self.new ≡ self.old)) }
+        ensures examined { lendings.new ≡ lendings.old + numbered.one (is_some result) }
     {
         match self.slots.first_by(strategy) {
             None => None,
             Some(place) => {
-                let number = self.slots.number_at(place);
-                let was = self.slots.put(place, place_of(holder));
+                let (number, was) = self.slots.put(place, place_of(holder), lendings);
                 self.slots.step_out(place);
                 match connection_of(was) {
                     None => None,
@@ -177,16 +186,18 @@ impl<C: Drop> Records<C> {
     }
 
     /// Has a guard take over a connection that is out, and tells where it stands.
-    pub fn hand_over(&mut self, k: Key) -> Key
-        requires { (s : Standing C) × (map.get self.old.places k.number ≡ Some s)
+    pub fn hand_over(&mut self, k: Key, lendings: &mut Lendings) -> Key
+        requires out { (s : Standing C) × (map.get self.old.places k.number ≡ Some s)
             × (places.is_out s.place ≡ true) }
+        requires few { lendings.old < end_of_numbers }
         ensures key { result.number ≡ k.number }
         ensures state { self.new ≡ machine.after_handover k.number self.old }
+        ensures examined { lendings.new ≡ lendings.old + 1 }
     {
         match self.slots.locate(k.number, k.place) {
             None => k,
             Some(place) => {
-                let _ = self.slots.put(place, Place::Guarded);
+                let _ = self.slots.put(place, Place::Guarded, lendings);
                 Key {
                     number: k.number,
                     place,
@@ -197,15 +208,25 @@ impl<C: Drop> Records<C> {
 
     /// Makes a connection idle, which a claimed approval brought, or a guard or a get held. One that was held keeps its birth. No birth and
     /// no entry may lie after `now`.
-    pub fn enter(&mut self, k: Key, conn: C, birth: u64, now: u64, opening: bool)
+    pub fn enter(
+        &mut self,
+        k: Key,
+        conn: C,
+        birth: u64,
+        now: u64,
+        opening: bool,
+        lendings: &mut Lendings,
+    )
         requires moments { NoneAfter now self.old }
         requires birth { birth ≡ cond opening now
             (places.birth_in (map.get self.old.places k.number)) }
-        requires place { (s : Standing C) × (map.get self.old.places k.number ≡ Some s)
+        requires out { (s : Standing C) × (map.get self.old.places k.number ≡ Some s)
             × (places.comes_from opening s.place ≡ true) }
+        requires few { lendings.old < end_of_numbers }
         ensures state { self.new ≡ machine.after_entry opening k.number
             (record { place = Idle conn; birth = birth; entered = now }) self.old }
         ensures numbers { self.old.next ≤ end_of_numbers }
+        ensures examined { lendings.new ≡ lendings.old + 1 }
     {
         match self.slots.locate(k.number, k.place) {
             None => {}
@@ -215,7 +236,7 @@ impl<C: Drop> Records<C> {
                     birth,
                     entered: now,
                 };
-                let _ = self.slots.replace(place, idle);
+                let _ = self.slots.replace(place, idle, lendings);
                 self.slots.line_up(place);
                 self.slots.add_birth(place, opening);
                 let opened = one(opening);
@@ -235,7 +256,7 @@ impl<C: Drop> Records<C> {
         match self.slots.locate(k.number, k.place) {
             None => {}
             Some(place) => {
-                self.slots.remove(place);
+                let _ = self.slots.remove(place);
                 self.conns -= one(!opening);
                 self.approved -= one(opening);
             }
@@ -251,8 +272,7 @@ impl<C: Drop> Records<C> {
         match self.slots.first() {
             None => None,
             Some(place) => {
-                let number = self.slots.number_at(place);
-                self.slots.remove(place);
+                let number = self.slots.remove(place);
                 self.conns -= 1;
                 Some(Key { number, place })
             }
@@ -269,7 +289,7 @@ impl<C: Drop> Records<C> {
         match self.unclaimed.pop() {
             None => None,
             Some(key) => {
-                self.slots.remove(key.place);
+                let _ = self.slots.remove(key.place);
                 self.approved -= 1;
                 Some(key)
             }
@@ -479,10 +499,12 @@ impl<C: Drop> Records<C> {
     }
 
     /// The birth of the record.
-    pub fn birth(&self, k: Key) -> u64
-        ensures { result ≡ places.birth_in (map.get self.now.places k.number) }
+    pub fn birth(&self, k: Key, lendings: &mut Lendings) -> u64
+        requires { lendings.old < end_of_numbers }
+        ensures value { result ≡ places.birth_in (map.get self.now.places k.number) }
+        ensures examined { lendings.new ≡ lendings.old + 1 }
     {
-        match self.slots.slot(k.number, k.place) {
+        match self.slots.slot(k.number, k.place, lendings) {
             None => 0,
             Some(slot) => slot.standing.birth,
         }
@@ -504,7 +526,7 @@ impl<C: Drop> Records<C> {
     pub fn is_claimed(&self, k: Key) -> bool
         ensures { result ≡ places.stands places.is_claimed (map.get self.now.places k.number) }
     {
-        match self.slots.slot(k.number, k.place) {
+        match self.slots.slot(k.number, k.place, &mut Lendings::none()) {
             None => false,
             Some(slot) => is_claimed_place(&slot.standing.place),
         }
@@ -514,7 +536,7 @@ impl<C: Drop> Records<C> {
     pub fn is_guarded(&self, k: Key) -> bool
         ensures { result ≡ places.stands places.is_guarded (map.get self.now.places k.number) }
     {
-        match self.slots.slot(k.number, k.place) {
+        match self.slots.slot(k.number, k.place, &mut Lendings::none()) {
             None => false,
             Some(slot) => is_guarded_place(&slot.standing.place),
         }

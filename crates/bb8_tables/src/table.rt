@@ -10,6 +10,7 @@ ghost use Rattle.bb8_tables.specs.Machine.{without};
 ghost use Rattle.bb8_tables.specs.Lined.{slot_at, places_of, with_places, is_same};
 ghost use Rattle.bb8_tables.specs.Spelled.{Absent};
 
+use crate::lendings::Lendings;
 use crate::links::{END, Links, Order, Sizes, Vacant};
 use bb8_types::api::QueueStrategy;
 use bb8_types::bounds::END_OF_NUMBERS;
@@ -219,12 +220,15 @@ impl<S: Drop> Table<S> {
 
     /// What stands under the number: at the hint, or else where a search finds it.
     #[inline]
-    pub fn slot(&self, number: u64, hint: usize) -> Option<&Slot<S>>
+    pub fn slot(&self, number: u64, hint: usize, lendings: &mut Lendings) -> Option<&Slot<S>>
+        requires { lendings.old < end_of_numbers }
         ensures some { IfSome (option_copied result)
             (λ x. (i : ℕ) × (slot_at self.now i ≡ Some x) × (x.number ≡ number)) }
         ensures none { IfNone (option_copied result)
             ((i : ℕ) (x : Slot S) → slot_at self.now i ≡ Some x → x.number ≢ number) }
+        ensures examined { lendings.new ≡ lendings.old + 1 }
     {
+        lendings.lend();
         match self.links.found(number, hint) {
             Some(slot) => Some(slot),
             None => match self.search(number) {
@@ -236,7 +240,7 @@ impl<S: Drop> Table<S> {
 
     /// The number of what stands at a place.
     #[inline]
-    pub fn number_at(&self, place: usize) -> u64
+    fn number_at(&self, place: usize) -> u64
         requires { IsSome (slot_at self.now place) }
         ensures { (x : Slot S) → slot_at self.now place ≡ Some x → result ≡ x.number }
     {
@@ -315,15 +319,18 @@ impl<S: Drop> Table<S> {
 
     /// Has something else stand at a place, and gives back what stood there.
     #[inline]
-    pub fn replace(&mut self, place: usize, standing: S) -> S
-        requires { IsSome (slot_at self.old place) }
+    pub fn replace(&mut self, place: usize, standing: S, lendings: &mut Lendings) -> S
+        requires stands { IsSome (slot_at self.old place) }
+        requires few { lendings.old < end_of_numbers }
         ensures value { (x : Slot S) → slot_at self.old place ≡ Some x → result ≡ x.standing }
         ensures changed { (x : Slot S) → slot_at self.old place ≡ Some x
             → self.new ≡ record self.old {
               slots =
                   slice_set self.old.slots place (Some (record x { standing = standing }));
             } }
+        ensures examined { lendings.new ≡ lendings.old + 1 }
     {
+        lendings.lend();
         mem::replace(&mut self.links.entries[place].slot.standing, standing)
     }
 }
@@ -342,21 +349,24 @@ impl<S: Drop + Vacant> Table<S> {
         };
     }
 
-    /// Frees a place, wherever it stands in the orders.
-    pub fn remove(&mut self, place: usize)
+    /// Frees a place, wherever it stands in the orders, and tells which number ended there.
+    pub fn remove(&mut self, place: usize) -> u64
         requires { IsSome (slot_at self.old place) }
-        ensures { self.new ≡ record {
+        ensures number { (x : Slot S) → slot_at self.old place ≡ Some x → result ≡ x.number }
+        ensures state { self.new ≡ record {
           slots = slice_set self.old.slots place None;
           line = without place self.old.line;
           births = without place self.old.births;
           free = self.old.free ++ place ∷ [];
         } }
     {
+        let number = self.number_at(place);
         let _links = &self.links;
         self.step_out(place);
         self.unlink(Order::Births, place);
         self.clear(place);
         self.push(Order::Free, place);
+        number
     }
 
     /// Adds an entry where nothing stands, which leads to itself.
@@ -426,46 +436,61 @@ impl<S: Drop + Vacant> Table<S> {
 }
 
 impl<C: Drop> Table<Standing<C>> {
-    /// Puts the record at a place where another kind of record stands, and gives back where it stood.
+    /// Has the record at a place stand elsewhere, and tells its number and where it stood.
     #[inline]
-    pub fn put(&mut self, at: usize, place: Place<C>) -> Place<C>
-        requires { IsSome (slot_at self.old at) }
+    pub fn put(&mut self, at: usize, place: Place<C>, lendings: &mut Lendings) -> (u64, Place<C>)
+        requires stands { IsSome (slot_at self.old at) }
+        requires few { lendings.old < end_of_numbers }
+        ensures number { (x : Slot (Standing C)) → slot_at self.old at ≡ Some x
+            → result.0 ≡ x.number }
         ensures value { (x : Slot (Standing C)) → slot_at self.old at ≡ Some x
-            → result ≡ x.standing.place }
+            → result.1 ≡ x.standing.place }
         ensures changed { (x : Slot (Standing C)) → slot_at self.old at ≡ Some x
             → self.new ≡ record self.old {
               slots = slice_set self.old.slots at
                   (Some (record x { standing = record x.standing { place = place } }));
             } }
+        ensures examined { lendings.new ≡ lendings.old + 1 }
     {
-        mem::replace(&mut self.links.entries[at].slot.standing.place, place)
+        lendings.lend();
+        let slot = &mut self.links.entries[at].slot;
+        (slot.number, mem::replace(&mut slot.standing.place, place))
     }
 }
 
 impl Table<Getting> {
-    /// Has the get that stands at a place stand elsewhere.
+    /// Has the get at a place stand elsewhere, and tells its number.
     #[inline]
-    pub fn turn(&mut self, at: usize, place: GetPlace)
-        requires { IsSome (slot_at self.old at) }
-        ensures { (x : Slot Getting) → slot_at self.old at ≡ Some x
+    pub fn turn(&mut self, at: usize, place: GetPlace, lendings: &mut Lendings) -> u64
+        requires stands { IsSome (slot_at self.old at) }
+        requires few { lendings.old < end_of_numbers }
+        ensures number { (x : Slot Getting) → slot_at self.old at ≡ Some x → result ≡ x.number }
+        ensures changed { (x : Slot Getting) → slot_at self.old at ≡ Some x
             → self.new ≡ record self.old {
               slots = slice_set self.old.slots at
                   (Some (record x { standing = record x.standing { place = place } }));
             } }
+        ensures examined { lendings.new ≡ lendings.old + 1 }
     {
-        self.links.entries[at].slot.standing.place = place;
+        lendings.lend();
+        let slot = &mut self.links.entries[at].slot;
+        slot.standing.place = place;
+        slot.number
     }
 
     /// Has the get that stands at a place wait, since this moment if it did not wait before.
     #[inline]
-    pub fn wait(&mut self, at: usize, now: u64)
-        requires { IsSome (slot_at self.old at) }
-        ensures { (x : Slot Getting) → slot_at self.old at ≡ Some x
+    pub fn wait(&mut self, at: usize, now: u64, lendings: &mut Lendings)
+        requires stands { IsSome (slot_at self.old at) }
+        requires few { lendings.old < end_of_numbers }
+        ensures changed { (x : Slot Getting) → slot_at self.old at ≡ Some x
             → self.new ≡ record self.old {
               slots = slice_set self.old.slots at
                   (Some (record x { standing = get_in_wait now x.standing }));
             } }
+        ensures examined { lendings.new ≡ lendings.old + 1 }
     {
+        lendings.lend();
         let standing = &mut self.links.entries[at].slot.standing;
         *standing = Getting {
             place: GetPlace::Waiting(false),

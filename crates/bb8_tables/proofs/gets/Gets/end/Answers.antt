@@ -4,10 +4,10 @@ use Rattle.bb8_tables.proofs.GetPlaces.{none_shown, never_absent, end_counted, e
 use Rattle.bb8_tables.proofs.gets.Gets.end.Goals as goal
 
 pub overflow_sub-self : goal.overflow_sub-self
-overflow_sub-self c = let f = c.in-Some.ensures.some in end_counted c.self.inside c.in-Some.place c.args.g.number f.0 c.remove.new.self c.self.invariant f.1 f.2 c.remove.ensures
+overflow_sub-self c = let f = c.in-Some.ensures.some in end_counted c.self.inside c.in-Some.place c.args.g.number f.0 c.remove.new.self c.self.invariant f.1 f.2 c.remove.ensures.state
 
 pub invariant_of-self : goal.invariant_of-self
-invariant_of-self c = let f = c.in-Some.ensures.some in end_good c.self.inside c.in-Some.place c.args.g.number f.0 c.remove.new.self c.self.invariant f.1 f.2 c.remove.ensures
+invariant_of-self c = let f = c.in-Some.ensures.some in end_good c.self.inside c.in-Some.place c.args.g.number f.0 c.remove.new.self c.self.invariant f.1 f.2 c.remove.ensures.state
 
 pub returns-in-None-clause-state : goal.returns-in-None-clause-state
 returns-in-None-clause-state c = never_absent _ _ c.requires (none_shown c.self.inside c.args.g.number c.args.self.now c.self.view_is c.in-None.ensures.none)
@@ -15,5 +15,5 @@ returns-in-None-clause-state c = never_absent _ _ c.requires (none_shown c.self.
 pub returns-in-Some-clause-state : goal.returns-in-Some-clause-state
 returns-in-Some-clause-state c =
     let f = c.in-Some.ensures.some in
-    end_view c.self.inside c.in-Some.place c.args.g.number f.0 c.remove.new.self c.self.invariant f.1 f.2 c.remove.ensures
+    end_view c.self.inside c.in-Some.place c.args.g.number f.0 c.remove.new.self c.self.invariant f.1 f.2 c.remove.ensures.state
     ∙ ap (machine.after_get_end c.args.g.number) c.self.view_is

@@ -2,10 +2,10 @@ use Rattle.std.proofs.Common.{sym}
 use Rattle.bb8_tables.proofs.GetPlaces.{none_shown, some_shown}
 use Rattle.bb8_tables.proofs.gets.Gets.getting.Goals as goal
 
-pub returns-in-None : goal.returns-in-None
-returns-in-None c = sym (none_shown c.self.inside c.args.g.number c.args.self.now c.self.view_is c.in-None.ensures.none)
+pub returns-in-None-clause-value : goal.returns-in-None-clause-value
+returns-in-None-clause-value c = sym (none_shown c.self.inside c.args.g.number c.args.self.now c.self.view_is c.in-None.ensures.none)
 
-pub returns-in-Some : goal.returns-in-Some
-returns-in-Some c =
+pub returns-in-Some-clause-value : goal.returns-in-Some-clause-value
+returns-in-Some-clause-value c =
     let f = c.in-Some.ensures.some in
     sym (some_shown c.self.inside c.args.g.number f.0 c.in-Some.slot.now c.args.self.now c.self.invariant c.self.view_is f.1 f.2)

@@ -10,16 +10,20 @@ invariant_of-self c =
     let f = c.in-Some.ensures.some in
     turn_good c.self.inside c.in-Some.at c.args.g.number c.args.place f.0 c.turn.new.self c.self.invariant f.1 f.2
     (stands_is c.self.inside c.args.g.number c.in-Some.at f.0 c.args.self.now c.self.invariant c.self.view_is f.1 f.2 c.requires.stands)
-    c.turn.ensures
+    c.turn.ensures.changed
 
-pub returns-in-None : goal.returns-in-None
-returns-in-None c = never_absent _ _ (some_is {P = λ (x : Getting). is_unnotified x.place ≡ false} _ c.requires.stands)
+pub returns-in-None-clause-state : goal.returns-in-None-clause-state
+returns-in-None-clause-state c = never_absent _ _ (some_is {P = λ (x : Getting). is_unnotified x.place ≡ false} _ c.requires.stands)
     (none_shown c.self.inside c.args.g.number c.args.self.now c.self.view_is c.in-None.ensures.none)
 
-pub returns-in-Some : goal.returns-in-Some
-returns-in-Some c =
+pub returns-in-Some-clause-state : goal.returns-in-Some-clause-state
+returns-in-Some-clause-state c =
     let f = c.in-Some.ensures.some in
     turn_view c.self.inside c.in-Some.at c.args.g.number c.args.place f.0 c.turn.new.self c.self.invariant f.1 f.2
     (stands_is c.self.inside c.args.g.number c.in-Some.at f.0 c.args.self.now c.self.invariant c.self.view_is f.1 f.2 c.requires.stands)
-    c.turn.ensures
+    c.turn.ensures.changed
     ∙ ap (machine.after_turn c.args.place c.args.g.number) c.self.view_is
+
+pub returns-in-None-clause-examined : goal.returns-in-None-clause-examined
+returns-in-None-clause-examined c = never_absent _ _ (some_is {P = λ (x : Getting). is_unnotified x.place ≡ false} _ c.requires.stands)
+    (none_shown c.self.inside c.args.g.number c.args.self.now c.self.view_is c.in-None.ensures.none)

@@ -10,7 +10,7 @@ overflow_sub-self g c =
     let shows : Shows c.self.inside c.args.k.number (comes_from c.args.opening) = rw (← c.self.view_is) at c.requires in
     rw c.one.ensures.value (close_counted c.self.inside c.args.opening c.in-Some.place c.args.k.number f.0 c.remove.new.self
     c.self.invariant f.1 f.2 (stood c.self.inside c.args.k.number c.in-Some.place f.0
-    (comes_from c.args.opening) c.self.invariant shows f.1 f.2) c.remove.ensures)
+    (comes_from c.args.opening) c.self.invariant shows f.1 f.2) c.remove.ensures.state)
 
 pub overflow_sub-self-in-Some : goal.overflow_sub-self-in-Some
 overflow_sub-self-in-Some g c =
@@ -18,7 +18,7 @@ overflow_sub-self-in-Some g c =
     let shows : Shows c.self.inside c.args.k.number (comes_from c.args.opening) = rw (← c.self.view_is) at c.requires in
     rw c.one-in-Some.ensures.value (close_approved c.self.inside c.args.opening c.in-Some.place c.args.k.number f.0 c.remove.new.self
     c.self.invariant f.1 f.2 (stood c.self.inside c.args.k.number c.in-Some.place f.0
-    (comes_from c.args.opening) c.self.invariant shows f.1 f.2) c.remove.ensures)
+    (comes_from c.args.opening) c.self.invariant shows f.1 f.2) c.remove.ensures.state)
 
 pub returns-in-None-clause-state : goal.returns-in-None-clause-state
 returns-in-None-clause-state g c =
@@ -31,7 +31,7 @@ returns-in-Some-clause-state g c =
     let shows : Shows c.self.inside c.args.k.number (comes_from c.args.opening) = rw (← c.self.view_is) at c.requires in
     close_view c.self.inside c.args.opening c.in-Some.place c.args.k.number f.0 c.remove.new.self c.self.invariant f.1 f.2
     (stood c.self.inside c.args.k.number c.in-Some.place f.0 (comes_from c.args.opening) c.self.invariant shows f.1 f.2)
-    c.remove.ensures _ _ (ap (λ n. c.self.inside.conns - n) c.one.ensures.value)
+    c.remove.ensures.state _ _ (ap (λ n. c.self.inside.conns - n) c.one.ensures.value)
     (ap (λ n. c.self.inside.approved - n) c.one-in-Some.ensures.value)
     ∙ ap (machine.after_close c.args.opening c.args.k.number) c.self.view_is
 
@@ -41,5 +41,5 @@ invariant_of-self g c =
     let shows : Shows c.self.inside c.args.k.number (comes_from c.args.opening) = rw (← c.self.view_is) at c.requires in
     close_good c.self.inside c.args.opening c.in-Some.place c.args.k.number f.0 c.remove.new.self c.self.invariant f.1 f.2
     (stood c.self.inside c.args.k.number c.in-Some.place f.0 (comes_from c.args.opening) c.self.invariant shows f.1 f.2)
-    c.remove.ensures _ _
+    c.remove.ensures.state _ _
     (ap (λ n. c.self.inside.conns - n) c.one.ensures.value) (ap (λ n. c.self.inside.approved - n) c.one-in-Some.ensures.value)

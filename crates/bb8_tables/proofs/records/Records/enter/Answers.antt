@@ -18,7 +18,7 @@ line_up-requires-clause-stands g c =
 pub line_up-requires-clause-absent : goal.line_up-requires-clause-absent
 line_up-requires-clause-absent g c =
     let f = c.in-Some.ensures.some in
-    let shows : Shows c.self.inside c.args.k.number (comes_from c.args.opening) = rw (← c.self.view_is) at c.requires.place in
+    let shows : Shows c.self.inside c.args.k.number (comes_from c.args.opening) = rw (← c.self.view_is) at c.requires.out in
     let was = stood c.self.inside c.args.k.number c.in-Some.place f.0 (comes_from c.args.opening) c.self.invariant shows f.1 f.2 in
     subst (λ (xs : List ℕ). Absent c.in-Some.place xs) (sym (ap (λ (t : Lined (Slot (Standing g.row.C.Denot))). t.line) (c.replace.ensures.changed f.0 f.1)))
     (enter_absent c.self.inside c.args.opening c.in-Some.place f.0 c.self.invariant f.1 was)
@@ -32,7 +32,7 @@ add_birth-requires-clause-stands g c =
 pub add_birth-requires-clause-absent : goal.add_birth-requires-clause-absent
 add_birth-requires-clause-absent g c =
     let f = c.in-Some.ensures.some in
-    let shows : Shows c.self.inside c.args.k.number (comes_from c.args.opening) = rw (← c.self.view_is) at c.requires.place in
+    let shows : Shows c.self.inside c.args.k.number (comes_from c.args.opening) = rw (← c.self.view_is) at c.requires.out in
     let was = stood c.self.inside c.args.k.number c.in-Some.place f.0 (comes_from c.args.opening) c.self.invariant shows f.1 f.2 in
     λ new. subst (λ (xs : List ℕ). Absent c.in-Some.place xs)
     (sym (ap (λ (t : Lined (Slot (Standing g.row.C.Denot))). t.births) c.line_up.ensures ∙ ap (λ (t : Lined (Slot (Standing g.row.C.Denot))). t.births) (c.replace.ensures.changed f.0 f.1)))
@@ -41,7 +41,7 @@ add_birth-requires-clause-absent g c =
 pub overflow_sub-self : goal.overflow_sub-self
 overflow_sub-self g c =
     let f = c.in-Some.ensures.some in
-    let shows : Shows c.self.inside c.args.k.number (comes_from c.args.opening) = rw (← c.self.view_is) at c.requires.place in
+    let shows : Shows c.self.inside c.args.k.number (comes_from c.args.opening) = rw (← c.self.view_is) at c.requires.out in
     let was = stood c.self.inside c.args.k.number c.in-Some.place f.0 (comes_from c.args.opening) c.self.invariant shows f.1 f.2 in
     let few : one c.args.opening ≤ c.self.inside.approved = enter_counted c.self.inside c.args.opening c.in-Some.place c.args.k.number f.0 (record { place = Idle c.args.conn; birth = c.args.birth; entered = c.args.now })
     c.replace.new.self c.add_birth.new.self c.self.invariant f.1 was f.2 refl c.replace.ensures.changed
@@ -51,7 +51,7 @@ overflow_sub-self g c =
 pub invariant_of-self : goal.invariant_of-self
 invariant_of-self g c =
     let f = c.in-Some.ensures.some in
-    let shows : Shows c.self.inside c.args.k.number (comes_from c.args.opening) = rw (← c.self.view_is) at c.requires.place in
+    let shows : Shows c.self.inside c.args.k.number (comes_from c.args.opening) = rw (← c.self.view_is) at c.requires.out in
     let was = stood c.self.inside c.args.k.number c.in-Some.place f.0 (comes_from c.args.opening) c.self.invariant shows f.1 f.2 in
     enter_good c.self.inside c.args.opening c.in-Some.place c.args.k.number f.0 (record { place = Idle c.args.conn; birth = c.args.birth; entered = c.args.now })
     c.replace.new.self c.add_birth.new.self c.self.invariant f.1 was f.2 refl c.replace.ensures.changed
@@ -61,16 +61,21 @@ invariant_of-self g c =
 
 pub returns-in-None-clause-state : goal.returns-in-None-clause-state
 returns-in-None-clause-state g c =
-    let shows : Shows c.self.inside c.args.k.number (comes_from c.args.opening) = rw (← c.self.view_is) at c.requires.place in
+    let shows : Shows c.self.inside c.args.k.number (comes_from c.args.opening) = rw (← c.self.view_is) at c.requires.out in
     never_absent c.self.inside c.args.k.number shows.0 _ shows.1 c.in-None.ensures.none
 
 pub returns-in-Some-clause-state : goal.returns-in-Some-clause-state
 returns-in-Some-clause-state g c =
     let f = c.in-Some.ensures.some in
-    let shows : Shows c.self.inside c.args.k.number (comes_from c.args.opening) = rw (← c.self.view_is) at c.requires.place in
+    let shows : Shows c.self.inside c.args.k.number (comes_from c.args.opening) = rw (← c.self.view_is) at c.requires.out in
     let was = stood c.self.inside c.args.k.number c.in-Some.place f.0 (comes_from c.args.opening) c.self.invariant shows f.1 f.2 in
     enter_view c.self.inside c.args.opening c.in-Some.place c.args.k.number f.0 (record { place = Idle c.args.conn; birth = c.args.birth; entered = c.args.now })
     c.replace.new.self c.add_birth.new.self c.self.invariant f.1 was f.2 refl c.replace.ensures.changed
     (lined c.args.opening c.in-Some.place c.replace.new.self c.line_up.new.self c.add_birth.new.self c.line_up.ensures c.add_birth.ensures)
     _ _ (ap (λ n. c.self.inside.conns + n) c.one-opened.ensures.value) (ap (λ n. c.self.inside.approved - n) c.one-opened.ensures.value)
     ∙ ap (machine.after_entry c.args.opening c.args.k.number _) c.self.view_is
+
+pub returns-in-None-clause-examined : goal.returns-in-None-clause-examined
+returns-in-None-clause-examined g c =
+    let shows : Shows c.self.inside c.args.k.number (comes_from c.args.opening) = rw (← c.self.view_is) at c.requires.out in
+    never_absent c.self.inside c.args.k.number shows.0 _ shows.1 c.in-None.ensures.none
