@@ -6,6 +6,8 @@ pub mod Lines
 pub mod Numbers
 pub mod Orders
 pub mod RecordPlaces
+pub mod ReapPlaces
+pub mod Walks
 pub mod Approvals
 pub mod Ended
 pub mod GetPlaces

@@ -1,5 +1,7 @@
 -- Orders of all the places at which stands what passes a test.
-use Rattle.std.proofs.Common.{◌≡◌, ◌≢◌, ◌≤◌, ℕ, zero, suc, Bool, true, false, cond, not, eqb, arith, map, List, [], ◌∷◌, ◌++◌, Option, Some, None, slice_get, get_or, refl, sym, ap, ◌∙◌, ⊎_elim, subst}
+use Rattle.std.proofs.Common.{◌≡◌, ◌≢◌, ◌≤◌, ℕ, zero, suc, Bool, true, false, cond, not, eqb, arith, map, List, [], ◌∷◌, ◌++◌, Option, Some, None, slice_get, get_or, option_map, refl, sym, ap, ◌∙◌, ◌⊎◌, inl, inr, ⊎_elim, subst}
+use Rattle.std.proofs.lemmas.List.{map-append}
+use Rattle.std.proofs.lemmas.Option.{slice_get-map}
 use Rattle.bb8_tables.specs.Machine.{without}
 use Rattle.bb8_tables.specs.Slots.{IsOrder, ArePlaces, IsRising, AllFrom, number_in, numbers_at}
 use Rattle.bb8_tables.specs.Spelled.{Absent}
@@ -129,3 +131,57 @@ module _ {X : Type 0} {test : X → Bool} {moment : X → ℕ} where
       all = changed (λ (i : ℕ). Absent i places) (λ z e a. absurd (let clash : true ≡ false = sym on ∙ o.all place x was a in cc)) (λ i n a. a);
       rises = subst IsRising (sym (numbers_same moment old new place x y places was same (record { changed = u.changed ∙ is; others = u.others }))) o.rises;
     }
+
+-- ---- what is in an order
+
+-- a place is absent, or stands at an index
+absent_or_at : (p : ℕ) (xs : List ℕ) → Absent p xs ⊎ ((j : ℕ) × (slice_get xs j ≡ Some p))
+absent_or_at p [] = inl tt
+absent_or_at p (x ∷ xs) = ⊎_elim
+    (λ (t : (eqb x p ≡ true) × (x ≡ p)). inr (0, ap (λ (q : ℕ). Some q) t.1))
+    (λ (t : (eqb x p ≡ false) × (x ≢ p)). ⊎_elim
+    (λ (a : Absent p xs). inl (t.1, a))
+    (λ (h : (j : ℕ) × (slice_get xs j ≡ Some p)). inr (suc h.0, h.1))
+    (absent_or_at p xs))
+    (same_or_not x p)
+
+module _ {X : Type 0} {test : X → Bool} {moment : X → ℕ} where
+  -- what passes stands in the order
+  pub found_in : {slots : List (Option X)} {places : List ℕ} → IsOrder test moment slots places → (i : ℕ) (x : X) → get_or slots i None ≡ Some x → test x ≡ true
+      → (j : ℕ) × (slice_get places j ≡ Some i)
+  found_in {slots} {places} o i x e on = ⊎_elim
+      (λ (a : Absent i places). absurd (let clash : true ≡ false = sym on ∙ o.all i x e a in cc))
+      (λ (h : (j : ℕ) × (slice_get places j ≡ Some i)). h)
+      (absent_or_at i places)
+
+from_at : (n m j : ℕ) (ns : List ℕ) → AllFrom n ns → slice_get ns j ≡ Some m → n ≤ m
+from_at n m j [] a e = cc
+from_at n m zero (x ∷ ns) a e = let both : Some x ≡ Some m = e in let is : x ≡ m = cc in let l : n ≤ x = a.0 in omega arith
+from_at n m (suc j) (x ∷ ns) a e = from_at n m j ns a.1 e
+
+rising_rest : (ns ms : List ℕ) → IsRising (ns ++ ms) → IsRising ms
+rising_rest [] ms r = r
+rising_rest (n ∷ ns) ms r = rising_rest ns ms r.1
+
+module _ {X : Type 0} (moment : X → ℕ) (slots : List (Option X)) where
+  -- from a place on, all moments are at least its own
+  pub no_earlier : (passed rest : List ℕ) (p q j : ℕ) (x y : X) → IsRising (numbers_at moment slots (passed ++ p ∷ rest)) → get_or slots p None ≡ Some x
+      → slice_get (p ∷ rest) j ≡ Some q → get_or slots q None ≡ Some y → moment x ≤ moment y
+  no_earlier passed rest p q j x y r e at_j f =
+      let f_of = λ (i : ℕ). number_in moment (get_or slots i None) in
+      let later : IsRising (map f_of (p ∷ rest)) = rising_rest (map f_of passed) (map f_of (p ∷ rest)) (subst IsRising (map-append f_of passed (p ∷ rest)) r) in
+      go j at_j later
+    where
+      go : (i : ℕ) → slice_get (p ∷ rest) i ≡ Some q → IsRising (numbers_at moment slots (p ∷ rest)) → moment x ≤ moment y
+      go zero g later =
+          let both : Some p ≡ Some q = g in
+          let same : Some x ≡ Some y = sym e ∙ subst (λ (k : ℕ). get_or slots k None ≡ Some y) (let is : q ≡ p = cc in is) f in
+          let is : x ≡ y = cc in
+          let m : moment x ≡ moment y = ap moment is in
+          omega arith
+      go (suc i) g later =
+          let l : number_in moment (get_or slots p None) ≤ number_in moment (get_or slots q None) =
+          from_at _ _ i (numbers_at moment slots rest) later.0 (slice_get-map (λ (k : ℕ). number_in moment (get_or slots k None)) rest i ∙ ap (option_map (λ (k : ℕ). number_in moment (get_or slots k None))) g) in
+          let a : number_in moment (get_or slots p None) ≡ moment x = ap (number_in moment) e in
+          let b : number_in moment (get_or slots q None) ≡ moment y = ap (number_in moment) f in
+          omega arith

@@ -127,12 +127,12 @@ module _ {C : Type 0} where
 
   -- ---- the sizes after a place has changed from one test to another
 
-  conns_set : (a : Inside C) (slots : List (Option (Slot (Standing C)))) (i : ℕ) (was is : Option (Slot (Standing C))) (m n : Bool)
+  pub conns_set : (a : Inside C) (slots : List (Option (Slot (Standing C)))) (i : ℕ) (was is : Option (Slot (Standing C))) (m n : Bool)
       → AreGoodRecords a → slot_at a.slots i ≡ was → Updates a.slots.slots slots i is → passes is_conn was ≡ m → passes is_conn is ≡ n
       → tally (passes is_conn) slots + one m ≡ a.conns + one n
   conns_set a slots i was is m n good e u was_m is_n = rw (sym (ap one was_m), sym (ap one is_n)) (tally_set is_conn a.slots.slots slots i a.conns was is good.conns_are e u)
 
-  approved_set : (a : Inside C) (slots : List (Option (Slot (Standing C)))) (i : ℕ) (was is : Option (Slot (Standing C))) (m n : Bool)
+  pub approved_set : (a : Inside C) (slots : List (Option (Slot (Standing C)))) (i : ℕ) (was is : Option (Slot (Standing C))) (m n : Bool)
       → AreGoodRecords a → slot_at a.slots i ≡ was → Updates a.slots.slots slots i is → passes is_approval was ≡ m → passes is_approval is ≡ n
       → tally (passes is_approval) slots + one m ≡ a.approved + one n
   approved_set a slots i was is m n good e u was_m is_n = rw (sym (ap one was_m), sym (ap one is_n)) (tally_set is_approval a.slots.slots slots i a.approved was is good.approved_are e u)
@@ -147,7 +147,7 @@ module _ {C : Type 0} where
       ∙ ap (λ (n : ℕ). insert (view_of_records a).places n (with_place p x.standing)) same
       ∙ ap (λ (o : Option (Standing C)). insert (view_of_records a).places q (machine.standing_at p o)) (sym (shown_at a i q x good e same))
 
-  abbrev numbered : Slot (Standing C) → ℕ
+  abbrev pub numbered : Slot (Standing C) → ℕ
   numbered x = x.number
 
   -- nothing in an empty table
@@ -628,71 +628,16 @@ module _ {C : Type 0} where
   pub unborn_absent : (a : Inside C) (place : ℕ) → AreGoodRecords a → slot_at a.slots place ≡ None → Absent place a.slots.births
   unborn_absent a place good free = free_absent a.slots.slots a.slots.births place good.births.are free
 
-  -- none ends where none is idle
-  pub end_idle_none : (a : Inside C) → slice_get a.slots.line 0 ≡ None → slice_get (view_of_records a).idle 0 ≡ None
-  end_idle_none a empty = slice_get-map (λ (i : ℕ). number_in numbered (slot_at a.slots i)) a.slots.line 0 ∙ ap (option_map (λ (i : ℕ). number_in numbered (slot_at a.slots i))) empty
-
-  -- ---- the first in line ends
+  -- ---- an unclaimed approval ends
 
   -- what a freed place leaves
-  abbrev Frees : Lined (Slot (Standing C)) → Lined (Slot (Standing C)) → ℕ → Type 0
+  abbrev pub Frees : Lined (Slot (Standing C)) → Lined (Slot (Standing C)) → ℕ → Type 0
   Frees old new place = new ≡ record {
     slots = set old.slots place None;
     line = machine.without place old.line;
     births = machine.without place old.births;
     free = old.free ++ place ∷ [];
   }
-
-  -- the idle connection that is first ends
-  module _ (a : Inside C) (place number : ℕ) (slots : Lined (Slot (Standing C))) (good : AreGoodRecords a)
-      (first : Some place ≡ slice_get a.slots.line 0) (number_is : (x : Slot (Standing C)) → slot_at a.slots place ≡ Some x → number ≡ x.number)
-      (gone : Frees a.slots slots place) where
-    ended : (x : Slot (Standing C)) × (slot_at a.slots place ≡ Some x) × (is_idle x.standing.place ≡ true)
-    ended = let x = good.idle.are.each 0 place (sym first) in (x.0, x.1, x.3)
-
-    ended_updates : Updates a.slots.slots slots.slots place None
-    ended_updates = set_updates None (inside a.slots.slots place ended.0 ended.1) (ap (λ (t : Lined (Slot (Standing C))). t.slots) gone)
-
-    ended_line : slots.line ≡ machine.without place a.slots.line
-    ended_line = ap (λ (t : Lined (Slot (Standing C))). t.line) gone
-
-    idle_end_fewer : tally (passes is_conn) slots.slots + 1 ≡ a.conns + 0
-    idle_end_fewer = conns_set a slots.slots place (Some ended.0) None true false good ended.1 ended_updates (ap is_conn ((idle_is ended.0.standing.place ended.2).1)) refl
-
-    pub idle_end_counted : 1 ≤ a.conns
-    idle_end_counted = let t : tally (passes is_conn) slots.slots + 1 ≡ a.conns + 0 = idle_end_fewer in omega arith
-
-    pub idle_end_good : AreGoodRecords (record a { slots = slots; conns = a.conns - 1 })
-    idle_end_good =
-        let t : tally (passes is_conn) slots.slots + 1 ≡ a.conns + 0 = idle_end_fewer in
-        let v : tally (passes is_approval) slots.slots + 0 ≡ a.approved + 0 =
-        approved_set a slots.slots place (Some ended.0) None false false good ended.1 ended_updates
-        (ap is_approval ((idle_is ended.0.standing.place ended.2).1)) refl in
-        let f : length slots.free ≡ length a.slots.free + 1 = ap (λ (t : Lined (Slot (Standing C))). length t.free) gone ∙ length-append a.slots.free (place ∷ []) in
-        let s = good.sizes in
-        record {
-          table = table_removed good.table ended_updates;
-          idle = subst (λ (xs : List ℕ). IsOrderOf is_idle (λ s. s.entered) slots.slots xs) (sym ended_line) (left_order good.idle ended_updates refl);
-          births = subst (λ (xs : List ℕ). IsOrderOf is_conn (λ s. s.birth) slots.slots xs) (sym (ap (λ (t : Lined (Slot (Standing C))). t.births) gone)) (left_order good.births ended_updates refl);
-          unclaimed = other_line good.unclaimed ended.1 (ap is_unclaimed ((idle_is ended.0.standing.place ended.2).1)) ended_updates;
-          conns_are = omega arith;
-          approved_are = omega arith;
-          sizes = record { peak_holds = omega (arith, s.peak_holds); peak_few = s.peak_few; room_holds = omega (arith, s.room_holds); unclaimed_room_holds = s.unclaimed_room_holds };
-        }
-
-    pub idle_end_view : view_of_records (record a { slots = slots; conns = a.conns - 1 }) ≡ machine.after_idle_end number (view_of_records a)
-    idle_end_view = same_records _ _ refl
-        (held_removed good.table ended.1 ended_updates ∙ ap (remove (view_of_records a).places) (sym (number_is ended.0 ended.1)))
-        (ap (numbers_at numbered slots.slots) ended_line
-        ∙ numbers_kept numbered a.slots.slots slots.slots place (machine.without place a.slots.line) (left_away a.slots.line place) ended_updates.others
-        ∙ ap (numbers_at numbered a.slots.slots) (without_first a.slots.slots a.slots.line place good.idle.are (sym first))
-        ∙ sym (drop-map (λ (i : ℕ). number_in numbered (slot_at a.slots i)) 1 a.slots.line))
-        refl refl refl refl
-
-    pub idle_end_first : slice_get (view_of_records a).idle 0 ≡ Some number
-    idle_end_first = slice_get-map (λ (i : ℕ). number_in numbered (slot_at a.slots i)) a.slots.line 0
-        ∙ ap (option_map (λ (i : ℕ). number_in numbered (slot_at a.slots i))) (sym first)
-        ∙ ap (λ (o : Option (Slot (Standing C))). Some (number_in numbered o)) ended.1 ∙ ap (λ (q : ℕ). Some q) (sym (number_is ended.0 ended.1))
 
   -- the unclaimed approval that is first ends
   module _ (a : Inside C) (key : Key) (slots : Lined (Slot (Standing C))) (line : Buffer Key) (good : AreGoodRecords a)

@@ -1,8 +1,10 @@
 pub mod Keys
 pub mod Views
 pub mod Machine
+pub mod Reaps
 pub mod Spelled
 pub mod Lined
+pub mod Dues
 pub mod Linked
 pub mod Slots
 pub mod State

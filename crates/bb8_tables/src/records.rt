@@ -10,6 +10,8 @@ ghost use Rattle.circular_buffer.specs.Buffer.{buffer};
 ghost use Rattle.bb8_types.specs.declared.standing.Standing.{Standing};
 ghost use Rattle.bb8_types.specs.Bounds.{end_of_numbers, most_records};
 
+mod reaps;
+
 use crate::keys::Key;
 use crate::lendings::Lendings;
 use crate::ring::Ring;
@@ -18,6 +20,7 @@ use bb8_types::api::QueueStrategy;
 use bb8_types::bounds::END_OF_NUMBERS;
 use bb8_types::grants::Grant;
 use bb8_types::standing::{Holder, Place, Standing};
+pub use reaps::Reaped;
 use std::alloc::{AllocError, Global};
 use std::marker::Model;
 
