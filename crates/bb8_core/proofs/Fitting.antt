@@ -10,7 +10,7 @@ use Rattle.bb8_ledger.specs.Acts.{Try, GiveUp, Leave, Reason, Cancelled}
 use Rattle.bb8_ledger.specs.Ledger.{Ledger, conns, approved, alive, get_of, start, handles, records, gets, record_of}
 use Rattle.bb8_types.specs.Places.{holds, stands, gets_stand, is_unnotified, is_claimed, is_guarded, is_held_by, is_out}
 use Rattle.bb8_ledger.specs.Table.{takes, IsLegal}
-use Rattle.bb8_core.specs.Shown.{Shown, HasLedger, IsFitting, Means}
+use Rattle.bb8_core.specs.Shown.{Shown, shown_beside, HasLedger, IsFitting, Means}
 use Rattle.bb8_types.proofs.Places.{standing_is, claimed_is, guarded_out, and_right}
 use Rattle.bb8_ledger.proofs.GetEffects.{holding_is}
 use Rattle.bb8_ledger.proofs.Held.{all_held}
@@ -24,6 +24,25 @@ use Rattle.bb8_types.specs.Settings.{Settings}
 use Rattle.bb8_tables.specs.Views.{ShownRecords}
 
 module _ {C : Type 0} where
+  -- what a ledger shows, where nothing was lent
+  abbrev pub shown : Ledger C → Shown C
+  shown l = shown_beside 0 l
+
+  -- a state, whatever was lent
+  abbrev pub unexamined : Shown C → Shown C
+  unexamined s = record s { examined = 0 }
+
+  -- what was lent tells nothing of the ledger
+  pub bare : {s : Shown C} (l : Ledger C) → Means l s → shown l ≡ unexamined s
+  bare l means = ap unexamined means
+
+  pub beside : {s : Shown C} (l : Ledger C) → shown l ≡ unexamined s → Means l s
+  beside {s} l is = ap (λ (t : Shown C). record t { examined = s.examined }) is
+
+  -- the fields are what is shown
+  pub as_shown : {s t : Shown C} (l : Ledger C) → s ≡ t → Means l s → Means l t
+  as_shown l is means = subst (λ (x : Shown C). Means l x) is means
+
   pub shown_record : (l : Ledger C) (s : Shown C) → Means l s → (k : ℕ) → record_of l k ≡ get s.records.places k
   shown_record l s is k = sym (numbered.get-numbered (λ (r : Numbered (Standing C)). r.standing) (records l) (start l).first k) ∙ ap (λ (t : Shown C). get t.records.places k) is
 
@@ -77,7 +96,7 @@ module _ {C : Type 0} where
   IsPlaced test s k = (l : Ledger C) → IsLegal l → Means l s → stands test (record_of l k) ≡ true
 
   placed : {s t : Shown C} (test : Place C → Bool) (k : ℕ) → s ≡ t → HasLedger s → IsPlaced test t k → (st : Standing C) × (get s.records.places k ≡ Some st) × (test st.place ≡ true)
-  placed {s} test k is h fit = standing_is test (get s.records.places k) (ap (stands test) (sym (shown_record h.0 s h.2 k)) ∙ fit h.0 h.1 (h.2 ∙ is))
+  placed {s} test k is h fit = standing_is test (get s.records.places k) (ap (stands test) (sym (shown_record h.0 s h.2 k)) ∙ fit h.0 h.1 (as_shown h.0 is h.2))
 
   pub fit_claimed : {s t : Shown C} (k : ℕ) → s ≡ t → HasLedger s → IsPlaced is_claimed t k → (st : Standing C) × (get s.records.places k ≡ Some st) × (is_claimed st.place ≡ true)
   fit_claimed k is h fit = placed is_claimed k is h fit
@@ -116,18 +135,18 @@ module _ {C : Type 0} where
   -- where a handle leaves, one is alive
   pub fit_leave : {s t : Shown C} → s ≡ t → HasLedger s → IsFitting t Leave → 1 ≤ s.handles
   fit_leave is h fit =
-      let some : 0 < handles h.0 = ltb-true 0 (handles h.0) (fit h.0 h.1 (h.2 ∙ is)) in
+      let some : 0 < handles h.0 = ltb-true 0 (handles h.0) (fit h.0 h.1 (as_shown h.0 is h.2)) in
       subst (λ (x : Shown C). 1 ≤ x.handles) h.2 (omega arith)
 
   -- a get that tries stands, and so does one that is given up, whatever the reason
   pub fit_try : {s t : Shown C} (g : ℕ) → s ≡ t → HasLedger s → IsFitting t (Try g) → (st : Getting) × (get s.gets.places g ≡ Some st)
-  fit_try {s} g is h fit = let st = trying_is h.0 g (fit h.0 h.1 (h.2 ∙ is)) in (st.0, sym (shown_get h.0 s h.2 g) ∙ st.1)
+  fit_try {s} g is h fit = let st = trying_is h.0 g (fit h.0 h.1 (as_shown h.0 is h.2)) in (st.0, sym (shown_get h.0 s h.2 g) ∙ st.1)
 
   pub giving_is : (l : Ledger C) (g : ℕ) (held : Option C) → takes l (GiveUp g Cancelled held false) ≡ true → (st : Getting) × (get_of l g ≡ Some st)
   giving_is l g held f = alive_get (get_of l g) (and_right (is_some (get_of l g)) _ f).0
 
   pub fit_give_up : {s t : Shown C} (g : ℕ) (held : Option C) → s ≡ t → HasLedger s → IsFitting t (GiveUp g Cancelled held false) → (st : Getting) × (get s.gets.places g ≡ Some st)
-  fit_give_up {s} g held is h fit = let st = giving_is h.0 g held (fit h.0 h.1 (h.2 ∙ is)) in (st.0, sym (shown_get h.0 s h.2 g) ∙ st.1)
+  fit_give_up {s} g held is h fit = let st = giving_is h.0 g held (fit h.0 h.1 (as_shown h.0 is h.2)) in (st.0, sym (shown_get h.0 s h.2 g) ∙ st.1)
 
   -- a get that tries and stands in no line
   pub fit_waits : {s t : Shown C} {o : Option Getting} (g : ℕ) → s ≡ t → HasLedger s → IsFitting t (Try g) → o ≡ get s.gets.places g
@@ -150,7 +169,7 @@ module _ {C : Type 0} where
       → ((l : Ledger C) → IsLegal l → Means l t → is_some (holds (get_of l g)) ≡ true) → o ≡ get s.gets.places g
       → ((k : ℕ) → holds o ≡ Some k → n ≡ k) → holds o ≡ Some n
   fit_holds {s} {t} {o} {n} g is h fit get_is names =
-      let some = some_held (holds o) (ap (λ (x : Option Getting). is_some (holds x)) (get_is ∙ sym (shown_get h.0 s h.2 g)) ∙ fit h.0 h.1 (h.2 ∙ is)) in
+      let some = some_held (holds o) (ap (λ (x : Option Getting). is_some (holds x)) (get_is ∙ sym (shown_get h.0 s h.2 g)) ∙ fit h.0 h.1 (as_shown h.0 is h.2)) in
       some.1 ∙ ap (λ (k : ℕ). Some k) (sym (names some.0 some.1))
     where
       some_held : (x : Option ℕ) → is_some x ≡ true → (k : ℕ) × (x ≡ Some k)

@@ -11,9 +11,9 @@ use Rattle.bb8_ledger.specs.Answers.{Unfit}
 use Rattle.bb8_ledger.specs.Ledger.{Ledger, Later}
 use Rattle.bb8_types.specs.Places.{gets_stand, holds, is_trying}
 use Rattle.bb8_ledger.specs.Table.{takes, agree, Allowed, IsLegal}
-use Rattle.bb8_core.specs.Shown.{Shown, shown, Means, IsRecordIn, IsNoRecordIn, IsGetIn, IsNoGetIn}
+use Rattle.bb8_core.specs.Shown.{Shown, Means, IsRecordIn, IsNoRecordIn, IsGetIn, IsNoGetIn}
 use Rattle.bb8_core.specs.Run.{act_of, answer_of, IsRun, AfterEach}
-use Rattle.bb8_core.proofs.Fitting.{shown_record, shown_get}
+use Rattle.bb8_core.proofs.Fitting.{shown, bare, beside, as_shown, shown_record, shown_get}
 use Rattle.bb8_core.proofs.Steps.{unfitting, same_shown, records_kept, gets_kept}
 
 module _ {C : Type 0} where
@@ -21,18 +21,18 @@ module _ {C : Type 0} where
 
   pub found : (s t : Shown C) (n : ℕ) (o : Option Key) → s ≡ t → IfSome o (λ k. (k.number ≡ n) × IsSome (get s.records.places n)) → IfSome o (λ k. (k.number ≡ n) × IsRecordIn t n)
   found s t n None is h = tt
-  found s t n (Some k) is h = (h.0, λ l legal means. subst IsSome (sym (shown_record l s (means ∙ sym is) n)) h.1)
+  found s t n (Some k) is h = (h.0, λ l legal means. subst IsSome (sym (shown_record l s (as_shown l (sym is) means) n)) h.1)
 
   pub absent : (s t : Shown C) (n : ℕ) (o : Option Key) → s ≡ t → IfNone o (get s.records.places n ≡ None) → IfNone o (IsNoRecordIn t n)
-  absent s t n None is h = λ l legal means. shown_record l s (means ∙ sym is) n ∙ h
+  absent s t n None is h = λ l legal means. shown_record l s (as_shown l (sym is) means) n ∙ h
   absent s t n (Some k) is h = tt
 
   pub get_found : (s t : Shown C) (n : ℕ) (o : Option GetKey) → s ≡ t → IfSome o (λ g. (g.number ≡ n) × IsSome (get s.gets.places n)) → IfSome o (λ g. (g.number ≡ n) × IsGetIn t n)
   get_found s t n None is h = tt
-  get_found s t n (Some g) is h = (h.0, λ l legal means. subst IsSome (sym (shown_get l s (means ∙ sym is) n)) h.1)
+  get_found s t n (Some g) is h = (h.0, λ l legal means. subst IsSome (sym (shown_get l s (as_shown l (sym is) means) n)) h.1)
 
   pub get_absent : (s t : Shown C) (n : ℕ) (o : Option GetKey) → s ≡ t → IfNone o (get s.gets.places n ≡ None) → IfNone o (IsNoGetIn t n)
-  get_absent s t n None is h = λ l legal means. shown_get l s (means ∙ sym is) n ∙ h
+  get_absent s t n None is h = λ l legal means. shown_get l s (as_shown l (sym is) means) n ∙ h
   get_absent s t n (Some g) is h = tt
 
   -- which tries are taken, by what is shown
@@ -47,10 +47,10 @@ module _ {C : Type 0} where
   -- ---- an event that does not fit changes nothing
 
   unfit_shown : (l : Ledger C) (at : ℕ) (e : Act C) → shown (Later l at e Unfit) ≡ shown l
-  unfit_shown l at e = same_shown _ _ refl refl refl (records_kept l) (gets_kept l) refl
+  unfit_shown l at e = same_shown _ _ refl refl refl refl (records_kept l) (gets_kept l) refl
 
   pub unfit_now : (l : Ledger C) (s : Shown C) (at : ℕ) (e : Act C) → takes l e ≡ false → Means l s → Allowed l at e Unfit × Means (Later l at e Unfit) s
-  unfit_now l s at e misfit means = (unfitting (takes l e) _ _ misfit refl, unfit_shown l at e ∙ means)
+  unfit_now l s at e misfit means = (unfitting (takes l e) _ _ misfit refl, beside (Later l at e Unfit) (unfit_shown l at e ∙ bare l means))
 
 -- ---- lists of events
 

@@ -1,5 +1,5 @@
 //! The locked state of a pool.
-ghost use Rattle.std.specs.Prelude.{◌≡◌, ℕ, Bool, ◌+◌, ◌≤◌, ◌&&◌, ◌||◌, not, cond, eqb, slice_get, Option, IsSome, is_some, IfSome, IfNone, true, false, None, Some};
+ghost use Rattle.std.specs.Prelude.{◌≡◌, ℕ, Bool, ◌+◌, ◌<◌, ◌≤◌, ◌&&◌, ◌||◌, not, cond, eqb, slice_get, Option, IsSome, is_some, IfSome, IfNone, true, false, None, Some};
 ghost use Rattle.std.specs.FinMap as map;
 ghost use Rattle.bb8_ledger.specs.Acts as acts;
 ghost use Rattle.bb8_ledger.specs.Answers as answers;
@@ -225,10 +225,7 @@ impl<C: Drop> PoolInternals<C> {
         }
         let strategy = self.config.queue_strategy;
         let mut lendings = Lendings::none();
-        match self
-            .records
-            .take(strategy, Holder::Guard, &mut lendings)
-        {
+        match self.records.take(strategy, Holder::Guard, &mut lendings) {
             None => None,
             Some((key, conn)) => {
                 let now = self.latest.max(at.0);
@@ -266,7 +263,10 @@ impl<C: Drop> PoolInternals<C> {
             return TryAnswer::Waiting(Grant::of_nothing(self.records.next_number()));
         }
         let holder = holder(&self.config, get);
-        match self.records.take(self.config.queue_strategy, holder, &mut self.lendings) {
+        match self
+            .records
+            .take(self.config.queue_strategy, holder, &mut self.lendings)
+        {
             None => {
                 let asked = one(self.records.approved() < self.gets.alive());
                 let taken = self.records.used();
@@ -279,7 +279,8 @@ impl<C: Drop> PoolInternals<C> {
                 let wanted = want(&self.config, self.handles, &self.records);
                 let grant = self.records.grant(wanted, false);
                 if self.config.test_on_check_out {
-                    self.gets.turn(get, GetPlace::Holding(key.number), &mut self.lendings);
+                    self.gets
+                        .turn(get, GetPlace::Holding(key.number), &mut self.lendings);
                     return TryAnswer::Taken(key, conn, grant);
                 }
                 self.gets.finish(get);
@@ -301,7 +302,8 @@ impl<C: Drop> PoolInternals<C> {
         self.latest = now;
         self.lendings = Lendings::none();
         let getting = self.gets.getting(get, &mut self.lendings);
-        let key = self.records.hand_over(held_key(getting, hint), &mut self.lendings);
+        let out = held_key(getting, hint);
+        let key = self.records.hand_over(out, &mut self.lendings);
         self.gets.finish(get);
         self.counters.serve(first_wait(getting), now);
         CheckedOkAnswer::Served(key)
@@ -327,7 +329,8 @@ impl<C: Drop> PoolInternals<C> {
         self.latest = now;
         self.lendings = Lendings::none();
         let key = held_key(self.gets.getting(get, &mut self.lendings), hint);
-        let expired = is_expired(&self.config, now, self.records.birth(key, &mut self.lendings));
+        let birth = self.records.birth(key, &mut self.lendings);
+        let expired = is_expired(&self.config, now, birth);
         let granted = end_out(&self.config, self.handles, &mut self.records, key);
         self.counters.invalid += 1;
         self.counters.close(broken, expired);
@@ -413,7 +416,8 @@ impl<C: Drop> PoolInternals<C> {
             self.counters.close(broken, expired);
             GiveUpAnswer::Closed(key, conn, grant, self.gets.notify(&mut self.lendings))
         } else {
-            self.records.enter(key, conn, birth, now, false, &mut self.lendings);
+            self.records
+                .enter(key, conn, birth, now, false, &mut self.lendings);
             GiveUpAnswer::Kept(key, self.gets.notify(&mut self.lendings))
         }
     }
@@ -437,7 +441,8 @@ impl<C: Drop> PoolInternals<C> {
             self.counters.close(broken, expired);
             PutBackAnswer::Closed(conn, grant, self.gets.notify(&mut self.lendings))
         } else {
-            self.records.enter(k, conn, birth, now, false, &mut self.lendings);
+            self.records
+                .enter(k, conn, birth, now, false, &mut self.lendings);
             PutBackAnswer::Kept(self.gets.notify(&mut self.lendings))
         }
     }
@@ -483,7 +488,8 @@ impl<C: Drop> PoolInternals<C> {
             self.records.close(a, true);
             return OpenedAnswer::Late(conn);
         }
-        self.records.enter(a, conn, now, now, true, &mut self.lendings);
+        self.records
+            .enter(a, conn, now, now, true, &mut self.lendings);
         self.counters.created += 1;
         OpenedAnswer::Entered(self.gets.notify(&mut self.lendings))
     }

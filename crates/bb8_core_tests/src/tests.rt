@@ -7,6 +7,7 @@ use std::time::Duration;
 
 mod at_once;
 mod checks;
+mod crowd;
 mod refusals;
 mod replays;
 mod steps;

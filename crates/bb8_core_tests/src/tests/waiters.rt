@@ -11,7 +11,7 @@ use std::thread;
 
 /// What a pool tells, in the order in which a state is printed: connections, idle, started, direct, waited, timed out, cancelled, the
 /// wait time in nanoseconds, created, closed as broken, as invalid, by lifetime, by idle timeout.
-fn figures(state: &State) -> [u128; 13] {
+pub(super) fn figures(state: &State) -> [u128; 13] {
     let statistics = &state.statistics;
     [
         state.connections as u128,

@@ -11,13 +11,13 @@ use Rattle.bb8_bench.proofs.opening.approved_pool.Goals as goal
 pub returns-clause-idle : goal.returns-clause-idle
 returns-clause-idle c =
     let l : Ledger ℕ = opening c.full_config-config.result 0 0 in
-    let step = c.fill-grant.ensures l (sym c.is_lawful.ensures ∙ c.if-not-is_lawful.false) c.new-pool.ensures in
+    let step = c.fill-grant.ensures.step l (sym c.is_lawful.ensures ∙ c.if-not-is_lawful.false) c.new-pool.ensures in
     (filled c.new-pool.result c.fill-grant.new.self l c.new-pool.ensures 0 c.fill-grant.result refl refl step.1).0
 
 pub returns-clause-unclaimed : goal.returns-clause-unclaimed
 returns-clause-unclaimed c =
     let l : Ledger ℕ = opening c.full_config-config.result 0 0 in
-    let step = c.fill-grant.ensures l (sym c.is_lawful.ensures ∙ c.if-not-is_lawful.false) c.new-pool.ensures in
+    let step = c.fill-grant.ensures.step l (sym c.is_lawful.ensures ∙ c.if-not-is_lawful.false) c.new-pool.ensures in
     (filled c.new-pool.result c.fill-grant.new.self l c.new-pool.ensures 0 c.fill-grant.result refl refl step.1).1 ∙ ap upto c.if-grant-size.false
 
 pub returns-clause-some : goal.returns-clause-some

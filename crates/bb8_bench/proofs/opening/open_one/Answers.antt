@@ -16,7 +16,7 @@ opened-requires c =
     let k : ℕ = c.in-Claimed-Some.key.number in
     let step = subst (λ (o : Option Key). Allowed h.0 0 Claim (answers.Claimed (option_map (λ (a : Key). a.number) o))
     × Means (Later h.0 0 Claim (answers.Claimed (option_map (λ (a : Key). a.number) o))) c.claim.new.self) c.in-Claimed-Some.field-0-is
-    (c.in-Claimed-Some.ensures h.0 h.1 h.2) in
+    (c.in-Claimed-Some.ensures.step h.0 h.1 h.2) in
     opened_fits c.claim.new.self k k (claimed c.args.pool.now c.claim.new.self h.0 h.2 0 k step.0 step.1).2
 
 pub returns-in-Entered-clause-serving : goal.returns-in-Entered-clause-serving
@@ -27,7 +27,7 @@ returns-in-Entered-clause-serving c =
     let t : Shown ℕ = c.claim.new.self in
     let first = subst (λ (o : Option Key). Allowed h.0 0 Claim (answers.Claimed (option_map (λ (a : Key). a.number) o))
     × Means (Later h.0 0 Claim (answers.Claimed (option_map (λ (a : Key). a.number) o))) c.claim.new.self) c.in-Claimed-Some.field-0-is
-    (c.in-Claimed-Some.ensures h.0 h.1 h.2) in
+    (c.in-Claimed-Some.ensures.step h.0 h.1 h.2) in
     let l : Ledger ℕ = Later h.0 0 Claim (answers.Claimed (Some k)) in
     let second = c.in-Entered.ensures.step l (h.1, first.0) first.1 in
     serving t c.opened.new.self l first.1 0 (Opened k k) (answers.Entered k (notified_of c.in-Entered.field-0)) refl second.1
@@ -40,7 +40,7 @@ returns-in-Entered-clause-claimed c =
     let t : Shown ℕ = c.claim.new.self in
     let first = subst (λ (o : Option Key). Allowed h.0 0 Claim (answers.Claimed (option_map (λ (a : Key). a.number) o))
     × Means (Later h.0 0 Claim (answers.Claimed (option_map (λ (a : Key). a.number) o))) c.claim.new.self) c.in-Claimed-Some.field-0-is
-    (c.in-Claimed-Some.ensures h.0 h.1 h.2) in
+    (c.in-Claimed-Some.ensures.step h.0 h.1 h.2) in
     let l : Ledger ℕ = Later h.0 0 Claim (answers.Claimed (Some k)) in
     let second = c.in-Entered.ensures.step l (h.1, first.0) first.1 in
     let out = claimed c.args.pool.now t h.0 h.2 0 k first.0 first.1 in
@@ -54,7 +54,7 @@ returns-in-Entered-clause-entered c =
     let t : Shown ℕ = c.claim.new.self in
     let first = subst (λ (o : Option Key). Allowed h.0 0 Claim (answers.Claimed (option_map (λ (a : Key). a.number) o))
     × Means (Later h.0 0 Claim (answers.Claimed (option_map (λ (a : Key). a.number) o))) c.claim.new.self) c.in-Claimed-Some.field-0-is
-    (c.in-Claimed-Some.ensures h.0 h.1 h.2) in
+    (c.in-Claimed-Some.ensures.step h.0 h.1 h.2) in
     let l : Ledger ℕ = Later h.0 0 Claim (answers.Claimed (Some k)) in
     let second = c.in-Entered.ensures.step l (h.1, first.0) first.1 in
     let out = claimed c.args.pool.now t h.0 h.2 0 k first.0 first.1 in

@@ -12,7 +12,7 @@ use Rattle.bb8_bench.proofs.serving.serve_in_steps.Goals as goal
 pub try_get-requires : goal.try_get-requires
 try_get-requires c =
     let h = c.limits.ensures.ledger.0 in
-    let begun = c.in-Begun.ensures h.0 h.1 h.2 in
+    let begun = c.in-Begun.ensures.step h.0 h.1 h.2 in
     begun_fits c.args.pool.now c.begin.new.self h.0 h.2 0 c.in-Begun.get.number c.requires.serving c.requires.some begun.0 begun.1
 
 pub returns-clause-serving : goal.returns-clause-serving
@@ -22,7 +22,7 @@ returns-clause-serving c =
     let k : ℕ = c.in_ok-key.key.number in
     let s : Shown ℕ = c.args.pool.now in
     let t : Shown ℕ = c.begin.new.self in
-    let begun = c.in-Begun.ensures h.0 h.1 h.2 in
+    let begun = c.in-Begun.ensures.step h.0 h.1 h.2 in
     let l : Ledger ℕ = Later h.0 0 Begin (Begun g) in
     let tried = subst (λ (r : TryAnswer ℕ). Meets t 0 (Try g) (try_told r) c.try_get.new.self) c.in_ok-key.ensures c.try_get.ensures.step l (h.1, begun.0) begun.1 in
     serving t c.try_get.new.self l begun.1 0 (Try g) (Served k c.in_ok-key.field-0-2) refl tried.1 (serving s t h.0 h.2 0 Begin (Begun g) refl begun.1 c.requires.serving)
@@ -34,7 +34,7 @@ returns-clause-first c =
     let k : ℕ = c.in_ok-key.key.number in
     let s : Shown ℕ = c.args.pool.now in
     let t : Shown ℕ = c.begin.new.self in
-    let begun = c.in-Begun.ensures h.0 h.1 h.2 in
+    let begun = c.in-Begun.ensures.step h.0 h.1 h.2 in
     let l : Ledger ℕ = Later h.0 0 Begin (Begun g) in
     let tried = subst (λ (r : TryAnswer ℕ). Meets t 0 (Try g) (try_told r) c.try_get.new.self) c.in_ok-key.ensures c.try_get.ensures.step l (h.1, begun.0) begun.1 in
     let ready : IsServing t = serving s t h.0 h.2 0 Begin (Begun g) refl begun.1 c.requires.serving in
@@ -49,7 +49,7 @@ returns-clause-out c =
     let k : ℕ = c.in_ok-key.key.number in
     let s : Shown ℕ = c.args.pool.now in
     let t : Shown ℕ = c.begin.new.self in
-    let begun = c.in-Begun.ensures h.0 h.1 h.2 in
+    let begun = c.in-Begun.ensures.step h.0 h.1 h.2 in
     let l : Ledger ℕ = Later h.0 0 Begin (Begun g) in
     let tried = subst (λ (r : TryAnswer ℕ). Meets t 0 (Try g) (try_told r) c.try_get.new.self) c.in_ok-key.ensures c.try_get.ensures.step l (h.1, begun.0) begun.1 in
     let ready : IsServing t = serving s t h.0 h.2 0 Begin (Begun g) refl begun.1 c.requires.serving in

@@ -9,8 +9,8 @@ use Rattle.bb8_core.proofs.GetEnds.{notices, meets_invalid}
 use Rattle.bb8_core.proofs.internals.PoolInternals.checked_err.Goals as goal
 
 pub end_out-granted-requires-clause-out : goal.end_out-granted-requires-clause-out
-end_out-granted-requires-clause-out g c = holds_out (view_of c.self.inside) c.args.get.number c.self.invariant c.getting.ensures
-    (fit_holds c.args.get.number c.self.view_is c.self.invariant c.requires c.getting.ensures c.held_key-key.ensures)
+end_out-granted-requires-clause-out g c = holds_out (view_of c.self.inside) c.args.get.number c.self.invariant c.getting.ensures.value
+    (fit_holds c.args.get.number c.self.view_is c.self.invariant c.requires c.getting.ensures.value c.held_key-key.ensures)
 
 pub end_out-granted-requires-clause-size : goal.end_out-granted-requires-clause-size
 end_out-granted-requires-clause-size g c = (shown_fits (view_of c.self.inside) c.self.invariant).size
@@ -19,20 +19,20 @@ pub overflow_add-self : goal.overflow_add-self
 overflow_add-self g c = omega (
   arith,
   invalid_few c.held_key-key.result.number (view_of c.self.inside) c.self.invariant
-      (holds_out (view_of c.self.inside) c.args.get.number c.self.invariant c.getting.ensures
-      (fit_holds c.args.get.number c.self.view_is c.self.invariant c.requires c.getting.ensures c.held_key-key.ensures))
+      (holds_out (view_of c.self.inside) c.args.get.number c.self.invariant c.getting.ensures.value
+      (fit_holds c.args.get.number c.self.view_is c.self.invariant c.requires c.getting.ensures.value c.held_key-key.ensures))
       c.end_out-granted.ensures.numbers,
 )
 
 pub close-requires : goal.close-requires
 close-requires g c = closed_few c.held_key-key.result.number (view_of c.self.inside) c.self.invariant
-    (holds_out (view_of c.self.inside) c.args.get.number c.self.invariant c.getting.ensures
-    (fit_holds c.args.get.number c.self.view_is c.self.invariant c.requires c.getting.ensures c.held_key-key.ensures))
+    (holds_out (view_of c.self.inside) c.args.get.number c.self.invariant c.getting.ensures.value
+    (fit_holds c.args.get.number c.self.view_is c.self.invariant c.requires c.getting.ensures.value c.held_key-key.ensures))
     c.end_out-granted.ensures.numbers
 
 pub turn-requires-clause-stands : goal.turn-requires-clause-stands
-turn-requires-clause-stands g c = holds_stands (view_of c.self.inside) c.args.get.number c.getting.ensures
-    (fit_holds c.args.get.number c.self.view_is c.self.invariant c.requires c.getting.ensures c.held_key-key.ensures)
+turn-requires-clause-stands g c = holds_stands (view_of c.self.inside) c.args.get.number c.getting.ensures.value
+    (fit_holds c.args.get.number c.self.view_is c.self.invariant c.requires c.getting.ensures.value c.held_key-key.ensures)
 
 pub returns-clause-step : goal.returns-clause-step
 returns-clause-step g c = at_view c.args.at.0 (acts.CheckedErr c.args.get.number c.args.broken)
@@ -40,12 +40,12 @@ returns-clause-step g c = at_view c.args.at.0 (acts.CheckedErr c.args.get.number
     (meets_invalid c.self.inside.counters (fits_view (acts.CheckedErr c.args.get.number c.args.broken) c.self.view_is c.requires)
     (record {
       now_is = c.max-now.ensures;
-      get_is = c.getting.ensures;
-      held = fit_holds c.args.get.number c.self.view_is c.self.invariant c.requires c.getting.ensures c.held_key-key.ensures;
+      get_is = c.getting.ensures.value;
+      held = fit_holds c.args.get.number c.self.view_is c.self.invariant c.requires c.getting.ensures.value c.held_key-key.ensures;
     })
-    (record { now_is = c.max-now.ensures; birth_is = c.birth.ensures; aged_is = c.is_expired-expired.ensures })
+    (record { now_is = c.max-now.ensures; birth_is = c.birth-birth.ensures.value; aged_is = c.is_expired-expired.ensures })
     c.end_out-granted.ensures.granted c.end_out-granted.ensures.state
-    (notices c.turn.ensures c.notify.ensures.value c.notify.ensures.state) refl c.close.ensures)
+    (notices c.turn.ensures.state c.notify.ensures.value c.notify.ensures.state) refl c.close.ensures)
 
 pub invariant_of-self : goal.invariant_of-self
 invariant_of-self g c = led _ c.args.at.0 (acts.CheckedErr c.args.get.number c.args.broken)

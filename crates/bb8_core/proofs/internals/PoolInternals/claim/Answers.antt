@@ -17,16 +17,16 @@ meets_claimed : {C : Type 0} (s : Shown C) (at : ℕ) (o : Option Key) (now : �
 meets_claimed s at None now rs now_is alive_now some none = meets_claim_none now_is alive_now none.0 none.1
 meets_claimed s at (Some key) now rs now_is alive_now some none = meets_claim now_is alive_now some.0 some.1
 
-pub returns-then-self-eq0 : goal.returns-then-self-eq0
-returns-then-self-eq0 g c = at_view c.args.at.0 acts.Claim answers.Ended c.self.view_is
+pub returns-then-self-eq0-clause-step : goal.returns-then-self-eq0-clause-step
+returns-then-self-eq0-clause-step g c = at_view c.args.at.0 acts.Claim answers.Ended c.self.view_is
     (meets_claim_ended c.max-self-inside.ensures c.if-self-eq0.true)
 
 pub invariant_of-self : goal.invariant_of-self
-invariant_of-self g c = led _ c.args.at.0 acts.Claim answers.Ended c.self.view_is c.self.invariant (returns-then-self-eq0 g c)
+invariant_of-self g c = led _ c.args.at.0 acts.Claim answers.Ended c.self.view_is c.self.invariant (returns-then-self-eq0-clause-step g c)
 
-pub returns : goal.returns
-returns g c = at_view c.args.at.0 acts.Claim (answers.Claimed (option_map (λ (k : Key). k.number) c.claim.result)) c.self.view_is
+pub returns-clause-step : goal.returns-clause-step
+returns-clause-step g c = at_view c.args.at.0 acts.Claim (answers.Claimed (option_map (λ (k : Key). k.number) c.claim.result)) c.self.view_is
     (meets_claimed (view_of c.self.inside) c.args.at.0 c.claim.result c.max-self-inside.result c.claim.new.self c.max-self-inside.ensures c.if-self-eq0.false c.claim.ensures.some c.claim.ensures.none)
 
 pub invariant_of-self-2 : goal.invariant_of-self-2
-invariant_of-self-2 g c = led _ c.args.at.0 acts.Claim (answers.Claimed (option_map (λ (k : Key). k.number) c.claim.result)) c.self.view_is c.self.invariant (returns g c)
+invariant_of-self-2 g c = led _ c.args.at.0 acts.Claim (answers.Claimed (option_map (λ (k : Key). k.number) c.claim.result)) c.self.view_is c.self.invariant (returns-clause-step g c)

@@ -10,32 +10,32 @@ use Rattle.bb8_core.proofs.GetEnds.{notices, given_up_open, meets_given_up_kept,
 use Rattle.bb8_core.proofs.internals.PoolInternals.give_up_held.Goals as goal
 
 pub finish-requires : goal.finish-requires
-finish-requires g c = holds_stands (view_of c.self.inside) c.args.get.number c.getting-getting.ensures
+finish-requires g c = holds_stands (view_of c.self.inside) c.args.get.number c.getting-getting.ensures.value
     (fit_holds c.args.get.number c.self.view_is c.self.invariant
     (λ l legal means. give_up_holds l c.args.get.number (reason_of c.args.reason) c.args.conn c.args.broken (c.requires l legal means))
-    c.getting-getting.ensures c.held_key-key.ensures)
+    c.getting-getting.ensures.value c.held_key-key.ensures)
 
 pub give_up-requires-clause-timed_out : goal.give_up-requires-clause-timed_out
 give_up-requires-clause-timed_out g c =
-    let st = holds_stands (view_of c.self.inside) c.args.get.number c.getting-getting.ensures
+    let st = holds_stands (view_of c.self.inside) c.args.get.number c.getting-getting.ensures.value
     (fit_holds c.args.get.number c.self.view_is c.self.invariant
     (λ l legal means. give_up_holds l c.args.get.number (reason_of c.args.reason) c.args.conn c.args.broken (c.requires l legal means))
-    c.getting-getting.ensures c.held_key-key.ensures) in
+    c.getting-getting.ensures.value c.held_key-key.ensures) in
     omega (arith, ended_few (view_of c.self.inside) c.args.get.number c.self.invariant (st.0, st.1) c.finish.ensures.numbers)
 
 pub give_up-requires-clause-cancelled : goal.give_up-requires-clause-cancelled
 give_up-requires-clause-cancelled g c =
-    let st = holds_stands (view_of c.self.inside) c.args.get.number c.getting-getting.ensures
+    let st = holds_stands (view_of c.self.inside) c.args.get.number c.getting-getting.ensures.value
     (fit_holds c.args.get.number c.self.view_is c.self.invariant
     (λ l legal means. give_up_holds l c.args.get.number (reason_of c.args.reason) c.args.conn c.args.broken (c.requires l legal means))
-    c.getting-getting.ensures c.held_key-key.ensures) in
+    c.getting-getting.ensures.value c.held_key-key.ensures) in
     omega (arith, ended_few (view_of c.self.inside) c.args.get.number c.self.invariant (st.0, st.1) c.finish.ensures.numbers)
 
 pub end_out-grant-requires-clause-out : goal.end_out-grant-requires-clause-out
-end_out-grant-requires-clause-out g c = holds_out (view_of c.self.inside) c.args.get.number c.self.invariant c.getting-getting.ensures
+end_out-grant-requires-clause-out g c = holds_out (view_of c.self.inside) c.args.get.number c.self.invariant c.getting-getting.ensures.value
     (fit_holds c.args.get.number c.self.view_is c.self.invariant
     (λ l legal means. give_up_holds l c.args.get.number (reason_of c.args.reason) c.args.conn c.args.broken (c.requires l legal means))
-    c.getting-getting.ensures c.held_key-key.ensures)
+    c.getting-getting.ensures.value c.held_key-key.ensures)
 
 pub end_out-grant-requires-clause-size : goal.end_out-grant-requires-clause-size
 end_out-grant-requires-clause-size g c = (shown_fits (view_of c.self.inside) c.self.invariant).size
@@ -45,17 +45,17 @@ close-requires g c = omega (
   arith,
   given_up_open c.args.reason c.max-now.result c.first_wait.result c.give_up.ensures.timed_out c.give_up.ensures.cancelled,
   closed_few c.held_key-key.result.number (view_of c.self.inside) c.self.invariant
-      (holds_out (view_of c.self.inside) c.args.get.number c.self.invariant c.getting-getting.ensures
+      (holds_out (view_of c.self.inside) c.args.get.number c.self.invariant c.getting-getting.ensures.value
       (fit_holds c.args.get.number c.self.view_is c.self.invariant
       (λ l legal means. give_up_holds l c.args.get.number (reason_of c.args.reason) c.args.conn c.args.broken (c.requires l legal means))
-      c.getting-getting.ensures c.held_key-key.ensures)) c.end_out-grant.ensures.numbers,
+      c.getting-getting.ensures.value c.held_key-key.ensures)) c.end_out-grant.ensures.numbers,
 )
 
-pub enter-requires : goal.enter-requires
-enter-requires g c = holds_out (view_of c.self.inside) c.args.get.number c.self.invariant c.getting-getting.ensures
+pub enter-requires-clause-out : goal.enter-requires-clause-out
+enter-requires-clause-out g c = holds_out (view_of c.self.inside) c.args.get.number c.self.invariant c.getting-getting.ensures.value
     (fit_holds c.args.get.number c.self.view_is c.self.invariant
     (λ l legal means. give_up_holds l c.args.get.number (reason_of c.args.reason) c.args.conn c.args.broken (c.requires l legal means))
-    c.getting-getting.ensures c.held_key-key.ensures)
+    c.getting-getting.ensures.value c.held_key-key.ensures)
 
 pub returns-then-is_closing-clause-step : goal.returns-then-is_closing-clause-step
 returns-then-is_closing-clause-step g c = at_view c.args.at.0 (acts.GiveUp c.args.get.number (reason_of c.args.reason) (Some c.args.conn) c.args.broken)
@@ -63,12 +63,12 @@ returns-then-is_closing-clause-step g c = at_view c.args.at.0 (acts.GiveUp c.arg
     (meets_given_up_closed c.self.inside.counters (fits_view (acts.GiveUp c.args.get.number (reason_of c.args.reason) (Some c.args.conn) c.args.broken) c.self.view_is c.requires)
     (record {
       now_is = c.max-now.ensures;
-      get_is = c.getting-getting.ensures;
+      get_is = c.getting-getting.ensures.value;
       held = (fit_holds c.args.get.number c.self.view_is c.self.invariant
           (λ l legal means. give_up_holds l c.args.get.number (reason_of c.args.reason) c.args.conn c.args.broken (c.requires l legal means))
-          c.getting-getting.ensures c.held_key-key.ensures);
+          c.getting-getting.ensures.value c.held_key-key.ensures);
     })
-    (record { now_is = c.max-now.ensures; birth_is = c.birth-birth.ensures; aged_is = c.is_expired-expired.ensures })
+    (record { now_is = c.max-now.ensures; birth_is = c.birth-birth.ensures.value; aged_is = c.is_expired-expired.ensures })
     (sym c.is_closing.ensures ∙ c.if-is_closing.true) c.end_out-grant.ensures.granted c.end_out-grant.ensures.state
     (notices c.finish.ensures.state c.notify.ensures.value c.notify.ensures.state) refl c.first_wait.ensures c.give_up.ensures.timed_out
     c.give_up.ensures.cancelled c.close.ensures)
@@ -84,12 +84,12 @@ returns-else-is_closing-clause-step g c = at_view c.args.at.0 (acts.GiveUp c.arg
     (meets_given_up_kept c.self.inside.counters (fits_view (acts.GiveUp c.args.get.number (reason_of c.args.reason) (Some c.args.conn) c.args.broken) c.self.view_is c.requires)
     (record {
       now_is = c.max-now.ensures;
-      get_is = c.getting-getting.ensures;
+      get_is = c.getting-getting.ensures.value;
       held = (fit_holds c.args.get.number c.self.view_is c.self.invariant
           (λ l legal means. give_up_holds l c.args.get.number (reason_of c.args.reason) c.args.conn c.args.broken (c.requires l legal means))
-          c.getting-getting.ensures c.held_key-key.ensures);
+          c.getting-getting.ensures.value c.held_key-key.ensures);
     })
-    (record { now_is = c.max-now.ensures; birth_is = c.birth-birth.ensures; aged_is = c.is_expired-expired.ensures })
+    (record { now_is = c.max-now.ensures; birth_is = c.birth-birth.ensures.value; aged_is = c.is_expired-expired.ensures })
     (sym c.is_closing.ensures ∙ c.if-is_closing.false) c.enter.ensures.state
     (notices c.finish.ensures.state c.notify-else-is_closing.ensures.value c.notify-else-is_closing.ensures.state) refl
     c.first_wait.ensures c.give_up.ensures.timed_out c.give_up.ensures.cancelled)

@@ -9,8 +9,8 @@ use Rattle.bb8_core.proofs.internals.PoolInternals.opened.Goals as goal
 pub close-requires : goal.close-requires
 close-requires g c = fit_claimed c.args.a.number c.self.view_is c.self.invariant c.requires
 
-pub enter-requires : goal.enter-requires
-enter-requires g c = fit_claimed c.args.a.number c.self.view_is c.self.invariant c.requires
+pub enter-requires-clause-out : goal.enter-requires-clause-out
+enter-requires-clause-out g c = fit_claimed c.args.a.number c.self.view_is c.self.invariant c.requires
 
 pub returns-then-self-eq0-clause-step : goal.returns-then-self-eq0-clause-step
 returns-then-self-eq0-clause-step g c = at_view c.args.at.0 (acts.Opened c.args.a.number c.args.conn) (answers.Late c.args.a.number) c.self.view_is

@@ -17,15 +17,15 @@ pub close-requires : goal.close-requires
 close-requires g c = closed_few c.args.k.number (view_of c.self.inside) c.self.invariant
     (fit_guarded c.args.k.number c.self.view_is c.self.invariant c.requires) c.end_out-grant.ensures.numbers
 
-pub enter-requires : goal.enter-requires
-enter-requires g c = fit_guarded c.args.k.number c.self.view_is c.self.invariant c.requires
+pub enter-requires-clause-out : goal.enter-requires-clause-out
+enter-requires-clause-out g c = fit_guarded c.args.k.number c.self.view_is c.self.invariant c.requires
 
 pub returns-then-is_closing-clause-step : goal.returns-then-is_closing-clause-step
 returns-then-is_closing-clause-step g c = at_view c.args.at.0 (acts.PutBack c.args.k.number c.args.conn c.args.broken)
     (answers.Closed c.args.k.number c.end_out-grant.result (notified_of c.notify.result)) c.self.view_is
     (meets_returned_closed c.self.inside.counters (fits_view (acts.PutBack c.args.k.number c.args.conn c.args.broken) c.self.view_is c.requires)
     (record { who = c.notify.ensures.value; after = c.notify.ensures.state })
-    (record { now_is = c.max-now.ensures; birth_is = c.birth-birth.ensures; aged_is = c.is_expired-expired.ensures })
+    (record { now_is = c.max-now.ensures; birth_is = c.birth-birth.ensures.value; aged_is = c.is_expired-expired.ensures })
     (sym c.is_closing.ensures ∙ c.if-is_closing.true) c.end_out-grant.ensures.granted c.end_out-grant.ensures.state refl c.close.ensures)
 
 pub invariant_of-self : goal.invariant_of-self
@@ -38,7 +38,7 @@ returns-else-is_closing-clause-step g c = at_view c.args.at.0 (acts.PutBack c.ar
     (answers.Kept c.args.k.number (notified_of c.notify-else-is_closing.result)) c.self.view_is
     (meets_returned_kept (fits_view (acts.PutBack c.args.k.number c.args.conn c.args.broken) c.self.view_is c.requires)
     (record { who = c.notify-else-is_closing.ensures.value; after = c.notify-else-is_closing.ensures.state })
-    (record { now_is = c.max-now.ensures; birth_is = c.birth-birth.ensures; aged_is = c.is_expired-expired.ensures })
+    (record { now_is = c.max-now.ensures; birth_is = c.birth-birth.ensures.value; aged_is = c.is_expired-expired.ensures })
     (sym c.is_closing.ensures ∙ c.if-is_closing.false) c.enter.ensures.state)
 
 pub invariant_of-self-else-is_closing : goal.invariant_of-self-else-is_closing

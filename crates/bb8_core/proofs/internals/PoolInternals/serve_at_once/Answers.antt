@@ -30,9 +30,10 @@ returns-in-Some-clause-some g c =
       at_view c.args.at.0 acts.Begin _ c.self.view_is
           (meets_begun_between c.args.at.0 c.pass-get.ensures.number
           (fits_view acts.Begin c.self.view_is c.requires.begin) c.max-now.ensures (c.has_room.ensures.number c.if-not-has_room.false)),
-      (meets_served_between a c.self.inside.counters c.pass-get.ensures.number off c.max-now.ensures c.in-Some.ensures.some.0
+      at_view c.args.at.0 (acts.Try c.pass-get.result) (answers.Served c.in-Some.key.number c.grant-grant.result) refl
+          (meets_served_between a c.self.inside.counters c.pass-get.ensures.number off c.max-now.ensures c.in-Some.ensures.some.0
           (grants c.in-Some.ensures.some.2 c.want-wanted.ensures c.grant-grant.ensures.granted c.grant-grant.ensures.state)
-          c.pass-get.ensures.state refl c.serve.ensures).meets,
+          c.pass-get.ensures.state refl c.serve.ensures),
       λ l legal means. (record { place = Idle c.in-Some.conn; birth = was.0; entered = was.1 }, shown_record l (between a c.max-now.result) means c.in-Some.key.number ∙ was.2, refl),
     )
 

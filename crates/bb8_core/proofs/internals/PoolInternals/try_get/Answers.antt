@@ -8,13 +8,13 @@ use Rattle.bb8_ledger.specs.Acts as acts
 use Rattle.bb8_ledger.specs.Answers as answers
 use Rattle.bb8_core.specs.Pool.{view_of}
 use Rattle.bb8_types.specs.Grants.{IsNoGrant}
-use Rattle.bb8_core.proofs.Fitting.{shown_record, due_fits, fit_try, fit_waits, ended_few}
+use Rattle.bb8_core.proofs.Fitting.{as_shown, shown_record, due_fits, fit_try, fit_waits, ended_few}
 use Rattle.bb8_core.proofs.Steps.{grants, tries, meets_served, meets_taken, meets_waits_on, meets_waits, due_waiting, led, at_view}
 use Rattle.bb8_core.proofs.internals.PoolInternals.try_get.Goals as goal
 
 pub returns-then-is_unnotified-clause-step : goal.returns-then-is_unnotified-clause-step
 returns-then-is_unnotified-clause-step g c = at_view c.args.at.0 (acts.Try c.args.get.number) (answers.Waiting c.of_nothing.result) c.self.view_is
-    (meets_waits_on (tries c.self.view_is c.requires c.max-now.ensures c.getting-getting.ensures)
+    (meets_waits_on (tries c.self.view_is c.requires c.max-now.ensures c.getting-getting.ensures.value)
     (sym c.is_unnotified.ensures ∙ c.if-is_unnotified.true)
     (subst (λ (n : ℕ). IsNoGrant n c.of_nothing.result) c.next_number.ensures c.of_nothing.ensures))
 
@@ -24,15 +24,15 @@ invariant_of-self g c = led _ c.args.at.0 (acts.Try c.args.get.number) (answers.
 pub grant-grant-requires : goal.grant-grant-requires
 grant-grant-requires g c = omega (arith, due_fits (view_of c.self.inside) _ c.self.invariant (omega arith) c.in-None.ensures.none.1 c.used-taken.ensures c.due-due.ensures)
 
-pub wait-requires : goal.wait-requires
-wait-requires g c = fit_waits c.args.get.number c.self.view_is c.self.invariant c.requires c.getting-getting.ensures (sym c.is_unnotified.ensures ∙ c.if-is_unnotified.false)
+pub wait-requires-clause-stands : goal.wait-requires-clause-stands
+wait-requires-clause-stands g c = fit_waits c.args.get.number c.self.view_is c.self.invariant c.requires c.getting-getting.ensures.value (sym c.is_unnotified.ensures ∙ c.if-is_unnotified.false)
 
 pub returns-in-None-clause-step : goal.returns-in-None-clause-step
 returns-in-None-clause-step g c = at_view c.args.at.0 (acts.Try c.args.get.number) (answers.Waiting c.grant-grant.result) c.self.view_is
-    (meets_waits (tries c.self.view_is c.requires c.max-now.ensures c.getting-getting.ensures)
+    (meets_waits (tries c.self.view_is c.requires c.max-now.ensures c.getting-getting.ensures.value)
     (sym c.is_unnotified.ensures ∙ c.if-is_unnotified.false) c.in-None.ensures.none.0 c.in-None.ensures.none.1
     (due_waiting (view_of c.self.inside) c.in-None.ensures.none.1 c.used-taken.ensures c.approved.ensures c.alive.ensures
-    c.one-asked.ensures.value c.due-due.ensures) c.grant-grant.ensures.granted c.grant-grant.ensures.state c.wait.ensures)
+    c.one-asked.ensures.value c.due-due.ensures) c.grant-grant.ensures.granted c.grant-grant.ensures.state c.wait.ensures.state)
 
 pub invariant_of-self-in-None : goal.invariant_of-self-in-None
 invariant_of-self-in-None g c = led _ c.args.at.0 (acts.Try c.args.get.number) (answers.Waiting c.grant-grant.result) c.self.view_is c.self.invariant (returns-in-None-clause-step g c)
@@ -41,16 +41,16 @@ pub grant-grant-requires-in-Some : goal.grant-grant-requires-in-Some
 grant-grant-requires-in-Some g c = omega (arith, due_fits (view_of c.self.inside) _ c.self.invariant (omega arith) c.in-Some.ensures.some.2 refl c.want-wanted.ensures)
 
 pub turn-requires-clause-stands : goal.turn-requires-clause-stands
-turn-requires-clause-stands g c = fit_waits c.args.get.number c.self.view_is c.self.invariant c.requires c.getting-getting.ensures (sym c.is_unnotified.ensures ∙ c.if-is_unnotified.false)
+turn-requires-clause-stands g c = fit_waits c.args.get.number c.self.view_is c.self.invariant c.requires c.getting-getting.ensures.value (sym c.is_unnotified.ensures ∙ c.if-is_unnotified.false)
 
 pub returns-then-self-clause-step : goal.returns-then-self-clause-step
 returns-then-self-clause-step g c = at_view c.args.at.0 (acts.Try c.args.get.number) (answers.Taken c.in-Some.key.number c.grant-grant-in-Some.result) c.self.view_is
-    (meets_taken (tries c.self.view_is c.requires c.max-now.ensures c.getting-getting.ensures)
+    (meets_taken (tries c.self.view_is c.requires c.max-now.ensures c.getting-getting.ensures.value)
     (sym c.is_unnotified.ensures ∙ c.if-is_unnotified.false) c.if-self.true c.in-Some.ensures.some.0
     (grants (c.in-Some.ensures.some.2
     ∙ ap (λ (h : Holder). machine.after_take (place_with h) c.in-Some.key.number c.self.inside.records)
     (c.holder-holder.ensures ∙ ap (λ (b : Bool). cond b (Get c.args.get.number) Guard) c.if-self.true))
-    c.want-wanted.ensures c.grant-grant-in-Some.ensures.granted c.grant-grant-in-Some.ensures.state) c.turn.ensures)
+    c.want-wanted.ensures c.grant-grant-in-Some.ensures.granted c.grant-grant-in-Some.ensures.state) c.turn.ensures.state)
 
 pub invariant_of-self-then-self : goal.invariant_of-self-then-self
 invariant_of-self-then-self g c = led _ c.args.at.0 (acts.Try c.args.get.number)
@@ -59,10 +59,10 @@ invariant_of-self-then-self g c = led _ c.args.at.0 (acts.Try c.args.get.number)
 pub returns-then-self-clause-connection : goal.returns-then-self-clause-connection
 returns-then-self-clause-connection g c = λ l legal means.
     let was = c.in-Some.ensures.some.1 in
-    (record { place = Idle c.in-Some.conn; birth = was.0; entered = was.1 }, shown_record l (view_of c.self.inside) (means ∙ sym c.self.view_is) c.in-Some.key.number ∙ was.2, refl)
+    (record { place = Idle c.in-Some.conn; birth = was.0; entered = was.1 }, shown_record l (view_of c.self.inside) (as_shown l (sym c.self.view_is) means) c.in-Some.key.number ∙ was.2, refl)
 
 pub finish-requires : goal.finish-requires
-finish-requires g c = fit_waits c.args.get.number c.self.view_is c.self.invariant c.requires c.getting-getting.ensures (sym c.is_unnotified.ensures ∙ c.if-is_unnotified.false)
+finish-requires g c = fit_waits c.args.get.number c.self.view_is c.self.invariant c.requires c.getting-getting.ensures.value (sym c.is_unnotified.ensures ∙ c.if-is_unnotified.false)
 
 pub serve-requires-clause-direct : goal.serve-requires-clause-direct
 serve-requires-clause-direct g c = omega (
@@ -80,7 +80,7 @@ serve-requires-clause-waited g c = omega (
 
 pub returns-else-self-clause-step : goal.returns-else-self-clause-step
 returns-else-self-clause-step g c = at_view c.args.at.0 (acts.Try c.args.get.number) (answers.Served c.in-Some.key.number c.grant-grant-in-Some.result) c.self.view_is
-    (meets_served c.self.inside.counters (tries c.self.view_is c.requires c.max-now.ensures c.getting-getting.ensures)
+    (meets_served c.self.inside.counters (tries c.self.view_is c.requires c.max-now.ensures c.getting-getting.ensures.value)
     (sym c.is_unnotified.ensures ∙ c.if-is_unnotified.false) c.if-self.false c.in-Some.ensures.some.0
     (grants (c.in-Some.ensures.some.2
     ∙ ap (λ (h : Holder). machine.after_take (place_with h) c.in-Some.key.number c.self.inside.records)
@@ -95,4 +95,4 @@ invariant_of-self-in-Some g c = led _ c.args.at.0 (acts.Try c.args.get.number)
 pub returns-else-self-clause-connection : goal.returns-else-self-clause-connection
 returns-else-self-clause-connection g c = λ l legal means.
     let was = c.in-Some.ensures.some.1 in
-    (record { place = Idle c.in-Some.conn; birth = was.0; entered = was.1 }, shown_record l (view_of c.self.inside) (means ∙ sym c.self.view_is) c.in-Some.key.number ∙ was.2, refl)
+    (record { place = Idle c.in-Some.conn; birth = was.0; entered = was.1 }, shown_record l (view_of c.self.inside) (as_shown l (sym c.self.view_is) means) c.in-Some.key.number ∙ was.2, refl)

@@ -12,8 +12,8 @@ returns-then-not-fits_checked_ok g c = (
 pub invariant_of-self-2 : goal.invariant_of-self-2
 invariant_of-self-2 g c = record {
   parts =
-      unmoved _ _ _ (acts.CheckedOk c.args.get.number) _ _ c.limits.ensures.limits.0 c.checked_ok.ensures (λ m. m) c.args.self.now.parts;
+      unmoved _ _ _ (acts.CheckedOk c.args.get.number) _ _ c.limits.ensures.limits.0 c.checked_ok.ensures.step (λ m. m) c.args.self.now.parts;
   amount = c.args.self.now.amount;
   settled = kept_settings _ _ _
-      (acts.CheckedOk c.args.get.number) _ _ c.limits.ensures.limits.0 c.checked_ok.ensures c.args.self.now.settled;
+      (acts.CheckedOk c.args.get.number) _ _ c.limits.ensures.limits.0 c.checked_ok.ensures.step c.args.self.now.settled;
 }

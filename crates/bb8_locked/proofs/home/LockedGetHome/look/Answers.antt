@@ -4,9 +4,9 @@ use Rattle.bb8_locked.proofs.home.LockedGetHome.look.Goals as goal
 
 pub invariant_of-self : goal.invariant_of-self
 invariant_of-self g c = record {
-  parts = unmoved _ _ _ acts.Look _ _ c.limits.ensures.limits.0 c.look.ensures
+  parts = unmoved _ _ _ acts.Look _ _ c.limits.ensures.limits.0 c.look.ensures.step
       (λ m. m) c.args.self.now.parts;
   amount = c.args.self.now.amount;
   settled =
-      kept_settings _ _ _ acts.Look _ _ c.limits.ensures.limits.0 c.look.ensures c.args.self.now.settled;
+      kept_settings _ _ _ acts.Look _ _ c.limits.ensures.limits.0 c.look.ensures.step c.args.self.now.settled;
 }

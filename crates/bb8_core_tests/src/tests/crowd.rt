@@ -1,0 +1,218 @@
+//! Twenty-five thousand gets that wait: who is notified, what is counted, and that no step lends more than four entries.
+
+use super::waiters::figures;
+use super::{granted, unchecked};
+use bb8_core::api::Moment;
+use bb8_core::internals::{
+    BeginAnswer, ClaimAnswer, GetKey, GiveUpAnswer, Grant, Key, OpenedAnswer, PoolInternals,
+    PutBackAnswer, Reason, TryAnswer,
+};
+use std::alloc::Global;
+use std::process::Abort;
+use std::test::Fail;
+
+const NOW: Moment = Moment(0);
+
+/// How many gets wait.
+const CROWD: u32 = 25_000;
+
+/// Asserts that the step that was made lent at most four entries.
+fn assert_few(rt: &impl Abort, pool: &PoolInternals<u32>) {
+    assert!(rt; pool.examined() <= 4);
+}
+
+/// A pool of so many connections, of which none is open yet.
+fn crowded(rt: &impl Abort, alloc: Global, max_size: u32) -> PoolInternals<u32> {
+    let config = unchecked(max_size, None);
+    assert!(rt; config.is_lawful());
+    PoolInternals::new(alloc, config)
+}
+
+/// Begins a get.
+fn begin(rt: &impl Abort, pool: &mut PoolInternals<u32>) -> GetKey {
+    if !pool.fits_begin() {
+        panic!(rt; "no handle is alive");
+    }
+    let answer = pool.begin(NOW);
+    assert_few(rt, pool);
+    match answer {
+        BeginAnswer::Begun(get) => get,
+        _ => panic!(rt; "no get began"),
+    }
+}
+
+/// Has a get try that may.
+fn try_get(rt: &impl Abort, pool: &mut PoolInternals<u32>, get: GetKey) -> TryAnswer<u32> {
+    if !pool.fits_try(get) {
+        panic!(rt; "{get:?} may not try");
+    }
+    let answer = pool.try_get(NOW, get);
+    assert_few(rt, pool);
+    answer
+}
+
+/// Has a get begin and wait, and tells what was granted for it.
+fn wait(rt: &impl Abort, pool: &mut PoolInternals<u32>) -> (GetKey, Grant) {
+    let get = begin(rt, pool);
+    match try_get(rt, pool, get) {
+        TryAnswer::Waiting(grant) => (get, grant),
+        _ => panic!(rt; "{get:?} was served"),
+    }
+}
+
+/// Has a get be served that was notified.
+fn served_by(rt: &impl Abort, pool: &mut PoolInternals<u32>, get: GetKey) -> (Key, u32) {
+    match try_get(rt, pool, get) {
+        TryAnswer::Served(key, conn, _) => (key, conn),
+        _ => panic!(rt; "{get:?} was not served"),
+    }
+}
+
+/// Gives back a connection that a guard holds, and tells who was notified.
+fn put_back(rt: &impl Abort, pool: &mut PoolInternals<u32>, key: Key, conn: u32) -> Option<GetKey> {
+    if !pool.fits_put_back(key) {
+        panic!(rt; "no guard holds {key:?}");
+    }
+    let answer = pool.put_back(NOW, key, conn, false);
+    assert_few(rt, pool);
+    match answer {
+        PutBackAnswer::Kept(notified) => notified,
+        PutBackAnswer::Closed(..) => panic!(rt; "{key:?} was closed"),
+    }
+}
+
+/// Claims an approval and opens it, and tells who was notified.
+fn open(rt: &impl Abort, pool: &mut PoolInternals<u32>, conn: u32) -> Option<GetKey> {
+    let answer = pool.claim(NOW);
+    assert_few(rt, pool);
+    let ClaimAnswer::Claimed(Some(approval)) = answer else {
+        panic!(rt; "nothing was claimed");
+    };
+    if !pool.fits_opened(approval) {
+        panic!(rt; "{approval:?} is not claimed");
+    }
+    let answer = pool.opened(NOW, approval, conn);
+    assert_few(rt, pool);
+    match answer {
+        OpenedAnswer::Entered(notified) => notified,
+        OpenedAnswer::Late(_) => panic!(rt; "no handle is alive"),
+    }
+}
+
+/// Lets a get go that waits and was not notified.
+fn cancel(rt: &impl Abort, pool: &mut PoolInternals<u32>, get: GetKey) {
+    if !pool.fits_give_up(get, false) {
+        panic!(rt; "{get:?} is not alive");
+    }
+    let answer = pool.give_up(NOW, get, Reason::Cancelled, None, false, 0);
+    assert_few(rt, pool);
+    let GiveUpAnswer::GaveUp(None) = answer else {
+        panic!(rt; "{get:?} handed a notification on");
+    };
+}
+
+/// Serves a get and whoever its return notifies, one after another, and tells how many they were.
+fn serve_from(rt: &impl Abort, pool: &mut PoolInternals<u32>, first: GetKey) -> u32 {
+    let mut next = Some(first);
+    for served in 0..CROWD {
+        let Some(get) = next else {
+            return served;
+        };
+        let (key, conn) = served_by(rt, pool, get);
+        next = put_back(rt, pool, key, conn);
+    }
+    CROWD
+}
+
+/// Asserts how many entries the step that was made lent.
+fn assert_lent(rt: &impl Abort, pool: &PoolInternals<u32>, wanted: u64) {
+    assert_eq!(rt; pool.examined(), wanted);
+}
+
+#[test]
+fn steps_tell_what_they_lent(rt: HostRuntime) {
+    let mut pool = crowded(&rt, rt.alloc(), 1);
+    assert_lent(&rt, &pool, 0);
+    // A get is made, and then looked at, and waits.
+    let get = begin(&rt, &mut pool);
+    assert_lent(&rt, &pool, 0);
+    let TryAnswer::Waiting(_) = try_get(&rt, &mut pool, get) else {
+        panic!(rt; "it was served");
+    };
+    assert_lent(&rt, &pool, 2);
+    // Its approval becomes idle, and it is notified.
+    let notified = open(&rt, &mut pool, 0);
+    assert_lent(&rt, &pool, 2);
+    assert_eq!(rt; notified.map(|get| get.number), Some(0));
+    // It is looked at and ends, and the connection goes out; then that is looked at, and becomes idle again.
+    let (key, conn) = served_by(&rt, &mut pool, get);
+    assert_lent(&rt, &pool, 2);
+    assert!(rt; put_back(&rt, &mut pool, key, conn).is_none());
+    assert_lent(&rt, &pool, 2);
+    let _ = pool.state(NOW);
+    assert_lent(&rt, &pool, 0);
+}
+
+#[test]
+fn crowd_is_served_over_three_connections(rt: HostRuntime) {
+    let mut pool = crowded(&rt, rt.alloc(), 3);
+    for number in 0..CROWD {
+        let (_, grant) = wait(&rt, &mut pool);
+        let number = number as u64;
+        let wanted = if number < 3 {
+            granted(number, 1)
+        } else {
+            granted(3, 0)
+        };
+        assert_eq!(rt; grant, wanted);
+    }
+    let Some(first) = open(&rt, &mut pool, 0) else {
+        panic!(rt; "nobody was notified");
+    };
+    let Some(second) = open(&rt, &mut pool, 1) else {
+        panic!(rt; "nobody was notified");
+    };
+    let Some(third) = open(&rt, &mut pool, 2) else {
+        panic!(rt; "nobody was notified");
+    };
+    assert_eq!(rt; (first.number, second.number, third.number), (0, 1, 2));
+    // The first one is served, and with its connection all but the two that the other openings notified.
+    assert_eq!(rt; serve_from(&rt, &mut pool, first), 24_998);
+    assert_eq!(rt; serve_from(&rt, &mut pool, second), 1);
+    assert_eq!(rt; serve_from(&rt, &mut pool, third), 1);
+    let state = pool.state(NOW);
+    assert_few(&rt, &pool);
+    assert_eq!(rt;
+        figures(&state),
+        [3, 3, 25_000, 0, 25_000, 0, 0, 0, 3, 0, 0, 0, 0]
+    );
+    assert_eq!(rt; state.statistics.pending_gets(), 0);
+}
+
+#[test]
+fn oldest_that_is_left_is_notified(rt: HostRuntime) -> Result<(), Fail> {
+    let mut pool = crowded(&rt, rt.alloc(), 1);
+    let mut gets = Vec::new(rt.alloc());
+    for _ in 0..CROWD {
+        let (get, _) = wait(&rt, &mut pool);
+        gets.push(get)?;
+    }
+    for get in &gets {
+        if get.number % 2 == 0 {
+            cancel(&rt, &mut pool, *get);
+        }
+    }
+    let Some(oldest) = open(&rt, &mut pool, 0) else {
+        panic!(rt; "nobody was notified");
+    };
+    assert_eq!(rt; oldest.number, 1);
+    let (key, conn) = served_by(&rt, &mut pool, oldest);
+    let next = put_back(&rt, &mut pool, key, conn);
+    assert_eq!(rt; next.map(|get| get.number), Some(3));
+    let state = pool.state(NOW);
+    assert_eq!(rt;
+        figures(&state),
+        [1, 1, 25_000, 0, 1, 0, 12_500, 0, 1, 0, 0, 0, 0]
+    );
+    Ok(())
+}
