@@ -13,8 +13,9 @@ ghost use Rattle.bb8_types.specs.Settings.{settings_of, is_lawful};
 ghost use Rattle.bb8_types.specs.Figures.{figures_of};
 ghost use Rattle.bb8_core.specs.Endings.{endings_of};
 ghost use Rattle.bb8_core.specs.Run.{opening};
+ghost use Rattle.bb8_core.specs.Parts.{out_of};
 ghost use Rattle.bb8_core.specs.Shown.{Means, Meets, IsFitting, TellsFitting, IsRecordIn, IsNoRecordIn, IsGetIn, IsNoGetIn, IsWithinLimits};
-ghost use Rattle.bb8_core.specs.StepAnswers.{begin_told, try_told, checked_ok_told, checked_err_told, reason_of, give_up_told, put_back_told, claim_told, opened_told, failed_told, add_told, reap_told, join_told, leave_told, look_told, HandsOut, ServesAtOnce, NoneAtOnce, GivesBack, GivesBackInvalid, GivesBackHeld, HandsBack, Refuses};
+ghost use Rattle.bb8_core.specs.StepAnswers.{begin_told, try_told, checked_ok_told, checked_err_told, reason_of, give_up_told, put_back_told, claim_told, opened_told, failed_told, add_told, reap_told, join_told, leave_told, look_told, HandsOut, ServesAtOnce, NoneAtOnce, GivesBack, GivesBackInvalid, GivesBackHeld, HandsBack, Refuses, closed_in};
 ghost use Rattle.bb8_types.specs.declared.standing.Holder.TheVariants.{Guard, Get};
 ghost use Rattle.bb8_types.specs.declared.standing.Standing.{Standing};
 ghost use Rattle.bb8_types.specs.Bounds.{end_of_numbers, most_records};
@@ -537,16 +538,18 @@ impl<C: Drop> PoolInternals<C> {
 
     /// Closes each idle connection that has been idle for the `idle_timeout` or has lived for the `max_lifetime`, and grants what is wanted
     /// then. One that is both counts in both. Nobody is notified. The connections are dropped here. Where no handle is alive nothing changes
-    /// but the latest moment.
+    /// but the latest moment. It looks at the connections that end, at most at those that are out, and at two more.
     pub fn reap(&mut self, at: Moment) -> ReapAnswer
-        ensures { Meets self.old at.0 acts.Reap (reap_told result) self.new }
+        ensures step { Meets self.old at.0 acts.Reap (reap_told result) self.new }
+        ensures examined { self.new.examined ≤ closed_in result + out_of self.old + 2 }
     {
         let now = self.latest.max(at.0);
         self.latest = now;
+        self.lendings = Lendings::none();
         if self.handles == 0 {
             return ReapAnswer::Ended;
         }
-        let reaped = self.records.reap(&self.config, now);
+        let reaped = self.records.reap(&self.config, now, &mut self.lendings);
         let wanted = want(&self.config, self.handles, &self.records);
         let grant = self.records.grant(wanted, false);
         self.counters.reap(reaped.by_idle, reaped.by_life);

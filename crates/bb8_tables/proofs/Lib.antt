@@ -4,9 +4,10 @@ pub mod Linked
 pub mod Slots
 pub mod Lines
 pub mod Numbers
+pub mod Orders
 pub mod RecordPlaces
+pub mod ReapPlaces
+pub mod Walks
 pub mod Approvals
 pub mod Ended
-pub mod Reaps
-pub mod ReapPlaces
 pub mod GetPlaces

@@ -1,5 +1,5 @@
 -- Lines of keys and of places that lead to the slots of a table, by a test of what stands there.
-use Rattle.std.proofs.Common.{◌≡◌, ◌≢◌, ℕ, zero, suc, Bool, true, false, cond, not, eqb, List, [], ◌∷◌, ◌++◌, filter, drop, Option, Some, None, slice_get, get_or, refl, sym, ap, ◌∙◌, subst, eq-eqb}
+use Rattle.std.proofs.Common.{◌≡◌, ◌≢◌, ℕ, zero, suc, Bool, true, false, cond, not, eqb, List, [], ◌∷◌, ◌++◌, filter, drop, Option, Some, None, slice_get, get_or, refl, sym, ap, ◌∙◌, subst, eq-eqb, ne_eqb, length, ◌+◌, arith}
 use Rattle.bb8_tables.specs.Slots.{IsLine, ArePlaces}
 use Rattle.bb8_tables.specs.Spelled.{Absent}
 use Rattle.bb8_tables.specs.Machine as machine
@@ -113,7 +113,7 @@ filter_passes {K} p (x ∷ keys) j k e = go (p x) refl (λ i f. filter_passes p 
     go false on ih i f = ih i f
 
 -- a place that none of a line's is, is absent from it
-get_absent : (p : ℕ) (xs : List ℕ) → ((j k : ℕ) → slice_get xs j ≡ Some k → k ≢ p) → Absent p xs
+pub get_absent : (p : ℕ) (xs : List ℕ) → ((j k : ℕ) → slice_get xs j ≡ Some k → k ≢ p) → Absent p xs
 get_absent p [] h = tt
 get_absent p (x ∷ xs) h = (h 0 x refl, get_absent p xs (λ j k e. h (suc j) k e))
 
@@ -146,3 +146,18 @@ module _ {X : Type 0} {test : X → Bool} where
       let is : p ≡ place = cc in
       let rest : Absent p places = get_absent p places (Slots.line_rest_avoids _ _ _ _ slots p places l) in
       rw (eq-eqb p place is) (without_absent place places (subst (λ (q : ℕ). Absent q places) is rest))
+
+  -- a line is shorter by one without a place of its own
+  pub one_shorter : (slots : List (Option X)) (places : List ℕ) (place j : ℕ) → ArePlaces test slots places → slice_get places j ≡ Some place → length (machine.without place places) + 1 ≡ length places
+  one_shorter slots [] place j l e = absurd (cc)
+  one_shorter slots (p ∷ places) place zero l e =
+      let both : Some p ≡ Some place = e in
+      let is : p ≡ place = cc in
+      let rest : Absent p places = get_absent p places (Slots.line_rest_avoids _ _ _ _ slots p places l) in
+      let same : machine.without place places ≡ places = without_absent place places (subst (λ (q : ℕ). Absent q places) is rest) in
+      let n : length (machine.without place places) ≡ length places = ap (λ (ks : List ℕ). length ks) same in
+      rw (eq-eqb p place is) (omega arith)
+  one_shorter slots (p ∷ places) place (suc j) l e =
+      let other : p ≢ place = λ s. Slots.line_rest_avoids _ _ _ _ slots p places l j place e (sym s) in
+      let ih : length (machine.without place places) + 1 ≡ length places = one_shorter slots places place j (Slots.line_rest _ _ _ _ slots p places l) e in
+      rw (ne_eqb p place other) (omega arith)

@@ -187,6 +187,23 @@ module _ {S : Type 0} where
         (λ (t : (eqb p 0 ≡ false) × (p ≢ 0)). let no : p ≢ 0 = t.1 in omega arith)
         (eqb_tells p 0)
 
+    -- a place that is seen in an order is inside
+    pub seen_inside : (now : Lined (Slot S)) (o : Order) (p j : ℕ) → view_of_table a ≡ now → slice_get (places_of o now) j ≡ Some p → p < a.links.entries.len
+    seen_inside now o p j is e = place_inside o p j (ap (λ (xs : List ℕ). slice_get xs j) (sym (shown o a) ∙ ap (places_of o) is) ∙ e)
+
+    -- the place after one in an order
+    spelled_as : (now : Lined (Slot S)) (o : Order) (xs : List ℕ) → view_of_table a ≡ now → places_of o now ≡ xs → Spells (after_of o entries) (before_of o entries) end xs
+    spelled_as now o xs is e = subst (λ (ys : List ℕ). Spells (after_of o entries) (before_of o entries) end ys) (sym (shown o a) ∙ ap (places_of o) is ∙ e) (good.spells o)
+
+    pub next_none : (now : Lined (Slot S)) (o : Order) (p next : ℕ) → view_of_table a ≡ now → next ≡ after_of o entries p → next ≡ end
+        → (passed rest : List ℕ) → places_of o now ≡ passed ++ p ∷ rest → None ≡ slice_get rest 0
+    next_none now o p next is next_is last passed rest e = Spelled.next_none (after_of o entries) (before_of o entries) end p passed rest (spelled_as now o (passed ++ p ∷ rest) is e) (sym next_is ∙ last)
+
+    pub next_some : (now : Lined (Slot S)) (o : Order) (p next : ℕ) → view_of_table a ≡ now → next ≡ after_of o entries p → next ≢ end
+        → (passed rest : List ℕ) → places_of o now ≡ passed ++ p ∷ rest → Some next ≡ slice_get rest 0
+    next_some now o p next is next_is moves passed rest e =
+        ap (λ (q : ℕ). Some q) next_is ∙ Spelled.next_some (after_of o entries) (before_of o entries) end p passed rest (spelled_as now o (passed ++ p ∷ rest) is e) (λ s. moves (next_is ∙ s))
+
     -- nothing stands at a free place
     pub free_vacant : (p j : ℕ) → slice_get (spelled Free a) j ≡ Some p → get_or (slots_of entries) p None ≡ None
     free_vacant p j e = go (get_or (slots_of entries) p None) refl

@@ -10,15 +10,16 @@ use Rattle.bb8_types.specs.declared.standing.Place.{Place}
 use Rattle.bb8_types.specs.declared.standing.Place.TheVariants.{Unclaimed, Claimed, Idle, Guarded}
 use Rattle.bb8_types.specs.declared.standing.Standing.{Standing}
 use Rattle.bb8_types.specs.declared.standing.Holder.{Holder}
+use Rattle.bb8_types.specs.declared.standing.Holder.TheVariants.{Guard, Get}
 use Rattle.bb8_tables.specs.declared.keys.Key.{Key}
 use Rattle.bb8_tables.specs.declared.table.Slot.{Slot}
 use Rattle.bb8_tables.specs.declared.records.Records.TheInside.{Inside}
 use Rattle.bb8_types.specs.declared.api.configuration.QueueStrategy.{QueueStrategy}
-use Rattle.bb8_types.specs.Places.{is_idle, is_unclaimed, is_conn, is_approval, is_out, place_with, with_place, first_place, first_of, comes_from}
+use Rattle.bb8_types.specs.Places.{is_idle, is_unclaimed, is_conn, is_approval, is_out, place_with, with_place, first_place, first_of, comes_from, birth_in}
 use Rattle.bb8_tables.specs.Slots.{values_at, number_in, numbers_at}
-use Rattle.bb8_tables.specs.State.{view_of_records, AreGoodRecords, passes, IsLineOf, ArePlacesOf}
+use Rattle.bb8_tables.specs.State.{view_of_records, AreGoodRecords, passes, IsLineOf, IsOrderOf}
 use Rattle.bb8_types.specs.Numbered.{tally, one}
-use Rattle.bb8_tables.specs.Views.{ShownRecords}
+use Rattle.bb8_tables.specs.Views.{ShownRecords, NoneAfter}
 use Rattle.bb8_tables.specs.Machine as machine
 use Rattle.bb8_tables.proofs.Views.{same_records}
 use Rattle.bb8_types.proofs.Places.{unclaimed_is, idle_is, held_conn, idle_from, unclaimed_from, conn_from, approval_from}
@@ -26,6 +27,8 @@ use Rattle.bb8_tables.proofs.Lines.{other_line, free_line, turned_line, added_li
 use Rattle.bb8_tables.proofs.Numbers.{numbers_kept, numbers_all, numbers_same, numbers_push, numbers_without}
 use Rattle.bb8_tables.proofs.Spelled.{without_absent}
 use Rattle.bb8_types.specs.Bounds.{most_records}
+use Rattle.bb8_tables.proofs.Orders
+use Rattle.bb8_tables.proofs.Orders.{no_order, same_order, other_order, pushed_order, left_order, stays_order}
 use Rattle.bb8_tables.proofs.Slots
 use Rattle.bb8_tables.proofs.Slots.{Updates, set_updates, inside, table_set, held_set, table_added, held_added, table_removed, held_removed}
 
@@ -56,6 +59,10 @@ module _ {C : Type 0} where
       let b : one (passes test (get_or new place None)) ≡ one (passes test is) = ap (λ (o : Option (Slot (Standing C))). one (passes test o)) u.changed in
       omega arith
 
+  -- whether what stands at a place passes a test
+  abbrev passed : (Place C → Bool) → Option (Slot (Standing C)) → Bool
+  passed test = Orders.passes (λ (x : Slot (Standing C)). test x.standing.place)
+
   -- ---- the lines are no longer than the counters say
 
   idle_conn : (p : Place C) → is_idle p ≡ true → is_conn p ≡ true
@@ -66,7 +73,7 @@ module _ {C : Type 0} where
 
   pub idle_fit : (a : Inside C) → AreGoodRecords a → length a.slots.line ≤ a.conns
   idle_fit a good =
-      let l : length a.slots.line ≤ tally (passes is_conn) a.slots.slots = Slots.line_length _ _ _ _ (passes is_conn) refl (λ x e. idle_conn x.standing.place e) a.slots.line a.slots.slots good.idle in
+      let l : length a.slots.line ≤ tally (passes is_conn) a.slots.slots = Slots.line_length _ _ _ _ (passes is_conn) refl (λ x e. idle_conn x.standing.place e) a.slots.line a.slots.slots good.idle.are in
       let e : tally (passes is_conn) a.slots.slots ≡ a.conns = good.conns_are in
       omega arith
 
@@ -84,6 +91,10 @@ module _ {C : Type 0} where
   pub shown_at : (a : Inside C) (i q : ℕ) (x : Slot (Standing C)) → AreGoodRecords a → slot_at a.slots i ≡ Some x → x.number ≡ q → get (view_of_records a).places q ≡ Some x.standing
   shown_at a i q x good e same = subst (λ (n : ℕ). get (view_of_records a).places n ≡ Some x.standing) same
       (Slots.held_at (λ (s : Slot (Standing C)). s.number) (λ s. s.standing) a.slots.slots i x good.table.distinct e)
+
+  -- its moments are no later than those that are shown
+  pub moments : (a : Inside C) (now i : ℕ) (x : Slot (Standing C)) → AreGoodRecords a → NoneAfter now (view_of_records a) → slot_at a.slots i ≡ Some x → (x.standing.birth ≤ now) × (x.standing.entered ≤ now)
+  moments a now i x good late e = late x.number x.standing (shown_at a i x.number x good e refl)
 
   -- so it stands there as it is shown
   pub stands_is : (a : Inside C) (q i : ℕ) (s : Standing C) (x : Slot (Standing C)) → AreGoodRecords a
@@ -136,7 +147,7 @@ module _ {C : Type 0} where
       ∙ ap (λ (n : ℕ). insert (view_of_records a).places n (with_place p x.standing)) same
       ∙ ap (λ (o : Option (Standing C)). insert (view_of_records a).places q (machine.standing_at p o)) (sym (shown_at a i q x good e same))
 
-  abbrev numbered : Slot (Standing C) → ℕ
+  abbrev pub numbered : Slot (Standing C) → ℕ
   numbered x = x.number
 
   -- nothing in an empty table
@@ -149,7 +160,8 @@ module _ {C : Type 0} where
   none_good : (first : ℕ) → AreGoodRecords (new_inside first no_places (buffer [] 0))
   none_good first = record {
     table = record { distinct = λ i j x y e f s. nothing x e; below = λ i x e. nothing x e };
-    idle = record { each = λ j k e. nothing k e; once = λ i j k m e f s. nothing k e };
+    idle = no_order;
+    births = no_order;
     unclaimed = record { each = λ j k e. nothing k e; once = λ i j k m e f s. nothing k e };
     conns_are = refl;
     approved_are = refl;
@@ -164,12 +176,13 @@ module _ {C : Type 0} where
   -- ---- other memory
 
   -- the same stands at each place
-  module _ (a : Inside C) (slots : Lined (Slot (Standing C))) (peak : ℕ) (good : AreGoodRecords a) (kept : (i : ℕ) → slot_at slots i ≡ slot_at a.slots i) (line_is : slots.line ≡ a.slots.line) where
+  module _ (a : Inside C) (slots : Lined (Slot (Standing C))) (peak : ℕ) (good : AreGoodRecords a) (kept : (i : ℕ) → slot_at slots i ≡ slot_at a.slots i) (line_is : slots.line ≡ a.slots.line) (births_are : slots.births ≡ a.slots.births) where
     pub kept_good : (unclaimed : Buffer Key) → unclaimed.items ≡ a.unclaimed.items → a.conns + a.approved ≤ peak → peak ≤ most_records → peak ≤ a.conns + a.approved + length slots.free
         → peak ≤ unclaimed.capacity → AreGoodRecords (record a { slots = slots; unclaimed = unclaimed; peak = peak })
     kept_good unclaimed items few most room unclaimed_room = record {
       table = record { distinct = λ i j x y e f. good.table.distinct i j x y (sym (kept i) ∙ e) (sym (kept j) ∙ f); below = λ i x e. good.table.below i x (sym (kept i) ∙ e) };
-      idle = subst (λ (xs : List ℕ). ArePlacesOf is_idle slots.slots xs) (sym line_is) (same_line good.idle kept);
+      idle = subst (λ (xs : List ℕ). IsOrderOf is_idle (λ s. s.entered) slots.slots xs) (sym line_is) (same_order good.idle kept);
+      births = subst (λ (xs : List ℕ). IsOrderOf is_conn (λ s. s.birth) slots.slots xs) (sym births_are) (same_order good.births kept);
       unclaimed = subst (λ (ks : List Key). IsLineOf is_unclaimed slots.slots ks) (sym items) (same_line good.unclaimed kept);
       conns_are = Slots.tally_same (passes is_conn) refl a.slots.slots slots.slots kept ∙ good.conns_are;
       approved_are = Slots.tally_same (passes is_approval) refl a.slots.slots slots.slots kept ∙ good.approved_are;
@@ -198,7 +211,8 @@ module _ {C : Type 0} where
         let free : length slots.free ≡ length a.slots.free = ap (λ (t : Lined (Slot (Standing C))). length t.free) (sets x.0 x.1) in
         record {
           table = table_set good.table x.1 refl u;
-          idle = subst (λ (xs : List ℕ). ArePlacesOf is_idle slots.slots xs) (sym same) (other_line good.idle x.1 (ap is_idle was) u);
+          idle = subst (λ (xs : List ℕ). IsOrderOf is_idle (λ s. s.entered) slots.slots xs) (sym same) (other_order good.idle u (ap (passed is_idle) x.1 ∙ ap is_idle was) refl);
+          births = subst (λ (xs : List ℕ). IsOrderOf is_conn (λ s. s.birth) slots.slots xs) (sym (ap (λ (t : Lined (Slot (Standing C))). t.births) (sets x.0 x.1))) (other_order good.births u (ap (passed is_conn) x.1 ∙ ap is_conn was) refl);
           unclaimed = rw rest (shorter_line good.unclaimed (sym first) u);
           conns_are = (let t : tally (passes is_conn) slots.slots + 0 ≡ a.conns + 0 = conns_set a slots.slots key.place (Some x.0) (Some new) false false good x.1 u (ap is_conn was) refl in omega arith);
           approved_are = (let t : tally (passes is_approval) slots.slots + 1 ≡ a.approved + 1 =
@@ -221,6 +235,11 @@ module _ {C : Type 0} where
 
   -- ---- take
 
+  -- what somebody holds is not idle
+  held_idle : (p : Place C) (h : Holder) → p ≡ place_with h → is_idle p ≡ false
+  held_idle p Guard is = ap is_idle is
+  held_idle p (Get g) is = ap is_idle is
+
   module _ (a : Inside C) (strategy : QueueStrategy) (place number : ℕ) (holder : Holder) (out : Place C) (mid slots : Lined (Slot (Standing C)))
       (good : AreGoodRecords a) (first : Some place ≡ slice_get a.slots.line (first_place strategy (length a.slots.line)))
       (number_is : (x : Slot (Standing C)) → slot_at a.slots place ≡ Some x → number ≡ x.number) (is : out ≡ place_with holder)
@@ -229,13 +248,16 @@ module _ {C : Type 0} where
     where_first = first_place strategy (length a.slots.line)
 
     taken : (x : Slot (Standing C)) × (slot_at a.slots place ≡ Some x) × (is_idle x.standing.place ≡ true)
-    taken = let x = good.idle.each where_first place (sym first) in (x.0, x.1, x.3)
+    taken = let x = good.idle.are.each where_first place (sym first) in (x.0, x.1, x.3)
 
     abbrev taken_now : Slot (Standing C)
     taken_now = record taken.0 { standing = with_place out taken.0.standing }
 
     taken_line : slots.line ≡ machine.without place a.slots.line
     taken_line = ap (λ (t : Lined (Slot (Standing C))). t.line) gone ∙ ap (λ (t : Lined (Slot (Standing C))). machine.without place t.line) (sets taken.0 taken.1)
+
+    taken_births : slots.births ≡ a.slots.births
+    taken_births = ap (λ (t : Lined (Slot (Standing C))). t.births) gone ∙ ap (λ (t : Lined (Slot (Standing C))). t.births) (sets taken.0 taken.1)
 
     taken_free : length slots.free ≡ length a.slots.free
     taken_free = ap (λ (t : Lined (Slot (Standing C))). length t.free) gone ∙ ap (λ (t : Lined (Slot (Standing C))). length t.free) (sets taken.0 taken.1)
@@ -250,7 +272,8 @@ module _ {C : Type 0} where
         let conn_now : is_conn out ≡ true = held_conn out holder is in
         record {
           table = table_set good.table taken.1 refl taken_updates;
-          idle = subst (λ (xs : List ℕ). ArePlacesOf is_idle slots.slots xs) (sym taken_line) (places_without good.idle taken_updates);
+          idle = subst (λ (xs : List ℕ). IsOrderOf is_idle (λ s. s.entered) slots.slots xs) (sym taken_line) (left_order good.idle taken_updates (held_idle out holder is));
+          births = subst (λ (xs : List ℕ). IsOrderOf is_conn (λ s. s.birth) slots.slots xs) (sym taken_births) (stays_order good.births taken_updates taken.0 taken_now taken.1 (ap is_conn was.1) refl conn_now refl);
           unclaimed = other_line good.unclaimed taken.1 (ap is_unclaimed was.1) taken_updates;
           conns_are = (let t : tally (passes is_conn) slots.slots + 1 ≡ a.conns + 1 =
               conns_set a slots.slots place (Some taken.0) (Some taken_now) true true good taken.1 taken_updates (ap is_conn was.1) conn_now in omega arith);
@@ -265,7 +288,7 @@ module _ {C : Type 0} where
         ∙ ap (λ (p : Place C). insert (view_of_records a).places number (machine.standing_at p (get (view_of_records a).places number))) is)
         (ap (numbers_at numbered slots.slots) taken_line
         ∙ numbers_same numbered a.slots.slots slots.slots place taken.0 taken_now (machine.without place a.slots.line) taken.1 refl taken_updates
-        ∙ numbers_without numbered a.slots.slots a.slots.line place taken.0 good.table.distinct good.idle taken.1
+        ∙ numbers_without numbered a.slots.slots a.slots.line place taken.0 good.table.distinct good.idle.are taken.1
         ∙ ap (λ (q : ℕ). machine.without q (numbers_at numbered a.slots.slots a.slots.line)) (sym (number_is taken.0 taken.1)))
         refl refl refl refl
 
@@ -290,11 +313,11 @@ module _ {C : Type 0} where
 
   -- the place that is first holds something
   pub first_stands : (a : Inside C) (i place : ℕ) → AreGoodRecords a → Some place ≡ slice_get a.slots.line i → IsSome (slot_at a.slots place)
-  first_stands a i place good first = let x = good.idle.each i place (sym first) in subst IsSome (sym x.1) refl
+  first_stands a i place good first = let x = good.idle.are.each i place (sym first) in subst IsSome (sym x.1) refl
 
   -- so it does after its record has gone elsewhere
   pub put_stands : (a : Inside C) (i place : ℕ) (f : Standing C → Standing C) (mid : Lined (Slot (Standing C))) → AreGoodRecords a → Some place ≡ slice_get a.slots.line i → Restands a.slots mid place f → IsSome (slot_at mid place)
-  put_stands a i place f mid good first sets = let x = good.idle.each i place (sym first) in subst IsSome (sym (restood a.slots mid mid place f x.0 x.1 sets refl).changed) refl
+  put_stands a i place f mid good first sets = let x = good.idle.are.each i place (sym first) in subst IsSome (sym (restood a.slots mid mid place f x.0 x.1 sets refl).changed) refl
 
   -- nothing is taken where none is idle
   pub idle_none : (a : Inside C) (strategy : QueueStrategy) → slice_get a.slots.line (first_place strategy (length a.slots.line)) ≡ None → first_of strategy (view_of_records a).idle ≡ None
@@ -323,7 +346,8 @@ module _ {C : Type 0} where
         let free : length slots.free ≡ length a.slots.free = ap (λ (t : Lined (Slot (Standing C))). length t.free) (sets x at_place) in
         record {
           table = table_set good.table at_place refl handover_updates;
-          idle = subst (λ (xs : List ℕ). ArePlacesOf is_idle slots.slots xs) (sym handover_line) (other_line good.idle at_place (idle_from false x.standing.place was) handover_updates);
+          idle = subst (λ (xs : List ℕ). IsOrderOf is_idle (λ s. s.entered) slots.slots xs) (sym handover_line) (other_order good.idle handover_updates (ap (passed is_idle) at_place ∙ idle_from false x.standing.place was) refl);
+          births = subst (λ (xs : List ℕ). IsOrderOf is_conn (λ s. s.birth) slots.slots xs) (sym (ap (λ (t : Lined (Slot (Standing C))). t.births) (sets x at_place))) (stays_order good.births handover_updates x guarded_now at_place conn_was refl refl refl);
           unclaimed = other_line good.unclaimed at_place (unclaimed_from false x.standing.place was) handover_updates;
           conns_are = (let t : tally (passes is_conn) slots.slots + 1 ≡ a.conns + 1 = conns_set a slots.slots place (Some x) (Some guarded_now) true true good at_place handover_updates conn_was refl in omega arith);
           approved_are = (let t : tally (passes is_approval) slots.slots + 0 ≡ a.approved + 0 =
@@ -339,11 +363,17 @@ module _ {C : Type 0} where
 
   -- ---- enter
 
+  -- a place comes into line, and into the order of births where its connection is new
+  pub lined : (new : Bool) (place : ℕ) (old mid now : Lined (Slot (Standing C))) → mid ≡ record old { line = old.line ++ place ∷ [] }
+      → now ≡ record mid { births = cond new (mid.births ++ place ∷ []) mid.births } → now ≡ record old { line = old.line ++ place ∷ []; births = cond new (old.births ++ place ∷ []) old.births }
+  lined new place old mid now line births = births ∙ ap (λ (t : Lined (Slot (Standing C))). record t { births = cond new (t.births ++ place ∷ []) t.births }) line
+
   -- a claimed approval, or a connection that was out, becomes idle
   module _ (a : Inside C) (opening : Bool) (place q : ℕ) (x : Slot (Standing C)) (s : Standing C)
       (mid slots : Lined (Slot (Standing C))) (good : AreGoodRecords a) (at_place : slot_at a.slots place ≡ Some x)
       (was : comes_from opening x.standing.place ≡ true) (number_is : x.number ≡ q)
-      (is_idle_now : is_idle s.place ≡ true) (sets : Restands a.slots mid place (λ _. s)) (in_line : slots ≡ record mid { line = mid.line ++ place ∷ [] }) where
+      (is_idle_now : is_idle s.place ≡ true) (sets : Restands a.slots mid place (λ _. s))
+      (in_line : slots ≡ record mid { line = mid.line ++ place ∷ []; births = cond opening (mid.births ++ place ∷ []) mid.births }) where
     abbrev entering : Slot (Standing C)
     entering = record x { standing = s }
 
@@ -352,6 +382,9 @@ module _ {C : Type 0} where
 
     enter_line : slots.line ≡ a.slots.line ++ place ∷ []
     enter_line = ap (λ (t : Lined (Slot (Standing C))). t.line) in_line ∙ ap (λ (t : Lined (Slot (Standing C))). t.line ++ place ∷ []) (sets x at_place)
+
+    enter_births : slots.births ≡ cond opening (a.slots.births ++ place ∷ []) a.slots.births
+    enter_births = ap (λ (t : Lined (Slot (Standing C))). t.births) in_line ∙ ap (λ (t : Lined (Slot (Standing C))). cond opening (t.births ++ place ∷ []) t.births) (sets x at_place)
 
     not_idle : is_idle x.standing.place ≡ false
     not_idle = idle_from opening x.standing.place was
@@ -371,6 +404,12 @@ module _ {C : Type 0} where
     approval_is : is_approval s.place ≡ false
     approval_is = let c = idle_is s.place is_idle_now in ap is_approval c.1
 
+    born : (o : Bool) (now : ℕ) → is_conn x.standing.place ≡ not o → NoneAfter now (view_of_records a) → s.birth ≡ cond o now x.standing.birth
+        → IsOrderOf is_conn (λ s. s.birth) slots.slots (cond o (a.slots.births ++ place ∷ []) a.slots.births)
+    born true now was_none late birth = pushed_order good.births enter_updates entering (ap (passed is_conn) at_place ∙ was_none) refl conn_is
+        (λ i y e. let l : y.standing.birth ≤ now = (moments a now i y good late e).0 in omega arith)
+    born false now was_one late birth = stays_order good.births enter_updates x entering at_place was_one refl conn_is birth
+
     conns_after : tally (passes is_conn) slots.slots + one (not opening) ≡ a.conns + 1
     conns_after = conns_set a slots.slots place (Some x) (Some entering) (not opening) true good at_place enter_updates conn_was conn_is
 
@@ -381,8 +420,9 @@ module _ {C : Type 0} where
     pub enter_counted : one opening ≤ a.approved
     enter_counted = let e : tally (passes is_approval) slots.slots + one opening ≡ a.approved + 0 = approved_after in omega arith
 
-    pub enter_good : (n m : ℕ) → n ≡ a.conns + one opening → m ≡ a.approved - one opening → AreGoodRecords (record a { slots = slots; conns = n; approved = m })
-    enter_good n m n_is m_is =
+    pub enter_good : (n m now : ℕ) → n ≡ a.conns + one opening → m ≡ a.approved - one opening → NoneAfter now (view_of_records a) → s.entered ≡ now
+        → s.birth ≡ cond opening now (birth_in (get (view_of_records a).places q)) → AreGoodRecords (record a { slots = slots; conns = n; approved = m })
+    enter_good n m now n_is m_is late entered birth =
         let t : tally (passes is_conn) slots.slots + one (not opening) ≡ a.conns + 1 = conns_after in
         let v : tally (passes is_approval) slots.slots + one opening ≡ a.approved + 0 = approved_after in
         let c : one opening ≤ a.approved = enter_counted in
@@ -390,7 +430,10 @@ module _ {C : Type 0} where
         let f : length slots.free ≡ length a.slots.free = ap (λ (t : Lined (Slot (Standing C))). length t.free) in_line ∙ ap (λ (t : Lined (Slot (Standing C))). length t.free) (sets x at_place) in
         record {
           table = table_set good.table at_place refl enter_updates;
-          idle = subst (λ (xs : List ℕ). ArePlacesOf is_idle slots.slots xs) (sym enter_line) (turned_line place good.idle at_place not_idle enter_updates refl is_idle_now);
+          idle = subst (λ (xs : List ℕ). IsOrderOf is_idle (λ s. s.entered) slots.slots xs) (sym enter_line) (pushed_order good.idle enter_updates entering (ap (passed is_idle) at_place ∙ not_idle) refl is_idle_now
+              (λ i y h. let l : y.standing.entered ≤ now = (moments a now i y good late h).1 in omega arith));
+          births = subst (λ (xs : List ℕ). IsOrderOf is_conn (λ s. s.birth) slots.slots xs) (sym enter_births)
+              (born opening now conn_was late (birth ∙ ap (λ (r : Option (Standing C)). cond opening now (birth_in r)) (shown_at a place q x good at_place number_is)));
           unclaimed = other_line good.unclaimed at_place not_unclaimed enter_updates;
           conns_are = omega arith;
           approved_are = omega arith;
@@ -413,7 +456,11 @@ module _ {C : Type 0} where
 
   -- what was in no place of the idle is not in their line
   pub enter_absent : (a : Inside C) (opening : Bool) (place : ℕ) (x : Slot (Standing C)) → AreGoodRecords a → slot_at a.slots place ≡ Some x → comes_from opening x.standing.place ≡ true → Absent place a.slots.line
-  enter_absent a opening place x good at_place was = places_absent a.slots.slots a.slots.line place x good.idle at_place (idle_from opening x.standing.place was)
+  enter_absent a opening place x good at_place was = places_absent a.slots.slots a.slots.line place x good.idle.are at_place (idle_from opening x.standing.place was)
+
+  -- an approval that is opened is not in the order of births
+  pub opened_absent : (a : Inside C) (opening : Bool) (place : ℕ) (x : Slot (Standing C)) → AreGoodRecords a → slot_at a.slots place ≡ Some x → comes_from opening x.standing.place ≡ true → opening ≡ true → Absent place a.slots.births
+  opened_absent a opening place x good at_place was new = places_absent a.slots.slots a.slots.births place x good.births.are at_place (conn_from opening x.standing.place was ∙ ap not new)
 
   -- ---- close
 
@@ -454,7 +501,8 @@ module _ {C : Type 0} where
         let e : one opening + one (not opening) ≡ 1 = either opening in
         record {
           table = table_removed good.table frees;
-          idle = subst (λ (xs : List ℕ). ArePlacesOf is_idle slots.slots xs) (sym close_line) (other_line good.idle at_place (idle_from opening x.standing.place was) frees);
+          idle = subst (λ (xs : List ℕ). IsOrderOf is_idle (λ s. s.entered) slots.slots xs) (sym close_line) (other_order good.idle frees (ap (passed is_idle) at_place ∙ idle_from opening x.standing.place was) refl);
+          births = subst (λ (xs : List ℕ). IsOrderOf is_conn (λ s. s.birth) slots.slots xs) (sym (ap (λ (t : Lined (Slot (Standing C))). t.births) gone)) (left_order good.births frees refl);
           unclaimed = other_line good.unclaimed at_place (unclaimed_from opening x.standing.place was) frees;
           conns_are = omega arith;
           approved_are = omega arith;
@@ -466,7 +514,7 @@ module _ {C : Type 0} where
         → view_of_records (record a { slots = slots; conns = n; approved = m }) ≡ machine.after_close opening q (view_of_records a)
     close_view n m n_is m_is = same_records _ _ refl
         (held_removed good.table at_place frees ∙ ap (remove (view_of_records a).places) number_is)
-        (ap (numbers_at numbered slots.slots) close_line ∙ numbers_kept numbered a.slots.slots slots.slots place a.slots.line (avoids a.slots.slots a.slots.line place x good.idle at_place (idle_from opening x.standing.place was)) frees.others)
+        (ap (numbers_at numbered slots.slots) close_line ∙ numbers_kept numbered a.slots.slots slots.slots place a.slots.line (avoids a.slots.slots a.slots.line place x good.idle.are at_place (idle_from opening x.standing.place was)) frees.others)
         refl n_is m_is refl
 
   -- ---- approve
@@ -492,6 +540,10 @@ module _ {C : Type 0} where
     not_conn true = refl
     not_conn false = refl
 
+    not_idle_yet : (b : Bool) → is_idle {C = C} (cond b Claimed Unclaimed) ≡ false
+    not_idle_yet true = refl
+    not_idle_yet false = refl
+
     new_approval : (b : Bool) → is_approval {C = C} (cond b Claimed Unclaimed) ≡ true
     new_approval true = refl
     new_approval false = refl
@@ -505,7 +557,8 @@ module _ {C : Type 0} where
     pub approve_good : a.conns + a.approved < a.peak → AreGoodRecords (record a { next = a.next + 1; slots = slots; unclaimed = unclaimed; approved = a.approved + 1 })
     approve_good free_room = record {
       table = table_added good.table free refl u;
-      idle = subst (λ (xs : List ℕ). ArePlacesOf is_idle slots.slots xs) (sym same_idle) (free_line good.idle free u);
+      idle = subst (λ (xs : List ℕ). IsOrderOf is_idle (λ s. s.entered) slots.slots xs) (sym same_idle) (other_order good.idle u (ap (passed is_idle) free) (not_idle_yet claimed_now));
+      births = subst (λ (xs : List ℕ). IsOrderOf is_conn (λ s. s.birth) slots.slots xs) (sym (ap (λ (t : Lined (Slot (Standing C))). t.births) takes)) (other_order good.births u (ap (passed is_conn) free) (not_conn claimed_now));
       unclaimed = rw pushed (line_added claimed_now added refl refl u);
       conns_are = (let t : tally (passes is_conn) slots.slots + 0 ≡ a.conns + 0 = conns_set a slots.slots place None (Some added) false false good free u refl (not_conn claimed_now) in omega arith);
       approved_are = (let t : tally (passes is_approval) slots.slots + 0 ≡ a.approved + 1 =
@@ -523,7 +576,7 @@ module _ {C : Type 0} where
     pub approve_view : view_of_records (record a { next = a.next + 1; slots = slots; unclaimed = unclaimed; approved = a.approved + 1 }) ≡ machine.after_approval claimed_now (view_of_records a)
     approve_view = same_records _ _ refl
         (held_added good.table free refl u)
-        (ap (numbers_at numbered slots.slots) same_idle ∙ numbers_kept numbered a.slots.slots slots.slots place a.slots.line (free_avoids a.slots.slots a.slots.line place good.idle free) u.others)
+        (ap (numbers_at numbered slots.slots) same_idle ∙ numbers_kept numbered a.slots.slots slots.slots place a.slots.line (free_avoids a.slots.slots a.slots.line place good.idle.are free) u.others)
         (ap (λ (b : Buffer Key). map (λ (k : Key). k.number) b.items) pushed ∙ numbers_added claimed_now)
         refl refl refl
 
@@ -534,7 +587,7 @@ module _ {C : Type 0} where
       (free : slot_at a.slots place ≡ None) (within : place < length a.slots.slots) (takes : mid ≡ record a.slots {
         slots = set a.slots.slots place (Some (record { number = a.next; standing = record { place = Idle conn; birth = now; entered = now } }));
         free = machine.without place a.slots.free;
-      }) (room : length mid.free + 1 ≡ length a.slots.free) (in_line : slots ≡ record mid { line = mid.line ++ place ∷ [] }) where
+      }) (room : length mid.free + 1 ≡ length a.slots.free) (in_line : slots ≡ record mid { line = mid.line ++ place ∷ []; births = mid.births ++ place ∷ [] }) where
     abbrev newborn : Slot (Standing C)
     newborn = record { number = a.next; standing = record { place = Idle conn; birth = now; entered = now } }
 
@@ -544,10 +597,14 @@ module _ {C : Type 0} where
     born_line : slots.line ≡ a.slots.line ++ place ∷ []
     born_line = ap (λ (t : Lined (Slot (Standing C))). t.line) in_line ∙ ap (λ (t : Lined (Slot (Standing C))). t.line ++ place ∷ []) takes
 
-    pub born_good : a.conns + a.approved < a.peak → AreGoodRecords (record a { next = a.next + 1; slots = slots; conns = a.conns + 1 })
-    born_good free_room = record {
+    born_births : slots.births ≡ a.slots.births ++ place ∷ []
+    born_births = ap (λ (t : Lined (Slot (Standing C))). t.births) in_line ∙ ap (λ (t : Lined (Slot (Standing C))). t.births ++ place ∷ []) takes
+
+    pub born_good : a.conns + a.approved < a.peak → NoneAfter now (view_of_records a) → AreGoodRecords (record a { next = a.next + 1; slots = slots; conns = a.conns + 1 })
+    born_good free_room late = record {
       table = table_added good.table free refl born_updates;
-      idle = subst (λ (xs : List ℕ). ArePlacesOf is_idle slots.slots xs) (sym born_line) (added_line place good.idle free born_updates refl refl);
+      idle = subst (λ (xs : List ℕ). IsOrderOf is_idle (λ s. s.entered) slots.slots xs) (sym born_line) (pushed_order good.idle born_updates newborn (ap (passed is_idle) free) refl refl (λ i y e. (moments a now i y good late e).1));
+      births = subst (λ (xs : List ℕ). IsOrderOf is_conn (λ s. s.birth) slots.slots xs) (sym born_births) (pushed_order good.births born_updates newborn (ap (passed is_conn) free) refl refl (λ i y e. (moments a now i y good late e).0));
       unclaimed = free_line good.unclaimed free born_updates;
       conns_are = (let t : tally (passes is_conn) slots.slots + 0 ≡ a.conns + 1 = conns_set a slots.slots place None (Some newborn) false true good free born_updates refl refl in omega arith);
       approved_are = (let t : tally (passes is_approval) slots.slots + 0 ≡ a.approved + 0 = approved_set a slots.slots place None (Some newborn) false false good free born_updates refl refl in omega arith);
@@ -560,77 +617,27 @@ module _ {C : Type 0} where
         (held_added good.table free refl born_updates)
         (ap (numbers_at numbered slots.slots) born_line
         ∙ numbers_push numbered slots.slots a.slots.line place newborn born_updates.changed
-        ∙ ap (λ (ns : List ℕ). ns ++ a.next ∷ []) (numbers_kept numbered a.slots.slots slots.slots place a.slots.line (free_avoids a.slots.slots a.slots.line place good.idle free) born_updates.others))
+        ∙ ap (λ (ns : List ℕ). ns ++ a.next ∷ []) (numbers_kept numbered a.slots.slots slots.slots place a.slots.line (free_avoids a.slots.slots a.slots.line place good.idle.are free) born_updates.others))
         refl refl refl refl
 
   -- a free place is not in line
   pub born_absent : (a : Inside C) (place : ℕ) → AreGoodRecords a → slot_at a.slots place ≡ None → Absent place a.slots.line
-  born_absent a place good free = free_absent a.slots.slots a.slots.line place good.idle free
+  born_absent a place good free = free_absent a.slots.slots a.slots.line place good.idle.are free
 
-  -- none ends where none is idle
-  pub end_idle_none : (a : Inside C) → slice_get a.slots.line 0 ≡ None → slice_get (view_of_records a).idle 0 ≡ None
-  end_idle_none a empty = slice_get-map (λ (i : ℕ). number_in numbered (slot_at a.slots i)) a.slots.line 0 ∙ ap (option_map (λ (i : ℕ). number_in numbered (slot_at a.slots i))) empty
+  -- nor in the order of births
+  pub unborn_absent : (a : Inside C) (place : ℕ) → AreGoodRecords a → slot_at a.slots place ≡ None → Absent place a.slots.births
+  unborn_absent a place good free = free_absent a.slots.slots a.slots.births place good.births.are free
 
-  -- ---- the first in line ends
+  -- ---- an unclaimed approval ends
 
   -- what a freed place leaves
-  abbrev Frees : Lined (Slot (Standing C)) → Lined (Slot (Standing C)) → ℕ → Type 0
+  abbrev pub Frees : Lined (Slot (Standing C)) → Lined (Slot (Standing C)) → ℕ → Type 0
   Frees old new place = new ≡ record {
     slots = set old.slots place None;
     line = machine.without place old.line;
     births = machine.without place old.births;
     free = old.free ++ place ∷ [];
   }
-
-  -- the idle connection that is first ends
-  module _ (a : Inside C) (place number : ℕ) (slots : Lined (Slot (Standing C))) (good : AreGoodRecords a)
-      (first : Some place ≡ slice_get a.slots.line 0) (number_is : (x : Slot (Standing C)) → slot_at a.slots place ≡ Some x → number ≡ x.number)
-      (gone : Frees a.slots slots place) where
-    ended : (x : Slot (Standing C)) × (slot_at a.slots place ≡ Some x) × (is_idle x.standing.place ≡ true)
-    ended = let x = good.idle.each 0 place (sym first) in (x.0, x.1, x.3)
-
-    ended_updates : Updates a.slots.slots slots.slots place None
-    ended_updates = set_updates None (inside a.slots.slots place ended.0 ended.1) (ap (λ (t : Lined (Slot (Standing C))). t.slots) gone)
-
-    ended_line : slots.line ≡ machine.without place a.slots.line
-    ended_line = ap (λ (t : Lined (Slot (Standing C))). t.line) gone
-
-    idle_end_fewer : tally (passes is_conn) slots.slots + 1 ≡ a.conns + 0
-    idle_end_fewer = conns_set a slots.slots place (Some ended.0) None true false good ended.1 ended_updates (ap is_conn ((idle_is ended.0.standing.place ended.2).1)) refl
-
-    pub idle_end_counted : 1 ≤ a.conns
-    idle_end_counted = let t : tally (passes is_conn) slots.slots + 1 ≡ a.conns + 0 = idle_end_fewer in omega arith
-
-    pub idle_end_good : AreGoodRecords (record a { slots = slots; conns = a.conns - 1 })
-    idle_end_good =
-        let t : tally (passes is_conn) slots.slots + 1 ≡ a.conns + 0 = idle_end_fewer in
-        let v : tally (passes is_approval) slots.slots + 0 ≡ a.approved + 0 =
-        approved_set a slots.slots place (Some ended.0) None false false good ended.1 ended_updates
-        (ap is_approval ((idle_is ended.0.standing.place ended.2).1)) refl in
-        let f : length slots.free ≡ length a.slots.free + 1 = ap (λ (t : Lined (Slot (Standing C))). length t.free) gone ∙ length-append a.slots.free (place ∷ []) in
-        let s = good.sizes in
-        record {
-          table = table_removed good.table ended_updates;
-          idle = subst (λ (xs : List ℕ). ArePlacesOf is_idle slots.slots xs) (sym ended_line) (places_without good.idle ended_updates);
-          unclaimed = other_line good.unclaimed ended.1 (ap is_unclaimed ((idle_is ended.0.standing.place ended.2).1)) ended_updates;
-          conns_are = omega arith;
-          approved_are = omega arith;
-          sizes = record { peak_holds = omega (arith, s.peak_holds); peak_few = s.peak_few; room_holds = omega (arith, s.room_holds); unclaimed_room_holds = s.unclaimed_room_holds };
-        }
-
-    pub idle_end_view : view_of_records (record a { slots = slots; conns = a.conns - 1 }) ≡ machine.after_idle_end number (view_of_records a)
-    idle_end_view = same_records _ _ refl
-        (held_removed good.table ended.1 ended_updates ∙ ap (remove (view_of_records a).places) (sym (number_is ended.0 ended.1)))
-        (ap (numbers_at numbered slots.slots) ended_line
-        ∙ numbers_kept numbered a.slots.slots slots.slots place (machine.without place a.slots.line) (left_away a.slots.line place) ended_updates.others
-        ∙ ap (numbers_at numbered a.slots.slots) (without_first a.slots.slots a.slots.line place good.idle (sym first))
-        ∙ sym (drop-map (λ (i : ℕ). number_in numbered (slot_at a.slots i)) 1 a.slots.line))
-        refl refl refl refl
-
-    pub idle_end_first : slice_get (view_of_records a).idle 0 ≡ Some number
-    idle_end_first = slice_get-map (λ (i : ℕ). number_in numbered (slot_at a.slots i)) a.slots.line 0
-        ∙ ap (option_map (λ (i : ℕ). number_in numbered (slot_at a.slots i))) (sym first)
-        ∙ ap (λ (o : Option (Slot (Standing C))). Some (number_in numbered o)) ended.1 ∙ ap (λ (q : ℕ). Some q) (sym (number_is ended.0 ended.1))
 
   -- the unclaimed approval that is first ends
   module _ (a : Inside C) (key : Key) (slots : Lined (Slot (Standing C))) (line : Buffer Key) (good : AreGoodRecords a)
@@ -643,7 +650,7 @@ module _ {C : Type 0} where
     cleared_line =
         let x = good.unclaimed.each 0 key (sym first) in
         ap (λ (t : Lined (Slot (Standing C))). t.line) gone
-        ∙ without_absent key.place a.slots.line (places_absent a.slots.slots a.slots.line key.place x.0 good.idle x.1 (ap is_idle (unclaimed_is x.0.standing.place x.3)))
+        ∙ without_absent key.place a.slots.line (places_absent a.slots.slots a.slots.line key.place x.0 good.idle.are x.1 (ap is_idle (unclaimed_is x.0.standing.place x.3)))
 
     unclaimed_end_fewer : tally (passes is_approval) slots.slots + 1 ≡ a.approved + 0
     unclaimed_end_fewer =
@@ -664,7 +671,8 @@ module _ {C : Type 0} where
         record {
           table = table_removed good.table cleared;
           unclaimed = rw rest (shorter_line good.unclaimed (sym first) cleared);
-          idle = subst (λ (xs : List ℕ). ArePlacesOf is_idle slots.slots xs) (sym cleared_line) (other_line good.idle x.1 (ap is_idle (unclaimed_is x.0.standing.place x.3)) cleared);
+          idle = subst (λ (xs : List ℕ). IsOrderOf is_idle (λ s. s.entered) slots.slots xs) (sym cleared_line) (other_order good.idle cleared (ap (passed is_idle) x.1 ∙ ap is_idle (unclaimed_is x.0.standing.place x.3)) refl);
+          births = subst (λ (xs : List ℕ). IsOrderOf is_conn (λ s. s.birth) slots.slots xs) (sym (ap (λ (t : Lined (Slot (Standing C))). t.births) gone)) (left_order good.births cleared refl);
           approved_are = omega arith;
           conns_are = omega arith;
           sizes = record { peak_holds = omega (arith, s.peak_holds); peak_few = s.peak_few; room_holds = omega (arith, s.room_holds); unclaimed_room_holds = omega (arith, s.unclaimed_room_holds) };
@@ -676,5 +684,5 @@ module _ {C : Type 0} where
         let ended_now = held_removed good.table x.1 cleared ∙ ap (remove (view_of_records a).places) x.2 in
         let shorter = ap (λ (b : Buffer Key). map (λ (k : Key). k.number) b.items) rest ∙ sym (drop-map (λ (k : Key). k.number) 1 a.unclaimed.items) in
         same_records _ _ refl ended_now
-        (ap (numbers_at numbered slots.slots) cleared_line ∙ numbers_kept numbered a.slots.slots slots.slots key.place a.slots.line (avoids a.slots.slots a.slots.line key.place x.0 good.idle x.1 (ap is_idle (unclaimed_is x.0.standing.place x.3))) cleared.others)
+        (ap (numbers_at numbered slots.slots) cleared_line ∙ numbers_kept numbered a.slots.slots slots.slots key.place a.slots.line (avoids a.slots.slots a.slots.line key.place x.0 good.idle.are x.1 (ap is_idle (unclaimed_is x.0.standing.place x.3))) cleared.others)
         shorter refl refl refl

@@ -178,6 +178,13 @@ module _ {X S : Type 0} (number : X → ℕ) (value : X → S) where
       (λ (n : Absent xs q × (get (values_at number value xs) q ≡ None)). n.1)
       (scan xs q)
 
+  -- what it holds under a number stands somewhere
+  pub held_found : (xs : List (Option X)) (q : ℕ) (s : S) → get (values_at number value xs) q ≡ Some s → (i : ℕ) × (x : X) × (get_or xs i None ≡ Some x) × (number x ≡ q) × (value x ≡ s)
+  held_found xs q s e = ⊎_elim
+      (λ (f : Found xs q). (f.0, f.1, f.2, f.3, (let both : Some (value f.1) ≡ Some s = sym f.4 ∙ e in let is : value f.1 ≡ s = cc in is)))
+      (λ (n : Absent xs q × (get (values_at number value xs) q ≡ None)). absurd (let clash : None ≡ Some s = sym n.1 ∙ e in cc))
+      (scan xs q)
+
   pub held_at : (xs : List (Option X)) (i : ℕ) (x : X) → IsDistinct number xs → get_or xs i None ≡ Some x → get (values_at number value xs) (number x) ≡ Some (value x)
   held_at xs i x d e = (holds_self xs d).each i x e
 

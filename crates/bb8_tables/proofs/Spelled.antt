@@ -1,5 +1,5 @@
 -- Laws of links that spell a list of places.
-use Rattle.std.proofs.Common.{◌≡◌, ◌≢◌, ◌⊎◌, ℕ, zero, suc, ◌+◌, ◌<◌, ◌≤◌, true, false, eqb, List, [], ◌∷◌, ◌++◌, length, slice_get, Some, refl, sym, ap, ◌∙◌, inl, inr, ⊎_elim, arith, subst, ne_eqb}
+use Rattle.std.proofs.Common.{◌≡◌, ◌≢◌, ◌⊎◌, ℕ, zero, suc, ◌+◌, ◌<◌, ◌≤◌, true, false, eqb, List, [], ◌∷◌, ◌++◌, length, slice_get, Some, None, refl, sym, ap, ◌∙◌, inl, inr, ⊎_elim, arith, subst, ne_eqb}
 use Rattle.std.proofs.lemmas.Bool.Decides.{eqb_tells}
 use Rattle.bb8_tables.specs.Spelled.{Absent, walk, Leads, Spells, Joins}
 use Rattle.bb8_tables.specs.Machine.{without}
@@ -20,7 +20,7 @@ without_absent p [] a = refl
 without_absent p (x ∷ xs) a = let e : eqb x p ≡ false = ne_eqb x p a.0 in rw e (ap (λ (r : List ℕ). x ∷ r) (without_absent p xs a.1))
 
 -- what is not in the list without p is p, or wasn't there
-absent_without : (p q : ℕ) (xs : List ℕ) → q ≢ p → Absent q (without p xs) → Absent q xs
+pub absent_without : (p q : ℕ) (xs : List ℕ) → q ≢ p → Absent q (without p xs) → Absent q xs
 absent_without p q [] n a = tt
 absent_without p q (x ∷ xs) n a =
     ⊎_elim
@@ -42,6 +42,11 @@ absent_without_self p (x ∷ xs) = ⊎_elim
     (λ (t : (eqb x p ≡ true) × (x ≡ p)). rw t.0 (absent_without_self p xs))
     (λ (t : (eqb x p ≡ false) × (x ≢ p)). rw t.0 (let r : Absent p (x ∷ without p xs) = (t.1, absent_without_self p xs) in r))
     (eqb_tells x p)
+
+-- what is in no part of a list is not in its later part
+pub absent_part : (p : ℕ) (xs ys : List ℕ) → Absent p (xs ++ ys) → Absent p ys
+absent_part p [] ys a = a
+absent_part p (x ∷ xs) ys a = absent_part p xs ys a.1
 
 -- a place that stands at an index is not absent
 pub absent_get : (p j : ℕ) (xs : List ℕ) → Absent p xs → slice_get xs j ≡ Some p → ⊥
@@ -266,6 +271,21 @@ module _ (af be : ℕ → ℕ) (z : ℕ) where
 
   pub last_is : (x : ℕ) (xs : List ℕ) → Spells af be z (x ∷ xs) → slice_get (x ∷ xs) (length xs) ≡ Some (be z)
   last_is x xs s = last_from z x xs s.leads
+
+  from_here : (c p : ℕ) (passed rest : List ℕ) → Leads af be c (passed ++ p ∷ rest) z → Leads af be p rest z
+  from_here c p [] rest l = l.2
+  from_here c p (x ∷ passed) rest l = from_here x p passed rest l.2
+
+  -- the place after one is the end where it is the last, and else the next one
+  pub next_none : (p : ℕ) (passed rest : List ℕ) → Spells af be z (passed ++ p ∷ rest) → af p ≡ z → None ≡ slice_get rest 0
+  next_none p passed [] s e = refl
+  next_none p passed (r ∷ rest) s e =
+      let later : Absent z (r ∷ rest) = (absent_part z passed (p ∷ r ∷ rest) s.apart).1 in
+      absurd (later.0 (sym ((from_here z p passed (r ∷ rest) s.leads).0) ∙ e))
+
+  pub next_some : (p : ℕ) (passed rest : List ℕ) → Spells af be z (passed ++ p ∷ rest) → af p ≢ z → Some (af p) ≡ slice_get rest 0
+  next_some p passed [] s n = absurd (n (from_here z p passed [] s.leads).0)
+  next_some p passed (r ∷ rest) s n = ap (λ (q : ℕ). Some q) (from_here z p passed (r ∷ rest) s.leads).0
 
   module _ (xs : List ℕ) (s : Spells af be z xs) where
     -- the list that the links spell is what a walk over so many places gives

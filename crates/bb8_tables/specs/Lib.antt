@@ -2,9 +2,9 @@ pub mod Keys
 pub mod Views
 pub mod Machine
 pub mod Reaps
-pub mod Dues
 pub mod Spelled
 pub mod Lined
+pub mod Dues
 pub mod Linked
 pub mod Slots
 pub mod State

@@ -1,7 +1,8 @@
 -- What a table of places holds, and lines of keys into it.
-use Rattle.std.specs.Prelude.{◌≡◌, ◌≢◌, ◌<◌, ℕ, Bool, true, List, [], ◌∷◌, map, Option, Some, None, slice_get, get_or}
+use Rattle.std.specs.Prelude.{◌≡◌, ◌≢◌, ◌<◌, ◌≤◌, ℕ, Bool, true, false, List, [], ◌∷◌, map, Option, Some, None, slice_get, get_or}
 use Rattle.std.specs.Ordering.{nat_cmp}
 use Rattle.std.specs.FinMap.{FinMap, empty, insert, get}
+use Rattle.bb8_tables.specs.Spelled.{Absent}
 
 -- the value of each place, under its number
 abbrev pub values_at : {X S : Type 0} → (X → ℕ) → (X → S) → List (Option X) → FinMap nat_cmp S
@@ -40,3 +41,19 @@ numbers_at number xs places = map (λ i. number_in number (get_or xs i None)) pl
 -- at each of the places stands what passes the test, and no place comes twice
 abbrev pub ArePlaces : {X : Type 0} → (X → Bool) → List (Option X) → List ℕ → Type 0
 ArePlaces {X} test = IsLine (λ (x : X). 0) test (λ (i : ℕ). 0) (λ (i : ℕ). i)
+
+-- each of the numbers is at least this one
+abbrev pub AllFrom : ℕ → List ℕ → Type 0
+AllFrom m [] = Unit {0}
+AllFrom m (n ∷ ns) = (m ≤ n) × AllFrom m ns
+
+-- no number is less than one before it
+abbrev pub IsRising : List ℕ → Type 0
+IsRising [] = Unit {0}
+IsRising (n ∷ ns) = AllFrom n ns × IsRising ns
+
+-- These are all the places at which stands what passes the test; no place comes twice, and a later one has no earlier moment.
+pub record IsOrder {X : Type 0} (test : X → Bool) (moment : X → ℕ) (slots : List (Option X)) (places : List ℕ) : Type 0 where
+  pub are : ArePlaces test slots places
+  pub all : (i : ℕ) (x : X) → get_or slots i None ≡ Some x → Absent i places → test x ≡ false
+  pub rises : IsRising (numbers_at moment slots places)

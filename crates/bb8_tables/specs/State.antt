@@ -10,7 +10,7 @@ use Rattle.bb8_tables.specs.declared.gets.Gets.TheInside.{Inside as GetsInside}
 use Rattle.bb8_types.specs.Places.{is_idle, is_unclaimed, is_conn, is_approval, is_unnotified}
 use Rattle.bb8_types.specs.Numbered.{tally}
 use Rattle.bb8_tables.specs.Views.{ShownRecords, ShownGets}
-use Rattle.bb8_tables.specs.Slots.{values_at, IsLine, IsTable, ArePlaces, numbers_at}
+use Rattle.bb8_tables.specs.Slots.{values_at, IsLine, IsTable, ArePlaces, IsOrder, numbers_at}
 use Rattle.bb8_types.specs.Bounds.{most_records}
 
 -- how many records there are, and for how many there is room
@@ -44,9 +44,9 @@ module _ {C : Type 0} where
   abbrev pub IsLineOf : (Place C → Bool) → List (Option (Slot (Standing C))) → List Key → Type 0
   IsLineOf test = IsLine (λ (x : Slot (Standing C)). x.number) (λ x. test x.standing.place) (λ (k : Key). k.number) (λ k. k.place)
 
-  -- the places where a record stands that passes a test
-  abbrev pub ArePlacesOf : (Place C → Bool) → List (Option (Slot (Standing C))) → List ℕ → Type 0
-  ArePlacesOf test = ArePlaces (λ (x : Slot (Standing C)). test x.standing.place)
+  -- all the places where a record stands that passes a test, in the order of a moment
+  abbrev pub IsOrderOf : (Place C → Bool) → (Standing C → ℕ) → List (Option (Slot (Standing C))) → List ℕ → Type 0
+  IsOrderOf test moment = IsOrder (λ (x : Slot (Standing C)). test x.standing.place) (λ x. moment x.standing)
 
   -- whether a record stands there in a place that passes a test
   abbrev pub passes : (Place C → Bool) → Option (Slot (Standing C)) → Bool
@@ -56,7 +56,8 @@ module _ {C : Type 0} where
   -- the table holds what is numbered, the lines lead to it, and the counts agree
   pub record AreGoodRecords (a : RecordsInside C) : Type 0 where
     pub table : IsTable (λ (x : Slot (Standing C)). x.number) a.slots.slots a.next
-    pub idle : ArePlacesOf is_idle a.slots.slots a.slots.line
+    pub idle : IsOrderOf is_idle (λ s. s.entered) a.slots.slots a.slots.line
+    pub births : IsOrderOf is_conn (λ s. s.birth) a.slots.slots a.slots.births
     pub unclaimed : IsLineOf is_unclaimed a.slots.slots a.unclaimed.items
     pub conns_are : tally (passes is_conn) a.slots.slots ≡ a.conns
     pub approved_are : tally (passes is_approval) a.slots.slots ≡ a.approved

@@ -1,5 +1,5 @@
 -- What is seen of the records and of the gets.
-use Rattle.std.specs.Prelude.{[], ◌≡◌, ℕ, zero, suc, Bool, true, List, Option, Some, None, refl}
+use Rattle.std.specs.Prelude.{[], ◌≡◌, ◌≤◌, ℕ, zero, suc, Bool, true, List, Option, Some, None, refl}
 use Rattle.std.specs.FinMap.{empty, FinMap}
 use Rattle.std.specs.Coded.{Coded, code_by, coded×, coded_ℕ, coded_bool, coded_list, coded_option}
 use Rattle.std.specs.Ordering.{nat_cmp}
@@ -36,6 +36,10 @@ no_records first = record { next = first; places = empty; idle = []; unclaimed =
 -- no get yet: the next number is given
 abbrev pub no_gets : ℕ → ShownGets
 no_gets first = record { next = first; places = empty; waiting = []; alive = 0; peak = 0 }
+
+-- no birth and no entry lies after a moment
+abbrev pub NoneAfter : {C : Type 0} → ℕ → ShownRecords C → Type 0
+NoneAfter {C} now s = (k : ℕ) (r : Standing C) → map.get s.places k ≡ Some r → (r.birth ≤ now) × (r.entered ≤ now)
 
 -- ---- codes
 

@@ -206,22 +206,6 @@ impl<S: Drop> Links<S> {
         self.set_before(order, right, left);
     }
 
-    /// What stands at a place, if something does.
-    pub fn at(&self, place: usize) -> Option<&Slot<S>>
-        ensures { option_copied result ≡ get_or (slots_of self.now.entries.items) place None }
-    {
-        match self.entries.get(place) {
-            None => None,
-            Some(entry) => {
-                if entry.slot.number != END_OF_NUMBERS {
-                    Some(&entry.slot)
-                } else {
-                    None
-                }
-            }
-        }
-    }
-
     /// What stands at a place, if it has that number.
     #[inline]
     pub fn found(&self, number: u64, at: usize) -> Option<&Slot<S>>

@@ -4,7 +4,7 @@ ghost use Rattle.std.specs.FinMap as map;
 ghost use Rattle.bb8_types.specs.Places as places;
 ghost use Rattle.bb8_tables.specs.Machine as machine;
 ghost use Rattle.bb8_types.specs.Numbered as numbered;
-ghost use Rattle.bb8_tables.specs.Views.{no_records};
+ghost use Rattle.bb8_tables.specs.Views.{no_records, NoneAfter};
 ghost use Rattle.bb8_types.specs.declared.standing.Place.TheVariants.{Unclaimed, Claimed, Idle};
 ghost use Rattle.circular_buffer.specs.Buffer.{buffer};
 ghost use Rattle.bb8_types.specs.declared.standing.Standing.{Standing};
@@ -24,7 +24,8 @@ pub use reaps::Reaped;
 use std::alloc::{AllocError, Global};
 use std::marker::Model;
 
-/// The table of connections and approvals, in whose line are the idle ones, with the line of unclaimed approvals and its counters.
+/// The table of connections and approvals, with the line of unclaimed approvals and its counters. In the table's line are the idle
+/// connections, by their last entry; in its order of births all connections, idle or out.
 #[derive(Drop)]
 pub struct Records<C> {
     next: u64,
@@ -208,7 +209,8 @@ impl<C: Drop> Records<C> {
         }
     }
 
-    /// Makes a connection idle, which a claimed approval brought, or a guard or a get held.
+    /// Makes a connection idle, which a claimed approval brought, or a guard or a get held. One that was held keeps its birth. No birth and
+    /// no entry may lie after `now`.
     pub fn enter(
         &mut self,
         k: Key,
@@ -218,6 +220,9 @@ impl<C: Drop> Records<C> {
         opening: bool,
         lendings: &mut Lendings,
     )
+        requires moments { NoneAfter now self.old }
+        requires birth { birth ≡ cond opening now
+            (places.birth_in (map.get self.old.places k.number)) }
         requires out { (s : Standing C) × (map.get self.old.places k.number ≡ Some s)
             × (places.comes_from opening s.place ≡ true) }
         requires few { lendings.old < end_of_numbers }
@@ -236,6 +241,7 @@ impl<C: Drop> Records<C> {
                 };
                 let _ = self.slots.replace(place, idle, lendings);
                 self.slots.line_up(place);
+                self.slots.add_birth(place, opening);
                 let opened = one(opening);
                 self.conns += opened;
                 self.approved -= opened;
@@ -352,6 +358,7 @@ impl<C: Drop> Records<C> {
 
     /// Makes an idle connection of the next number, for which there is room.
     fn bear(&mut self, conn: C, now: u64) -> Key
+        requires moments { NoneAfter now self.old }
         requires room { self.old.conns + self.old.approved < self.old.peak }
         requires number { self.old.next < end_of_numbers }
         ensures key { result.number ≡ self.old.next }
@@ -367,13 +374,16 @@ impl<C: Drop> Records<C> {
             },
         });
         self.slots.line_up(place);
+        self.slots.add_birth(place, true);
         self.next += 1;
         self.conns += 1;
         Key { number, place }
     }
 
-    /// Adds an idle connection that was born now. Memory is asked for only where there are as many records as ever were.
+    /// Adds an idle connection that was born now. Memory is asked for only where there are as many records as ever were. No birth and no
+    /// entry may lie after `now`.
     pub fn add(&mut self, conn: C, now: u64) -> Result<Key, C>
+        requires moments { NoneAfter now self.old }
         requires few { self.old.conns + self.old.approved < most_records }
         requires number { self.old.next < end_of_numbers }
         ensures ok { IfOk result (λ key. (key.number ≡ self.old.next)

@@ -1,5 +1,5 @@
 //! A table of places, in which each number stands once, and some stand in line.
-ghost use Rattle.std.specs.Prelude.{◌≡◌, ◌≢◌, ℕ, ◌+◌, ◌-◌, ◌<◌, ◌≤◌, IsSome, IfSome, IfNone, OnOk, OnErr, Some, None, option_copied, [], slice_get, slice_set, length, ◌++◌, ◌∷◌, Bool, true, false};
+ghost use Rattle.std.specs.Prelude.{◌≡◌, ◌≢◌, ℕ, List, ◌+◌, ◌-◌, ◌<◌, ◌≤◌, IsSome, IfSome, IfNone, OnOk, OnErr, Some, None, option_copied, [], slice_get, slice_set, length, ◌++◌, ◌∷◌, Bool, true, false, cond};
 ghost use Rattle.bb8_tables.specs.declared.table.Slot.{Slot};
 ghost use Rattle.bb8_tables.specs.declared.links.Order.TheVariants.{Line, Births, Free};
 ghost use Rattle.bb8_types.specs.declared.standing.Standing.{Standing};
@@ -238,20 +238,6 @@ impl<S: Drop> Table<S> {
         }
     }
 
-    /// How many places there are, with the one of the ends.
-    pub fn places(&self) -> usize
-        ensures { result ≡ length self.now.slots }
-    {
-        self.links.entries.len()
-    }
-
-    /// What stands at a place, if something does.
-    pub fn at(&self, place: usize) -> Option<&Slot<S>>
-        ensures { option_copied result ≡ slot_at self.now place }
-    {
-        self.links.at(place)
-    }
-
     /// The number of what stands at a place.
     #[inline]
     fn number_at(&self, place: usize) -> u64
@@ -259,6 +245,18 @@ impl<S: Drop> Table<S> {
         ensures { (x : Slot S) → slot_at self.now place ≡ Some x → result ≡ x.number }
     {
         self.links.entries[place].slot.number
+    }
+
+    /// What stands at a place. One entry is lent.
+    #[inline]
+    pub fn at(&self, place: usize, lendings: &mut Lendings) -> &Slot<S>
+        requires stands { IsSome (slot_at self.now place) }
+        requires few { lendings.old < end_of_numbers }
+        ensures value { slot_at self.now place ≡ Some result.now }
+        ensures examined { lendings.new ≡ lendings.old + 1 }
+    {
+        lendings.lend();
+        &self.links.entries[place].slot
     }
 
     /// How many places stand in line.
@@ -304,6 +302,54 @@ impl<S: Drop> Table<S> {
     {
         let _links = &self.links;
         self.push(Order::Line, place);
+    }
+
+    /// How many places stand in the order of births.
+    #[inline]
+    pub fn births(&self) -> usize
+        ensures { result ≡ length self.now.births }
+    {
+        self.sizes.births
+    }
+
+    /// The place whose connection was born first.
+    #[inline]
+    pub fn first_birth(&self) -> Option<usize>
+        ensures { result ≡ slice_get self.now.births 0 }
+    {
+        if self.sizes.births == 0 {
+            return None;
+        }
+        Some(self.oldest(Order::Births))
+    }
+
+    /// The place after one in the order of births.
+    #[inline]
+    pub fn next_birth(&self, place: usize) -> Option<usize>
+        requires { (j : ℕ) × (slice_get self.now.births j ≡ Some place) }
+        ensures { (passed rest : List ℕ) → self.now.births ≡ passed ++ place ∷ rest
+            → result ≡ slice_get rest 0 }
+    {
+        let next = self.links.link(Order::Births, place as u32).after;
+        if next == END {
+            return None;
+        }
+        Some(next as usize)
+    }
+
+    /// Puts a place at the new end of the order of births, where its connection is new.
+    #[inline]
+    pub fn add_birth(&mut self, place: usize, new: bool)
+        requires stands { IsSome (slot_at self.old place) }
+        requires absent { new ≡ true → Absent place self.old.births }
+        ensures { self.new ≡ record self.old {
+          births = cond new (self.old.births ++ place ∷ []) self.old.births;
+        } }
+    {
+        let _links = &self.links;
+        if new {
+            self.push(Order::Births, place);
+        }
     }
 
     /// Takes a place out of line, wherever it stands in it.

@@ -9,11 +9,11 @@ use Rattle.bb8_core.proofs.Reaps.{meets_reap_ended, meets_reaped, reaped_few}
 use Rattle.bb8_core.proofs.Steps.{grants, led, at_view}
 use Rattle.bb8_core.proofs.internals.PoolInternals.reap.Goals as goal
 
-pub returns-then-self-eq0 : goal.returns-then-self-eq0
-returns-then-self-eq0 g c = at_view c.args.at.0 acts.Reap answers.Ended c.self.view_is (meets_reap_ended c.max-now.ensures c.if-self-eq0.true)
+pub returns-then-self-eq0-clause-step : goal.returns-then-self-eq0-clause-step
+returns-then-self-eq0-clause-step g c = at_view c.args.at.0 acts.Reap answers.Ended c.self.view_is (meets_reap_ended c.max-now.ensures c.if-self-eq0.true)
 
 pub invariant_of-self : goal.invariant_of-self
-invariant_of-self g c = led _ c.args.at.0 acts.Reap answers.Ended c.self.view_is c.self.invariant (returns-then-self-eq0 g c)
+invariant_of-self g c = led _ c.args.at.0 acts.Reap answers.Ended c.self.view_is c.self.invariant (returns-then-self-eq0-clause-step g c)
 
 pub grant-grant-requires : goal.grant-grant-requires
 grant-grant-requires g c =
@@ -28,11 +28,11 @@ reap-requires-clause-by_idle g c = (reaped_few (view_of c.self.inside) c.self.in
 pub reap-requires-clause-by_life : goal.reap-requires-clause-by_life
 reap-requires-clause-by_life g c = (reaped_few (view_of c.self.inside) c.self.invariant (omega (arith, c.max-now.ensures)) c.reap-reaped.ensures.ends.1 c.reap-reaped.ensures.numbers).1
 
-pub returns : goal.returns
-returns g c = at_view c.args.at.0 acts.Reap (answers.Reaped c.reap-reaped.result.closed c.reap-reaped.result.by_idle c.reap-reaped.result.by_life c.grant-grant.result) c.self.view_is
+pub returns-clause-step : goal.returns-clause-step
+returns-clause-step g c = at_view c.args.at.0 acts.Reap (answers.Reaped c.reap-reaped.result.closed c.reap-reaped.result.by_idle c.reap-reaped.result.by_life c.grant-grant.result) c.self.view_is
     (meets_reaped c.self.inside.counters c.max-now.ensures c.if-self-eq0.false c.reap-reaped.ensures.ends.1
     (grants refl c.want-wanted.ensures c.grant-grant.ensures.granted c.grant-grant.ensures.state) refl c.reap.ensures)
 
 pub invariant_of-self-2 : goal.invariant_of-self-2
 invariant_of-self-2 g c = led _ c.args.at.0 acts.Reap
-    (answers.Reaped c.reap-reaped.result.closed c.reap-reaped.result.by_idle c.reap-reaped.result.by_life c.grant-grant.result) c.self.view_is c.self.invariant (returns g c)
+    (answers.Reaped c.reap-reaped.result.closed c.reap-reaped.result.by_idle c.reap-reaped.result.by_life c.grant-grant.result) c.self.view_is c.self.invariant (returns-clause-step g c)

@@ -1,7 +1,8 @@
 use Rattle.std.proofs.Common.{slice_get, refl, sym, ap, ◌∙◌}
 use Rattle.bb8_tables.specs.Machine as machine
 use Rattle.bb8_tables.specs.Views.{ShownRecords}
-use Rattle.bb8_tables.proofs.RecordPlaces.{first_stands, end_idle_none, idle_end_counted, idle_end_good, idle_end_view, idle_end_first}
+use Rattle.bb8_tables.proofs.RecordPlaces.{first_stands}
+use Rattle.bb8_tables.proofs.ReapPlaces.{end_idle_none, idle_end_counted, idle_end_good, idle_end_view, idle_end_first}
 use Rattle.bb8_tables.proofs.records.Records.end_idle.Goals as goal
 
 pub remove-number-requires : goal.remove-number-requires

@@ -1,18 +1,20 @@
 use Rattle.std.proofs.Common.{arith}
-use Rattle.bb8_types.specs.Settings.{settings_of}
-use Rattle.bb8_types.specs.Places.{idles_out, lives_out}
-use Rattle.bb8_tables.proofs.Reaps.{ending_more, counted_few}
+use Rattle.bb8_tables.proofs.Walks.{conns_few, few_by_idle, few_by_life, reaps_both}
 use Rattle.bb8_tables.proofs.records.Records.reap.Goals as goal
 
-pub with-told-requires-clause-by_idle : goal.with-told-requires-clause-by_idle
-with-told-requires-clause-by_idle g c =
-    let a = c.loop-due.invariant in
-    omega (arith, a.closed, a.by_idle, counted_few (idles_out (settings_of c.args.config.now) c.args.now) a.ks c.args.self.now)
+pub reap_aged-by_life-requires : goal.reap_aged-by_life-requires
+reap_aged-by_life-requires g c =
+    let first = c.reap_idle-by_idle.ensures in
+    record { few = omega (arith, c.requires.few, first.examined, first.ends.1.conns, conns_few c.self.inside c.args.self.now c.self.invariant c.self.view_is) }
 
-pub with-told-requires-clause-by_life : goal.with-told-requires-clause-by_life
-with-told-requires-clause-by_life g c =
-    let a = c.loop-due.invariant in
-    omega (arith, a.closed, a.by_life, counted_few (lives_out (settings_of c.args.config.now) c.args.now) a.ks c.args.self.now)
+pub and-requires-clause-by_idle : goal.and-requires-clause-by_idle
+and-requires-clause-by_idle g c = omega (arith, few_by_idle c.reap_idle-by_idle.ensures.ends.1, few_by_idle c.reap_aged-by_life.ensures.ends.1)
 
-pub loop-due-preserved : goal.loop-due-preserved
-loop-due-preserved g c = ending_more c.loop-due.invariant c.in-Some.ensures.some c.with-told.ensures
+pub and-requires-clause-by_life : goal.and-requires-clause-by_life
+and-requires-clause-by_life g c = omega (arith, few_by_life c.reap_idle-by_idle.ensures.ends.1, few_by_life c.reap_aged-by_life.ensures.ends.1)
+
+pub returns-clause-ends : goal.returns-clause-ends
+returns-clause-ends g c =
+    let first = c.reap_idle-by_idle.ensures in
+    let then = c.reap_aged-by_life.ensures in
+    (_, reaps_both first.ends.1 then.ends.1 first.none_left then.none_left c.and.ensures)

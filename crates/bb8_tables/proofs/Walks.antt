@@ -1,0 +1,536 @@
+-- The two walks of a reap.
+use Rattle.std.proofs.Common.{◌≡◌, ◌≢◌, ◌⊎◌, inl, inr, ⊎_elim, ℕ, zero, suc, ◌+◌, ◌-◌, ◌<◌, ◌≤◌, Bool, true, false, ◌&&◌, ◌||◌, leb, List, [], ◌∷◌, ◌++◌, length, cond, eqb, Option, Some, None, get_or, slice_get, refl, sym, ap, ◌∙◌, arith, subst, length-append, eq-eqb, ne_eqb}
+use Rattle.std.proofs.lemmas.List.{length-map}
+use Rattle.std.proofs.lemmas.Bool.{leb-false, lt-leb}
+use Rattle.std.specs.FinMap.{get}
+use Rattle.bb8_types.proofs.Numbered.{get_removed, same_or_not}
+use Rattle.bb8_types.specs.Bounds.{most_records}
+use Rattle.bb8_types.specs.Settings.{Settings}
+use Rattle.bb8_types.specs.Numbered.{one, tally}
+use Rattle.bb8_types.specs.Places.{is_idle, is_conn, is_out, is_past, is_expired, is_reaped, idles_out, lives_out}
+use Rattle.bb8_types.specs.declared.standing.Place.{Place}
+use Rattle.bb8_types.specs.declared.standing.Place.TheVariants.{Unclaimed, Claimed, Idle, Held, Guarded}
+use Rattle.bb8_types.specs.declared.standing.Standing.{Standing}
+use Rattle.bb8_tables.specs.declared.table.Slot.{Slot}
+use Rattle.bb8_tables.specs.declared.records.Records.TheInside.{Inside}
+use Rattle.bb8_tables.specs.declared.records.reaps.Due.{Due}
+use Rattle.bb8_tables.specs.declared.records.reaps.Reaped.{Reaped}
+use Rattle.bb8_tables.specs.declared.records.reaps.Passed.TheVariants.{Young, Out, Aged}
+use Rattle.bb8_tables.specs.Dues.{IsDue, EndsFirst, Ends, IsNext, Passes}
+use Rattle.bb8_tables.specs.Lined.{Lined, slot_at}
+use Rattle.bb8_tables.specs.Machine.{without}
+use Rattle.bb8_tables.specs.Reaps.{after_reaped, after_reap, AreReaped, count_reaped, Reaps}
+use Rattle.bb8_tables.specs.Slots.{ArePlaces, IsRising, numbers_at}
+use Rattle.bb8_tables.specs.Spelled.{Absent}
+use Rattle.bb8_tables.specs.State.{view_of_records, AreGoodRecords, passes}
+use Rattle.bb8_tables.specs.Views.{ShownRecords}
+use Rattle.bb8_types.proofs.Places.{idle_is}
+use Rattle.bb8_types.proofs.Places as places
+use Rattle.bb8_tables.proofs.Lines.{get_absent}
+use Rattle.bb8_tables.proofs.Orders.{found_in, no_earlier}
+use Rattle.bb8_tables.proofs.RecordPlaces.{Frees, shown_at}
+use Rattle.bb8_tables.proofs.ReapPlaces.{freed_good, freed_births, freed_due}
+use Rattle.bb8_tables.proofs.Slots.{held_found, line_length, Updates, set_updates, inside}
+use Rattle.bb8_tables.proofs.Spelled.{without_absent}
+
+-- ---- limits
+
+or_right : (a : Bool) → (a || true) ≡ true
+or_right true = refl
+or_right false = refl
+
+and_left : (a b : Bool) → a ≡ false → (a && b) ≡ false
+and_left a b e = rw e refl
+
+and_right : (a b : Bool) → b ≡ false → (a && b) ≡ false
+and_right true b e = e
+and_right false b e = refl
+
+-- a limit that a longer span does not reach, a shorter one does not
+shorter_span : (limit : Option ℕ) (long short : ℕ) → is_past limit long ≡ false → short ≤ long → is_past limit short ≡ false
+shorter_span None long short e l = refl
+shorter_span (Some limit) long short e l = let no : long < limit = leb-false limit long e in lt-leb limit short (omega arith)
+
+-- ---- lists
+
+head_split : (p : ℕ) (ys : List ℕ) → slice_get ys 0 ≡ Some p → (zs : List ℕ) × (ys ≡ p ∷ zs)
+head_split p [] e = cc
+head_split p (y ∷ ys) e = (ys, (let both : Some y ≡ Some p = e in let is : y ≡ p = cc in ap (λ (q : ℕ). q ∷ ys) is))
+
+get_front : (xs ys : List ℕ) (j k : ℕ) → slice_get xs j ≡ Some k → slice_get (xs ++ ys) j ≡ Some k
+get_front [] ys j k e = cc
+get_front (x ∷ xs) ys zero k e = e
+get_front (x ∷ xs) ys (suc j) k e = get_front xs ys j k e
+
+get_back : (xs ys : List ℕ) (i j : ℕ) → i ≡ length xs + j → slice_get (xs ++ ys) i ≡ slice_get ys j
+get_back [] ys i j e = ap (slice_get ys) (let same : i ≡ j = omega arith in same)
+get_back (x ∷ xs) ys zero j e = absurd (omega arith)
+get_back (x ∷ xs) ys (suc i) j e = get_back xs ys i j (omega arith)
+
+get_within : (xs : List ℕ) (j k : ℕ) → slice_get xs j ≡ Some k → j < length xs
+get_within [] j k e = cc
+get_within (x ∷ xs) zero k e = omega arith
+get_within (x ∷ xs) (suc j) k e = let l : j < length xs = get_within xs j k e in omega arith
+
+get_joined : (xs ys : List ℕ) (j k : ℕ) → slice_get (xs ++ ys) j ≡ Some k → (slice_get xs j ≡ Some k) ⊎ ((i : ℕ) × (slice_get ys i ≡ Some k))
+get_joined [] ys j k e = inr (j, e)
+get_joined (x ∷ xs) ys zero k e = inl e
+get_joined (x ∷ xs) ys (suc j) k e = get_joined xs ys j k e
+
+without_between : (p : ℕ) (xs ys : List ℕ) → Absent p xs → Absent p ys → without p (xs ++ p ∷ ys) ≡ xs ++ ys
+without_between p [] ys a b = rw (eq-eqb p p refl) (without_absent p ys b)
+without_between p (x ∷ xs) ys a b = rw (ne_eqb x p a.0) (ap (λ (r : List ℕ). x ∷ r) (without_between p xs ys a.1 b))
+
+append_move : (p : ℕ) (xs ys : List ℕ) → xs ++ p ∷ ys ≡ (xs ++ p ∷ []) ++ ys
+append_move p [] ys = refl
+append_move p (x ∷ xs) ys = ap (λ (r : List ℕ). x ∷ r) (append_move p xs ys)
+
+module _ {C : Type 0} where
+  -- ---- places by their tests
+
+  out_conn : (p : Place C) → is_conn p ≡ true → is_idle p ≡ false → is_out p ≡ true
+  out_conn Unclaimed c i = cc
+  out_conn Claimed c i = cc
+  out_conn (Idle x) c i = cc
+  out_conn (Held g) c i = refl
+  out_conn Guarded c i = refl
+
+  out_busy : (p : Place C) → is_out p ≡ true → is_idle p ≡ true → ⊥
+  out_busy Unclaimed o i = cc
+  out_busy Claimed o i = cc
+  out_busy (Idle x) o i = cc
+  out_busy (Held g) o i = cc
+  out_busy Guarded o i = cc
+
+  idle_conn : (p : Place C) → is_idle p ≡ true → is_conn p ≡ true
+  idle_conn p i = ap is_conn (idle_is p i).1
+
+  -- a connection is idle or out
+  idle_or_out : (p : Place C) → one (is_idle p) + one (is_out p) ≡ one (is_conn p)
+  idle_or_out Unclaimed = refl
+  idle_or_out Claimed = refl
+  idle_or_out (Idle x) = refl
+  idle_or_out (Held g) = refl
+  idle_or_out Guarded = refl
+
+  tally_split : (xs : List (Option (Slot (Standing C)))) → tally (passes is_idle) xs + tally (passes is_out) xs ≡ tally (passes is_conn) xs
+  tally_split [] = refl
+  tally_split (None ∷ xs) = let ih : tally (passes is_idle) xs + tally (passes is_out) xs ≡ tally (passes is_conn) xs = tally_split xs in omega arith
+  tally_split (Some x ∷ xs) =
+      let ih : tally (passes is_idle) xs + tally (passes is_out) xs ≡ tally (passes is_conn) xs = tally_split xs in
+      let here : one (is_idle x.standing.place) + one (is_out x.standing.place) ≡ one (is_conn x.standing.place) = idle_or_out x.standing.place in
+      omega arith
+
+  -- ---- what has ended
+
+  none_ended : (config : Settings) (now : ℕ) (s : ShownRecords C) (told : Reaped) → told ≡ record { closed = 0; by_idle = 0; by_life = 0 } → Ends config now s [] s told
+  none_ended config now s told is = record {
+    each = tt;
+    state = refl;
+    closed = ap (λ (r : Reaped). r.closed) is;
+    by_idle = ap (λ (r : Reaped). r.by_idle) is;
+    by_life = ap (λ (r : Reaped). r.by_life) is;
+    conns = (let e : told.closed ≡ 0 = ap (λ (r : Reaped). r.closed) is in omega arith);
+    idle = (let e : told.closed ≡ 0 = ap (λ (r : Reaped). r.closed) is in omega arith);
+  }
+
+  -- these end, and then those
+  reap_both : (ks js : List ℕ) (s : ShownRecords C) → after_reap (ks ++ js) s ≡ after_reap js (after_reap ks s)
+  reap_both [] js s = refl
+  reap_both (k ∷ ks) js s = reap_both ks js (after_reaped k s)
+
+  due_both : (config : Settings) (now : ℕ) (ks js : List ℕ) (s : ShownRecords C) → AreReaped config now ks s → AreReaped config now js (after_reap ks s) → AreReaped config now (ks ++ js) s
+  due_both config now [] js s a b = b
+  due_both config now (k ∷ ks) js s a b = (a.0, due_both config now ks js (after_reaped k s) a.1 b)
+
+  counted_both : (test : Option (Standing C) → Bool) (ks js : List ℕ) (s : ShownRecords C) → count_reaped test (ks ++ js) s ≡ count_reaped test ks s + count_reaped test js (after_reap ks s)
+  counted_both test [] js s = omega arith
+  counted_both test (k ∷ ks) js s =
+      let ih : count_reaped test (ks ++ js) (after_reaped k s) ≡ count_reaped test ks (after_reaped k s) + count_reaped test js (after_reap ks (after_reaped k s)) = counted_both test ks js (after_reaped k s) in
+      omega arith
+
+  -- no more are counted than end
+  pub counted_few : (test : Option (Standing C) → Bool) (ks : List ℕ) (s : ShownRecords C) → count_reaped test ks s ≤ length ks
+  counted_few test [] s = omega arith
+  counted_few test (k ∷ ks) s =
+      let ih : count_reaped test ks (after_reaped k s) ≤ length ks = counted_few test ks (after_reaped k s) in
+      let here : one (test (get s.places k)) ≤ 1 = few (test (get s.places k)) in
+      omega arith
+    where
+      few : (b : Bool) → one b ≤ 1
+      few true = omega arith
+      few false = omega arith
+
+  pub few_by_idle : {config : Settings} {now : ℕ} {old new : ShownRecords C} {ks : List ℕ} {told : Reaped} → Ends config now old ks new told → told.by_idle ≤ told.closed
+  few_by_idle {config} {now} {old} {ks = ks} e = omega (arith, e.by_idle, e.closed, counted_few (idles_out config now) ks old)
+
+  pub few_by_life : {config : Settings} {now : ℕ} {old new : ShownRecords C} {ks : List ℕ} {told : Reaped} → Ends config now old ks new told → told.by_life ≤ told.closed
+  few_by_life {config} {now} {old} {ks = ks} e = omega (arith, e.by_life, e.closed, counted_few (lives_out config now) ks old)
+
+  pub ends_both : {config : Settings} {now : ℕ} {old mid new : ShownRecords C} {ks js : List ℕ} {first then all : Reaped} → Ends config now old ks mid first → Ends config now mid js new then
+      → all ≡ record { closed = first.closed + then.closed; by_idle = first.by_idle + then.by_idle; by_life = first.by_life + then.by_life }
+      → Ends config now old (ks ++ js) new all
+  ends_both {config} {now} {old} {mid} {new} {ks} {js} {first} {then} {all} a b is =
+      let all_closed : all.closed ≡ first.closed + then.closed = ap (λ (r : Reaped). r.closed) is in
+      let all_idle : all.by_idle ≡ first.by_idle + then.by_idle = ap (λ (r : Reaped). r.by_idle) is in
+      let all_life : all.by_life ≡ first.by_life + then.by_life = ap (λ (r : Reaped). r.by_life) is in
+      let counted = λ (test : Option (Standing C) → Bool). counted_both test ks js old ∙ ap (λ (s : ShownRecords C). count_reaped test ks old + count_reaped test js s) (sym a.state) in
+      let idle_now : count_reaped (idles_out config now) (ks ++ js) old ≡ count_reaped (idles_out config now) ks old + count_reaped (idles_out config now) js mid = counted (idles_out config now) in
+      let life_now : count_reaped (lives_out config now) (ks ++ js) old ≡ count_reaped (lives_out config now) ks old + count_reaped (lives_out config now) js mid = counted (lives_out config now) in
+      let many : length (ks ++ js) ≡ length ks + length js = length-append ks js in
+      record {
+        each = due_both config now ks js old a.each (subst (AreReaped config now js) a.state b.each);
+        state = b.state ∙ ap (after_reap js) a.state ∙ sym (reap_both ks js old);
+        closed = omega (arith, a.closed, b.closed);
+        by_idle = omega (arith, a.by_idle, b.by_idle);
+        by_life = omega (arith, a.by_life, b.by_life);
+        conns = omega (arith, a.conns, b.conns);
+        idle = omega (arith, a.idle, b.idle);
+      }
+
+  -- one more has ended
+  first_ends : (config : Settings) (now k : ℕ) (old new : ShownRecords C) (due : Due) → EndsFirst config now old k new due
+      → Ends config now old (k ∷ []) new (record { closed = 1; by_idle = one due.by_idle; by_life = one due.by_life })
+  first_ends config now k old new due e = record {
+    each = (e.is_due.reaped, tt);
+    state = e.state;
+    closed = refl;
+    by_idle = (let is : one due.by_idle ≡ one (idles_out config now (get old.places k)) = ap one e.is_due.by_idle in omega arith);
+    by_life = (let is : one due.by_life ≡ one (lives_out config now (get old.places k)) = ap one e.is_due.by_life in omega arith);
+    conns = e.conns;
+    idle = e.idle;
+  }
+
+  pub ends_more : {config : Settings} {now k : ℕ} {old mid new : ShownRecords C} {ks : List ℕ} {told more : Reaped} {due : Due} → Ends config now old ks mid told → EndsFirst config now mid k new due
+      → more ≡ record { closed = told.closed + 1; by_idle = told.by_idle + one due.by_idle; by_life = told.by_life + one due.by_life } → Ends config now old (ks ++ k ∷ []) new more
+  ends_more {config} {now} {k} {mid = mid} {new = new} {due = due} a e is = ends_both a (first_ends config now k mid new due e) is
+
+  -- what is left stood there before
+  left_was : (ks : List ℕ) (s : ShownRecords C) (k : ℕ) (st : Standing C) → get (after_reap ks s).places k ≡ Some st → get s.places k ≡ Some st
+  left_was [] s k st e = e
+  left_was (j ∷ ks) s k st e =
+      let there : cond (eqb k j) None (get s.places k) ≡ Some st = sym (get_removed s.places j k) ∙ left_was ks (after_reaped j s) k st e in
+      go (eqb k j) there
+    where
+      go : (b : Bool) → cond b None (get s.places k) ≡ Some st → get s.places k ≡ Some st
+      go true h = cc
+      go false h = h
+
+  -- so what no record passed before, none passes after
+  pub still_none : (test : Option (Standing C) → Bool) → test None ≡ false → {config : Settings} {now : ℕ} {old new : ShownRecords C} {ks : List ℕ} {told : Reaped} → Ends config now old ks new told
+      → ((k : ℕ) → test (get old.places k) ≡ false) → (k : ℕ) → test (get new.places k) ≡ false
+  still_none test nothing {old = old} {new = new} {ks = ks} e none k = go (get new.places k) refl
+    where
+      go : (o : Option (Standing C)) → get new.places k ≡ o → test (get new.places k) ≡ false
+      go None h = ap test h ∙ nothing
+      go (Some st) h = ap test (h ∙ sym (left_was ks old k st (ap (λ (t : ShownRecords C). get t.places k) (sym e.state) ∙ h))) ∙ none k
+
+  pub none_reaped : (config : Settings) (now : ℕ) (o : Option (Standing C)) → idles_out config now o ≡ false → lives_out config now o ≡ false → is_reaped config now o ≡ false
+  none_reaped config now o idle aged = rw (idle, aged) refl
+
+  -- ---- the walk along the line of the idle
+
+  -- no record passes a test where none that is idle does
+  unless_idle : (test : Option (Standing C) → Bool) → test None ≡ false → ((s : Standing C) → is_idle s.place ≡ false → test (Some s) ≡ false)
+      → (a : Inside C) → AreGoodRecords a
+      → ((i : ℕ) (x : Slot (Standing C)) → slot_at a.slots i ≡ Some x → is_idle x.standing.place ≡ true → test (Some x.standing) ≡ false)
+      → (k : ℕ) → test (get (view_of_records a).places k) ≡ false
+  unless_idle test nothing busy a good idle k = go (get (view_of_records a).places k) refl
+    where
+      go : (o : Option (Standing C)) → get (view_of_records a).places k ≡ o → test (get (view_of_records a).places k) ≡ false
+      go None h = ap test h ∙ nothing
+      go (Some s) h =
+          let f = held_found (λ (x : Slot (Standing C)). x.number) (λ x. x.standing) a.slots.slots k s h in
+          ap test (h ∙ ap (λ (r : Standing C). Some r) (sym f.4)) ∙ here (is_idle f.1.standing.place) refl
+        where
+          here : (b : Bool) → is_idle (held_found (λ (x : Slot (Standing C)). x.number) (λ x. x.standing) a.slots.slots k s h).1.standing.place ≡ b
+              → test (Some (held_found (λ (x : Slot (Standing C)). x.number) (λ x. x.standing) a.slots.slots k s h).1.standing) ≡ false
+          here true e = let f = held_found (λ (x : Slot (Standing C)). x.number) (λ x. x.standing) a.slots.slots k s h in idle f.0 f.1 f.2 e
+          here false e = busy _ e
+
+  -- the first in line is idle
+  pub first_idle : (a : Inside C) (place : ℕ) (x : Slot (Standing C)) → AreGoodRecords a → slice_get a.slots.line 0 ≡ Some place → slot_at a.slots place ≡ Some x → is_idle x.standing.place ≡ true
+  first_idle a place x good first at_place =
+      let st = good.idle.are.each 0 place first in
+      let same : st.0 ≡ x = let both : Some st.0 ≡ Some x = sym st.1 ∙ at_place in cc in
+      subst (λ (y : Slot (Standing C)). is_idle y.standing.place ≡ true) same st.3
+
+  -- where the first in line is not idle too long, none is
+  pub first_not_due : (config : Settings) (now : ℕ) (a : Inside C) (place : ℕ) (x : Slot (Standing C)) → AreGoodRecords a → slice_get a.slots.line 0 ≡ Some place → slot_at a.slots place ≡ Some x
+      → idles_out config now (Some x.standing) ≡ false → (k : ℕ) → idles_out config now (get (view_of_records a).places k) ≡ false
+  first_not_due config now a place x good first at_place young = unless_idle (idles_out config now) refl (λ s e. and_left (is_idle s.place) _ e) a good
+      (λ i y e idle. and_right (is_idle y.standing.place) _ (shorter_span config.idle_timeout (now - x.standing.entered) (now - y.standing.entered) first_past
+      (let l : x.standing.entered ≤ y.standing.entered = entered_later i y e idle in omega arith)))
+    where
+      line : (rest : List ℕ) × (a.slots.line ≡ place ∷ rest)
+      line = head_split place a.slots.line first
+
+      first_past : is_past config.idle_timeout (now - x.standing.entered) ≡ false
+      first_past =
+          let idle : is_idle x.standing.place ≡ true = first_idle a place x good first at_place in
+          let whole : (is_idle x.standing.place && is_past config.idle_timeout (now - x.standing.entered)) ≡ false = young in
+          rw idle at whole
+
+      entered_later : (i : ℕ) (y : Slot (Standing C)) → slot_at a.slots i ≡ Some y → is_idle y.standing.place ≡ true → x.standing.entered ≤ y.standing.entered
+      entered_later i y e idle =
+          let there = found_in good.idle i y e idle in
+          no_earlier (λ (z : Slot (Standing C)). z.standing.entered) a.slots.slots [] line.0 place i there.0 x y
+          (subst (λ (ks : List ℕ). IsRising (numbers_at (λ (z : Slot (Standing C)). z.standing.entered) a.slots.slots ks)) line.1 good.idle.rises) at_place
+          (ap (λ (ks : List ℕ). slice_get ks there.0) (sym line.1) ∙ there.1) e
+
+  -- where nothing is in line, none is idle
+  pub none_in_line : (config : Settings) (now : ℕ) (a : Inside C) → AreGoodRecords a → slice_get a.slots.line 0 ≡ None → (k : ℕ) → idles_out config now (get (view_of_records a).places k) ≡ false
+  none_in_line config now a good empty = unless_idle (idles_out config now) refl (λ s e. and_left (is_idle s.place) _ e) a good
+      (λ i y e idle. let there = found_in good.idle i y e idle in absurd (never a.slots.line there.0 i empty there.1))
+    where
+      never : (xs : List ℕ) (j i : ℕ) → slice_get xs 0 ≡ None → slice_get xs j ≡ Some i → ⊥
+      never [] j i e f = cc
+      never (y ∷ ys) j i e f = cc
+
+  -- what is idle too long is due, and so is what lives too long
+  pub due_by_idle : (config : Settings) (now : ℕ) (s : Standing C) (due : Due) → due.by_idle ≡ idles_out config now (Some s) → due.by_life ≡ lives_out config now (Some s) → due.by_idle ≡ true
+      → IsDue config now (Some s) due
+  due_by_idle config now s due idle life is = record { reaped = (let e : idles_out config now (Some s) ≡ true = sym idle ∙ is in rw e refl); by_idle = idle; by_life = life }
+
+  pub due_by_life : (config : Settings) (now : ℕ) (s : Standing C) (due : Due) → due.by_idle ≡ idles_out config now (Some s) → due.by_life ≡ lives_out config now (Some s) → due.by_life ≡ true
+      → IsDue config now (Some s) due
+  due_by_life config now s due idle life is = record { reaped = (let e : lives_out config now (Some s) ≡ true = sym life ∙ is in rw e (or_right (idles_out config now (Some s)))); by_idle = idle; by_life = life }
+
+  -- how far the walk has come
+  pub record InIdle (config : Settings) (now : ℕ) (old new : ShownRecords C) (told : Reaped) (lent lent_now : ℕ) : Type 0 where
+    pub ks : List ℕ
+    pub ends : Ends config now old ks new told
+    pub lendings : lent_now ≤ lent + told.closed
+    pub few : old.conns ≤ most_records
+
+  pub idle_more : {config : Settings} {now k : ℕ} {old mid new : ShownRecords C} {told more : Reaped} {due : Due} {lent mid_lent new_lent : ℕ} → InIdle config now old mid told lent mid_lent
+      → EndsFirst config now mid k new due → new_lent ≤ mid_lent + 1 → more ≡ record { closed = told.closed + 1; by_idle = told.by_idle + one due.by_idle; by_life = told.by_life + one due.by_life }
+      → InIdle config now old new more lent new_lent
+  idle_more {k = k} {told = told} {more = more} i e l is = record {
+    ks = i.ks ++ k ∷ [];
+    ends = ends_more i.ends e is;
+    lendings = (let n : more.closed ≡ told.closed + 1 = ap (λ (r : Reaped). r.closed) is in omega (arith, i.lendings));
+    few = i.few;
+  }
+
+  -- ---- the walk along the order of births
+
+  -- at each of the places stands a connection that is out
+  abbrev pub AreOut : Lined (Slot (Standing C)) → List ℕ → Type 0
+  AreOut t [] = Unit {0}
+  AreOut t (k ∷ ks) = ((x : Slot (Standing C)) × (slot_at t k ≡ Some x) × (is_out x.standing.place ≡ true)) × AreOut t ks
+
+  -- how far the walk has come: it has passed those that are out, and ended the others
+  pub record InBirths (config : Settings) (now : ℕ) (old : ShownRecords C) (lent many : ℕ) (a : Inside C) (told : Reaped) (at : Option ℕ) (lent_now counter : ℕ) : Type 0 where
+    pub good : AreGoodRecords a
+    pub ks : List ℕ
+    pub ends : Ends config now old ks (view_of_records a) told
+    pub passed : List ℕ
+    pub rest : List ℕ
+    pub births : a.slots.births ≡ passed ++ rest
+    pub at_is : at ≡ slice_get rest 0
+    pub outs : AreOut a.slots passed
+    pub steps : told.closed + length passed ≡ counter
+    pub lendings : lent_now ≡ lent + counter
+    pub left : counter + length rest ≡ many
+    pub few : old.conns ≤ most_records
+    pub many_few : many ≤ old.conns
+
+  out_push : (t : Lined (Slot (Standing C))) (ks : List ℕ) (k : ℕ) (x : Slot (Standing C)) → AreOut t ks → slot_at t k ≡ Some x → is_out x.standing.place ≡ true → AreOut t (ks ++ k ∷ [])
+  out_push t [] k x o e is = ((x, e, is), tt)
+  out_push t (j ∷ ks) k x o e is = (o.0, out_push t ks k x o.1 e is)
+
+  out_kept : (old new : Lined (Slot (Standing C))) (place : ℕ) (ks : List ℕ) → ((i : ℕ) → i ≢ place → slot_at new i ≡ slot_at old i) → AreOut old ks → Absent place ks → AreOut new ks
+  out_kept old new place [] others o a = tt
+  out_kept old new place (k ∷ ks) others o a = ((o.0.0, others k a.0 ∙ o.0.1, o.0.2), out_kept old new place ks others o.1 a.1)
+
+  out_at : (t : Lined (Slot (Standing C))) (ks : List ℕ) (j k : ℕ) → AreOut t ks → slice_get ks j ≡ Some k → (x : Slot (Standing C)) × (slot_at t k ≡ Some x) × (is_out x.standing.place ≡ true)
+  out_at t [] j k o e = cc
+  out_at t (i ∷ ks) zero k o e =
+      let both : Some i ≡ Some k = e in
+      subst (λ (q : ℕ). (x : Slot (Standing C)) × (slot_at t q ≡ Some x) × (is_out x.standing.place ≡ true)) (let is : i ≡ k = cc in is) o.0
+  out_at t (i ∷ ks) (suc j) k o e = out_at t ks j k o.1 e
+
+  -- no place stands twice in a line that is cut at one
+  module _ (slots : List (Option (Slot (Standing C)))) (passed rest : List ℕ) (place : ℕ) (are : ArePlaces (λ (x : Slot (Standing C)). is_conn x.standing.place) slots (passed ++ place ∷ rest)) where
+    middle : slice_get (passed ++ place ∷ rest) (length passed) ≡ Some place
+    middle = get_back passed (place ∷ rest) (length passed) 0 (omega arith)
+
+    absent_front : Absent place passed
+    absent_front = get_absent place passed (λ j k e s.
+        let l : j < length passed = get_within passed j k e in
+        let same : j ≡ length passed = are.once j (length passed) k place (get_front passed (place ∷ rest) j k e) middle s in
+        omega arith)
+
+    absent_back : Absent place rest
+    absent_back = get_absent place rest (λ j k e s.
+        let same : length passed + suc j ≡ length passed = are.once (length passed + suc j) (length passed) k place (get_back passed (place ∷ rest) (length passed + suc j) (suc j) refl ∙ e) middle s in
+        omega arith)
+
+  pub conns_few : (a : Inside C) (s : ShownRecords C) → AreGoodRecords a → view_of_records a ≡ s → s.conns ≤ most_records
+  conns_few a s good shows = let e : a.conns ≡ s.conns = ap (λ (t : ShownRecords C). t.conns) shows in omega (arith, good.sizes.peak_holds, good.sizes.peak_few)
+
+  module _ {config : Settings} {now : ℕ} {old : ShownRecords C} {lent many : ℕ} where
+    -- it begins at the one that was born first
+    pub births_start : (a : Inside C) (told : Reaped) (at : Option ℕ) → AreGoodRecords a → view_of_records a ≡ old → told ≡ record { closed = 0; by_idle = 0; by_life = 0 }
+        → at ≡ slice_get a.slots.births 0 → many ≡ length a.slots.births → InBirths config now old lent many a told at lent 0
+    births_start a told at good shows zero_told at_is all = record {
+      good = good;
+      ks = [];
+      ends = subst (λ (s : ShownRecords C). Ends config now s [] (view_of_records a) told) shows (none_ended config now (view_of_records a) told zero_told);
+      passed = [];
+      rest = a.slots.births;
+      births = refl;
+      at_is = at_is;
+      outs = tt;
+      steps = (let e : told.closed ≡ 0 = ap (λ (r : Reaped). r.closed) zero_told in omega arith);
+      lendings = omega arith;
+      left = omega arith;
+      few = conns_few a old good shows;
+      many_few =
+          let e : a.conns ≡ old.conns = ap (λ (s : ShownRecords C). s.conns) shows in
+          let l : length a.slots.births ≤ tally (passes is_conn) a.slots.slots = line_length _ _ _ _ (passes is_conn) refl (λ x h. h) a.slots.births a.slots.slots good.births.are in
+          omega (arith, good.conns_are);
+    }
+
+    module _ {a : Inside C} {told : Reaped} {place lent_now counter : ℕ} (i : InBirths config now old lent many a told (Some place) lent_now counter) where
+      ahead : (rest : List ℕ) × (i.rest ≡ place ∷ rest)
+      ahead = head_split place i.rest (sym i.at_is)
+
+      cut : a.slots.births ≡ i.passed ++ place ∷ ahead.0
+      cut = i.births ∙ ap (λ (ks : List ℕ). i.passed ++ ks) ahead.1
+
+      more_left : suc (length ahead.0) ≡ length i.rest
+      more_left = ap (λ (ks : List ℕ). length ks) (sym ahead.1)
+
+      pub births_member : (j : ℕ) × (slice_get a.slots.births j ≡ Some place)
+      births_member = (length i.passed, ap (λ (ks : List ℕ). slice_get ks (length i.passed)) cut ∙ get_back i.passed (place ∷ ahead.0) (length i.passed) 0 (omega arith))
+
+      births_conn : (x : Slot (Standing C)) × (slot_at a.slots place ≡ Some x) × (is_conn x.standing.place ≡ true)
+      births_conn = let st = i.good.births.are.each births_member.0 place births_member.1 in (st.0, st.1, st.3)
+
+      pub births_stands : (x : Slot (Standing C)) × (slot_at a.slots place ≡ Some x)
+      births_stands = (births_conn.0, births_conn.1)
+
+      -- it passes one that is out
+      pub births_out : {next : Option ℕ} {new_lent : ℕ} → Passes config now a.slots place (Out next) → new_lent ≡ lent_now + 1 → InBirths config now old lent many a told next new_lent (counter + 1)
+      births_out {next} {new_lent} p l =
+          let same : births_conn.0 ≡ p.0 = let both : Some births_conn.0 ≡ Some p.0 = sym births_conn.1 ∙ p.1 in cc in
+          let conn : is_conn p.0.standing.place ≡ true = subst (λ (x : Slot (Standing C)). is_conn x.standing.place ≡ true) same births_conn.2 in
+          let longer : length (i.passed ++ place ∷ []) ≡ length i.passed + 1 = length-append i.passed (place ∷ []) in
+          record {
+            good = i.good;
+            ks = i.ks;
+            ends = i.ends;
+            passed = i.passed ++ place ∷ [];
+            rest = ahead.0;
+            births = cut ∙ append_move place i.passed ahead.0;
+            at_is = p.3 i.passed ahead.0 cut;
+            outs = out_push a.slots i.passed place p.0 i.outs p.1 (out_conn p.0.standing.place conn p.2);
+            steps = omega (arith, i.steps);
+            lendings = omega (arith, i.lendings);
+            left = omega (arith, i.left, more_left);
+            few = i.few;
+            many_few = i.many_few;
+          }
+
+      -- it ends one that is idle
+      module _ {slots : Lined (Slot (Standing C))} {due : Due} {next : Option ℕ} (p : Passes config now a.slots place (Aged due next)) (gone : Frees a.slots slots place) where
+        aged_idle : is_idle p.0.standing.place ≡ true
+        aged_idle = (places.and_right (is_idle p.0.standing.place) _ (sym p.2.by_life ∙ p.3)).0
+
+        pub births_aged : {more : Reaped} {new_lent : ℕ} → more ≡ record { closed = told.closed + 1; by_idle = told.by_idle + one due.by_idle; by_life = told.by_life + one due.by_life } → new_lent ≡ lent_now + 1
+            → InBirths config now old lent many (record a { slots = slots; conns = a.conns - 1 }) more next new_lent (counter + 1)
+        births_aged {more} {new_lent} is l =
+            let are = subst (λ (ks : List ℕ). ArePlaces (λ (x : Slot (Standing C)). is_conn x.standing.place) a.slots.slots ks) cut i.good.births.are in
+            let front : Absent place i.passed = absent_front a.slots.slots i.passed ahead.0 place are in
+            let n : more.closed ≡ told.closed + 1 = ap (λ (r : Reaped). r.closed) is in
+            record {
+              good = freed_good a place p.0 slots i.good p.1 aged_idle gone;
+              ks = i.ks ++ p.0.number ∷ [];
+              ends = ends_more i.ends (freed_due a place p.0 slots i.good p.1 aged_idle gone config now due (view_of_records a) refl p.2) is;
+              passed = i.passed;
+              rest = ahead.0;
+              births = freed_births a place p.0 slots i.good p.1 aged_idle gone ∙ ap (without place) cut
+                  ∙ without_between place i.passed ahead.0 front (absent_back a.slots.slots i.passed ahead.0 place are);
+              at_is = p.4 i.passed ahead.0 cut;
+              outs = out_kept a.slots slots place i.passed (set_updates None (inside a.slots.slots place p.0 p.1) (ap (λ (t : Lined (Slot (Standing C))). t.slots) gone)).others i.outs front;
+              steps = omega (arith, i.steps);
+              lendings = omega (arith, i.lendings);
+              left = omega (arith, i.left, more_left);
+              few = i.few;
+              many_few = i.many_few;
+            }
+
+    -- ---- where it ends
+
+    module _ {a : Inside C} {told : Reaped} {at : Option ℕ} {lent_now counter : ℕ} (i : InBirths config now old lent many a told at lent_now counter) where
+      -- none is left that lives too long, where none is ahead
+      none_aged : ((j k : ℕ) (y : Slot (Standing C)) → slice_get i.rest j ≡ Some k → slot_at a.slots k ≡ Some y → is_expired config.max_lifetime now y.standing.birth ≡ false)
+          → (k : ℕ) → lives_out config now (get (view_of_records a).places k) ≡ false
+      none_aged young = unless_idle (lives_out config now) refl (λ s e. and_left (is_idle s.place) _ e) a i.good (λ p y e idle. and_right (is_idle y.standing.place) _ (here p y e idle))
+        where
+          here : (p : ℕ) (y : Slot (Standing C)) → slot_at a.slots p ≡ Some y → is_idle y.standing.place ≡ true → is_expired config.max_lifetime now y.standing.birth ≡ false
+          here p y e idle =
+              let there = found_in i.good.births p y e (idle_conn y.standing.place idle) in
+              ⊎_elim
+              (λ (h : slice_get i.passed there.0 ≡ Some p).
+              let out = out_at a.slots i.passed there.0 p i.outs h in
+              let same : out.0 ≡ y = let both : Some out.0 ≡ Some y = sym out.1 ∙ e in cc in
+              absurd (out_busy y.standing.place (subst (λ (x : Slot (Standing C)). is_out x.standing.place ≡ true) same out.2) idle))
+              (λ (h : (j : ℕ) × (slice_get i.rest j ≡ Some p)). young h.0 p y h.1 e)
+              (get_joined i.passed i.rest there.0 p (ap (λ (ks : List ℕ). slice_get ks there.0) (sym i.births) ∙ there.1))
+
+      pub none_ahead : at ≡ None → (k : ℕ) → lives_out config now (get (view_of_records a).places k) ≡ false
+      none_ahead over = none_aged (λ j k y e f. absurd (never i.rest j k (sym i.at_is ∙ over) e))
+        where
+          never : (xs : List ℕ) (j k : ℕ) → slice_get xs 0 ≡ None → slice_get xs j ≡ Some k → ⊥
+          never [] j k e f = cc
+          never (x ∷ xs) j k e f = cc
+
+      pub none_more : many ≤ counter → (k : ℕ) → lives_out config now (get (view_of_records a).places k) ≡ false
+      none_more over = none_aged (λ j k y e f. absurd (let l : j < length i.rest = get_within i.rest j k e in omega (arith, i.left)))
+
+      -- no more were passed than are out
+      few_passed : length i.passed + length old.idle ≤ old.conns
+      few_passed =
+          let outs : ArePlaces (λ (x : Slot (Standing C)). is_out x.standing.place) a.slots.slots i.passed = record {
+            each = λ j k e. let o = out_at a.slots i.passed j k i.outs e in (o.0, o.1, refl, o.2);
+            once = λ j k p q e f s. i.good.births.are.once j k p q (in_births j p e) (in_births k q f) s;
+          } in
+          let few_out : length i.passed ≤ tally (passes is_out) a.slots.slots = line_length _ _ _ _ (passes is_out) refl (λ x h. h) i.passed a.slots.slots outs in
+          let few_idle : length a.slots.line ≤ tally (passes is_idle) a.slots.slots = line_length _ _ _ _ (passes is_idle) refl (λ x h. h) a.slots.line a.slots.slots i.good.idle.are in
+          let both : tally (passes is_idle) a.slots.slots + tally (passes is_out) a.slots.slots ≡ tally (passes is_conn) a.slots.slots = tally_split a.slots.slots in
+          let shown_idle : length (view_of_records a).idle ≡ length a.slots.line = length-map a.slots.line _ in
+          omega (arith, i.good.conns_are, i.ends.conns, i.ends.idle)
+        where
+          in_births : (j k : ℕ) → slice_get i.passed j ≡ Some k → slice_get a.slots.births j ≡ Some k
+          in_births j k e = ap (λ (ks : List ℕ). slice_get ks j) i.births ∙ get_front i.passed i.rest j k e
+
+      pub lent_at_most : lent_now ≤ lent + (told.closed + (old.conns - length old.idle))
+      lent_at_most = omega (arith, i.lendings, i.steps, few_passed)
+
+    -- it stops at the first that does not live too long
+    pub none_after : {a : Inside C} {told : Reaped} {place lent_now counter : ℕ} → InBirths config now old lent many a told (Some place) lent_now counter → Passes config now a.slots place Young
+        → (k : ℕ) → lives_out config now (get (view_of_records a).places k) ≡ false
+    none_after {a} {place = place} i p = none_aged i (λ j k y e f. shorter_span config.max_lifetime (now - p.0.standing.birth) (now - y.standing.birth) p.2
+        (let l : p.0.standing.birth ≤ y.standing.birth = no_earlier (λ (z : Slot (Standing C)). z.standing.birth) a.slots.slots i.passed (ahead i).0 place k j p.0 y
+        (subst (λ (ks : List ℕ). IsRising (numbers_at (λ (z : Slot (Standing C)). z.standing.birth) a.slots.slots ks)) (cut i) i.good.births.rises) p.1
+        (ap (λ (ks : List ℕ). slice_get ks j) (sym (ahead i).1) ∙ e) f in omega arith))
+
+  -- ---- both walks
+
+  pub reaps_both : {config : Settings} {now : ℕ} {old mid new : ShownRecords C} {ks js : List ℕ} {first then all : Reaped} → Ends config now old ks mid first → Ends config now mid js new then
+      → ((k : ℕ) → idles_out config now (get mid.places k) ≡ false) → ((k : ℕ) → lives_out config now (get new.places k) ≡ false)
+      → all ≡ record { closed = first.closed + then.closed; by_idle = first.by_idle + then.by_idle; by_life = first.by_life + then.by_life }
+      → Reaps config now old (ks ++ js) new all
+  reaps_both {config} {now} {new = new} a b none_idle none_aged is =
+      let e = ends_both a b is in
+      record {
+        each = e.each;
+        state = e.state;
+        none_left = λ k. none_reaped config now (get new.places k) (still_none (idles_out config now) refl b none_idle k) (none_aged k);
+        closed = e.closed;
+        by_idle = e.by_idle;
+        by_life = e.by_life;
+      }
