@@ -1,12 +1,12 @@
 //! Measures the core of the pool, beside what a user would take instead.
 //!
-//! Without arguments it prints the table. `bench rounds SIZE ROUNDS`, `bench drain SIZE` and `bench floor ROUNDS` make one run for a
-//! profiler, and print its checksum.
+//! Without arguments it prints the table. `bench rounds SIZE ROUNDS`, `bench drain SIZE`, `bench crowd GETS`,
+//! `bench give-ups GETS FROM COUNT` and `bench floor ROUNDS` make one run for a profiler, and print its checksum.
 
 mod library;
 mod script;
 
-use library::{core_fill_drain, core_rounds, script_run};
+use library::{core_crowd, core_fill_drain, core_give_ups, core_rounds, script_run};
 use std::collections::VecDeque;
 use std::env;
 use std::fs;
@@ -130,6 +130,8 @@ fn run_once(words: &[&str]) -> Option<u64> {
     match words {
         ["rounds", size, rounds] => Some(core_rounds(size.parse().ok()?, rounds.parse().ok()?)),
         ["drain", size] => Some(core_fill_drain(size.parse().ok()?)),
+        ["crowd", gets] => Some(core_crowd(gets.parse().ok()?)),
+        ["give-ups", gets, from, count] => Some(core_give_ups(gets.parse().ok()?, from.parse().ok()?, count.parse().ok()?)),
         ["floor", rounds] => Some(floor_rounds(rounds.parse().ok()?)),
         _ => None,
     }
@@ -148,7 +150,7 @@ fn main() -> ExitCode {
             ExitCode::SUCCESS
         }
         None => {
-            eprintln!("usage: bench [rounds SIZE ROUNDS | drain SIZE | floor ROUNDS]");
+            eprintln!("usage: bench [rounds SIZE ROUNDS | drain SIZE | crowd GETS | give-ups GETS FROM COUNT | floor ROUNDS]");
             ExitCode::from(2)
         }
     }

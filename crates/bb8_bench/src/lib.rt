@@ -10,11 +10,13 @@ mod running;
 mod serving;
 #[cfg(test)]
 mod tests;
+mod waiting;
 
 use opening::opened_pool;
 use running::run_over;
 use serving::{drained, turned};
 use std::alloc::Global;
+use waiting::{gathered, given_up, served_in_turn};
 
 /// Opens `size` connections, and then `rounds` times begins a get, has it take the connection that is idle longest, and gives that one
 /// back. Answers the sum of the numbers of the connections that were served, each counted from 1, at most the greatest u64. 0 comes where
@@ -38,6 +40,32 @@ pub extern "C" fn core_fill_drain(alloc: Global, size: u32) -> u64
     match opened_pool(alloc, size) {
         None => 0,
         Some(mut pool) => drained(&mut pool, size).unwrap_or(0),
+    }
+}
+
+/// Has a get take the one connection of a pool, has `gets` more begin and wait for it, and then so often gives it back and has the get
+/// that is notified take it. Answers `gets`, where they were notified in the order of their numbers. 0 comes where they were not, where
+/// memory was refused, and where no number was left. Our own.
+#[unsafe(no_mangle)]
+pub extern "C" fn core_crowd(alloc: Global, gets: u32) -> u64
+    ensures { (result ≡ 0) ⊎ (result ≡ gets) }
+{
+    match gathered(alloc, gets) {
+        None => 0,
+        Some(mut crowd) => served_in_turn(&mut crowd, gets).unwrap_or(0) as u64,
+    }
+}
+
+/// Has `gets` gets wait as `core_crowd`, and then lets `count` of them go, one after another in the order of their numbers, from the one
+/// before which `from` wait. Answers `count`. 0 comes where they are not so many, where memory was refused, and where no number was left.
+/// Our own.
+#[unsafe(no_mangle)]
+pub extern "C" fn core_give_ups(alloc: Global, gets: u32, from: u32, count: u32) -> u64
+    ensures { (result ≡ 0) ⊎ (result ≡ count) }
+{
+    match gathered(alloc, gets) {
+        None => 0,
+        Some(mut crowd) => given_up(&mut crowd, from, count).unwrap_or(0) as u64,
     }
 }
 

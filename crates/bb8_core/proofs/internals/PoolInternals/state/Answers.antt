@@ -1,4 +1,4 @@
-use Rattle.std.proofs.Common.{◌≡◌, ℕ, ◌≤◌, sym, subst, ◌∙◌, arith, ap}
+use Rattle.std.proofs.Common.{◌≡◌, ℕ, ◌≤◌, sym, subst, ◌∙◌, arith}
 use Rattle.bb8_ledger.specs.Acts as acts
 use Rattle.bb8_types.specs.Figures.{Figures, Counts}
 use Rattle.bb8_core.specs.Pool.{view_of}
