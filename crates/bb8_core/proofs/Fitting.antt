@@ -1,5 +1,5 @@
 -- What the condition of a step says of what is shown.
-use Rattle.std.proofs.Common.{◌≡◌, ℕ, ◌≤◌, Bool, true, false, Option, Some, None, is_some, refl, sym, ap, ◌∙◌, subst, ◌+◌, ◌-◌, ◌<◌, arith}
+use Rattle.std.proofs.Common.{◌≡◌, ℕ, ◌≤◌, Bool, true, false, Option, Some, None, is_some, refl, sym, ap, ◌∙◌, subst, ◌+◌, ◌-◌, ◌<◌, max, arith}
 use Rattle.std.proofs.lemmas.Bool.{ltb-true}
 use Rattle.std.specs.FinMap.{get}
 use Rattle.bb8_types.specs.declared.standing.Place.{Place}
@@ -7,7 +7,7 @@ use Rattle.bb8_types.specs.declared.standing.Place.TheVariants.{Unclaimed, Claim
 use Rattle.bb8_types.specs.declared.standing.Standing.{Standing}
 use Rattle.bb8_types.specs.declared.standing.Getting.{Getting}
 use Rattle.bb8_ledger.specs.Acts.{Try, GiveUp, Leave, Reason, Cancelled}
-use Rattle.bb8_ledger.specs.Ledger.{Ledger, conns, approved, alive, get_of, start, handles, records, gets, record_of}
+use Rattle.bb8_ledger.specs.Ledger.{Ledger, conns, approved, alive, get_of, start, latest, handles, records, gets, record_of}
 use Rattle.bb8_types.specs.Places.{holds, stands, gets_stand, is_unnotified, is_claimed, is_guarded, is_held_by, is_out}
 use Rattle.bb8_ledger.specs.Table.{fits, IsLegal}
 use Rattle.bb8_core.specs.Shown.{Shown, shown_beside, HasLedger, IsFitting, Means}
@@ -15,13 +15,14 @@ use Rattle.bb8_types.proofs.Places.{standing_is, claimed_is, guarded_out, and_ri
 use Rattle.bb8_ledger.proofs.GetEffects.{holding_is}
 use Rattle.bb8_ledger.proofs.Held.{all_held}
 use Rattle.bb8_ledger.proofs.Invalid.{few_ended}
+use Rattle.bb8_ledger.proofs.Moments.{none_later}
 use Rattle.bb8_ledger.proofs.Laws.{alive_get, trying_is, alive_is, out_counted, claimed_counted, Fits, all_fit, due_few}
 use Rattle.bb8_types.specs.Numbered.{Numbered}
 use Rattle.bb8_types.proofs.Numbered as numbered
 use Rattle.bb8_types.specs.Bounds.{end_of_numbers}
 use Rattle.bb8_types.specs.Grants.{due}
 use Rattle.bb8_types.specs.Settings.{Settings}
-use Rattle.bb8_tables.specs.Views.{ShownRecords}
+use Rattle.bb8_tables.specs.Views.{ShownRecords, NoneAfter}
 
 module _ {C : Type 0} where
   -- what a ledger shows, where nothing was lent
@@ -45,6 +46,13 @@ module _ {C : Type 0} where
 
   pub shown_record : (l : Ledger C) (s : Shown C) → Means l s → (k : ℕ) → record_of l k ≡ get s.records.places k
   shown_record l s is k = sym (numbered.get-numbered (λ (r : Numbered (Standing C)). r.standing) (records l) (start l).first k) ∙ ap (λ (t : Shown C). get t.records.places k) is
+
+  -- so no birth and no entry of what a state shows lies after the moment of its next event
+  pub none_after : (s : Shown C) (at now : ℕ) → HasLedger s → now ≡ max s.latest at → NoneAfter now s.records
+  none_after s at now h now_is k r e =
+      let none = none_later h.0 k r (shown_record h.0 s h.2 k ∙ e) in
+      let same : latest h.0 ≡ s.latest = ap (λ (t : Shown C). t.latest) h.2 in
+      (let b : r.birth ≤ latest h.0 = none.0 in omega arith, let b : r.entered ≤ latest h.0 = none.1 in omega arith)
 
   pub shown_get : (l : Ledger C) (s : Shown C) → Means l s → (g : ℕ) → get_of l g ≡ get s.gets.places g
   shown_get l s is g = sym (numbered.get-numbered (λ (r : Numbered Getting). r.standing) (gets l) (start l).first_get g) ∙ ap (λ (t : Shown C). get t.gets.places g) is

@@ -8,7 +8,7 @@ use Rattle.bb8_tables.specs.Counted.{counts_held}
 use Rattle.bb8_tables.specs.Reaps.{Reaps, after_reap}
 use Rattle.bb8_tables.specs.Views.{ShownRecords}
 use Rattle.bb8_tables.specs.Machine as machine
-use Rattle.bb8_tables.proofs.Walks.{counted_few}
+use Rattle.bb8_tables.proofs.Reaps.{counted_few}
 use Rattle.bb8_types.specs.Bounds.{end_of_numbers}
 use Rattle.bb8_types.specs.Figures.{Counts}
 use Rattle.bb8_types.specs.Numbered.{Numbered}

@@ -1,5 +1,6 @@
 pub mod Standings
 pub mod Facts
+pub mod Moments
 pub mod Waiters
 pub mod Effects
 pub mod GetEffects

@@ -7,6 +7,7 @@ pub mod Numbers
 pub mod Orders
 pub mod RecordPlaces
 pub mod ReapPlaces
+pub mod Reaps
 pub mod Walks
 pub mod Approvals
 pub mod Ended

@@ -1,10 +1,10 @@
 -- Idle connections that end.
-use Rattle.std.proofs.Common.{◌≡◌, ◌≢◌, ℕ, suc, ◌+◌, ◌-◌, ◌<◌, ◌≤◌, Bool, true, false, List, [], ◌∷◌, ◌++◌, map, length, Option, Some, None, set, option_map, get_or, slice_get, drop, refl, sym, ap, ◌∙◌, arith, subst, length-append}
+use Rattle.std.proofs.Common.{◌≡◌, ◌≢◌, ℕ, suc, ◌+◌, ◌-◌, ◌<◌, ◌≤◌, Bool, true, false, ◌&&◌, ◌||◌, List, [], ◌∷◌, ◌++◌, map, length, Option, Some, None, set, option_map, get_or, slice_get, drop, refl, sym, ap, ◌∙◌, arith, subst, length-append}
 use Rattle.std.proofs.lemmas.List.{drop-map, length-map}
 use Rattle.std.proofs.lemmas.Option.{slice_get-map}
 use Rattle.std.specs.FinMap.{remove}
 use Rattle.bb8_types.specs.Settings.{Settings}
-use Rattle.bb8_types.specs.Places.{is_idle, is_unclaimed, is_conn, is_approval}
+use Rattle.bb8_types.specs.Places.{is_idle, is_unclaimed, is_conn, is_approval, is_reaped}
 use Rattle.bb8_types.specs.Numbered.{tally}
 use Rattle.bb8_types.specs.declared.standing.Standing.{Standing}
 use Rattle.bb8_tables.specs.declared.table.Slot.{Slot}
@@ -27,6 +27,14 @@ use Rattle.bb8_tables.proofs.Slots.{Updates, set_updates, inside, table_removed,
 use Rattle.bb8_tables.proofs.Views.{same_records}
 
 module _ {C : Type 0} where
+  -- what is due is idle
+  pub due_idle : (config : Settings) (now : ℕ) (s : Standing C) → is_reaped config now (Some s) ≡ true → is_idle s.place ≡ true
+  due_idle config now s h = go (is_idle s.place) _ _ h
+    where
+      go : (i a b : Bool) → ((i && a) || (i && b)) ≡ true → i ≡ true
+      go true a b e = refl
+      go false a b e = cc
+
   -- an idle connection ends, wherever it stands in line
   module _ (a : Inside C) (place : ℕ) (x : Slot (Standing C)) (slots : Lined (Slot (Standing C))) (good : AreGoodRecords a)
       (at_place : slot_at a.slots place ≡ Some x) (was : is_idle x.standing.place ≡ true) (gone : Frees a.slots slots place) where

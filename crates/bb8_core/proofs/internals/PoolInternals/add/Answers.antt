@@ -3,7 +3,7 @@ use Rattle.bb8_ledger.specs.Acts as acts
 use Rattle.bb8_ledger.specs.Answers as answers
 use Rattle.bb8_tables.specs.Keys.{notified_of}
 use Rattle.bb8_core.specs.Pool.{view_of}
-use Rattle.bb8_core.proofs.Fitting.{shown_fits}
+use Rattle.bb8_core.proofs.Fitting.{shown_fits, none_after}
 use Rattle.bb8_core.proofs.Steps.{has_room, meets_add_broken, meets_add_full, meets_add_exhausted, meets_add_refused, meets_added, left, used_up, led, at_view, fits_view}
 use Rattle.bb8_core.proofs.internals.PoolInternals.add.Goals as goal
 
@@ -27,6 +27,9 @@ returns-then-not-has_number-clause-step g c = rw c.if-broken.false (at_view c.ar
 
 pub invariant_of-self-then-not-has_number : goal.invariant_of-self-then-not-has_number
 invariant_of-self-then-not-has_number g c = led _ c.args.at.0 (acts.Add c.args.conn c.args.broken) answers.Withheld c.self.view_is c.self.invariant (returns-then-not-has_number-clause-step g c)
+
+pub add-requires-clause-moments : goal.add-requires-clause-moments
+add-requires-clause-moments g c = none_after (view_of c.self.inside) c.args.at.0 c.max-now.result c.self.invariant c.max-now.ensures
 
 pub add-requires-clause-few : goal.add-requires-clause-few
 add-requires-clause-few g c = omega (arith, (shown_fits (view_of c.self.inside) c.self.invariant).size, c.used.ensures, c.if-used-self.false)

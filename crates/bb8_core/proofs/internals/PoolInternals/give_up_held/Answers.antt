@@ -4,7 +4,7 @@ use Rattle.bb8_ledger.specs.Answers as answers
 use Rattle.bb8_core.specs.StepAnswers.{reason_of}
 use Rattle.bb8_core.specs.Pool.{view_of}
 use Rattle.bb8_tables.specs.Keys.{notified_of}
-use Rattle.bb8_core.proofs.Fitting.{shown_fits, fit_holds, give_up_holds, holds_out, holds_stands, ended_few, closed_few}
+use Rattle.bb8_core.proofs.Fitting.{shown_fits, fit_holds, give_up_holds, holds_out, holds_stands, ended_few, closed_few, none_after}
 use Rattle.bb8_core.proofs.Steps.{led, at_view, fits_view}
 use Rattle.bb8_core.proofs.GetEnds.{notices, given_up_open, meets_given_up_kept, meets_given_up_closed}
 use Rattle.bb8_core.proofs.internals.PoolInternals.give_up_held.Goals as goal
@@ -50,6 +50,12 @@ close-requires g c = omega (
       (λ l legal means. give_up_holds l c.args.get.number (reason_of c.args.reason) c.args.conn c.args.broken (c.requires l legal means))
       c.getting-getting.ensures.value c.held_key-key.ensures)) c.end_out-grant.ensures.numbers,
 )
+
+pub enter-requires-clause-moments : goal.enter-requires-clause-moments
+enter-requires-clause-moments g c = none_after (view_of c.self.inside) c.args.at.0 c.max-now.result c.self.invariant c.max-now.ensures
+
+pub enter-requires-clause-birth : goal.enter-requires-clause-birth
+enter-requires-clause-birth g c = c.birth-birth.ensures.value
 
 pub enter-requires-clause-out : goal.enter-requires-clause-out
 enter-requires-clause-out g c = holds_out (view_of c.self.inside) c.args.get.number c.self.invariant c.getting-getting.ensures.value

@@ -2,12 +2,16 @@ use Rattle.std.proofs.Common.{arith, refl}
 use Rattle.bb8_ledger.specs.Acts as acts
 use Rattle.bb8_ledger.specs.Answers as answers
 use Rattle.bb8_tables.specs.Keys.{notified_of}
-use Rattle.bb8_core.proofs.Fitting.{fit_claimed, created_few}
+use Rattle.bb8_core.specs.Pool.{view_of}
+use Rattle.bb8_core.proofs.Fitting.{fit_claimed, created_few, none_after}
 use Rattle.bb8_core.proofs.Steps.{meets_opened, meets_late, led, at_view, fits_view}
 use Rattle.bb8_core.proofs.internals.PoolInternals.opened.Goals as goal
 
 pub close-requires : goal.close-requires
 close-requires g c = fit_claimed c.args.a.number c.self.view_is c.self.invariant c.requires
+
+pub enter-requires-clause-moments : goal.enter-requires-clause-moments
+enter-requires-clause-moments g c = none_after (view_of c.self.inside) c.args.at.0 c.max-now.result c.self.invariant c.max-now.ensures
 
 pub enter-requires-clause-out : goal.enter-requires-clause-out
 enter-requires-clause-out g c = fit_claimed c.args.a.number c.self.view_is c.self.invariant c.requires

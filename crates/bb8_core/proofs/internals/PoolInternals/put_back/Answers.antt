@@ -3,7 +3,7 @@ use Rattle.bb8_ledger.specs.Acts as acts
 use Rattle.bb8_ledger.specs.Answers as answers
 use Rattle.bb8_tables.specs.Keys.{notified_of}
 use Rattle.bb8_core.specs.Pool.{view_of}
-use Rattle.bb8_core.proofs.Fitting.{shown_fits, fit_guarded, closed_few}
+use Rattle.bb8_core.proofs.Fitting.{shown_fits, fit_guarded, closed_few, none_after}
 use Rattle.bb8_core.proofs.Steps.{meets_returned_kept, meets_returned_closed, led, at_view, fits_view}
 use Rattle.bb8_core.proofs.internals.PoolInternals.put_back.Goals as goal
 
@@ -16,6 +16,12 @@ end_out-grant-requires-clause-size g c = (shown_fits (view_of c.self.inside) c.s
 pub close-requires : goal.close-requires
 close-requires g c = closed_few c.args.k.number (view_of c.self.inside) c.self.invariant
     (fit_guarded c.args.k.number c.self.view_is c.self.invariant c.requires) c.end_out-grant.ensures.numbers
+
+pub enter-requires-clause-moments : goal.enter-requires-clause-moments
+enter-requires-clause-moments g c = none_after (view_of c.self.inside) c.args.at.0 c.max-now.result c.self.invariant c.max-now.ensures
+
+pub enter-requires-clause-birth : goal.enter-requires-clause-birth
+enter-requires-clause-birth g c = c.birth-birth.ensures.value
 
 pub enter-requires-clause-out : goal.enter-requires-clause-out
 enter-requires-clause-out g c = fit_guarded c.args.k.number c.self.view_is c.self.invariant c.requires

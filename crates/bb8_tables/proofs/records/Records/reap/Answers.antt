@@ -1,5 +1,6 @@
 use Rattle.std.proofs.Common.{arith}
-use Rattle.bb8_tables.proofs.Walks.{conns_few, few_by_idle, few_by_life, reaps_both}
+use Rattle.bb8_tables.proofs.Reaps.{few_by_idle, few_by_life}
+use Rattle.bb8_tables.proofs.Walks.{conns_few, reaps_both}
 use Rattle.bb8_tables.proofs.records.Records.reap.Goals as goal
 
 pub reap_aged-by_life-requires : goal.reap_aged-by_life-requires

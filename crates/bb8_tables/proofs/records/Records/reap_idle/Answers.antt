@@ -1,4 +1,5 @@
-use Rattle.bb8_tables.proofs.Walks.{idle_more, few_by_idle, few_by_life}
+use Rattle.bb8_tables.proofs.Reaps.{few_by_idle, few_by_life}
+use Rattle.bb8_tables.proofs.Walks.{idle_more}
 use Rattle.bb8_tables.proofs.records.Records.reap_idle.Goals as goal
 
 pub with-told-requires-clause-by_idle : goal.with-told-requires-clause-by_idle
