@@ -16,7 +16,7 @@ use opening::opened_pool;
 use running::run_over;
 use serving::{drained, turned};
 use std::alloc::Global;
-use waiting::{gathered, given_up, served_in_turn};
+use waiting::{given_up, served_in_turn};
 
 /// Opens `size` connections, and then `rounds` times begins a get, has it take the connection that is idle longest, and gives that one
 /// back. Answers the sum of the numbers of the connections that were served, each counted from 1, at most the greatest u64. 0 comes where
@@ -50,10 +50,7 @@ pub extern "C" fn core_fill_drain(alloc: Global, size: u32) -> u64
 pub extern "C" fn core_crowd(alloc: Global, gets: u32) -> u64
     ensures { (result ≡ 0) ⊎ (result ≡ gets) }
 {
-    match gathered(alloc, gets) {
-        None => 0,
-        Some(mut crowd) => served_in_turn(&mut crowd, gets).unwrap_or(0) as u64,
-    }
+    served_in_turn(alloc, gets).unwrap_or(0) as u64
 }
 
 /// Has `gets` gets wait as `core_crowd`, and then lets `count` of them go, one after another in the order of their numbers, from the one
@@ -63,10 +60,7 @@ pub extern "C" fn core_crowd(alloc: Global, gets: u32) -> u64
 pub extern "C" fn core_give_ups(alloc: Global, gets: u32, from: u32, count: u32) -> u64
     ensures { (result ≡ 0) ⊎ (result ≡ count) }
 {
-    match gathered(alloc, gets) {
-        None => 0,
-        Some(mut crowd) => given_up(&mut crowd, from, count).unwrap_or(0) as u64,
-    }
+    given_up(alloc, gets, from, count).unwrap_or(0) as u64
 }
 
 /// Runs the script that `input` spells, and writes its answers over the front of `out`. Answers how many bytes they are. 0 comes where

@@ -12,7 +12,7 @@ use std::alloc::Global;
 pub(crate) const NOW: Moment = Moment(0);
 
 /// As by default, but that no connection is checked, and that the pool fills itself.
-fn full_config(size: u32) -> Config
+pub(crate) fn full_config(size: u32) -> Config
     ensures { settings_of result ≡ record
         default_settings { max_size = size; min_idle = Some size; test_on_check_out = false } }
 {

@@ -12,7 +12,7 @@ use bb8_core::internals::{
 };
 
 /// The connection that a try was served, with its key, and what was granted then. None where the get checks one, or waits.
-pub(crate) fn out_of(answer: TryAnswer<u64>) -> Option<(Key, u64, Grant)>
+fn out_of(answer: TryAnswer<u64>) -> Option<(Key, u64, Grant)>
     ensures { IfSome result (λ r. answer ≡ Served r.0 r.1 r.2) }
 {
     match answer {

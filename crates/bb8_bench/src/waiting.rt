@@ -1,54 +1,78 @@
-//! Gets that wait for the one connection of a pool, which is out.
+//! Gets that wait for the one connection of a pool, which is out. Connections are of a type of their own here, so that what the rounds are
+//! measured by stays compiled for them alone.
 ghost use Rattle.std.specs.Prelude.{◌≡◌, IfSome};
 
-use crate::opening::{NOW, opened_pool};
-use crate::serving::out_of;
+use crate::opening::{NOW, full_config};
 use bb8_core::internals::{
-    BeginAnswer, GetKey, GiveUpAnswer, Key, PoolInternals, PutBackAnswer, Reason, TryAnswer,
+    BeginAnswer, ClaimAnswer, GetKey, GiveUpAnswer, Key, OpenedAnswer, PoolInternals,
+    PutBackAnswer, Reason, TryAnswer,
 };
 use std::alloc::Global;
 
-/// A pool, what is out of it, and the gets that wait, in the order of their numbers.
+/// A pool whose one connection is out, under this key.
 #[derive(Drop)]
-pub(crate) struct Crowd {
-    pool: PoolInternals<u64>,
+pub(crate) struct Busy {
+    pool: PoolInternals<()>,
     key: Key,
-    conn: u64,
-    gets: Vec<GetKey>,
-}
-
-/// Begins a get. None where memory was refused, or no number was left.
-fn begin(pool: &mut PoolInternals<u64>) -> Option<GetKey> {
-    if !pool.fits_begin() {
-        return None;
-    }
-    match pool.begin(NOW) {
-        BeginAnswer::Begun(get) => Some(get),
-        BeginAnswer::Memory | BeginAnswer::Exhausted => None,
-    }
 }
 
 /// Has a get try. None where it may not.
-fn try_get(pool: &mut PoolInternals<u64>, get: GetKey) -> Option<TryAnswer<u64>> {
+fn try_get(pool: &mut PoolInternals<()>, get: GetKey) -> Option<TryAnswer<()>> {
     if !pool.fits_try(get) {
         return None;
     }
     Some(pool.try_get(NOW, get))
 }
 
+/// Has a get begin and wait. None where memory was refused, no number was left, or it was served.
+fn wait(pool: &mut PoolInternals<()>) -> Option<GetKey> {
+    if !pool.fits_begin() {
+        return None;
+    }
+    let BeginAnswer::Begun(get) = pool.begin(NOW) else {
+        return None;
+    };
+    match try_get(pool, get)? {
+        TryAnswer::Waiting(_) => Some(get),
+        TryAnswer::Served(..) | TryAnswer::Taken(..) => None,
+    }
+}
+
+/// Has a get be served, and tells with which connection. None where it waits.
+fn serve(pool: &mut PoolInternals<()>, get: GetKey) -> Option<Key> {
+    match try_get(pool, get)? {
+        TryAnswer::Served(key, (), _) => Some(key),
+        TryAnswer::Taken(..) | TryAnswer::Waiting(_) => None,
+    }
+}
+
+/// Opens the connection that was approved, and tells who was notified. None where nobody was.
+fn open(pool: &mut PoolInternals<()>) -> Option<GetKey> {
+    let ClaimAnswer::Claimed(Some(approval)) = pool.claim(NOW) else {
+        return None;
+    };
+    if !pool.fits_opened(approval) {
+        return None;
+    }
+    match pool.opened(NOW, approval, ()) {
+        OpenedAnswer::Entered(notified) => notified,
+        OpenedAnswer::Late(()) => None,
+    }
+}
+
 /// Gives back a connection, and tells who was notified. None where nobody was, or no guard holds it.
-fn give_back(pool: &mut PoolInternals<u64>, key: Key, conn: u64) -> Option<GetKey> {
+fn give_back(pool: &mut PoolInternals<()>, key: Key) -> Option<GetKey> {
     if !pool.fits_put_back(key) {
         return None;
     }
-    match pool.put_back(NOW, key, conn, false) {
+    match pool.put_back(NOW, key, (), false) {
         PutBackAnswer::Kept(notified) => notified,
         PutBackAnswer::Closed(..) => None,
     }
 }
 
 /// Lets a get go. None where it is not alive.
-fn cancel(pool: &mut PoolInternals<u64>, get: GetKey) -> Option<()> {
+fn cancel(pool: &mut PoolInternals<()>, get: GetKey) -> Option<()> {
     if !pool.fits_give_up(get, false) {
         return None;
     }
@@ -58,52 +82,57 @@ fn cancel(pool: &mut PoolInternals<u64>, get: GetKey) -> Option<()> {
     }
 }
 
-/// A pool of one connection, which a get was served, and so many gets that wait. None where memory was refused, or no number was left.
-pub(crate) fn gathered(alloc: Global, count: u32) -> Option<Crowd> {
-    let mut pool = opened_pool(alloc, 1)?;
-    let first = begin(&mut pool)?;
-    let (key, conn, _) = out_of(try_get(&mut pool, first)?)?;
-    let mut gets = Vec::new(alloc);
-    for _ in 0..count {
-        let get = begin(&mut pool)?;
-        let TryAnswer::Waiting(_) = try_get(&mut pool, get)? else {
-            return None;
-        };
-        gets.push(get).ok()?;
+/// A pool of one connection, which the first get was served. None where memory was refused.
+fn one_out(alloc: Global) -> Option<Busy> {
+    let config = full_config(1);
+    if !config.is_lawful() {
+        return None;
     }
-    Some(Crowd {
-        pool,
-        key,
-        conn,
-        gets,
-    })
+    let mut pool = PoolInternals::new(alloc, config);
+    wait(&mut pool)?;
+    let first = open(&mut pool)?;
+    let key = serve(&mut pool, first)?;
+    Some(Busy { pool, key })
 }
 
-/// Gives the connection back and has whoever is notified take it, so often: how often. None where another get was notified than the one
-/// that waited longest.
-pub(crate) fn served_in_turn(crowd: &mut Crowd, count: u32) -> Option<u32>
-    ensures { IfSome result (λ n. n ≡ count) }
+/// Has so many gets begin and wait, and then so often gives the connection back and has whoever is notified take it: how many they are. None
+/// where another was notified than the one that waited longest, memory was refused, or no number was left.
+pub(crate) fn served_in_turn(alloc: Global, gets: u32) -> Option<u32>
+    ensures { IfSome result (λ n. n ≡ gets) }
 {
-    for number in 0..count {
-        let get = give_back(&mut crowd.pool, crowd.key, crowd.conn)?;
+    let Busy { mut pool, mut key } = one_out(alloc)?;
+    for _ in 0..gets {
+        wait(&mut pool)?;
+    }
+    for number in 0..gets {
+        let get = give_back(&mut pool, key)?;
         if get.number != number as u64 + 1 {
             return None;
         }
-        let (key, conn, _) = out_of(try_get(&mut crowd.pool, get)?)?;
-        crowd.key = key;
-        crowd.conn = conn;
+        key = serve(&mut pool, get)?;
     }
-    Some(count)
+    Some(gets)
 }
 
-/// Lets so many of those that wait go, one after another, from the one in this place in the order: how many.
-pub(crate) fn given_up(crowd: &mut Crowd, from: u32, count: u32) -> Option<u32>
+/// Has so many gets begin and wait: their keys, in the order of their numbers.
+fn waiting(alloc: Global, pool: &mut PoolInternals<()>, gets: u32) -> Option<Vec<GetKey>> {
+    let mut keys = Vec::new(alloc);
+    for _ in 0..gets {
+        keys.push(wait(pool)?).ok()?;
+    }
+    Some(keys)
+}
+
+/// Has so many gets begin and wait, and then lets so many of them go, one after another, from the one in this place in the order: how many
+/// went. None where they are not so many, memory was refused, or no number was left.
+pub(crate) fn given_up(alloc: Global, gets: u32, from: u32, count: u32) -> Option<u32>
     ensures { IfSome result (λ n. n ≡ count) }
 {
+    let Busy { mut pool, .. } = one_out(alloc)?;
+    let keys = waiting(alloc, &mut pool, gets)?;
     for number in 0..count {
         let place = from as usize + number as usize;
-        let get = *crowd.gets.get(place)?;
-        cancel(&mut crowd.pool, get)?;
+        cancel(&mut pool, *keys.get(place)?)?;
     }
     Some(count)
 }
