@@ -1,5 +1,5 @@
 //! A journal that several threads share: one lock round it, and the seats, one for each thread.
-ghost use Rattle.std.specs.Prelude.{◌≡◌, ◌+◌, ◌<◌, ◌≤◌, ◌++◌, ◌∷◌, [], true, IfOk, OnErr, length, map, vec_len, vec_capacity};
+ghost use Rattle.std.specs.Prelude.{◌≡◌, ◌<◌, ◌≤◌, true, IfOk, OnErr, length, map, vec_len, vec_capacity};
 ghost use Rattle.std.specs.List.{sum_by, range_with_len};
 ghost use Rattle.bb8_journal.specs.History.{Replays, AfterEachEntry};
 ghost use Rattle.bb8_ledger.specs.Limits.{KeepsLimits, KeepsLaws, KeepsPromises};
