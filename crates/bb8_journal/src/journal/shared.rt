@@ -17,7 +17,8 @@ use std::marker::PhantomData;
 use std::sync::ledger::{Blank, Ledger, Share};
 use std::sync::{Mutex, Wait};
 
-/// How many seats there are: as many as the ledger has parts.
+/// How many seats there are: as many as the ledger has parts. It is a struct of its own as the toolchain finds the parts in a ghost fact under
+/// the bound `Ledger`, and not under one that has it for a supertrait.
 #[derive(Drop)]
 struct Seats<L: Ledger> {
     count: usize,
