@@ -15,7 +15,9 @@ use std::alloc::{AllocError, AllocFailed, Global};
 /// A configuration, and what happens to a pool that holds to it.
 #[derive(Drop)]
 pub struct Script {
+    /// The configuration, of the first line.
     pub config: Config,
+    /// The events, of the other lines.
     pub events: Vec<Event>,
 }
 

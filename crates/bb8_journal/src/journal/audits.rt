@@ -1,5 +1,5 @@
 //! The audit of a history: whether what the seats noted is the history.
-ghost use Rattle.std.specs.Prelude.{◌≡◌, ℕ, ◌+◌, ◌==◌, true, false, All, Some, length, slice_get};
+ghost use Rattle.std.specs.Prelude.{◌≡◌, ℕ, true, All, Some, length, slice_get};
 ghost use Rattle.std.specs.Bool.{Decides};
 ghost use Rattle.std.specs.List.{Contains, sum_by};
 ghost use Rattle.bb8_journal.specs.Audit.{lines_by, lines_from, lines_noted, IsAccount, entries_of, steps_in};
@@ -63,7 +63,8 @@ fn has_note(noted: &[(u64, Answer)], index: u64, answer: Answer) -> bool
 
 /// Whether a seat noted this of an entry of its own.
 fn has_noted(notes: &Notes, index: u64, entry: Entry) -> bool
-    ensures { Decides result (Contains (lines_by notes.now) (index, (entry.seat, entry.answer))) }
+    ensures { Decides result
+        (Contains (lines_by notes.now) (index, (entry.seat, entry.answer))) }
 {
     if notes.seat != entry.seat {
         return false;
@@ -96,10 +97,11 @@ fn are_noted(entries: &[Entry], notes: &[Notes]) -> bool
 }
 
 /// Whether no note is missing and the notes together are the entries' indices with their seats and answers, each once. Then each seat's
-/// entries are as many as the steps that it made.
+/// entries are as many as the steps that it made. It needs no memory. Our own.
 pub fn audit(entries: &[Entry], notes: &[Notes]) -> bool
     ensures account { Decides result (IsAccount entries.now notes.now) }
-    ensures seats { result ≡ true → (seat : ℕ) → entries_of seat entries.now ≡ steps_in seat notes.now }
+    ensures seats { result ≡ true
+        → (seat : ℕ) → entries_of seat entries.now ≡ steps_in seat notes.now }
 {
     if !is_complete(notes) {
         return false;

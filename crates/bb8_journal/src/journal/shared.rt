@@ -1,5 +1,5 @@
 //! A journal that several threads share: one lock round it, and the seats, one for each thread.
-ghost use Rattle.std.specs.Prelude.{◌≡◌, ◌+◌, ◌<◌, ◌≤◌, ◌++◌, ◌∷◌, [], true, IfOk, OnErr, length, map, vec_len, vec_capacity};
+ghost use Rattle.std.specs.Prelude.{◌≡◌, ◌<◌, ◌≤◌, true, IfOk, OnErr, length, map, vec_len, vec_capacity};
 ghost use Rattle.std.specs.List.{sum_by, range_with_len};
 ghost use Rattle.bb8_journal.specs.History.{Replays, AfterEachEntry};
 ghost use Rattle.bb8_ledger.specs.Limits.{KeepsLimits, KeepsLaws, KeepsPromises};
@@ -17,7 +17,8 @@ use std::marker::PhantomData;
 use std::sync::ledger::{Blank, Ledger, Share};
 use std::sync::{Mutex, Wait};
 
-/// How many seats there are: as many as the ledger has parts.
+/// How many seats there are: as many as the ledger has parts. It is a struct of its own as the toolchain finds the parts in a ghost fact under
+/// the bound `Ledger`, and not under one that has it for a supertrait.
 #[derive(Drop)]
 struct Seats<L: Ledger> {
     count: usize,

@@ -12,13 +12,20 @@ pub returns-then-not-is_noted : goal.returns-then-not-is_noted
 returns-then-not-is_noted c = (
   λ no. cc,
   λ all.
-      let yes : c.is_noted.result ≡ true = c.is_noted.ensures.1 (All-contains (Contains (lines_noted c.args.notes.now)) (lines_from 0 c.args.entries.now) _ all (subst (λ (e : Entry). Contains (lines_from 0 c.args.entries.now) (c.loop-index.index, (e.seat, e.answer))) (sym c.index-entries-index.is) (line_in 0 c.loop-index.index c.loop-index.index c.args.entries.now c.index-entries-index.result (omega arith) (omega arith)))) in
+      let yes : c.is_noted.result ≡ true =
+      c.is_noted.ensures.1 (All-contains (Contains (lines_noted c.args.notes.now)) (lines_from 0 c.args.entries.now) _ all
+      (subst (λ (e : Entry). Contains (lines_from 0 c.args.entries.now) (c.loop-index.index, (e.seat, e.answer))) (sym c.index-entries-index.is)
+      (line_in 0 c.loop-index.index c.loop-index.index c.args.entries.now c.index-entries-index.result (omega arith) (omega arith)))) in
       let no : c.is_noted.result ≡ false = c.if-not-is_noted.true in
       cc,
 )
 
 pub loop-index-preserved : goal.loop-index-preserved
-loop-index-preserved c = more_noted (lines_noted c.args.notes.now) c.args.entries.now c.loop-index.index c.index-entries-index.result (omega arith) c.loop-index.invariant (subst (λ (e : Entry). Contains (lines_noted c.args.notes.now) (c.loop-index.index, (e.seat, e.answer))) c.index-entries-index.is (c.is_noted.ensures.0 c.if-not-is_noted.false))
+loop-index-preserved c =
+    more_noted (lines_noted c.args.notes.now) c.args.entries.now c.loop-index.index c.index-entries-index.result (omega arith)
+    c.loop-index.invariant
+    (subst (λ (e : Entry). Contains (lines_noted c.args.notes.now) (c.loop-index.index, (e.seat, e.answer))) c.index-entries-index.is
+    (c.is_noted.ensures.0 c.if-not-is_noted.false))
 
 pub returns : goal.returns
 returns c =

@@ -15,7 +15,9 @@ invariant_of-self-2 g c =
     let items = c.push_reserved.ensures.items ∙ ap (λ (xs : List Entry). xs ++ entry c.number.result c.args.event c.apply-answer.result ∷ []) c.make_room.ensures.items in
     record {
       lawful = c.self.invariant.lawful;
-      replays = subst (λ (xs : List Entry). Replays g.L.Recorded.config xs c.apply-answer.new.pool) (sym items) (replays_more g.L.Recorded.config c.self.inside.history.items c.self.inside.pool c.apply-answer.new.pool c.number.result c.args.event c.apply-answer.result c.self.invariant.lawful c.self.invariant.replays c.apply-answer.ensures);
+      replays = subst (λ (xs : List Entry). Replays g.L.Recorded.config xs c.apply-answer.new.pool) (sym items)
+          (replays_more g.L.Recorded.config c.self.inside.history.items c.self.inside.pool c.apply-answer.new.pool c.number.result
+          c.args.event c.apply-answer.result c.self.invariant.lawful c.self.invariant.replays c.apply-answer.ensures);
       counted = omega (arith, c.self.invariant.counted, c.make_room.ensures.len, c.push_reserved.ensures.len, c.count.ensures.total);
       roomy = omega (arith, room, c.push_reserved.ensures.len, c.push_reserved.ensures.capacity);
       no_part = c.self.invariant.no_part;
