@@ -118,6 +118,7 @@ impl<C, V: Drop, A: Drop> Turning<C, V, A> {
             ended: false,
         }
     }
+
     /// Lets the driver go, at a reading `at` of the clock, and each of its tasks, in their order: the approval of each that has not ended is
     /// given back. Our own.
     pub fn give_back<E, W: Opener<C, E, Connecting = V, Acquiring = A>, H: Home<C>>(
