@@ -8,7 +8,7 @@ use Rattle.bb8_ledger.specs.Acts.{Act}
 use Rattle.bb8_ledger.specs.Answers.{Answer}
 use Rattle.bb8_ledger.specs.Ledger.{Ledger, Later, start, position, latest, handles, gets, alive, alive_of, get_of, new_get, with_notice}
 use Rattle.bb8_types.specs.Numbered.{update, after_end}
-use Rattle.bb8_ledger.specs.Table.{Row, begins, begin_refused, begin_exhausted, waits_on, serves, takes_out, waits, checks, check_fails, gives_up, gives_up_kept, gives_up_closed, keeps, returns_closed, fills, claims, claim_ended, opens, opens_late, fails, add_broken, add_full, add_exhausted, add_refused, adds, reap_ended, reaps, shows, joins, join_exhausted, leaves, looks, takes, fits, is_brought, Allowed, IsLegal}
+use Rattle.bb8_ledger.specs.Table.{Row, begins, begin_refused, begin_exhausted, waits_on, serves, takes_out, waits, checks, check_fails, gives_up, gives_up_kept, gives_up_closed, keeps, returns_closed, fills, claims, claim_ended, opens, opens_late, fails, add_broken, add_full, add_exhausted, add_refused, adds, reap_ended, reaps, shows, joins, join_exhausted, leaves, looks, fits, Allowed, IsLegal}
 use Rattle.bb8_types.proofs.Places.{and_right}
 use Rattle.bb8_types.proofs.Numbered as numbered
 use Rattle.bb8_ledger.proofs.Waiters.{alive_counted, begins_alive, notify_alive}
@@ -80,9 +80,9 @@ module _ {C : Type 0} where
 
   -- the same of what is shown: an event that is taken ends as it says, and one that is not changes nothing
   ends_at : (l : Ledger C) (at : ℕ) (e : Act C) (a : Answer) → IsLegal l → Allowed l at e a
-      → Ends (takes l e && is_ending e) (endings_of (shown l)) (endings_of (shown (Later l at e a)))
+      → Ends (fits l e && is_ending e) (endings_of (shown l)) (endings_of (shown (Later l at e a)))
   ends_at l at e a legal allowed =
-      by_fit (takes l e) _ _ (Ends (takes l e && is_ending e) (endings_of (shown l)) (endings_of (shown (Later l at e a)))) allowed
+      by_fit (fits l e) _ _ (Ends (fits l e && is_ending e) (endings_of (shown l)) (endings_of (shown (Later l at e a)))) allowed
       (λ t row. subst (λ (b : Bool). Ends (b && is_ending e) (endings_of (shown l)) (endings_of (shown (Later l at e a)))) (sym t)
       (row_ends l at e a (out_of (shown l)) (out_of (shown (Later l at e a))) (and_right (is_brought e) _ t).1 row (counted_at l at e a legal allowed).moves))
       (λ t is. subst (λ (b : Bool). Ends (b && is_ending e) (endings_of (shown l)) (endings_of (shown (Later l at e a)))) (sym t)
@@ -116,7 +116,7 @@ at_most false before after h = h
 pub one_more : (old : Shown ℕ) (at : ℕ) (e : Named) (a : Told) (new : Shown ℕ) → HasLedger old → Happens old at e a new → endings_of new ≤ endings_of old + 1
 one_more old at e a new h happens =
     let m = happens h.0 h.1 h.2 in
-    at_most (takes h.0 (act_of h.0 e) && is_ending (act_of h.0 e)) _ _
+    at_most (fits h.0 (act_of h.0 e) && is_ending (act_of h.0 e)) _ _
     (ends_shown _ _ _ _ _ (ap endings_of h.2) (ap endings_of m.1) (ends_at h.0 at (act_of h.0 e) (answer_of a) h.1 m.0))
 
 -- An ending event that is taken leaves fewer.
@@ -124,7 +124,7 @@ pub one_less : (old : Shown ℕ) (at : ℕ) (e : Named) (a : Told) (new : Shown 
     → IsTaken old e → is_named_ending e ≡ true → endings_of new + 1 ≤ endings_of old
 one_less old at e a new h happens taken ending =
     let m = happens h.0 h.1 h.2 in
-    let is : (takes h.0 (act_of h.0 e) && is_ending (act_of h.0 e)) ≡ true =
+    let is : (fits h.0 (act_of h.0 e) && is_ending (act_of h.0 e)) ≡ true =
     ap (λ (b : Bool). b && is_ending (act_of h.0 e)) (taken h.0 h.1 h.2) ∙ named_ending h.0 e ∙ ending in
     subst (λ (b : Bool). Ends b (endings_of old) (endings_of new)) is
     (ends_shown _ _ _ _ _ (ap endings_of h.2) (ap endings_of m.1) (ends_at h.0 at (act_of h.0 e) (answer_of a) h.1 m.0))

@@ -1,7 +1,7 @@
 //! The plain state of a pool as a home of its reaper.
 ghost use Rattle.bb8_ledger.specs.Acts as acts;
 ghost use Rattle.bb8_core.specs.StepAnswers.{look_told};
-ghost use Rattle.bb8_tasks.specs.Homes.{Steps};
+ghost use Rattle.bb8_core.specs.PlainSteps.{Steps};
 ghost use Rattle.bb8_tasks.specs.ReapHomes.{reap_told};
 
 use super::home::{ReapHome, ReapStep, Reaped};

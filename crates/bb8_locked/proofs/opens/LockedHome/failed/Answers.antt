@@ -8,8 +8,8 @@ returns-then-not-fits_failed g c = (c.limits.ensures.limits, c.limits.ensures.se
 pub invariant_of-self-2 : goal.invariant_of-self-2
 invariant_of-self-2 g c = record {
   parts = unmoved _ _ _
-      (acts.Failed c.args.approval.number) _ _ c.limits.ensures.limits.0 c.failed.ensures (λ m. m) c.args.self.now.parts;
+      (acts.Failed c.args.approval.number) _ _ c.limits.ensures.limits.0 c.failed.ensures.step (λ m. m) c.args.self.now.parts;
   amount = c.args.self.now.amount;
   settled = kept_settings _ _ _
-      (acts.Failed c.args.approval.number) _ _ c.limits.ensures.limits.0 c.failed.ensures c.args.self.now.settled;
+      (acts.Failed c.args.approval.number) _ _ c.limits.ensures.limits.0 c.failed.ensures.step c.args.self.now.settled;
 }
