@@ -128,8 +128,9 @@ module _ {C : Type 0} where
     where
       go : (n : ℕ) (rs : List (Numbered (Standing C))) → AreUpTo (latest l) rs → standing_at n rs k ≡ Some s → (s.birth ≤ latest l) × (s.entered ≤ latest l)
       go n [] u h = cc
-      go n (r ∷ rs) u h = pick (eqb k n) h
+      go n (r ∷ rs) u h = pick (eqb k n) (go (suc n) rs u.1) h
         where
-          pick : (t : Bool) → option_and_then (λ (x : Numbered (Standing C)). x.standing) (cond t (Some r) (at (suc n) rs k)) ≡ Some s → (s.birth ≤ latest l) × (s.entered ≤ latest l)
-          pick true f = u.0 s f
-          pick false f = go (suc n) rs u.1 f
+          pick : (t : Bool) → (standing_at (suc n) rs k ≡ Some s → (s.birth ≤ latest l) × (s.entered ≤ latest l))
+              → option_and_then (λ (x : Numbered (Standing C)). x.standing) (cond t (Some r) (at (suc n) rs k)) ≡ Some s → (s.birth ≤ latest l) × (s.entered ≤ latest l)
+          pick true rest f = u.0 s f
+          pick false rest f = rest f
