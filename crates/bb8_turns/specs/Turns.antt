@@ -76,11 +76,13 @@ module _ {C E V A H W : Type 0} (home : HomeOf H C) (opener : OpenerOf W C E V A
   GivesBack (Going reaper ts) h w h' w' = LetsGoEach (LetsGo home opener at) ts h w h' w'
   GivesBack Ended h w h' w' = (h' ≡ h) × (w' ≡ w)
 
-module _ {C E V A H W : Type 0} (home : HomeOf H C) (claim_home : ClaimHomeOf H) (reap_home : ReapHomeOf H) (opener : OpenerOf W C E V A) (sinks : W → E → W → Type 0) (timeout : ℕ) (retry : Bool) (at : Moment) where
+module _ {C E V A H W : Type 0} (home : HomeOf H C) (claim_home : ClaimHomeOf H) (reap_home : ReapHomeOf H) (opener : OpenerOf W C E V A)
+    (sinks : W → E → W → Type 0) (timeout : ℕ) (retry : Bool) (at : Moment) where
   -- after the claims: each task is polled; or, where no handle is alive, each is let go, and the driver has ended
   abbrev pub Proceeds : Bool → Option Reaper → List (Replenish C V A) → H → W → Turn → Turning C V A → H → W → Type 0
   Proceeds false reaper ts h w turn t' h' w' =
-      (left : List (Replenish C V A)) × PollsEach (Polls home opener timeout retry at) sinks ts h w left h' w' × (turn ≡ record { polled = length ts; ended = false }) × (t' ≡ Going reaper left)
+      (left : List (Replenish C V A)) × PollsEach (Polls home opener timeout retry at) sinks ts h w left h' w'
+      × (turn ≡ record { polled = length ts; ended = false }) × (t' ≡ Going reaper left)
   Proceeds true reaper ts h w turn t' h' w' =
       LetsGoEach (LetsGo home opener at) ts h w h' w' × (turn ≡ record { polled = 0; ended = true }) × (t' ≡ Ended)
 
