@@ -1,9 +1,12 @@
 pub mod Addings
+pub mod Buildings
 pub mod Choices
+pub mod Dedicated
 pub mod Gets
 pub mod GuardLists
 pub mod Handles
 pub mod Linked
+pub mod Opening
 pub mod Owned
 pub mod Pools
 pub mod Returns

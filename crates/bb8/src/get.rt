@@ -9,3 +9,4 @@ pub use bb8_gets::{
 };
 pub use future::GetFuture;
 pub(crate) use future::{Gets, StartGet};
+pub(crate) use link::{Hold, LinkHome};

@@ -189,12 +189,14 @@
 
 mod adding;
 mod builder;
-mod connecting;
+pub mod building;
+pub mod dedicated;
 pub mod get;
 pub mod guards;
 mod handles;
 mod locks;
 mod machine;
+mod opening;
 pub mod owned;
 pub mod pool;
 mod serving;
@@ -208,7 +210,8 @@ pub use bb8_core::api::{
 pub use bb8_core::{api, internals, replay};
 pub use bb8_locked::{Parts, PoolParts};
 pub use builder::Builder;
-pub use connecting::{FirstPoll, first_connect};
+pub use building::Building;
+pub use dedicated::DedicatedFuture;
 pub use guards::Guards;
 pub use locks::Locks;
 pub use machine::MachineClock;

@@ -1,6 +1,7 @@
 //! The pool, and the guard of a connection that is out.
-ghost use Rattle.std.specs.Prelude.{◌≡◌, ◌≤◌, ◌<◌, true, IfOk};
+ghost use Rattle.std.specs.Prelude.{◌≡◌, ◌≤◌, ◌<◌, true, false, IfOk};
 ghost use Rattle.std.specs.Arc.{arc_value};
+ghost use Rattle.bb8_types.specs.declared.grants.Grant.{Grant as GrantOf};
 ghost use Rattle.bb8_types.specs.Settings.{settings_of, default_settings, is_lawful};
 ghost use Rattle.bb8_locked.specs.Parts.{IsBlankOf, HasBegun};
 ghost use Rattle.bb8.specs.Addings.{IsAdding};
@@ -9,6 +10,7 @@ ghost use Rattle.bb8.specs.States.{IsShown};
 
 use crate::Builder;
 use crate::adding::OnShared;
+use crate::building::{MakesPool, Plan};
 use crate::get::{GetFuture, StartGet};
 use crate::handles::{Holding, Joins, OnHandles};
 use crate::locks::Locks;
@@ -19,10 +21,11 @@ use bb8_core::api::{
 };
 use bb8_core::internals::PutBackAnswer;
 use bb8_gets::{Calls, Outside, Taken};
-use bb8_locked::{Handle, Locked, NewPool, Part, Parts, begin_pool};
+use bb8_locked::{Handle, Locked, Part, Parts};
 use std::alloc::Global;
 use std::fmt;
 use std::fmt::{Debug, Formatter};
+use std::marker::PhantomData;
 use std::ops::{Deref, DerefMut};
 use std::sync::ledger::{Blank, Total};
 use std::sync::{Arc, Mutex, Wait};
@@ -103,39 +106,23 @@ impl<
         requires lawful { is_lawful self.settings ≡ true }
         requires parts { IsBlankOf blank self.settings L.name L.parts L.settings }
         ensures settings { IfOk result (λ pool. settings_in pool ≡ self.settings) }
-        ensures first { IfOk result (λ _. HasBegun M.Connection (K.tells clock) self.settings) }
+        ensures first { IfOk result (λ _. (grant : GrantOf)
+            × HasBegun M.Connection (K.tells clock) self.settings false grant) }
         ensures manager { IfOk result (λ pool. manager_in pool ≡ manager) }
         ensures clock { IfOk result (λ pool. clock_in pool ≡ clock) }
         ensures sink { IfOk result (λ pool. sink_in pool ≡ self.error_sink) }
         ensures customizer { IfOk result (λ pool. customizer_in pool ≡ self.connection_customizer) }
     {
-        let (config, error_sink, customizer) = self.into_parts();
-        let at = clock.now();
-        let alloc = rt.alloc();
-        let NewPool {
-            total,
-            locked,
-            handle,
-        } = begin_pool(alloc, config, at, blank)?;
-        let shared = Shared {
+        let plan = Plan {
+            builder: self,
             manager,
-            error_sink,
-            customizer,
             clock,
             rt,
-            config,
-            total,
-            locked: Mutex::new(locked),
+            blank,
+            parts: PhantomData,
         };
-        match Arc::new(alloc, shared) {
-            Ok(shared) => Ok(Pool { shared, handle }),
-            Err(refused) => {
-                let shared = refused.value;
-                let Shared { locked, .. } = shared;
-                let _ = locked.into_inner().leave(at, handle);
-                Err(Memory)
-            }
-        }
+        let (pool, _) = plan.open(false)?;
+        Ok(pool)
     }
 }
 

@@ -14,9 +14,8 @@ mod serving;
 mod threads;
 
 use bb8::{
-    AddError, Builder, Clock, Config, CustomizeConnection, ErrorSink, FirstPoll, ManageConnection,
-    Memory, Moment, NopCustomizer, NopErrorSink, Pool, QueueStrategy, RunError, SetClock,
-    first_connect,
+    AddError, Builder, Clock, Config, CustomizeConnection, ErrorSink, ManageConnection, Memory,
+    Moment, NopCustomizer, NopErrorSink, Pool, QueueStrategy, RunError, SetClock,
 };
 use futures::task::Poll;
 use std::error::Error;
@@ -247,8 +246,8 @@ where
     K: Clock,
 {
     let moment = clock.now();
-    let FirstPoll { answer, .. } = first_connect(manager, moment);
-    let mut connection = match answer {
+    let mut connecting = manager.connect();
+    let mut connection = match manager.poll_connect(&mut connecting, moment) {
         Poll::Ready(Ok(connection)) => connection,
         Poll::Ready(Err(error)) => {
             sink.sink(error);
@@ -272,24 +271,10 @@ where
     }
 }
 
-/// What a first poll before the moment 5 answers: the manager's own relation tells it to a caller of `first_connect`.
-fn early_answer(moment: Moment) -> Poll<Result<u64, Refused>>
-    requires { moment.0 < 5 }
-    ensures { result ≡ Pending }
-{
-    let FirstPoll { answer, .. } = first_connect(&SlowManager, moment);
-    answer
-}
-
 #[test]
 fn opens_by_hand(rt: HostRuntime) {
     let early = StoppedClock(Moment(4));
     let late = StoppedClock(Moment(5));
-    assert_eq!(rt; early_answer(Moment(4)), Poll::Pending);
-    assert_eq!(rt;
-        first_connect(&SlowManager, late.now()).answer,
-        Poll::Ready(Ok(7))
-    );
     assert_eq!(rt; opened(&SlowManager, &NopErrorSink, &AddsOne, &early), None);
     assert_eq!(rt;
         opened(&SlowManager, &NopErrorSink, &AddsOne, &late),

@@ -1,5 +1,5 @@
 -- A round over a queue, turn by turn.
-use Rattle.std.proofs.Common.{◌≡◌, ℕ, ◌-◌, ◌<◌, Option, Some, None, List, [], ◌∷◌, ◌++◌, length, refl, sym, ◌∙◌, subst, arith, append_assoc}
+use Rattle.std.proofs.Common.{◌≡◌, ℕ, ◌+◌, ◌-◌, ◌<◌, Option, Some, None, List, [], ◌∷◌, ◌++◌, length, refl, sym, ◌∙◌, subst, arith, append_assoc}
 use Rattle.std.proofs.lemmas.List.{append-nil}
 use Rattle.bb8_tasks.specs.declared.replenish.ReplenishAnswer.{ReplenishAnswer}
 use Rattle.bb8_tasks.specs.declared.replenish.ReplenishAnswer.TheVariants.{Pending, Retrying, Failed, Entered, Late, GivenBack}
@@ -38,9 +38,13 @@ module _ {T E H W : Type 0} (polls : T → H → W → ReplenishAnswer E → T �
         rw (stays, same, still) (λ s last h' w' (is, all, here, there). rw (append_assoc behind (a ∷ []) last) (go s (a ∷ last) h' w' (is, rw all refl, here, there))),
       )
 
-  pub Midway-step : (first : List T) (start : H) (called : W) (q q' : List T) (h h1 : H) (w w1 : W) (o o1 : Option E) (k : ℕ) → 0 < k
-      → Midway polls sinks on first start called q h w o k → Turns polls sinks on o q h w o1 q' h1 w1 → Midway polls sinks on first start called q' h1 w1 o1 (k - 1)
-  Midway-step first start called q q' h h1 w w1 o o1 k some m turn = step first start called q q' h h1 w w1 o o1 k m.0 m.1 some m.2 m.3 m.4 turn
+  pub Midway-step : (first : List T) (start : H) (called : W) (q q' : List T) (h h1 : H) (w w1 : W) (o o1 : Option E) (n k : ℕ) → k < n
+      → Midway polls sinks on first start called q h w o (n - k) → Turns polls sinks on o q h w o1 q' h1 w1 → Midway polls sinks on first start called q' h1 w1 o1 (n - (k + 1))
+  Midway-step first start called q q' h h1 w w1 o o1 n k more m turn =
+      let some : 0 < n - k = omega arith in
+      let less : n - k - 1 ≡ n - (k + 1) = omega arith in
+      subst (λ (x : ℕ). Midway polls sinks on first start called q' h1 w1 o1 x) less
+      (step first start called q q' h h1 w w1 o o1 (n - k) m.0 m.1 some m.2 m.3 m.4 turn)
 
   over : (first : List T) (start : H) (called : W) (q : List T) (h : H) (w : W) (o : Option E) (ahead behind : List T) → length ahead ≡ 0 → q ≡ ahead ++ behind
       → Goes first start called o ahead h w behind → PollsUntil polls sinks on first start called o q h w
@@ -50,9 +54,9 @@ module _ {T E H W : Type 0} (polls : T → H → W → ReplenishAnswer E → T �
       subst (λ y. PollsUntil polls sinks on first start called (Some x) y h w) (append-nil behind ∙ sym eq) (go (Some x) [] h w (refl, refl, refl, refl))
   over first start called q h w o (a ∷ more) behind len eq go = absurd (omega arith)
 
-  pub Midway-over : (first : List T) (start : H) (called : W) (q : List T) (h : H) (w : W) (o : Option E) → Midway polls sinks on first start called q h w o 0
-      → PollsUntil polls sinks on first start called o q h w
-  Midway-over first start called q h w o m = over first start called q h w o m.0 m.1 m.2 m.3 m.4
+  pub Midway-over : (first : List T) (start : H) (called : W) (q : List T) (h : H) (w : W) (o : Option E) (k : ℕ) → k ≡ 0
+      → Midway polls sinks on first start called q h w o k → PollsUntil polls sinks on first start called o q h w
+  Midway-over first start called q h w o k none m = over first start called q h w o m.0 m.1 (m.2 ∙ none) m.3 m.4
 
   pub Midway-first : (first : List T) (start : H) (called : W) (k : ℕ) → k ≡ length first → Midway polls sinks on first start called first start called None (k - 0)
   Midway-first first start called k is = (first, [], omega (arith, is), sym (append-nil first), λ s last h' w' goes. goes)

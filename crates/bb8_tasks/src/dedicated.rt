@@ -120,8 +120,10 @@ impl<C, V: Drop, A: Drop> Opening<C, V, A> {
 ///
 /// It does nothing until it is polled. It cannot be dropped but by `cancel`, as what it holds is let go.
 pub struct Dedicated<C, V, A> {
-    latest: Moment,
-    stage: Opening<C, V, A>,
+    /// The greatest reading of the clock so far.
+    pub latest: Moment,
+    /// Where it stands.
+    pub stage: Opening<C, V, A>,
 }
 
 impl<C, V: Drop, A: Drop> Dedicated<C, V, A> {

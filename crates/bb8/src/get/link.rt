@@ -33,18 +33,19 @@ impl<'a, T, R> LinkHome<'a, T, R> {
 }
 
 /// What a step of such a home begins with, as a method of an impl, so that its steps can call it.
-trait Holding {
+pub(crate) trait Hold {
     type Guard;
 
     /// What is held, or else the lock is taken.
     fn hold(&mut self) -> Self::Guard;
 }
 
-impl<'a, T, R: Locks> Holding for LinkHome<'a, T, R> {
+impl<'a, T, R: Locks> Hold for LinkHome<'a, T, R> {
     type Guard = MutexGuard<'a, T>;
 
     fn hold(&mut self) -> MutexGuard<'a, T>
-        ensures { StartsAt self.old.held (mutex_guard_value result) }
+        ensures start { StartsAt self.old.held (mutex_guard_value result) }
+        ensures free { self.new.held ≡ None }
     {
         match self.held.take() {
             Some(guard) => guard,

@@ -16,14 +16,14 @@ const MILLI: u64 = 1_000_000;
 
 /// A manager that numbers its openings from 1. Each is ready at its first poll, with its number as the connection or as the error.
 #[derive(Drop)]
-struct Counting {
+pub(super) struct Counting {
     fails: bool,
     connects: AtomicU64,
 }
 
 impl Counting {
     /// One that has begun nothing yet.
-    fn new(fails: bool) -> Self {
+    pub(super) fn new(fails: bool) -> Self {
         Counting {
             fails,
             connects: AtomicU64::new(0),
@@ -31,7 +31,7 @@ impl Counting {
     }
 
     /// How many openings were begun.
-    fn connects(&self) -> u64 {
+    pub(super) fn connects(&self) -> u64 {
         self.connects.load(Ordering::SeqCst)
     }
 }
@@ -102,7 +102,7 @@ impl CustomizeConnection<u64, u64> for Refusing {
 
 /// A clock that stands still at 0.
 #[derive(Drop)]
-struct Still;
+pub(super) struct Still;
 
 impl Clock for Still {
     fn now(&self) -> Moment {
@@ -134,7 +134,7 @@ fn pool_of_one(rt: &impl Abort, alloc: Global, config: Config) -> (PoolInternals
 }
 
 /// How many connections there are, and how many are idle.
-fn sizes(pool: &mut PoolInternals<u64>) -> (u32, u32) {
+pub(super) fn sizes(pool: &mut PoolInternals<u64>) -> (u32, u32) {
     let state = pool.state(Moment(0));
     (state.connections, state.idle_connections)
 }

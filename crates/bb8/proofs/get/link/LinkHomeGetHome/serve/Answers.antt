@@ -9,6 +9,6 @@ returns-clause-served g c =
     (λ s w. (
       w.0,
       record { mutex = c.args.self.now.mutex; rt = c.args.self.now.rt; held = Some (mutex_guard_with_value c.hold-guard.result w.1) },
-      (mutex_guard_value c.hold-guard.result, w.1, c.hold-guard.ensures, refl, w.2),
+      (mutex_guard_value c.hold-guard.result, w.1, c.hold-guard.ensures.start, refl, w.2),
       (w.1, c.serve-answer.new.self, refl, refl, w.3),
     ))

@@ -1,0 +1,44 @@
+use Rattle.std.proofs.Common.{refl}
+use Rattle.bb8.proofs.building.PoolOpensFirst.sweep.Goals as goal
+
+pub returns-in-Failed : goal.returns-in-Failed
+returns-in-Failed g c =
+    let shared = c.deref-shared.ensures in
+    let of = c.new-calls.ensures in (
+      c.open_first.result,
+      (
+        c.new-calls.result,
+        c.open_first.new.outside,
+        (rw shared at of.manager, rw shared at of.sink, rw shared at of.customizer, rw shared at of.clock),
+        rw shared at c.open_first.ensures,
+      ),
+      rw c.in-Failed.is (refl, refl),
+    )
+
+pub returns-in-Complete : goal.returns-in-Complete
+returns-in-Complete g c =
+    let shared = c.deref-shared.ensures in
+    let of = c.new-calls.ensures in (
+      c.open_first.result,
+      (
+        c.new-calls.result,
+        c.open_first.new.outside,
+        (rw shared at of.manager, rw shared at of.sink, rw shared at of.customizer, rw shared at of.clock),
+        rw shared at c.open_first.ensures,
+      ),
+      rw c.in-Complete.is (refl, refl),
+    )
+
+pub returns-in-Going : goal.returns-in-Going
+returns-in-Going g c =
+    let shared = c.deref-shared.ensures in
+    let of = c.new-calls.ensures in (
+      c.open_first.result,
+      (
+        c.new-calls.result,
+        c.open_first.new.outside,
+        (rw shared at of.manager, rw shared at of.sink, rw shared at of.customizer, rw shared at of.clock),
+        rw shared at c.open_first.ensures,
+      ),
+      rw c.in-Going.is (refl, refl),
+    )

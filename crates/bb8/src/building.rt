@@ -1,0 +1,442 @@
+//! The building of a pool that has its first connections.
+ghost use Rattle.std.specs.Prelude.{◌≡◌, true};
+ghost use Rattle.bb8_types.specs.Settings.{is_lawful};
+ghost use Rattle.bb8_locked.specs.Parts.{IsBlankOf};
+
+use crate::Builder;
+use crate::locks::Locks;
+use crate::opening::Opens;
+use crate::pool::{Pool, Shared};
+use bb8_core::api::{Clock, CustomizeConnection, ErrorSink, ManageConnection, Memory, RunError};
+use bb8_core::internals::Grant;
+use bb8_locked::{NewPool, Parts, begin_pool};
+use bb8_tasks::PoolOpener;
+pub use bb8_tasks::{Built, Replenish, Round, Site, Tasks};
+use futures::Future;
+use futures::task::{Context, Poll};
+use std::marker::PhantomData;
+use std::mem;
+use std::sync::ledger::Blank;
+use std::sync::{Arc, Mutex, Wait};
+
+/// What a pool is to be made of.
+#[derive(Drop)]
+pub(crate) struct Plan<M, S, Z, K, R, L: Parts> {
+    pub builder: Builder<M, S, Z>,
+    pub manager: M,
+    pub clock: K,
+    pub rt: R,
+    pub blank: Blank,
+    pub parts: PhantomData<L>,
+    ghost lawful: { is_lawful builder.settings ≡ true },
+    ghost cut: { IsBlankOf blank builder.settings L.name L.parts L.settings },
+}
+
+/// The making of a pool, as a method of an impl, so that the poll of a future can call it.
+pub(crate) trait MakesPool {
+    type Opened;
+
+    type Made;
+
+    /// A pool, and what was granted for its first connections, claimed or not.
+    fn open(self, claimed: bool) -> Self::Opened;
+
+    /// A pool, and a task for each of its first approvals.
+    fn make(self) -> Self::Made;
+}
+
+impl<
+    M: ManageConnection,
+    S: ErrorSink<M::Error>,
+    Z: CustomizeConnection<M::Connection, M::Error>,
+    K: Clock,
+    R: Wait + AllocGlobal + Send + Sync + Drop + 'static,
+    L: Parts,
+> MakesPool for Plan<M, S, Z, K, R, L> {
+    ghost use Rattle.std.specs.Prelude.{◌+◌, ◌^◌, ◌<◌, IfOk};
+    ghost use Rattle.bb8.specs.Buildings.{IsMade, IsOpened};
+
+    type Opened = Result<(Pool<M, S, Z, K, R, L>, Grant), Memory>;
+
+    type Made = Result<
+        (
+            Pool<M, S, Z, K, R, L>,
+            Tasks<M::Connection, M::Connecting, Z::Acquiring>,
+        ),
+        Memory,
+    >;
+
+    fn open(self, claimed: bool) -> Result<(Pool<M, S, Z, K, R, L>, Grant), Memory>
+        ensures opened { IfOk result (λ x. IsOpened K.tells self claimed x.0 x.1) }
+        ensures numbers { IfOk result (λ x. x.1.first + x.1.count < 2 ^ 64) }
+    {
+        let Plan {
+            builder,
+            manager,
+            clock,
+            rt,
+            blank,
+            parts: _,
+        } = self;
+        let (config, error_sink, customizer) = builder.into_parts();
+        let at = clock.now();
+        let alloc = rt.alloc();
+        let NewPool {
+            total,
+            locked,
+            handle,
+            grant,
+        } = begin_pool(alloc, config, at, blank, claimed)?;
+        let shared = Shared {
+            manager,
+            error_sink,
+            customizer,
+            clock,
+            rt,
+            config,
+            total,
+            locked: Mutex::new(locked),
+        };
+        match Arc::new(alloc, shared) {
+            Ok(shared) => Ok((Pool { shared, handle }, grant)),
+            Err(refused) => {
+                let shared = refused.value;
+                let Shared { locked, .. } = shared;
+                let _ = locked.into_inner().leave(at, handle);
+                Err(Memory)
+            }
+        }
+    }
+
+    /// Where memory for the tasks is refused the pool is dropped.
+    fn make(
+        self,
+    ) -> Result<
+        (
+            Pool<M, S, Z, K, R, L>,
+            Tasks<M::Connection, M::Connecting, Z::Acquiring>,
+        ),
+        Memory,
+    >
+        ensures { IfOk result (λ made. IsMade K.tells self made.0 made.1) }
+    {
+        let alloc = self.rt.alloc();
+        let (pool, grant) = self.open(true)?;
+        match Tasks::for_approvals(alloc, grant.first, grant.count) {
+            Ok(tasks) => Ok((pool, tasks)),
+            Err(Memory) => Err(Memory),
+        }
+    }
+}
+
+/// What `Builder::build` answers: the building of a pool that has its first connections. It does nothing until it is polled.
+///
+/// The first poll makes the pool at the clock's moment, with approvals for as many connections as `min_idle` asks for. Each poll, the first
+/// too, reads the clock and polls the opening of each connection that is not there yet, once and in the order of the approvals. An opening
+/// that failed is tried again where `retry_connection` is set, as long as `connection_timeout` allows; the error of each such try goes to
+/// the error sink. The first failure of a last try ends the building.
+///
+/// One that is pending asks to be polled again at once. When it is dropped before its answer, its approvals are given back and its pool is
+/// dropped. Manager, customizer, sink and clock are called while the pool's lock is free. Our own: upstream's is an async function.
+pub struct Building<
+    M: ManageConnection,
+    S: ErrorSink<M::Error>,
+    Z: CustomizeConnection<M::Connection, M::Error>,
+    K: Clock,
+    R: Locks,
+    L: Parts,
+> {
+    site: Site<
+        Plan<M, S, Z, K, R, L>,
+        Pool<M, S, Z, K, R, L>,
+        Tasks<M::Connection, M::Connecting, Z::Acquiring>,
+    >,
+}
+
+impl<
+    M: ManageConnection,
+    S: ErrorSink<M::Error>,
+    Z: CustomizeConnection<M::Connection, M::Error>,
+> Builder<M, S, Z> {
+    ghost use Rattle.bb8.specs.Buildings.{IsPlanned};
+
+    /// A pool that has its first connections, as many as `min_idle` asks for, once the building is polled to its end.
+    ///
+    /// As upstream, but that the clock and the runtime are handed in, with a blank of `max_size` parts, and that memory can be refused. It
+    /// answers `User` with the error of the first opening that failed for good, and `Memory` where memory was refused, for the pool, for one
+    /// of its first approvals or for their tasks; then all is dropped. The settings have to be lawful, where upstream panics.
+    pub fn build<K: Clock, R: Locks, L: Parts>(
+        self,
+        manager: M,
+        clock: K,
+        rt: R,
+        blank: Blank,
+    ) -> Building<M, S, Z, K, R, L>
+        requires lawful { is_lawful self.settings ≡ true }
+        requires parts { IsBlankOf blank self.settings L.name L.parts L.settings }
+        ensures { IsPlanned self manager clock result }
+    {
+        Building {
+            site: Site::Planned(Plan {
+                builder: self,
+                manager,
+                clock,
+                rt,
+                blank,
+                parts: PhantomData,
+            }),
+        }
+    }
+}
+
+/// The end of a building, as a method of an impl, so that a drop and a cancelling can call it.
+trait Ends {
+    type Site;
+
+    /// Gives the approvals of its tasks back, and drops all.
+    fn end(site: Self::Site);
+}
+
+impl<
+    M: ManageConnection,
+    S: ErrorSink<M::Error>,
+    Z: CustomizeConnection<M::Connection, M::Error>,
+    K: Clock,
+    R: Locks,
+    L: Parts,
+> Ends for Building<M, S, Z, K, R, L> {
+    ghost use Rattle.bb8.specs.Buildings.{EndsAt};
+
+    type Site = Site<
+        Plan<M, S, Z, K, R, L>,
+        Pool<M, S, Z, K, R, L>,
+        Tasks<M::Connection, M::Connecting, Z::Acquiring>,
+    >;
+
+    fn end(
+        site: Site<
+            Plan<M, S, Z, K, R, L>,
+            Pool<M, S, Z, K, R, L>,
+            Tasks<M::Connection, M::Connecting, Z::Acquiring>,
+        >,
+    )
+        ensures { EndsAt Z.CustomizeConnection S.sinks K.tells site }
+    {
+        match site {
+            Site::Planned(plan) => drop(plan),
+            Site::Opening(pool, tasks) => {
+                let shared = &*pool.shared;
+                let mut calls = PoolOpener::new(
+                    &shared.manager,
+                    &shared.error_sink,
+                    &shared.customizer,
+                    &shared.clock,
+                );
+                shared.drop_tasks(&mut calls, tasks);
+            }
+            Site::Done => {}
+        }
+    }
+}
+
+impl<
+    M: ManageConnection,
+    S: ErrorSink<M::Error>,
+    Z: CustomizeConnection<M::Connection, M::Error>,
+    K: Clock,
+    R: Wait + Send + Sync + Drop + 'static,
+    L: Parts,
+> Building<M, S, Z, K, R, L> {
+    ghost use Rattle.bb8.specs.Buildings.{CancelsBuilding};
+
+    /// Lets the building go, as a drop does, for which it may wait for the lock: the approvals of its openings are given back, and its pool
+    /// is dropped. Our own.
+    pub fn cancel(self)
+        ensures { CancelsBuilding Z.CustomizeConnection S.sinks K.tells self }
+    {
+        let Building { site } = self;
+        Self::end(site);
+    }
+}
+
+impl<
+    M: ManageConnection,
+    S: ErrorSink<M::Error>,
+    Z: CustomizeConnection<M::Connection, M::Error>,
+    K: Clock,
+    R: Locks,
+    L: Parts,
+> Drop for Building<M, S, Z, K, R, L> {
+    fn drop(self) {
+        let Building { site } = self;
+        Self::end(site);
+    }
+}
+
+/// A round of a pool's first tasks, as a method of an impl, so that the poll of a future can call it.
+trait OpensFirst {
+    type Tasks;
+
+    type Built;
+
+    /// A round, and what the building answers then.
+    fn sweep(self, tasks: Self::Tasks) -> Self::Built;
+}
+
+impl<
+    M: ManageConnection,
+    S: ErrorSink<M::Error>,
+    Z: CustomizeConnection<M::Connection, M::Error>,
+    K: Clock,
+    R: Locks,
+    L: Parts,
+> OpensFirst for Pool<M, S, Z, K, R, L> {
+    ghost use Rattle.bb8_tasks.specs.Building.{Sweeps};
+    ghost use Rattle.bb8.specs.Buildings.{PoolRounds};
+
+    type Tasks = Tasks<M::Connection, M::Connecting, Z::Acquiring>;
+
+    type Built = Built<
+        Plan<M, S, Z, K, R, L>,
+        Pool<M, S, Z, K, R, L>,
+        Tasks<M::Connection, M::Connecting, Z::Acquiring>,
+        M::Error,
+    >;
+
+    fn sweep(
+        self,
+        tasks: Tasks<M::Connection, M::Connecting, Z::Acquiring>,
+    ) -> Built<
+        Plan<M, S, Z, K, R, L>,
+        Pool<M, S, Z, K, R, L>,
+        Tasks<M::Connection, M::Connecting, Z::Acquiring>,
+        M::Error,
+    >
+        ensures { Sweeps (PoolRounds Z.CustomizeConnection S.sinks K.tells) self tasks
+            result.answer result.site }
+    {
+        let shared = &*self.shared;
+        let mut calls = PoolOpener::new(
+            &shared.manager,
+            &shared.error_sink,
+            &shared.customizer,
+            &shared.clock,
+        );
+        match shared.open_first(&mut calls, tasks) {
+            Round::Failed(error) => Built {
+                answer: Poll::Ready(Err(RunError::User(error))),
+                site: Site::Done,
+            },
+            Round::Complete => Built {
+                answer: Poll::Ready(Ok(self)),
+                site: Site::Done,
+            },
+            Round::Going(tasks) => Built {
+                answer: Poll::Pending,
+                site: Site::Opening(self, tasks),
+            },
+        }
+    }
+}
+
+/// A poll of a building, as a method of an impl, so that the poll of a future can call it.
+trait Builds {
+    type Site;
+
+    type Built;
+
+    /// One poll.
+    fn advance(site: Self::Site) -> Self::Built;
+}
+
+impl<
+    M: ManageConnection,
+    S: ErrorSink<M::Error>,
+    Z: CustomizeConnection<M::Connection, M::Error>,
+    K: Clock,
+    R: Wait + AllocGlobal + Send + Sync + Drop + 'static,
+    L: Parts,
+> Builds for Building<M, S, Z, K, R, L> {
+    ghost use Rattle.bb8.specs.Buildings.{PollsSite};
+
+    type Site = Site<
+        Plan<M, S, Z, K, R, L>,
+        Pool<M, S, Z, K, R, L>,
+        Tasks<M::Connection, M::Connecting, Z::Acquiring>,
+    >;
+
+    type Built = Built<
+        Plan<M, S, Z, K, R, L>,
+        Pool<M, S, Z, K, R, L>,
+        Tasks<M::Connection, M::Connecting, Z::Acquiring>,
+        M::Error,
+    >;
+
+    fn advance(
+        site: Site<
+            Plan<M, S, Z, K, R, L>,
+            Pool<M, S, Z, K, R, L>,
+            Tasks<M::Connection, M::Connecting, Z::Acquiring>,
+        >,
+    ) -> Built<
+        Plan<M, S, Z, K, R, L>,
+        Pool<M, S, Z, K, R, L>,
+        Tasks<M::Connection, M::Connecting, Z::Acquiring>,
+        M::Error,
+    >
+        ensures { PollsSite Z.CustomizeConnection S.sinks K.tells site result.answer result.site }
+    {
+        match site {
+            Site::Planned(plan) => match plan.make() {
+                Ok((pool, tasks)) => pool.sweep(tasks),
+                Err(Memory) => Built {
+                    answer: Poll::Ready(Err(RunError::Memory)),
+                    site: Site::Done,
+                },
+            },
+            Site::Opening(pool, tasks) => pool.sweep(tasks),
+            Site::Done => Built {
+                answer: Poll::Pending,
+                site: Site::Done,
+            },
+        }
+    }
+}
+
+impl<
+    M: ManageConnection,
+    S: ErrorSink<M::Error>,
+    Z: CustomizeConnection<M::Connection, M::Error>,
+    K: Clock,
+    R: Wait + AllocGlobal + Send + Sync + Drop + 'static,
+    L: Parts,
+> Future for Building<M, S, Z, K, R, L> {
+    ghost use Rattle.std.specs.Prelude.{⊤};
+    ghost use Rattle.futures.specs.Poll.{IfReady, OnPending};
+    ghost use Rattle.futures.specs.Task.{Covers, Keeps};
+    ghost use Rattle.bb8.specs.Buildings.{GivesBuilding, PollsBuilding};
+
+    type Output = Result<Pool<M, S, Z, K, R, L>, RunError<M::Error>>;
+
+    ghost gives = { λ building out. GivesBuilding Z.CustomizeConnection S.sinks K.tells building out };
+
+    /// One poll. It is pending while openings go on, and after its answer.
+    fn poll(&mut self, cx: &mut Context<'_>) -> Poll<Self::Output>
+        ensures table { PollsBuilding Z.CustomizeConnection S.sinks K.tells self.old result self.new }
+        ensures value { IfReady result (λ out.
+            GivesBuilding Z.CustomizeConnection S.sinks K.tells self.old out) }
+        ensures again { OnPending result ⊤ }
+        ensures same { OnPending result
+            ((x : _) → GivesBuilding Z.CustomizeConnection S.sinks K.tells self.new x
+            → GivesBuilding Z.CustomizeConnection S.sinks K.tells self.old x) }
+        ensures registered { OnPending result (Covers cx.new (λ _. ⊥)) }
+        ensures kept { Keeps cx.old cx.new }
+    {
+        let Built { answer, site } = Self::advance(mem::replace(&mut self.site, Site::Done));
+        Self::end(mem::replace(&mut self.site, site));
+        match answer {
+            Poll::Ready(answer) => Poll::Ready(answer),
+            Poll::Pending => cx.yield_now(),
+        }
+    }
+}

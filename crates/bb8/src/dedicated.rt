@@ -1,0 +1,170 @@
+//! A connection that the pool opens and does not count.
+ghost use Rattle.std.specs.Prelude.{◌≡◌};
+ghost use Rattle.std.specs.Arc.{arc_value};
+ghost use Rattle.bb8_tasks.specs.Dedicating.{fresh};
+
+use crate::locks::Locks;
+use crate::opening::Opens;
+use crate::pool::{Pool, Shared};
+use bb8_core::api::{Clock, CustomizeConnection, ErrorSink, ManageConnection, Moment};
+use bb8_locked::Parts;
+use bb8_tasks::PoolOpener;
+pub use bb8_tasks::{Dedicated, Opened, Opening};
+use futures::Future;
+use futures::task::{Context, Poll};
+use std::mem;
+
+/// What `Pool::dedicated_connection` answers: an opening that does nothing until it is polled.
+///
+/// Each poll reads the pool's clock, and none takes the pool's lock. One that is pending asks to be polled again at once. When it is
+/// dropped before its answer, what it holds is dropped. Our own: upstream's is an async function.
+pub struct DedicatedFuture<
+    'a,
+    M: ManageConnection,
+    S: ErrorSink<M::Error>,
+    Z: CustomizeConnection<M::Connection, M::Error>,
+    K: Clock,
+    R: Locks,
+    L: Parts,
+> {
+    shared: &'a Shared<M, S, Z, K, R, L>,
+    latest: Moment,
+    stage: Opening<M::Connection, M::Connecting, Z::Acquiring>,
+}
+
+impl<
+    M: ManageConnection,
+    S: ErrorSink<M::Error>,
+    Z: CustomizeConnection<M::Connection, M::Error>,
+    K: Clock,
+    R: Locks,
+    L: Parts,
+> Pool<M, S, Z, K, R, L> {
+    ghost use Rattle.bb8.specs.Dedicated.{opening_of};
+
+    /// Opens a connection that the pool does not count: it takes no room in the pool, which neither checks it nor takes it back. The
+    /// customizer prepares it. As upstream, but for the future's name.
+    ///
+    /// It answers the first error of manager or customizer; it is tried once. A connection whose preparation failed is dropped.
+    pub fn dedicated_connection(&self) -> DedicatedFuture<'_, M, S, Z, K, R, L>
+        ensures new { opening_of result ≡ fresh }
+        ensures pool { result.shared.now ≡ arc_value self.now.shared }
+    {
+        let Dedicated { latest, stage } = Dedicated::new();
+        DedicatedFuture {
+            shared: &*self.shared,
+            latest,
+            stage,
+        }
+    }
+}
+
+impl<
+    M: ManageConnection,
+    S: ErrorSink<M::Error>,
+    Z: CustomizeConnection<M::Connection, M::Error>,
+    K: Clock,
+    R: Locks,
+    L: Parts,
+> DedicatedFuture<'_, M, S, Z, K, R, L> {
+    ghost use Rattle.bb8.specs.Dedicated.{CancelsDedicated};
+
+    /// Lets the opening go, as a drop does: what it holds is dropped. Our own.
+    pub fn cancel(self)
+        ensures { CancelsDedicated Z.CustomizeConnection S.sinks K.tells self.entry }
+    {
+        let DedicatedFuture {
+            shared,
+            latest,
+            stage,
+        } = self;
+        let mut calls = PoolOpener::new(
+            &shared.manager,
+            &shared.error_sink,
+            &shared.customizer,
+            &shared.clock,
+        );
+        shared.cancel_dedicated(&mut calls, Dedicated { latest, stage });
+    }
+}
+
+impl<
+    M: ManageConnection,
+    S: ErrorSink<M::Error>,
+    Z: CustomizeConnection<M::Connection, M::Error>,
+    K: Clock,
+    R: Locks,
+    L: Parts,
+> Drop for DedicatedFuture<'_, M, S, Z, K, R, L> {
+    fn drop(self) {
+        let DedicatedFuture {
+            shared,
+            latest,
+            stage,
+        } = self;
+        let mut calls = PoolOpener::new(
+            &shared.manager,
+            &shared.error_sink,
+            &shared.customizer,
+            &shared.clock,
+        );
+        shared.cancel_dedicated(&mut calls, Dedicated { latest, stage });
+    }
+}
+
+impl<
+    'a,
+    M: ManageConnection,
+    S: ErrorSink<M::Error>,
+    Z: CustomizeConnection<M::Connection, M::Error>,
+    K: Clock,
+    R: Locks,
+    L: Parts,
+> Future for DedicatedFuture<'a, M, S, Z, K, R, L> {
+    ghost use Rattle.std.specs.Prelude.{⊤};
+    ghost use Rattle.futures.specs.Poll.{IfReady, OnPending};
+    ghost use Rattle.futures.specs.Task.{Covers, Keeps};
+    ghost use Rattle.bb8.specs.Dedicated.{GivesDedicated, PollsDedicated};
+
+    type Output = Result<M::Connection, M::Error>;
+
+    ghost gives = { λ future out. GivesDedicated Z.CustomizeConnection S.sinks K.tells future out };
+
+    /// One poll at the greatest reading of the clock so far. It is pending while the manager or the customizer is, and after its answer.
+    fn poll(&mut self, cx: &mut Context<'_>) -> Poll<Self::Output>
+        ensures table { PollsDedicated Z.CustomizeConnection S.sinks K.tells self.old result self.new }
+        ensures pool { self.new.shared.now ≡ self.old.shared.now }
+        ensures value { IfReady result (λ out.
+            GivesDedicated Z.CustomizeConnection S.sinks K.tells self.old out) }
+        ensures again { OnPending result ⊤ }
+        ensures same { OnPending result
+            ((x : _) → GivesDedicated Z.CustomizeConnection S.sinks K.tells self.new x
+            → GivesDedicated Z.CustomizeConnection S.sinks K.tells self.old x) }
+        ensures registered { OnPending result (Covers cx.new (λ _. ⊥)) }
+        ensures kept { Keeps cx.old cx.new }
+    {
+        let shared = self.shared;
+        let mut calls = PoolOpener::new(
+            &shared.manager,
+            &shared.error_sink,
+            &shared.customizer,
+            &shared.clock,
+        );
+        let stage = mem::replace(&mut self.stage, Opening::Done);
+        let opening = Dedicated {
+            latest: self.latest,
+            stage,
+        };
+        let (answer, opening) = shared.poll_dedicated(&mut calls, opening);
+        let Dedicated { latest, stage } = opening;
+        self.latest = latest;
+        match mem::replace(&mut self.stage, stage) {
+            Opening::Done => {}
+            _ => unreachable!(),
+        }
+        match answer {
+            Poll::Ready(answer) => Poll::Ready(answer),
+            Poll::Pending => cx.yield_now(),
+        }
+    }
+}
