@@ -1,11 +1,11 @@
 -- What a reap does to what is shown: idle connections end, one after another, wherever they stand in line.
-use Rattle.std.proofs.Common.{◌≡◌, ◌≢◌, ℕ, suc, ◌+◌, ◌-◌, ◌≤◌, Bool, true, false, cond, eqb, ◌&&◌, ◌||◌, List, [], ◌∷◌, map, filter, length, Option, Some, None, option_and_then, ◌⊎◌, inl, inr, refl, sym, ap, ◌∙◌, arith, subst, eq-eqb, ne_eqb}
+use Rattle.std.proofs.Common.{◌≡◌, ◌≢◌, ℕ, suc, ◌+◌, ◌-◌, ◌≤◌, Bool, true, false, cond, eqb, ◌||◌, List, [], ◌∷◌, map, filter, length, Option, Some, None, option_and_then, ◌⊎◌, inl, inr, refl, sym, ap, ◌∙◌, arith, subst, eq-eqb, ne_eqb}
 use Rattle.std.specs.FinMap.{get}
 use Rattle.bb8_types.specs.declared.standing.Place.TheVariants.{Idle}
 use Rattle.bb8_types.specs.declared.standing.Standing.{Standing}
 use Rattle.bb8_types.specs.Settings.{Settings}
 use Rattle.bb8_types.specs.Numbered.{Numbered, at, numbers, tally, one, standing_at, after_end, after_end_where}
-use Rattle.bb8_types.specs.Places.{stands, is_conn, is_approval, is_unclaimed, is_idle, is_reaped, idles_out, lives_out}
+use Rattle.bb8_types.specs.Places.{stands, is_conn, is_approval, is_unclaimed, is_reaped, idles_out, lives_out}
 use Rattle.bb8_ledger.specs.Ledger.{idle_at, conns_of, approved_of, with_ended}
 use Rattle.bb8_tables.specs.Views.{ShownRecords}
 use Rattle.bb8_tables.specs.Reaps.{after_reaped, after_reap, AreReaped, count_reaped}
@@ -13,20 +13,13 @@ use Rattle.bb8_core.specs.Shown.{shown_records}
 use Rattle.bb8_types.proofs.Numbered.{change, same_or_not, at-below}
 use Rattle.bb8_types.proofs.Numbered as numbered
 use Rattle.bb8_types.proofs.Places.{idle_is}
+use Rattle.bb8_tables.proofs.ReapPlaces.{due_idle}
 use Rattle.bb8_tables.proofs.Views.{same_records}
 use Rattle.bb8_ledger.proofs.Standings.{tested, conns-change, approved-change}
 use Rattle.bb8_ledger.proofs.Effects.{ended_swept}
 use Rattle.bb8_core.proofs.ShownLeft.{map-change}
 
 module _ {C : Type 0} where
-  -- what is due is idle
-  due_idle : (config : Settings) (now : ℕ) (s : Standing C) → is_reaped config now (Some s) ≡ true → is_idle s.place ≡ true
-  due_idle config now s h = go (is_idle s.place) _ _ h
-    where
-      go : (i a b : Bool) → ((i && a) || (i && b)) ≡ true → i ≡ true
-      go true a b e = refl
-      go false a b e = cc
-
   -- what stands in an element, if there is one
   abbrev standing_in : Option (Numbered (Standing C)) → Option (Standing C)
   standing_in = option_and_then (λ r. r.standing)
