@@ -1,7 +1,7 @@
 //! Worked rows of both orders, of adding, of returning, of the last handle and of checks, as scripts.
 
 use super::run;
-use crate::verdict::Verdict;
+use bb8_runner::verdict::Verdict;
 use std::test::Fail;
 
 /// Of three added connections the one idle longest goes out first.

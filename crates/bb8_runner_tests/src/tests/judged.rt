@@ -1,7 +1,7 @@
 //! What is a script and what is not, line by line.
 
 use super::run;
-use crate::verdict::Verdict;
+use bb8_runner::verdict::Verdict;
 use std::test::Fail;
 
 const NOTHING_HAPPENED: &[u8] =

@@ -9,7 +9,7 @@ use super::{
     FIRST_ANSWERS, FIRST_SCRIPT, checks, generated, generated_checks, generated_handles,
     generated_waits, handles, run, worked,
 };
-use crate::verdict::Verdict;
+use bb8_runner::verdict::Verdict;
 use std::test::Fail;
 
 fn answers_as_the_original(rt: &HostRuntime, script: &[u8], answers: &[u8]) -> Result<bool, Fail> {

@@ -1,7 +1,7 @@
 //! Worked rows of waiting, of giving up and of looking, as scripts.
 
 use super::run;
-use crate::verdict::Verdict;
+use bb8_runner::verdict::Verdict;
 use std::test::Fail;
 
 /// A get that begins later takes the connection that the waiter was notified of, and the waiter waits again.
