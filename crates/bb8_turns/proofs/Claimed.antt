@@ -1,6 +1,6 @@
 -- Claims, one after another.
-use Rattle.std.proofs.Common.{◌≡◌, Some, List, [], ◌∷◌, ◌++◌, refl, sym, subst, append_assoc, map}
-use Rattle.std.proofs.lemmas.List.{append-nil, map-append}
+use Rattle.std.proofs.Common.{◌≡◌, Some, List, [], ◌∷◌, ◌++◌, refl, subst, append_assoc, map}
+use Rattle.std.proofs.lemmas.List.{map-append}
 use Rattle.bb8_types.specs.declared.api.moments.Moment.{Moment}
 use Rattle.bb8_tables.specs.declared.keys.Key.{Key}
 use Rattle.bb8_core.specs.declared.answers.ClaimAnswer.TheVariants.{Claimed}
@@ -17,10 +17,6 @@ module _ {H : Type 0} (home : ClaimHomeOf H) (at : Moment) where
   one_more (k ∷ keys) key h h1 h2 (between, first, rest) claimed = (between, first, one_more keys key between h1 h2 rest claimed)
 
   module _ {C V A : Type 0} where
-    -- before the first claim
-    pub takes-none : (ts : List (Replenish C V A)) (h : H) → TakesOnEach home at ts h ts h
-    takes-none ts h = ([], refl, sym (append-nil ts))
-
     -- after one more claim
     pub takes-more : (ts ts1 ts2 : List (Replenish C V A)) (h h1 h2 : H) (key : Key) → TakesOnEach home at ts h ts1 h1
         → home.claims h1 at (Claimed (Some key)) h2 → ts2 ≡ ts1 ++ fresh key ∷ [] → TakesOnEach home at ts h ts2 h2
