@@ -7,7 +7,7 @@ use Rattle.bb8_journal.specs.declared.journal.entries.Entry.{Entry}
 use Rattle.bb8_types.specs.Settings.{Settings}
 use Rattle.bb8_ledger.specs.Ledger.{Ledger, opening_with}
 use Rattle.bb8_core.specs.Run.{IsRun, AfterEach}
-use Rattle.bb8_core.specs.Shown.{Shown, shown, shown_code, Means}
+use Rattle.bb8_core.specs.Shown.{Shown, shown_beside, shown_code, Means}
 
 -- what a journal keeps: its entries, and the state that they lead to
 pub record Kept : Type 0 where
@@ -37,7 +37,7 @@ AfterEachEntry Holds config entries = AfterEach Holds (opening_with config 0 0) 
 
 -- no entry yet
 abbrev pub unwritten : Settings → Kept
-unwritten config = record { entries = []; pool = shown (opening_with config 0 0) }
+unwritten config = record { entries = []; pool = shown_beside 0 (opening_with config 0 0) }
 
 -- what a journal keeps is stored as the pair of its fields
 abbrev pub kept_code : Coded Entry → Coded Kept

@@ -79,6 +79,14 @@ pub(crate) fn is_same(one: Answer, other: Answer) -> bool
         Answer::Broken => matches!(other, Answer::Broken),
         Answer::NoCapacity => matches!(other, Answer::NoCapacity),
         Answer::Withheld => matches!(other, Answer::Withheld),
+        Answer::Reaped {
+            closed,
+            by_idle,
+            by_life,
+            grant,
+        } => {
+            matches!(other, Answer::Reaped { closed: n, by_idle: i, by_life: l, grant: g } if closed == n && by_idle == i && by_life == l && is_same_grant(grant, g))
+        }
         Answer::Shown(x) => matches!(other, Answer::Shown(y) if is_same_state(x, y)),
         Answer::Joined => matches!(other, Answer::Joined),
         Answer::Left(n) => matches!(other, Answer::Left(o) if n == o),
