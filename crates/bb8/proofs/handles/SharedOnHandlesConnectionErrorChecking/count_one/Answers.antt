@@ -3,5 +3,5 @@ use Rattle.bb8.proofs.handles.SharedOnHandlesConnectionErrorChecking.count_one.G
 
 pub returns : goal.returns
 returns g c =
-    let s = c.join.ensures.step in
+    let s = c.join.ensures in
     (c.now-at.result, c.now-at.ensures, (c.deref_mut.result.now.core, c.join.new.self.core, (s.0, s.1 ∙ sym c.args.self.now.settled, s.2)))
