@@ -1,5 +1,5 @@
 -- Histories: entries in the order in which they were made.
-use Rattle.std.specs.Prelude.{ℕ, List, [], map, refl}
+use Rattle.std.specs.Prelude.{◌≡◌, ℕ, List, [], map, refl}
 use Rattle.std.specs.Coded.{Coded, code_by, coded×, coded_ℕ, coded_list}
 use Rattle.bb8_core.specs.declared.replay.events.Event.{Event}
 use Rattle.bb8_core.specs.declared.replay.events.Answer.{Answer}
@@ -7,7 +7,7 @@ use Rattle.bb8_journal.specs.declared.journal.entries.Entry.{Entry}
 use Rattle.bb8_types.specs.Settings.{Settings}
 use Rattle.bb8_ledger.specs.Ledger.{Ledger, opening_with}
 use Rattle.bb8_core.specs.Run.{IsRun, AfterEach}
-use Rattle.bb8_core.specs.Shown.{Shown, shown_beside, shown_code, Means}
+use Rattle.bb8_core.specs.Shown.{Shown, shown_code, Means}
 
 -- what a journal keeps: its entries, and the state that they lead to
 pub record Kept : Type 0 where
@@ -35,9 +35,9 @@ Replays config entries state = (last : Ledger ℕ) × IsRun (opening_with config
 abbrev pub AfterEachEntry : (Ledger ℕ → Type 0) → Settings → List Entry → Type 0
 AfterEachEntry Holds config entries = AfterEach Holds (opening_with config 0 0) (events_of entries) (answers_of entries)
 
--- no entry yet
-abbrev pub unwritten : Settings → Kept
-unwritten config = record { entries = []; pool = shown_beside 0 (opening_with config 0 0) }
+-- no entry yet, and an empty pool
+abbrev pub IsUnwritten : Settings → Kept → Type 0
+IsUnwritten config kept = (kept.entries ≡ []) × Means (opening_with config 0 0) kept.pool
 
 -- what a journal keeps is stored as the pair of its fields
 abbrev pub kept_code : Coded Entry → Coded Kept

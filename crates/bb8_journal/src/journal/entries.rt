@@ -126,7 +126,7 @@ fn make_room(pool: &PoolInternals<u64>, history: &mut Vec<Entry>, event: Event) 
 
 impl<L: Recorded> Journal<L> {
     ghost use Rattle.bb8_journal.specs.Notes.{steps_of, Makes, notes_of};
-    ghost use Rattle.bb8_journal.specs.History.{entry, unwritten, Replays, AfterEachEntry};
+    ghost use Rattle.bb8_journal.specs.History.{entry, IsUnwritten, Replays, AfterEachEntry};
 
     /// Lets an event happen that a seat makes, and writes it down. It answers the entry's index and what the event was answered, `Unfit`
     /// where it did not fit. `NoRoom` comes where memory for an entry was refused, and never to an ending event that fits: a `GiveUp`, a
@@ -186,7 +186,7 @@ impl<L: Recorded> Journal<L> {
         requires none { steps.total ≡ 0 }
         requires no_part { rest.parts ≡ 0 }
         requires no_amount { rest.amount ≡ 0 }
-        ensures { IfOk result (λ journal. journal ≡ unwritten (settings_of config)) }
+        ensures { IfOk result (IsUnwritten (settings_of config)) }
     {
         let history = with_room(alloc, 1)?;
         Ok(Journal {

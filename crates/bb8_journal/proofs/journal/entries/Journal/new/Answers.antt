@@ -19,3 +19,6 @@ invariant_of-result g c =
       no_part = c.requires.no_part;
       no_amount = c.requires.no_amount;
     }
+
+pub returns : goal.returns
+returns g c = (c.in_ok-history.ensures.empty, c.new.ensures)
