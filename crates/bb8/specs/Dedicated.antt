@@ -1,5 +1,5 @@
 -- What callers see of the opening of a connection that the pool does not count.
-use Rattle.std.specs.Prelude.{◌≡◌, Result}
+use Rattle.std.specs.Prelude.{Result}
 use Rattle.std.specs.declared.fmt.Debug.{Ghosts as DebugOf}
 use Rattle.futures.specs.declared.task.Poll.{Poll}
 use Rattle.bb8_types.specs.declared.api.customizers.CustomizeConnection.{Ghosts as CustomizerOf}

@@ -4,8 +4,7 @@ mod building;
 mod dedicated;
 
 use bb8::{
-    CustomizeConnection, ErrorSink, ManageConnection, Memory, Moment, NopCustomizer, Pool,
-    SetClock,
+    CustomizeConnection, ErrorSink, ManageConnection, Memory, Moment, NopCustomizer, Pool, SetClock,
 };
 use futures::task::Poll;
 use std::alloc::Global;

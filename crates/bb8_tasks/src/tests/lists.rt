@@ -110,8 +110,9 @@ fn round_goes_on_while_tries_are_left(rt: HostRuntime) -> Result<(), Fail> {
     let sink = Sum::new();
     let mut opener = PoolOpener::new(&manager, &sink, &NopCustomizer, &Still);
     let tasks = Tasks::for_approvals(rt.alloc(), 0, 2)?;
-    let Round::Going(tasks) = tasks.round(Moment(0), &mut opener, &config, &mut pool) else {
-        panic!(&rt; "the round ended");
+    let tasks = match tasks.round(Moment(0), &mut opener, &config, &mut pool) {
+        Round::Going(tasks) => tasks,
+        Round::Complete | Round::Failed(_) => panic!(&rt; "the round ended"),
     };
     assert_eq!(&rt; (tasks.len(), manager.connects(), sink.get()), (2, 2, 3));
     assert!(&rt; pool.find(0).is_some() && pool.find(1).is_some());
