@@ -72,9 +72,10 @@ module _ {C : Type 0} where
       go (Some t) h s e =
           let both : Some (with_place p t) ≡ Some s = e in
           let is : with_place p t ≡ s = cc in
-          let was = h t refl in
-          (let b : t.birth ≤ m = was.0 in let same : t.birth ≡ s.birth = ap (λ (x : Standing C). x.birth) is in omega arith,
-          let b : t.entered ≤ m = was.1 in let same : t.entered ≡ s.entered = ap (λ (x : Standing C). x.entered) is in omega arith)
+          let was = h t refl in (
+            let b : t.birth ≤ m = was.0 in let same : t.birth ≡ s.birth = ap (λ (x : Standing C). x.birth) is in omega arith,
+            let b : t.entered ≤ m = was.1 in let same : t.entered ≡ s.entered = ap (λ (x : Standing C). x.entered) is in omega arith,
+          )
 
   entered_now : (m b q : ℕ) (c : C) → b ≤ m → IsUpTo m (entry c b m q)
   entered_now m b q c l s e =
