@@ -1,7 +1,7 @@
 //! Measures the core of the pool, beside what a user would take instead.
 //!
 //! Without arguments it prints the table. `bench rounds SIZE ROUNDS`, `bench drain SIZE`, `bench crowd GETS`,
-//! `bench give-ups GETS FROM COUNT` and `bench floor ROUNDS` make one run for a profiler, and print its checksum.
+//! `bench give-ups GETS FROM COUNT`, `bench reaps SIZE REAPS` and `bench floor ROUNDS` make one run for a profiler, and print its checksum.
 
 mod library;
 mod script;
@@ -96,6 +96,15 @@ fn processor() -> String {
     format!("{name}, {many} processors")
 }
 
+/// How often a script that reaps so many connections was answered that none of them ended: each time.
+fn script_reaps(size: usize, reaps: usize) -> u64 {
+    let (input, answers) = (script::reaping(size, reaps), script::reaping_answers(size, reaps));
+    let mut out = vec![0; answers.len()];
+    let written = script_run(input.as_bytes(), &mut out);
+    assert!(out[..written] == *answers.as_bytes());
+    reaps as u64
+}
+
 fn print_table() {
     println!("| figure | median of {REPETITIONS} |");
     println!("|---|---|");
@@ -132,6 +141,7 @@ fn run_once(words: &[&str]) -> Option<u64> {
         ["drain", size] => Some(core_fill_drain(size.parse().ok()?)),
         ["crowd", gets] => Some(core_crowd(gets.parse().ok()?)),
         ["give-ups", gets, from, count] => Some(core_give_ups(gets.parse().ok()?, from.parse().ok()?, count.parse().ok()?)),
+        ["reaps", size, reaps] => Some(script_reaps(size.parse().ok()?, reaps.parse().ok()?)),
         ["floor", rounds] => Some(floor_rounds(rounds.parse().ok()?)),
         _ => None,
     }
@@ -150,7 +160,9 @@ fn main() -> ExitCode {
             ExitCode::SUCCESS
         }
         None => {
-            eprintln!("usage: bench [rounds SIZE ROUNDS | drain SIZE | crowd GETS | give-ups GETS FROM COUNT | floor ROUNDS]");
+            eprintln!(
+                "usage: bench [rounds SIZE ROUNDS | drain SIZE | crowd GETS | give-ups GETS FROM COUNT | reaps SIZE REAPS | floor ROUNDS]"
+            );
             ExitCode::from(2)
         }
     }

@@ -38,3 +38,22 @@ pub fn answers() -> String {
     );
     text + &state + &state
 }
+
+/// So many connections are added, none of which idles out or lives too long, and then they are reaped so many times.
+pub fn reaping(size: usize, reaps: usize) -> String {
+    let first = format!("config max_size={size} check=off\n");
+    let adding = iter::repeat_n("0 add\n", size);
+    let reaping = iter::repeat_n("1 reap\n", reaps);
+    first + &adding.chain(reaping).collect::<String>()
+}
+
+/// Its answers, from the rules.
+pub fn reaping_answers(size: usize, reaps: usize) -> String {
+    let added = (0..size).map(|number| format!("added {number}\n"));
+    let reaped = iter::repeat_n(String::from("reaped 0 idle 0 life 0\n"), reaps);
+    let state = format!(
+        "state connections {size} idle {size} started 0 direct 0 waited 0 timed_out 0 cancelled 0 wait_us 0 created 0 broken 0 \
+         invalid 0 lifetime 0 idle_timeout 0\n"
+    );
+    added.chain(reaped).collect::<String>() + &state
+}
