@@ -129,13 +129,18 @@ fn reap_notifies_nobody(rt: HostRuntime) -> Result<(), Fail> {
     Ok(())
 }
 
+/// Adds a connection at a moment.
+fn add(rt: &impl Abort, pool: &mut PoolInternals<u64>, at: Moment, number: u64) {
+    if !pool.fits_add() {
+        panic!(rt; "no handle is alive");
+    }
+    let _ = pool.add(at, number, false);
+}
+
 /// Adds so many connections at a moment.
 fn add_all(rt: &impl Abort, pool: &mut PoolInternals<u64>, at: Moment, many: u64) {
     for number in 0..many {
-        if !pool.fits_add() {
-            panic!(rt; "no handle is alive");
-        }
-        let _ = pool.add(at, number, false);
+        add(rt, pool, at, number);
     }
 }
 
