@@ -22,15 +22,15 @@ use Rattle.bb8.specs.declared.building.Building.{Building}
 use Rattle.bb8.specs.declared.building.Plan.{Plan}
 use Rattle.bb8.specs.declared.pool.Pool.{Pool}
 use Rattle.bb8.specs.Choices.{Choices}
-use Rattle.bb8.specs.Linked.{Answers}
-use Rattle.bb8.specs.Opening.{OwnRounds, OwnDropsTasks}
-use Rattle.bb8.specs.Pools.{clock_in, customizer_in, manager_in, settings_in, sink_in}
+use Rattle.bb8_shared.specs.Linked.{Answers}
+use Rattle.bb8_shared.specs.Opening.{OwnRounds, OwnDropsTasks}
+use Rattle.bb8.specs.Pools.{clock_in, customizer_in, made_in, manager_in, settings_in, sink_in}
 
 module _ {M S Z K R L C E N V A : Type 0} {m : ManagerOf M C E N V} {d : DebugOf E} {l : PartsOf L} {p : LedgerOf L} (tells : K → Moment → Type 0) where
   -- The pool has what was planned, and began as this was granted for its first connections, at a reading of the clock.
   pub record IsOpened (plan : Plan M S Z K R L l p) (claimed : Bool) (pool : Pool M S Z K R L C E N V A m d l) (grant : Grant) : Type 0 where
     pub settings : settings_in pool ≡ plan.builder.settings
-    pub first : HasBegun C (tells plan.clock) plan.builder.settings claimed grant
+    pub first : HasBegun C (λ at. tells plan.clock at × (made_in pool ≡ at)) plan.builder.settings claimed grant
     pub manager : manager_in pool ≡ plan.manager
     pub clock : clock_in pool ≡ plan.clock
     pub sink : sink_in pool ≡ plan.builder.error_sink

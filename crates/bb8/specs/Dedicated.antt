@@ -8,8 +8,8 @@ use Rattle.bb8_types.specs.declared.api.moments.Moment.{Moment}
 use Rattle.bb8_tasks.specs.declared.dedicated.Dedicated.{Dedicated}
 use Rattle.bb8_locked.specs.declared.locked.Parts.{Ghosts as PartsOf}
 use Rattle.bb8.specs.declared.dedicated.DedicatedFuture.{DedicatedFuture}
-use Rattle.bb8.specs.Linked.{Answers}
-use Rattle.bb8.specs.Opening.{OwnDedicates, OwnDropsOpening}
+use Rattle.bb8_shared.specs.Linked.{Answers}
+use Rattle.bb8_shared.specs.Opening.{OwnDedicates, OwnDropsOpening}
 
 module _ {M S Z K R L C E N V A : Type 0} {m : ManagerOf M C E N V} {d : DebugOf E} {l : PartsOf L} where
   -- the opening of a future

@@ -10,7 +10,7 @@ use Rattle.bb8.specs.declared.get.future.GetFuture.{GetFuture}
 use Rattle.bb8_gets.specs.declared.home.Taken.{Taken}
 use Rattle.bb8_locked.specs.declared.locked.Part.{Part}
 use Rattle.bb8.specs.declared.pool.PooledConnection.{PooledConnection}
-use Rattle.bb8.specs.Linked.{OwnPolls, OwnGives, OwnCancels, MakesGuard, MakesPoll}
+use Rattle.bb8_shared.specs.Linked.{OwnPolls, OwnGives, OwnCancels, MakesGuard, MakesPoll}
 use Rattle.bb8.specs.Pools.{stage_of}
 
 module _ {M S Z K R L C E N V A : Type 0} {m : ManagerOf M C E N V} {d : DebugOf E} {l : PartsOf L} where

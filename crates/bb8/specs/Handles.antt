@@ -19,16 +19,7 @@ use Rattle.bb8_locked.specs.declared.locked.handles.Joining.TheVariants as joini
 use Rattle.bb8_locked.specs.Sections.{joining_told}
 use Rattle.bb8.specs.declared.handles.Holding.{Holding}
 use Rattle.bb8.specs.declared.pool.Pool.{Pool}
-use Rattle.bb8.specs.declared.pool.Shared.{Shared}
-
--- the clock is read, and some state of a pool with these settings counts one handle more, or refuses it
-abbrev pub IsJoining : (C : Type 0) → (Moment → Type 0) → Settings → Joining → Type 0
-IsJoining C Tells settings answer = (at : Moment) × Tells at × OnSome {C = C} settings at.0 acts.Join (joining_told answer)
-
--- the clock is read, and some state of a pool with these settings takes a handle away
-abbrev pub IsLeaving : (C : Type 0) → (Moment → Type 0) → Settings → Type 0
-IsLeaving C Tells settings =
-    (at : Moment) × Tells at × ((answer : Result LeaveAnswer Unfit) × OnSome {C = C} settings at.0 acts.Leave (answered leave_told answer))
+use Rattle.bb8_shared.specs.declared.shared.Shared.{Shared}
 
 module _ {M S Z K R L C E N V : Type 0} {m : ManagerOf M C E N V} {d : DebugOf E} {l : PartsOf L} (tells : K → Moment → Type 0) where
   -- What is told of the making of a handle: one more is of the same pool. Where as many are alive as may be, or none is, it is refused.

@@ -19,7 +19,7 @@ use Rattle.bb8.specs.declared.owned.Owning.{Owning}
 use Rattle.bb8.specs.declared.owned.Owning.TheVariants.{Refused, Open}
 use Rattle.bb8.specs.declared.pool.Pool.{Pool}
 use Rattle.bb8.specs.Handles.{IsHandleOf, Leaves}
-use Rattle.bb8.specs.Linked.{Answers, OwnPolls, OwnCancels}
+use Rattle.bb8_shared.specs.Linked.{Answers, OwnPolls, OwnCancels}
 
 -- What the steps of such a get do with its handle.
 module _ {M S Z K R L C E N V : Type 0} {m : ManagerOf M C E N V} {d : DebugOf E} {l : PartsOf L} (sinks : S → E → Type 0) (tells : K → Moment → Type 0) where

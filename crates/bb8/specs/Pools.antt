@@ -3,6 +3,7 @@ use Rattle.std.specs.Prelude.{◌≡◌}
 use Rattle.std.specs.Arc.{arc_value}
 use Rattle.std.specs.declared.fmt.Debug.{Ghosts as DebugOf}
 use Rattle.bb8_types.specs.declared.api.managers.ManageConnection.{Ghosts as ManagerOf}
+use Rattle.bb8_types.specs.declared.api.moments.Moment.{Moment}
 use Rattle.bb8_types.specs.Settings.{Settings, settings_of}
 use Rattle.bb8_locked.specs.declared.locked.Parts.{Ghosts as PartsOf}
 use Rattle.bb8.specs.declared.pool.Pool.{Pool}
@@ -34,6 +35,10 @@ module _ {M S Z K R L C E N V A : Type 0} {m : ManagerOf M C E N V} {d : DebugOf
   -- the clock of a pool
   abbrev pub clock_in : Pool M S Z K R L C E N V A m d l → K
   clock_in pool = (arc_value pool.shared).clock
+
+  -- the clock's moment at which a pool was made
+  abbrev pub made_in : Pool M S Z K R L C E N V A m d l → Moment
+  made_in pool = (arc_value pool.shared).made
 
   -- the get is of that pool
   abbrev pub IsOf : GetFuture M S Z K R L C E N V A m d l → Pool M S Z K R L C E N V A m d l → Type 0

@@ -4,12 +4,11 @@ ghost use Rattle.bb8_types.specs.Settings.{is_lawful};
 ghost use Rattle.bb8_locked.specs.Parts.{IsBlankOf};
 
 use crate::Builder;
-use crate::locks::Locks;
-use crate::opening::Opens;
-use crate::pool::{Pool, Shared};
+use crate::pool::Pool;
 use bb8_core::api::{Clock, CustomizeConnection, ErrorSink, ManageConnection, Memory, RunError};
 use bb8_core::internals::Grant;
 use bb8_locked::{NewPool, Parts, begin_pool};
+use bb8_shared::{Locks, Opens, Shared};
 use bb8_tasks::PoolOpener;
 pub use bb8_tasks::{Built, Replenish, Round, Site, Tasks};
 use futures::Future;
@@ -94,6 +93,7 @@ impl<
             clock,
             rt,
             config,
+            made: at,
             total,
             locked: Mutex::new(locked),
         };

@@ -3,11 +3,10 @@ ghost use Rattle.std.specs.Prelude.{◌≡◌};
 ghost use Rattle.std.specs.Arc.{arc_value};
 ghost use Rattle.bb8_tasks.specs.Dedicating.{fresh};
 
-use crate::locks::Locks;
-use crate::opening::Opens;
-use crate::pool::{Pool, Shared};
+use crate::pool::Pool;
 use bb8_core::api::{Clock, CustomizeConnection, ErrorSink, ManageConnection, Moment};
 use bb8_locked::Parts;
+use bb8_shared::{Locks, Opens, Shared};
 use bb8_tasks::PoolOpener;
 pub use bb8_tasks::{Dedicated, Opened, Opening};
 use futures::Future;

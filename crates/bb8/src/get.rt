@@ -1,12 +1,10 @@
 //! A get of a pool: its future, over the polls of `bb8_gets`.
 
 mod future;
-mod link;
 
 pub use bb8_gets::{
     Begun, GetHome, GetState, Held, Next, Outside, Passed, Returned, Settled, Stage, Taken, Tried,
     Unfit,
 };
 pub use future::GetFuture;
-pub(crate) use future::{Gets, StartGet};
-pub(crate) use link::{Hold, LinkHome};
+pub(crate) use future::StartGet;

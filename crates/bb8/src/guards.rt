@@ -1,12 +1,12 @@
 //! A list of guards of one pool, of which there are never more than the pool's `max_size`.
 ghost use Rattle.std.specs.Prelude.{◌≡◌, ◌+◌, ◌<◌, ◌≤◌, ◌↔◌, true, [], ◌∷◌, ◌++◌, take, drop, slice_index_or, vec_len, OnOk, IfErr, IfSome, IfNone, IsSome};
 
-use crate::locks::Locks;
-use crate::pool::{Pool, PooledConnection, Shared};
+use crate::pool::{Pool, PooledConnection};
 use bb8_core::api::{Clock, CustomizeConnection, ErrorSink, ManageConnection};
 use bb8_core::internals::Key;
 use bb8_gets::Taken;
 use bb8_locked::{Gathered, Parts};
+use bb8_shared::{Locks, Shared};
 use std::alloc::Global;
 
 /// Where a connection of a list goes back to, and its key.

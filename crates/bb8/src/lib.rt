@@ -187,16 +187,14 @@
 //! (`ghosts-run-L-Parts`), as in `bb8_live_bench`.
 #![tactic(auto)]
 
-mod adding;
 mod builder;
 pub mod building;
 pub mod dedicated;
+pub mod driver;
 pub mod get;
 pub mod guards;
 mod handles;
-mod locks;
 mod machine;
-mod opening;
 pub mod owned;
 pub mod pool;
 mod serving;
@@ -209,11 +207,12 @@ pub use bb8_core::api::{
 };
 pub use bb8_core::{api, internals, replay};
 pub use bb8_locked::{Parts, PoolParts};
+pub use bb8_shared::Locks;
 pub use builder::Builder;
 pub use building::Building;
 pub use dedicated::DedicatedFuture;
+pub use driver::{Driven, Driver, Gate, NoThread, Turn, drive};
 pub use guards::Guards;
-pub use locks::Locks;
 pub use machine::MachineClock;
 pub use owned::OwnedConnection;
 pub use pool::{Pool, PoolCalls, PooledConnection};

@@ -2,13 +2,12 @@
 ghost use Rattle.std.specs.Prelude.{◌≡◌};
 ghost use Rattle.std.specs.Arc.{arc_value};
 
-use crate::get::Gets;
-use crate::handles::{Holding, Joins, OnHandles};
-use crate::locks::Locks;
-use crate::pool::{Pool, PoolCalls, Returns};
+use crate::handles::{Holding, Joins};
+use crate::pool::{Pool, PoolCalls};
 use bb8_core::api::{Clock, CustomizeConnection, ErrorSink, ManageConnection, RunError};
 use bb8_gets::{Calls, GetState, Taken};
 use bb8_locked::{Part, Parts};
+use bb8_shared::{Gets, Locks, OnHandles, Returns};
 use futures::Future;
 use futures::task::{Context, Poll};
 use std::fmt::{Debug, Formatter};
@@ -89,7 +88,7 @@ impl<
     L: Parts,
 > Owns for Holding<M, S, Z, K, R, L> {
     ghost use Rattle.bb8.specs.Handles.{Leaves as HandleLeaves};
-    ghost use Rattle.bb8.specs.Linked.{OwnCancels, OwnPolls, OwnReturns};
+    ghost use Rattle.bb8_shared.specs.Linked.{OwnCancels, OwnPolls, OwnReturns};
 
     type Get = GetState<M::Connection, M::Checking, Part<L>>;
 

@@ -4,47 +4,28 @@ ghost use Rattle.std.specs.Arc.{arc_value};
 ghost use Rattle.bb8_types.specs.declared.grants.Grant.{Grant as GrantOf};
 ghost use Rattle.bb8_types.specs.Settings.{settings_of, default_settings, is_lawful};
 ghost use Rattle.bb8_locked.specs.Parts.{IsBlankOf, HasBegun};
-ghost use Rattle.bb8.specs.Addings.{IsAdding};
-ghost use Rattle.bb8.specs.Returns.{AfterReturn};
-ghost use Rattle.bb8.specs.States.{IsShown};
+ghost use Rattle.bb8_shared.specs.Addings.{IsAdding};
+ghost use Rattle.bb8_shared.specs.States.{IsShown};
 
 use crate::Builder;
-use crate::adding::OnShared;
 use crate::building::{MakesPool, Plan};
 use crate::get::{GetFuture, StartGet};
-use crate::handles::{Holding, Joins, OnHandles};
-use crate::locks::Locks;
+use crate::handles::{Holding, Joins};
 use crate::owned::{GetOwnedFuture, StartOwned};
 use bb8_core::api::{
     AddError, Clock, Config, CustomizeConnection, ErrorSink, ManageConnection, Memory,
     NopCustomizer, NopErrorSink, RunError, SetClock, State,
 };
-use bb8_core::internals::PutBackAnswer;
-use bb8_gets::{Calls, Outside, Taken};
-use bb8_locked::{Handle, Locked, Part, Parts};
+use bb8_gets::{Calls, Taken};
+use bb8_locked::{Handle, Part, Parts};
+use bb8_shared::{Locks, OnHandles, OnShared, Returns, Shared};
 use std::alloc::Global;
 use std::fmt;
 use std::fmt::{Debug, Formatter};
 use std::marker::PhantomData;
 use std::ops::{Deref, DerefMut};
-use std::sync::ledger::{Blank, Total};
-use std::sync::{Arc, Mutex, Wait};
-
-/// What the handles and guards of one pool share.
-#[derive(Drop)]
-pub(crate) struct Shared<M: ManageConnection, S, Z, K, R, L: Parts> {
-    pub manager: M,
-    pub error_sink: S,
-    pub customizer: Z,
-    pub clock: K,
-    pub rt: R,
-    pub config: Config,
-    /// How many parts there are, for whoever holds several of them.
-    pub total: Total<L>,
-    pub locked: Mutex<Locked<M::Connection, L>>,
-    ghost whole: { total.amount ≡ config.max_size },
-    ghost settled: { settings_of config ≡ L.settings },
-}
+use std::sync::ledger::Blank;
+use std::sync::{Arc, Wait};
 
 /// A handle of a pool of connections. Threads share one by reference, or have one each (`try_clone`). It lends connections out as guards,
 /// which give them back when they are dropped.
@@ -90,7 +71,7 @@ impl<
     S: ErrorSink<M::Error>,
     Z: CustomizeConnection<M::Connection, M::Error>,
 > Builder<M, S, Z> {
-    ghost use Rattle.bb8.specs.Pools.{clock_in, customizer_in, manager_in, settings_in, sink_in};
+    ghost use Rattle.bb8.specs.Pools.{clock_in, customizer_in, made_in, manager_in, settings_in, sink_in};
 
     /// A pool that begins with no connection, and waits for none: the approvals for the first ones, up to `min_idle`, are granted, and
     /// whoever turns a driver of the pool opens them.
@@ -106,8 +87,8 @@ impl<
         requires lawful { is_lawful self.settings ≡ true }
         requires parts { IsBlankOf blank self.settings L.name L.parts L.settings }
         ensures settings { IfOk result (λ pool. settings_in pool ≡ self.settings) }
-        ensures first { IfOk result (λ _. (grant : GrantOf)
-            × HasBegun M.Connection (K.tells clock) self.settings false grant) }
+        ensures first { IfOk result (λ pool. (grant : GrantOf) × HasBegun M.Connection
+            (λ at. K.tells clock at × (made_in pool ≡ at)) self.settings false grant) }
         ensures manager { IfOk result (λ pool. manager_in pool ≡ manager) }
         ensures clock { IfOk result (λ pool. clock_in pool ≡ clock) }
         ensures sink { IfOk result (λ pool. sink_in pool ≡ self.error_sink) }
@@ -142,59 +123,6 @@ impl<
     {
         let PooledConnection { shared, taken } = self;
         (shared, taken)
-    }
-}
-
-/// What the guards of a pool do with what its handles share, as a method of an impl, so that drops can call it.
-pub(crate) trait Returns<C, E, V, P> {
-    /// Gives a connection back.
-    fn give_back<W: Outside<C, E, Checking = V>>(&self, outside: &mut W, taken: Taken<C, P>);
-}
-
-impl<M: ManageConnection, S, Z, K, R: Locks, L: Parts> Returns<
-    M::Connection,
-    M::Error,
-    M::Checking,
-    Part<L>,
-> for Shared<M, S, Z, K, R, L> {
-    ghost use Rattle.bb8.specs.Linked.{LinkReturns};
-
-    /// The connection is asked whether it is broken, and the clock is read, before the lock is taken.
-    fn give_back<W: Outside<M::Connection, M::Error, Checking = M::Checking>>(
-        &self,
-        outside: &mut W,
-        taken: Taken<M::Connection, Part<L>>,
-    )
-        ensures { LinkReturns W.Outside self.now taken outside.old outside.new }
-    {
-        let Taken {
-            key,
-            mut connection,
-            part,
-        } = taken;
-        let broken = outside.has_broken(&mut connection);
-        let at = outside.now();
-        let taken = Taken {
-            key,
-            connection,
-            part,
-        };
-        let answer = self.rt.take(&self.locked).put_back(at, taken, broken);
-        drop_closed(outside, answer);
-    }
-}
-
-/// A connection that does not stay as it comes back is dropped, once the lock is free again.
-fn drop_closed<C, E, V: Drop, W: Outside<C, E, Checking = V>>(
-    outside: &mut W,
-    answer: Result<PutBackAnswer<C>, C>,
-)
-    ensures { AfterReturn W.Outside answer outside.old outside.new }
-{
-    match answer {
-        Ok(PutBackAnswer::Kept(_)) => {}
-        Ok(PutBackAnswer::Closed(closed, ..)) => outside.let_go(closed),
-        Err(unfit) => outside.let_go(unfit),
     }
 }
 

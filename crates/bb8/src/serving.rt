@@ -4,10 +4,11 @@ ghost use Rattle.bb8_types.specs.Settings.{is_lawful};
 ghost use Rattle.bb8_locked.specs.Parts.{IsBlankOf};
 ghost use Rattle.bb8.specs.Services.{Basis, basis, basis_of, EachTold, IsOutcome};
 
+use crate::Builder;
 use crate::pool::Pool;
-use crate::{Builder, Locks};
 use bb8_core::api::{Clock, Config, CustomizeConnection, ErrorSink, ManageConnection, Memory};
 use bb8_locked::PoolParts;
+use bb8_shared::Locks;
 use std::marker::Brand;
 use std::sync::Wait;
 use std::sync::ledger::Blank;

@@ -5,12 +5,12 @@ mod checks;
 mod handles;
 mod rows;
 
-use crate::pool::Shared;
 use crate::{
     Builder, Clock, ErrorSink, ManageConnection, Memory, Moment, NopCustomizer, Pool, PoolParts,
     SetClock,
 };
 use bb8_core::internals::{ClaimAnswer, Key, OpenedAnswer};
+use bb8_shared::Shared;
 use futures::task::Poll;
 use std::process::Abort;
 use std::random::RandomSource;

@@ -98,6 +98,7 @@ impl<C, V: Drop, A: Drop> Turning<C, V, A> {
             home.old outside.old result self.new home.new outside.new }
         ensures ended { result.ended ≡ is_ended self.new }
         ensures none { result.ended ≡ true → result.polled ≡ 0 }
+        ensures stays { is_ended self.old ≡ true → result.ended ≡ true }
     {
         let Turning::Going(reaper, tasks) = self else {
             return Turn {

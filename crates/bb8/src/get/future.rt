@@ -1,12 +1,11 @@
 //! The future of a get.
 ghost use Rattle.std.specs.Prelude.{◌≡◌};
 
-use super::link::LinkHome;
-use crate::locks::Locks;
-use crate::pool::{Pool, PooledConnection, Shared};
+use crate::pool::{Pool, PooledConnection};
 use bb8_core::api::{Clock, CustomizeConnection, ErrorSink, ManageConnection, RunError};
-use bb8_gets::{Calls, GetState, Outside, Taken};
+use bb8_gets::{Calls, GetState};
 use bb8_locked::{Part, Parts};
+use bb8_shared::{Gets, Locks, Shared};
 use futures::Future;
 use futures::task::{Context, Poll};
 use std::sync::Wait;
@@ -28,52 +27,6 @@ pub struct GetFuture<
 > {
     shared: &'a Shared<M, S, Z, K, R, L>,
     get: GetState<M::Connection, M::Checking, Part<L>>,
-}
-
-/// What the gets of a pool do with what its handles share, as methods of an impl, so that polls and drops can call them.
-pub(crate) trait Gets<C, E, V, P> {
-    /// One poll of a get.
-    fn poll_get<W: Outside<C, E, Checking = V>>(
-        &self,
-        outside: &mut W,
-        get: &mut GetState<C, V, P>,
-    ) -> Poll<Result<Taken<C, P>, RunError<E>>>;
-
-    /// Lets a get go.
-    fn cancel_get<W: Outside<C, E, Checking = V>>(&self, outside: &mut W, get: GetState<C, V, P>);
-}
-
-/// Nothing is called outside under the lock: the table releases its home before each such call.
-impl<M: ManageConnection, S, Z, K, R: Locks, L: Parts> Gets<
-    M::Connection,
-    M::Error,
-    M::Checking,
-    Part<L>,
-> for Shared<M, S, Z, K, R, L> {
-    ghost use Rattle.bb8.specs.Linked.{LinkCancels, LinkPolls};
-
-    fn poll_get<W: Outside<M::Connection, M::Error, Checking = M::Checking>>(
-        &self,
-        outside: &mut W,
-        get: &mut GetState<M::Connection, M::Checking, Part<L>>,
-    ) -> Poll<Result<Taken<M::Connection, Part<L>>, RunError<M::Error>>>
-        ensures { LinkPolls W.Outside self.now get.old.stage outside.old
-            (record { answer = result; stage = get.new.stage }) outside.new }
-    {
-        let mut link = LinkHome::new(&self.locked, &self.rt);
-        get.poll_step(outside, &mut link, self.config.connection_timeout)
-    }
-
-    fn cancel_get<W: Outside<M::Connection, M::Error, Checking = M::Checking>>(
-        &self,
-        outside: &mut W,
-        get: GetState<M::Connection, M::Checking, Part<L>>,
-    )
-        ensures { LinkCancels W.Outside self.now get.stage outside.old outside.new }
-    {
-        let mut link = LinkHome::new(&self.locked, &self.rt);
-        get.cancel_step(outside, &mut link);
-    }
 }
 
 impl<

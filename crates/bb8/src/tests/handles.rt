@@ -4,12 +4,11 @@ ghost use Rattle.bb8_locked.specs.Parts.{IsBlankOf, unchecked_of};
 ghost use Rattle.bb8_types.specs.Settings.{default_settings};
 
 use super::{Errors, NumberPool, Numbers, Runtime, bring, build_one, claim, open};
-use crate::handles::OnHandles;
-use crate::pool::Returns;
 use crate::{Builder, Memory, Moment, PoolParts, SetClock};
 use bb8_core::internals::{ClaimAnswer, OpenedAnswer};
 use bb8_gets::{Calls, GetHome, Unfit};
 use bb8_locked::Joining;
+use bb8_shared::{OnHandles, Returns};
 use futures::task::Poll;
 use futures::test::MockTask;
 use std::marker::Brand;

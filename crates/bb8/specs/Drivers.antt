@@ -1,0 +1,55 @@
+-- What callers see of a driver: what it begins with, its turns, and a run of turns.
+use Rattle.std.specs.Prelude.{◌≡◌, ℕ, ◌+◌, ◌-◌, ◌^◌, min, Bool, true, false}
+use Rattle.std.specs.Arc.{arc_value}
+use Rattle.std.specs.declared.fmt.Debug.{Ghosts as DebugOf}
+use Rattle.bb8_types.specs.declared.api.customizers.CustomizeConnection.{Ghosts as CustomizerOf}
+use Rattle.bb8_types.specs.declared.api.managers.ManageConnection.{Ghosts as ManagerOf}
+use Rattle.bb8_types.specs.declared.api.moments.Moment.{Moment}
+use Rattle.bb8_turns.specs.declared.turning.Turn.{Turn}
+use Rattle.bb8_turns.specs.declared.turning.Turning.{Turning}
+use Rattle.bb8_turns.specs.Turns.{is_ended, Begins}
+use Rattle.bb8_locked.specs.declared.locked.Parts.{Ghosts as PartsOf}
+use Rattle.bb8_shared.specs.declared.shared.Shared.{Shared}
+use Rattle.bb8_shared.specs.Turning.{OwnTurns}
+use Rattle.bb8.specs.declared.driver.Driver.{Driver}
+use Rattle.bb8.specs.declared.driver.Driven.{Driven}
+use Rattle.bb8.specs.declared.pool.Pool.{Pool}
+use Rattle.bb8.specs.Pools.{made_in, settings_in}
+
+-- one turn more, up to the greatest number that is counted
+abbrev pub one_more : ℕ → ℕ
+one_more n = min (n + 1) (2 ^ 64 - 1)
+
+-- What is told of a run of turns after so many: a turn that ended is the last one; after any other one the gate is asked, and where it does not
+-- pause the run stops.
+pub data Runs {T G : Type 0} (step : T → Turn → T → Type 0) (pauses : G → Bool → G → Type 0) : T → G → ℕ → Driven → Type 0 where
+  ends : (t t' : T) (g : G) (n : ℕ) (turn : Turn) (d : Driven) → step t turn t' → turn.ended ≡ true → d ≡ record { turns = one_more n; ended = true }
+      → Runs step pauses t g n d
+  stops : (t t' : T) (g g' : G) (n : ℕ) (turn : Turn) (d : Driven) → step t turn t' → turn.ended ≡ false → pauses g false g'
+      → d ≡ record { turns = one_more n; ended = false } → Runs step pauses t g n d
+  goes_on : (t t' : T) (g g' : G) (n : ℕ) (turn : Turn) (d : Driven) → step t turn t' → turn.ended ≡ false → pauses g true g'
+      → Runs step pauses t' g' (one_more n) d → Runs step pauses t g n d
+
+module _ {M S Z K R L C E N V A : Type 0} {m : ManagerOf M C E N V} {d : DebugOf E} {l : PartsOf L} where
+  -- whether a driver has ended
+  abbrev pub has_ended : Driver M S Z K R L C E N V A m d l → Bool
+  has_ended driver = is_ended driver.turning
+
+  -- the driver is of that pool, and made no turn yet; the ticks of its reaper count from the moment at which the pool was made
+  abbrev pub IsDriverOf : Driver M S Z K R L C E N V A m d l → Pool M S Z K R L C E N V A m d l → Type 0
+  IsDriverOf driver pool = (arc_value driver.shared ≡ arc_value pool.shared) × Begins (settings_in pool) (made_in pool) driver.turning
+
+module _ {M S Z K R L C E N V A : Type 0} {m : ManagerOf M C E N V} {d : DebugOf E} {l : PartsOf L} (z : CustomizerOf Z C E A) (sinks : S → E → Type 0)
+    (tells : K → Moment → Type 0) where
+  -- a turn of a driver at a moment, on its pool
+  abbrev pub TurnsDriver : Moment → Driver M S Z K R L C E N V A m d l → Turn → Driver M S Z K R L C E N V A m d l → Type 0
+  TurnsDriver at driver turn driver' =
+      (arc_value driver'.shared ≡ arc_value driver.shared) × OwnTurns z sinks tells (arc_value driver.shared) at driver.turning turn driver'.turning
+
+  -- a turn at a reading of the clock, by what a driver holds between its turns
+  abbrev pub TurnsNow : Shared M S Z K R L C E N V m d l → Turning C N A → Turn → Turning C N A → Type 0
+  TurnsNow shared turning turn turning' = (at : Moment) × tells shared.clock at × OwnTurns z sinks tells shared at turning turn turning'
+
+  -- a run of turns of a driver, each at a reading of the pool's clock
+  abbrev pub RunsDriver : {G : Type 0} → (G → Bool → G → Type 0) → Driver M S Z K R L C E N V A m d l → G → Driven → Type 0
+  RunsDriver pauses driver gate d = Runs (TurnsNow (arc_value driver.shared)) pauses driver.turning gate 0 d

@@ -1,0 +1,280 @@
+//! A driver of a pool, and a thread that makes its turns.
+ghost use Rattle.std.specs.Prelude.{◌≡◌, ℕ, ⊤, Bool, true, IfOk};
+ghost use Rattle.std.specs.Arc.{arc_value};
+ghost use Rattle.bb8.specs.Drivers.{has_ended, IsDriverOf};
+
+use crate::pool::Pool;
+use bb8_core::api::{Clock, CustomizeConnection, ErrorSink, ManageConnection, Memory, Moment};
+use bb8_locked::{Parts, PoolParts};
+use bb8_shared::{Drives, Locks, Shared};
+use bb8_tasks::PoolOpener;
+pub use bb8_turns::Turn;
+use bb8_turns::Turning;
+use std::alloc::Global;
+use std::sync::{Arc, Wait};
+use std::thread;
+use std::thread::{JoinHandle, Threads};
+
+/// Opens the connections that a pool approved, and reaps those that idled or lived too long, at its turns. Our own: upstream spawns a task
+/// for each opening, and one that reaps.
+///
+/// A driver holds no handle of its pool, and a pool may have several. Whoever has one makes its turns (`turn`), or hands it to a thread
+/// (`drive`). It has a reaper where `max_lifetime` or `idle_timeout` is set, whose ticks count from the moment at which the pool was made.
+///
+/// When it is dropped it reads the pool's clock, and the approvals of its tasks are given back under the pool's lock, for which it may wait.
+pub struct Driver<
+    M: ManageConnection,
+    S: ErrorSink<M::Error>,
+    Z: CustomizeConnection<M::Connection, M::Error>,
+    K: Clock,
+    R: Locks,
+    L: Parts,
+> {
+    shared: Arc<Shared<M, S, Z, K, R, L>, Global>,
+    turning: Turning<M::Connection, M::Connecting, Z::Acquiring>,
+}
+
+/// What a thread asks between two turns of its driver. Our own.
+pub trait Gate {
+    // Holds of a gate, what a pause may answer, and the gate then.
+    ghost pauses: { Self → Bool → Self → Type 0 } = { λ _ _ _. ⊤ };
+
+    /// Waits as long as it sees fit, and says whether one more turn is to be made. Our own.
+    fn pause(&mut self) -> bool
+        ensures { pauses self.old result self.new };
+}
+
+/// What a run of turns came to. Our own.
+#[derive(Clone, Copy, Debug, PartialEq, Eq)]
+pub struct Driven {
+    /// How many turns were made; it stays at the greatest u64.
+    pub turns: u64,
+    /// Whether the last turn ended, as no handle of the pool was alive.
+    pub ended: bool,
+}
+
+/// No thread could be made for a driver, which was dropped. Our own.
+#[derive(Clone, Copy, Debug, PartialEq, Eq)]
+pub struct NoThread;
+
+impl<
+    M: ManageConnection,
+    S: ErrorSink<M::Error>,
+    Z: CustomizeConnection<M::Connection, M::Error>,
+    K: Clock,
+    R: Wait + AllocGlobal + Send + Sync + Drop + 'static,
+    L: Parts,
+> Driver<M, S, Z, K, R, L> {
+    /// A driver of the pool, which made no turn yet. It fails only where sharing the pool was refused memory. Our own.
+    pub fn new(pool: &Pool<M, S, Z, K, R, L>) -> Result<Self, Memory>
+        ensures { IfOk result (λ driver. IsDriverOf driver pool.now) }
+    {
+        let Ok(shared) = Arc::try_clone(&pool.shared) else {
+            return Err(Memory);
+        };
+        let turning = Turning::new(shared.rt.alloc(), &shared.config, shared.made);
+        Ok(Driver { shared, turning })
+    }
+}
+
+/// A turn by the pool's own calls, as a method of an impl, so that a thread can make one.
+trait TurnsOwn {
+    type Turning;
+
+    /// A turn at a moment.
+    fn turn_own(&self, turning: &mut Self::Turning, moment: Moment) -> Turn;
+}
+
+impl<
+    M: ManageConnection,
+    S: ErrorSink<M::Error>,
+    Z: CustomizeConnection<M::Connection, M::Error>,
+    K: Clock,
+    R: Locks,
+    L: Parts,
+> TurnsOwn for Shared<M, S, Z, K, R, L> {
+    ghost use Rattle.bb8_turns.specs.Turns.{is_ended};
+    ghost use Rattle.bb8_shared.specs.Turning.{OwnTurns};
+
+    type Turning = Turning<M::Connection, M::Connecting, Z::Acquiring>;
+
+    fn turn_own(
+        &self,
+        turning: &mut Turning<M::Connection, M::Connecting, Z::Acquiring>,
+        moment: Moment,
+    ) -> Turn
+        ensures table { OwnTurns Z.CustomizeConnection S.sinks K.tells self.now moment turning.old
+            result turning.new }
+        ensures ended { result.ended ≡ is_ended turning.new }
+        ensures none { result.ended ≡ true → result.polled ≡ 0 }
+        ensures stays { is_ended turning.old ≡ true → result.ended ≡ true }
+    {
+        let mut calls = PoolOpener::new(
+            &self.manager,
+            &self.error_sink,
+            &self.customizer,
+            &self.clock,
+        );
+        self.turn_with(&mut calls, turning, moment)
+    }
+}
+
+impl<
+    M: ManageConnection,
+    S: ErrorSink<M::Error>,
+    Z: CustomizeConnection<M::Connection, M::Error>,
+    K: Clock,
+    R: Wait + Send + Sync + Drop + 'static,
+    L: Parts,
+> Driver<M, S, Z, K, R, L> {
+    ghost use Rattle.bb8.specs.Drivers.{RunsDriver, TurnsDriver};
+
+    /// One turn at a moment, in nanoseconds of the pool's clock; for each step it may wait for the pool's lock. Our own.
+    ///
+    /// It polls the reaper first. Then it claims the pool's approvals, in the order of their numbers, until none is unclaimed or there is no
+    /// memory for the task of one more, whose approval then stays unclaimed. Then it polls the opening of each approval that it holds
+    /// once, in the order of the claims; those that end are gone, and the error of each try that failed goes to the error sink. Where a
+    /// claim finds no handle alive it polls none, drops what it opens, gives all approvals back, and has ended, as at each later turn.
+    pub fn turn(&mut self, moment: Moment) -> Turn
+        ensures table { TurnsDriver Z.CustomizeConnection S.sinks K.tells moment self.old result
+            self.new }
+        ensures ended { result.ended ≡ has_ended self.new }
+        ensures none { result.ended ≡ true → result.polled ≡ 0 }
+        ensures stays { has_ended self.old ≡ true → result.ended ≡ true }
+    {
+        let Driver { shared, turning } = self;
+        shared.turn_own(turning, moment)
+    }
+
+    /// Makes turns, each at a reading of the pool's clock, until one has ended or the gate, which is asked after each other one, does not
+    /// pause. Then the driver is dropped. Our own.
+    pub fn run<G: Gate + Drop>(self, gate: G) -> Driven
+        ensures { RunsDriver Z.CustomizeConnection S.sinks K.tells G.pauses self gate result }
+    {
+        let mut driver = self;
+        let mut gate = gate;
+        driver.run_turns(&mut gate)
+    }
+}
+
+/// Runs of turns, as a method of an impl, so that a thread can make one.
+trait RunsTurns {
+    /// Turns until one has ended or the gate does not pause.
+    fn run_turns<G: Gate>(&mut self, gate: &mut G) -> Driven;
+}
+
+impl<
+    M: ManageConnection,
+    S: ErrorSink<M::Error>,
+    Z: CustomizeConnection<M::Connection, M::Error>,
+    K: Clock,
+    R: Wait + Send + Sync + Drop + 'static,
+    L: Parts,
+> RunsTurns for Driver<M, S, Z, K, R, L> {
+    ghost use Rattle.bb8.specs.Drivers.{RunsDriver};
+
+    fn run_turns<G: Gate>(&mut self, gate: &mut G) -> Driven
+        ensures { RunsDriver Z.CustomizeConnection S.sinks K.tells G.pauses self.old gate.old result }
+    {
+        let Driver { shared, turning } = self;
+        let pool = &**shared;
+        let mut turns: u64 = 0;
+        for _ in pool.rt.forever() {
+            let turn = pool.turn_own(turning, pool.clock.now());
+            turns = turns.saturating_add(1);
+            if turn.ended {
+                return Driven { turns, ended: true };
+            }
+            if !gate.pause() {
+                return Driven {
+                    turns,
+                    ended: false,
+                };
+            }
+        }
+        unreachable!()
+    }
+}
+
+impl<
+    M: ManageConnection,
+    S: ErrorSink<M::Error>,
+    Z: CustomizeConnection<M::Connection, M::Error>,
+    K: Clock,
+    R: Locks,
+    L: Parts,
+> Drop for Driver<M, S, Z, K, R, L> {
+    fn drop(self) {
+        let Driver { shared, turning } = self;
+        let pool = &*shared;
+        let mut calls = PoolOpener::new(
+            &pool.manager,
+            &pool.error_sink,
+            &pool.customizer,
+            &pool.clock,
+        );
+        pool.drop_turning(&mut calls, turning);
+    }
+}
+
+/// What a thread does.
+trait Job {
+    type Told;
+
+    fn run(self) -> Self::Told;
+}
+
+/// A driver with its gate.
+#[derive(Drop)]
+struct Gated<D, G> {
+    driver: D,
+    gate: G,
+}
+
+impl<
+    M: ManageConnection,
+    S: ErrorSink<M::Error>,
+    Z: CustomizeConnection<M::Connection, M::Error>,
+    K: Clock,
+    R: Wait + Send + Sync + Drop + 'static,
+    L: Parts,
+    G: Gate + Drop,
+> Job for Gated<Driver<M, S, Z, K, R, L>, G> {
+    type Told = Driven;
+
+    fn run(self) -> Driven {
+        let Gated {
+            mut driver,
+            mut gate,
+        } = self;
+        driver.run_turns(&mut gate)
+    }
+}
+
+/// Starts a job in a thread of its own.
+fn start<R: Threads, J: Job + Send + Drop + 'static>(
+    threads: &R,
+    job: J,
+) -> Result<JoinHandle<J::Told>, NoThread>
+where
+    J::Told: Send + Drop + 'static,
+{
+    match thread::spawn(threads, move || job.run()) {
+        Ok(handle) => Ok(handle),
+        Err(_) => Err(NoThread),
+    }
+}
+
+/// Runs a driver in a thread of its own, as `Driver::run` does. Where no thread can be made the driver is dropped. Our own.
+pub fn drive<
+    M: ManageConnection,
+    S: ErrorSink<M::Error>,
+    Z: CustomizeConnection<M::Connection, M::Error>,
+    K: Clock,
+    R: Threads + Wait + Copy + Send + Sync + Drop + 'static,
+    L: PoolParts + 'static,
+    G: Gate + Send + Drop + 'static,
+>(driver: Driver<M, S, Z, K, R, L>, gate: G) -> Result<JoinHandle<Driven>, NoThread> {
+    let rt = driver.shared.rt;
+    start(&rt, Gated { driver, gate })
+}

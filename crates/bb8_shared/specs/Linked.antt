@@ -1,0 +1,150 @@
+-- A get's polls on a pool: the table at what a pool's lock holds, while it is held, and at the pool's own manager, error sink and clock.
+use Rattle.std.specs.Prelude.{◌≡◌, Bool, false, None, Option, Some, Result, Ok, Err, ⊤}
+use Rattle.std.specs.Sync.Mutex.{mutex_guard_value}
+use Rattle.std.specs.declared.sync.MutexGuard.{MutexGuard}
+use Rattle.std.specs.declared.fmt.Debug.{Ghosts as DebugOf}
+use Rattle.futures.specs.declared.task.Poll.{Poll}
+use Rattle.futures.specs.declared.task.Poll.TheVariants.{Ready, Pending}
+use Rattle.bb8_types.specs.declared.api.moments.Moment.{Moment}
+use Rattle.bb8_types.specs.declared.api.errors.RunError.{RunError}
+use Rattle.bb8_types.specs.declared.api.managers.ManageConnection.{Ghosts as ManagerOf}
+use Rattle.bb8_types.specs.Settings.{settings_of}
+use Rattle.bb8_ledger.specs.Acts as acts
+use Rattle.bb8_core.specs.StepAnswers.{begin_told, checked_err_told, give_up_told, look_told, put_back_told, reason_of, GivesBack}
+use Rattle.bb8_core.specs.declared.answers.PutBackAnswer.{PutBackAnswer}
+use Rattle.bb8_gets.specs.declared.calls.Calls.{Calls}
+use Rattle.bb8_gets.specs.declared.home.GetHome.{Ghosts as HomeOf}
+use Rattle.bb8_gets.specs.declared.home.Taken.{Taken}
+use Rattle.bb8_gets.specs.declared.outside.Outside.{Ghosts as OutsideOf}
+use Rattle.bb8_gets.specs.declared.state.Settled.{Settled}
+use Rattle.bb8_gets.specs.declared.state.Stage.{Stage}
+use Rattle.bb8_locked.specs.declared.locked.Locked.{Locked}
+use Rattle.bb8_locked.specs.declared.locked.Part.{Part}
+use Rattle.bb8_locked.specs.declared.locked.Parts.{Ghosts as PartsOf}
+use Rattle.bb8_shared.specs.declared.link.LinkHome.{LinkHome}
+use Rattle.bb8_shared.specs.declared.shared.Shared.{Shared}
+use Rattle.bb8_gets.specs.Homes.{StepsIn}
+use Rattle.bb8_gets.specs.Told.{answered, passed_told, tried_told, HandsBackHeld, HandsBackInvalid, HandsOutOf}
+use Rattle.bb8_gets.specs.Polls.{Polls, Cancels}
+use Rattle.bb8_locked.specs.Sections.{returned, OnFit}
+use Rattle.bb8_shared.specs.Returns.{AfterReturn}
+
+-- The relations of what a pool's lock holds as a home: each step leads from the state that stands there to the next one. What the answer is
+-- follows from that very state, which keeps the limits.
+abbrev pub locked_home : {C L : Type 0} {l : PartsOf L} → HomeOf (Locked C L l) C (Part L)
+locked_home {l = l} = record {
+  releases = λ h h'. h' ≡ h;
+  looks = λ h at seen h'. StepsIn l.settings h.core at.0 acts.Look (look_told seen) h'.core;
+  begins = λ h at b h'. StepsIn l.settings h.core at.0 acts.Begin (answered begin_told b) h'.core;
+  tries = λ h at get t h'. StepsIn l.settings h.core at.0 (acts.Try get.number) (tried_told t) h'.core × HandsOutOf h.core t;
+  passes = λ h at get key part a h'. StepsIn l.settings h.core at.0 (acts.CheckedOk get.number) (passed_told h.core.records.next a) h'.core;
+  fails = λ h at get r a h'. StepsIn l.settings h.core at.0 (acts.CheckedErr get.number r.broken) (answered checked_err_told a) h'.core × HandsBackInvalid r.taken.connection a;
+  gives_up = λ h at get reason a h'. StepsIn l.settings h.core at.0 (acts.GiveUp get.number (reason_of reason) None false) (answered give_up_told a) h'.core;
+  gives_back = λ h at get reason r a h'. StepsIn l.settings h.core at.0 (acts.GiveUp get.number (reason_of reason) (Some r.taken.connection) r.broken) (answered give_up_told a) h'.core × HandsBackHeld r.taken.connection a;
+}
+
+module _ {T : Type 0} where
+  -- a step starts at this: at what is held, or, where nothing is, at whatever stands behind the lock
+  abbrev pub StartsAt : Option (MutexGuard T) → T → Type 0
+  StartsAt (Some guard) t = mutex_guard_value guard ≡ t
+  StartsAt None t = ⊤
+
+  -- this is held
+  abbrev pub Holds : Option (MutexGuard T) → T → Type 0
+  Holds (Some guard) t = mutex_guard_value guard ≡ t
+  Holds None t = ⊥
+
+  -- a step leads from what is held, or else stands behind the lock, to what is held then
+  abbrev pub Leads : (T → T → Type 0) → Option (MutexGuard T) → Option (MutexGuard T) → Type 0
+  Leads Step held held' = (t : T) × (t' : T) × StartsAt held t × Holds held' t' × Step t t'
+
+-- The relations of a lock as a home, by those of what it holds. While the lock is held each step starts where the one before ended; once it was
+-- let go, the next one starts at whatever stands behind it.
+abbrev pub link_home : {C P R T : Type 0} → HomeOf T C P → HomeOf (LinkHome T R) C P
+link_home home = record {
+  releases = λ h h'. h'.held ≡ None;
+  looks = λ h at seen h'. Leads (λ t t'. home.looks t at seen t') h.held h'.held;
+  begins = λ h at b h'. Leads (λ t t'. home.begins t at b t') h.held h'.held;
+  tries = λ h at get a h'. Leads (λ t t'. home.tries t at get a t') h.held h'.held;
+  passes = λ h at get key part a h'. Leads (λ t t'. home.passes t at get key part a t') h.held h'.held;
+  fails = λ h at get returned a h'. Leads (λ t t'. home.fails t at get returned a t') h.held h'.held;
+  gives_up = λ h at get reason a h'. Leads (λ t t'. home.gives_up t at get reason a t') h.held h'.held;
+  gives_back = λ h at get reason returned a h'. Leads (λ t t'. home.gives_back t at get reason returned a t') h.held h'.held;
+}
+
+-- x is the answer of this poll, or of a later one, where each poll is a step
+pub data Answers {S A : Type 0} (step : S → Poll A → S → Type 0) : S → A → Type 0 where
+  now : (s t : S) (x : A) → step s (Ready x) t → Answers step s x
+  later : (s t : S) (x : A) → step s Pending t → Answers step t x → Answers step s x
+
+-- What the gets and guards of a pool do, of which handles and guards share this, by any calls outside.
+module _ {M S Z K R L C E N V W : Type 0} {m : ManagerOf M C E N V} {d : DebugOf E} {l : PartsOf L} (outside : OutsideOf W C E V) (shared : Shared M S Z K R L C E N V m d l) where
+  -- A poll of a get on the pool's lock, which is free before, goes by the table.
+  abbrev pub LinkPolls : Stage C V (Part L) → W → Settled C V (Part L) E → W → Type 0
+  LinkPolls stage w settled w' =
+      (h : LinkHome (Locked C L l) R) × (h' : LinkHome (Locked C L l) R) × (h.held ≡ None)
+      × Polls (link_home locked_home) outside (settings_of shared.config).connection_timeout stage h w settled h' w'
+
+  -- A get of the pool is let go by the table.
+  abbrev pub LinkCancels : Stage C V (Part L) → W → W → Type 0
+  LinkCancels stage w w' =
+      (h : LinkHome (Locked C L l) R) × (h' : LinkHome (Locked C L l) R) × (h.held ≡ None)
+      × Cancels (link_home locked_home) outside stage h w h' w'
+
+  -- A guard's connection comes back: it is asked whether it is broken, the clock is read, and what the lock holds takes it back, with an
+  -- answer that names no other connection; one that does not stay is dropped.
+  abbrev pub LinkReturns : Taken C (Part L) → W → W → Type 0
+  LinkReturns taken w w' =
+      (broken : Bool) × (c : C) × (w1 : W) × outside.breaks w taken.connection broken c w1
+      × ((at : Moment) × (w2 : W) × outside.tells w1 at w2
+      × ((answer : Result (PutBackAnswer C) C) × (h : Locked C L l) × (h' : Locked C L l)
+      × StepsIn l.settings h.core at.0 (acts.PutBack taken.key.number c broken) (returned (put_back_told taken.key.number) answer) h'.core
+      × OnFit (GivesBack c) (λ back. back ≡ c) answer
+      × AfterReturn outside answer w2 w'))
+
+-- What they do by the pool's own manager, error sink and clock, whose relations these are.
+module _ {M S Z K R L C E N V : Type 0} {m : ManagerOf M C E N V} {d : DebugOf E} {l : PartsOf L} (sinks : S → E → Type 0) (tells : K → Moment → Type 0) (shared : Shared M S Z K R L C E N V m d l) where
+  -- the relations of the calls of a pool's manager, error sink and clock
+  abbrev pub pool_calls : OutsideOf (Calls M S K) C E V
+  pool_calls = record {
+    tells = λ calls moment after. tells calls.clock.now moment × (after ≡ calls);
+    checks = λ calls c v c' after. m.checks calls.manager.now c v c' × (after ≡ calls);
+    check_answers = λ calls c v moment answer c' v' after. m.check_answers calls.manager.now c v moment answer c' v' × (after ≡ calls);
+    breaks = λ calls c broken c' after. m.breaks calls.manager.now c broken c' × (after ≡ calls);
+    sinks = λ calls e after. sinks calls.sink.now e × (after ≡ calls);
+    lets_go = λ calls _ after. after ≡ calls;
+  }
+
+  -- these are the calls of the pool's manager, error sink and clock
+  abbrev pub AreOf : Calls M S K → Type 0
+  AreOf calls = (calls.manager.now ≡ shared.manager) × (calls.sink.now ≡ shared.error_sink) × (calls.clock.now ≡ shared.clock)
+
+  abbrev pub OwnPolls : Stage C V (Part L) → Poll (Result (Taken C (Part L)) (RunError E)) → Stage C V (Part L) → Type 0
+  OwnPolls stage r stage' =
+      (calls : Calls M S K) × (calls' : Calls M S K) × AreOf calls
+      × LinkPolls pool_calls shared stage calls (record { answer = r; stage = stage' }) calls'
+
+  -- what the polls of such a get answer at last
+  abbrev pub OwnGives : Stage C V (Part L) → Result (Taken C (Part L)) (RunError E) → Type 0
+  OwnGives stage x = Answers OwnPolls stage x
+
+  abbrev pub OwnCancels : Stage C V (Part L) → Type 0
+  OwnCancels stage = (calls : Calls M S K) × (calls' : Calls M S K) × AreOf calls × LinkCancels pool_calls shared stage calls calls'
+
+  -- a connection of the pool comes back
+  abbrev pub OwnReturns : Taken C (Part L) → Type 0
+  OwnReturns taken = (calls : Calls M S K) × (calls' : Calls M S K) × AreOf calls × LinkReturns pool_calls shared taken calls calls'
+
+-- a guard is made of what was served, and an error is passed on
+abbrev pub MakesGuard : {A B E : Type 0} → (A → B → Type 0) → Result A E → Result B E → Type 0
+MakesGuard Makes (Ok a) (Ok b) = Makes a b
+MakesGuard Makes (Err e) (Err f) = e ≡ f
+MakesGuard Makes (Ok a) (Err f) = ⊥
+MakesGuard Makes (Err e) (Ok b) = ⊥
+
+-- a poll's answer with a guard in place of what was served
+abbrev pub MakesPoll : {A B E : Type 0} → (A → B → Type 0) → Poll (Result A E) → Poll (Result B E) → Type 0
+MakesPoll Makes (Ready a) (Ready b) = MakesGuard Makes a b
+MakesPoll Makes Pending Pending = ⊤
+MakesPoll Makes (Ready a) Pending = ⊥
+MakesPoll Makes Pending (Ready b) = ⊥
