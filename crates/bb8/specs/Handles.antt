@@ -6,17 +6,11 @@ use Rattle.bb8_types.specs.declared.api.errors.RunError.{RunError}
 use Rattle.bb8_types.specs.declared.api.errors.RunError.TheVariants as errors
 use Rattle.bb8_types.specs.declared.api.managers.ManageConnection.{Ghosts as ManagerOf}
 use Rattle.bb8_types.specs.declared.api.moments.Moment.{Moment}
-use Rattle.bb8_types.specs.Settings.{Settings, settings_of}
-use Rattle.bb8_ledger.specs.Acts as acts
-use Rattle.bb8_core.specs.StepAnswers.{leave_told}
-use Rattle.bb8_core.specs.declared.answers.LeaveAnswer.{LeaveAnswer}
-use Rattle.bb8_gets.specs.declared.home.Unfit.{Unfit}
-use Rattle.bb8_gets.specs.Homes.{OnSome}
-use Rattle.bb8_gets.specs.Told.{answered}
+use Rattle.bb8_types.specs.Settings.{settings_of}
 use Rattle.bb8_locked.specs.declared.locked.Parts.{Ghosts as PartsOf}
 use Rattle.bb8_locked.specs.declared.locked.handles.Joining.{Joining}
 use Rattle.bb8_locked.specs.declared.locked.handles.Joining.TheVariants as joining
-use Rattle.bb8_locked.specs.Sections.{joining_told}
+use Rattle.bb8_shared.specs.Handles.{IsJoining, IsLeaving}
 use Rattle.bb8.specs.declared.handles.Holding.{Holding}
 use Rattle.bb8.specs.declared.pool.Pool.{Pool}
 use Rattle.bb8_shared.specs.declared.shared.Shared.{Shared}

@@ -142,8 +142,8 @@ impl<
         ensures none { result.ended ≡ true → result.polled ≡ 0 }
         ensures stays { has_ended self.old ≡ true → result.ended ≡ true }
     {
-        let Driver { shared, turning } = self;
-        shared.turn_own(turning, moment)
+        let pool = &*self.shared;
+        pool.turn_own(&mut self.turning, moment)
     }
 
     /// Makes turns, each at a reading of the pool's clock, until one has ended or the gate, which is asked after each other one, does not
@@ -176,11 +176,10 @@ impl<
     fn run_turns<G: Gate>(&mut self, gate: &mut G) -> Driven
         ensures { RunsDriver Z.CustomizeConnection S.sinks K.tells G.pauses self.old gate.old result }
     {
-        let Driver { shared, turning } = self;
-        let pool = &**shared;
+        let pool = &*self.shared;
         let mut turns: u64 = 0;
         for _ in pool.rt.forever() {
-            let turn = pool.turn_own(turning, pool.clock.now());
+            let turn = pool.turn_own(&mut self.turning, pool.clock.now());
             turns = turns.saturating_add(1);
             if turn.ended {
                 return Driven { turns, ended: true };

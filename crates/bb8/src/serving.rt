@@ -5,14 +5,24 @@ ghost use Rattle.bb8_locked.specs.Parts.{IsBlankOf};
 ghost use Rattle.bb8.specs.Services.{Basis, basis, basis_of, EachTold, IsOutcome};
 
 use crate::Builder;
+use crate::building::Building;
+use crate::driver::{Driven, Driver, Gate, NoThread, drive};
 use crate::pool::Pool;
-use bb8_core::api::{Clock, Config, CustomizeConnection, ErrorSink, ManageConnection, Memory};
+use bb8_core::api::{
+    Clock, Config, CustomizeConnection, ErrorSink, ManageConnection, Memory, RunError,
+};
 use bb8_locked::PoolParts;
 use bb8_shared::Locks;
+use futures::executor::block_on;
+use std::alloc::Global;
 use std::marker::Brand;
-use std::sync::Wait;
+use std::random::RandomSource;
+use std::sync::atomic::{AtomicBool, Ordering};
 use std::sync::ledger::Blank;
-use std::thread::{Threads, map_indices};
+use std::sync::{Arc, Wait};
+use std::thread::{JoinHandle, Threads, map_indices};
+use std::time::Duration;
+use std::{thread, time};
 
 /// What a program does with its pool in threads, by whatever parts `L` the connections that are out are counted. `Builder::serve` runs
 /// it. Our own.
@@ -127,14 +137,110 @@ where
     }
 }
 
-/// Runs a service over a pool whose parts are named.
-fn serve_with<
+/// How many milliseconds a driver's thread sleeps between two turns.
+const PAUSE: u64 = 1;
+
+/// Sleeps between the turns of a driver, for as long as its service runs.
+#[derive(Drop)]
+struct WhileServing<R> {
+    rt: R,
+    over: Arc<AtomicBool, Global>,
+}
+
+impl<R: time::Clock> Gate for WhileServing<R> {
+    fn pause(&mut self) -> bool {
+        thread::sleep(&self.rt, Duration::from_millis(PAUSE));
+        !self.over.load(Ordering::Relaxed)
+    }
+}
+
+/// Builds a pool whose parts are named, and waits until its first connections are open.
+fn built<
+    M: ManageConnection,
+    S: ErrorSink<M::Error>,
+    Z: CustomizeConnection<M::Connection, M::Error>,
+    K: Clock,
+    R: Wait + RandomSource + AllocGlobal + Copy + Send + Sync + Drop + 'static,
+    L: PoolParts,
+>(
+    builder: Builder<M, S, Z>,
+    manager: M,
+    clock: K,
+    rt: R,
+    blank: Blank,
+) -> Result<Pool<M, S, Z, K, R, L>, RunError<M::Error>>
+    requires lawful { is_lawful builder.settings ≡ true }
+    requires parts { IsBlankOf blank builder.settings L.name L.parts L.settings }
+    ensures { IfOk result (λ pool. basis_of pool ≡ basis builder.settings manager clock) }
+{
+    let building: Building<M, S, Z, K, R, L> = builder.build(manager, clock, rt, blank);
+    match block_on(&rt, building) {
+        Ok(Ok(pool)) => Ok(pool),
+        Ok(Err(error)) => Err(error),
+        Err(_) => Err(RunError::Memory),
+    }
+}
+
+/// Runs a service over its pool, in as many threads.
+fn run_service<
     M: ManageConnection,
     S: ErrorSink<M::Error>,
     Z: CustomizeConnection<M::Connection, M::Error>,
     K: Clock,
     R: Threads + Wait + AllocGlobal + Copy + Send + Sync + Drop + 'static,
     L: PoolParts,
+    V: Service<M, S, Z, K, R>,
+>(rt: &R, pool: &Pool<M, S, Z, K, R, L>, threads: usize, service: &V) -> Result<V::Outcome, Memory>
+    requires suits { V.suits service.now (basis_of pool.now) }
+    ensures outcome { IfOk result (IsOutcome
+        (V.begins service.now) (V.tells service.now) (V.ends service.now)
+        (basis_of pool.now) threads) }
+{
+    if let Err(outcome) = service.begin(pool) {
+        return Ok(outcome);
+    }
+    let job = OnPool { pool, service };
+    let told = in_threads(rt, threads, &job)?;
+    Ok(service.end(pool, &told))
+}
+
+/// Starts a driver of the pool in a thread of its own, which makes turns until the flag is set.
+fn drive_while<
+    M: ManageConnection,
+    S: ErrorSink<M::Error>,
+    Z: CustomizeConnection<M::Connection, M::Error>,
+    K: Clock,
+    R: Threads + Wait + time::Clock + AllocGlobal + Copy + Send + Sync + Drop + 'static,
+    L: PoolParts + 'static,
+>(
+    pool: &Pool<M, S, Z, K, R, L>,
+    rt: R,
+    over: Arc<AtomicBool, Global>,
+) -> Result<JoinHandle<Driven>, Memory> {
+    let driver = Driver::new(pool)?;
+    match drive(driver, WhileServing { rt, over }) {
+        Ok(thread) => Ok(thread),
+        Err(NoThread) => Err(Memory),
+    }
+}
+
+/// Runs a service over a pool whose parts are named.
+fn serve_with<
+    M: ManageConnection,
+    S: ErrorSink<M::Error>,
+    Z: CustomizeConnection<M::Connection, M::Error>,
+    K: Clock,
+    R: Threads
+        + Wait
+        + time::Clock
+        + RandomSource
+        + AllocGlobal
+        + Copy
+        + Send
+        + Sync
+        + Drop
+        + 'static,
+    L: PoolParts + 'static,
     V: Service<M, S, Z, K, R>,
 >(
     builder: Builder<M, S, Z>,
@@ -144,7 +250,7 @@ fn serve_with<
     blank: Blank,
     threads: usize,
     service: &V,
-) -> Result<V::Outcome, Memory>
+) -> Result<V::Outcome, RunError<M::Error>>
     requires lawful { is_lawful builder.settings ≡ true }
     requires parts { IsBlankOf blank builder.settings L.name L.parts L.settings }
     requires suits { V.suits service.now (basis builder.settings manager clock) }
@@ -152,16 +258,24 @@ fn serve_with<
         (V.begins service.now) (V.tells service.now) (V.ends service.now)
         (basis builder.settings manager clock) threads) }
 {
-    let pool: Pool<M, S, Z, K, R, L> = builder.build_unchecked(manager, clock, rt, blank)?;
-    if let Err(outcome) = service.begin(&pool) {
-        return Ok(outcome);
-    }
-    let job = OnPool {
-        pool: &pool,
-        service,
+    let Ok(over) = Arc::new(rt.alloc(), AtomicBool::new(false)) else {
+        return Err(RunError::Memory);
     };
-    let told = in_threads(&rt, threads, &job)?;
-    Ok(service.end(&pool, &told))
+    let Ok(seen) = Arc::try_clone(&over) else {
+        return Err(RunError::Memory);
+    };
+    let pool: Pool<M, S, Z, K, R, L> = built(builder, manager, clock, rt, blank)?;
+    let Ok(thread) = drive_while(&pool, rt, seen) else {
+        return Err(RunError::Memory);
+    };
+    let outcome = run_service(&rt, &pool, threads, service);
+    over.store(true, Ordering::Relaxed);
+    drop(pool);
+    let _ = thread.join(&rt);
+    match outcome {
+        Ok(outcome) => Ok(outcome),
+        Err(Memory) => Err(RunError::Memory),
+    }
 }
 
 impl<
@@ -169,17 +283,35 @@ impl<
     S: ErrorSink<M::Error>,
     Z: CustomizeConnection<M::Connection, M::Error>,
 > Builder<M, S, Z> {
-    /// Builds a pool as `build_unchecked` does, with parts of its own, and runs a service over it: the service begins, each thread runs
-    /// with its number, in a thread of its own where one can be made, and once all have ended the service ends. Then the pool is
-    /// dropped. Our own.
+    /// Builds a pool as `build` does, with parts of its own, and waits until its first connections are open. Then it runs a service over
+    /// the pool: the service begins, each thread runs with its number, in a thread of its own where one can be made, and once all have
+    /// ended the service ends. A driver makes the pool's turns meanwhile, in one more thread, which sleeps a millisecond between two of
+    /// them. Then the pool is dropped, and the driver with it. Our own.
     ///
-    /// The answer is `Memory` where the pool could not be built, and then the service did not begin; and where what the threads tell
-    /// found no memory, and then some may have run, but the service does not end. Settings are as for `build_unchecked`.
+    /// The answer is `User` with the error of a first connection that could not be opened, and `Memory` where the pool, or a thread for its
+    /// driver, could not be made: then the service did not begin. It is `Memory` too where what the threads tell found no memory: then
+    /// some may have run, but the service does not end. Settings are as for `build`.
     pub fn serve<
         K: Clock,
-        R: Threads + Wait + AllocGlobal + Copy + Send + Sync + Drop + 'static,
+        R: Threads
+            + Wait
+            + time::Clock
+            + RandomSource
+            + AllocGlobal
+            + Copy
+            + Send
+            + Sync
+            + Drop
+            + 'static,
         V: Service<M, S, Z, K, R>,
-    >(self, manager: M, clock: K, rt: R, threads: usize, service: &V) -> Result<V::Outcome, Memory>
+    >(
+        self,
+        manager: M,
+        clock: K,
+        rt: R,
+        threads: usize,
+        service: &V,
+    ) -> Result<V::Outcome, RunError<M::Error>>
         requires lawful { is_lawful self.settings ≡ true }
         requires suits { V.suits service.now (basis self.settings manager clock) }
         ensures outcome { IfOk result (IsOutcome
