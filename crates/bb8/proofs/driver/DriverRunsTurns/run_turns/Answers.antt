@@ -7,15 +7,15 @@ loop-init g c = λ d run. run
 
 pub returns-then-turn : goal.returns-then-turn
 returns-then-turn g c =
-    let step = (c.now.result, rw c.deref-pool.ensures at c.now.ensures, rw c.deref-pool.ensures at c.turn_own-turn.ensures.table) in
-    c.loop.invariant _ (Runs.ends _ _ _ _ _ _ step c.if-turn.true (rw c.saturating_add-turns.ensures refl))
+    c.loop.invariant _
+    (Runs.ends _ _ _ _ _ _ (c.now.result, rw c.deref-pool.ensures at c.now.ensures, rw c.deref-pool.ensures at c.turn_own-turn.ensures.table) c.if-turn.true (rw c.saturating_add-turns.ensures refl))
 
 pub returns-then-not-pause : goal.returns-then-not-pause
 returns-then-not-pause g c =
-    let step = (c.now.result, rw c.deref-pool.ensures at c.now.ensures, rw c.deref-pool.ensures at c.turn_own-turn.ensures.table) in
-    c.loop.invariant _ (Runs.stops _ _ _ _ _ _ _ step c.if-turn.false c.if-not-pause.ensures (rw c.saturating_add-turns.ensures refl))
+    c.loop.invariant _
+    (Runs.stops _ _ _ _ _ _ _ (c.now.result, rw c.deref-pool.ensures at c.now.ensures, rw c.deref-pool.ensures at c.turn_own-turn.ensures.table) c.if-turn.false c.if-not-pause.ensures (rw c.saturating_add-turns.ensures refl))
 
 pub loop-preserved : goal.loop-preserved
-loop-preserved g c =
-    let step = (c.now.result, rw c.deref-pool.ensures at c.now.ensures, rw c.deref-pool.ensures at c.turn_own-turn.ensures.table) in
-    λ d run. c.loop.invariant d (Runs.goes_on _ _ _ _ _ _ _ step c.if-turn.false c.if-not-pause.ensures (rw ← c.saturating_add-turns.ensures run))
+loop-preserved g c = λ d run.
+    c.loop.invariant d
+    (Runs.goes_on _ _ _ _ _ _ _ (c.now.result, rw c.deref-pool.ensures at c.now.ensures, rw c.deref-pool.ensures at c.turn_own-turn.ensures.table) c.if-turn.false c.if-not-pause.ensures (rw (← c.saturating_add-turns.ensures) run))
