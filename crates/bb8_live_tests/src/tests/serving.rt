@@ -9,6 +9,7 @@ use futures::executor::block_on;
 use std::sync::atomic::{AtomicU64, Ordering};
 use std::test::Fail;
 use std::thread::Threads;
+use std::time::Clock;
 
 /// Counts its calls.
 #[derive(Drop)]
@@ -75,13 +76,17 @@ impl<R: Runtime> Service<SlowManager, NopErrorSink, NopCustomizer, SetClock, R> 
     }
 }
 
-/// Four threads over a pool of two connections, of which one is added.
-fn serve_four<R: Runtime + Threads>(rt: R, service: &Counted<R>) -> Result<Option<bool>, Memory> {
+/// Four threads over a pool of one connection, which is added, so that the pool's driver opens none.
+fn serve_four<R: Runtime + Threads + Clock>(
+    rt: R,
+    service: &Counted<R>,
+) -> Result<Option<bool>, Memory> {
     let clock = SetClock::new(rt.alloc(), Moment(0))?;
-    Builder::new()
-        .max_size(2)
-        .test_on_check_out(false)
-        .serve(SlowManager, clock, rt, 4, service)
+    let builder = Builder::new().max_size(1).test_on_check_out(false);
+    match builder.serve(SlowManager, clock, rt, 4, service) {
+        Ok(outcome) => Ok(outcome),
+        Err(_) => Err(Memory),
+    }
 }
 
 #[test]
@@ -127,14 +132,15 @@ impl<R: Runtime> Service<SlowManager, NopErrorSink, NopCustomizer, SetClock, R> 
 }
 
 /// How many threads ran: the service's own relations tell it to a caller of `serve`.
-fn how_many<R: Runtime + Threads>(rt: R, threads: usize) -> Result<usize, Memory>
+fn how_many<R: Runtime + Threads + Clock>(rt: R, threads: usize) -> Result<usize, Memory>
     ensures { IfOk result (λ ran. ran ≡ threads) }
 {
     let clock = SetClock::new(rt.alloc(), Moment(0))?;
-    Builder::new()
-        .max_size(3)
-        .test_on_check_out(false)
-        .serve(SlowManager, clock, rt, threads, &HowMany)
+    let builder = Builder::new().max_size(3).test_on_check_out(false);
+    match builder.serve(SlowManager, clock, rt, threads, &HowMany) {
+        Ok(ran) => Ok(ran),
+        Err(_) => Err(Memory),
+    }
 }
 
 #[test]
