@@ -5,7 +5,7 @@ use crate::pool::{Pool, PooledConnection};
 use bb8_core::api::{Clock, CustomizeConnection, ErrorSink, ManageConnection, RunError};
 use bb8_gets::{Calls, GetState};
 use bb8_locked::{Part, Parts};
-use bb8_shared::{Gets, LinkHome, Locks, Shared};
+use bb8_shared::{Gets, Locks, Shared};
 use futures::Future;
 use futures::task::{Context, Poll};
 use std::sync::Wait;
@@ -155,18 +155,13 @@ impl<
     {
         let shared = self.shared;
         let mut calls = Calls::new(&shared.manager, &shared.error_sink, &shared.clock);
-        let mut link = LinkHome::new(&shared.locked, &shared.rt);
-        let (seen, served) = self.get.serve_step(&mut calls, &mut link);
-        match served {
-            Some(taken) => Poll::Ready(Ok(PooledConnection { shared, taken })),
-            None => {
-                let timeout = shared.config.connection_timeout;
-                match self.get.rest_step(&mut calls, &mut link, timeout, seen) {
-                    Poll::Ready(Ok(taken)) => Poll::Ready(Ok(PooledConnection { shared, taken })),
-                    Poll::Ready(Err(error)) => Poll::Ready(Err(error)),
-                    Poll::Pending => cx.yield_now(),
-                }
-            }
+        let answer = match shared.poll_get(&mut calls, &mut self.get) {
+            Poll::Ready(answer) => answer,
+            Poll::Pending => return cx.yield_now(),
+        };
+        match answer {
+            Ok(taken) => Poll::Ready(Ok(PooledConnection { shared, taken })),
+            Err(error) => Poll::Ready(Err(error)),
         }
     }
 }
