@@ -42,6 +42,14 @@ is_done (Waiting b) = false
 is_done (Checking b held) = false
 is_done Done = true
 
+-- whether a get that stands so holds nothing, as it has not begun, or ended
+abbrev pub holds_nothing : {C V P : Type 0} → Stage C V P → Bool
+holds_nothing Fresh = true
+holds_nothing (Trying b) = false
+holds_nothing (Waiting b) = false
+holds_nothing (Checking b held) = false
+holds_nothing Done = true
+
 -- the deadline of a get that was first polled at a moment: none, where it is past the greatest moment
 abbrev pub IsDeadline : Moment → ℕ → Option Moment → Type 0
 IsDeadline m timeout (Some deadline) = deadline.0 ≡ m.0 + timeout
@@ -188,6 +196,11 @@ module _ {C E V P H W : Type 0} (home : HomeOf H C P) (outside : OutsideOf W C E
   Ends (Answer a) h w settled h' w' = (settled.answer ≡ Ready a) × (settled.stage ≡ Done) × (h' ≡ h) × (w' ≡ w)
   Ends (Stand stage) h w settled h' w' = Settles stage h w settled h' w'
 
+  -- a first poll, once the home was looked at
+  abbrev pub Starts : ℕ → H → W → Settled C V P E → H → W → Type 0
+  Starts timeout h w settled h' w' =
+      (next : Next C V P E) × (h1 : H) × (w1 : W) × Begins timeout h w next h1 w1 × Ends next h1 w1 settled h' w'
+
 module _ {C E V P H W : Type 0} (home : HomeOf H C P) (outside : OutsideOf W C E V) where
   -- A poll of a get that was not answered: the clock is read, the home looked at, the get goes on, and it answers or its deadline is
   -- compared.
@@ -203,13 +216,31 @@ module _ {C E V P H W : Type 0} (home : HomeOf H C P) (outside : OutsideOf W C E
   Polls timeout stage h w settled h' w' =
       MatchBool (is_done stage) ((settled.answer ≡ Pending) × (settled.stage ≡ stage) × (h' ≡ h) × (w' ≡ w)) (Goes timeout stage h w settled h' w')
 
+  -- The begin of a poll that did not serve: where it saw the home, a get that was not polled before has read the clock and looked at its home,
+  -- and what may begin then could begin right after the look; where it saw nothing, nothing was called.
+  abbrev pub Unserved : Stage C V P → H → W → Option Looked → Stage C V P → H → W → Type 0
+  Unserved stage h w (Some seen) stage' h' w' =
+      (stage ≡ Fresh) × (stage' ≡ Done)
+      × ((at : Moment) × outside.tells w at w'
+      × ((looked : H) × home.looks h at seen looked
+      × ((m : Moment) (b : Result BeginAnswer Unfit) (after : H) → home.begins h' m b after → home.begins looked m b after)))
+  Unserved stage h w None stage' h' w' = (stage' ≡ stage) × (h' ≡ h) × (w' ≡ w)
+
+  -- a get that began and holds no connection is let go
+  abbrev pub CancelsFree : GetKey → H → W → H → W → Type 0
+  CancelsFree g h w h' w' = (at : Moment) × (w1 : W) × outside.tells w at w1 × Leaves home outside at g Cancelled h w1 h' w'
+
+  -- a get whose connection is being checked is let go
+  abbrev pub CancelsHeld : GetKey → Held C V P → H → W → H → W → Type 0
+  CancelsHeld g held h w h' w' =
+      (r : Returned C P) × (w1 : W) × Asks outside held.taken w r w1
+      × ((at : Moment) × (w2 : W) × outside.tells w1 at w2 × TakesBack home outside at g Cancelled r h w2 h' w')
+
   -- A get that is let go: a connection that it holds is asked whether it is broken, the clock is read, and the get is given up as cancelled.
   -- In Fresh and Done no call is made.
   abbrev pub Cancels : Stage C V P → H → W → H → W → Type 0
-  Cancels (Trying b) h w h' w' = (at : Moment) × (w1 : W) × outside.tells w at w1 × Leaves home outside at b.get Cancelled h w1 h' w'
-  Cancels (Waiting b) h w h' w' = (at : Moment) × (w1 : W) × outside.tells w at w1 × Leaves home outside at b.get Cancelled h w1 h' w'
-  Cancels (Checking b held) h w h' w' =
-      (r : Returned C P) × (w1 : W) × Asks outside held.taken w r w1
-      × ((at : Moment) × (w2 : W) × outside.tells w1 at w2 × TakesBack home outside at b.get Cancelled r h w2 h' w')
+  Cancels (Trying b) h w h' w' = CancelsFree b.get h w h' w'
+  Cancels (Waiting b) h w h' w' = CancelsFree b.get h w h' w'
+  Cancels (Checking b held) h w h' w' = CancelsHeld b.get held h w h' w'
   Cancels Fresh h w h' w' = (h' ≡ h) × (w' ≡ w)
   Cancels Done h w h' w' = (h' ≡ h) × (w' ≡ w)

@@ -116,16 +116,18 @@ pub trait GetHome<C> {
     fn look(&mut self, at: Moment) -> Looked
         ensures { looks self.old at result self.new };
 
-    /// Begins a get and serves it in one step, where the home can. None where it cannot; what may begin then could begin before.
-    /// Our own.
-    fn serve(&mut self, _at: Moment) -> Option<(Taken<C, Self::Part>, Grant)>
-        ensures served { IfSome result (λ s. (g : GetKeyOf) × (between : Self)
-            × begins self.old _at (Ok (Begun g)) between
-            × tries between _at g (Ok (Served s.0 s.1)) self.new) }
-        ensures none { IfNone result ((m : MomentOf) (b : Result BeginAnswerOf UnfitOf)
-            (after : Self) → begins self.new m b after → begins self.old m b after) }
+    /// Looks at the home, and begins a get and serves it, all in one step, where the home can. Where it cannot it only looks; what may
+    /// begin then could begin right after the look. Our own.
+    fn serve(&mut self, at: Moment) -> (Looked, Option<(Taken<C, Self::Part>, Grant)>)
+        ensures served { IfSome result.1 (λ s. (looked : Self) × looks self.old at result.0 looked
+            × ((g : GetKeyOf) × (between : Self)
+            × begins looked result.0.moment (Ok (Begun g)) between
+            × tries between result.0.moment g (Ok (Served s.0 s.1)) self.new)) }
+        ensures none { IfNone result.1 ((looked : Self) × looks self.old at result.0 looked
+            × ((m : MomentOf) (b : Result BeginAnswerOf UnfitOf) (after : Self)
+            → begins self.new m b after → begins looked m b after)) }
     {
-        None
+        (self.look(at), None)
     }
 
     /// Begins a get. Our own.

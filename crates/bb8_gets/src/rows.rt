@@ -3,7 +3,7 @@
 //! The home is released between a step and what is then called outside.
 ghost use Rattle.std.specs.Prelude.{◌≡◌};
 ghost use Rattle.std.specs.Duration.{as_nanos};
-ghost use Rattle.bb8_gets.specs.Polls.{IsDeadline, closed_in, AfterGiveUp, Asks, Fails, Checks, Tries, Begins, Advances, Drops, Leaves, TakesBack, TimesOut, Settles, Goes};
+ghost use Rattle.bb8_gets.specs.Polls.{IsDeadline, closed_in, AfterGiveUp, Asks, Fails, Checks, Tries, Begins, Advances, Drops, Leaves, TakesBack, TimesOut, Settles, Ends, Starts, Goes};
 
 use super::home::{GetHome, Passed, Returned, Taken, Tried, Unfit};
 use super::outside::Outside;
@@ -176,7 +176,7 @@ fn take<C, V: Drop, P, E, W: Outside<C, E, Checking = V>, H: GetHome<C, Part = P
     }
 }
 
-/// What a get does at its first poll: it begins and tries, in one step where the home can.
+/// What a get does at its first poll where it was not served at once: it begins and tries.
 fn start<C, V: Drop, P, E, W: Outside<C, E, Checking = V>, H: GetHome<C, Part = P>>(
     outside: &mut W,
     home: &mut H,
@@ -186,17 +186,14 @@ fn start<C, V: Drop, P, E, W: Outside<C, E, Checking = V>, H: GetHome<C, Part = 
     ensures { Begins H.GetHome W.Outside moment (as_nanos timeout) home.old outside.old result
         home.new outside.new }
 {
-    match home.serve(moment) {
-        Some((taken, _)) => Next::Answer(Ok(taken)),
-        None => match home.begin(moment) {
-            Ok(BeginAnswer::Begun(get)) => {
-                let deadline = deadline(moment, timeout);
-                take(outside, home, moment, Begun { get, deadline })
-            }
-            Ok(BeginAnswer::Memory) => Next::Answer(Err(RunError::Memory)),
-            Ok(BeginAnswer::Exhausted) => Next::Answer(Err(RunError::Exhausted)),
-            Err(Unfit) => Next::Answer(Err(RunError::TimedOut)),
-        },
+    match home.begin(moment) {
+        Ok(BeginAnswer::Begun(get)) => {
+            let deadline = deadline(moment, timeout);
+            take(outside, home, moment, Begun { get, deadline })
+        }
+        Ok(BeginAnswer::Memory) => Next::Answer(Err(RunError::Memory)),
+        Ok(BeginAnswer::Exhausted) => Next::Answer(Err(RunError::Exhausted)),
+        Err(Unfit) => Next::Answer(Err(RunError::TimedOut)),
     }
 }
 
@@ -322,6 +319,39 @@ fn settle<C, V: Drop, P, E, W: Outside<C, E, Checking = V>, H: GetHome<C, Part =
     }
 }
 
+/// The end of a poll: it answers, or its deadline is compared.
+fn end<C, V: Drop, P, E, W: Outside<C, E, Checking = V>, H: GetHome<C, Part = P>>(
+    outside: &mut W,
+    home: &mut H,
+    moment: Moment,
+    next: Next<C, V, P, E>,
+) -> Settled<C, V, P, E>
+    ensures { Ends H.GetHome W.Outside moment next home.old outside.old result home.new
+        outside.new }
+{
+    match next {
+        Next::Answer(answer) => Settled {
+            answer: Poll::Ready(answer),
+            stage: Stage::Done,
+        },
+        Next::Stand(stage) => settle(outside, home, moment, stage),
+    }
+}
+
+/// The rest of a first poll, of a get that was not served at once.
+pub(crate) fn begin<C, V: Drop, P, E, W: Outside<C, E, Checking = V>, H: GetHome<C, Part = P>>(
+    outside: &mut W,
+    home: &mut H,
+    moment: Moment,
+    timeout: Duration,
+) -> Settled<C, V, P, E>
+    ensures { Starts H.GetHome W.Outside moment (as_nanos timeout) home.old outside.old result
+        home.new outside.new }
+{
+    let next = start(outside, home, moment, timeout);
+    end(outside, home, moment, next)
+}
+
 /// One poll of a get that was not answered: the clock is read, the home looked at, and the get goes on.
 pub(crate) fn go<C, V: Drop, P, E, W: Outside<C, E, Checking = V>, H: GetHome<C, Part = P>>(
     outside: &mut W,
@@ -334,11 +364,6 @@ pub(crate) fn go<C, V: Drop, P, E, W: Outside<C, E, Checking = V>, H: GetHome<C,
 {
     let at = outside.now();
     let moment = home.look(at).moment;
-    match advance(outside, home, moment, timeout, stage) {
-        Next::Answer(answer) => Settled {
-            answer: Poll::Ready(answer),
-            stage: Stage::Done,
-        },
-        Next::Stand(stage) => settle(outside, home, moment, stage),
-    }
+    let next = advance(outside, home, moment, timeout, stage);
+    end(outside, home, moment, next)
 }

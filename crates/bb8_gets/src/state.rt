@@ -1,14 +1,15 @@
 //! Where a get stands, its poll, and its letting go.
-ghost use Rattle.std.specs.Prelude.{◌≡◌};
+ghost use Rattle.std.specs.Prelude.{◌≡◌, ℕ, true, Ok, IfSome, IfNone};
 ghost use Rattle.std.specs.Duration.{as_nanos};
-ghost use Rattle.bb8_gets.specs.Polls.{is_done, Polls, Cancels};
+ghost use Rattle.bb8_gets.specs.Polls.{holds_nothing, is_done, Polls, Starts, Goes, Unserved, CancelsFree, CancelsHeld, Cancels};
 ghost use Rattle.bb8_gets.specs.declared.state.Stage.TheVariants.{Done as IsDone, Fresh as IsFresh};
+ghost use Rattle.futures.specs.declared.task.Poll.TheVariants.{Ready};
 
 use super::home::{GetHome, Taken};
 use super::outside::Outside;
-use super::rows::{ask, go, leave, take_back};
+use super::rows::{ask, begin, go, leave, take_back};
 use bb8_core::api::{Moment, RunError};
-use bb8_core::internals::{GetKey, Reason};
+use bb8_core::internals::{GetKey, Looked, Reason};
 use futures::task::Poll;
 use std::mem;
 use std::time::Duration;
@@ -89,14 +90,14 @@ impl<C, V: Drop, P> GetState<C, V, P> {
         }
     }
 
-    /// Puts another stage in the place of one that has ended.
+    /// Puts another stage in the place of one that holds nothing.
     fn stand(&mut self, stage: Stage<C, V, P>)
-        requires { self.old.stage ≡ IsDone }
+        requires { holds_nothing self.old.stage ≡ true }
         ensures { self.new ≡ record { stage = stage } }
     {
         match mem::replace(&mut self.stage, stage) {
-            Stage::Done => {}
-            _ => unreachable!(),
+            Stage::Fresh | Stage::Done => {}
+            Stage::Trying(_) | Stage::Waiting(_) | Stage::Checking(..) => unreachable!(),
         }
     }
 
@@ -109,6 +110,80 @@ impl<C, V: Drop, P> GetState<C, V, P> {
     /// It answers a connection; `TimedOut` once the deadline has come, or where the home knows no such get or no handle; `Memory` or
     /// `Exhausted` where the get could not begin. After an answer each poll is pending, and calls nothing.
     pub fn poll_step<E, W: Outside<C, E, Checking = V>, H: GetHome<C, Part = P>>(
+        &mut self,
+        outside: &mut W,
+        home: &mut H,
+        timeout: Duration,
+    ) -> Poll<Result<Taken<C, P>, RunError<E>>>
+        ensures { Polls H.GetHome W.Outside (as_nanos timeout) self.old.stage home.old outside.old
+            (record { answer = result; stage = self.new.stage }) home.new outside.new }
+    {
+        let (seen, served) = self.serve_step(outside, home);
+        match served {
+            Some(taken) => Poll::Ready(Ok(taken)),
+            None => self.rest_step(outside, home, timeout, seen),
+        }
+    }
+
+    /// The begin of a poll, which most often is the whole of it: a get that was not polled yet reads the clock, and begins and is served at
+    /// once, where its home can do that. Where it is not served, it answers what was seen of the home, and `rest_step` goes on from there. A
+    /// get that was polled before is left to `rest_step`, and nothing is called. Our own.
+    #[inline]
+    pub fn serve_step<E, W: Outside<C, E, Checking = V>, H: GetHome<C, Part = P>>(
+        &mut self,
+        outside: &mut W,
+        home: &mut H,
+    ) -> (Option<Looked>, Option<Taken<C, P>>)
+        ensures served { IfSome result.1 (λ taken. (timeout : ℕ) → Polls H.GetHome W.Outside timeout
+            self.old.stage home.old outside.old (record {
+              answer = Ready (Ok taken);
+              stage = self.new.stage;
+            }) home.new outside.new) }
+        ensures unserved { IfNone result.1 (Unserved H.GetHome W.Outside self.old.stage home.old
+            outside.old result.0 self.new.stage home.new outside.new) }
+    {
+        match &self.stage {
+            Stage::Fresh => {
+                self.stand(Stage::Done);
+                let at = outside.now();
+                let (seen, served) = home.serve(at);
+                match served {
+                    Some((taken, _)) => (Some(seen), Some(taken)),
+                    None => (Some(seen), None),
+                }
+            }
+            Stage::Trying(_) | Stage::Waiting(_) | Stage::Checking(..) | Stage::Done => (
+                None, None,
+            ),
+        }
+    }
+
+    /// The rest of a poll whose begin, `serve_step`, did not serve the get, and saw this. Our own.
+    #[inline(never)]
+    pub fn rest_step<E, W: Outside<C, E, Checking = V>, H: GetHome<C, Part = P>>(
+        &mut self,
+        outside: &mut W,
+        home: &mut H,
+        timeout: Duration,
+        seen: Option<Looked>,
+    ) -> Poll<Result<Taken<C, P>, RunError<E>>>
+        requires { IfSome seen (λ _. self.old.stage ≡ IsDone) }
+        ensures { (stage : _) (h : _) (w : _) → Unserved H.GetHome W.Outside stage h w seen
+            self.old.stage home.old outside.old → Polls H.GetHome W.Outside (as_nanos timeout)
+            stage h w (record { answer = result; stage = self.new.stage }) home.new outside.new }
+    {
+        match seen {
+            None => self.again(outside, home, timeout),
+            Some(seen) => {
+                let Settled { answer, stage } = begin(outside, home, seen.moment, timeout);
+                self.stand(stage);
+                answer
+            }
+        }
+    }
+
+    /// A poll from its begin on.
+    fn again<E, W: Outside<C, E, Checking = V>, H: GetHome<C, Part = P>>(
         &mut self,
         outside: &mut W,
         home: &mut H,
@@ -140,18 +215,41 @@ impl<C, V: Drop, P> GetState<C, V, P> {
         match stage {
             Stage::Fresh | Stage::Done => {}
             Stage::Trying(begun) | Stage::Waiting(begun) => {
-                let at = outside.now();
-                leave(outside, home, at, begun.get, Reason::Cancelled);
+                cancel_free(outside, home, begun.get);
             }
-            Stage::Checking(begun, held) => {
-                let Held { taken, checking } = held;
-                drop(checking);
-                let returned = ask(outside, taken);
-                let at = outside.now();
-                take_back(outside, home, at, begun.get, Reason::Cancelled, returned);
-            }
+            Stage::Checking(begun, held) => cancel_held(outside, home, begun.get, held),
         }
     }
+}
+
+/// Lets a get go that began and holds no connection.
+#[inline(never)]
+fn cancel_free<C, V: Drop, P, E, W: Outside<C, E, Checking = V>, H: GetHome<C, Part = P>>(
+    outside: &mut W,
+    home: &mut H,
+    get: GetKey,
+)
+    ensures { CancelsFree H.GetHome W.Outside get home.old outside.old home.new outside.new }
+{
+    let at = outside.now();
+    leave(outside, home, at, get, Reason::Cancelled);
+}
+
+/// Lets a get go whose connection is being checked.
+#[inline(never)]
+fn cancel_held<C, V: Drop, P, E, W: Outside<C, E, Checking = V>, H: GetHome<C, Part = P>>(
+    outside: &mut W,
+    home: &mut H,
+    get: GetKey,
+    held: Held<C, V, P>,
+)
+    ensures { CancelsHeld H.GetHome W.Outside get held home.old outside.old home.new outside.new }
+{
+    let Held { taken, checking } = held;
+    drop(checking);
+    let returned = ask(outside, taken);
+    let at = outside.now();
+    take_back(outside, home, at, get, Reason::Cancelled, returned);
 }
 
 impl<C, V: Drop, P> Default for GetState<C, V, P> {

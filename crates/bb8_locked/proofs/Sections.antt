@@ -1,5 +1,5 @@
 -- What holds of the sections of a pool.
-use Rattle.std.proofs.Common.{◌≡◌, ℕ, ◌+◌, ◌^◌, ◌<◌, ◌≤◌, length, Bool, true, false, Option, is_some, refl, sym, ap, ◌∙◌, arith}
+use Rattle.std.proofs.Common.{◌≡◌, ℕ, ◌+◌, ◌^◌, ◌<◌, ◌≤◌, length, Bool, true, false, Option, Some, None, IfNone, is_some, refl, sym, ap, ◌∙◌, arith}
 use Rattle.bb8_core.specs.declared.answers.GiveUpAnswer.{GiveUpAnswer}
 use Rattle.bb8_core.specs.declared.answers.GiveUpAnswer.TheVariants as given_back
 use Rattle.bb8_core.specs.declared.answers.CheckedErrAnswer.{CheckedErrAnswer}
@@ -25,6 +25,11 @@ use Rattle.bb8_core.proofs.Parts.{counted}
 use Rattle.bb8_ledger.proofs.Effects.{by_fit}
 use Rattle.bb8_core.proofs.Runs.{unfit_now}
 use Rattle.bb8_ledger.proofs.Laws.{keeps_limits, keeps_laws, keeps_promises}
+
+-- where there is none, this follows from that
+pub on_none : {X P Q : Type 0} (r : Option X) → IfNone r P → (P → Q) → IfNone r Q
+on_none None p f = f p
+on_none (Some x) p f = tt
 
 -- an answer that a connection came back
 abbrev pub brings_back : Answer → Bool

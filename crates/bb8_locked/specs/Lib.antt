@@ -1,3 +1,4 @@
 pub mod Gathered
 pub mod Parts
 pub mod Sections
+pub mod Serving

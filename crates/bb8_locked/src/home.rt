@@ -1,8 +1,9 @@
 //! What a pool's lock holds as a home of gets.
-ghost use Rattle.std.specs.Prelude.{◌≡◌, false, None, Some};
+ghost use Rattle.std.specs.Prelude.{◌≡◌, false, None, Some, IfSome, IfNone};
 ghost use Rattle.bb8_ledger.specs.Acts as acts;
 ghost use Rattle.bb8_core.specs.StepAnswers.{begin_told, checked_err_told, give_up_told, look_told, reason_of};
 ghost use Rattle.bb8_gets.specs.Homes.{StepsIn};
+ghost use Rattle.bb8_locked.specs.Serving.{ServesNow};
 ghost use Rattle.bb8_gets.specs.Told.{answered, passed_told, tried_told, HandsBackHeld, HandsBackInvalid, HandsOutOf};
 
 use crate::locked::{Locked, Part, Parts};
@@ -12,6 +13,39 @@ use bb8_core::internals::{
     TryAnswer,
 };
 use bb8_gets::{GetHome, Passed, Returned, Taken, Tried, Unfit};
+
+impl<C: Drop, L: Parts> Locked<C, L> {
+    /// Begins a get and serves it, where that takes no memory. Where it does not, nothing has changed.
+    fn serve_now(&mut self, at: Moment) -> Option<(Taken<C, Part<L>>, Grant)>
+        ensures served { IfSome result (λ s. ServesNow L.settings self.old at.0 s.0 s.1 self.new) }
+        ensures none { IfNone result (self.new.core ≡ self.old.core) }
+    {
+        self.limits();
+        let Locked { core, rest, .. } = self;
+        if !core.fits_at_once() {
+            return None;
+        }
+        match core.serve_at_once(at) {
+            None => None,
+            Some(
+                AtOnce {
+                    key,
+                    conn,
+                    grant,
+                    ..
+                },
+            ) => {
+                let one = rest.split_off(1, 1);
+                let taken = Taken {
+                    key,
+                    connection: conn,
+                    part: Part { share: one },
+                };
+                Some((taken, grant))
+            }
+        }
+    }
+}
 
 /// Each step leads from the state that stands there to the next one. A connection goes out with one of the parts, and comes back with it.
 impl<C: Drop, L: Parts> GetHome<C> for Locked<C, L> {
@@ -43,31 +77,9 @@ impl<C: Drop, L: Parts> GetHome<C> for Locked<C, L> {
     }
 
     /// It is served at once where that takes no memory.
-    fn serve(&mut self, at: Moment) -> Option<(Taken<C, Part<L>>, Grant)> {
-        self.limits();
-        let Locked { core, rest, .. } = self;
-        if !core.fits_at_once() {
-            return None;
-        }
-        match core.serve_at_once(at) {
-            None => None,
-            Some(
-                AtOnce {
-                    key,
-                    conn,
-                    grant,
-                    ..
-                },
-            ) => {
-                let one = rest.split_off(1, 1);
-                let taken = Taken {
-                    key,
-                    connection: conn,
-                    part: Part { share: one },
-                };
-                Some((taken, grant))
-            }
-        }
+    fn serve(&mut self, at: Moment) -> (Looked, Option<(Taken<C, Part<L>>, Grant)>) {
+        let seen = self.look(at);
+        (seen, self.serve_now(seen.moment))
     }
 
     fn begin(&mut self, at: Moment) -> Result<BeginAnswer, Unfit> {

@@ -84,7 +84,7 @@ impl<'a, C, T: GetHome<C>, R: Locks> GetHome<C> for LinkHome<'a, T, R> {
         seen
     }
 
-    fn serve(&mut self, at: Moment) -> Option<(Taken<C, T::Part>, Grant)> {
+    fn serve(&mut self, at: Moment) -> (Looked, Option<(Taken<C, T::Part>, Grant)>) {
         let mut guard = self.hold();
         let answer = guard.serve(at);
         self.held = Some(guard);

@@ -1,6 +1,6 @@
 use Rattle.std.proofs.Common.{◌≡◌, false, sym, ◌∙◌}
 use Rattle.bb8_gets.specs.Polls.{is_done}
-use Rattle.bb8_gets.proofs.state.GetState.poll_step.Goals as goal
+use Rattle.bb8_gets.proofs.state.GetState.again.Goals as goal
 
 pub returns : goal.returns
 returns g c =
