@@ -5,7 +5,7 @@ use Rattle.bb8_types.specs.declared.grants.Grant.{Grant}
 use Rattle.bb8_types.specs.Settings.{Settings, default_settings, is_lawful}
 use Rattle.bb8_types.specs.Figures.{Figures}
 use Rattle.bb8_ledger.specs.Acts.{Act, Begin, Try, CheckedOk, CheckedErr, GiveUp, PutBack, Fill, Claim, Opened, Failed, Add, Reap, Join, Leave, TimedOut, Cancelled}
-use Rattle.bb8_ledger.specs.Answers.{Answer, Begun, Exhausted, Served, Taken, Waiting, Kept, Closed, GaveUp, Granted, Claimed, Ended, Entered, Late, GivenBack, Added, Broken, NoCapacity, Reaped, Joined, Left, Unfit}
+use Rattle.bb8_ledger.specs.Answers.{Answer, Begun, Exhausted, Served, Taken, Waiting, Kept, Closed, GaveUp, Granted, Claimed, Ended, Entered, Late, GivenBack, Added, Broken, NoCapacity, Withheld, Reaped, Joined, Left, Unfit}
 use Rattle.bb8_ledger.specs.Ledger.{Ledger, Later, figures, opening_with}
 use Rattle.bb8_ledger.specs.Table.{Allowed}
 use Rattle.bb8_ledger.specs.Waits.{wait, IsMostWaits}
@@ -215,6 +215,39 @@ abbrev pub get_numbers_used_up : List Told
 get_numbers_used_up =
     0 ▸ Begin ⇒ Begun 18_446_744_073_709_551_614
     ∷ 0 ▸ Begin ⇒ Exhausted
+    ∷ []
+
+-- the approvals that are wanted take the two last numbers; then one more is withheld, and so is an adding, but a broken connection is
+-- called broken
+abbrev pub numbers_used_up : List Told
+numbers_used_up =
+    0 ▸ Fill false ⇒ Granted (record { first = 18_446_744_073_709_551_613; count = 2; withheld = 1 })
+    ∷ 0 ▸ adds 18_446_744_073_709_551_615 ⇒ Withheld
+    ∷ 0 ▸ Add 18_446_744_073_709_551_615 true ⇒ Broken
+    ∷ 0 ▸ Fill false ⇒ Granted (record { first = 18_446_744_073_709_551_615; count = 0; withheld = 1 })
+    ∷ []
+
+-- memory for the third place is refused: what is wanted is withheld, and granted at the next ask
+abbrev pub third_place_refused : List Told
+third_place_refused =
+    two_opened
+    ++ 0 ▸ Begin ⇒ Begun 0
+    ∷ 0 ▸ Try 0 ⇒ Served 0 (record { first = 2; count = 0; withheld = 1 })
+    ∷ 0 ▸ Begin ⇒ Begun 1
+    ∷ 0 ▸ Try 1 ⇒ Served 1 (grant 2 at 2)
+    ∷ []
+
+-- there were two connections once: for a second one no memory is needed, but for a third one, which is added at the next ask
+abbrev pub third_adding_withheld : List Told
+third_adding_withheld =
+    0 ▸ adds 0 ⇒ Added 0 None
+    ∷ 0 ▸ adds 1 ⇒ Added 1 None
+    ∷ 0 ▸ Begin ⇒ Begun 0
+    ∷ 0 ▸ Try 0 ⇒ Served 0 (grant 0 at 2)
+    ∷ 0 ▸ PutBack 0 0 true ⇒ Closed 0 (grant 0 at 2) None
+    ∷ 0 ▸ adds 2 ⇒ Added 2 None
+    ∷ 0 ▸ adds 3 ⇒ Withheld
+    ∷ 0 ▸ adds 3 ⇒ Added 3 None
     ∷ []
 
 -- three connections at most: a fourth is refused, and a broken one is called broken although the pool is full

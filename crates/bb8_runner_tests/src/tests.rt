@@ -113,9 +113,12 @@ fn succeeds_run_of_the_first_script(rt: HostRuntime) -> Result<(), Fail> {
 
 #[test]
 fn tells_a_line_that_was_cut(rt: HostRuntime) -> Result<(), Fail> {
-    let (end, written) = run(&rt, &FIRST_SCRIPT[..FIRST_SCRIPT.len() - 3])?;
-    assert_eq!(rt; end, Verdict::Bad);
-    assert_eq!(rt; written.as_slice(), b"line 21: not an event\n".as_slice());
+    // After `0 return`, and after `0 retu`.
+    for cut in [3, 5] {
+        let (end, written) = run(&rt, &FIRST_SCRIPT[..FIRST_SCRIPT.len() - cut])?;
+        assert_eq!(rt; end, Verdict::Bad);
+        assert_eq!(rt; written.as_slice(), b"line 21: not an event\n".as_slice());
+    }
     Ok(())
 }
 

@@ -125,6 +125,30 @@ fn gives_no_number_past_the_last(rt: HostRuntime) -> Result<(), Fail> {
 }
 
 #[test]
+fn used_up_numbers_withhold_grants_and_addings(rt: HostRuntime) -> Result<(), Fail> {
+    let last_two = Grant {
+        first: LAST - 1,
+        count: 2,
+        withheld: 1,
+    };
+    let none = Grant {
+        first: LAST + 1,
+        count: 0,
+        withheld: 1,
+    };
+    let lines = [
+        (0, Act::Fill(false), Answer::Granted(last_two)),
+        (0, Act::Add(false), Answer::Withheld),
+        (0, Act::Add(true), Answer::Broken),
+        (0, Act::Fill(false), Answer::Granted(none)),
+    ];
+    let config = unchecked(5, Some(3));
+    let state = shown_after_from(&rt, rt.alloc(), config, LAST - 1, 0, &lines)?;
+    assert_eq!(rt; state, served(0, 0, 0, 0));
+    Ok(())
+}
+
+#[test]
 fn strangers_and_repeats_do_not_fit(rt: HostRuntime) -> Result<(), Fail> {
     let lines = [
         (0, Act::Opened(0), Answer::Unfit),

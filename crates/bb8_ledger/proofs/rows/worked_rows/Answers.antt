@@ -36,6 +36,15 @@ returns-clause-moment_goes_back c = by_evaluation refl refl refl
 pub returns-clause-get_numbers_used_up : goal.returns-clause-get_numbers_used_up
 returns-clause-get_numbers_used_up c = by_evaluation refl refl refl
 
+pub returns-clause-numbers_used_up : goal.returns-clause-numbers_used_up
+returns-clause-numbers_used_up c = by_evaluation refl refl refl
+
+pub returns-clause-third_place_refused : goal.returns-clause-third_place_refused
+returns-clause-third_place_refused c = by_evaluation refl refl refl
+
+pub returns-clause-third_adding_withheld : goal.returns-clause-third_adding_withheld
+returns-clause-third_adding_withheld c = by_evaluation refl refl refl
+
 pub returns-clause-added_until_full : goal.returns-clause-added_until_full
 returns-clause-added_until_full c = by_evaluation refl refl refl
 

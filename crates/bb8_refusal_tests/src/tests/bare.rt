@@ -1,0 +1,255 @@
+//! A run over the bare state with checks that pass and fail, gets that are let go, addings and reaps: no connection is lost, whichever
+//! request for memory is refused. That each answer is allowed is proved.
+
+use super::steps::{
+    Held, add, begin, fail, give_up, give_up_held, opened, pass, put_back, try_get,
+};
+use super::{Board, Counted, is_refused_afterwards};
+use bb8_core::api::{Config, Moment};
+use bb8_core::internals::{
+    AddAnswer, BeginAnswer, CheckedErrAnswer, ClaimAnswer, GetKey, GiveUpAnswer, Grant,
+    OpenedAnswer, PoolInternals, PutBackAnswer, ReapAnswer, TryAnswer,
+};
+use std::process::Abort;
+use std::test::Fail;
+use std::time::Duration;
+
+/// How many connections the pool may have.
+const SIZE: u32 = 4;
+
+/// A bare state, its connections, and what its run met.
+#[derive(Drop)]
+struct Run {
+    pool: PoolInternals<Counted>,
+    board: Board,
+    at: Moment,
+    /// Whether an answer told of a refusal.
+    refused: bool,
+    /// How many connections were closed by reaps.
+    reaped: u64,
+    /// How many gets were served, and how many waited.
+    served: u64,
+    waited: u64,
+}
+
+/// What becomes of a connection that a get took.
+#[derive(Clone, Copy)]
+enum End {
+    Passes,
+    Fails,
+    Breaks,
+    LetGo,
+    LetGoBroken,
+}
+
+impl Run {
+    /// Notes what a grant withheld. All numbers are there, so only memory was wanting.
+    fn note(&mut self, grant: Grant) {
+        self.refused |= grant.withheld > 0;
+    }
+
+    /// Asserts that the connections that were made are those of the pool and those that were dropped.
+    fn assert_whole(&mut self, rt: &impl Abort) {
+        let state = self.pool.state(self.at);
+        assert_eq!(rt; state.connections as u64, self.board.alive());
+        assert_eq!(rt; state.idle_connections, state.connections);
+        assert_eq!(rt; state.statistics.pending_gets(), 0);
+    }
+
+    /// Opens a connection for each approval.
+    fn open_all(&mut self, rt: &impl Abort) -> Result<(), Fail> {
+        let grant = self.pool.fill(self.at, false);
+        self.note(grant);
+        for _ in 0..SIZE {
+            let ClaimAnswer::Claimed(Some(key)) = self.pool.claim(self.at) else {
+                return Ok(());
+            };
+            let conn = self.board.make()?;
+            let OpenedAnswer::Entered(_) = opened(rt, &mut self.pool, self.at, key, conn) else {
+                panic!(rt; "no handle is alive");
+            };
+        }
+        Ok(())
+    }
+
+    /// Begins a get, where there is memory for it.
+    fn begin(&mut self, rt: &impl Abort) -> Option<GetKey> {
+        match begin(rt, &mut self.pool, self.at) {
+            BeginAnswer::Begun(get) => Some(get),
+            BeginAnswer::Memory => {
+                self.refused = true;
+                None
+            }
+            BeginAnswer::Exhausted => panic!(rt; "no number is left"),
+        }
+    }
+
+    /// What a get takes, if it does not wait.
+    fn take(&mut self, rt: &impl Abort, get: GetKey) -> Option<Held<Counted>> {
+        match try_get(rt, &mut self.pool, self.at, get) {
+            TryAnswer::Taken(key, conn, grant) => {
+                self.note(grant);
+                Some(Held { get, key, conn })
+            }
+            TryAnswer::Waiting(grant) => {
+                self.note(grant);
+                self.waited = self.waited.saturating_add(1);
+                None
+            }
+            TryAnswer::Served(..) => panic!(rt; "{get:?} was served unchecked"),
+        }
+    }
+
+    /// Lets a get go that holds nothing.
+    fn let_go(&mut self, rt: &impl Abort, get: GetKey) {
+        let GiveUpAnswer::GaveUp(_) = give_up(rt, &mut self.pool, self.at, get) else {
+            panic!(rt; "{get:?} held a connection");
+        };
+    }
+
+    /// The check passes: a guard has the connection, and gives it back.
+    fn passes(&mut self, rt: &impl Abort, held: Held<Counted>) {
+        let Held { get, key, conn } = held;
+        let key = pass(rt, &mut self.pool, self.at, get, key.place);
+        self.served = self.served.saturating_add(1);
+        let PutBackAnswer::Kept(_) = put_back(rt, &mut self.pool, self.at, key, conn, false) else {
+            panic!(rt; "{key:?} was closed");
+        };
+    }
+
+    /// The check fails: the connection is closed, and the get, which then holds nothing, is let go.
+    fn fails(&mut self, rt: &impl Abort, held: Held<Counted>, broken: bool) {
+        let get = held.get;
+        let CheckedErrAnswer::Closed(_, conn, grant, _) = fail(
+            rt,
+            &mut self.pool,
+            self.at,
+            held,
+            broken,
+        );
+        drop(conn);
+        self.note(grant);
+        self.let_go(rt, get);
+    }
+
+    /// The get is let go with the connection that it holds.
+    fn lets_go_held(&mut self, rt: &impl Abort, held: Held<Counted>, broken: bool) {
+        match give_up_held(rt, &mut self.pool, self.at, held, broken) {
+            GiveUpAnswer::Kept(key, _) => assert!(rt; !broken, "{key:?} was kept"),
+            GiveUpAnswer::Closed(key, conn, grant, _) => {
+                assert!(rt; broken, "{key:?} was closed");
+                drop(conn);
+                self.note(grant);
+            }
+            GiveUpAnswer::GaveUp(_) => panic!(rt; "the get held a connection"),
+        }
+    }
+
+    /// A get begins, takes what is idle, and ends so.
+    fn plays(&mut self, rt: &impl Abort, end: End) {
+        let Some(get) = self.begin(rt) else {
+            return;
+        };
+        match self.take(rt, get) {
+            None => self.let_go(rt, get),
+            Some(held) => match end {
+                End::Passes => self.passes(rt, held),
+                End::Fails => self.fails(rt, held, false),
+                End::Breaks => self.fails(rt, held, true),
+                End::LetGo => self.lets_go_held(rt, held, false),
+                End::LetGoBroken => self.lets_go_held(rt, held, true),
+            },
+        }
+    }
+
+    /// Two connections are added, where there is room and memory.
+    fn adds(&mut self, rt: &impl Abort) -> Result<(), Fail> {
+        for _ in 0..2 {
+            let conn = self.board.make()?;
+            match add(rt, &mut self.pool, self.at, conn) {
+                AddAnswer::Added(..) | AddAnswer::NoCapacity(_) => {}
+                AddAnswer::Withheld(conn) => {
+                    drop(conn);
+                    self.refused = true;
+                }
+                AddAnswer::Broken(_) => panic!(rt; "it was not told as broken"),
+            }
+        }
+        Ok(())
+    }
+
+    /// All that is idle is reaped, a second later.
+    fn reaps(&mut self, rt: &impl Abort) {
+        self.at = Moment(self.at.0.saturating_add(1_000_000_000));
+        let ReapAnswer::Reaped { closed, grant, .. } = self.pool.reap(self.at) else {
+            panic!(rt; "no handle is alive");
+        };
+        self.reaped = self.reaped.saturating_add(closed as u64);
+        self.note(grant);
+    }
+
+    /// Each end once, beside a get that began before and waits; then two are added, and all that is idle is reaped.
+    fn round(&mut self, rt: &impl Abort) -> Result<(), Fail> {
+        let waits = self.begin(rt);
+        if let Some(get) = waits {
+            if let Some(held) = self.take(rt, get) {
+                panic!(rt; "{:?} took {:?}", held.get, held.key);
+            }
+        }
+        for end in [
+            End::Passes,
+            End::Fails,
+            End::Breaks,
+            End::LetGo,
+            End::LetGoBroken,
+        ] {
+            self.open_all(rt)?;
+            self.plays(rt, end);
+        }
+        if let Some(get) = waits {
+            self.let_go(rt, get);
+        }
+        self.adds(rt)?;
+        self.assert_whole(rt);
+        self.reaps(rt);
+        self.assert_whole(rt);
+        Ok(())
+    }
+}
+
+#[test]
+fn no_connection_is_lost(rt: HostRuntime) -> Result<(), Fail> {
+    let Ok(board) = Board::new(rt.alloc()) else {
+        return Ok(());
+    };
+    let config = Config {
+        max_size: SIZE,
+        min_idle: Some(1),
+        max_lifetime: None,
+        idle_timeout: Some(Duration::from_secs(1)),
+        ..Config::default()
+    };
+    assert!(rt; config.is_lawful());
+    let mut run = Run {
+        pool: PoolInternals::new(rt.alloc(), config),
+        board: board.try_clone()?,
+        at: Moment(0),
+        refused: false,
+        reaped: 0,
+        served: 0,
+        waited: 0,
+    };
+    run.round(&rt)?;
+    run.round(&rt)?;
+    assert!(rt; run.reaped > 0);
+    let refused = run.refused;
+    let counts = (run.served, run.waited, board.made());
+    drop(run);
+    assert!(rt; board.is_each_dropped_once());
+    if is_refused_afterwards(rt.alloc()) {
+        assert!(rt; !refused);
+        assert_eq!(rt; counts, (2, 2, 12));
+        let _ = rt.eprintln("no request of the run was refused");
+    }
+    Ok(())
+}

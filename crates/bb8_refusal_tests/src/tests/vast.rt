@@ -1,0 +1,98 @@
+//! Connections so large that no machine has memory for all that a pool wants at once: refusals that come about in each run of the tests.
+//! A pool of 4,294,967,295 of them would take more than the addresses that there are.
+
+use super::steps::{add, begin, opened, put_back, try_get};
+use bb8_core::api::{Config, Moment};
+use bb8_core::internals::{
+    AddAnswer, BeginAnswer, ClaimAnswer, GetKey, Grant, OpenedAnswer, PoolInternals, PutBackAnswer,
+    TryAnswer,
+};
+use std::process::Abort;
+
+const NOW: Moment = Moment(0);
+
+/// How many connections the pool may have, and how many are to be idle.
+const MANY: u32 = 4_294_967_295;
+
+/// A connection of 64 KiB.
+#[derive(Drop)]
+struct Vast {
+    words: [u64; 8192],
+}
+
+impl Vast {
+    fn new(first: u64) -> Vast {
+        let mut words = [0; 8192];
+        words[0] = first;
+        Vast { words }
+    }
+}
+
+/// What is withheld of a grant from a number on, of which so many are granted.
+fn part(first: u64, count: u32, withheld: u32) -> Grant {
+    Grant {
+        first,
+        count,
+        withheld,
+    }
+}
+
+/// A connection is added, which is to have this number; where memory is refused, it is added at the next ask.
+fn adds(rt: &impl Abort, pool: &mut PoolInternals<Vast>, number: u64) {
+    for _ in 0..2 {
+        match add(rt, pool, NOW, Vast::new(number)) {
+            AddAnswer::Added(key, None) => {
+                assert_eq!(rt; key.number, number);
+                return;
+            }
+            AddAnswer::Withheld(_) => {}
+            _ => panic!(rt; "there is room, and nobody waits"),
+        }
+    }
+    panic!(rt; "{number} was withheld twice");
+}
+
+/// A get begins; where memory is refused, it does at the next ask.
+fn begins(rt: &impl Abort, pool: &mut PoolInternals<Vast>) -> GetKey {
+    for _ in 0..2 {
+        if let BeginAnswer::Begun(get) = begin(rt, pool, NOW) {
+            return get;
+        }
+    }
+    panic!(rt; "no get began");
+}
+
+#[test]
+fn vast_grants_are_withheld_past_the_peak(rt: HostRuntime) {
+    let config = Config {
+        max_size: MANY,
+        min_idle: Some(MANY),
+        test_on_check_out: false,
+        ..Config::default()
+    };
+    assert!(rt; config.is_lawful());
+    let mut pool = PoolInternals::new(rt.alloc(), config);
+    assert_eq!(rt; pool.fill(NOW, false), part(0, 0, MANY));
+    adds(&rt, &mut pool, 0);
+    adds(&rt, &mut pool, 1);
+    assert_eq!(rt; pool.fill(NOW, true), part(2, 0, MANY - 2));
+    let get = begins(&rt, &mut pool);
+    let TryAnswer::Served(key, conn, grant) = try_get(&rt, &mut pool, NOW, get) else {
+        panic!(&rt; "it was not served");
+    };
+    assert_eq!(rt; (conn.words[0], grant), (0, part(2, 0, MANY - 2)));
+    // One place is free below the peak: for that one no memory is needed.
+    let PutBackAnswer::Closed(conn, grant, None) = put_back(&rt, &mut pool, NOW, key, conn, true)
+    else {
+        panic!(&rt; "a broken connection was kept, or somebody was notified");
+    };
+    assert_eq!(rt; (conn.words[0], grant), (0, part(2, 1, MANY - 2)));
+    let ClaimAnswer::Claimed(Some(key)) = pool.claim(NOW) else {
+        panic!(&rt; "nothing was claimed");
+    };
+    let OpenedAnswer::Entered(None) = opened(&rt, &mut pool, NOW, key, Vast::new(2)) else {
+        panic!(&rt; "somebody was notified");
+    };
+    let state = pool.state(NOW);
+    assert_eq!(rt; (state.connections, state.idle_connections), (2, 2));
+}
