@@ -3,7 +3,8 @@
 //! A program whose threads share a pool has three parts: a manager, which opens and checks connections; a service, which says what is
 //! done before the threads run, in each, and after them; and a `main`, which builds the pool and runs the service over it. No proof
 //! file belongs to them. `Runtime` is the program's own list of bounds, `Wait` and what its calls ask for. In `crates.txt`
-//! such a program stands on `bb8` and `futures`. This is `bb8_service`, whole:
+//! such a program stands on `bb8` and `futures`. This one has counters for connections; `bb8_service` is the same over databases of the
+//! kit's `sqlite`:
 //!
 //! ```text
 //! use bb8::{
