@@ -2,36 +2,79 @@
 //!
 //! A program whose threads share a pool has three parts: a manager, which opens and checks connections; a service, which says what is
 //! done before the threads run, in each, and after them; and a `main`, which builds the pool and runs the service over it. No proof
-//! file belongs to them. `Runtime` is the program's own list of bounds, `Wait` and what its calls ask for. In `crates.txt`
-//! such a program stands on `bb8` and `futures`. This is `bb8_service`, whole:
+//! file belongs to them. In `crates.txt` such a program stands on `bb8` and `futures`, and this one on the kit's `sqlite` besides, whose
+//! databases, in memory, are its connections. It is `bb8_service`, whole:
 //!
 //! ```text
 //! use bb8::{
-//!     Builder, MachineClock, ManageConnection, Moment, NopCustomizer, NopErrorSink, Pool, PoolCalls,
-//!     PoolParts, Service, State,
+//!     Builder, MachineClock, ManageConnection, Moment, NopCustomizer, NopErrorSink, Pool,
+//!     PoolCalls, PoolParts, Service, State,
 //! };
 //! use futures::executor::block_on;
 //! use futures::task::Poll;
-//! use std::convert::Infallible;
-//! use std::fmt;
+//! use sqlite::{Connection, Error, MemStore, params};
+//! use std::alloc::Global;
 //! use std::io;
 //! use std::process::ExitCode;
 //! use std::random::RandomSource;
 //! use std::sync::Wait;
 //! use std::time::Clock;
 //!
-//! #[derive(Debug, Drop)]
-//! pub struct Counter {
-//!     pub uses: u64,
+//! type Database = Connection<MemStore>;
+//!
+//! #[derive(Clone, Copy, Default)]
+//! struct Sums {
+//!     committed: u64,
+//!     left_open: u64,
+//!     rows: u64,
+//!     amount: u64,
+//! }
+//!
+//! impl Sums {
+//!     fn plus(self, other: Sums) -> Sums {
+//!         Sums {
+//!             committed: self.committed.saturating_add(other.committed),
+//!             left_open: self.left_open.saturating_add(other.left_open),
+//!             rows: self.rows.saturating_add(other.rows),
+//!             amount: self.amount.saturating_add(other.amount),
+//!         }
+//!     }
+//! }
+//!
+//! fn open(alloc: Global) -> Result<Database, Error> {
+//!     let mut database = Connection::open_in_memory(alloc)?;
+//!     database.execute(
+//!         "CREATE TABLE visit (id INTEGER PRIMARY KEY, amount INTEGER NOT NULL CHECK (amount > 0)) STRICT",
+//!         &[],
+//!     )?;
+//!     Ok(database)
+//! }
+//!
+//! fn write(database: &mut Database, amount: u32) -> Result<(), Error> {
+//!     database.execute("BEGIN", &[])?;
+//!     database.execute("INSERT INTO visit (amount) VALUES (?1)", params![amount])?;
+//!     database.execute("COMMIT", &[])?;
+//!     Ok(())
+//! }
+//!
+//! fn held(database: &mut Database) -> Result<Sums, Error> {
+//!     let row = database.query_row("SELECT COUNT(*), COALESCE(SUM(amount), 0) FROM visit", &[])?;
+//!     Ok(Sums {
+//!         rows: row.get(0)?,
+//!         amount: row.get(1)?,
+//!         ..Sums::default()
+//!     })
 //! }
 //!
 //! #[derive(Drop)]
-//! pub struct Counters;
+//! struct Databases {
+//!     alloc: Global,
+//! }
 //!
-//! impl ManageConnection for Counters {
-//!     type Connection = Counter;
+//! impl ManageConnection for Databases {
+//!     type Connection = Database;
 //!
-//!     type Error = Infallible;
+//!     type Error = Error;
 //!
 //!     type Connecting = ();
 //!
@@ -39,131 +82,111 @@
 //!
 //!     fn connect(&self) {}
 //!
-//!     fn poll_connect(
-//!         &self,
-//!         _connecting: &mut (),
-//!         _moment: Moment,
-//!     ) -> Poll<Result<Counter, Infallible>> {
-//!         Poll::Ready(Ok(Counter { uses: 0 }))
+//!     fn poll_connect(&self, _connecting: &mut (), _moment: Moment) -> Poll<Result<Database, Error>> {
+//!         Poll::Ready(open(self.alloc))
 //!     }
 //!
-//!     fn is_valid(&self, _connection: &mut Counter) {}
+//!     fn is_valid(&self, _database: &mut Database) {}
 //!
 //!     fn poll_valid(
 //!         &self,
-//!         _connection: &mut Counter,
+//!         database: &mut Database,
 //!         _checking: &mut (),
 //!         _moment: Moment,
-//!     ) -> Poll<Result<(), Infallible>> {
-//!         Poll::Ready(Ok(()))
+//!     ) -> Poll<Result<(), Error>> {
+//!         Poll::Ready(database.query_row("SELECT 1", &[]).map(|_| ()))
 //!     }
 //!
-//!     fn has_broken(&self, _connection: &mut Counter) -> bool {
-//!         false
+//!     fn has_broken(&self, database: &mut Database) -> bool {
+//!         !database.is_autocommit()
 //!     }
 //! }
 //!
-//! pub const THREADS: usize = 4;
+//! const THREADS: usize = 4;
 //!
-//! const ROUNDS: u64 = 1000;
+//! const CONNECTIONS: u32 = 3;
 //!
-//! pub trait Runtime: Wait
-//!     + Clock
-//!     + RandomSource
-//!     + AllocGlobal
-//!     + Copy
-//!     + Send
-//!     + Sync
-//!     + Drop
-//!     + 'static {}
+//! const ROUNDS: u32 = 25;
 //!
-//! impl<R: Wait + Clock + RandomSource + AllocGlobal + Copy + Send + Sync + Drop + 'static> Runtime
-//!     for R {}
+//! const AMOUNTS: u32 = 5;
 //!
-//! type CounterPool<R, L> = Pool<Counters, NopErrorSink, NopCustomizer, MachineClock<R>, R, L>;
+//! type DatabasePool<R, L> = Pool<Databases, NopErrorSink, NopCustomizer, MachineClock<R>, R, L>;
 //!
 //! #[derive(Drop)]
-//! pub struct Summary {
-//!     served: u64,
-//!     uses: u64,
-//!     state: State,
+//! struct SharedDatabases<R> {
+//!     rt: R,
 //! }
 //!
-//! impl fmt::Display for Summary {
-//!     fn fmt<W: fmt::Write>(&self, f: &mut fmt::Formatter<W>) -> fmt::Result {
-//!         writeln!(f, "served {}, used {}", self.served, self.uses)?;
-//!         let State {
-//!             connections,
-//!             idle_connections,
-//!             statistics,
-//!         } = self.state;
-//!         writeln!(f, "connections {connections}, idle {idle_connections}")?;
-//!         write!(f, "gets completed {}", statistics.completed_gets())
-//!     }
-//! }
+//! impl<R: Wait + Clock + RandomSource + AllocGlobal + Copy + Send + Sync + Drop + 'static> Service<
+//!     Databases,
+//!     NopErrorSink,
+//!     NopCustomizer,
+//!     MachineClock<R>,
+//!     R,
+//! > for SharedDatabases<R> {
+//!     type Told = Option<Sums>;
 //!
-//! #[derive(Drop)]
-//! pub struct SharedCounters<R: Runtime> {
-//!     pub rt: R,
-//! }
+//!     type Outcome = Option<(Sums, State)>;
 //!
-//! impl<R: Runtime> Service<Counters, NopErrorSink, NopCustomizer, MachineClock<R>, R>
-//!     for SharedCounters<R> {
-//!     type Told = u64;
-//!
-//!     type Outcome = Option<Summary>;
-//!
-//!     fn begin<L: PoolParts>(&self, pool: &CounterPool<R, L>) -> Result<(), Option<Summary>> {
-//!         for _ in 0..2u8 {
-//!             if PoolCalls::add(pool, Counter { uses: 0 }).is_err() {
-//!                 return Err(None);
-//!             }
-//!         }
+//!     fn begin<L: PoolParts>(&self, _pool: &DatabasePool<R, L>) -> Result<(), Option<(Sums, State)>> {
 //!         Ok(())
 //!     }
 //!
-//!     fn run<L: PoolParts>(&self, pool: &CounterPool<R, L>, _thread: usize) -> u64 {
-//!         let mut served: u64 = 0;
-//!         for _ in 0..ROUNDS {
-//!             if let Ok(Ok(mut guard)) = block_on(&self.rt, PoolCalls::get(pool)) {
-//!                 guard.uses = guard.uses.saturating_add(1);
-//!                 served = served.saturating_add(1);
+//!     fn run<L: PoolParts>(&self, pool: &DatabasePool<R, L>, _thread: usize) -> Option<Sums> {
+//!         let mut sums = Sums::default();
+//!         for round in 0..ROUNDS {
+//!             let mut guard = block_on(&self.rt, PoolCalls::get(pool)).ok()?.ok()?;
+//!             if write(&mut guard, round % AMOUNTS).is_ok() {
+//!                 sums.committed = sums.committed.saturating_add(1);
+//!                 continue;
 //!             }
+//!             sums = sums.plus(held(&mut guard).ok()?);
+//!             sums.left_open = sums.left_open.saturating_add(1);
 //!         }
-//!         served
+//!         Some(sums)
 //!     }
 //!
-//!     fn end<L: PoolParts>(&self, pool: &CounterPool<R, L>, told: &[u64]) -> Option<Summary> {
-//!         let served = told
-//!             .iter()
-//!             .fold(0, |sum: u64, one| sum.saturating_add(*one));
-//!         let first = block_on(&self.rt, PoolCalls::get(pool)).ok()?.ok()?;
-//!         let second = block_on(&self.rt, PoolCalls::get(pool)).ok()?.ok()?;
-//!         let uses = first.uses.saturating_add(second.uses);
-//!         drop(first);
-//!         drop(second);
-//!         let state = PoolCalls::state(pool);
-//!         Some(Summary {
-//!             served,
-//!             uses,
-//!             state,
-//!         })
+//!     fn end<L: PoolParts>(
+//!         &self,
+//!         pool: &DatabasePool<R, L>,
+//!         told: &[Option<Sums>],
+//!     ) -> Option<(Sums, State)> {
+//!         let mut sums = Sums::default();
+//!         for one in told {
+//!             sums = sums.plus((*one)?);
+//!         }
+//!         let mut guards = Vec::new(self.rt.alloc());
+//!         for _ in 0..CONNECTIONS {
+//!             let mut guard = block_on(&self.rt, PoolCalls::get(pool)).ok()?.ok()?;
+//!             sums = sums.plus(held(&mut guard).ok()?);
+//!             guards.push(guard).ok()?;
+//!         }
+//!         Some((sums, PoolCalls::state(pool)))
 //!     }
 //! }
 //!
 //! fn main(rt: HostRuntime) -> io::Result<ExitCode> {
-//!     let service = SharedCounters { rt };
+//!     let service = SharedDatabases { rt };
+//!     let manager = Databases { alloc: rt.alloc() };
 //!     let outcome = Builder::new()
-//!         .max_size(2)
-//!         .test_on_check_out(false)
-//!         .serve(Counters, MachineClock(rt), rt, THREADS, &service);
-//!     match outcome {
-//!         Ok(Some(summary)) => {
-//!             println!(rt; "{summary}")?;
-//!             Ok(ExitCode::SUCCESS)
-//!         }
-//!         _ => Ok(ExitCode::FAILURE),
-//!     }
+//!         .max_size(CONNECTIONS)
+//!         .min_idle(Some(2))
+//!         .serve(manager, MachineClock(rt), rt, THREADS, &service);
+//!     let Ok(Some((sums, state))) = outcome else {
+//!         return Ok(ExitCode::FAILURE);
+//!     };
+//!     println!(rt;
+//!         "transactions committed {}, left open {}",
+//!         sums.committed, sums.left_open
+//!     )?;
+//!     println!(rt; "rows {}, amount {}", sums.rows, sums.amount)?;
+//!     println!(rt;
+//!         "gets completed {}, connections opened {}, closed as broken {}",
+//!         state.statistics.completed_gets(),
+//!         state.statistics.connections_created,
+//!         state.statistics.connections_closed_broken
+//!     )?;
+//!     Ok(ExitCode::SUCCESS)
 //! }
 //! ```
 //!
@@ -175,15 +198,15 @@
 //! fn run<R: Runtime, L: PoolParts>(rt: R, blank: Blank) -> Result<u64, Memory>
 //!     requires { IsBlankOf blank (unchecked_of 4) L.name L.parts L.settings }
 //! {
-//!     let pool: CounterPool<R, L> = Builder::new().max_size(4).test_on_check_out(false)
-//!         .build_unchecked(Counters, MachineClock(rt), rt, blank)?;
+//!     let pool: DatabasePool<R, L> = Builder::new().max_size(4).test_on_check_out(false)
+//!         .build_unchecked(Databases { alloc: rt.alloc() }, MachineClock(rt), rt, blank)?;
 //!     ..
 //! }
 //! ```
 //!
-//! Here `Runtime` is `Wait + AllocGlobal + Send + Sync + Drop + 'static`, and what else the program needs of it; `L: Parts` is enough
-//! where no thread shares the pool. `main` calls it as `run::<HostRuntime, Brand>(rt, Blank::new(4))`, and one proof file,
-//! `proofs/main/Invariants.antt`, says the name and the number of the parts (`ghosts-run-L-Ledger`) and the settings
+//! Here `Runtime` is the program's own name for `Wait + AllocGlobal + Send + Sync + Drop + 'static`, and what else it needs of its
+//! runtime; `L: Parts` is enough where no thread shares the pool. `main` calls it as `run::<HostRuntime, Brand>(rt, Blank::new(4))`, and
+//! one proof file, `proofs/main/Invariants.antt`, says the name and the number of the parts (`ghosts-run-L-Ledger`) and the settings
 //! (`ghosts-run-L-Parts`), as in `bb8_live_bench`.
 #![tactic(auto)]
 

@@ -1,27 +1,37 @@
-//! A service: threads that share the connections of one pool. Each connection counts how often it was used.
+//! A service: threads that write to SQLite databases through one pool. A connection that comes back with its transaction open is closed,
+//! and the pool opens another.
 #![tactic(auto)]
 
-mod counters;
+mod databases;
 mod service;
 
-use crate::counters::Counters;
-use crate::service::{SharedCounters, THREADS};
+use crate::databases::Databases;
+use crate::service::{CONNECTIONS, SharedDatabases, THREADS};
 use bb8::{Builder, MachineClock};
 use std::io;
 use std::process::ExitCode;
 
-/// Runs the service over a pool of two connections, and prints what came of it.
+/// Runs the service over its pool, and prints what came of it, which is the same whatever the schedule.
 fn main(rt: HostRuntime) -> io::Result<ExitCode> {
-    let service = SharedCounters { rt };
+    let service = SharedDatabases { rt };
+    let manager = Databases { alloc: rt.alloc() };
     let outcome = Builder::new()
-        .max_size(2)
-        .test_on_check_out(false)
-        .serve(Counters, MachineClock(rt), rt, THREADS, &service);
-    match outcome {
-        Ok(Some(summary)) => {
-            println!(rt; "{summary}")?;
-            Ok(ExitCode::SUCCESS)
-        }
-        _ => Ok(ExitCode::FAILURE),
-    }
+        .max_size(CONNECTIONS)
+        .min_idle(Some(2))
+        .serve(manager, MachineClock(rt), rt, THREADS, &service);
+    let Ok(Some((sums, state))) = outcome else {
+        return Ok(ExitCode::FAILURE);
+    };
+    println!(rt;
+        "transactions committed {}, left open {}",
+        sums.committed, sums.left_open
+    )?;
+    println!(rt; "rows {}, amount {}", sums.rows, sums.amount)?;
+    println!(rt;
+        "gets completed {}, connections opened {}, closed as broken {}",
+        state.statistics.completed_gets(),
+        state.statistics.connections_created,
+        state.statistics.connections_closed_broken
+    )?;
+    Ok(ExitCode::SUCCESS)
 }

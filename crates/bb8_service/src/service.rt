@@ -1,8 +1,7 @@
 //! What the service does with its pool.
-use crate::counters::{Counter, Counters};
+use crate::databases::{Databases, Sums, held, write};
 use bb8::{MachineClock, NopCustomizer, NopErrorSink, Pool, PoolCalls, PoolParts, Service, State};
 use futures::executor::block_on;
-use std::fmt;
 use std::random::RandomSource;
 use std::sync::Wait;
 use std::time::Clock;
@@ -10,99 +9,75 @@ use std::time::Clock;
 /// How many threads share the pool.
 pub const THREADS: usize = 4;
 
-/// How often each thread gets a connection, uses it and gives it back.
-const ROUNDS: u64 = 1000;
+/// How many connections there are at most: fewer than threads, so that some gets wait.
+pub const CONNECTIONS: u32 = 3;
 
-/// What the service asks of its runtime.
-pub trait Runtime: Wait
-    + Clock
-    + RandomSource
-    + AllocGlobal
-    + Copy
-    + Send
-    + Sync
-    + Drop
-    + 'static {}
+/// How often each thread gets a connection, writes to its database and gives it back.
+const ROUNDS: u32 = 25;
 
-impl<R: Wait + Clock + RandomSource + AllocGlobal + Copy + Send + Sync + Drop + 'static> Runtime
-    for R {}
+/// The amounts of the rows go round, from 0 to the last below this. A row of amount 0 is refused.
+const AMOUNTS: u32 = 5;
 
 /// The pool of the service.
-type CounterPool<R, L> = Pool<Counters, NopErrorSink, NopCustomizer, MachineClock<R>, R, L>;
+type DatabasePool<R, L> = Pool<Databases, NopErrorSink, NopCustomizer, MachineClock<R>, R, L>;
 
-/// What came of the service, which is the same whatever the schedule.
+/// Threads that write to the databases of one pool.
 #[derive(Drop)]
-pub struct Summary {
-    served: u64,
-    uses: u64,
-    state: State,
-}
-
-impl fmt::Display for Summary {
-    fn fmt<W: fmt::Write>(&self, f: &mut fmt::Formatter<W>) -> fmt::Result {
-        writeln!(f, "served {}, used {}", self.served, self.uses)?;
-        let State {
-            connections,
-            idle_connections,
-            statistics,
-        } = self.state;
-        writeln!(f, "connections {connections}, idle {idle_connections}")?;
-        write!(f, "gets completed {}", statistics.completed_gets())
-    }
-}
-
-/// Threads that use the counters of one pool.
-#[derive(Drop)]
-pub struct SharedCounters<R: Runtime> {
+pub struct SharedDatabases<R> {
     /// What a thread waits by.
     pub rt: R,
 }
 
-impl<R: Runtime> Service<Counters, NopErrorSink, NopCustomizer, MachineClock<R>, R>
-    for SharedCounters<R> {
-    /// How often the thread was served.
-    type Told = u64;
+impl<R: Wait + Clock + RandomSource + AllocGlobal + Copy + Send + Sync + Drop + 'static> Service<
+    Databases,
+    NopErrorSink,
+    NopCustomizer,
+    MachineClock<R>,
+    R,
+> for SharedDatabases<R> {
+    /// None where a get was not served, or a database could not be read.
+    type Told = Option<Sums>;
 
-    /// None where a counter could not be added, or a get was not served.
-    type Outcome = Option<Summary>;
+    /// The same.
+    type Outcome = Option<(Sums, State)>;
 
-    /// Adds two counters.
-    fn begin<L: PoolParts>(&self, pool: &CounterPool<R, L>) -> Result<(), Option<Summary>> {
-        for _ in 0..2u8 {
-            if PoolCalls::add(pool, Counter { uses: 0 }).is_err() {
-                return Err(None);
-            }
-        }
+    /// Nothing: the pool opens its connections by itself.
+    fn begin<L: PoolParts>(&self, _pool: &DatabasePool<R, L>) -> Result<(), Option<(Sums, State)>> {
         Ok(())
     }
 
-    /// Gets a counter a number of times, uses it, and gives it back before the next.
-    fn run<L: PoolParts>(&self, pool: &CounterPool<R, L>, _thread: usize) -> u64 {
-        let mut served: u64 = 0;
-        for _ in 0..ROUNDS {
-            if let Ok(Ok(mut guard)) = block_on(&self.rt, PoolCalls::get(pool)) {
-                guard.uses = guard.uses.saturating_add(1);
-                served = served.saturating_add(1);
+    /// Writes to some database a number of times, and gives it back before the next. One whose transaction is left open is closed then,
+    /// so what it held is counted before.
+    fn run<L: PoolParts>(&self, pool: &DatabasePool<R, L>, _thread: usize) -> Option<Sums> {
+        let mut sums = Sums::default();
+        for round in 0..ROUNDS {
+            let mut guard = block_on(&self.rt, PoolCalls::get(pool)).ok()?.ok()?;
+            if write(&mut guard, round % AMOUNTS).is_ok() {
+                sums.committed = sums.committed.saturating_add(1);
+                continue;
             }
+            sums = sums.plus(held(&mut guard).ok()?);
+            sums.left_open = sums.left_open.saturating_add(1);
         }
-        served
+        Some(sums)
     }
 
-    /// Takes both counters, and adds up what the threads told and how often the counters were used.
-    fn end<L: PoolParts>(&self, pool: &CounterPool<R, L>, told: &[u64]) -> Option<Summary> {
-        let served = told
-            .iter()
-            .fold(0, |sum: u64, one| sum.saturating_add(*one));
-        let first = block_on(&self.rt, PoolCalls::get(pool)).ok()?.ok()?;
-        let second = block_on(&self.rt, PoolCalls::get(pool)).ok()?.ok()?;
-        let uses = first.uses.saturating_add(second.uses);
-        drop(first);
-        drop(second);
-        let state = PoolCalls::state(pool);
-        Some(Summary {
-            served,
-            uses,
-            state,
-        })
+    /// Takes as many connections as there may be, all at once, and adds what their databases hold to what the threads told.
+    fn end<L: PoolParts>(
+        &self,
+        pool: &DatabasePool<R, L>,
+        told: &[Option<Sums>],
+    ) -> Option<(Sums, State)> {
+        let mut sums = Sums::default();
+        for one in told {
+            sums = sums.plus((*one)?);
+        }
+        let mut guards = Vec::new(self.rt.alloc());
+        for _ in 0..CONNECTIONS {
+            let mut guard = block_on(&self.rt, PoolCalls::get(pool)).ok()?.ok()?;
+            sums = sums.plus(held(&mut guard).ok()?);
+            guards.push(guard).ok()?;
+        }
+        Some((sums, PoolCalls::state(pool)))
     }
 }

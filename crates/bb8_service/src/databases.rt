@@ -1,0 +1,101 @@
+//! The connections of the service: SQLite databases, each in memory of its own.
+use bb8::{ManageConnection, Moment};
+use futures::task::Poll;
+use sqlite::{Connection, Error, MemStore, params};
+use std::alloc::Global;
+
+/// A connection to a database that nobody else has.
+pub type Database = Connection<MemStore>;
+
+/// What was written, as far as it was counted: by the threads, or in databases.
+#[derive(Clone, Copy, Default)]
+pub struct Sums {
+    /// Transactions that were committed.
+    pub committed: u64,
+    /// Transactions that were left open.
+    pub left_open: u64,
+    /// Rows in databases.
+    pub rows: u64,
+    /// The sum of their amounts.
+    pub amount: u64,
+}
+
+impl Sums {
+    /// Both together.
+    pub fn plus(self, other: Sums) -> Sums {
+        Sums {
+            committed: self.committed.saturating_add(other.committed),
+            left_open: self.left_open.saturating_add(other.left_open),
+            rows: self.rows.saturating_add(other.rows),
+            amount: self.amount.saturating_add(other.amount),
+        }
+    }
+}
+
+/// Opens a database, with a table that takes rows of a positive amount.
+fn open(alloc: Global) -> Result<Database, Error> {
+    let mut database = Connection::open_in_memory(alloc)?;
+    database.execute(
+        "CREATE TABLE visit (id INTEGER PRIMARY KEY, amount INTEGER NOT NULL CHECK (amount > 0)) STRICT",
+        &[],
+    )?;
+    Ok(database)
+}
+
+/// Writes a row in a transaction. Where the table refuses the row, the transaction is left open.
+pub fn write(database: &mut Database, amount: u32) -> Result<(), Error> {
+    database.execute("BEGIN", &[])?;
+    database.execute("INSERT INTO visit (amount) VALUES (?1)", params![amount])?;
+    database.execute("COMMIT", &[])?;
+    Ok(())
+}
+
+/// The rows of a database.
+pub fn held(database: &mut Database) -> Result<Sums, Error> {
+    let row = database.query_row("SELECT COUNT(*), COALESCE(SUM(amount), 0) FROM visit", &[])?;
+    Ok(Sums {
+        rows: row.get(0)?,
+        amount: row.get(1)?,
+        ..Sums::default()
+    })
+}
+
+/// Opens databases in memory.
+#[derive(Drop)]
+pub struct Databases {
+    /// Where they lie.
+    pub alloc: Global,
+}
+
+impl ManageConnection for Databases {
+    type Connection = Database;
+
+    type Error = Error;
+
+    type Connecting = ();
+
+    type Checking = ();
+
+    fn connect(&self) {}
+
+    fn poll_connect(&self, _connecting: &mut (), _moment: Moment) -> Poll<Result<Database, Error>> {
+        Poll::Ready(open(self.alloc))
+    }
+
+    fn is_valid(&self, _database: &mut Database) {}
+
+    /// A database is valid that answers a query.
+    fn poll_valid(
+        &self,
+        database: &mut Database,
+        _checking: &mut (),
+        _moment: Moment,
+    ) -> Poll<Result<(), Error>> {
+        Poll::Ready(database.query_row("SELECT 1", &[]).map(|_| ()))
+    }
+
+    /// A database is broken whose transaction was left open.
+    fn has_broken(&self, database: &mut Database) -> bool {
+        !database.is_autocommit()
+    }
+}
