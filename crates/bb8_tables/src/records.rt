@@ -158,6 +158,7 @@ impl<C: Drop> Records<C> {
     }
 
     /// Takes out the idle connection that is first, for whoever holds it from now on.
+    #[inline]
     pub fn take(
         &mut self,
         strategy: QueueStrategy,
