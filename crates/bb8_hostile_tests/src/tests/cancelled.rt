@@ -4,7 +4,8 @@ ghost use Rattle.bb8.specs.Parts.{IsBlankOf};
 ghost use Rattle.bb8.specs.Settings.{default_settings};
 
 use super::{Runtime, fill, is_at_rest};
-use bb8::{Builder, Building, Memory, PoolParts};
+use bb8::driver::Driver;
+use bb8::{Builder, Building, Clock, Memory, PoolParts};
 use bb8_hostile::{
     Harness, HostileClock, HostileCustomizer, HostileManager, HostilePool, HostileSink,
 };
@@ -29,6 +30,8 @@ enum Kind {
     OwnedGet,
     Building,
     Dedicated,
+    /// The turns of a driver, which is dropped however it is let go.
+    Driver,
 }
 
 /// How a future is let go.
@@ -177,6 +180,38 @@ fn lets_a_dedicated_go<R: Runtime, L: PoolParts>(
     ended
 }
 
+/// A driver makes so many turns, of which the first claims both approvals, and is dropped: the approvals that it held are given back, so there
+/// is room for all that it did not open. It ends as nothing is left to open.
+fn lets_a_driver_go<R: Runtime, L: PoolParts>(
+    rt: R,
+    pool: &HostilePool<R, L>,
+    harness: &Harness,
+    turns: u32,
+) -> Result<Ended, Memory> {
+    let clock = harness.clock()?;
+    let mut driver = Driver::new(pool)?;
+    let mut going = true;
+    for _ in 0..turns {
+        if going {
+            going = driver.turn(clock.now()).polled > 0;
+        }
+    }
+    drop(driver);
+    assert!(&rt; is_at_rest(pool, harness));
+    let connections = pool.state().connections;
+    let room = if turns == 0 {
+        0
+    } else {
+        4u32.saturating_sub(connections)
+    };
+    assert_eq!(&rt; fill(pool, harness, 100), Some(room));
+    Ok(match going {
+        true => Ended::Early,
+        false if connections == 4 => Ended::Served,
+        false => Ended::Failed,
+    })
+}
+
 /// A building is polled so often and let go. Where it gave its pool, that has its first connections and room for the two others, so none of
 /// its approvals is open; else all is gone, the pool with it.
 fn lets_a_building_go<R: Runtime, L: PoolParts>(
@@ -245,6 +280,10 @@ fn lets_go<R: Runtime, L: PoolParts>(
             let pool: HostilePool<R, L> = begin(rt, blank, &harness)?;
             lets_a_dedicated_go(rt, &task, &pool, &harness, polls, how)
         }
+        Kind::Driver => {
+            let pool: HostilePool<R, L> = begin(rt, blank, &harness)?;
+            lets_a_driver_go(rt, &pool, &harness, polls)?
+        }
         Kind::Building => lets_a_building_go::<R, L>(rt, blank, &task, &harness, polls, how)?,
     };
     assert!(&rt; harness.gauges.are_empty());
@@ -270,7 +309,13 @@ fn comes_to_its_end<R: Runtime>(
 
 #[test]
 fn nothing_is_left_after_any_number_of_polls(rt: HostRuntime) -> Result<(), Fail> {
-    for kind in [Kind::Get, Kind::OwnedGet, Kind::Building, Kind::Dedicated] {
+    for kind in [
+        Kind::Get,
+        Kind::OwnedGet,
+        Kind::Building,
+        Kind::Dedicated,
+        Kind::Driver,
+    ] {
         let mut ends = Ends {
             served: 0,
             failed: 0,
