@@ -346,6 +346,7 @@ fn polls_at_random<R: Runtime, L: PoolParts>(rt: R, blank: Blank, seed: u64) -> 
         .connection_customizer(harness.customizer()?)
         .build_unchecked(harness.manager()?, harness.clock()?, rt, blank)?;
     assert_eq!(&rt; fill(&pool, &harness, 100), Some(MAX_SIZE));
+    let clock = harness.clock()?;
     let mut field = Field {
         pool: &pool,
         harness: &harness,
@@ -355,7 +356,7 @@ fn polls_at_random<R: Runtime, L: PoolParts>(rt: R, blank: Blank, seed: u64) -> 
         guards: Vec::new(alloc),
         owned_guards: Vec::new(alloc),
         drivers: Vec::new(alloc),
-        clock: harness.clock()?,
+        clock,
         told: Told::new(),
     };
     for at in 0..STEPS {
