@@ -3,11 +3,10 @@ ghost use Rattle.bb8.specs.Parts.{IsBlankOf};
 ghost use Rattle.bb8.specs.Settings.{default_settings};
 
 use super::{Runtime, fill, is_at_rest};
-use bb8::driver::Driver;
 use bb8::get::GetFuture;
 use bb8::owned::GetOwnedFuture;
 use bb8::{
-    Builder, Clock, DedicatedFuture, OwnedConnection, PoolParts, PooledConnection, RunError, State,
+    Builder, DedicatedFuture, OwnedConnection, PoolParts, PooledConnection, RunError, State,
 };
 use bb8_hostile::{
     Harness, HostileClock, HostileCustomizer, HostileManager, HostilePool, HostileSink, Refused,
@@ -23,10 +22,10 @@ use std::test::Fail;
 use std::time::Duration;
 
 /// How many pools are tried, each with answers of its own.
-const POOLS: u64 = 20;
+const POOLS: u64 = 200;
 
 /// How many steps each pool makes.
-const STEPS: u64 = 2000;
+const STEPS: u64 = 150;
 
 /// The `max_size` of each pool.
 const MAX_SIZE: u32 = 6;
@@ -82,8 +81,6 @@ type Dedicated<'a, R, L> = DedicatedFuture<
     L,
 >;
 
-type Turner<R, L> = Driver<HostileManager, HostileSink, HostileCustomizer, HostileClock, R, L>;
-
 /// A get, and whether it was polled.
 #[derive(Drop)]
 struct Begun<F: Drop> {
@@ -137,8 +134,6 @@ struct Field<'a, R: Runtime, L: PoolParts> {
     openings: Vec<Dedicated<'a, R, L>>,
     guards: Vec<Guard<'a, R, L>>,
     owned_guards: Vec<OwnedGuard<R, L>>,
-    drivers: Vec<Turner<R, L>>,
-    clock: HostileClock,
     told: Told,
 }
 
@@ -250,24 +245,6 @@ fn poll_opening<R: Runtime, L: PoolParts>(task: &MockTask, field: &mut Field<'_,
     }
 }
 
-/// Makes a turn of a driver, or a driver where there is none; one in eight is dropped after its turn.
-fn turn_driver<R: Runtime, L: PoolParts>(field: &mut Field<'_, R, L>) {
-    let source = &field.harness.source;
-    let Some(mut driver) = take_one(&mut field.drivers, source) else {
-        if let Ok(driver) = Driver::new(field.pool) {
-            let _ = field.drivers.push(driver);
-        }
-        return;
-    };
-    let turn = driver.turn(field.clock.now());
-    if turn.ended {
-        field.told.wrong = field.told.wrong.saturating_add(1);
-    }
-    if source.below(8) > 0 {
-        let _ = field.drivers.push(driver);
-    }
-}
-
 /// Lets a get go, or the opening of a connection.
 fn let_go<R: Runtime, L: PoolParts>(field: &mut Field<'_, R, L>) {
     let source = &field.harness.source;
@@ -296,7 +273,7 @@ fn let_go<R: Runtime, L: PoolParts>(field: &mut Field<'_, R, L>) {
 /// One step, which the source picks.
 fn step<R: Runtime, L: PoolParts>(task: &MockTask, field: &mut Field<'_, R, L>) {
     let source = &field.harness.source;
-    match source.below(20) {
+    match source.below(16) {
         0..=1 => begin_get(field, false),
         2..=3 => begin_get(field, true),
         4..=6 => poll_get(task, field),
@@ -305,7 +282,6 @@ fn step<R: Runtime, L: PoolParts>(task: &MockTask, field: &mut Field<'_, R, L>) 
         12 => drop(take_one(&mut field.guards, source)),
         13 => drop(take_one(&mut field.owned_guards, source)),
         14 => let_go(field),
-        15..=18 => turn_driver(field),
         _ => {
             let _ = field.pool.add(field.harness.connection());
         }
@@ -346,7 +322,6 @@ fn polls_at_random<R: Runtime, L: PoolParts>(rt: R, blank: Blank, seed: u64) -> 
         .connection_customizer(harness.customizer()?)
         .build_unchecked(harness.manager()?, harness.clock()?, rt, blank)?;
     assert_eq!(&rt; fill(&pool, &harness, 100), Some(MAX_SIZE));
-    let clock = harness.clock()?;
     let mut field = Field {
         pool: &pool,
         harness: &harness,
@@ -355,8 +330,6 @@ fn polls_at_random<R: Runtime, L: PoolParts>(rt: R, blank: Blank, seed: u64) -> 
         openings: Vec::new(alloc),
         guards: Vec::new(alloc),
         owned_guards: Vec::new(alloc),
-        drivers: Vec::new(alloc),
-        clock,
         told: Told::new(),
     };
     for at in 0..STEPS {
