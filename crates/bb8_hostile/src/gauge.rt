@@ -1,0 +1,83 @@
+//! Counts of what was made and what was dropped.
+
+use bb8::Memory;
+use std::alloc::Global;
+use std::sync::Arc;
+use std::sync::atomic::{AtomicU64, Ordering};
+
+/// The two numbers of a gauge.
+#[derive(Drop)]
+struct Counts {
+    made: AtomicU64,
+    dropped: AtomicU64,
+}
+
+/// Counts its tokens, as they are made and as they are dropped.
+#[derive(Drop)]
+pub struct Gauge {
+    counts: Arc<Counts, Global>,
+}
+
+/// One that its gauge counts until it is dropped.
+pub struct Token {
+    counts: Option<Arc<Counts, Global>>,
+}
+
+impl Gauge {
+    /// A gauge without tokens. It fails where memory is refused.
+    pub fn new(alloc: Global) -> Result<Gauge, Memory> {
+        let counts = Arc::new(
+            alloc,
+            Counts {
+                made: AtomicU64::new(0),
+                dropped: AtomicU64::new(0),
+            },
+        )?;
+        Ok(Gauge { counts })
+    }
+
+    /// The same gauge once more. It fails where there are more copies and tokens than can be counted.
+    pub fn try_clone(&self) -> Result<Gauge, Memory> {
+        match Arc::try_clone(&self.counts) {
+            Ok(counts) => Ok(Gauge { counts }),
+            Err(_) => Err(Memory),
+        }
+    }
+
+    /// One more token. Where there are more than can be counted it is counted neither as made nor as dropped.
+    pub fn token(&self) -> Token {
+        match Arc::try_clone(&self.counts) {
+            Ok(counts) => {
+                counts.made.fetch_add(1, Ordering::SeqCst);
+                Token {
+                    counts: Some(counts),
+                }
+            }
+            Err(_) => Token { counts: None },
+        }
+    }
+
+    /// How many tokens were made.
+    pub fn made(&self) -> u64 {
+        self.counts.made.load(Ordering::SeqCst)
+    }
+
+    /// How many tokens were dropped.
+    pub fn dropped(&self) -> u64 {
+        self.counts.dropped.load(Ordering::SeqCst)
+    }
+
+    /// How many tokens there are, in a thread that alone makes and drops them. None where more were dropped than made.
+    pub fn alive(&self) -> Option<u64> {
+        self.made().checked_sub(self.dropped())
+    }
+}
+
+impl Drop for Token {
+    fn drop(self) {
+        let Token { counts } = self;
+        if let Some(counts) = counts {
+            counts.dropped.fetch_add(1, Ordering::SeqCst);
+        }
+    }
+}

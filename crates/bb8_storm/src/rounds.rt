@@ -1,0 +1,155 @@
+//! What each thread does with the pool.
+
+use crate::told::Told;
+use bb8::{Memory, PoolCalls, PoolParts, RunError};
+use bb8_hostile::{Counted, Harness, HostilePool, Refused, Source};
+use futures::Future;
+use futures::task::Poll;
+use futures::test::MockTask;
+use std::ops::DerefMut;
+use std::random::RandomSource;
+use std::sync::Wait;
+use std::thread::{self, Threads, map_indices};
+
+/// How many threads there are.
+pub const THREADS: usize = 4;
+
+/// How many polls a get is given at most.
+const POLLS: u64 = 16;
+
+/// What the program asks of its runtime.
+pub trait Runtime: Wait + RandomSource + AllocGlobal + Copy + Send + Sync + Drop + 'static {}
+
+impl<R: Wait + RandomSource + AllocGlobal + Copy + Send + Sync + Drop + 'static> Runtime for R {}
+
+/// A phase over the pool.
+#[derive(Drop)]
+pub struct Storm<'a, R: Runtime, L: PoolParts> {
+    pub pool: &'a HostilePool<R, L>,
+    pub harness: &'a Harness,
+    pub rt: R,
+    pub phase: u64,
+    pub rounds: u64,
+}
+
+/// What a thread does.
+pub trait Job {
+    /// All rounds of the thread of this number.
+    fn run(&self, thread: usize) -> Told;
+
+    /// One round.
+    fn round(&self, task: &MockTask, source: &Source, told: &mut Told);
+
+    /// A get, which is polled a few times, and dropped where it was not answered.
+    fn get(&self, task: &MockTask, source: &Source, told: &mut Told);
+
+    /// A get with a handle of its own, of a handle that is dropped meanwhile, polled and dropped in the same way.
+    fn get_owned(&self, task: &MockTask, source: &Source, told: &mut Told);
+
+    /// Asks for the figures, and compares them with their bounds.
+    fn ask(&self, told: &mut Told);
+}
+
+/// Polls a get so often: whether it was answered. A connection that it is served with is held, and given back.
+fn is_answered<
+    G: DerefMut<Target = Counted> + Drop,
+    F: Future<Output = Result<G, RunError<Refused>>>,
+>(task: &MockTask, harness: &Harness, get: &mut F, polls: u64, told: &mut Told) -> bool
+    requires { (f : F) → F.can_poll f }
+{
+    for _ in 0..polls {
+        match task.poll(get) {
+            Poll::Pending => thread::yield_now(),
+            Poll::Ready(Ok(mut guard)) => {
+                told.served = told.served.saturating_add(1);
+                if !guard.hold(&harness.gauges.holdings) {
+                    told.blame();
+                }
+                thread::yield_now();
+                return true;
+            }
+            Poll::Ready(Err(RunError::TimedOut)) => {
+                told.timed_out = told.timed_out.saturating_add(1);
+                return true;
+            }
+            Poll::Ready(Err(_)) => {
+                told.blame();
+                return true;
+            }
+        }
+    }
+    false
+}
+
+impl<R: Runtime, L: PoolParts> Job for Storm<'_, R, L> {
+    fn run(&self, thread: usize) -> Told {
+        let mut told = Told::new();
+        let seed = self
+            .phase
+            .saturating_mul(1000)
+            .saturating_add(thread as u64);
+        let Ok(source) = Source::new(self.rt.alloc(), seed) else {
+            told.blame();
+            return told;
+        };
+        let Ok(task) = MockTask::new(&self.rt) else {
+            told.blame();
+            return told;
+        };
+        for _ in 0..self.rounds {
+            self.round(&task, &source, &mut told);
+        }
+        told
+    }
+
+    fn round(&self, task: &MockTask, source: &Source, told: &mut Told) {
+        match source.below(8) {
+            0..=2 => self.get(task, source, told),
+            3..=5 => self.get_owned(task, source, told),
+            6 => self.ask(told),
+            _ => {}
+        }
+        for _ in 0..2u8 {
+            let _ = PoolCalls::add(self.pool, self.harness.connection());
+        }
+    }
+
+    fn get(&self, task: &MockTask, source: &Source, told: &mut Told) {
+        let mut get = PoolCalls::get(self.pool);
+        let polls = source.below(POLLS);
+        let answered = is_answered(task, self.harness, &mut get, polls, told);
+        drop(get);
+        told.note(polls, answered);
+    }
+
+    fn get_owned(&self, task: &MockTask, source: &Source, told: &mut Told) {
+        let Ok(clone) = PoolCalls::try_clone(self.pool) else {
+            told.blame();
+            return;
+        };
+        let mut get = PoolCalls::get_owned(&clone);
+        drop(clone);
+        let polls = source.below(POLLS);
+        let answered = is_answered(task, self.harness, &mut get, polls, told);
+        drop(get);
+        told.note(polls, answered);
+    }
+
+    fn ask(&self, told: &mut Told) {
+        let state = PoolCalls::state(self.pool);
+        if state.idle_connections > state.connections || state.connections > 64 {
+            told.blame();
+        }
+    }
+}
+
+/// Runs a job in the threads: what each was told.
+pub fn in_threads<R: Threads + AllocGlobal + Sync, J: Job + Sync>(
+    rt: &R,
+    job: &J,
+) -> Result<Vec<Told>, Memory> {
+    match map_indices(rt, rt.alloc(), THREADS, &|thread| job.run(thread)) {
+        Ok(told) => Ok(told),
+        Err(_) => Err(Memory),
+    }
+}
