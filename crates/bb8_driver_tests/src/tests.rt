@@ -281,8 +281,7 @@ fn built<R: Runtime, L: PoolParts>(
     let server = Server {
         board: share(&board)?,
     };
-    let Poll::Ready(Ok(pool)) =
-        task.poll(&mut builder.build(server, clock.try_clone()?, rt, blank))
+    let Poll::Ready(Ok(pool)) = task.poll(&mut builder.build(server, clock.try_clone()?, rt, blank))
     else {
         panic!(&rt; "the pool was not built");
     };

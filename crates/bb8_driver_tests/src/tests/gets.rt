@@ -3,7 +3,7 @@ ghost use Rattle.std.specs.Prelude.{Some};
 ghost use Rattle.bb8.specs.Parts.{IsBlankOf};
 ghost use Rattle.bb8.specs.Settings.{default_settings};
 
-use super::{Board, Case, Runtime, ServerPool, builder, built, polled, sizes, unchecked};
+use super::{Board, Case, Runtime, builder, built, polled, sizes, unchecked};
 use bb8::{Moment, PoolParts};
 use futures::task::Poll;
 use std::marker::Brand;

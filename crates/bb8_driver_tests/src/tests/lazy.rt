@@ -4,8 +4,8 @@ ghost use Rattle.bb8.specs.Parts.{IsBlankOf};
 ghost use Rattle.bb8.specs.Settings.{default_settings};
 
 use super::{
-    ALWAYS, Board, Case, Connection, FAILS, MILLI, Runtime, SECOND, builder, built, polled, share,
-    turn_at, unchecked,
+    Board, Case, Connection, FAILS, MILLI, Runtime, SECOND, builder, built, polled, share, turn_at,
+    unchecked,
 };
 use bb8::{Moment, PoolParts, RunError};
 use futures::task::Poll;

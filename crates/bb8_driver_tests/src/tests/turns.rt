@@ -18,7 +18,9 @@ fn opens_and_ends<R: Runtime, L: PoolParts>(rt: R, blank: Blank) -> Result<(), F
     let board = Board::new(rt.alloc())?;
     let builder = builder(&board)?.max_size(5).min_idle(Some(2));
     let Case {
-        pool, mut driver, ..
+        pool,
+        mut driver,
+        ..
     } = unchecked::<R, L>(rt, blank, board, builder)?;
     assert_eq!(&rt; driver.turn(Moment(0)), polled(2));
     assert_eq!(&rt; sizes(&pool), (2, 2));
