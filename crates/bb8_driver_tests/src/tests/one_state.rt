@@ -127,30 +127,14 @@ fn lends_an_owned<R: Runtime, L: PoolParts>(
 }
 
 /// All that two handles, their gets and guards and a driver do is done to one state; the driver ends with the last of them.
-fn shows_one_state<R: Runtime, L: PoolParts>(rt: R, blank: Blank) -> Result<(), Fail>
-    requires { IsBlankOf blank (record default_settings {
-      max_size = 2;
-      retry_connection = false;
-      idle_timeout = Some 1_000_000_000;
-      max_lifetime = None;
-      reaper_rate = 1_000_000_000;
-    }) L.name L.parts L.settings }
-{
-    let second = Duration::from_secs(1);
-    let board = Board::new(rt.alloc())?;
-    let builder = builder(&board)?
-        .max_size(2)
-        .retry_connection(false)
-        .idle_timeout(Some(second))
-        .max_lifetime(None)
-        .reaper_rate(second);
+fn goes_on<R: Runtime, L: PoolParts>(rt: R, case: Case<R, L>) -> Result<(), Fail> {
     let Case {
         pool,
         mut driver,
         clock,
         board,
         task,
-    } = unchecked::<R, L>(rt, blank, board, builder)?;
+    } = case;
     let Ok(other) = pool.try_clone() else {
         panic!(&rt; "no clone");
     };
@@ -174,6 +158,27 @@ fn shows_one_state<R: Runtime, L: PoolParts>(rt: R, blank: Blank) -> Result<(), 
     drop(guard);
     assert_eq!(&rt; driver.turn(Moment(SECOND)), ENDED);
     Ok(())
+}
+
+/// The same over a pool of two, whose connections may idle for a second, and whose openings are not tried again.
+fn shows_one_state<R: Runtime, L: PoolParts>(rt: R, blank: Blank) -> Result<(), Fail>
+    requires { IsBlankOf blank (record default_settings {
+      max_size = 2;
+      retry_connection = false;
+      idle_timeout = Some 1_000_000_000;
+      max_lifetime = None;
+      reaper_rate = 1_000_000_000;
+    }) L.name L.parts L.settings }
+{
+    let second = Duration::from_secs(1);
+    let board = Board::new(rt.alloc())?;
+    let builder = builder(&board)?
+        .max_size(2)
+        .retry_connection(false)
+        .idle_timeout(Some(second))
+        .max_lifetime(None)
+        .reaper_rate(second);
+    goes_on(rt, unchecked::<R, L>(rt, blank, board, builder)?)
 }
 
 #[test]
