@@ -1,0 +1,217 @@
+//! Runs of turns, in the caller's thread and in one of their own.
+ghost use Rattle.std.specs.Prelude.{Some};
+ghost use Rattle.bb8.specs.Parts.{IsBlankOf, unchecked_of};
+ghost use Rattle.bb8.specs.Settings.{default_settings};
+
+use super::{Board, Case, Refused, Runtime, builder, sizes, unchecked};
+use bb8::{
+    Builder, Driven, Driver, Gate, ManageConnection, Memory, Moment, NopCustomizer, NopErrorSink,
+    Pool, PoolParts, SetClock, drive,
+};
+use futures::task::Poll;
+use std::alloc::Global;
+use std::marker::Brand;
+use std::sync::Arc;
+use std::sync::atomic::{AtomicU64, Ordering};
+use std::sync::ledger::Blank;
+use std::test::Fail;
+use std::thread::{self, Threads};
+
+/// Pauses so often.
+#[derive(Drop)]
+struct Pauses {
+    left: u64,
+}
+
+impl Gate for Pauses {
+    fn pause(&mut self) -> bool {
+        if self.left == 0 {
+            return false;
+        }
+        self.left -= 1;
+        true
+    }
+}
+
+/// A run in a thread of its own, whose gate does not pause: one turn, which opens both first connections, or ends as the pool was dropped.
+fn drives<R: Runtime + Threads, L: PoolParts + 'static>(
+    rt: R,
+    blank: Blank,
+    drops: bool,
+) -> Result<Driven, Fail>
+    requires { IsBlankOf blank (record default_settings { max_size = 5; min_idle = Some 2 }) L.name
+        L.parts L.settings }
+{
+    let board = Board::new(rt.alloc())?;
+    let builder = builder(&board)?.max_size(5).min_idle(Some(2));
+    let Case { pool, driver, .. } = unchecked::<R, L>(rt, blank, board, builder)?;
+    let kept = if drops {
+        drop(pool);
+        None
+    } else {
+        Some(pool)
+    };
+    let Ok(thread) = drive(driver, Pauses { left: 0 }) else {
+        panic!(&rt; "no thread");
+    };
+    let driven = thread.join(&rt);
+    if let Some(pool) = &kept {
+        assert_eq!(&rt; sizes(pool), (2, 2));
+    }
+    Ok(driven)
+}
+
+#[test]
+fn driven_until_its_gate_stops(rt: HostRuntime) -> Result<(), Fail> {
+    let driven = drives::<HostRuntime, Brand>(rt, Blank::new(5), false)?;
+    let wanted = Driven {
+        turns: 1,
+        ended: false,
+    };
+    assert_eq!(rt; driven, wanted);
+    Ok(())
+}
+
+#[test]
+fn driven_until_its_pool_ends(rt: HostRuntime) -> Result<(), Fail> {
+    let driven = drives::<HostRuntime, Brand>(rt, Blank::new(5), true)?;
+    let wanted = Driven {
+        turns: 1,
+        ended: true,
+    };
+    assert_eq!(rt; driven, wanted);
+    Ok(())
+}
+
+/// A run in the caller's thread, whose gate pauses twice.
+fn runs_thrice<R: Runtime, L: PoolParts>(rt: R, blank: Blank) -> Result<(), Fail>
+    requires { IsBlankOf blank (record default_settings { max_size = 5; min_idle = Some 2 }) L.name
+        L.parts L.settings }
+{
+    let board = Board::new(rt.alloc())?;
+    let builder = builder(&board)?.max_size(5).min_idle(Some(2));
+    let Case { pool, driver, .. } = unchecked::<R, L>(rt, blank, board, builder)?;
+    let wanted = Driven {
+        turns: 3,
+        ended: false,
+    };
+    assert_eq!(&rt; driver.run(Pauses { left: 2 }), wanted);
+    assert_eq!(&rt; sizes(&pool), (2, 2));
+    Ok(())
+}
+
+#[test]
+fn runs_a_turn_after_each_pause(rt: HostRuntime) -> Result<(), Fail> {
+    runs_thrice::<HostRuntime, Brand>(rt, Blank::new(5))
+}
+
+/// No opening was polled yet.
+const CLOSED: u64 = 0;
+
+/// A poll of an opening waits.
+const WAITING: u64 = 1;
+
+/// The other thread has its answer.
+const ANSWERED: u64 = 2;
+
+/// The poll went on, as it saw the answer.
+const PASSED: u64 = 3;
+
+/// How often a thread looks before it gives up.
+const LOOKS: u32 = 10_000_000;
+
+/// Whether a stage is reached within so many looks.
+fn comes_to(stage: &AtomicU64, wanted: u64) -> bool {
+    for _ in 0..LOOKS {
+        if stage.load(Ordering::SeqCst) == wanted {
+            return true;
+        }
+        thread::yield_now();
+    }
+    false
+}
+
+/// Whose one opening waits, at its poll, until another thread has got an answer of the pool, and fails where it waits too long.
+#[derive(Drop)]
+struct SlowServer {
+    stage: Arc<AtomicU64, Global>,
+}
+
+impl ManageConnection for SlowServer {
+    type Connection = u64;
+
+    type Error = Refused;
+
+    type Connecting = ();
+
+    type Checking = ();
+
+    fn connect(&self) {}
+
+    fn poll_connect(&self, _connecting: &mut (), _moment: Moment) -> Poll<Result<u64, Refused>> {
+        self.stage.store(WAITING, Ordering::SeqCst);
+        if !comes_to(&self.stage, ANSWERED) {
+            return Poll::Ready(Err(Refused));
+        }
+        self.stage.store(PASSED, Ordering::SeqCst);
+        Poll::Ready(Ok(7))
+    }
+
+    fn is_valid(&self, _connection: &mut u64) {}
+
+    fn poll_valid(
+        &self,
+        _connection: &mut u64,
+        _checking: &mut (),
+        _moment: Moment,
+    ) -> Poll<Result<(), Refused>> {
+        Poll::Ready(Ok(()))
+    }
+
+    fn has_broken(&self, _connection: &mut u64) -> bool {
+        false
+    }
+}
+
+/// A pool of such a server's one connection.
+type SlowPool<R, L> = Pool<SlowServer, NopErrorSink, NopCustomizer, SetClock, R, L>;
+
+/// A driver's thread polls an opening, which goes on only once `state` was answered in the test's own thread.
+fn answers_meanwhile<R: Runtime + Threads, L: PoolParts + 'static>(
+    rt: R,
+    blank: Blank,
+) -> Result<(), Memory>
+    requires { IsBlankOf blank (record (unchecked_of 1) { min_idle = Some 1 }) L.name L.parts
+        L.settings }
+{
+    let clock = SetClock::new(rt.alloc(), Moment(0))?;
+    let stage = Arc::new(rt.alloc(), AtomicU64::new(CLOSED))?;
+    let Ok(copy) = Arc::try_clone(&stage) else {
+        return Err(Memory);
+    };
+    let pool: SlowPool<R, L> = Builder::new()
+        .max_size(1)
+        .min_idle(Some(1))
+        .test_on_check_out(false)
+        .build_unchecked(SlowServer { stage: copy }, clock, rt, blank)?;
+    let Ok(thread) = drive(Driver::new(&pool)?, Pauses { left: 0 }) else {
+        panic!(&rt; "no thread");
+    };
+    assert!(&rt; comes_to(&stage, WAITING));
+    assert_eq!(&rt; pool.state().connections, 0);
+    stage.store(ANSWERED, Ordering::SeqCst);
+    let wanted = Driven {
+        turns: 1,
+        ended: false,
+    };
+    assert_eq!(&rt; thread.join(&rt), wanted);
+    assert_eq!(&rt; stage.load(Ordering::SeqCst), PASSED);
+    assert_eq!(&rt; pool.state().connections, 1);
+    Ok(())
+}
+
+#[test]
+fn gate_two_threads(rt: HostRuntime) -> Result<(), Fail> {
+    answers_meanwhile::<HostRuntime, Brand>(rt, Blank::new(1))?;
+    Ok(())
+}
