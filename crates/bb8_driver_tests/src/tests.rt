@@ -1,7 +1,7 @@
 //! What the tests share: a server that is set as a test goes on, its pool with a driver and a clock, and figures of the pool.
-ghost use Rattle.std.specs.Prelude.{◌≡◌, true};
+ghost use Rattle.std.specs.Prelude.{◌≡◌, true, IfOk};
 ghost use Rattle.bb8.specs.Parts.{IsBlankOf};
-ghost use Rattle.bb8.specs.Settings.{is_lawful};
+ghost use Rattle.bb8.specs.Settings.{default_settings, is_lawful};
 
 mod adding;
 mod closings;
@@ -234,7 +234,9 @@ struct Case<R: Runtime, L: PoolParts> {
 }
 
 /// A builder with the defaults, whose pools' errors are counted on the board.
-fn builder(board: &Arc<Board, Global>) -> Result<ServerBuilder, Memory> {
+fn builder(board: &Arc<Board, Global>) -> Result<ServerBuilder, Memory>
+    ensures { IfOk result (λ builder. builder.settings ≡ default_settings) }
+{
     Ok(Builder::new().error_sink(Errors {
         board: share(board)?,
     }))
