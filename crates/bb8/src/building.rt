@@ -4,7 +4,7 @@ ghost use Rattle.bb8_types.specs.Settings.{is_lawful};
 ghost use Rattle.bb8_locked.specs.Parts.{IsBlankOf};
 
 use crate::Builder;
-use crate::pool::Pool;
+use crate::pool::{Cancel, Pool};
 use bb8_core::api::{Clock, CustomizeConnection, ErrorSink, ManageConnection, Memory, RunError};
 use bb8_core::internals::Grant;
 use bb8_locked::{NewPool, Parts, begin_pool};
@@ -252,6 +252,23 @@ impl<
     /// Lets the building go, as a drop does, for which it may wait for the lock: the approvals of its openings are given back, and its pool
     /// is dropped. Our own.
     pub fn cancel(self)
+        ensures { CancelsBuilding Z.CustomizeConnection S.sinks K.tells self }
+    {
+        Cancel::cancel(self)
+    }
+}
+
+impl<
+    M: ManageConnection,
+    S: ErrorSink<M::Error>,
+    Z: CustomizeConnection<M::Connection, M::Error>,
+    K: Clock,
+    R: Wait + Send + Sync + Drop + 'static,
+    L: Parts,
+> Cancel for Building<M, S, Z, K, R, L> {
+    ghost use Rattle.bb8.specs.Buildings.{CancelsBuilding};
+
+    fn cancel(self)
         ensures { CancelsBuilding Z.CustomizeConnection S.sinks K.tells self }
     {
         let Building { site } = self;

@@ -3,7 +3,7 @@ ghost use Rattle.std.specs.Prelude.{◌≡◌};
 ghost use Rattle.std.specs.Arc.{arc_value};
 ghost use Rattle.bb8_tasks.specs.Dedicating.{fresh};
 
-use crate::pool::Pool;
+use crate::pool::{Cancel, Pool};
 use bb8_core::api::{Clock, CustomizeConnection, ErrorSink, ManageConnection, Moment};
 use bb8_locked::Parts;
 use bb8_shared::{Locks, Opens, Shared};
@@ -49,6 +49,34 @@ impl<
         ensures new { opening_of result ≡ fresh }
         ensures pool { result.shared.now ≡ arc_value self.now.shared }
     {
+        self.start_dedicated()
+    }
+}
+
+/// What `Pool::dedicated_connection` does, as a method of an impl, so that such methods can call it.
+pub(crate) trait StartDedicated {
+    type Dedicated;
+
+    fn start_dedicated(self) -> Self::Dedicated;
+}
+
+impl<
+    'a,
+    M: ManageConnection,
+    S: ErrorSink<M::Error>,
+    Z: CustomizeConnection<M::Connection, M::Error>,
+    K: Clock,
+    R: Locks,
+    L: Parts,
+> StartDedicated for &'a Pool<M, S, Z, K, R, L> {
+    ghost use Rattle.bb8.specs.Dedicated.{opening_of};
+
+    type Dedicated = DedicatedFuture<'a, M, S, Z, K, R, L>;
+
+    fn start_dedicated(self) -> DedicatedFuture<'a, M, S, Z, K, R, L>
+        ensures new { opening_of result ≡ fresh }
+        ensures pool { result.shared.now ≡ arc_value self.now.shared }
+    {
         let Dedicated { latest, stage } = Dedicated::new();
         DedicatedFuture {
             shared: &*self.shared,
@@ -70,6 +98,23 @@ impl<
 
     /// Lets the opening go, as a drop does: what it holds is dropped. Our own.
     pub fn cancel(self)
+        ensures { CancelsDedicated Z.CustomizeConnection S.sinks K.tells self.entry }
+    {
+        Cancel::cancel(self)
+    }
+}
+
+impl<
+    M: ManageConnection,
+    S: ErrorSink<M::Error>,
+    Z: CustomizeConnection<M::Connection, M::Error>,
+    K: Clock,
+    R: Locks,
+    L: Parts,
+> Cancel for DedicatedFuture<'_, M, S, Z, K, R, L> {
+    ghost use Rattle.bb8.specs.Dedicated.{CancelsDedicated};
+
+    fn cancel(self)
         ensures { CancelsDedicated Z.CustomizeConnection S.sinks K.tells self.entry }
     {
         let DedicatedFuture {

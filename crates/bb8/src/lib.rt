@@ -190,7 +190,7 @@
 //! }
 //! ```
 //!
-//! The methods of an impl call the pool by `PoolCalls`; elsewhere it is `pool.get()`. A program that starts its threads itself, or
+//! The methods of an impl call the pool by `PoolCalls`, and cancel by `Cancel`; elsewhere it is `pool.get()` and `get.cancel()`. A program that starts its threads itself, or
 //! none, has a function over the runtime and the parts `L`, of which there are `max_size`, in place of the service. The parts also say
 //! which settings the pool has: `unchecked_of` gives the default ones, but for the size and with no check.
 //!
@@ -238,5 +238,5 @@ pub use driver::{Driven, Driver, Gate, NoThread, Turn, drive};
 pub use guards::Guards;
 pub use machine::MachineClock;
 pub use owned::OwnedConnection;
-pub use pool::{Pool, PoolCalls, PooledConnection};
+pub use pool::{Cancel, Pool, PoolCalls, PooledConnection};
 pub use serving::Service;

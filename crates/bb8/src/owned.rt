@@ -3,7 +3,7 @@ ghost use Rattle.std.specs.Prelude.{◌≡◌};
 ghost use Rattle.std.specs.Arc.{arc_value};
 
 use crate::handles::{Holding, Joins};
-use crate::pool::{Pool, PoolCalls};
+use crate::pool::{Cancel, Pool, PoolCalls};
 use bb8_core::api::{Clock, CustomizeConnection, ErrorSink, ManageConnection, RunError};
 use bb8_gets::{Calls, GetState, Taken};
 use bb8_locked::{Part, Parts};
@@ -298,6 +298,23 @@ impl<
     /// Lets the get go, as a drop does, for which it may wait for the lock: one that began and was not answered is given up as cancelled,
     /// and its handle leaves. Our own.
     pub fn cancel(self)
+        ensures { CancelsOwning S.sinks K.tells self.owning }
+    {
+        Cancel::cancel(self)
+    }
+}
+
+impl<
+    M: ManageConnection,
+    S: ErrorSink<M::Error>,
+    Z: CustomizeConnection<M::Connection, M::Error>,
+    K: Clock,
+    R: Wait + Send + Sync + Drop + 'static,
+    L: Parts,
+> Cancel for GetOwnedFuture<M, S, Z, K, R, L> {
+    ghost use Rattle.bb8.specs.Owned.{CancelsOwning};
+
+    fn cancel(self)
         ensures { CancelsOwning S.sinks K.tells self.owning }
     {
         let GetOwnedFuture { owning } = self;

@@ -9,6 +9,7 @@ ghost use Rattle.bb8_shared.specs.States.{IsShown};
 
 use crate::Builder;
 use crate::building::{MakesPool, Plan};
+use crate::dedicated::{DedicatedFuture, StartDedicated};
 use crate::get::{GetFuture, StartGet};
 use crate::handles::{Holding, Joins};
 use crate::owned::{GetOwnedFuture, StartOwned};
@@ -146,11 +147,17 @@ pub trait PoolCalls {
     /// The future of a get with a handle of its own. Our own.
     type GetOwned;
 
+    /// The future of a dedicated connection. Our own.
+    type Dedicated;
+
     /// As `Pool::get`. Our own.
     fn get(self) -> Self::Get;
 
     /// As `Pool::get_owned`. Our own.
     fn get_owned(self) -> Self::GetOwned;
+
+    /// As `Pool::dedicated_connection`. Our own.
+    fn dedicated_connection(self) -> Self::Dedicated;
 
     /// As `Pool::add`. Our own.
     fn add(self, conn: Self::Connection) -> Result<(), AddError<Self::Connection>>;
@@ -162,6 +169,13 @@ pub trait PoolCalls {
     fn try_clone(self) -> Result<Self::Handle, RunError<Self::Error>>;
 }
 
+/// The cancelling of a future, as a method of an impl: such code writes `Cancel::cancel(get)` in place of `get.cancel()`, as it does
+/// with `PoolCalls`. Our own.
+pub trait Cancel {
+    /// As the future's own `cancel`. Our own.
+    fn cancel(self);
+}
+
 impl<
     'a,
     M: ManageConnection,
@@ -171,9 +185,11 @@ impl<
     R: Wait + Send + Sync + Drop + 'static,
     L: Parts,
 > PoolCalls for &'a Pool<M, S, Z, K, R, L> {
+    ghost use Rattle.bb8.specs.Dedicated.{opening_of};
     ghost use Rattle.bb8.specs.Handles.{IsClone};
     ghost use Rattle.bb8.specs.Owned.{BeginsOwning};
     ghost use Rattle.bb8.specs.Pools.{clock_in, manager_in, settings_in, stage_of, IsOf};
+    ghost use Rattle.bb8_tasks.specs.Dedicating.{fresh};
     ghost use Rattle.bb8_gets.specs.declared.state.Stage.TheVariants.{Fresh as IsFresh};
 
     type Connection = M::Connection;
@@ -186,6 +202,8 @@ impl<
 
     type GetOwned = GetOwnedFuture<M, S, Z, K, R, L>;
 
+    type Dedicated = DedicatedFuture<'a, M, S, Z, K, R, L>;
+
     fn get(self) -> GetFuture<'a, M, S, Z, K, R, L>
         ensures new { stage_of result ≡ IsFresh }
         ensures pool { IsOf result self.now }
@@ -197,6 +215,13 @@ impl<
         ensures { BeginsOwning K.tells self.now result.owning }
     {
         self.start_owned()
+    }
+
+    fn dedicated_connection(self) -> DedicatedFuture<'a, M, S, Z, K, R, L>
+        ensures new { opening_of result ≡ fresh }
+        ensures pool { result.shared.now ≡ arc_value self.now.shared }
+    {
+        self.start_dedicated()
     }
 
     fn add(self, conn: M::Connection) -> Result<(), AddError<M::Connection>>

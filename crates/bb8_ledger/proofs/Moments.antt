@@ -1,5 +1,5 @@
 -- No birth and no entry lies after the latest moment.
-use Rattle.std.proofs.Common.{◌≡◌, ℕ, zero, suc, ◌≤◌, max, Bool, true, false, cond, eqb, List, [], ◌∷◌, ◌++◌, map, Option, Some, None, option_map, option_and_then, refl, sym, ap, ◌∙◌, arith}
+use Rattle.std.proofs.Common.{◌≡◌, ℕ, zero, suc, ◌≤◌, max, Bool, true, false, cond, eqb, List, [], ◌∷◌, ◌++◌, map, Option, Some, None, option_map, option_and_then, refl, ap, arith}
 use Rattle.bb8_types.specs.declared.standing.Place.{Place}
 use Rattle.bb8_types.specs.declared.standing.Place.TheVariants.{Claimed, Idle, Held, Guarded}
 use Rattle.bb8_types.specs.declared.standing.Standing.{Standing}

@@ -1,24 +1,28 @@
 //! A storm over one pool: threads that get, check, break, cancel, add, clone and drop at random, with parts that change their answers at
-//! every call.
+//! every call, while a driver in a thread of its own opens, fails and reaps.
 //!
-//! `bb8_storm ROUNDS`: three phases, in each of which four threads make so many rounds each. After a phase, when the threads have ended, it
-//! compares the pool's figures with what the threads were told and with what the connections themselves counted, and prints a line, which
-//! is the same whatever the schedule. It ends with status 1 where they differ.
+//! `bb8_storm ROUNDS`: three phases, in each of which four threads make so many rounds each. After a phase, when the threads and the driver
+//! have ended, it compares the pool's figures with what the threads were told and with what the connections themselves counted, and prints
+//! a line, which is the same whatever the schedule. It ends with status 1 where they differ.
 #![tactic(auto)]
 
+ghost use Rattle.std.specs.Prelude.{Some};
 ghost use Rattle.bb8.specs.Parts.{IsBlankOf};
 ghost use Rattle.bb8.specs.Settings.{default_settings};
 
 mod rounds;
 mod told;
 
-use bb8::{Builder, Memory, PoolParts};
+use bb8::{Builder, Driver, Gate, Memory, PoolParts, drive};
 use bb8_hostile::{Harness, HostilePool};
-use rounds::{Runtime, Storm, THREADS};
+use rounds::{Runtime, SIZE, Storm, THREADS};
+use std::alloc::Global;
 use std::marker::Brand;
 use std::process::ExitCode;
+use std::sync::Arc;
+use std::sync::atomic::{AtomicBool, Ordering};
 use std::sync::ledger::Blank;
-use std::thread::Threads;
+use std::thread::{self, Threads};
 use std::time::Duration;
 use std::{env, io};
 use told::Told;
@@ -33,34 +37,76 @@ struct Outcome {
     nothing_left: bool,
 }
 
-/// Adds connections until one finds no room, where at most a few hundred are tried.
-fn fill<R: Runtime, L: PoolParts>(pool: &HostilePool<R, L>, harness: &Harness) {
-    for _ in 0..256u32 {
-        let _ = pool.add(harness.connection());
+/// Whether the driver is to stop.
+#[derive(Drop)]
+struct Stop {
+    asked: Arc<AtomicBool, Global>,
+}
+
+impl Gate for Stop {
+    fn pause(&mut self) -> bool {
+        thread::yield_now();
+        !self.asked.load(Ordering::SeqCst)
     }
 }
 
+/// A phase beside a driver: what the threads were told. The driver has ended then, and has not found the pool without a handle.
+fn in_phase<R: Runtime + Threads, L: PoolParts + 'static>(
+    rt: R,
+    storm: &Storm<'_, R, L>,
+) -> Result<Told, Memory> {
+    let asked = Arc::new(rt.alloc(), AtomicBool::new(false))?;
+    let Ok(stop) = Arc::try_clone(&asked) else {
+        return Err(Memory);
+    };
+    let driver = Driver::new(storm.pool)?;
+    let Ok(driving) = drive(driver, Stop { asked: stop }) else {
+        return Err(Memory);
+    };
+    let told = rounds::in_threads(&rt, storm);
+    asked.store(true, Ordering::SeqCst);
+    let driven = driving.join(&rt);
+    let mut all = Told::new();
+    if driven.ended {
+        all.blame();
+    }
+    for one in told?.iter() {
+        all.add(one);
+    }
+    Ok(all)
+}
+
 /// All phases over one pool.
-fn run<R: Runtime + Threads, L: PoolParts>(
+fn run<R: Runtime + Threads, L: PoolParts + 'static>(
     rt: R,
     blank: Blank,
     rounds: u64,
 ) -> Result<Outcome, Memory>
     requires { IsBlankOf blank
-        (record default_settings { max_size = 64; connection_timeout = 1000 }) L.name L.parts
-        L.settings }
+        (record default_settings {
+          max_size = 5;
+          min_idle = Some 3;
+          connection_timeout = 1000;
+          idle_timeout = Some 200;
+          max_lifetime = Some 2000;
+          reaper_rate = 100;
+        })
+        L.name L.parts L.settings }
 {
     let harness = Harness::new(rt.alloc(), 1, 8, 100)?;
     let pool: HostilePool<R, L> = Builder::new()
-        .max_size(64)
+        .max_size(SIZE)
+        .min_idle(Some(3))
         .connection_timeout(Duration::from_nanos(1000))
+        .idle_timeout(Some(Duration::from_nanos(200)))
+        .max_lifetime(Some(Duration::from_nanos(2000)))
+        .reaper_rate(Duration::from_nanos(100))
         .error_sink(harness.sink()?)
         .connection_customizer(harness.customizer()?)
         .build_unchecked(harness.manager()?, harness.clock()?, rt, blank)?;
     let mut phases = Vec::new(rt.alloc());
     let mut all = Told::new();
     for phase in 0..PHASES {
-        fill(&pool, &harness);
         let storm = Storm {
             pool: &pool,
             harness: &harness,
@@ -68,10 +114,7 @@ fn run<R: Runtime + Threads, L: PoolParts>(
             phase,
             rounds,
         };
-        let told = rounds::in_threads(&rt, &storm)?;
-        for one in told.iter() {
-            all.add(one);
-        }
+        all.add(&in_phase(rt, &storm)?);
         phases.push(all.agrees(&pool.state(), &harness.gauges))?;
     }
     drop(pool);
@@ -90,7 +133,7 @@ fn main(rt: HostRuntime) -> io::Result<ExitCode> {
         println!(rt; "ROUNDS")?;
         return Ok(ExitCode::FAILURE);
     };
-    let Ok(outcome) = run::<HostRuntime, Brand>(rt, Blank::new(64), rounds) else {
+    let Ok(outcome) = run::<HostRuntime, Brand>(rt, Blank::new(5), rounds) else {
         println!(rt; "no memory")?;
         return Ok(ExitCode::FAILURE);
     };

@@ -1,7 +1,7 @@
 //! What each thread does with the pool.
 
 use crate::told::Told;
-use bb8::{Memory, PoolCalls, PoolParts, RunError};
+use bb8::{Cancel, Memory, PoolCalls, PoolParts, RunError};
 use bb8_hostile::{Counted, Harness, HostilePool, Refused, Source};
 use futures::Future;
 use futures::task::Poll;
@@ -10,6 +10,9 @@ use std::ops::DerefMut;
 use std::random::RandomSource;
 use std::sync::Wait;
 use std::thread::{self, Threads, map_indices};
+
+/// How many connections the pool may have: so few that gets wait, as openings and checks last.
+pub const SIZE: u32 = 5;
 
 /// How many threads there are.
 pub const THREADS: usize = 4;
@@ -40,11 +43,14 @@ pub trait Job {
     /// One round.
     fn round(&self, task: &MockTask, source: &Source, told: &mut Told);
 
-    /// A get, which is polled a few times, and dropped where it was not answered.
+    /// A get, which is polled a few times, and dropped or cancelled where it was not answered.
     fn get(&self, task: &MockTask, source: &Source, told: &mut Told);
 
-    /// A get with a handle of its own, of a handle that is dropped meanwhile, polled and dropped in the same way.
+    /// A get with a handle of its own, of a handle that is dropped meanwhile, polled and let go in the same way.
     fn get_owned(&self, task: &MockTask, source: &Source, told: &mut Told);
+
+    /// A dedicated connection, whose opening is polled a few times and let go in the same way.
+    fn open_dedicated(&self, task: &MockTask, source: &Source);
 
     /// Asks for the figures, and compares them with their bounds.
     fn ask(&self, told: &mut Told);
@@ -81,6 +87,15 @@ fn is_answered<
     false
 }
 
+/// Cancels a future, or drops it.
+fn let_go<F: Cancel + Drop>(future: F, source: &Source) {
+    if source.below(2) == 0 {
+        Cancel::cancel(future);
+    } else {
+        drop(future);
+    }
+}
+
 impl<R: Runtime, L: PoolParts> Job for Storm<'_, R, L> {
     fn run(&self, thread: usize) -> Told {
         let mut told = Told::new();
@@ -106,10 +121,10 @@ impl<R: Runtime, L: PoolParts> Job for Storm<'_, R, L> {
         match source.below(8) {
             0..=2 => self.get(task, source, told),
             3..=5 => self.get_owned(task, source, told),
-            6 => self.ask(told),
-            _ => {}
+            6 => self.open_dedicated(task, source),
+            _ => self.ask(told),
         }
-        for _ in 0..2u8 {
+        if source.below(4) == 0 {
             let _ = PoolCalls::add(self.pool, self.harness.connection());
         }
     }
@@ -118,7 +133,7 @@ impl<R: Runtime, L: PoolParts> Job for Storm<'_, R, L> {
         let mut get = PoolCalls::get(self.pool);
         let polls = source.below(POLLS);
         let answered = is_answered(task, self.harness, &mut get, polls, told);
-        drop(get);
+        let_go(get, source);
         told.note(polls, answered);
     }
 
@@ -131,13 +146,24 @@ impl<R: Runtime, L: PoolParts> Job for Storm<'_, R, L> {
         drop(clone);
         let polls = source.below(POLLS);
         let answered = is_answered(task, self.harness, &mut get, polls, told);
-        drop(get);
+        let_go(get, source);
         told.note(polls, answered);
+    }
+
+    fn open_dedicated(&self, task: &MockTask, source: &Source) {
+        let mut opening = PoolCalls::dedicated_connection(self.pool);
+        for _ in 0..source.below(POLLS) {
+            if let Poll::Ready(_) = task.poll(&mut opening) {
+                break;
+            }
+            thread::yield_now();
+        }
+        let_go(opening, source);
     }
 
     fn ask(&self, told: &mut Told) {
         let state = PoolCalls::state(self.pool);
-        if state.idle_connections > state.connections || state.connections > 64 {
+        if state.idle_connections > state.connections || state.connections > SIZE {
             told.blame();
         }
     }

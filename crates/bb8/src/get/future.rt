@@ -1,7 +1,7 @@
 //! The future of a get.
 ghost use Rattle.std.specs.Prelude.{◌≡◌};
 
-use crate::pool::{Pool, PooledConnection};
+use crate::pool::{Cancel, Pool, PooledConnection};
 use bb8_core::api::{Clock, CustomizeConnection, ErrorSink, ManageConnection, RunError};
 use bb8_gets::{Calls, GetState};
 use bb8_locked::{Part, Parts};
@@ -42,6 +42,23 @@ impl<
     /// Lets the get go, as a drop does, for which it may wait for the lock: one that began and was not answered is given up as cancelled.
     /// Our own.
     pub fn cancel(self)
+        ensures { CancelsGet S.sinks K.tells self.entry }
+    {
+        Cancel::cancel(self)
+    }
+}
+
+impl<
+    M: ManageConnection,
+    S: ErrorSink<M::Error>,
+    Z: CustomizeConnection<M::Connection, M::Error>,
+    K: Clock,
+    R: Wait + Send + Sync + Drop + 'static,
+    L: Parts,
+> Cancel for GetFuture<'_, M, S, Z, K, R, L> {
+    ghost use Rattle.bb8.specs.Gets.{CancelsGet};
+
+    fn cancel(self)
         ensures { CancelsGet S.sinks K.tells self.entry }
     {
         let GetFuture { shared, get } = self;

@@ -5,7 +5,7 @@ ghost use Rattle.bb8.specs.Settings.{default_settings};
 
 use super::{Runtime, fill, is_at_rest};
 use bb8::driver::Driver;
-use bb8::{Builder, Building, Clock, Memory, PoolParts};
+use bb8::{Builder, Building, Cancel, Clock, Memory, PoolParts};
 use bb8_hostile::{
     Harness, HostileClock, HostileCustomizer, HostileManager, HostilePool, HostileSink,
 };
@@ -71,20 +71,34 @@ impl Ends {
     }
 }
 
-/// Polls a future so often, or up to its end: its answer, where it came to that.
-fn answer_within<F: Future>(task: &MockTask, future: &mut F, polls: u32) -> Option<F::Output>
+/// Polls a future so often, or up to its end, and lets it go: its answer, where it came to that.
+fn let_go<F: Future + Cancel + Drop>(
+    task: &MockTask,
+    future: F,
+    polls: u32,
+    how: LetGo,
+) -> Option<F::Output>
+where
+    F::Output: Drop,
     requires { (f : F) → F.can_poll f }
 {
+    let mut future = future;
+    let mut answer = None;
     for _ in 0..polls {
-        if let Poll::Ready(answer) = task.poll(future) {
-            return Some(answer);
+        if let Poll::Ready(out) = task.poll(&mut future) {
+            answer = Some(out);
+            break;
         }
     }
-    None
+    match how {
+        LetGo::Dropped => drop(future),
+        LetGo::Cancelled => Cancel::cancel(future),
+    }
+    answer
 }
 
-/// What such an answer says of the future.
-fn end_of<T, E>(answer: &Option<Result<T, E>>) -> Ended {
+/// What such an answer, which is dropped, says of the future.
+fn end_of<T: Drop, E: Drop>(answer: Option<Result<T, E>>) -> Ended {
     match answer {
         None => Ended::Early,
         Some(Ok(_)) => Ended::Served,
@@ -115,68 +129,28 @@ fn begin<R: Runtime, L: PoolParts>(
     Ok(pool)
 }
 
-/// A get is polled so often and let go: then none is pending, and each connection is idle or was dropped.
-fn lets_a_get_go<R: Runtime, L: PoolParts>(
+/// A get, one with a handle of its own, or the opening of a connection that the pool does not count is polled so often and let go: then no get
+/// is pending, and each connection is idle or was dropped; and of the last the pool knows nothing.
+fn lets_a_future_go<R: Runtime, L: PoolParts>(
     rt: R,
     task: &MockTask,
     pool: &HostilePool<R, L>,
     harness: &Harness,
+    kind: Kind,
     polls: u32,
     how: LetGo,
 ) -> Ended {
-    let mut get = pool.get();
-    let answer = answer_within(task, &mut get, polls);
-    let ended = end_of(&answer);
-    drop(answer);
-    match how {
-        LetGo::Dropped => drop(get),
-        LetGo::Cancelled => get.cancel(),
-    }
+    let ended = match kind {
+        Kind::Get => end_of(let_go(task, pool.get(), polls, how)),
+        Kind::OwnedGet => end_of(let_go(task, pool.get_owned(), polls, how)),
+        _ => {
+            let ended = end_of(let_go(task, pool.dedicated_connection(), polls, how));
+            let state = pool.state();
+            assert_eq!(&rt; (state.connections, state.idle_connections), (2, 2));
+            ended
+        }
+    };
     assert!(&rt; is_at_rest(pool, harness));
-    ended
-}
-
-/// The same of a get with a handle of its own, whose handle leaves with it.
-fn lets_an_owned_get_go<R: Runtime, L: PoolParts>(
-    rt: R,
-    task: &MockTask,
-    pool: &HostilePool<R, L>,
-    harness: &Harness,
-    polls: u32,
-    how: LetGo,
-) -> Ended {
-    let mut get = pool.get_owned();
-    let answer = answer_within(task, &mut get, polls);
-    let ended = end_of(&answer);
-    drop(answer);
-    match how {
-        LetGo::Dropped => drop(get),
-        LetGo::Cancelled => get.cancel(),
-    }
-    assert!(&rt; is_at_rest(pool, harness));
-    ended
-}
-
-/// The opening of a connection that the pool does not count is polled so often and let go: nothing of it is left, and the pool is as it was.
-fn lets_a_dedicated_go<R: Runtime, L: PoolParts>(
-    rt: R,
-    task: &MockTask,
-    pool: &HostilePool<R, L>,
-    harness: &Harness,
-    polls: u32,
-    how: LetGo,
-) -> Ended {
-    let mut opening = pool.dedicated_connection();
-    let answer = answer_within(task, &mut opening, polls);
-    let ended = end_of(&answer);
-    drop(answer);
-    match how {
-        LetGo::Dropped => drop(opening),
-        LetGo::Cancelled => opening.cancel(),
-    }
-    assert!(&rt; is_at_rest(pool, harness));
-    let state = pool.state();
-    assert_eq!(&rt; (state.connections, state.idle_connections), (2, 2));
     ended
 }
 
@@ -228,7 +202,7 @@ fn lets_a_building_go<R: Runtime, L: PoolParts>(
       connection_timeout = 1000;
     }) L.name L.parts L.settings }
 {
-    let mut building: Building<HostileManager, HostileSink, HostileCustomizer, HostileClock, R, L> =
+    let building: Building<HostileManager, HostileSink, HostileCustomizer, HostileClock, R, L> =
         Builder::new()
             .max_size(4)
             .min_idle(Some(2))
@@ -236,18 +210,13 @@ fn lets_a_building_go<R: Runtime, L: PoolParts>(
             .error_sink(harness.sink()?)
             .connection_customizer(harness.customizer()?)
             .build(harness.manager()?, harness.clock()?, rt, blank);
-    let answer = answer_within(task, &mut building, polls);
-    let ended = end_of(&answer);
-    match how {
-        LetGo::Dropped => drop(building),
-        LetGo::Cancelled => building.cancel(),
-    }
-    if let Some(Ok(pool)) = answer {
-        assert!(&rt; is_at_rest(&pool, harness));
+    let answer = let_go(task, building, polls, how);
+    if let Some(Ok(pool)) = &answer {
+        assert!(&rt; is_at_rest(pool, harness));
         assert_eq!(&rt; pool.state().connections, 2);
-        assert_eq!(&rt; fill(&pool, harness, 100), Some(2));
+        assert_eq!(&rt; fill(pool, harness, 100), Some(2));
     }
-    Ok(ended)
+    Ok(end_of(answer))
 }
 
 /// A future of this kind is polled so often and let go, and then the pool is dropped: nothing is left.
@@ -268,17 +237,9 @@ fn lets_go<R: Runtime, L: PoolParts>(
     let task = MockTask::new(&rt)?;
     let harness = Harness::new(rt.alloc(), seed, 8, 100)?;
     let ended = match kind {
-        Kind::Get => {
+        Kind::Get | Kind::OwnedGet | Kind::Dedicated => {
             let pool: HostilePool<R, L> = begin(rt, blank, &harness)?;
-            lets_a_get_go(rt, &task, &pool, &harness, polls, how)
-        }
-        Kind::OwnedGet => {
-            let pool: HostilePool<R, L> = begin(rt, blank, &harness)?;
-            lets_an_owned_get_go(rt, &task, &pool, &harness, polls, how)
-        }
-        Kind::Dedicated => {
-            let pool: HostilePool<R, L> = begin(rt, blank, &harness)?;
-            lets_a_dedicated_go(rt, &task, &pool, &harness, polls, how)
+            lets_a_future_go(rt, &task, &pool, &harness, kind, polls, how)
         }
         Kind::Driver => {
             let pool: HostilePool<R, L> = begin(rt, blank, &harness)?;
