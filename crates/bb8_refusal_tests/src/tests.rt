@@ -1,7 +1,9 @@
-//! Runs in which any request for memory may be refused: `rt try --test --fail-alloc N` refuses the Nth one of each test. They hold with a
-//! refusal and without. What they share: connections that count their drops, and what tells whether a run met a refusal.
+//! Runs in which memory is refused: the Nth request for it of each test, or all from the Nth on. They hold with a refusal and without.
+//! `refusals/run`, at the top of the repository, makes them for every N. What they share: connections that count their drops, and what tells
+//! whether a run met a refusal.
 
 mod bare;
+mod live;
 mod rows;
 mod script;
 mod steps;
@@ -12,17 +14,14 @@ use std::alloc::Global;
 use std::sync::Arc;
 use std::sync::atomic::{AtomicU64, Ordering};
 
-/// How many requests for memory a test makes once its run is over: more than the longest run makes.
-const AFTERWARDS: u32 = 1000;
+/// Whether a request for memory is refused.
+fn is_refused(alloc: Global) -> bool {
+    Box::new(alloc, 0_u8).is_err()
+}
 
-/// Whether a request for memory is refused that comes after the run. As one request of each test is refused, the run then met none.
+/// Whether the run that has ended is known to have met no refusal: the first request after it is granted, and the second is refused.
 fn is_refused_afterwards(alloc: Global) -> bool {
-    for _ in 0..AFTERWARDS {
-        if Box::new(alloc, 0_u8).is_err() {
-            return true;
-        }
-    }
-    false
+    !is_refused(alloc) && is_refused(alloc)
 }
 
 /// How many connections were made, and how often each was dropped: a hexadecimal digit each, the last one for the first connection.

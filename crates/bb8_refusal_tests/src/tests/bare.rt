@@ -1,5 +1,5 @@
-//! A run over the bare state with checks that pass and fail, gets that are let go, addings and reaps: no connection is lost, whichever
-//! request for memory is refused. That each answer is allowed is proved.
+//! A run over the bare state with checks that pass and fail, gets that are let go, addings and reaps: no connection is lost, whatever
+//! requests for memory are refused. That each answer is allowed is proved.
 
 use super::steps::{
     Held, add, begin, fail, give_up, give_up_held, opened, pass, put_back, try_get,
@@ -23,8 +23,8 @@ struct Run {
     pool: PoolInternals<Counted>,
     board: Board,
     at: Moment,
-    /// Whether an answer told of a refusal.
-    refused: bool,
+    /// How many answers told of a refusal.
+    refused: u64,
     /// How many connections were closed by reaps.
     reaped: u64,
     /// How many gets were served, and how many waited.
@@ -45,7 +45,9 @@ enum End {
 impl Run {
     /// Notes what a grant withheld. All numbers are there, so only memory was wanting.
     fn note(&mut self, grant: Grant) {
-        self.refused |= grant.withheld > 0;
+        if grant.withheld > 0 {
+            self.refused = self.refused.saturating_add(1);
+        }
     }
 
     /// Asserts that the connections that were made are those of the pool and those that were dropped.
@@ -77,7 +79,7 @@ impl Run {
         match begin(rt, &mut self.pool, self.at) {
             BeginAnswer::Begun(get) => Some(get),
             BeginAnswer::Memory => {
-                self.refused = true;
+                self.refused = self.refused.saturating_add(1);
                 None
             }
             BeginAnswer::Exhausted => panic!(rt; "no number is left"),
@@ -170,7 +172,7 @@ impl Run {
                 AddAnswer::Added(..) | AddAnswer::NoCapacity(_) => {}
                 AddAnswer::Withheld(conn) => {
                     drop(conn);
-                    self.refused = true;
+                    self.refused = self.refused.saturating_add(1);
                 }
                 AddAnswer::Broken(_) => panic!(rt; "it was not told as broken"),
             }
@@ -234,20 +236,20 @@ fn no_connection_is_lost(rt: HostRuntime) -> Result<(), Fail> {
         pool: PoolInternals::new(rt.alloc(), config),
         board: board.try_clone()?,
         at: Moment(0),
-        refused: false,
+        refused: 0,
         reaped: 0,
         served: 0,
         waited: 0,
     };
     run.round(&rt)?;
     run.round(&rt)?;
-    assert!(rt; run.reaped > 0);
     let refused = run.refused;
+    assert!(rt; run.reaped > 0 || refused > 1);
     let counts = (run.served, run.waited, board.made());
     drop(run);
     assert!(rt; board.is_each_dropped_once());
     if is_refused_afterwards(rt.alloc()) {
-        assert!(rt; !refused);
+        assert_eq!(rt; refused, 0);
         assert_eq!(rt; counts, (2, 2, 12));
         let _ = rt.eprintln("no request of the run was refused");
     }

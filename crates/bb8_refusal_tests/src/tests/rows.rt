@@ -1,7 +1,7 @@
-//! Worked rows in which memory is refused once: the answers before, at and after the refusal.
+//! Worked rows in which memory is refused, once or for good: the answers before, at and after the refusal.
 
-use super::is_refused_afterwards;
 use super::steps::{add, begin, opened, put_back, try_get};
+use super::{is_refused, is_refused_afterwards};
 use bb8_core::api::{Config, Moment};
 use bb8_core::internals::{
     AddAnswer, BeginAnswer, ClaimAnswer, GetKey, Grant, Key, OpenedAnswer, PoolInternals,
@@ -30,11 +30,14 @@ fn withheld(first: u64, count: u32) -> Grant {
     }
 }
 
-/// A bare state that checks nothing, and how many requests for memory it was refused. Its connections are numbered as they are handed in.
+/// A bare state that checks nothing, how many requests for memory it was refused, and whether memory stays refused. Its connections are
+/// numbered as they are handed in.
 #[derive(Drop)]
 struct Row {
     pool: PoolInternals<u64>,
+    alloc: Global,
     refused: u32,
+    is_for_good: bool,
 }
 
 impl Row {
@@ -48,14 +51,21 @@ impl Row {
         assert!(rt; config.is_lawful());
         Row {
             pool: PoolInternals::new(alloc, config),
+            alloc,
             refused: 0,
+            is_for_good: false,
         }
     }
 
-    /// Notes a refusal, of which there is but one.
-    fn note(&mut self, rt: &impl Abort, count: u32) {
-        self.refused = self.refused.saturating_add(count);
-        assert!(rt; self.refused <= 1, "memory was refused twice");
+    /// Notes a refusal: whether memory stays refused. If not, it is the only one.
+    fn stays_refused(&mut self, rt: &impl Abort) -> bool {
+        self.refused = self.refused.saturating_add(1);
+        self.is_for_good |= is_refused(self.alloc);
+        assert!(rt;
+            self.refused == 1 || self.is_for_good,
+            "memory was refused twice"
+        );
+        self.is_for_good
     }
 
     /// Asserts how many connections there are, and how many of them are idle.
@@ -67,19 +77,22 @@ impl Row {
         );
     }
 
-    /// A connection is added; where it is withheld nothing changes, and it is added at the next ask.
-    fn adds(&mut self, rt: &impl Abort, number: u64) {
+    /// A connection is added; where it is withheld nothing changes, and it is added at the next ask, unless memory stays refused. Whether it
+    /// was added.
+    fn adds(&mut self, rt: &impl Abort, number: u64) -> bool {
         let before = self.pool.state(NOW);
         let mut conn = number;
         for _ in 0..2 {
             match add(rt, &mut self.pool, NOW, conn) {
                 AddAnswer::Added(key, None) => {
                     assert_eq!(rt; key.number, number);
-                    return;
+                    return true;
                 }
                 AddAnswer::Withheld(back) => {
                     assert_eq!(rt; (back, self.pool.state(NOW)), (number, before));
-                    self.note(rt, 1);
+                    if self.stays_refused(rt) {
+                        return false;
+                    }
                     conn = back;
                 }
                 _ => panic!(rt;
@@ -98,15 +111,19 @@ impl Row {
         assert_eq!(rt; key.number, number);
     }
 
-    /// A get begins; where memory is refused, it does at the next ask.
-    fn begins(&mut self, rt: &impl Abort, number: u64) -> GetKey {
+    /// A get begins; where memory is refused, it does at the next ask, unless memory stays refused.
+    fn begins(&mut self, rt: &impl Abort, number: u64) -> Option<GetKey> {
         for _ in 0..2 {
             match begin(rt, &mut self.pool, NOW) {
                 BeginAnswer::Begun(get) => {
                     assert_eq!(rt; get.number, number);
-                    return get;
+                    return Some(get);
                 }
-                BeginAnswer::Memory => self.note(rt, 1),
+                BeginAnswer::Memory => {
+                    if self.stays_refused(rt) {
+                        return None;
+                    }
+                }
                 BeginAnswer::Exhausted => panic!(rt; "no number is left"),
             }
         }
@@ -131,16 +148,23 @@ impl Row {
         (key, grant)
     }
 
-    /// What is wanted is asked for; where it is withheld, it is granted at the next ask.
-    fn fills(&mut self, rt: &impl Abort, first: u64, count: u32) {
+    /// What is wanted is asked for; where it is withheld, it is granted at the next ask, unless memory stays refused. Whether it was
+    /// granted.
+    fn fills(&mut self, rt: &impl Abort, first: u64, count: u32) -> bool {
         let grant = self.pool.fill(NOW, false);
         if grant.count > 0 {
             assert_eq!(rt; grant, granted(first, count));
-            return;
+            return true;
         }
         assert_eq!(rt; grant, withheld(first, count));
-        self.note(rt, 1);
-        assert_eq!(rt; self.pool.fill(NOW, false), granted(first, count));
+        let stays = self.stays_refused(rt);
+        let due = if stays {
+            withheld(first, count)
+        } else {
+            granted(first, count)
+        };
+        assert_eq!(rt; self.pool.fill(NOW, false), due);
+        !stays
     }
 
     /// An approval is claimed and opened.
@@ -155,69 +179,84 @@ impl Row {
     }
 }
 
-/// Tells of a row in which nothing was refused, and of one in which it was where the row says so.
-fn tell<R: Abort + AllocGlobal + Eprint>(rt: &R, is_row: bool, refused: u32) {
-    if is_row {
+/// Tells of a row in which nothing was refused, and of one in which memory was refused where the row says so. Nothing is told of one that
+/// ended before, for want of memory.
+fn tell<R: Abort + AllocGlobal + Eprint>(rt: &R, row: &Row, is_row: Option<bool>) {
+    if is_row == Some(true) {
         let _ = rt.eprintln("memory was refused where the row says so");
     }
     if is_refused_afterwards(rt.alloc()) {
-        assert_eq!(rt; refused, 0);
+        assert_eq!(rt; (row.refused, is_row), (0, Some(false)));
         let _ = rt.eprintln("no request of the run was refused");
     }
+}
+
+/// Two are added, and one of them is closed; the next is below the peak, and one more is past it. Whether memory was refused there.
+fn is_withheld_past_the_peak(rt: &impl Abort, row: &mut Row) -> Option<bool> {
+    if !(row.adds(rt, 0) && row.adds(rt, 1)) {
+        return None;
+    }
+    let get = row.begins(rt, 0)?;
+    let (key, grant) = row.is_served(rt, get, 0);
+    assert_eq!(rt; grant, granted(2, 0));
+    let PutBackAnswer::Closed(conn, grant, None) = put_back(rt, &mut row.pool, NOW, key, 0, true)
+    else {
+        panic!(rt; "a broken connection was kept, or somebody was notified");
+    };
+    assert_eq!(rt; (conn, grant), (0, granted(2, 0)));
+    let before = row.refused;
+    row.adds_below(rt, 2);
+    let connections = if row.adds(rt, 3) { 3 } else { 2 };
+    row.assert_sizes(rt, connections, connections);
+    let get = row.begins_below(rt, 1);
+    let _ = row.is_served(rt, get, 1);
+    row.assert_sizes(rt, connections, connections - 1);
+    Some(row.refused > before)
+}
+
+/// Two are opened, and a get is served, which asks for a third place; what is not granted there is asked for by the next get. Whether memory
+/// was refused for the third place.
+fn is_third_place_withheld(rt: &impl Abort, row: &mut Row) -> Option<bool> {
+    if !row.fills(rt, 0, 2) {
+        return None;
+    }
+    row.opens(rt, 0);
+    row.opens(rt, 1);
+    let get = row.begins(rt, 0)?;
+    let (_, grant) = row.is_served(rt, get, 0);
+    let is_row = grant.withheld > 0;
+    let due = if is_row {
+        withheld(2, 1)
+    } else {
+        granted(2, 1)
+    };
+    assert_eq!(rt; grant, due);
+    let stays = is_row && row.stays_refused(rt);
+    let get = row.begins_below(rt, 1);
+    let (_, grant) = row.is_served(rt, get, 1);
+    if is_row {
+        let due = if stays { withheld(2, 2) } else { granted(2, 2) };
+        assert_eq!(rt; grant, due);
+    } else {
+        if grant.withheld > 0 {
+            row.stays_refused(rt);
+        }
+        let asked = grant.count.saturating_add(grant.withheld);
+        assert_eq!(rt; (grant.first, asked), (3, 1));
+    }
+    Some(is_row)
 }
 
 #[test]
 fn adding_is_withheld_past_the_peak_alone(rt: HostRuntime) {
     let mut row = Row::new(&rt, rt.alloc(), 3, None);
-    row.adds(&rt, 0);
-    row.adds(&rt, 1);
-    let get = row.begins(&rt, 0);
-    let (key, grant) = row.is_served(&rt, get, 0);
-    assert_eq!(&rt; grant, granted(2, 0));
-    let PutBackAnswer::Closed(conn, grant, None) = put_back(&rt, &mut row.pool, NOW, key, 0, true)
-    else {
-        panic!(&rt; "a broken connection was kept, or somebody was notified");
-    };
-    assert_eq!(&rt; (conn, grant), (0, granted(2, 0)));
-    let before = row.refused;
-    row.adds_below(&rt, 2);
-    row.adds(&rt, 3);
-    row.assert_sizes(&rt, 3, 3);
-    let is_row = row.refused > before;
-    let get = row.begins_below(&rt, 1);
-    let _ = row.is_served(&rt, get, 1);
-    row.assert_sizes(&rt, 3, 2);
-    tell(&rt, is_row, row.refused);
+    let is_row = is_withheld_past_the_peak(&rt, &mut row);
+    tell(&rt, &row, is_row);
 }
 
 #[test]
 fn third_place_is_granted_at_the_next_ask(rt: HostRuntime) {
     let mut row = Row::new(&rt, rt.alloc(), 5, Some(2));
-    row.fills(&rt, 0, 2);
-    row.opens(&rt, 0);
-    row.opens(&rt, 1);
-    let get = row.begins(&rt, 0);
-    let (_, grant) = row.is_served(&rt, get, 0);
-    let is_row = grant.withheld > 0;
-    assert_eq!(&rt;
-        grant,
-        if is_row {
-            withheld(2, 1)
-        } else {
-            granted(2, 1)
-        }
-    );
-    row.note(&rt, grant.withheld);
-    let get = row.begins_below(&rt, 1);
-    let (_, grant) = row.is_served(&rt, get, 1);
-    if is_row {
-        assert_eq!(&rt; grant, granted(2, 2));
-    } else {
-        row.note(&rt, grant.withheld);
-        assert_eq!(&rt;
-            (grant.first, grant.count.saturating_add(grant.withheld)),
-            (3, 1)
-        );
-    }
-    tell(&rt, is_row, row.refused);
+    let is_row = is_third_place_withheld(&rt, &mut row);
+    tell(&rt, &row, is_row);
 }

@@ -1,4 +1,4 @@
-//! The first script from bytes to bytes, and a replay of it, whichever request for memory is refused. That what is answered is allowed is
+//! The first script from bytes to bytes, and a replay of it, whatever requests for memory are refused. That what is answered is allowed is
 //! proved; here it is the script's answer, or says of a refusal where one was.
 
 use super::is_refused_afterwards;

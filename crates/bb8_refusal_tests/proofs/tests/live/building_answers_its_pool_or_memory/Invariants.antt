@@ -1,6 +1,6 @@
 use Rattle.std.specs.Prelude.{Some}
 use Rattle.bb8.specs.Parts.{unchecked_of}
-use Rattle.bb8_live_refusal_tests.proofs.tests.live.building_answers_its_pool_or_memory.Given as goal
+use Rattle.bb8_refusal_tests.proofs.tests.live.building_answers_its_pool_or_memory.Given as goal
 
 abbrev pub ghosts-builds-L-Ledger : goal.ghosts-builds-L-Ledger
 ghosts-builds-L-Ledger g a = record { name = a.blank.name; parts = a.blank.parts }

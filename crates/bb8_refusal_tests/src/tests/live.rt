@@ -1,9 +1,9 @@
-//! Live pools that are built, cloned, driven and asked for connections, whichever request for memory is refused: an answer is what it is with all
-//! memory, or the refusal that its call names, and each connection that was opened or added is dropped once.
+//! Live pools that are built, cloned, driven and asked for connections, whatever requests for memory are refused: an answer is what it is with
+//! all memory, or the refusal that its call names, and each connection that was opened or added is dropped once.
 ghost use Rattle.std.specs.Prelude.{Some};
 ghost use Rattle.bb8.specs.Parts.{IsBlankOf, unchecked_of};
 
-use super::{Board, Counted, is_refused_afterwards};
+use super::{Board, Counted, is_refused, is_refused_afterwards};
 use bb8::{
     AddError, Builder, Building, Driver, ManageConnection, Memory, Moment, NopCustomizer,
     NopErrorSink, Pool, PoolParts, RunError, SetClock,
@@ -18,15 +18,7 @@ use std::sync::ledger::Blank;
 use std::test::Fail;
 
 /// What a test of a pool asks of its runtime.
-pub(super) trait Runtime: Abort
-    + Wait
-    + RandomSource
-    + AllocGlobal
-    + Copy
-    + Send
-    + Sync
-    + Drop
-    + 'static {}
+trait Runtime: Abort + Wait + RandomSource + AllocGlobal + Copy + Send + Sync + Drop + 'static {}
 
 impl<R: Abort + Wait + RandomSource + AllocGlobal + Copy + Send + Sync + Drop + 'static> Runtime
     for R {}
@@ -186,7 +178,8 @@ fn clones<R: Runtime, L: PoolParts>(rt: R, blank: Blank, board: Board) -> Result
     }
 }
 
-/// A driver opens three connections in its first turn. A claim for whose task there is no memory is not made, and the next turn makes it.
+/// A driver opens three connections in its first turn. A claim for whose task there is no memory is not made, and the next turn makes it, if
+/// there is memory then. A claim is also what tells that no handle is left.
 fn drives<R: Runtime, L: PoolParts>(rt: R, blank: Blank, board: Board) -> Result<Met, Fail>
     requires { IsBlankOf blank (record (unchecked_of 3) { min_idle = Some 3 }) L.name L.parts
         L.settings }
@@ -210,14 +203,18 @@ fn drives<R: Runtime, L: PoolParts>(rt: R, blank: Blank, board: Board) -> Result
     let first = driver.turn(Moment(0));
     let connections = pool.state().connections as u64;
     assert_eq!(&rt; (first.ended, first.polled), (false, connections));
+    let left = if is_refused(rt.alloc()) {
+        0
+    } else {
+        3_u64.saturating_sub(connections)
+    };
     let second = driver.turn(Moment(0));
-    assert_eq!(&rt;
-        (second.ended, second.polled),
-        (false, 3_u64.saturating_sub(connections))
-    );
-    assert_eq!(&rt; sizes(&pool), (3, 3));
+    assert_eq!(&rt; (second.ended, second.polled), (false, left));
+    let state = pool.state();
+    assert_eq!(&rt; state.connections as u64, connections.saturating_add(left));
+    assert_eq!(&rt; state.idle_connections, state.connections);
     drop(pool);
-    assert!(&rt; driver.turn(Moment(0)).ended);
+    assert!(&rt; driver.turn(Moment(0)).ended || is_refused(rt.alloc()));
     Ok(if connections == 3 {
         Met::Nothing
     } else {

@@ -1,0 +1,45 @@
+// A heap that refuses, to be loaded before the C library's (LD_PRELOAD). Of the requests for memory that a program makes it refuses the
+// REFUSE_AT-th, and where REFUSE_ALL is set every later one too; the others it hands on. Of a run that makes fewer it says so at its end.
+// It includes no header, as a kit's compiler has none.
+
+char *getenv(const char *name);
+unsigned long strtoul(const char *text, char **end, int base);
+long write(int file, const void *bytes, unsigned long count);
+void *__libc_malloc(unsigned long size);
+void *__libc_realloc(void *place, unsigned long size);
+void _Exit(int status) __attribute__((noreturn));
+
+static unsigned long requests;
+
+// The number of the first request that is refused: 0 where none is.
+static unsigned long first_refused(void) {
+    const char *text = getenv("REFUSE_AT");
+    return text ? strtoul(text, 0, 10) : 0;
+}
+
+static int is_refused(void) {
+    unsigned long number = __atomic_add_fetch(&requests, 1, __ATOMIC_SEQ_CST);
+    unsigned long first = first_refused();
+    return first && (number == first || (number > first && getenv("REFUSE_ALL")));
+}
+
+void *malloc(unsigned long size) {
+    return is_refused() ? 0 : __libc_malloc(size);
+}
+
+void *realloc(void *place, unsigned long size) {
+    return is_refused() ? 0 : __libc_realloc(place, size);
+}
+
+// A program with threads ends by `_exit`, and one without by a return from `main`.
+__attribute__((destructor)) static void tell(void) {
+    static const char granted[] = "every request was granted\n";
+    if (requests < first_refused()) {
+        write(2, granted, sizeof granted - 1);
+    }
+}
+
+__attribute__((noreturn)) void _exit(int status) {
+    tell();
+    _Exit(status);
+}
