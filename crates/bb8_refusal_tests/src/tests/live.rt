@@ -5,8 +5,8 @@ ghost use Rattle.bb8.specs.Parts.{IsBlankOf, unchecked_of};
 
 use super::{Board, Counted, is_refused, is_refused_afterwards};
 use bb8::{
-    AddError, Builder, Building, Driver, ManageConnection, Memory, Moment, NopCustomizer,
-    NopErrorSink, Pool, PoolParts, RunError, SetClock,
+    AddError, Builder, Building, Driver, Gate, ManageConnection, Memory, Moment, NoThread,
+    NopCustomizer, NopErrorSink, Pool, PoolParts, RunError, SetClock, drive,
 };
 use futures::task::Poll;
 use futures::test::MockTask;
@@ -16,6 +16,7 @@ use std::random::RandomSource;
 use std::sync::Wait;
 use std::sync::ledger::Blank;
 use std::test::Fail;
+use std::thread::Threads;
 
 /// What a test of a pool asks of its runtime.
 trait Runtime: Abort + Wait + RandomSource + AllocGlobal + Copy + Send + Sync + Drop + 'static {}
@@ -23,10 +24,21 @@ trait Runtime: Abort + Wait + RandomSource + AllocGlobal + Copy + Send + Sync + 
 impl<R: Abort + Wait + RandomSource + AllocGlobal + Copy + Send + Sync + Drop + 'static> Runtime
     for R {}
 
-/// Opens counted connections at once, and finds each valid and whole.
+/// Opens counted connections at once, or never, and finds each valid and whole.
 #[derive(Drop)]
 struct Server {
     board: Board,
+    answers: bool,
+}
+
+impl Server {
+    /// A server that opens at once.
+    fn new(board: Board) -> Server {
+        Server {
+            board,
+            answers: true,
+        }
+    }
 }
 
 impl ManageConnection for Server {
@@ -41,7 +53,11 @@ impl ManageConnection for Server {
     fn connect(&self) {}
 
     fn poll_connect(&self, _connecting: &mut (), _moment: Moment) -> Poll<Result<Counted, Memory>> {
-        Poll::Ready(self.board.make())
+        if self.answers {
+            Poll::Ready(self.board.make())
+        } else {
+            Poll::Pending
+        }
     }
 
     fn is_valid(&self, _connection: &mut Counted) {}
@@ -89,7 +105,7 @@ fn builds<R: Runtime, L: PoolParts>(rt: R, blank: Blank, board: Board) -> Result
         .max_size(5)
         .min_idle(Some(2))
         .test_on_check_out(false)
-        .build(Server { board }, clock, rt, blank);
+        .build(Server::new(board), clock, rt, blank);
     let pool: CountedPool<R, L> = match task.poll(&mut building) {
         Poll::Ready(Ok(pool)) => pool,
         Poll::Ready(Err(error)) => {
@@ -142,9 +158,7 @@ fn clones<R: Runtime, L: PoolParts>(rt: R, blank: Blank, board: Board) -> Result
     let (Ok(clock), Ok(task)) = (SetClock::new(rt.alloc(), Moment(0)), MockTask::new(&rt)) else {
         return Ok(Met::Refusal);
     };
-    let server = Server {
-        board: board.try_clone()?,
-    };
+    let server = Server::new(board.try_clone()?);
     let built = Builder::new()
         .max_size(5)
         .min_idle(Some(2))
@@ -191,7 +205,7 @@ fn drives<R: Runtime, L: PoolParts>(rt: R, blank: Blank, board: Board) -> Result
         .max_size(3)
         .min_idle(Some(3))
         .test_on_check_out(false)
-        .build_unchecked(Server { board }, clock, rt, blank);
+        .build_unchecked(Server::new(board), clock, rt, blank);
     let Ok(pool) = built else {
         return Ok(Met::Refusal);
     };
@@ -220,6 +234,65 @@ fn drives<R: Runtime, L: PoolParts>(rt: R, blank: Blank, board: Board) -> Result
     } else {
         Met::Refusal
     })
+}
+
+/// Lets one turn be made.
+#[derive(Drop)]
+struct Once;
+
+impl Gate for Once {
+    fn pause(&mut self) -> bool {
+        false
+    }
+}
+
+/// A driver that holds the task of the pool's one approval is handed to a thread, or dropped where none can be made. Either way the approval
+/// is given back, so that an adding finds room.
+fn is_driven<R: Runtime + Threads + Eprint, L: PoolParts + 'static>(
+    rt: R,
+    blank: Blank,
+    board: Board,
+) -> Result<Met, Fail>
+    requires { IsBlankOf blank (record (unchecked_of 1) { min_idle = Some 1 }) L.name L.parts
+        L.settings }
+{
+    let Ok(clock) = SetClock::new(rt.alloc(), Moment(0)) else {
+        return Ok(Met::Refusal);
+    };
+    let server = Server {
+        board: board.try_clone()?,
+        answers: false,
+    };
+    let built = Builder::new()
+        .max_size(1)
+        .min_idle(Some(1))
+        .test_on_check_out(false)
+        .build_unchecked(server, clock, rt, blank);
+    let Ok(pool) = built else {
+        return Ok(Met::Refusal);
+    };
+    let pool: CountedPool<R, L> = pool;
+    let Ok(mut driver) = Driver::new(&pool) else {
+        return Ok(Met::Refusal);
+    };
+    let holds = driver.turn(Moment(0)).polled == 1;
+    let met = match drive(driver, Once) {
+        Ok(thread) => {
+            assert_eq!(&rt; thread.join(&rt).turns, 1);
+            if holds { Met::Nothing } else { Met::Refusal }
+        }
+        Err(NoThread) => {
+            if holds {
+                let _ = rt.eprintln("no thread was made for a driver with a task");
+            }
+            Met::Refusal
+        }
+    };
+    if holds {
+        assert!(&rt; pool.add(board.make()?).is_ok());
+        assert_eq!(&rt; sizes(&pool), (1, 1));
+    }
+    Ok(met)
 }
 
 /// Asserts that each connection was dropped once, and that so many were made where the run had all its memory, of which it tells.
@@ -259,5 +332,15 @@ fn driver_opens_three_in_two_turns(rt: HostRuntime) -> Result<(), Fail> {
     };
     let met = drives::<HostRuntime, Brand>(rt, Blank::new(3), board.try_clone()?)?;
     tell(&rt, &board, met, 3);
+    Ok(())
+}
+
+#[test]
+fn driver_without_a_thread_gives_back(rt: HostRuntime) -> Result<(), Fail> {
+    let Ok(board) = Board::new(rt.alloc()) else {
+        return Ok(());
+    };
+    let met = is_driven::<HostRuntime, Brand>(rt, Blank::new(1), board.try_clone()?)?;
+    tell(&rt, &board, met, 1);
     Ok(())
 }
