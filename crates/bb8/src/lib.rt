@@ -221,8 +221,6 @@ mod machine;
 pub mod owned;
 pub mod pool;
 mod serving;
-#[cfg(test)]
-mod tests;
 
 pub use bb8_core::api::{
     AddError, Clock, Config, CustomizeConnection, ErrorSink, ManageConnection, Memory, Moment,

@@ -9,7 +9,5 @@ mod overrides;
 pub mod script;
 mod settings;
 pub mod streams;
-#[cfg(test)]
-mod tests;
 pub mod text;
 pub mod verdict;

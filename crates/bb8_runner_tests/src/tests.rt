@@ -3,10 +3,13 @@
 use bb8_runner::fault::Fault;
 use bb8_runner::script::run_script;
 use bb8_runner::verdict::Verdict;
+use std::fmt::Debug;
 use std::io;
 use std::io::{ErrorKind, Read, Write};
+use std::process::Abort;
 use std::test::Fail;
 
+mod answers;
 mod checks;
 mod generated;
 mod generated_checks;
@@ -18,8 +21,14 @@ mod judged;
 mod original;
 mod reaps;
 mod rows;
+mod spelled;
 mod waits;
 mod worked;
+
+/// Ends the test where what was found is not what is wanted, and prints both.
+fn assert_equal<T: PartialEq + Debug + Drop>(rt: &impl Abort, found: T, wanted: T) {
+    assert_eq!(rt; found, wanted);
+}
 
 /// Three gets are served while two connections are kept idle, and all return.
 const FIRST_SCRIPT: &[u8] = b"\
@@ -105,8 +114,8 @@ fn run(rt: &HostRuntime, input: &[u8]) -> Result<(Verdict, Vec<u8>), Fail> {
 fn succeeds_run_of_the_first_script(rt: HostRuntime) -> Result<(), Fail> {
     for input in [FIRST_SCRIPT, &FIRST_SCRIPT[..FIRST_SCRIPT.len() - 1]] {
         let (end, written) = run(&rt, input)?;
-        assert_eq!(rt; end, Verdict::Ran);
-        assert_eq!(rt; written.as_slice(), FIRST_ANSWERS);
+        assert_equal(&rt, end, Verdict::Ran);
+        assert_equal(&rt, written.as_slice(), FIRST_ANSWERS);
     }
     Ok(())
 }
@@ -116,8 +125,12 @@ fn tells_a_line_that_was_cut(rt: HostRuntime) -> Result<(), Fail> {
     // After `0 return`, and after `0 retu`.
     for cut in [3, 5] {
         let (end, written) = run(&rt, &FIRST_SCRIPT[..FIRST_SCRIPT.len() - cut])?;
-        assert_eq!(rt; end, Verdict::Bad);
-        assert_eq!(rt; written.as_slice(), b"line 21: not an event\n".as_slice());
+        assert_equal(&rt, end, Verdict::Bad);
+        assert_equal(
+            &rt,
+            written.as_slice(),
+            b"line 21: not an event\n".as_slice(),
+        );
     }
     Ok(())
 }
@@ -125,8 +138,8 @@ fn tells_a_line_that_was_cut(rt: HostRuntime) -> Result<(), Fail> {
 #[test]
 fn answers_the_second_script(rt: HostRuntime) -> Result<(), Fail> {
     let (end, written) = run(&rt, SECOND_SCRIPT)?;
-    assert_eq!(rt; end, Verdict::Ran);
-    assert_eq!(rt; written.as_slice(), SECOND_ANSWERS);
+    assert_equal(&rt, end, Verdict::Ran);
+    assert_equal(&rt, written.as_slice(), SECOND_ANSWERS);
     Ok(())
 }
 
@@ -186,12 +199,12 @@ fn fails_at_each_read(rt: HostRuntime) {
     let mut whole = reader(None);
     let mut written = Vec::new(rt.alloc());
     let outcome = run_script(rt.alloc(), &mut whole, &mut written);
-    assert_eq!(rt; outcome, Ok(Verdict::Ran));
+    assert_equal(&rt, outcome, Ok(Verdict::Ran));
     assert!(rt; whole.reads > 70);
     for k in 0..whole.reads {
         let mut written = Vec::new(rt.alloc());
         let outcome = run_script(rt.alloc(), &mut reader(Some(k)), &mut written);
-        assert_eq!(rt; outcome, Err(Fault::Read));
+        assert_equal(&rt, outcome, Err(Fault::Read));
         assert!(rt; written.is_empty());
     }
 }
@@ -203,7 +216,7 @@ fn fails_at_each_write(rt: HostRuntime) {
         fails_at: None,
     };
     let outcome = run_script(rt.alloc(), &mut reader(None), &mut whole);
-    assert_eq!(rt; outcome, Ok(Verdict::Ran));
+    assert_equal(&rt, outcome, Ok(Verdict::Ran));
     assert!(rt; whole.writes > 20);
     for k in 0..whole.writes {
         let mut failing = CountedWriter {
@@ -211,6 +224,6 @@ fn fails_at_each_write(rt: HostRuntime) {
             fails_at: Some(k),
         };
         let outcome = run_script(rt.alloc(), &mut reader(None), &mut failing);
-        assert_eq!(rt; outcome, Err(Fault::Write));
+        assert_equal(&rt, outcome, Err(Fault::Write));
     }
 }

@@ -13,8 +13,6 @@ mod reaper;
 mod replenish;
 mod rounds;
 mod tasks;
-#[cfg(test)]
-mod tests;
 mod waits;
 
 pub use backoff::{Backoff, Reply, replay_backoff};

@@ -2,8 +2,6 @@
 #![tactic(auto)]
 
 mod claims;
-#[cfg(test)]
-mod tests;
 mod turning;
 
 pub use turning::{Turn, Turning};

@@ -1,6 +1,6 @@
 //! What is a script and what is not, line by line.
 
-use super::run;
+use super::{assert_equal, run};
 use bb8_runner::verdict::Verdict;
 use std::test::Fail;
 
@@ -141,8 +141,8 @@ const JUDGED_TOO: [(&[u8], Verdict, &[u8]); 37] = [
 fn judges_lines(rt: HostRuntime) -> Result<(), Fail> {
     for (input, verdict, output) in JUDGED {
         let (end, written) = run(&rt, input)?;
-        assert_eq!(rt; end, verdict);
-        assert_eq!(rt; written.as_slice(), output);
+        assert_equal(&rt, end, verdict);
+        assert_equal(&rt, written.as_slice(), output);
     }
     Ok(())
 }
@@ -151,8 +151,8 @@ fn judges_lines(rt: HostRuntime) -> Result<(), Fail> {
 fn judges_more_lines(rt: HostRuntime) -> Result<(), Fail> {
     for (input, verdict, output) in JUDGED_TOO {
         let (end, written) = run(&rt, input)?;
-        assert_eq!(rt; end, verdict);
-        assert_eq!(rt; written.as_slice(), output);
+        assert_equal(&rt, end, verdict);
+        assert_equal(&rt, written.as_slice(), output);
     }
     Ok(())
 }
@@ -184,8 +184,8 @@ const NO_GIVE_UP_OR_LOOK: [&[u8]; 19] = [
 fn judges_lines_of_waiting(rt: HostRuntime) -> Result<(), Fail> {
     for input in NO_GIVE_UP_OR_LOOK {
         let (end, written) = run(&rt, input)?;
-        assert_eq!(rt; end, Verdict::Bad);
-        assert_eq!(rt; written.as_slice(), LINE_TWO);
+        assert_equal(&rt, end, Verdict::Bad);
+        assert_equal(&rt, written.as_slice(), LINE_TWO);
     }
     Ok(())
 }
@@ -208,8 +208,8 @@ const NO_END_OF_A_CHECK: [&[u8]; 10] = [
 fn judges_lines_of_checks(rt: HostRuntime) -> Result<(), Fail> {
     for input in NO_END_OF_A_CHECK {
         let (end, written) = run(&rt, input)?;
-        assert_eq!(rt; end, Verdict::Bad);
-        assert_eq!(rt; written.as_slice(), LINE_TWO);
+        assert_equal(&rt, end, Verdict::Bad);
+        assert_equal(&rt, written.as_slice(), LINE_TWO);
     }
     Ok(())
 }
@@ -231,8 +231,8 @@ const NO_FAILURE_OR_HANDLE: [&[u8]; 9] = [
 fn judges_lines_of_failures_and_handles(rt: HostRuntime) -> Result<(), Fail> {
     for input in NO_FAILURE_OR_HANDLE {
         let (end, written) = run(&rt, input)?;
-        assert_eq!(rt; end, Verdict::Bad);
-        assert_eq!(rt; written.as_slice(), LINE_TWO);
+        assert_equal(&rt, end, Verdict::Bad);
+        assert_equal(&rt, written.as_slice(), LINE_TWO);
     }
     Ok(())
 }

@@ -1,6 +1,6 @@
 //! Scripts with reaps: two with the answers that the original gave, and worked rows.
 
-use super::run;
+use super::{assert_equal, run};
 use bb8_runner::verdict::Verdict;
 use std::test::Fail;
 
@@ -254,8 +254,8 @@ fn answers_the_rows_of_reaping(rt: HostRuntime) -> Result<(), Fail> {
     ];
     for (script, answers) in rows {
         let (end, written) = run(&rt, script)?;
-        assert_eq!(rt; end, Verdict::Ran);
-        assert_eq!(rt; written.as_slice(), answers);
+        assert_equal(&rt, end, Verdict::Ran);
+        assert_equal(&rt, written.as_slice(), answers);
     }
     Ok(())
 }
@@ -272,8 +272,12 @@ const NO_REAP: [&[u8]; 4] = [
 fn judges_lines_of_reaps(rt: HostRuntime) -> Result<(), Fail> {
     for input in NO_REAP {
         let (end, written) = run(&rt, input)?;
-        assert_eq!(rt; end, Verdict::Bad);
-        assert_eq!(rt; written.as_slice(), b"line 2: not an event\n".as_slice());
+        assert_equal(&rt, end, Verdict::Bad);
+        assert_equal(
+            &rt,
+            written.as_slice(),
+            b"line 2: not an event\n".as_slice(),
+        );
     }
     Ok(())
 }

@@ -1,6 +1,6 @@
 //! Worked rows of both orders, of adding, of returning, of the last handle and of checks, as scripts.
 
-use super::run;
+use super::{assert_equal, run};
 use bb8_runner::verdict::Verdict;
 use std::test::Fail;
 
@@ -318,8 +318,8 @@ fn answers_the_worked_rows(rt: HostRuntime) -> Result<(), Fail> {
     ];
     for (script, answers) in rows {
         let (end, written) = run(&rt, script)?;
-        assert_eq!(rt; end, Verdict::Ran);
-        assert_eq!(rt; written.as_slice(), answers);
+        assert_equal(&rt, end, Verdict::Ran);
+        assert_equal(&rt, written.as_slice(), answers);
     }
     Ok(())
 }

@@ -1,6 +1,6 @@
 //! Worked rows of waiting, of giving up and of looking, as scripts.
 
-use super::run;
+use super::{assert_equal, run};
 use bb8_runner::verdict::Verdict;
 use std::test::Fail;
 
@@ -184,8 +184,8 @@ fn answers_the_rows_of_waiting(rt: HostRuntime) -> Result<(), Fail> {
     ];
     for (script, answers) in rows {
         let (end, written) = run(&rt, script)?;
-        assert_eq!(rt; end, Verdict::Ran);
-        assert_eq!(rt; written.as_slice(), answers);
+        assert_equal(&rt, end, Verdict::Ran);
+        assert_equal(&rt, written.as_slice(), answers);
     }
     Ok(())
 }

@@ -1,0 +1,260 @@
+//! Replenishings that are polled by hand over the plain state, with a manager that counts.
+
+use super::assert_equal;
+use bb8_core::api::{
+    Clock, Config, CustomizeConnection, ManageConnection, Moment, NopCustomizer, NopErrorSink,
+};
+use bb8_core::internals::{ClaimAnswer, Key, PoolInternals};
+use bb8_tasks::{PoolOpener, Replenish, ReplenishAnswer};
+use futures::task::Poll;
+use std::alloc::Global;
+use std::process::Abort;
+use std::sync::atomic::{AtomicU64, Ordering};
+use std::time::Duration;
+
+/// One millisecond in nanoseconds.
+const MILLI: u64 = 1_000_000;
+
+/// A manager that numbers its openings from 1. Each is ready at its first poll, with its number as the connection or as the error.
+#[derive(Drop)]
+pub(super) struct Counting {
+    fails: bool,
+    connects: AtomicU64,
+}
+
+impl Counting {
+    /// One that has begun nothing yet.
+    pub(super) fn new(fails: bool) -> Self {
+        Counting {
+            fails,
+            connects: AtomicU64::new(0),
+        }
+    }
+
+    /// How many openings were begun.
+    pub(super) fn connects(&self) -> u64 {
+        self.connects.load(Ordering::SeqCst)
+    }
+}
+
+impl ManageConnection for Counting {
+    type Connection = u64;
+
+    type Error = u64;
+
+    type Connecting = u64;
+
+    type Checking = ();
+
+    fn connect(&self) -> u64 {
+        self.connects
+            .fetch_add(1, Ordering::SeqCst)
+            .saturating_add(1)
+    }
+
+    fn poll_connect(&self, connecting: &mut u64, _moment: Moment) -> Poll<Result<u64, u64>> {
+        let number = *connecting;
+        Poll::Ready(if self.fails { Err(number) } else { Ok(number) })
+    }
+
+    fn is_valid(&self, _connection: &mut u64) {}
+
+    fn poll_valid(
+        &self,
+        _connection: &mut u64,
+        _checking: &mut (),
+        _moment: Moment,
+    ) -> Poll<Result<(), u64>> {
+        Poll::Ready(Ok(()))
+    }
+
+    fn has_broken(&self, _connection: &mut u64) -> bool {
+        false
+    }
+}
+
+/// A customizer whose preparation of connection 1 fails, and of each other one is pending once.
+#[derive(Drop)]
+struct Refusing;
+
+impl CustomizeConnection<u64, u64> for Refusing {
+    type Acquiring = bool;
+
+    fn on_acquire(&self, _connection: &mut u64) -> bool {
+        false
+    }
+
+    fn poll_acquire(
+        &self,
+        connection: &mut u64,
+        acquiring: &mut bool,
+        _moment: Moment,
+    ) -> Poll<Result<(), u64>> {
+        if *connection == 1 {
+            return Poll::Ready(Err(*connection));
+        }
+        if *acquiring {
+            return Poll::Ready(Ok(()));
+        }
+        *acquiring = true;
+        Poll::Pending
+    }
+}
+
+/// A clock that stands still at 0.
+#[derive(Drop)]
+pub(super) struct Still;
+
+impl Clock for Still {
+    fn now(&self) -> Moment {
+        Moment(0)
+    }
+}
+
+/// The settings of a pool of one connection, which is to be idle, with five seconds.
+fn one_in_five_seconds() -> Config {
+    Config {
+        max_size: 1,
+        min_idle: Some(1),
+        connection_timeout: Duration::from_secs(5),
+        ..Config::default()
+    }
+}
+
+/// A pool of one connection, whose approval is claimed.
+fn pool_of_one(rt: &impl Abort, alloc: Global, config: Config) -> (PoolInternals<u64>, Key) {
+    if !config.is_lawful() {
+        panic!(rt; "the settings are not lawful");
+    }
+    let mut pool = PoolInternals::new(alloc, config);
+    let _ = pool.fill(Moment(0), false);
+    let ClaimAnswer::Claimed(Some(approval)) = pool.claim(Moment(0)) else {
+        panic!(rt; "there is no approval");
+    };
+    (pool, approval)
+}
+
+/// How many connections there are, and how many are idle.
+pub(super) fn sizes(pool: &mut PoolInternals<u64>) -> (u32, u32) {
+    let state = pool.state(Moment(0));
+    (state.connections, state.idle_connections)
+}
+
+#[test]
+fn opening_that_always_fails(rt: HostRuntime) {
+    let config = one_in_five_seconds();
+    let (mut pool, approval) = pool_of_one(&rt, rt.alloc(), config);
+    let manager = Counting::new(true);
+    let mut opener = PoolOpener::new(&manager, &NopErrorSink, &NopCustomizer, &Still);
+    let mut task = Replenish::new(approval);
+    for (at, answer) in [
+        (0, ReplenishAnswer::Retrying(1)),
+        (400 * MILLI - 1, ReplenishAnswer::Pending),
+        (400 * MILLI, ReplenishAnswer::Retrying(2)),
+        (1200 * MILLI - 1, ReplenishAnswer::Pending),
+        (1200 * MILLI, ReplenishAnswer::Retrying(3)),
+        (2800 * MILLI - 1, ReplenishAnswer::Pending),
+        (2800 * MILLI, ReplenishAnswer::Retrying(4)),
+        (5300 * MILLI - 1, ReplenishAnswer::Pending),
+        (5300 * MILLI, ReplenishAnswer::Failed(5)),
+        (9000 * MILLI, ReplenishAnswer::GivenBack),
+    ] {
+        assert_equal(
+            &rt,
+            task.poll(Moment(at), &mut opener, &config, &mut pool),
+            answer,
+        );
+    }
+    assert_equal(&rt, manager.connects(), 5);
+    // The approval was given back, and a fill grants it again.
+    assert!(&rt; pool.find(approval.number).is_none());
+    assert_equal(&rt, pool.fill(Moment(0), false).count, 1);
+    task.give_back(Moment(0), &mut opener, &mut pool);
+}
+
+#[test]
+fn failed_preparation_is_a_failed_try(rt: HostRuntime) {
+    let config = one_in_five_seconds();
+    let (mut pool, approval) = pool_of_one(&rt, rt.alloc(), config);
+    let manager = Counting::new(false);
+    let mut opener = PoolOpener::new(&manager, &NopErrorSink, &Refusing, &Still);
+    let mut task = Replenish::new(approval);
+    let first = task.poll(Moment(0), &mut opener, &config, &mut pool);
+    assert_equal(&rt, first, ReplenishAnswer::Retrying(1));
+    let second = task.poll(Moment(400 * MILLI), &mut opener, &config, &mut pool);
+    assert_equal(&rt, second, ReplenishAnswer::Pending);
+    assert_equal(&rt, sizes(&mut pool), (0, 0));
+    let third = task.poll(Moment(0), &mut opener, &config, &mut pool);
+    assert_equal(&rt, third, ReplenishAnswer::Entered);
+    assert_equal(&rt, sizes(&mut pool), (1, 1));
+    let fourth = task.poll(Moment(0), &mut opener, &config, &mut pool);
+    assert_equal(&rt, fourth, ReplenishAnswer::GivenBack);
+    assert_equal(&rt, manager.connects(), 2);
+    task.give_back(Moment(0), &mut opener, &mut pool);
+    assert_equal(&rt, sizes(&mut pool), (1, 1));
+}
+
+#[test]
+fn no_handle_gives_the_approval_back(rt: HostRuntime) {
+    let config = one_in_five_seconds();
+    let (mut pool, approval) = pool_of_one(&rt, rt.alloc(), config);
+    let manager = Counting::new(false);
+    let mut opener = PoolOpener::new(&manager, &NopErrorSink, &Refusing, &Still);
+    let mut task = Replenish::new(approval);
+    assert_equal(
+        &rt,
+        task.poll(Moment(0), &mut opener, &config, &mut pool),
+        ReplenishAnswer::Retrying(1),
+    );
+    assert_equal(
+        &rt,
+        task.poll(Moment(400 * MILLI), &mut opener, &config, &mut pool),
+        ReplenishAnswer::Pending,
+    );
+    if !pool.fits_leave() {
+        panic!(&rt; "no handle is alive");
+    }
+    let _ = pool.leave(Moment(0));
+    assert!(&rt; pool.find(approval.number).is_some());
+    assert_equal(
+        &rt,
+        task.poll(Moment(0), &mut opener, &config, &mut pool),
+        ReplenishAnswer::GivenBack,
+    );
+    assert!(&rt; pool.find(approval.number).is_none());
+    task.give_back(Moment(0), &mut opener, &mut pool);
+}
+
+#[test]
+fn task_that_is_let_go_gives_its_approval_back(rt: HostRuntime) {
+    let config = one_in_five_seconds();
+    let (mut pool, approval) = pool_of_one(&rt, rt.alloc(), config);
+    let manager = Counting::new(false);
+    let mut opener = PoolOpener::new(&manager, &NopErrorSink, &NopCustomizer, &Still);
+    let task = Replenish::new(approval);
+    task.give_back(Moment(0), &mut opener, &mut pool);
+    assert!(&rt; pool.find(approval.number).is_none());
+    assert_equal(&rt, pool.fill(Moment(0), false).count, 1);
+    assert!(&rt; !pool.fits_failed(approval));
+    assert_equal(&rt, manager.connects(), 0);
+}
+
+#[test]
+fn unknown_approval_enters_nothing(rt: HostRuntime) {
+    let config = one_in_five_seconds();
+    let (mut pool, approval) = pool_of_one(&rt, rt.alloc(), config);
+    let manager = Counting::new(false);
+    let mut opener = PoolOpener::new(&manager, &NopErrorSink, &NopCustomizer, &Still);
+    let mut task = Replenish::new(Key {
+        number: 7,
+        place: 0,
+    });
+    assert_equal(
+        &rt,
+        task.poll(Moment(0), &mut opener, &config, &mut pool),
+        ReplenishAnswer::GivenBack,
+    );
+    assert_equal(&rt, sizes(&mut pool), (0, 0));
+    assert!(&rt; pool.find(approval.number).is_some());
+    task.give_back(Moment(0), &mut opener, &mut pool);
+}
