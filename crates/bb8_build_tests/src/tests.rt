@@ -8,10 +8,16 @@ use bb8::{
 };
 use futures::task::Poll;
 use std::alloc::Global;
+use std::fmt::Debug;
 use std::process::Abort;
 use std::random::RandomSource;
 use std::sync::atomic::{AtomicU64, Ordering};
 use std::sync::{Arc, Wait};
+
+/// Ends the test where what was found is not what is wanted, and prints both.
+fn assert_equal<T: PartialEq + Debug + Drop>(rt: &impl Abort, found: T, wanted: T) {
+    assert_eq!(rt; found, wanted);
+}
 
 /// What a test of a pool asks of its runtime.
 trait Runtime: Abort + Wait + RandomSource + AllocGlobal + Copy + Send + Sync + Drop + 'static {}

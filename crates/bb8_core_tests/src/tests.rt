@@ -3,6 +3,8 @@
 use bb8_core::api::{Config, State, Statistics};
 use bb8_core::internals::Grant;
 use bb8_core::replay::{Act, Answer};
+use std::fmt::Debug;
+use std::process::Abort;
 use std::time::Duration;
 
 mod at_once;
@@ -14,6 +16,11 @@ mod replays;
 mod steps;
 mod surface;
 mod waiters;
+
+/// Ends the test where what was found is not what is wanted, and prints both.
+fn assert_equal<T: PartialEq + Debug + Drop>(rt: &impl Abort, found: T, wanted: T) {
+    assert_eq!(rt; found, wanted);
+}
 
 /// One second in nanoseconds.
 const SECOND: u64 = 1_000_000_000;

@@ -6,10 +6,16 @@ mod polls;
 
 use bb8::{AddError, PoolParts};
 use bb8_hostile::{Harness, HostilePool, Source};
+use std::fmt::Debug;
 use std::process::Abort;
 use std::random::RandomSource;
 use std::sync::Wait;
 use std::test::Fail;
+
+/// Ends the test where what was found is not what is wanted, and prints both.
+fn assert_equal<T: PartialEq + Debug + Drop>(rt: &impl Abort, found: T, wanted: T) {
+    assert_eq!(rt; found, wanted);
+}
 
 /// What a test of a pool asks of its runtime.
 trait Runtime: Abort + Wait + RandomSource + AllocGlobal + Copy + Send + Sync + Drop + 'static {}
@@ -55,7 +61,7 @@ fn numbers_of_a_seed(rt: HostRuntime) -> Result<(), Fail> {
         4_593_380_528_125_082_431,
         16_408_922_859_458_223_821,
     ] {
-        assert_eq!(rt; source.next(), number);
+        assert_equal(&rt, source.next(), number);
     }
     Ok(())
 }

@@ -3,11 +3,18 @@
 use bb8_core::api::{Config, Moment};
 use bb8_core::internals::Grant;
 use bb8_core::replay::{Act, Event};
+use std::fmt::Debug;
+use std::process::Abort;
 
 mod audits;
 mod meeting;
 mod refusals;
 mod scripts;
+
+/// Ends the test where what was found is not what is wanted, and prints both.
+fn assert_equal<T: PartialEq + Debug + Drop>(rt: &impl Abort, found: T, wanted: T) {
+    assert_eq!(rt; found, wanted);
+}
 
 /// A pool that checks no connection before it hands it out.
 fn unchecked(max_size: u32, min_idle: Option<u32>) -> Config {

@@ -20,11 +20,17 @@ use bb8::{
 use futures::task::Poll;
 use std::error::Error;
 use std::fmt;
+use std::fmt::Debug;
 use std::process::Abort;
 use std::random::RandomSource;
 use std::sync::Wait;
 use std::test::Fail;
 use std::time::Duration;
+
+/// Ends the test where what was found is not what is wanted, and prints both.
+fn assert_equal<T: PartialEq + Debug + Drop>(rt: &impl Abort, found: T, wanted: T) {
+    assert_eq!(rt; found, wanted);
+}
 
 /// What a test of a pool asks of its runtime.
 trait Runtime: Abort + Wait + RandomSource + AllocGlobal + Copy + Send + Sync + Drop + 'static {}
@@ -130,15 +136,15 @@ impl Clock for StoppedClock {
 struct Plain;
 
 fn check_defaults(rt: &impl Abort, config: Config) {
-    assert_eq!(rt; config.max_size, 10);
-    assert_eq!(rt; config.min_idle, None);
+    assert_equal(&rt, config.max_size, 10);
+    assert_equal(&rt, config.min_idle, None);
     assert!(rt; config.test_on_check_out);
-    assert_eq!(rt; config.max_lifetime, Some(Duration::from_secs(1800)));
-    assert_eq!(rt; config.idle_timeout, Some(Duration::from_secs(600)));
-    assert_eq!(rt; config.connection_timeout, Duration::from_secs(30));
+    assert_equal(&rt, config.max_lifetime, Some(Duration::from_secs(1800)));
+    assert_equal(&rt, config.idle_timeout, Some(Duration::from_secs(600)));
+    assert_equal(&rt, config.connection_timeout, Duration::from_secs(30));
     assert!(rt; config.retry_connection);
-    assert_eq!(rt; config.reaper_rate, Duration::from_secs(30));
-    assert_eq!(rt; config.queue_strategy, QueueStrategy::Fifo);
+    assert_equal(&rt, config.reaper_rate, Duration::from_secs(30));
+    assert_equal(&rt, config.queue_strategy, QueueStrategy::Fifo);
     assert!(rt; config.is_lawful());
 }
 
@@ -163,15 +169,15 @@ fn sets_all(rt: HostRuntime) {
         .error_sink(OtherSink)
         .connection_customizer(AddsOne);
     let config = Config::from(&builder);
-    assert_eq!(rt; config.max_size, 3);
-    assert_eq!(rt; config.min_idle, Some(2));
+    assert_equal(&rt, config.max_size, 3);
+    assert_equal(&rt, config.min_idle, Some(2));
     assert!(rt; !config.test_on_check_out);
-    assert_eq!(rt; config.max_lifetime, Some(Duration::from_secs(60)));
-    assert_eq!(rt; config.idle_timeout, None);
-    assert_eq!(rt; config.connection_timeout, Duration::from_millis(1500));
+    assert_equal(&rt, config.max_lifetime, Some(Duration::from_secs(60)));
+    assert_equal(&rt, config.idle_timeout, None);
+    assert_equal(&rt, config.connection_timeout, Duration::from_millis(1500));
     assert!(rt; !config.retry_connection);
-    assert_eq!(rt; config.reaper_rate, Duration::from_secs(5));
-    assert_eq!(rt; config.queue_strategy, QueueStrategy::Lifo);
+    assert_equal(&rt, config.reaper_rate, Duration::from_secs(5));
+    assert_equal(&rt, config.queue_strategy, QueueStrategy::Lifo);
     assert!(rt; config.is_lawful());
 }
 
@@ -184,7 +190,7 @@ fn prints_errors(rt: HostRuntime) -> Result<(), Fail> {
         (RunError::Exhausted, "Numbers used up in bb8"),
     ];
     for (error, text) in &run_errors {
-        assert_eq!(rt; format!(in rt.alloc(); "{error}")?.as_str(), *text);
+        assert_equal(&rt, format!(in rt.alloc(); "{error}")?.as_str(), *text);
     }
     let add_errors = [
         (
@@ -201,11 +207,12 @@ fn prints_errors(rt: HostRuntime) -> Result<(), Fail> {
         ),
     ];
     for (error, text) in &add_errors {
-        assert_eq!(rt; format!(in rt.alloc(); "{error}")?.as_str(), *text);
+        assert_equal(&rt, format!(in rt.alloc(); "{error}")?.as_str(), *text);
     }
-    assert_eq!(rt;
+    assert_equal(
+        &rt,
         format!(in rt.alloc(); "{Memory}")?.as_str(),
-        "No memory in bb8"
+        "No memory in bb8",
     );
     Ok(())
 }
@@ -275,13 +282,19 @@ where
 fn opens_by_hand(rt: HostRuntime) {
     let early = StoppedClock(Moment(4));
     let late = StoppedClock(Moment(5));
-    assert_eq!(rt; opened(&SlowManager, &NopErrorSink, &AddsOne, &early), None);
-    assert_eq!(rt;
-        opened(&SlowManager, &NopErrorSink, &AddsOne, &late),
-        Some(8)
+    assert_equal(
+        &rt,
+        opened(&SlowManager, &NopErrorSink, &AddsOne, &early),
+        None,
     );
-    assert_eq!(rt;
+    assert_equal(
+        &rt,
+        opened(&SlowManager, &NopErrorSink, &AddsOne, &late),
+        Some(8),
+    );
+    assert_equal(
+        &rt,
         opened(&SlowManager, &OtherSink, &NopCustomizer, &late),
-        None
+        None,
     );
 }

@@ -3,7 +3,10 @@ ghost use Rattle.std.specs.Prelude.{Some, false};
 ghost use Rattle.bb8.specs.Parts.{IsBlankOf, unchecked_of};
 ghost use Rattle.bb8.specs.Settings.{default_settings};
 
-use super::{Count, Counts, Errors, NumberedPool, Numbering, Runtime, Server, ServerPool, sizes};
+use super::{
+    Count, Counts, Errors, NumberedPool, Numbering, Runtime, Server, ServerPool, assert_equal,
+    sizes,
+};
 use bb8::{Builder, Building, Moment, NopCustomizer, PoolParts, RunError, SetClock};
 use futures::task::Poll;
 use futures::test::MockTask;
@@ -45,17 +48,17 @@ fn always_fails<R: Runtime, L: PoolParts>(rt: R, blank: Blank) -> Result<(), Fai
     ] {
         clock.set(Moment(at));
         assert!(&rt; task.poll(&mut building).is_pending());
-        assert_eq!(&rt; counts.both(), (tries, tries));
+        assert_equal(&rt, counts.both(), (tries, tries));
     }
     clock.set(Moment(5300 * MILLI));
     let Poll::Ready(Err(error)) = task.poll(&mut building) else {
         panic!(&rt; "the last try did not fail");
     };
-    assert_eq!(&rt; error, RunError::User(5));
-    assert_eq!(&rt; counts.both(), (5, 4));
+    assert_equal(&rt, error, RunError::User(5));
+    assert_equal(&rt, counts.both(), (5, 4));
     clock.set(Moment(9000 * MILLI));
     assert!(&rt; task.poll(&mut building).is_pending());
-    assert_eq!(&rt; counts.both(), (5, 4));
+    assert_equal(&rt, counts.both(), (5, 4));
     Ok(())
 }
 
@@ -85,8 +88,8 @@ fn fails_first<R: Runtime, L: PoolParts>(rt: R, blank: Blank) -> Result<(), Fail
     let Poll::Ready(Err(error)) = task.poll(&mut building) else {
         panic!(&rt; "the first try did not fail");
     };
-    assert_eq!(&rt; error, RunError::User(1));
-    assert_eq!(&rt; counts.both(), (1, 0));
+    assert_equal(&rt, error, RunError::User(1));
+    assert_equal(&rt, counts.both(), (1, 0));
     Ok(())
 }
 
@@ -115,7 +118,7 @@ fn builds<R: Runtime, L: PoolParts>(rt: R, blank: Blank) -> Result<(), Fail>
     };
     assert!(&rt; task.poll(&mut building).is_pending());
     let pool: ServerPool<R, L> = pool;
-    assert_eq!(&rt; sizes(&pool), (2, 2, 2));
+    assert_equal(&rt, sizes(&pool), (2, 2, 2));
     Ok(())
 }
 
@@ -140,8 +143,8 @@ fn builds_empty<R: Runtime, L: PoolParts>(rt: R, blank: Blank) -> Result<(), Fai
     let Poll::Ready(Ok(pool)) = task.poll(&mut building) else {
         panic!(&rt; "the pool was not built");
     };
-    assert_eq!(&rt; sizes(&pool), (0, 0, 0));
-    assert_eq!(&rt; counts.connects.get(), 0);
+    assert_equal(&rt, sizes(&pool), (0, 0, 0));
+    assert_equal(&rt, counts.connects.get(), 0);
     Ok(())
 }
 
@@ -181,13 +184,13 @@ fn numbers<R: Runtime, L: PoolParts>(rt: R, blank: Blank) -> Result<(), Fail>
     let Poll::Ready(Ok(second)) = task.poll(&mut pool.get()) else {
         panic!(&rt; "the second get was not served");
     };
-    assert_eq!(&rt; (first.field, second.field), (1, 2));
+    assert_equal(&rt, (first.field, second.field), (1, 2));
     drop(first);
     drop(second);
     let Poll::Ready(Ok(third)) = task.poll(&mut pool.get()) else {
         panic!(&rt; "the third get was not served");
     };
-    assert_eq!(&rt; third.field, 1);
+    assert_equal(&rt, third.field, 1);
     drop(third);
     Ok(())
 }
@@ -221,13 +224,13 @@ fn cancels<R: Runtime, L: PoolParts>(rt: R, blank: Blank, polled: bool) -> Resul
 #[test]
 fn cancelled_building(rt: HostRuntime) -> Result<(), Fail> {
     let begun = cancels::<HostRuntime, Brand>(rt, Blank::new(2), true)?;
-    assert_eq!(&rt; begun, 2);
+    assert_equal(&rt, begun, 2);
     Ok(())
 }
 
 #[test]
 fn cancelled_before_its_first_poll(rt: HostRuntime) -> Result<(), Fail> {
     let begun = cancels::<HostRuntime, Brand>(rt, Blank::new(2), false)?;
-    assert_eq!(&rt; begun, 0);
+    assert_equal(&rt, begun, 0);
     Ok(())
 }

@@ -1,7 +1,7 @@
 //! Connections that a pool opens and does not count.
 ghost use Rattle.bb8.specs.Parts.{IsBlankOf, unchecked_of};
 
-use super::{Count, Counts, NumberedPool, Numbering, Opened, Runtime, sizes};
+use super::{Count, Counts, NumberedPool, Numbering, Opened, Runtime, assert_equal, sizes};
 use bb8::{Builder, Moment, PoolParts, SetClock};
 use futures::task::Poll;
 use futures::test::MockTask;
@@ -30,25 +30,25 @@ fn opens_two<R: Runtime, L: PoolParts>(rt: R, blank: Blank) -> Result<(), Fail>
         .build_unchecked(server, clock.try_clone()?, rt, blank)?;
     let mut first = pool.dedicated_connection();
     let mut second = pool.dedicated_connection();
-    assert_eq!(&rt; counts.connects.get(), 0);
-    assert_eq!(&rt; task.poll(&mut first), Poll::Pending);
-    assert_eq!(&rt; counts.connects.get(), 1);
+    assert_equal(&rt, counts.connects.get(), 0);
+    assert_equal(&rt, task.poll(&mut first), Poll::Pending);
+    assert_equal(&rt, counts.connects.get(), 1);
     clock.set(Moment(5));
-    assert_eq!(&rt; task.poll(&mut first), Poll::Pending);
-    assert_eq!(&rt; task.poll(&mut second), Poll::Pending);
+    assert_equal(&rt, task.poll(&mut first), Poll::Pending);
+    assert_equal(&rt, task.poll(&mut second), Poll::Pending);
     clock.set(Moment(4));
     let opened = Opened {
         opening: 1,
         field: 1,
     };
-    assert_eq!(&rt; task.poll(&mut first), Poll::Ready(Ok(opened)));
-    assert_eq!(&rt; task.poll(&mut second), Poll::Ready(Err(100)));
-    assert_eq!(&rt; task.poll(&mut first), Poll::Pending);
-    assert_eq!(&rt; counts.connects.get(), 2);
-    assert_eq!(&rt; sizes(&pool), (0, 0, 0));
+    assert_equal(&rt, task.poll(&mut first), Poll::Ready(Ok(opened)));
+    assert_equal(&rt, task.poll(&mut second), Poll::Ready(Err(100)));
+    assert_equal(&rt, task.poll(&mut first), Poll::Pending);
+    assert_equal(&rt, counts.connects.get(), 2);
+    assert_equal(&rt, sizes(&pool), (0, 0, 0));
     let third = pool.dedicated_connection();
     third.cancel();
-    assert_eq!(&rt; counts.connects.get(), 2);
+    assert_equal(&rt, counts.connects.get(), 2);
     Ok(())
 }
 

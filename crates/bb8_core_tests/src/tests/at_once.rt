@@ -1,7 +1,7 @@
 //! A get that begins and is served in one step.
 
 use super::steps::{Link, NOW, add, begin, put_back, served_by};
-use super::unchecked;
+use super::{assert_equal, unchecked};
 use bb8_core::api::Config;
 use bb8_core::internals::{AddAnswer, AtOnce, BeginAnswer, PoolInternals, PutBackAnswer};
 use std::process::Abort;
@@ -34,16 +34,16 @@ fn succeeds_serving_at_once(rt: HostRuntime) {
     let Some(served) = serve_at_once(&rt, &mut pool) else {
         panic!(rt; "the second get was not served at once");
     };
-    assert_eq!(rt; served.get, 1);
-    assert_eq!(rt; served.key.number, 0);
-    assert_eq!(rt; served.conn, Link::Red);
+    assert_equal(&rt, served.get, 1);
+    assert_equal(&rt, served.key.number, 0);
+    assert_equal(&rt, served.conn, Link::Red);
     // Nothing is idle now, and so nothing happens.
     assert!(rt; serve_at_once(&rt, &mut pool).is_none());
     let state = pool.state(NOW);
-    assert_eq!(rt; state.connections, 1);
-    assert_eq!(rt; state.idle_connections, 0);
-    assert_eq!(rt; state.statistics.get_started, 2);
-    assert_eq!(rt; state.statistics.get_direct, 2);
+    assert_equal(&rt, state.connections, 1);
+    assert_equal(&rt, state.idle_connections, 0);
+    assert_equal(&rt, state.statistics.get_started, 2);
+    assert_equal(&rt, state.statistics.get_direct, 2);
 }
 
 #[test]

@@ -5,7 +5,7 @@ use super::replays::shown_after;
 use super::steps::{
     Link, NOW, add, begin, checked_err, checked_ok, give_up_held, put_back, taken_by,
 };
-use super::{Line, SECOND, granted, served, unchecked};
+use super::{Line, SECOND, assert_equal, granted, served, unchecked};
 use bb8_core::api::{Config, State, Statistics};
 use bb8_core::internals::{
     AddAnswer, BeginAnswer, CheckedErrAnswer, CheckedOkAnswer, GetKey, GiveUpAnswer, PoolInternals,
@@ -88,14 +88,18 @@ fn fitting(pool: &PoolInternals<Link>, get: u64) -> (bool, bool, bool, bool) {
 fn succeeds_both_ends_of_a_check(rt: HostRuntime) {
     let mut pool = one_idle(&rt, rt.alloc());
     let get = begun(&rt, &mut pool);
-    assert_eq!(rt; fitting(&pool, 0), (true, false, false, false));
+    assert_equal(&rt, fitting(&pool, 0), (true, false, false, false));
     let (key, conn, grant) = taken_by(&rt, &mut pool, get);
-    assert_eq!(rt; (key.number, &conn, grant), (0, &Link::Red, granted(1, 0)));
-    assert_eq!(rt; fitting(&pool, 0), (false, true, true, false));
+    assert_equal(
+        &rt,
+        (key.number, &conn, grant),
+        (0, &Link::Red, granted(1, 0)),
+    );
+    assert_equal(&rt, fitting(&pool, 0), (false, true, true, false));
     let CheckedOkAnswer::Served(key) = checked_ok(&rt, &mut pool, get, key.place);
-    assert_eq!(rt; key.number, 0);
-    assert_eq!(rt; fitting(&pool, 0), (false, false, false, true));
-    assert_eq!(rt; pool.state(NOW), served(1, 0, 1, 0));
+    assert_equal(&rt, key.number, 0);
+    assert_equal(&rt, fitting(&pool, 0), (false, false, false, true));
+    assert_equal(&rt, pool.state(NOW), served(1, 0, 1, 0));
     let PutBackAnswer::Kept(None) = put_back(&rt, &mut pool, key, conn, false) else {
         panic!(rt; "it was closed, or notified somebody");
     };
@@ -106,11 +110,15 @@ fn succeeds_both_ends_of_a_check(rt: HostRuntime) {
     ) else {
         panic!(rt; "somebody was notified");
     };
-    assert_eq!(rt; (closed.number, conn, grant), (0, Link::Red, granted(1, 0)));
-    assert_eq!(rt; fitting(&pool, 1), (true, false, false, false));
+    assert_equal(
+        &rt,
+        (closed.number, conn, grant),
+        (0, Link::Red, granted(1, 0)),
+    );
+    assert_equal(&rt, fitting(&pool, 1), (true, false, false, false));
     let mut wanted = counted(2, 1, 0, 0);
     wanted.connections_closed_invalid = 1;
-    assert_eq!(rt; pool.state(NOW), shown(0, wanted));
+    assert_equal(&rt, pool.state(NOW), shown(0, wanted));
     pool.limits();
 }
 
@@ -131,7 +139,7 @@ fn succeeds_give_ups_of_a_held_connection(rt: HostRuntime) {
     ) else {
         panic!(rt; "it was closed, or somebody was notified");
     };
-    assert_eq!(rt; kept.number, 0);
+    assert_equal(&rt, kept.number, 0);
     assert!(rt; !pool.fits_give_up(get, true));
     let get = begun(&rt, &mut pool);
     let (_, conn, _) = taken_by(&rt, &mut pool, get);
@@ -146,11 +154,15 @@ fn succeeds_give_ups_of_a_held_connection(rt: HostRuntime) {
     ) else {
         panic!(rt; "it was kept, or somebody was notified");
     };
-    assert_eq!(rt; (closed.number, conn, grant), (0, Link::Red, granted(1, 0)));
+    assert_equal(
+        &rt,
+        (closed.number, conn, grant),
+        (0, Link::Red, granted(1, 0)),
+    );
     assert!(rt; pool.find(0).is_none());
     let mut wanted = counted(2, 0, 1, 1);
     wanted.connections_closed_broken = 1;
-    assert_eq!(rt; pool.state(NOW), shown(0, wanted));
+    assert_equal(&rt, pool.state(NOW), shown(0, wanted));
 }
 
 #[test]
@@ -168,9 +180,9 @@ fn stale_hints_name_the_right_connection(rt: HostRuntime) {
     let second = begun(&rt, &mut pool);
     let (green, _, _) = taken_by(&rt, &mut pool, second);
     let CheckedOkAnswer::Served(key) = checked_ok(&rt, &mut pool, first, green.place);
-    assert_eq!(rt; (key.number, key.place), (0, red.place));
+    assert_equal(&rt, (key.number, key.place), (0, red.place));
     let CheckedOkAnswer::Served(key) = checked_ok(&rt, &mut pool, second, 1_000);
-    assert_eq!(rt; (key.number, key.place), (1, green.place));
+    assert_equal(&rt, (key.number, key.place), (1, green.place));
 }
 
 #[test]
@@ -189,7 +201,7 @@ fn succeeds_replay_of_a_broken_invalid_connection(rt: HostRuntime) -> Result<(),
     wanted.connections_closed_broken = 1;
     wanted.connections_closed_invalid = 1;
     let state = shown_after(&rt, rt.alloc(), Config::default(), &lines)?;
-    assert_eq!(rt; state, shown(0, wanted));
+    assert_equal(&rt, state, shown(0, wanted));
     Ok(())
 }
 
@@ -242,7 +254,7 @@ fn succeeds_replay_where_no_connection_is_valid(rt: HostRuntime) -> Result<(), F
     wanted.connections_created = 2;
     wanted.connections_closed_invalid = 2;
     let state = shown_after(&rt, rt.alloc(), config, &none_left_valid())?;
-    assert_eq!(rt; state, shown(0, wanted));
+    assert_equal(&rt, state, shown(0, wanted));
     Ok(())
 }
 
@@ -271,8 +283,8 @@ fn succeeds_replay_of_gets_cancelled_in_their_check(rt: HostRuntime) -> Result<(
     let mut wanted = counted(2, 0, 0, 2);
     wanted.connections_closed_broken = 1;
     let state = shown_after(&rt, rt.alloc(), checked(1, None), &lines)?;
-    assert_eq!(rt; state.statistics.pending_gets(), 0);
-    assert_eq!(rt; state, shown(0, wanted));
+    assert_equal(&rt, state.statistics.pending_gets(), 0);
+    assert_equal(&rt, state, shown(0, wanted));
     Ok(())
 }
 
@@ -293,6 +305,6 @@ fn succeeds_replay_of_a_return_after_the_last_handle(rt: HostRuntime) -> Result<
         (0, Act::Join, Answer::Unfit),
     ];
     let state = shown_after(&rt, rt.alloc(), unchecked(1, None), &lines)?;
-    assert_eq!(rt; state, served(0, 0, 1, 0));
+    assert_equal(&rt, state, served(0, 0, 1, 0));
     Ok(())
 }

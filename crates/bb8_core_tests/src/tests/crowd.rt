@@ -1,7 +1,7 @@
 //! Twenty-five thousand gets that wait: who is notified, what is counted, and that no step lends more than four entries.
 
 use super::waiters::figures;
-use super::{granted, unchecked};
+use super::{assert_equal, granted, unchecked};
 use bb8_core::api::Moment;
 use bb8_core::internals::{
     BeginAnswer, ClaimAnswer, GetKey, GiveUpAnswer, Grant, Key, OpenedAnswer, PoolInternals,
@@ -126,7 +126,7 @@ fn serve_from(rt: &impl Abort, pool: &mut PoolInternals<u32>, first: GetKey) -> 
 
 /// Asserts how many entries the step that was made lent.
 fn assert_lent(rt: &impl Abort, pool: &PoolInternals<u32>, wanted: u64) {
-    assert_eq!(rt; pool.examined(), wanted);
+    assert_equal(&rt, pool.examined(), wanted);
 }
 
 #[test]
@@ -143,7 +143,7 @@ fn steps_tell_what_they_lent(rt: HostRuntime) {
     // Its approval becomes idle, and it is notified.
     let notified = open(&rt, &mut pool, 0);
     assert_lent(&rt, &pool, 2);
-    assert_eq!(rt; notified.map(|get| get.number), Some(0));
+    assert_equal(&rt, notified.map(|get| get.number), Some(0));
     // It is looked at and ends, and the connection goes out; then that is looked at, and becomes idle again.
     let (key, conn) = served_by(&rt, &mut pool, get);
     assert_lent(&rt, &pool, 2);
@@ -164,7 +164,7 @@ fn crowd_is_served_over_three_connections(rt: HostRuntime) {
         } else {
             granted(3, 0)
         };
-        assert_eq!(rt; grant, wanted);
+        assert_equal(&rt, grant, wanted);
     }
     let Some(first) = open(&rt, &mut pool, 0) else {
         panic!(rt; "nobody was notified");
@@ -175,18 +175,19 @@ fn crowd_is_served_over_three_connections(rt: HostRuntime) {
     let Some(third) = open(&rt, &mut pool, 2) else {
         panic!(rt; "nobody was notified");
     };
-    assert_eq!(rt; (first.number, second.number, third.number), (0, 1, 2));
+    assert_equal(&rt, (first.number, second.number, third.number), (0, 1, 2));
     // The first one is served, and with its connection all but the two that the other openings notified.
-    assert_eq!(rt; serve_from(&rt, &mut pool, first), 24_998);
-    assert_eq!(rt; serve_from(&rt, &mut pool, second), 1);
-    assert_eq!(rt; serve_from(&rt, &mut pool, third), 1);
+    assert_equal(&rt, serve_from(&rt, &mut pool, first), 24_998);
+    assert_equal(&rt, serve_from(&rt, &mut pool, second), 1);
+    assert_equal(&rt, serve_from(&rt, &mut pool, third), 1);
     let state = pool.state(NOW);
     assert_few(&rt, &pool);
-    assert_eq!(rt;
+    assert_equal(
+        &rt,
         figures(&state),
-        [3, 3, 25_000, 0, 25_000, 0, 0, 0, 3, 0, 0, 0, 0]
+        [3, 3, 25_000, 0, 25_000, 0, 0, 0, 3, 0, 0, 0, 0],
     );
-    assert_eq!(rt; state.statistics.pending_gets(), 0);
+    assert_equal(&rt, state.statistics.pending_gets(), 0);
 }
 
 #[test]
@@ -205,14 +206,15 @@ fn oldest_that_is_left_is_notified(rt: HostRuntime) -> Result<(), Fail> {
     let Some(oldest) = open(&rt, &mut pool, 0) else {
         panic!(rt; "nobody was notified");
     };
-    assert_eq!(rt; oldest.number, 1);
+    assert_equal(&rt, oldest.number, 1);
     let (key, conn) = served_by(&rt, &mut pool, oldest);
     let next = put_back(&rt, &mut pool, key, conn);
-    assert_eq!(rt; next.map(|get| get.number), Some(3));
+    assert_equal(&rt, next.map(|get| get.number), Some(3));
     let state = pool.state(NOW);
-    assert_eq!(rt;
+    assert_equal(
+        &rt,
         figures(&state),
-        [1, 1, 25_000, 0, 1, 0, 12_500, 0, 1, 0, 0, 0, 0]
+        [1, 1, 25_000, 0, 1, 0, 12_500, 0, 1, 0, 0, 0, 0],
     );
     Ok(())
 }

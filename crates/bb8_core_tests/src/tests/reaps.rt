@@ -1,7 +1,7 @@
 //! Reaps, against values that were worked out by hand.
 
 use super::replays::shown_after;
-use super::{Line, SECOND, granted, served, unchecked};
+use super::{Line, SECOND, assert_equal, granted, served, unchecked};
 use bb8_core::api::{Config, Moment};
 use bb8_core::internals::{BeginAnswer, PoolInternals, ReapAnswer, TryAnswer};
 use bb8_core::replay::{Act, Answer, Reason};
@@ -35,9 +35,9 @@ fn reaps_at_both_limits_once(rt: HostRuntime) -> Result<(), Fail> {
         (SECOND, Act::Reap, reaped(0, 0, 0, 1, 0)),
     ];
     let state = shown_after(&rt, rt.alloc(), config, &lines)?;
-    assert_eq!(rt; state.connections, 0);
-    assert_eq!(rt; state.statistics.connections_closed_idle_timeout, 1);
-    assert_eq!(rt; state.statistics.connections_closed_max_lifetime, 1);
+    assert_equal(&rt, state.connections, 0);
+    assert_equal(&rt, state.statistics.connections_closed_idle_timeout, 1);
+    assert_equal(&rt, state.statistics.connections_closed_max_lifetime, 1);
     Ok(())
 }
 
@@ -63,7 +63,7 @@ fn moment_that_goes_back_counts_as_the_latest(rt: HostRuntime) -> Result<(), Fai
     let mut wanted = served(0, 0, 1, 0);
     wanted.statistics.connections_closed_idle_timeout = 1;
     let state = shown_after(&rt, rt.alloc(), idling(1, None), &lines)?;
-    assert_eq!(rt; state, wanted);
+    assert_equal(&rt, state, wanted);
     Ok(())
 }
 
@@ -102,7 +102,7 @@ fn reap_spares_what_is_out(rt: HostRuntime) -> Result<(), Fail> {
     let mut wanted = served(0, 0, 1, 5);
     wanted.statistics.connections_closed_idle_timeout = 5;
     let state = shown_after(&rt, rt.alloc(), idling(5, Some(5)), &idled_out())?;
-    assert_eq!(rt; state, wanted);
+    assert_equal(&rt, state, wanted);
     Ok(())
 }
 
@@ -185,7 +185,7 @@ fn crowd(rt: &impl Abort, alloc: Global, old: u64) -> PoolInternals<u64> {
 fn reap_passes_what_is_out_and_old(rt: HostRuntime) {
     for (old, left) in [(0, 1000), (40, 960)] {
         let mut pool = crowd(&rt, rt.alloc(), old);
-        assert_eq!(rt; pool.state(Moment(0)).connections, 1000);
+        assert_equal(&rt, pool.state(Moment(0)).connections, 1000);
         let ReapAnswer::Reaped {
             closed,
             by_idle,
@@ -195,10 +195,10 @@ fn reap_passes_what_is_out_and_old(rt: HostRuntime) {
         else {
             panic!(rt; "no handle is alive");
         };
-        assert_eq!(rt; (closed as u64, by_idle, by_life as u64), (old, 0, old));
+        assert_equal(&rt, (closed as u64, by_idle, by_life as u64), (old, 0, old));
         assert!(rt; pool.examined() <= old + 5);
         let state = pool.state(Moment(0));
-        assert_eq!(rt; state.connections, left);
-        assert_eq!(rt; state.idle_connections, left - 3);
+        assert_equal(&rt, state.connections, left);
+        assert_equal(&rt, state.idle_connections, left - 3);
     }
 }

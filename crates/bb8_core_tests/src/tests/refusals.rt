@@ -4,7 +4,7 @@
 use super::steps::{
     Link, NOW, add, begin, failed, give_up, join, leave, opened, put_back, try_get,
 };
-use super::{first_script, unchecked};
+use super::{assert_equal, first_script, unchecked};
 use bb8_core::internals::{
     AddAnswer, BeginAnswer, ClaimAnswer, FailedAnswer, GetKey, GiveUpAnswer, Grant, JoinAnswer,
     LeaveAnswer, OpenedAnswer, PoolInternals, PutBackAnswer, ReapAnswer, Reason, TryAnswer,
@@ -269,12 +269,16 @@ impl Watch {
     /// Asserts that the pool tells of each connection that came in, and of no other.
     fn assert_whole(&self, rt: &impl Abort, pool: &mut PoolInternals<Link>) {
         let state = pool.state(NOW);
-        assert_eq!(rt; state.connections as u64, self.connections());
-        assert_eq!(rt; state.idle_connections as u64, self.count(&[Stands::Idle]));
+        assert_equal(&rt, state.connections as u64, self.connections());
+        assert_equal(
+            &rt,
+            state.idle_connections as u64,
+            self.count(&[Stands::Idle]),
+        );
         let created = state.statistics.connections_created;
-        assert_eq!(rt; created.saturating_add(self.added), self.connections());
-        assert_eq!(rt; state.statistics.get_started, self.next_get);
-        assert_eq!(rt; state.statistics.pending_gets(), self.alive());
+        assert_equal(&rt, created.saturating_add(self.added), self.connections());
+        assert_equal(&rt, state.statistics.get_started, self.next_get);
+        assert_equal(&rt, state.statistics.pending_gets(), self.alive());
     }
 }
 
@@ -299,15 +303,15 @@ fn added(rt: &impl Abort, pool: &mut PoolInternals<Link>, number: u64, broken: b
     match add(rt, pool, link_of(number), broken) {
         AddAnswer::Added(key, notified) => Answer::Added(key.number, number_of(notified)),
         AddAnswer::Broken(conn) => {
-            assert_eq!(rt; conn, link_of(number));
+            assert_equal(&rt, conn, link_of(number));
             Answer::Broken
         }
         AddAnswer::NoCapacity(conn) => {
-            assert_eq!(rt; conn, link_of(number));
+            assert_equal(&rt, conn, link_of(number));
             Answer::NoCapacity
         }
         AddAnswer::Withheld(conn) => {
-            assert_eq!(rt; conn, link_of(number));
+            assert_equal(&rt, conn, link_of(number));
             Answer::Withheld
         }
     }
@@ -318,7 +322,7 @@ fn tried(rt: &impl Abort, pool: &mut PoolInternals<Link>, get: u64) -> Answer {
     let get = pool.find_get(get).expect(rt, "the get is alive");
     match try_get(rt, pool, get) {
         TryAnswer::Served(key, conn, grant) => {
-            assert_eq!(rt; conn, link_of(key.number));
+            assert_equal(&rt, conn, link_of(key.number));
             Answer::Served(key.number, grant)
         }
         TryAnswer::Taken(..) => panic!(rt; "the pool checks nothing"),
@@ -431,7 +435,7 @@ fn let_all_go(rt: &impl Abort, watch: &mut Watch, pool: &mut PoolInternals<Link>
     for get in 0..16 {
         assert_allowed(rt, watch, pool, Act::GiveUp(get, Reason::Cancelled, false));
     }
-    assert_eq!(rt; watch.alive(), 0);
+    assert_equal(&rt, watch.alive(), 0);
 }
 
 /// Takes every idle connection, also where one begin is refused, but not where several are; the other gets wait.
@@ -449,7 +453,7 @@ fn put_all_back(rt: &impl Abort, watch: &mut Watch, pool: &mut PoolInternals<Lin
     for number in 0..8 {
         assert_allowed(rt, watch, pool, Act::PutBack(number, false));
     }
-    assert_eq!(rt; watch.count(&[Stands::Out]), 0);
+    assert_equal(&rt, watch.count(&[Stands::Out]), 0);
 }
 
 #[test]
@@ -472,14 +476,14 @@ fn refused_memory_in_a_replay(rt: HostRuntime) {
     let Ok((answers, mut pool)) = replay(rt.alloc(), config, &events) else {
         return;
     };
-    assert_eq!(rt; answers.len(), events.len());
+    assert_equal(&rt, answers.len(), events.len());
     let mut watch = Watch::new();
     for (event, answer) in events.iter().zip(answers.iter()) {
         assert!(rt; watch.allows(event.act, *answer), "{answer:?} to {event:?}");
     }
     let state = pool.state(NOW);
-    assert_eq!(rt; state.connections as u64, watch.connections());
-    assert_eq!(rt; state.statistics.pending_gets(), watch.alive());
+    assert_equal(&rt, state.connections as u64, watch.connections());
+    assert_equal(&rt, state.statistics.pending_gets(), watch.alive());
 }
 
 #[test]

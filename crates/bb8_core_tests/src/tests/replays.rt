@@ -1,6 +1,6 @@
 //! Lists of events with their answers.
 
-use super::{Line, SECOND, first_script, granted, served, unchecked};
+use super::{Line, SECOND, assert_equal, first_script, granted, served, unchecked};
 use bb8_core::api::{Config, Moment, State};
 use bb8_core::internals::Grant;
 use bb8_core::replay::{Act, Answer, Event, replay, replay_from};
@@ -26,7 +26,7 @@ fn events_of(alloc: Global, lines: &[Line]) -> Result<Vec<Event>, AllocError> {
 
 /// Asserts that the answers are those of the table.
 fn assert_answers(rt: &impl Abort, lines: &[Line], answers: &[Answer]) {
-    assert_eq!(rt; answers.len(), lines.len());
+    assert_equal(&rt, answers.len(), lines.len());
     for ((moment, act, wanted), answer) in lines.iter().zip(answers) {
         assert_eq!(rt; answer, wanted, "{act:?} at {moment}");
     }
@@ -66,9 +66,9 @@ fn shown_after_from(
 fn nothing_happened(rt: HostRuntime) -> Result<(), Fail> {
     let lines = [(0, Act::State, Answer::Shown(served(0, 0, 0, 0)))];
     let state = shown_after(&rt, rt.alloc(), Config::default(), &[])?;
-    assert_eq!(rt; state, served(0, 0, 0, 0));
+    assert_equal(&rt, state, served(0, 0, 0, 0));
     let state = shown_after(&rt, rt.alloc(), Config::default(), &lines)?;
-    assert_eq!(rt; state, served(0, 0, 0, 0));
+    assert_equal(&rt, state, served(0, 0, 0, 0));
     Ok(())
 }
 
@@ -97,7 +97,7 @@ fn gives_no_number_past_the_last(rt: HostRuntime) -> Result<(), Fail> {
     let mut wanted = served(0, 0, 1, 0);
     wanted.statistics.get_direct = 0;
     let state = shown_after_from(&rt, rt.alloc(), Config::default(), 0, LAST, &gets)?;
-    assert_eq!(rt; state, wanted);
+    assert_equal(&rt, state, wanted);
 
     let withheld = Grant {
         first: LAST - 1,
@@ -120,7 +120,7 @@ fn gives_no_number_past_the_last(rt: HostRuntime) -> Result<(), Fail> {
         0,
         &approvals,
     )?;
-    assert_eq!(rt; state, served(2, 2, 0, 2));
+    assert_equal(&rt, state, served(2, 2, 0, 2));
     Ok(())
 }
 
@@ -144,7 +144,7 @@ fn used_up_numbers_withhold_grants_and_addings(rt: HostRuntime) -> Result<(), Fa
     ];
     let config = unchecked(5, Some(3));
     let state = shown_after_from(&rt, rt.alloc(), config, LAST - 1, 0, &lines)?;
-    assert_eq!(rt; state, served(0, 0, 0, 0));
+    assert_equal(&rt, state, served(0, 0, 0, 0));
     Ok(())
 }
 
@@ -171,7 +171,7 @@ fn strangers_and_repeats_do_not_fit(rt: HostRuntime) -> Result<(), Fail> {
         (0, Act::Try(0), Answer::Unfit),
     ];
     let state = shown_after(&rt, rt.alloc(), unchecked(1, Some(1)), &lines)?;
-    assert_eq!(rt; state, served(1, 1, 1, 1));
+    assert_equal(&rt, state, served(1, 1, 1, 1));
     Ok(())
 }
 
@@ -206,9 +206,10 @@ fn an_earlier_moment_counts_as_the_latest(rt: HostRuntime) -> Result<(), Fail> {
     ];
     let mut wanted = served(0, 0, 2, 1);
     wanted.statistics.connections_closed_max_lifetime = 1;
-    assert_eq!(rt;
+    assert_equal(
+        &rt,
         shown_after(&rt, rt.alloc(), short_lived(), &lines)?,
-        wanted
+        wanted,
     );
     Ok(())
 }
@@ -226,7 +227,7 @@ fn what_does_not_fit_moves_no_clock(rt: HostRuntime) -> Result<(), Fail> {
         (SECOND - 1, Act::PutBack(0, false), Answer::Kept(0, None)),
     ];
     let state = shown_after(&rt, rt.alloc(), short_lived(), &lines)?;
-    assert_eq!(rt; state, served(1, 1, 1, 1));
+    assert_equal(&rt, state, served(1, 1, 1, 1));
     Ok(())
 }
 
@@ -279,9 +280,10 @@ fn failed_opening_makes_room_and_notifies_nobody(rt: HostRuntime) -> Result<(), 
         (0, Act::Add(false), Answer::Added(1, Some(0))),
     ];
     let state = shown_after(&rt, rt.alloc(), unchecked(1, None), &lines)?;
-    assert_eq!(rt;
+    assert_equal(
+        &rt,
         (state.connections, state.statistics.connections_created),
-        (1, 0)
+        (1, 0),
     );
     Ok(())
 }
@@ -294,7 +296,7 @@ fn handles_join(rt: HostRuntime) -> Result<(), Fail> {
         (0, Act::Look, Answer::Looked(Moment(7), true)),
     ];
     let state = shown_after(&rt, rt.alloc(), unchecked(1, None), &lines)?;
-    assert_eq!(rt; state, served(0, 0, 0, 0));
+    assert_equal(&rt, state, served(0, 0, 0, 0));
     Ok(())
 }
 
@@ -327,13 +329,18 @@ fn last_handle_ends_what_nobody_holds(rt: HostRuntime) -> Result<(), Fail> {
         (0, Act::Look, Answer::Looked(Moment(0), false)),
     ];
     let state = shown_after(&rt, rt.alloc(), unchecked(4, Some(3)), &lines)?;
-    assert_eq!(rt; (state.connections, state.statistics.get_direct), (0, 1));
-    assert_eq!(rt;
+    assert_equal(
+        &rt,
+        (state.connections, state.statistics.get_direct),
+        (0, 1),
+    );
+    assert_equal(
+        &rt,
         (
             state.statistics.connections_created,
-            state.statistics.connections_closed_broken
+            state.statistics.connections_closed_broken,
         ),
-        (1, 0)
+        (1, 0),
     );
     Ok(())
 }
@@ -347,7 +354,7 @@ fn claims_in_the_order_of_numbers(rt: HostRuntime) -> Result<(), Fail> {
         (0, Act::Opened(1), Answer::Entered(1, None)),
     ];
     let state = shown_after(&rt, rt.alloc(), unchecked(3, Some(2)), &claimed)?;
-    assert_eq!(rt; state, served(1, 1, 0, 1));
+    assert_equal(&rt, state, served(1, 1, 0, 1));
     let unclaimed = [
         (0, Act::Fill(false), Answer::Granted(granted(0, 2))),
         (0, Act::Opened(1), Answer::Unfit),
@@ -356,6 +363,6 @@ fn claims_in_the_order_of_numbers(rt: HostRuntime) -> Result<(), Fail> {
         (0, Act::Claim, Answer::Claimed(None)),
     ];
     let state = shown_after(&rt, rt.alloc(), unchecked(3, Some(2)), &unclaimed)?;
-    assert_eq!(rt; state, served(0, 0, 0, 0));
+    assert_equal(&rt, state, served(0, 0, 0, 0));
     Ok(())
 }

@@ -6,7 +6,7 @@ ghost use Rattle.bb8_core.specs.Shown.{Means};
 ghost use Rattle.bb8_ledger.specs.Table as table;
 ghost use Rattle.bb8_ledger.specs.Table.{IsLegal};
 
-use super::{granted, served, unchecked};
+use super::{assert_equal, granted, served, unchecked};
 use bb8_core::api::{Config, Moment, QueueStrategy};
 use bb8_core::internals::{
     AddAnswer, BeginAnswer, CheckedErrAnswer, CheckedOkAnswer, ClaimAnswer, FailedAnswer, GetKey,
@@ -216,7 +216,7 @@ fn three_idle(
     };
     assert!(rt; config.is_lawful());
     let mut pool = PoolInternals::new(alloc, config);
-    assert_eq!(rt; pool.fill(NOW, true), granted(0, 3));
+    assert_equal(&rt, pool.fill(NOW, true), granted(0, 3));
     enter(rt, &mut pool, 1, Link::Green);
     enter(rt, &mut pool, 0, Link::Red);
     enter(rt, &mut pool, 2, Link::Blue);
@@ -226,36 +226,36 @@ fn three_idle(
 /// Asserts which connection is served next.
 fn assert_served(rt: &impl Abort, pool: &mut PoolInternals<Link>, number: u64, conn: Link) {
     let (key, served) = take(rt, pool);
-    assert_eq!(rt; key.number, number);
-    assert_eq!(rt; served, conn);
+    assert_equal(&rt, key.number, number);
+    assert_equal(&rt, served, conn);
 }
 
 #[test]
 fn oldest_entry_is_served_first(rt: HostRuntime) {
     let mut pool = three_idle(&rt, rt.alloc(), QueueStrategy::Fifo);
     let (key, conn) = take(&rt, &mut pool);
-    assert_eq!(rt; (key.number, &conn), (1, &Link::Green));
+    assert_equal(&rt, (key.number, &conn), (1, &Link::Green));
     let PutBackAnswer::Kept(None) = put_back(&rt, &mut pool, key, conn, false) else {
         panic!(rt; "it was closed");
     };
     assert_served(&rt, &mut pool, 0, Link::Red);
     assert_served(&rt, &mut pool, 2, Link::Blue);
     assert_served(&rt, &mut pool, 1, Link::Green);
-    assert_eq!(rt; pool.state(NOW), served(3, 0, 4, 3));
+    assert_equal(&rt, pool.state(NOW), served(3, 0, 4, 3));
 }
 
 #[test]
 fn newest_entry_is_served_first(rt: HostRuntime) {
     let mut pool = three_idle(&rt, rt.alloc(), QueueStrategy::Lifo);
     let (key, conn) = take(&rt, &mut pool);
-    assert_eq!(rt; (key.number, &conn), (2, &Link::Blue));
+    assert_equal(&rt, (key.number, &conn), (2, &Link::Blue));
     assert_served(&rt, &mut pool, 0, Link::Red);
     let PutBackAnswer::Kept(None) = put_back(&rt, &mut pool, key, conn, false) else {
         panic!(rt; "it was closed");
     };
     assert_served(&rt, &mut pool, 2, Link::Blue);
     assert_served(&rt, &mut pool, 1, Link::Green);
-    assert_eq!(rt; pool.state(NOW), served(3, 0, 4, 3));
+    assert_equal(&rt, pool.state(NOW), served(3, 0, 4, 3));
 }
 
 /// A pool whose numbers begin at 7 and whose gets begin at 40, with one approval that was claimed.
@@ -263,13 +263,13 @@ fn one_claimed(rt: &impl Abort, alloc: Global) -> (PoolInternals<Link>, Key) {
     let config = unchecked(2, Some(1));
     assert!(rt; config.is_lawful());
     let mut pool = PoolInternals::starting_at(alloc, config, 7, 40);
-    assert_eq!(rt; pool.state(NOW), served(0, 0, 0, 0));
+    assert_equal(&rt, pool.state(NOW), served(0, 0, 0, 0));
     assert!(rt; pool.find(7).is_none());
-    assert_eq!(rt; pool.fill(NOW, false), granted(7, 1));
+    assert_equal(&rt, pool.fill(NOW, false), granted(7, 1));
     let ClaimAnswer::Claimed(Some(approval)) = pool.claim(NOW) else {
         panic!(rt; "nothing was claimed");
     };
-    assert_eq!(rt; approval.number, 7);
+    assert_equal(&rt, approval.number, 7);
     let ClaimAnswer::Claimed(None) = pool.claim(NOW) else {
         panic!(rt; "it was claimed twice");
     };
@@ -285,22 +285,26 @@ fn succeeds_each_step_once(rt: HostRuntime) {
     let BeginAnswer::Begun(get) = begin(&rt, &mut pool) else {
         panic!(rt; "no get began");
     };
-    assert_eq!(rt; get.number, 40);
-    assert_eq!(rt; pool.find_get(40).map(|key| key.number), Some(40));
+    assert_equal(&rt, get.number, 40);
+    assert_equal(&rt, pool.find_get(40).map(|key| key.number), Some(40));
     let (key, conn, grant) = served_by(&rt, &mut pool, get);
-    assert_eq!(rt; (key.number, &conn, grant), (7, &Link::Blue, granted(8, 1)));
+    assert_equal(
+        &rt,
+        (key.number, &conn, grant),
+        (7, &Link::Blue, granted(8, 1)),
+    );
     assert!(rt; pool.find_get(40).is_none());
-    assert_eq!(rt; pool.find(7).map(|key| key.number), Some(7));
+    assert_equal(&rt, pool.find(7).map(|key| key.number), Some(7));
     let PutBackAnswer::Closed(closed, grant, None) = put_back(&rt, &mut pool, key, conn, true)
     else {
         panic!(rt; "it was kept, or somebody was notified");
     };
-    assert_eq!(rt; (&closed, grant), (&Link::Blue, granted(9, 0)));
+    assert_equal(&rt, (&closed, grant), (&Link::Blue, granted(9, 0)));
     assert!(rt; pool.find(7).is_none());
     pool.limits();
     let mut wanted = served(0, 0, 1, 1);
     wanted.statistics.connections_closed_broken = 1;
-    assert_eq!(rt; pool.state(NOW), wanted);
+    assert_equal(&rt, pool.state(NOW), wanted);
 }
 
 /// Whether these three fit: a try of the get 0, the opening and the return of the number 0.
@@ -338,27 +342,27 @@ fn what_fits_changes_step_by_step(rt: HostRuntime) {
     for act in [Act::Begin, Act::Fill(true), Act::Claim, Act::State] {
         assert!(rt; fits(&pool, Event { at: NOW, act }), "{act:?}");
     }
-    assert_eq!(rt; fitting(&pool), (false, false, false));
-    assert_eq!(rt; pool.fill(NOW, false), granted(0, 1));
-    assert_eq!(rt; fitting(&pool), (false, false, false));
+    assert_equal(&rt, fitting(&pool), (false, false, false));
+    assert_equal(&rt, pool.fill(NOW, false), granted(0, 1));
+    assert_equal(&rt, fitting(&pool), (false, false, false));
     let ClaimAnswer::Claimed(Some(approval)) = pool.claim(NOW) else {
         panic!(rt; "nothing was claimed");
     };
-    assert_eq!(rt; fitting(&pool), (false, true, false));
+    assert_equal(&rt, fitting(&pool), (false, true, false));
     let OpenedAnswer::Entered(None) = opened(&rt, &mut pool, approval, Link::Red) else {
         panic!(rt; "it did not become idle, or notified somebody");
     };
-    assert_eq!(rt; fitting(&pool), (false, false, false));
+    assert_equal(&rt, fitting(&pool), (false, false, false));
     let BeginAnswer::Begun(get) = begin(&rt, &mut pool) else {
         panic!(rt; "no get began");
     };
-    assert_eq!(rt; fitting(&pool), (true, false, false));
+    assert_equal(&rt, fitting(&pool), (true, false, false));
     let (key, conn, _) = served_by(&rt, &mut pool, get);
-    assert_eq!(rt; fitting(&pool), (false, false, true));
+    assert_equal(&rt, fitting(&pool), (false, false, true));
     let PutBackAnswer::Kept(None) = put_back(&rt, &mut pool, key, conn, false) else {
         panic!(rt; "it was closed");
     };
-    assert_eq!(rt; fitting(&pool), (false, false, false));
+    assert_equal(&rt, fitting(&pool), (false, false, false));
 }
 
 /// Two connections are out, of which the later one stands where an ended one stood.
@@ -366,10 +370,10 @@ fn place_used_again(rt: &impl Abort, alloc: Global) -> (PoolInternals<Link>, Key
     let config = unchecked(2, Some(1));
     assert!(rt; config.is_lawful());
     let mut pool = PoolInternals::new(alloc, config);
-    assert_eq!(rt; pool.fill(NOW, true), granted(0, 1));
+    assert_equal(&rt, pool.fill(NOW, true), granted(0, 1));
     enter(rt, &mut pool, 0, Link::Red);
     let (ended, conn) = take(rt, &mut pool);
-    assert_eq!(rt; (ended.number, &conn), (0, &Link::Red));
+    assert_equal(&rt, (ended.number, &conn), (0, &Link::Red));
     let ClaimAnswer::Claimed(Some(_)) = pool.claim(NOW) else {
         panic!(rt; "nothing was claimed");
     };
@@ -390,9 +394,9 @@ fn place_used_again(rt: &impl Abort, alloc: Global) -> (PoolInternals<Link>, Key
 #[test]
 fn stale_keys_name_the_right_record(rt: HostRuntime) {
     let (mut pool, ended, first, later) = place_used_again(&rt, rt.alloc());
-    assert_eq!(rt; (ended.number, first.number, later.number), (0, 1, 2));
-    assert_eq!(rt; later.place, ended.place);
-    assert_eq!(rt; fitting(&pool), (false, false, false));
+    assert_equal(&rt, (ended.number, first.number, later.number), (0, 1, 2));
+    assert_equal(&rt, later.place, ended.place);
+    assert_equal(&rt, fitting(&pool), (false, false, false));
     assert!(rt; pool.find(0).is_none());
     let stale = Key {
         number: 1,
@@ -416,7 +420,7 @@ fn stale_keys_name_the_right_record(rt: HostRuntime) {
         panic!(rt; "it was kept, or another one was handed back");
     };
     assert!(rt; pool.find(2).is_none());
-    assert_eq!(rt; pool.find(1).map(|key| key.number), Some(1));
+    assert_equal(&rt, pool.find(1).map(|key| key.number), Some(1));
 }
 
 #[test]
@@ -427,7 +431,7 @@ fn stale_keys_name_the_right_get(rt: HostRuntime) {
         let BeginAnswer::Begun(get) = begin(&rt, &mut pool) else {
             panic!(rt; "no get began");
         };
-        assert_eq!(rt; get.number, wanted);
+        assert_equal(&rt, get.number, wanted);
     }
     let taken_over = pool.find_get(1).expect(&rt, "the get is alive").place;
     let stale = GetKey {
@@ -435,9 +439,9 @@ fn stale_keys_name_the_right_get(rt: HostRuntime) {
         place: taken_over,
     };
     let (key, conn, _) = served_by(&rt, &mut pool, stale);
-    assert_eq!(rt; (key.number, conn), (0, Link::Red));
+    assert_equal(&rt, (key.number, conn), (0, Link::Red));
     assert!(rt; pool.find_get(0).is_none());
-    assert_eq!(rt; pool.find_get(1).map(|get| get.number), Some(1));
+    assert_equal(&rt, pool.find_get(1).map(|get| get.number), Some(1));
     assert!(rt; pool.find_get(2).is_none());
 }
 
@@ -461,8 +465,8 @@ fn adding_is_refused_in_order(rt: HostRuntime) {
     let AddAnswer::Broken(Link::Black) = add(&rt, &mut pool, Link::Black, true) else {
         panic!(rt; "it was not told as broken first");
     };
-    assert_eq!(rt; (first.number, second.number), (0, 1));
-    assert_eq!(rt; pool.state(NOW), served(2, 2, 0, 0));
+    assert_equal(&rt, (first.number, second.number), (0, 1));
+    assert_equal(&rt, pool.state(NOW), served(2, 2, 0, 0));
     assert_served(&rt, &mut pool, 0, Link::Red);
     assert_served(&rt, &mut pool, 1, Link::Green);
 }
@@ -475,9 +479,9 @@ fn adding_needs_a_number(rt: HostRuntime) {
     let AddAnswer::Added(last, None) = add(&rt, &mut pool, Link::Red, false) else {
         panic!(rt; "it was refused, or notified somebody");
     };
-    assert_eq!(rt; last.number, 18_446_744_073_709_551_614);
+    assert_equal(&rt, last.number, 18_446_744_073_709_551_614);
     let AddAnswer::Withheld(Link::Green) = add(&rt, &mut pool, Link::Green, false) else {
         panic!(rt; "a number was given twice, or another connection was handed back");
     };
-    assert_eq!(rt; pool.state(NOW), served(1, 1, 0, 0));
+    assert_equal(&rt, pool.state(NOW), served(1, 1, 0, 0));
 }

@@ -1,6 +1,6 @@
 //! The configuration, the figures and the texts.
 
-use super::served;
+use super::{assert_equal, served};
 use bb8_core::api::{Config, Memory, QueueStrategy, Statistics};
 use std::test::Fail;
 use std::time::Duration;
@@ -8,16 +8,16 @@ use std::time::Duration;
 #[test]
 fn default_configuration(rt: HostRuntime) {
     let config = Config::default();
-    assert_eq!(rt; config.max_size, 10);
-    assert_eq!(rt; config.min_idle, None);
+    assert_equal(&rt, config.max_size, 10);
+    assert_equal(&rt, config.min_idle, None);
     assert!(rt; config.test_on_check_out);
-    assert_eq!(rt; config.max_lifetime, Some(Duration::from_secs(30 * 60)));
-    assert_eq!(rt; config.idle_timeout, Some(Duration::from_secs(10 * 60)));
-    assert_eq!(rt; config.connection_timeout, Duration::from_secs(30));
+    assert_equal(&rt, config.max_lifetime, Some(Duration::from_secs(30 * 60)));
+    assert_equal(&rt, config.idle_timeout, Some(Duration::from_secs(10 * 60)));
+    assert_equal(&rt, config.connection_timeout, Duration::from_secs(30));
     assert!(rt; config.retry_connection);
-    assert_eq!(rt; config.reaper_rate, Duration::from_secs(30));
-    assert_eq!(rt; config.queue_strategy, QueueStrategy::Fifo);
-    assert_eq!(rt; QueueStrategy::default(), QueueStrategy::Fifo);
+    assert_equal(&rt, config.reaper_rate, Duration::from_secs(30));
+    assert_equal(&rt, config.queue_strategy, QueueStrategy::Fifo);
+    assert_equal(&rt, QueueStrategy::default(), QueueStrategy::Fifo);
     assert!(rt; config.is_lawful());
 }
 
@@ -63,8 +63,8 @@ fn lawful_configurations(rt: HostRuntime) {
 #[test]
 fn counted_gets(rt: HostRuntime) {
     let none = Statistics::default();
-    assert_eq!(rt; none, served(0, 0, 0, 0).statistics);
-    assert_eq!(rt; (none.completed_gets(), none.pending_gets()), (0, 0));
+    assert_equal(&rt, none, served(0, 0, 0, 0).statistics);
+    assert_equal(&rt, (none.completed_gets(), none.pending_gets()), (0, 0));
     let some = Statistics {
         get_started: 31,
         get_direct: 1,
@@ -78,13 +78,13 @@ fn counted_gets(rt: HostRuntime) {
         connections_closed_max_lifetime: 0,
         connections_closed_idle_timeout: 0,
     };
-    assert_eq!(rt; some.completed_gets(), 7);
-    assert_eq!(rt; some.pending_gets(), 16);
+    assert_equal(&rt, some.completed_gets(), 7);
+    assert_equal(&rt, some.pending_gets(), 16);
 }
 
 #[test]
 fn text_of_refused_memory(rt: HostRuntime) -> Result<(), Fail> {
     let text = format!(in rt.alloc(); "{}", Memory)?;
-    assert_eq!(rt; text.as_str(), "No memory in bb8");
+    assert_equal(&rt, text.as_str(), "No memory in bb8");
     Ok(())
 }

@@ -1,7 +1,7 @@
 //! Gets that wait: rows that were worked out by hand from the rules of a pool, and one state between two threads.
 
 use super::replays::shown_after;
-use super::{Line, SECOND, granted, unchecked};
+use super::{Line, SECOND, assert_equal, granted, unchecked};
 use bb8_core::api::{Config, Moment, QueueStrategy, State};
 use bb8_core::internals::{ClaimAnswer, PoolInternals};
 use bb8_core::replay::{Act, Answer, Reason};
@@ -55,7 +55,11 @@ fn newer_get_takes_what_the_notified_one_waited_for(rt: HostRuntime) -> Result<(
         (0, Act::Try(0), Answer::Served(0, granted(1, 0))),
     ];
     let state = shown_after(&rt, rt.alloc(), unchecked(1, None), &lines)?;
-    assert_eq!(rt; figures(&state), [1, 0, 2, 1, 1, 0, 0, 0, 1, 0, 0, 0, 0]);
+    assert_equal(
+        &rt,
+        figures(&state),
+        [1, 0, 2, 1, 1, 0, 0, 0, 1, 0, 0, 0, 0],
+    );
     Ok(())
 }
 
@@ -80,9 +84,13 @@ fn cancelled_get_hands_its_notification_on(rt: HostRuntime) -> Result<(), Fail> 
         ),
     ];
     let state = shown_after(&rt, rt.alloc(), unchecked(1, None), &lines)?;
-    assert_eq!(rt; figures(&state), [1, 1, 3, 0, 1, 0, 1, 0, 1, 0, 0, 0, 0]);
-    assert_eq!(rt; state.statistics.completed_gets(), 1);
-    assert_eq!(rt; state.statistics.pending_gets(), 1);
+    assert_equal(
+        &rt,
+        figures(&state),
+        [1, 1, 3, 0, 1, 0, 1, 0, 1, 0, 0, 0, 0],
+    );
+    assert_equal(&rt, state.statistics.completed_gets(), 1);
+    assert_equal(&rt, state.statistics.pending_gets(), 1);
     Ok(())
 }
 
@@ -100,9 +108,10 @@ fn wait_counts_in_whole_microseconds(rt: HostRuntime) -> Result<(), Fail> {
         (5_999, Act::Try(1), Answer::Served(0, granted(1, 0))),
     ];
     let state = shown_after(&rt, rt.alloc(), unchecked(1, Some(1)), &lines)?;
-    assert_eq!(rt;
+    assert_equal(
+        &rt,
         figures(&state),
-        [1, 0, 2, 1, 1, 0, 0, 5_000, 1, 0, 0, 0, 0]
+        [1, 0, 2, 1, 1, 0, 0, 5_000, 1, 0, 0, 0, 0],
     );
     Ok(())
 }
@@ -130,7 +139,11 @@ fn second_connection_is_opened_for_one_who_waits(rt: HostRuntime) -> Result<(), 
         ..unchecked(100, Some(0))
     };
     let state = shown_after(&rt, rt.alloc(), config, &lines)?;
-    assert_eq!(rt; figures(&state), [2, 0, 3, 1, 2, 0, 0, 0, 2, 0, 0, 0, 0]);
+    assert_equal(
+        &rt,
+        figures(&state),
+        [2, 0, 3, 1, 2, 0, 0, 0, 2, 0, 0, 0, 0],
+    );
     Ok(())
 }
 
@@ -149,9 +162,10 @@ fn wait_is_told_from_the_first_one(rt: HostRuntime) -> Result<(), Fail> {
         (7_999, Act::Try(0), Answer::Served(0, granted(1, 0))),
     ];
     let state = shown_after(&rt, rt.alloc(), unchecked(1, None), &lines)?;
-    assert_eq!(rt;
+    assert_equal(
+        &rt,
         figures(&state),
-        [1, 0, 2, 1, 1, 0, 0, 6_000, 1, 0, 0, 0, 0]
+        [1, 0, 2, 1, 1, 0, 0, 6_000, 1, 0, 0, 0, 0],
     );
     Ok(())
 }
@@ -179,9 +193,10 @@ fn given_up_gets_are_counted(rt: HostRuntime) -> Result<(), Fail> {
         (0, Act::Look, Answer::Looked(Moment(3 * SECOND), true)),
     ];
     let state = shown_after(&rt, rt.alloc(), unchecked(1, None), &lines)?;
-    assert_eq!(rt;
+    assert_equal(
+        &rt,
         figures(&state),
-        [0, 0, 2, 0, 0, 1, 1, 1_000_000_000, 0, 0, 0, 0, 0]
+        [0, 0, 2, 0, 0, 1, 1, 1_000_000_000, 0, 0, 0, 0, 0],
     );
     Ok(())
 }
@@ -224,7 +239,11 @@ fn line_keeps_its_order(rt: HostRuntime) -> Result<(), Fail> {
         (0, Act::Add(false), Answer::Added(2, None)),
     ];
     let state = shown_after(&rt, rt.alloc(), unchecked(2, None), &lines)?;
-    assert_eq!(rt; figures(&state), [2, 1, 4, 0, 2, 1, 1, 0, 2, 1, 0, 0, 0]);
+    assert_equal(
+        &rt,
+        figures(&state),
+        [2, 1, 4, 0, 2, 1, 1, 0, 2, 1, 0, 0, 0],
+    );
     Ok(())
 }
 
@@ -250,14 +269,22 @@ fn closing_and_adding_notify(rt: HostRuntime) -> Result<(), Fail> {
         (0, Act::Opened(1), Answer::Entered(1, Some(2))),
     ];
     let state = shown_after(&rt, rt.alloc(), unchecked(1, None), &lines)?;
-    assert_eq!(rt; figures(&state), [1, 1, 3, 1, 0, 0, 0, 0, 1, 1, 0, 0, 0]);
+    assert_equal(
+        &rt,
+        figures(&state),
+        [1, 1, 3, 1, 0, 0, 0, 0, 1, 1, 0, 0, 0],
+    );
     let lines = [
         (0, Act::Begin, Answer::Begun(0)),
         (0, Act::Try(0), Answer::Waiting(granted(0, 1))),
         (0, Act::Add(false), Answer::Added(1, Some(0))),
     ];
     let state = shown_after(&rt, rt.alloc(), unchecked(2, None), &lines)?;
-    assert_eq!(rt; figures(&state), [1, 1, 1, 0, 0, 0, 0, 0, 0, 0, 0, 0, 0]);
+    assert_equal(
+        &rt,
+        figures(&state),
+        [1, 1, 1, 0, 0, 0, 0, 0, 0, 0, 0, 0, 0],
+    );
     Ok(())
 }
 
@@ -268,11 +295,11 @@ fn state_between_two_threads(rt: HostRuntime) {
     assert!(rt; config.is_lawful());
     let shared = Mutex::new(PoolInternals::<u64>::new(rt.alloc(), config));
     let (grant, ()) = thread::join(&rt, || shared.lock(&rt).fill(Moment(0), false), || {});
-    assert_eq!(rt; grant, granted(0, 1));
+    assert_equal(&rt, grant, granted(0, 1));
     let mut pool = shared.lock(&rt);
-    assert_eq!(rt; pool.state(Moment(0)).connections, 0);
+    assert_equal(&rt, pool.state(Moment(0)).connections, 0);
     let ClaimAnswer::Claimed(Some(approval)) = pool.claim(Moment(0)) else {
         panic!(rt; "nothing was claimed");
     };
-    assert_eq!(rt; approval.number, 0);
+    assert_equal(&rt, approval.number, 0);
 }

@@ -3,7 +3,7 @@ ghost use Rattle.std.specs.Prelude.{Some};
 ghost use Rattle.bb8.specs.Parts.{IsBlankOf};
 ghost use Rattle.bb8.specs.Settings.{default_settings};
 
-use super::{ALWAYS, Board, Case, Runtime, SECOND, builder, built, polled, turn_at};
+use super::{ALWAYS, Board, Case, Runtime, SECOND, assert_equal, builder, built, polled, turn_at};
 use bb8::{Moment, PoolParts};
 use futures::task::Poll;
 use std::marker::Brand;
@@ -28,14 +28,14 @@ fn drops_the_broken<R: Runtime, L: PoolParts>(rt: R, blank: Blank) -> Result<(),
     } = built::<R, L>(rt, blank, board, builder)?;
     let mut get = pool.get();
     assert!(&rt; task.poll(&mut get).is_pending());
-    assert_eq!(&rt; driver.turn(Moment(0)), polled(1));
+    assert_equal(&rt, driver.turn(Moment(0)), polled(1));
     let Poll::Ready(Ok(guard)) = task.poll(&mut get) else {
         panic!(&rt; "not served");
     };
-    assert_eq!(&rt; board.closed(), 0);
+    assert_equal(&rt, board.closed(), 0);
     drop(guard);
-    assert_eq!(&rt; board.closed(), 1);
-    assert_eq!(&rt; pool.state().statistics.connections_closed_broken, 1);
+    assert_equal(&rt, board.closed(), 1);
+    assert_equal(&rt, pool.state().statistics.connections_closed_broken, 1);
     Ok(())
 }
 
@@ -75,15 +75,19 @@ fn lives_a_second<R: Runtime, L: PoolParts>(rt: R, blank: Blank) -> Result<(), F
         panic!(&rt; "not served");
     };
     for at in 1..3u64 {
-        assert_eq!(&rt; turn_at(&clock, &mut driver, at * SECOND), polled(4));
-        assert_eq!(&rt; board.closed(), 4);
+        assert_equal(&rt, turn_at(&clock, &mut driver, at * SECOND), polled(4));
+        assert_equal(&rt, board.closed(), 4);
     }
     drop(guard);
     for at in 3..5u64 {
         let _ = turn_at(&clock, &mut driver, at * SECOND);
-        assert_eq!(&rt; board.closed(), 5);
+        assert_equal(&rt, board.closed(), 5);
     }
-    assert_eq!(&rt; pool.state().statistics.connections_closed_max_lifetime, 5);
+    assert_equal(
+        &rt,
+        pool.state().statistics.connections_closed_max_lifetime,
+        5,
+    );
     Ok(())
 }
 
@@ -106,9 +110,9 @@ fn drops_all<R: Runtime, L: PoolParts>(rt: R, blank: Blank) -> Result<(), Fail>
         .min_idle(Some(10))
         .max_lifetime(Some(Duration::from_secs(10)));
     let Case { pool, board, .. } = built::<R, L>(rt, blank, board, builder)?;
-    assert_eq!(&rt; board.closed(), 0);
+    assert_equal(&rt, board.closed(), 0);
     drop(pool);
-    assert_eq!(&rt; board.closed(), 10);
+    assert_equal(&rt, board.closed(), 10);
     Ok(())
 }
 

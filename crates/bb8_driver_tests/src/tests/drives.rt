@@ -3,7 +3,7 @@ ghost use Rattle.std.specs.Prelude.{Some};
 ghost use Rattle.bb8.specs.Parts.{IsBlankOf, unchecked_of};
 ghost use Rattle.bb8.specs.Settings.{default_settings};
 
-use super::{Board, Case, Refused, Runtime, builder, sizes, unchecked};
+use super::{Board, Case, Refused, Runtime, assert_equal, builder, sizes, unchecked};
 use bb8::{
     Builder, Driven, Driver, Gate, ManageConnection, Memory, Moment, NopCustomizer, NopErrorSink,
     Pool, PoolParts, SetClock, drive,
@@ -56,7 +56,7 @@ fn drives<R: Runtime + Threads, L: PoolParts + 'static>(
     };
     let driven = thread.join(&rt);
     if let Some(pool) = &kept {
-        assert_eq!(&rt; sizes(pool), (2, 2));
+        assert_equal(&rt, sizes(pool), (2, 2));
     }
     Ok(driven)
 }
@@ -68,7 +68,7 @@ fn driven_until_its_gate_stops(rt: HostRuntime) -> Result<(), Fail> {
         turns: 1,
         ended: false,
     };
-    assert_eq!(rt; driven, wanted);
+    assert_equal(&rt, driven, wanted);
     Ok(())
 }
 
@@ -79,7 +79,7 @@ fn driven_until_its_pool_ends(rt: HostRuntime) -> Result<(), Fail> {
         turns: 1,
         ended: true,
     };
-    assert_eq!(rt; driven, wanted);
+    assert_equal(&rt, driven, wanted);
     Ok(())
 }
 
@@ -95,8 +95,8 @@ fn runs_thrice<R: Runtime, L: PoolParts>(rt: R, blank: Blank) -> Result<(), Fail
         turns: 3,
         ended: false,
     };
-    assert_eq!(&rt; driver.run(Pauses { left: 2 }), wanted);
-    assert_eq!(&rt; sizes(&pool), (2, 2));
+    assert_equal(&rt, driver.run(Pauses { left: 2 }), wanted);
+    assert_equal(&rt, sizes(&pool), (2, 2));
     Ok(())
 }
 
@@ -198,15 +198,15 @@ fn answers_meanwhile<R: Runtime + Threads, L: PoolParts + 'static>(
         panic!(&rt; "no thread");
     };
     assert!(&rt; comes_to(&stage, WAITING));
-    assert_eq!(&rt; pool.state().connections, 0);
+    assert_equal(&rt, pool.state().connections, 0);
     stage.store(ANSWERED, Ordering::SeqCst);
     let wanted = Driven {
         turns: 1,
         ended: false,
     };
-    assert_eq!(&rt; thread.join(&rt), wanted);
-    assert_eq!(&rt; stage.load(Ordering::SeqCst), PASSED);
-    assert_eq!(&rt; pool.state().connections, 1);
+    assert_equal(&rt, thread.join(&rt), wanted);
+    assert_equal(&rt, stage.load(Ordering::SeqCst), PASSED);
+    assert_equal(&rt, pool.state().connections, 1);
     Ok(())
 }
 

@@ -4,7 +4,8 @@ ghost use Rattle.bb8.specs.Parts.{IsBlankOf};
 ghost use Rattle.bb8.specs.Settings.{default_settings};
 
 use super::{
-    Board, Case, Connection, LASTS, PASSES, Runtime, builder, polled, share, sizes, unchecked,
+    Board, Case, Connection, LASTS, PASSES, Runtime, assert_equal, builder, polled, share, sizes,
+    unchecked,
 };
 use bb8::{AddError, Driver, Moment, PoolParts};
 use futures::task::Poll;
@@ -30,13 +31,13 @@ fn makes_room<R: Runtime, L: PoolParts>(rt: R, blank: Blank) -> Result<(), Fail>
     let connection = Connection {
         board: share(&board)?,
     };
-    assert_eq!(&rt; driver.turn(Moment(0)), polled(1));
+    assert_equal(&rt, driver.turn(Moment(0)), polled(1));
     let Err(AddError::NoCapacity(connection)) = pool.add(connection) else {
         panic!(&rt; "there is room");
     };
     drop(driver);
     assert!(&rt; pool.add(connection).is_ok());
-    assert_eq!(&rt; sizes(&pool), (1, 1));
+    assert_equal(&rt, sizes(&pool), (1, 1));
     Ok(())
 }
 
@@ -63,13 +64,13 @@ fn claims_anew<R: Runtime, L: PoolParts>(rt: R, blank: Blank) -> Result<(), Fail
     let mut second = Driver::new(&pool)?;
     let mut get = pool.get();
     assert!(&rt; task.poll(&mut get).is_pending());
-    assert_eq!(&rt; first.turn(Moment(0)), polled(1));
+    assert_equal(&rt, first.turn(Moment(0)), polled(1));
     drop(first);
-    assert_eq!(&rt; second.turn(Moment(0)), polled(0));
+    assert_equal(&rt, second.turn(Moment(0)), polled(0));
     let mut later = pool.get();
     assert!(&rt; task.poll(&mut later).is_pending());
     board.opening.store(PASSES, Ordering::SeqCst);
-    assert_eq!(&rt; second.turn(Moment(0)), polled(1));
+    assert_equal(&rt, second.turn(Moment(0)), polled(1));
     assert!(&rt; matches!(task.poll(&mut get), Poll::Ready(Ok(_))));
     Ok(())
 }

@@ -3,7 +3,7 @@ ghost use Rattle.std.specs.Prelude.{Some};
 ghost use Rattle.bb8.specs.Parts.{IsBlankOf};
 ghost use Rattle.bb8.specs.Settings.{default_settings};
 
-use super::{Board, Case, Runtime, builder, built, polled, sizes, unchecked};
+use super::{Board, Case, Runtime, assert_equal, builder, built, polled, sizes, unchecked};
 use bb8::{Moment, PoolParts};
 use futures::task::Poll;
 use std::marker::Brand;
@@ -31,7 +31,7 @@ fn serves_five<R: Runtime, L: PoolParts>(rt: R, blank: Blank) -> Result<(), Fail
         assert!(&rt; task.poll(&mut get).is_pending());
         gets.push(get)?;
     }
-    assert_eq!(&rt; driver.turn(Moment(0)), polled(5));
+    assert_equal(&rt, driver.turn(Moment(0)), polled(5));
     let mut guards = Vec::new(rt.alloc());
     for get in &mut gets {
         let Poll::Ready(Ok(guard)) = task.poll(get) else {
@@ -39,7 +39,7 @@ fn serves_five<R: Runtime, L: PoolParts>(rt: R, blank: Blank) -> Result<(), Fail
         };
         guards.push(guard)?;
     }
-    assert_eq!(&rt; sizes(&pool), (5, 0));
+    assert_equal(&rt, sizes(&pool), (5, 0));
     Ok(())
 }
 
@@ -96,8 +96,8 @@ fn starves_none<R: Runtime, L: PoolParts>(rt: R, blank: Blank) -> Result<(), Fai
                 served = served.saturating_add(1);
             }
         }
-        assert_eq!(&rt; served, so_far);
-        assert_eq!(&rt; driver.turn(Moment(0)), polled(tasks));
+        assert_equal(&rt, served, so_far);
+        assert_equal(&rt, driver.turn(Moment(0)), polled(tasks));
     }
     Ok(())
 }
@@ -119,7 +119,7 @@ fn creates_one<R: Runtime, L: PoolParts>(rt: R, blank: Blank) -> Result<(), Fail
         panic!(&rt; "no clone");
     };
     assert!(&rt; matches!(task.poll(&mut clone.get()), Poll::Ready(Ok(_))));
-    assert_eq!(&rt; pool.state().statistics.connections_created, 1);
+    assert_equal(&rt, pool.state().statistics.connections_created, 1);
     Ok(())
 }
 

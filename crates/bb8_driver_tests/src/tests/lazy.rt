@@ -4,8 +4,8 @@ ghost use Rattle.bb8.specs.Parts.{IsBlankOf};
 ghost use Rattle.bb8.specs.Settings.{default_settings};
 
 use super::{
-    Board, Case, Connection, FAILS, MILLI, Runtime, SECOND, builder, built, polled, share, turn_at,
-    unchecked,
+    Board, Case, Connection, FAILS, MILLI, Runtime, SECOND, assert_equal, builder, built, polled,
+    share, turn_at, unchecked,
 };
 use bb8::{Moment, PoolParts, RunError};
 use futures::task::Poll;
@@ -33,8 +33,8 @@ fn tries_again<R: Runtime, L: PoolParts>(rt: R, blank: Blank) -> Result<(), Fail
     let mut get = pool.get();
     assert!(&rt; task.poll(&mut get).is_pending());
     for (at, errors) in [(0, 1), (400 * MILLI, 2), (900 * MILLI, 3)] {
-        assert_eq!(&rt; turn_at(&clock, &mut driver, at), polled(1));
-        assert_eq!(&rt; board.errors(), errors);
+        assert_equal(&rt, turn_at(&clock, &mut driver, at), polled(1));
+        assert_equal(&rt, board.errors(), errors);
         assert!(&rt; task.poll(&mut get).is_pending());
     }
     clock.set(Moment(SECOND));
@@ -68,8 +68,8 @@ fn tries_once<R: Runtime, L: PoolParts>(rt: R, blank: Blank) -> Result<(), Fail>
     } = unchecked::<R, L>(rt, blank, board, builder)?;
     let mut get = pool.get();
     assert!(&rt; task.poll(&mut get).is_pending());
-    assert_eq!(&rt; driver.turn(Moment(0)), polled(1));
-    assert_eq!(&rt; board.errors(), 1);
+    assert_equal(&rt, driver.turn(Moment(0)), polled(1));
+    assert_equal(&rt, board.errors(), 1);
     clock.set(Moment(500 * MILLI));
     assert!(&rt; task.poll(&mut get).is_pending());
     clock.set(Moment(SECOND));
@@ -98,10 +98,10 @@ fn fails_once<R: Runtime, L: PoolParts>(rt: R, blank: Blank) -> Result<(), Fail>
     } = built::<R, L>(rt, blank, board, builder)?;
     let mut get = pool.get();
     assert!(&rt; task.poll(&mut get).is_pending());
-    assert_eq!(&rt; driver.turn(Moment(0)), polled(1));
-    assert_eq!(&rt; board.errors(), 1);
+    assert_equal(&rt, driver.turn(Moment(0)), polled(1));
+    assert_equal(&rt, board.errors(), 1);
     assert!(&rt; task.poll(&mut get).is_pending());
-    assert_eq!(&rt; turn_at(&clock, &mut driver, 400 * MILLI), polled(1));
+    assert_equal(&rt, turn_at(&clock, &mut driver, 400 * MILLI), polled(1));
     let Poll::Ready(Ok(guard)) = task.poll(&mut get) else {
         panic!(&rt; "the first get was not served");
     };
@@ -111,7 +111,7 @@ fn fails_once<R: Runtime, L: PoolParts>(rt: R, blank: Blank) -> Result<(), Fail>
         panic!(&rt; "the second get was not served");
     };
     guard.use_once();
-    assert_eq!(&rt; board.uses(), 2);
+    assert_equal(&rt, board.uses(), 2);
     Ok(())
 }
 
@@ -137,8 +137,8 @@ fn serves_the_added<R: Runtime, L: PoolParts>(rt: R, blank: Blank) -> Result<(),
     } = unchecked::<R, L>(rt, blank, board, builder)?;
     let mut get = pool.get();
     assert!(&rt; task.poll(&mut get).is_pending());
-    assert_eq!(&rt; driver.turn(Moment(0)), polled(1));
-    assert_eq!(&rt; turn_at(&clock, &mut driver, MILLI), polled(1));
+    assert_equal(&rt, driver.turn(Moment(0)), polled(1));
+    assert_equal(&rt, turn_at(&clock, &mut driver, MILLI), polled(1));
     assert!(&rt; matches!(task.poll(&mut get), Poll::Ready(Err(RunError::TimedOut))));
     let connection = Connection {
         board: share(&board)?,

@@ -5,7 +5,7 @@ ghost use Rattle.bb8.specs.Settings.{default_settings};
 
 use super::{
     Board, Case, Connection, ENDED, Errors, FAILS, LASTS, PASSES, Runtime, SECOND, Server,
-    ServerDriver, ServerPool, builder, polled, share, sizes, unchecked,
+    ServerDriver, ServerPool, assert_equal, builder, polled, share, sizes, unchecked,
 };
 use bb8::{
     Moment, NopCustomizer, OwnedConnection, PoolParts, PooledConnection, SetClock, Statistics,
@@ -49,17 +49,17 @@ fn lends_the_added<'a, R: Runtime, L: PoolParts>(
         board: share(two.board)?,
     };
     assert!(&rt; two.first.add(connection).is_ok());
-    assert_eq!(&rt; sizes(two.second), (1, 1));
+    assert_equal(&rt, sizes(two.second), (1, 1));
     two.board.check.store(LASTS, Ordering::SeqCst);
     let mut get = two.first.get();
     assert!(&rt; two.task.poll(&mut get).is_pending());
-    assert_eq!(&rt; sizes(two.second), (1, 0));
-    assert_eq!(&rt; statistics(two.second).get_started, 1);
+    assert_equal(&rt, sizes(two.second), (1, 0));
+    assert_equal(&rt, statistics(two.second).get_started, 1);
     two.board.check.store(PASSES, Ordering::SeqCst);
     let Poll::Ready(Ok(guard)) = two.task.poll(&mut get) else {
         panic!(&rt; "not served");
     };
-    assert_eq!(&rt; statistics(two.second).get_direct, 1);
+    assert_equal(&rt, statistics(two.second).get_direct, 1);
     Ok(guard)
 }
 
@@ -71,12 +71,12 @@ fn opens_one<R: Runtime, L: PoolParts>(
 ) {
     let mut get = two.second.get();
     assert!(&rt; two.task.poll(&mut get).is_pending());
-    assert_eq!(&rt; statistics(two.first).get_started, 2);
-    assert_eq!(&rt; driver.turn(Moment(0)), polled(1));
-    assert_eq!(&rt; sizes(two.first), (2, 1));
-    assert_eq!(&rt; statistics(two.first).connections_created, 1);
+    assert_equal(&rt, statistics(two.first).get_started, 2);
+    assert_equal(&rt, driver.turn(Moment(0)), polled(1));
+    assert_equal(&rt, sizes(two.first), (2, 1));
+    assert_equal(&rt, statistics(two.first).connections_created, 1);
     get.cancel();
-    assert_eq!(&rt; statistics(two.first).get_cancelled, 1);
+    assert_equal(&rt, statistics(two.first).get_cancelled, 1);
 }
 
 /// The check of a get of the first handle fails, and the get is dropped.
@@ -85,10 +85,10 @@ fn closes_the_invalid<R: Runtime, L: PoolParts>(rt: R, two: &Two<'_, R, L>) {
     let mut get = two.first.get();
     assert!(&rt; two.task.poll(&mut get).is_pending());
     two.board.check.store(PASSES, Ordering::SeqCst);
-    assert_eq!(&rt; sizes(two.second), (1, 1));
-    assert_eq!(&rt; statistics(two.second).connections_closed_invalid, 1);
+    assert_equal(&rt, sizes(two.second), (1, 1));
+    assert_equal(&rt, statistics(two.second).connections_closed_invalid, 1);
     drop(get);
-    assert_eq!(&rt; statistics(two.second).get_cancelled, 2);
+    assert_equal(&rt, statistics(two.second).get_cancelled, 2);
 }
 
 /// After a second a turn reaps the connection that is left. The opening for a get of the first handle fails, and the get is let go.
@@ -97,15 +97,19 @@ fn reaps_and_fails<R: Runtime, L: PoolParts>(
     two: &Two<'_, R, L>,
     driver: &mut ServerDriver<R, L>,
 ) {
-    assert_eq!(&rt; driver.turn(Moment(SECOND)), polled(0));
-    assert_eq!(&rt; sizes(two.second), (0, 0));
-    assert_eq!(&rt; statistics(two.second).connections_closed_idle_timeout, 1);
+    assert_equal(&rt, driver.turn(Moment(SECOND)), polled(0));
+    assert_equal(&rt, sizes(two.second), (0, 0));
+    assert_equal(
+        &rt,
+        statistics(two.second).connections_closed_idle_timeout,
+        1,
+    );
     let mut get = two.first.get();
     assert!(&rt; two.task.poll(&mut get).is_pending());
     two.board.fails.store(1, Ordering::SeqCst);
-    assert_eq!(&rt; driver.turn(Moment(SECOND)), polled(1));
+    assert_equal(&rt, driver.turn(Moment(SECOND)), polled(1));
     get.cancel();
-    assert_eq!(&rt; statistics(two.second).get_cancelled, 3);
+    assert_equal(&rt, statistics(two.second).get_cancelled, 3);
 }
 
 /// An owned get of the second handle waits, and is served with what a turn opens.
@@ -116,13 +120,13 @@ fn lends_an_owned<R: Runtime, L: PoolParts>(
 ) -> OwnedGuard<R, L> {
     let mut get = two.second.get_owned();
     assert!(&rt; two.task.poll(&mut get).is_pending());
-    assert_eq!(&rt; driver.turn(Moment(SECOND)), polled(1));
-    assert_eq!(&rt; statistics(two.first).connections_created, 2);
+    assert_equal(&rt, driver.turn(Moment(SECOND)), polled(1));
+    assert_equal(&rt, statistics(two.first).connections_created, 2);
     let Poll::Ready(Ok(guard)) = two.task.poll(&mut get) else {
         panic!(&rt; "not served");
     };
-    assert_eq!(&rt; statistics(two.first).get_waited, 1);
-    assert_eq!(&rt; statistics(two.first).get_started, 5);
+    assert_equal(&rt, statistics(two.first).get_waited, 1);
+    assert_equal(&rt, statistics(two.first).get_started, 5);
     guard
 }
 
@@ -147,16 +151,16 @@ fn goes_on<R: Runtime, L: PoolParts>(rt: R, case: Case<R, L>) -> Result<(), Fail
     let guard = lends_the_added(rt, &two)?;
     opens_one(rt, &two, &mut driver);
     drop(guard);
-    assert_eq!(&rt; sizes(&other), (2, 2));
+    assert_equal(&rt, sizes(&other), (2, 2));
     closes_the_invalid(rt, &two);
     clock.set(Moment(SECOND));
     reaps_and_fails(rt, &two, &mut driver);
     let guard = lends_an_owned(rt, &two, &mut driver);
     drop(pool);
     drop(other);
-    assert_eq!(&rt; driver.turn(Moment(SECOND)), polled(0));
+    assert_equal(&rt, driver.turn(Moment(SECOND)), polled(0));
     drop(guard);
-    assert_eq!(&rt; driver.turn(Moment(SECOND)), ENDED);
+    assert_equal(&rt, driver.turn(Moment(SECOND)), ENDED);
     Ok(())
 }
 

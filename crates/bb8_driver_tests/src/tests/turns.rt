@@ -3,7 +3,9 @@ ghost use Rattle.std.specs.Prelude.{Some};
 ghost use Rattle.bb8.specs.Parts.{IsBlankOf};
 ghost use Rattle.bb8.specs.Settings.{default_settings};
 
-use super::{Board, Case, ENDED, LASTS, PASSES, Runtime, builder, polled, sizes, unchecked};
+use super::{
+    Board, Case, ENDED, LASTS, PASSES, Runtime, assert_equal, builder, polled, sizes, unchecked,
+};
 use bb8::{Driver, Moment, PoolParts};
 use std::marker::Brand;
 use std::sync::atomic::Ordering;
@@ -22,12 +24,12 @@ fn opens_and_ends<R: Runtime, L: PoolParts>(rt: R, blank: Blank) -> Result<(), F
         mut driver,
         ..
     } = unchecked::<R, L>(rt, blank, board, builder)?;
-    assert_eq!(&rt; driver.turn(Moment(0)), polled(2));
-    assert_eq!(&rt; sizes(&pool), (2, 2));
-    assert_eq!(&rt; driver.turn(Moment(0)), polled(0));
+    assert_equal(&rt, driver.turn(Moment(0)), polled(2));
+    assert_equal(&rt, sizes(&pool), (2, 2));
+    assert_equal(&rt, driver.turn(Moment(0)), polled(0));
     drop(pool);
     for at in 0..3u64 {
-        assert_eq!(&rt; driver.turn(Moment(at)), ENDED);
+        assert_equal(&rt, driver.turn(Moment(at)), ENDED);
     }
     Ok(())
 }
@@ -54,24 +56,24 @@ fn shares_approvals<R: Runtime, L: PoolParts>(rt: R, blank: Blank) -> Result<(),
         ..
     } = unchecked::<R, L>(rt, blank, board, builder)?;
     let mut second = Driver::new(&pool)?;
-    assert_eq!(&rt; first.turn(Moment(0)), polled(2));
-    assert_eq!(&rt; second.turn(Moment(0)), polled(0));
+    assert_equal(&rt, first.turn(Moment(0)), polled(2));
+    assert_equal(&rt, second.turn(Moment(0)), polled(0));
     let mut gets = Vec::new(rt.alloc());
     for _ in 0..3u8 {
         let mut get = pool.get_owned();
         assert!(&rt; task.poll(&mut get).is_pending());
         gets.push(get)?;
     }
-    assert_eq!(&rt; second.turn(Moment(0)), polled(1));
+    assert_equal(&rt, second.turn(Moment(0)), polled(1));
     board.opening.store(PASSES, Ordering::SeqCst);
-    assert_eq!(&rt; first.turn(Moment(0)), polled(2));
-    assert_eq!(&rt; sizes(&pool), (2, 2));
-    assert_eq!(&rt; second.turn(Moment(0)), polled(1));
-    assert_eq!(&rt; sizes(&pool), (3, 3));
+    assert_equal(&rt, first.turn(Moment(0)), polled(2));
+    assert_equal(&rt, sizes(&pool), (2, 2));
+    assert_equal(&rt, second.turn(Moment(0)), polled(1));
+    assert_equal(&rt, sizes(&pool), (3, 3));
     drop(gets);
     drop(pool);
-    assert_eq!(&rt; first.turn(Moment(0)), ENDED);
-    assert_eq!(&rt; second.turn(Moment(0)), ENDED);
+    assert_equal(&rt, first.turn(Moment(0)), ENDED);
+    assert_equal(&rt, second.turn(Moment(0)), ENDED);
     Ok(())
 }
 

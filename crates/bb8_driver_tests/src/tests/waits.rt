@@ -2,7 +2,7 @@
 ghost use Rattle.bb8.specs.Parts.{IsBlankOf};
 ghost use Rattle.bb8.specs.Settings.{default_settings};
 
-use super::{Board, Case, MILLI, Runtime, builder, built, polled};
+use super::{Board, Case, MILLI, Runtime, assert_equal, builder, built, polled};
 use bb8::{Moment, PoolParts, RunError};
 use futures::task::Poll;
 use std::marker::Brand;
@@ -24,7 +24,7 @@ fn releases_one<R: Runtime, L: PoolParts>(rt: R, blank: Blank) -> Result<(), Fai
     } = built::<R, L>(rt, blank, board, builder)?;
     let mut first = pool.get();
     assert!(&rt; task.poll(&mut first).is_pending());
-    assert_eq!(&rt; driver.turn(Moment(0)), polled(1));
+    assert_equal(&rt, driver.turn(Moment(0)), polled(1));
     let Poll::Ready(Ok(guard)) = task.poll(&mut first) else {
         panic!(&rt; "the first get was not served");
     };
@@ -58,7 +58,7 @@ fn holds_two<R: Runtime, L: PoolParts>(rt: R, blank: Blank) -> Result<(), Fail>
     let mut second = pool.get_owned();
     assert!(&rt; task.poll(&mut first).is_pending());
     assert!(&rt; task.poll(&mut second).is_pending());
-    assert_eq!(&rt; driver.turn(Moment(0)), polled(2));
+    assert_equal(&rt, driver.turn(Moment(0)), polled(2));
     let Poll::Ready(Ok(guard)) = task.poll(&mut first) else {
         panic!(&rt; "the first get was not served");
     };
@@ -67,7 +67,7 @@ fn holds_two<R: Runtime, L: PoolParts>(rt: R, blank: Blank) -> Result<(), Fail>
     };
     let mut third = pool.get_owned();
     assert!(&rt; task.poll(&mut third).is_pending());
-    assert_eq!(&rt; driver.turn(Moment(0)), polled(0));
+    assert_equal(&rt, driver.turn(Moment(0)), polled(0));
     assert!(&rt; task.poll(&mut third).is_pending());
     drop(guard);
     assert!(&rt; matches!(task.poll(&mut third), Poll::Ready(Ok(_))));
@@ -100,7 +100,7 @@ fn times_out<R: Runtime, L: PoolParts>(rt: R, blank: Blank) -> Result<(), Fail>
     } = built::<R, L>(rt, blank, board, builder)?;
     let mut first = pool.get();
     assert!(&rt; task.poll(&mut first).is_pending());
-    assert_eq!(&rt; driver.turn(Moment(0)), polled(1));
+    assert_equal(&rt, driver.turn(Moment(0)), polled(1));
     let Poll::Ready(Ok(guard)) = task.poll(&mut first) else {
         panic!(&rt; "the first get was not served");
     };

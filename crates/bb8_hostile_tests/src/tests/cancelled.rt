@@ -3,7 +3,7 @@ ghost use Rattle.std.specs.Prelude.{Some};
 ghost use Rattle.bb8.specs.Parts.{IsBlankOf};
 ghost use Rattle.bb8.specs.Settings.{default_settings};
 
-use super::{Runtime, fill, is_at_rest};
+use super::{Runtime, assert_equal, fill, is_at_rest};
 use bb8::driver::Driver;
 use bb8::{Builder, Building, Cancel, Clock, Memory, PoolParts};
 use bb8_hostile::{
@@ -125,7 +125,7 @@ fn begin<R: Runtime, L: PoolParts>(
         .error_sink(harness.sink()?)
         .connection_customizer(harness.customizer()?)
         .build_unchecked(harness.manager()?, harness.clock()?, rt, blank)?;
-    assert_eq!(&rt; fill(&pool, harness, 100), Some(2));
+    assert_equal(&rt, fill(&pool, harness, 100), Some(2));
     Ok(pool)
 }
 
@@ -146,7 +146,7 @@ fn lets_a_future_go<R: Runtime, L: PoolParts>(
         _ => {
             let ended = end_of(let_go(task, pool.dedicated_connection(), polls, how));
             let state = pool.state();
-            assert_eq!(&rt; (state.connections, state.idle_connections), (2, 2));
+            assert_equal(&rt, (state.connections, state.idle_connections), (2, 2));
             ended
         }
     };
@@ -178,7 +178,7 @@ fn lets_a_driver_go<R: Runtime, L: PoolParts>(
     } else {
         4u32.saturating_sub(connections)
     };
-    assert_eq!(&rt; fill(pool, harness, 100), Some(room));
+    assert_equal(&rt, fill(pool, harness, 100), Some(room));
     Ok(match going {
         true => Ended::Early,
         false if connections == 4 => Ended::Served,
@@ -213,8 +213,8 @@ fn lets_a_building_go<R: Runtime, L: PoolParts>(
     let answer = let_go(task, building, polls, how);
     if let Some(Ok(pool)) = &answer {
         assert!(&rt; is_at_rest(pool, harness));
-        assert_eq!(&rt; pool.state().connections, 2);
-        assert_eq!(&rt; fill(pool, harness, 100), Some(2));
+        assert_equal(&rt, pool.state().connections, 2);
+        assert_equal(&rt, fill(pool, harness, 100), Some(2));
     }
     Ok(end_of(answer))
 }

@@ -2,7 +2,7 @@
 ghost use Rattle.bb8.specs.Parts.{IsBlankOf};
 ghost use Rattle.bb8.specs.Settings.{default_settings};
 
-use super::{Runtime, fill};
+use super::{Runtime, assert_equal, fill};
 use bb8::{Builder, PoolParts};
 use bb8_hostile::{Harness, HostilePool};
 use futures::test::MockTask;
@@ -25,7 +25,7 @@ fn grants<R: Runtime, L: PoolParts>(rt: R, blank: Blank) -> Result<(), Fail>
     assert!(&rt; task.poll(&mut first).is_pending());
     let mut second = pool.get();
     assert!(&rt; task.poll(&mut second).is_pending());
-    assert_eq!(&rt; fill(&pool, &harness, 4), Some(1));
+    assert_equal(&rt, fill(&pool, &harness, 4), Some(1));
     Ok(())
 }
 

@@ -2,7 +2,7 @@
 ghost use Rattle.bb8.specs.Parts.{IsBlankOf};
 ghost use Rattle.bb8.specs.Settings.{default_settings};
 
-use super::{Runtime, fill, is_at_rest};
+use super::{Runtime, assert_equal, fill, is_at_rest};
 use bb8::get::GetFuture;
 use bb8::owned::GetOwnedFuture;
 use bb8::{
@@ -321,7 +321,7 @@ fn polls_at_random<R: Runtime, L: PoolParts>(rt: R, blank: Blank, seed: u64) -> 
         .error_sink(harness.sink()?)
         .connection_customizer(harness.customizer()?)
         .build_unchecked(harness.manager()?, harness.clock()?, rt, blank)?;
-    assert_eq!(&rt; fill(&pool, &harness, 100), Some(MAX_SIZE));
+    assert_equal(&rt, fill(&pool, &harness, 100), Some(MAX_SIZE));
     let mut field = Field {
         pool: &pool,
         harness: &harness,

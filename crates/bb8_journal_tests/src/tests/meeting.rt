@@ -2,7 +2,7 @@
 ghost use Rattle.std.specs.Prelude.{◌≡◌, ◌<◌, true};
 ghost use Rattle.bb8_types.specs.Settings.{settings_of, is_lawful};
 
-use super::{event, unchecked};
+use super::{assert_equal, event, unchecked};
 use bb8_core::api::{Config, Memory};
 use bb8_core::replay::{Act, Answer};
 use bb8_journal::journal::{NoRoom, Recorded, Seat, SharedJournal, audit};
@@ -105,7 +105,7 @@ fn both<R: Threads + Wait + Abort + AllocGlobal + Sync, L: Recorded + Send + Syn
         return Err(Memory);
     };
     let (entries, _, notes) = journal.close(seats);
-    assert_eq!(rt; meeting.claimed.load(Ordering::SeqCst), 0);
+    assert_equal(&rt, meeting.claimed.load(Ordering::SeqCst), 0);
     assert!(rt; entries.len() >= 3);
     assert!(rt; audit(&entries, &notes));
     Ok(())

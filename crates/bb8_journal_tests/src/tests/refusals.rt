@@ -3,7 +3,7 @@
 ghost use Rattle.std.specs.Prelude.{◌≡◌, true};
 ghost use Rattle.bb8_types.specs.Settings.{settings_of, is_lawful};
 
-use super::{event, unchecked};
+use super::{assert_equal, event, unchecked};
 use bb8_core::api::Config;
 use bb8_core::replay::{Act, Answer, Reason};
 use bb8_journal::journal::{Notes, Recorded, Seat, SharedJournal, audit};
@@ -130,8 +130,8 @@ fn plays_rounds<R: Wait + Abort + AllocGlobal, L: Recorded>(rt: &R, config: Conf
         return;
     }
     let (entries, _, notes) = journal.close(seats);
-    assert_eq!(rt; entries.len() as u64, made);
-    assert_eq!(rt; audit(&entries, &notes), missing(&notes) == 0);
+    assert_equal(&rt, entries.len() as u64, made);
+    assert_equal(&rt, audit(&entries, &notes), missing(&notes) == 0);
 }
 
 #[test]

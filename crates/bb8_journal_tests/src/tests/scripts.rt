@@ -1,5 +1,6 @@
 //! Scripts that threads run, from bytes to bytes, and the arguments that ask for it.
 
+use super::assert_equal;
 use bb8_runner::fault::Fault;
 use bb8_runner::verdict::Verdict;
 use bb8_threads::arguments::{Mode, arguments};
@@ -70,8 +71,8 @@ fn number_after(text: &str, word: &str) -> Option<u64> {
 #[test]
 fn succeeds_first_script_in_one_thread(rt: HostRuntime) -> Result<(), Fail> {
     let (verdict, told) = run(&rt, 1, FIRST_SCRIPT)?;
-    assert_eq!(rt; verdict, Verdict::Ran);
-    assert_eq!(rt; told.as_str(), FIRST_TOLD);
+    assert_equal(&rt, verdict, Verdict::Ran);
+    assert_equal(&rt, told.as_str(), FIRST_TOLD);
     Ok(())
 }
 
@@ -79,7 +80,7 @@ fn succeeds_first_script_in_one_thread(rt: HostRuntime) -> Result<(), Fail> {
 fn first_script_in_many_threads(rt: HostRuntime) -> Result<(), Fail> {
     for threads in [4, 64] {
         let (verdict, told) = run(&rt, threads, FIRST_SCRIPT)?;
-        assert_eq!(rt; verdict, Verdict::Ran);
+        assert_equal(&rt, verdict, Verdict::Ran);
         assert!(rt;
             told.starts_with("entries 20\naudit yes\nstate connections "),
             "{told}"
@@ -95,7 +96,7 @@ fn first_script_in_many_threads(rt: HostRuntime) -> Result<(), Fail> {
 #[test]
 fn unfit_event_is_an_entry(rt: HostRuntime) -> Result<(), Fail> {
     let (verdict, told) = run(&rt, 2, b"config\n0 return 7\n0 leave\n0 leave\n")?;
-    assert_eq!(rt; verdict, Verdict::Ran);
+    assert_equal(&rt, verdict, Verdict::Ran);
     assert!(rt;
         told.starts_with("entries 3\naudit yes\nstate connections 0 idle 0 "),
         "{told}"
@@ -106,8 +107,8 @@ fn unfit_event_is_an_entry(rt: HostRuntime) -> Result<(), Fail> {
 #[test]
 fn tells_a_bad_line(rt: HostRuntime) -> Result<(), Fail> {
     let (verdict, told) = run(&rt, 4, b"config\n0 begin\n0 beginn\n")?;
-    assert_eq!(rt; verdict, Verdict::Bad);
-    assert_eq!(rt; told.as_str(), "line 3: not an event\n");
+    assert_equal(&rt, verdict, Verdict::Bad);
+    assert_equal(&rt, told.as_str(), "line 3: not an event\n");
     Ok(())
 }
 
@@ -129,7 +130,7 @@ fn long_script(alloc: Global) -> Result<String, AllocError> {
 fn long_script_in_four_threads(rt: HostRuntime) -> Result<(), Fail> {
     let script = long_script(rt.alloc())?;
     let (verdict, told) = run(&rt, 4, script.as_bytes())?;
-    assert_eq!(rt; verdict, Verdict::Ran);
+    assert_equal(&rt, verdict, Verdict::Ran);
     assert!(rt;
         told.starts_with("entries 100000\naudit yes\nstate "),
         "{told}"
@@ -149,11 +150,12 @@ fn asked(alloc: Global, words: &[&str]) -> Result<Option<Mode>, AllocError> {
 #[test]
 fn judges_arguments(rt: HostRuntime) -> Result<(), Fail> {
     let alloc = rt.alloc();
-    assert_eq!(rt; asked(alloc, &[])?, Some(Mode::Script));
+    assert_equal(&rt, asked(alloc, &[])?, Some(Mode::Script));
     for (count, threads) in [("1", 1), ("4", 4), ("64", 64)] {
-        assert_eq!(rt;
+        assert_equal(
+            &rt,
             asked(alloc, &["threads", count])?,
-            Some(Mode::Threads(threads))
+            Some(Mode::Threads(threads)),
         );
     }
     for count in [
@@ -171,9 +173,9 @@ fn judges_arguments(rt: HostRuntime) -> Result<(), Fail> {
     ] {
         assert_eq!(rt; asked(alloc, &["threads", count])?, None, "{count}");
     }
-    assert_eq!(rt; asked(alloc, &["threads"])?, None);
-    assert_eq!(rt; asked(alloc, &["thread", "4"])?, None);
-    assert_eq!(rt; asked(alloc, &["4"])?, None);
-    assert_eq!(rt; asked(alloc, &["threads", "4", "4"])?, None);
+    assert_equal(&rt, asked(alloc, &["threads"])?, None);
+    assert_equal(&rt, asked(alloc, &["thread", "4"])?, None);
+    assert_equal(&rt, asked(alloc, &["4"])?, None);
+    assert_equal(&rt, asked(alloc, &["threads", "4", "4"])?, None);
     Ok(())
 }

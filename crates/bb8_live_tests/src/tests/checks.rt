@@ -3,7 +3,7 @@ ghost use Rattle.std.specs.Prelude.{◌≡◌};
 ghost use Rattle.bb8.specs.Parts.{IsBlankOf};
 ghost use Rattle.bb8.specs.Settings.{default_settings};
 
-use super::{Refused, Runtime};
+use super::{Refused, Runtime, assert_equal};
 use bb8::{
     Builder, ErrorSink, ManageConnection, Memory, Moment, NopCustomizer, Pool, PoolParts, SetClock,
 };
@@ -108,19 +108,19 @@ fn closes_the_broken<R: Runtime, L: PoolParts>(rt: R, blank: Blank) -> Result<()
             rt,
             blank,
         )?;
-    assert_eq!(&rt; pool.add(0), Ok(()));
+    assert_equal(&rt, pool.add(0), Ok(()));
     let Ok(task) = MockTask::new(&rt) else {
         return Err(Memory);
     };
     let mut get = pool.get();
     assert!(&rt; task.poll(&mut get).is_pending());
     let state = pool.state();
-    assert_eq!(&rt; (state.connections, state.idle_connections), (0, 0));
-    assert_eq!(&rt; state.statistics.connections_closed_invalid, 1);
-    assert_eq!(&rt; state.statistics.connections_closed_broken, 1);
-    assert_eq!(&rt; state.statistics.connections_closed_max_lifetime, 0);
-    assert_eq!(&rt; state.statistics.pending_gets(), 1);
-    assert_eq!(&rt; count.load(Ordering::SeqCst), 1);
+    assert_equal(&rt, (state.connections, state.idle_connections), (0, 0));
+    assert_equal(&rt, state.statistics.connections_closed_invalid, 1);
+    assert_equal(&rt, state.statistics.connections_closed_broken, 1);
+    assert_equal(&rt, state.statistics.connections_closed_max_lifetime, 0);
+    assert_equal(&rt, state.statistics.pending_gets(), 1);
+    assert_equal(&rt, count.load(Ordering::SeqCst), 1);
     Ok(())
 }
 
@@ -155,7 +155,7 @@ fn build_checked<R: Runtime, L: PoolParts>(
         .max_size(1)
         .error_sink(Errors { count })
         .build_unchecked(Checker { check }, clock.try_clone()?, rt, blank)?;
-    assert_eq!(&rt; pool.add(0), Ok(()));
+    assert_equal(&rt, pool.add(0), Ok(()));
     Ok(CheckedCase {
         pool,
         clock,
@@ -177,18 +177,18 @@ fn lets_go_in_the_check<R: Runtime, L: PoolParts>(rt: R, blank: Blank) -> Result
     assert!(&rt; task.poll(&mut second).is_pending());
     first.cancel();
     let state = pool.state();
-    assert_eq!(&rt; (state.connections, state.idle_connections), (1, 1));
+    assert_equal(&rt, (state.connections, state.idle_connections), (1, 1));
     assert!(&rt; task.poll(&mut second).is_pending());
     let state = pool.state();
-    assert_eq!(&rt; (state.connections, state.idle_connections), (1, 0));
+    assert_equal(&rt, (state.connections, state.idle_connections), (1, 0));
     drop(second);
     let state = pool.state();
-    assert_eq!(&rt; state.connections, 0);
-    assert_eq!(&rt; state.statistics.get_cancelled, 2);
-    assert_eq!(&rt; state.statistics.connections_closed_broken, 1);
-    assert_eq!(&rt; state.statistics.connections_closed_invalid, 0);
-    assert_eq!(&rt; state.statistics.pending_gets(), 0);
-    assert_eq!(&rt; errors.load(Ordering::SeqCst), 0);
+    assert_equal(&rt, state.connections, 0);
+    assert_equal(&rt, state.statistics.get_cancelled, 2);
+    assert_equal(&rt, state.statistics.connections_closed_broken, 1);
+    assert_equal(&rt, state.statistics.connections_closed_invalid, 0);
+    assert_equal(&rt, state.statistics.pending_gets(), 0);
+    assert_equal(&rt, errors.load(Ordering::SeqCst), 0);
     Ok(())
 }
 
@@ -213,9 +213,9 @@ fn times_out_in_the_check<R: Runtime, L: PoolParts>(rt: R, blank: Blank) -> Resu
     clock.set(Moment(30_000_000_000));
     assert!(&rt; task.poll(&mut get).is_ready());
     let state = pool.state();
-    assert_eq!(&rt; (state.connections, state.idle_connections), (1, 1));
-    assert_eq!(&rt; state.statistics.get_timed_out, 1);
-    assert_eq!(&rt; state.statistics.get_wait_time.as_micros(), 0);
+    assert_equal(&rt, (state.connections, state.idle_connections), (1, 1));
+    assert_equal(&rt, state.statistics.get_timed_out, 1);
+    assert_equal(&rt, state.statistics.get_wait_time.as_micros(), 0);
     Ok(())
 }
 
@@ -236,11 +236,11 @@ fn serves_the_checked<R: Runtime, L: PoolParts>(rt: R, blank: Blank) -> Result<(
     let Poll::Ready(Ok(guard)) = task.poll(&mut pool.get()) else {
         panic!(&rt; "not served");
     };
-    assert_eq!(&rt; *guard, 1);
+    assert_equal(&rt, *guard, 1);
     drop(guard);
     let state = pool.state();
-    assert_eq!(&rt; (state.connections, state.idle_connections), (1, 1));
-    assert_eq!(&rt; state.statistics.get_direct, 1);
+    assert_equal(&rt, (state.connections, state.idle_connections), (1, 1));
+    assert_equal(&rt, state.statistics.get_direct, 1);
     Ok(())
 }
 

@@ -2,7 +2,7 @@
 ghost use Rattle.std.specs.Prelude.{Some};
 ghost use Rattle.bb8.specs.Parts.{IsBlankOf, unchecked_of};
 
-use super::{NumberPool, Runtime, SlowManager};
+use super::{NumberPool, Runtime, SlowManager, assert_equal};
 use bb8::{Builder, Memory, Moment, PoolParts, QueueStrategy, RunError, SetClock};
 use futures::task::Poll;
 use futures::test::MockTask;
@@ -30,12 +30,12 @@ fn lends_first<R: Runtime, L: PoolParts>(
     let Ok(task) = MockTask::new(&rt) else {
         return Err(Memory);
     };
-    assert_eq!(&rt; pool.add(7), Ok(()));
-    assert_eq!(&rt; pool.add(8), Ok(()));
+    assert_equal(&rt, pool.add(7), Ok(()));
+    assert_equal(&rt, pool.add(8), Ok(()));
     let Poll::Ready(Ok(guard)) = task.poll(&mut pool.get()) else {
         panic!(&rt; "not served");
     };
-    assert_eq!(&rt; *guard, connection);
+    assert_equal(&rt, *guard, connection);
     Ok(())
 }
 
@@ -61,18 +61,18 @@ fn closes_in_time<R: Runtime, L: PoolParts>(rt: R, blank: Blank) -> Result<(), M
         return Err(Memory);
     };
     clock.set(Moment(20));
-    assert_eq!(&rt; pool.add(7), Ok(()));
+    assert_equal(&rt, pool.add(7), Ok(()));
     clock.set(Moment(29));
     assert!(&rt; matches!(task.poll(&mut pool.get()), Poll::Ready(Ok(_))));
-    assert_eq!(&rt; pool.state().connections, 1);
+    assert_equal(&rt, pool.state().connections, 1);
     let Poll::Ready(Ok(guard)) = task.poll(&mut pool.get()) else {
         panic!(&rt; "not served");
     };
     clock.set(Moment(30));
     drop(guard);
     let state = pool.state();
-    assert_eq!(&rt; state.connections, 0);
-    assert_eq!(&rt; state.statistics.connections_closed_max_lifetime, 1);
+    assert_equal(&rt, state.connections, 0);
+    assert_equal(&rt, state.statistics.connections_closed_max_lifetime, 1);
     Ok(())
 }
 

@@ -1,7 +1,7 @@
 //! The future of a get, polled by hand.
 ghost use Rattle.bb8.specs.Parts.{IsBlankOf, unchecked_of};
 
-use super::{NumberPool, Runtime, SlowManager};
+use super::{NumberPool, Runtime, SlowManager, assert_equal};
 use bb8::{Builder, Memory, Moment, PoolParts, RunError, SetClock};
 use futures::task::Poll;
 use futures::test::MockTask;
@@ -21,14 +21,14 @@ fn waits<R: Runtime, L: PoolParts>(rt: R, blank: Blank) -> Result<(), Memory>
         .test_on_check_out(false)
         .connection_timeout(Duration::from_nanos(10))
         .build_unchecked(SlowManager, clock.try_clone()?, rt, blank)?;
-    assert_eq!(&rt; pool.add(7), Ok(()));
+    assert_equal(&rt, pool.add(7), Ok(()));
     let Ok(task) = MockTask::new(&rt) else {
         return Err(Memory);
     };
     let Poll::Ready(Ok(guard)) = task.poll(&mut pool.get()) else {
         panic!(&rt; "not served");
     };
-    assert_eq!(&rt; *guard, 7);
+    assert_equal(&rt, *guard, 7);
     let mut cancelled = pool.get();
     assert!(&rt; task.poll(&mut cancelled).is_pending());
     assert!(&rt; task.is_woken());
@@ -46,11 +46,11 @@ fn waits<R: Runtime, L: PoolParts>(rt: R, blank: Blank) -> Result<(), Memory>
     assert!(&rt; matches!(task.poll(&mut late), Poll::Ready(Err(RunError::TimedOut))));
     drop(guard);
     let statistics = pool.state().statistics;
-    assert_eq!(&rt; statistics.get_started, 4);
-    assert_eq!(&rt; statistics.get_direct, 1);
-    assert_eq!(&rt; statistics.get_waited, 1);
-    assert_eq!(&rt; statistics.get_timed_out, 1);
-    assert_eq!(&rt; statistics.get_cancelled, 1);
+    assert_equal(&rt, statistics.get_started, 4);
+    assert_equal(&rt, statistics.get_direct, 1);
+    assert_equal(&rt, statistics.get_waited, 1);
+    assert_equal(&rt, statistics.get_timed_out, 1);
+    assert_equal(&rt, statistics.get_cancelled, 1);
     Ok(())
 }
 
@@ -69,7 +69,7 @@ fn serves_the_third<R: Runtime, L: PoolParts>(rt: R, blank: Blank) -> Result<(),
         .max_size(1)
         .test_on_check_out(false)
         .build_unchecked(SlowManager, clock, rt, blank)?;
-    assert_eq!(&rt; pool.add(7), Ok(()));
+    assert_equal(&rt, pool.add(7), Ok(()));
     let Ok(task) = MockTask::new(&rt) else {
         return Err(Memory);
     };
@@ -83,12 +83,12 @@ fn serves_the_third<R: Runtime, L: PoolParts>(rt: R, blank: Blank) -> Result<(),
     let Poll::Ready(Ok(guard)) = task.poll(&mut pool.get()) else {
         panic!(&rt; "the third get was not served");
     };
-    assert_eq!(&rt; *guard, 7);
+    assert_equal(&rt, *guard, 7);
     let statistics = pool.state().statistics;
-    assert_eq!(&rt; statistics.get_started, 3);
-    assert_eq!(&rt; statistics.get_direct, 2);
-    assert_eq!(&rt; statistics.get_cancelled, 1);
-    assert_eq!(&rt; statistics.pending_gets(), 0);
+    assert_equal(&rt, statistics.get_started, 3);
+    assert_equal(&rt, statistics.get_direct, 2);
+    assert_equal(&rt, statistics.get_cancelled, 1);
+    assert_equal(&rt, statistics.pending_gets(), 0);
     Ok(())
 }
 
@@ -132,16 +132,16 @@ fn polled_at_the_deadline<R: Runtime, L: PoolParts>(
     assert!(&rt; task.poll(&mut get).is_pending());
     clock.set(Moment(1_000_000_000));
     if is_added {
-        assert_eq!(&rt; pool.add(7), Ok(()));
+        assert_equal(&rt, pool.add(7), Ok(()));
     }
     match task.poll(&mut get) {
-        Poll::Ready(Ok(guard)) => assert_eq!(&rt; (*guard, is_added), (7, true)),
+        Poll::Ready(Ok(guard)) => assert_equal(&rt, (*guard, is_added), (7, true)),
         Poll::Ready(Err(error)) => assert!(&rt; matches!(error, RunError::TimedOut) && !is_added),
         Poll::Pending => panic!(&rt; "it waits past its deadline"),
     }
     let statistics = pool.state().statistics;
-    assert_eq!(&rt; statistics.completed_gets(), 1);
-    assert_eq!(&rt; statistics.get_wait_time.as_micros(), 1_000_000);
+    assert_equal(&rt, statistics.completed_gets(), 1);
+    assert_equal(&rt, statistics.get_wait_time.as_micros(), 1_000_000);
     Ok(())
 }
 
@@ -174,9 +174,9 @@ fn ends_with_the_clock<R: Runtime, L: PoolParts>(rt: R, blank: Blank) -> Result<
     let before = pool.state();
     assert!(&rt; task.poll(&mut get).is_pending());
     get.cancel();
-    assert_eq!(&rt; pool.state(), before);
-    assert_eq!(&rt; before.statistics.get_timed_out, 1);
-    assert_eq!(&rt; before.statistics.pending_gets(), 1);
+    assert_equal(&rt, pool.state(), before);
+    assert_equal(&rt, before.statistics.get_timed_out, 1);
+    assert_equal(&rt, before.statistics.pending_gets(), 1);
     Ok(())
 }
 

@@ -1,7 +1,7 @@
 //! A manager is asked about a connection while the pool answers another thread: no call of it is made under the lock.
 ghost use Rattle.bb8.specs.Parts.{IsBlankOf, unchecked_of};
 
-use super::{Refused, Runtime};
+use super::{Refused, Runtime, assert_equal};
 use bb8::{
     Builder, ManageConnection, Memory, Moment, NopCustomizer, NopErrorSink, Pool, PoolCalls,
     PoolParts, SetClock,
@@ -143,20 +143,21 @@ fn answers_meanwhile<R: Runtime + Threads, L: PoolParts>(rt: R, blank: Blank) ->
         .max_size(1)
         .test_on_check_out(false)
         .build_unchecked(manager, clock, rt, blank)?;
-    assert_eq!(&rt; pool.add(7), Ok(()));
-    assert_eq!(&rt;
+    assert_equal(&rt, pool.add(7), Ok(()));
+    assert_equal(
+        &rt,
         both(
             &rt,
             &AtGate {
                 pool: &pool,
                 gate,
-                rt
-            }
+                rt,
+            },
         ),
-        (true, true)
+        (true, true),
     );
     let state = pool.state();
-    assert_eq!(&rt; (state.connections, state.idle_connections), (1, 1));
+    assert_equal(&rt, (state.connections, state.idle_connections), (1, 1));
     Ok(())
 }
 

@@ -6,7 +6,7 @@ ghost use Rattle.bb8_core.specs.Shown.{Means};
 ghost use Rattle.bb8_ledger.specs.Table as table;
 ghost use Rattle.bb8_ledger.specs.Table.{IsLegal};
 
-use super::{Refused, SlowManager, StoppedClock};
+use super::{Refused, SlowManager, StoppedClock, assert_equal};
 use bb8::{Config, Moment, NopErrorSink, RunError, Statistics};
 use bb8_core::internals::{AddAnswer, Key, PoolInternals};
 use bb8_core::replay::{Act, Event, fits};
@@ -96,15 +96,16 @@ fn statistics_of(pool: &mut PoolInternals<u64>) -> Statistics {
 fn times_out(rt: HostRuntime) {
     let mut pool = pool_of(&rt, rt.alloc(), 2);
     let mut get = GetState::new();
-    assert_eq!(rt; poll(&mut pool, &mut get, 0), Poll::Pending);
-    assert_eq!(rt; poll(&mut pool, &mut get, SECOND - 1), Poll::Pending);
-    assert_eq!(rt;
+    assert_equal(&rt, poll(&mut pool, &mut get, 0), Poll::Pending);
+    assert_equal(&rt, poll(&mut pool, &mut get, SECOND - 1), Poll::Pending);
+    assert_equal(
+        &rt,
         poll(&mut pool, &mut get, SECOND),
-        Poll::Ready(Err(RunError::TimedOut))
+        Poll::Ready(Err(RunError::TimedOut)),
     );
     let statistics = statistics_of(&mut pool);
-    assert_eq!(rt; statistics.get_timed_out, 1);
-    assert_eq!(rt; statistics.get_wait_time.as_micros(), 1_000_000);
+    assert_equal(&rt, statistics.get_timed_out, 1);
+    assert_equal(&rt, statistics.get_wait_time.as_micros(), 1_000_000);
     cancel(&mut pool, get, SECOND);
 }
 
@@ -113,13 +114,17 @@ fn times_out(rt: HostRuntime) {
 fn is_served_at_its_deadline(rt: HostRuntime) {
     let mut pool = pool_of(&rt, rt.alloc(), 2);
     let mut get = GetState::new();
-    assert_eq!(rt; poll(&mut pool, &mut get, 0), Poll::Pending);
+    assert_equal(&rt, poll(&mut pool, &mut get, 0), Poll::Pending);
     let key = add(&rt, &mut pool, SECOND, 7);
-    assert_eq!(rt; key.number, 1);
-    assert_eq!(rt; poll(&mut pool, &mut get, SECOND), Poll::Ready(Ok((1, 7))));
+    assert_equal(&rt, key.number, 1);
+    assert_equal(
+        &rt,
+        poll(&mut pool, &mut get, SECOND),
+        Poll::Ready(Ok((1, 7))),
+    );
     let statistics = statistics_of(&mut pool);
-    assert_eq!(rt; statistics.get_waited, 1);
-    assert_eq!(rt; statistics.get_wait_time.as_micros(), 1_000_000);
+    assert_equal(&rt, statistics.get_waited, 1);
+    assert_equal(&rt, statistics.get_wait_time.as_micros(), 1_000_000);
     cancel(&mut pool, get, SECOND);
 }
 
@@ -129,20 +134,22 @@ fn deadlines_at_the_end_of_the_clock(rt: HostRuntime) {
     let mut pool = pool_of(&rt, rt.alloc(), 2);
     let mut get = GetState::new();
     let mut endless = GetState::new();
-    assert_eq!(rt; poll(&mut pool, &mut get, last - SECOND), Poll::Pending);
-    assert_eq!(rt;
+    assert_equal(&rt, poll(&mut pool, &mut get, last - SECOND), Poll::Pending);
+    assert_equal(
+        &rt,
         poll(&mut pool, &mut endless, last - SECOND + 1),
-        Poll::Pending
+        Poll::Pending,
     );
-    assert_eq!(rt; poll(&mut pool, &mut get, last - 1), Poll::Pending);
-    assert_eq!(rt;
+    assert_equal(&rt, poll(&mut pool, &mut get, last - 1), Poll::Pending);
+    assert_equal(
+        &rt,
         poll(&mut pool, &mut get, last),
-        Poll::Ready(Err(RunError::TimedOut))
+        Poll::Ready(Err(RunError::TimedOut)),
     );
-    assert_eq!(rt; poll(&mut pool, &mut endless, last), Poll::Pending);
+    assert_equal(&rt, poll(&mut pool, &mut endless, last), Poll::Pending);
     cancel(&mut pool, get, last);
     cancel(&mut pool, endless, last);
-    assert_eq!(rt; statistics_of(&mut pool).get_cancelled, 1);
+    assert_equal(&rt, statistics_of(&mut pool).get_cancelled, 1);
 }
 
 #[test]
@@ -150,18 +157,18 @@ fn serves_after_a_cancelled_get(rt: HostRuntime) {
     let mut pool = pool_of(&rt, rt.alloc(), 1);
     let key = add(&rt, &mut pool, 0, 7);
     let mut first = GetState::new();
-    assert_eq!(rt; poll(&mut pool, &mut first, 0), Poll::Ready(Ok((0, 7))));
+    assert_equal(&rt, poll(&mut pool, &mut first, 0), Poll::Ready(Ok((0, 7))));
     let mut second = GetState::new();
-    assert_eq!(rt; poll(&mut pool, &mut second, 0), Poll::Pending);
+    assert_equal(&rt, poll(&mut pool, &mut second, 0), Poll::Pending);
     cancel(&mut pool, second, 0);
     put_back(&rt, &mut pool, key, 7);
     let mut third = GetState::new();
-    assert_eq!(rt; poll(&mut pool, &mut third, 0), Poll::Ready(Ok((0, 7))));
+    assert_equal(&rt, poll(&mut pool, &mut third, 0), Poll::Ready(Ok((0, 7))));
     let statistics = statistics_of(&mut pool);
-    assert_eq!(rt; statistics.get_started, 3);
-    assert_eq!(rt; statistics.get_direct, 2);
-    assert_eq!(rt; statistics.get_cancelled, 1);
-    assert_eq!(rt; statistics.pending_gets(), 0);
+    assert_equal(&rt, statistics.get_started, 3);
+    assert_equal(&rt, statistics.get_direct, 2);
+    assert_equal(&rt, statistics.get_cancelled, 1);
+    assert_equal(&rt, statistics.pending_gets(), 0);
     cancel(&mut pool, first, 0);
     cancel(&mut pool, third, 0);
 }
@@ -171,11 +178,12 @@ fn needs_a_number(rt: HostRuntime) {
     let mut pool = pool_from(&rt, rt.alloc(), 1, u64::MAX);
     add(&rt, &mut pool, 0, 7);
     let mut get = GetState::new();
-    assert_eq!(rt;
+    assert_equal(
+        &rt,
         poll(&mut pool, &mut get, 0),
-        Poll::Ready(Err(RunError::Exhausted))
+        Poll::Ready(Err(RunError::Exhausted)),
     );
-    assert_eq!(rt; poll(&mut pool, &mut get, 0), Poll::Pending);
+    assert_equal(&rt, poll(&mut pool, &mut get, 0), Poll::Pending);
     cancel(&mut pool, get, 0);
 }
 
@@ -185,12 +193,12 @@ fn rests_after_its_answer(rt: HostRuntime) {
     let mut pool = pool_of(&rt, rt.alloc(), 1);
     let key = add(&rt, &mut pool, 0, 7);
     let mut get = GetState::new();
-    assert_eq!(rt; poll(&mut pool, &mut get, 0), Poll::Ready(Ok((0, 7))));
+    assert_equal(&rt, poll(&mut pool, &mut get, 0), Poll::Ready(Ok((0, 7))));
     put_back(&rt, &mut pool, key, 7);
     let before = pool.state(Moment(0));
-    assert_eq!(rt; poll(&mut pool, &mut get, SECOND), Poll::Pending);
+    assert_equal(&rt, poll(&mut pool, &mut get, SECOND), Poll::Pending);
     cancel(&mut pool, get, SECOND);
     cancel(&mut pool, GetState::default(), 2 * SECOND);
-    assert_eq!(rt; pool.look(Moment(0)).moment, Moment(0));
-    assert_eq!(rt; pool.state(Moment(0)), before);
+    assert_equal(&rt, pool.look(Moment(0)).moment, Moment(0));
+    assert_equal(&rt, pool.state(Moment(0)), before);
 }

@@ -1,7 +1,7 @@
 //! A list of guards.
 ghost use Rattle.bb8.specs.Parts.{IsBlankOf, unchecked_of};
 
-use super::{NumberPool, Runtime, SlowManager};
+use super::{NumberPool, Runtime, SlowManager, assert_equal};
 use bb8::{Builder, Guards, Moment, PoolParts, SetClock};
 use futures::task::Poll;
 use futures::test::MockTask;
@@ -23,33 +23,33 @@ fn gathers<R: Runtime, L: PoolParts>(rt: R, blank: Blank) -> Result<(), Fail>
     let mut guards = Guards::new(rt.alloc(), &pool);
     assert!(&rt; guards.is_empty());
     for connection in 7..10u64 {
-        assert_eq!(&rt; pool.add(connection), Ok(()));
+        assert_equal(&rt, pool.add(connection), Ok(()));
         let Poll::Ready(Ok(guard)) = task.poll(&mut pool.get()) else {
             panic!(&rt; "not served");
         };
         assert!(&rt; guards.push(guard).is_ok());
     }
-    assert_eq!(&rt; guards.len(), 3);
-    assert_eq!(&rt; pool.state().idle_connections, 0);
+    assert_equal(&rt, guards.len(), 3);
+    assert_equal(&rt, pool.state().idle_connections, 0);
     let Some(first) = guards.remove(0) else {
         panic!(&rt; "no guard");
     };
-    assert_eq!(&rt; *first, 7);
+    assert_equal(&rt, *first, 7);
     assert!(&rt; guards.remove(2).is_none());
     let Some(last) = guards.get_mut(1) else {
         panic!(&rt; "no guard");
     };
-    assert_eq!(&rt; *last, 9);
+    assert_equal(&rt, *last, 9);
     *last = 0;
-    assert_eq!(&rt; guards.get_mut(0).copied(), Some(8));
-    assert_eq!(&rt; guards.get_mut(2), None);
+    assert_equal(&rt, guards.get_mut(0).copied(), Some(8));
+    assert_equal(&rt, guards.get_mut(2), None);
     drop(first);
-    assert_eq!(&rt; pool.state().idle_connections, 1);
-    assert_eq!(&rt; guards.len(), 2);
+    assert_equal(&rt, pool.state().idle_connections, 1);
+    assert_equal(&rt, guards.len(), 2);
     drop(guards);
     let state = pool.state();
-    assert_eq!(&rt; (state.connections, state.idle_connections), (2, 2));
-    assert_eq!(&rt; state.statistics.connections_closed_broken, 1);
+    assert_equal(&rt, (state.connections, state.idle_connections), (2, 2));
+    assert_equal(&rt, state.statistics.connections_closed_broken, 1);
     Ok(())
 }
 

@@ -2,7 +2,7 @@
 ghost use Rattle.bb8.specs.Parts.{IsBlankOf, unchecked_of};
 ghost use Rattle.bb8.specs.Settings.{default_settings};
 
-use super::{NumberPool, Refused, Runtime, SlowManager};
+use super::{NumberPool, Refused, Runtime, SlowManager, assert_equal};
 use bb8::{
     Builder, ManageConnection, Memory, Moment, NopCustomizer, NopErrorSink, Pool, PoolParts,
     RunError, SetClock,
@@ -26,20 +26,20 @@ fn clones<R: Runtime, L: PoolParts>(rt: R, blank: Blank) -> Result<(), Fail>
     let pool: NumberPool<R, L> = Builder::new()
         .max_size(1)
         .build_unchecked(SlowManager, clock, rt, blank)?;
-    assert_eq!(&rt; pool.add(8), Ok(()));
+    assert_equal(&rt, pool.add(8), Ok(()));
     let Ok(clone) = pool.try_clone() else {
         panic!(&rt; "no clone");
     };
     drop(pool);
     let state = clone.state();
-    assert_eq!(&rt; (state.connections, state.idle_connections), (1, 1));
+    assert_equal(&rt, (state.connections, state.idle_connections), (1, 1));
     let Poll::Ready(Ok(guard)) = task.poll(&mut clone.get_owned()) else {
         panic!(&rt; "not served");
     };
-    assert_eq!(&rt; *guard, 8);
-    assert_eq!(&rt; clone.state().idle_connections, 0);
+    assert_equal(&rt, *guard, 8);
+    assert_equal(&rt, clone.state().idle_connections, 0);
     drop(guard);
-    assert_eq!(&rt; clone.state().idle_connections, 1);
+    assert_equal(&rt, clone.state().idle_connections, 1);
     Ok(())
 }
 
@@ -141,10 +141,10 @@ fn closes_with_the_last<R: Runtime, L: PoolParts>(rt: R, blank: Blank) -> Result
         panic!(&rt; "no clone");
     };
     drop(clone);
-    assert_eq!(&rt; pool.state().connections, 1);
-    assert_eq!(&rt; closed.load(Ordering::SeqCst), 0);
+    assert_equal(&rt, pool.state().connections, 1);
+    assert_equal(&rt, closed.load(Ordering::SeqCst), 0);
     drop(pool);
-    assert_eq!(&rt; closed.load(Ordering::SeqCst), 1);
+    assert_equal(&rt, closed.load(Ordering::SeqCst), 1);
     Ok(())
 }
 
@@ -162,15 +162,15 @@ fn outlives<R: Runtime, L: PoolParts>(rt: R, blank: Blank) -> Result<(), Fail>
     let NotedCase { pool, closed, .. } = build_noted::<R, L>(rt, blank)?;
     let mut get = pool.get_owned();
     drop(pool);
-    assert_eq!(&rt; closed.load(Ordering::SeqCst), 0);
+    assert_equal(&rt, closed.load(Ordering::SeqCst), 0);
     let Poll::Ready(Ok(guard)) = task.poll(&mut get) else {
         panic!(&rt; "not served");
     };
     assert!(&rt; task.poll(&mut get).is_pending());
     drop(get);
-    assert_eq!(&rt; closed.load(Ordering::SeqCst), 0);
+    assert_equal(&rt, closed.load(Ordering::SeqCst), 0);
     drop(guard);
-    assert_eq!(&rt; closed.load(Ordering::SeqCst), 1);
+    assert_equal(&rt, closed.load(Ordering::SeqCst), 1);
     Ok(())
 }
 
@@ -187,11 +187,11 @@ fn leaves_unpolled<R: Runtime, L: PoolParts>(rt: R, blank: Blank) -> Result<(), 
     let NotedCase { pool, closed, .. } = build_noted::<R, L>(rt, blank)?;
     let get = pool.get_owned();
     pool.get_owned().cancel();
-    assert_eq!(&rt; pool.state().statistics.get_started, 0);
+    assert_equal(&rt, pool.state().statistics.get_started, 0);
     drop(pool);
-    assert_eq!(&rt; closed.load(Ordering::SeqCst), 0);
+    assert_equal(&rt, closed.load(Ordering::SeqCst), 0);
     drop(get);
-    assert_eq!(&rt; closed.load(Ordering::SeqCst), 1);
+    assert_equal(&rt, closed.load(Ordering::SeqCst), 1);
     Ok(())
 }
 
@@ -219,15 +219,15 @@ fn leaves_at_its_answer<R: Runtime, L: PoolParts>(rt: R, blank: Blank) -> Result
     assert!(&rt; task.poll(&mut first).is_pending());
     assert!(&rt; task.poll(&mut second).is_pending());
     first.cancel();
-    assert_eq!(&rt; pool.state().statistics.get_cancelled, 1);
+    assert_equal(&rt, pool.state().statistics.get_cancelled, 1);
     clock.set(Moment(10));
     assert!(&rt; matches!(task.poll(&mut second), Poll::Ready(Err(RunError::TimedOut))));
     assert!(&rt; task.poll(&mut second).is_pending());
-    assert_eq!(&rt; pool.state().statistics.get_timed_out, 1);
+    assert_equal(&rt, pool.state().statistics.get_timed_out, 1);
     drop(pool);
-    assert_eq!(&rt; closed.load(Ordering::SeqCst), 0);
+    assert_equal(&rt, closed.load(Ordering::SeqCst), 0);
     drop(guard);
-    assert_eq!(&rt; closed.load(Ordering::SeqCst), 1);
+    assert_equal(&rt, closed.load(Ordering::SeqCst), 1);
     drop(second);
     Ok(())
 }
@@ -250,20 +250,20 @@ fn derefs<R: Runtime, L: PoolParts>(rt: R, blank: Blank) -> Result<(), Fail>
         .max_size(1)
         .test_on_check_out(false)
         .build_unchecked(SlowManager, clock, rt, blank)?;
-    assert_eq!(&rt; pool.add(7), Ok(()));
+    assert_equal(&rt, pool.add(7), Ok(()));
     let mut get = pool.get_owned();
     is_sent(&get);
     let Poll::Ready(Ok(mut guard)) = task.poll(&mut get) else {
         panic!(&rt; "not served");
     };
     is_sent(&guard);
-    assert_eq!(&rt; *guard, 7);
-    assert_eq!(&rt; format!(in rt.alloc(); "{guard:?}")?.as_str(), "7");
+    assert_equal(&rt, *guard, 7);
+    assert_equal(&rt, format!(in rt.alloc(); "{guard:?}")?.as_str(), "7");
     *guard = 0;
     drop(guard);
     let state = pool.state();
-    assert_eq!(&rt; state.connections, 0);
-    assert_eq!(&rt; state.statistics.connections_closed_broken, 1);
+    assert_equal(&rt, state.connections, 0);
+    assert_equal(&rt, state.statistics.connections_closed_broken, 1);
     Ok(())
 }
 

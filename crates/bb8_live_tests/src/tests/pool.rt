@@ -2,7 +2,7 @@
 ghost use Rattle.std.specs.Prelude.{Some};
 ghost use Rattle.bb8.specs.Parts.{IsBlankOf, unchecked_of};
 
-use super::{NumberPool, Runtime, SlowManager};
+use super::{NumberPool, Runtime, SlowManager, assert_equal};
 use bb8::{
     AddError, Builder, Moment, NopCustomizer, NopErrorSink, PoolParts, PooledConnection, SetClock,
 };
@@ -36,37 +36,41 @@ fn lends<R: Runtime, L: PoolParts>(rt: R, blank: Blank) -> Result<(), Fail>
         .test_on_check_out(false)
         .max_lifetime(Some(Duration::from_nanos(10)))
         .build_unchecked::<SetClock, R, L>(SlowManager, clock.try_clone()?, rt, blank)?;
-    assert_eq!(&rt; pool.config().max_size, 2);
-    assert_eq!(&rt; pool.add(7), Ok(()));
-    assert_eq!(&rt; pool.add(0), Err(AddError::Broken(0)));
-    assert_eq!(&rt; pool.add(8), Ok(()));
-    assert_eq!(&rt; pool.add(9), Err(AddError::NoCapacity(9)));
+    assert_equal(&rt, pool.config().max_size, 2);
+    assert_equal(&rt, pool.add(7), Ok(()));
+    assert_equal(&rt, pool.add(0), Err(AddError::Broken(0)));
+    assert_equal(&rt, pool.add(8), Ok(()));
+    assert_equal(&rt, pool.add(9), Err(AddError::NoCapacity(9)));
     let first = guard(&task, &pool);
     let second = guard(&task, &pool);
     assert!(&rt; guard(&task, &pool).is_none());
     let state = pool.state();
-    assert_eq!(&rt; (state.connections, state.idle_connections), (2, 0));
-    assert_eq!(&rt; first.as_deref(), Some(&7));
-    assert_eq!(&rt; format!(in rt.alloc(); "{first:?}")?.as_str(), "Some(7)");
+    assert_equal(&rt, (state.connections, state.idle_connections), (2, 0));
+    assert_equal(&rt, first.as_deref(), Some(&7));
+    assert_equal(
+        &rt,
+        format!(in rt.alloc(); "{first:?}")?.as_str(),
+        "Some(7)",
+    );
     drop(first);
     let state = pool.state();
-    assert_eq!(&rt; (state.connections, state.idle_connections), (2, 1));
+    assert_equal(&rt, (state.connections, state.idle_connections), (2, 1));
     if let Some(mut second) = second {
-        assert_eq!(&rt; *second, 8);
+        assert_equal(&rt, *second, 8);
         *second = 0;
     }
     let state = pool.state();
-    assert_eq!(&rt; (state.connections, state.idle_connections), (1, 1));
-    assert_eq!(&rt; state.statistics.connections_closed_broken, 1);
+    assert_equal(&rt, (state.connections, state.idle_connections), (1, 1));
+    assert_equal(&rt, state.statistics.connections_closed_broken, 1);
     let again = guard(&task, &pool);
     clock.set(Moment(15));
     drop(again);
     let state = pool.state();
-    assert_eq!(&rt; (state.connections, state.idle_connections), (0, 0));
-    assert_eq!(&rt; state.statistics.connections_closed_max_lifetime, 1);
-    assert_eq!(&rt; state.statistics.get_started, 4);
-    assert_eq!(&rt; state.statistics.get_direct, 3);
-    assert_eq!(&rt; state.statistics.get_cancelled, 1);
+    assert_equal(&rt, (state.connections, state.idle_connections), (0, 0));
+    assert_equal(&rt, state.statistics.connections_closed_max_lifetime, 1);
+    assert_equal(&rt, state.statistics.get_started, 4);
+    assert_equal(&rt, state.statistics.get_direct, 3);
+    assert_equal(&rt, state.statistics.get_cancelled, 1);
     Ok(())
 }
 
@@ -85,10 +89,14 @@ fn keeps_room<R: Runtime, L: PoolParts>(rt: R, blank: Blank) -> Result<(), Fail>
         .test_on_check_out(false)
         .build_unchecked(SlowManager, clock, rt, blank)?;
     is_shared(&pool);
-    assert_eq!(&rt; pool.add(7), Err(AddError::NoCapacity(7)));
-    assert_eq!(&rt; format!(in rt.alloc(); "{pool:?}")?.as_str(), "Pool(..)");
+    assert_equal(&rt, pool.add(7), Err(AddError::NoCapacity(7)));
+    assert_equal(
+        &rt,
+        format!(in rt.alloc(); "{pool:?}")?.as_str(),
+        "Pool(..)",
+    );
     let state = pool.state();
-    assert_eq!(&rt; (state.connections, state.idle_connections), (0, 0));
+    assert_equal(&rt, (state.connections, state.idle_connections), (0, 0));
     Ok(())
 }
 

@@ -1,7 +1,7 @@
 //! A service over a pool: what is called, how often, and under which number.
 ghost use Rattle.std.specs.Prelude.{◌≡◌, Ok, IfOk, length};
 
-use super::{NumberPool, Runtime, SlowManager};
+use super::{NumberPool, Runtime, SlowManager, assert_equal};
 use bb8::{
     Builder, Memory, Moment, NopCustomizer, NopErrorSink, PoolCalls, PoolParts, Service, SetClock,
 };
@@ -92,16 +92,16 @@ fn serve_four<R: Runtime + Threads + Clock>(
 #[test]
 fn each_thread_runs_once_under_its_number(rt: HostRuntime) -> Result<(), Fail> {
     let service = Counted::new(rt, 7);
-    assert_eq!(rt; serve_four(rt, &service)?, Some(true));
-    assert_eq!(rt; service.calls(), (1, 4, 1));
+    assert_equal(&rt, serve_four(rt, &service)?, Some(true));
+    assert_equal(&rt, service.calls(), (1, 4, 1));
     Ok(())
 }
 
 #[test]
 fn no_thread_runs_where_the_service_does_not_begin(rt: HostRuntime) -> Result<(), Fail> {
     let service = Counted::new(rt, 0);
-    assert_eq!(rt; serve_four(rt, &service)?, None);
-    assert_eq!(rt; service.calls(), (1, 0, 0));
+    assert_equal(&rt, serve_four(rt, &service)?, None);
+    assert_equal(&rt, service.calls(), (1, 0, 0));
     Ok(())
 }
 
@@ -145,7 +145,7 @@ fn how_many<R: Runtime + Threads + Clock>(rt: R, threads: usize) -> Result<usize
 
 #[test]
 fn as_many_threads_run_as_are_asked_for(rt: HostRuntime) -> Result<(), Fail> {
-    assert_eq!(rt; how_many(rt, 0)?, 0);
-    assert_eq!(rt; how_many(rt, 5)?, 5);
+    assert_equal(&rt, how_many(rt, 0)?, 0);
+    assert_equal(&rt, how_many(rt, 5)?, 5);
     Ok(())
 }

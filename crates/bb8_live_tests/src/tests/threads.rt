@@ -2,7 +2,7 @@
 ghost use Rattle.bb8.specs.Parts.{IsBlankOf, unchecked_of};
 ghost use Rattle.bb8.specs.Settings.{default_settings};
 
-use super::{NumberPool, Refused, Runtime, SlowManager};
+use super::{NumberPool, Refused, Runtime, SlowManager, assert_equal};
 use bb8::{
     Builder, ManageConnection, Memory, Moment, NopCustomizer, NopErrorSink, Pool, PoolCalls,
     PoolParts, SetClock,
@@ -55,13 +55,13 @@ fn shares_one<R: Runtime + Threads, L: PoolParts>(rt: R, blank: Blank) -> Result
         .max_size(1)
         .test_on_check_out(false)
         .build_unchecked(SlowManager, clock, rt, blank)?;
-    assert_eq!(&rt; pool.add(7), Ok(()));
-    assert_eq!(&rt; twice(&rt, &Rounds { pool: &pool, rt }), (true, true));
+    assert_equal(&rt, pool.add(7), Ok(()));
+    assert_equal(&rt, twice(&rt, &Rounds { pool: &pool, rt }), (true, true));
     let state = pool.state();
-    assert_eq!(&rt; (state.connections, state.idle_connections), (1, 1));
-    assert_eq!(&rt; state.statistics.get_started, 2000);
-    assert_eq!(&rt; state.statistics.completed_gets(), 2000);
-    assert_eq!(&rt; state.statistics.pending_gets(), 0);
+    assert_equal(&rt, (state.connections, state.idle_connections), (1, 1));
+    assert_equal(&rt, state.statistics.get_started, 2000);
+    assert_equal(&rt, state.statistics.completed_gets(), 2000);
+    assert_equal(&rt, state.statistics.pending_gets(), 0);
     Ok(())
 }
 
@@ -175,13 +175,13 @@ fn shares_all<R: Runtime + Threads, L: PoolParts>(
         clock: &clock,
         rt,
     };
-    assert_eq!(&rt; twice(&rt, &mixed), (true, true));
+    assert_equal(&rt, twice(&rt, &mixed), (true, true));
     let state = pool.state();
-    assert_eq!(&rt; state.connections, state.idle_connections);
-    assert_eq!(&rt; state.statistics.connections_closed_broken, 0);
-    assert_eq!(&rt; state.statistics.connections_closed_invalid, 0);
-    assert_eq!(&rt; state.statistics.pending_gets(), 0);
-    assert_eq!(&rt; state.statistics.get_started, 4000);
+    assert_equal(&rt, state.connections, state.idle_connections);
+    assert_equal(&rt, state.statistics.connections_closed_broken, 0);
+    assert_equal(&rt, state.statistics.connections_closed_invalid, 0);
+    assert_equal(&rt, state.statistics.pending_gets(), 0);
+    assert_equal(&rt, state.statistics.get_started, 4000);
     Ok(())
 }
 
@@ -243,13 +243,13 @@ fn shares_handles<R: Runtime + Threads, L: PoolParts>(
         .build_unchecked(HeldManager, clock, rt, blank)?;
     assert!(&rt; pool.add(Held { holders: 0 }).is_ok());
     assert!(&rt; pool.add(Held { holders: 0 }).is_ok());
-    assert_eq!(&rt; twice(&rt, &Cloned { pool: &pool, rt }), (true, true));
+    assert_equal(&rt, twice(&rt, &Cloned { pool: &pool, rt }), (true, true));
     let state = pool.state();
-    assert_eq!(&rt; (state.connections, state.idle_connections), (2, 2));
-    assert_eq!(&rt; state.statistics.connections_closed_broken, 0);
-    assert_eq!(&rt; state.statistics.connections_closed_invalid, 0);
-    assert_eq!(&rt; state.statistics.completed_gets(), 2000);
-    assert_eq!(&rt; state.statistics.pending_gets(), 0);
+    assert_equal(&rt, (state.connections, state.idle_connections), (2, 2));
+    assert_equal(&rt, state.statistics.connections_closed_broken, 0);
+    assert_equal(&rt, state.statistics.connections_closed_invalid, 0);
+    assert_equal(&rt, state.statistics.completed_gets(), 2000);
+    assert_equal(&rt, state.statistics.pending_gets(), 0);
     Ok(())
 }
 

@@ -4,7 +4,7 @@
 use super::steps::{
     Held, add, begin, fail, give_up, give_up_held, opened, pass, put_back, try_get,
 };
-use super::{Board, Counted, is_refused_afterwards};
+use super::{Board, Counted, assert_equal, is_refused_afterwards};
 use bb8_core::api::{Config, Moment};
 use bb8_core::internals::{
     AddAnswer, BeginAnswer, CheckedErrAnswer, ClaimAnswer, GetKey, GiveUpAnswer, Grant,
@@ -53,9 +53,9 @@ impl Run {
     /// Asserts that the connections that were made are those of the pool and those that were dropped.
     fn assert_whole(&mut self, rt: &impl Abort) {
         let state = self.pool.state(self.at);
-        assert_eq!(rt; state.connections as u64, self.board.alive());
-        assert_eq!(rt; state.idle_connections, state.connections);
-        assert_eq!(rt; state.statistics.pending_gets(), 0);
+        assert_equal(&rt, state.connections as u64, self.board.alive());
+        assert_equal(&rt, state.idle_connections, state.connections);
+        assert_equal(&rt, state.statistics.pending_gets(), 0);
     }
 
     /// Opens a connection for each approval.
@@ -249,8 +249,8 @@ fn no_connection_is_lost(rt: HostRuntime) -> Result<(), Fail> {
     drop(run);
     assert!(rt; board.is_each_dropped_once());
     if is_refused_afterwards(rt.alloc()) {
-        assert_eq!(rt; refused, 0);
-        assert_eq!(rt; counts, (2, 2, 12));
+        assert_equal(&rt, refused, 0);
+        assert_equal(&rt, counts, (2, 2, 12));
         let _ = rt.eprintln("no request of the run was refused");
     }
     Ok(())

@@ -3,7 +3,7 @@
 ghost use Rattle.std.specs.Prelude.{Some};
 ghost use Rattle.bb8.specs.Parts.{IsBlankOf, unchecked_of};
 
-use super::{Board, Counted, is_refused, is_refused_afterwards};
+use super::{Board, Counted, assert_equal, is_refused, is_refused_afterwards};
 use bb8::{
     AddError, Builder, Building, Driver, Gate, ManageConnection, Memory, Moment, NoThread,
     NopCustomizer, NopErrorSink, Pool, PoolParts, RunError, SetClock, drive,
@@ -109,25 +109,25 @@ fn builds<R: Runtime, L: PoolParts>(rt: R, blank: Blank, board: Board) -> Result
     let pool: CountedPool<R, L> = match task.poll(&mut building) {
         Poll::Ready(Ok(pool)) => pool,
         Poll::Ready(Err(error)) => {
-            assert_eq!(&rt; error, RunError::Memory);
+            assert_equal(&rt, error, RunError::Memory);
             return Ok(Met::Refusal);
         }
         Poll::Pending => panic!(&rt; "the building is pending"),
     };
-    assert_eq!(&rt; sizes(&pool), (2, 2));
+    assert_equal(&rt, sizes(&pool), (2, 2));
     let met = match task.poll(&mut pool.get()) {
         Poll::Ready(Ok(guard)) => {
-            assert_eq!(&rt; sizes(&pool), (2, 1));
+            assert_equal(&rt, sizes(&pool), (2, 1));
             drop(guard);
             Met::Nothing
         }
         Poll::Ready(Err(error)) => {
-            assert_eq!(&rt; error, RunError::Memory);
+            assert_equal(&rt, error, RunError::Memory);
             Met::Refusal
         }
         Poll::Pending => panic!(&rt; "the get waits"),
     };
-    assert_eq!(&rt; sizes(&pool), (2, 2));
+    assert_equal(&rt, sizes(&pool), (2, 2));
     Ok(met)
 }
 
@@ -140,12 +140,12 @@ fn owns<R: Runtime, L: PoolParts>(rt: &R, task: &MockTask, pool: &CountedPool<R,
             Met::Nothing
         }
         Poll::Ready(Err(error)) => {
-            assert_eq!(rt; error, RunError::Memory);
+            assert_equal(&rt, error, RunError::Memory);
             Met::Refusal
         }
         Poll::Pending => panic!(rt; "the get waits"),
     };
-    assert_eq!(rt; sizes(pool), before);
+    assert_equal(&rt, sizes(pool), before);
     met
 }
 
@@ -168,12 +168,12 @@ fn clones<R: Runtime, L: PoolParts>(rt: R, blank: Blank, board: Board) -> Result
         return Ok(Met::Refusal);
     };
     let pool: CountedPool<R, L> = pool;
-    assert_eq!(&rt; sizes(&pool), (0, 0));
+    assert_equal(&rt, sizes(&pool), (0, 0));
     let conn = board.make()?;
     match pool.add(conn) {
-        Ok(()) => assert_eq!(&rt; sizes(&pool), (1, 1)),
+        Ok(()) => assert_equal(&rt, sizes(&pool), (1, 1)),
         Err(AddError::Withheld(conn)) => {
-            assert_eq!(&rt; sizes(&pool), (0, 0));
+            assert_equal(&rt, sizes(&pool), (0, 0));
             drop(conn);
             return Ok(Met::Refusal);
         }
@@ -185,7 +185,7 @@ fn clones<R: Runtime, L: PoolParts>(rt: R, blank: Blank, board: Board) -> Result
             Ok(owns(&rt, &task, &clone))
         }
         Err(error) => {
-            assert_eq!(&rt; error, RunError::Memory);
+            assert_equal(&rt, error, RunError::Memory);
             let _ = owns(&rt, &task, &pool);
             Ok(Met::Refusal)
         }
@@ -211,22 +211,26 @@ fn drives<R: Runtime, L: PoolParts>(rt: R, blank: Blank, board: Board) -> Result
     };
     let pool: CountedPool<R, L> = pool;
     let Ok(mut driver) = Driver::new(&pool) else {
-        assert_eq!(&rt; sizes(&pool), (0, 0));
+        assert_equal(&rt, sizes(&pool), (0, 0));
         return Ok(Met::Refusal);
     };
     let first = driver.turn(Moment(0));
     let connections = pool.state().connections as u64;
-    assert_eq!(&rt; (first.ended, first.polled), (false, connections));
+    assert_equal(&rt, (first.ended, first.polled), (false, connections));
     let left = if is_refused(rt.alloc()) {
         0
     } else {
         3_u64.saturating_sub(connections)
     };
     let second = driver.turn(Moment(0));
-    assert_eq!(&rt; (second.ended, second.polled), (false, left));
+    assert_equal(&rt, (second.ended, second.polled), (false, left));
     let state = pool.state();
-    assert_eq!(&rt; state.connections as u64, connections.saturating_add(left));
-    assert_eq!(&rt; state.idle_connections, state.connections);
+    assert_equal(
+        &rt,
+        state.connections as u64,
+        connections.saturating_add(left),
+    );
+    assert_equal(&rt, state.idle_connections, state.connections);
     drop(pool);
     assert!(&rt; driver.turn(Moment(0)).ended || is_refused(rt.alloc()));
     Ok(if connections == 3 {
@@ -278,7 +282,7 @@ fn is_driven<R: Runtime + Threads + Eprint, L: PoolParts + 'static>(
     let holds = driver.turn(Moment(0)).polled == 1;
     let met = match drive(driver, Once) {
         Ok(thread) => {
-            assert_eq!(&rt; thread.join(&rt).turns, 1);
+            assert_equal(&rt, thread.join(&rt).turns, 1);
             if holds { Met::Nothing } else { Met::Refusal }
         }
         Err(NoThread) => {
@@ -290,7 +294,7 @@ fn is_driven<R: Runtime + Threads + Eprint, L: PoolParts + 'static>(
     };
     if holds {
         assert!(&rt; pool.add(board.make()?).is_ok());
-        assert_eq!(&rt; sizes(&pool), (1, 1));
+        assert_equal(&rt, sizes(&pool), (1, 1));
     }
     Ok(met)
 }
@@ -300,7 +304,7 @@ fn tell<R: Abort + AllocGlobal + Eprint>(rt: &R, board: &Board, met: Met, made: 
     assert!(rt; board.is_each_dropped_once());
     if is_refused_afterwards(rt.alloc()) {
         assert!(rt; matches!(met, Met::Nothing));
-        assert_eq!(rt; board.made(), made);
+        assert_equal(&rt, board.made(), made);
         let _ = rt.eprintln("no request of the run was refused");
     }
 }

@@ -1,7 +1,7 @@
 //! Worked rows in which memory is refused, once or for good: the answers before, at and after the refusal.
 
 use super::steps::{add, begin, opened, put_back, try_get};
-use super::{is_refused, is_refused_afterwards};
+use super::{assert_equal, is_refused, is_refused_afterwards};
 use bb8_core::api::{Config, Moment};
 use bb8_core::internals::{
     AddAnswer, BeginAnswer, ClaimAnswer, GetKey, Grant, Key, OpenedAnswer, PoolInternals,
@@ -71,9 +71,10 @@ impl Row {
     /// Asserts how many connections there are, and how many of them are idle.
     fn assert_sizes(&mut self, rt: &impl Abort, connections: u32, idle: u32) {
         let state = self.pool.state(NOW);
-        assert_eq!(rt;
+        assert_equal(
+            &rt,
             (state.connections, state.idle_connections),
-            (connections, idle)
+            (connections, idle),
         );
     }
 
@@ -85,11 +86,11 @@ impl Row {
         for _ in 0..2 {
             match add(rt, &mut self.pool, NOW, conn) {
                 AddAnswer::Added(key, None) => {
-                    assert_eq!(rt; key.number, number);
+                    assert_equal(&rt, key.number, number);
                     return true;
                 }
                 AddAnswer::Withheld(back) => {
-                    assert_eq!(rt; (back, self.pool.state(NOW)), (number, before));
+                    assert_equal(&rt, (back, self.pool.state(NOW)), (number, before));
                     if self.stays_refused(rt) {
                         return false;
                     }
@@ -108,7 +109,7 @@ impl Row {
         let AddAnswer::Added(key, None) = add(rt, &mut self.pool, NOW, number) else {
             panic!(rt; "{number} was refused, or somebody was notified");
         };
-        assert_eq!(rt; key.number, number);
+        assert_equal(&rt, key.number, number);
     }
 
     /// A get begins; where memory is refused, it does at the next ask, unless memory stays refused.
@@ -116,7 +117,7 @@ impl Row {
         for _ in 0..2 {
             match begin(rt, &mut self.pool, NOW) {
                 BeginAnswer::Begun(get) => {
-                    assert_eq!(rt; get.number, number);
+                    assert_equal(&rt, get.number, number);
                     return Some(get);
                 }
                 BeginAnswer::Memory => {
@@ -135,7 +136,7 @@ impl Row {
         let BeginAnswer::Begun(get) = begin(rt, &mut self.pool, NOW) else {
             panic!(rt; "get {number} was refused");
         };
-        assert_eq!(rt; get.number, number);
+        assert_equal(&rt, get.number, number);
         get
     }
 
@@ -144,7 +145,7 @@ impl Row {
         let TryAnswer::Served(key, conn, grant) = try_get(rt, &mut self.pool, NOW, get) else {
             panic!(rt; "{get:?} was not served");
         };
-        assert_eq!(rt; (key.number, conn), (number, number));
+        assert_equal(&rt, (key.number, conn), (number, number));
         (key, grant)
     }
 
@@ -153,17 +154,17 @@ impl Row {
     fn fills(&mut self, rt: &impl Abort, first: u64, count: u32) -> bool {
         let grant = self.pool.fill(NOW, false);
         if grant.count > 0 {
-            assert_eq!(rt; grant, granted(first, count));
+            assert_equal(&rt, grant, granted(first, count));
             return true;
         }
-        assert_eq!(rt; grant, withheld(first, count));
+        assert_equal(&rt, grant, withheld(first, count));
         let stays = self.stays_refused(rt);
         let due = if stays {
             withheld(first, count)
         } else {
             granted(first, count)
         };
-        assert_eq!(rt; self.pool.fill(NOW, false), due);
+        assert_equal(&rt, self.pool.fill(NOW, false), due);
         !stays
     }
 
@@ -172,7 +173,7 @@ impl Row {
         let ClaimAnswer::Claimed(Some(key)) = self.pool.claim(NOW) else {
             panic!(rt; "nothing was claimed");
         };
-        assert_eq!(rt; key.number, number);
+        assert_equal(&rt, key.number, number);
         let OpenedAnswer::Entered(None) = opened(rt, &mut self.pool, NOW, key, number) else {
             panic!(rt; "no handle is alive, or somebody was notified");
         };
@@ -186,7 +187,7 @@ fn tell<R: Abort + AllocGlobal + Eprint>(rt: &R, row: &Row, is_row: Option<bool>
         let _ = rt.eprintln("memory was refused where the row says so");
     }
     if is_refused_afterwards(rt.alloc()) {
-        assert_eq!(rt; (row.refused, is_row), (0, Some(false)));
+        assert_equal(&rt, (row.refused, is_row), (0, Some(false)));
         let _ = rt.eprintln("no request of the run was refused");
     }
 }
@@ -198,12 +199,12 @@ fn is_withheld_past_the_peak(rt: &impl Abort, row: &mut Row) -> Option<bool> {
     }
     let get = row.begins(rt, 0)?;
     let (key, grant) = row.is_served(rt, get, 0);
-    assert_eq!(rt; grant, granted(2, 0));
+    assert_equal(&rt, grant, granted(2, 0));
     let PutBackAnswer::Closed(conn, grant, None) = put_back(rt, &mut row.pool, NOW, key, 0, true)
     else {
         panic!(rt; "a broken connection was kept, or somebody was notified");
     };
-    assert_eq!(rt; (conn, grant), (0, granted(2, 0)));
+    assert_equal(&rt, (conn, grant), (0, granted(2, 0)));
     let before = row.refused;
     row.adds_below(rt, 2);
     let connections = if row.adds(rt, 3) { 3 } else { 2 };
@@ -230,19 +231,19 @@ fn is_third_place_withheld(rt: &impl Abort, row: &mut Row) -> Option<bool> {
     } else {
         granted(2, 1)
     };
-    assert_eq!(rt; grant, due);
+    assert_equal(&rt, grant, due);
     let stays = is_row && row.stays_refused(rt);
     let get = row.begins_below(rt, 1);
     let (_, grant) = row.is_served(rt, get, 1);
     if is_row {
         let due = if stays { withheld(2, 2) } else { granted(2, 2) };
-        assert_eq!(rt; grant, due);
+        assert_equal(&rt, grant, due);
     } else {
         if grant.withheld > 0 {
             row.stays_refused(rt);
         }
         let asked = grant.count.saturating_add(grant.withheld);
-        assert_eq!(rt; (grant.first, asked), (3, 1));
+        assert_equal(&rt, (grant.first, asked), (3, 1));
     }
     Some(is_row)
 }

@@ -1,7 +1,7 @@
 //! The first script from bytes to bytes, and a replay of it, whatever requests for memory are refused. That what is answered is allowed is
 //! proved; here it is the script's answer, or says of a refusal where one was.
 
-use super::is_refused_afterwards;
+use super::{assert_equal, is_refused_afterwards};
 use bb8_core::api::{Config, Moment};
 use bb8_core::replay::{Act, Answer, Event, replay};
 use bb8_runner::fault::Fault;
@@ -107,13 +107,13 @@ fn script_is_run_or_refused(rt: HostRuntime) {
     let is_whole = written == FIRST_ANSWERS;
     match outcome {
         Ok(verdict) => {
-            assert_eq!(rt; verdict, Verdict::Ran);
+            assert_equal(&rt, verdict, Verdict::Ran);
             let is_refused = has(written, b" withheld ") || has(written, b"memory\n");
             assert!(rt; is_whole != is_refused);
             assert!(rt; has(written, b"\nstate connections "));
         }
         Err(fault) => {
-            assert_eq!(rt; fault, Fault::Memory);
+            assert_equal(&rt, fault, Fault::Memory);
             assert!(rt; written.is_empty());
         }
     }
@@ -170,14 +170,14 @@ fn replay_is_run_or_refused(rt: HostRuntime) {
     let events = FIRST_EVENTS.map(|act| Event { at: Moment(0), act });
     let mut is_whole = false;
     if let Ok((answers, mut pool)) = replay(rt.alloc(), config, &events) {
-        assert_eq!(rt; answers.len(), events.len());
+        assert_equal(&rt, answers.len(), events.len());
         let refused = answers.iter().any(|answer| is_refusal(*answer));
         let entered = answers
             .iter()
             .filter(|answer| matches!(answer, Answer::Entered(..)))
             .count();
         let state = pool.state(Moment(0));
-        assert_eq!(rt; state.connections as usize, entered);
+        assert_equal(&rt, state.connections as usize, entered);
         is_whole = !refused && (entered, state.idle_connections) == (5, 5);
         assert!(rt; refused != is_whole);
     }

@@ -1,6 +1,7 @@
 //! Connections so large that no machine has memory for all that a pool wants at once: refusals that come about in each run of the tests.
 //! A pool of 4,294,967,295 of them would take more than the addresses that there are.
 
+use super::assert_equal;
 use super::steps::{add, begin, opened, put_back, try_get};
 use bb8_core::api::{Config, Moment};
 use bb8_core::internals::{
@@ -42,7 +43,7 @@ fn adds(rt: &impl Abort, pool: &mut PoolInternals<Vast>, number: u64) {
     for _ in 0..2 {
         match add(rt, pool, NOW, Vast::new(number)) {
             AddAnswer::Added(key, None) => {
-                assert_eq!(rt; key.number, number);
+                assert_equal(&rt, key.number, number);
                 return;
             }
             AddAnswer::Withheld(_) => {}
@@ -72,21 +73,21 @@ fn vast_grants_are_withheld_past_the_peak(rt: HostRuntime) {
     };
     assert!(rt; config.is_lawful());
     let mut pool = PoolInternals::new(rt.alloc(), config);
-    assert_eq!(rt; pool.fill(NOW, false), part(0, 0, MANY));
+    assert_equal(&rt, pool.fill(NOW, false), part(0, 0, MANY));
     adds(&rt, &mut pool, 0);
     adds(&rt, &mut pool, 1);
-    assert_eq!(rt; pool.fill(NOW, true), part(2, 0, MANY - 2));
+    assert_equal(&rt, pool.fill(NOW, true), part(2, 0, MANY - 2));
     let get = begins(&rt, &mut pool);
     let TryAnswer::Served(key, conn, grant) = try_get(&rt, &mut pool, NOW, get) else {
         panic!(&rt; "it was not served");
     };
-    assert_eq!(rt; (conn.words[0], grant), (0, part(2, 0, MANY - 2)));
+    assert_equal(&rt, (conn.words[0], grant), (0, part(2, 0, MANY - 2)));
     // One place is free below the peak: for that one no memory is needed.
     let PutBackAnswer::Closed(conn, grant, None) = put_back(&rt, &mut pool, NOW, key, conn, true)
     else {
         panic!(&rt; "a broken connection was kept, or somebody was notified");
     };
-    assert_eq!(rt; (conn.words[0], grant), (0, part(2, 1, MANY - 2)));
+    assert_equal(&rt, (conn.words[0], grant), (0, part(2, 1, MANY - 2)));
     let ClaimAnswer::Claimed(Some(key)) = pool.claim(NOW) else {
         panic!(&rt; "nothing was claimed");
     };
@@ -94,5 +95,5 @@ fn vast_grants_are_withheld_past_the_peak(rt: HostRuntime) {
         panic!(&rt; "somebody was notified");
     };
     let state = pool.state(NOW);
-    assert_eq!(rt; (state.connections, state.idle_connections), (2, 2));
+    assert_equal(&rt, (state.connections, state.idle_connections), (2, 2));
 }
