@@ -2,6 +2,7 @@
 
 mod building;
 mod dedicated;
+mod serving;
 
 use bb8::{
     CustomizeConnection, ErrorSink, ManageConnection, Memory, Moment, NopCustomizer, Pool, SetClock,
