@@ -1,12 +1,15 @@
--- The pool that a building answers is made of what was planned.
-use Rattle.std.proofs.Common.{◌≡◌, Result, Ok, Err, IfOk, refl, ◌∙◌, ap}
+-- The pool that a building answers is made of what was planned, and its error is one that may end it.
+use Rattle.std.proofs.Common.{◌≡◌, Result, Ok, Err, refl, sym, ◌∙◌}
 use Rattle.std.specs.Prelude.{List, ⊤}
+use Rattle.std.specs.Arc.{arc_value}
 use Rattle.std.specs.declared.fmt.Debug.{Ghosts as DebugOf}
 use Rattle.std.specs.declared.sync.ledger.Ledger.{Ghosts as LedgerOf}
 use Rattle.futures.specs.declared.task.Poll.{Poll}
 use Rattle.futures.specs.declared.task.Poll.TheVariants.{Ready, Pending}
+use Rattle.bb8_types.specs.declared.api.customizers.CustomizeConnection.{Ghosts as CustomizerOf}
 use Rattle.bb8_types.specs.declared.api.errors.Memory.{Memory}
 use Rattle.bb8_types.specs.declared.api.errors.RunError.{RunError}
+use Rattle.bb8_types.specs.declared.api.errors.RunError.TheVariants as errors
 use Rattle.bb8_types.specs.declared.api.managers.ManageConnection.{Ghosts as ManagerOf}
 use Rattle.bb8_types.specs.declared.api.moments.Moment.{Moment}
 use Rattle.bb8_tasks.specs.declared.building.Site.{Site}
@@ -19,9 +22,11 @@ use Rattle.bb8_locked.specs.declared.locked.Parts.{Ghosts as PartsOf}
 use Rattle.bb8_shared.specs.Linked.{Answers}
 use Rattle.bb8.specs.declared.building.Plan.{Plan}
 use Rattle.bb8.specs.declared.pool.Pool.{Pool}
-use Rattle.bb8.specs.Buildings.{IsMade, PlansSite}
+use Rattle.bb8.specs.Buildings.{IsBuildError, IsMade, PlansSite, PollsSite, PoolRounds}
 use Rattle.bb8.specs.Choices.{Choices}
+use Rattle.bb8.specs.Pools.{customizer_in}
 use Rattle.bb8.specs.Services.{basis, basis_of, Basis}
+use Rattle.bb8.proofs.Failing.{round_failed, Ended}
 
 -- what stands here is of that basis
 abbrev pub Stands : {B I P T : Type 0} → (I → B) → (P → B) → B → Site I P T → Type 0
@@ -29,42 +34,74 @@ Stands of has b (Planned i) = of i ≡ b
 Stands of has b (Opening p ts) = has p ≡ b
 Stands of has b Done = ⊤
 
--- so is a pool that is answered
-abbrev Tells : {B P E : Type 0} → (P → B) → B → Poll (Result P (RunError E)) → Type 0
-Tells has b (Ready x) = IfOk x (λ p. has p ≡ b)
-Tells has b Pending = ⊤
+-- so is a pool that is answered, and an error is one of these
+abbrev pub Answered : {B P E : Type 0} → (P → B) → B → (RunError E → Type 0) → Result P (RunError E) → Type 0
+Answered has b Error (Ok p) = has p ≡ b
+Answered has b Error (Err e) = Error e
+
+abbrev Tells : {B P E : Type 0} → (P → B) → B → (RunError E → Type 0) → Poll (Result P (RunError E)) → Type 0
+Tells has b Error (Ready x) = Answered has b Error x
+Tells has b Error Pending = ⊤
 
 module _ {B I P T E : Type 0} (makes : I → Result (P × T) Memory → Type 0) (rounds : P → T → Round T E → Type 0) (of : I → B) (has : P → B)
-    (is_made : (i : I) (made : P × T) → makes i (Ok made) → has made.0 ≡ of i) where
-  swept : (b : B) (p : P) (round : Round T E) (r : Poll (Result P (RunError E))) (s : Site I P T) → AfterRound rounds round p r s → has p ≡ b → Tells has b r × Stands of has b s
-  swept b p (Failed e) r s (told, at) is = rw (told, at) (tt, tt)
-  swept b p Complete r s (told, at) is = rw (told, at) (is, tt)
-  swept b p (Going ts) r s (told, at) is = rw (told, at) (tt, is)
+    (is_made : (i : I) (made : P × T) → makes i (Ok made) → has made.0 ≡ of i) (b : B) (Error : RunError E → Type 0) (refused : Error errors.Memory)
+    (failed : (p : P) (ts : T) (round : Round T E) → has p ≡ b → rounds p ts round → Ended (λ e. Error (errors.User e)) round) where
+  swept : (p : P) (round : Round T E) (r : Poll (Result P (RunError E))) (s : Site I P T) → AfterRound rounds round p r s → Ended (λ e. Error (errors.User e)) round → has p ≡ b
+      → Tells has b Error r × Stands of has b s
+  swept p (Failed e) r s (told, at) ended is = rw (told, at) (ended, tt)
+  swept p Complete r s (told, at) ended is = rw (told, at) (is, tt)
+  swept p (Going ts) r s (told, at) ended is = rw (told, at) (tt, is)
 
-  polled : (b : B) (s s' : Site I P T) (r : Poll (Result P (RunError E))) → Polls makes rounds s r s' → Stands of has b s → Tells has b r × Stands of has b s'
-  polled b (Planned i) s' r (Ok made, of_plan, (round, at, after)) is = swept b made.0 round r s' after (is_made i made of_plan ∙ is)
-  polled b (Planned i) s' r (Err refused, of_plan, (told, at)) is = rw (told, at) (tt, tt)
-  polled b (Opening p ts) s' r (round, at, after) is = swept b p round r s' after is
-  polled b Done s' r (told, at) is = rw (told, at) (tt, tt)
+  polled : (s s' : Site I P T) (r : Poll (Result P (RunError E))) → Polls makes rounds s r s' → Stands of has b s → Tells has b Error r × Stands of has b s'
+  polled (Planned i) s' r (Ok made, of_plan, (round, at, after)) is =
+      let of_b = is_made i made of_plan ∙ is in swept made.0 round r s' after (failed made.0 made.1 round of_b at) of_b
+  polled (Planned i) s' r (Err none, of_plan, (told, at)) is = rw (told, at) (refused, tt)
+  polled (Opening p ts) s' r (round, at, after) is = swept p round r s' after (failed p ts round is at) is
+  polled Done s' r (told, at) is = rw (told, at) (tt, tt)
 
-  pub built : (b : B) (s : Site I P T) (x : Result P (RunError E)) → Answers (Polls makes rounds) s x → Stands of has b s → IfOk x (λ p. has p ≡ b)
-  built b _ _ (Answers.now s t x polls) is = (polled b s t (Ready x) polls is).0
-  built b _ _ (Answers.later s t x polls more) is = built b t x more (polled b s t Pending polls is).1
+  pub built : (s : Site I P T) (x : Result P (RunError E)) → Answers (Polls makes rounds) s x → Stands of has b s → Answered has b Error x
+  built _ _ (Answers.now s t x polls) is = (polled s t (Ready x) polls is).0
+  built _ _ (Answers.later s t x polls more) is = built t x more (polled s t Pending polls is).1
 
--- what is planned, as far as a service sees it
-abbrev pub basis_in : {M S Z K R L : Type 0} {l : PartsOf L} {p : LedgerOf L} → Plan M S Z K R L l p → Basis M K
-basis_in plan = basis plan.builder.settings plan.manager plan.clock
+-- what a pool is made of, as far as a service sees it, and what prepares its connections
+abbrev pub origin_of : {M S Z K R L C E N V A : Type 0} {m : ManagerOf M C E N V} {d : DebugOf E} {l : PartsOf L} → Pool M S Z K R L C E N V A m d l → Basis M K × Z
+origin_of pool = (basis_of pool, customizer_in pool)
 
-module _ {M S Z K R L C E N V A : Type 0} {m : ManagerOf M C E N V} {d : DebugOf E} {l : PartsOf L} {p : LedgerOf L} (tells : K → Moment → Type 0) where
-  -- a pool is made of its plan's settings, manager and clock
-  pub is_made : (plan : Plan M S Z K R L l p) (made : Pool M S Z K R L C E N V A m d l × List (Replenish C N A)) → IsMade tells plan made.0 made.1
-      → basis_of made.0 ≡ basis_in plan
-  is_made plan made (grant, opened, tasks) = rw (opened.settings, opened.manager, opened.clock) refl
+-- what is planned of it
+abbrev origin_in : {M S Z K R L : Type 0} {l : PartsOf L} {p : LedgerOf L} → Plan M S Z K R L l p → Basis M K × Z
+origin_in plan = (basis plan.builder.settings plan.manager plan.clock, plan.builder.connection_customizer)
 
--- a building that was not polled yet stands at its plan
-pub planned : {M S Z K R L C E N V A : Type 0} {m : ManagerOf M C E N V} {d : DebugOf E} {l : PartsOf L} {p : LedgerOf L} (builder : Choices S Z) (manager : M) (clock : K)
-    (site : Site (Plan M S Z K R L l p) (Pool M S Z K R L C E N V A m d l) (List (Replenish C N A))) → PlansSite builder manager clock site
-    → Stands basis_in basis_of (basis builder.settings manager clock) site
-planned builder manager clock (Planned plan) (is, by, at) = rw (is, by, at) refl
-planned builder manager clock (Opening pool tasks) never = absurd never
-planned builder manager clock Done never = tt
+abbrev pub planned_origin : {M S Z K : Type 0} → Choices S Z → M → K → Basis M K × Z
+planned_origin builder manager clock = (basis builder.settings manager clock, builder.connection_customizer)
+
+-- what may end a building of this origin
+abbrev pub ErrorAt : {M Z K C E N V A : Type 0} → ManagerOf M C E N V → CustomizerOf Z C E A → Basis M K × Z → RunError E → Type 0
+ErrorAt m z origin = IsBuildError (m.connect_answers origin.0.manager) (z.acquire_answers origin.1)
+
+module _ {M S Z K R L C E N V A : Type 0} {m : ManagerOf M C E N V} {d : DebugOf E} {l : PartsOf L} (z : CustomizerOf Z C E A) (sinks : S → E → Type 0)
+    (tells : K → Moment → Type 0) where
+  failed : (origin : Basis M K × Z) (pool : Pool M S Z K R L C E N V A m d l) (tasks : List (Replenish C N A)) (round : Round (List (Replenish C N A)) E) → origin_of pool ≡ origin
+      → PoolRounds z sinks tells pool tasks round → Ended (λ e. ErrorAt m z origin (errors.User e)) round
+  failed origin pool tasks round is rounds = rw (sym is) (round_failed z sinks tells (arc_value pool.shared) tasks round rounds)
+
+module _ {M S Z K R L C E N V A : Type 0} {m : ManagerOf M C E N V} {d : DebugOf E} {l : PartsOf L} {p : LedgerOf L} (z : CustomizerOf Z C E A) (sinks : S → E → Type 0)
+    (tells : K → Moment → Type 0) where
+  -- a pool is made of its plan's settings, manager, clock and customizer
+  is_made : (plan : Plan M S Z K R L l p) (made : Pool M S Z K R L C E N V A m d l × List (Replenish C N A)) → IsMade tells plan made.0 made.1
+      → origin_of made.0 ≡ origin_in plan
+  is_made plan made (grant, opened, tasks) = rw (opened.settings, opened.manager, opened.clock, opened.customizer) refl
+
+  -- a building that was not polled yet stands at its plan
+  planned : (builder : Choices S Z) (manager : M) (clock : K) (site : Site (Plan M S Z K R L l p) (Pool M S Z K R L C E N V A m d l) (List (Replenish C N A)))
+      → PlansSite builder manager clock site → Stands origin_in origin_of (planned_origin builder manager clock) site
+  planned builder manager clock (Planned plan) (is, by, at) = rw (is, by, at) refl
+  planned builder manager clock (Opening pool tasks) never = absurd never
+  planned builder manager clock Done never = tt
+
+  -- the answer of a building that was planned
+  pub answered : (builder : Choices S Z) (manager : M) (clock : K) (site : Site (Plan M S Z K R L l p) (Pool M S Z K R L C E N V A m d l) (List (Replenish C N A)))
+      → (x : Result (Pool M S Z K R L C E N V A m d l) (RunError E)) → PlansSite builder manager clock site → Answers (PollsSite z sinks tells) site x
+      → Answered origin_of (planned_origin builder manager clock) (ErrorAt m z (planned_origin builder manager clock)) x
+  answered builder manager clock site x is answers =
+      let origin = planned_origin builder manager clock in
+      built _ _ origin_in origin_of is_made origin (ErrorAt m z origin) tt (failed z sinks tells origin) site x answers (planned builder manager clock site is)

@@ -1,7 +1,8 @@
 //! A service: threads that share a pool for as long as they run.
-ghost use Rattle.std.specs.Prelude.{◌≡◌, ℕ, ⊤, List, Result, IfOk, true, false};
+ghost use Rattle.std.specs.Prelude.{◌≡◌, ℕ, ⊤, List, Result, IfOk, IfErr, true, false};
 ghost use Rattle.bb8_types.specs.Settings.{is_lawful};
 ghost use Rattle.bb8_locked.specs.Parts.{IsBlankOf};
+ghost use Rattle.bb8.specs.Buildings.{IsBuildError};
 ghost use Rattle.bb8.specs.Services.{Basis, basis, basis_of, EachTold, IsOutcome};
 
 use crate::Builder;
@@ -171,7 +172,9 @@ fn built<
 ) -> Result<Pool<M, S, Z, K, R, L>, RunError<M::Error>>
     requires lawful { is_lawful builder.settings ≡ true }
     requires parts { IsBlankOf blank builder.settings L.name L.parts L.settings }
-    ensures { IfOk result (λ pool. basis_of pool ≡ basis builder.settings manager clock) }
+    ensures made { IfOk result (λ pool. basis_of pool ≡ basis builder.settings manager clock) }
+    ensures failed { IfErr result (IsBuildError
+        (M.connect_answers manager) (Z.acquire_answers builder.connection_customizer)) }
 {
     let building: Building<M, S, Z, K, R, L> = builder.build(manager, clock, rt, blank);
     match block_on(&rt, building) {
@@ -257,6 +260,8 @@ fn serve_with<
     ensures outcome { IfOk result (IsOutcome
         (V.begins service.now) (V.tells service.now) (V.ends service.now)
         (basis builder.settings manager clock) threads) }
+    ensures failed { IfErr result (IsBuildError
+        (M.connect_answers manager) (Z.acquire_answers builder.connection_customizer)) }
 {
     let Ok(over) = Arc::new(rt.alloc(), AtomicBool::new(false)) else {
         return Err(RunError::Memory);
@@ -317,6 +322,8 @@ impl<
         ensures outcome { IfOk result (IsOutcome
             (V.begins service.now) (V.tells service.now) (V.ends service.now)
             (basis self.settings manager clock) threads) }
+        ensures failed { IfErr result (IsBuildError
+            (M.connect_answers manager) (Z.acquire_answers self.connection_customizer)) }
     {
         let config = Config::from(&self);
         let blank = Blank::new(config.max_size as u64);
