@@ -8,7 +8,7 @@ use Rattle.futures.specs.declared.task.Poll.TheVariants.{Ready}
 use Rattle.bb8_types.specs.declared.api.customizers.CustomizeConnection.{Ghosts as CustomizerOf}
 use Rattle.bb8_types.specs.declared.api.errors.Memory.{Memory}
 use Rattle.bb8_types.specs.declared.api.errors.RunError.{RunError}
-use Rattle.bb8_types.specs.declared.api.errors.RunError.TheVariants.{User, TimedOut, Memory as Refused, Exhausted}
+use Rattle.bb8_types.specs.declared.api.errors.RunError.TheVariants as errors
 use Rattle.bb8_types.specs.declared.api.managers.ManageConnection.{Ghosts as ManagerOf}
 use Rattle.bb8_types.specs.declared.api.moments.Moment.{Moment}
 use Rattle.bb8_types.specs.declared.grants.Grant.{Grant}
@@ -83,9 +83,9 @@ module _ {M S Z K R L C E N V A : Type 0} {m : ManagerOf M C E N V} {d : DebugOf
 -- What a building may fail with, by the answers that the polls of an opening and those of a preparation may give: an error with which an
 -- opening or a preparation was answered, or that memory was refused.
 abbrev pub IsBuildError : {C E N A : Type 0} → (N → Moment → Poll (Result C E) → N → Type 0) → (C → A → Moment → Poll (Result (Unit {0}) E) → C → A → Type 0) → RunError E → Type 0
-IsBuildError {C = C} {N = N} {A = A} Opens Prepares (User e) =
+IsBuildError {C = C} {N = N} {A = A} Opens Prepares (errors.User e) =
     ((v : N) × (at : Moment) × (v' : N) × Opens v at (Ready (Err e)) v')
     ⊎ ((c : C) × (a : A) × (at : Moment) × (c' : C) × (a' : A) × Prepares c a at (Ready (Err e)) c' a')
-IsBuildError Opens Prepares Refused = ⊤
-IsBuildError Opens Prepares TimedOut = ⊥
-IsBuildError Opens Prepares Exhausted = ⊥
+IsBuildError Opens Prepares errors.Memory = ⊤
+IsBuildError Opens Prepares errors.TimedOut = ⊥
+IsBuildError Opens Prepares errors.Exhausted = ⊥
