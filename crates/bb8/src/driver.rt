@@ -119,6 +119,35 @@ impl<
     }
 }
 
+/// The turn of a driver, as a method of an impl: code that a thread runs writes `DriverCalls::turn(driver, moment)` in place of
+/// `driver.turn(moment)`, as it does with `PoolCalls`. Our own.
+pub trait DriverCalls {
+    /// As `Driver::turn`. Our own.
+    fn turn(&mut self, moment: Moment) -> Turn;
+}
+
+impl<
+    M: ManageConnection,
+    S: ErrorSink<M::Error>,
+    Z: CustomizeConnection<M::Connection, M::Error>,
+    K: Clock,
+    R: Wait + Send + Sync + Drop + 'static,
+    L: Parts,
+> DriverCalls for Driver<M, S, Z, K, R, L> {
+    ghost use Rattle.bb8.specs.Drivers.{TurnsDriver};
+
+    fn turn(&mut self, moment: Moment) -> Turn
+        ensures table { TurnsDriver Z.CustomizeConnection S.sinks K.tells moment self.old result
+            self.new }
+        ensures ended { result.ended ≡ has_ended self.new }
+        ensures none { result.ended ≡ true → result.polled ≡ 0 }
+        ensures stays { has_ended self.old ≡ true → result.ended ≡ true }
+    {
+        let pool = &*self.shared;
+        pool.turn_own(&mut self.turning, moment)
+    }
+}
+
 impl<
     M: ManageConnection,
     S: ErrorSink<M::Error>,
@@ -142,8 +171,7 @@ impl<
         ensures none { result.ended ≡ true → result.polled ≡ 0 }
         ensures stays { has_ended self.old ≡ true → result.ended ≡ true }
     {
-        let pool = &*self.shared;
-        pool.turn_own(&mut self.turning, moment)
+        DriverCalls::turn(self, moment)
     }
 
     /// Makes turns, each at a reading of the pool's clock, until one has ended or the gate, which is asked after each other one, does not

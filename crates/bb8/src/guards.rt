@@ -1,7 +1,7 @@
 //! A list of guards of one pool, of which there are never more than the pool's `max_size`.
 ghost use Rattle.std.specs.Prelude.{◌≡◌, ◌+◌, ◌<◌, ◌≤◌, ◌↔◌, true, [], ◌∷◌, ◌++◌, take, drop, slice_index_or, vec_len, OnOk, IfErr, IfSome, IfNone, IsSome};
 
-use crate::pool::{Pool, PooledConnection};
+use crate::pool::{IntoParts, Pool, PooledConnection};
 use bb8_core::api::{Clock, CustomizeConnection, ErrorSink, ManageConnection};
 use bb8_core::internals::Key;
 use bb8_gets::Taken;
@@ -36,6 +36,37 @@ pub struct Guards<
     ghost within: { vec_len connections ≤ shared.now.config.max_size },
 }
 
+/// The calls of a list of guards, as methods of an impl: code that a thread runs writes `GuardsCalls::push(list, guard)` in place of
+/// `list.push(guard)`, as it does with `PoolCalls`. Our own.
+pub trait GuardsCalls: Sized {
+    /// A handle of the pool, by reference. Our own.
+    type Pool;
+
+    /// A guard of it. Our own.
+    type Guard;
+
+    /// What a guard holds. Our own.
+    type Connection;
+
+    /// As `Guards::new`. Our own.
+    fn new(alloc: Global, pool: Self::Pool) -> Self;
+
+    /// As `Guards::len`. Our own.
+    fn len(&self) -> usize;
+
+    /// As `Guards::is_empty`. Our own.
+    fn is_empty(&self) -> bool;
+
+    /// As `Guards::push`. Our own.
+    fn push(&mut self, guard: Self::Guard) -> Result<(), Self::Guard>;
+
+    /// As `Guards::remove`. Our own.
+    fn remove(&mut self, index: usize) -> Option<Self::Guard>;
+
+    /// As `Guards::get_mut`. Our own.
+    fn get_mut(&mut self, index: usize) -> Option<&mut Self::Connection>;
+}
+
 impl<
     'a,
     M: ManageConnection,
@@ -44,11 +75,16 @@ impl<
     K: Clock,
     R: Locks,
     L: Parts,
-> Guards<'a, M, S, Z, K, R, L> {
+> GuardsCalls for Guards<'a, M, S, Z, K, R, L> {
     ghost use Rattle.bb8.specs.GuardLists.{connection_of, connections_in, most_in, number_in, AreOfOne, IsListOf};
 
-    /// An empty list of guards of this pool. It takes no memory. Our own.
-    pub fn new(alloc: Global, pool: &'a Pool<M, S, Z, K, R, L>) -> Self
+    type Pool = &'a Pool<M, S, Z, K, R, L>;
+
+    type Guard = PooledConnection<'a, M, S, Z, K, R, L>;
+
+    type Connection = M::Connection;
+
+    fn new(alloc: Global, pool: &'a Pool<M, S, Z, K, R, L>) -> Self
         ensures empty { connections_in result ≡ [] }
         ensures pool { IsListOf result pool.now }
     {
@@ -61,23 +97,20 @@ impl<
         }
     }
 
-    /// How many guards there are. Our own.
-    pub fn len(&self) -> usize
+    fn len(&self) -> usize
         ensures number { result ≡ number_in self.now }
         ensures within { result ≤ most_in self.now }
     {
         self.connections.len()
     }
 
-    /// Whether there is no guard. Our own.
-    pub fn is_empty(&self) -> bool
+    fn is_empty(&self) -> bool
         ensures { result ≡ true ↔ number_in self.now ≡ 0 }
     {
         self.connections.is_empty()
     }
 
-    /// Adds a guard at the end. It comes back, and the list is as before, where memory for it was refused. Our own.
-    pub fn push(
+    fn push(
         &mut self,
         guard: PooledConnection<'a, M, S, Z, K, R, L>,
     ) -> Result<(), PooledConnection<'a, M, S, Z, K, R, L>>
@@ -121,8 +154,7 @@ impl<
         }
     }
 
-    /// Takes the guard of an index out; the ones behind it move up. None where there is no such index. Our own.
-    pub fn remove(&mut self, index: usize) -> Option<PooledConnection<'a, M, S, Z, K, R, L>>
+    fn remove(&mut self, index: usize) -> Option<PooledConnection<'a, M, S, Z, K, R, L>>
         ensures guard { IfSome result (λ guard. connection_of guard
             ≡ slice_index_or (connections_in self.old) index (connection_of guard)) }
         ensures closed { IfSome result (λ _. connections_in self.new
@@ -145,13 +177,83 @@ impl<
         Some(PooledConnection { shared, taken })
     }
 
+    fn get_mut(&mut self, index: usize) -> Option<&mut M::Connection>
+        ensures some { IsSome result ↔ (index < number_in self.old) }
+        ensures connection { IfSome result (λ connection. connection.now
+            ≡ slice_index_or (connections_in self.old) index connection.now) }
+    {
+        self.connections.get_mut(index)
+    }
+}
+
+impl<
+    'a,
+    M: ManageConnection,
+    S: ErrorSink<M::Error>,
+    Z: CustomizeConnection<M::Connection, M::Error>,
+    K: Clock,
+    R: Locks,
+    L: Parts,
+> Guards<'a, M, S, Z, K, R, L> {
+    ghost use Rattle.bb8.specs.GuardLists.{connection_of, connections_in, most_in, number_in, AreOfOne, IsListOf};
+
+    /// An empty list of guards of this pool. It takes no memory. Our own.
+    pub fn new(alloc: Global, pool: &'a Pool<M, S, Z, K, R, L>) -> Self
+        ensures empty { connections_in result ≡ [] }
+        ensures pool { IsListOf result pool.now }
+    {
+        GuardsCalls::new(alloc, pool)
+    }
+
+    /// How many guards there are. Our own.
+    pub fn len(&self) -> usize
+        ensures number { result ≡ number_in self.now }
+        ensures within { result ≤ most_in self.now }
+    {
+        GuardsCalls::len(self)
+    }
+
+    /// Whether there is no guard. Our own.
+    pub fn is_empty(&self) -> bool
+        ensures { result ≡ true ↔ number_in self.now ≡ 0 }
+    {
+        GuardsCalls::is_empty(self)
+    }
+
+    /// Adds a guard at the end. It comes back, and the list is as before, where memory for it was refused. Our own.
+    pub fn push(
+        &mut self,
+        guard: PooledConnection<'a, M, S, Z, K, R, L>,
+    ) -> Result<(), PooledConnection<'a, M, S, Z, K, R, L>>
+        ensures added { OnOk result
+            (connections_in self.new ≡ connections_in self.old ++ connection_of guard.entry ∷ []) }
+        ensures refused { IfErr result (λ back. connection_of back ≡ connection_of guard.entry) }
+        ensures same { IfErr result (λ _. connections_in self.new ≡ connections_in self.old) }
+        ensures pool { AreOfOne self.new self.old }
+    {
+        GuardsCalls::push(self, guard)
+    }
+
+    /// Takes the guard of an index out; the ones behind it move up. None where there is no such index. Our own.
+    pub fn remove(&mut self, index: usize) -> Option<PooledConnection<'a, M, S, Z, K, R, L>>
+        ensures guard { IfSome result (λ guard. connection_of guard
+            ≡ slice_index_or (connections_in self.old) index (connection_of guard)) }
+        ensures closed { IfSome result (λ _. connections_in self.new
+            ≡ take index (connections_in self.old) ++ drop (index + 1) (connections_in self.old)) }
+        ensures some { IsSome result ↔ (index < number_in self.old) }
+        ensures none { IfNone result (connections_in self.new ≡ connections_in self.old) }
+        ensures pool { AreOfOne self.new self.old }
+    {
+        GuardsCalls::remove(self, index)
+    }
+
     /// The connection of the guard of an index. None where there is no such index. Our own.
     pub fn get_mut(&mut self, index: usize) -> Option<&mut M::Connection>
         ensures some { IsSome result ↔ (index < number_in self.old) }
         ensures connection { IfSome result (λ connection. connection.now
             ≡ slice_index_or (connections_in self.old) index connection.now) }
     {
-        self.connections.get_mut(index)
+        GuardsCalls::get_mut(self, index)
     }
 }
 

@@ -108,6 +108,14 @@ impl<
     }
 }
 
+/// A guard taken apart, as a method of an impl, so that methods of others can call it.
+pub(crate) trait IntoParts {
+    type Parts;
+
+    /// The connection and its part, with where they go back to.
+    fn into_parts(self) -> Self::Parts;
+}
+
 impl<
     'a,
     M: ManageConnection,
@@ -116,9 +124,13 @@ impl<
     K: Clock,
     R: Locks,
     L: Parts,
-> PooledConnection<'a, M, S, Z, K, R, L> {
-    /// The connection and its part, with where they go back to.
-    pub(crate) fn into_parts(self) -> (&'a Shared<M, S, Z, K, R, L>, Taken<M::Connection, Part<L>>)
+> IntoParts for PooledConnection<'a, M, S, Z, K, R, L> {
+    type Parts = (
+        &'a Shared<M, S, Z, K, R, L>,
+        Taken<M::Connection, Part<L>>,
+    );
+
+    fn into_parts(self) -> (&'a Shared<M, S, Z, K, R, L>, Taken<M::Connection, Part<L>>)
         ensures pool { result.0.now ≡ self.entry.shared.now }
         ensures taken { result.1 ≡ self.entry.taken }
     {

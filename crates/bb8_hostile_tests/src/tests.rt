@@ -5,11 +5,10 @@ mod granted;
 mod polls;
 
 use bb8::{AddError, PoolParts};
-use bb8_hostile::{Harness, HostilePool, Source};
+use bb8_trials::Runtime;
+use bb8_trials::hostile::{Harness, HostilePool, Source};
 use std::fmt::Debug;
 use std::process::Abort;
-use std::random::RandomSource;
-use std::sync::Wait;
 use std::test::Fail;
 
 /// Ends the test where what was found is not what is wanted, and prints both.
@@ -17,14 +16,8 @@ fn assert_equal<T: PartialEq + Debug + Drop>(rt: &impl Abort, found: T, wanted: 
     assert_eq!(rt; found, wanted);
 }
 
-/// What a test of a pool asks of its runtime.
-trait Runtime: Abort + Wait + RandomSource + AllocGlobal + Copy + Send + Sync + Drop + 'static {}
-
-impl<R: Abort + Wait + RandomSource + AllocGlobal + Copy + Send + Sync + Drop + 'static> Runtime
-    for R {}
-
 /// Adds connections until one finds no room, where at most `most` are tried: how many went in.
-fn fill<R: Runtime, L: PoolParts>(
+fn fill<R: Runtime + Abort, L: PoolParts>(
     pool: &HostilePool<R, L>,
     harness: &Harness,
     most: u32,
@@ -42,7 +35,7 @@ fn fill<R: Runtime, L: PoolParts>(
 }
 
 /// Whether no get of the pool is pending, nobody holds anything of it, and all connections that were not dropped are in it, and idle.
-fn is_at_rest<R: Runtime, L: PoolParts>(pool: &HostilePool<R, L>, harness: &Harness) -> bool {
+fn is_at_rest<R: Runtime + Abort, L: PoolParts>(pool: &HostilePool<R, L>, harness: &Harness) -> bool {
     let state = pool.state();
     state.statistics.pending_gets() == 0
         && state.connections == state.idle_connections

@@ -9,7 +9,9 @@ mod gates;
 mod get;
 mod guards;
 mod handles;
+mod locked;
 mod pool;
+mod rows;
 mod serving;
 mod threads;
 
@@ -22,8 +24,6 @@ use std::error::Error;
 use std::fmt;
 use std::fmt::Debug;
 use std::process::Abort;
-use std::random::RandomSource;
-use std::sync::Wait;
 use std::test::Fail;
 use std::time::Duration;
 
@@ -31,12 +31,6 @@ use std::time::Duration;
 fn assert_equal<T: PartialEq + Debug + Drop>(rt: &impl Abort, found: T, wanted: T) {
     assert_eq!(rt; found, wanted);
 }
-
-/// What a test of a pool asks of its runtime.
-trait Runtime: Abort + Wait + RandomSource + AllocGlobal + Copy + Send + Sync + Drop + 'static {}
-
-impl<R: Abort + Wait + RandomSource + AllocGlobal + Copy + Send + Sync + Drop + 'static> Runtime
-    for R {}
 
 /// A pool whose connections are numbers.
 type NumberPool<R, L> = Pool<SlowManager, NopErrorSink, NopCustomizer, SetClock, R, L>;

@@ -14,8 +14,9 @@ mod rounds;
 mod told;
 
 use bb8::{Builder, Driver, Gate, Memory, PoolParts, drive};
-use bb8_hostile::{Harness, HostilePool};
-use rounds::{Runtime, SIZE, Storm, THREADS};
+use bb8_trials::Runtime;
+use bb8_trials::hostile::{Harness, HostilePool};
+use rounds::{SIZE, Storm, THREADS};
 use std::alloc::Global;
 use std::marker::Brand;
 use std::process::ExitCode;

@@ -2,13 +2,12 @@
 
 use crate::told::Told;
 use bb8::{Cancel, Memory, PoolCalls, PoolParts, RunError};
-use bb8_hostile::{Counted, Harness, HostilePool, Refused, Source};
+use bb8_trials::Runtime;
+use bb8_trials::hostile::{Counted, Harness, HostilePool, Refused, Source};
 use futures::Future;
 use futures::task::Poll;
 use futures::test::MockTask;
 use std::ops::DerefMut;
-use std::random::RandomSource;
-use std::sync::Wait;
 use std::thread::{self, Threads, map_indices};
 
 /// How many connections the pool may have: so few that gets wait, as openings and checks last.
@@ -19,11 +18,6 @@ pub const THREADS: usize = 4;
 
 /// How many polls a get is given at most.
 const POLLS: u64 = 16;
-
-/// What the program asks of its runtime.
-pub trait Runtime: Wait + RandomSource + AllocGlobal + Copy + Send + Sync + Drop + 'static {}
-
-impl<R: Wait + RandomSource + AllocGlobal + Copy + Send + Sync + Drop + 'static> Runtime for R {}
 
 /// A phase over the pool.
 #[derive(Drop)]

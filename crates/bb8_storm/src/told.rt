@@ -1,7 +1,7 @@
 //! What a thread was told, to be compared with what the pool tells.
 
 use bb8::State;
-use bb8_hostile::Gauges;
+use bb8_trials::hostile::Gauges;
 
 /// What a thread was told of its gets, and whether anything was wrong meanwhile.
 #[derive(Clone, Copy)]

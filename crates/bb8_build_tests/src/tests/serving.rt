@@ -1,12 +1,17 @@
 //! A service over a pool whose first connection cannot be opened.
-use super::{Count, Counts, Errors, Runtime, Server, ServerPool, assert_equal};
-use bb8::{Builder, Moment, NopCustomizer, PoolParts, RunError, Service, SetClock};
+
+use super::assert_equal;
+use bb8::{Moment, NopCustomizer, Pool, PoolParts, RunError, Service, SetClock};
+use bb8_trials::{Board, Course, Errors, Number, Refused, Runtime, Server, builder_on, server_on};
 use std::test::Fail;
+
+/// A pool of a server's connections.
+type ServerPool<R, L> = Pool<Server, Errors, NopCustomizer, SetClock, R, L>;
 
 /// Counts how often it began.
 #[derive(Drop)]
 struct Begun {
-    count: Count,
+    count: Number,
 }
 
 impl<R: Runtime> Service<Server, Errors, NopCustomizer, SetClock, R> for Begun {
@@ -15,7 +20,7 @@ impl<R: Runtime> Service<Server, Errors, NopCustomizer, SetClock, R> for Begun {
     type Outcome = u64;
 
     fn begin<L: PoolParts>(&self, _pool: &ServerPool<R, L>) -> Result<(), u64> {
-        self.count.next();
+        self.count.count();
         Ok(())
     }
 
@@ -29,19 +34,19 @@ impl<R: Runtime> Service<Server, Errors, NopCustomizer, SetClock, R> for Begun {
 /// The server's error is the answer and not the sink's, its opening is not tried again, and the service does not begin.
 #[test]
 fn first_connection_that_fails_ends_a_serve(rt: HostRuntime) -> Result<(), Fail> {
-    let counts = Counts::new(rt.alloc())?;
+    let board = Board::new(rt.alloc())?;
+    board.opening.set(Course::Fails);
     let clock = SetClock::new(rt.alloc(), Moment(0))?;
     let service = Begun {
-        count: Count::new(rt.alloc())?,
+        count: Number::new(0),
     };
-    let answer = Builder::new()
-        .error_sink(counts.sink()?)
+    let answer = builder_on(&board)?
         .max_size(1)
         .min_idle(Some(1))
         .retry_connection(false)
-        .serve(counts.server(true, Moment(0))?, clock, rt, 4, &service);
-    assert_equal(&rt, answer, Err(RunError::User(1)));
-    assert_equal(&rt, counts.both(), (1, 0));
+        .serve(server_on(&board)?, clock, rt, 4, &service);
+    assert_equal(&rt, answer, Err(RunError::User(Refused(1))));
+    assert_equal(&rt, (board.begun.get(), board.errors.get()), (1, 0));
     assert_equal(&rt, service.count.get(), 0);
     Ok(())
 }

@@ -3,14 +3,16 @@ ghost use Rattle.std.specs.Prelude.{Some};
 ghost use Rattle.bb8.specs.Parts.{IsBlankOf, unchecked_of};
 ghost use Rattle.bb8.specs.Settings.{default_settings};
 
-use super::{Board, Case, Refused, Runtime, assert_equal, builder, sizes, unchecked};
+use super::{Case, assert_equal, unchecked};
 use bb8::{
     Builder, Driven, Driver, Gate, ManageConnection, Memory, Moment, NopCustomizer, NopErrorSink,
     Pool, PoolParts, SetClock, drive,
 };
+use bb8_trials::{Board, Refused, Runtime, builder_on, sizes};
 use futures::task::Poll;
 use std::alloc::Global;
 use std::marker::Brand;
+use std::process::Abort;
 use std::sync::Arc;
 use std::sync::atomic::{AtomicU64, Ordering};
 use std::sync::ledger::Blank;
@@ -34,7 +36,7 @@ impl Gate for Pauses {
 }
 
 /// A run in a thread of its own, whose gate does not pause: one turn, which opens both first connections, or ends as the pool was dropped.
-fn drives<R: Runtime + Threads, L: PoolParts + 'static>(
+fn drives<R: Runtime + Abort + Threads, L: PoolParts + 'static>(
     rt: R,
     blank: Blank,
     drops: bool,
@@ -43,7 +45,7 @@ fn drives<R: Runtime + Threads, L: PoolParts + 'static>(
         L.parts L.settings }
 {
     let board = Board::new(rt.alloc())?;
-    let builder = builder(&board)?.max_size(5).min_idle(Some(2));
+    let builder = builder_on(&board)?.max_size(5).min_idle(Some(2));
     let Case { pool, driver, .. } = unchecked::<R, L>(rt, blank, board, builder)?;
     let kept = if drops {
         drop(pool);
@@ -56,7 +58,7 @@ fn drives<R: Runtime + Threads, L: PoolParts + 'static>(
     };
     let driven = thread.join(&rt);
     if let Some(pool) = &kept {
-        assert_equal(&rt, sizes(pool), (2, 2));
+        assert_equal(&rt, sizes(pool.state()), (2, 2));
     }
     Ok(driven)
 }
@@ -84,19 +86,19 @@ fn driven_until_its_pool_ends(rt: HostRuntime) -> Result<(), Fail> {
 }
 
 /// A run in the caller's thread, whose gate pauses twice.
-fn runs_thrice<R: Runtime, L: PoolParts>(rt: R, blank: Blank) -> Result<(), Fail>
+fn runs_thrice<R: Runtime + Abort, L: PoolParts>(rt: R, blank: Blank) -> Result<(), Fail>
     requires { IsBlankOf blank (record default_settings { max_size = 5; min_idle = Some 2 }) L.name
         L.parts L.settings }
 {
     let board = Board::new(rt.alloc())?;
-    let builder = builder(&board)?.max_size(5).min_idle(Some(2));
+    let builder = builder_on(&board)?.max_size(5).min_idle(Some(2));
     let Case { pool, driver, .. } = unchecked::<R, L>(rt, blank, board, builder)?;
     let wanted = Driven {
         turns: 3,
         ended: false,
     };
     assert_equal(&rt, driver.run(Pauses { left: 2 }), wanted);
-    assert_equal(&rt, sizes(&pool), (2, 2));
+    assert_equal(&rt, sizes(pool.state()), (2, 2));
     Ok(())
 }
 
@@ -151,7 +153,7 @@ impl ManageConnection for SlowServer {
     fn poll_connect(&self, _connecting: &mut (), _moment: Moment) -> Poll<Result<u64, Refused>> {
         self.stage.store(WAITING, Ordering::SeqCst);
         if !comes_to(&self.stage, ANSWERED) {
-            return Poll::Ready(Err(Refused));
+            return Poll::Ready(Err(Refused(1)));
         }
         self.stage.store(PASSED, Ordering::SeqCst);
         Poll::Ready(Ok(7))
@@ -177,7 +179,7 @@ impl ManageConnection for SlowServer {
 type SlowPool<R, L> = Pool<SlowServer, NopErrorSink, NopCustomizer, SetClock, R, L>;
 
 /// A driver's thread polls an opening, which goes on only once `state` was answered in the test's own thread.
-fn answers_meanwhile<R: Runtime + Threads, L: PoolParts + 'static>(
+fn answers_meanwhile<R: Runtime + Abort + Threads, L: PoolParts + 'static>(
     rt: R,
     blank: Blank,
 ) -> Result<(), Memory>

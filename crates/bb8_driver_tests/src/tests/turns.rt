@@ -3,51 +3,54 @@ ghost use Rattle.std.specs.Prelude.{Some};
 ghost use Rattle.bb8.specs.Parts.{IsBlankOf};
 ghost use Rattle.bb8.specs.Settings.{default_settings};
 
-use super::{
-    Board, Case, ENDED, LASTS, PASSES, Runtime, assert_equal, builder, polled, sizes, unchecked,
-};
-use bb8::{Driver, Moment, PoolParts};
+use super::{Case, assert_equal, unchecked};
+use bb8::{Driver, DriverCalls, Moment, PoolParts};
+use bb8_trials::{Board, Course, OwnedHandle, OwnedTrial, Runtime, Server, Start, Tools, builder_on, is_ended, is_going, server_on, sizes, try_owned_on};
 use std::marker::Brand;
-use std::sync::atomic::Ordering;
+use std::process::Abort;
 use std::sync::ledger::Blank;
 use std::test::Fail;
 
 /// The first turn opens both first connections, and the second has nothing to do. Once the pool was dropped each turn has ended.
-fn opens_and_ends<R: Runtime, L: PoolParts>(rt: R, blank: Blank) -> Result<(), Fail>
-    requires { IsBlankOf blank (record default_settings { max_size = 5; min_idle = Some 2 }) L.name
-        L.parts L.settings }
-{
-    let board = Board::new(rt.alloc())?;
-    let builder = builder(&board)?.max_size(5).min_idle(Some(2));
-    let Case {
-        pool,
-        mut driver,
-        ..
-    } = unchecked::<R, L>(rt, blank, board, builder)?;
-    assert_equal(&rt, driver.turn(Moment(0)), polled(2));
-    assert_equal(&rt, sizes(&pool), (2, 2));
-    assert_equal(&rt, driver.turn(Moment(0)), polled(0));
-    drop(pool);
-    for at in 0..3u64 {
-        assert_equal(&rt, driver.turn(Moment(at)), ENDED);
+#[derive(Drop)]
+struct OpensAndEnds;
+
+impl<R: Runtime + Abort> OwnedTrial<R, Server> for OpensAndEnds {
+    type Outcome = ();
+
+    fn run<P: OwnedHandle<Server>, D: DriverCalls + Drop>(
+        self,
+        rt: R,
+        _tools: &Tools,
+        pool: P,
+        mut driver: D,
+    ) {
+        assert!(&rt; is_going(driver.turn(Moment(0)), 2));
+        assert_equal(&rt, sizes(pool.state()), (2, 2));
+        assert!(&rt; is_going(driver.turn(Moment(0)), 0));
+        drop(pool);
+        for at in 0..3u64 {
+            assert!(&rt; is_ended(driver.turn(Moment(at))));
+        }
     }
-    Ok(())
 }
 
 #[test]
 fn first_turns(rt: HostRuntime) -> Result<(), Fail> {
-    opens_and_ends::<HostRuntime, Brand>(rt, Blank::new(5))
+    let board = Board::new(rt.alloc())?;
+    let builder = builder_on(&board)?.max_size(5).min_idle(Some(2));
+    Ok(try_owned_on(rt, server_on(&board)?, builder, Start::Unchecked, OpensAndEnds)?)
 }
 
 /// The first driver claims both first approvals, whose openings last; the second finds none, and claims the one that the third of three gets
 /// asks for. Each polls its own from then on, and both end with the pool.
-fn shares_approvals<R: Runtime, L: PoolParts>(rt: R, blank: Blank) -> Result<(), Fail>
+fn shares_approvals<R: Runtime + Abort, L: PoolParts>(rt: R, blank: Blank) -> Result<(), Fail>
     requires { IsBlankOf blank (record default_settings { max_size = 5; min_idle = Some 2 }) L.name
         L.parts L.settings }
 {
     let board = Board::new(rt.alloc())?;
-    board.opening.store(LASTS, Ordering::SeqCst);
-    let builder = builder(&board)?.max_size(5).min_idle(Some(2));
+    board.opening.set(Course::Lasts);
+    let builder = builder_on(&board)?.max_size(5).min_idle(Some(2));
     let Case {
         pool,
         driver: mut first,
@@ -56,24 +59,24 @@ fn shares_approvals<R: Runtime, L: PoolParts>(rt: R, blank: Blank) -> Result<(),
         ..
     } = unchecked::<R, L>(rt, blank, board, builder)?;
     let mut second = Driver::new(&pool)?;
-    assert_equal(&rt, first.turn(Moment(0)), polled(2));
-    assert_equal(&rt, second.turn(Moment(0)), polled(0));
+    assert!(&rt; is_going(first.turn(Moment(0)), 2));
+    assert!(&rt; is_going(second.turn(Moment(0)), 0));
     let mut gets = Vec::new(rt.alloc());
     for _ in 0..3u8 {
         let mut get = pool.get_owned();
         assert!(&rt; task.poll(&mut get).is_pending());
         gets.push(get)?;
     }
-    assert_equal(&rt, second.turn(Moment(0)), polled(1));
-    board.opening.store(PASSES, Ordering::SeqCst);
-    assert_equal(&rt, first.turn(Moment(0)), polled(2));
-    assert_equal(&rt, sizes(&pool), (2, 2));
-    assert_equal(&rt, second.turn(Moment(0)), polled(1));
-    assert_equal(&rt, sizes(&pool), (3, 3));
+    assert!(&rt; is_going(second.turn(Moment(0)), 1));
+    board.opening.set(Course::Passes);
+    assert!(&rt; is_going(first.turn(Moment(0)), 2));
+    assert_equal(&rt, sizes(pool.state()), (2, 2));
+    assert!(&rt; is_going(second.turn(Moment(0)), 1));
+    assert_equal(&rt, sizes(pool.state()), (3, 3));
     drop(gets);
     drop(pool);
-    assert_equal(&rt, first.turn(Moment(0)), ENDED);
-    assert_equal(&rt, second.turn(Moment(0)), ENDED);
+    assert!(&rt; is_ended(first.turn(Moment(0))));
+    assert!(&rt; is_ended(second.turn(Moment(0))));
     Ok(())
 }
 

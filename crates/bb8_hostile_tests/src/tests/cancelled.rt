@@ -3,16 +3,18 @@ ghost use Rattle.std.specs.Prelude.{Some};
 ghost use Rattle.bb8.specs.Parts.{IsBlankOf};
 ghost use Rattle.bb8.specs.Settings.{default_settings};
 
-use super::{Runtime, assert_equal, fill, is_at_rest};
+use super::{assert_equal, fill, is_at_rest};
 use bb8::driver::Driver;
 use bb8::{Builder, Building, Cancel, Clock, Memory, PoolParts};
-use bb8_hostile::{
+use bb8_trials::Runtime;
+use bb8_trials::hostile::{
     Harness, HostileClock, HostileCustomizer, HostileManager, HostilePool, HostileSink,
 };
 use futures::Future;
 use futures::task::Poll;
 use futures::test::MockTask;
 use std::marker::Brand;
+use std::process::Abort;
 use std::sync::ledger::Blank;
 use std::test::Fail;
 use std::time::Duration;
@@ -107,7 +109,7 @@ fn end_of<T: Drop, E: Drop>(answer: Option<Result<T, E>>) -> Ended {
 }
 
 /// A pool of four with two idle connections, and two open approvals for its first ones, which nobody claims.
-fn begin<R: Runtime, L: PoolParts>(
+fn begin<R: Runtime + Abort, L: PoolParts>(
     rt: R,
     blank: Blank,
     harness: &Harness,
@@ -131,7 +133,7 @@ fn begin<R: Runtime, L: PoolParts>(
 
 /// A get, one with a handle of its own, or the opening of a connection that the pool does not count is polled so often and let go: then no get
 /// is pending, and each connection is idle or was dropped; and of the last the pool knows nothing.
-fn lets_a_future_go<R: Runtime, L: PoolParts>(
+fn lets_a_future_go<R: Runtime + Abort, L: PoolParts>(
     rt: R,
     task: &MockTask,
     pool: &HostilePool<R, L>,
@@ -156,7 +158,7 @@ fn lets_a_future_go<R: Runtime, L: PoolParts>(
 
 /// A driver makes so many turns, of which the first claims both approvals, and is dropped: the approvals that it held are given back, so there
 /// is room for all that it did not open. It ends as nothing is left to open.
-fn lets_a_driver_go<R: Runtime, L: PoolParts>(
+fn lets_a_driver_go<R: Runtime + Abort, L: PoolParts>(
     rt: R,
     pool: &HostilePool<R, L>,
     harness: &Harness,
@@ -188,7 +190,7 @@ fn lets_a_driver_go<R: Runtime, L: PoolParts>(
 
 /// A building is polled so often and let go. Where it gave its pool, that has its first connections and room for the two others, so none of
 /// its approvals is open; else all is gone, the pool with it.
-fn lets_a_building_go<R: Runtime, L: PoolParts>(
+fn lets_a_building_go<R: Runtime + Abort, L: PoolParts>(
     rt: R,
     blank: Blank,
     task: &MockTask,
@@ -220,7 +222,7 @@ fn lets_a_building_go<R: Runtime, L: PoolParts>(
 }
 
 /// A future of this kind is polled so often and let go, and then the pool is dropped: nothing is left.
-fn lets_go<R: Runtime, L: PoolParts>(
+fn lets_go<R: Runtime + Abort, L: PoolParts>(
     rt: R,
     blank: Blank,
     kind: Kind,
@@ -252,7 +254,7 @@ fn lets_go<R: Runtime, L: PoolParts>(
 }
 
 /// Whether a future of this kind comes to an end of its own, which is counted, as the number of its polls grows from none.
-fn comes_to_its_end<R: Runtime>(
+fn comes_to_its_end<R: Runtime + Abort>(
     rt: R,
     kind: Kind,
     seed: u64,

@@ -2,16 +2,18 @@
 ghost use Rattle.bb8.specs.Parts.{IsBlankOf};
 ghost use Rattle.bb8.specs.Settings.{default_settings};
 
-use super::{Runtime, assert_equal, fill};
+use super::{assert_equal, fill};
 use bb8::{Builder, PoolParts};
-use bb8_hostile::{Harness, HostilePool};
+use bb8_trials::Runtime;
+use bb8_trials::hostile::{Harness, HostilePool};
 use futures::test::MockTask;
 use std::marker::Brand;
+use std::process::Abort;
 use std::sync::ledger::Blank;
 use std::test::Fail;
 
 /// Two gets of an empty pool of three wait. Each has an approval of its own, so one place is left for an adding.
-fn grants<R: Runtime, L: PoolParts>(rt: R, blank: Blank) -> Result<(), Fail>
+fn grants<R: Runtime + Abort, L: PoolParts>(rt: R, blank: Blank) -> Result<(), Fail>
     requires { IsBlankOf blank (record default_settings { max_size = 3 }) L.name L.parts L.settings }
 {
     let task = MockTask::new(&rt)?;

@@ -2,13 +2,14 @@
 ghost use Rattle.bb8.specs.Parts.{IsBlankOf};
 ghost use Rattle.bb8.specs.Settings.{default_settings};
 
-use super::{Runtime, assert_equal, fill, is_at_rest};
+use super::{assert_equal, fill, is_at_rest};
 use bb8::get::GetFuture;
 use bb8::owned::GetOwnedFuture;
 use bb8::{
     Builder, DedicatedFuture, OwnedConnection, PoolParts, PooledConnection, RunError, State,
 };
-use bb8_hostile::{
+use bb8_trials::Runtime;
+use bb8_trials::hostile::{
     Harness, HostileClock, HostileCustomizer, HostileManager, HostilePool, HostileSink, Refused,
     Source,
 };
@@ -17,6 +18,7 @@ use futures::task::Poll;
 use futures::test::MockTask;
 use std::alloc::Global;
 use std::marker::Brand;
+use std::process::Abort;
 use std::sync::ledger::Blank;
 use std::test::Fail;
 use std::time::Duration;
@@ -126,7 +128,7 @@ impl Told {
 
 /// A pool, and what a test holds of it.
 #[derive(Drop)]
-struct Field<'a, R: Runtime, L: PoolParts> {
+struct Field<'a, R: Runtime + Abort, L: PoolParts> {
     pool: &'a HostilePool<R, L>,
     harness: &'a Harness,
     gets: Vec<Begun<Get<'a, R, L>>>,
@@ -190,7 +192,7 @@ fn take_get<F: Drop>(gets: &mut Vec<Begun<F>>, source: &Source, told: &mut Told)
 }
 
 /// Begins a get, with a handle of its own or not, where there are not many yet.
-fn begin_get<R: Runtime, L: PoolParts>(field: &mut Field<'_, R, L>, owned: bool) {
+fn begin_get<R: Runtime + Abort, L: PoolParts>(field: &mut Field<'_, R, L>, owned: bool) {
     if owned && field.owned_gets.len() < MOST_GETS {
         let _ = field.owned_gets.push(Begun {
             future: field.pool.get_owned(),
@@ -206,7 +208,7 @@ fn begin_get<R: Runtime, L: PoolParts>(field: &mut Field<'_, R, L>, owned: bool)
 }
 
 /// Polls a get, and keeps the guard that it was served.
-fn poll_get<R: Runtime, L: PoolParts>(task: &MockTask, field: &mut Field<'_, R, L>) {
+fn poll_get<R: Runtime + Abort, L: PoolParts>(task: &MockTask, field: &mut Field<'_, R, L>) {
     let source = &field.harness.source;
     if let Some(mut guard) = poll_one(task, source, &mut field.gets, &mut field.told) {
         if !guard.hold(&field.harness.gauges.holdings) {
@@ -217,7 +219,7 @@ fn poll_get<R: Runtime, L: PoolParts>(task: &MockTask, field: &mut Field<'_, R, 
 }
 
 /// Polls a get with a handle of its own, and keeps the guard that it was served.
-fn poll_owned_get<R: Runtime, L: PoolParts>(task: &MockTask, field: &mut Field<'_, R, L>) {
+fn poll_owned_get<R: Runtime + Abort, L: PoolParts>(task: &MockTask, field: &mut Field<'_, R, L>) {
     let source = &field.harness.source;
     if let Some(mut guard) = poll_one(task, source, &mut field.owned_gets, &mut field.told) {
         if !guard.hold(&field.harness.gauges.holdings) {
@@ -228,7 +230,7 @@ fn poll_owned_get<R: Runtime, L: PoolParts>(task: &MockTask, field: &mut Field<'
 }
 
 /// Polls the opening of a connection that the pool does not count, or begins one; one that was opened is added to the pool.
-fn poll_opening<R: Runtime, L: PoolParts>(task: &MockTask, field: &mut Field<'_, R, L>) {
+fn poll_opening<R: Runtime + Abort, L: PoolParts>(task: &MockTask, field: &mut Field<'_, R, L>) {
     let Some(mut opening) = take_one(&mut field.openings, &field.harness.source) else {
         let _ = field.openings.push(field.pool.dedicated_connection());
         return;
@@ -246,7 +248,7 @@ fn poll_opening<R: Runtime, L: PoolParts>(task: &MockTask, field: &mut Field<'_,
 }
 
 /// Lets a get go, or the opening of a connection.
-fn let_go<R: Runtime, L: PoolParts>(field: &mut Field<'_, R, L>) {
+fn let_go<R: Runtime + Abort, L: PoolParts>(field: &mut Field<'_, R, L>) {
     let source = &field.harness.source;
     match source.below(6) {
         0 => drop(take_get(&mut field.gets, source, &mut field.told)),
@@ -271,7 +273,7 @@ fn let_go<R: Runtime, L: PoolParts>(field: &mut Field<'_, R, L>) {
 }
 
 /// One step, which the source picks.
-fn step<R: Runtime, L: PoolParts>(task: &MockTask, field: &mut Field<'_, R, L>) {
+fn step<R: Runtime + Abort, L: PoolParts>(task: &MockTask, field: &mut Field<'_, R, L>) {
     let source = &field.harness.source;
     match source.below(16) {
         0..=1 => begin_get(field, false),
@@ -289,7 +291,7 @@ fn step<R: Runtime, L: PoolParts>(task: &MockTask, field: &mut Field<'_, R, L>) 
 }
 
 /// Whether the pool, the test and the connections themselves count the same.
-fn is_in_order<R: Runtime, L: PoolParts>(field: &Field<'_, R, L>) -> bool {
+fn is_in_order<R: Runtime + Abort, L: PoolParts>(field: &Field<'_, R, L>) -> bool {
     let gauges = &field.harness.gauges;
     let state = field.pool.state();
     let held = field.guards.len().saturating_add(field.owned_guards.len()) as u64;
@@ -307,7 +309,7 @@ fn is_in_order<R: Runtime, L: PoolParts>(field: &Field<'_, R, L>) -> bool {
 }
 
 /// A pool makes its steps. After each, it, the test and the connections count the same. Then all is let go, and nothing is left.
-fn polls_at_random<R: Runtime, L: PoolParts>(rt: R, blank: Blank, seed: u64) -> Result<Told, Fail>
+fn polls_at_random<R: Runtime + Abort, L: PoolParts>(rt: R, blank: Blank, seed: u64) -> Result<Told, Fail>
     requires { IsBlankOf blank
         (record default_settings { max_size = 6; connection_timeout = 1000 }) L.name L.parts
         L.settings }

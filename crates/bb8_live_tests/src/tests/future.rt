@@ -1,187 +1,209 @@
 //! The future of a get, polled by hand.
-ghost use Rattle.bb8.specs.Parts.{IsBlankOf, unchecked_of};
 
-use super::{NumberPool, Runtime, SlowManager, assert_equal};
-use bb8::{Builder, Memory, Moment, PoolParts, RunError, SetClock};
+use super::assert_equal;
+use bb8::{DriverCalls, Moment};
+use bb8_trials::{Board, Handle, Runtime, SECOND, Server, Start, Tools, Trial, builder_on, connection_on, is_timed_out, server_on, try_on};
 use futures::task::Poll;
-use futures::test::MockTask;
-use std::marker::Brand;
-use std::sync::ledger::Blank;
+use std::alloc::Global;
+use std::process::Abort;
+use std::sync::Arc;
 use std::test::Fail;
 use std::time::Duration;
 
 /// A pool of one connection: a get is served, others wait, and one of those is let go, one is served, and one times out.
-fn waits<R: Runtime, L: PoolParts>(rt: R, blank: Blank) -> Result<(), Memory>
-    requires { IsBlankOf blank (record (unchecked_of 1) { connection_timeout = 10 }) L.name L.parts
-        L.settings }
-{
-    let clock = SetClock::new(rt.alloc(), Moment(5))?;
-    let pool: NumberPool<R, L> = Builder::new()
-        .max_size(1)
-        .test_on_check_out(false)
-        .connection_timeout(Duration::from_nanos(10))
-        .build_unchecked(SlowManager, clock.try_clone()?, rt, blank)?;
-    assert_equal(&rt, pool.add(7), Ok(()));
-    let Ok(task) = MockTask::new(&rt) else {
-        return Err(Memory);
-    };
-    let Poll::Ready(Ok(guard)) = task.poll(&mut pool.get()) else {
-        panic!(&rt; "not served");
-    };
-    assert_equal(&rt, *guard, 7);
-    let mut cancelled = pool.get();
-    assert!(&rt; task.poll(&mut cancelled).is_pending());
-    assert!(&rt; task.is_woken());
-    cancelled.cancel();
-    let mut served = pool.get();
-    assert!(&rt; task.poll(&mut served).is_pending());
-    drop(guard);
-    clock.set(Moment(15));
-    let Poll::Ready(Ok(guard)) = task.poll(&mut served) else {
-        panic!(&rt; "not served at the deadline");
-    };
-    let mut late = pool.get();
-    assert!(&rt; task.poll(&mut late).is_pending());
-    clock.set(Moment(25));
-    assert!(&rt; matches!(task.poll(&mut late), Poll::Ready(Err(RunError::TimedOut))));
-    drop(guard);
-    let statistics = pool.state().statistics;
-    assert_equal(&rt, statistics.get_started, 4);
-    assert_equal(&rt, statistics.get_direct, 1);
-    assert_equal(&rt, statistics.get_waited, 1);
-    assert_equal(&rt, statistics.get_timed_out, 1);
-    assert_equal(&rt, statistics.get_cancelled, 1);
-    Ok(())
+#[derive(Drop)]
+struct WaitsForOne {
+    board: Arc<Board, Global>,
+}
+
+impl<R: Runtime + Abort> Trial<R, Server> for WaitsForOne {
+    type Outcome = Result<(), Fail>;
+
+    fn run<P: Handle<Server>, D: DriverCalls + Drop>(
+        self,
+        rt: R,
+        tools: &Tools,
+        pool: P,
+        _driver: D,
+    ) -> Result<(), Fail> {
+        let task = &tools.task;
+        tools.clock.set(Moment(5));
+        assert!(&rt; pool.add(connection_on(&self.board, 7)?).is_ok());
+        let Some(guard) = pool.lend(task) else {
+            panic!(&rt; "not served");
+        };
+        assert_equal(&rt, guard.number, 7);
+        let mut cancelled = pool.get();
+        assert!(&rt; pool.poll(task, &mut cancelled).is_pending());
+        assert!(&rt; task.is_woken());
+        pool.cancel(cancelled);
+        let mut served = pool.get();
+        assert!(&rt; pool.poll(task, &mut served).is_pending());
+        drop(guard);
+        tools.clock.set(Moment(15));
+        let Poll::Ready(Ok(guard)) = pool.poll(task, &mut served) else {
+            panic!(&rt; "not served at the deadline");
+        };
+        let mut late = pool.get();
+        assert!(&rt; pool.poll(task, &mut late).is_pending());
+        tools.clock.set(Moment(25));
+        assert!(&rt; is_timed_out(&pool.poll(task, &mut late)));
+        drop(guard);
+        let statistics = pool.state().statistics;
+        assert_equal(&rt, statistics.get_started, 4);
+        assert_equal(&rt, statistics.get_direct, 1);
+        assert_equal(&rt, statistics.get_waited, 1);
+        assert_equal(&rt, statistics.get_timed_out, 1);
+        assert_equal(&rt, statistics.get_cancelled, 1);
+        Ok(())
+    }
 }
 
 #[test]
 fn waits_for_one(rt: HostRuntime) -> Result<(), Fail> {
-    waits::<HostRuntime, Brand>(rt, Blank::new(1))?;
-    Ok(())
+    let board = Board::new(rt.alloc())?;
+    let builder = builder_on(&board)?
+        .max_size(1)
+        .test_on_check_out(false)
+        .connection_timeout(Duration::from_nanos(10));
+    let server = server_on(&board)?;
+    try_on(rt, server, builder, Start::Unchecked, WaitsForOne { board })?
 }
 
 /// The one connection is out; a get waits for it and is let go, and the next one is served at its first poll.
-fn serves_the_third<R: Runtime, L: PoolParts>(rt: R, blank: Blank) -> Result<(), Memory>
-    requires { IsBlankOf blank (unchecked_of 1) L.name L.parts L.settings }
-{
-    let clock = SetClock::new(rt.alloc(), Moment(0))?;
-    let pool: NumberPool<R, L> = Builder::new()
-        .max_size(1)
-        .test_on_check_out(false)
-        .build_unchecked(SlowManager, clock, rt, blank)?;
-    assert_equal(&rt, pool.add(7), Ok(()));
-    let Ok(task) = MockTask::new(&rt) else {
-        return Err(Memory);
-    };
-    let Poll::Ready(Ok(guard)) = task.poll(&mut pool.get()) else {
-        panic!(&rt; "the first get was not served");
-    };
-    let mut second = pool.get();
-    assert!(&rt; task.poll(&mut second).is_pending());
-    second.cancel();
-    drop(guard);
-    let Poll::Ready(Ok(guard)) = task.poll(&mut pool.get()) else {
-        panic!(&rt; "the third get was not served");
-    };
-    assert_equal(&rt, *guard, 7);
-    let statistics = pool.state().statistics;
-    assert_equal(&rt, statistics.get_started, 3);
-    assert_equal(&rt, statistics.get_direct, 2);
-    assert_equal(&rt, statistics.get_cancelled, 1);
-    assert_equal(&rt, statistics.pending_gets(), 0);
-    Ok(())
+#[derive(Drop)]
+struct ServesTheThird {
+    board: Arc<Board, Global>,
+}
+
+impl<R: Runtime + Abort> Trial<R, Server> for ServesTheThird {
+    type Outcome = Result<(), Fail>;
+
+    fn run<P: Handle<Server>, D: DriverCalls + Drop>(
+        self,
+        rt: R,
+        tools: &Tools,
+        pool: P,
+        _driver: D,
+    ) -> Result<(), Fail> {
+        assert!(&rt; pool.add(connection_on(&self.board, 7)?).is_ok());
+        let Some(guard) = pool.lend(&tools.task) else {
+            panic!(&rt; "the first get was not served");
+        };
+        let mut second = pool.get();
+        assert!(&rt; pool.poll(&tools.task, &mut second).is_pending());
+        pool.cancel(second);
+        drop(guard);
+        let Some(guard) = pool.lend(&tools.task) else {
+            panic!(&rt; "the third get was not served");
+        };
+        assert_equal(&rt, guard.number, 7);
+        let statistics = pool.state().statistics;
+        assert_equal(&rt, statistics.get_started, 3);
+        assert_equal(&rt, statistics.get_direct, 2);
+        assert_equal(&rt, statistics.get_cancelled, 1);
+        assert_equal(&rt, statistics.pending_gets(), 0);
+        Ok(())
+    }
 }
 
 #[test]
 fn serves_after_a_cancelled_caller(rt: HostRuntime) -> Result<(), Fail> {
-    serves_the_third::<HostRuntime, Brand>(rt, Blank::new(1))?;
-    Ok(())
-}
-
-/// A pool of two connections at most, whose gets wait for a second.
-fn build_for_a_second<R: Runtime, L: PoolParts>(
-    rt: R,
-    clock: &SetClock,
-    blank: Blank,
-) -> Result<NumberPool<R, L>, Memory>
-    requires { IsBlankOf blank (record (unchecked_of 2) { connection_timeout = 1_000_000_000 })
-        L.name L.parts L.settings }
-{
-    Builder::new()
-        .max_size(2)
-        .test_on_check_out(false)
-        .connection_timeout(Duration::from_secs(1))
-        .build_unchecked(SlowManager, clock.try_clone()?, rt, blank)
+    let board = Board::new(rt.alloc())?;
+    let builder = builder_on(&board)?.max_size(1).test_on_check_out(false);
+    let server = server_on(&board)?;
+    try_on(rt, server, builder, Start::Unchecked, ServesTheThird { board })?
 }
 
 /// A get that waits since the moment 0 is polled at its deadline, one second later; before that poll a connection is added, or not.
-fn polled_at_the_deadline<R: Runtime, L: PoolParts>(
-    rt: R,
-    blank: Blank,
+#[derive(Drop)]
+struct PolledAtTheDeadline {
+    board: Arc<Board, Global>,
     is_added: bool,
-) -> Result<(), Memory>
-    requires { IsBlankOf blank (record (unchecked_of 2) { connection_timeout = 1_000_000_000 })
-        L.name L.parts L.settings }
-{
-    let clock = SetClock::new(rt.alloc(), Moment(0))?;
-    let pool: NumberPool<R, L> = build_for_a_second(rt, &clock, blank)?;
-    let Ok(task) = MockTask::new(&rt) else {
-        return Err(Memory);
-    };
-    let mut get = pool.get();
-    assert!(&rt; task.poll(&mut get).is_pending());
-    clock.set(Moment(1_000_000_000));
-    if is_added {
-        assert_equal(&rt, pool.add(7), Ok(()));
+}
+
+impl<R: Runtime + Abort> Trial<R, Server> for PolledAtTheDeadline {
+    type Outcome = Result<(), Fail>;
+
+    fn run<P: Handle<Server>, D: DriverCalls + Drop>(
+        self,
+        rt: R,
+        tools: &Tools,
+        pool: P,
+        _driver: D,
+    ) -> Result<(), Fail> {
+        let mut get = pool.get();
+        assert!(&rt; pool.poll(&tools.task, &mut get).is_pending());
+        tools.clock.set(Moment(SECOND));
+        if self.is_added {
+            assert!(&rt; pool.add(connection_on(&self.board, 7)?).is_ok());
+        }
+        match pool.poll(&tools.task, &mut get) {
+            Poll::Ready(Ok(guard)) => assert_equal(&rt, (guard.number, self.is_added), (7, true)),
+            polled => assert!(&rt; is_timed_out(&polled) && !self.is_added),
+        }
+        let statistics = pool.state().statistics;
+        assert_equal(&rt, statistics.completed_gets(), 1);
+        assert_equal(&rt, statistics.get_wait_time.as_micros(), 1_000_000);
+        Ok(())
     }
-    match task.poll(&mut get) {
-        Poll::Ready(Ok(guard)) => assert_equal(&rt, (*guard, is_added), (7, true)),
-        Poll::Ready(Err(error)) => assert!(&rt; matches!(error, RunError::TimedOut) && !is_added),
-        Poll::Pending => panic!(&rt; "it waits past its deadline"),
-    }
-    let statistics = pool.state().statistics;
-    assert_equal(&rt, statistics.completed_gets(), 1);
-    assert_equal(&rt, statistics.get_wait_time.as_micros(), 1_000_000);
-    Ok(())
 }
 
 #[test]
 fn tries_before_it_times_out(rt: HostRuntime) -> Result<(), Fail> {
-    polled_at_the_deadline::<HostRuntime, Brand>(rt, Blank::new(2), false)?;
-    polled_at_the_deadline::<HostRuntime, Brand>(rt, Blank::new(2), true)?;
+    for is_added in [false, true] {
+        let board = Board::new(rt.alloc())?;
+        let builder = builder_on(&board)?
+            .max_size(2)
+            .test_on_check_out(false)
+            .connection_timeout(Duration::from_secs(1));
+        let server = server_on(&board)?;
+        let trial = PolledAtTheDeadline { board, is_added };
+        try_on(rt, server, builder, Start::Unchecked, trial)??;
+    }
     Ok(())
 }
 
 /// A get whose deadline is the greatest moment times out there; one that was first polled later has no deadline. After its answer a poll
 /// is pending, and changes nothing.
-fn ends_with_the_clock<R: Runtime, L: PoolParts>(rt: R, blank: Blank) -> Result<(), Memory>
-    requires { IsBlankOf blank (record (unchecked_of 2) { connection_timeout = 1_000_000_000 })
-        L.name L.parts L.settings }
-{
-    let clock = SetClock::new(rt.alloc(), Moment(18_446_744_072_709_551_615))?;
-    let pool: NumberPool<R, L> = build_for_a_second(rt, &clock, blank)?;
-    let Ok(task) = MockTask::new(&rt) else {
-        return Err(Memory);
-    };
-    let mut get = pool.get();
-    assert!(&rt; task.poll(&mut get).is_pending());
-    clock.set(Moment(18_446_744_073_709_551_605));
-    let mut endless = pool.get();
-    assert!(&rt; task.poll(&mut endless).is_pending());
-    clock.set(Moment(18_446_744_073_709_551_615));
-    assert!(&rt; matches!(task.poll(&mut get), Poll::Ready(Err(RunError::TimedOut))));
-    assert!(&rt; task.poll(&mut endless).is_pending());
-    let before = pool.state();
-    assert!(&rt; task.poll(&mut get).is_pending());
-    get.cancel();
-    assert_equal(&rt, pool.state(), before);
-    assert_equal(&rt, before.statistics.get_timed_out, 1);
-    assert_equal(&rt, before.statistics.pending_gets(), 1);
-    Ok(())
+#[derive(Drop)]
+struct EndsWithTheClock;
+
+impl<R: Runtime + Abort> Trial<R, Server> for EndsWithTheClock {
+    type Outcome = ();
+
+    fn run<P: Handle<Server>, D: DriverCalls + Drop>(
+        self,
+        rt: R,
+        tools: &Tools,
+        pool: P,
+        _driver: D,
+    ) {
+        let task = &tools.task;
+        tools.clock.set(Moment(18_446_744_072_709_551_615));
+        let mut get = pool.get();
+        assert!(&rt; pool.poll(task, &mut get).is_pending());
+        tools.clock.set(Moment(18_446_744_073_709_551_605));
+        let mut endless = pool.get();
+        assert!(&rt; pool.poll(task, &mut endless).is_pending());
+        tools.clock.set(Moment(18_446_744_073_709_551_615));
+        assert!(&rt; is_timed_out(&pool.poll(task, &mut get)));
+        assert!(&rt; pool.poll(task, &mut endless).is_pending());
+        let before = pool.state();
+        assert!(&rt; pool.poll(task, &mut get).is_pending());
+        pool.cancel(get);
+        assert_equal(&rt, pool.state(), before);
+        assert_equal(&rt, before.statistics.get_timed_out, 1);
+        assert_equal(&rt, before.statistics.pending_gets(), 1);
+    }
 }
 
 #[test]
 fn waits_at_the_end_of_the_clock(rt: HostRuntime) -> Result<(), Fail> {
-    ends_with_the_clock::<HostRuntime, Brand>(rt, Blank::new(2))?;
-    Ok(())
+    let board = Board::new(rt.alloc())?;
+    let builder = builder_on(&board)?
+        .max_size(2)
+        .test_on_check_out(false)
+        .connection_timeout(Duration::from_secs(1));
+    Ok(try_on(rt, server_on(&board)?, builder, Start::Unchecked, EndsWithTheClock)?)
 }

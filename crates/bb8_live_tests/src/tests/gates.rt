@@ -1,15 +1,17 @@
 //! A manager is asked about a connection while the pool answers another thread: no call of it is made under the lock.
 ghost use Rattle.bb8.specs.Parts.{IsBlankOf, unchecked_of};
 
-use super::{Refused, Runtime, assert_equal};
+use super::{Refused, assert_equal};
 use bb8::{
     Builder, ManageConnection, Memory, Moment, NopCustomizer, NopErrorSink, Pool, PoolCalls,
     PoolParts, SetClock,
 };
+use bb8_trials::Runtime;
 use futures::executor::block_on;
 use futures::task::Poll;
 use std::alloc::Global;
 use std::marker::Brand;
+use std::process::Abort;
 use std::sync::Arc;
 use std::sync::atomic::{AtomicU64, Ordering};
 use std::sync::ledger::Blank;
@@ -98,13 +100,13 @@ trait Jobs {
 
 /// A pool of one connection.
 #[derive(Drop)]
-struct AtGate<'a, R: Runtime, L: PoolParts> {
+struct AtGate<'a, R: Runtime + Abort, L: PoolParts> {
     pool: &'a GatePool<R, L>,
     gate: Arc<AtomicU64, Global>,
     rt: R,
 }
 
-impl<R: Runtime, L: PoolParts> Jobs for AtGate<'_, R, L> {
+impl<R: Runtime + Abort, L: PoolParts> Jobs for AtGate<'_, R, L> {
     fn give_back(&self) -> bool {
         let Ok(Ok(guard)) = block_on(&self.rt, PoolCalls::get(self.pool)) else {
             return false;
@@ -130,7 +132,7 @@ fn both(rt: &impl Threads, jobs: &(impl Jobs + Sync)) -> (bool, bool) {
 }
 
 /// One thread drops a guard, and waits in the manager's `has_broken` until the other thread has got the pool's state.
-fn answers_meanwhile<R: Runtime + Threads, L: PoolParts>(rt: R, blank: Blank) -> Result<(), Memory>
+fn answers_meanwhile<R: Runtime + Abort + Threads, L: PoolParts>(rt: R, blank: Blank) -> Result<(), Memory>
     requires { IsBlankOf blank (unchecked_of 1) L.name L.parts L.settings }
 {
     let clock = SetClock::new(rt.alloc(), Moment(0))?;

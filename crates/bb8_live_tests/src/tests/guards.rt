@@ -1,17 +1,19 @@
 //! A list of guards.
 ghost use Rattle.bb8.specs.Parts.{IsBlankOf, unchecked_of};
 
-use super::{NumberPool, Runtime, SlowManager, assert_equal};
+use super::{NumberPool, SlowManager, assert_equal};
 use bb8::{Builder, Guards, Moment, PoolParts, SetClock};
+use bb8_trials::Runtime;
 use futures::task::Poll;
 use futures::test::MockTask;
 use std::marker::Brand;
+use std::process::Abort;
 use std::sync::ledger::Blank;
 use std::test::Fail;
 
 /// Three guards go into a list. The first is taken out and closes the row, one is changed in its place, and the drop of the list gives back
 /// what is left.
-fn gathers<R: Runtime, L: PoolParts>(rt: R, blank: Blank) -> Result<(), Fail>
+fn gathers<R: Runtime + Abort, L: PoolParts>(rt: R, blank: Blank) -> Result<(), Fail>
     requires { IsBlankOf blank (unchecked_of 3) L.name L.parts L.settings }
 {
     let clock = SetClock::new(rt.alloc(), Moment(0))?;

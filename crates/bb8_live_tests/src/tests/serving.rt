@@ -1,11 +1,13 @@
 //! A service over a pool: what is called, how often, and under which number.
 ghost use Rattle.std.specs.Prelude.{◌≡◌, Ok, IfOk, length};
 
-use super::{NumberPool, Runtime, SlowManager, assert_equal};
+use super::{NumberPool, SlowManager, assert_equal};
 use bb8::{
     Builder, Memory, Moment, NopCustomizer, NopErrorSink, PoolCalls, PoolParts, Service, SetClock,
 };
+use bb8_trials::Runtime;
 use futures::executor::block_on;
+use std::process::Abort;
 use std::sync::atomic::{AtomicU64, Ordering};
 use std::test::Fail;
 use std::thread::Threads;
@@ -22,7 +24,7 @@ struct Counted<R> {
     ended: AtomicU64,
 }
 
-impl<R: Runtime> Counted<R> {
+impl<R: Runtime + Abort> Counted<R> {
     fn new(rt: R, connection: u64) -> Self {
         Counted {
             rt,
@@ -43,7 +45,7 @@ impl<R: Runtime> Counted<R> {
     }
 }
 
-impl<R: Runtime> Service<SlowManager, NopErrorSink, NopCustomizer, SetClock, R> for Counted<R> {
+impl<R: Runtime + Abort> Service<SlowManager, NopErrorSink, NopCustomizer, SetClock, R> for Counted<R> {
     /// The thread's number, where its get was served.
     type Told = Option<usize>;
 
@@ -77,7 +79,7 @@ impl<R: Runtime> Service<SlowManager, NopErrorSink, NopCustomizer, SetClock, R> 
 }
 
 /// Four threads over a pool of one connection, which is added, so that the pool's driver opens none.
-fn serve_four<R: Runtime + Threads + Clock>(
+fn serve_four<R: Runtime + Abort + Threads + Clock>(
     rt: R,
     service: &Counted<R>,
 ) -> Result<Option<bool>, Memory> {
@@ -109,7 +111,7 @@ fn no_thread_runs_where_the_service_does_not_begin(rt: HostRuntime) -> Result<()
 #[derive(Clone, Copy)]
 struct HowMany;
 
-impl<R: Runtime> Service<SlowManager, NopErrorSink, NopCustomizer, SetClock, R> for HowMany {
+impl<R: Runtime + Abort> Service<SlowManager, NopErrorSink, NopCustomizer, SetClock, R> for HowMany {
     type Told = ();
 
     type Outcome = usize;
@@ -132,7 +134,7 @@ impl<R: Runtime> Service<SlowManager, NopErrorSink, NopCustomizer, SetClock, R> 
 }
 
 /// How many threads ran: the service's own relations tell it to a caller of `serve`.
-fn how_many<R: Runtime + Threads + Clock>(rt: R, threads: usize) -> Result<usize, Memory>
+fn how_many<R: Runtime + Abort + Threads + Clock>(rt: R, threads: usize) -> Result<usize, Memory>
     ensures { IfOk result (λ ran. ran ≡ threads) }
 {
     let clock = SetClock::new(rt.alloc(), Moment(0))?;

@@ -2,15 +2,17 @@
 ghost use Rattle.bb8.specs.Parts.{IsBlankOf, unchecked_of};
 ghost use Rattle.bb8.specs.Settings.{default_settings};
 
-use super::{NumberPool, Refused, Runtime, SlowManager, assert_equal};
+use super::{NumberPool, Refused, SlowManager, assert_equal};
 use bb8::{
     Builder, ManageConnection, Memory, Moment, NopCustomizer, NopErrorSink, Pool, PoolCalls,
     PoolParts, SetClock,
 };
+use bb8_trials::Runtime;
 use futures::executor::block_on;
 use futures::task::Poll;
 use futures::test::MockTask;
 use std::marker::Brand;
+use std::process::Abort;
 use std::sync::ledger::Blank;
 use std::test::Fail;
 use std::thread::{Threads, join};
@@ -23,12 +25,12 @@ trait Job {
 
 /// A thousand gets of the connection 7, each of which is given back before the next.
 #[derive(Drop)]
-struct Rounds<'a, R: Runtime, L: PoolParts> {
+struct Rounds<'a, R: Runtime + Abort, L: PoolParts> {
     pool: &'a NumberPool<R, L>,
     rt: R,
 }
 
-impl<R: Runtime, L: PoolParts> Job for Rounds<'_, R, L> {
+impl<R: Runtime + Abort, L: PoolParts> Job for Rounds<'_, R, L> {
     /// Whether each get was served.
     fn run(&self) -> bool {
         for _ in 0..1000u32 {
@@ -47,7 +49,7 @@ fn twice(rt: &impl Threads, job: &(impl Job + Sync)) -> (bool, bool) {
 }
 
 /// Two threads share a pool of one connection. Each get is served in its turn, and at the end the connection is idle.
-fn shares_one<R: Runtime + Threads, L: PoolParts>(rt: R, blank: Blank) -> Result<(), Memory>
+fn shares_one<R: Runtime + Abort + Threads, L: PoolParts>(rt: R, blank: Blank) -> Result<(), Memory>
     requires { IsBlankOf blank (unchecked_of 1) L.name L.parts L.settings }
 {
     let clock = SetClock::new(rt.alloc(), Moment(0))?;
@@ -122,13 +124,13 @@ type HeldPool<R, L> = Pool<HeldManager, NopErrorSink, NopCustomizer, SetClock, R
 /// A thousand rounds, in each of which the clock moves, a connection is added where there is room, the state is read, a get is let go after
 /// a poll, and one is served, whose connection nobody else may hold.
 #[derive(Drop)]
-struct Mixed<'a, R: Runtime, L: PoolParts> {
+struct Mixed<'a, R: Runtime + Abort, L: PoolParts> {
     pool: &'a HeldPool<R, L>,
     clock: &'a SetClock,
     rt: R,
 }
 
-impl<R: Runtime, L: PoolParts> Job for Mixed<'_, R, L> {
+impl<R: Runtime + Abort, L: PoolParts> Job for Mixed<'_, R, L> {
     /// Whether each connection had one holder at a time, and the state kept its bounds.
     fn run(&self) -> bool {
         let Ok(task) = MockTask::new(&self.rt) else {
@@ -156,7 +158,7 @@ impl<R: Runtime, L: PoolParts> Job for Mixed<'_, R, L> {
 }
 
 /// Two threads share a pool of up to three connections in all that it does. Each connection is checked before it is lent, or none.
-fn shares_all<R: Runtime + Threads, L: PoolParts>(
+fn shares_all<R: Runtime + Abort + Threads, L: PoolParts>(
     rt: R,
     blank: Blank,
     checks: bool,
@@ -200,12 +202,12 @@ fn two_threads_share_all_with_checks(rt: HostRuntime) -> Result<(), Fail> {
 /// A thousand rounds, in each of which a handle is made, a get of that handle's has one of its own, and the handle is dropped before the guard,
 /// whose connection nobody else may hold.
 #[derive(Drop)]
-struct Cloned<'a, R: Runtime, L: PoolParts> {
+struct Cloned<'a, R: Runtime + Abort, L: PoolParts> {
     pool: &'a HeldPool<R, L>,
     rt: R,
 }
 
-impl<R: Runtime, L: PoolParts> Job for Cloned<'_, R, L> {
+impl<R: Runtime + Abort, L: PoolParts> Job for Cloned<'_, R, L> {
     /// Whether each connection had one holder at a time.
     fn run(&self) -> bool {
         for _ in 0..1000u32 {
@@ -227,7 +229,7 @@ impl<R: Runtime, L: PoolParts> Job for Cloned<'_, R, L> {
 }
 
 /// Two threads share a pool of two connections by handles and guards of their own. Each connection is checked before it is lent, or none.
-fn shares_handles<R: Runtime + Threads, L: PoolParts>(
+fn shares_handles<R: Runtime + Abort + Threads, L: PoolParts>(
     rt: R,
     blank: Blank,
     checks: bool,

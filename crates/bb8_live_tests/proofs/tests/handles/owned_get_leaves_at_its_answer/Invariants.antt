@@ -1,8 +1,0 @@
-use Rattle.bb8.specs.Parts.{unchecked_of}
-use Rattle.bb8_live_tests.proofs.tests.handles.owned_get_leaves_at_its_answer.Given as goal
-
-abbrev pub ghosts-leaves_at_its_answer-L-Ledger : goal.ghosts-leaves_at_its_answer-L-Ledger
-ghosts-leaves_at_its_answer-L-Ledger g a = record { name = a.blank.name; parts = a.blank.parts }
-
-abbrev pub ghosts-leaves_at_its_answer-L-Parts : goal.ghosts-leaves_at_its_answer-L-Parts
-ghosts-leaves_at_its_answer-L-Parts g a = record { settings = record (unchecked_of 1) { connection_timeout = 10 } }

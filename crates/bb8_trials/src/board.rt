@@ -1,0 +1,276 @@
+//! A server that is set as a test goes on.
+ghost use Rattle.std.specs.Prelude.{◌≡◌, IfOk};
+ghost use Rattle.bb8.specs.Settings.{default_settings};
+
+use bb8::{Builder, ErrorSink, ManageConnection, Memory, Moment};
+use futures::task::Poll;
+use std::alloc::Global;
+use std::sync::Arc;
+use std::sync::atomic::{AtomicU64, Ordering};
+
+/// One millisecond in nanoseconds.
+pub const MILLI: u64 = 1_000_000;
+
+/// One second in nanoseconds.
+pub const SECOND: u64 = 1_000_000_000;
+
+/// As often as is asked.
+pub const ALWAYS: u64 = u64::MAX;
+
+/// A number that a test shares with its pool.
+#[derive(Drop)]
+pub struct Number {
+    value: AtomicU64,
+}
+
+impl Number {
+    /// This number.
+    pub fn new(value: u64) -> Number {
+        Number {
+            value: AtomicU64::new(value),
+        }
+    }
+
+    pub fn get(&self) -> u64 {
+        self.value.load(Ordering::SeqCst)
+    }
+
+    pub fn set(&self, value: u64) {
+        self.value.store(value, Ordering::SeqCst);
+    }
+
+    /// One more, and what it is then.
+    pub fn count(&self) -> u64 {
+        self.value.fetch_add(1, Ordering::SeqCst).saturating_add(1)
+    }
+
+    /// Whether there is one left; then it is taken, unless they are as many as are asked for.
+    fn take_one(&self) -> bool {
+        let left = self.get();
+        if left != 0 && left != ALWAYS {
+            self.set(left - 1);
+        }
+        left != 0
+    }
+}
+
+/// What comes of each poll of an opening, or of a check.
+#[derive(Clone, Copy, Debug, PartialEq, Eq)]
+pub enum Course {
+    /// It is ready and Ok.
+    Passes,
+    /// It is pending.
+    Lasts,
+    /// It fails.
+    Fails,
+}
+
+/// A course that a test sets.
+#[derive(Drop)]
+pub struct Switch {
+    course: Number,
+}
+
+impl Switch {
+    /// It stands at `Passes`.
+    fn new() -> Switch {
+        Switch {
+            course: Number::new(0),
+        }
+    }
+
+    pub fn set(&self, course: Course) {
+        self.course.set(match course {
+            Course::Passes => 0,
+            Course::Lasts => 1,
+            Course::Fails => 2,
+        });
+    }
+
+    fn get(&self) -> Course {
+        match self.course.get() {
+            0 => Course::Passes,
+            1 => Course::Lasts,
+            _ => Course::Fails,
+        }
+    }
+}
+
+/// How a server answers, and what it has counted. A test and its pool share it.
+#[derive(Drop)]
+pub struct Board {
+    /// Before this moment, in nanoseconds of the pool's clock, each opening is pending.
+    pub ready: Number,
+    /// What comes of openings.
+    pub opening: Switch,
+    /// How many openings pass, where they do; further ones fail.
+    pub opens: Number,
+    /// How many openings fail before that.
+    pub fails: Number,
+    /// What comes of checks.
+    pub check: Switch,
+    /// How often a connection is found broken.
+    pub breaks: Number,
+    /// How many openings were begun.
+    pub begun: Number,
+    /// How many connections were dropped.
+    pub closed: Number,
+    /// How many errors the sink has taken.
+    pub errors: Number,
+}
+
+impl Board {
+    /// A server all of whose openings and checks pass, and whose connections are never broken.
+    pub fn new(alloc: Global) -> Result<Arc<Board, Global>, Memory> {
+        let board = Board {
+            ready: Number::new(0),
+            opening: Switch::new(),
+            opens: Number::new(ALWAYS),
+            fails: Number::new(0),
+            check: Switch::new(),
+            breaks: Number::new(0),
+            begun: Number::new(0),
+            closed: Number::new(0),
+            errors: Number::new(0),
+        };
+        Ok(Arc::new(alloc, board)?)
+    }
+}
+
+/// The same board once more.
+fn share(board: &Arc<Board, Global>) -> Result<Arc<Board, Global>, Memory> {
+    match Arc::try_clone(board) {
+        Ok(board) => Ok(board),
+        Err(_) => Err(Memory),
+    }
+}
+
+/// A server that answers as this board says.
+pub fn server_on(board: &Arc<Board, Global>) -> Result<Server, Memory> {
+    Ok(Server {
+        board: share(board)?,
+    })
+}
+
+/// A builder of pools of a server's connections.
+pub type ServerBuilder = Builder<Server, Errors>;
+
+/// A builder with the defaults, whose pools' errors are counted on the board.
+pub fn builder_on(board: &Arc<Board, Global>) -> Result<ServerBuilder, Memory>
+    ensures { IfOk result (λ builder. builder.settings ≡ default_settings) }
+{
+    Ok(Builder::new().error_sink(Errors {
+        board: share(board)?,
+    }))
+}
+
+/// A connection of this number that no opening brought.
+pub fn connection_on(board: &Arc<Board, Global>, number: u64) -> Result<Connection, Memory> {
+    Ok(Connection {
+        number,
+        checks: 0,
+        field: 0,
+        is_broken: false,
+        board: share(board)?,
+    })
+}
+
+/// A connection, which counts its drop.
+pub struct Connection {
+    /// Which opening brought it, from 1 on, or what a test calls it.
+    pub number: u64,
+    /// How many checks of it were begun.
+    pub checks: u64,
+    /// 0, or what a customizer made of it.
+    pub field: u64,
+    /// Whether it is found broken, besides as often as the board says.
+    pub is_broken: bool,
+    board: Arc<Board, Global>,
+}
+
+impl Drop for Connection {
+    fn drop(self) {
+        let Connection {
+            number: _number,
+            checks: _checks,
+            field: _field,
+            is_broken: _is_broken,
+            board,
+        } = self;
+        board.closed.count();
+    }
+}
+
+/// An opening of this number failed, or, of number 0, a check.
+#[derive(Clone, Copy, Debug, PartialEq, Eq)]
+pub struct Refused(pub u64);
+
+/// Answers as its board says.
+#[derive(Drop)]
+pub struct Server {
+    board: Arc<Board, Global>,
+}
+
+impl ManageConnection for Server {
+    type Connection = Connection;
+
+    type Error = Refused;
+
+    type Connecting = u64;
+
+    type Checking = ();
+
+    fn connect(&self) -> u64 {
+        self.board.begun.count()
+    }
+
+    fn poll_connect(
+        &self,
+        connecting: &mut u64,
+        moment: Moment,
+    ) -> Poll<Result<Connection, Refused>> {
+        let board = &*self.board;
+        let number = *connecting;
+        match board.opening.get() {
+            _ if moment < Moment(board.ready.get()) => Poll::Pending,
+            Course::Lasts => Poll::Pending,
+            Course::Passes if !board.fails.take_one() && board.opens.take_one() => {
+                Poll::Ready(connection_on(&self.board, number).map_err(|_| Refused(number)))
+            }
+            _ => Poll::Ready(Err(Refused(number))),
+        }
+    }
+
+    fn is_valid(&self, connection: &mut Connection) {
+        connection.checks = connection.checks.saturating_add(1);
+    }
+
+    fn poll_valid(
+        &self,
+        _connection: &mut Connection,
+        _checking: &mut (),
+        _moment: Moment,
+    ) -> Poll<Result<(), Refused>> {
+        match self.board.check.get() {
+            Course::Passes => Poll::Ready(Ok(())),
+            Course::Lasts => Poll::Pending,
+            Course::Fails => Poll::Ready(Err(Refused(0))),
+        }
+    }
+
+    fn has_broken(&self, connection: &mut Connection) -> bool {
+        connection.is_broken || self.board.breaks.take_one()
+    }
+}
+
+/// Counts the errors that it takes on its board.
+#[derive(Drop)]
+pub struct Errors {
+    board: Arc<Board, Global>,
+}
+
+impl ErrorSink<Refused> for Errors {
+    fn sink(&self, _error: Refused) {
+        self.board.errors.count();
+    }
+}

@@ -1,0 +1,271 @@
+//! A pool as a trial meets it: calls of which nothing is known.
+//!
+//! A test asserts what it finds, and proves nothing of it. So its body is generic over a handle whose calls have no clauses, and meets none
+//! of the contracts of a live pool. Those are met once, here.
+
+use bb8::get::GetFuture;
+use bb8::owned::GetOwnedFuture;
+use bb8::{
+    AddError, Building, Cancel, Clock, CustomizeConnection, DedicatedFuture, ErrorSink, ManageConnection,
+    OwnedConnection, Pool, PoolCalls, PoolParts, PooledConnection, RunError, State,
+    Turn,
+};
+use futures::task::Poll;
+use futures::test::MockTask;
+use std::ops::DerefMut;
+use std::sync::Wait;
+
+/// What a poll of a get answers.
+pub type Polled<G, E> = Poll<Result<G, RunError<E>>>;
+
+/// Whether a get timed out.
+pub fn is_timed_out<G, E>(polled: &Polled<G, E>) -> bool {
+    matches!(polled, Poll::Ready(Err(RunError::TimedOut)))
+}
+
+/// How many connections a pool has, and how many are idle.
+pub fn sizes(state: State) -> (u32, u32) {
+    (state.connections, state.idle_connections)
+}
+
+/// Whether a turn polled so many tasks, and did not end.
+pub fn is_going(turn: Turn, polled: u64) -> bool {
+    !turn.ended && turn.polled == polled
+}
+
+/// Whether a turn ended, and so polled no task.
+pub fn is_ended(turn: Turn) -> bool {
+    turn.ended && turn.polled == 0
+}
+
+/// A handle of a pool of a manager's connections, by reference.
+pub trait Handle<M: ManageConnection>: Copy {
+    /// A get.
+    type Get: Drop;
+
+    /// What it is served with.
+    type Guard: DerefMut<Target = M::Connection> + Drop;
+
+    /// A get with a handle of its own.
+    type OwnedGet: Drop;
+
+    /// What that is served with.
+    type OwnedGuard: DerefMut<Target = M::Connection> + Drop;
+
+    /// The opening of a connection that the pool does not count.
+    type Dedicated: Drop;
+
+    fn get(self) -> Self::Get;
+
+    fn poll(self, task: &MockTask, get: &mut Self::Get) -> Polled<Self::Guard, M::Error>;
+
+    fn cancel(self, get: Self::Get);
+
+    /// What a get is served with at its first poll. One that would wait is let go.
+    fn lend(self, task: &MockTask) -> Option<Self::Guard>;
+
+    fn get_owned(self) -> Self::OwnedGet;
+
+    fn poll_owned(
+        self,
+        task: &MockTask,
+        get: &mut Self::OwnedGet,
+    ) -> Polled<Self::OwnedGuard, M::Error>;
+
+    fn cancel_owned(self, get: Self::OwnedGet);
+
+    fn dedicated_connection(self) -> Self::Dedicated;
+
+    fn poll_dedicated(
+        self,
+        task: &MockTask,
+        opening: &mut Self::Dedicated,
+    ) -> Poll<Result<M::Connection, M::Error>>;
+
+    fn cancel_dedicated(self, opening: Self::Dedicated);
+
+    fn add(self, connection: M::Connection) -> Result<(), AddError<M::Connection>>;
+
+    fn state(self) -> State;
+}
+
+impl<
+    'a,
+    M: ManageConnection,
+    S: ErrorSink<M::Error>,
+    Z: CustomizeConnection<M::Connection, M::Error>,
+    K: Clock,
+    R: Wait + Send + Sync + Drop + 'static,
+    L: PoolParts,
+> Handle<M> for &'a Pool<M, S, Z, K, R, L> {
+    type Get = GetFuture<'a, M, S, Z, K, R, L>;
+
+    type Guard = PooledConnection<'a, M, S, Z, K, R, L>;
+
+    type OwnedGet = GetOwnedFuture<M, S, Z, K, R, L>;
+
+    type OwnedGuard = OwnedConnection<M, S, Z, K, R, L>;
+
+    type Dedicated = DedicatedFuture<'a, M, S, Z, K, R, L>;
+
+    fn get(self) -> Self::Get {
+        PoolCalls::get(self)
+    }
+
+    fn poll(self, task: &MockTask, get: &mut Self::Get) -> Polled<Self::Guard, M::Error> {
+        task.poll(get)
+    }
+
+    fn cancel(self, get: Self::Get) {
+        Cancel::cancel(get);
+    }
+
+    fn lend(self, task: &MockTask) -> Option<Self::Guard> {
+        match task.poll(&mut PoolCalls::get(self)) {
+            Poll::Ready(Ok(guard)) => Some(guard),
+            _ => None,
+        }
+    }
+
+    fn get_owned(self) -> Self::OwnedGet {
+        PoolCalls::get_owned(self)
+    }
+
+    fn poll_owned(
+        self,
+        task: &MockTask,
+        get: &mut Self::OwnedGet,
+    ) -> Polled<Self::OwnedGuard, M::Error> {
+        task.poll(get)
+    }
+
+    fn cancel_owned(self, get: Self::OwnedGet) {
+        Cancel::cancel(get);
+    }
+
+    fn dedicated_connection(self) -> Self::Dedicated {
+        PoolCalls::dedicated_connection(self)
+    }
+
+    fn poll_dedicated(
+        self,
+        task: &MockTask,
+        opening: &mut Self::Dedicated,
+    ) -> Poll<Result<M::Connection, M::Error>> {
+        task.poll(opening)
+    }
+
+    fn cancel_dedicated(self, opening: Self::Dedicated) {
+        Cancel::cancel(opening);
+    }
+
+    fn add(self, connection: M::Connection) -> Result<(), AddError<M::Connection>> {
+        PoolCalls::add(self, connection)
+    }
+
+    fn state(self) -> State {
+        PoolCalls::state(self)
+    }
+}
+
+/// A handle of a pool, for a trial that drops it and goes on. Its gets have a handle of their own.
+pub trait OwnedHandle<M: ManageConnection>: Drop {
+    /// A get with a handle of its own.
+    type OwnedGet: Drop;
+
+    /// What that is served with.
+    type OwnedGuard: DerefMut<Target = M::Connection> + Drop;
+
+    fn get_owned(&self) -> Self::OwnedGet;
+
+    fn poll_owned(
+        task: &MockTask,
+        get: &mut Self::OwnedGet,
+    ) -> Polled<Self::OwnedGuard, M::Error>;
+
+    fn cancel_owned(get: Self::OwnedGet);
+
+    /// Whether a get that has no handle of its own is served at its first poll.
+    fn serves_at_once(&self, task: &MockTask) -> bool;
+
+    fn add(&self, connection: M::Connection) -> Result<(), AddError<M::Connection>>;
+
+    fn state(&self) -> State;
+
+    fn try_clone(&self) -> Result<Self, RunError<M::Error>>
+    where
+        Self: Sized;
+}
+
+impl<
+    M: ManageConnection,
+    S: ErrorSink<M::Error>,
+    Z: CustomizeConnection<M::Connection, M::Error>,
+    K: Clock,
+    R: Wait + Send + Sync + Drop + 'static,
+    L: PoolParts,
+> OwnedHandle<M> for Pool<M, S, Z, K, R, L> {
+    type OwnedGet = GetOwnedFuture<M, S, Z, K, R, L>;
+
+    type OwnedGuard = OwnedConnection<M, S, Z, K, R, L>;
+
+    fn get_owned(&self) -> Self::OwnedGet {
+        PoolCalls::get_owned(self)
+    }
+
+    fn poll_owned(
+        task: &MockTask,
+        get: &mut Self::OwnedGet,
+    ) -> Polled<Self::OwnedGuard, M::Error> {
+        task.poll(get)
+    }
+
+    fn cancel_owned(get: Self::OwnedGet) {
+        Cancel::cancel(get);
+    }
+
+    fn serves_at_once(&self, task: &MockTask) -> bool {
+        matches!(task.poll(&mut PoolCalls::get(self)), Poll::Ready(Ok(_)))
+    }
+
+    fn add(&self, connection: M::Connection) -> Result<(), AddError<M::Connection>> {
+        PoolCalls::add(self, connection)
+    }
+
+    fn state(&self) -> State {
+        PoolCalls::state(self)
+    }
+
+    fn try_clone(&self) -> Result<Self, RunError<M::Error>> {
+        PoolCalls::try_clone(self)
+    }
+}
+
+/// The building of a pool.
+pub trait Unbuilt<M: ManageConnection>: Drop {
+    /// The pool that it answers.
+    type Pool: OwnedHandle<M>;
+
+    fn poll(&mut self, task: &MockTask) -> Polled<Self::Pool, M::Error>;
+
+    fn cancel(self);
+}
+
+impl<
+    M: ManageConnection,
+    S: ErrorSink<M::Error>,
+    Z: CustomizeConnection<M::Connection, M::Error>,
+    K: Clock,
+    R: Wait + AllocGlobal + Send + Sync + Drop + 'static,
+    L: PoolParts,
+> Unbuilt<M> for Building<M, S, Z, K, R, L> {
+    type Pool = Pool<M, S, Z, K, R, L>;
+
+    fn poll(&mut self, task: &MockTask) -> Polled<Self::Pool, M::Error> {
+        task.poll(self)
+    }
+
+    fn cancel(self) {
+        Cancel::cancel(self);
+    }
+}

@@ -1,0 +1,83 @@
+//! A manager that changes its answers at every call.
+
+use crate::hostile::connection::Counted;
+use crate::hostile::gauge::{Gauge, Token};
+use crate::hostile::source::Source;
+use bb8::{ManageConnection, Moment};
+use futures::task::Poll;
+use std::error::Error;
+use std::fmt;
+
+/// The error of whatever a source says shall fail, with a number from it.
+#[derive(Clone, Copy, Debug, PartialEq, Eq)]
+pub struct Refused(pub u64);
+
+impl fmt::Display for Refused {
+    fn fmt<W: fmt::Write>(&self, f: &mut fmt::Formatter<W>) -> fmt::Result {
+        write!(f, "refused {}", self.0)
+    }
+}
+
+impl Error for Refused {}
+
+/// Opens, checks and breaks connections as its source says: of an opening and of a check each poll is pending in half of the cases, and
+/// fails in a quarter or an eighth of them, and of `one_in` connections that it is asked about one is broken. Nothing that it answers
+/// depends on the connection or on the moment.
+#[derive(Drop)]
+pub struct HostileManager {
+    pub(crate) source: Source,
+    pub(crate) connections: Gauge,
+    pub(crate) openings: Gauge,
+    pub(crate) checks: Gauge,
+    pub(crate) one_in: u64,
+    pub(crate) life: Token,
+}
+
+impl ManageConnection for HostileManager {
+    type Connection = Counted;
+
+    type Error = Refused;
+
+    type Connecting = Token;
+
+    type Checking = Token;
+
+    fn connect(&self) -> Token {
+        self.openings.token()
+    }
+
+    fn poll_connect(
+        &self,
+        _connecting: &mut Token,
+        _moment: Moment,
+    ) -> Poll<Result<Counted, Refused>> {
+        match self.source.below(4) {
+            0 => Poll::Ready(Ok(Counted::new(&self.connections))),
+            1 => Poll::Ready(Err(Refused(self.source.next()))),
+            _ => Poll::Pending,
+        }
+    }
+
+    fn is_valid(&self, _connection: &mut Counted) -> Token {
+        self.checks.token()
+    }
+
+    fn poll_valid(
+        &self,
+        _connection: &mut Counted,
+        _checking: &mut Token,
+        _moment: Moment,
+    ) -> Poll<Result<(), Refused>> {
+        match self.source.below(8) {
+            0..=2 => Poll::Ready(Ok(())),
+            3 => Poll::Ready(Err(Refused(self.source.next()))),
+            _ => Poll::Pending,
+        }
+    }
+
+    /// Who asks has the connection back from whoever held it.
+    fn has_broken(&self, connection: &mut Counted) -> bool {
+        connection.let_go();
+        self.one_in != 0 && self.source.below(self.one_in) == 0
+    }
+}

@@ -1,0 +1,17 @@
+//! An error sink that counts.
+
+use crate::hostile::gauge::Gauge;
+use crate::hostile::manager::Refused;
+use bb8::ErrorSink;
+
+/// Counts the errors that it takes.
+#[derive(Drop)]
+pub struct HostileSink {
+    pub(crate) errors: Gauge,
+}
+
+impl ErrorSink<Refused> for HostileSink {
+    fn sink(&self, _error: Refused) {
+        drop(self.errors.token());
+    }
+}
