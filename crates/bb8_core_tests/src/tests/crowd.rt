@@ -173,6 +173,7 @@ fn steps_tell_what_they_lent(rt: HostRuntime) {
     assert_lent(&rt, &pool, 0);
 }
 
+/// 25,000 gets wait for three connections, and whoever is notified tries, is served and returns (upstream's test_lots_of_waiters).
 #[test]
 fn crowd_is_served_over_three_connections(rt: HostRuntime) {
     let mut pool = crowded(&rt, rt.alloc(), 3);
@@ -210,6 +211,7 @@ fn crowd_is_served_over_three_connections(rt: HostRuntime) {
     assert_equal(&rt, state.statistics.pending_gets(), 0);
 }
 
+/// Of 25,000 that wait the first and then every second one are let go; one opening notifies get 1, and its return get 3.
 #[test]
 fn oldest_that_is_left_is_notified(rt: HostRuntime) -> Result<(), Fail> {
     let mut pool = crowded(&rt, rt.alloc(), 1);

@@ -59,6 +59,8 @@ fn crowd(rt: &impl Abort, alloc: Global, old: u64) -> PoolInternals<u64> {
     pool
 }
 
+/// Of 1,000 connections three are out, the oldest, and alone old enough, and a reap closes none; where 40 idle ones are as old, it closes
+/// these.
 #[test]
 fn reap_passes_what_is_out_and_old(rt: HostRuntime) {
     for (old, left) in [(0, 1000), (40, 960)] {
