@@ -1,5 +1,5 @@
-//! Runs worked scripts: standard input has transcripts, each a title and a script with its answers beside it. Each is run, and where one is
-//! answered otherwise, its title, the line, what was wanted there and what was found are written to standard output; then how many there are.
+//! Runs worked scripts: standard input has transcripts, each a title and a script with its answers beside it. Where one is answered
+//! otherwise, its title, the line, what was wanted there and what was found are written to standard output; then how many there are.
 //! The format is in docs/SCRIPTS.md.
 #![tactic(auto)]
 
