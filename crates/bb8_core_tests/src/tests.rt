@@ -2,7 +2,6 @@
 
 use bb8_core::api::{Config, State, Statistics};
 use bb8_core::internals::Grant;
-use bb8_core::replay::{Act, Answer};
 use std::fmt::Debug;
 use std::process::Abort;
 use std::time::Duration;
@@ -15,7 +14,7 @@ mod refusals;
 mod replays;
 mod steps;
 mod surface;
-mod waiters;
+mod threads;
 
 /// Ends the test where what was found is not what is wanted, and prints both.
 fn assert_equal<T: PartialEq + Debug + Drop>(rt: &impl Abort, found: T, wanted: T) {
@@ -24,9 +23,6 @@ fn assert_equal<T: PartialEq + Debug + Drop>(rt: &impl Abort, found: T, wanted: 
 
 /// One second in nanoseconds.
 const SECOND: u64 = 1_000_000_000;
-
-/// What happens at a moment in nanoseconds, and what it is to be answered.
-type Line = (u64, Act, Answer);
 
 /// A grant that withholds nothing.
 fn granted(first: u64, count: u32) -> Grant {
@@ -67,30 +63,4 @@ fn served(connections: u32, idle_connections: u32, gets: u64, created: u64) -> S
         idle_connections,
         statistics,
     }
-}
-
-/// The first worked script: three gets are served beside two idle connections, and come back.
-fn first_script() -> [Line; 20] {
-    [
-        (0, Act::Fill(false), Answer::Granted(granted(0, 2))),
-        (0, Act::Claim, Answer::Claimed(Some(0))),
-        (0, Act::Claim, Answer::Claimed(Some(1))),
-        (0, Act::Opened(0), Answer::Entered(0, None)),
-        (0, Act::Opened(1), Answer::Entered(1, None)),
-        (0, Act::Begin, Answer::Begun(0)),
-        (0, Act::Try(0), Answer::Served(0, granted(2, 1))),
-        (0, Act::Claim, Answer::Claimed(Some(2))),
-        (0, Act::Opened(2), Answer::Entered(2, None)),
-        (0, Act::Begin, Answer::Begun(1)),
-        (0, Act::Try(1), Answer::Served(1, granted(3, 1))),
-        (0, Act::Claim, Answer::Claimed(Some(3))),
-        (0, Act::Opened(3), Answer::Entered(3, None)),
-        (0, Act::Begin, Answer::Begun(2)),
-        (0, Act::Try(2), Answer::Served(2, granted(4, 1))),
-        (0, Act::Claim, Answer::Claimed(Some(4))),
-        (0, Act::Opened(4), Answer::Entered(4, None)),
-        (0, Act::PutBack(0, false), Answer::Kept(0, None)),
-        (0, Act::PutBack(1, false), Answer::Kept(1, None)),
-        (0, Act::PutBack(2, false), Answer::Kept(2, None)),
-    ]
 }

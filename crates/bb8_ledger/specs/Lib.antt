@@ -5,3 +5,4 @@ pub mod Table
 pub mod Limits
 pub mod Waits
 pub mod Rows
+pub mod WorkedRows

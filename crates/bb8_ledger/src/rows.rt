@@ -2,7 +2,8 @@
 ghost use Rattle.std.specs.Prelude.{[], ◌∷◌};
 ghost use Rattle.bb8_types.specs.declared.api.configuration.QueueStrategy.TheVariants.{Lifo};
 ghost use Rattle.bb8_types.specs.Settings.{default_settings};
-ghost use Rattle.bb8_ledger.specs.Rows.{IsRow, IsBackOff, two_opened, three_out, first_script, overtaken, handed_on, oldest_first, newest_first, check_failed, reaped_at_the_limit, moment_goes_back, get_numbers_used_up, numbers_used_up, third_place_refused, third_adding_withheld, added_until_full, returned_unfit, none_left_valid, last_handle_left, waited_five_micros, used_again, idled_out, returned_too_old, cancelled_in_check, returned_after_last_handle, unchecked, connections◌idle◌started◌direct◌waited◌timed_out◌cancelled◌wait_us◌created◌broken◌invalid◌lifetime◌idle_timeout◌};
+ghost use Rattle.bb8_ledger.specs.Rows.{IsRow, IsBackOff, unchecked, connections◌idle◌started◌direct◌waited◌timed_out◌cancelled◌wait_us◌created◌broken◌invalid◌lifetime◌idle_timeout◌};
+ghost use Rattle.bb8_ledger.specs.WorkedRows.{two_opened, three_out, first_script, overtaken, handed_on, oldest_first, newest_first, check_failed, reaped_at_the_limit, moment_goes_back, get_numbers_used_up, numbers_used_up, third_place_refused, third_adding_withheld, added_until_full, returned_unfit, none_left_valid, last_handle_left, waited_five_micros, used_again, idled_out, returned_too_old, cancelled_in_check, returned_after_last_handle};
 
 /// Worked rows of the definitions: no code stands behind them. Each clause but the last three says of one row that the whole step table
 /// allows the answers of its lines, from its configuration and first numbers on, and that the state shown at the end has these figures.

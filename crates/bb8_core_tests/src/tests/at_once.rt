@@ -14,6 +14,8 @@ fn serve_at_once(rt: &impl Abort, pool: &mut PoolInternals<Link>) -> Option<AtOn
     pool.serve_at_once(NOW)
 }
 
+/// The first get raises the peak and goes by the two steps; the second is served in one step, as get 1 with connection 0; with nothing idle
+/// none is.
 #[test]
 fn succeeds_serving_at_once(rt: HostRuntime) {
     let config = unchecked(1, None);

@@ -1,20 +1,18 @@
 //! Gets that check what they take: each end of a check, and give-ups that hand a connection in.
 ghost use Rattle.std.specs.Prelude.{◌+◌, ◌≤◌};
 
-use super::replays::shown_after;
 use super::steps::{
     Link, NOW, add, begin, checked_err, checked_ok, give_up_held, put_back, taken_by,
 };
-use super::{Line, SECOND, assert_equal, granted, served, unchecked};
+use super::{assert_equal, granted, served};
 use bb8_core::api::{Config, State, Statistics};
 use bb8_core::internals::{
     AddAnswer, BeginAnswer, CheckedErrAnswer, CheckedOkAnswer, GetKey, GiveUpAnswer, PoolInternals,
     PutBackAnswer,
 };
-use bb8_core::replay::{Act, Answer, Event, Reason, fits};
+use bb8_core::replay::{Act, Event, Reason, fits};
 use std::alloc::Global;
 use std::process::Abort;
-use std::test::Fail;
 use std::time::Duration;
 
 /// A pool that checks each connection before it hands it out.
@@ -183,128 +181,4 @@ fn stale_hints_name_the_right_connection(rt: HostRuntime) {
     assert_equal(&rt, (key.number, key.place), (0, red.place));
     let CheckedOkAnswer::Served(key) = checked_ok(&rt, &mut pool, second, 1_000);
     assert_equal(&rt, (key.number, key.place), (1, green.place));
-}
-
-#[test]
-fn succeeds_replay_of_a_broken_invalid_connection(rt: HostRuntime) -> Result<(), Fail> {
-    let lines: [Line; 4] = [
-        (0, Act::Add(false), Answer::Added(0, None)),
-        (0, Act::Begin, Answer::Begun(0)),
-        (0, Act::Try(0), Answer::Taken(0, granted(1, 0))),
-        (
-            0,
-            Act::CheckedErr(0, true),
-            Answer::Closed(0, granted(1, 0), None),
-        ),
-    ];
-    let mut wanted = counted(1, 0, 0, 0);
-    wanted.connections_closed_broken = 1;
-    wanted.connections_closed_invalid = 1;
-    let state = shown_after(&rt, rt.alloc(), Config::default(), &lines)?;
-    assert_equal(&rt, state, shown(0, wanted));
-    Ok(())
-}
-
-/// Two connections serve two gets; then both fail the check of a third get, which waits and times out.
-fn none_left_valid() -> [Line; 20] {
-    [
-        (0, Act::Fill(false), Answer::Granted(granted(0, 2))),
-        (0, Act::Claim, Answer::Claimed(Some(0))),
-        (0, Act::Claim, Answer::Claimed(Some(1))),
-        (0, Act::Opened(0), Answer::Entered(0, None)),
-        (0, Act::Opened(1), Answer::Entered(1, None)),
-        (0, Act::Begin, Answer::Begun(0)),
-        (0, Act::Try(0), Answer::Taken(0, granted(2, 0))),
-        (0, Act::CheckedOk(0), Answer::Served(0, granted(2, 0))),
-        (0, Act::Begin, Answer::Begun(1)),
-        (0, Act::Try(1), Answer::Taken(1, granted(2, 0))),
-        (0, Act::CheckedOk(1), Answer::Served(1, granted(2, 0))),
-        (0, Act::PutBack(0, false), Answer::Kept(0, None)),
-        (0, Act::PutBack(1, false), Answer::Kept(1, None)),
-        (4 * SECOND, Act::Begin, Answer::Begun(2)),
-        (4 * SECOND, Act::Try(2), Answer::Taken(0, granted(2, 0))),
-        (
-            4 * SECOND,
-            Act::CheckedErr(2, false),
-            Answer::Closed(0, granted(2, 1), None),
-        ),
-        (4 * SECOND, Act::Try(2), Answer::Taken(1, granted(3, 0))),
-        (
-            4 * SECOND,
-            Act::CheckedErr(2, false),
-            Answer::Closed(1, granted(3, 1), None),
-        ),
-        (4 * SECOND, Act::Try(2), Answer::Waiting(granted(4, 0))),
-        (
-            5 * SECOND,
-            Act::GiveUp(2, Reason::TimedOut, false),
-            Answer::GaveUp(None),
-        ),
-    ]
-}
-
-#[test]
-fn succeeds_replay_where_no_connection_is_valid(rt: HostRuntime) -> Result<(), Fail> {
-    let config = Config {
-        connection_timeout: Duration::from_secs(1),
-        ..checked(2, Some(2))
-    };
-    let mut wanted = counted(3, 2, 1, 0);
-    wanted.get_wait_time = Duration::from_secs(1);
-    wanted.connections_created = 2;
-    wanted.connections_closed_invalid = 2;
-    let state = shown_after(&rt, rt.alloc(), config, &none_left_valid())?;
-    assert_equal(&rt, state, shown(0, wanted));
-    Ok(())
-}
-
-#[test]
-fn succeeds_replay_of_gets_cancelled_in_their_check(rt: HostRuntime) -> Result<(), Fail> {
-    let lines: [Line; 10] = [
-        (0, Act::Add(false), Answer::Added(0, None)),
-        (0, Act::Begin, Answer::Begun(0)),
-        (0, Act::Try(0), Answer::Taken(0, granted(1, 0))),
-        (0, Act::Begin, Answer::Begun(1)),
-        (0, Act::Try(1), Answer::Waiting(granted(1, 0))),
-        (
-            0,
-            Act::GiveUp(0, Reason::Cancelled, false),
-            Answer::Kept(0, Some(1)),
-        ),
-        (0, Act::CheckedOk(1), Answer::Unfit),
-        (0, Act::Try(1), Answer::Taken(0, granted(1, 0))),
-        (
-            0,
-            Act::GiveUp(1, Reason::Cancelled, true),
-            Answer::Closed(0, granted(1, 0), None),
-        ),
-        (0, Act::GiveUp(1, Reason::Cancelled, true), Answer::Unfit),
-    ];
-    let mut wanted = counted(2, 0, 0, 2);
-    wanted.connections_closed_broken = 1;
-    let state = shown_after(&rt, rt.alloc(), checked(1, None), &lines)?;
-    assert_equal(&rt, state.statistics.pending_gets(), 0);
-    assert_equal(&rt, state, shown(0, wanted));
-    Ok(())
-}
-
-#[test]
-fn succeeds_replay_of_a_return_after_the_last_handle(rt: HostRuntime) -> Result<(), Fail> {
-    let lines: [Line; 8] = [
-        (0, Act::Add(false), Answer::Added(0, None)),
-        (0, Act::Join, Answer::Joined),
-        (0, Act::Begin, Answer::Begun(0)),
-        (0, Act::Try(0), Answer::Served(0, granted(1, 0))),
-        (0, Act::Leave, Answer::Left(0)),
-        (0, Act::Leave, Answer::Left(0)),
-        (
-            0,
-            Act::PutBack(0, false),
-            Answer::Closed(0, granted(1, 0), None),
-        ),
-        (0, Act::Join, Answer::Unfit),
-    ];
-    let state = shown_after(&rt, rt.alloc(), unchecked(1, None), &lines)?;
-    assert_equal(&rt, state, served(0, 0, 1, 0));
-    Ok(())
 }

@@ -1,8 +1,7 @@
 //! Twenty-five thousand gets that wait: who is notified, what is counted, and that no step lends more than four entries.
 
-use super::waiters::figures;
 use super::{assert_equal, granted, unchecked};
-use bb8_core::api::Moment;
+use bb8_core::api::{Moment, State};
 use bb8_core::internals::{
     BeginAnswer, ClaimAnswer, GetKey, GiveUpAnswer, Grant, Key, OpenedAnswer, PoolInternals,
     PutBackAnswer, Reason, TryAnswer,
@@ -15,6 +14,27 @@ const NOW: Moment = Moment(0);
 
 /// How many gets wait.
 const CROWD: u32 = 25_000;
+
+/// What a pool tells, in the order in which a state is printed: connections, idle, started, direct, waited, timed out, cancelled, the
+/// wait time in nanoseconds, created, closed as broken, as invalid, by lifetime, by idle timeout.
+fn figures(state: &State) -> [u128; 13] {
+    let statistics = &state.statistics;
+    [
+        state.connections as u128,
+        state.idle_connections as u128,
+        statistics.get_started as u128,
+        statistics.get_direct as u128,
+        statistics.get_waited as u128,
+        statistics.get_timed_out as u128,
+        statistics.get_cancelled as u128,
+        statistics.get_wait_time.as_nanos(),
+        statistics.connections_created as u128,
+        statistics.connections_closed_broken as u128,
+        statistics.connections_closed_invalid as u128,
+        statistics.connections_closed_max_lifetime as u128,
+        statistics.connections_closed_idle_timeout as u128,
+    ]
+}
 
 /// Asserts that the step that was made lent at most four entries.
 fn assert_few(rt: &impl Abort, pool: &PoolInternals<u32>) {
@@ -153,6 +173,7 @@ fn steps_tell_what_they_lent(rt: HostRuntime) {
     assert_lent(&rt, &pool, 0);
 }
 
+/// 25,000 gets wait for three connections, and whoever is notified tries, is served and returns (upstream's test_lots_of_waiters).
 #[test]
 fn crowd_is_served_over_three_connections(rt: HostRuntime) {
     let mut pool = crowded(&rt, rt.alloc(), 3);
@@ -190,6 +211,7 @@ fn crowd_is_served_over_three_connections(rt: HostRuntime) {
     assert_equal(&rt, state.statistics.pending_gets(), 0);
 }
 
+/// Of 25,000 that wait the first and then every second one are let go; one opening notifies get 1, and its return get 3.
 #[test]
 fn oldest_that_is_left_is_notified(rt: HostRuntime) -> Result<(), Fail> {
     let mut pool = crowded(&rt, rt.alloc(), 1);

@@ -4,7 +4,7 @@
 use super::steps::{
     Link, NOW, add, begin, failed, give_up, join, leave, opened, put_back, try_get,
 };
-use super::{assert_equal, first_script, unchecked};
+use super::{assert_equal, unchecked};
 use bb8_core::internals::{
     AddAnswer, BeginAnswer, ClaimAnswer, FailedAnswer, GetKey, GiveUpAnswer, Grant, JoinAnswer,
     LeaveAnswer, OpenedAnswer, PoolInternals, PutBackAnswer, ReapAnswer, Reason, TryAnswer,
@@ -423,9 +423,35 @@ fn assert_allowed(rt: &impl Abort, watch: &mut Watch, pool: &mut PoolInternals<L
     watch.assert_whole(rt, pool);
 }
 
+/// The first worked script: three gets are served beside two idle connections, and come back.
+fn first_script() -> [Act; 20] {
+    [
+        Act::Fill(false),
+        Act::Claim,
+        Act::Claim,
+        Act::Opened(0),
+        Act::Opened(1),
+        Act::Begin,
+        Act::Try(0),
+        Act::Claim,
+        Act::Opened(2),
+        Act::Begin,
+        Act::Try(1),
+        Act::Claim,
+        Act::Opened(3),
+        Act::Begin,
+        Act::Try(2),
+        Act::Claim,
+        Act::Opened(4),
+        Act::PutBack(0, false),
+        Act::PutBack(1, false),
+        Act::PutBack(2, false),
+    ]
+}
+
 /// Runs the first worked script.
 fn run_script(rt: &impl Abort, watch: &mut Watch, pool: &mut PoolInternals<Link>) {
-    for (_, act, _) in first_script() {
+    for act in first_script() {
         assert_allowed(rt, watch, pool, act);
     }
 }
@@ -472,7 +498,7 @@ fn refused_memory_loses_no_connection(rt: HostRuntime) {
 fn refused_memory_in_a_replay(rt: HostRuntime) {
     let config = unchecked(5, Some(2));
     assert!(rt; config.is_lawful());
-    let events = first_script().map(|(_, act, _)| Event { at: NOW, act });
+    let events = first_script().map(|act| Event { at: NOW, act });
     let Ok((answers, mut pool)) = replay(rt.alloc(), config, &events) else {
         return;
     };

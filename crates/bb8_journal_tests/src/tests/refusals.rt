@@ -134,6 +134,7 @@ fn plays_rounds<R: Wait + Abort + AllocGlobal, L: Recorded>(rt: &R, config: Conf
     assert_equal(&rt, audit(&entries, &notes), missing(&notes) == 0);
 }
 
+/// Begins, tries, returns and gives-up while any one request for memory is refused.
 #[test]
 fn ending_events_have_room(rt: HostRuntime) {
     let config = unchecked(3, Some(1));

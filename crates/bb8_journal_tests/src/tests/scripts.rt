@@ -68,6 +68,7 @@ fn number_after(text: &str, word: &str) -> Option<u64> {
     words.next()?.parse().ok()
 }
 
+/// The first script in one thread: 20 entries, `audit yes`, and its state line.
 #[test]
 fn succeeds_first_script_in_one_thread(rt: HostRuntime) -> Result<(), Fail> {
     let (verdict, told) = run(&rt, 1, FIRST_SCRIPT)?;
@@ -76,6 +77,7 @@ fn succeeds_first_script_in_one_thread(rt: HostRuntime) -> Result<(), Fail> {
     Ok(())
 }
 
+/// In 4 and 64 threads: 20 entries, `audit yes`, at most 5 connections, and idle at most connections.
 #[test]
 fn first_script_in_many_threads(rt: HostRuntime) -> Result<(), Fail> {
     for threads in [4, 64] {
@@ -147,6 +149,7 @@ fn asked(alloc: Global, words: &[&str]) -> Result<Option<Mode>, AllocError> {
     Ok(arguments(&list))
 }
 
+/// `threads` with 0, 65 or 04 is none that the program takes.
 #[test]
 fn judges_arguments(rt: HostRuntime) -> Result<(), Fail> {
     let alloc = rt.alloc();

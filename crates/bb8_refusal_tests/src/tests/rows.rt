@@ -248,6 +248,8 @@ fn is_third_place_withheld(rt: &impl Abort, row: &mut Row) -> Option<bool> {
     Some(is_row)
 }
 
+/// The row `third_adding_withheld`: two connections are added, one is served and comes back broken, and a third is added, for which there
+/// is room below the peak; a fourth is withheld where its request for memory is refused, and added at the next ask.
 #[test]
 fn adding_is_withheld_past_the_peak_alone(rt: HostRuntime) {
     let mut row = Row::new(&rt, rt.alloc(), 3, None);
@@ -255,6 +257,7 @@ fn adding_is_withheld_past_the_peak_alone(rt: HostRuntime) {
     tell(&rt, &row, is_row);
 }
 
+/// With the request for the third place refused, the row `third_place_refused`.
 #[test]
 fn third_place_is_granted_at_the_next_ask(rt: HostRuntime) {
     let mut row = Row::new(&rt, rt.alloc(), 5, Some(2));

@@ -63,6 +63,8 @@ fn begins(rt: &impl Abort, pool: &mut PoolInternals<Vast>) -> GetKey {
     panic!(rt; "no get began");
 }
 
+/// A grant of nearly 4,294,967,295 is withheld, two connections are added one by one, and once one of them is closed one approval is
+/// granted, below the peak.
 #[test]
 fn vast_grants_are_withheld_past_the_peak(rt: HostRuntime) {
     let config = Config {

@@ -140,6 +140,7 @@ pub(super) fn sizes(pool: &mut PoolInternals<u64>) -> (u32, u32) {
     (state.connections, state.idle_connections)
 }
 
+/// The five tries of five seconds, each error in one answer, and then the approval is granted again.
 #[test]
 fn opening_that_always_fails(rt: HostRuntime) {
     let config = one_in_five_seconds();

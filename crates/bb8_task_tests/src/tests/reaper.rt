@@ -68,6 +68,7 @@ fn assert_due(rt: &impl Abort, reaper: &Reaper, halves: u64) {
     );
 }
 
+/// One reap for all missed ticks, and then the next due moment; over a home that counts its reaps.
 #[test]
 fn one_reap_for_all_missed_ticks(rt: HostRuntime) {
     let mut home = Counting {

@@ -86,6 +86,8 @@ fn waits_double_up_to_half_the_timeout(rt: HostRuntime) {
     );
 }
 
+/// Polled when due, a timeout of 1 s, 30 s and 100 ms has 4, 8 and 4 tries: its waits double up to half of it (0.4, 0.5, 0.5 s; 0.4 to
+/// 12.8, 15 s; 50, 50, 50 ms).
 #[test]
 fn polls_when_due_reach_the_bound(rt: HostRuntime) {
     let alloc = rt.alloc();
@@ -118,6 +120,7 @@ fn polls_when_due_reach_the_bound(rt: HostRuntime) {
     );
 }
 
+/// Five seconds have five tries, at 0, 0.4, 1.2, 2.8 and 5.3 s.
 #[test]
 fn five_seconds_have_five_tries(rt: HostRuntime) {
     assert_tries_each(
@@ -128,6 +131,7 @@ fn five_seconds_have_five_tries(rt: HostRuntime) {
     );
 }
 
+/// Moments that go back count as the latest one, and a poll a nanosecond before the due moment waits.
 #[test]
 fn moments_may_go_back(rt: HostRuntime) {
     let polls = [
@@ -149,6 +153,7 @@ fn moments_may_go_back(rt: HostRuntime) {
     assert_replays(&rt, rt.alloc(), 1000 * MILLI, &polls, &answers, 3);
 }
 
+/// With a timeout of 1 ns, whose waits are zero, each of 1,000 polls at 0 tries, and one at 2 ns fails.
 #[test]
 fn half_a_nanosecond_has_no_bound(rt: HostRuntime) {
     let mut polls = Vec::new(rt.alloc());
@@ -165,6 +170,7 @@ fn half_a_nanosecond_has_no_bound(rt: HostRuntime) {
     assert_replays(&rt, rt.alloc(), 1, &polls, &answers, 2);
 }
 
+/// What would be due past the greatest moment is never due.
 #[test]
 fn due_past_the_greatest_moment_is_never(rt: HostRuntime) {
     let polls = [
@@ -175,6 +181,7 @@ fn due_past_the_greatest_moment_is_never(rt: HostRuntime) {
     assert_replays(&rt, rt.alloc(), 1000 * MILLI, &polls, &answers, 1);
 }
 
+/// Without retry the first failure is the last.
 #[test]
 fn no_retry_fails_at_once(rt: HostRuntime) -> Result<(), Fail> {
     let polls = [(Moment(0), Reply::Err), (Moment(0), Reply::Err)];
@@ -185,6 +192,7 @@ fn no_retry_fails_at_once(rt: HostRuntime) -> Result<(), Fail> {
     Ok(())
 }
 
+/// An opening that is under way is one try, however long.
 #[test]
 fn opening_under_way_is_one_try(rt: HostRuntime) {
     let polls = [
@@ -222,6 +230,7 @@ fn assert_bounded(rt: &impl Abort, alloc: Global, timeout: u64, step: u64, most:
     assert!(rt; replayed.tries > 1);
 }
 
+/// 5,000 polls at moments that jump at will keep 4, 8 and 4.
 #[test]
 fn jumping_moments_keep_the_bound(rt: HostRuntime) {
     assert_bounded(&rt, rt.alloc(), 1000 * MILLI, 7 * MILLI, 4);

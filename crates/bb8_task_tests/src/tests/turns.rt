@@ -263,6 +263,8 @@ fn two_of_five() -> Config {
     }
 }
 
+/// A pool of five of which two are to be idle: the first turn polls 2, and there are 2 connections, both idle; the second polls 0; once the
+/// last handle has left each turn polls 0 and has ended.
 #[test]
 fn first_turns(rt: HostRuntime) {
     let mut driven = Driven::new(&rt, rt.alloc(), two_of_five(), Reply::Opens);
@@ -278,6 +280,7 @@ fn first_turns(rt: HostRuntime) {
     assert_equal(&rt, home.reaps, 0);
 }
 
+/// A get waits, and its opening fails: the turn polls 1, one error is in the sink, the approval is given back, and the next turn polls 0.
 #[test]
 fn failing_opening_without_retry(rt: HostRuntime) {
     let config = Config {
@@ -296,6 +299,7 @@ fn failing_opening_without_retry(rt: HostRuntime) {
     let _ = driven.give_back();
 }
 
+/// Two tasks that try again stay, and are due after 0.4 s.
 #[test]
 fn task_that_tries_again_stays(rt: HostRuntime) {
     let mut driven = Driven::new(&rt, rt.alloc(), two_of_five(), Reply::Fails);
@@ -326,6 +330,7 @@ fn what_a_reap_grants_is_opened_in_the_same_turn(rt: HostRuntime) {
     assert_equal(&rt, home.reaps, 1);
 }
 
+/// A pool without limits has no reap.
 #[test]
 fn no_limit_no_reaper(rt: HostRuntime) {
     let config = Config {

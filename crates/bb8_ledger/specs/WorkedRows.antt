@@ -1,0 +1,362 @@
+-- The worked rows: what happens to a pool, line by line, with the answers that were worked out by hand, or that the original gave.
+-- Written by crates/bb8_rows/ledger_rows from crates/bb8_rows/stdin.
+use Rattle.std.specs.Prelude.{true, false, List, [], ◌∷◌, Some, None}
+use Rattle.bb8_ledger.specs.Acts.{Begin, Try, CheckedOk, CheckedErr, GiveUp, PutBack, Fill, Claim, Failed, Add, Reap, Join, Leave, TimedOut, Cancelled}
+use Rattle.bb8_ledger.specs.Answers.{Begun, Exhausted, Served, Taken, Waiting, Kept, Closed, GaveUp, Granted, Claimed, Ended, Entered, Late, GivenBack, Added, Broken, NoCapacity, Withheld, Reaped, Joined, Left, Unfit}
+use Rattle.bb8_ledger.specs.Rows.{Told, ◌▸◌⇒◌, grant◌at◌, opens, returns, adds}
+
+-- two connections are to be idle: the two are opened
+abbrev pub two_opened : List Told
+two_opened =
+    0 ▸ Fill false ⇒ Granted (grant 2 at 0)
+    ∷ 0 ▸ Claim ⇒ Claimed (Some 0)
+    ∷ 0 ▸ Claim ⇒ Claimed (Some 1)
+    ∷ 0 ▸ opens 0 ⇒ Entered 0 None
+    ∷ 0 ▸ opens 1 ⇒ Entered 1 None
+    ∷ []
+
+-- the two are opened and three gets take one each: what is idle is made good each time
+abbrev pub three_out : List Told
+three_out =
+    0 ▸ Fill false ⇒ Granted (grant 2 at 0)
+    ∷ 0 ▸ Claim ⇒ Claimed (Some 0)
+    ∷ 0 ▸ Claim ⇒ Claimed (Some 1)
+    ∷ 0 ▸ opens 0 ⇒ Entered 0 None
+    ∷ 0 ▸ opens 1 ⇒ Entered 1 None
+    ∷ 0 ▸ Begin ⇒ Begun 0
+    ∷ 0 ▸ Try 0 ⇒ Served 0 (grant 1 at 2)
+    ∷ 0 ▸ Claim ⇒ Claimed (Some 2)
+    ∷ 0 ▸ opens 2 ⇒ Entered 2 None
+    ∷ 0 ▸ Begin ⇒ Begun 1
+    ∷ 0 ▸ Try 1 ⇒ Served 1 (grant 1 at 3)
+    ∷ 0 ▸ Claim ⇒ Claimed (Some 3)
+    ∷ 0 ▸ opens 3 ⇒ Entered 3 None
+    ∷ 0 ▸ Begin ⇒ Begun 2
+    ∷ 0 ▸ Try 2 ⇒ Served 2 (grant 1 at 4)
+    ∷ 0 ▸ Claim ⇒ Claimed (Some 4)
+    ∷ 0 ▸ opens 4 ⇒ Entered 4 None
+    ∷ []
+
+-- of three added connections the one idle longest goes out first
+abbrev pub oldest_first : List Told
+oldest_first =
+    0 ▸ adds 0 ⇒ Added 0 None
+    ∷ 0 ▸ adds 1 ⇒ Added 1 None
+    ∷ 0 ▸ adds 2 ⇒ Added 2 None
+    ∷ 0 ▸ Begin ⇒ Begun 0
+    ∷ 0 ▸ Try 0 ⇒ Served 0 (grant 0 at 3)
+    ∷ []
+
+-- of three added connections the one idle last goes out first
+abbrev pub newest_first : List Told
+newest_first =
+    0 ▸ adds 0 ⇒ Added 0 None
+    ∷ 0 ▸ adds 1 ⇒ Added 1 None
+    ∷ 0 ▸ adds 2 ⇒ Added 2 None
+    ∷ 0 ▸ Begin ⇒ Begun 0
+    ∷ 0 ▸ Try 0 ⇒ Served 2 (grant 0 at 3)
+    ∷ []
+
+-- a fourth connection is refused, and a broken one is called broken although the pool is full
+abbrev pub added_until_full : List Told
+added_until_full =
+    0 ▸ Fill false ⇒ Granted (grant 1 at 0)
+    ∷ 0 ▸ Claim ⇒ Claimed (Some 0)
+    ∷ 0 ▸ opens 0 ⇒ Entered 0 None
+    ∷ 0 ▸ adds 1 ⇒ Added 1 None
+    ∷ 0 ▸ adds 2 ⇒ Added 2 None
+    ∷ 0 ▸ adds 3 ⇒ NoCapacity
+    ∷ 0 ▸ Add 3 true ⇒ Broken
+    ∷ []
+
+-- a number that was never given, or is not out, does not come back
+abbrev pub returned_unfit : List Told
+returned_unfit =
+    0 ▸ adds 0 ⇒ Added 0 None
+    ∷ 0 ▸ returns 7 ⇒ Unfit
+    ∷ 0 ▸ returns 0 ⇒ Unfit
+    ∷ 0 ▸ Begin ⇒ Begun 0
+    ∷ 0 ▸ Try 0 ⇒ Served 0 (grant 0 at 1)
+    ∷ 0 ▸ returns 0 ⇒ Kept 0 None
+    ∷ 0 ▸ returns 0 ⇒ Unfit
+    ∷ []
+
+-- a connection that comes back past its lifetime is closed (upstream's test_max_lifetime_reap_on_drop)
+abbrev pub returned_too_old : List Told
+returned_too_old =
+    0 ▸ adds 0 ⇒ Added 0 None
+    ∷ 0 ▸ Begin ⇒ Begun 0
+    ∷ 0 ▸ Try 0 ⇒ Served 0 (grant 0 at 1)
+    ∷ 2_000_000_000 ▸ returns 0 ⇒ Closed 0 (grant 0 at 1) None
+    ∷ []
+
+-- a newer get takes the idle connection from the notified one, which waits again
+abbrev pub overtaken : List Told
+overtaken =
+    0 ▸ Begin ⇒ Begun 0
+    ∷ 0 ▸ Try 0 ⇒ Waiting (grant 1 at 0)
+    ∷ 0 ▸ Claim ⇒ Claimed (Some 0)
+    ∷ 0 ▸ opens 0 ⇒ Entered 0 (Some 0)
+    ∷ 0 ▸ Begin ⇒ Begun 1
+    ∷ 0 ▸ Try 1 ⇒ Served 0 (grant 0 at 1)
+    ∷ 0 ▸ Try 0 ⇒ Waiting (grant 0 at 1)
+    ∷ 0 ▸ returns 0 ⇒ Kept 0 (Some 0)
+    ∷ 0 ▸ Try 0 ⇒ Served 0 (grant 0 at 1)
+    ∷ []
+
+-- a notified get is cancelled, and hands its notification on
+abbrev pub handed_on : List Told
+handed_on =
+    0 ▸ Begin ⇒ Begun 0
+    ∷ 0 ▸ Try 0 ⇒ Waiting (grant 1 at 0)
+    ∷ 0 ▸ Claim ⇒ Claimed (Some 0)
+    ∷ 0 ▸ opens 0 ⇒ Entered 0 (Some 0)
+    ∷ 0 ▸ Try 0 ⇒ Served 0 (grant 0 at 1)
+    ∷ 0 ▸ Begin ⇒ Begun 1
+    ∷ 0 ▸ Try 1 ⇒ Waiting (grant 0 at 1)
+    ∷ 0 ▸ Begin ⇒ Begun 2
+    ∷ 0 ▸ Try 2 ⇒ Waiting (grant 0 at 1)
+    ∷ 0 ▸ returns 0 ⇒ Kept 0 (Some 1)
+    ∷ 0 ▸ GiveUp 1 Cancelled None false ⇒ GaveUp (Some 2)
+    ∷ []
+
+-- a wait of 5999 nanoseconds counts as 5 whole microseconds (upstream's test_state_get_contention)
+abbrev pub waited_five_micros : List Told
+waited_five_micros =
+    0 ▸ Fill false ⇒ Granted (grant 1 at 0)
+    ∷ 0 ▸ Claim ⇒ Claimed (Some 0)
+    ∷ 0 ▸ opens 0 ⇒ Entered 0 None
+    ∷ 0 ▸ Begin ⇒ Begun 0
+    ∷ 0 ▸ Try 0 ⇒ Served 0 (grant 0 at 1)
+    ∷ 0 ▸ Begin ⇒ Begun 1
+    ∷ 0 ▸ Try 1 ⇒ Waiting (grant 0 at 1)
+    ∷ 5_999 ▸ returns 0 ⇒ Kept 0 (Some 1)
+    ∷ 5_999 ▸ Try 1 ⇒ Served 0 (grant 0 at 1)
+    ∷ []
+
+-- what came back is used again, and a second connection is opened only when a get finds none (upstream's test_reuse_on_drop)
+abbrev pub used_again : List Told
+used_again =
+    0 ▸ Begin ⇒ Begun 0
+    ∷ 0 ▸ Try 0 ⇒ Waiting (grant 1 at 0)
+    ∷ 0 ▸ Claim ⇒ Claimed (Some 0)
+    ∷ 0 ▸ opens 0 ⇒ Entered 0 (Some 0)
+    ∷ 0 ▸ Try 0 ⇒ Served 0 (grant 0 at 1)
+    ∷ 0 ▸ returns 0 ⇒ Kept 0 None
+    ∷ 0 ▸ Begin ⇒ Begun 1
+    ∷ 0 ▸ Try 1 ⇒ Served 0 (grant 0 at 1)
+    ∷ 0 ▸ Begin ⇒ Begun 2
+    ∷ 0 ▸ Try 2 ⇒ Waiting (grant 1 at 1)
+    ∷ 0 ▸ Claim ⇒ Claimed (Some 1)
+    ∷ 0 ▸ opens 1 ⇒ Entered 1 (Some 2)
+    ∷ 0 ▸ Try 2 ⇒ Served 1 (grant 0 at 2)
+    ∷ []
+
+-- a check fails, and the connection is broken: it counts as invalid and as broken
+abbrev pub check_failed : List Told
+check_failed =
+    0 ▸ adds 0 ⇒ Added 0 None
+    ∷ 0 ▸ Begin ⇒ Begun 0
+    ∷ 0 ▸ Try 0 ⇒ Taken 0 (grant 0 at 1)
+    ∷ 0 ▸ CheckedErr 0 true ⇒ Closed 0 (grant 0 at 1) None
+    ∷ []
+
+-- both connections fail the check of a third get, which waits and times out (upstream's test_now_invalid)
+abbrev pub none_left_valid : List Told
+none_left_valid =
+    0 ▸ Fill false ⇒ Granted (grant 2 at 0)
+    ∷ 0 ▸ Claim ⇒ Claimed (Some 0)
+    ∷ 0 ▸ Claim ⇒ Claimed (Some 1)
+    ∷ 0 ▸ opens 0 ⇒ Entered 0 None
+    ∷ 0 ▸ opens 1 ⇒ Entered 1 None
+    ∷ 0 ▸ Begin ⇒ Begun 0
+    ∷ 0 ▸ Try 0 ⇒ Taken 0 (grant 0 at 2)
+    ∷ 0 ▸ CheckedOk 0 ⇒ Served 0 (grant 0 at 2)
+    ∷ 0 ▸ Begin ⇒ Begun 1
+    ∷ 0 ▸ Try 1 ⇒ Taken 1 (grant 0 at 2)
+    ∷ 0 ▸ CheckedOk 1 ⇒ Served 1 (grant 0 at 2)
+    ∷ 0 ▸ returns 0 ⇒ Kept 0 None
+    ∷ 0 ▸ returns 1 ⇒ Kept 1 None
+    ∷ 4_000_000_000 ▸ Begin ⇒ Begun 2
+    ∷ 4_000_000_000 ▸ Try 2 ⇒ Taken 0 (grant 0 at 2)
+    ∷ 4_000_000_000 ▸ CheckedErr 2 false ⇒ Closed 0 (grant 1 at 2) None
+    ∷ 4_000_000_000 ▸ Try 2 ⇒ Taken 1 (grant 0 at 3)
+    ∷ 4_000_000_000 ▸ CheckedErr 2 false ⇒ Closed 1 (grant 1 at 3) None
+    ∷ 4_000_000_000 ▸ Try 2 ⇒ Waiting (grant 0 at 4)
+    ∷ 5_000_000_000 ▸ GiveUp 2 TimedOut None false ⇒ GaveUp None
+    ∷ []
+
+-- a get is let go while it checks, and the waiter takes its connection; that one is let go with a broken one
+abbrev pub cancelled_in_check : List Told
+cancelled_in_check =
+    0 ▸ adds 0 ⇒ Added 0 None
+    ∷ 0 ▸ Begin ⇒ Begun 0
+    ∷ 0 ▸ Try 0 ⇒ Taken 0 (grant 0 at 1)
+    ∷ 0 ▸ Begin ⇒ Begun 1
+    ∷ 0 ▸ Try 1 ⇒ Waiting (grant 0 at 1)
+    ∷ 0 ▸ GiveUp 0 Cancelled (Some 0) false ⇒ Kept 0 (Some 1)
+    ∷ 0 ▸ Try 1 ⇒ Taken 0 (grant 0 at 1)
+    ∷ 0 ▸ GiveUp 1 Cancelled (Some 0) true ⇒ Closed 0 (grant 0 at 1) None
+    ∷ []
+
+-- the last handle goes: ten idle connections end, the eleventh comes too late, and a reap ends as a claim does
+abbrev pub last_handle_left : List Told
+last_handle_left =
+    0 ▸ Fill false ⇒ Granted (grant 11 at 0)
+    ∷ 0 ▸ Claim ⇒ Claimed (Some 0)
+    ∷ 0 ▸ Claim ⇒ Claimed (Some 1)
+    ∷ 0 ▸ Claim ⇒ Claimed (Some 2)
+    ∷ 0 ▸ Claim ⇒ Claimed (Some 3)
+    ∷ 0 ▸ Claim ⇒ Claimed (Some 4)
+    ∷ 0 ▸ Claim ⇒ Claimed (Some 5)
+    ∷ 0 ▸ Claim ⇒ Claimed (Some 6)
+    ∷ 0 ▸ Claim ⇒ Claimed (Some 7)
+    ∷ 0 ▸ Claim ⇒ Claimed (Some 8)
+    ∷ 0 ▸ Claim ⇒ Claimed (Some 9)
+    ∷ 0 ▸ Claim ⇒ Claimed (Some 10)
+    ∷ 0 ▸ opens 0 ⇒ Entered 0 None
+    ∷ 0 ▸ opens 1 ⇒ Entered 1 None
+    ∷ 0 ▸ opens 2 ⇒ Entered 2 None
+    ∷ 0 ▸ opens 3 ⇒ Entered 3 None
+    ∷ 0 ▸ opens 4 ⇒ Entered 4 None
+    ∷ 0 ▸ opens 5 ⇒ Entered 5 None
+    ∷ 0 ▸ opens 6 ⇒ Entered 6 None
+    ∷ 0 ▸ opens 7 ⇒ Entered 7 None
+    ∷ 0 ▸ opens 8 ⇒ Entered 8 None
+    ∷ 0 ▸ opens 9 ⇒ Entered 9 None
+    ∷ 0 ▸ Leave ⇒ Left 10
+    ∷ 0 ▸ opens 10 ⇒ Late 10
+    ∷ 0 ▸ Reap ⇒ Ended
+    ∷ 0 ▸ Claim ⇒ Ended
+    ∷ 0 ▸ Begin ⇒ Unfit
+    ∷ []
+
+-- both handles go while a connection is out: it is closed as it comes back and counts nowhere, and no handle joins
+abbrev pub returned_after_last_handle : List Told
+returned_after_last_handle =
+    0 ▸ adds 0 ⇒ Added 0 None
+    ∷ 0 ▸ Join ⇒ Joined
+    ∷ 0 ▸ Begin ⇒ Begun 0
+    ∷ 0 ▸ Try 0 ⇒ Served 0 (grant 0 at 1)
+    ∷ 0 ▸ Leave ⇒ Left 0
+    ∷ 0 ▸ Leave ⇒ Left 0
+    ∷ 0 ▸ returns 0 ⇒ Closed 0 (grant 0 at 1) None
+    ∷ 0 ▸ Join ⇒ Unfit
+    ∷ []
+
+-- both limits are one second: a reap closes nothing before, the connection at the second, and nothing twice (upstream's test_conn_is_expired)
+abbrev pub reaped_at_the_limit : List Told
+reaped_at_the_limit =
+    0 ▸ adds 0 ⇒ Added 0 None
+    ∷ 999_999_999 ▸ Reap ⇒ Reaped 0 0 0 (grant 0 at 1)
+    ∷ 1_000_000_000 ▸ Reap ⇒ Reaped 1 1 1 (grant 0 at 1)
+    ∷ 1_000_000_000 ▸ Reap ⇒ Reaped 0 0 0 (grant 0 at 1)
+    ∷ []
+
+-- a moment goes back: the return counts as one at ten seconds
+abbrev pub moment_goes_back : List Told
+moment_goes_back =
+    10_000_000_000 ▸ adds 0 ⇒ Added 0 None
+    ∷ 10_000_000_000 ▸ Begin ⇒ Begun 0
+    ∷ 10_000_000_000 ▸ Try 0 ⇒ Served 0 (grant 0 at 1)
+    ∷ 7_000_000_000 ▸ returns 0 ⇒ Kept 0 None
+    ∷ 10_999_999_999 ▸ Reap ⇒ Reaped 0 0 0 (grant 0 at 1)
+    ∷ 11_000_000_000 ▸ Reap ⇒ Reaped 1 1 0 (grant 0 at 1)
+    ∷ []
+
+-- a reap spares what is out, which idles out a second after its return; failed openings are granted again (upstream's test_idle_timeout)
+abbrev pub idled_out : List Told
+idled_out =
+    0 ▸ Fill false ⇒ Granted (grant 5 at 0)
+    ∷ 0 ▸ Claim ⇒ Claimed (Some 0)
+    ∷ 0 ▸ Claim ⇒ Claimed (Some 1)
+    ∷ 0 ▸ Claim ⇒ Claimed (Some 2)
+    ∷ 0 ▸ Claim ⇒ Claimed (Some 3)
+    ∷ 0 ▸ Claim ⇒ Claimed (Some 4)
+    ∷ 0 ▸ opens 0 ⇒ Entered 0 None
+    ∷ 0 ▸ opens 1 ⇒ Entered 1 None
+    ∷ 0 ▸ opens 2 ⇒ Entered 2 None
+    ∷ 0 ▸ opens 3 ⇒ Entered 3 None
+    ∷ 0 ▸ opens 4 ⇒ Entered 4 None
+    ∷ 0 ▸ Begin ⇒ Begun 0
+    ∷ 0 ▸ Try 0 ⇒ Served 0 (grant 0 at 5)
+    ∷ 1_000_000_000 ▸ Reap ⇒ Reaped 4 4 0 (grant 4 at 5)
+    ∷ 1_000_000_000 ▸ Claim ⇒ Claimed (Some 5)
+    ∷ 1_000_000_000 ▸ Claim ⇒ Claimed (Some 6)
+    ∷ 1_000_000_000 ▸ Claim ⇒ Claimed (Some 7)
+    ∷ 1_000_000_000 ▸ Claim ⇒ Claimed (Some 8)
+    ∷ 2_400_000_000 ▸ Failed 5 ⇒ GivenBack
+    ∷ 2_400_000_000 ▸ Failed 6 ⇒ GivenBack
+    ∷ 2_400_000_000 ▸ Failed 7 ⇒ GivenBack
+    ∷ 2_400_000_000 ▸ Failed 8 ⇒ GivenBack
+    ∷ 2_400_000_000 ▸ returns 0 ⇒ Kept 0 None
+    ∷ 3_400_000_000 ▸ Reap ⇒ Reaped 1 1 0 (grant 5 at 9)
+    ∷ []
+
+-- one get takes the last number that is left, and the next one finds none
+abbrev pub get_numbers_used_up : List Told
+get_numbers_used_up =
+    0 ▸ Begin ⇒ Begun 18_446_744_073_709_551_614
+    ∷ 0 ▸ Begin ⇒ Exhausted
+    ∷ []
+
+-- the approvals that are wanted take the last two numbers: one more is withheld, and so is an adding, but a broken connection is called broken
+abbrev pub numbers_used_up : List Told
+numbers_used_up =
+    0 ▸ Fill false ⇒ Granted (record { first = 18_446_744_073_709_551_613; count = 2; withheld = 1 })
+    ∷ 0 ▸ adds 18_446_744_073_709_551_615 ⇒ Withheld
+    ∷ 0 ▸ Add 18_446_744_073_709_551_615 true ⇒ Broken
+    ∷ 0 ▸ Fill false ⇒ Granted (record { first = 18_446_744_073_709_551_615; count = 0; withheld = 1 })
+    ∷ []
+
+-- memory for the third place is refused: what is wanted is withheld, and granted at the next ask
+abbrev pub third_place_refused : List Told
+third_place_refused =
+    0 ▸ Fill false ⇒ Granted (grant 2 at 0)
+    ∷ 0 ▸ Claim ⇒ Claimed (Some 0)
+    ∷ 0 ▸ Claim ⇒ Claimed (Some 1)
+    ∷ 0 ▸ opens 0 ⇒ Entered 0 None
+    ∷ 0 ▸ opens 1 ⇒ Entered 1 None
+    ∷ 0 ▸ Begin ⇒ Begun 0
+    ∷ 0 ▸ Try 0 ⇒ Served 0 (record { first = 2; count = 0; withheld = 1 })
+    ∷ 0 ▸ Begin ⇒ Begun 1
+    ∷ 0 ▸ Try 1 ⇒ Served 1 (grant 2 at 2)
+    ∷ []
+
+-- there were two connections once: a second one needs no memory, but a third one does, which is added at the next ask
+abbrev pub third_adding_withheld : List Told
+third_adding_withheld =
+    0 ▸ adds 0 ⇒ Added 0 None
+    ∷ 0 ▸ adds 1 ⇒ Added 1 None
+    ∷ 0 ▸ Begin ⇒ Begun 0
+    ∷ 0 ▸ Try 0 ⇒ Served 0 (grant 0 at 2)
+    ∷ 0 ▸ PutBack 0 0 true ⇒ Closed 0 (grant 0 at 2) None
+    ∷ 0 ▸ adds 2 ⇒ Added 2 None
+    ∷ 0 ▸ adds 3 ⇒ Withheld
+    ∷ 0 ▸ adds 3 ⇒ Added 3 None
+    ∷ []
+
+-- the first script: three gets are served while two connections are kept idle, and all return (upstream's test_min_idle)
+abbrev pub first_script : List Told
+first_script =
+    0 ▸ Fill false ⇒ Granted (grant 2 at 0)
+    ∷ 0 ▸ Claim ⇒ Claimed (Some 0)
+    ∷ 0 ▸ Claim ⇒ Claimed (Some 1)
+    ∷ 0 ▸ opens 0 ⇒ Entered 0 None
+    ∷ 0 ▸ opens 1 ⇒ Entered 1 None
+    ∷ 0 ▸ Begin ⇒ Begun 0
+    ∷ 0 ▸ Try 0 ⇒ Served 0 (grant 1 at 2)
+    ∷ 0 ▸ Claim ⇒ Claimed (Some 2)
+    ∷ 0 ▸ opens 2 ⇒ Entered 2 None
+    ∷ 0 ▸ Begin ⇒ Begun 1
+    ∷ 0 ▸ Try 1 ⇒ Served 1 (grant 1 at 3)
+    ∷ 0 ▸ Claim ⇒ Claimed (Some 3)
+    ∷ 0 ▸ opens 3 ⇒ Entered 3 None
+    ∷ 0 ▸ Begin ⇒ Begun 2
+    ∷ 0 ▸ Try 2 ⇒ Served 2 (grant 1 at 4)
+    ∷ 0 ▸ Claim ⇒ Claimed (Some 4)
+    ∷ 0 ▸ opens 4 ⇒ Entered 4 None
+    ∷ 0 ▸ returns 0 ⇒ Kept 0 None
+    ∷ 0 ▸ returns 1 ⇒ Kept 1 None
+    ∷ 0 ▸ returns 2 ⇒ Kept 2 None
+    ∷ []

@@ -1,0 +1,115 @@
+//! What comes of transcripts that are run.
+
+use crate::transcripts::{Transcript, transcripts_of};
+use bb8_runner::fault::Fault;
+use bb8_runner::script::run_script;
+use std::alloc::Global;
+use std::fmt;
+
+/// An answer, or that there is none.
+#[derive(Clone, Copy)]
+struct Answer<'a>(Option<&'a str>);
+
+impl fmt::Display for Answer<'_> {
+    fn fmt<W: fmt::Write>(&self, f: &mut fmt::Formatter<W>) -> fmt::Result {
+        match self.0 {
+            Some(text) => write!(f, "\"{text}\""),
+            None => write!(f, "nothing"),
+        }
+    }
+}
+
+/// What came of transcripts.
+#[derive(Drop)]
+pub struct Report {
+    /// A line for each transcript that is answered otherwise.
+    pub told: String,
+    /// How many were run.
+    pub transcripts: u64,
+    /// How many answers they want.
+    pub answers: u64,
+    /// How many were not run.
+    pub not_run: u64,
+    /// How many of those that were run are answered otherwise.
+    pub different: u64,
+}
+
+impl Report {
+    /// Runs the transcripts of a file.
+    pub fn of(alloc: Global, text: &str) -> Result<Report, Fault> {
+        let mut report = Report {
+            told: String::new(alloc),
+            transcripts: 0,
+            answers: 0,
+            not_run: 0,
+            different: 0,
+        };
+        for transcript in transcripts_of(alloc, text)?.iter() {
+            if transcript.is_run {
+                report.run(alloc, transcript)?;
+            } else {
+                report.not_run = report.not_run.saturating_add(1);
+            }
+        }
+        Ok(report)
+    }
+
+    fn run(&mut self, alloc: Global, transcript: &Transcript<'_>) -> Result<(), Fault> {
+        let mut script = transcript.script.as_bytes();
+        let mut written = Vec::new(alloc);
+        let _ = run_script(alloc, &mut script, &mut written)?;
+        let Ok(written) = str::from_utf8(written.as_slice()) else {
+            return Err(Fault::Read);
+        };
+        self.transcripts = self.transcripts.saturating_add(1);
+        self.answers = self.answers.saturating_add(transcript.wanted.len() as u64);
+        self.compare(transcript, written)
+    }
+
+    /// Tells the first line that was written for a script and is not the wanted one.
+    fn compare(&mut self, transcript: &Transcript<'_>, written: &str) -> Result<(), Fault> {
+        let title = transcript.title;
+        let mut lines = written.split_terminator('\n');
+        for wanted in transcript.wanted.iter() {
+            let found = lines.next();
+            if !found.is_some_and(|line| line == wanted.text) {
+                return self.tell(title, wanted.line, Answer(Some(wanted.text)), Answer(found));
+            }
+        }
+        match lines.next() {
+            Some(line) => self.tell(title, transcript.last, Answer(None), Answer(Some(line))),
+            None => Ok(()),
+        }
+    }
+
+    fn tell(
+        &mut self,
+        title: &str,
+        line: u64,
+        wanted: Answer<'_>,
+        found: Answer<'_>,
+    ) -> Result<(), Fault> {
+        self.different = self.different.saturating_add(1);
+        writeln!(
+            self.told,
+            "line {line}, {title}: wanted {wanted}, found {found}"
+        )?;
+        Ok(())
+    }
+}
+
+impl fmt::Display for Report {
+    fn fmt<W: fmt::Write>(&self, f: &mut fmt::Formatter<W>) -> fmt::Result {
+        let Report {
+            transcripts,
+            answers,
+            not_run,
+            different,
+            ..
+        } = self;
+        write!(
+            f,
+            "transcripts {transcripts} answers {answers} not run {not_run} different {different}"
+        )
+    }
+}

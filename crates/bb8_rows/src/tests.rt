@@ -1,0 +1,74 @@
+//! That a transcript which is answered otherwise is told.
+
+use super::report::Report;
+use std::test::Fail;
+
+/// One transcript that is answered as it says, and one whose third answer is wrong, and the fourth, too.
+const WRONG_ANSWER: &str = "\
+    what stands before the first title is no transcript\n\
+    == nothing happens\n\
+    config\n\
+    | state connections 0 idle 0 started 0 direct 0 waited 0 timed_out 0 cancelled 0 wait_us 0 created 0 broken 0 invalid 0 lifetime 0 idle_timeout 0\n\
+    \n\
+    == one is added twice\n\
+    config max_size=2\n\
+    # for the reader\n\
+    0 add         | added 0\n\
+    0 begin       | begun 0\n\
+    0 add         | added 2\n\
+    0 add broken  | full\n";
+
+/// A transcript without its state line, one of a bad line with an answer too many, one with a line too many, and one that is not run.
+const WRONG_LENGTH: &str = "\
+    == no state line\n\
+    config\n\
+    0 look | looked 0 open\n\
+    \n\
+    == an answer too many\n\
+    config max_size=0\n\
+    | line 1: not a configuration\n\
+    | line 2: not an event\n\
+    == an event without an answer\n\
+    config\n\
+    5 look | looked 5 open\n\
+    0 look\n\
+    ~~ not run\n\
+    config\n\
+    0 look | full\n";
+
+/// What came of the transcripts of a text.
+fn report(rt: &HostRuntime, text: &str) -> Result<Report, Fail> {
+    match Report::of(rt.alloc(), text) {
+        Ok(report) => Ok(report),
+        Err(_) => Err(Fail::from("a fault")),
+    }
+}
+
+#[test]
+fn tells_the_first_wrong_answer(rt: HostRuntime) -> Result<(), Fail> {
+    let report = report(&rt, WRONG_ANSWER)?;
+    let wanted = "line 11, one is added twice: wanted \"added 2\", found \"added 1\"\n";
+    assert_eq!(rt; report.told.as_str(), wanted);
+    let sums = format!(in rt.alloc(); "{report}")?;
+    assert_eq!(rt;
+        sums.as_str(),
+        "transcripts 2 answers 5 not run 0 different 1"
+    );
+    Ok(())
+}
+
+#[test]
+fn tells_what_is_missing_and_what_is_too_much(rt: HostRuntime) -> Result<(), Fail> {
+    let report = report(&rt, WRONG_LENGTH)?;
+    let wanted = "\
+        line 3, no state line: wanted nothing, found \"state connections 0 idle 0 started 0 direct 0 waited 0 timed_out 0 cancelled 0 wait_us 0 created 0 broken 0 invalid 0 lifetime 0 idle_timeout 0\"\n\
+        line 8, an answer too many: wanted \"line 2: not an event\", found nothing\n\
+        line 12, an event without an answer: wanted nothing, found \"looked 5 open\"\n";
+    assert_eq!(rt; report.told.as_str(), wanted);
+    let sums = format!(in rt.alloc(); "{report}")?;
+    assert_eq!(rt;
+        sums.as_str(),
+        "transcripts 3 answers 4 not run 1 different 3"
+    );
+    Ok(())
+}

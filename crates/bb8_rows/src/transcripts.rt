@@ -1,0 +1,107 @@
+//! The transcripts of a file: scripts with the answers that are wanted of them.
+
+use std::alloc::{AllocError, Global};
+
+/// What a line of the file is.
+#[derive(Clone, Copy)]
+enum Line<'a> {
+    /// An empty line, or one that says something to the reader.
+    Comment,
+    /// Begins a transcript, which is run or not.
+    Title(&'a str, bool),
+    /// A line of the script that has no answer of its own.
+    Script(&'a str),
+    /// A line of the script, and its answer.
+    Answered(&'a str, &'a str),
+    /// An answer behind those of the script's lines.
+    Answer(&'a str),
+}
+
+impl<'a> Line<'a> {
+    fn of(text: &'a str) -> Line<'a> {
+        if text.is_empty() || text.starts_with('#') {
+            Line::Comment
+        } else if let Some(title) = text.strip_prefix("== ") {
+            Line::Title(title, true)
+        } else if let Some(title) = text.strip_prefix("~~ ") {
+            Line::Title(title, false)
+        } else if let Some(answer) = text.strip_prefix("| ") {
+            Line::Answer(answer)
+        } else if let Some((line, answer)) = text.split_once(" | ") {
+            Line::Answered(line.trim_end_matches(' '), answer)
+        } else {
+            Line::Script(text)
+        }
+    }
+}
+
+/// An answer that is wanted, and the number of its line in the file.
+#[derive(Clone, Copy, Debug, Drop)]
+pub struct Wanted<'a> {
+    pub line: u64,
+    pub text: &'a str,
+}
+
+/// A script, and what is to be written for it.
+#[derive(Drop)]
+pub struct Transcript<'a> {
+    pub title: &'a str,
+    /// Whether the program runs it; it counts those that it does not.
+    pub is_run: bool,
+    pub script: String,
+    pub wanted: Vec<Wanted<'a>>,
+    /// The number of its last line in the file.
+    pub last: u64,
+}
+
+impl<'a> Transcript<'a> {
+    fn new(alloc: Global, title: &'a str, is_run: bool, line: u64) -> Transcript<'a> {
+        Transcript {
+            title,
+            is_run,
+            script: String::new(alloc),
+            wanted: Vec::new(alloc),
+            last: line,
+        }
+    }
+
+    /// Takes a line of the file that begins no transcript.
+    fn take(&mut self, number: u64, line: Line<'a>) -> Result<(), AllocError> {
+        match line {
+            Line::Title(..) | Line::Comment => return Ok(()),
+            Line::Script(text) => self.add_line(text)?,
+            Line::Answered(text, answer) => {
+                self.add_line(text)?;
+                self.want(number, answer)?;
+            }
+            Line::Answer(answer) => self.want(number, answer)?,
+        }
+        self.last = number;
+        Ok(())
+    }
+
+    fn add_line(&mut self, text: &str) -> Result<(), AllocError> {
+        self.script.push_str(text)?;
+        self.script.push('\n')
+    }
+
+    fn want(&mut self, line: u64, text: &'a str) -> Result<(), AllocError> {
+        Ok(self.wanted.push(Wanted { line, text })?)
+    }
+}
+
+/// The transcripts of a file. What stands before the first title is none.
+pub fn transcripts_of(alloc: Global, text: &str) -> Result<Vec<Transcript<'_>>, AllocError> {
+    let mut transcripts = Vec::new(alloc);
+    let mut number: u64 = 0;
+    for text in text.split_terminator('\n') {
+        number = number.saturating_add(1);
+        let line = Line::of(text);
+        if let Line::Title(title, is_run) = line {
+            transcripts.push(Transcript::new(alloc, title, is_run, number))?;
+        } else if let Some(transcript) = transcripts.last_mut() {
+            transcript.take(number, line)?;
+        }
+    }
+    Ok(transcripts)
+}
