@@ -125,10 +125,7 @@ impl<
     R: Locks,
     L: Parts,
 > IntoParts for PooledConnection<'a, M, S, Z, K, R, L> {
-    type Parts = (
-        &'a Shared<M, S, Z, K, R, L>,
-        Taken<M::Connection, Part<L>>,
-    );
+    type Parts = (&'a Shared<M, S, Z, K, R, L>, Taken<M::Connection, Part<L>>);
 
     fn into_parts(self) -> (&'a Shared<M, S, Z, K, R, L>, Taken<M::Connection, Part<L>>)
         ensures pool { result.0.now ≡ self.entry.shared.now }

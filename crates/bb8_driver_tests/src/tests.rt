@@ -57,8 +57,12 @@ fn unchecked<R: Runtime, L: PoolParts>(
 {
     let clock = SetClock::new(rt.alloc(), Moment(0))?;
     let task = MockTask::new(&rt)?;
-    let pool: ServerPool<R, L> =
-        builder.build_unchecked(server_on(&board)?, clock.try_clone()?, rt, blank)?;
+    let pool: ServerPool<R, L> = builder.build_unchecked(
+        server_on(&board)?,
+        clock.try_clone()?,
+        rt,
+        blank,
+    )?;
     let driver = Driver::new(&pool)?;
     Ok(Case {
         pool,

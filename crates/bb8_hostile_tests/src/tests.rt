@@ -35,7 +35,10 @@ fn fill<R: Runtime + Abort, L: PoolParts>(
 }
 
 /// Whether no get of the pool is pending, nobody holds anything of it, and all connections that were not dropped are in it, and idle.
-fn is_at_rest<R: Runtime + Abort, L: PoolParts>(pool: &HostilePool<R, L>, harness: &Harness) -> bool {
+fn is_at_rest<R: Runtime + Abort, L: PoolParts>(
+    pool: &HostilePool<R, L>,
+    harness: &Harness,
+) -> bool {
     let state = pool.state();
     state.statistics.pending_gets() == 0
         && state.connections == state.idle_connections

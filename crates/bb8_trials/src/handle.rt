@@ -6,9 +6,9 @@
 use bb8::get::GetFuture;
 use bb8::owned::GetOwnedFuture;
 use bb8::{
-    AddError, Building, Cancel, Clock, CustomizeConnection, DedicatedFuture, ErrorSink, ManageConnection,
-    OwnedConnection, Pool, PoolCalls, PoolParts, PooledConnection, RunError, State,
-    Turn,
+    AddError, Building, Cancel, Clock, CustomizeConnection, DedicatedFuture, ErrorSink,
+    ManageConnection, OwnedConnection, Pool, PoolCalls, PoolParts, PooledConnection, RunError,
+    State, Turn,
 };
 use futures::task::Poll;
 use futures::test::MockTask;
@@ -178,10 +178,7 @@ pub trait OwnedHandle<M: ManageConnection>: Drop {
 
     fn get_owned(&self) -> Self::OwnedGet;
 
-    fn poll_owned(
-        task: &MockTask,
-        get: &mut Self::OwnedGet,
-    ) -> Polled<Self::OwnedGuard, M::Error>;
+    fn poll_owned(task: &MockTask, get: &mut Self::OwnedGet) -> Polled<Self::OwnedGuard, M::Error>;
 
     fn cancel_owned(get: Self::OwnedGet);
 
@@ -213,10 +210,7 @@ impl<
         PoolCalls::get_owned(self)
     }
 
-    fn poll_owned(
-        task: &MockTask,
-        get: &mut Self::OwnedGet,
-    ) -> Polled<Self::OwnedGuard, M::Error> {
+    fn poll_owned(task: &MockTask, get: &mut Self::OwnedGet) -> Polled<Self::OwnedGuard, M::Error> {
         task.poll(get)
     }
 

@@ -5,8 +5,8 @@ ghost use Rattle.bb8.specs.Settings.{is_lawful};
 
 use crate::handle::{Handle, OwnedHandle, Unbuilt};
 use bb8::{
-    Builder, Building, Config, CustomizeConnection, Driver, DriverCalls, ErrorSink, ManageConnection, Memory,
-    Moment, Pool, PoolParts, SetClock,
+    Builder, Building, Config, CustomizeConnection, Driver, DriverCalls, ErrorSink,
+    ManageConnection, Memory, Moment, Pool, PoolParts, SetClock,
 };
 use futures::task::Poll;
 use futures::test::MockTask;
@@ -270,8 +270,12 @@ fn run_building_on<
     requires parts { IsBlankOf blank builder.settings L.name L.parts L.settings }
 {
     let tools = begin_tools(rt)?;
-    let building: Building<M, S, Z, SetClock, R, L> =
-        builder.build(manager, tools.clock.try_clone()?, rt, blank);
+    let building: Building<M, S, Z, SetClock, R, L> = builder.build(
+        manager,
+        tools.clock.try_clone()?,
+        rt,
+        blank,
+    );
     Ok(trial.run(rt, &tools, building))
 }
 

@@ -2,7 +2,10 @@
 
 use super::{Numbering, assert_equal};
 use bb8::{DriverCalls, Moment, RunError};
-use bb8_trials::{Board, BuildingTrial, Course, Handle, MILLI, OwnedHandle, Refused, Runtime, SECOND, Server, Start, Tools, Trial, Unbuilt, builder_on, server_on, sizes, try_building_on, try_on};
+use bb8_trials::{
+    Board, BuildingTrial, Course, Handle, MILLI, OwnedHandle, Refused, Runtime, SECOND, Server,
+    Start, Tools, Trial, Unbuilt, builder_on, server_on, sizes, try_building_on, try_on,
+};
 use futures::task::Poll;
 use std::alloc::Global;
 use std::process::Abort;

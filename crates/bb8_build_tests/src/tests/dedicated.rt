@@ -2,7 +2,10 @@
 
 use super::{Numbering, assert_equal};
 use bb8::{DriverCalls, Moment};
-use bb8_trials::{Board, Handle, Refused, Runtime, Server, Start, Tools, Trial, builder_on, server_on, sizes, try_on};
+use bb8_trials::{
+    Board, Handle, Refused, Runtime, Server, Start, Tools, Trial, builder_on, server_on, sizes,
+    try_on,
+};
 use futures::task::Poll;
 use std::alloc::Global;
 use std::process::Abort;

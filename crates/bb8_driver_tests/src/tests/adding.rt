@@ -1,7 +1,9 @@
 //! Connections that are opened beside the pool, and added.
 
 use bb8::{AddError, DriverCalls};
-use bb8_trials::{ALWAYS, Board, Handle, Runtime, Server, Start, Tools, Trial, builder_on, server_on, try_on};
+use bb8_trials::{
+    ALWAYS, Board, Handle, Runtime, Server, Start, Tools, Trial, builder_on, server_on, try_on,
+};
 use futures::task::Poll;
 use std::process::Abort;
 use std::test::Fail;
@@ -67,5 +69,11 @@ fn add_checks_broken_connections(rt: HostRuntime) -> Result<(), Fail> {
     let board = Board::new(rt.alloc())?;
     board.breaks.set(ALWAYS);
     let builder = builder_on(&board)?.max_size(3).min_idle(Some(1));
-    Ok(try_on(rt, server_on(&board)?, builder, Start::Built, RefusesTheBroken)?)
+    Ok(try_on(
+        rt,
+        server_on(&board)?,
+        builder,
+        Start::Built,
+        RefusesTheBroken,
+    )?)
 }

@@ -2,7 +2,10 @@
 
 use super::assert_equal;
 use bb8::{DriverCalls, Moment};
-use bb8_trials::{ALWAYS, Board, Handle, OwnedHandle, OwnedTrial, Runtime, SECOND, Server, Start, Tools, Trial, builder_on, is_going, server_on, try_on, try_owned_on};
+use bb8_trials::{
+    ALWAYS, Board, Handle, OwnedHandle, OwnedTrial, Runtime, SECOND, Server, Start, Tools, Trial,
+    builder_on, is_going, server_on, try_on, try_owned_on,
+};
 use futures::task::Poll;
 use std::alloc::Global;
 use std::process::Abort;

@@ -4,7 +4,10 @@ ghost use Rattle.bb8.specs.Settings.{default_settings};
 
 use super::{Case, assert_equal, unchecked};
 use bb8::{AddError, Driver, DriverCalls, Moment, PoolParts};
-use bb8_trials::{Board, Course, Handle, Runtime, Server, Start, Tools, Trial, builder_on, connection_on, is_going, server_on, sizes, try_on};
+use bb8_trials::{
+    Board, Course, Handle, Runtime, Server, Start, Tools, Trial, builder_on, connection_on,
+    is_going, server_on, sizes, try_on,
+};
 use futures::task::Poll;
 use std::alloc::Global;
 use std::marker::Brand;

@@ -2,7 +2,10 @@
 
 use super::{ServerPool, assert_equal};
 use bb8::{DriverCalls, Moment};
-use bb8_trials::{Board, Handle, OwnedHandle, OwnedTrial, Runtime, Server, Start, Tools, Trial, builder_on, is_going, server_on, sizes, try_on, try_owned_on};
+use bb8_trials::{
+    Board, Handle, OwnedHandle, OwnedTrial, Runtime, Server, Start, Tools, Trial, builder_on,
+    is_going, server_on, sizes, try_on, try_owned_on,
+};
 use futures::task::Poll;
 use std::marker::Brand;
 use std::process::Abort;

@@ -2,7 +2,10 @@
 
 use super::assert_equal;
 use bb8::{DriverCalls, Moment};
-use bb8_trials::{Board, Course, Handle, MILLI, Runtime, SECOND, Server, Start, Tools, Trial, builder_on, connection_on, is_going, is_timed_out, server_on, try_on};
+use bb8_trials::{
+    Board, Course, Handle, MILLI, Runtime, SECOND, Server, Start, Tools, Trial, builder_on,
+    connection_on, is_going, is_timed_out, server_on, try_on,
+};
 use futures::task::Poll;
 use std::alloc::Global;
 use std::process::Abort;
@@ -168,5 +171,11 @@ fn can_use_added_connections(rt: HostRuntime) -> Result<(), Fail> {
     board.opening.set(Course::Fails);
     let builder = builder_on(&board)?.connection_timeout(Duration::from_millis(1));
     let server = server_on(&board)?;
-    try_on(rt, server, builder, Start::Unchecked, ServesTheAdded { board })?
+    try_on(
+        rt,
+        server,
+        builder,
+        Start::Unchecked,
+        ServesTheAdded { board },
+    )?
 }

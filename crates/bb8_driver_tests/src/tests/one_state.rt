@@ -7,7 +7,10 @@ use super::{Case, ServerDriver, ServerPool, assert_equal, unchecked};
 use bb8::{
     Moment, NopCustomizer, OwnedConnection, PoolParts, PooledConnection, SetClock, Statistics,
 };
-use bb8_trials::{Board, Course, Errors, Runtime, SECOND, Server, builder_on, connection_on, is_ended, is_going, sizes};
+use bb8_trials::{
+    Board, Course, Errors, Runtime, SECOND, Server, builder_on, connection_on, is_ended, is_going,
+    sizes,
+};
 use futures::task::Poll;
 use futures::test::MockTask;
 use std::alloc::Global;

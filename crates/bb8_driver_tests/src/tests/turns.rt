@@ -5,7 +5,10 @@ ghost use Rattle.bb8.specs.Settings.{default_settings};
 
 use super::{Case, assert_equal, unchecked};
 use bb8::{Driver, DriverCalls, Moment, PoolParts};
-use bb8_trials::{Board, Course, OwnedHandle, OwnedTrial, Runtime, Server, Start, Tools, builder_on, is_ended, is_going, server_on, sizes, try_owned_on};
+use bb8_trials::{
+    Board, Course, OwnedHandle, OwnedTrial, Runtime, Server, Start, Tools, builder_on, is_ended,
+    is_going, server_on, sizes, try_owned_on,
+};
 use std::marker::Brand;
 use std::process::Abort;
 use std::sync::ledger::Blank;
@@ -39,7 +42,13 @@ impl<R: Runtime + Abort> OwnedTrial<R, Server> for OpensAndEnds {
 fn first_turns(rt: HostRuntime) -> Result<(), Fail> {
     let board = Board::new(rt.alloc())?;
     let builder = builder_on(&board)?.max_size(5).min_idle(Some(2));
-    Ok(try_owned_on(rt, server_on(&board)?, builder, Start::Unchecked, OpensAndEnds)?)
+    Ok(try_owned_on(
+        rt,
+        server_on(&board)?,
+        builder,
+        Start::Unchecked,
+        OpensAndEnds,
+    )?)
 }
 
 /// The first driver claims both first approvals, whose openings last; the second finds none, and claims the one that the third of three gets

@@ -1,7 +1,10 @@
 //! Gets that wait for a connection that another one holds.
 
 use bb8::{DriverCalls, Moment};
-use bb8_trials::{Board, Handle, MILLI, Runtime, Server, Start, Tools, Trial, builder_on, is_going, is_timed_out, server_on, try_on};
+use bb8_trials::{
+    Board, Handle, MILLI, Runtime, Server, Start, Tools, Trial, builder_on, is_going, is_timed_out,
+    server_on, try_on,
+};
 use futures::task::Poll;
 use std::process::Abort;
 use std::test::Fail;

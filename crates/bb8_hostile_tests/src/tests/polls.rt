@@ -309,7 +309,11 @@ fn is_in_order<R: Runtime + Abort, L: PoolParts>(field: &Field<'_, R, L>) -> boo
 }
 
 /// A pool makes its steps. After each, it, the test and the connections count the same. Then all is let go, and nothing is left.
-fn polls_at_random<R: Runtime + Abort, L: PoolParts>(rt: R, blank: Blank, seed: u64) -> Result<Told, Fail>
+fn polls_at_random<R: Runtime + Abort, L: PoolParts>(
+    rt: R,
+    blank: Blank,
+    seed: u64,
+) -> Result<Told, Fail>
     requires { IsBlankOf blank
         (record default_settings { max_size = 6; connection_timeout = 1000 }) L.name L.parts
         L.settings }

@@ -2,7 +2,10 @@
 
 use super::assert_equal;
 use bb8::{DriverCalls, Moment};
-use bb8_trials::{Board, Course, Handle, Runtime, SECOND, Server, Start, Tools, Trial, builder_on, connection_on, is_timed_out, server_on, sizes, try_on};
+use bb8_trials::{
+    Board, Course, Handle, Runtime, SECOND, Server, Start, Tools, Trial, builder_on, connection_on,
+    is_timed_out, server_on, sizes, try_on,
+};
 use futures::task::Poll;
 use std::alloc::Global;
 use std::process::Abort;
@@ -46,7 +49,13 @@ impl<R: Runtime + Abort> Trial<R, Server> for ClosesTheBroken {
 fn broken_failed_check_counts_twice(rt: HostRuntime) -> Result<(), Fail> {
     let board = Board::new(rt.alloc())?;
     let (server, builder) = (server_on(&board)?, builder_on(&board)?);
-    try_on(rt, server, builder, Start::Unchecked, ClosesTheBroken { board })?
+    try_on(
+        rt,
+        server,
+        builder,
+        Start::Unchecked,
+        ClosesTheBroken { board },
+    )?
 }
 
 /// Two gets are let go while their connection is checked. The first hands it on to the second, and the second finds it broken.
@@ -93,7 +102,13 @@ fn cancelled_in_the_check(rt: HostRuntime) -> Result<(), Fail> {
     let board = Board::new(rt.alloc())?;
     let builder = builder_on(&board)?.max_size(1);
     let server = server_on(&board)?;
-    try_on(rt, server, builder, Start::Unchecked, LetsGoInTheCheck { board })?
+    try_on(
+        rt,
+        server,
+        builder,
+        Start::Unchecked,
+        LetsGoInTheCheck { board },
+    )?
 }
 
 /// A get that holds a connection whose check lasts times out, and its connection is idle again.
@@ -133,7 +148,13 @@ fn timed_out_in_the_check(rt: HostRuntime) -> Result<(), Fail> {
     let board = Board::new(rt.alloc())?;
     let builder = builder_on(&board)?.max_size(1);
     let server = server_on(&board)?;
-    try_on(rt, server, builder, Start::Unchecked, TimesOutInTheCheck { board })?
+    try_on(
+        rt,
+        server,
+        builder,
+        Start::Unchecked,
+        TimesOutInTheCheck { board },
+    )?
 }
 
 /// A check that is passed at once serves the get at its first poll, and the connection is the checked one.
@@ -170,7 +191,13 @@ fn succeeds_a_get_with_a_check(rt: HostRuntime) -> Result<(), Fail> {
     let board = Board::new(rt.alloc())?;
     let builder = builder_on(&board)?.max_size(1);
     let server = server_on(&board)?;
-    try_on(rt, server, builder, Start::Unchecked, ServesTheChecked { board })?
+    try_on(
+        rt,
+        server,
+        builder,
+        Start::Unchecked,
+        ServesTheChecked { board },
+    )?
 }
 
 /// The check of the one connection fails once; the get waits for the one that is opened in its place.
@@ -271,5 +298,11 @@ fn times_out_where_none_is_valid(rt: HostRuntime) -> Result<(), Fail> {
         .min_idle(Some(2))
         .connection_timeout(Duration::from_secs(1));
     let server = server_on(&board)?;
-    Ok(try_on(rt, server, builder, Start::Unchecked, FindsNoneValid { board })?)
+    Ok(try_on(
+        rt,
+        server,
+        builder,
+        Start::Unchecked,
+        FindsNoneValid { board },
+    )?)
 }

@@ -2,7 +2,10 @@
 
 use super::assert_equal;
 use bb8::{DriverCalls, Moment, QueueStrategy};
-use bb8_trials::{Board, Handle, Runtime, Server, Start, Tools, Trial, builder_on, connection_on, is_timed_out, server_on, sizes, try_on};
+use bb8_trials::{
+    Board, Handle, Runtime, Server, Start, Tools, Trial, builder_on, connection_on, is_timed_out,
+    server_on, sizes, try_on,
+};
 use std::alloc::Global;
 use std::process::Abort;
 use std::sync::Arc;
@@ -45,7 +48,13 @@ fn lends_by_the_strategy(rt: HostRuntime) -> Result<(), Fail> {
             .test_on_check_out(false)
             .queue_strategy(strategy);
         let server = server_on(&board)?;
-        try_on(rt, server, builder, Start::Unchecked, LendsFirst { board, first })??;
+        try_on(
+            rt,
+            server,
+            builder,
+            Start::Unchecked,
+            LendsFirst { board, first },
+        )??;
     }
     Ok(())
 }
@@ -91,7 +100,13 @@ fn added_connection_is_born_when_it_is_added(rt: HostRuntime) -> Result<(), Fail
         .test_on_check_out(false)
         .max_lifetime(Some(Duration::from_nanos(10)));
     let server = server_on(&board)?;
-    try_on(rt, server, builder, Start::Unchecked, ClosesInTime { board })?
+    try_on(
+        rt,
+        server,
+        builder,
+        Start::Unchecked,
+        ClosesInTime { board },
+    )?
 }
 
 /// Two gets that may wait for 10. The clock is set back under each, once by a copy: it stands still until it comes past where it was, so the
@@ -138,5 +153,11 @@ fn clock_that_is_set_back_stands_still(rt: HostRuntime) -> Result<(), Fail> {
         .max_size(1)
         .test_on_check_out(false)
         .connection_timeout(Duration::from_nanos(10));
-    try_on(rt, server_on(&board)?, builder, Start::Unchecked, StandsStill)?
+    try_on(
+        rt,
+        server_on(&board)?,
+        builder,
+        Start::Unchecked,
+        StandsStill,
+    )?
 }

@@ -2,7 +2,10 @@
 
 use super::assert_equal;
 use bb8::{DriverCalls, Moment};
-use bb8_trials::{Board, Handle, Runtime, SECOND, Server, Start, Tools, Trial, builder_on, connection_on, is_timed_out, server_on, try_on};
+use bb8_trials::{
+    Board, Handle, Runtime, SECOND, Server, Start, Tools, Trial, builder_on, connection_on,
+    is_timed_out, server_on, try_on,
+};
 use futures::task::Poll;
 use std::alloc::Global;
 use std::process::Abort;
@@ -112,7 +115,13 @@ fn serves_after_a_cancelled_caller(rt: HostRuntime) -> Result<(), Fail> {
     let board = Board::new(rt.alloc())?;
     let builder = builder_on(&board)?.max_size(1).test_on_check_out(false);
     let server = server_on(&board)?;
-    try_on(rt, server, builder, Start::Unchecked, ServesTheThird { board })?
+    try_on(
+        rt,
+        server,
+        builder,
+        Start::Unchecked,
+        ServesTheThird { board },
+    )?
 }
 
 /// A get that waits since the moment 0 is polled at its deadline, one second later; before that poll a connection is added, or not.
@@ -205,5 +214,11 @@ fn waits_at_the_end_of_the_clock(rt: HostRuntime) -> Result<(), Fail> {
         .max_size(2)
         .test_on_check_out(false)
         .connection_timeout(Duration::from_secs(1));
-    Ok(try_on(rt, server_on(&board)?, builder, Start::Unchecked, EndsWithTheClock)?)
+    Ok(try_on(
+        rt,
+        server_on(&board)?,
+        builder,
+        Start::Unchecked,
+        EndsWithTheClock,
+    )?)
 }

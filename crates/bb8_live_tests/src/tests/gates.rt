@@ -132,7 +132,10 @@ fn both(rt: &impl Threads, jobs: &(impl Jobs + Sync)) -> (bool, bool) {
 }
 
 /// One thread drops a guard, and waits in the manager's `has_broken` until the other thread has got the pool's state.
-fn answers_meanwhile<R: Runtime + Abort + Threads, L: PoolParts>(rt: R, blank: Blank) -> Result<(), Memory>
+fn answers_meanwhile<R: Runtime + Abort + Threads, L: PoolParts>(
+    rt: R,
+    blank: Blank,
+) -> Result<(), Memory>
     requires { IsBlankOf blank (unchecked_of 1) L.name L.parts L.settings }
 {
     let clock = SetClock::new(rt.alloc(), Moment(0))?;

@@ -3,7 +3,10 @@ ghost use Rattle.bb8.specs.Parts.{IsBlankOf, unchecked_of};
 
 use super::{NumberPool, SlowManager, assert_equal};
 use bb8::{Builder, DriverCalls, Moment, PoolParts, SetClock};
-use bb8_trials::{Board, OwnedHandle, OwnedTrial, Runtime, Server, ServerBuilder, Start, Tools, builder_on, connection_on, is_timed_out, server_on, sizes, try_owned_on};
+use bb8_trials::{
+    Board, OwnedHandle, OwnedTrial, Runtime, Server, ServerBuilder, Start, Tools, builder_on,
+    connection_on, is_timed_out, server_on, sizes, try_owned_on,
+};
 use futures::task::Poll;
 use futures::test::MockTask;
 use std::alloc::Global;
@@ -16,9 +19,11 @@ use std::time::Duration;
 
 /// A builder of a pool of one connection, whose gets wait for ten nanoseconds.
 fn builder_of_one(board: &Arc<Board, Global>) -> Result<ServerBuilder, Fail> {
-    Ok(builder_on(board)?
-        .max_size(1)
-        .connection_timeout(Duration::from_nanos(10)))
+    Ok(
+        builder_on(board)?
+            .max_size(1)
+            .connection_timeout(Duration::from_nanos(10)),
+    )
 }
 
 /// A clone goes on with the pool's connection once the first handle was dropped: its get is served at the first poll, after a check.
@@ -95,7 +100,13 @@ impl<R: Runtime + Abort> OwnedTrial<R, Server> for ClosesWithTheLast {
 fn last_handle_closes_idle_connections(rt: HostRuntime) -> Result<(), Fail> {
     let board = Board::new(rt.alloc())?;
     let (server, builder) = (server_on(&board)?, builder_of_one(&board)?);
-    try_owned_on(rt, server, builder, Start::Unchecked, ClosesWithTheLast { board })?
+    try_owned_on(
+        rt,
+        server,
+        builder,
+        Start::Unchecked,
+        ClosesWithTheLast { board },
+    )?
 }
 
 /// An owned guard keeps its pool's state after the last other handle was dropped; its own drop gives the connection back, and then closes it.
@@ -169,7 +180,13 @@ impl<R: Runtime + Abort> OwnedTrial<R, Server> for LeavesUnpolled {
 fn owned_get_leaves_unpolled(rt: HostRuntime) -> Result<(), Fail> {
     let board = Board::new(rt.alloc())?;
     let (server, builder) = (server_on(&board)?, builder_of_one(&board)?);
-    try_owned_on(rt, server, builder, Start::Unchecked, LeavesUnpolled { board })?
+    try_owned_on(
+        rt,
+        server,
+        builder,
+        Start::Unchecked,
+        LeavesUnpolled { board },
+    )?
 }
 
 /// One owned get waits and is cancelled, and one times out: each handle leaves with its get, so the guard's is the last.
@@ -217,7 +234,13 @@ impl<R: Runtime + Abort> OwnedTrial<R, Server> for LeavesAtItsAnswer {
 fn owned_get_leaves_at_its_answer(rt: HostRuntime) -> Result<(), Fail> {
     let board = Board::new(rt.alloc())?;
     let (server, builder) = (server_on(&board)?, builder_of_one(&board)?);
-    try_owned_on(rt, server, builder, Start::Unchecked, LeavesAtItsAnswer { board })?
+    try_owned_on(
+        rt,
+        server,
+        builder,
+        Start::Unchecked,
+        LeavesAtItsAnswer { board },
+    )?
 }
 
 /// It may go to another thread.

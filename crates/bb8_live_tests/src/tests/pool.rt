@@ -4,7 +4,10 @@ ghost use Rattle.bb8.specs.Parts.{IsBlankOf, unchecked_of};
 
 use super::{NumberPool, SlowManager, assert_equal};
 use bb8::{AddError, Builder, DriverCalls, Moment, PoolParts, SetClock};
-use bb8_trials::{Board, Handle, Runtime, Server, Start, Tools, Trial, builder_on, connection_on, server_on, sizes, try_on};
+use bb8_trials::{
+    Board, Handle, Runtime, Server, Start, Tools, Trial, builder_on, connection_on, server_on,
+    sizes, try_on,
+};
 use std::alloc::Global;
 use std::marker::Brand;
 use std::process::Abort;
@@ -36,7 +39,12 @@ impl<R: Runtime + Abort> Trial<R, Server> for LendsTwo {
         assert!(&rt; pool.add(connection_on(&self.board, 7)?).is_ok());
         assert!(&rt; matches!(pool.add(broken), Err(AddError::Broken(_))));
         assert!(&rt; pool.add(connection_on(&self.board, 8)?).is_ok());
-        assert!(&rt; matches!(pool.add(connection_on(&self.board, 9)?), Err(AddError::NoCapacity(_))));
+        assert!(&rt;
+            matches!(
+                pool.add(connection_on(&self.board, 9)?),
+                Err(AddError::NoCapacity(_))
+            )
+        );
         let (Some(first), Some(mut second)) = (pool.lend(task), pool.lend(task)) else {
             panic!(&rt; "two gets were not served");
         };

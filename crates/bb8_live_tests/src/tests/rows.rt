@@ -2,7 +2,9 @@
 
 use super::assert_equal;
 use bb8::{DriverCalls, Moment, QueueStrategy};
-use bb8_trials::{Board, Handle, Runtime, Server, Start, Tools, Trial, builder_on, server_on, sizes, try_on};
+use bb8_trials::{
+    Board, Handle, Runtime, Server, Start, Tools, Trial, builder_on, server_on, sizes, try_on,
+};
 use futures::task::Poll;
 use std::process::Abort;
 use std::test::Fail;
@@ -131,7 +133,13 @@ fn short_wait_counts_in_whole_microseconds(rt: HostRuntime) -> Result<(), Fail> 
         .max_size(1)
         .min_idle(Some(1))
         .test_on_check_out(false);
-    Ok(try_on(rt, server_on(&board)?, builder, Start::Unchecked, WaitsShortly)?)
+    Ok(try_on(
+        rt,
+        server_on(&board)?,
+        builder,
+        Start::Unchecked,
+        WaitsShortly,
+    )?)
 }
 
 /// A connection that came back serves the next get; a second one is opened only for a get that finds none.

@@ -45,7 +45,8 @@ impl<R: Runtime + Abort> Counted<R> {
     }
 }
 
-impl<R: Runtime + Abort> Service<SlowManager, NopErrorSink, NopCustomizer, SetClock, R> for Counted<R> {
+impl<R: Runtime + Abort> Service<SlowManager, NopErrorSink, NopCustomizer, SetClock, R>
+    for Counted<R> {
     /// The thread's number, where its get was served.
     type Told = Option<usize>;
 
@@ -111,7 +112,8 @@ fn no_thread_runs_where_the_service_does_not_begin(rt: HostRuntime) -> Result<()
 #[derive(Clone, Copy)]
 struct HowMany;
 
-impl<R: Runtime + Abort> Service<SlowManager, NopErrorSink, NopCustomizer, SetClock, R> for HowMany {
+impl<R: Runtime + Abort> Service<SlowManager, NopErrorSink, NopCustomizer, SetClock, R>
+    for HowMany {
     type Told = ();
 
     type Outcome = usize;
