@@ -1,7 +1,6 @@
 //! What the tests share.
 
 mod cancelled;
-mod granted;
 mod polls;
 
 use bb8::{AddError, PoolParts};

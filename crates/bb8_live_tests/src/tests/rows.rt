@@ -1,12 +1,15 @@
 //! Worked rows of gets that wait, in which a driver's turns open the connections.
 
 use super::assert_equal;
-use bb8::{DriverCalls, Moment, QueueStrategy};
+use bb8::{AddError, DriverCalls, Moment, QueueStrategy};
 use bb8_trials::{
-    Board, Handle, Runtime, Server, Start, Tools, Trial, builder_on, server_on, sizes, try_on,
+    Board, Handle, Runtime, Server, Start, Tools, Trial, builder_on, connection_on, server_on,
+    sizes, try_on,
 };
 use futures::task::Poll;
+use std::alloc::Global;
 use std::process::Abort;
+use std::sync::Arc;
 use std::test::Fail;
 
 /// A newer get takes the connection that was opened for one that waits, which waits again and is served at its return.
@@ -188,4 +191,39 @@ fn returned_connection_is_used_again(rt: HostRuntime) -> Result<(), Fail> {
         .queue_strategy(QueueStrategy::Lifo)
         .test_on_check_out(false);
     Ok(try_on(rt, server_on(&board)?, builder, Start::Unchecked, UsesAgain)?)
+}
+
+/// Two gets of an empty pool of three wait. Each has an approval of its own, so one place is left for an adding.
+#[derive(Drop)]
+struct GrantsTwo {
+    board: Arc<Board, Global>,
+}
+
+impl<R: Runtime + Abort> Trial<R, Server> for GrantsTwo {
+    type Outcome = Result<(), Fail>;
+
+    fn run<P: Handle<Server>, D: DriverCalls + Drop>(
+        self,
+        rt: R,
+        tools: &Tools,
+        pool: P,
+        _driver: D,
+    ) -> Result<(), Fail> {
+        let mut first = pool.get();
+        assert!(&rt; pool.poll(&tools.task, &mut first).is_pending());
+        let mut second = pool.get();
+        assert!(&rt; pool.poll(&tools.task, &mut second).is_pending());
+        assert!(&rt; pool.add(connection_on(&self.board, 7)?).is_ok());
+        let refused = pool.add(connection_on(&self.board, 8)?);
+        assert!(&rt; matches!(refused, Err(AddError::NoCapacity(_))));
+        Ok(())
+    }
+}
+
+#[test]
+fn succeeds_to_grant_gets_that_wait(rt: HostRuntime) -> Result<(), Fail> {
+    let board = Board::new(rt.alloc())?;
+    let builder = builder_on(&board)?.max_size(3);
+    let server = server_on(&board)?;
+    try_on(rt, server, builder, Start::Unchecked, GrantsTwo { board })?
 }

@@ -187,16 +187,19 @@ fn shares_all<R: Runtime + Abort + Threads, L: PoolParts>(
     Ok(())
 }
 
+/// The same, with parts of its own.
+fn share_all<R: Runtime + Abort + Threads>(rt: R, checks: bool) -> Result<(), Fail> {
+    Ok(shares_all::<R, Brand>(rt, Blank::new(3), checks)?)
+}
+
 #[test]
 fn two_threads_share_all(rt: HostRuntime) -> Result<(), Fail> {
-    shares_all::<HostRuntime, Brand>(rt, Blank::new(3), false)?;
-    Ok(())
+    share_all(rt, false)
 }
 
 #[test]
 fn two_threads_share_all_with_checks(rt: HostRuntime) -> Result<(), Fail> {
-    shares_all::<HostRuntime, Brand>(rt, Blank::new(3), true)?;
-    Ok(())
+    share_all(rt, true)
 }
 
 /// A thousand rounds, in each of which a handle is made, a get of that handle's has one of its own, and the handle is dropped before the guard,
@@ -255,14 +258,17 @@ fn shares_handles<R: Runtime + Abort + Threads, L: PoolParts>(
     Ok(())
 }
 
+/// The same, with parts of its own.
+fn share_handles<R: Runtime + Abort + Threads>(rt: R, checks: bool) -> Result<(), Fail> {
+    Ok(shares_handles::<R, Brand>(rt, Blank::new(2), checks)?)
+}
+
 #[test]
 fn two_threads_share_handles(rt: HostRuntime) -> Result<(), Fail> {
-    shares_handles::<HostRuntime, Brand>(rt, Blank::new(2), false)?;
-    Ok(())
+    share_handles(rt, false)
 }
 
 #[test]
 fn two_threads_share_handles_with_checks(rt: HostRuntime) -> Result<(), Fail> {
-    shares_handles::<HostRuntime, Brand>(rt, Blank::new(2), true)?;
-    Ok(())
+    share_handles(rt, true)
 }
