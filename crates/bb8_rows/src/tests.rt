@@ -1,10 +1,10 @@
 //! That a transcript which is answered otherwise is told.
 
-use super::report::Report;
+use super::run;
 use std::test::Fail;
 
 /// One transcript that is answered as it says, and one whose third answer is wrong, and the fourth, too.
-const WRONG_ANSWER: &str = "\
+const WRONG_ANSWER: &[u8] = b"\
     what stands before the first title is no transcript\n\
     == nothing happens\n\
     config\n\
@@ -18,8 +18,12 @@ const WRONG_ANSWER: &str = "\
     0 add         | added 2\n\
     0 add broken  | full\n";
 
+const WRONG_ANSWER_TOLD: &[u8] = b"\
+    line 11, one is added twice: wanted \"added 2\", found \"added 1\"\n\
+    transcripts 2 answers 5 not run 0 different 1\n";
+
 /// A transcript without its state line, one of a bad line with an answer too many, one with a line too many, and one that is not run.
-const WRONG_LENGTH: &str = "\
+const WRONG_LENGTH: &[u8] = b"\
     == no state line\n\
     config\n\
     0 look | looked 0 open\n\
@@ -36,39 +40,32 @@ const WRONG_LENGTH: &str = "\
     config\n\
     0 look | full\n";
 
-/// What came of the transcripts of a text.
-fn report(rt: &HostRuntime, text: &str) -> Result<Report, Fail> {
-    match Report::of(rt.alloc(), text) {
-        Ok(report) => Ok(report),
+const WRONG_LENGTH_TOLD: &[u8] = b"\
+    line 3, no state line: wanted nothing, found \"state connections 0 idle 0 started 0 direct 0 waited 0 timed_out 0 cancelled 0 wait_us 0 created 0 broken 0 invalid 0 lifetime 0 idle_timeout 0\"\n\
+    line 8, an answer too many: wanted \"line 2: not an event\", found nothing\n\
+    line 12, an event without an answer: wanted nothing, found \"looked 5 open\"\n\
+    transcripts 3 answers 4 not run 1 different 3\n";
+
+/// What is written for an input.
+fn written(rt: &HostRuntime, input: &[u8]) -> Result<Vec<u8>, Fail> {
+    let mut reader = input;
+    let mut written = Vec::new(rt.alloc());
+    match run(rt.alloc(), &mut reader, &mut written) {
+        Ok(_) => Ok(written),
         Err(_) => Err(Fail::from("a fault")),
     }
 }
 
 #[test]
 fn tells_the_first_wrong_answer(rt: HostRuntime) -> Result<(), Fail> {
-    let report = report(&rt, WRONG_ANSWER)?;
-    let wanted = "line 11, one is added twice: wanted \"added 2\", found \"added 1\"\n";
-    assert_eq!(rt; report.told.as_str(), wanted);
-    let sums = format!(in rt.alloc(); "{report}")?;
-    assert_eq!(rt;
-        sums.as_str(),
-        "transcripts 2 answers 5 not run 0 different 1"
-    );
+    let written = written(&rt, WRONG_ANSWER)?;
+    assert_eq!(rt; written.as_slice(), WRONG_ANSWER_TOLD);
     Ok(())
 }
 
 #[test]
 fn tells_what_is_missing_and_what_is_too_much(rt: HostRuntime) -> Result<(), Fail> {
-    let report = report(&rt, WRONG_LENGTH)?;
-    let wanted = "\
-        line 3, no state line: wanted nothing, found \"state connections 0 idle 0 started 0 direct 0 waited 0 timed_out 0 cancelled 0 wait_us 0 created 0 broken 0 invalid 0 lifetime 0 idle_timeout 0\"\n\
-        line 8, an answer too many: wanted \"line 2: not an event\", found nothing\n\
-        line 12, an event without an answer: wanted nothing, found \"looked 5 open\"\n";
-    assert_eq!(rt; report.told.as_str(), wanted);
-    let sums = format!(in rt.alloc(); "{report}")?;
-    assert_eq!(rt;
-        sums.as_str(),
-        "transcripts 3 answers 4 not run 1 different 3"
-    );
+    let written = written(&rt, WRONG_LENGTH)?;
+    assert_eq!(rt; written.as_slice(), WRONG_LENGTH_TOLD);
     Ok(())
 }

@@ -36,7 +36,7 @@ impl<'a> Line<'a> {
 }
 
 /// An answer that is wanted, and the number of its line in the file.
-#[derive(Clone, Copy, Debug, Drop)]
+#[derive(Clone, Copy)]
 pub struct Wanted<'a> {
     pub line: u64,
     pub text: &'a str,
