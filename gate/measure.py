@@ -1,9 +1,10 @@
 #!/usr/bin/env python3
-"""Measures what each crate costs a run of the gate: measure.py [COMMAND..] at the top of the repository; without a command it runs `.ci/run`.
+"""Measures what each crate costs a run of the gate: measure.py [--write] COMMAND.. at the top of the repository, as measure.py rt ci.
 
-It looks each half second at the checks that go on, and adds up the processor time of each crate's proof, tests and edits. At the end it writes
-gate/costs.txt: a line for each crate, with minutes of one processor for its proof, its tests and all its edits, and how many edits those were;
-and a first line with the sum, the minutes of the wall, and the processors. The command's own output goes through, and its status is the answer.
+It looks each half second at the checks that the command started, and adds up the processor time of each crate's proof, tests and edits. At the
+end it prints, and with --write writes to gate/costs.txt, a line for each crate: minutes of one processor for its proof, its tests and all its
+edits, and how many edits those were; and before them the sum, the minutes of the wall, and the processors. The command's own output goes
+through, and its status is the answer.
 """
 import os
 import re
@@ -22,15 +23,31 @@ def read(path):
         return b""
 
 
-def checks():
-    """The checks that go on: process, crate, what it is of the crate, and its processor time in seconds, with its ended children's."""
+def fields_of(number):
+    """What the kernel tells of a process from its state on, or nothing where it has ended."""
+    return read(f"/proc/{number}/stat").rpartition(b")")[2].split()
+
+
+def is_below(number, command):
+    """Whether a process was started by the command, or by what that started."""
+    while number not in ("0", "1"):
+        if number == str(command):
+            return True
+        fields = fields_of(number)
+        if len(fields) < 2:
+            return False
+        number = fields[1].decode()
+    return False
+
+
+def checks(command):
+    """The command's checks that go on: process, crate, what it is of the crate, and its processor time in seconds, with its ended children's."""
     for number in filter(str.isdigit, os.listdir("/proc")):
         words = read(f"/proc/{number}/cmdline").split(b"\0")
         if len(words) < 4 or not words[0].endswith(b"/rattle") or b"--crate-name" not in words:
             continue
-        crate = words[words.index(b"--crate-name") + 1].decode()
-        fields = read(f"/proc/{number}/stat").rpartition(b")")[2].split()
-        if len(fields) < 20:
+        crate, fields = words[words.index(b"--crate-name") + 1].decode(), fields_of(number)
+        if len(fields) < 20 or not is_below(number, command):
             continue
         try:
             place = os.readlink(f"/proc/{number}/cwd")
@@ -45,25 +62,33 @@ def edits_of(crate):
     return sum(it.endswith(".edit") for it in os.listdir(folder)) if os.path.isdir(folder) else 0
 
 
-def main():
-    command, begun, seen = sys.argv[1:] or [".ci/run"], time.time(), {}
-    running = subprocess.Popen(command)
-    while running.poll() is None:
-        for process, crate, kind, seconds in checks():
-            seen[process] = crate, kind, seconds
-        time.sleep(0.5)
-    costs = {}
-    for crate, kind, seconds in seen.values():
-        costs.setdefault(crate, {}).setdefault(kind, []).append(seconds)
+def told(seen, minutes_of_wall):
+    """The lines of gate/costs.txt."""
     with open("crates.txt", encoding="utf-8") as it:
         crates = re.findall(r"^(\w+)", it.read(), re.M)
-    minutes = lambda crate, kind: sum(costs.get(crate, {}).get(kind, [])) / 60
-    total = sum(minutes(crate, kind) for crate in crates for kind in ("proof", "tests", "edits"))
-    with open("gate/costs.txt", "w", encoding="utf-8") as it:
-        it.write(f"# {total:.0f} minutes of one processor, {(time.time() - begun) / 60:.0f} of the wall, {os.cpu_count()} processors\n")
-        it.write("# crate, minutes of its proof, of its tests, of its edits, and how many edits\n")
-        for crate in crates:
-            it.write(f"{crate} {minutes(crate, 'proof'):.1f} {minutes(crate, 'tests'):.1f} {minutes(crate, 'edits'):.1f} {edits_of(crate)}\n")
+    costs = {}
+    for crate, kind, seconds in seen.values():
+        costs[crate, kind] = costs.get((crate, kind), 0) + seconds / 60
+    yield f"# {sum(costs.values()):.0f} minutes of one processor, {minutes_of_wall:.0f} of the wall, {os.cpu_count()} processors"
+    yield "# crate, minutes of its proof, of its tests, of its edits, and how many edits"
+    for crate in crates:
+        proof, tests, edits = (costs.get((crate, kind), 0) for kind in ("proof", "tests", "edits"))
+        yield f"{crate} {proof:.1f} {tests:.1f} {edits:.1f} {edits_of(crate)}"
+
+
+def main():
+    is_written, command = sys.argv[1:2] == ["--write"], sys.argv[1:]
+    begun, seen = time.time(), {}
+    running = subprocess.Popen(command[is_written:])
+    while running.poll() is None:
+        for process, crate, kind, seconds in checks(running.pid):
+            seen[process] = crate, kind, seconds
+        time.sleep(0.5)
+    lines = "".join(f"{line}\n" for line in told(seen, (time.time() - begun) / 60))
+    print(lines, end="", flush=True)
+    if is_written:
+        with open("gate/costs.txt", "w", encoding="utf-8") as it:
+            it.write(lines)
     return running.returncode
 
 

@@ -63,9 +63,14 @@ fn drives<R: Runtime + Abort + Threads, L: PoolParts + 'static>(
     Ok(driven)
 }
 
+/// The same, with parts of its own.
+fn drive_five<R: Runtime + Abort + Threads>(rt: R, drops: bool) -> Result<Driven, Fail> {
+    drives::<R, Brand>(rt, Blank::new(5), drops)
+}
+
 #[test]
 fn driven_until_its_gate_stops(rt: HostRuntime) -> Result<(), Fail> {
-    let driven = drives::<HostRuntime, Brand>(rt, Blank::new(5), false)?;
+    let driven = drive_five(rt, false)?;
     let wanted = Driven {
         turns: 1,
         ended: false,
@@ -76,7 +81,7 @@ fn driven_until_its_gate_stops(rt: HostRuntime) -> Result<(), Fail> {
 
 #[test]
 fn driven_until_its_pool_ends(rt: HostRuntime) -> Result<(), Fail> {
-    let driven = drives::<HostRuntime, Brand>(rt, Blank::new(5), true)?;
+    let driven = drive_five(rt, true)?;
     let wanted = Driven {
         turns: 1,
         ended: true,

@@ -1,6 +1,6 @@
 use Rattle.std.specs.Prelude.{Some}
 use Rattle.bb8.specs.Settings.{default_settings}
-use Rattle.bb8_driver_tests.proofs.tests.drives.driven_until_its_gate_stops.Given as goal
+use Rattle.bb8_driver_tests.proofs.tests.drives.drive_five.Given as goal
 
 abbrev pub ghosts-drives-L-Ledger : goal.ghosts-drives-L-Ledger
 ghosts-drives-L-Ledger g a = record { name = a.blank.name; parts = a.blank.parts }
