@@ -110,7 +110,7 @@ impl Run {
 
     /// Lets a get go that holds nothing.
     fn let_go(&mut self, rt: &impl Abort, get: GetKey) {
-        let Some(GiveUpAnswer::GaveUp(_)) = give_up(
+        let gone = give_up(
             &mut self.pool,
             self.at,
             get,
@@ -118,9 +118,11 @@ impl Run {
             None,
             false,
             0,
-        ) else {
-            panic!(rt; "{get:?} held a connection");
-        };
+        );
+        assert!(rt;
+            matches!(gone, Some(GiveUpAnswer::GaveUp(_))),
+            "{get:?} held something"
+        );
     }
 
     /// The check passes: a guard has the connection, and gives it back.
@@ -140,14 +142,8 @@ impl Run {
     /// The check fails: the connection is closed, and the get, which then holds nothing, is let go.
     fn fails(&mut self, rt: &impl Abort, held: Held, broken: bool) {
         let Held { get, key, conn } = held;
-        let Some(CheckedErrAnswer::Closed(_, conn, grant, _)) = checked_err(
-            &mut self.pool,
-            self.at,
-            get,
-            conn,
-            broken,
-            key.place,
-        ) else {
+        let answer = checked_err(&mut self.pool, self.at, get, conn, broken, key.place);
+        let Some(CheckedErrAnswer::Closed(_, conn, grant, _)) = answer else {
             panic!(rt; "{get:?} holds nothing");
         };
         drop(conn);
@@ -159,7 +155,7 @@ impl Run {
     fn lets_go_held(&mut self, rt: &impl Abort, held: Held, broken: bool) {
         let Held { get, key, conn } = held;
         let why = Reason::Cancelled;
-        match give_up(
+        let answer = give_up(
             &mut self.pool,
             self.at,
             get,
@@ -167,7 +163,8 @@ impl Run {
             Some(conn),
             broken,
             key.place,
-        ) {
+        );
+        match answer {
             Some(GiveUpAnswer::Kept(key, _)) => assert!(rt; !broken, "{key:?} was kept"),
             Some(GiveUpAnswer::Closed(key, conn, grant, _)) => {
                 assert!(rt; broken, "{key:?} was closed");
