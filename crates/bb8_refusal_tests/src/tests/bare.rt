@@ -196,13 +196,13 @@ impl Run {
     fn adds(&mut self, rt: &impl Abort) -> Result<(), Fail> {
         for _ in 0..2 {
             let conn = self.board.make()?;
-            match add(&mut self.pool, self.at, conn, false) {
-                Some(AddAnswer::Added(..) | AddAnswer::NoCapacity(_)) => {}
-                Some(AddAnswer::Withheld(conn)) => {
+            match add(&mut self.pool, self.at, conn, false).expect(rt, "a handle is alive") {
+                AddAnswer::Added(..) | AddAnswer::NoCapacity(_) => {}
+                AddAnswer::Withheld(conn) => {
                     drop(conn);
                     self.refused = self.refused.saturating_add(1);
                 }
-                _ => panic!(rt; "no handle is alive, or it was told as broken"),
+                AddAnswer::Broken(_) => panic!(rt; "it was not told as broken"),
             }
         }
         Ok(())
