@@ -6,7 +6,6 @@ mod bare;
 mod live;
 mod rows;
 mod script;
-mod steps;
 mod vast;
 
 use bb8_core::api::Memory;

@@ -1,18 +1,10 @@
 //! A get that begins and is served in one step.
 
-use super::steps::{Link, NOW, add, begin, put_back, served_by};
+use super::steps::{Link, NOW, served_by};
 use super::{assert_equal, unchecked};
+use bb8_asked::{add, begin, put_back, serve_at_once};
 use bb8_core::api::Config;
-use bb8_core::internals::{AddAnswer, AtOnce, BeginAnswer, PoolInternals, PutBackAnswer};
-use std::process::Abort;
-
-/// Serves a get at once, where that may be asked for.
-fn serve_at_once(rt: &impl Abort, pool: &mut PoolInternals<Link>) -> Option<AtOnce<Link>> {
-    if !pool.fits_at_once() {
-        panic!(rt; "no get may be served at once");
-    }
-    pool.serve_at_once(NOW)
-}
+use bb8_core::internals::{AddAnswer, BeginAnswer, PoolInternals, PutBackAnswer};
 
 /// The first get raises the peak and goes by the two steps; the second is served in one step, as get 1 with connection 0; with nothing idle
 /// none is.
@@ -21,26 +13,26 @@ fn succeeds_serving_at_once(rt: HostRuntime) {
     let config = unchecked(1, None);
     assert!(rt; config.is_lawful());
     let mut pool = PoolInternals::new(rt.alloc(), config);
-    let AddAnswer::Added(_, None) = add(&rt, &mut pool, Link::Red, false) else {
+    let Some(AddAnswer::Added(_, None)) = add(&mut pool, NOW, Link::Red, false) else {
         panic!(rt; "nothing was added");
     };
     // The first get raises the peak, for which memory is asked, so it goes by the two steps.
-    assert!(rt; serve_at_once(&rt, &mut pool).is_none());
-    let BeginAnswer::Begun(get) = begin(&rt, &mut pool) else {
+    assert!(rt; matches!(serve_at_once(&mut pool, NOW), Some(None)));
+    let Some(BeginAnswer::Begun(get)) = begin(&mut pool, NOW) else {
         panic!(rt; "no get began");
     };
     let (key, conn, _) = served_by(&rt, &mut pool, get);
-    let PutBackAnswer::Kept(None) = put_back(&rt, &mut pool, key, conn, false) else {
+    let Some(PutBackAnswer::Kept(None)) = put_back(&mut pool, NOW, key, conn, false) else {
         panic!(rt; "the connection was not kept");
     };
-    let Some(served) = serve_at_once(&rt, &mut pool) else {
+    let Some(Some(served)) = serve_at_once(&mut pool, NOW) else {
         panic!(rt; "the second get was not served at once");
     };
     assert_equal(&rt, served.get, 1);
     assert_equal(&rt, served.key.number, 0);
     assert_equal(&rt, served.conn, Link::Red);
     // Nothing is idle now, and so nothing happens.
-    assert!(rt; serve_at_once(&rt, &mut pool).is_none());
+    assert!(rt; matches!(serve_at_once(&mut pool, NOW), Some(None)));
     let state = pool.state(NOW);
     assert_equal(&rt, state.connections, 1);
     assert_equal(&rt, state.idle_connections, 0);

@@ -1,10 +1,9 @@
 //! Gets that check what they take: each end of a check, and give-ups that hand a connection in.
 ghost use Rattle.std.specs.Prelude.{◌+◌, ◌≤◌};
 
-use super::steps::{
-    Link, NOW, add, begin, checked_err, checked_ok, give_up_held, put_back, taken_by,
-};
+use super::steps::{Link, NOW, taken_by};
 use super::{assert_equal, granted, served};
+use bb8_asked::{add, begin, checked_err, checked_ok, give_up, put_back};
 use bb8_core::api::{Config, State, Statistics};
 use bb8_core::internals::{
     AddAnswer, BeginAnswer, CheckedErrAnswer, CheckedOkAnswer, GetKey, GiveUpAnswer, PoolInternals,
@@ -29,7 +28,7 @@ fn one_idle(rt: &impl Abort, alloc: Global) -> PoolInternals<Link> {
     let config = checked(1, None);
     assert!(rt; config.is_lawful());
     let mut pool = PoolInternals::new(alloc, config);
-    let AddAnswer::Added(_, None) = add(rt, &mut pool, Link::Red, false) else {
+    let Some(AddAnswer::Added(_, None)) = add(&mut pool, NOW, Link::Red, false) else {
         panic!(rt; "it was refused, or notified somebody");
     };
     pool
@@ -65,8 +64,8 @@ fn counted(started: u64, direct: u64, timed_out: u64, cancelled: u64) -> Statist
 
 /// A get that began.
 fn begun(rt: &impl Abort, pool: &mut PoolInternals<Link>) -> GetKey {
-    match begin(rt, pool) {
-        BeginAnswer::Begun(get) => get,
+    match begin(pool, NOW) {
+        Some(BeginAnswer::Begun(get)) => get,
         _ => panic!(rt; "no get began"),
     }
 }
@@ -94,17 +93,19 @@ fn succeeds_both_ends_of_a_check(rt: HostRuntime) {
         (0, &Link::Red, granted(1, 0)),
     );
     assert_equal(&rt, fitting(&pool, 0), (false, true, true, false));
-    let CheckedOkAnswer::Served(key) = checked_ok(&rt, &mut pool, get, key.place);
+    let Some(CheckedOkAnswer::Served(key)) = checked_ok(&mut pool, NOW, get, key.place) else {
+        panic!(rt; "the get holds nothing");
+    };
     assert_equal(&rt, key.number, 0);
     assert_equal(&rt, fitting(&pool, 0), (false, false, false, true));
     assert_equal(&rt, pool.state(NOW), served(1, 0, 1, 0));
-    let PutBackAnswer::Kept(None) = put_back(&rt, &mut pool, key, conn, false) else {
+    let Some(PutBackAnswer::Kept(None)) = put_back(&mut pool, NOW, key, conn, false) else {
         panic!(rt; "it was closed, or notified somebody");
     };
     let get = begun(&rt, &mut pool);
     let (key, conn, _) = taken_by(&rt, &mut pool, get);
-    let CheckedErrAnswer::Closed(closed, conn, grant, None) = checked_err(
-        &rt, &mut pool, get, conn, false, key.place,
+    let Some(CheckedErrAnswer::Closed(closed, conn, grant, None)) = checked_err(
+        &mut pool, NOW, get, conn, false, key.place,
     ) else {
         panic!(rt; "somebody was notified");
     };
@@ -126,12 +127,12 @@ fn succeeds_give_ups_of_a_held_connection(rt: HostRuntime) {
     let get = begun(&rt, &mut pool);
     let (key, conn, _) = taken_by(&rt, &mut pool, get);
     assert!(rt; !pool.fits_give_up(get, false));
-    let GiveUpAnswer::Kept(kept, None) = give_up_held(
-        &rt,
+    let Some(GiveUpAnswer::Kept(kept, None)) = give_up(
         &mut pool,
+        NOW,
         get,
         Reason::TimedOut,
-        conn,
+        Some(conn),
         false,
         key.place,
     ) else {
@@ -141,12 +142,12 @@ fn succeeds_give_ups_of_a_held_connection(rt: HostRuntime) {
     assert!(rt; !pool.fits_give_up(get, true));
     let get = begun(&rt, &mut pool);
     let (_, conn, _) = taken_by(&rt, &mut pool, get);
-    let GiveUpAnswer::Closed(closed, conn, grant, None) = give_up_held(
-        &rt,
+    let Some(GiveUpAnswer::Closed(closed, conn, grant, None)) = give_up(
         &mut pool,
+        NOW,
         get,
         Reason::Cancelled,
-        conn,
+        Some(conn),
         true,
         1_000,
     ) else {
@@ -169,7 +170,7 @@ fn stale_hints_name_the_right_connection(rt: HostRuntime) {
     assert!(rt; config.is_lawful());
     let mut pool = PoolInternals::new(rt.alloc(), config);
     for conn in [Link::Red, Link::Green] {
-        let AddAnswer::Added(..) = add(&rt, &mut pool, conn, false) else {
+        let Some(AddAnswer::Added(..)) = add(&mut pool, NOW, conn, false) else {
             panic!(rt; "it was refused");
         };
     }
@@ -177,8 +178,12 @@ fn stale_hints_name_the_right_connection(rt: HostRuntime) {
     let (red, _, _) = taken_by(&rt, &mut pool, first);
     let second = begun(&rt, &mut pool);
     let (green, _, _) = taken_by(&rt, &mut pool, second);
-    let CheckedOkAnswer::Served(key) = checked_ok(&rt, &mut pool, first, green.place);
+    let Some(CheckedOkAnswer::Served(key)) = checked_ok(&mut pool, NOW, first, green.place) else {
+        panic!(rt; "the get holds nothing");
+    };
     assert_equal(&rt, (key.number, key.place), (0, red.place));
-    let CheckedOkAnswer::Served(key) = checked_ok(&rt, &mut pool, second, 1_000);
+    let Some(CheckedOkAnswer::Served(key)) = checked_ok(&mut pool, NOW, second, 1_000) else {
+        panic!(rt; "the get holds nothing");
+    };
     assert_equal(&rt, (key.number, key.place), (1, green.place));
 }

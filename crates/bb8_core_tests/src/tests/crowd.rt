@@ -50,25 +50,19 @@ fn crowded(rt: &impl Abort, alloc: Global, max_size: u32) -> PoolInternals<u32> 
 
 /// Begins a get.
 fn begin(rt: &impl Abort, pool: &mut PoolInternals<u32>) -> GetKey {
-    if !pool.fits_begin() {
-        panic!(rt; "no handle is alive");
-    }
-    let answer = pool.begin(NOW);
+    let answer = bb8_asked::begin(pool, NOW);
     assert_few(rt, pool);
     match answer {
-        BeginAnswer::Begun(get) => get,
+        Some(BeginAnswer::Begun(get)) => get,
         _ => panic!(rt; "no get began"),
     }
 }
 
 /// Has a get try that may.
 fn try_get(rt: &impl Abort, pool: &mut PoolInternals<u32>, get: GetKey) -> TryAnswer<u32> {
-    if !pool.fits_try(get) {
-        panic!(rt; "{get:?} may not try");
-    }
-    let answer = pool.try_get(NOW, get);
+    let answer = bb8_asked::try_get(pool, NOW, get);
     assert_few(rt, pool);
-    answer
+    answer.expect(rt, "the get may try")
 }
 
 /// Has a get begin and wait, and tells what was granted for it.
@@ -90,14 +84,11 @@ fn served_by(rt: &impl Abort, pool: &mut PoolInternals<u32>, get: GetKey) -> (Ke
 
 /// Gives back a connection that a guard holds, and tells who was notified.
 fn put_back(rt: &impl Abort, pool: &mut PoolInternals<u32>, key: Key, conn: u32) -> Option<GetKey> {
-    if !pool.fits_put_back(key) {
-        panic!(rt; "no guard holds {key:?}");
-    }
-    let answer = pool.put_back(NOW, key, conn, false);
+    let answer = bb8_asked::put_back(pool, NOW, key, conn, false);
     assert_few(rt, pool);
     match answer {
-        PutBackAnswer::Kept(notified) => notified,
-        PutBackAnswer::Closed(..) => panic!(rt; "{key:?} was closed"),
+        Some(PutBackAnswer::Kept(notified)) => notified,
+        _ => panic!(rt; "no guard holds {key:?}, or it was closed"),
     }
 }
 
@@ -108,26 +99,20 @@ fn open(rt: &impl Abort, pool: &mut PoolInternals<u32>, conn: u32) -> Option<Get
     let ClaimAnswer::Claimed(Some(approval)) = answer else {
         panic!(rt; "nothing was claimed");
     };
-    if !pool.fits_opened(approval) {
-        panic!(rt; "{approval:?} is not claimed");
-    }
-    let answer = pool.opened(NOW, approval, conn);
+    let answer = bb8_asked::opened(pool, NOW, approval, conn);
     assert_few(rt, pool);
     match answer {
-        OpenedAnswer::Entered(notified) => notified,
-        OpenedAnswer::Late(_) => panic!(rt; "no handle is alive"),
+        Some(OpenedAnswer::Entered(notified)) => notified,
+        _ => panic!(rt; "{approval:?} is not claimed, or no handle is alive"),
     }
 }
 
 /// Lets a get go that waits and was not notified.
 fn cancel(rt: &impl Abort, pool: &mut PoolInternals<u32>, get: GetKey) {
-    if !pool.fits_give_up(get, false) {
-        panic!(rt; "{get:?} is not alive");
-    }
-    let answer = pool.give_up(NOW, get, Reason::Cancelled, None, false, 0);
+    let answer = bb8_asked::give_up(pool, NOW, get, Reason::Cancelled, None, false, 0);
     assert_few(rt, pool);
-    let GiveUpAnswer::GaveUp(None) = answer else {
-        panic!(rt; "{get:?} handed a notification on");
+    let Some(GiveUpAnswer::GaveUp(None)) = answer else {
+        panic!(rt; "{get:?} is not alive, or handed a notification on");
     };
 }
 

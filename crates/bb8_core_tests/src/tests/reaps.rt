@@ -1,39 +1,26 @@
 //! A reap of many connections, of which some are out.
 
 use super::{SECOND, assert_equal, unchecked};
+use bb8_asked::{add, begin, try_get};
 use bb8_core::api::{Config, Moment};
 use bb8_core::internals::{BeginAnswer, PoolInternals, ReapAnswer, TryAnswer};
 use std::alloc::Global;
 use std::process::Abort;
 use std::time::Duration;
 
-/// Adds a connection at a moment.
-fn add(rt: &impl Abort, pool: &mut PoolInternals<u64>, at: Moment, number: u64) {
-    if !pool.fits_add() {
-        panic!(rt; "no handle is alive");
-    }
-    let _ = pool.add(at, number, false);
-}
-
 /// Adds so many connections at a moment.
 fn add_all(rt: &impl Abort, pool: &mut PoolInternals<u64>, at: Moment, many: u64) {
     for number in 0..many {
-        add(rt, pool, at, number);
+        assert!(rt; add(pool, at, number, false).is_some());
     }
 }
 
 /// Has a get be served.
 fn serve(rt: &impl Abort, pool: &mut PoolInternals<u64>, at: Moment) {
-    if !pool.fits_begin() {
-        panic!(rt; "no handle is alive");
-    }
-    let BeginAnswer::Begun(get) = pool.begin(at) else {
+    let Some(BeginAnswer::Begun(get)) = begin(pool, at) else {
         panic!(rt; "no get began");
     };
-    if !pool.fits_try(get) {
-        panic!(rt; "the get may not try");
-    }
-    let TryAnswer::Served(..) = pool.try_get(at, get) else {
+    let Some(TryAnswer::Served(..)) = try_get(pool, at, get) else {
         panic!(rt; "the get was not served");
     };
 }

@@ -1,10 +1,9 @@
 //! Runs in which any one request for memory is refused, or all from any on, as `refusals/run` makes them. These tests hold with refusals and
 //! without; the others need all of their memory.
 
-use super::steps::{
-    Link, NOW, add, begin, failed, give_up, join, leave, opened, put_back, try_get,
-};
+use super::steps::{Link, NOW};
 use super::{assert_equal, unchecked};
+use bb8_asked::{add, begin, failed, give_up, join, leave, opened, put_back, try_get};
 use bb8_core::internals::{
     AddAnswer, BeginAnswer, ClaimAnswer, FailedAnswer, GetKey, GiveUpAnswer, Grant, JoinAnswer,
     LeaveAnswer, OpenedAnswer, PoolInternals, PutBackAnswer, ReapAnswer, Reason, TryAnswer,
@@ -300,7 +299,7 @@ fn number_of(notified: Option<GetKey>) -> Option<u64> {
 
 /// What an adding is answered, of which the next number is known. A refused connection has to be the one that was handed in.
 fn added(rt: &impl Abort, pool: &mut PoolInternals<Link>, number: u64, broken: bool) -> Answer {
-    match add(rt, pool, link_of(number), broken) {
+    match add(pool, NOW, link_of(number), broken).expect(rt, "the step fits") {
         AddAnswer::Added(key, notified) => Answer::Added(key.number, number_of(notified)),
         AddAnswer::Broken(conn) => {
             assert_equal(&rt, conn, link_of(number));
@@ -320,7 +319,7 @@ fn added(rt: &impl Abort, pool: &mut PoolInternals<Link>, number: u64, broken: b
 /// What the bare state answers to a try. The connection that is served has to be the one that came in.
 fn tried(rt: &impl Abort, pool: &mut PoolInternals<Link>, get: u64) -> Answer {
     let get = pool.find_get(get).expect(rt, "the get is alive");
-    match try_get(rt, pool, get) {
+    match try_get(pool, NOW, get).expect(rt, "the step fits") {
         TryAnswer::Served(key, conn, grant) => {
             assert_equal(&rt, conn, link_of(key.number));
             Answer::Served(key.number, grant)
@@ -333,7 +332,7 @@ fn tried(rt: &impl Abort, pool: &mut PoolInternals<Link>, get: u64) -> Answer {
 /// What the bare state answers to a return.
 fn returned(rt: &impl Abort, pool: &mut PoolInternals<Link>, number: u64, broken: bool) -> Answer {
     let key = pool.find(number).expect(rt, "the connection is out");
-    match put_back(rt, pool, key, link_of(number), broken) {
+    match put_back(pool, NOW, key, link_of(number), broken).expect(rt, "the step fits") {
         PutBackAnswer::Kept(notified) => Answer::Kept(number, number_of(notified)),
         PutBackAnswer::Closed(_, grant, notified) => {
             Answer::Closed(number, grant, number_of(notified))
@@ -344,7 +343,7 @@ fn returned(rt: &impl Abort, pool: &mut PoolInternals<Link>, number: u64, broken
 /// What the bare state answers to an opening.
 fn entered(rt: &impl Abort, pool: &mut PoolInternals<Link>, number: u64) -> Answer {
     let key = pool.find(number).expect(rt, "the approval stands");
-    match opened(rt, pool, key, link_of(number)) {
+    match opened(pool, NOW, key, link_of(number)).expect(rt, "the step fits") {
         OpenedAnswer::Entered(notified) => Answer::Entered(number, number_of(notified)),
         OpenedAnswer::Late(_) => Answer::Late(number),
     }
@@ -374,7 +373,7 @@ fn answer(rt: &impl Abort, pool: &mut PoolInternals<Link>, next: u64, act: Act) 
         return Answer::Unfit;
     }
     match act {
-        Act::Begin => match begin(rt, pool) {
+        Act::Begin => match begin(pool, NOW).expect(rt, "the step fits") {
             BeginAnswer::Begun(get) => Answer::Begun(get.number),
             BeginAnswer::Memory => Answer::Memory,
             BeginAnswer::Exhausted => Answer::Exhausted,
@@ -383,7 +382,7 @@ fn answer(rt: &impl Abort, pool: &mut PoolInternals<Link>, next: u64, act: Act) 
         Act::CheckedOk(_) | Act::CheckedErr(..) => panic!(rt; "the pool checks nothing"),
         Act::GiveUp(get, reason, _) => {
             let get = pool.find_get(get).expect(rt, "the get is alive");
-            match give_up(rt, pool, get, reason) {
+            match give_up(pool, NOW, get, reason, None, false, 0).expect(rt, "the step fits") {
                 GiveUpAnswer::GaveUp(notified) => Answer::GaveUp(number_of(notified)),
                 _ => panic!(rt; "{get:?} held nothing"),
             }
@@ -400,16 +399,16 @@ fn answer(rt: &impl Abort, pool: &mut PoolInternals<Link>, next: u64, act: Act) 
         Act::State => Answer::Shown(pool.state(NOW)),
         Act::Failed(number) => {
             let key = pool.find(number).expect(rt, "the approval stands");
-            match failed(rt, pool, key) {
+            match failed(pool, NOW, key).expect(rt, "the step fits") {
                 FailedAnswer::GivenBack => Answer::GivenBack,
             }
         }
-        Act::Join => match join(rt, pool) {
+        Act::Join => match join(pool, NOW).expect(rt, "the step fits") {
             JoinAnswer::Joined => Answer::Joined,
             JoinAnswer::Exhausted => Answer::Exhausted,
         },
         Act::Leave => {
-            let LeaveAnswer::Left(closed) = leave(rt, pool);
+            let LeaveAnswer::Left(closed) = leave(pool, NOW).expect(rt, "the step fits");
             Answer::Left(closed)
         }
         Act::Look => Answer::Looked(NOW, pool.look(NOW).alive),

@@ -1,15 +1,8 @@
 //! Gets that are polled by hand over the plain state.
-ghost use Rattle.std.specs.Prelude.{◌≡◌, ℕ, true};
-ghost use Rattle.bb8_ledger.specs.Ledger.{Ledger};
-ghost use Rattle.bb8_core.specs.Run.{act_with};
-ghost use Rattle.bb8_core.specs.Shown.{Means};
-ghost use Rattle.bb8_ledger.specs.Table as table;
-ghost use Rattle.bb8_ledger.specs.Table.{IsLegal};
 
 use super::{Refused, SlowManager, StoppedClock, assert_equal};
 use bb8::{Config, Moment, NopErrorSink, RunError, Statistics};
 use bb8_core::internals::{AddAnswer, Key, PoolInternals};
-use bb8_core::replay::{Act, Event, fits};
 use bb8_gets::{Calls, GetState, Taken};
 use futures::task::Poll;
 use std::alloc::Global;
@@ -63,20 +56,9 @@ fn cancel(pool: &mut PoolInternals<u64>, get: GetState<u64, (), ()>, at: u64) {
     get.cancel_step(&mut calls, pool);
 }
 
-/// Asserts that what happens fits.
-fn assert_fits(rt: &impl Abort, pool: &PoolInternals<u64>, act: Act)
-    ensures { (conn : ℕ → ℕ) (l : Ledger ℕ) → IsLegal l → Means l pool.now
-        → table.fits l (act_with conn l act) ≡ true }
-{
-    if !fits(pool, Event { at: Moment(0), act }) {
-        panic!(rt; "{act:?} does not fit");
-    }
-}
-
 /// Adds a connection, and tells its key.
 fn add(rt: &impl Abort, pool: &mut PoolInternals<u64>, at: u64, connection: u64) -> Key {
-    assert_fits(rt, pool, Act::Add(false));
-    let AddAnswer::Added(key, _) = pool.add(Moment(at), connection, false) else {
+    let Some(AddAnswer::Added(key, _)) = bb8_asked::add(pool, Moment(at), connection, false) else {
         panic!(rt; "{connection} was not added");
     };
     key
@@ -84,8 +66,8 @@ fn add(rt: &impl Abort, pool: &mut PoolInternals<u64>, at: u64, connection: u64)
 
 /// Gives back a connection that a guard holds.
 fn put_back(rt: &impl Abort, pool: &mut PoolInternals<u64>, key: Key, connection: u64) {
-    assert_fits(rt, pool, Act::PutBack(key.number, false));
-    drop(pool.put_back(Moment(0), key, connection, false));
+    let answer = bb8_asked::put_back(pool, Moment(0), key, connection, false);
+    assert!(rt; answer.is_some(), "no guard holds {key:?}");
 }
 
 fn statistics_of(pool: &mut PoolInternals<u64>) -> Statistics {

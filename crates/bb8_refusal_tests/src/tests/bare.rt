@@ -1,14 +1,12 @@
 //! A run over the bare state with checks that pass and fail, gets that are let go, addings and reaps: no connection is lost, whatever
 //! requests for memory are refused. That each answer is allowed is proved.
 
-use super::steps::{
-    Held, add, begin, fail, give_up, give_up_held, opened, pass, put_back, try_get,
-};
 use super::{Board, Counted, assert_equal, is_refused_afterwards};
+use bb8_asked::{add, begin, checked_err, checked_ok, give_up, opened, put_back, try_get};
 use bb8_core::api::{Config, Moment};
 use bb8_core::internals::{
-    AddAnswer, BeginAnswer, CheckedErrAnswer, ClaimAnswer, GetKey, GiveUpAnswer, Grant,
-    OpenedAnswer, PoolInternals, PutBackAnswer, ReapAnswer, TryAnswer,
+    AddAnswer, BeginAnswer, CheckedErrAnswer, CheckedOkAnswer, ClaimAnswer, GetKey, GiveUpAnswer,
+    Grant, Key, OpenedAnswer, PoolInternals, PutBackAnswer, ReapAnswer, Reason, TryAnswer,
 };
 use std::process::Abort;
 use std::test::Fail;
@@ -16,6 +14,14 @@ use std::time::Duration;
 
 /// How many connections the pool may have.
 const SIZE: u32 = 4;
+
+/// A connection, where it stands, and the get that holds it.
+#[derive(Drop)]
+struct Held {
+    get: GetKey,
+    key: Key,
+    conn: Counted,
+}
 
 /// A bare state, its connections, and what its run met.
 #[derive(Drop)]
@@ -67,7 +73,7 @@ impl Run {
                 return Ok(());
             };
             let conn = self.board.make()?;
-            let OpenedAnswer::Entered(_) = opened(rt, &mut self.pool, self.at, key, conn) else {
+            let Some(OpenedAnswer::Entered(_)) = opened(&mut self.pool, self.at, key, conn) else {
                 panic!(rt; "no handle is alive");
             };
         }
@@ -76,74 +82,96 @@ impl Run {
 
     /// Begins a get, where there is memory for it.
     fn begin(&mut self, rt: &impl Abort) -> Option<GetKey> {
-        match begin(rt, &mut self.pool, self.at) {
-            BeginAnswer::Begun(get) => Some(get),
-            BeginAnswer::Memory => {
+        match begin(&mut self.pool, self.at) {
+            Some(BeginAnswer::Begun(get)) => Some(get),
+            Some(BeginAnswer::Memory) => {
                 self.refused = self.refused.saturating_add(1);
                 None
             }
-            BeginAnswer::Exhausted => panic!(rt; "no number is left"),
+            _ => panic!(rt; "no handle is alive, or no number is left"),
         }
     }
 
     /// What a get takes, if it does not wait.
-    fn take(&mut self, rt: &impl Abort, get: GetKey) -> Option<Held<Counted>> {
-        match try_get(rt, &mut self.pool, self.at, get) {
-            TryAnswer::Taken(key, conn, grant) => {
+    fn take(&mut self, rt: &impl Abort, get: GetKey) -> Option<Held> {
+        match try_get(&mut self.pool, self.at, get) {
+            Some(TryAnswer::Taken(key, conn, grant)) => {
                 self.note(grant);
                 Some(Held { get, key, conn })
             }
-            TryAnswer::Waiting(grant) => {
+            Some(TryAnswer::Waiting(grant)) => {
                 self.note(grant);
                 self.waited = self.waited.saturating_add(1);
                 None
             }
-            TryAnswer::Served(..) => panic!(rt; "{get:?} was served unchecked"),
+            _ => panic!(rt; "{get:?} may not try, or was served unchecked"),
         }
     }
 
     /// Lets a get go that holds nothing.
     fn let_go(&mut self, rt: &impl Abort, get: GetKey) {
-        let GiveUpAnswer::GaveUp(_) = give_up(rt, &mut self.pool, self.at, get) else {
-            panic!(rt; "{get:?} held a connection");
-        };
+        let gone = give_up(
+            &mut self.pool,
+            self.at,
+            get,
+            Reason::TimedOut,
+            None,
+            false,
+            0,
+        );
+        assert!(rt;
+            matches!(gone, Some(GiveUpAnswer::GaveUp(_))),
+            "{get:?} held something"
+        );
     }
 
     /// The check passes: a guard has the connection, and gives it back.
-    fn passes(&mut self, rt: &impl Abort, held: Held<Counted>) {
+    fn passes(&mut self, rt: &impl Abort, held: Held) {
         let Held { get, key, conn } = held;
-        let key = pass(rt, &mut self.pool, self.at, get, key.place);
+        let Some(CheckedOkAnswer::Served(key)) = checked_ok(&mut self.pool, self.at, get, key.place)
+        else {
+            panic!(rt; "{get:?} holds nothing");
+        };
         self.served = self.served.saturating_add(1);
-        let PutBackAnswer::Kept(_) = put_back(rt, &mut self.pool, self.at, key, conn, false) else {
+        let Some(PutBackAnswer::Kept(_)) = put_back(&mut self.pool, self.at, key, conn, false)
+        else {
             panic!(rt; "{key:?} was closed");
         };
     }
 
     /// The check fails: the connection is closed, and the get, which then holds nothing, is let go.
-    fn fails(&mut self, rt: &impl Abort, held: Held<Counted>, broken: bool) {
-        let get = held.get;
-        let CheckedErrAnswer::Closed(_, conn, grant, _) = fail(
-            rt,
-            &mut self.pool,
-            self.at,
-            held,
-            broken,
-        );
+    fn fails(&mut self, rt: &impl Abort, held: Held, broken: bool) {
+        let Held { get, key, conn } = held;
+        let answer = checked_err(&mut self.pool, self.at, get, conn, broken, key.place);
+        let Some(CheckedErrAnswer::Closed(_, conn, grant, _)) = answer else {
+            panic!(rt; "{get:?} holds nothing");
+        };
         drop(conn);
         self.note(grant);
         self.let_go(rt, get);
     }
 
     /// The get is let go with the connection that it holds.
-    fn lets_go_held(&mut self, rt: &impl Abort, held: Held<Counted>, broken: bool) {
-        match give_up_held(rt, &mut self.pool, self.at, held, broken) {
-            GiveUpAnswer::Kept(key, _) => assert!(rt; !broken, "{key:?} was kept"),
-            GiveUpAnswer::Closed(key, conn, grant, _) => {
+    fn lets_go_held(&mut self, rt: &impl Abort, held: Held, broken: bool) {
+        let Held { get, key, conn } = held;
+        let why = Reason::Cancelled;
+        let answer = give_up(
+            &mut self.pool,
+            self.at,
+            get,
+            why,
+            Some(conn),
+            broken,
+            key.place,
+        );
+        match answer {
+            Some(GiveUpAnswer::Kept(key, _)) => assert!(rt; !broken, "{key:?} was kept"),
+            Some(GiveUpAnswer::Closed(key, conn, grant, _)) => {
                 assert!(rt; broken, "{key:?} was closed");
                 drop(conn);
                 self.note(grant);
             }
-            GiveUpAnswer::GaveUp(_) => panic!(rt; "the get held a connection"),
+            _ => panic!(rt; "{get:?} held nothing"),
         }
     }
 
@@ -168,7 +196,7 @@ impl Run {
     fn adds(&mut self, rt: &impl Abort) -> Result<(), Fail> {
         for _ in 0..2 {
             let conn = self.board.make()?;
-            match add(rt, &mut self.pool, self.at, conn) {
+            match add(&mut self.pool, self.at, conn, false).expect(rt, "a handle is alive") {
                 AddAnswer::Added(..) | AddAnswer::NoCapacity(_) => {}
                 AddAnswer::Withheld(conn) => {
                     drop(conn);

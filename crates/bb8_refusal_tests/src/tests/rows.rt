@@ -1,7 +1,7 @@
 //! Worked rows in which memory is refused, once or for good: the answers before, at and after the refusal.
 
-use super::steps::{add, begin, opened, put_back, try_get};
 use super::{assert_equal, is_refused, is_refused_afterwards};
+use bb8_asked::{add, begin, opened, put_back, try_get};
 use bb8_core::api::{Config, Moment};
 use bb8_core::internals::{
     AddAnswer, BeginAnswer, ClaimAnswer, GetKey, Grant, Key, OpenedAnswer, PoolInternals,
@@ -84,12 +84,12 @@ impl Row {
         let before = self.pool.state(NOW);
         let mut conn = number;
         for _ in 0..2 {
-            match add(rt, &mut self.pool, NOW, conn) {
-                AddAnswer::Added(key, None) => {
+            match add(&mut self.pool, NOW, conn, false) {
+                Some(AddAnswer::Added(key, None)) => {
                     assert_equal(&rt, key.number, number);
                     return true;
                 }
-                AddAnswer::Withheld(back) => {
+                Some(AddAnswer::Withheld(back)) => {
                     assert_equal(&rt, (back, self.pool.state(NOW)), (number, before));
                     if self.stays_refused(rt) {
                         return false;
@@ -106,7 +106,7 @@ impl Row {
 
     /// A connection is added for which no memory is needed.
     fn adds_below(&mut self, rt: &impl Abort, number: u64) {
-        let AddAnswer::Added(key, None) = add(rt, &mut self.pool, NOW, number) else {
+        let Some(AddAnswer::Added(key, None)) = add(&mut self.pool, NOW, number, false) else {
             panic!(rt; "{number} was refused, or somebody was notified");
         };
         assert_equal(&rt, key.number, number);
@@ -115,17 +115,17 @@ impl Row {
     /// A get begins; where memory is refused, it does at the next ask, unless memory stays refused.
     fn begins(&mut self, rt: &impl Abort, number: u64) -> Option<GetKey> {
         for _ in 0..2 {
-            match begin(rt, &mut self.pool, NOW) {
-                BeginAnswer::Begun(get) => {
+            match begin(&mut self.pool, NOW) {
+                Some(BeginAnswer::Begun(get)) => {
                     assert_equal(&rt, get.number, number);
                     return Some(get);
                 }
-                BeginAnswer::Memory => {
+                Some(BeginAnswer::Memory) => {
                     if self.stays_refused(rt) {
                         return None;
                     }
                 }
-                BeginAnswer::Exhausted => panic!(rt; "no number is left"),
+                _ => panic!(rt; "no handle is alive, or no number is left"),
             }
         }
         panic!(rt; "get {number} was refused twice");
@@ -133,7 +133,7 @@ impl Row {
 
     /// A get begins for which no memory is needed.
     fn begins_below(&mut self, rt: &impl Abort, number: u64) -> GetKey {
-        let BeginAnswer::Begun(get) = begin(rt, &mut self.pool, NOW) else {
+        let Some(BeginAnswer::Begun(get)) = begin(&mut self.pool, NOW) else {
             panic!(rt; "get {number} was refused");
         };
         assert_equal(&rt, get.number, number);
@@ -142,7 +142,7 @@ impl Row {
 
     /// A get is served with this connection, and this is granted.
     fn is_served(&mut self, rt: &impl Abort, get: GetKey, number: u64) -> (Key, Grant) {
-        let TryAnswer::Served(key, conn, grant) = try_get(rt, &mut self.pool, NOW, get) else {
+        let Some(TryAnswer::Served(key, conn, grant)) = try_get(&mut self.pool, NOW, get) else {
             panic!(rt; "{get:?} was not served");
         };
         assert_equal(&rt, (key.number, conn), (number, number));
@@ -174,7 +174,7 @@ impl Row {
             panic!(rt; "nothing was claimed");
         };
         assert_equal(&rt, key.number, number);
-        let OpenedAnswer::Entered(None) = opened(rt, &mut self.pool, NOW, key, number) else {
+        let Some(OpenedAnswer::Entered(None)) = opened(&mut self.pool, NOW, key, number) else {
             panic!(rt; "no handle is alive, or somebody was notified");
         };
     }
@@ -200,7 +200,7 @@ fn is_withheld_past_the_peak(rt: &impl Abort, row: &mut Row) -> Option<bool> {
     let get = row.begins(rt, 0)?;
     let (key, grant) = row.is_served(rt, get, 0);
     assert_equal(&rt, grant, granted(2, 0));
-    let PutBackAnswer::Closed(conn, grant, None) = put_back(rt, &mut row.pool, NOW, key, 0, true)
+    let Some(PutBackAnswer::Closed(conn, grant, None)) = put_back(&mut row.pool, NOW, key, 0, true)
     else {
         panic!(rt; "a broken connection was kept, or somebody was notified");
     };

@@ -2,7 +2,7 @@
 //! A pool of 4,294,967,295 of them would take more than the addresses that there are.
 
 use super::assert_equal;
-use super::steps::{add, begin, opened, put_back, try_get};
+use bb8_asked::{add, begin, opened, put_back, try_get};
 use bb8_core::api::{Config, Moment};
 use bb8_core::internals::{
     AddAnswer, BeginAnswer, ClaimAnswer, GetKey, Grant, OpenedAnswer, PoolInternals, PutBackAnswer,
@@ -41,12 +41,12 @@ fn part(first: u64, count: u32, withheld: u32) -> Grant {
 /// A connection is added, which is to have this number; where memory is refused, it is added at the next ask.
 fn adds(rt: &impl Abort, pool: &mut PoolInternals<Vast>, number: u64) {
     for _ in 0..2 {
-        match add(rt, pool, NOW, Vast::new(number)) {
-            AddAnswer::Added(key, None) => {
+        match add(pool, NOW, Vast::new(number), false) {
+            Some(AddAnswer::Added(key, None)) => {
                 assert_equal(&rt, key.number, number);
                 return;
             }
-            AddAnswer::Withheld(_) => {}
+            Some(AddAnswer::Withheld(_)) => {}
             _ => panic!(rt; "there is room, and nobody waits"),
         }
     }
@@ -56,7 +56,7 @@ fn adds(rt: &impl Abort, pool: &mut PoolInternals<Vast>, number: u64) {
 /// A get begins; where memory is refused, it does at the next ask.
 fn begins(rt: &impl Abort, pool: &mut PoolInternals<Vast>) -> GetKey {
     for _ in 0..2 {
-        if let BeginAnswer::Begun(get) = begin(rt, pool, NOW) {
+        if let Some(BeginAnswer::Begun(get)) = begin(pool, NOW) {
             return get;
         }
     }
@@ -80,12 +80,12 @@ fn vast_grants_are_withheld_past_the_peak(rt: HostRuntime) {
     adds(&rt, &mut pool, 1);
     assert_equal(&rt, pool.fill(NOW, true), part(2, 0, MANY - 2));
     let get = begins(&rt, &mut pool);
-    let TryAnswer::Served(key, conn, grant) = try_get(&rt, &mut pool, NOW, get) else {
+    let Some(TryAnswer::Served(key, conn, grant)) = try_get(&mut pool, NOW, get) else {
         panic!(&rt; "it was not served");
     };
     assert_equal(&rt, (conn.words[0], grant), (0, part(2, 0, MANY - 2)));
     // One place is free below the peak: for that one no memory is needed.
-    let PutBackAnswer::Closed(conn, grant, None) = put_back(&rt, &mut pool, NOW, key, conn, true)
+    let Some(PutBackAnswer::Closed(conn, grant, None)) = put_back(&mut pool, NOW, key, conn, true)
     else {
         panic!(&rt; "a broken connection was kept, or somebody was notified");
     };
@@ -93,7 +93,7 @@ fn vast_grants_are_withheld_past_the_peak(rt: HostRuntime) {
     let ClaimAnswer::Claimed(Some(key)) = pool.claim(NOW) else {
         panic!(&rt; "nothing was claimed");
     };
-    let OpenedAnswer::Entered(None) = opened(&rt, &mut pool, NOW, key, Vast::new(2)) else {
+    let Some(OpenedAnswer::Entered(None)) = opened(&mut pool, NOW, key, Vast::new(2)) else {
         panic!(&rt; "somebody was notified");
     };
     let state = pool.state(NOW);

@@ -1,6 +1,7 @@
 //! A reaper that is polled by hand over the plain state.
 
 use super::assert_equal;
+use bb8_asked::{add, leave};
 use bb8_core::api::{Config, Moment};
 use bb8_core::internals::{Grant, PoolInternals};
 use bb8_tasks::{Reaped, Reaper, ReaperAnswer};
@@ -24,10 +25,7 @@ fn pool_with_one(rt: &impl Abort, alloc: Global) -> PoolInternals<u64> {
         panic!(rt; "the settings are not lawful");
     }
     let mut pool = PoolInternals::new(alloc, config);
-    if !pool.fits_add() {
-        panic!(rt; "no handle is alive");
-    }
-    let _ = pool.add(Moment(0), 7, false);
+    assert!(rt; add(&mut pool, Moment(0), 7, false).is_some());
     pool
 }
 
@@ -67,10 +65,7 @@ fn reaper_closes_what_idled_out(rt: HostRuntime) {
 fn reaper_ends_after_the_last_leave(rt: HostRuntime) {
     let mut pool = pool_with_one(&rt, rt.alloc());
     let mut reaper = Reaper::new(Moment(0), Duration::from_secs(1));
-    if !pool.fits_leave() {
-        panic!(&rt; "no handle is alive");
-    }
-    let _ = pool.leave(Moment(0));
+    assert!(&rt; leave(&mut pool, Moment(0)).is_some());
     assert_equal(
         &rt,
         reaper.poll(Moment(HALF), &mut pool),

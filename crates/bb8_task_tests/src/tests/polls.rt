@@ -1,6 +1,7 @@
 //! Replenishings that are polled by hand over the plain state, with a manager that counts.
 
 use super::assert_equal;
+use bb8_asked::leave;
 use bb8_core::api::{
     Clock, Config, CustomizeConnection, ManageConnection, Moment, NopCustomizer, NopErrorSink,
 };
@@ -212,10 +213,7 @@ fn no_handle_gives_the_approval_back(rt: HostRuntime) {
         task.poll(Moment(400 * MILLI), &mut opener, &config, &mut pool),
         ReplenishAnswer::Pending,
     );
-    if !pool.fits_leave() {
-        panic!(&rt; "no handle is alive");
-    }
-    let _ = pool.leave(Moment(0));
+    assert!(&rt; leave(&mut pool, Moment(0)).is_some());
     assert!(&rt; pool.find(approval.number).is_some());
     assert_equal(
         &rt,

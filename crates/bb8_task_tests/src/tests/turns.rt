@@ -2,6 +2,7 @@
 ghost use Rattle.std.specs.Prelude.{⊤};
 
 use super::assert_equal;
+use bb8_asked::{begin, leave, try_get};
 use bb8_core::api::{Config, Moment};
 use bb8_core::internals::{BeginAnswer, ClaimAnswer, Grant, Key, Looked, PoolInternals};
 use bb8_tasks::{
@@ -207,24 +208,15 @@ impl Driven {
     /// A get begins and waits, for which an approval is granted.
     fn wait(&mut self, rt: &impl Abort) {
         let pool = &mut self.home.pool;
-        if !pool.fits_begin() {
-            panic!(rt; "no handle is alive");
-        }
-        let BeginAnswer::Begun(get) = pool.begin(Moment(0)) else {
+        let Some(BeginAnswer::Begun(get)) = begin(pool, Moment(0)) else {
             panic!(rt; "no get began");
         };
-        if !pool.fits_try(get) {
-            panic!(rt; "the get is not alive");
-        }
-        let _ = pool.try_get(Moment(0), get);
+        assert!(rt; try_get(pool, Moment(0), get).is_some());
     }
 
     /// The only handle is dropped.
     fn leave(&mut self, rt: &impl Abort) {
-        if !self.home.pool.fits_leave() {
-            panic!(rt; "no handle is alive");
-        }
-        let _ = self.home.pool.leave(Moment(0));
+        assert!(rt; leave(&mut self.home.pool, Moment(0)).is_some());
     }
 
     /// The driver is dropped.

@@ -1,4 +1,0 @@
-use Rattle.bb8_core_tests.proofs.tests.steps.put_back.Goals as goal
-
-pub put_back-requires : goal.put_back-requires
-put_back-requires g c = c.assert_fits.ensures (λ _. c.args.conn)
