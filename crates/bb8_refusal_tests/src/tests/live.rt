@@ -1,6 +1,6 @@
 //! Live pools that are built, cloned, driven and asked for connections, whatever requests for memory are refused: an answer is what it is with
 //! all memory, or the refusal that its call names, and each connection that was opened or added is dropped once.
-ghost use Rattle.std.specs.Prelude.{Some};
+ghost use Rattle.std.specs.Prelude.{◌<◌, Some};
 ghost use Rattle.bb8.specs.Parts.{IsBlankOf, unchecked_of};
 
 use super::{Board, Counted, assert_equal, is_refused, is_refused_afterwards};
@@ -72,7 +72,9 @@ impl ManageConnection for Server {
 }
 
 /// A builder of pools that check nothing.
-fn builder(max_size: u32, min_idle: u32) -> Builder<Server> {
+fn builder(max_size: u32, min_idle: u32) -> Builder<Server>
+    requires { 0 < max_size }
+{
     Builder::new()
         .max_size(max_size)
         .min_idle(Some(min_idle))
@@ -267,7 +269,12 @@ fn is_driven<R: Runtime + Abort + Threads + Eprint, L: PoolParts + 'static>(
         board: board.try_clone()?,
         answers: false,
     };
-    let Ok(pool) = builder(1, 1).build_unchecked(server, clock, rt, blank) else {
+    let built = Builder::new()
+        .max_size(1)
+        .min_idle(Some(1))
+        .test_on_check_out(false)
+        .build_unchecked(server, clock, rt, blank);
+    let Ok(pool) = built else {
         return Ok(Met::Refusal);
     };
     let pool: Pool<Server, NopErrorSink, NopCustomizer, SetClock, R, L> = pool;
