@@ -173,9 +173,28 @@ impl<R: Runtime + Abort> Trial<R, Server> for Numbers {
     }
 }
 
+/// Each preparation is pending at its first poll, so the pool is there at the second.
+#[derive(Drop)]
+struct BuildsAtTheSecondPoll;
+
+impl<R: Runtime + Abort> BuildingTrial<R, Server> for BuildsAtTheSecondPoll {
+    type Outcome = ();
+
+    fn run<B: Unbuilt<Server>>(self, rt: R, tools: &Tools, mut building: B) {
+        assert!(&rt; building.poll(&tools.task).is_pending());
+        assert!(&rt; matches!(building.poll(&tools.task), Poll::Ready(Ok(_))));
+    }
+}
+
 #[test]
 fn customizes_what_it_opens(rt: HostRuntime) -> Result<(), Fail> {
     let board = Board::new(rt.alloc())?;
+    let builder = builder_on(&board)?
+        .max_size(3)
+        .min_idle(Some(2))
+        .test_on_check_out(false)
+        .connection_customizer(Numbering::up_to(2));
+    try_building_on(rt, server_on(&board)?, builder, BuildsAtTheSecondPoll)?;
     let builder = builder_on(&board)?
         .max_size(3)
         .min_idle(Some(2))

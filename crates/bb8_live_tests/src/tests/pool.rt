@@ -37,14 +37,15 @@ impl<R: Runtime + Abort> Trial<R, Server> for LendsTwo {
         let mut broken = connection_on(&self.board, 0)?;
         broken.is_broken = true;
         assert!(&rt; pool.add(connection_on(&self.board, 7)?).is_ok());
-        assert!(&rt; matches!(pool.add(broken), Err(AddError::Broken(_))));
+        let Err(AddError::Broken(back)) = pool.add(broken) else {
+            panic!(&rt; "a broken connection was not refused as such");
+        };
+        assert_equal(&rt, back.number, 0);
         assert!(&rt; pool.add(connection_on(&self.board, 8)?).is_ok());
-        assert!(&rt;
-            matches!(
-                pool.add(connection_on(&self.board, 9)?),
-                Err(AddError::NoCapacity(_))
-            )
-        );
+        let Err(AddError::NoCapacity(back)) = pool.add(connection_on(&self.board, 9)?) else {
+            panic!(&rt; "there was room for a third connection");
+        };
+        assert_equal(&rt, back.number, 9);
         let (Some(first), Some(mut second)) = (pool.lend(task), pool.lend(task)) else {
             panic!(&rt; "two gets were not served");
         };
