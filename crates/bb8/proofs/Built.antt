@@ -82,7 +82,7 @@ module _ {M S Z K R L C E N V A : Type 0} {m : ManagerOf M C E N V} {d : DebugOf
     (tells : K → Moment → Type 0) where
   failed : (origin : Basis M K × Z) (pool : Pool M S Z K R L C E N V A m d l) (tasks : List (Replenish C N A)) (round : Round (List (Replenish C N A)) E) → origin_of pool ≡ origin
       → PoolRounds z sinks tells pool tasks round → Ended (λ e. ErrorAt m z origin (errors.User e)) round
-  failed origin pool tasks round is rounds = rw (sym is) (round_failed z sinks tells (arc_value pool.shared) tasks round rounds)
+  failed origin pool tasks round is rounds = rw (sym is) (round_failed z sinks tells (arc_value pool.shared) tasks round rounds.0)
 
 module _ {M S Z K R L C E N V A : Type 0} {m : ManagerOf M C E N V} {d : DebugOf E} {l : PartsOf L} {p : LedgerOf L} (z : CustomizerOf Z C E A) (sinks : S → E → Type 0)
     (tells : K → Moment → Type 0) where

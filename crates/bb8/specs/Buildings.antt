@@ -16,6 +16,7 @@ use Rattle.bb8_tasks.specs.declared.building.Site.{Site}
 use Rattle.bb8_tasks.specs.declared.building.Site.TheVariants.{Planned, Opening, Done}
 use Rattle.bb8_tasks.specs.declared.replenish.Replenish.{Replenish}
 use Rattle.bb8_tasks.specs.declared.rounds.Round.{Round}
+use Rattle.bb8_tasks.specs.declared.rounds.Round.TheVariants.{Failed, Complete, Going}
 use Rattle.bb8_tasks.specs.Building.{Polls}
 use Rattle.bb8_tasks.specs.Sweeping.{AreFor}
 use Rattle.bb8_locked.specs.declared.locked.Parts.{Ghosts as PartsOf}
@@ -24,6 +25,7 @@ use Rattle.bb8.specs.declared.building.Building.{Building}
 use Rattle.bb8.specs.declared.building.Plan.{Plan}
 use Rattle.bb8.specs.declared.pool.Pool.{Pool}
 use Rattle.bb8.specs.Choices.{Choices}
+use Rattle.bb8.specs.Handles.{Leaves}
 use Rattle.bb8_shared.specs.Linked.{Answers}
 use Rattle.bb8_shared.specs.Opening.{OwnRounds, OwnDropsTasks}
 use Rattle.bb8.specs.Pools.{clock_in, customizer_in, made_in, manager_in, settings_in, sink_in}
@@ -53,9 +55,15 @@ module _ {M S Z K R L C E N V A : Type 0} {m : ManagerOf M C E N V} {d : DebugOf
 
 module _ {M S Z K R L C E N V A : Type 0} {m : ManagerOf M C E N V} {d : DebugOf E} {l : PartsOf L} (z : CustomizerOf Z C E A) (sinks : S → E → Type 0)
     (tells : K → Moment → Type 0) where
+  -- where the first connections of a pool failed the pool is dropped
+  abbrev pub AfterFirst : Pool M S Z K R L C E N V A m d l → Round (List (Replenish C N A)) E → Type 0
+  AfterFirst pool (Failed e) = Leaves tells (arc_value pool.shared)
+  AfterFirst pool Complete = ⊤
+  AfterFirst pool (Going tasks) = ⊤
+
   -- a round of the tasks that open a pool's first connections
   abbrev pub PoolRounds : Pool M S Z K R L C E N V A m d l → List (Replenish C N A) → Round (List (Replenish C N A)) E → Type 0
-  PoolRounds pool tasks round = OwnRounds z sinks tells (arc_value pool.shared) tasks round
+  PoolRounds pool tasks round = OwnRounds z sinks tells (arc_value pool.shared) tasks round × AfterFirst pool round
 
 module _ {M S Z K R L C E N V A : Type 0} {m : ManagerOf M C E N V} {d : DebugOf E} {l : PartsOf L} {p : LedgerOf L} (z : CustomizerOf Z C E A) (sinks : S → E → Type 0)
     (tells : K → Moment → Type 0) where
@@ -71,10 +79,10 @@ module _ {M S Z K R L C E N V A : Type 0} {m : ManagerOf M C E N V} {d : DebugOf
   abbrev pub GivesBuilding : Building M S Z K R L C E N V A m d l p → Result (Pool M S Z K R L C E N V A m d l) (RunError E) → Type 0
   GivesBuilding building out = Answers PollsSite building.site out
 
-  -- a building that stands here is let go: its tasks are
+  -- a building that stands here is let go: its tasks are, and its pool is dropped
   abbrev pub EndsAt : Site (Plan M S Z K R L l p) (Pool M S Z K R L C E N V A m d l) (List (Replenish C N A)) → Type 0
   EndsAt (Planned plan) = ⊤
-  EndsAt (Opening pool tasks) = OwnDropsTasks z sinks tells (arc_value pool.shared) tasks
+  EndsAt (Opening pool tasks) = OwnDropsTasks z sinks tells (arc_value pool.shared) tasks × Leaves tells (arc_value pool.shared)
   EndsAt Done = ⊤
 
   abbrev pub CancelsBuilding : Building M S Z K R L C E N V A m d l p → Type 0

@@ -5,12 +5,16 @@ use Rattle.std.specs.declared.fmt.Debug.{Ghosts as DebugOf}
 use Rattle.bb8_types.specs.declared.api.customizers.CustomizeConnection.{Ghosts as CustomizerOf}
 use Rattle.bb8_types.specs.declared.api.managers.ManageConnection.{Ghosts as ManagerOf}
 use Rattle.bb8_types.specs.declared.api.moments.Moment.{Moment}
+use Rattle.bb8_tasks.specs.declared.opener.Opener.{Ghosts as OpenerOf}
+use Rattle.bb8_tasks.specs.declared.opener.PoolOpener.{PoolOpener}
+use Rattle.bb8_tasks.specs.declared.rounds.Reports.{Ghosts as ReportsOf}
 use Rattle.bb8_turns.specs.declared.turning.Turn.{Turn}
 use Rattle.bb8_turns.specs.declared.turning.Turning.{Turning}
 use Rattle.bb8_turns.specs.Turns.{is_ended, Begins}
 use Rattle.bb8_locked.specs.declared.locked.Parts.{Ghosts as PartsOf}
 use Rattle.bb8_shared.specs.declared.shared.Shared.{Shared}
-use Rattle.bb8_shared.specs.Turning.{OwnTurns}
+use Rattle.bb8_shared.specs.Opening.{pool_opener, pool_reports, AreOpenersOf}
+use Rattle.bb8_shared.specs.Turning.{LinkTurns, OwnTurns}
 use Rattle.bb8.specs.declared.driver.Driver.{Driver}
 use Rattle.bb8.specs.declared.driver.Driven.{Driven}
 use Rattle.bb8.specs.declared.pool.Pool.{Pool}
@@ -30,6 +34,18 @@ pub data Runs {T G : Type 0} (step : T → Turn → T → Type 0) (pauses : G �
   goes_on : (t t' : T) (g g' : G) (n : ℕ) (turn : Turn) (d : Driven) → step t turn t' → turn.ended ≡ false → pauses g true g'
       → Runs step pauses t' g' (one_more n) d → Runs step pauses t g n d
 
+-- What a run does on a pool, of which the handles share this, by any calls outside.
+module _ {M S Z K R L C E N V A W : Type 0} {m : ManagerOf M C E N V} {d : DebugOf E} {l : PartsOf L} (opener : OpenerOf W C E N A) (reports : ReportsOf W E)
+    (shared : Shared M S Z K R L C E N V m d l) where
+  -- the clock is read, and a turn made at that moment
+  abbrev pub LinkTurnsNow : Turning C N A × W → Turn → Turning C N A × W → Type 0
+  LinkTurnsNow before turn after =
+      (at : Moment) × (w : W) × reports.tells before.1 at w × LinkTurns opener reports shared at before.0 w turn after.0 after.1
+
+  -- a run of such turns
+  abbrev pub LinkRuns : {G : Type 0} → (G → Bool → G → Type 0) → Turning C N A → W → G → Driven → Type 0
+  LinkRuns pauses turning w gate d = Runs LinkTurnsNow pauses (turning, w) gate 0 d
+
 module _ {M S Z K R L C E N V A : Type 0} {m : ManagerOf M C E N V} {d : DebugOf E} {l : PartsOf L} where
   -- whether a driver has ended
   abbrev pub has_ended : Driver M S Z K R L C E N V A m d l → Bool
@@ -46,10 +62,9 @@ module _ {M S Z K R L C E N V A : Type 0} {m : ManagerOf M C E N V} {d : DebugOf
   TurnsDriver at driver turn driver' =
       (arc_value driver'.shared ≡ arc_value driver.shared) × OwnTurns z sinks tells (arc_value driver.shared) at driver.turning turn driver'.turning
 
-  -- a turn at a reading of the clock, by what a driver holds between its turns
-  abbrev pub TurnsNow : Shared M S Z K R L C E N V m d l → Turning C N A → Turn → Turning C N A → Type 0
-  TurnsNow shared turning turn turning' = (at : Moment) × tells shared.clock at × OwnTurns z sinks tells shared at turning turn turning'
-
   -- a run of turns of a driver, each at a reading of the pool's clock
   abbrev pub RunsDriver : {G : Type 0} → (G → Bool → G → Type 0) → Driver M S Z K R L C E N V A m d l → G → Driven → Type 0
-  RunsDriver pauses driver gate d = Runs (TurnsNow (arc_value driver.shared)) pauses driver.turning gate 0 d
+  RunsDriver pauses driver gate d =
+      (calls : PoolOpener M S Z K) × AreOpenersOf z sinks tells (arc_value driver.shared) calls
+      × LinkRuns (pool_opener z sinks tells (arc_value driver.shared)) (pool_reports z sinks tells (arc_value driver.shared)) (arc_value driver.shared)
+      pauses driver.turning calls gate d

@@ -1,13 +1,19 @@
--- What callers see of a list of guards: the connections that its guards hold, in order, how many they are, and how many they may be.
+-- What callers see of a list of guards: the connections that its guards hold, in order, how many they are, how many they may be, and what its
+-- drop does.
 use Rattle.std.specs.Prelude.{◌≡◌, ℕ, List, vec_len}
 use Rattle.std.specs.Arc.{arc_value}
+use Rattle.std.specs.List.{AllZip}
 use Rattle.std.specs.declared.fmt.Debug.{Ghosts as DebugOf}
 use Rattle.bb8_types.specs.declared.api.clocks.Clock.{Ghosts as ClockOf}
 use Rattle.bb8_types.specs.declared.api.customizers.CustomizeConnection.{Ghosts as CustomizerOf}
 use Rattle.bb8_types.specs.declared.api.managers.ManageConnection.{Ghosts as ManagerOf}
+use Rattle.bb8_types.specs.declared.api.moments.Moment.{Moment}
 use Rattle.bb8_types.specs.declared.api.sinks.ErrorSink.{Ghosts as SinkOf}
+use Rattle.bb8_locked.specs.declared.locked.Part.{Part}
 use Rattle.bb8_locked.specs.declared.locked.Parts.{Ghosts as PartsOf}
+use Rattle.bb8_shared.specs.Linked.{OwnReturns}
 use Rattle.bb8.specs.declared.guards.Guards.{Guards}
+use Rattle.bb8.specs.declared.guards.Ticket.{Ticket}
 use Rattle.bb8.specs.declared.pool.Pool.{Pool}
 use Rattle.bb8.specs.declared.pool.PooledConnection.{PooledConnection}
 
@@ -16,10 +22,18 @@ module _ {M S Z K R L C E N V A : Type 0} {m : ManagerOf M C E N V} {d : DebugOf
   abbrev pub connection_of : PooledConnection M S Z K R L C E N V A m d l → C
   connection_of guard = guard.taken.connection
 
+  -- where the connection of a guard goes back to, and its key
+  abbrev pub ticket_of : PooledConnection M S Z K R L C E N V A m d l → Ticket M S Z K R L C E N V m d l
+  ticket_of guard = record { shared = guard.shared; key = guard.taken.key }
+
 module _ {M S Z K R L C E N V A : Type 0} {m : ManagerOf M C E N V} {d : DebugOf E} {s : SinkOf S E} {z : CustomizerOf Z C E A} {k : ClockOf K} {l : PartsOf L} where
   -- the connections of the guards of a list
   abbrev pub connections_in : Guards M S Z K R L C E N V A m d s z k l → List C
   connections_in guards = guards.connections.items
+
+  -- where they go back to, and their keys
+  abbrev pub tickets_in : Guards M S Z K R L C E N V A m d s z k l → List (Ticket M S Z K R L C E N V m d l)
+  tickets_in guards = guards.tickets.items
 
   -- how many guards a list has
   abbrev pub number_in : Guards M S Z K R L C E N V A m d s z k l → ℕ
@@ -36,3 +50,15 @@ module _ {M S Z K R L C E N V A : Type 0} {m : ManagerOf M C E N V} {d : DebugOf
   -- both lists are of one pool
   abbrev pub AreOfOne : Guards M S Z K R L C E N V A m d s z k l → Guards M S Z K R L C E N V A m d s z k l → Type 0
   AreOfOne guards others = guards.shared.now ≡ others.shared.now
+
+module _ {M S Z K R L C E N V : Type 0} {m : ManagerOf M C E N V} {d : DebugOf E} {l : PartsOf L} (sinks : S → E → Type 0) (tells : K → Moment → Type 0) where
+  -- this connection comes back where this ticket says, under its key
+  abbrev pub ReturnsBy : Ticket M S Z K R L C E N V m d l → C → Type 0
+  ReturnsBy ticket connection =
+      (part : Part L) × OwnReturns sinks tells ticket.shared.now (record { key = ticket.key; connection = connection; part = part })
+
+module _ {M S Z K R L C E N V A : Type 0} {m : ManagerOf M C E N V} {d : DebugOf E} {s : SinkOf S E} {z : CustomizerOf Z C E A} {k : ClockOf K} {l : PartsOf L}
+    (sinks : S → E → Type 0) (tells : K → Moment → Type 0) where
+  -- each guard of a list gives its connection back
+  abbrev pub ReturnsEach : Guards M S Z K R L C E N V A m d s z k l → Type 0
+  ReturnsEach guards = AllZip (ReturnsBy sinks tells) (tickets_in guards) (connections_in guards)

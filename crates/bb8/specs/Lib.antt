@@ -22,3 +22,10 @@ pub use Rattle.bb8_shared.specs.Opening
 pub use Rattle.bb8_shared.specs.Returns
 pub use Rattle.bb8_shared.specs.States
 pub use Rattle.bb8_shared.specs.Turning
+pub use Rattle.bb8_tasks.specs.Bounded
+pub use Rattle.bb8_tasks.specs.Building
+pub use Rattle.bb8_tasks.specs.Dedicating
+pub use Rattle.bb8_tasks.specs.ReapHomes
+pub use Rattle.bb8_tasks.specs.Reaping
+pub use Rattle.bb8_tasks.specs.Replenishing
+pub use Rattle.bb8_tasks.specs.Sweeping

@@ -21,6 +21,11 @@ use Rattle.bb8.specs.declared.pool.Pool.{Pool}
 use Rattle.bb8.specs.Handles.{IsHandleOf, Leaves}
 use Rattle.bb8_shared.specs.Linked.{Answers, OwnPolls, OwnCancels}
 
+module _ {M S Z K R L C E N V A : Type 0} {m : ManagerOf M C E N V} {d : DebugOf E} {l : PartsOf L} where
+  -- a guard with this connection in place of its own
+  abbrev pub with_connection : OwnedConnection M S Z K R L C E N V A m d l → C → OwnedConnection M S Z K R L C E N V A m d l
+  with_connection guard connection = record guard { taken = record guard.taken { connection = connection } }
+
 -- What the steps of such a get do with its handle.
 module _ {M S Z K R L C E N V : Type 0} {m : ManagerOf M C E N V} {d : DebugOf E} {l : PartsOf L} (sinks : S → E → Type 0) (tells : K → Moment → Type 0) where
   -- a get with a handle of its own is let go: it is given up, where it began and was not answered, and the handle leaves

@@ -105,7 +105,8 @@ impl<
     }
 
     /// How many idle connections the pool tries for: it opens new ones where fewer are idle or being opened, as far as `max_size`
-    /// allows. None by default, which counts as 0. As upstream.
+    /// allows, and so many are left idle whatever `idle_timeout` says. None by default, which counts as 0. As upstream, but that its code
+    /// leaves none for it.
     ///
     /// More than `max_size` makes the settings unlawful, whichever of the two was set first.
     pub fn min_idle(mut self, min_idle: Option<u32>) -> Self
@@ -143,12 +144,13 @@ impl<
         self
     }
 
-    /// How long a connection stays idle: one that has been idle as long or longer is closed at a reap. 10 minutes by default. With None
-    /// a connection may be idle for ever.
+    /// How long a connection stays idle: one that has been idle as long or longer is closed at a reap, as long as more than `min_idle` are
+    /// idle; the one that became idle first goes first, by both strategies. 10 minutes by default. With None a connection may be idle for
+    /// ever.
     ///
-    /// Such a connection is closed also where fewer than `min_idle` are then left, and new ones are opened in their place: as
-    /// upstream's code, and not as its text. A limit of zero is refused by the condition, where upstream panics. With a limit, a
-    /// `reaper_rate` of zero makes the settings unlawful.
+    /// As upstream's text, and not as its code, which closes all of them. One that has reached `max_lifetime`, too, is closed for that, and
+    /// counts as such. A limit of zero is refused by the condition, where upstream panics. With a limit, a `reaper_rate` of zero makes the
+    /// settings unlawful.
     pub fn idle_timeout(mut self, idle_timeout: Option<Duration>) -> Self
         requires { ForSome idle_timeout (λ limit. 0 < as_nanos limit) }
         ensures { result ≡ record self {
@@ -208,7 +210,7 @@ impl<
     /// Which idle connection is handed out first. `Fifo` by default. As upstream.
     ///
     /// `Fifo` spreads the load over all connections, so that few become idle for long. `Lifo` uses as few connections as it can, so that
-    /// the others reach `idle_timeout`.
+    /// the others reach `idle_timeout`, and are closed down to `min_idle`.
     pub fn queue_strategy(mut self, queue_strategy: QueueStrategy) -> Self
         ensures { result ≡ record self {
           settings =

@@ -271,8 +271,7 @@ impl<
     fn cancel(self)
         ensures { CancelsBuilding Z.CustomizeConnection S.sinks K.tells self }
     {
-        let Building { site } = self;
-        Self::end(site);
+        drop(self);
     }
 }
 
@@ -284,7 +283,11 @@ impl<
     R: Locks,
     L: Parts,
 > Drop for Building<M, S, Z, K, R, L> {
-    fn drop(self) {
+    ghost use Rattle.bb8.specs.Buildings.{CancelsBuilding};
+
+    fn drop(self)
+        ensures { CancelsBuilding Z.CustomizeConnection S.sinks K.tells self }
+    {
         let Building { site } = self;
         Self::end(site);
     }

@@ -117,18 +117,7 @@ impl<
     fn cancel(self)
         ensures { CancelsDedicated Z.CustomizeConnection S.sinks K.tells self.entry }
     {
-        let DedicatedFuture {
-            shared,
-            latest,
-            stage,
-        } = self;
-        let mut calls = PoolOpener::new(
-            &shared.manager,
-            &shared.error_sink,
-            &shared.customizer,
-            &shared.clock,
-        );
-        shared.cancel_dedicated(&mut calls, Dedicated { latest, stage });
+        drop(self);
     }
 }
 
@@ -140,7 +129,11 @@ impl<
     R: Locks,
     L: Parts,
 > Drop for DedicatedFuture<'_, M, S, Z, K, R, L> {
-    fn drop(self) {
+    ghost use Rattle.bb8.specs.Dedicated.{CancelsDedicated};
+
+    fn drop(self)
+        ensures { CancelsDedicated Z.CustomizeConnection S.sinks K.tells self.entry }
+    {
         let DedicatedFuture {
             shared,
             latest,

@@ -7,7 +7,7 @@ use crate::pool::Pool;
 use bb8_core::api::{Clock, CustomizeConnection, ErrorSink, ManageConnection, Memory, Moment};
 use bb8_locked::{Parts, PoolParts};
 use bb8_shared::{Drives, Locks, Shared};
-use bb8_tasks::PoolOpener;
+use bb8_tasks::{Opener, PoolOpener, Reports};
 pub use bb8_turns::Turn;
 use bb8_turns::Turning;
 use std::alloc::Global;
@@ -77,48 +77,6 @@ impl<
     }
 }
 
-/// A turn by the pool's own calls, as a method of an impl, so that a thread can make one.
-trait TurnsOwn {
-    type Turning;
-
-    /// A turn at a moment.
-    fn turn_own(&self, turning: &mut Self::Turning, moment: Moment) -> Turn;
-}
-
-impl<
-    M: ManageConnection,
-    S: ErrorSink<M::Error>,
-    Z: CustomizeConnection<M::Connection, M::Error>,
-    K: Clock,
-    R: Locks,
-    L: Parts,
-> TurnsOwn for Shared<M, S, Z, K, R, L> {
-    ghost use Rattle.bb8_turns.specs.Turns.{is_ended};
-    ghost use Rattle.bb8_shared.specs.Turning.{OwnTurns};
-
-    type Turning = Turning<M::Connection, M::Connecting, Z::Acquiring>;
-
-    fn turn_own(
-        &self,
-        turning: &mut Turning<M::Connection, M::Connecting, Z::Acquiring>,
-        moment: Moment,
-    ) -> Turn
-        ensures table { OwnTurns Z.CustomizeConnection S.sinks K.tells self.now moment turning.old
-            result turning.new }
-        ensures ended { result.ended ≡ is_ended turning.new }
-        ensures none { result.ended ≡ true → result.polled ≡ 0 }
-        ensures stays { is_ended turning.old ≡ true → result.ended ≡ true }
-    {
-        let mut calls = PoolOpener::new(
-            &self.manager,
-            &self.error_sink,
-            &self.customizer,
-            &self.clock,
-        );
-        self.turn_with(&mut calls, turning, moment)
-    }
-}
-
 /// The turn of a driver, as a method of an impl: code that a thread runs writes `DriverCalls::turn(driver, moment)` in place of
 /// `driver.turn(moment)`, as it does with `PoolCalls`. Our own.
 pub trait DriverCalls {
@@ -144,7 +102,13 @@ impl<
         ensures stays { has_ended self.old ≡ true → result.ended ≡ true }
     {
         let pool = &*self.shared;
-        pool.turn_own(&mut self.turning, moment)
+        let mut calls = PoolOpener::new(
+            &pool.manager,
+            &pool.error_sink,
+            &pool.customizer,
+            &pool.clock,
+        );
+        pool.turn_with(&mut calls, &mut self.turning, moment)
     }
 }
 
@@ -185,7 +149,61 @@ impl<
     }
 }
 
-/// Runs of turns, as a method of an impl, so that a thread can make one.
+/// Runs of turns over any calls outside, as a method of an impl, so that a thread can make one.
+trait RunsWith<C, E, V, A> {
+    /// Turns, each at a reading of the clock, until one has ended or the gate does not pause.
+    fn run_with<W: Opener<C, E, Connecting = V, Acquiring = A> + Reports<E>, G: Gate>(
+        &self,
+        outside: &mut W,
+        turning: &mut Turning<C, V, A>,
+        gate: &mut G,
+    ) -> Driven;
+}
+
+impl<
+    M: ManageConnection,
+    S,
+    Z,
+    K,
+    R: Wait + Send + Sync + Drop + 'static,
+    L: Parts,
+    A: Drop,
+> RunsWith<M::Connection, M::Error, M::Connecting, A> for Shared<M, S, Z, K, R, L> {
+    ghost use Rattle.bb8.specs.Drivers.{LinkRuns};
+
+    fn run_with<
+        W: Opener<M::Connection, M::Error, Connecting = M::Connecting, Acquiring = A>
+            + Reports<M::Error>,
+        G: Gate,
+    >(
+        &self,
+        outside: &mut W,
+        turning: &mut Turning<M::Connection, M::Connecting, A>,
+        gate: &mut G,
+    ) -> Driven
+        ensures { LinkRuns W.Opener W.Reports self.now G.pauses turning.old outside.old gate.old
+            result }
+    {
+        let mut turns: u64 = 0;
+        for _ in self.rt.forever() {
+            let at = outside.now();
+            let turn = self.turn_with(outside, turning, at);
+            turns = turns.saturating_add(1);
+            if turn.ended {
+                return Driven { turns, ended: true };
+            }
+            if !gate.pause() {
+                return Driven {
+                    turns,
+                    ended: false,
+                };
+            }
+        }
+        unreachable!()
+    }
+}
+
+/// Runs of a driver's turns, as a method of an impl, so that a thread can make one.
 trait RunsTurns {
     /// Turns until one has ended or the gate does not pause.
     fn run_turns<G: Gate>(&mut self, gate: &mut G) -> Driven;
@@ -205,21 +223,13 @@ impl<
         ensures { RunsDriver Z.CustomizeConnection S.sinks K.tells G.pauses self.old gate.old result }
     {
         let pool = &*self.shared;
-        let mut turns: u64 = 0;
-        for _ in pool.rt.forever() {
-            let turn = pool.turn_own(&mut self.turning, pool.clock.now());
-            turns = turns.saturating_add(1);
-            if turn.ended {
-                return Driven { turns, ended: true };
-            }
-            if !gate.pause() {
-                return Driven {
-                    turns,
-                    ended: false,
-                };
-            }
-        }
-        unreachable!()
+        let mut calls = PoolOpener::new(
+            &pool.manager,
+            &pool.error_sink,
+            &pool.customizer,
+            &pool.clock,
+        );
+        pool.run_with(&mut calls, &mut self.turning, gate)
     }
 }
 
@@ -231,7 +241,12 @@ impl<
     R: Locks,
     L: Parts,
 > Drop for Driver<M, S, Z, K, R, L> {
-    fn drop(self) {
+    ghost use Rattle.bb8_shared.specs.Turning.{OwnDropsTurning};
+
+    fn drop(self)
+        ensures { OwnDropsTurning Z.CustomizeConnection S.sinks K.tells (arc_value self.shared)
+            self.turning }
+    {
         let Driver { shared, turning } = self;
         let pool = &*shared;
         let mut calls = PoolOpener::new(
@@ -292,16 +307,20 @@ where
     }
 }
 
-/// Runs a driver in a thread of its own, as `Driver::run` does. Where no thread can be made the driver is dropped. Our own.
+/// Runs a driver in a thread of its own, as `Driver::run` does. Where no thread can be made the driver is dropped. The pool's own runtime
+/// needs no threads. Our own.
 pub fn drive<
     M: ManageConnection,
     S: ErrorSink<M::Error>,
     Z: CustomizeConnection<M::Connection, M::Error>,
     K: Clock,
-    R: Threads + Wait + Copy + Send + Sync + Drop + 'static,
+    R: Wait + Send + Sync + Drop + 'static,
     L: PoolParts + 'static,
     G: Gate + Send + Drop + 'static,
->(driver: Driver<M, S, Z, K, R, L>, gate: G) -> Result<JoinHandle<Driven>, NoThread> {
-    let rt = driver.shared.rt;
-    start(&rt, Gated { driver, gate })
+>(
+    threads: &impl Threads,
+    driver: Driver<M, S, Z, K, R, L>,
+    gate: G,
+) -> Result<JoinHandle<Driven>, NoThread> {
+    start(threads, Gated { driver, gate })
 }

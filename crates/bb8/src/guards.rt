@@ -76,7 +76,7 @@ impl<
     R: Locks,
     L: Parts,
 > GuardsCalls for Guards<'a, M, S, Z, K, R, L> {
-    ghost use Rattle.bb8.specs.GuardLists.{connection_of, connections_in, most_in, number_in, AreOfOne, IsListOf};
+    ghost use Rattle.bb8.specs.GuardLists.{connection_of, connections_in, most_in, number_in, ticket_of, tickets_in, AreOfOne, IsListOf};
 
     type Pool = &'a Pool<M, S, Z, K, R, L>;
 
@@ -116,8 +116,11 @@ impl<
     ) -> Result<(), PooledConnection<'a, M, S, Z, K, R, L>>
         ensures added { OnOk result
             (connections_in self.new ≡ connections_in self.old ++ connection_of guard.entry ∷ []) }
-        ensures refused { IfErr result (λ back. connection_of back ≡ connection_of guard.entry) }
+        ensures ticket { OnOk result
+            (tickets_in self.new ≡ tickets_in self.old ++ ticket_of guard.entry ∷ []) }
+        ensures refused { IfErr result (λ back. back ≡ guard.entry) }
         ensures same { IfErr result (λ _. connections_in self.new ≡ connections_in self.old) }
+        ensures kept { IfErr result (λ _. tickets_in self.new ≡ tickets_in self.old) }
         ensures pool { AreOfOne self.new self.old }
     {
         let (shared, taken) = guard.into_parts();
@@ -159,8 +162,12 @@ impl<
             ≡ slice_index_or (connections_in self.old) index (connection_of guard)) }
         ensures closed { IfSome result (λ _. connections_in self.new
             ≡ take index (connections_in self.old) ++ drop (index + 1) (connections_in self.old)) }
+        ensures ticket { IfSome result (λ guard. ticket_of guard
+            ≡ slice_index_or (tickets_in self.old) index (ticket_of guard)) }
+        ensures moved { IfSome result (λ _. tickets_in self.new
+            ≡ take index (tickets_in self.old) ++ drop (index + 1) (tickets_in self.old)) }
         ensures some { IsSome result ↔ (index < number_in self.old) }
-        ensures none { IfNone result (connections_in self.new ≡ connections_in self.old) }
+        ensures none { IfNone result (self.new ≡ self.old) }
         ensures pool { AreOfOne self.new self.old }
     {
         if index >= self.connections.len() {
@@ -195,7 +202,7 @@ impl<
     R: Locks,
     L: Parts,
 > Guards<'a, M, S, Z, K, R, L> {
-    ghost use Rattle.bb8.specs.GuardLists.{connection_of, connections_in, most_in, number_in, AreOfOne, IsListOf};
+    ghost use Rattle.bb8.specs.GuardLists.{connection_of, connections_in, most_in, number_in, ticket_of, tickets_in, AreOfOne, IsListOf};
 
     /// An empty list of guards of this pool. It takes no memory. Our own.
     pub fn new(alloc: Global, pool: &'a Pool<M, S, Z, K, R, L>) -> Self
@@ -227,8 +234,11 @@ impl<
     ) -> Result<(), PooledConnection<'a, M, S, Z, K, R, L>>
         ensures added { OnOk result
             (connections_in self.new ≡ connections_in self.old ++ connection_of guard.entry ∷ []) }
-        ensures refused { IfErr result (λ back. connection_of back ≡ connection_of guard.entry) }
+        ensures ticket { OnOk result
+            (tickets_in self.new ≡ tickets_in self.old ++ ticket_of guard.entry ∷ []) }
+        ensures refused { IfErr result (λ back. back ≡ guard.entry) }
         ensures same { IfErr result (λ _. connections_in self.new ≡ connections_in self.old) }
+        ensures kept { IfErr result (λ _. tickets_in self.new ≡ tickets_in self.old) }
         ensures pool { AreOfOne self.new self.old }
     {
         GuardsCalls::push(self, guard)
@@ -240,8 +250,12 @@ impl<
             ≡ slice_index_or (connections_in self.old) index (connection_of guard)) }
         ensures closed { IfSome result (λ _. connections_in self.new
             ≡ take index (connections_in self.old) ++ drop (index + 1) (connections_in self.old)) }
+        ensures ticket { IfSome result (λ guard. ticket_of guard
+            ≡ slice_index_or (tickets_in self.old) index (ticket_of guard)) }
+        ensures moved { IfSome result (λ _. tickets_in self.new
+            ≡ take index (tickets_in self.old) ++ drop (index + 1) (tickets_in self.old)) }
         ensures some { IsSome result ↔ (index < number_in self.old) }
-        ensures none { IfNone result (connections_in self.new ≡ connections_in self.old) }
+        ensures none { IfNone result (self.new ≡ self.old) }
         ensures pool { AreOfOne self.new self.old }
     {
         GuardsCalls::remove(self, index)
@@ -265,7 +279,11 @@ impl<
     R: Locks,
     L: Parts,
 > Drop for Guards<'_, M, S, Z, K, R, L> {
-    fn drop(self) {
+    ghost use Rattle.bb8.specs.GuardLists.{ReturnsEach};
+
+    fn drop(self)
+        ensures { ReturnsEach S.sinks K.tells self.entry }
+    {
         let Guards {
             shared: _,
             mut tickets,

@@ -229,12 +229,14 @@ pub use bb8_core::api::{
 pub use bb8_core::{api, internals, replay};
 pub use bb8_locked::{Parts, PoolParts};
 pub use bb8_shared::Locks;
+pub use bb8_tasks as tasks;
 pub use builder::Builder;
 pub use building::Building;
 pub use dedicated::DedicatedFuture;
 pub use driver::{Driven, Driver, DriverCalls, Gate, NoThread, Turn, drive};
+pub use get::GetFuture;
 pub use guards::{Guards, GuardsCalls};
 pub use machine::MachineClock;
-pub use owned::OwnedConnection;
+pub use owned::{GetOwnedFuture, OwnedConnection};
 pub use pool::{Cancel, Pool, PoolCalls, PooledConnection};
 pub use serving::Service;

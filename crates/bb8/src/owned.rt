@@ -55,8 +55,8 @@ pub struct GetOwnedFuture<
     owning: Option<Owning<M, S, Z, K, R, L>>,
 }
 
-/// What a get or a guard with a handle of its own does, as methods of an impl, so that polls and drops can call them.
-trait Owns {
+/// What a handle does, and a get or a guard that has one of its own, as methods of an impl, so that polls and drops can call them.
+pub(crate) trait Owns {
     type Get;
 
     type Polled;
@@ -317,8 +317,7 @@ impl<
     fn cancel(self)
         ensures { CancelsOwning S.sinks K.tells self.owning }
     {
-        let GetOwnedFuture { owning } = self;
-        Self::cancel_owning(owning);
+        drop(self);
     }
 }
 
@@ -330,7 +329,11 @@ impl<
     R: Locks,
     L: Parts,
 > Drop for GetOwnedFuture<M, S, Z, K, R, L> {
-    fn drop(self) {
+    ghost use Rattle.bb8.specs.Owned.{CancelsOwning};
+
+    fn drop(self)
+        ensures { CancelsOwning S.sinks K.tells self.owning }
+    {
         let GetOwnedFuture { owning } = self;
         Self::cancel_owning(owning);
     }
@@ -384,7 +387,13 @@ impl<
     R: Locks,
     L: Parts,
 > Drop for OwnedConnection<M, S, Z, K, R, L> {
-    fn drop(self) {
+    ghost use Rattle.bb8.specs.Handles.{Leaves as HandleLeaves};
+    ghost use Rattle.bb8_shared.specs.Linked.{OwnReturns};
+
+    fn drop(self)
+        ensures connection { OwnReturns S.sinks K.tells (arc_value self.holding.shared) self.taken }
+        ensures handle { HandleLeaves K.tells (arc_value self.holding.shared) }
+    {
         let OwnedConnection { holding, taken } = self;
         holding.give_back_owned(taken);
     }
@@ -415,7 +424,20 @@ impl<
     R: Locks,
     L: Parts,
 > DerefMut for OwnedConnection<M, S, Z, K, R, L> {
-    fn deref_mut(&mut self) -> &mut M::Connection {
+    ghost use Rattle.std.specs.Borrow.{Lends, sem};
+    ghost use Rattle.bb8.specs.Owned.{with_connection};
+    ghost use Rattle.bb8.specs.contracts.owned.OwnedConnection.{the_row};
+
+    ghost deref_mut_gives = { λ guard connection. connection ≡ guard.taken.connection };
+
+    fn deref_mut(&mut self) -> &mut M::Connection
+        ensures* writes_back { sem 𝓛 (Lends
+            (the_row M.row S.row Z.row K.row R.row L.row M.Connection.row M.Error.row
+            M.Connecting.row M.Checking.row Z.Acquiring.row _ _ _
+            (record { name = L.name; parts = L.parts }))
+            M.Connection.row self.entry result (with_connection self.old)) }
+        ensures shows { result.now ≡ self.old.taken.connection }
+    {
         let taken = &mut self.taken;
         &mut taken.connection
     }

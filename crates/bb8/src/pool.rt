@@ -12,14 +12,14 @@ use crate::building::{MakesPool, Plan};
 use crate::dedicated::{DedicatedFuture, StartDedicated};
 use crate::get::{GetFuture, StartGet};
 use crate::handles::{Holding, Joins};
-use crate::owned::{GetOwnedFuture, StartOwned};
+use crate::owned::{GetOwnedFuture, Owns, StartOwned};
 use bb8_core::api::{
     AddError, Clock, Config, CustomizeConnection, ErrorSink, ManageConnection, Memory,
     NopCustomizer, NopErrorSink, RunError, SetClock, State,
 };
 use bb8_gets::{Calls, Taken};
 use bb8_locked::{Handle, Part, Parts};
-use bb8_shared::{Locks, OnHandles, OnShared, Returns, Shared};
+use bb8_shared::{Locks, OnShared, Returns, Shared};
 use std::alloc::Global;
 use std::fmt;
 use std::fmt::{Debug, Formatter};
@@ -128,7 +128,7 @@ impl<
     type Parts = (&'a Shared<M, S, Z, K, R, L>, Taken<M::Connection, Part<L>>);
 
     fn into_parts(self) -> (&'a Shared<M, S, Z, K, R, L>, Taken<M::Connection, Part<L>>)
-        ensures pool { result.0.now ≡ self.entry.shared.now }
+        ensures pool { result.0 ≡ self.entry.shared }
         ensures taken { result.1 ≡ self.entry.taken }
     {
         let PooledConnection { shared, taken } = self;
@@ -336,11 +336,13 @@ impl<
     R: Locks,
     L: Parts,
 > Drop for Pool<M, S, Z, K, R, L> {
-    fn drop(self) {
+    ghost use Rattle.bb8.specs.Handles.{Leaves as HandleLeaves};
+
+    fn drop(self)
+        ensures { HandleLeaves K.tells (arc_value self.shared) }
+    {
         let Pool { shared, handle } = self;
-        let pool = &*shared;
-        let mut calls = Calls::new(&pool.manager, &pool.error_sink, &pool.clock);
-        pool.leave(&mut calls, handle);
+        Holding { shared, handle }.leave_owned();
     }
 }
 
@@ -366,7 +368,11 @@ impl<
     R: Locks,
     L: Parts,
 > Drop for PooledConnection<'_, M, S, Z, K, R, L> {
-    fn drop(self) {
+    ghost use Rattle.bb8_shared.specs.Linked.{OwnReturns};
+
+    fn drop(self)
+        ensures { OwnReturns S.sinks K.tells self.entry.shared.now self.entry.taken }
+    {
         let PooledConnection { shared, taken } = self;
         let mut calls = Calls::new(&shared.manager, &shared.error_sink, &shared.clock);
         shared.give_back(&mut calls, taken);
@@ -398,6 +404,8 @@ impl<
     R: Locks,
     L: Parts,
 > DerefMut for PooledConnection<'_, M, S, Z, K, R, L> {
+    ghost deref_mut_gives = { λ guard connection. connection ≡ guard.taken.connection };
+
     fn deref_mut(&mut self) -> &mut M::Connection {
         let taken = &mut self.taken;
         &mut taken.connection

@@ -221,7 +221,7 @@ fn drive_while<
     over: Arc<AtomicBool, Global>,
 ) -> Result<JoinHandle<Driven>, Memory> {
     let driver = Driver::new(pool)?;
-    match drive(driver, WhileServing { rt, over }) {
+    match drive(&rt, driver, WhileServing { rt, over }) {
         Ok(thread) => Ok(thread),
         Err(NoThread) => Err(Memory),
     }

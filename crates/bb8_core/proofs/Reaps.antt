@@ -1,5 +1,5 @@
 -- The step of a reap.
-use Rattle.std.proofs.Common.{◌≡◌, ◌≢◌, ℕ, suc, ◌+◌, ◌<◌, ◌≤◌, max, false, List, refl, sym, ap, ◌∙◌, arith, subst}
+use Rattle.std.proofs.Common.{◌≡◌, ◌≢◌, ℕ, suc, ◌+◌, ◌<◌, ◌≤◌, max, false, List, length, refl, sym, ap, ◌∙◌, arith, subst, length-append}
 use Rattle.bb8_types.specs.declared.grants.Grant.{Grant}
 use Rattle.bb8_types.specs.declared.standing.Standing.{Standing}
 use Rattle.bb8_tables.specs.declared.counters.Counters.{Counters}
@@ -8,19 +8,18 @@ use Rattle.bb8_tables.specs.Counted.{counts_held}
 use Rattle.bb8_tables.specs.Reaps.{Reaps, after_reap}
 use Rattle.bb8_tables.specs.Views.{ShownRecords}
 use Rattle.bb8_tables.specs.Machine as machine
-use Rattle.bb8_tables.proofs.Reaps.{counted_few}
 use Rattle.bb8_types.specs.Bounds.{end_of_numbers}
 use Rattle.bb8_types.specs.Figures.{Counts}
 use Rattle.bb8_types.specs.Numbered.{Numbered}
-use Rattle.bb8_types.specs.Places.{idles_out, lives_out}
 use Rattle.bb8_ledger.specs.Acts.{Reap}
 use Rattle.bb8_ledger.specs.Answers.{Reaped, Ended}
-use Rattle.bb8_ledger.specs.Ledger.{Ledger, start, position, latest, records, peak, with_ended}
-use Rattle.bb8_ledger.specs.Table.{reap_ended, reaps, reaped_at}
+use Rattle.bb8_ledger.specs.Ledger.{Ledger, start, position, latest, records, peak, idle_at, with_ended}
+use Rattle.bb8_ledger.specs.Table.{reap_ended, reaps, reaped_at, outlived_at, idled_at}
 use Rattle.bb8_core.specs.Shown.{Shown, shown_records, HasLedger}
 use Rattle.bb8_core.specs.Decided as decided
+use Rattle.bb8_types.proofs.Numbered.{Before, before_later}
 use Rattle.bb8_ledger.proofs.Facts.{entered_before, ended_all_before}
-use Rattle.bb8_ledger.proofs.Effects.{reaped_sized}
+use Rattle.bb8_ledger.proofs.Effects.{reaped_sized, ended_append}
 use Rattle.bb8_core.proofs.Fitting.{shown, shown_fits, ended_shown}
 use Rattle.bb8_core.proofs.ShownReaped.{AreEnded, all_ended}
 use Rattle.bb8_core.proofs.Steps.{same_shown, IsStep, meets_by, meets_quiet, Grants, changed, want_is, open_now, later_shown, gets_kept}
@@ -36,68 +35,85 @@ module _ {C : Type 0} where
       (λ l legal f none. (reap_ended none, refl, refl))
 
   -- what the code ended is what the ledger's list ends, at any position
-  abbrev Ended_at : Ledger C → ℕ → ℕ → List ℕ → Type 0
-  Ended_at l at p ks = AreEnded (start l).first p (peak l) (start l).config (max (latest l) at) ks (records l)
+  abbrev Ended_at : Ledger C → ℕ → ℕ → List ℕ → List ℕ → Type 0
+  Ended_at l at p js ks = AreEnded (start l) p (peak l) (max (latest l) at) js ks (records l)
 
-  ended_at : (l : Ledger C) (at p : ℕ) (ks : List ℕ) (told : Told) → shown_records (start l).first p (peak l) (records l) ≡ (shown l).records
-      → Reaps (start l).config (max (latest l) at) (shown l).records ks (after_reap ks (shown l).records) told → Ended_at l at p ks
-  ended_at l at p ks told is h =
-      let r = subst (λ (s : ShownRecords C). Reaps (start l).config (max (latest l) at) s ks (after_reap ks s) told) (sym is) h in
-      all_ended (start l).first p (peak l) (start l).config (max (latest l) at) ks (records l) r.each r.none_left
+  -- the records once both have ended
+  abbrev both_ended : List ℕ → List ℕ → ShownRecords C → ShownRecords C
+  both_ended js ks rs = after_reap ks (after_reap js rs)
+
+  ended_at : (l : Ledger C) (at p : ℕ) (js ks : List ℕ) (told : Told) → Before idle_at p (records l) → shown_records (start l).first p (peak l) (records l) ≡ (shown l).records
+      → Reaps (start l).config (max (latest l) at) (shown l).records js ks (both_ended js ks (shown l).records) told → Ended_at l at p js ks
+  ended_at l at p js ks told before is h =
+      let r = subst (λ (s : ShownRecords C). Reaps (start l).config (max (latest l) at) s js ks (both_ended js ks s) told) (sym is) h in
+      all_ended (start l) p (peak l) (max (latest l) at) js ks (records l) before r.aged r.none_aged r.first r.few r.all
 
   -- what a reap makes of the records that are shown
-  abbrev reaped_records : Shown C → List ℕ → Grant → ShownRecords C
-  reaped_records s ks grant = machine.after_grant false grant (after_reap ks s.records)
+  abbrev reaped_records : Shown C → List ℕ → List ℕ → Grant → ShownRecords C
+  reaped_records s js ks grant = machine.after_grant false grant (both_ended js ks s.records)
 
-  pub meets_reaped : {s : Shown C} {at now : ℕ} {ks : List ℕ} {told : Told} {mid rs : ShownRecords C} {grant : Grant} (was : Counters) {is : Counters}
-      → now ≡ max s.latest at → s.handles ≢ 0 → Reaps s.config now s.records ks mid told → Grants s false mid grant rs → s.counts ≡ counts_held was
+  -- the ledger's list, by the numbers that the code ended
+  ended_is : (l : Ledger C) (at : ℕ) (js ks : List ℕ) → Ended_at l at (position l) js ks
+      → with_ended (start l).first ks (with_ended (start l).first (outlived_at l at) (records l)) ≡ with_ended (start l).first (reaped_at l at) (records l)
+  ended_is l at js ks here =
+      ap (λ (xs : List ℕ). with_ended (start l).first xs (with_ended (start l).first (outlived_at l at) (records l))) here.idle
+      ∙ sym (ended_append (start l).first (outlived_at l at) (idled_at l at) (records l))
+
+  pub meets_reaped : {s : Shown C} {at now : ℕ} {js ks : List ℕ} {told : Told} {mid rs : ShownRecords C} {grant : Grant} (was : Counters) {is : Counters}
+      → now ≡ max s.latest at → s.handles ≢ 0 → Reaps s.config now s.records js ks mid told → Grants s false mid grant rs → s.counts ≡ counts_held was
       → is ≡ reaped_counters was told
       → IsStep s at Reap (Reaped told.closed told.by_idle told.by_life grant) (record s { latest = now; records = rs; counts = counts_held is })
-  meets_reaped {s} {at} {now} {ks} {told} {mid} {rs} {grant} was {is} now_is alive_now ended granted were is_is =
-      meets_by (λ t. (0 < t.handles) × Reaps t.config (max t.latest at) t.records ks (after_reap ks t.records) told
-      × machine.IsGrant (after_reap ks t.records) (decided.want t.config t.handles (after_reap ks t.records)) grant × (t.counts ≡ counts_held was))
-      (λ t. record t { latest = max t.latest at; records = reaped_records t ks grant; counts = counts_held (reaped_counters was told) })
+  meets_reaped {s} {at} {now} {js} {ks} {told} {mid} {rs} {grant} was {is} now_is alive_now ended granted were is_is =
+      meets_by (λ t. (0 < t.handles) × Reaps t.config (max t.latest at) t.records js ks (both_ended js ks t.records) told
+      × machine.IsGrant (both_ended js ks t.records) (decided.want t.config t.handles (both_ended js ks t.records)) grant × (t.counts ≡ counts_held was))
+      (λ t. record t { latest = max t.latest at; records = reaped_records t js ks grant; counts = counts_held (reaped_counters was told) })
       s _ at Reap (Reaped told.closed told.by_idle told.by_life grant) (λ l legal means. refl) (
         open_now _ alive_now,
-        subst (λ (t : ShownRecords C). Reaps s.config (max s.latest at) s.records ks t told) ended.state
-            (subst (λ (m : ℕ). Reaps s.config m s.records ks mid told) now_is ended),
+        subst (λ (t : ShownRecords C). Reaps s.config (max s.latest at) s.records js ks t told) ended.state
+            (subst (λ (m : ℕ). Reaps s.config m s.records js ks mid told) now_is ended),
         subst (λ (t : ShownRecords C). machine.IsGrant t (decided.want s.config s.handles t) grant) ended.state granted.granted,
         were,
       )
       (same_shown _ _ refl refl now_is refl (granted.after ∙ ap (machine.after_grant false grant) ended.state) refl (ap counts_held is_is))
       (λ l legal f known.
-      let here : Ended_at l at (position l) ks = ended_at l at (position l) ks told refl known.1 in
-      let next : Ended_at l at (suc (position l)) ks = ended_at l at (suc (position l)) ks told (later_shown l) known.1 in
-      let to : List (Numbered (Standing C)) = with_ended (start l).first (reaped_at l at) (records l) in (
-        reaps known.0 (known.1.closed ∙ here.closed) (known.1.by_idle ∙ here.by_idle) (known.1.by_life ∙ here.by_life)
-            (want_is l to grant _ (ended_all_before (position l) (start l).first (reaped_at l at) (records l) (entered_before l)) here.shows known.2),
+      let here : Ended_at l at (position l) js ks = ended_at l at (position l) js ks told (entered_before l) refl known.1 in
+      let next : Ended_at l at (suc (position l)) js ks = ended_at l at (suc (position l)) js ks told (before_later idle_at (records l) (position l) (entered_before l)) (later_shown l) known.1 in
+      let to : List (Numbered (Standing C)) = with_ended (start l).first (reaped_at l at) (records l) in
+      let same = ended_is l at js ks here in
+      let idle_many : length ks ≡ length (idled_at l at) = ap (λ (xs : List ℕ). length xs) here.idle in (
+        reaps known.0 (omega (arith, known.1.closed, here.aged, idle_many, length-append (outlived_at l at) (idled_at l at)))
+            (known.1.by_idle ∙ idle_many) (known.1.by_life ∙ here.aged)
+            (want_is l to grant _ (ended_all_before (position l) (start l).first (reaped_at l at) (records l) (entered_before l))
+            (ap (shown_records (start l).first (position l) (peak l)) (sym same) ∙ here.shows) known.2),
         same_shown _ _ refl refl refl refl
-            (changed false l grant.count to _ (next.shows ∙ ap (after_reap ks) (later_shown l))) (gets_kept l)
+            (changed false l grant.count to _ (ap (shown_records (start l).first (suc (position l)) (peak l)) (sym same) ∙ next.shows ∙ ap (both_ended js ks) (later_shown l))) (gets_kept l)
             (ap (λ (x : Counts). record x { max_lifetime = x.max_lifetime + told.by_life; idle_timeout = x.idle_timeout + told.by_idle }) known.3),
       ))
 
   -- no more end than there are connections
-  ended_few : (s : Shown C) {ks : List ℕ} {now : ℕ} {mid : ShownRecords C} {told : Told} → HasLedger s → s.latest ≤ now
-      → Reaps s.config now s.records ks mid told → told.closed ≤ s.records.conns
-  ended_few s {ks} {now} {mid} {told} h later ended =
-      subst (λ (t : Shown C). t.latest ≤ now → Reaps t.config now t.records ks mid told → told.closed ≤ t.records.conns) h.2
+  ended_few : (s : Shown C) {js ks : List ℕ} {now : ℕ} {mid : ShownRecords C} {told : Told} → HasLedger s → s.latest ≤ now
+      → Reaps s.config now s.records js ks mid told → told.closed ≤ s.records.conns
+  ended_few s {js} {ks} {now} {mid} {told} h later ended =
+      subst (λ (t : Shown C). t.latest ≤ now → Reaps t.config now t.records js ks mid told → told.closed ≤ t.records.conns) h.2
       (λ after r.
       let m : max (latest h.0) now ≡ now = greater (latest h.0) now after in
-      let r_at : Reaps (start h.0).config (max (latest h.0) now) (shown h.0).records ks (after_reap ks (shown h.0).records) told =
-      subst (λ (n : ℕ). Reaps (start h.0).config n (shown h.0).records ks (after_reap ks (shown h.0).records) told) (sym m)
-      (subst (λ (t : ShownRecords C). Reaps (start h.0).config now (shown h.0).records ks t told) r.state r) in
+      let r_at : Reaps (start h.0).config (max (latest h.0) now) (shown h.0).records js ks (both_ended js ks (shown h.0).records) told =
+      subst (λ (n : ℕ). Reaps (start h.0).config n (shown h.0).records js ks (both_ended js ks (shown h.0).records) told) (sym m)
+      (subst (λ (t : ShownRecords C). Reaps (start h.0).config now (shown h.0).records js ks t told) r.state r) in
       let z = reaped_sized h.0 now in
-      omega (arith, r.closed, (ended_at h.0 now (position h.0) ks told refl r_at).closed, z.conns_are)) later ended
+      let e : Ended_at h.0 now (position h.0) js ks = ended_at h.0 now (position h.0) js ks told (entered_before h.0) refl r_at in
+      let idle_many : length ks ≡ length (idled_at h.0 now) = ap (λ (xs : List ℕ). length xs) e.idle in
+      omega (arith, r.closed, e.aged, length-append (outlived_at h.0 now) (idled_at h.0 now), z.conns_are)) later ended
     where
       greater : (a b : ℕ) → a ≤ b → max a b ≡ b
       greater a b less = omega arith
 
   -- so they may be counted
-  pub reaped_few : (s : Shown C) {ks : List ℕ} {now : ℕ} {mid : ShownRecords C} {told : Told} → HasLedger s → s.latest ≤ now
-      → Reaps s.config now s.records ks mid told → s.records.next ≤ end_of_numbers
+  pub reaped_few : (s : Shown C) {js ks : List ℕ} {now : ℕ} {mid : ShownRecords C} {told : Told} → HasLedger s → s.latest ≤ now
+      → Reaps s.config now s.records js ks mid told → s.records.next ≤ end_of_numbers
       → (s.counts.idle_timeout + told.by_idle ≤ end_of_numbers) × (s.counts.max_lifetime + told.by_life ≤ end_of_numbers)
-  reaped_few s {ks} {now} {mid} {told} h later ended few =
+  reaped_few s {js} {ks} {now} {mid} {told} h later ended few =
       let all : told.closed ≤ s.records.conns = ended_few s h later ended in
-      let idle : told.by_idle ≤ told.closed = omega (arith, ended.by_idle, ended.closed, counted_few (idles_out s.config now) ks s.records) in
-      let life : told.by_life ≤ told.closed = omega (arith, ended.by_life, ended.closed, counted_few (lives_out s.config now) ks s.records) in
+      let idle : told.by_idle ≤ told.closed = omega (arith, ended.by_idle, ended.closed) in
+      let life : told.by_life ≤ told.closed = omega (arith, ended.by_life, ended.closed) in
       (omega (arith, ended_shown s h), omega (arith, (shown_fits s h).closed_few))

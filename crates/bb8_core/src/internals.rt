@@ -536,8 +536,9 @@ impl<C: Drop> PoolInternals<C> {
         }
     }
 
-    /// Closes each idle connection that has been idle for the `idle_timeout` or has lived for the `max_lifetime`, and grants what is wanted
-    /// then. One that is both counts in both. Nobody is notified. The connections are dropped here. Where no handle is alive nothing changes
+    /// Closes each idle connection that has lived for the `max_lifetime`, then those that have been idle for the `idle_timeout`, the one that
+    /// entered first before the others, but for `min_idle` idle ones; and grants what is wanted then. Each counts in one figure: as one that
+    /// lived too long, or as one that idled. Nobody is notified. The connections are dropped here. Where no handle is alive nothing changes
     /// but the latest moment. It looks at the connections that end, at most at those that are out, and at two more.
     pub fn reap(&mut self, at: Moment) -> ReapAnswer
         ensures step { Meets self.old at.0 acts.Reap (reap_told result) self.new }

@@ -77,7 +77,7 @@ pub struct Settled<C, V, P, E> {
 ///
 /// It does nothing until it is polled. It cannot be dropped but by `cancel_step`, as what it holds goes back to its home.
 pub struct GetState<C, V, P> {
-    pub stage: Stage<C, V, P>,
+    stage: Stage<C, V, P>,
 }
 
 impl<C, V: Drop, P> GetState<C, V, P> {

@@ -1,17 +1,18 @@
 -- What one event of a legal ledger does to the records and to the gets, by the place that it moves from and the place that it moves to.
-use Rattle.std.proofs.Common.{◌≡◌, ◌≢◌, ◌⊎◌, ℕ, zero, suc, ◌+◌, ◌*◌, ◌<◌, ◌≤◌, max, Bool, ◌&&◌, ◌||◌, true, false, not, cond, eqb, List, [], ◌∷◌, ◌++◌, length, map, Option, Some, None, slice_get, option_map, option_and_then, refl, sym, ap, ◌∙◌, ⊎_elim, inl, inr, arith, subst, length-append, ne_eqb, MatchBool}
+use Rattle.std.proofs.Common.{◌≡◌, ◌≢◌, ◌⊎◌, ℕ, zero, suc, ◌+◌, ◌*◌, ◌<◌, ◌≤◌, max, Bool, ◌||◌, true, false, cond, eqb, List, [], ◌∷◌, ◌++◌, length, take, drop, ◌-◌, map, Option, Some, None, slice_get, option_map, option_and_then, refl, sym, ap, ◌∙◌, ⊎_elim, inl, inr, arith, subst, length-append, ne_eqb, MatchBool}
 use Rattle.std.proofs.lemmas.List.{length-map}
-use Rattle.std.proofs.lemmas.List.Filters.{length-filter_both}
+use Rattle.std.proofs.Math.Seq.{take-length}
+use Rattle.std.specs.Option.{unwrap_or}
 use Rattle.bb8_types.specs.declared.standing.Place.{Place}
 use Rattle.bb8_types.specs.declared.standing.Place.TheVariants.{Unclaimed, Claimed, Idle, Held, Guarded}
 use Rattle.bb8_types.specs.declared.standing.Standing.{Standing}
 use Rattle.bb8_types.specs.Settings.{Settings, is_lawful}
 use Rattle.bb8_ledger.specs.Acts.{Act, Leave}
 use Rattle.bb8_ledger.specs.Answers.{Answer, Left, Unfit}
-use Rattle.bb8_types.specs.Numbered.{Numbered, at as at_number, update, numbers, tally, one, standing_at, after_end, after_end_where}
-use Rattle.bb8_ledger.specs.Ledger.{Ledger, Opening, Later, Start, start, position, latest, handles, records, conns, approved, idle_count, out, idle, idle_at, first_idle, unclaimed, record_of, with_ended, tally_places, conns_of, approved_of, idle_of, at_place, entry, at_entry, approval, with_approvals}
-use Rattle.bb8_types.specs.Places.{first_place, stands, is_conn, is_approval, is_idle, is_out, is_unclaimed, is_claimed, is_guarded, is_held_by, is_reaped, lives_out, is_left, with_place}
-use Rattle.bb8_ledger.specs.Table.{Row, IsLegal, Allowed, fits, with_record, reaped_at, reap_count}
+use Rattle.bb8_types.specs.Numbered.{Numbered, at as at_number, update, numbers, in_order, one, standing_at, after_end, after_end_where}
+use Rattle.bb8_ledger.specs.Ledger.{Ledger, Opening, Later, Start, start, position, latest, handles, records, conns, approved, idle_count, out, idle, idle_at, first_idle, unclaimed, record_of, with_ended, outlived, idled, reaped, over_idle_at, tally_places, conns_of, approved_of, idle_of, at_place, entry, at_entry, approval, with_approvals}
+use Rattle.bb8_types.specs.Places.{first_place, stands, is_conn, is_approval, is_idle, is_out, is_unclaimed, is_claimed, is_guarded, is_held_by, idles_out, lives_out, is_left, with_place}
+use Rattle.bb8_ledger.specs.Table.{Row, IsLegal, Allowed, fits, with_record, reaped_at, outlived_at, idled_at}
 use Rattle.bb8_types.proofs.Places.{standing_is, unclaimed_is, claimed_is, guarded_is, idle_is, and_right}
 use Rattle.bb8_types.proofs.Numbered as numbered
 use Rattle.bb8_ledger.proofs.Facts.{conns_split}
@@ -357,18 +358,6 @@ module _ {C : Type 0} where
       each None = refl
       each (Some r) = spared test sweep spares r
 
-  -- what a reap ends is idle
-  reap_spares : (test : Place C → Bool) → ((c : C) → test (Idle c) ≡ false) → (config : Settings) (now : ℕ) (o : Option (Standing C)) → stands test o ≡ true → is_reaped config now o ≡ false
-  reap_spares test off config now None h = refl
-  reap_spares test off config now (Some s) h = go s.place h _ _
-    where
-      go : (p : Place C) → test p ≡ true → (a b : Bool) → ((is_idle p && a) || (is_idle p && b)) ≡ false
-      go Unclaimed e a b = refl
-      go Claimed e a b = refl
-      go (Idle c) e a b = absurd (let clash : false ≡ true = sym (off c) ∙ e in cc)
-      go (Held g) e a b = refl
-      go Guarded e a b = refl
-
   -- what the last leave ends is idle or unclaimed
   pub leave_spares : (test : Place C → Bool) → ((c : C) → test (Idle c) ≡ false) → test Unclaimed ≡ false → (o : Option (Standing C)) → stands test o ≡ true → is_left o ≡ false
   leave_spares test off unclaimed None h = refl
@@ -390,32 +379,6 @@ module _ {C : Type 0} where
       let ih : tally_places test (map (after_end_where sweep) rs) ≡ tally_places test rs = swept_out test sweep spares rs in
       let here : one (stands test (after_end_where sweep r).standing) ≡ one (stands test r.standing) = ap one (spared test sweep spares r) in
       omega arith
-
-  -- a reap ends so many idle connections
-  reap_idle : (config : Settings) (now : ℕ) (rs : List (Numbered (Standing C)))
-      → idle_of (map (after_end_where (is_reaped config now)) rs) + tally (λ r. is_reaped config now r.standing) rs ≡ idle_of rs
-  reap_idle config now [] = refl
-  reap_idle config now (r ∷ rs) =
-      let ih : idle_of (map (after_end_where (is_reaped config now)) rs) + tally (λ x. is_reaped config now x.standing) rs ≡ idle_of rs = reap_idle config now rs in
-      let here : one (stands is_idle (after_end_where (is_reaped config now) r).standing) + one (is_reaped config now r.standing) ≡ one
-      (stands is_idle r.standing) = pick (is_reaped config now r.standing) refl in
-      omega arith
-    where
-      off : (b : Bool) → stands is_idle r.standing ≡ b → is_reaped config now r.standing ≡ true → one b ≡ 1
-      off true e h = refl
-      off false e h = absurd (let clash : false ≡ true = sym (idle_reaped r.standing e) ∙ h in cc)
-        where
-          idle_reaped : (o : Option (Standing C)) → stands is_idle o ≡ false → is_reaped config now o ≡ false
-          idle_reaped None e = refl
-          idle_reaped (Some s) e = go (is_idle s.place) e _ _
-            where
-              go : (i : Bool) → i ≡ false → (a b : Bool) → ((i && a) || (i && b)) ≡ false
-              go true e a b = cc
-              go false e a b = refl
-
-      pick : (b : Bool) → is_reaped config now r.standing ≡ b → one (stands is_idle (cond b (after_end r) r).standing) + one b ≡ one (stands is_idle r.standing)
-      pick true e = sym (off (stands is_idle r.standing) refl e)
-      pick false e = omega arith
 
   -- The sizes after a reap.
   pub record AreReaped (l : Ledger C) (closed life n : ℕ) (rs : List (Numbered (Standing C))) : Type 0 where
@@ -454,36 +417,175 @@ module _ {C : Type 0} where
           ∙ ap (λ (xs : List (Numbered (Standing C))). after_end r ∷ xs) ih
       pick false ih = skip r ∙ ap (λ (xs : List (Numbered (Standing C))). r ∷ xs) ih
 
-  -- the records after a reap are those of a sweep
-  reap_sweeps : (l : Ledger C) (at : ℕ) → with_ended (start l).first (reaped_at l at) (records l) ≡ map
-      (after_end_where (is_reaped (start l).config (max (latest l) at))) (records l)
-  reap_sweeps l at = ended_swept (is_reaped (start l).config (max (latest l) at)) (start l).first (records l)
+  -- ---- idle records end, one after another
+
+  -- the ends of some numbers and then of others
+  pub ended_append : (first : ℕ) (ks js : List ℕ) (rs : List (Numbered (Standing C))) → with_ended first (ks ++ js) rs ≡ with_ended first js (with_ended first ks rs)
+  ended_append first [] js rs = refl
+  ended_append first (k ∷ ks) js rs = ended_append first ks js (update first k after_end rs)
+
+  -- each of these is idle when it ends
+  abbrev pub AllIdle : ℕ → List ℕ → List (Numbered (Standing C)) → Type 0
+  AllIdle first [] rs = Unit {0}
+  AllIdle first (k ∷ ks) rs = (tests is_idle first rs k ≡ true) × AllIdle first ks (update first k after_end rs)
+
+  all_idle_append : (first : ℕ) (ks js : List ℕ) (rs : List (Numbered (Standing C))) → AllIdle first ks rs → AllIdle first js (with_ended first ks rs) → AllIdle first (ks ++ js) rs
+  all_idle_append first [] js rs a b = b
+  all_idle_append first (k ∷ ks) js rs a b = (a.0, all_idle_append first ks js (update first k after_end rs) a.1 b)
+
+  -- an idle record, found by its number
+  record IdleAs (first k : ℕ) (rs : List (Numbered (Standing C))) : Type 0 where
+    pub element : Numbered (Standing C)
+    pub found : at_number first rs k ≡ Some element
+    pub conn : C
+    pub passing : (test : Place C → Bool) → stands test element.standing ≡ test (Idle conn)
+
+  idle_as : (first k : ℕ) (rs : List (Numbered (Standing C))) → tests is_idle first rs k ≡ true → IdleAs first k rs
+  idle_as first k rs h =
+      let s = standing_is is_idle (standing_at first rs k) h in
+      let r = numbered.standing_found rs first k s.0 s.1 in
+      let c = idle_is s.0.place s.2 in
+      record { element = r.0; found = r.1; conn = c.0; passing = λ test. ap (stands test) r.2 ∙ ap test c.1 }
+
+  -- a tally loses each of them, or none
+  pub ended_tally : (test : Place C → Bool) (b : Bool) → ((c : C) → test (Idle c) ≡ b) → (first : ℕ) (ks : List ℕ) (rs : List (Numbered (Standing C)))
+      → AllIdle first ks rs → tally_places test (with_ended first ks rs) + cond b (length ks) 0 ≡ tally_places test rs
+  ended_tally test b is first [] rs all = nothing b
+    where
+      nothing : (b : Bool) → tally_places test rs + cond b 0 0 ≡ tally_places test rs
+      nothing true = omega arith
+      nothing false = omega arith
+  ended_tally test b is first (k ∷ ks) rs all =
+      let r = idle_as first k rs all.0 in
+      let moved : tally_places test (update first k after_end rs) + one (stands test r.element.standing) ≡ tally_places test rs + 0 =
+      tally_update (λ (x : Numbered (Standing C)). stands test x.standing) rs first k after_end r.element r.found in
+      let here : one (stands test r.element.standing) ≡ one b = ap one (r.passing test ∙ is r.conn) in
+      let ih : tally_places test (with_ended first ks (update first k after_end rs)) + cond b (length ks) 0 ≡ tally_places test (update first k after_end rs) =
+      ended_tally test b is first ks (update first k after_end rs) all.1 in
+      let more : cond b (suc (length ks)) 0 ≡ one b + cond b (length ks) 0 = one_more b (length ks) in
+      omega arith
+    where
+      one_more : (b : Bool) (n : ℕ) → cond b (suc n) 0 ≡ one b + cond b n 0
+      one_more true n = omega arith
+      one_more false n = refl
+
+  -- and what is out stays
+  ended_tests : (test : Place C → Bool) → IsOut test → (first : ℕ) (ks : List ℕ) (rs : List (Numbered (Standing C))) (j : ℕ)
+      → AllIdle first ks rs → tests test first (with_ended first ks rs) j ≡ tests test first rs j
+  ended_tests test o first [] rs j all = refl
+  ended_tests test o first (k ∷ ks) rs j all = ended_tests test o first ks (update first k after_end rs) j all.1
+      ∙ ⊎_elim
+      (λ (t : (eqb j k ≡ true) × (j ≡ k)). ap (tests test first (update first k after_end rs)) t.1 ∙ gone ∙ sym (ap (tests test first rs) t.1 ∙ was))
+      (λ (t : (eqb j k ≡ false) × (j ≢ k)). ap (λ (o : Option (Numbered (Standing C))). stands test (option_and_then (λ (x : Numbered (Standing C)). x.standing) o)) (at_other rs first k j after_end t.1))
+      (numbered.same_or_not j k)
+    where
+      gone : tests test first (update first k after_end rs) k ≡ false
+      gone =
+          let r = idle_as first k rs all.0 in
+          ap (λ (o : Option (Numbered (Standing C))). stands test (option_and_then (λ (x : Numbered (Standing C)). x.standing) o)) (at_same rs first k after_end ∙ ap (option_map after_end) r.found)
+
+      was : tests test first rs k ≡ false
+      was =
+          let r = idle_as first k rs all.0 in
+          ap (λ (o : Option (Numbered (Standing C))). stands test (option_and_then (λ (x : Numbered (Standing C)). x.standing) o)) r.found ∙ r.passing test ∙ o.idle r.conn
+
+  ended_length : (first : ℕ) (ks : List ℕ) (rs : List (Numbered (Standing C))) → length (with_ended first ks rs) ≡ length rs
+  ended_length first [] rs = refl
+  ended_length first (k ∷ ks) rs = ended_length first ks (update first k after_end rs) ∙ numbered.length-update rs first k after_end
+
+  -- ---- some of a line end, from its front
+
+  -- a line of idle records, of which the first one leaves it by its end
+  pub record IsLine (first : ℕ) (line : List (Numbered (Standing C)) → List ℕ) : Type 0 where
+    pub idle : (rs : List (Numbered (Standing C))) (k : ℕ) (rest : List ℕ) → line rs ≡ k ∷ rest → tests is_idle first rs k ≡ true
+    pub leaves : (rs : List (Numbered (Standing C))) (k : ℕ) (rest : List ℕ) → line rs ≡ k ∷ rest → line (update first k after_end rs) ≡ rest
+
+  pub front_idle : (first : ℕ) (line : List (Numbered (Standing C)) → List ℕ) → IsLine first line → (q : ℕ) (xs : List ℕ) (rs : List (Numbered (Standing C)))
+      → line rs ≡ xs → AllIdle first (take q xs) rs
+  front_idle first line is zero xs rs h = tt
+  front_idle first line is (suc q) [] rs h = tt
+  front_idle first line is (suc q) (k ∷ xs) rs h = (is.idle rs k xs h, front_idle first line is q xs (update first k after_end rs) (is.leaves rs k xs h))
+
+  pub front_ended : (first : ℕ) (line : List (Numbered (Standing C)) → List ℕ) → IsLine first line → (q : ℕ) (xs : List ℕ) (rs : List (Numbered (Standing C)))
+      → line rs ≡ xs → line (with_ended first (take q xs) rs) ≡ drop q xs
+  front_ended first line is zero xs rs h = h
+  front_ended first line is (suc q) [] rs h = h
+  front_ended first line is (suc q) (k ∷ xs) rs h = front_ended first line is q xs (update first k after_end rs) (is.leaves rs k xs h)
+
+  pub lives_idle : (config : Settings) (now : ℕ) (o : Option (Standing C)) → lives_out config now o ≡ true → stands is_idle o ≡ true
+  lives_idle config now None e = cc
+  lives_idle config now (Some s) e = (and_right (is_idle s.place) _ e).0
+
+  pub idles_idle : (config : Settings) (now : ℕ) (o : Option (Standing C)) → idles_out config now o ≡ true → stands is_idle o ≡ true
+  idles_idle config now None e = cc
+  idles_idle config now (Some s) e = (and_right (is_idle s.place) _ e).0
+
+  -- those that live too long are one
+  pub outlived_line : (s : Start) (now : ℕ) → IsLine s.first (outlived s now)
+  outlived_line s now = record {
+    idle = λ rs k rest h.
+        let m = numbered.numbers_member (λ (r : Numbered (Standing C)). lives_out s.config now r.standing) rs s.first 0 k (ap (λ (xs : List ℕ). slice_get xs 0) h) in
+        ap (λ (o : Option (Numbered (Standing C))). stands is_idle (option_and_then (λ (x : Numbered (Standing C)). x.standing) o)) m.1
+        ∙ lives_idle s.config now m.0.standing m.2;
+    leaves = λ rs k rest h.
+        let m = numbered.numbers_member (λ (r : Numbered (Standing C)). lives_out s.config now r.standing) rs s.first 0 k (ap (λ (xs : List ℕ). slice_get xs 0) h) in
+        ap (outlived s now) (numbered.update_is rs s.first k after_end m.0 m.1)
+        ∙ numbered.numbers-change_head (λ (r : Numbered (Standing C)). lives_out s.config now r.standing) rs s.first k rest (after_end m.0) h refl;
+  }
+
+  -- those that are idle too long, by position
+  abbrev pub over_idle : Start → ℕ → ℕ → List (Numbered (Standing C)) → List ℕ
+  over_idle s position now rs = in_order (over_idle_at s.config now) s.first rs position
+
+  -- and those are one
+  pub over_idle_line : (s : Start) (m now : ℕ) → IsLine s.first (over_idle s m now)
+  over_idle_line s m now = record {
+    idle = λ rs k rest h.
+        let x = numbered.in_order_member (over_idle_at s.config now) rs s.first m 0 k (ap (λ (xs : List ℕ). slice_get xs 0) h) in
+        ap (λ (o : Option (Numbered (Standing C))). stands is_idle (option_and_then (λ (x : Numbered (Standing C)). x.standing) o)) x.1
+        ∙ idles_idle s.config now x.0.standing (and_right (idles_out s.config now x.0.standing) _ x.4).0;
+    leaves = λ rs k rest h.
+        let x = numbered.in_order_member (over_idle_at s.config now) rs s.first m 0 k (ap (λ (xs : List ℕ). slice_get xs 0) h) in
+        ap (over_idle s m now) (numbered.update_is rs s.first k after_end x.0 x.1)
+        ∙ numbered.in_order-change_head (over_idle_at s.config now) one_place rs s.first k rest (after_end x.0) (λ q. refl) m h;
+  }
+    where
+      one_place : (p q : ℕ) (r : Numbered (Standing C)) → over_idle_at s.config now p r ≡ true → over_idle_at s.config now q r ≡ true → p ≡ q
+      one_place p q r a b =
+          let at_p : r.position ≡ p = numbered.tested r.position p (and_right (idles_out s.config now r.standing) _ a).1 in
+          let at_q : r.position ≡ q = numbered.tested r.position q (and_right (idles_out s.config now r.standing) _ b).1 in
+          omega arith
+
+  -- ---- what a reap ends
+
+  -- each that a reap ends is idle then
+  pub reaped_idle : (s : Start) (m now : ℕ) (rs : List (Numbered (Standing C))) → AllIdle s.first (reaped s m now rs) rs
+  reaped_idle s m now rs =
+      let aged : AllIdle s.first (take (length (outlived s now rs)) (outlived s now rs)) rs =
+      front_idle s.first (outlived s now) (outlived_line s now) (length (outlived s now rs)) (outlived s now rs) rs refl in
+      let then : List (Numbered (Standing C)) = with_ended s.first (outlived s now rs) rs in
+      all_idle_append s.first (outlived s now rs) (idled s m now then) rs
+      (subst (λ (ks : List ℕ). AllIdle s.first ks rs) (take-length (outlived s now rs)) aged)
+      (front_idle s.first (over_idle s m now) (over_idle_line s m now) (idle_of then - unwrap_or s.config.min_idle 0) (over_idle s m now then) then refl)
 
   -- a reap spares what is out
   pub reap_tests : (test : Place C → Bool) → IsOut test → (l : Ledger C) (at j : ℕ)
       → tests test (start l).first (with_ended (start l).first (reaped_at l at) (records l)) j ≡ tests test (start l).first (records l) j
-  reap_tests test out l at j =
-      ap (λ (rs : List (Numbered (Standing C))). tests test (start l).first rs j) (reap_sweeps l at)
-      ∙ swept_tests test (is_reaped (start l).config (max (latest l) at)) (start l).first j (records l)
-      (reap_spares test out.idle (start l).config (max (latest l) at))
+  reap_tests test out l at j = ended_tests test out (start l).first (reaped_at l at) (records l) j (reaped_idle (start l) (position l) (max (latest l) at) (records l))
 
-  pub reaped_sized : (l : Ledger C) (at : ℕ) → AreReaped l (length (reaped_at l at)) (reap_count lives_out l at) 0
+  pub reaped_sized : (l : Ledger C) (at : ℕ) → AreReaped l (length (reaped_at l at)) (length (outlived_at l at)) 0
       (with_ended (start l).first (reaped_at l at) (records l))
   reaped_sized l at =
-      let sweep : Option (Standing C) → Bool = is_reaped (start l).config (max (latest l) at) in
-      let rs : List (Numbered (Standing C)) = map (after_end_where sweep) (records l) in
-      let idle_is = reap_idle (start l).config (max (latest l) at) (records l) in
-      let closed_is : length (reaped_at l at) ≡ tally (λ r. sweep r.standing) (records l) = numbered.length-numbers (λ r. sweep r.standing) (records l) (start l).first in
-      let out_is : tally_places is_out rs ≡ out l = swept_out is_out sweep (reap_spares is_out (λ c. refl) (start l).config (max (latest l) at)) (records l) in
-      let approved_is : approved_of rs ≡ approved l = swept_out is_approval sweep (reap_spares is_approval (λ c. refl) (start l).config (max (latest l) at)) (records l) in
-      subst (AreReaped l (length (reaped_at l at)) (reap_count lives_out l at) 0) (sym (reap_sweeps l at)) (record {
-        conns_are = omega (arith, conns_split rs, conns_split (records l), idle_is);
-        approved_are = omega arith;
-        idle_are = omega arith;
-        out_are = out_is;
-        many_are = omega (arith, length-map (records l) (after_end_where sweep));
-        few = omega (arith, length-filter_both (λ k. lives_out (start l).config (max (latest l) at) (record_of l k)) (λ k. not (lives_out (start l).config (max (latest l) at) (record_of l k))) (λ k. refl) (reaped_at l at));
-      })
+      let ks : List ℕ = reaped_at l at in
+      let all = reaped_idle (start l) (position l) (max (latest l) at) (records l) in
+      record {
+        conns_are = ended_tally is_conn true (λ c. refl) (start l).first ks (records l) all;
+        approved_are = omega (arith, ended_tally is_approval false (λ c. refl) (start l).first ks (records l) all);
+        idle_are = ended_tally is_idle true (λ c. refl) (start l).first ks (records l) all;
+        out_are = omega (arith, ended_tally is_out false (λ c. refl) (start l).first ks (records l) all);
+        many_are = omega (arith, ended_length (start l).first ks (records l));
+        few = omega (arith, length-append (outlived_at l at) (idled_at l at));
+      }
 
   pub granted_reaped : {l : Ledger C} {closed life : ℕ} {rs : List (Numbered (Standing C))} (n : ℕ) → AreReaped l closed life 0 rs → AreReaped l closed life n (with_approvals false n rs)
   granted_reaped {rs = rs} n s = record {

@@ -9,8 +9,8 @@ use Rattle.bb8_types.specs.Numbered.{Numbered, one, after_end}
 use Rattle.bb8_ledger.specs.Acts.{Act, Begin, Try, CheckedOk, CheckedErr, GiveUp, PutBack, Fill, Claim, Opened, Failed, Add, Reap, Join, Leave, Look}
 use Rattle.bb8_ledger.specs.Answers.{Answer, Begun, Memory, Exhausted, Served, Taken, Waiting, Kept, Closed, GaveUp, Granted, Claimed, Ended, Entered, Late, GivenBack, Added, Broken, NoCapacity, Withheld, Reaped, Joined, Left, Looked, Unfit}
 use Rattle.bb8_ledger.specs.Ledger.{with_ended, Ledger, Later, start, latest, records, handles, next, next_get, conns, approved, conns_of, approved_of, idle_of, alive, first_idle, oldest_waiter, unclaimed, peak, get_peak, get_of, at_place, figures, opening_with}
-use Rattle.bb8_types.specs.Places.{gets_stand, holds, is_unnotified, is_notified, idles_out, lives_out}
-use Rattle.bb8_ledger.specs.Table.{Row, begins, begin_refused, begin_exhausted, waits_on, serves, takes_out, waits, checks, check_fails, gives_up, gives_up_kept, gives_up_closed, keeps, returns_closed, fills, claims, claim_ended, opens, opens_late, fails, add_broken, add_full, add_exhausted, add_refused, adds, reap_ended, reaps, joins, join_exhausted, leaves, looks, IsWant, Allowed, fits, with_record, closes, reap_count, reaped_at, leave_count}
+use Rattle.bb8_types.specs.Places.{gets_stand, holds, is_unnotified, is_notified}
+use Rattle.bb8_ledger.specs.Table.{Row, begins, begin_refused, begin_exhausted, waits_on, serves, takes_out, waits, checks, check_fails, gives_up, gives_up_kept, gives_up_closed, keeps, returns_closed, fills, claims, claim_ended, opens, opens_late, fails, add_broken, add_full, add_exhausted, add_refused, adds, reap_ended, reaps, joins, join_exhausted, leaves, looks, IsWant, Allowed, fits, with_record, closes, reaped_at, outlived_at, idled_at, leave_count}
 use Rattle.bb8_types.specs.Grants.{IsGranted, IsNoGrant, numbers_left, due, lacking}
 use Rattle.bb8_types.specs.Settings.{Settings, is_lawful}
 use Rattle.bb8_types.specs.Figures.{Figures}
@@ -137,7 +137,7 @@ module _ {C : Type 0} where
   is_row l at (Add c false) (Added k n) = (differ (conns l + approved l) (start l).config.max_size && ltb (next l) end_of_numbers) && (eqb k (next l) && same n (oldest_waiter l))
   is_row l at Reap Ended = eqb (handles l) 0
   is_row l at Reap (Reaped closed by_idle by_life grant) = (ltb 0 (handles l) && eqb closed (length (reaped_at l at)))
-      && ((eqb by_idle (reap_count idles_out l at) && eqb by_life (reap_count lives_out l at))
+      && ((eqb by_idle (length (idled_at l at)) && eqb by_life (length (outlived_at l at)))
       && is_want l (with_ended (start l).first (reaped_at l at) (records l)) grant)
   is_row l at Join Joined = ltb (handles l) most_handles
   is_row l at Join Exhausted = leb most_handles (handles l)

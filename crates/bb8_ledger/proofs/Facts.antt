@@ -99,7 +99,7 @@ module _ {C : Type 0} where
   records_before s h m now rs (Opened k c) (Late j) b = ended_before (suc m) s.first k rs b
   records_before s h m now rs (Failed k) GivenBack b = ended_before (suc m) s.first k rs b
   records_before s h m now rs (Add c broken) (Added k n) b = numbered.before-append idle_at rs (entry c now now m) (suc m) b (λ p t. let e : m ≡ p = numbered.tested m p t in omega arith)
-  records_before s h m now rs Reap (Reaped closed by_idle by_life grant) b = before-approve false grant.count (suc m) _ (ended_all_before (suc m) s.first (reaped s now rs) rs b)
+  records_before s h m now rs Reap (Reaped closed by_idle by_life grant) b = before-approve false grant.count (suc m) _ (ended_all_before (suc m) s.first (reaped s m now rs) rs b)
   records_before s h m now rs Leave (Left c) b = last (eqb h 1)
     where
       last : (t : Bool) → Before idle_at (suc m) (cond t (map (after_end_where is_left) rs) rs)

@@ -1,12 +1,10 @@
 -- Checks that failed, and connections that idled out, are no more than the connections that ended.
-use Rattle.std.proofs.Common.{◌≡◌, ℕ, ◌+◌, ◌≤◌, max, Bool, not, length, true, false, Some, refl, arith}
-use Rattle.std.proofs.lemmas.List.Filters.{length-filter_both}
+use Rattle.std.proofs.Common.{◌≡◌, ℕ, ◌+◌, ◌≤◌, length, true, false, Some, arith, length-append}
 use Rattle.bb8_types.specs.declared.standing.Place.TheVariants.{Guarded, Held}
-use Rattle.bb8_types.specs.Places.{idles_out}
 use Rattle.bb8_ledger.specs.Acts.{Act}
 use Rattle.bb8_ledger.specs.Answers.{Answer}
-use Rattle.bb8_ledger.specs.Ledger.{Ledger, Later, start, latest, record_of, next, conns, approved, invalid, idled_out}
-use Rattle.bb8_ledger.specs.Table.{Row, waits_on, serves, takes_out, waits, checks, check_fails, gives_up_kept, gives_up_closed, keeps, returns_closed, fills, claims, opens, opens_late, fails, adds, reaps, leaves, IsLegal, fits, reaped_at, reap_count}
+use Rattle.bb8_ledger.specs.Ledger.{Ledger, Later, next, conns, approved, invalid, idled_out}
+use Rattle.bb8_ledger.specs.Table.{Row, waits_on, serves, takes_out, waits, checks, check_fails, gives_up_kept, gives_up_closed, keeps, returns_closed, fills, claims, opens, opens_late, fails, adds, reaps, leaves, IsLegal, fits, reaped_at, outlived_at, idled_at}
 use Rattle.bb8_ledger.proofs.Effects.{each_legal, returns_turn, closes_turn, opens_turn, ends_turn, idle_turns, unclaimed_turns, stays_sized, turned_sized, adds_sized, granted_sized, reaped_sized, granted_reaped, left_sized}
 use Rattle.bb8_ledger.proofs.Held.{checks_turn, drops_turn, hands_in_turn}
 
@@ -15,10 +13,8 @@ module _ {C : Type 0} where
   FewEnded l = invalid l + idled_out l + conns l + approved l ≤ next l
 
   -- those that idled out are among those that a reap ends
-  idled_few : (l : Ledger C) (at : ℕ) → reap_count idles_out l at ≤ length (reaped_at l at)
-  idled_few l at =
-      let test : ℕ → Bool = λ k. idles_out (start l).config (max (latest l) at) (record_of l k) in
-      omega (arith, length-filter_both test (λ k. not (test k)) (λ k. refl) (reaped_at l at))
+  idled_few : (l : Ledger C) (at : ℕ) → length (idled_at l at) ≤ length (reaped_at l at)
+  idled_few l at = omega (arith, length-append (outlived_at l at) (idled_at l at))
 
   row_ended : (l : Ledger C) (at : ℕ) (e : Act C) (a : Answer) → IsLegal l → fits l e ≡ true → Row l at e a → FewEnded l → FewEnded (Later l at e a)
   row_ended l at _ _ legal f (waits_on {g} {grant} on nothing) h = omega (arith, h, granted_sized false grant.count (stays_sized l))
@@ -38,7 +34,7 @@ module _ {C : Type 0} where
   row_ended l at _ _ legal f (fails {k}) h = omega (arith, h, turned_sized (ends_turn l k f))
   row_ended l at _ _ legal f (adds {c} room few is who) h = omega (arith, h, adds_sized l at c)
   row_ended l at _ _ legal f (reaps {closed} {by_idle} {by_life} {grant} open_now closed_is by_idle_is by_life_is want) h =
-      let few : reap_count idles_out l at ≤ length (reaped_at l at) = idled_few l at in
+      let few : length (idled_at l at) ≤ length (reaped_at l at) = idled_few l at in
       omega (arith, h, granted_reaped grant.count (reaped_sized l at))
   row_ended l at _ _ legal f (leaves {n} is) h = omega (arith, h, left_sized l at n)
   row_ended l at _ _ legal f _ h = h

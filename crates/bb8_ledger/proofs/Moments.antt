@@ -109,7 +109,7 @@ module _ {C : Type 0} where
   up_to_after s h q late at rs (Opened k c) (Late j) was u = updated _ s.first k after_end rs (λ r _. ended _ r) u
   up_to_after s h q late at rs (Failed k) GivenBack was u = updated _ s.first k after_end rs (λ r _. ended _ r) u
   up_to_after s h q late at rs (Add c broken) (Added k n) was u = appended _ rs (entry c (max late at) (max late at) q) u (entered_now (max late at) (max late at) q c (omega arith))
-  up_to_after s h q late at rs Reap (Reaped closed by_idle by_life grant) was u = granted _ false grant.count _ (all_ended _ s.first (reaped s (max late at) rs) rs u)
+  up_to_after s h q late at rs Reap (Reaped closed by_idle by_life grant) was u = granted _ false grant.count _ (all_ended _ s.first (reaped s q (max late at) rs) rs u)
   up_to_after s h q late at rs Leave (Left n) was u = last (eqb h 1)
     where
       last : (t : Bool) → AreUpTo (max late at) (cond t (map (after_end_where is_left) rs) rs)

@@ -1,68 +1,160 @@
 -- A reap leaves nothing to close or to grant to a second one at the same moment.
-use Rattle.std.proofs.Common.{◌≡◌, ◌⊎◌, ℕ, zero, suc, ◌+◌, ◌-◌, ◌<◌, ◌≤◌, max, min, Bool, true, false, cond, List, [], ◌∷◌, ◌++◌, length, map, Option, Some, None, refl, ap, ◌∙◌, ⊎_elim, arith, subst, inl, inr}
+use Rattle.std.proofs.Common.{◌≡◌, ◌⊎◌, ℕ, zero, suc, ◌+◌, ◌-◌, ◌<◌, ◌≤◌, max, min, Bool, true, false, ◌&&◌, cond, eqb, List, [], ◌∷◌, ◌++◌, length, take, drop, Option, Some, None, refl, sym, ap, ◌∙◌, ⊎_elim, arith, subst, inl, inr, length-take, length-drop}
+use Rattle.std.proofs.Math.Seq.{take-length, drop-length}
 use Rattle.std.specs.Option.{unwrap_or}
 use Rattle.bb8_types.specs.declared.grants.Grant.{Grant}
 use Rattle.bb8_types.specs.declared.standing.Standing.{Standing}
 use Rattle.bb8_types.specs.Settings.{Settings}
 use Rattle.bb8_ledger.specs.Acts.{Act, Reap}
 use Rattle.bb8_ledger.specs.Answers.{Answer, Reaped}
-use Rattle.bb8_types.specs.Numbered.{Numbered, tally, one, after_end, after_end_where}
-use Rattle.bb8_ledger.specs.Ledger.{Ledger, Later, start, latest, records, handles, conns, approved, idle_count, conns_of, approved_of, idle_of, approval, with_approvals, reaped, with_ended, Start}
-use Rattle.bb8_types.specs.Places.{is_reaped}
+use Rattle.bb8_types.specs.Numbered.{Numbered, update, tally, one, after_end}
+use Rattle.bb8_ledger.specs.Ledger.{Ledger, Later, start, position, latest, records, handles, conns, approved, idle_count, conns_of, approved_of, idle_of, approval, with_approvals, reaped, outlived, idled, over_idle_at, idle_at, with_ended, Start}
+use Rattle.bb8_types.specs.Places.{is_idle, idles_out, lives_out}
 use Rattle.bb8_ledger.specs.Table.{Row, reaps, reaped_at, IsWant, IsLegal}
 use Rattle.bb8_types.specs.Grants.{due, lacking}
 use Rattle.bb8_ledger.specs.Limits.{reap_granted, IsMadeGood, ReapsOnce, NeverReapsTwice}
+use Rattle.bb8_types.proofs.Numbered.{Before}
 use Rattle.bb8_types.proofs.Numbered as numbered
-use Rattle.bb8_ledger.proofs.Effects.{each_legal, ended_swept, reaped_sized}
+use Rattle.bb8_types.proofs.Places.{and_right}
+use Rattle.bb8_ledger.proofs.Facts.{ended_all_before, entered_before}
+use Rattle.bb8_ledger.proofs.Standings.{before-approve}
+use Rattle.bb8_ledger.proofs.Effects.{each_legal, ended_append, ended_tally, front_idle, front_ended, outlived_line, over_idle, over_idle_line, idles_idle, idle-approve, reaped_sized}
 use Rattle.bb8_ledger.proofs.Wants.{due_open, row_makes_good}
 
+-- no list is left of none
+nothing : (ks : List ℕ) → length ks ≡ 0 → ks ≡ []
+nothing [] h = refl
+nothing (k ∷ ks) h = absurd (omega arith)
+
 module _ {C : Type 0} where
-  -- what a sweep has ended it does not end again
-  swept_none : (test : Option (Standing C) → Bool) → test None ≡ false → (rs : List (Numbered (Standing C))) → tally (λ r. test r.standing) (map (after_end_where test) rs) ≡ 0
-  swept_none test off [] = refl
-  swept_none test off (r ∷ rs) =
-      let ih : tally (λ x. test x.standing) (map (after_end_where test) rs) ≡ 0 = swept_none test off rs in
-      let here : one (test (after_end_where test r).standing) ≡ 0 = pick (test r.standing) refl in
+  -- nothing more passes once some have ended
+  fewer_ended : (test : Option (Standing C) → Bool) → test None ≡ false → (rs : List (Numbered (Standing C))) (n k : ℕ)
+      → tally (λ r. test r.standing) (update n k after_end rs) ≤ tally (λ r. test r.standing) rs
+  fewer_ended test off [] n k = omega arith
+  fewer_ended test off (r ∷ rs) n k =
+      let ih : tally (λ x. test x.standing) (update (suc n) k after_end rs) ≤ tally (λ x. test x.standing) rs = fewer_ended test off rs (suc n) k in
+      let here : one (test (cond (eqb k n) (after_end r) r).standing) ≤ one (test r.standing) = pick (eqb k n) in
       omega arith
     where
-      pick : (b : Bool) → test r.standing ≡ b → one (test (cond b (after_end r) r).standing) ≡ 0
-      pick true e = ap one off
-      pick false e = ap one e
+      pick : (b : Bool) → one (test (cond b (after_end r) r).standing) ≤ one (test r.standing)
+      pick true = let none : one (test None) ≡ 0 = ap one off in omega arith
+      pick false = omega arith
+
+  fewer_all_ended : (test : Option (Standing C) → Bool) → test None ≡ false → (first : ℕ) (ks : List ℕ) (rs : List (Numbered (Standing C)))
+      → tally (λ r. test r.standing) (with_ended first ks rs) ≤ tally (λ r. test r.standing) rs
+  fewer_all_ended test off first [] rs = omega arith
+  fewer_all_ended test off first (k ∷ ks) rs =
+      let ih : tally (λ x. test x.standing) (with_ended first ks (update first k after_end rs)) ≤ tally (λ x. test x.standing) (update first k after_end rs) =
+      fewer_all_ended test off first ks (update first k after_end rs) in
+      omega (arith, ih, fewer_ended test off rs first k)
 
   -- nor what was approved since
-  approved_none : (config : Settings) (now n : ℕ) (rs : List (Numbered (Standing C)))
-      → tally (λ r. is_reaped config now r.standing) (with_approvals false n rs) ≡ tally (λ r. is_reaped config now r.standing) rs
-  approved_none config now zero rs = refl
-  approved_none config now (suc n) rs =
-      let more : tally (λ r. is_reaped config now r.standing) (with_approvals false n rs ++ approval false ∷ []) ≡ tally
-      (λ r. is_reaped config now r.standing) (with_approvals false n rs) + 0 =
-      numbered.tally-append (λ (r : Numbered (Standing C)). is_reaped config now r.standing) (with_approvals false n rs) (approval false) in
-      let ih : tally (λ r. is_reaped config now r.standing) (with_approvals false n rs) ≡ tally (λ r. is_reaped config now r.standing) rs = approved_none config now n rs in
+  approved_none : (test : Option (Standing C) → Bool) → test (approval {C = C} false).standing ≡ false → (n : ℕ) (rs : List (Numbered (Standing C)))
+      → tally (λ r. test r.standing) (with_approvals false n rs) ≡ tally (λ r. test r.standing) rs
+  approved_none test off zero rs = refl
+  approved_none test off (suc n) rs =
+      let more : tally (λ r. test r.standing) (with_approvals false n rs ++ approval false ∷ []) ≡ tally
+      (λ r. test r.standing) (with_approvals false n rs) + one (test (approval {C = C} false).standing) =
+      numbered.tally-append (λ (r : Numbered (Standing C)). test r.standing) (with_approvals false n rs) (approval false) in
+      let none : one (test (approval {C = C} false).standing) ≡ 0 = ap one off in
+      let ih : tally (λ r. test r.standing) (with_approvals false n rs) ≡ tally (λ r. test r.standing) rs = approved_none test off n rs in
       omega arith
 
+  -- an approval is in no line of idle ones
+  approved_line : (s : Start) (m now n : ℕ) (rs : List (Numbered (Standing C))) → over_idle s m now (with_approvals false n rs) ≡ over_idle s m now rs
+  approved_line s m now zero rs = refl
+  approved_line s m now (suc n) rs = numbered.in_order-append (over_idle_at s.config now) (with_approvals false n rs) s.first (approval false) (λ p. refl) m ∙ approved_line s m now n rs
+
+  -- whoever is idle too long is idle
+  over_idle_before : (config : Settings) (now m : ℕ) (rs : List (Numbered (Standing C))) → Before idle_at m rs → Before (over_idle_at config now) m rs
+  over_idle_before config now m [] b = tt
+  over_idle_before config now m (r ∷ rs) b = (λ p h. b.0 p (entered p h), over_idle_before config now m rs b.1)
+    where
+      both : (x y : Bool) → x ≡ true → y ≡ true → (x && y) ≡ true
+      both true true e f = refl
+      both true false e f = cc
+      both false y e f = cc
+
+      entered : (p : ℕ) → over_idle_at config now p r ≡ true → idle_at p r ≡ true
+      entered p h = let t = and_right (idles_out config now r.standing) _ h in both _ _ (idles_idle config now r.standing t.0) t.1
+
+  -- nothing is there to end at a moment
+  pub record NoneDue (s : Start) (m now : ℕ) (rs : List (Numbered (Standing C))) : Type 0 where
+    pub aged : length (outlived s now rs) ≡ 0
+    pub idled : length (take (idle_of rs - unwrap_or s.config.min_idle 0) (over_idle s m now rs)) ≡ 0
+
+  -- so a reap ends nothing
+  none_reaped : (s : Start) (m now : ℕ) (rs : List (Numbered (Standing C))) → NoneDue s m now rs → length (reaped s m now rs) ≡ 0
+  none_reaped s m now rs none =
+      ap (λ (ks : List ℕ). length (ks ++ idled s m now (with_ended s.first ks rs))) (nothing (outlived s now rs) none.aged) ∙ none.idled
+
+  -- an event at which nobody entered changes nothing of it
+  none_later : (s : Start) (m now : ℕ) (rs : List (Numbered (Standing C))) → Before idle_at m rs → NoneDue s m now rs → NoneDue s (suc m) now rs
+  none_later s m now rs b none = record {
+    aged = none.aged;
+    idled = ap (λ (ks : List ℕ). length (take (idle_of rs - unwrap_or s.config.min_idle 0) ks))
+        (numbered.in_order-later (over_idle_at s.config now) rs s.first m (over_idle_before s.config now m rs b)) ∙ none.idled;
+  }
+
   -- so a reap leaves nothing to end at its moment
-  reaped_none : (s : Start) (now n : ℕ) (rs : List (Numbered (Standing C))) → length (reaped s now (with_approvals false n (with_ended s.first (reaped s now rs) rs))) ≡ 0
-  reaped_none s now n rs =
-      numbered.length-numbers (λ r. is_reaped s.config now r.standing) (with_approvals false n (with_ended s.first (reaped s now rs) rs)) s.first
-      ∙ approved_none s.config now n (with_ended s.first (reaped s now rs) rs)
-      ∙ ap (tally (λ r. is_reaped s.config now r.standing)) (ended_swept (is_reaped s.config now) s.first rs)
-      ∙ swept_none (is_reaped s.config now) refl rs
+  reaped_none : (s : Start) (m now n : ℕ) (rs : List (Numbered (Standing C))) → NoneDue s m now (with_approvals false n (with_ended s.first (reaped s m now rs) rs))
+  reaped_none s m now n rs =
+      let then : List (Numbered (Standing C)) = with_ended s.first (outlived s now rs) rs in
+      let ks : List ℕ = idled s m now then in
+      let last : List (Numbered (Standing C)) = with_ended s.first ks then in
+      let q : ℕ = idle_of then - unwrap_or s.config.min_idle 0 in
+      let line : List ℕ = over_idle s m now then in
+      let is : with_ended s.first (reaped s m now rs) rs ≡ last = ended_append s.first (outlived s now rs) ks rs in
+      let aged_gone : outlived s now (with_ended s.first (take (length (outlived s now rs)) (outlived s now rs)) rs) ≡ drop (length (outlived s now rs)) (outlived s now rs) =
+      front_ended s.first (outlived s now) (outlived_line s now) (length (outlived s now rs)) (outlived s now rs) rs refl in
+      let aged_none : outlived s now then ≡ [] =
+      ap (λ (xs : List ℕ). outlived s now (with_ended s.first xs rs)) (sym (take-length (outlived s now rs))) ∙ aged_gone ∙ drop-length (outlived s now rs) in
+      let aged_tally : tally (λ r. lives_out s.config now r.standing) then ≡ 0 =
+      sym (numbered.length-numbers (λ r. lives_out s.config now r.standing) then s.first) ∙ ap (λ (xs : List ℕ). length xs) aged_none in
+      let aged_last : tally (λ r. lives_out s.config now r.standing) last ≤ tally (λ r. lives_out s.config now r.standing) then =
+      fewer_all_ended (lives_out s.config now) refl s.first ks then in
+      let aged_all : tally (λ r. lives_out s.config now r.standing) (with_approvals false n last) ≡ tally (λ r. lives_out s.config now r.standing) last =
+      approved_none (lives_out s.config now) refl n last in
+      let aged_is : length (outlived s now (with_approvals false n last)) ≡ tally (λ r. lives_out s.config now r.standing) (with_approvals false n last) =
+      numbered.length-numbers (λ r. lives_out s.config now r.standing) (with_approvals false n last) s.first in
+      let line_last : over_idle s m now (with_approvals false n last) ≡ drop q line =
+      approved_line s m now n last ∙ front_ended s.first (over_idle s m now) (over_idle_line s m now) q line then refl in
+      let idle_all : idle_of (with_approvals false n last) ≡ idle_of last = idle-approve false n last in
+      let idle_last : idle_of last + length ks ≡ idle_of then =
+      ended_tally is_idle true (λ c. refl) s.first ks then (front_idle s.first (over_idle s m now) (over_idle_line s m now) q line then refl) in
+      subst (λ (xs : List (Numbered (Standing C))). NoneDue s m now (with_approvals false n xs)) (sym is) (record {
+        aged = omega arith;
+        idled =
+            ap (λ (xs : List ℕ). length (take (idle_of (with_approvals false n last) - unwrap_or s.config.min_idle 0) xs)) line_last
+            ∙ (omega (
+              arith,
+              idle_all,
+              idle_last,
+              length-take q line,
+              length-drop q line,
+              length-take (idle_of (with_approvals false n last) - unwrap_or s.config.min_idle 0) (drop q line),
+            ));
+      })
 
   -- right after a reap: nothing is left to end at its moment, and what was wanted is made good
   abbrev IsReaped : Ledger C → Type 0
-  IsReaped l = (before : Grant) → reap_granted l ≡ Some before → (length (reaped (start l) (latest l) (records l)) ≡ 0) × IsMadeGood l before
+  IsReaped l = (before : Grant) → reap_granted l ≡ Some before → NoneDue (start l) (position l) (latest l) (records l) × IsMadeGood l before
 
   row_reaped : (l : Ledger C) (at : ℕ) (e : Act C) (a : Answer) → Row l at e a → IsReaped (Later l at e a)
   row_reaped l at _ _ (reaps {closed} {by_idle} {by_life} {grant} open_now closed_is by_idle_is by_life_is want) = λ before is.
       let same : grant ≡ before = cc in (
-        reaped_none (start l) (max (latest l) at) grant.count (records l),
+        none_later (start l) (position l) (max (latest l) at) _
+            (before-approve false grant.count (position l) _ (ended_all_before (position l) (start l).first (reaped_at l at) (records l) (entered_before l)))
+            (reaped_none (start l) (position l) (max (latest l) at) grant.count (records l)),
         subst (IsMadeGood (Later l at Reap (Reaped closed by_idle by_life grant))) same
             (row_makes_good l at _ _ (reaps open_now closed_is by_idle_is by_life_is want)),
       )
   row_reaped l at _ _ _ = λ before is. cc
 
   all_reaped : (l : Ledger C) → IsLegal l → IsReaped l
-  all_reaped = each_legal IsReaped (λ s lawful before is. cc) (λ l at e h. h) (λ l at e a legal f row h. row_reaped l at e a row)
+  all_reaped = each_legal IsReaped (λ s lawful before is. cc)
+      (λ l at e h before is. let was = h before is in (none_later (start l) (position l) (latest l) (records l) (entered_before l) was.0, was.1))
+      (λ l at e a legal f row h. row_reaped l at e a row)
 
   -- what is wanted once nothing is to be ended, where what was wanted is made good
   wants_none : (l : Ledger C) (rs : List (Numbered (Standing C))) (g : Grant) → IsWant l rs g → 0 < handles l → conns_of rs ≡ conns l
@@ -82,7 +174,7 @@ module _ {C : Type 0} where
   row_once : (l : Ledger C) (at : ℕ) (e : Act C) (a : Answer) → IsLegal l → Row l at e a → ReapsOnce l at a
   row_once l at _ _ legal (reaps {closed} {grant} open_now closed_is by_idle_is by_life_is want) = λ before is still.
       let was = all_reaped l legal before is in
-      let none : length (reaped_at l at) ≡ 0 = ap (λ (now : ℕ). length (reaped (start l) now (records l))) still ∙ was.0 in
+      let none : length (reaped_at l at) ≡ 0 = ap (λ (now : ℕ). length (reaped (start l) (position l) now (records l))) still ∙ none_reaped (start l) (position l) (latest l) (records l) was.0 in
       let z = reaped_sized l at in (
         closed_is ∙ none,
         λ all_given. wants_none l _ grant want open_now (omega (arith, z.conns_are)) (omega (arith, z.approved_are)) (omega (arith, z.idle_are))

@@ -1,8 +1,8 @@
 -- The ledger of a pool: all that happened, and what follows from it.
 -- Nothing is stored but the events with their answers: records and gets are what the events did, sizes are tallies, order is read from
 -- positions, and peaks, handles and statistics are told over the whole history.
-use Rattle.std.specs.Prelude.{ℕ, zero, suc, ◌+◌, ◌-◌, ◌*◌, max, min, Bool, true, false, ◌&&◌, not, cond, eqb, List, [], ◌∷◌, ◌++◌, length, map, slice_get, Option, Some, None, is_some}
-use Rattle.std.specs.Option.{option_map, option_and_then}
+use Rattle.std.specs.Prelude.{ℕ, zero, suc, ◌+◌, ◌-◌, ◌*◌, max, min, Bool, true, false, ◌&&◌, not, cond, eqb, List, [], ◌∷◌, ◌++◌, length, map, take, slice_get, Option, Some, None, is_some}
+use Rattle.std.specs.Option.{option_map, option_and_then, unwrap_or}
 use Rattle.bb8_types.specs.declared.standing.Place.{Place}
 use Rattle.bb8_types.specs.declared.standing.Place.TheVariants.{Unclaimed, Claimed, Idle, Held, Guarded}
 use Rattle.bb8_types.specs.declared.standing.Standing.{Standing}
@@ -15,7 +15,7 @@ use Rattle.bb8_ledger.specs.Acts.{Act, Begin, Try, CheckedOk, CheckedErr, GiveUp
 use Rattle.bb8_ledger.specs.Answers.{Answer, Begun, Served, Taken, Kept, Closed, GaveUp, Granted, Entered, Late, GivenBack, Added, Reaped, Joined, Left, Unfit}
 use Rattle.bb8_ledger.specs.Answers as answers
 use Rattle.bb8_types.specs.Numbered.{Numbered, at, update, numbers, in_order, tally, one, standing_at, after_end, after_end_where}
-use Rattle.bb8_types.specs.Places.{is_conn, is_unclaimed, is_idle, is_approval, is_out, stands, is_unnotified, is_notified, gets_stand, first_wait_of, is_expired, micros_since, is_reaped, is_left, with_place, birth_in, get_with_place, get_in_wait, first_of}
+use Rattle.bb8_types.specs.Places.{is_conn, is_unclaimed, is_idle, is_approval, is_out, stands, is_unnotified, is_notified, gets_stand, first_wait_of, is_expired, micros_since, idles_out, lives_out, is_left, with_place, birth_in, get_with_place, get_in_wait, first_of}
 use Rattle.bb8_types.specs.Bounds.{most_micros}
 
 -- What a pool begins with.
@@ -57,15 +57,44 @@ module _ {C : Type 0} where
   abbrev pub at_entry : C → ℕ → ℕ → Numbered (Standing C) → Numbered (Standing C)
   at_entry c now position r = entry c (birth_in r.standing) now position
 
-  -- Reaped: the numbers of the records that a reap at a moment ends, which are the idle ones that are idle too long or live too long. This is
-  -- the one place of that rule.
-  abbrev pub reaped : Start → ℕ → List (Numbered (Standing C)) → List ℕ
-  reaped s now rs = numbers (λ r. is_reaped s.config now r.standing) s.first rs
+  -- the number of records in places that pass a test
+  abbrev pub tally_places : (Place C → Bool) → List (Numbered (Standing C)) → ℕ
+  tally_places test rs = tally (λ r. stands test r.standing) rs
+
+  -- how many of the records are connections
+  abbrev pub conns_of : List (Numbered (Standing C)) → ℕ
+  conns_of = tally_places is_conn
+
+  -- how many of the records are open approvals
+  abbrev pub approved_of : List (Numbered (Standing C)) → ℕ
+  approved_of = tally_places is_approval
+
+  -- how many of the records are idle
+  abbrev pub idle_of : List (Numbered (Standing C)) → ℕ
+  idle_of = tally_places is_idle
 
   -- the records once those of these numbers have ended
   abbrev pub with_ended : ℕ → List ℕ → List (Numbered (Standing C)) → List (Numbered (Standing C))
   with_ended first [] rs = rs
   with_ended first (k ∷ ks) rs = with_ended first ks (update first k after_end rs)
+
+  -- the numbers of the idle records that live too long at a moment
+  abbrev pub outlived : Start → ℕ → List (Numbered (Standing C)) → List ℕ
+  outlived s now rs = numbers (λ r. lives_out s.config now r.standing) s.first rs
+
+  -- a record that is idle too long at a moment and entered at this position
+  abbrev pub over_idle_at : Settings → ℕ → ℕ → Numbered (Standing C) → Bool
+  over_idle_at config now p r = idles_out config now r.standing && eqb r.position p
+
+  -- the numbers of those that are idle too long, the one that entered first before the others, but no more than there are idle ones
+  -- beyond min_idle
+  abbrev pub idled : Start → ℕ → ℕ → List (Numbered (Standing C)) → List ℕ
+  idled s position now rs = take (idle_of rs - unwrap_or s.config.min_idle 0) (in_order (over_idle_at s.config now) s.first rs position)
+
+  -- Reaped: the numbers of the records that a reap at a position and a moment ends, which are the idle ones that live too long, and, once
+  -- those have ended, those that are idle too long. This is the one place of that rule.
+  abbrev pub reaped : Start → ℕ → ℕ → List (Numbered (Standing C)) → List ℕ
+  reaped s position now rs = outlived s now rs ++ idled s position now (with_ended s.first (outlived s now rs) rs)
 
   -- the records after an event: what the pool began with, its handles, the position of the event and its effective moment are given
   abbrev pub records_after : Start → ℕ → ℕ → ℕ → List (Numbered (Standing C)) → Act C → Answer → List (Numbered (Standing C))
@@ -85,7 +114,7 @@ module _ {C : Type 0} where
   records_after s handles position now rs (Opened k c) (Late m) = update s.first k after_end rs
   records_after s handles position now rs (Failed k) GivenBack = update s.first k after_end rs
   records_after s handles position now rs (Add c broken) (Added k n) = rs ++ entry c now now position ∷ []
-  records_after s handles position now rs Reap (Reaped closed by_idle by_life grant) = with_approvals false grant.count (with_ended s.first (reaped s now rs) rs)
+  records_after s handles position now rs Reap (Reaped closed by_idle by_life grant) = with_approvals false grant.count (with_ended s.first (reaped s position now rs) rs)
   records_after s handles position now rs Leave (Left c) = cond (eqb handles 1) (map (after_end_where is_left) rs) rs
   records_after s handles position now rs _ _ = rs
 
@@ -163,22 +192,6 @@ module _ {C : Type 0} where
   abbrev pub gets : Ledger C → List (Numbered Getting)
   gets (Opening s) = []
   gets (Later l at e a) = gets_after (start l) (position l) (max (latest l) at) (gets l) e a
-
-  -- the number of records in places that pass a test
-  abbrev pub tally_places : (Place C → Bool) → List (Numbered (Standing C)) → ℕ
-  tally_places test rs = tally (λ r. stands test r.standing) rs
-
-  -- how many of the records are connections
-  abbrev pub conns_of : List (Numbered (Standing C)) → ℕ
-  conns_of = tally_places is_conn
-
-  -- how many of the records are open approvals
-  abbrev pub approved_of : List (Numbered (Standing C)) → ℕ
-  approved_of = tally_places is_approval
-
-  -- how many of the records are idle
-  abbrev pub idle_of : List (Numbered (Standing C)) → ℕ
-  idle_of = tally_places is_idle
 
   -- an idle record that entered at this position
   abbrev pub idle_at : ℕ → Numbered (Standing C) → Bool

@@ -1,16 +1,15 @@
 -- The step table: which events fit, and which answers each may have.
 use Rattle.std.specs.Prelude.{◌≡◌, ◌≢◌, ℕ, ◌+◌, ◌<◌, ◌≤◌, max, Bool, true, false, ◌&&◌, ◌||◌, not, eqb, ltb, cond, Option, Some, None, is_some, slice_get, length, List}
-use Rattle.std.specs.List.{filter}
 use Rattle.std.specs.Bool.{MatchBool}
 use Rattle.bb8_types.specs.declared.grants.Grant.{Grant}
 use Rattle.bb8_types.specs.declared.standing.Standing.{Standing}
 use Rattle.bb8_types.specs.declared.standing.Place.TheVariants.{Guarded, Held}
-use Rattle.bb8_types.specs.Settings.{Settings, is_lawful}
+use Rattle.bb8_types.specs.Settings.{is_lawful}
 use Rattle.bb8_types.specs.Numbered.{Numbered, update, one, after_end}
 use Rattle.bb8_ledger.specs.Acts.{Act, Begin, Try, CheckedOk, CheckedErr, GiveUp, PutBack, Fill, Claim, Opened, Failed, Add, Reap, State, Join, Leave, Look, Reason}
 use Rattle.bb8_ledger.specs.Answers.{Answer, Begun, Memory, Exhausted, Served, Taken, Waiting, Kept, Closed, GaveUp, Granted, Claimed, Ended, Entered, Late, GivenBack, Added, Broken, NoCapacity, Withheld, Reaped, Shown, Joined, Left, Looked, Unfit}
-use Rattle.bb8_ledger.specs.Ledger.{Ledger, Opening, Later, start, latest, records, handles, next, next_get, conns, approved, conns_of, approved_of, idle_of, alive, idle_count, first_idle, oldest_waiter, unclaimed, peak, get_peak, record_of, get_of, at_place, reaped, with_ended, expires, figures}
-use Rattle.bb8_types.specs.Places.{stands, gets_stand, holds, is_claimed, is_guarded, is_unnotified, is_notified, idles_out, lives_out, is_trying}
+use Rattle.bb8_ledger.specs.Ledger.{Ledger, Opening, Later, start, position, latest, records, handles, next, next_get, conns, approved, conns_of, approved_of, idle_of, alive, idle_count, first_idle, oldest_waiter, unclaimed, peak, get_peak, record_of, get_of, at_place, reaped, outlived, idled, with_ended, expires, figures}
+use Rattle.bb8_types.specs.Places.{stands, gets_stand, holds, is_claimed, is_guarded, is_unnotified, is_notified, is_trying}
 use Rattle.bb8_types.specs.Grants.{due, lacking, IsGranted, IsNoGrant}
 use Rattle.bb8_types.specs.Bounds.{end_of_numbers, most_handles}
 
@@ -54,11 +53,15 @@ module _ {C : Type 0} where
 
   -- the numbers of the records that a reap ends
   abbrev pub reaped_at : Ledger C → ℕ → List ℕ
-  reaped_at l at = reaped (start l) (max (latest l) at) (records l)
+  reaped_at l at = reaped (start l) (position l) (max (latest l) at) (records l)
 
-  -- how many of those pass a test
-  abbrev pub reap_count : (Settings → ℕ → Option (Standing C) → Bool) → Ledger C → ℕ → ℕ
-  reap_count test l at = length (filter (λ k. test (start l).config (max (latest l) at) (record_of l k)) (reaped_at l at))
+  -- those of them that live too long
+  abbrev pub outlived_at : Ledger C → ℕ → List ℕ
+  outlived_at l at = outlived (start l) (max (latest l) at) (records l)
+
+  -- and those that are idle too long
+  abbrev pub idled_at : Ledger C → ℕ → List ℕ
+  idled_at l at = idled (start l) (position l) (max (latest l) at) (with_ended (start l).first (outlived_at l at) (records l))
 
   -- how many idle records the leave of a handle ends
   abbrev pub leave_count : Ledger C → ℕ
@@ -103,7 +106,7 @@ module _ {C : Type 0} where
     adds : {k : ℕ} {c : C} {n : Option ℕ} → conns l + approved l ≢ (start l).config.max_size → next l < end_of_numbers → k ≡ next l → n ≡ oldest_waiter l → Row l at (Add c false) (Added k n)
     reap_ended : handles l ≡ 0 → Row l at Reap Ended
     reaps : {closed by_idle by_life : ℕ} {grant : Grant} → 0 < handles l → closed ≡ length (reaped_at l at)
-        → by_idle ≡ reap_count idles_out l at → by_life ≡ reap_count lives_out l at
+        → by_idle ≡ length (idled_at l at) → by_life ≡ length (outlived_at l at)
         → IsWant l (with_ended (start l).first (reaped_at l at) (records l)) grant
         → Row l at Reap (Reaped closed by_idle by_life grant)
     shows : Row l at State (Shown (figures l))

@@ -1,8 +1,8 @@
 -- The worked rows: what happens to a pool, line by line, with the answers that were worked out by hand, or that the original gave.
 -- Written by crates/bb8_rows/ledger_rows from crates/bb8_rows/stdin.
 use Rattle.std.specs.Prelude.{true, false, List, [], ◌∷◌, Some, None}
-use Rattle.bb8_ledger.specs.Acts.{Begin, Try, CheckedOk, CheckedErr, GiveUp, PutBack, Fill, Claim, Failed, Add, Reap, Join, Leave, TimedOut, Cancelled}
-use Rattle.bb8_ledger.specs.Answers.{Begun, Exhausted, Served, Taken, Waiting, Kept, Closed, GaveUp, Granted, Claimed, Ended, Entered, Late, GivenBack, Added, Broken, NoCapacity, Withheld, Reaped, Joined, Left, Unfit}
+use Rattle.bb8_ledger.specs.Acts.{Begin, Try, CheckedOk, CheckedErr, GiveUp, PutBack, Fill, Claim, Add, Reap, Join, Leave, TimedOut, Cancelled}
+use Rattle.bb8_ledger.specs.Answers.{Begun, Exhausted, Served, Taken, Waiting, Kept, Closed, GaveUp, Granted, Claimed, Ended, Entered, Late, Added, Broken, NoCapacity, Withheld, Reaped, Joined, Left, Unfit}
 use Rattle.bb8_ledger.specs.Rows.{Told, ◌▸◌⇒◌, grant◌at◌, opens, returns, adds}
 
 -- two connections are to be idle: the two are opened
@@ -249,7 +249,7 @@ abbrev pub reaped_at_the_limit : List Told
 reaped_at_the_limit =
     0 ▸ adds 0 ⇒ Added 0 None
     ∷ 999_999_999 ▸ Reap ⇒ Reaped 0 0 0 (grant 0 at 1)
-    ∷ 1_000_000_000 ▸ Reap ⇒ Reaped 1 1 1 (grant 0 at 1)
+    ∷ 1_000_000_000 ▸ Reap ⇒ Reaped 1 0 1 (grant 0 at 1)
     ∷ 1_000_000_000 ▸ Reap ⇒ Reaped 0 0 0 (grant 0 at 1)
     ∷ []
 
@@ -264,7 +264,7 @@ moment_goes_back =
     ∷ 11_000_000_000 ▸ Reap ⇒ Reaped 1 1 0 (grant 0 at 1)
     ∷ []
 
--- a reap spares what is out, which idles out a second after its return; failed openings are granted again (upstream's test_idle_timeout)
+-- no more are idle than min_idle: a reap closes none, though each is idle for the limit (where upstream's test_idle_timeout sees them drop)
 abbrev pub idled_out : List Told
 idled_out =
     0 ▸ Fill false ⇒ Granted (grant 5 at 0)
@@ -280,17 +280,55 @@ idled_out =
     ∷ 0 ▸ opens 4 ⇒ Entered 4 None
     ∷ 0 ▸ Begin ⇒ Begun 0
     ∷ 0 ▸ Try 0 ⇒ Served 0 (grant 0 at 5)
-    ∷ 1_000_000_000 ▸ Reap ⇒ Reaped 4 4 0 (grant 4 at 5)
-    ∷ 1_000_000_000 ▸ Claim ⇒ Claimed (Some 5)
-    ∷ 1_000_000_000 ▸ Claim ⇒ Claimed (Some 6)
-    ∷ 1_000_000_000 ▸ Claim ⇒ Claimed (Some 7)
-    ∷ 1_000_000_000 ▸ Claim ⇒ Claimed (Some 8)
-    ∷ 2_400_000_000 ▸ Failed 5 ⇒ GivenBack
-    ∷ 2_400_000_000 ▸ Failed 6 ⇒ GivenBack
-    ∷ 2_400_000_000 ▸ Failed 7 ⇒ GivenBack
-    ∷ 2_400_000_000 ▸ Failed 8 ⇒ GivenBack
+    ∷ 1_000_000_000 ▸ Reap ⇒ Reaped 0 0 0 (grant 0 at 5)
+    ∷ 1_000_000_000 ▸ Claim ⇒ Claimed None
     ∷ 2_400_000_000 ▸ returns 0 ⇒ Kept 0 None
-    ∷ 3_400_000_000 ▸ Reap ⇒ Reaped 1 1 0 (grant 5 at 9)
+    ∷ 3_400_000_000 ▸ Reap ⇒ Reaped 0 0 0 (grant 0 at 5)
+    ∷ []
+
+-- five are idle for the limit: a reap closes those beyond min_idle, the one that entered first before the others
+abbrev pub spared_oldest : List Told
+spared_oldest =
+    0 ▸ adds 0 ⇒ Added 0 None
+    ∷ 0 ▸ adds 1 ⇒ Added 1 None
+    ∷ 0 ▸ adds 2 ⇒ Added 2 None
+    ∷ 0 ▸ adds 3 ⇒ Added 3 None
+    ∷ 0 ▸ adds 4 ⇒ Added 4 None
+    ∷ 1_000_000_000 ▸ Reap ⇒ Reaped 3 3 0 (grant 0 at 5)
+    ∷ 1_000_000_000 ▸ Begin ⇒ Begun 0
+    ∷ 1_000_000_000 ▸ Try 0 ⇒ Served 3 (grant 1 at 5)
+    ∷ []
+
+-- the same of a pool that serves the newest: the newer of the two that are left goes out
+abbrev pub spared_newest : List Told
+spared_newest =
+    0 ▸ adds 0 ⇒ Added 0 None
+    ∷ 0 ▸ adds 1 ⇒ Added 1 None
+    ∷ 0 ▸ adds 2 ⇒ Added 2 None
+    ∷ 0 ▸ adds 3 ⇒ Added 3 None
+    ∷ 0 ▸ adds 4 ⇒ Added 4 None
+    ∷ 1_000_000_000 ▸ Reap ⇒ Reaped 3 3 0 (grant 0 at 5)
+    ∷ 1_000_000_000 ▸ Begin ⇒ Begun 0
+    ∷ 1_000_000_000 ▸ Try 0 ⇒ Served 4 (grant 1 at 5)
+    ∷ []
+
+-- one lives too long and three are idle too long: a reap closes the one, and then one of the three
+abbrev pub spared_after_expired : List Told
+spared_after_expired =
+    0 ▸ adds 0 ⇒ Added 0 None
+    ∷ 1_000_000_000 ▸ adds 1 ⇒ Added 1 None
+    ∷ 1_000_000_000 ▸ adds 2 ⇒ Added 2 None
+    ∷ 1_000_000_000 ▸ adds 3 ⇒ Added 3 None
+    ∷ 2_000_000_000 ▸ Reap ⇒ Reaped 2 1 1 (grant 0 at 4)
+    ∷ 2_000_000_000 ▸ Reap ⇒ Reaped 0 0 0 (grant 0 at 4)
+    ∷ []
+
+-- both live too long: min_idle spares none of them
+abbrev pub expired_not_spared : List Told
+expired_not_spared =
+    0 ▸ adds 0 ⇒ Added 0 None
+    ∷ 0 ▸ adds 1 ⇒ Added 1 None
+    ∷ 1_000_000_000 ▸ Reap ⇒ Reaped 2 0 2 (grant 2 at 2)
     ∷ []
 
 -- one get takes the last number that is left, and the next one finds none

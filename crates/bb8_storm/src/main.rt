@@ -61,7 +61,7 @@ fn in_phase<R: Runtime + Threads, L: PoolParts + 'static>(
         return Err(Memory);
     };
     let driver = Driver::new(storm.pool)?;
-    let Ok(driving) = drive(driver, Stop { asked: stop }) else {
+    let Ok(driving) = drive(&rt, driver, Stop { asked: stop }) else {
         return Err(Memory);
     };
     let told = rounds::in_threads(&rt, storm);

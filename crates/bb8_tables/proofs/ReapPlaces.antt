@@ -1,16 +1,15 @@
 -- Idle connections that end.
-use Rattle.std.proofs.Common.{◌≡◌, ◌≢◌, ℕ, suc, ◌+◌, ◌-◌, ◌<◌, ◌≤◌, Bool, true, false, ◌&&◌, ◌||◌, List, [], ◌∷◌, ◌++◌, map, length, Option, Some, None, set, option_map, get_or, slice_get, drop, refl, sym, ap, ◌∙◌, arith, subst, length-append}
+use Rattle.std.proofs.Common.{◌≡◌, ℕ, ◌+◌, ◌-◌, ◌≤◌, Bool, true, false, ◌&&◌, List, [], ◌∷◌, length, Option, Some, None, option_map, slice_get, refl, sym, ap, ◌∙◌, arith, subst, length-append}
 use Rattle.std.proofs.lemmas.List.{drop-map, length-map}
 use Rattle.std.proofs.lemmas.Option.{slice_get-map}
 use Rattle.std.specs.FinMap.{remove}
 use Rattle.bb8_types.specs.Settings.{Settings}
-use Rattle.bb8_types.specs.Places.{is_idle, is_unclaimed, is_conn, is_approval, is_reaped}
+use Rattle.bb8_types.specs.Places.{is_idle, is_unclaimed, is_conn, is_approval, lives_out}
 use Rattle.bb8_types.specs.Numbered.{tally}
 use Rattle.bb8_types.specs.declared.standing.Standing.{Standing}
 use Rattle.bb8_tables.specs.declared.table.Slot.{Slot}
 use Rattle.bb8_tables.specs.declared.records.Records.TheInside.{Inside}
-use Rattle.bb8_tables.specs.declared.records.reaps.Due.{Due}
-use Rattle.bb8_tables.specs.Dues.{IsDue, EndsFirst}
+use Rattle.bb8_tables.specs.Dues.{EndsFirst}
 use Rattle.bb8_tables.specs.Lined.{Lined, slot_at}
 use Rattle.bb8_tables.specs.Machine.{without}
 use Rattle.bb8_tables.specs.Machine as machine
@@ -27,13 +26,13 @@ use Rattle.bb8_tables.proofs.Slots.{Updates, set_updates, inside, table_removed,
 use Rattle.bb8_tables.proofs.Views.{same_records}
 
 module _ {C : Type 0} where
-  -- what is due is idle
-  pub due_idle : (config : Settings) (now : ℕ) (s : Standing C) → is_reaped config now (Some s) ≡ true → is_idle s.place ≡ true
-  due_idle config now s h = go (is_idle s.place) _ _ h
+  -- what lives too long is idle
+  pub lives_idle : (config : Settings) (now : ℕ) (s : Standing C) → lives_out config now (Some s) ≡ true → is_idle s.place ≡ true
+  lives_idle config now s h = go (is_idle s.place) _ h
     where
-      go : (i a b : Bool) → ((i && a) || (i && b)) ≡ true → i ≡ true
-      go true a b e = refl
-      go false a b e = cc
+      go : (i a : Bool) → (i && a) ≡ true → i ≡ true
+      go true a e = refl
+      go false a e = cc
 
   -- an idle connection ends, wherever it stands in line
   module _ (a : Inside C) (place : ℕ) (x : Slot (Standing C)) (slots : Lined (Slot (Standing C))) (good : AreGoodRecords a)
@@ -86,10 +85,10 @@ module _ {C : Type 0} where
         ap (λ (ks : List ℕ). length ks + 1) freed_line ∙ one_shorter a.slots.slots a.slots.line place there.0 good.idle.are there.1
 
     -- it ends because it was due
-    pub freed_due : (config : Settings) (now : ℕ) (due : Due) (old : ShownRecords C) → view_of_records a ≡ old → IsDue config now (Some x.standing) due
-        → EndsFirst config now old x.number (view_of_records (record a { slots = slots; conns = a.conns - 1 })) due
-    freed_due config now due old shows is = subst (λ (s : ShownRecords C). EndsFirst config now s x.number (view_of_records (record a { slots = slots; conns = a.conns - 1 })) due) shows (record {
-      is_due = subst (λ (o : Option (Standing C)). IsDue config now o due) (sym (shown_at a place x.number x good at_place refl)) is;
+    pub freed_due : (test : Option (Standing C) → Bool) (old : ShownRecords C) → view_of_records a ≡ old → test (Some x.standing) ≡ true
+        → EndsFirst test old x.number (view_of_records (record a { slots = slots; conns = a.conns - 1 }))
+    freed_due test old shows is = subst (λ (s : ShownRecords C). EndsFirst test s x.number (view_of_records (record a { slots = slots; conns = a.conns - 1 }))) shows (record {
+      is_due = ap test (shown_at a place x.number x good at_place refl) ∙ is;
       state = freed_view;
       conns = (let some : 1 ≤ a.conns = freed_counted in omega arith);
       idle = ap (λ (n : ℕ). n + 1) (length-map slots.line (λ (i : ℕ). number_in numbered (slot_at slots i))) ∙ freed_shorter ∙ sym (length-map a.slots.line (λ (i : ℕ). number_in numbered (slot_at a.slots i)));

@@ -23,7 +23,7 @@ use Rattle.bb8_tables.specs.Views.{ShownRecords, NoneAfter}
 use Rattle.bb8_tables.specs.Machine as machine
 use Rattle.bb8_tables.proofs.Views.{same_records}
 use Rattle.bb8_types.proofs.Places.{unclaimed_is, idle_is, held_conn, idle_from, unclaimed_from, conn_from, approval_from}
-use Rattle.bb8_tables.proofs.Lines.{other_line, free_line, turned_line, added_line, shorter_line, same_line, avoids, free_avoids, left_away, places_without, places_absent, free_absent, without_first}
+use Rattle.bb8_tables.proofs.Lines.{other_line, free_line, added_line, shorter_line, same_line, avoids, free_avoids, places_absent, free_absent}
 use Rattle.bb8_tables.proofs.Numbers.{numbers_kept, numbers_all, numbers_same, numbers_push, numbers_without}
 use Rattle.bb8_tables.proofs.Spelled.{without_absent}
 use Rattle.bb8_types.specs.Bounds.{most_records}

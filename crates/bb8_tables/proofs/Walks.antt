@@ -1,35 +1,34 @@
 -- The two walks of a reap.
-use Rattle.std.proofs.Common.{◌≡◌, ◌≢◌, ◌⊎◌, inl, inr, ⊎_elim, ℕ, zero, suc, ◌+◌, ◌-◌, ◌<◌, ◌≤◌, Bool, true, false, ◌&&◌, ◌||◌, leb, List, [], ◌∷◌, ◌++◌, length, cond, eqb, Option, Some, None, get_or, slice_get, refl, sym, ap, ◌∙◌, arith, subst, length-append, eq-eqb, ne_eqb}
+use Rattle.std.proofs.Common.{◌≡◌, ◌≢◌, ◌⊎◌, inl, inr, ⊎_elim, ℕ, zero, suc, ◌+◌, ◌-◌, ◌<◌, ◌≤◌, Bool, true, false, ◌&&◌, List, [], ◌∷◌, ◌++◌, length, Option, option_map, Some, None, slice_get, refl, sym, ap, ◌∙◌, arith, subst, length-append, eq-eqb, ne_eqb}
 use Rattle.std.proofs.lemmas.List.{length-map}
+use Rattle.std.proofs.lemmas.Option.{slice_get-map}
 use Rattle.std.proofs.lemmas.Bool.{leb-false, lt-leb}
 use Rattle.std.specs.FinMap.{get}
 use Rattle.bb8_types.specs.Bounds.{most_records}
 use Rattle.bb8_types.specs.Settings.{Settings}
 use Rattle.bb8_types.specs.Numbered.{one, tally}
-use Rattle.bb8_types.specs.Places.{is_idle, is_conn, is_out, is_past, is_expired, is_reaped, idles_out, lives_out}
+use Rattle.bb8_types.specs.Places.{is_idle, is_conn, is_out, is_past, is_expired, idles_out, lives_out}
 use Rattle.bb8_types.specs.declared.standing.Place.{Place}
 use Rattle.bb8_types.specs.declared.standing.Place.TheVariants.{Unclaimed, Claimed, Idle, Held, Guarded}
 use Rattle.bb8_types.specs.declared.standing.Standing.{Standing}
 use Rattle.bb8_tables.specs.declared.table.Slot.{Slot}
 use Rattle.bb8_tables.specs.declared.records.Records.TheInside.{Inside}
-use Rattle.bb8_tables.specs.declared.records.reaps.Due.{Due}
-use Rattle.bb8_tables.specs.declared.records.reaps.Reaped.{Reaped}
 use Rattle.bb8_tables.specs.declared.records.reaps.Passed.TheVariants.{Young, Out, Aged}
-use Rattle.bb8_tables.specs.Dues.{IsDue, EndsFirst, Ends, IsNext, Passes}
+use Rattle.bb8_tables.specs.Dues.{EndsFirst, Ends, EndsIdle, Passes}
 use Rattle.bb8_tables.specs.Lined.{Lined, slot_at}
 use Rattle.bb8_tables.specs.Machine.{without}
-use Rattle.bb8_tables.specs.Reaps.{Reaps}
-use Rattle.bb8_tables.specs.Slots.{ArePlaces, IsRising, numbers_at}
+use Rattle.bb8_tables.specs.Reaps.{after_reap, AreFirst, beyond, Reaps}
+use Rattle.bb8_tables.specs.Slots.{ArePlaces, IsRising, number_in, numbers_at}
 use Rattle.bb8_tables.specs.Spelled.{Absent}
 use Rattle.bb8_tables.specs.State.{view_of_records, AreGoodRecords, passes}
 use Rattle.bb8_tables.specs.Views.{ShownRecords}
 use Rattle.bb8_types.proofs.Places.{idle_is}
 use Rattle.bb8_tables.proofs.Lines.{get_absent}
 use Rattle.bb8_tables.proofs.Orders.{found_in, no_earlier}
-use Rattle.bb8_tables.proofs.RecordPlaces.{Frees, shown_at}
-use Rattle.bb8_tables.proofs.ReapPlaces.{due_idle, freed_good, freed_births, freed_due}
-use Rattle.bb8_tables.proofs.Reaps.{none_ended, ends_both, ends_more, still_none, none_reaped}
-use Rattle.bb8_tables.proofs.Slots.{held_found, line_length, Updates, set_updates, inside}
+use Rattle.bb8_tables.proofs.RecordPlaces.{Frees, numbered}
+use Rattle.bb8_tables.proofs.ReapPlaces.{lives_idle, freed_good, freed_births, freed_due}
+use Rattle.bb8_tables.proofs.Reaps.{none_ended, first_more, ends_more}
+use Rattle.bb8_tables.proofs.Slots.{held_found, line_length, set_updates, inside}
 use Rattle.bb8_tables.proofs.Spelled.{without_absent}
 
 -- ---- limits
@@ -175,26 +174,29 @@ module _ {C : Type 0} where
       never [] j i e f = cc
       never (y ∷ ys) j i e f = cc
 
-  -- what is idle too long is due
-  pub due_by_idle : (config : Settings) (now : ℕ) (s : Standing C) (due : Due) → due.by_idle ≡ idles_out config now (Some s) → due.by_life ≡ lives_out config now (Some s) → due.by_idle ≡ true
-      → IsDue config now (Some s) due
-  due_by_idle config now s due idle life is = record { reaped = (let e : idles_out config now (Some s) ≡ true = sym idle ∙ is in rw e refl); by_idle = idle; by_life = life }
+  -- the number of the first in line
+  pub first_shown : (a : Inside C) (place : ℕ) (x : Slot (Standing C)) → slice_get a.slots.line 0 ≡ Some place → slot_at a.slots place ≡ Some x
+      → slice_get (view_of_records a).idle 0 ≡ Some x.number
+  first_shown a place x first at_place = slice_get-map (λ (i : ℕ). number_in numbered (slot_at a.slots i)) a.slots.line 0
+      ∙ ap (option_map (λ (i : ℕ). number_in numbered (slot_at a.slots i))) first
+      ∙ ap (λ (o : Option (Slot (Standing C))). Some (number_in numbered o)) at_place
 
   -- how far the walk has come
-  pub record InIdle (config : Settings) (now : ℕ) (old new : ShownRecords C) (told : Reaped) (lent lent_now : ℕ) : Type 0 where
+  pub record InIdle (config : Settings) (now : ℕ) (old new : ShownRecords C) (told lent lent_now : ℕ) : Type 0 where
     pub ks : List ℕ
-    pub ends : Ends config now old ks new told
-    pub lendings : lent_now ≤ lent + told.closed
-    pub few : old.conns ≤ most_records
+    pub first : AreFirst (idles_out config now) ks old
+    pub ends : Ends (idles_out config now) old ks new told
+    pub lendings : lent_now ≤ lent + told
 
-  pub idle_more : {config : Settings} {now k : ℕ} {old mid new : ShownRecords C} {told more : Reaped} {due : Due} {lent mid_lent new_lent : ℕ} → InIdle config now old mid told lent mid_lent
-      → EndsFirst config now mid k new due → new_lent ≤ mid_lent + 1 → more ≡ record { closed = told.closed + 1; by_idle = told.by_idle + one due.by_idle; by_life = told.by_life + one due.by_life }
-      → InIdle config now old new more lent new_lent
-  idle_more {k = k} {told = told} {more = more} i e l is = record {
-    ks = i.ks ++ k ∷ [];
-    ends = ends_more i.ends e is;
-    lendings = (let n : more.closed ≡ told.closed + 1 = ap (λ (r : Reaped). r.closed) is in omega (arith, i.lendings));
-    few = i.few;
+  pub idle_more : {config : Settings} {now : ℕ} {old mid new : ShownRecords C} {told lent mid_lent new_lent : ℕ} → InIdle config now old mid told lent mid_lent
+      → (k : ℕ) × (slice_get mid.idle 0 ≡ Some k) × EndsFirst (idles_out config now) mid k new → new_lent ≤ mid_lent + 1
+      → InIdle config now old new (told + 1) lent new_lent
+  idle_more {config} {now} {old} {mid} {new} {told} i e l = record {
+    ks = i.ks ++ e.0 ∷ [];
+    first = first_more (idles_out config now) i.ks e.0 old i.first (ap (λ (s : ShownRecords C). slice_get s.idle 0) (sym i.ends.state) ∙ e.1)
+        (ap (λ (s : ShownRecords C). idles_out config now (get s.places e.0)) (sym i.ends.state) ∙ e.2.is_due);
+    ends = ends_more (idles_out config now) i.ends e.2 refl;
+    lendings = omega (arith, i.lendings);
   }
 
   -- ---- the walk along the order of births
@@ -205,16 +207,16 @@ module _ {C : Type 0} where
   AreOut t (k ∷ ks) = ((x : Slot (Standing C)) × (slot_at t k ≡ Some x) × (is_out x.standing.place ≡ true)) × AreOut t ks
 
   -- how far the walk has come: it has passed those that are out, and ended the others
-  pub record InBirths (config : Settings) (now : ℕ) (old : ShownRecords C) (lent many : ℕ) (a : Inside C) (told : Reaped) (at : Option ℕ) (lent_now counter : ℕ) : Type 0 where
+  pub record InBirths (config : Settings) (now : ℕ) (old : ShownRecords C) (lent many : ℕ) (a : Inside C) (told : ℕ) (at : Option ℕ) (lent_now counter : ℕ) : Type 0 where
     pub good : AreGoodRecords a
     pub ks : List ℕ
-    pub ends : Ends config now old ks (view_of_records a) told
+    pub ends : Ends (lives_out config now) old ks (view_of_records a) told
     pub passed : List ℕ
     pub rest : List ℕ
     pub births : a.slots.births ≡ passed ++ rest
     pub at_is : at ≡ slice_get rest 0
     pub outs : AreOut a.slots passed
-    pub steps : told.closed + length passed ≡ counter
+    pub steps : told + length passed ≡ counter
     pub lendings : lent_now ≡ lent + counter
     pub left : counter + length rest ≡ many
     pub few : old.conns ≤ most_records
@@ -256,18 +258,18 @@ module _ {C : Type 0} where
 
   module _ {config : Settings} {now : ℕ} {old : ShownRecords C} {lent many : ℕ} where
     -- it begins at the one that was born first
-    pub births_start : (a : Inside C) (told : Reaped) (at : Option ℕ) → AreGoodRecords a → view_of_records a ≡ old → told ≡ record { closed = 0; by_idle = 0; by_life = 0 }
+    pub births_start : (a : Inside C) (told : ℕ) (at : Option ℕ) → AreGoodRecords a → view_of_records a ≡ old → told ≡ 0
         → at ≡ slice_get a.slots.births 0 → many ≡ length a.slots.births → InBirths config now old lent many a told at lent 0
     births_start a told at good shows zero_told at_is all = record {
       good = good;
       ks = [];
-      ends = subst (λ (s : ShownRecords C). Ends config now s [] (view_of_records a) told) shows (none_ended config now (view_of_records a) told zero_told);
+      ends = subst (λ (s : ShownRecords C). Ends (lives_out config now) s [] (view_of_records a) told) shows (none_ended (lives_out config now) (view_of_records a) told zero_told);
       passed = [];
       rest = a.slots.births;
       births = refl;
       at_is = at_is;
       outs = tt;
-      steps = (let e : told.closed ≡ 0 = ap (λ (r : Reaped). r.closed) zero_told in omega arith);
+      steps = omega arith;
       lendings = omega arith;
       left = omega arith;
       few = conns_few a old good shows;
@@ -277,7 +279,7 @@ module _ {C : Type 0} where
           omega (arith, good.conns_are);
     }
 
-    module _ {a : Inside C} {told : Reaped} {place lent_now counter : ℕ} (i : InBirths config now old lent many a told (Some place) lent_now counter) where
+    module _ {a : Inside C} {told : ℕ} {place lent_now counter : ℕ} (i : InBirths config now old lent many a told (Some place) lent_now counter) where
       ahead : (rest : List ℕ) × (i.rest ≡ place ∷ rest)
       ahead = head_split place i.rest (sym i.at_is)
 
@@ -319,25 +321,24 @@ module _ {C : Type 0} where
           }
 
       -- it ends one that is idle
-      module _ {slots : Lined (Slot (Standing C))} {due : Due} {next : Option ℕ} (p : Passes config now a.slots place (Aged due next)) (gone : Frees a.slots slots place) where
+      module _ {slots : Lined (Slot (Standing C))} {next : Option ℕ} (p : Passes config now a.slots place (Aged next)) (gone : Frees a.slots slots place) where
         aged_idle : is_idle p.0.standing.place ≡ true
-        aged_idle = due_idle config now p.0.standing p.2.reaped
+        aged_idle = lives_idle config now p.0.standing p.2
 
-        pub births_aged : {more : Reaped} {new_lent : ℕ} → more ≡ record { closed = told.closed + 1; by_idle = told.by_idle + one due.by_idle; by_life = told.by_life + one due.by_life } → new_lent ≡ lent_now + 1
+        pub births_aged : {more new_lent : ℕ} → more ≡ told + 1 → new_lent ≡ lent_now + 1
             → InBirths config now old lent many (record a { slots = slots; conns = a.conns - 1 }) more next new_lent (counter + 1)
         births_aged {more} {new_lent} is l =
             let are = subst (λ (ks : List ℕ). ArePlaces (λ (x : Slot (Standing C)). is_conn x.standing.place) a.slots.slots ks) cut i.good.births.are in
             let front : Absent place i.passed = absent_front a.slots.slots i.passed ahead.0 place are in
-            let n : more.closed ≡ told.closed + 1 = ap (λ (r : Reaped). r.closed) is in
             record {
               good = freed_good a place p.0 slots i.good p.1 aged_idle gone;
               ks = i.ks ++ p.0.number ∷ [];
-              ends = ends_more i.ends (freed_due a place p.0 slots i.good p.1 aged_idle gone config now due (view_of_records a) refl p.2) is;
+              ends = ends_more (lives_out config now) i.ends (freed_due a place p.0 slots i.good p.1 aged_idle gone (lives_out config now) (view_of_records a) refl p.2) is;
               passed = i.passed;
               rest = ahead.0;
               births = freed_births a place p.0 slots i.good p.1 aged_idle gone ∙ ap (without place) cut
                   ∙ without_between place i.passed ahead.0 front (absent_back a.slots.slots i.passed ahead.0 place are);
-              at_is = p.4 i.passed ahead.0 cut;
+              at_is = p.3 i.passed ahead.0 cut;
               outs = out_kept a.slots slots place i.passed (set_updates None (inside a.slots.slots place p.0 p.1) (ap (λ (t : Lined (Slot (Standing C))). t.slots) gone)).others i.outs front;
               steps = omega (arith, i.steps);
               lendings = omega (arith, i.lendings);
@@ -348,7 +349,7 @@ module _ {C : Type 0} where
 
     -- ---- where it ends
 
-    module _ {a : Inside C} {told : Reaped} {at : Option ℕ} {lent_now counter : ℕ} (i : InBirths config now old lent many a told at lent_now counter) where
+    module _ {a : Inside C} {told : ℕ} {at : Option ℕ} {lent_now counter : ℕ} (i : InBirths config now old lent many a told at lent_now counter) where
       -- none is left that lives too long, where none is ahead
       none_aged : ((j k : ℕ) (y : Slot (Standing C)) → slice_get i.rest j ≡ Some k → slot_at a.slots k ≡ Some y → is_expired config.max_lifetime now y.standing.birth ≡ false)
           → (k : ℕ) → lives_out config now (get (view_of_records a).places k) ≡ false
@@ -391,11 +392,11 @@ module _ {C : Type 0} where
           in_births : (j k : ℕ) → slice_get i.passed j ≡ Some k → slice_get a.slots.births j ≡ Some k
           in_births j k e = ap (λ (ks : List ℕ). slice_get ks j) i.births ∙ get_front i.passed i.rest j k e
 
-      pub lent_at_most : lent_now ≤ lent + (told.closed + (old.conns - length old.idle))
+      pub lent_at_most : lent_now ≤ lent + (told + (old.conns - length old.idle))
       lent_at_most = omega (arith, i.lendings, i.steps, few_passed)
 
     -- it stops at the first that does not live too long
-    pub none_after : {a : Inside C} {told : Reaped} {place lent_now counter : ℕ} → InBirths config now old lent many a told (Some place) lent_now counter → Passes config now a.slots place Young
+    pub none_after : {a : Inside C} {told : ℕ} {place lent_now counter : ℕ} → InBirths config now old lent many a told (Some place) lent_now counter → Passes config now a.slots place Young
         → (k : ℕ) → lives_out config now (get (view_of_records a).places k) ≡ false
     none_after {a} {place = place} i p = none_aged i (λ j k y e f. shorter_span config.max_lifetime (now - p.0.standing.birth) (now - y.standing.birth) p.2
         (let l : p.0.standing.birth ≤ y.standing.birth = no_earlier (λ (z : Slot (Standing C)). z.standing.birth) a.slots.slots i.passed (ahead i).0 place k j p.0 y
@@ -404,17 +405,23 @@ module _ {C : Type 0} where
 
   -- ---- both walks
 
-  pub reaps_both : {config : Settings} {now : ℕ} {old mid new : ShownRecords C} {ks js : List ℕ} {first then all : Reaped} → Ends config now old ks mid first → Ends config now mid js new then
-      → ((k : ℕ) → idles_out config now (get mid.places k) ≡ false) → ((k : ℕ) → lives_out config now (get new.places k) ≡ false)
-      → all ≡ record { closed = first.closed + then.closed; by_idle = first.by_idle + then.by_idle; by_life = first.by_life + then.by_life }
-      → Reaps config now old (ks ++ js) new all
-  reaps_both {config} {now} {new = new} a b none_idle none_aged is =
-      let e = ends_both a b is in
-      record {
-        each = e.each;
-        state = e.state;
-        none_left = λ k. none_reaped config now (get new.places k) (still_none (idles_out config now) refl b none_idle k) (none_aged k);
-        closed = e.closed;
-        by_idle = e.by_idle;
-        by_life = e.by_life;
-      }
+  pub reaps_both : {config : Settings} {now : ℕ} {old mid new : ShownRecords C} {js ks : List ℕ} {aged idle : ℕ} → Ends (lives_out config now) old js mid aged
+      → ((k : ℕ) → lives_out config now (get mid.places k) ≡ false) → EndsIdle config now mid ks new idle
+      → Reaps config now old js ks new (record { closed = aged + idle; by_idle = idle; by_life = aged })
+  reaps_both {config} {now} {old} {mid} {new} {js} {ks} {aged} {idle} a none b = record {
+    aged = a.each;
+    none_aged = subst (λ (s : ShownRecords C). (k : ℕ) → lives_out config now (get s.places k) ≡ false) a.state none;
+    first = subst (AreFirst (idles_out config now) ks) a.state b.first;
+    few = subst (λ (s : ShownRecords C). length ks ≤ beyond config s) a.state (omega (arith, b.few, b.ends.closed));
+    all = ⊎_elim
+        (λ (t : idle ≡ beyond config mid). inl (sym b.ends.closed ∙ t ∙ ap (beyond config) a.state))
+        (λ (t : (k : ℕ) → idles_out config now (get new.places k) ≡ false). inr (subst (λ (s : ShownRecords C). (k : ℕ) → idles_out config now (get s.places k) ≡ false) (state_is a b) t))
+        b.all;
+    state = state_is a b;
+    closed = omega (arith, a.closed, b.ends.closed);
+    by_idle = b.ends.closed;
+    by_life = a.closed;
+  }
+    where
+      state_is : Ends (lives_out config now) old js mid aged → EndsIdle config now mid ks new idle → new ≡ after_reap ks (after_reap js old)
+      state_is a b = b.ends.state ∙ ap (after_reap ks) a.state

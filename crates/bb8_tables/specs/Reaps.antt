@@ -1,11 +1,11 @@
 -- What a reap of the records ends, and what it tells of it.
-use Rattle.std.specs.Prelude.{◌≡◌, ℕ, ◌+◌, ◌-◌, Bool, true, false, List, [], ◌∷◌, length, Option, ⊤}
+use Rattle.std.specs.Prelude.{◌≡◌, ◌⊎◌, ℕ, ◌+◌, ◌-◌, ◌≤◌, Bool, true, false, List, [], ◌∷◌, length, slice_get, Option, Some, ⊤}
+use Rattle.std.specs.Option.{unwrap_or}
 use Rattle.std.specs.FinMap.{remove, get}
 use Rattle.bb8_types.specs.declared.standing.Standing.{Standing}
 use Rattle.bb8_tables.specs.declared.records.reaps.Reaped.{Reaped}
 use Rattle.bb8_types.specs.Settings.{Settings}
-use Rattle.bb8_types.specs.Numbered.{one}
-use Rattle.bb8_types.specs.Places.{is_reaped, idles_out, lives_out}
+use Rattle.bb8_types.specs.Places.{idles_out, lives_out}
 use Rattle.bb8_tables.specs.Views.{ShownRecords}
 use Rattle.bb8_tables.specs.Machine.{without}
 
@@ -19,21 +19,29 @@ module _ {C : Type 0} where
   after_reap [] s = s
   after_reap (k ∷ ks) s = after_reap ks (after_reaped k s)
 
-  -- each of these was idle too long or lived too long when it ended
-  abbrev pub AreReaped : Settings → ℕ → List ℕ → ShownRecords C → Type 0
-  AreReaped config now [] s = ⊤
-  AreReaped config now (k ∷ ks) s = (is_reaped config now (get s.places k) ≡ true) × AreReaped config now ks (after_reaped k s)
+  -- each of these passed a test when it ended
+  abbrev pub AreReaped : (Option (Standing C) → Bool) → List ℕ → ShownRecords C → Type 0
+  AreReaped test [] s = ⊤
+  AreReaped test (k ∷ ks) s = (test (get s.places k) ≡ true) × AreReaped test ks (after_reaped k s)
 
-  -- how many of these passed a test when they ended
-  abbrev pub count_reaped : (Option (Standing C) → Bool) → List ℕ → ShownRecords C → ℕ
-  count_reaped test [] s = 0
-  count_reaped test (k ∷ ks) s = one (test (get s.places k)) + count_reaped test ks (after_reaped k s)
+  -- and each of these was the first in line then
+  abbrev pub AreFirst : (Option (Standing C) → Bool) → List ℕ → ShownRecords C → Type 0
+  AreFirst test [] s = ⊤
+  AreFirst test (k ∷ ks) s = (slice_get s.idle 0 ≡ Some k) × (test (get s.places k) ≡ true) × AreFirst test ks (after_reaped k s)
 
-  -- A reap: each that ended was due, none that is due is left, and it tells how many ended, for being idle too long and for living too long.
-  pub record Reaps (config : Settings) (now : ℕ) (old : ShownRecords C) (ks : List ℕ) (new : ShownRecords C) (told : Reaped) : Type 0 where
-    pub each : AreReaped config now ks old
-    pub state : new ≡ after_reap ks old
-    pub none_left : (k : ℕ) → is_reaped config now (get new.places k) ≡ false
-    pub closed : told.closed ≡ length ks
-    pub by_idle : told.by_idle ≡ count_reaped (idles_out config now) ks old
-    pub by_life : told.by_life ≡ count_reaped (lives_out config now) ks old
+  -- how many idle connections there are beyond min_idle
+  abbrev pub beyond : Settings → ShownRecords C → ℕ
+  beyond config s = length s.idle - unwrap_or config.min_idle 0
+
+  -- A reap: first those end that live too long, and none of them is left. Then those end that are idle too long, from the first in line on,
+  -- until none of them is left or as many have ended as there were beyond min_idle. It tells how many ended for either reason.
+  pub record Reaps (config : Settings) (now : ℕ) (old : ShownRecords C) (js ks : List ℕ) (new : ShownRecords C) (told : Reaped) : Type 0 where
+    pub aged : AreReaped (lives_out config now) js old
+    pub none_aged : (k : ℕ) → lives_out config now (get (after_reap js old).places k) ≡ false
+    pub first : AreFirst (idles_out config now) ks (after_reap js old)
+    pub few : length ks ≤ beyond config (after_reap js old)
+    pub all : (length ks ≡ beyond config (after_reap js old)) ⊎ ((k : ℕ) → idles_out config now (get (after_reap ks (after_reap js old)).places k) ≡ false)
+    pub state : new ≡ after_reap ks (after_reap js old)
+    pub closed : told.closed ≡ length js + length ks
+    pub by_idle : told.by_idle ≡ length ks
+    pub by_life : told.by_life ≡ length js

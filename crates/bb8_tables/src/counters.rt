@@ -129,7 +129,7 @@ impl Counters {
         }
     }
 
-    /// Connections were closed as they had been idle too long or lived too long; one that is both counts in both.
+    /// Connections were closed, so many as they had been idle too long, and so many others as they had lived too long.
     pub fn reap(&mut self, by_idle: u32, by_life: u32)
         requires by_idle { self.old.idle_timeout + by_idle ≤ end_of_numbers }
         requires by_life { self.old.max_lifetime + by_life ≤ end_of_numbers }

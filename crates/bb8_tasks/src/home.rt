@@ -73,7 +73,7 @@ pub trait ClaimHome {
 pub struct Reaped {
     /// How many connections were closed.
     pub closed: u32,
-    /// How many of them had been idle for the `idle_timeout`.
+    /// How many of them had been idle for the `idle_timeout`, and had not lived for the `max_lifetime`.
     pub by_idle: u32,
     /// How many of them had lived for the `max_lifetime`.
     pub by_life: u32,
@@ -104,7 +104,7 @@ pub trait ReapHome {
     fn look(&mut self, at: Moment) -> Looked
         ensures { looks self.old at result self.new };
 
-    /// Closes the idle connections that idled or lived too long. Our own.
+    /// Closes the idle connections that live too long, and those that are idle too long beyond `min_idle`. Our own.
     fn reap(&mut self, at: Moment) -> ReapStep
         ensures { reaps self.old at result self.new };
 }

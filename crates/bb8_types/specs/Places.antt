@@ -156,10 +156,6 @@ module _ {C : Type 0} where
   lives_out config now None = false
   lives_out config now (Some s) = is_idle s.place && is_expired config.max_lifetime now s.birth
 
-  -- reaped: the idle records that a reap closes
-  abbrev pub is_reaped : Settings → ℕ → Option (Standing C) → Bool
-  is_reaped config now o = idles_out config now o || lives_out config now o
-
   -- what the last handle ends: the idle records and the unclaimed ones
   abbrev pub is_left : Option (Standing C) → Bool
   is_left None = false

@@ -61,9 +61,7 @@ impl<
     fn cancel(self)
         ensures { CancelsGet S.sinks K.tells self.entry }
     {
-        let GetFuture { shared, get } = self;
-        let mut calls = Calls::new(&shared.manager, &shared.error_sink, &shared.clock);
-        shared.cancel_get(&mut calls, get);
+        drop(self);
     }
 }
 
@@ -134,7 +132,11 @@ impl<
     R: Locks,
     L: Parts,
 > Drop for GetFuture<'_, M, S, Z, K, R, L> {
-    fn drop(self) {
+    ghost use Rattle.bb8.specs.Gets.{CancelsGet};
+
+    fn drop(self)
+        ensures { CancelsGet S.sinks K.tells self.entry }
+    {
         let GetFuture { shared, get } = self;
         let mut calls = Calls::new(&shared.manager, &shared.error_sink, &shared.clock);
         shared.cancel_get(&mut calls, get);

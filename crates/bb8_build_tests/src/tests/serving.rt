@@ -1,9 +1,14 @@
-//! A service over a pool whose first connection cannot be opened.
+//! A service over a pool whose first connection cannot be opened, and one whose driver has to turn.
 
 use super::assert_equal;
-use bb8::{Moment, NopCustomizer, Pool, PoolParts, RunError, Service, SetClock};
+use bb8::{
+    MachineClock, Moment, NopCustomizer, Pool, PoolCalls, PoolParts, RunError, Service, SetClock,
+};
 use bb8_trials::{Board, Course, Errors, Number, Refused, Runtime, Server, builder_on, server_on};
+use futures::executor::block_on;
+use std::sync::Arc;
 use std::test::Fail;
+use std::time::{Clock, Duration};
 
 /// A pool of a server's connections.
 type ServerPool<R, L> = Pool<Server, Errors, NopCustomizer, SetClock, R, L>;
@@ -48,5 +53,59 @@ fn first_connection_that_fails_ends_a_serve(rt: HostRuntime) -> Result<(), Fail>
     assert_equal(&rt, answer, Err(RunError::User(Refused(1))));
     assert_equal(&rt, (board.begun.get(), board.errors.get()), (1, 0));
     assert_equal(&rt, service.count.get(), 0);
+    Ok(())
+}
+
+/// Has two connections at once. Each get asks for an opening, which a turn of the driver after that has to make.
+#[derive(Drop)]
+struct TwoAtOnce<R> {
+    rt: R,
+}
+
+/// A pool of a server's connections by the machine's clock.
+type MachinePool<R, L> = Pool<Server, Errors, NopCustomizer, MachineClock<R>, R, L>;
+
+impl<R: Runtime + Clock> Service<Server, Errors, NopCustomizer, MachineClock<R>, R>
+    for TwoAtOnce<R> {
+    type Told = Option<(u64, u64)>;
+
+    type Outcome = Option<(u64, u64)>;
+
+    fn begin<L: PoolParts>(&self, _pool: &MachinePool<R, L>) -> Result<(), Option<(u64, u64)>> {
+        Ok(())
+    }
+
+    fn run<L: PoolParts>(&self, pool: &MachinePool<R, L>, _thread: usize) -> Option<(u64, u64)> {
+        let first = block_on(&self.rt, PoolCalls::get(pool)).ok()?.ok()?;
+        let second = block_on(&self.rt, PoolCalls::get(pool)).ok()?.ok()?;
+        Some((first.number, second.number))
+    }
+
+    fn end<L: PoolParts>(
+        &self,
+        _pool: &MachinePool<R, L>,
+        told: &[Option<(u64, u64)>],
+    ) -> Option<(u64, u64)> {
+        *told.first()?
+    }
+}
+
+/// The driver makes turns while the service runs, the next one in less than half a second, and its thread has let the pool go as the service's
+/// answer is there: nobody else then has what the server counts on.
+#[test]
+fn driver_of_a_service_turns_on_and_ends(rt: HostRuntime) -> Result<(), Fail> {
+    let board = Board::new(rt.alloc())?;
+    let answer = builder_on(&board)?
+        .max_size(2)
+        .connection_timeout(Duration::from_millis(500))
+        .serve(
+            server_on(&board)?,
+            MachineClock(rt),
+            rt,
+            1,
+            &TwoAtOnce { rt },
+        );
+    assert_equal(&rt, answer, Ok(Some((1, 2))));
+    assert!(&rt; Arc::try_unwrap(board).is_ok());
     Ok(())
 }

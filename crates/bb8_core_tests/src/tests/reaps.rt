@@ -1,9 +1,9 @@
-//! A reap of many connections, of which some are out.
+//! A reap of many connections, of which some are out, or are to stay.
 
 use super::{SECOND, assert_equal, unchecked};
-use bb8_asked::{add, begin, try_get};
-use bb8_core::api::{Config, Moment};
-use bb8_core::internals::{BeginAnswer, PoolInternals, ReapAnswer, TryAnswer};
+use bb8_asked::{add, begin, put_back, try_get};
+use bb8_core::api::{Config, Moment, QueueStrategy};
+use bb8_core::internals::{BeginAnswer, Key, PoolInternals, PutBackAnswer, ReapAnswer, TryAnswer};
 use std::alloc::Global;
 use std::process::Abort;
 use std::time::Duration;
@@ -15,14 +15,31 @@ fn add_all(rt: &impl Abort, pool: &mut PoolInternals<u64>, at: Moment, many: u64
     }
 }
 
-/// Has a get be served.
-fn serve(rt: &impl Abort, pool: &mut PoolInternals<u64>, at: Moment) {
+/// Has a get be served, and answers what with.
+fn serve(rt: &impl Abort, pool: &mut PoolInternals<u64>, at: Moment) -> (Key, u64) {
     let Some(BeginAnswer::Begun(get)) = begin(pool, at) else {
         panic!(rt; "no get began");
     };
-    let Some(TryAnswer::Served(..)) = try_get(pool, at, get) else {
+    let Some(TryAnswer::Served(key, conn, _)) = try_get(pool, at, get) else {
         panic!(rt; "the get was not served");
     };
+    (key, conn)
+}
+
+/// How many connections a reap closes, as they were idle too long, and as they lived too long.
+fn reap(rt: &impl Abort, pool: &mut PoolInternals<u64>, at: Moment) -> (u64, u64) {
+    let ReapAnswer::Reaped {
+        closed,
+        by_idle,
+        by_life,
+        ..
+    } = pool.reap(at)
+    else {
+        panic!(rt; "no handle is alive");
+    };
+    let both = (by_idle as u64, by_life as u64);
+    assert_equal(&rt, closed as u64, both.0.saturating_add(both.1));
+    both
 }
 
 /// 1,000 connections, of which three are out and the oldest, and so many idle ones as old as they are. These have lived a second at a
@@ -39,7 +56,7 @@ fn crowd(rt: &impl Abort, alloc: Global, old: u64) -> PoolInternals<u64> {
     let mut pool = PoolInternals::new(alloc, config);
     add_all(rt, &mut pool, Moment(0), 3);
     for _ in 0..3 {
-        serve(rt, &mut pool, Moment(0));
+        let _ = serve(rt, &mut pool, Moment(0));
     }
     add_all(rt, &mut pool, Moment(0), old);
     add_all(rt, &mut pool, Moment(SECOND / 2), 997 - old);
@@ -53,19 +70,53 @@ fn reap_passes_what_is_out_and_old(rt: HostRuntime) {
     for (old, left) in [(0, 1000), (40, 960)] {
         let mut pool = crowd(&rt, rt.alloc(), old);
         assert_equal(&rt, pool.state(Moment(0)).connections, 1000);
-        let ReapAnswer::Reaped {
-            closed,
-            by_idle,
-            by_life,
-            ..
-        } = pool.reap(Moment(SECOND))
-        else {
-            panic!(rt; "no handle is alive");
-        };
-        assert_equal(&rt, (closed as u64, by_idle, by_life as u64), (old, 0, old));
+        assert_equal(&rt, reap(&rt, &mut pool, Moment(SECOND)), (0, old));
         assert!(rt; pool.examined() <= old + 5);
         let state = pool.state(Moment(0));
         assert_equal(&rt, state.connections, left);
         assert_equal(&rt, state.idle_connections, left - 3);
+    }
+}
+
+/// 1,000 connections are idle, of which 990 are to be. The one that goes out first goes out and comes back half a second later.
+fn many_idle(rt: &impl Abort, alloc: Global, queue_strategy: QueueStrategy) -> PoolInternals<u64> {
+    let config = Config {
+        max_lifetime: None,
+        idle_timeout: Some(Duration::from_secs(1)),
+        queue_strategy,
+        ..unchecked(1000, Some(990))
+    };
+    if !config.is_lawful() {
+        panic!(rt; "the settings are not lawful");
+    }
+    let mut pool = PoolInternals::new(alloc, config);
+    add_all(rt, &mut pool, Moment(0), 1000);
+    let (key, conn) = serve(rt, &mut pool, Moment(0));
+    let kept = put_back(&mut pool, Moment(SECOND / 2), key, conn, false);
+    assert!(rt; matches!(kept, Some(PutBackAnswer::Kept(None))));
+    pool
+}
+
+/// All but one are idle for the limit. A reap closes the ten that entered first, by both strategies, and looks at one more at most; once
+/// the last one is idle for the limit, too, nothing is left to close.
+#[test]
+fn reap_spares_what_is_to_be_idle(rt: HostRuntime) {
+    for (queue_strategy, back, closed, stays, next) in [
+        (QueueStrategy::Fifo, 0, 1..11, 11, 11),
+        (QueueStrategy::Lifo, 999, 0..10, 10, 999),
+    ] {
+        let mut pool = many_idle(&rt, rt.alloc(), queue_strategy);
+        assert_equal(&rt, reap(&rt, &mut pool, Moment(SECOND)), (10, 0));
+        assert!(rt; pool.examined() <= 11);
+        for number in closed {
+            assert!(rt; pool.find(number).is_none(), "{number} stays");
+        }
+        assert!(rt; pool.find(stays).is_some() && pool.find(back).is_some());
+        assert_equal(&rt, reap(&rt, &mut pool, Moment(2 * SECOND)), (0, 0));
+        assert!(rt; pool.examined() <= 1);
+        let state = pool.state(Moment(0));
+        assert_equal(&rt, (state.connections, state.idle_connections), (990, 990));
+        let (served, _) = serve(&rt, &mut pool, Moment(2 * SECOND));
+        assert_equal(&rt, served.number, next);
     }
 }

@@ -1,10 +1,10 @@
-//! Connections that are closed: broken, too old, and with their pool.
+//! Connections that are closed: broken, too old, idle too long, and with their pool.
 
 use super::assert_equal;
 use bb8::{DriverCalls, Moment};
 use bb8_trials::{
     ALWAYS, Board, Handle, OwnedHandle, OwnedTrial, Runtime, SECOND, Server, Start, Tools, Trial,
-    builder_on, is_going, server_on, try_on, try_owned_on,
+    builder_on, is_going, server_on, sizes, try_on, try_owned_on,
 };
 use futures::task::Poll;
 use std::alloc::Global;
@@ -99,6 +99,69 @@ fn max_lifetime(rt: HostRuntime) -> Result<(), Fail> {
         .reaper_rate(second);
     let server = server_on(&board)?;
     Ok(try_on(rt, server, builder, Start::Built, LivesASecond { board })?)
+}
+
+/// Of five connections, of which three are to be idle, four are idle for a second, and a turn reaps one. The one that was out comes back, and
+/// a second later a turn reaps one more; later ones reap none. The connections go in the order in which they became idle.
+#[derive(Drop)]
+struct SparesThree {
+    board: Arc<Board, Global>,
+}
+
+impl<R: Runtime + Abort> Trial<R, Server> for SparesThree {
+    type Outcome = ();
+
+    fn run<P: Handle<Server>, D: DriverCalls + Drop>(
+        self,
+        rt: R,
+        tools: &Tools,
+        pool: P,
+        mut driver: D,
+    ) {
+        for _ in 0..2 {
+            let mut opening = pool.dedicated_connection();
+            let Poll::Ready(Ok(connection)) = pool.poll_dedicated(&tools.task, &mut opening) else {
+                panic!(&rt; "no connection");
+            };
+            assert!(&rt; pool.add(connection).is_ok());
+        }
+        let Some(guard) = pool.lend(&tools.task) else {
+            panic!(&rt; "not served");
+        };
+        assert_equal(&rt, guard.number, 1);
+        tools.clock.set(Moment(SECOND));
+        assert!(&rt; is_going(driver.turn(Moment(SECOND)), 0));
+        assert_equal(&rt, self.board.closed.get(), 1);
+        assert_equal(&rt, sizes(pool.state()), (4, 3));
+        drop(guard);
+        for at in 2..5u64 {
+            tools.clock.set(Moment(at * SECOND));
+            assert!(&rt; is_going(driver.turn(Moment(at * SECOND)), 0));
+            assert_equal(&rt, self.board.closed.get(), 2);
+            assert_equal(&rt, sizes(pool.state()), (3, 3));
+        }
+        let statistics = pool.state().statistics;
+        assert_equal(&rt, statistics.connections_closed_idle_timeout, 2);
+        assert_equal(&rt, statistics.connections_closed_max_lifetime, 0);
+        let Some(guard) = pool.lend(&tools.task) else {
+            panic!(&rt; "not served");
+        };
+        assert_equal(&rt, guard.number, 4);
+    }
+}
+
+#[test]
+fn idle_timeout_spares_min_idle(rt: HostRuntime) -> Result<(), Fail> {
+    let second = Duration::from_secs(1);
+    let board = Board::new(rt.alloc())?;
+    let builder = builder_on(&board)?
+        .max_size(5)
+        .min_idle(Some(3))
+        .max_lifetime(None)
+        .idle_timeout(Some(second))
+        .reaper_rate(second);
+    let server = server_on(&board)?;
+    Ok(try_on(rt, server, builder, Start::Built, SparesThree { board })?)
 }
 
 /// The ten idle connections of a pool are dropped with it.

@@ -35,9 +35,11 @@ impl Gate for Pauses {
     }
 }
 
-/// A run in a thread of its own, whose gate does not pause: one turn, which opens both first connections, or ends as the pool was dropped.
-fn drives<R: Runtime + Abort + Threads, L: PoolParts + 'static>(
+/// A run in a thread of its own, whose gate does not pause: one turn, which opens both first connections, or ends as the pool was dropped. The
+/// pool's own runtime has no threads.
+fn drives<R: Runtime + Abort, L: PoolParts + 'static>(
     rt: R,
+    threads: &impl Threads,
     blank: Blank,
     drops: bool,
 ) -> Result<Driven, Fail>
@@ -53,10 +55,10 @@ fn drives<R: Runtime + Abort + Threads, L: PoolParts + 'static>(
     } else {
         Some(pool)
     };
-    let Ok(thread) = drive(driver, Pauses { left: 0 }) else {
+    let Ok(thread) = drive(threads, driver, Pauses { left: 0 }) else {
         panic!(&rt; "no thread");
     };
-    let driven = thread.join(&rt);
+    let driven = thread.join(threads);
     if let Some(pool) = &kept {
         assert_equal(&rt, sizes(pool.state()), (2, 2));
     }
@@ -65,7 +67,7 @@ fn drives<R: Runtime + Abort + Threads, L: PoolParts + 'static>(
 
 /// The same, with parts of its own.
 fn drive_five<R: Runtime + Abort + Threads>(rt: R, drops: bool) -> Result<Driven, Fail> {
-    drives::<R, Brand>(rt, Blank::new(5), drops)
+    drives::<R, Brand>(rt, &rt, Blank::new(5), drops)
 }
 
 #[test]
@@ -201,7 +203,7 @@ fn answers_meanwhile<R: Runtime + Abort + Threads, L: PoolParts + 'static>(
         .min_idle(Some(1))
         .test_on_check_out(false)
         .build_unchecked(SlowServer { stage: copy }, clock, rt, blank)?;
-    let Ok(thread) = drive(Driver::new(&pool)?, Pauses { left: 0 }) else {
+    let Ok(thread) = drive(&rt, Driver::new(&pool)?, Pauses { left: 0 }) else {
         panic!(&rt; "no thread");
     };
     assert!(&rt; comes_to(&stage, WAITING));

@@ -40,6 +40,45 @@ const FIRST_TOLD: &str = "\
     audit yes\n\
     state connections 5 idle 5 started 3 direct 3 waited 0 timed_out 0 cancelled 0 wait_us 0 created 5 broken 0 invalid 0 lifetime 0 idle_timeout 0\n";
 
+/// Five connections of which two are to be idle, all idle for the limit of a second at the reap.
+const FIVE_IDLE: &str =
+    "0 add\n0 add\n0 add\n0 add\n0 add\n1000000000 reap\n1000000000 begin\n1000000000 try 0\n";
+
+/// Worked rows of reaps: the settings, the events, and what the pool tells at the end.
+const REAPS: [(&str, &str, &str); 6] = [
+    (
+        "max_size=1 lifetime=1000000000 idle=1000000000",
+        "0 add\n999999999 reap\n1000000000 reap\n1000000000 reap\n",
+        "connections 0 idle 0 started 0 direct 0 waited 0 timed_out 0 cancelled 0 wait_us 0 created 0 broken 0 invalid 0 lifetime 1 idle_timeout 0",
+    ),
+    (
+        "max_size=5 min_idle=5 check=off lifetime=none idle=1000000000",
+        "0 fill\n0 claim\n0 open 0\n0 claim\n0 open 1\n0 claim\n0 open 2\n0 claim\n0 open 3\n0 claim\n0 open 4\n0 begin\n0 try 0\n\
+        1000000000 reap\n1000000000 claim\n2400000000 return 0\n3400000000 reap\n",
+        "connections 5 idle 5 started 1 direct 1 waited 0 timed_out 0 cancelled 0 wait_us 0 created 5 broken 0 invalid 0 lifetime 0 idle_timeout 0",
+    ),
+    (
+        "max_size=5 min_idle=2 check=off lifetime=none idle=1000000000",
+        FIVE_IDLE,
+        "connections 2 idle 1 started 1 direct 1 waited 0 timed_out 0 cancelled 0 wait_us 0 created 0 broken 0 invalid 0 lifetime 0 idle_timeout 3",
+    ),
+    (
+        "max_size=5 min_idle=2 check=off lifetime=none idle=1000000000 strategy=lifo",
+        FIVE_IDLE,
+        "connections 2 idle 1 started 1 direct 1 waited 0 timed_out 0 cancelled 0 wait_us 0 created 0 broken 0 invalid 0 lifetime 0 idle_timeout 3",
+    ),
+    (
+        "max_size=4 min_idle=2 lifetime=2000000000 idle=1000000000",
+        "0 add\n1000000000 add\n1000000000 add\n1000000000 add\n2000000000 reap\n2000000000 reap\n",
+        "connections 2 idle 2 started 0 direct 0 waited 0 timed_out 0 cancelled 0 wait_us 0 created 0 broken 0 invalid 0 lifetime 1 idle_timeout 1",
+    ),
+    (
+        "max_size=2 min_idle=2 lifetime=1000000000 idle=1000000000",
+        "0 add\n0 add\n1000000000 reap\n",
+        "connections 0 idle 0 started 0 direct 0 waited 0 timed_out 0 cancelled 0 wait_us 0 created 0 broken 0 invalid 0 lifetime 2 idle_timeout 0",
+    ),
+];
+
 /// What so many threads write of a script, and how it ends.
 fn run<R: Threads + Wait + AllocGlobal + Sync>(
     rt: &R,
@@ -74,6 +113,23 @@ fn succeeds_first_script_in_one_thread(rt: HostRuntime) -> Result<(), Fail> {
     let (verdict, told) = run(&rt, 1, FIRST_SCRIPT)?;
     assert_equal(&rt, verdict, Verdict::Ran);
     assert_equal(&rt, told.as_str(), FIRST_TOLD);
+    Ok(())
+}
+
+/// Each row of a reap in one thread: as many entries as events, `audit yes`, and its state line.
+#[test]
+fn rows_of_reaps_in_one_thread(rt: HostRuntime) -> Result<(), Fail> {
+    for (config, events, state) in REAPS {
+        let script = format!(in rt.alloc(); "config {config}\n{events}")?;
+        let (verdict, told) = run(&rt, 1, script.as_bytes())?;
+        assert_equal(&rt, verdict, Verdict::Ran);
+        let entries = events.bytes().filter(|byte| *byte == b'\n').count();
+        assert_equal(
+            &rt,
+            told,
+            format!(in rt.alloc(); "entries {entries}\naudit yes\nstate {state}\n")?,
+        );
+    }
     Ok(())
 }
 

@@ -1,7 +1,7 @@
 //! What a pool does at the moments that its clock tells, and in which order it lends.
 
 use super::assert_equal;
-use bb8::{DriverCalls, Moment, QueueStrategy};
+use bb8::{Clock, DriverCalls, MachineClock, Moment, QueueStrategy, SetClock};
 use bb8_trials::{
     Board, Handle, Runtime, Server, Start, Tools, Trial, builder_on, connection_on, is_timed_out,
     server_on, sizes, try_on,
@@ -10,6 +10,7 @@ use std::alloc::Global;
 use std::process::Abort;
 use std::sync::Arc;
 use std::test::Fail;
+use std::thread;
 use std::time::Duration;
 
 /// Of the idle connections 7 and 8, which came in this order, the first get has the one that the strategy names.
@@ -160,4 +161,26 @@ fn clock_that_is_set_back_stands_still(rt: HostRuntime) -> Result<(), Fail> {
         Start::Unchecked,
         StandsStill,
     )?
+}
+
+/// It tells what it was set to last, also where that is less, and by a copy.
+#[test]
+fn set_clock_tells_what_it_was_set_to(rt: HostRuntime) -> Result<(), Fail> {
+    let clock = SetClock::new(rt.alloc(), Moment(0))?;
+    let copy = clock.try_clone()?;
+    for moment in [Moment(9), Moment(3)] {
+        clock.set(moment);
+        assert_equal(&rt, (clock.now(), copy.now()), (moment, moment));
+    }
+    Ok(())
+}
+
+/// Between two readings about a sleep of 20 ms as many nanoseconds pass, or more.
+#[test]
+fn machine_clock_counts_nanoseconds(rt: HostRuntime) -> Result<(), Fail> {
+    let clock = MachineClock(rt);
+    let before = clock.now();
+    thread::sleep(&rt, Duration::from_millis(20));
+    assert!(&rt; clock.now().0.saturating_sub(before.0) >= 20_000_000);
+    Ok(())
 }

@@ -208,14 +208,19 @@ impl Run {
         Ok(())
     }
 
-    /// All that is idle is reaped, a second later.
+    /// A second later all that is idle but for one is reaped, as it is idle too long, and after a second more that one, as it lives too
+    /// long.
     fn reaps(&mut self, rt: &impl Abort) {
-        self.at = Moment(self.at.0.saturating_add(1_000_000_000));
-        let ReapAnswer::Reaped { closed, grant, .. } = self.pool.reap(self.at) else {
-            panic!(rt; "no handle is alive");
-        };
-        self.reaped = self.reaped.saturating_add(closed as u64);
-        self.note(grant);
+        for _ in 0..2 {
+            self.at = Moment(self.at.0.saturating_add(1_000_000_000));
+            let ReapAnswer::Reaped { closed, grant, .. } = self.pool.reap(self.at) else {
+                panic!(rt; "no handle is alive");
+            };
+            self.reaped = self.reaped.saturating_add(closed as u64);
+            self.note(grant);
+            self.assert_whole(rt);
+        }
+        assert_equal(&rt, self.pool.state(self.at).connections, 0);
     }
 
     /// Each end once, beside a get that began before and waits; then two are added, and all that is idle is reaped.
@@ -242,7 +247,6 @@ impl Run {
         self.adds(rt)?;
         self.assert_whole(rt);
         self.reaps(rt);
-        self.assert_whole(rt);
         Ok(())
     }
 }
@@ -255,7 +259,7 @@ fn no_connection_is_lost(rt: HostRuntime) -> Result<(), Fail> {
     let config = Config {
         max_size: SIZE,
         min_idle: Some(1),
-        max_lifetime: None,
+        max_lifetime: Some(Duration::from_secs(2)),
         idle_timeout: Some(Duration::from_secs(1)),
         ..Config::default()
     };
@@ -274,11 +278,16 @@ fn no_connection_is_lost(rt: HostRuntime) -> Result<(), Fail> {
     let refused = run.refused;
     assert!(rt; run.reaped > 0 || refused > 1);
     let counts = (run.served, run.waited, board.made());
+    let statistics = run.pool.state(run.at).statistics;
+    let idled = statistics.connections_closed_idle_timeout;
+    let outlived = statistics.connections_closed_max_lifetime;
+    assert_equal(&rt, idled.saturating_add(outlived), run.reaped);
     drop(run);
     assert!(rt; board.is_each_dropped_once());
     if is_refused_afterwards(rt.alloc()) {
         assert_equal(&rt, refused, 0);
         assert_equal(&rt, counts, (2, 2, 12));
+        assert_equal(&rt, (idled, outlived), (4, 2));
         let _ = rt.eprintln("no request of the run was refused");
     }
     Ok(())

@@ -283,7 +283,7 @@ fn is_driven<R: Runtime + Abort + Threads + Eprint, L: PoolParts + 'static>(
         return Ok(Met::Refusal);
     };
     let holds = driver.turn(Moment(0)).polled == 1;
-    let met = match drive(driver, Once) {
+    let met = match drive(&rt, driver, Once) {
         Ok(thread) => {
             assert_equal(&rt, thread.join(&rt).turns, 1);
             if holds { Met::Nothing } else { Met::Refusal }

@@ -38,7 +38,7 @@ const EACH_ANSWER: &[u8] = b"\
     broken\n\
     full\n\
     withheld\n\
-    reaped 9 idle 4 life 6 grant 2 at 5 withheld 1\n\
+    reaped 10 idle 4 life 6 grant 2 at 5 withheld 1\n\
     reaped 0 idle 0 life 0\n\
     state connections 21 idle 13 started 100 direct 31 waited 32 timed_out 5 cancelled 6 wait_us 5999 created 7 broken 8 invalid 9 lifetime 10 idle_timeout 11\n\
     joined\n\
@@ -110,7 +110,7 @@ fn prints_each_answer(rt: HostRuntime) -> Result<(), Fail> {
         Answer::NoCapacity,
         Answer::Withheld,
         Answer::Reaped {
-            closed: 9,
+            closed: 10,
             by_idle: 4,
             by_life: 6,
             grant: grant(5, 2, 1),

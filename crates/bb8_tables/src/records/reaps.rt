@@ -1,19 +1,19 @@
 //! The reap of idle connections, by two walks: along the line of the idle, and along the order of births.
-ghost use Rattle.std.specs.Prelude.{◌≡◌, ◌≤◌, ◌<◌, ◌+◌, ◌-◌, ℕ, List, IfSome, IfNone, Some, length, slice_get, false};
+ghost use Rattle.std.specs.Prelude.{◌≡◌, ◌≤◌, ◌<◌, ◌+◌, ◌-◌, ℕ, List, Some, length, slice_get, false};
+ghost use Rattle.std.specs.Bool.{MatchBool};
 ghost use Rattle.std.specs.Option.{option_map};
 ghost use Rattle.std.specs.Duration.{as_nanos};
 ghost use Rattle.std.specs.FinMap as map;
 ghost use Rattle.bb8_types.specs.Places as places;
 ghost use Rattle.bb8_types.specs.Settings.{settings_of};
 ghost use Rattle.bb8_types.specs.Bounds.{end_of_numbers, most_records};
-ghost use Rattle.bb8_types.specs.Numbered as numbered;
-ghost use Rattle.bb8_tables.specs.Dues.{IsDue, Ends, EndsFirst, Passes};
+ghost use Rattle.bb8_tables.specs.Dues.{Ends, EndsFirst, EndsIdle, Passes};
 ghost use Rattle.bb8_types.specs.declared.standing.Standing.{Standing};
 ghost use Rattle.bb8_tables.specs.Lined.{slot_at};
 ghost use Rattle.bb8_tables.specs.Reaps as reaps;
 ghost use Rattle.bb8_tables.specs.declared.table.Slot.{Slot};
 
-use super::{Records, one};
+use super::Records;
 use crate::lendings::Lendings;
 use crate::table::Table;
 use bb8_types::api::Config;
@@ -31,13 +31,6 @@ pub struct Reaped {
     pub by_life: u32,
 }
 
-/// Why a connection ends: it was idle too long, lived too long, or both.
-#[derive(Clone, Copy)]
-struct Due {
-    by_idle: bool,
-    by_life: bool,
-}
-
 /// What is found at a place in the order of births, and the place after it.
 enum Passed {
     /// A connection that does not live too long, and so does none after it.
@@ -45,56 +38,7 @@ enum Passed {
     /// One that lives too long and is out.
     Out(Option<usize>),
     /// One that lives too long and is idle.
-    Aged(Due, Option<usize>),
-}
-
-impl Reaped {
-    /// Nothing ended.
-    fn nothing() -> Self
-        ensures { result ≡ record { closed = 0; by_idle = 0; by_life = 0 } }
-    {
-        Reaped {
-            closed: 0,
-            by_idle: 0,
-            by_life: 0,
-        }
-    }
-
-    /// One more ended.
-    fn with(self, due: Due) -> Self
-        requires few { self.closed < most_records }
-        requires by_idle { self.by_idle ≤ self.closed }
-        requires by_life { self.by_life ≤ self.closed }
-        ensures { result ≡ record {
-          closed = self.closed + 1;
-          by_idle = self.by_idle + numbered.one due.by_idle;
-          by_life = self.by_life + numbered.one due.by_life;
-        } }
-    {
-        Reaped {
-            closed: self.closed + 1,
-            by_idle: self.by_idle + one(due.by_idle) as u32,
-            by_life: self.by_life + one(due.by_life) as u32,
-        }
-    }
-
-    /// These ended, and then those.
-    fn and(self, then: Reaped) -> Self
-        requires few { self.closed + then.closed ≤ most_records }
-        requires by_idle { self.by_idle + then.by_idle ≤ self.closed + then.closed }
-        requires by_life { self.by_life + then.by_life ≤ self.closed + then.closed }
-        ensures { result ≡ record {
-          closed = self.closed + then.closed;
-          by_idle = self.by_idle + then.by_idle;
-          by_life = self.by_life + then.by_life;
-        } }
-    {
-        Reaped {
-            closed: self.closed + then.closed,
-            by_idle: self.by_idle + then.by_idle,
-            by_life: self.by_life + then.by_life,
-        }
-    }
+    Aged(Option<usize>),
 }
 
 /// Whether a limit is reached, where it is set.
@@ -116,16 +60,18 @@ fn is_idle<C>(place: &Place<C>) -> bool
     }
 }
 
-/// Why a record is to end now, if it is.
-fn due_of<C>(config: &Config, now: u64, standing: &Standing<C>) -> Due
-    ensures by_idle { result.by_idle ≡ places.idles_out (settings_of config.now) now (Some standing.now) }
-    ensures by_life { result.by_life ≡ places.lives_out (settings_of config.now) now (Some standing.now) }
+/// Whether a record is idle, and is so too long.
+fn idles_out<C>(config: &Config, now: u64, standing: &Standing<C>) -> bool
+    ensures { result ≡ places.idles_out (settings_of config.now) now (Some standing.now) }
 {
-    let idle = is_idle(&standing.place);
-    Due {
-        by_idle: idle && is_past(config.idle_timeout, now.saturating_sub(standing.entered)),
-        by_life: idle && is_past(config.max_lifetime, now.saturating_sub(standing.birth)),
-    }
+    is_idle(&standing.place) && is_past(config.idle_timeout, now.saturating_sub(standing.entered))
+}
+
+/// Whether a record is idle and lives too long.
+fn lives_out<C>(config: &Config, now: u64, standing: &Standing<C>) -> bool
+    ensures { result ≡ places.lives_out (settings_of config.now) now (Some standing.now) }
+{
+    is_idle(&standing.place) && is_past(config.max_lifetime, now.saturating_sub(standing.birth))
 }
 
 /// What is found at a place in the order of births. One entry is lent.
@@ -147,70 +93,74 @@ fn pass_birth<C: Drop>(
     if !is_past(config.max_lifetime, now.saturating_sub(standing.birth)) {
         return Passed::Young;
     }
-    let due = due_of(config, now, standing);
-    if due.by_life {
-        Passed::Aged(due, next)
+    if lives_out(config, now, standing) {
+        Passed::Aged(next)
     } else {
         Passed::Out(next)
     }
 }
 
 impl<C: Drop> Records<C> {
-    /// Ends the idle connection that entered first, where it is idle too long, and tells why. One entry is lent, where one is idle.
-    fn reap_first(&mut self, config: &Config, now: u64, lendings: &mut Lendings) -> Option<Due>
+    /// Ends the idle connection that entered first, where it is idle too long, and tells whether. One entry is lent, where one is idle.
+    fn reap_first(&mut self, config: &Config, now: u64, lendings: &mut Lendings) -> bool
         requires few { lendings.old < end_of_numbers }
-        ensures some { IfSome result (λ due. (k : ℕ)
-            × EndsFirst (settings_of config.now) now self.old k self.new due) }
-        ensures none { IfNone result (((k : ℕ)
-            → places.idles_out (settings_of config.now) now (map.get self.old.places k) ≡ false)
+        ensures ends { MatchBool result
+            ((k : ℕ) × (slice_get self.old.idle 0 ≡ Some k)
+            × EndsFirst (places.idles_out (settings_of config.now) now) self.old k self.new)
+            (((k : ℕ) → places.idles_out (settings_of config.now) now (map.get self.old.places k) ≡ false)
             × (self.new ≡ self.old)) }
         ensures examined { lendings.new ≤ lendings.old + 1 }
     {
         let Some(place) = self.slots.first() else {
-            return None;
+            return false;
         };
-        let due = due_of(config, now, &self.slots.at(place, lendings).standing);
-        if !due.by_idle {
-            return None;
+        let due = idles_out(config, now, &self.slots.at(place, lendings).standing);
+        if !due {
+            return false;
         }
         let _ = self.slots.remove(place);
         self.conns -= 1;
-        Some(due)
+        true
     }
 
-    /// Ends the connections that are idle too long, from the one that entered first to the first that is not. An entry is lent for each of
-    /// them, and at most one more; none where no limit is set.
-    fn reap_idle(&mut self, config: &Config, now: u64, lendings: &mut Lendings) -> Reaped
-        requires few { lendings.old ≤ most_records }
-        ensures ends { (ks : List ℕ) × Ends (settings_of config.now) now self.old ks self.new result }
-        ensures none_left { (k : ℕ)
-            → places.idles_out (settings_of config.now) now (map.get self.new.places k) ≡ false }
-        ensures examined { lendings.new ≤ lendings.old + (result.closed + 1) }
+    /// Ends the connections that are idle too long, from the one that entered first to the first that is not, but spares `min_idle` idle
+    /// ones. An entry is lent for each of them, and at most one more; none where no limit is set.
+    fn reap_idle(&mut self, config: &Config, now: u64, lendings: &mut Lendings) -> u32
+        requires few { lendings.old + most_records ≤ end_of_numbers }
+        ensures ends { (ks : List ℕ)
+            × EndsIdle (settings_of config.now) now self.old ks self.new result }
+        ensures examined { lendings.new ≤ lendings.old + (result + 1) }
     {
-        let mut told = Reaped::nothing();
         if config.idle_timeout.is_none() {
-            return told;
+            return 0;
         }
         let _next = &self.next;
-        while let Some(due) = self.reap_first(config, now, lendings) {
-            told = told.with(due);
+        let many = self
+            .idle_connections()
+            .saturating_sub(config.min_idle.unwrap_or(0));
+        for ended in 0..many {
+            let more = self.reap_first(config, now, lendings);
+            if !more {
+                return ended;
+            }
         }
-        told
+        many
     }
 
     /// Ends the idle connections that live too long, from the one that was born first to the first that does not, and passes those that are
     /// out. An entry is lent for each of both, and at most one more; none where no limit is set.
-    fn reap_aged(&mut self, config: &Config, now: u64, lendings: &mut Lendings) -> Reaped
+    fn reap_aged(&mut self, config: &Config, now: u64, lendings: &mut Lendings) -> u32
         requires few { lendings.old + most_records ≤ end_of_numbers }
-        ensures ends { (ks : List ℕ) × Ends (settings_of config.now) now self.old ks self.new result }
+        ensures ends { (ks : List ℕ)
+            × Ends (places.lives_out (settings_of config.now) now) self.old ks self.new result }
         ensures none_left { (k : ℕ)
             → places.lives_out (settings_of config.now) now (map.get self.new.places k) ≡ false }
         ensures examined { lendings.new ≤ lendings.old
-            + (result.closed + (self.old.conns - length self.old.idle) + 1) }
+            + (result + (self.old.conns - length self.old.idle) + 1) }
     {
-        let mut told = Reaped::nothing();
+        let mut closed = 0;
         if config.max_lifetime.is_none() {
-            return told;
+            return closed;
         }
         let mut at = self.slots.first_birth();
         for _ in 0..self.slots.births() {
@@ -218,30 +168,34 @@ impl<C: Drop> Records<C> {
             match pass_birth(&self.slots, place, config, now, lendings) {
                 Passed::Young => break,
                 Passed::Out(next) => at = next,
-                Passed::Aged(due, next) => {
+                Passed::Aged(next) => {
                     let _ = self.slots.remove(place);
                     self.conns -= 1;
-                    told = told.with(due);
+                    closed += 1;
                     at = next;
                 }
             }
         }
-        told
+        closed
     }
 
-    /// Ends each idle connection that is idle too long or lives too long, and drops it. Entries are lent for those that end, for those that
-    /// are out, and for two more at most.
+    /// Ends each idle connection that lives too long, and then those that are idle too long but for `min_idle`, the one that entered first
+    /// before the others, and drops them. Entries are lent for those that end, for those that are out, and for two more at most.
     pub fn reap(&mut self, config: &Config, now: u64, lendings: &mut Lendings) -> Reaped
         requires few { lendings.old ≤ most_records }
-        ensures ends { (ks : List ℕ)
-            × reaps.Reaps (settings_of config.now) now self.old ks self.new result }
+        ensures ends { (js : List ℕ) × (ks : List ℕ)
+            × reaps.Reaps (settings_of config.now) now self.old js ks self.new result }
         ensures numbers { self.old.next ≤ end_of_numbers }
         ensures examined { lendings.new ≤ lendings.old
             + (result.closed + (self.old.conns - length self.old.idle) + 2) }
     {
         let _next = &self.next;
-        let by_idle = self.reap_idle(config, now, lendings);
         let by_life = self.reap_aged(config, now, lendings);
-        by_idle.and(by_life)
+        let by_idle = self.reap_idle(config, now, lendings);
+        Reaped {
+            closed: by_life + by_idle,
+            by_idle,
+            by_life,
+        }
     }
 }

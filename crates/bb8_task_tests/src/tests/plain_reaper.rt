@@ -12,29 +12,37 @@ use std::time::Duration;
 /// Half a second in nanoseconds.
 const HALF: u64 = 500_000_000;
 
-/// A pool of two whose connections idle out after a second, and of which one is to be idle. A connection was added at 0.
-fn pool_with_one(rt: &impl Abort, alloc: Global) -> PoolInternals<u64> {
+/// A pool of two, of which one is to be idle, with these limits in seconds on how long its connections stay idle and how long they live. So
+/// many were added at 0.
+fn pool_with(
+    rt: &impl Abort,
+    alloc: Global,
+    (idle, lifetime): (Option<u64>, Option<u64>),
+    many: u64,
+) -> PoolInternals<u64> {
     let config = Config {
         max_size: 2,
         min_idle: Some(1),
-        max_lifetime: None,
-        idle_timeout: Some(Duration::from_secs(1)),
+        max_lifetime: lifetime.map(Duration::from_secs),
+        idle_timeout: idle.map(Duration::from_secs),
         ..Config::default()
     };
     if !config.is_lawful() {
         panic!(rt; "the settings are not lawful");
     }
     let mut pool = PoolInternals::new(alloc, config);
-    assert!(rt; add(&mut pool, Moment(0), 7, false).is_some());
+    for number in 0..many {
+        assert!(rt; add(&mut pool, Moment(0), number, false).is_some());
+    }
     pool
 }
 
-/// What a reap answers that closes so many, which idled out, and grants so many from a number on.
-fn reaped(closed: u32, first: u64, count: u32) -> ReaperAnswer {
+/// What a reap answers that closes so many that idled too long and so many that lived too long, and grants so many from a number on.
+fn reaped(by_idle: u32, by_life: u32, first: u64, count: u32) -> ReaperAnswer {
     ReaperAnswer::Reaped(Reaped {
-        closed,
-        by_idle: closed,
-        by_life: 0,
+        closed: by_idle.saturating_add(by_life),
+        by_idle,
+        by_life,
         grant: Grant {
             first,
             count,
@@ -43,27 +51,52 @@ fn reaped(closed: u32, first: u64, count: u32) -> ReaperAnswer {
     })
 }
 
-#[test]
-fn reaper_closes_what_idled_out(rt: HostRuntime) {
-    let mut pool = pool_with_one(&rt, rt.alloc());
+/// Asserts what a reaper of that pool answers after half a second, after one, at the same moment once more, and after two.
+fn assert_reaps(
+    rt: &impl Abort,
+    pool: &mut PoolInternals<u64>,
+    first: ReaperAnswer,
+    second: ReaperAnswer,
+) {
     let mut reaper = Reaper::new(Moment(0), Duration::from_secs(1));
     for (halves, answer) in [
         (1, ReaperAnswer::Idle),
-        (2, reaped(1, 1, 1)),
+        (2, first),
         (2, ReaperAnswer::Idle),
-        (4, reaped(0, 2, 0)),
+        (4, second),
     ] {
-        let at = Moment(HALF * halves);
-        assert_equal(&rt, reaper.poll(at, &mut pool), answer);
+        let at = Moment(HALF.saturating_mul(halves));
+        assert_equal(&rt, reaper.poll(at, pool), answer);
     }
+}
+
+/// Two idle for a second, and the one that entered first is closed; the other one is spared, at the next tick as well.
+#[test]
+fn reaper_closes_what_idled_out(rt: HostRuntime) {
+    let mut pool = pool_with(&rt, rt.alloc(), (Some(1), None), 2);
+    assert_reaps(&rt, &mut pool, reaped(1, 0, 2, 0), reaped(0, 0, 2, 0));
+    assert!(&rt; pool.find(0).is_none());
+    assert!(&rt; pool.find(1).is_some());
+    let state = pool.state(Moment(0));
+    assert_equal(&rt, state.connections, 1);
+    assert_equal(&rt, state.statistics.connections_closed_idle_timeout, 1);
+    assert_equal(&rt, state.statistics.connections_closed_max_lifetime, 0);
+}
+
+/// One lives for a second and is closed, though one is to be idle; another one is granted, which no later tick does again.
+#[test]
+fn reaper_closes_what_lives_too_long(rt: HostRuntime) {
+    let mut pool = pool_with(&rt, rt.alloc(), (Some(1), Some(1)), 1);
+    assert_reaps(&rt, &mut pool, reaped(0, 1, 1, 1), reaped(0, 0, 2, 0));
     let state = pool.state(Moment(0));
     assert_equal(&rt, state.connections, 0);
-    assert_equal(&rt, state.statistics.connections_closed_idle_timeout, 1);
+    assert_equal(&rt, state.statistics.connections_closed_idle_timeout, 0);
+    assert_equal(&rt, state.statistics.connections_closed_max_lifetime, 1);
 }
 
 #[test]
 fn reaper_ends_after_the_last_leave(rt: HostRuntime) {
-    let mut pool = pool_with_one(&rt, rt.alloc());
+    let mut pool = pool_with(&rt, rt.alloc(), (Some(1), None), 1);
     let mut reaper = Reaper::new(Moment(0), Duration::from_secs(1));
     assert!(&rt; leave(&mut pool, Moment(0)).is_some());
     assert_equal(

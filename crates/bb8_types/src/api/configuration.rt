@@ -30,13 +30,13 @@ impl Default for QueueStrategy {
 pub struct Config {
     /// How many connections and open approvals there are at most. 10 by default.
     pub max_size: u32,
-    /// How many idle connections the pool tries for. None, which counts as 0, by default.
+    /// How many idle connections the pool tries for, and leaves idle whatever `idle_timeout` says. None, which counts as 0, by default.
     pub min_idle: Option<u32>,
     /// Whether a connection is checked before it is handed out. On by default.
     pub test_on_check_out: bool,
     /// How long after its birth a connection is closed, at its return or at a reap. 30 minutes by default.
     pub max_lifetime: Option<Duration>,
-    /// How long after its last entry an idle connection is closed at a reap. 10 minutes by default.
+    /// How long after its last entry an idle connection is closed at a reap, where more than `min_idle` are idle. 10 minutes by default.
     pub idle_timeout: Option<Duration>,
     /// How long a get waits, and after how long a failed connect is not tried again. 30 seconds by default.
     pub connection_timeout: Duration,

@@ -25,7 +25,7 @@ pub struct Statistics {
     pub connections_closed_broken: u64,
     /// Connections that were closed because their check had failed.
     pub connections_closed_invalid: u64,
-    /// Connections that were closed because of `max_lifetime`.
+    /// Connections that were closed because of `max_lifetime`. One that was idle for the `idle_timeout`, too, counts here alone.
     pub connections_closed_max_lifetime: u64,
     /// Connections that were closed because of `idle_timeout`.
     pub connections_closed_idle_timeout: u64,

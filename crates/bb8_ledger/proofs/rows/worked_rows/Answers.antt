@@ -66,6 +66,18 @@ returns-clause-used_again c = by_evaluation refl refl refl
 pub returns-clause-idled_out : goal.returns-clause-idled_out
 returns-clause-idled_out c = by_evaluation refl refl refl
 
+pub returns-clause-spared_oldest : goal.returns-clause-spared_oldest
+returns-clause-spared_oldest c = by_evaluation refl refl refl
+
+pub returns-clause-spared_newest : goal.returns-clause-spared_newest
+returns-clause-spared_newest c = by_evaluation refl refl refl
+
+pub returns-clause-spared_after_expired : goal.returns-clause-spared_after_expired
+returns-clause-spared_after_expired c = by_evaluation refl refl refl
+
+pub returns-clause-expired_not_spared : goal.returns-clause-expired_not_spared
+returns-clause-expired_not_spared c = by_evaluation refl refl refl
+
 pub returns-clause-returned_too_old : goal.returns-clause-returned_too_old
 returns-clause-returned_too_old c = by_evaluation refl refl refl
 

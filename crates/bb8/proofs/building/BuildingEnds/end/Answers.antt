@@ -5,8 +5,11 @@ returns-in-Opening g c =
     let shared = c.deref-shared.ensures in
     let of = c.new-calls.ensures in
     rw c.in-Opening.is (
-      c.new-calls.result,
-      c.drop_tasks.new.outside,
-      (rw shared at of.manager, rw shared at of.sink, rw shared at of.customizer, rw shared at of.clock),
-      c.drop_tasks.ensures,
+      (
+        c.new-calls.result,
+        c.drop_tasks.new.outside,
+        (rw shared at of.manager, rw shared at of.sink, rw shared at of.customizer, rw shared at of.clock),
+        c.drop_tasks.ensures,
+      ),
+      c.drop-pool.ensures,
     )

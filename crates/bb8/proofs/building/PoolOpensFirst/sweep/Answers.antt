@@ -7,10 +7,13 @@ returns-in-Failed g c =
     let of = c.new-calls.ensures in (
       c.open_first.result,
       (
-        c.new-calls.result,
-        c.open_first.new.outside,
-        (rw shared at of.manager, rw shared at of.sink, rw shared at of.customizer, rw shared at of.clock),
-        rw shared at c.open_first.ensures,
+        (
+          c.new-calls.result,
+          c.open_first.new.outside,
+          (rw shared at of.manager, rw shared at of.sink, rw shared at of.customizer, rw shared at of.clock),
+          rw shared at c.open_first.ensures,
+        ),
+        rw c.in-Failed.is c.drop-self.ensures,
       ),
       rw c.in-Failed.is (refl, refl),
     )
@@ -21,10 +24,13 @@ returns-in-Complete g c =
     let of = c.new-calls.ensures in (
       c.open_first.result,
       (
-        c.new-calls.result,
-        c.open_first.new.outside,
-        (rw shared at of.manager, rw shared at of.sink, rw shared at of.customizer, rw shared at of.clock),
-        rw shared at c.open_first.ensures,
+        (
+          c.new-calls.result,
+          c.open_first.new.outside,
+          (rw shared at of.manager, rw shared at of.sink, rw shared at of.customizer, rw shared at of.clock),
+          rw shared at c.open_first.ensures,
+        ),
+        rw c.in-Complete.is tt,
       ),
       rw c.in-Complete.is (refl, refl),
     )
@@ -35,10 +41,13 @@ returns-in-Going g c =
     let of = c.new-calls.ensures in (
       c.open_first.result,
       (
-        c.new-calls.result,
-        c.open_first.new.outside,
-        (rw shared at of.manager, rw shared at of.sink, rw shared at of.customizer, rw shared at of.clock),
-        rw shared at c.open_first.ensures,
+        (
+          c.new-calls.result,
+          c.open_first.new.outside,
+          (rw shared at of.manager, rw shared at of.sink, rw shared at of.customizer, rw shared at of.clock),
+          rw shared at c.open_first.ensures,
+        ),
+        rw c.in-Going.is tt,
       ),
       rw c.in-Going.is (refl, refl),
     )

@@ -2,4 +2,14 @@ use Rattle.std.proofs.Common.{refl}
 use Rattle.bb8.proofs.driver.DriverDriverCalls.turn.Goals as goal
 
 pub returns-clause-table : goal.returns-clause-table
-returns-clause-table g c = (refl, rw c.deref-pool.ensures at c.turn_own.ensures.table)
+returns-clause-table g c =
+    let shared = c.deref-pool.ensures in
+    let of = c.new-calls.ensures in (
+      refl,
+      (
+        c.new-calls.result,
+        c.turn_with.new.outside,
+        (rw shared at of.manager, rw shared at of.sink, rw shared at of.customizer, rw shared at of.clock),
+        rw shared at c.turn_with.ensures.table,
+      ),
+    )

@@ -1,4 +1,5 @@
 use Rattle.std.proofs.Common.{◌+◌, ◌≤◌, ap, arith, refl}
+use Rattle.bb8_tables.specs.Reaps.{after_reap}
 use Rattle.bb8_tables.specs.Views.{ShownRecords}
 use Rattle.bb8_ledger.specs.Acts as acts
 use Rattle.bb8_ledger.specs.Answers as answers
@@ -17,20 +18,25 @@ invariant_of-self g c = led _ c.args.at.0 acts.Reap answers.Ended c.self.view_is
 
 pub grant-grant-requires : goal.grant-grant-requires
 grant-grant-requires g c =
-    let ended = c.reap-reaped.ensures.ends.1 in
+    let ended = c.reap-reaped.ensures.ends.2 in
     let fewer : c.reap-reaped.new.self.conns + c.reap-reaped.new.self.approved ≤ c.self.inside.records.conns + c.self.inside.records.approved =
-    omega (arith, reap_few c.reap-reaped.ensures.ends.0 c.self.inside.records, ap (λ (s : ShownRecords g.row.C.Denot). s.conns + s.approved) ended.state) in
+    omega (
+      arith,
+      reap_few c.reap-reaped.ensures.ends.0 c.self.inside.records,
+      reap_few c.reap-reaped.ensures.ends.1 (after_reap c.reap-reaped.ensures.ends.0 c.self.inside.records),
+      ap (λ (s : ShownRecords g.row.C.Denot). s.conns + s.approved) ended.state,
+    ) in
     omega (arith, due_fits (view_of c.self.inside) {taken = c.reap-reaped.new.self} _ c.self.invariant fewer refl refl c.want-wanted.ensures)
 
 pub reap-requires-clause-by_idle : goal.reap-requires-clause-by_idle
-reap-requires-clause-by_idle g c = (reaped_few (view_of c.self.inside) c.self.invariant (omega (arith, c.max-now.ensures)) c.reap-reaped.ensures.ends.1 c.reap-reaped.ensures.numbers).0
+reap-requires-clause-by_idle g c = (reaped_few (view_of c.self.inside) c.self.invariant (omega (arith, c.max-now.ensures)) c.reap-reaped.ensures.ends.2 c.reap-reaped.ensures.numbers).0
 
 pub reap-requires-clause-by_life : goal.reap-requires-clause-by_life
-reap-requires-clause-by_life g c = (reaped_few (view_of c.self.inside) c.self.invariant (omega (arith, c.max-now.ensures)) c.reap-reaped.ensures.ends.1 c.reap-reaped.ensures.numbers).1
+reap-requires-clause-by_life g c = (reaped_few (view_of c.self.inside) c.self.invariant (omega (arith, c.max-now.ensures)) c.reap-reaped.ensures.ends.2 c.reap-reaped.ensures.numbers).1
 
 pub returns-clause-step : goal.returns-clause-step
 returns-clause-step g c = at_view c.args.at.0 acts.Reap (answers.Reaped c.reap-reaped.result.closed c.reap-reaped.result.by_idle c.reap-reaped.result.by_life c.grant-grant.result) c.self.view_is
-    (meets_reaped c.self.inside.counters c.max-now.ensures c.if-self-eq0.false c.reap-reaped.ensures.ends.1
+    (meets_reaped c.self.inside.counters c.max-now.ensures c.if-self-eq0.false c.reap-reaped.ensures.ends.2
     (grants refl c.want-wanted.ensures c.grant-grant.ensures.granted c.grant-grant.ensures.state) refl c.reap.ensures)
 
 pub invariant_of-self-2 : goal.invariant_of-self-2

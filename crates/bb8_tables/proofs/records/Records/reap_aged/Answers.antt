@@ -1,11 +1,10 @@
-use Rattle.std.proofs.Common.{arith}
-use Rattle.bb8_tables.proofs.Reaps.{few_by_idle, few_by_life}
+use Rattle.std.proofs.Common.{arith, refl}
 use Rattle.bb8_tables.proofs.Walks.{births_start, births_member, births_stands, births_out, births_aged, none_ahead, none_more, none_after, lent_at_most}
 use Rattle.bb8_tables.proofs.records.Records.reap_aged.Goals as goal
 use Rattle.bb8_tables.proofs.records.Records.reap_aged.Goals.{in-Out, in-Aged}
 
 pub loop-init : goal.loop-init
-loop-init g c = births_start c.self.inside c.nothing-told.result c.first_birth-at.result c.self.invariant c.self.view_is c.nothing-told.ensures c.first_birth-at.ensures c.births-end.ensures
+loop-init g c = births_start c.self.inside 0 c.first_birth-at.result c.self.invariant c.self.view_is refl c.first_birth-at.ensures c.births-end.ensures
 
 pub pass_birth-requires-clause-member : goal.pass_birth-requires-clause-member
 pass_birth-requires-clause-member g c = births_member (rw c.in-Some.is at c.loop.invariant)
@@ -13,16 +12,10 @@ pass_birth-requires-clause-member g c = births_member (rw c.in-Some.is at c.loop
 pub pass_birth-requires-clause-stands : goal.pass_birth-requires-clause-stands
 pass_birth-requires-clause-stands g c = births_stands (rw c.in-Some.is at c.loop.invariant)
 
-pub with-told-requires-clause-by_idle : goal.with-told-requires-clause-by_idle
-with-told-requires-clause-by_idle g c = few_by_idle c.loop.invariant.ends
-
-pub with-told-requires-clause-by_life : goal.with-told-requires-clause-by_life
-with-told-requires-clause-by_life g c = few_by_life c.loop.invariant.ends
-
 pub loop-preserved : goal.loop-preserved
 loop-preserved g c = elim c.match-pass_birth.branch [
-  | in-Out w ↦ rw (w.told-is, w.at-is, w.self-inside-is) (births_out (rw c.in-Some.is at c.loop.invariant) w.in-Out.ensures.value w.in-Out.ensures.examined)
-  | in-Aged w ↦ rw (w.told-is, w.at-is, w.self-inside-is) (births_aged (rw c.in-Some.is at c.loop.invariant) w.in-Aged.ensures.value w.remove.ensures.state w.with-told.ensures w.in-Aged.ensures.examined)
+  | in-Out w ↦ rw (w.closed-is, w.at-is, w.self-inside-is) (births_out (rw c.in-Some.is at c.loop.invariant) w.in-Out.ensures.value w.in-Out.ensures.examined)
+  | in-Aged w ↦ rw (w.closed-is, w.at-is, w.self-inside-is) (births_aged (rw c.in-Some.is at c.loop.invariant) w.in-Aged.ensures.value w.remove.ensures.state refl w.in-Aged.ensures.examined)
 ]
 
 pub returns-after-loop-clause-none_left : goal.returns-after-loop-clause-none_left

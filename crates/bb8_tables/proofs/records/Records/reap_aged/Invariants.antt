@@ -1,7 +1,6 @@
-use Rattle.std.proofs.Common.{length}
 use Rattle.bb8_types.specs.Settings.{settings_of}
 use Rattle.bb8_tables.proofs.Walks.{InBirths}
 use Rattle.bb8_tables.proofs.records.Records.reap_aged.Given as goal
 
 abbrev pub invariant-loop : goal.invariant-loop
-invariant-loop g l = InBirths (settings_of l.config) l.now l.fn.self l.fn.lendings l.end l.self-inside l.told l.at l.lendings l.counter
+invariant-loop g l = InBirths (settings_of l.config) l.now l.fn.self l.fn.lendings l.end l.self-inside l.closed l.at l.lendings l.counter

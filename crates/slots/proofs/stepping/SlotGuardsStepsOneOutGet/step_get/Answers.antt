@@ -1,0 +1,14 @@
+use Rattle.std.proofs.Common.{refl, inl, inr}
+use Rattle.slots.proofs.stepping.SlotGuardsStepsOneOutGet.step_get.Goals as goal
+
+pub returns-in-Ready-Err-clause-steps : goal.returns-in-Ready-Err-clause-steps
+returns-in-Ready-Err-clause-steps g c =
+    (c.poll.result, c.poll.new.self, c.poll.ensures.table, rw (c.in-Ready-Err.is, c.in-Ready-Err.field-0-is) (refl, refl))
+
+pub returns-in-Ok-clause-steps : goal.returns-in-Ok-clause-steps
+returns-in-Ok-clause-steps g c =
+    (c.poll.result, c.poll.new.self, c.poll.ensures.table, rw (c.in-Ready-Ok.is, c.in-Ready-Ok.field-0-is) (inl (refl, refl)))
+
+pub returns-clause-steps : goal.returns-clause-steps
+returns-clause-steps g c =
+    (c.poll.result, c.poll.new.self, c.poll.ensures.table, rw (c.in-Ready-Ok.is, c.in-Ready-Ok.field-0-is) (inr (refl, refl)))

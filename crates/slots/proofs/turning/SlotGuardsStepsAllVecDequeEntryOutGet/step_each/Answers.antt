@@ -1,0 +1,27 @@
+use Rattle.std.proofs.Common.{◌<◌, ◌∙◌, refl, arith}
+use Rattle.std.specs.VecDeque.{deque_len}
+use Rattle.bb8.specs.Gets.{PollsGet}
+use Rattle.slots.proofs.Stepped.{Midway-first, Midway-step, Midway-over}
+use Rattle.slots.proofs.turning.SlotGuardsStepsAllVecDequeEntryOutGet.step_each.Goals as goal
+
+pub loop-init : goal.loop-init
+loop-init g c = record {
+  midway = Midway-first g.J.Job.polls (PollsGet g.S.ErrorSink.sinks g.K.Clock.tells) c.args.now _ _ (omega arith);
+  len = omega arith;
+  most = omega arith;
+  held = λ h. h;
+  pool = refl;
+}
+
+pub loop-preserved : goal.loop-preserved
+loop-preserved g c =
+    let some : 0 < deque_len c.loop.queue = omega (arith, c.loop.invariant.len) in record {
+      midway = Midway-step g.J.Job.polls (PollsGet g.S.ErrorSink.sinks g.K.Clock.tells) c.args.now _ _ _ _ _ _ _ (omega arith) c.loop.invariant.midway (c.step_first-ended.ensures.steps some);
+      len = omega (arith, c.loop.invariant.len);
+      most = omega arith;
+      held = λ h. c.step_first-ended.ensures.held (c.loop.invariant.held h);
+      pool = c.step_first-ended.ensures.pool ∙ c.loop.invariant.pool;
+    }
+
+pub returns-clause-steps : goal.returns-clause-steps
+returns-clause-steps g c = Midway-over g.J.Job.polls (PollsGet g.S.ErrorSink.sinks g.K.Clock.tells) c.args.now _ _ _ _ (omega arith) c.loop.invariant.midway

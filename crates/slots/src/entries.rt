@@ -1,0 +1,98 @@
+//! The jobs of a runner, each with its id and its place.
+ghost use Rattle.std.specs.Prelude.{◌≡◌, ◌<◌, ℕ, true, Some, None, IfSome, IfNone, OnSome};
+ghost use Rattle.std.specs.List.{slice_index_or, remove};
+ghost use Rattle.std.specs.VecDeque.{deque_len};
+ghost use Rattle.slots.specs.Entries.{is_ended, phase_in, phase_of, place_of, outcome_of, left_after, running, without};
+
+use crate::job::{Outcome, Phase};
+use std::collections::VecDeque;
+
+/// Where a job stands, with what it needs there: `J` is a job, `O` what it comes to, `G` a get.
+#[derive(Drop)]
+pub(crate) enum Place<J, O, G> {
+    /// It waits for what its get answers.
+    Waiting(J, G),
+    /// It runs, and one of the guards is held for it.
+    Running(J),
+    /// It has ended so.
+    Ended(Outcome<O>),
+}
+
+/// A job under its id.
+#[derive(Drop)]
+pub(crate) struct Entry<J, O, G> {
+    pub(crate) id: u64,
+    pub(crate) place: Place<J, O, G>,
+}
+
+impl<J, O, G> Place<J, O, G> {
+    /// The phase of a job that stands so.
+    pub(crate) fn phase(&self) -> Phase
+        ensures { result ≡ phase_in self.now }
+    {
+        match self {
+            Place::Waiting(_, _) => Phase::Waiting,
+            Place::Running(_) => Phase::Running,
+            Place::Ended(_) => Phase::Ended,
+        }
+    }
+
+    /// Whether a job that stands so has ended.
+    pub(crate) fn is_ended(&self) -> bool
+        ensures { result ≡ is_ended self.now }
+    {
+        match self {
+            Place::Ended(_) => true,
+            _ => false,
+        }
+    }
+}
+
+/// The index of the job of an id, if there is one.
+pub(crate) fn index_of<J, O, G>(entries: &VecDeque<Entry<J, O, G>>, id: u64) -> Option<usize>
+    ensures within { IfSome result (λ i. i < deque_len entries.now) }
+    ensures place { IfSome result (λ i. (e : _) → e ≡ slice_index_or entries.now.items i e
+        → place_of id entries.now.items ≡ Some e.place) }
+    ensures rest { IfSome result (λ i. without id entries.now.items ≡ remove entries.now.items i) }
+    ensures none { IfNone result (place_of id entries.now.items ≡ None) }
+{
+    for i in 0..entries.len() {
+        if entries[i].id == id {
+            return Some(i);
+        }
+    }
+    None
+}
+
+/// The phase of the job of an id, if there is one.
+pub(crate) fn phase_at<J, O, G>(entries: &VecDeque<Entry<J, O, G>>, id: u64) -> Option<Phase>
+    ensures { result ≡ phase_of (place_of id entries.now.items) }
+{
+    match index_of(entries, id) {
+        Some(i) => Some(entries[i].place.phase()),
+        None => None,
+    }
+}
+
+/// Takes the job of an id out, where it has ended, and tells how.
+pub(crate) fn take_ended<J: Drop, O: Drop, G: Drop>(
+    entries: &mut VecDeque<Entry<J, O, G>>,
+    id: u64,
+) -> Option<Outcome<O>>
+    ensures outcome { result ≡ outcome_of (place_of id entries.old.items) }
+    ensures left { entries.new.items ≡ left_after result id entries.old.items }
+{
+    let i = index_of(entries, id)?;
+    if !entries[i].place.is_ended() {
+        return None;
+    }
+    match entries.remove(i) {
+        Some(
+            Entry {
+                id: _,
+                place: Place::Ended(outcome),
+            },
+        ) => Some(outcome),
+        _ => unreachable!(),
+    }
+}

@@ -1,0 +1,182 @@
+//! A runner of jobs over a pool of slots.
+ghost use Rattle.std.specs.Prelude.{◌≡◌, ◌≤◌, ◌<◌, ◌+◌, ◌^◌, ◌-◌, [], None, IfOk, OnOk, IfErr, OnErr, OnSome};
+ghost use Rattle.futures.specs.declared.task.Poll.{Poll as PollOf};
+ghost use Rattle.bb8_gets.specs.declared.state.Stage.TheVariants.{Fresh as IsFresh};
+ghost use Rattle.bb8_turns.specs.declared.turning.Turn.{Turn as TurnOf};
+ghost use Rattle.bb8.specs.Drivers.{IsDriverOf, TurnsDriver};
+ghost use Rattle.bb8.specs.Gets.{PollsGet};
+ghost use Rattle.bb8.specs.GuardLists.{most_in, number_in};
+ghost use Rattle.bb8.specs.Pools.{settings_in, stage_of, IsOf};
+ghost use Rattle.slots.specs.Entries.{ids, left_after, outcome_of, phase_of, place_of, running, Adds, AreIds, AreIds-prop};
+ghost use Rattle.slots.specs.Turns.{StepsEach};
+
+use crate::entries::{Entry, Place, phase_at, take_ended};
+use crate::job::{Job, Outcome, Phase};
+use crate::slot::{Slot, SlotManager};
+use crate::stepping::{Get, SlotGuards};
+use crate::turning::StepsAll;
+use bb8::{
+    Clock, CustomizeConnection, Driver, DriverCalls, ErrorSink, GuardsCalls, Locks, Memory, Moment,
+    Parts, Pool, PoolCalls,
+};
+use futures::task::Context;
+use std::alloc::Global;
+use std::collections::VecDeque;
+use std::convert::Infallible;
+use std::sync::Wait;
+
+/// Runs jobs, each while it holds a connection of the pool, so that no more run at a time than the pool's `max_size`. Our own.
+///
+/// Jobs are submitted, go on at each turn, and their outcomes are taken by their ids. When a runner is dropped, the gets of jobs that wait
+/// are cancelled and the guards of those that run are given back, for which it may wait for the pool's lock.
+#[derive(Drop)]
+pub struct Runner<
+    'a,
+    J: Job,
+    S: ErrorSink<Infallible>,
+    Z: CustomizeConnection<Slot, Infallible>,
+    K: Clock,
+    R: Locks,
+    L: Parts,
+> {
+    entries: VecDeque<Entry<J, J::Out, Get<'a, S, Z, K, R, L>>>,
+    guards: SlotGuards<'a, S, Z, K, R, L>,
+    driver: Driver<SlotManager, S, Z, K, R, L>,
+    pool: &'a Pool<SlotManager, S, Z, K, R, L>,
+    next: u64,
+    pub ghost ordered: { AreIds 0 next (ids entries.items) } by { AreIds-prop 0 next (ids entries.items) },
+    pub ghost held: { running entries.items ≡ number_in guards },
+    pub ghost most: { most_in guards ≡ (settings_in pool.now).max_size },
+    pub ghost within: { running entries.items ≤ (settings_in pool.now).max_size },
+}
+
+/// The calls of a runner, as methods of an impl, so that code that a thread runs can make them. Our own.
+pub trait RunnerCalls {
+    /// What is run. Our own.
+    type Job;
+
+    /// How a job ends. Our own.
+    type Outcome;
+
+    /// Takes a job on, and answers its id: ids count from 0. Where memory for it is refused, or each id below the greatest u64 was given, the
+    /// job comes back and nothing changes. Our own.
+    fn submit(&mut self, job: Self::Job) -> Result<u64, Self::Job>;
+
+    /// One turn at a moment, in nanoseconds of the pool's clock; it may wait for the pool's lock. How many jobs ended. Our own.
+    ///
+    /// The pool's driver makes a turn first. Then each job that has not ended has one step, in the order of the ids. The get of a job that
+    /// waits is polled: where it is served the job runs from the next turn on, where it fails the job has ended with its error, and where there
+    /// is no memory to keep the guard, that is dropped and the job has ended with `Memory`. A job that runs is polled once: where it is ready
+    /// it has ended, and a guard is dropped at once.
+    fn turn(&mut self, moment: Moment, cx: &mut Context<'_>) -> u64;
+
+    /// Where the job of an id stands: None where no such id was given, or its outcome was taken. Our own.
+    fn phase(&self, id: u64) -> Option<Phase>;
+
+    /// How many jobs run. Our own.
+    fn running(&self) -> u64;
+
+    /// How the job of an id has ended, once: the job is then forgotten. None where it has not ended, no such id was given, or its outcome was
+    /// taken. Our own.
+    fn take(&mut self, id: u64) -> Option<Self::Outcome>;
+}
+
+impl<
+    'a,
+    J: Job,
+    S: ErrorSink<Infallible>,
+    Z: CustomizeConnection<Slot, Infallible>,
+    K: Clock,
+    R: Wait + AllocGlobal + Send + Sync + Drop + 'static,
+    L: Parts,
+> Runner<'a, J, S, Z, K, R, L> {
+    /// A runner of the pool that has no job yet, with a driver of the pool. It fails only where `Driver::new` does. Our own.
+    pub fn new(alloc: Global, pool: &'a Pool<SlotManager, S, Z, K, R, L>) -> Result<Self, Memory>
+        ensures pool { IfOk result (λ runner. runner.pool.now ≡ pool.now) }
+        ensures driver { IfOk result (λ runner. IsDriverOf runner.driver pool.now) }
+        ensures empty { IfOk result (λ runner. runner.entries.items ≡ []) }
+        ensures next { IfOk result (λ runner. runner.next ≡ 0) }
+    {
+        let driver = Driver::new(pool)?;
+        Ok(Runner {
+            entries: VecDeque::new(alloc),
+            guards: GuardsCalls::new(alloc, pool),
+            driver,
+            pool,
+            next: 0,
+        })
+    }
+}
+
+impl<
+    'a,
+    J: Job,
+    S: ErrorSink<Infallible>,
+    Z: CustomizeConnection<Slot, Infallible>,
+    K: Clock,
+    R: Wait + Send + Sync + Drop + 'static,
+    L: Parts,
+> RunnerCalls for Runner<'a, J, S, Z, K, R, L> {
+    type Job = J;
+
+    type Outcome = Outcome<J::Out>;
+
+    fn submit(&mut self, job: J) -> Result<u64, J>
+        ensures id { IfOk result (λ id. id ≡ self.old.next) }
+        ensures next { OnOk result (self.new.next ≡ self.old.next + 1) }
+        ensures added { OnOk result (Adds
+            (λ get. (stage_of get ≡ IsFresh) × IsOf get self.old.pool.now) self.old.next job
+            self.old.entries.items self.new.entries.items) }
+        ensures back { IfErr result (λ back. back ≡ job) }
+        ensures same { OnErr result ((self.new.entries.items ≡ self.old.entries.items)
+            × (self.new.next ≡ self.old.next)) }
+        ensures pool { self.new.pool.now ≡ self.old.pool.now }
+    {
+        if self.next == u64::MAX || self.entries.reserve(1).is_err() {
+            return Err(job);
+        }
+        let id = self.next;
+        let get = PoolCalls::get(self.pool);
+        self.entries.push_back_reserved(Entry {
+            id,
+            place: Place::Waiting(job, get),
+        });
+        self.next += 1;
+        Ok(id)
+    }
+
+    fn turn(&mut self, moment: Moment, cx: &mut Context<'_>) -> u64
+        ensures driver { (turn : TurnOf) × TurnsDriver Z.CustomizeConnection S.sinks K.tells moment
+            self.old.driver turn self.new.driver }
+        ensures steps { StepsEach J.polls (PollsGet S.sinks K.tells) moment
+            self.old.entries.items self.new.entries.items result }
+        ensures next { self.new.next ≡ self.old.next }
+        ensures pool { self.new.pool.now ≡ self.old.pool.now }
+    {
+        let _ = DriverCalls::turn(&mut self.driver, moment);
+        self.guards.step_each(&mut self.entries, moment, cx)
+    }
+
+    fn phase(&self, id: u64) -> Option<Phase>
+        ensures { result ≡ phase_of (place_of id self.now.entries.items) }
+    {
+        phase_at(&self.entries, id)
+    }
+
+    fn running(&self) -> u64
+        ensures number { result ≡ running self.now.entries.items }
+        ensures within { result ≤ (settings_in self.now.pool.now).max_size }
+    {
+        GuardsCalls::len(&self.guards) as u64
+    }
+
+    fn take(&mut self, id: u64) -> Option<Outcome<J::Out>>
+        ensures outcome { result ≡ outcome_of (place_of id self.old.entries.items) }
+        ensures left { self.new.entries.items ≡ left_after result id self.old.entries.items }
+        ensures gone { OnSome result (place_of id self.new.entries.items ≡ None) }
+        ensures next { self.new.next ≡ self.old.next }
+        ensures pool { self.new.pool.now ≡ self.old.pool.now }
+    {
+        take_ended(&mut self.entries, id)
+    }
+}

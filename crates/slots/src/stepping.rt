@@ -1,0 +1,141 @@
+//! One step of one job.
+ghost use Rattle.std.specs.Prelude.{◌≡◌, ◌+◌, ◌≤◌, ◌<◌};
+ghost use Rattle.bb8.specs.Gets.{PollsGet};
+ghost use Rattle.bb8.specs.GuardLists.{number_in, AreOfOne};
+ghost use Rattle.slots.specs.Entries.{guards_for};
+ghost use Rattle.slots.specs.Turns.{StepsJob, StepsGet, Steps};
+
+use crate::entries::Place;
+use crate::job::{Job, Outcome};
+use crate::slot::{Slot, SlotManager};
+use bb8::get::GetFuture;
+use bb8::{
+    Clock, CustomizeConnection, ErrorSink, Guards, GuardsCalls, Locks, Moment, Parts, RunError,
+};
+use futures::Future;
+use futures::task::{Context, Poll};
+use std::convert::Infallible;
+use std::sync::Wait;
+
+/// A get of a slot.
+pub(crate) type Get<'a, S, Z, K, R, L> = GetFuture<'a, SlotManager, S, Z, K, R, L>;
+
+/// The guards of slots.
+pub(crate) type SlotGuards<'a, S, Z, K, R, L> = Guards<'a, SlotManager, S, Z, K, R, L>;
+
+/// What a step made of a job.
+pub(crate) struct Stepped<J, O, G> {
+    /// Where it stands then.
+    pub(crate) place: Place<J, O, G>,
+    /// Whether it ended by it: 1 where it did, else 0.
+    pub(crate) ended: u64,
+}
+
+/// The steps of a job beside the guards of all that run, as methods of an impl, so that methods of others can call them.
+pub(crate) trait StepsOne<J, O, G> {
+    /// Polls a job that runs, once. Where it is ready, its guard is dropped at once.
+    fn step_job(&mut self, job: J, now: Moment) -> Stepped<J, O, G>;
+
+    /// Polls the get of a job that waits, once.
+    fn step_get(&mut self, job: J, get: G, cx: &mut Context<'_>) -> Stepped<J, O, G>;
+
+    /// One step of a job that stands so.
+    fn step(
+        &mut self,
+        place: Place<J, O, G>,
+        now: Moment,
+        cx: &mut Context<'_>,
+    ) -> Stepped<J, O, G>;
+}
+
+impl<
+    'a,
+    J: Job,
+    S: ErrorSink<Infallible>,
+    Z: CustomizeConnection<Slot, Infallible>,
+    K: Clock,
+    R: Wait + Send + Sync + Drop + 'static,
+    L: Parts,
+> StepsOne<J, J::Out, Get<'a, S, Z, K, R, L>> for SlotGuards<'a, S, Z, K, R, L> {
+    fn step_job(&mut self, job: J, now: Moment) -> Stepped<J, J::Out, Get<'a, S, Z, K, R, L>>
+        ensures steps { StepsJob J.polls now job result.place result.ended }
+        ensures held { 0 < number_in self.old
+            → number_in self.new + 1 ≡ number_in self.old + guards_for result.place }
+        ensures pool { AreOfOne self.new self.old }
+        ensures one { result.ended ≤ 1 }
+    {
+        let mut job = job;
+        match job.poll(now) {
+            Poll::Pending => Stepped {
+                place: Place::Running(job),
+                ended: 0,
+            },
+            Poll::Ready(out) => {
+                drop(GuardsCalls::remove(self, 0));
+                Stepped {
+                    place: Place::Ended(Outcome::Done(out)),
+                    ended: 1,
+                }
+            }
+        }
+    }
+
+    fn step_get(
+        &mut self,
+        job: J,
+        get: Get<'a, S, Z, K, R, L>,
+        cx: &mut Context<'_>,
+    ) -> Stepped<J, J::Out, Get<'a, S, Z, K, R, L>>
+        ensures steps { StepsGet (PollsGet S.sinks K.tells) job get.entry result.place
+            result.ended }
+        ensures held { number_in self.new ≡ number_in self.old + guards_for result.place }
+        ensures pool { AreOfOne self.new self.old }
+        ensures one { result.ended ≤ 1 }
+    {
+        let mut get = get;
+        match get.poll(cx) {
+            Poll::Pending => Stepped {
+                place: Place::Waiting(job, get),
+                ended: 0,
+            },
+            Poll::Ready(Err(error)) => Stepped {
+                place: Place::Ended(Outcome::Refused(error)),
+                ended: 1,
+            },
+            Poll::Ready(Ok(guard)) => match GuardsCalls::push(self, guard) {
+                Ok(()) => Stepped {
+                    place: Place::Running(job),
+                    ended: 0,
+                },
+                Err(_guard) => Stepped {
+                    place: Place::Ended(Outcome::Refused(RunError::Memory)),
+                    ended: 1,
+                },
+            },
+        }
+    }
+
+    fn step(
+        &mut self,
+        place: Place<J, J::Out, Get<'a, S, Z, K, R, L>>,
+        now: Moment,
+        cx: &mut Context<'_>,
+    ) -> Stepped<J, J::Out, Get<'a, S, Z, K, R, L>>
+        ensures steps { Steps J.polls (PollsGet S.sinks K.tells) now place.entry result.place
+            result.ended }
+        ensures held { guards_for place.entry ≤ number_in self.old
+            → number_in self.new + guards_for place.entry
+            ≡ number_in self.old + guards_for result.place }
+        ensures pool { AreOfOne self.new self.old }
+        ensures one { result.ended ≤ 1 }
+    {
+        match place {
+            Place::Waiting(job, get) => self.step_get(job, get, cx),
+            Place::Running(job) => self.step_job(job, now),
+            Place::Ended(outcome) => Stepped {
+                place: Place::Ended(outcome),
+                ended: 0,
+            },
+        }
+    }
+}

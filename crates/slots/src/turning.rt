@@ -1,0 +1,82 @@
+//! One step of each job.
+ghost use Rattle.std.specs.Prelude.{◌≡◌, ◌≤◌, ◌<◌};
+ghost use Rattle.std.specs.VecDeque.{deque_len};
+ghost use Rattle.bb8.specs.Gets.{PollsGet};
+ghost use Rattle.bb8.specs.GuardLists.{most_in, number_in, AreOfOne};
+ghost use Rattle.slots.specs.Entries.{running};
+ghost use Rattle.slots.specs.Turns.{StepsFirst, StepsEach};
+
+use crate::entries::Entry;
+use crate::job::Job;
+use crate::slot::Slot;
+use crate::stepping::{Get, SlotGuards, Stepped, StepsOne};
+use bb8::{Clock, CustomizeConnection, ErrorSink, GuardsCalls, Moment, Parts};
+use futures::task::Context;
+use std::collections::VecDeque;
+use std::convert::Infallible;
+use std::sync::Wait;
+
+/// The steps of all jobs beside the guards of those that run, as methods of an impl, so that methods of others can call them.
+pub(crate) trait StepsAll<Q> {
+    /// One step of the first job, which goes to the back. How many jobs ended.
+    fn step_first(&mut self, queue: &mut Q, now: Moment, cx: &mut Context<'_>) -> u64;
+
+    /// One step of each job, in their order. How many jobs ended.
+    fn step_each(&mut self, queue: &mut Q, now: Moment, cx: &mut Context<'_>) -> u64;
+}
+
+impl<
+    'a,
+    J: Job,
+    S: ErrorSink<Infallible>,
+    Z: CustomizeConnection<Slot, Infallible>,
+    K: Clock,
+    R: Wait + Send + Sync + Drop + 'static,
+    L: Parts,
+> StepsAll<VecDeque<Entry<J, J::Out, Get<'a, S, Z, K, R, L>>>> for SlotGuards<'a, S, Z, K, R, L> {
+    #[tactic(auto, using(crate::proofs::Listed::running_append))]
+    fn step_first(
+        &mut self,
+        queue: &mut VecDeque<Entry<J, J::Out, Get<'a, S, Z, K, R, L>>>,
+        now: Moment,
+        cx: &mut Context<'_>,
+    ) -> u64
+        ensures steps { 0 < deque_len queue.old → StepsFirst J.polls (PollsGet S.sinks K.tells) now
+            queue.old.items queue.new.items result }
+        ensures held { running queue.old.items ≡ number_in self.old
+            → running queue.new.items ≡ number_in self.new }
+        ensures length { deque_len queue.new ≡ deque_len queue.old }
+        ensures pool { AreOfOne self.new self.old }
+        ensures one { result ≤ 1 }
+    {
+        let Some(Entry { id, place }) = queue.pop_front() else {
+            return 0;
+        };
+        let Stepped { place, ended } = self.step(place, now, cx);
+        queue.push_back_reserved(Entry { id, place });
+        ended
+    }
+
+    fn step_each(
+        &mut self,
+        queue: &mut VecDeque<Entry<J, J::Out, Get<'a, S, Z, K, R, L>>>,
+        now: Moment,
+        cx: &mut Context<'_>,
+    ) -> u64
+        ensures steps { StepsEach J.polls (PollsGet S.sinks K.tells) now queue.old.items
+            queue.new.items result }
+        ensures held { running queue.old.items ≡ number_in self.old
+            → running queue.new.items ≡ number_in self.new }
+        ensures pool { AreOfOne self.new self.old }
+        ensures within { number_in self.new ≤ most_in self.new }
+    {
+        let count = queue.len();
+        let mut ended: u64 = 0;
+        for _ in 0..count {
+            ended += self.step_first(queue, now, cx);
+        }
+        // the list tells that it has not passed its bound
+        let _held = GuardsCalls::len(self);
+        ended
+    }
+}

@@ -1,0 +1,60 @@
+//! A run in which any one request for memory is refused, or all from any on, as `refusals/run` makes them. It holds with refusals and without.
+
+use super::{came_to, lacked_memory, turn};
+use crate::trial::{Count, RunnerTrial, slots, try_runner};
+use bb8_trials::{Handle, Runtime, Tools};
+use slots::{Outcome, Phase, RunnerCalls, SlotManager};
+use std::process::Abort;
+
+/// Five jobs on two slots. One that was taken on ends with what it comes to, or for want of memory, or goes on; none passes the bound, and no
+/// guard is lost.
+#[derive(Drop)]
+struct Refused;
+
+impl<R: Runtime + Abort> RunnerTrial<R> for Refused {
+    type End = ();
+
+    fn run<P: Handle<SlotManager>, X: RunnerCalls<Job = Count, Outcome = Outcome<u64>> + Drop>(
+        self,
+        rt: R,
+        tools: &Tools,
+        pool: P,
+        mut runner: X,
+    ) {
+        let mut taken_on: u64 = 0;
+        for _ in 0..5 {
+            if let Ok(id) = runner.submit(Count::to(2)) {
+                assert_eq!(&rt; id, taken_on);
+                taken_on += 1;
+            }
+        }
+        let mut ended: u64 = 0;
+        for _ in 0..12 {
+            ended = ended.saturating_add(turn(&mut runner, tools, 0));
+            let state = pool.state();
+            assert!(&rt; runner.running() <= 2);
+            assert_eq!(&rt;
+                (state.connections - state.idle_connections) as u64,
+                runner.running()
+            );
+        }
+        let mut told: u64 = 0;
+        for id in 0..taken_on {
+            match runner.phase(id) {
+                Some(Phase::Ended) => {
+                    let outcome = runner.take(id);
+                    assert!(&rt; lacked_memory(&outcome) || came_to(outcome, 2));
+                    told = told.saturating_add(1);
+                }
+                Some(Phase::Waiting | Phase::Running) => {}
+                None => panic!(&rt; "a job is lost"),
+            }
+        }
+        assert_eq!(&rt; told, ended);
+    }
+}
+
+#[test]
+fn no_job_is_lost(rt: HostRuntime) {
+    let _ = try_runner(rt, slots(2), Refused);
+}

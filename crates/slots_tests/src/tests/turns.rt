@@ -1,0 +1,116 @@
+//! Turns of runners: how many jobs end and run at each, and what the pool tells.
+
+use super::{came_to, submits, timed_out, turn};
+use crate::trial::{RunnerTrial, slots, try_runner};
+use bb8_trials::{Handle, Runtime, SECOND, Tools, sizes};
+use slots::{Outcome, Phase, RunnerCalls, Slot, SlotManager};
+use std::process::Abort;
+use std::time::Duration;
+
+/// How many jobs end at each turn of `five_jobs_on_two_slots`, and how many run after it.
+const ENDED: [u64; 11] = [0, 0, 0, 0, 2, 0, 0, 2, 0, 0, 1];
+
+const RUNNING: [u64; 11] = [0, 2, 2, 2, 2, 2, 2, 1, 1, 1, 0];
+
+/// Five jobs that are ready at their third poll, on two slots.
+#[derive(Drop)]
+struct FiveJobs;
+
+impl<R: Runtime + Abort> RunnerTrial<R> for FiveJobs {
+    type End = ();
+
+    fn run<
+        P: Handle<SlotManager>,
+        X: RunnerCalls<Job = crate::trial::Count, Outcome = Outcome<u64>> + Drop,
+    >(self, rt: R, tools: &Tools, pool: P, mut runner: X) {
+        for id in 0..5u64 {
+            assert!(&rt; submits(&mut runner, 3, id));
+        }
+        for i in 0..11usize {
+            assert_eq!(&rt; turn(&mut runner, tools, 0), ENDED[i]);
+            assert_eq!(&rt; runner.running(), RUNNING[i]);
+        }
+        for id in 0..5u64 {
+            assert!(&rt; came_to(runner.take(id), 3));
+        }
+        let state = pool.state();
+        assert!(&rt; sizes(state) == (2, 2));
+        assert_eq!(&rt; state.statistics.get_started, 5);
+        assert_eq!(&rt; state.statistics.get_direct, 0);
+        assert_eq!(&rt; state.statistics.get_waited, 5);
+        assert_eq!(&rt; state.statistics.connections_created, 2);
+    }
+}
+
+#[test]
+fn five_jobs_on_two_slots(rt: HostRuntime) {
+    assert!(&rt; try_runner(rt, slots(2), FiveJobs).is_some());
+}
+
+/// A job whose get finds the one slot lent for longer than it may wait.
+#[derive(Drop)]
+struct TimesOut;
+
+impl<R: Runtime + Abort> RunnerTrial<R> for TimesOut {
+    type End = ();
+
+    fn run<
+        P: Handle<SlotManager>,
+        X: RunnerCalls<Job = crate::trial::Count, Outcome = Outcome<u64>> + Drop,
+    >(self, rt: R, tools: &Tools, pool: P, mut runner: X) {
+        assert!(&rt; pool.add(Slot).is_ok());
+        let Some(_lent) = pool.lend(&tools.task) else {
+            panic!(&rt; "no slot");
+        };
+        assert!(&rt; submits(&mut runner, 1, 0));
+        assert_eq!(&rt; turn(&mut runner, tools, 0), 0);
+        assert!(&rt; runner.phase(0) == Some(Phase::Waiting));
+        tools.clock.set(bb8::Moment(SECOND));
+        assert_eq!(&rt; turn(&mut runner, tools, SECOND), 1);
+        assert!(&rt; runner.phase(0) == Some(Phase::Ended));
+        assert!(&rt; timed_out(runner.take(0)));
+        assert_eq!(&rt; pool.state().statistics.get_timed_out, 1);
+    }
+}
+
+#[test]
+fn get_times_out(rt: HostRuntime) {
+    let builder = slots(1).connection_timeout(Duration::from_nanos(SECOND));
+    assert!(&rt; try_runner(rt, builder, TimesOut).is_some());
+}
+
+/// A runner that is dropped while one job has ended, two run and one waits.
+#[derive(Drop)]
+struct Dropped;
+
+impl<R: Runtime + Abort> RunnerTrial<R> for Dropped {
+    type End = ();
+
+    fn run<
+        P: Handle<SlotManager>,
+        X: RunnerCalls<Job = crate::trial::Count, Outcome = Outcome<u64>> + Drop,
+    >(self, rt: R, tools: &Tools, pool: P, mut runner: X) {
+        assert!(&rt; submits(&mut runner, 1, 0));
+        for id in 1..4u64 {
+            assert!(&rt; submits(&mut runner, 9, id));
+        }
+        for wanted in [0, 0, 1, 0u64] {
+            assert_eq!(&rt; turn(&mut runner, tools, 0), wanted);
+        }
+        assert!(&rt; runner.phase(0) == Some(Phase::Ended));
+        assert!(&rt; runner.phase(1) == Some(Phase::Running));
+        assert!(&rt; runner.phase(2) == Some(Phase::Running));
+        assert!(&rt; runner.phase(3) == Some(Phase::Waiting));
+        assert!(&rt; sizes(pool.state()) == (2, 0));
+        drop(runner);
+        let state = pool.state();
+        assert!(&rt; sizes(state) == (2, 2));
+        assert_eq!(&rt; state.statistics.get_cancelled, 1);
+        assert_eq!(&rt; state.statistics.pending_gets(), 0);
+    }
+}
+
+#[test]
+fn dropped_runner_returns_all(rt: HostRuntime) {
+    assert!(&rt; try_runner(rt, slots(2), Dropped).is_some());
+}

@@ -1,0 +1,103 @@
+//! The one place where a trial's pool of slots and its runner are built, and the pool's parts are laid out.
+ghost use Rattle.std.specs.Prelude.{◌≡◌, ◌<◌, true};
+ghost use Rattle.bb8.specs.Parts.{IsBlankOf};
+ghost use Rattle.bb8.specs.Settings.{is_lawful};
+
+use bb8::{
+    Builder, Config, Memory, Moment, NopCustomizer, NopErrorSink, Pool, PoolParts, SetClock,
+};
+use bb8_trials::{Handle, Runtime, Tools};
+use futures::task::Poll;
+use futures::test::MockTask;
+use slots::{Job, Outcome, Runner, RunnerCalls, SlotManager};
+use std::marker::Brand;
+use std::sync::ledger::Blank;
+
+/// A job that is ready at one of its polls, and comes to the number of that poll.
+#[derive(Drop)]
+pub struct Count {
+    polled: u64,
+    ready_at: u64,
+}
+
+impl Count {
+    /// A job that is ready at its poll of this number.
+    pub fn to(ready_at: u64) -> Count {
+        Count {
+            polled: 0,
+            ready_at,
+        }
+    }
+}
+
+impl Job for Count {
+    type Out = u64;
+
+    fn poll(&mut self, _now: Moment) -> Poll<u64> {
+        self.polled = self.polled.saturating_add(1);
+        if self.polled == self.ready_at {
+            Poll::Ready(self.polled)
+        } else {
+            Poll::Pending
+        }
+    }
+}
+
+/// The builder of a pool of slots.
+pub type SlotBuilder = Builder<SlotManager, NopErrorSink, NopCustomizer>;
+
+/// A builder of pools of so many slots, which check nothing.
+pub fn slots(max_size: u32) -> SlotBuilder
+    requires { 0 < max_size }
+{
+    Builder::new().max_size(max_size).test_on_check_out(false)
+}
+
+/// What a test does with a runner, and with a handle of its pool.
+pub trait RunnerTrial<R: Runtime> {
+    /// What it ends with.
+    type End;
+
+    fn run<P: Handle<SlotManager>, X: RunnerCalls<Job = Count, Outcome = Outcome<u64>> + Drop>(
+        self,
+        rt: R,
+        tools: &Tools,
+        pool: P,
+        runner: X,
+    ) -> Self::End;
+}
+
+/// A trial on a pool whose parts are named.
+fn run_on<R: Runtime, L: PoolParts, T: RunnerTrial<R> + Drop>(
+    rt: R,
+    blank: Blank,
+    builder: SlotBuilder,
+    trial: T,
+) -> Result<T::End, Memory>
+    requires lawful { is_lawful builder.settings ≡ true }
+    requires parts { IsBlankOf blank builder.settings L.name L.parts L.settings }
+{
+    let clock = SetClock::new(rt.alloc(), Moment(0))?;
+    let Ok(task) = MockTask::new(&rt) else {
+        return Err(Memory);
+    };
+    let pool: Pool<SlotManager, NopErrorSink, NopCustomizer, SetClock, R, L> =
+        builder.build_unchecked(SlotManager, clock.try_clone()?, rt, blank)?;
+    let runner = Runner::new(rt.alloc(), &pool)?;
+    let tools = Tools { clock, task };
+    Ok(trial.run(rt, &tools, &pool, runner))
+}
+
+/// Runs a trial on a pool of these settings and a runner of it, at the moment 0. None where the settings are not lawful, or memory was refused.
+pub fn try_runner<R: Runtime, T: RunnerTrial<R> + Drop>(
+    rt: R,
+    builder: SlotBuilder,
+    trial: T,
+) -> Option<T::End> {
+    let config = Config::from(&builder);
+    if !config.is_lawful() {
+        return None;
+    }
+    let blank = Blank::new(config.max_size as u64);
+    run_on::<R, Brand, T>(rt, blank, builder, trial).ok()
+}
