@@ -25,17 +25,18 @@ impl<R: Runtime + Abort> RunnerTrial<R> for Refused {
         for _ in 0..5 {
             if let Ok(id) = runner.submit(Count::to(2)) {
                 assert_eq!(&rt; id, taken_on);
-                taken_on += 1;
+                taken_on = taken_on.saturating_add(1);
             }
         }
         let mut ended: u64 = 0;
         for _ in 0..12 {
             ended = ended.saturating_add(turn(&mut runner, tools, 0));
             let state = pool.state();
-            assert!(&rt; runner.running() <= 2);
+            let running = runner.running();
+            assert!(&rt; running <= 2);
             assert_eq!(&rt;
-                (state.connections - state.idle_connections) as u64,
-                runner.running()
+                running.saturating_add(state.idle_connections as u64),
+                state.connections as u64
             );
         }
         let mut told: u64 = 0;

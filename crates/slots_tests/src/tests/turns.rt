@@ -7,11 +7,6 @@ use slots::{Outcome, Phase, RunnerCalls, Slot, SlotManager};
 use std::process::Abort;
 use std::time::Duration;
 
-/// How many jobs end at each turn of `five_jobs_on_two_slots`, and how many run after it.
-const ENDED: [u64; 11] = [0, 0, 0, 0, 2, 0, 0, 2, 0, 0, 1];
-
-const RUNNING: [u64; 11] = [0, 2, 2, 2, 2, 2, 2, 1, 1, 1, 0];
-
 /// Five jobs that are ready at their third poll, on two slots.
 #[derive(Drop)]
 struct FiveJobs;
@@ -26,9 +21,22 @@ impl<R: Runtime + Abort> RunnerTrial<R> for FiveJobs {
         for id in 0..5u64 {
             assert!(&rt; submits(&mut runner, 3, id));
         }
-        for i in 0..11usize {
-            assert_eq!(&rt; turn(&mut runner, tools, 0), ENDED[i]);
-            assert_eq!(&rt; runner.running(), RUNNING[i]);
+        // how many end at each turn, and how many run after it
+        for (ended, running) in [
+            (0, 0),
+            (0, 2),
+            (0, 2),
+            (0, 2),
+            (2, 2),
+            (0, 2),
+            (0, 2),
+            (2, 1),
+            (0, 1),
+            (0, 1),
+            (1, 0u64),
+        ] {
+            assert_eq!(&rt; turn(&mut runner, tools, 0), ended);
+            assert_eq!(&rt; runner.running(), running);
         }
         for id in 0..5u64 {
             assert!(&rt; came_to(runner.take(id), 3));
