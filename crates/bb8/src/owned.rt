@@ -104,16 +104,16 @@ impl<
             get.new.stage }
     {
         let shared = &*self.shared;
-        let mut calls = Calls::new(&shared.manager, &shared.error_sink, &shared.clock);
-        shared.poll_get(&mut calls, get)
+        let calls = Calls::new(&shared.manager, &shared.error_sink, &shared.clock);
+        shared.poll_get(calls, get)
     }
 
     fn let_go(&self, get: GetState<M::Connection, M::Checking, Part<L>>)
         ensures { OwnCancels S.sinks K.tells (arc_value self.now.shared) get.stage }
     {
         let shared = &*self.shared;
-        let mut calls = Calls::new(&shared.manager, &shared.error_sink, &shared.clock);
-        shared.cancel_get(&mut calls, get);
+        let calls = Calls::new(&shared.manager, &shared.error_sink, &shared.clock);
+        shared.cancel_get(calls, get);
     }
 
     fn cancel_owned(self, get: GetState<M::Connection, M::Checking, Part<L>>)

@@ -59,188 +59,191 @@ IsDeadline m timeout None = last_moment < m.0 + timeout
 abbrev pub closed_in : {C : Type 0} → CheckedErrAnswer C → C
 closed_in (failed.Closed k c grant n) = c
 
-module _ {C E V P W : Type 0} (outside : OutsideOf W C E V) where
+module _ {C E V P X : Type 0} (outside : OutsideOf X C E V) where
   -- a connection that comes back is asked whether it is broken
-  abbrev pub Asks : Taken C P → W → Returned C P → W → Type 0
-  Asks t w r w' = outside.breaks w t.connection r.broken r.taken.connection w' × (r.taken.key ≡ t.key) × (r.taken.part ≡ t.part)
+  abbrev pub Asks : Taken C P → X → Returned C P → X → Type 0
+  Asks t x r x' = outside.breaks x t.connection r.broken r.taken.connection x' × (r.taken.key ≡ t.key) × (r.taken.part ≡ t.part)
 
-module _ {C E V P H W : Type 0} (home : HomeOf H C P) (outside : OutsideOf W C E V) where
+module _ {C E V P X : Type 0} (home : HomeOf X C P) (outside : OutsideOf X C E V) where
   -- after a step a connection is dropped
-  abbrev pub Drops : C → H → W → H → W → Type 0
-  Drops c h w h' w' = home.releases h h' × outside.lets_go w c w'
+  abbrev pub Drops : C → X → X → Type 0
+  Drops c x x' = (x1 : X) × home.releases x x1 × outside.lets_go x1 c x'
 
   -- after the giving up of a get: a connection that was closed is dropped
-  abbrev pub AfterGiveUp : GiveUpAnswer C → H → W → H → W → Type 0
-  AfterGiveUp (given_up.GaveUp n) h w h' w' = (h' ≡ h) × (w' ≡ w)
-  AfterGiveUp (given_up.Kept k n) h w h' w' = (h' ≡ h) × (w' ≡ w)
-  AfterGiveUp (given_up.Closed k c grant n) h w h' w' = Drops c h w h' w'
+  abbrev pub AfterGiveUp : GiveUpAnswer C → X → X → Type 0
+  AfterGiveUp (given_up.GaveUp n) x x' = (x' ≡ x)
+  AfterGiveUp (given_up.Kept k n) x x' = (x' ≡ x)
+  AfterGiveUp (given_up.Closed k c grant n) x x' = Drops c x x'
 
   -- after the try to give up a get that holds no connection
-  abbrev pub AfterLeave : Result (GiveUpAnswer C) Unfit → H → W → H → W → Type 0
-  AfterLeave (Ok a) h w h' w' = AfterGiveUp a h w h' w'
-  AfterLeave (Err u) h w h' w' = (h' ≡ h) × (w' ≡ w)
+  abbrev pub AfterLeave : Result (GiveUpAnswer C) Unfit → X → X → Type 0
+  AfterLeave (Ok a) x x' = AfterGiveUp a x x'
+  AfterLeave (Err u) x x' = (x' ≡ x)
 
   -- after the try to give up a get that holds a connection: one that the home does not take is dropped, too
-  abbrev pub AfterBack : Result (GiveUpAnswer C) C → H → W → H → W → Type 0
-  AfterBack (Ok a) h w h' w' = AfterGiveUp a h w h' w'
-  AfterBack (Err c) h w h' w' = Drops c h w h' w'
+  abbrev pub AfterBack : Result (GiveUpAnswer C) C → X → X → Type 0
+  AfterBack (Ok a) x x' = AfterGiveUp a x x'
+  AfterBack (Err c) x x' = Drops c x x'
 
-module _ {C E V P H W : Type 0} (home : HomeOf H C P) (outside : OutsideOf W C E V) (m : Moment) where
+module _ {C E V P X : Type 0} (home : HomeOf X C P) (outside : OutsideOf X C E V) (m : Moment) where
   -- a get that holds no connection is given up
-  abbrev pub Leaves : GetKey → Reason → H → W → H → W → Type 0
-  Leaves g why h w h' w' =
-      (a : Result (GiveUpAnswer C) Unfit) × (h1 : H) × home.gives_up h m g why a h1 × AfterLeave home outside a h1 w h' w'
+  abbrev pub Leaves : GetKey → Reason → X → X → Type 0
+  Leaves g why x x' =
+      (a : Result (GiveUpAnswer C) Unfit) × (x1 : X) × home.gives_up x m g why a x1 × AfterLeave home outside a x1 x'
 
   -- a get that held a connection is given up
-  abbrev pub TakesBack : GetKey → Reason → Returned C P → H → W → H → W → Type 0
-  TakesBack g why r h w h' w' =
-      (a : Result (GiveUpAnswer C) C) × (h1 : H) × home.gives_back h m g why r a h1 × AfterBack home outside a h1 w h' w'
+  abbrev pub TakesBack : GetKey → Reason → Returned C P → X → X → Type 0
+  TakesBack g why r x x' =
+      (a : Result (GiveUpAnswer C) C) × (x1 : X) × home.gives_back x m g why r a x1 × AfterBack home outside a x1 x'
 
   -- a row leads to this and makes no call
-  abbrev pub Leads : Next C V P E → H → W → Next C V P E → H → W → Type 0
-  Leads to h w next h' w' = (next ≡ to) × (h' ≡ h) × (w' ≡ w)
+  abbrev pub Leads : Next C V P E → X → Next C V P E → X → Type 0
+  Leads to x next x' = (next ≡ to) × (x' ≡ x)
 
   -- after the failing of a check: the connection is dropped
-  abbrev pub AfterFail : Result (CheckedErrAnswer C) C → Open → H → W → Next C V P E → H → W → Type 0
-  AfterFail (Ok a) b h w next h' w' = Drops home outside (closed_in a) h w h' w' × (next ≡ Stand (Trying b))
-  AfterFail (Err c) b h w next h' w' = Drops home outside c h w h' w' × (next ≡ Answer (Err errors.TimedOut))
+  abbrev pub AfterFail : Result (CheckedErrAnswer C) C → Open → X → Next C V P E → X → Type 0
+  AfterFail (Ok a) b x next x' = Drops home outside (closed_in a) x x' × (next ≡ Stand (Trying b))
+  AfterFail (Err c) b x next x' = Drops home outside c x x' × (next ≡ Answer (Err errors.TimedOut))
 
   -- a check that failed: the sink has the error, the connection is asked whether it is broken, and the home closes it
-  abbrev pub Fails : Open → Taken C P → E → H → W → Next C V P E → H → W → Type 0
-  Fails b t e h w next h' w' =
-      (w1 : W) × outside.sinks w e w1
-      × ((r : Returned C P) × (w2 : W) × Asks outside t w1 r w2
-      × ((a : Result (CheckedErrAnswer C) C) × (h1 : H) × home.fails h m b.get r a h1 × AfterFail a b h1 w2 next h' w'))
+  abbrev pub Fails : Open → Taken C P → E → X → Next C V P E → X → Type 0
+  Fails b t e x next x' =
+      (x1 : X) × outside.sinks x e x1
+      × ((r : Returned C P) × (x2 : X) × Asks outside t x1 r x2
+      × ((a : Result (CheckedErrAnswer C) C) × (x3 : X) × home.fails x2 m b.get r a x3 × AfterFail a b x3 next x'))
 
   -- after the passing of a check
-  abbrev pub AfterPass : Result (Passed P) Unfit → C → H → W → Next C V P E → H → W → Type 0
-  AfterPass (Ok p) c h w next h' w' = Leads (Answer (Ok (record { key = p.key; connection = c; part = p.part }))) h w next h' w'
-  AfterPass (Err u) c h w next h' w' = Drops home outside c h w h' w' × (next ≡ Answer (Err errors.TimedOut))
+  abbrev pub AfterPass : Result (Passed P) Unfit → C → X → Next C V P E → X → Type 0
+  AfterPass (Ok p) c x next x' = Leads (Answer (Ok (record { key = p.key; connection = c; part = p.part }))) x next x'
+  AfterPass (Err u) c x next x' = Drops home outside c x x' × (next ≡ Answer (Err errors.TimedOut))
 
-  -- after a poll of a check, which left the connection and the check like this
-  abbrev pub AfterCheck : Poll (Result (Unit {0}) E) → Open → Held C V P → H → W → Next C V P E → H → W → Type 0
-  AfterCheck Pending b held h w next h' w' = Leads (Stand (Checking b held)) h w next h' w'
-  AfterCheck (Ready (Ok u)) b held h w next h' w' =
-      (a : Result (Passed P) Unfit) × (h1 : H) × home.passes h m b.get held.taken.key held.taken.part a h1
-      × AfterPass a held.taken.connection h1 w next h' w'
-  AfterCheck (Ready (Err e)) b held h w next h' w' = Fails b held.taken e h w next h' w'
+  -- after a poll of a check, which left the connection and the check like this: a check that answered ends first
+  abbrev pub AfterCheck : Poll (Result (Unit {0}) E) → Open → Held C V P → X → Next C V P E → X → Type 0
+  AfterCheck Pending b held x next x' = Leads (Stand (Checking b held)) x next x'
+  AfterCheck (Ready (Ok u)) b held x next x' =
+      (x1 : X) × outside.ends_check x held.checking x1
+      × ((a : Result (Passed P) Unfit) × (x2 : X) × home.passes x1 m b.get held.taken.key held.taken.part a x2
+      × AfterPass a held.taken.connection x2 next x')
+  AfterCheck (Ready (Err e)) b held x next x' = (x1 : X) × outside.ends_check x held.checking x1 × Fails b held.taken e x1 next x'
 
   -- a check is polled
-  abbrev pub Checks : Open → Held C V P → H → W → Next C V P E → H → W → Type 0
-  Checks b held h w next h' w' =
-      (answer : Poll (Result (Unit {0}) E)) × (c : C) × (v : V) × (w1 : W)
-      × outside.check_answers w held.taken.connection held.checking m answer c v w1
-      × AfterCheck answer b (record { taken = record held.taken { connection = c }; checking = v }) h w1 next h' w'
+  abbrev pub Checks : Open → Held C V P → X → Next C V P E → X → Type 0
+  Checks b held x next x' =
+      (answer : Poll (Result (Unit {0}) E)) × (c : C) × (v : V) × (x1 : X)
+      × outside.check_answers x held.taken.connection held.checking m answer c v x1
+      × AfterCheck answer b (record { taken = record held.taken { connection = c }; checking = v }) x1 next x'
 
   -- after a try: a connection that is to be checked is polled in the same poll
-  abbrev pub AfterTry : Result (Tried C P) Unfit → Open → H → W → Next C V P E → H → W → Type 0
-  AfterTry (Ok (tried.Served t grant)) b h w next h' w' = Leads (Answer (Ok t)) h w next h' w'
-  AfterTry (Ok (tried.Taken t grant)) b h w next h' w' =
-      (h1 : H) × home.releases h h1
-      × ((v : V) × (c : C) × (w1 : W) × outside.checks w t.connection v c w1
-      × Checks b (record { taken = record t { connection = c }; checking = v }) h1 w1 next h' w')
-  AfterTry (Ok (tried.Waiting grant)) b h w next h' w' = Leads (Stand (Waiting b)) h w next h' w'
-  AfterTry (Err u) b h w next h' w' = Leads (Answer (Err errors.TimedOut)) h w next h' w'
+  abbrev pub AfterTry : Result (Tried C P) Unfit → Open → X → Next C V P E → X → Type 0
+  AfterTry (Ok (tried.Served t grant)) b x next x' = Leads (Answer (Ok t)) x next x'
+  AfterTry (Ok (tried.Taken t grant)) b x next x' =
+      (x1 : X) × home.releases x x1
+      × ((v : V) × (c : C) × (x2 : X) × outside.checks x1 t.connection v c x2
+      × Checks b (record { taken = record t { connection = c }; checking = v }) x2 next x')
+  AfterTry (Ok (tried.Waiting grant)) b x next x' = Leads (Stand (Waiting b)) x next x'
+  AfterTry (Err u) b x next x' = Leads (Answer (Err errors.TimedOut)) x next x'
 
-  abbrev pub Tries : Open → H → W → Next C V P E → H → W → Type 0
-  Tries b h w next h' w' = (t : Result (Tried C P) Unfit) × (h1 : H) × home.tries h m b.get t h1 × AfterTry t b h1 w next h' w'
+  abbrev pub Tries : Open → X → Next C V P E → X → Type 0
+  Tries b x next x' = (t : Result (Tried C P) Unfit) × (x1 : X) × home.tries x m b.get t x1 × AfterTry t b x1 next x'
 
   -- after the begin of a first poll
-  abbrev pub AfterBegin : Result BeginAnswer Unfit → ℕ → H → W → Next C V P E → H → W → Type 0
-  AfterBegin (Ok (Begun g)) timeout h w next h' w' =
-      (deadline : Option Moment) × IsDeadline m timeout deadline × Tries (record { get = g; deadline = deadline }) h w next h' w'
-  AfterBegin (Ok Memory) timeout h w next h' w' = Leads (Answer (Err errors.Memory)) h w next h' w'
-  AfterBegin (Ok Exhausted) timeout h w next h' w' = Leads (Answer (Err errors.Exhausted)) h w next h' w'
-  AfterBegin (Err u) timeout h w next h' w' = Leads (Answer (Err errors.TimedOut)) h w next h' w'
+  abbrev pub AfterBegin : Result BeginAnswer Unfit → ℕ → X → Next C V P E → X → Type 0
+  AfterBegin (Ok (Begun g)) timeout x next x' =
+      (deadline : Option Moment) × IsDeadline m timeout deadline × Tries (record { get = g; deadline = deadline }) x next x'
+  AfterBegin (Ok Memory) timeout x next x' = Leads (Answer (Err errors.Memory)) x next x'
+  AfterBegin (Ok Exhausted) timeout x next x' = Leads (Answer (Err errors.Exhausted)) x next x'
+  AfterBegin (Err u) timeout x next x' = Leads (Answer (Err errors.TimedOut)) x next x'
 
-  abbrev pub Begins : ℕ → H → W → Next C V P E → H → W → Type 0
-  Begins timeout h w next h' w' = (b : Result BeginAnswer Unfit) × (h1 : H) × home.begins h m b h1 × AfterBegin b timeout h1 w next h' w'
+  abbrev pub Begins : ℕ → X → Next C V P E → X → Type 0
+  Begins timeout x next x' = (b : Result BeginAnswer Unfit) × (x1 : X) × home.begins x m b x1 × AfterBegin b timeout x1 next x'
 
   -- the rows of each state
-  abbrev pub Advances : ℕ → Stage C V P → H → W → Next C V P E → H → W → Type 0
-  Advances timeout Fresh h w next h' w' = Begins timeout h w next h' w'
-  Advances timeout (Trying b) h w next h' w' = Tries b h w next h' w'
-  Advances timeout (Waiting b) h w next h' w' = Tries b h w next h' w'
-  Advances timeout (Checking b held) h w next h' w' = (h1 : H) × home.releases h h1 × Checks b held h1 w next h' w'
-  Advances timeout Done h w next h' w' = Leads (Stand Done) h w next h' w'
+  abbrev pub Advances : ℕ → Stage C V P → X → Next C V P E → X → Type 0
+  Advances timeout Fresh x next x' = Begins timeout x next x'
+  Advances timeout (Trying b) x next x' = Tries b x next x'
+  Advances timeout (Waiting b) x next x' = Tries b x next x'
+  Advances timeout (Checking b held) x next x' = (x1 : X) × home.releases x x1 × Checks b held x1 next x'
+  Advances timeout Done x next x' = Leads (Stand Done) x next x'
 
   -- a get gives up, as its deadline came: a connection that it holds is asked whether it is broken
-  abbrev pub TimesOut : Stage C V P → H → W → H → W → Type 0
-  TimesOut (Trying b) h w h' w' = Leaves b.get TimedOut h w h' w'
-  TimesOut (Waiting b) h w h' w' = Leaves b.get TimedOut h w h' w'
-  TimesOut (Checking b held) h w h' w' =
-      (r : Returned C P) × (w1 : W) × Asks outside held.taken w r w1 × TakesBack b.get TimedOut r h w1 h' w'
-  TimesOut Fresh h w h' w' = (h' ≡ h) × (w' ≡ w)
-  TimesOut Done h w h' w' = (h' ≡ h) × (w' ≡ w)
+  abbrev pub TimesOut : Stage C V P → X → X → Type 0
+  TimesOut (Trying b) x x' = Leaves b.get TimedOut x x'
+  TimesOut (Waiting b) x x' = Leaves b.get TimedOut x x'
+  TimesOut (Checking b held) x x' =
+      (x1 : X) × outside.ends_check x held.checking x1
+      × ((r : Returned C P) × (x2 : X) × Asks outside held.taken x1 r x2 × TakesBack b.get TimedOut r x2 x')
+  TimesOut Fresh x x' = (x' ≡ x)
+  TimesOut Done x x' = (x' ≡ x)
 
   -- a get stays where it stands
-  abbrev pub Stays : Stage C V P → H → W → Settled C V P E → H → W → Type 0
-  Stays stage h w settled h' w' = (settled.answer ≡ Pending) × (settled.stage ≡ stage) × (h' ≡ h) × (w' ≡ w)
+  abbrev pub Stays : Stage C V P → X → Settled C V P E → X → Type 0
+  Stays stage x settled x' = (settled.answer ≡ Pending) × (settled.stage ≡ stage) × (x' ≡ x)
 
   -- the rows of the deadline
-  abbrev pub Compares : Option Moment → Stage C V P → H → W → Settled C V P E → H → W → Type 0
-  Compares None stage h w settled h' w' = Stays stage h w settled h' w'
-  Compares (Some deadline) stage h w settled h' w' =
-      (deadline.0 ≤ m.0 → TimesOut stage h w h' w' × (settled.answer ≡ Ready (Err errors.TimedOut)) × (settled.stage ≡ Done))
-      × (m.0 < deadline.0 → Stays stage h w settled h' w')
+  abbrev pub Compares : Option Moment → Stage C V P → X → Settled C V P E → X → Type 0
+  Compares None stage x settled x' = Stays stage x settled x'
+  Compares (Some deadline) stage x settled x' =
+      (deadline.0 ≤ m.0 → TimesOut stage x x' × (settled.answer ≡ Ready (Err errors.TimedOut)) × (settled.stage ≡ Done))
+      × (m.0 < deadline.0 → Stays stage x settled x')
 
-  abbrev pub Settles : Stage C V P → H → W → Settled C V P E → H → W → Type 0
-  Settles (Trying b) h w settled h' w' = Compares b.deadline (Trying b) h w settled h' w'
-  Settles (Waiting b) h w settled h' w' = Compares b.deadline (Waiting b) h w settled h' w'
-  Settles (Checking b held) h w settled h' w' = Compares b.deadline (Checking b held) h w settled h' w'
-  Settles Fresh h w settled h' w' = Stays Fresh h w settled h' w'
-  Settles Done h w settled h' w' = Stays Done h w settled h' w'
+  abbrev pub Settles : Stage C V P → X → Settled C V P E → X → Type 0
+  Settles (Trying b) x settled x' = Compares b.deadline (Trying b) x settled x'
+  Settles (Waiting b) x settled x' = Compares b.deadline (Waiting b) x settled x'
+  Settles (Checking b held) x settled x' = Compares b.deadline (Checking b held) x settled x'
+  Settles Fresh x settled x' = Stays Fresh x settled x'
+  Settles Done x settled x' = Stays Done x settled x'
 
   -- the end of a poll: an answer is given, and without one the deadline is compared
-  abbrev pub Ends : Next C V P E → H → W → Settled C V P E → H → W → Type 0
-  Ends (Answer a) h w settled h' w' = (settled.answer ≡ Ready a) × (settled.stage ≡ Done) × (h' ≡ h) × (w' ≡ w)
-  Ends (Stand stage) h w settled h' w' = Settles stage h w settled h' w'
+  abbrev pub Ends : Next C V P E → X → Settled C V P E → X → Type 0
+  Ends (Answer a) x settled x' = (settled.answer ≡ Ready a) × (settled.stage ≡ Done) × (x' ≡ x)
+  Ends (Stand stage) x settled x' = Settles stage x settled x'
 
   -- a first poll, once the home was looked at
-  abbrev pub Starts : ℕ → H → W → Settled C V P E → H → W → Type 0
-  Starts timeout h w settled h' w' =
-      (next : Next C V P E) × (h1 : H) × (w1 : W) × Begins timeout h w next h1 w1 × Ends next h1 w1 settled h' w'
+  abbrev pub Starts : ℕ → X → Settled C V P E → X → Type 0
+  Starts timeout x settled x' =
+      (next : Next C V P E) × (x1 : X) × Begins timeout x next x1 × Ends next x1 settled x'
 
-module _ {C E V P H W : Type 0} (home : HomeOf H C P) (outside : OutsideOf W C E V) where
+module _ {C E V P X : Type 0} (home : HomeOf X C P) (outside : OutsideOf X C E V) where
   -- A poll of a get that was not answered: the clock is read, the home looked at, the get goes on, and it answers or its deadline is
   -- compared.
-  abbrev pub Goes : ℕ → Stage C V P → H → W → Settled C V P E → H → W → Type 0
-  Goes timeout stage h w settled h' w' =
-      (at : Moment) × (w1 : W) × outside.tells w at w1
-      × ((seen : Looked) × (h1 : H) × home.looks h at seen h1
-      × ((next : Next C V P E) × (h2 : H) × (w2 : W) × Advances home outside seen.moment timeout stage h1 w1 next h2 w2
-      × Ends home outside seen.moment next h2 w2 settled h' w'))
+  abbrev pub Goes : ℕ → Stage C V P → X → Settled C V P E → X → Type 0
+  Goes timeout stage x settled x' =
+      (at : Moment) × (x1 : X) × outside.tells x at x1
+      × ((seen : Looked) × (x2 : X) × home.looks x1 at seen x2
+      × ((next : Next C V P E) × (x3 : X) × Advances home outside seen.moment timeout stage x2 next x3
+      × Ends home outside seen.moment next x3 settled x'))
 
   -- The whole poll: what it answers, and the stage, the home and the calls outside then. In Done no call is made.
-  abbrev pub Polls : ℕ → Stage C V P → H → W → Settled C V P E → H → W → Type 0
-  Polls timeout stage h w settled h' w' =
-      MatchBool (is_done stage) ((settled.answer ≡ Pending) × (settled.stage ≡ stage) × (h' ≡ h) × (w' ≡ w)) (Goes timeout stage h w settled h' w')
+  abbrev pub Polls : ℕ → Stage C V P → X → Settled C V P E → X → Type 0
+  Polls timeout stage x settled x' =
+      MatchBool (is_done stage) ((settled.answer ≡ Pending) × (settled.stage ≡ stage) × (x' ≡ x)) (Goes timeout stage x settled x')
 
   -- The begin of a poll that did not serve: where it saw the home, a get that was not polled before has read the clock and looked at its home,
   -- and what may begin then could begin right after the look; where it saw nothing, nothing was called.
-  abbrev pub Unserved : Stage C V P → H → W → Option Looked → Stage C V P → H → W → Type 0
-  Unserved stage h w (Some seen) stage' h' w' =
+  abbrev pub Unserved : Stage C V P → X → Option Looked → Stage C V P → X → Type 0
+  Unserved stage x (Some seen) stage' x' =
       (stage ≡ Fresh) × (stage' ≡ Done)
-      × ((at : Moment) × outside.tells w at w'
-      × ((looked : H) × home.looks h at seen looked
-      × ((m : Moment) (b : Result BeginAnswer Unfit) (after : H) → home.begins h' m b after → home.begins looked m b after)))
-  Unserved stage h w None stage' h' w' = (stage' ≡ stage) × (h' ≡ h) × (w' ≡ w)
+      × ((at : Moment) × (x1 : X) × outside.tells x at x1
+      × ((looked : X) × home.looks x1 at seen looked
+      × ((m : Moment) (b : Result BeginAnswer Unfit) (after : X) → home.begins x' m b after → home.begins looked m b after)))
+  Unserved stage x None stage' x' = (stage' ≡ stage) × (x' ≡ x)
 
   -- a get that began and holds no connection is let go
-  abbrev pub CancelsFree : GetKey → H → W → H → W → Type 0
-  CancelsFree g h w h' w' = (at : Moment) × (w1 : W) × outside.tells w at w1 × Leaves home outside at g Cancelled h w1 h' w'
+  abbrev pub CancelsFree : GetKey → X → X → Type 0
+  CancelsFree g x x' = (at : Moment) × (x1 : X) × outside.tells x at x1 × Leaves home outside at g Cancelled x1 x'
 
   -- a get whose connection is being checked is let go
-  abbrev pub CancelsHeld : GetKey → Held C V P → H → W → H → W → Type 0
-  CancelsHeld g held h w h' w' =
-      (r : Returned C P) × (w1 : W) × Asks outside held.taken w r w1
-      × ((at : Moment) × (w2 : W) × outside.tells w1 at w2 × TakesBack home outside at g Cancelled r h w2 h' w')
+  abbrev pub CancelsHeld : GetKey → Held C V P → X → X → Type 0
+  CancelsHeld g held x x' =
+      (x1 : X) × outside.ends_check x held.checking x1
+      × ((r : Returned C P) × (x2 : X) × Asks outside held.taken x1 r x2
+      × ((at : Moment) × (x3 : X) × outside.tells x2 at x3 × TakesBack home outside at g Cancelled r x3 x'))
 
   -- A get that is let go: a connection that it holds is asked whether it is broken, the clock is read, and the get is given up as cancelled.
   -- In Fresh and Done no call is made.
-  abbrev pub Cancels : Stage C V P → H → W → H → W → Type 0
-  Cancels (Trying b) h w h' w' = CancelsFree b.get h w h' w'
-  Cancels (Waiting b) h w h' w' = CancelsFree b.get h w h' w'
-  Cancels (Checking b held) h w h' w' = CancelsHeld b.get held h w h' w'
-  Cancels Fresh h w h' w' = (h' ≡ h) × (w' ≡ w)
-  Cancels Done h w h' w' = (h' ≡ h) × (w' ≡ w)
+  abbrev pub Cancels : Stage C V P → X → X → Type 0
+  Cancels (Trying b) x x' = CancelsFree b.get x x'
+  Cancels (Waiting b) x x' = CancelsFree b.get x x'
+  Cancels (Checking b held) x x' = CancelsHeld b.get held x x'
+  Cancels Fresh x x' = (x' ≡ x)
+  Cancels Done x x' = (x' ≡ x)

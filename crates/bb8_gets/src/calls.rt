@@ -39,6 +39,8 @@ impl<M: ManageConnection, S: ErrorSink<M::Error>, K: Clock> Outside<M::Connectio
 
     ghost check_answers = { λ calls c v moment answer c' v' after. M.check_answers calls.manager.now c v moment answer c' v' × (after ≡ calls) };
 
+    ghost ends_check = { λ calls _ after. after ≡ calls };
+
     ghost breaks = { λ calls c broken c' after. M.breaks calls.manager.now c broken c' × (after ≡ calls) };
 
     ghost sinks = { λ calls e after. S.sinks calls.sink.now e × (after ≡ calls) };
@@ -60,6 +62,10 @@ impl<M: ManageConnection, S: ErrorSink<M::Error>, K: Clock> Outside<M::Connectio
         moment: Moment,
     ) -> Poll<Result<(), M::Error>> {
         self.manager.poll_valid(connection, checking, moment)
+    }
+
+    fn end_check(&mut self, checking: M::Checking) {
+        drop(checking)
     }
 
     fn has_broken(&mut self, connection: &mut M::Connection) -> bool {

@@ -3,6 +3,7 @@
 
 mod calls;
 mod home;
+mod joined;
 mod outside;
 mod plain;
 mod rows;
@@ -10,5 +11,6 @@ mod state;
 
 pub use calls::Calls;
 pub use home::{GetHome, Passed, Returned, Taken, Tried, Unfit};
+pub use joined::Joined;
 pub use outside::Outside;
 pub use state::{Begun, GetState, Held, Next, Settled, Stage};

@@ -13,7 +13,7 @@ use futures::task::Poll;
 /// is the list of all calls, in their order: one that is made twice, left out or made at another place does not fit it.
 pub trait Outside<C, E> {
     /// A check that is being made. Our own.
-    type Checking: Drop;
+    type Checking;
 
     // Holds before a reading of the clock, of the moment that it tells, and after it.
     ghost tells: { Self → MomentOf → Self → Type 0 };
@@ -23,6 +23,9 @@ pub trait Outside<C, E> {
 
     // Holds before a poll of a check at a moment, of its answer, of the connection and the check then, and after it.
     ghost check_answers: { Self → C → Self.Checking → MomentOf → PollOf (Result (Unit {0}) E) → C → Self.Checking → Self → Type 0 };
+
+    // Holds before a check is ended, and after it.
+    ghost ends_check: { Self → Self.Checking → Self → Type 0 };
 
     // Holds before a connection is asked whether it is broken, of the answer, of the connection then, and after it.
     ghost breaks: { Self → C → Bool → C → Self → Type 0 };
@@ -50,6 +53,10 @@ pub trait Outside<C, E> {
     ) -> Poll<Result<(), E>>
         ensures { check_answers self.old connection.old checking.old moment result connection.new
             checking.new self.new };
+
+    /// Ends a check, which is dropped. Our own.
+    fn end_check(&mut self, checking: Self::Checking)
+        ensures { ends_check self.old checking self.new };
 
     /// Asks whether a connection is broken. Our own.
     fn has_broken(&mut self, connection: &mut C) -> bool

@@ -22,18 +22,18 @@ fn deadline(moment: Moment, timeout: Duration) -> Option<Moment>
 }
 
 /// A connection that comes back is asked whether it is broken.
-pub(crate) fn ask<C, V: Drop, P, E, W: Outside<C, E, Checking = V>>(
-    outside: &mut W,
+pub(crate) fn ask<C, V, P, E, X: Outside<C, E, Checking = V>>(
+    pool: &mut X,
     taken: Taken<C, P>,
 ) -> Returned<C, P>
-    ensures { Asks W.Outside taken outside.old result outside.new }
+    ensures { Asks X.Outside taken pool.old result pool.new }
 {
     let Taken {
         key,
         mut connection,
         part,
     } = taken;
-    let broken = outside.has_broken(&mut connection);
+    let broken = pool.has_broken(&mut connection);
     Returned {
         taken: Taken {
             key,
@@ -45,15 +45,14 @@ pub(crate) fn ask<C, V: Drop, P, E, W: Outside<C, E, Checking = V>>(
 }
 
 /// The dropping of a connection, after a step.
-fn drop_it<C, V: Drop, P, E, W: Outside<C, E, Checking = V>, H: GetHome<C, Part = P>>(
-    outside: &mut W,
-    home: &mut H,
+fn drop_it<C, V, P, E, X: GetHome<C, Part = P> + Outside<C, E, Checking = V>>(
+    pool: &mut X,
     connection: C,
 )
-    ensures { Drops H.GetHome W.Outside connection home.old outside.old home.new outside.new }
+    ensures { Drops X.GetHome X.Outside connection pool.old pool.new }
 {
-    home.release();
-    outside.let_go(connection);
+    pool.release();
+    pool.let_go(connection);
 }
 
 /// The connection whose check failed, which is closed.
@@ -65,41 +64,37 @@ fn closed<C>(answer: CheckedErrAnswer<C>) -> C
 }
 
 /// A check that failed, with this error.
-fn fail<C, V: Drop, P, E, W: Outside<C, E, Checking = V>, H: GetHome<C, Part = P>>(
-    outside: &mut W,
-    home: &mut H,
+fn fail<C, V, P, E, X: GetHome<C, Part = P> + Outside<C, E, Checking = V>>(
+    pool: &mut X,
     moment: Moment,
     begun: Begun,
     taken: Taken<C, P>,
     error: E,
 ) -> Next<C, V, P, E>
-    ensures { Fails H.GetHome W.Outside moment begun taken error home.old outside.old result home.new
-        outside.new }
+    ensures { Fails X.GetHome X.Outside moment begun taken error pool.old result pool.new }
 {
-    outside.sink(error);
-    let returned = ask(outside, taken);
-    match home.checked_err(moment, begun.get, returned) {
+    pool.sink(error);
+    let returned = ask(pool, taken);
+    match pool.checked_err(moment, begun.get, returned) {
         Ok(answer) => {
-            drop_it(outside, home, closed(answer));
+            drop_it(pool, closed(answer));
             Next::Stand(Stage::Trying(begun))
         }
         Err(unfit) => {
-            drop_it(outside, home, unfit);
+            drop_it(pool, unfit);
             Next::Answer(Err(RunError::TimedOut))
         }
     }
 }
 
 /// One poll of a check.
-fn check<C, V: Drop, P, E, W: Outside<C, E, Checking = V>, H: GetHome<C, Part = P>>(
-    outside: &mut W,
-    home: &mut H,
+fn check<C, V, P, E, X: GetHome<C, Part = P> + Outside<C, E, Checking = V>>(
+    pool: &mut X,
     moment: Moment,
     begun: Begun,
     held: Held<C, V, P>,
 ) -> Next<C, V, P, E>
-    ensures { Checks H.GetHome W.Outside moment begun held home.old outside.old result home.new
-        outside.new }
+    ensures { Checks X.GetHome X.Outside moment begun held pool.old result pool.new }
 {
     let Held {
         taken,
@@ -110,7 +105,7 @@ fn check<C, V: Drop, P, E, W: Outside<C, E, Checking = V>, H: GetHome<C, Part = 
         mut connection,
         part,
     } = taken;
-    match outside.poll_valid(&mut connection, &mut checking, moment) {
+    match pool.poll_valid(&mut connection, &mut checking, moment) {
         Poll::Pending => {
             let taken = Taken {
                 key,
@@ -119,42 +114,44 @@ fn check<C, V: Drop, P, E, W: Outside<C, E, Checking = V>, H: GetHome<C, Part = 
             };
             Next::Stand(Stage::Checking(begun, Held { taken, checking }))
         }
-        Poll::Ready(Ok(())) => match home.checked_ok(moment, begun.get, key, part) {
-            Ok(passed) => {
-                let Passed { key, part } = passed;
-                Next::Answer(Ok(Taken {
-                    key,
-                    connection,
-                    part,
-                }))
+        Poll::Ready(Ok(())) => {
+            pool.end_check(checking);
+            match pool.checked_ok(moment, begun.get, key, part) {
+                Ok(passed) => {
+                    let Passed { key, part } = passed;
+                    Next::Answer(Ok(Taken {
+                        key,
+                        connection,
+                        part,
+                    }))
+                }
+                Err(Unfit) => {
+                    drop_it(pool, connection);
+                    Next::Answer(Err(RunError::TimedOut))
+                }
             }
-            Err(Unfit) => {
-                drop_it(outside, home, connection);
-                Next::Answer(Err(RunError::TimedOut))
-            }
-        },
+        }
         Poll::Ready(Err(error)) => {
+            pool.end_check(checking);
             let taken = Taken {
                 key,
                 connection,
                 part,
             };
-            fail(outside, home, moment, begun, taken, error)
+            fail(pool, moment, begun, taken, error)
         }
     }
 }
 
 /// One try of a get.
-fn take<C, V: Drop, P, E, W: Outside<C, E, Checking = V>, H: GetHome<C, Part = P>>(
-    outside: &mut W,
-    home: &mut H,
+fn take<C, V, P, E, X: GetHome<C, Part = P> + Outside<C, E, Checking = V>>(
+    pool: &mut X,
     moment: Moment,
     begun: Begun,
 ) -> Next<C, V, P, E>
-    ensures { Tries H.GetHome W.Outside moment begun home.old outside.old result home.new
-        outside.new }
+    ensures { Tries X.GetHome X.Outside moment begun pool.old result pool.new }
 {
-    match home.try_get(moment, begun.get) {
+    match pool.try_get(moment, begun.get) {
         Ok(Tried::Served(taken, _)) => Next::Answer(Ok(taken)),
         Ok(Tried::Taken(taken, _)) => {
             let Taken {
@@ -162,14 +159,14 @@ fn take<C, V: Drop, P, E, W: Outside<C, E, Checking = V>, H: GetHome<C, Part = P
                 mut connection,
                 part,
             } = taken;
-            home.release();
-            let checking = outside.is_valid(&mut connection);
+            pool.release();
+            let checking = pool.is_valid(&mut connection);
             let taken = Taken {
                 key,
                 connection,
                 part,
             };
-            check(outside, home, moment, begun, Held { taken, checking })
+            check(pool, moment, begun, Held { taken, checking })
         }
         Ok(Tried::Waiting(_)) => Next::Stand(Stage::Waiting(begun)),
         Err(Unfit) => Next::Answer(Err(RunError::TimedOut)),
@@ -177,19 +174,18 @@ fn take<C, V: Drop, P, E, W: Outside<C, E, Checking = V>, H: GetHome<C, Part = P
 }
 
 /// What a get does at its first poll where it was not served at once: it begins and tries.
-fn start<C, V: Drop, P, E, W: Outside<C, E, Checking = V>, H: GetHome<C, Part = P>>(
-    outside: &mut W,
-    home: &mut H,
+fn start<C, V, P, E, X: GetHome<C, Part = P> + Outside<C, E, Checking = V>>(
+    pool: &mut X,
     moment: Moment,
     timeout: Duration,
 ) -> Next<C, V, P, E>
-    ensures { Begins H.GetHome W.Outside moment (as_nanos timeout) home.old outside.old result
-        home.new outside.new }
+    ensures { Begins X.GetHome X.Outside moment (as_nanos timeout) pool.old result
+        pool.new }
 {
-    match home.begin(moment) {
+    match pool.begin(moment) {
         Ok(BeginAnswer::Begun(get)) => {
             let deadline = deadline(moment, timeout);
-            take(outside, home, moment, Begun { get, deadline })
+            take(pool, moment, Begun { get, deadline })
         }
         Ok(BeginAnswer::Memory) => Next::Answer(Err(RunError::Memory)),
         Ok(BeginAnswer::Exhausted) => Next::Answer(Err(RunError::Exhausted)),
@@ -198,107 +194,99 @@ fn start<C, V: Drop, P, E, W: Outside<C, E, Checking = V>, H: GetHome<C, Part = 
 }
 
 /// What a get does at a poll before its deadline is compared.
-fn advance<C, V: Drop, P, E, W: Outside<C, E, Checking = V>, H: GetHome<C, Part = P>>(
-    outside: &mut W,
-    home: &mut H,
+fn advance<C, V, P, E, X: GetHome<C, Part = P> + Outside<C, E, Checking = V>>(
+    pool: &mut X,
     moment: Moment,
     timeout: Duration,
     stage: Stage<C, V, P>,
 ) -> Next<C, V, P, E>
-    ensures { Advances H.GetHome W.Outside moment (as_nanos timeout) stage home.old outside.old result
-        home.new outside.new }
+    ensures { Advances X.GetHome X.Outside moment (as_nanos timeout) stage pool.old result
+        pool.new }
 {
     match stage {
-        Stage::Fresh => start(outside, home, moment, timeout),
-        Stage::Trying(begun) | Stage::Waiting(begun) => take(outside, home, moment, begun),
+        Stage::Fresh => start(pool, moment, timeout),
+        Stage::Trying(begun) | Stage::Waiting(begun) => take(pool, moment, begun),
         Stage::Checking(begun, held) => {
-            home.release();
-            check(outside, home, moment, begun, held)
+            pool.release();
+            check(pool, moment, begun, held)
         }
         Stage::Done => Next::Stand(Stage::Done),
     }
 }
 
 /// What is left to do once a get was given up: a connection that was closed is dropped.
-fn after<C, V: Drop, P, E, W: Outside<C, E, Checking = V>, H: GetHome<C, Part = P>>(
-    outside: &mut W,
-    home: &mut H,
+fn after<C, V, P, E, X: GetHome<C, Part = P> + Outside<C, E, Checking = V>>(
+    pool: &mut X,
     answer: GiveUpAnswer<C>,
 )
-    ensures { AfterGiveUp H.GetHome W.Outside answer home.old outside.old home.new outside.new }
+    ensures { AfterGiveUp X.GetHome X.Outside answer pool.old pool.new }
 {
     match answer {
         GiveUpAnswer::GaveUp(_) | GiveUpAnswer::Kept(_, _) => {}
-        GiveUpAnswer::Closed(_, closed, _, _) => drop_it(outside, home, closed),
+        GiveUpAnswer::Closed(_, closed, _, _) => drop_it(pool, closed),
     }
 }
 
 /// The giving up of a get that holds no connection.
-pub(crate) fn leave<C, V: Drop, P, E, W: Outside<C, E, Checking = V>, H: GetHome<C, Part = P>>(
-    outside: &mut W,
-    home: &mut H,
+pub(crate) fn leave<C, V, P, E, X: GetHome<C, Part = P> + Outside<C, E, Checking = V>>(
+    pool: &mut X,
     moment: Moment,
     get: GetKey,
     reason: Reason,
 )
-    ensures { Leaves H.GetHome W.Outside moment get reason home.old outside.old home.new outside.new }
+    ensures { Leaves X.GetHome X.Outside moment get reason pool.old pool.new }
 {
-    match home.give_up(moment, get, reason) {
-        Ok(answer) => after(outside, home, answer),
+    match pool.give_up(moment, get, reason) {
+        Ok(answer) => after(pool, answer),
         Err(Unfit) => {}
     }
 }
 
 /// The giving up of a get that held a connection, which was asked already whether it is broken.
-pub(crate) fn take_back<C, V: Drop, P, E, W: Outside<C, E, Checking = V>, H: GetHome<C, Part = P>>(
-    outside: &mut W,
-    home: &mut H,
+pub(crate) fn take_back<C, V, P, E, X: GetHome<C, Part = P> + Outside<C, E, Checking = V>>(
+    pool: &mut X,
     moment: Moment,
     get: GetKey,
     reason: Reason,
     returned: Returned<C, P>,
 )
-    ensures { TakesBack H.GetHome W.Outside moment get reason returned home.old outside.old home.new
-        outside.new }
+    ensures { TakesBack X.GetHome X.Outside moment get reason returned pool.old pool.new }
 {
-    match home.give_back(moment, get, reason, returned) {
-        Ok(answer) => after(outside, home, answer),
-        Err(unfit) => drop_it(outside, home, unfit),
+    match pool.give_back(moment, get, reason, returned) {
+        Ok(answer) => after(pool, answer),
+        Err(unfit) => drop_it(pool, unfit),
     }
 }
 
 /// The deadline came.
-fn time_out<C, V: Drop, P, E, W: Outside<C, E, Checking = V>, H: GetHome<C, Part = P>>(
-    outside: &mut W,
-    home: &mut H,
+fn time_out<C, V, P, E, X: GetHome<C, Part = P> + Outside<C, E, Checking = V>>(
+    pool: &mut X,
     moment: Moment,
     stage: Stage<C, V, P>,
 )
-    ensures { TimesOut H.GetHome W.Outside moment stage home.old outside.old home.new outside.new }
+    ensures { TimesOut X.GetHome X.Outside moment stage pool.old pool.new }
 {
     match stage {
         Stage::Trying(begun) | Stage::Waiting(begun) => {
-            leave(outside, home, moment, begun.get, Reason::TimedOut);
+            leave(pool, moment, begun.get, Reason::TimedOut);
         }
         Stage::Checking(begun, held) => {
             let Held { taken, checking } = held;
-            drop(checking);
-            let returned = ask(outside, taken);
-            take_back(outside, home, moment, begun.get, Reason::TimedOut, returned);
+            pool.end_check(checking);
+            let returned = ask(pool, taken);
+            take_back(pool, moment, begun.get, Reason::TimedOut, returned);
         }
         Stage::Fresh | Stage::Done => {}
     }
 }
 
 /// The end of a poll that has no answer yet: the deadline is compared.
-fn settle<C, V: Drop, P, E, W: Outside<C, E, Checking = V>, H: GetHome<C, Part = P>>(
-    outside: &mut W,
-    home: &mut H,
+fn settle<C, V, P, E, X: GetHome<C, Part = P> + Outside<C, E, Checking = V>>(
+    pool: &mut X,
     moment: Moment,
     stage: Stage<C, V, P>,
 ) -> Settled<C, V, P, E>
-    ensures { Settles H.GetHome W.Outside moment stage home.old outside.old result home.new
-        outside.new }
+    ensures { Settles X.GetHome X.Outside moment stage pool.old result pool.new }
 {
     let deadline = match &stage {
         Stage::Trying(begun) | Stage::Waiting(begun) | Stage::Checking(begun, _) => begun.deadline,
@@ -306,7 +294,7 @@ fn settle<C, V: Drop, P, E, W: Outside<C, E, Checking = V>, H: GetHome<C, Part =
     };
     match deadline {
         Some(deadline) if deadline <= moment => {
-            time_out(outside, home, moment, stage);
+            time_out(pool, moment, stage);
             Settled {
                 answer: Poll::Ready(Err(RunError::TimedOut)),
                 stage: Stage::Done,
@@ -320,50 +308,45 @@ fn settle<C, V: Drop, P, E, W: Outside<C, E, Checking = V>, H: GetHome<C, Part =
 }
 
 /// The end of a poll: it answers, or its deadline is compared.
-fn end<C, V: Drop, P, E, W: Outside<C, E, Checking = V>, H: GetHome<C, Part = P>>(
-    outside: &mut W,
-    home: &mut H,
+fn end<C, V, P, E, X: GetHome<C, Part = P> + Outside<C, E, Checking = V>>(
+    pool: &mut X,
     moment: Moment,
     next: Next<C, V, P, E>,
 ) -> Settled<C, V, P, E>
-    ensures { Ends H.GetHome W.Outside moment next home.old outside.old result home.new
-        outside.new }
+    ensures { Ends X.GetHome X.Outside moment next pool.old result pool.new }
 {
     match next {
         Next::Answer(answer) => Settled {
             answer: Poll::Ready(answer),
             stage: Stage::Done,
         },
-        Next::Stand(stage) => settle(outside, home, moment, stage),
+        Next::Stand(stage) => settle(pool, moment, stage),
     }
 }
 
 /// The rest of a first poll, of a get that was not served at once.
-pub(crate) fn begin<C, V: Drop, P, E, W: Outside<C, E, Checking = V>, H: GetHome<C, Part = P>>(
-    outside: &mut W,
-    home: &mut H,
+pub(crate) fn begin<C, V, P, E, X: GetHome<C, Part = P> + Outside<C, E, Checking = V>>(
+    pool: &mut X,
     moment: Moment,
     timeout: Duration,
 ) -> Settled<C, V, P, E>
-    ensures { Starts H.GetHome W.Outside moment (as_nanos timeout) home.old outside.old result
-        home.new outside.new }
+    ensures { Starts X.GetHome X.Outside moment (as_nanos timeout) pool.old result
+        pool.new }
 {
-    let next = start(outside, home, moment, timeout);
-    end(outside, home, moment, next)
+    let next = start(pool, moment, timeout);
+    end(pool, moment, next)
 }
 
 /// One poll of a get that was not answered: the clock is read, the home looked at, and the get goes on.
-pub(crate) fn go<C, V: Drop, P, E, W: Outside<C, E, Checking = V>, H: GetHome<C, Part = P>>(
-    outside: &mut W,
-    home: &mut H,
+pub(crate) fn go<C, V, P, E, X: GetHome<C, Part = P> + Outside<C, E, Checking = V>>(
+    pool: &mut X,
     timeout: Duration,
     stage: Stage<C, V, P>,
 ) -> Settled<C, V, P, E>
-    ensures { Goes H.GetHome W.Outside (as_nanos timeout) stage home.old outside.old result home.new
-        outside.new }
+    ensures { Goes X.GetHome X.Outside (as_nanos timeout) stage pool.old result pool.new }
 {
-    let at = outside.now();
-    let moment = home.look(at).moment;
-    let next = advance(outside, home, moment, timeout, stage);
-    end(outside, home, moment, next)
+    let at = pool.now();
+    let moment = pool.look(at).moment;
+    let next = advance(pool, moment, timeout, stage);
+    end(pool, moment, next)
 }

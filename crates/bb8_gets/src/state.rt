@@ -80,7 +80,7 @@ pub struct GetState<C, V, P> {
     stage: Stage<C, V, P>,
 }
 
-impl<C, V: Drop, P> GetState<C, V, P> {
+impl<C, V, P> GetState<C, V, P> {
     /// A get that was not polled yet. Our own.
     pub fn new() -> Self
         ensures { result.stage ≡ IsFresh }
@@ -109,19 +109,18 @@ impl<C, V: Drop, P> GetState<C, V, P> {
     ///
     /// It answers a connection; `TimedOut` once the deadline has come, or where the home knows no such get or no handle; `Memory` or
     /// `Exhausted` where the get could not begin. After an answer each poll is pending, and calls nothing.
-    pub fn poll_step<E, W: Outside<C, E, Checking = V>, H: GetHome<C, Part = P>>(
+    pub fn poll_step<E, X: GetHome<C, Part = P> + Outside<C, E, Checking = V>>(
         &mut self,
-        outside: &mut W,
-        home: &mut H,
+        pool: &mut X,
         timeout: Duration,
     ) -> Poll<Result<Taken<C, P>, RunError<E>>>
-        ensures { Polls H.GetHome W.Outside (as_nanos timeout) self.old.stage home.old outside.old
-            (record { answer = result; stage = self.new.stage }) home.new outside.new }
+        ensures { Polls X.GetHome X.Outside (as_nanos timeout) self.old.stage pool.old
+            (record { answer = result; stage = self.new.stage }) pool.new }
     {
-        let (seen, served) = self.serve_step(outside, home);
+        let (seen, served) = self.serve_step(pool);
         match served {
             Some(taken) => Poll::Ready(Ok(taken)),
-            None => self.rest_step(outside, home, timeout, seen),
+            None => self.rest_step(pool, timeout, seen),
         }
     }
 
@@ -129,24 +128,22 @@ impl<C, V: Drop, P> GetState<C, V, P> {
     /// once, where its home can do that. Where it is not served, it answers what was seen of the home, and `rest_step` goes on from there. A
     /// get that was polled before is left to `rest_step`, and nothing is called. Our own.
     #[inline]
-    pub fn serve_step<E, W: Outside<C, E, Checking = V>, H: GetHome<C, Part = P>>(
+    pub fn serve_step<E, X: GetHome<C, Part = P> + Outside<C, E, Checking = V>>(
         &mut self,
-        outside: &mut W,
-        home: &mut H,
+        pool: &mut X,
     ) -> (Option<Looked>, Option<Taken<C, P>>)
-        ensures served { IfSome result.1 (λ taken. (timeout : ℕ) → Polls H.GetHome W.Outside timeout
-            self.old.stage home.old outside.old (record {
+        ensures served { IfSome result.1 (λ taken. (timeout : ℕ) → Polls X.GetHome X.Outside timeout
+            self.old.stage pool.old (record {
               answer = Ready (Ok taken);
               stage = self.new.stage;
-            }) home.new outside.new) }
-        ensures unserved { IfNone result.1 (Unserved H.GetHome W.Outside self.old.stage home.old
-            outside.old result.0 self.new.stage home.new outside.new) }
+            }) pool.new) }
+        ensures unserved { IfNone result.1 (Unserved X.GetHome X.Outside self.old.stage pool.old result.0 self.new.stage pool.new) }
     {
         match &self.stage {
             Stage::Fresh => {
                 self.stand(Stage::Done);
-                let at = outside.now();
-                let (seen, served) = home.serve(at);
+                let at = pool.now();
+                let (seen, served) = pool.serve(at);
                 match served {
                     Some((taken, _)) => (Some(seen), Some(taken)),
                     None => (Some(seen), None),
@@ -160,22 +157,21 @@ impl<C, V: Drop, P> GetState<C, V, P> {
 
     /// The rest of a poll whose begin, `serve_step`, did not serve the get, and saw this. Our own.
     #[inline(never)]
-    pub fn rest_step<E, W: Outside<C, E, Checking = V>, H: GetHome<C, Part = P>>(
+    pub fn rest_step<E, X: GetHome<C, Part = P> + Outside<C, E, Checking = V>>(
         &mut self,
-        outside: &mut W,
-        home: &mut H,
+        pool: &mut X,
         timeout: Duration,
         seen: Option<Looked>,
     ) -> Poll<Result<Taken<C, P>, RunError<E>>>
         requires { IfSome seen (λ _. self.old.stage ≡ IsDone) }
-        ensures { (stage : _) (h : _) (w : _) → Unserved H.GetHome W.Outside stage h w seen
-            self.old.stage home.old outside.old → Polls H.GetHome W.Outside (as_nanos timeout)
-            stage h w (record { answer = result; stage = self.new.stage }) home.new outside.new }
+        ensures { (stage : _) (x : _) → Unserved X.GetHome X.Outside stage x seen
+            self.old.stage pool.old → Polls X.GetHome X.Outside (as_nanos timeout)
+            stage x (record { answer = result; stage = self.new.stage }) pool.new }
     {
         match seen {
-            None => self.again(outside, home, timeout),
+            None => self.again(pool, timeout),
             Some(seen) => {
-                let Settled { answer, stage } = begin(outside, home, seen.moment, timeout);
+                let Settled { answer, stage } = begin(pool, seen.moment, timeout);
                 self.stand(stage);
                 answer
             }
@@ -183,20 +179,19 @@ impl<C, V: Drop, P> GetState<C, V, P> {
     }
 
     /// A poll from its begin on.
-    fn again<E, W: Outside<C, E, Checking = V>, H: GetHome<C, Part = P>>(
+    fn again<E, X: GetHome<C, Part = P> + Outside<C, E, Checking = V>>(
         &mut self,
-        outside: &mut W,
-        home: &mut H,
+        pool: &mut X,
         timeout: Duration,
     ) -> Poll<Result<Taken<C, P>, RunError<E>>>
-        ensures { Polls H.GetHome W.Outside (as_nanos timeout) self.old.stage home.old outside.old
-            (record { answer = result; stage = self.new.stage }) home.new outside.new }
+        ensures { Polls X.GetHome X.Outside (as_nanos timeout) self.old.stage pool.old
+            (record { answer = result; stage = self.new.stage }) pool.new }
     {
         if self.stage.is_done() {
             return Poll::Pending;
         }
         let stage = mem::replace(&mut self.stage, Stage::Done);
-        let Settled { answer, stage } = go(outside, home, timeout, stage);
+        let Settled { answer, stage } = go(pool, timeout, stage);
         self.stand(stage);
         answer
     }
@@ -204,55 +199,49 @@ impl<C, V: Drop, P> GetState<C, V, P> {
     /// Lets the get go: one that began and was not answered is given up as cancelled, at a reading of the clock. A connection that it holds
     /// is asked first whether it is broken. Nothing is called where it was not polled yet, or was answered. The same as a drop of a get's
     /// future. Our own: upstream's caller drops its future.
-    pub fn cancel_step<E, W: Outside<C, E, Checking = V>, H: GetHome<C, Part = P>>(
-        self,
-        outside: &mut W,
-        home: &mut H,
-    )
-        ensures { Cancels H.GetHome W.Outside self.stage home.old outside.old home.new outside.new }
+    pub fn cancel_step<E, X: GetHome<C, Part = P> + Outside<C, E, Checking = V>>(self, pool: &mut X)
+        ensures { Cancels X.GetHome X.Outside self.stage pool.old pool.new }
     {
         let GetState { stage } = self;
         match stage {
             Stage::Fresh | Stage::Done => {}
             Stage::Trying(begun) | Stage::Waiting(begun) => {
-                cancel_free(outside, home, begun.get);
+                cancel_free(pool, begun.get);
             }
-            Stage::Checking(begun, held) => cancel_held(outside, home, begun.get, held),
+            Stage::Checking(begun, held) => cancel_held(pool, begun.get, held),
         }
     }
 }
 
 /// Lets a get go that began and holds no connection.
 #[inline(never)]
-fn cancel_free<C, V: Drop, P, E, W: Outside<C, E, Checking = V>, H: GetHome<C, Part = P>>(
-    outside: &mut W,
-    home: &mut H,
+fn cancel_free<C, V, P, E, X: GetHome<C, Part = P> + Outside<C, E, Checking = V>>(
+    pool: &mut X,
     get: GetKey,
 )
-    ensures { CancelsFree H.GetHome W.Outside get home.old outside.old home.new outside.new }
+    ensures { CancelsFree X.GetHome X.Outside get pool.old pool.new }
 {
-    let at = outside.now();
-    leave(outside, home, at, get, Reason::Cancelled);
+    let at = pool.now();
+    leave(pool, at, get, Reason::Cancelled);
 }
 
 /// Lets a get go whose connection is being checked.
 #[inline(never)]
-fn cancel_held<C, V: Drop, P, E, W: Outside<C, E, Checking = V>, H: GetHome<C, Part = P>>(
-    outside: &mut W,
-    home: &mut H,
+fn cancel_held<C, V, P, E, X: GetHome<C, Part = P> + Outside<C, E, Checking = V>>(
+    pool: &mut X,
     get: GetKey,
     held: Held<C, V, P>,
 )
-    ensures { CancelsHeld H.GetHome W.Outside get held home.old outside.old home.new outside.new }
+    ensures { CancelsHeld X.GetHome X.Outside get held pool.old pool.new }
 {
     let Held { taken, checking } = held;
-    drop(checking);
-    let returned = ask(outside, taken);
-    let at = outside.now();
-    take_back(outside, home, at, get, Reason::Cancelled, returned);
+    pool.end_check(checking);
+    let returned = ask(pool, taken);
+    let at = pool.now();
+    take_back(pool, at, get, Reason::Cancelled, returned);
 }
 
-impl<C, V: Drop, P> Default for GetState<C, V, P> {
+impl<C, V, P> Default for GetState<C, V, P> {
     ghost is_default = { λ get. get.stage ≡ IsFresh };
 
     /// A get that was not polled yet.

@@ -15,6 +15,7 @@ use Rattle.bb8_core.specs.declared.answers.PutBackAnswer.{PutBackAnswer}
 use Rattle.bb8_gets.specs.declared.calls.Calls.{Calls}
 use Rattle.bb8_gets.specs.declared.home.GetHome.{Ghosts as HomeOf}
 use Rattle.bb8_gets.specs.declared.home.Taken.{Taken}
+use Rattle.bb8_gets.specs.declared.joined.Joined.{Joined}
 use Rattle.bb8_gets.specs.declared.outside.Outside.{Ghosts as OutsideOf}
 use Rattle.bb8_gets.specs.declared.state.Settled.{Settled}
 use Rattle.bb8_gets.specs.declared.state.Stage.{Stage}
@@ -72,6 +73,30 @@ link_home home = record {
   gives_back = λ h at get reason returned a h'. Leads (λ t t'. home.gives_back t at get reason returned a t') h.held h'.held;
 }
 
+-- The relations of a home and of calls outside as one value: a step of the home leaves the calls as they were, and a call leaves the home.
+abbrev pub joined_home : {C P W H : Type 0} → HomeOf H C P → HomeOf (Joined W H) C P
+joined_home home = record {
+  releases = λ x x'. home.releases x.home x'.home × (x'.outside ≡ x.outside);
+  looks = λ x at seen x'. home.looks x.home at seen x'.home × (x'.outside ≡ x.outside);
+  begins = λ x at b x'. home.begins x.home at b x'.home × (x'.outside ≡ x.outside);
+  tries = λ x at get a x'. home.tries x.home at get a x'.home × (x'.outside ≡ x.outside);
+  passes = λ x at get key part a x'. home.passes x.home at get key part a x'.home × (x'.outside ≡ x.outside);
+  fails = λ x at get r a x'. home.fails x.home at get r a x'.home × (x'.outside ≡ x.outside);
+  gives_up = λ x at get reason a x'. home.gives_up x.home at get reason a x'.home × (x'.outside ≡ x.outside);
+  gives_back = λ x at get reason r a x'. home.gives_back x.home at get reason r a x'.home × (x'.outside ≡ x.outside);
+}
+
+abbrev pub joined_calls : {C E V W H : Type 0} → OutsideOf W C E V → OutsideOf (Joined W H) C E V
+joined_calls outside = record {
+  tells = λ x at x'. outside.tells x.outside at x'.outside × (x'.home ≡ x.home);
+  checks = λ x c v c' x'. outside.checks x.outside c v c' x'.outside × (x'.home ≡ x.home);
+  check_answers = λ x c v at a c' v' x'. outside.check_answers x.outside c v at a c' v' x'.outside × (x'.home ≡ x.home);
+  ends_check = λ x v x'. outside.ends_check x.outside v x'.outside × (x'.home ≡ x.home);
+  breaks = λ x c broken c' x'. outside.breaks x.outside c broken c' x'.outside × (x'.home ≡ x.home);
+  sinks = λ x e x'. outside.sinks x.outside e x'.outside × (x'.home ≡ x.home);
+  lets_go = λ x c x'. outside.lets_go x.outside c x'.outside × (x'.home ≡ x.home);
+}
+
 -- x is the answer of this poll, or of a later one, where each poll is a step
 pub data Answers {S A : Type 0} (step : S → Poll A → S → Type 0) : S → A → Type 0 where
   now : (s t : S) (x : A) → step s (Ready x) t → Answers step s x
@@ -80,16 +105,16 @@ pub data Answers {S A : Type 0} (step : S → Poll A → S → Type 0) : S → A
 -- What the gets and guards of a pool do, of which handles and guards share this, by any calls outside.
 module _ {M S Z K R L C E N V W : Type 0} {m : ManagerOf M C E N V} {d : DebugOf E} {l : PartsOf L} (outside : OutsideOf W C E V) (shared : Shared M S Z K R L C E N V m d l) where
   -- A poll of a get on the pool's lock, which is free before, goes by the table.
-  abbrev pub LinkPolls : Stage C V (Part L) → W → Settled C V (Part L) E → W → Type 0
-  LinkPolls stage w settled w' =
-      (h : LinkHome (Locked C L l) R) × (h' : LinkHome (Locked C L l) R) × (h.held ≡ None)
-      × Polls (link_home locked_home) outside (settings_of shared.config).connection_timeout stage h w settled h' w'
+  abbrev pub LinkPolls : Stage C V (Part L) → W → Settled C V (Part L) E → Type 0
+  LinkPolls stage w settled =
+      (x : Joined W (LinkHome (Locked C L l) R)) × (x' : Joined W (LinkHome (Locked C L l) R)) × (x.outside ≡ w) × (x.home.held ≡ None)
+      × Polls (joined_home (link_home locked_home)) (joined_calls outside) (settings_of shared.config).connection_timeout stage x settled x'
 
   -- A get of the pool is let go by the table.
-  abbrev pub LinkCancels : Stage C V (Part L) → W → W → Type 0
-  LinkCancels stage w w' =
-      (h : LinkHome (Locked C L l) R) × (h' : LinkHome (Locked C L l) R) × (h.held ≡ None)
-      × Cancels (link_home locked_home) outside stage h w h' w'
+  abbrev pub LinkCancels : Stage C V (Part L) → W → Type 0
+  LinkCancels stage w =
+      (x : Joined W (LinkHome (Locked C L l) R)) × (x' : Joined W (LinkHome (Locked C L l) R)) × (x.outside ≡ w) × (x.home.held ≡ None)
+      × Cancels (joined_home (link_home locked_home)) (joined_calls outside) stage x x'
 
   -- A guard's connection comes back: it is asked whether it is broken, the clock is read, and what the lock holds takes it back, with an
   -- answer that names no other connection; one that does not stay is dropped.
@@ -110,6 +135,7 @@ module _ {M S Z K R L C E N V : Type 0} {m : ManagerOf M C E N V} {d : DebugOf E
     tells = λ calls moment after. tells calls.clock.now moment × (after ≡ calls);
     checks = λ calls c v c' after. m.checks calls.manager.now c v c' × (after ≡ calls);
     check_answers = λ calls c v moment answer c' v' after. m.check_answers calls.manager.now c v moment answer c' v' × (after ≡ calls);
+    ends_check = λ calls _ after. after ≡ calls;
     breaks = λ calls c broken c' after. m.breaks calls.manager.now c broken c' × (after ≡ calls);
     sinks = λ calls e after. sinks calls.sink.now e × (after ≡ calls);
     lets_go = λ calls _ after. after ≡ calls;
@@ -121,15 +147,14 @@ module _ {M S Z K R L C E N V : Type 0} {m : ManagerOf M C E N V} {d : DebugOf E
 
   abbrev pub OwnPolls : Stage C V (Part L) → Poll (Result (Taken C (Part L)) (RunError E)) → Stage C V (Part L) → Type 0
   OwnPolls stage r stage' =
-      (calls : Calls M S K) × (calls' : Calls M S K) × AreOf calls
-      × LinkPolls pool_calls shared stage calls (record { answer = r; stage = stage' }) calls'
+      (calls : Calls M S K) × AreOf calls × LinkPolls pool_calls shared stage calls (record { answer = r; stage = stage' })
 
   -- what the polls of such a get answer at last
   abbrev pub OwnGives : Stage C V (Part L) → Result (Taken C (Part L)) (RunError E) → Type 0
   OwnGives stage x = Answers OwnPolls stage x
 
   abbrev pub OwnCancels : Stage C V (Part L) → Type 0
-  OwnCancels stage = (calls : Calls M S K) × (calls' : Calls M S K) × AreOf calls × LinkCancels pool_calls shared stage calls calls'
+  OwnCancels stage = (calls : Calls M S K) × AreOf calls × LinkCancels pool_calls shared stage calls
 
   -- a connection of the pool comes back
   abbrev pub OwnReturns : Taken C (Part L) → Type 0

@@ -138,8 +138,8 @@ impl<
         ensures { CancelsGet S.sinks K.tells self.entry }
     {
         let GetFuture { shared, get } = self;
-        let mut calls = Calls::new(&shared.manager, &shared.error_sink, &shared.clock);
-        shared.cancel_get(&mut calls, get);
+        let calls = Calls::new(&shared.manager, &shared.error_sink, &shared.clock);
+        shared.cancel_get(calls, get);
     }
 }
 
@@ -173,8 +173,8 @@ impl<
         ensures kept { Keeps cx.old cx.new }
     {
         let shared = self.shared;
-        let mut calls = Calls::new(&shared.manager, &shared.error_sink, &shared.clock);
-        let answer = match shared.poll_get(&mut calls, &mut self.get) {
+        let calls = Calls::new(&shared.manager, &shared.error_sink, &shared.clock);
+        let answer = match shared.poll_get(calls, &mut self.get) {
             Poll::Ready(answer) => answer,
             Poll::Pending => return cx.yield_now(),
         };

@@ -6,5 +6,5 @@ returns-in-Ok g c =
     let dropped = rw c.closed.ensures at c.drop_it.ensures in (
       c.sink.new.self,
       c.sink.ensures,
-      (c.ask-returned.result, c.ask-returned.new.outside, c.ask-returned.ensures, (_, c.checked_err.new.self, c.in-Ok.ensures, (dropped, refl))),
+      (c.ask-returned.result, c.ask-returned.new.pool, c.ask-returned.ensures, (_, c.checked_err.new.self, c.in-Ok.ensures, (dropped, refl))),
     )

@@ -4,4 +4,4 @@ pub returns : goal.returns
 returns g c =
     let shared = c.deref-shared.ensures in
     let of = c.new-calls.ensures in
-    (c.new-calls.result, c.poll_get.new.outside, (rw shared at of.manager, rw shared at of.sink, rw shared at of.clock), rw shared at c.poll_get.ensures)
+    (c.new-calls.result, (rw shared at of.manager, rw shared at of.sink, rw shared at of.clock), rw shared at c.poll_get.ensures)

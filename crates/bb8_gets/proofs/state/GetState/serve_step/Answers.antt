@@ -21,14 +21,13 @@ returns-in-Some-clause-served g c =
         (
           Answer (Ok c.in-Some.taken),
           c.serve-served.new.self,
-          c.now-at.new.self,
           (
             Ok (Begun served.2.0),
             served.2.1,
             served.2.2,
-            (Some deadline, refl, (_, c.serve-served.new.self, served.2.3, (refl, refl, refl))),
+            (Some deadline, refl, (_, c.serve-served.new.self, served.2.3, (refl, refl))),
           ),
-          (refl, refl, refl, refl),
+          (refl, refl, refl),
         ),
       ),
     ))

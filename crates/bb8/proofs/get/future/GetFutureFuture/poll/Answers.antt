@@ -7,7 +7,7 @@ pub returns-in-Pending-clause-table : goal.returns-in-Pending-clause-table
 returns-in-Pending-clause-table g c =
     let of = c.new-calls.ensures in
     rw c.yield_now.ensures.pending
-    (Pending, (c.new-calls.result, c.poll_get.new.outside, (of.manager, of.sink, of.clock), c.in-Pending.ensures), tt)
+    (Pending, (c.new-calls.result, (of.manager, of.sink, of.clock), c.in-Pending.ensures), tt)
 
 pub returns-in-Pending-clause-same : goal.returns-in-Pending-clause-same
 returns-in-Pending-clause-same g c =
@@ -15,7 +15,7 @@ returns-in-Pending-clause-same g c =
     rw c.yield_now.ensures.pending
     (λ x gives. (
       gives.0,
-      Answers.later _ _ _ (c.new-calls.result, c.poll_get.new.outside, (of.manager, of.sink, of.clock), c.in-Pending.ensures) gives.1,
+      Answers.later _ _ _ (c.new-calls.result, (of.manager, of.sink, of.clock), c.in-Pending.ensures) gives.1,
       gives.2,
     ))
 
@@ -23,22 +23,22 @@ pub returns-in-Ok-clause-table : goal.returns-in-Ok-clause-table
 returns-in-Ok-clause-table g c =
     let of = c.new-calls.ensures in
     let polled = rw c.in-Ok.is at c.in-Ready.ensures in
-    (Ready (Ok c.in-Ok.taken), (c.new-calls.result, c.poll_get.new.outside, (of.manager, of.sink, of.clock), polled), (refl, refl))
+    (Ready (Ok c.in-Ok.taken), (c.new-calls.result, (of.manager, of.sink, of.clock), polled), (refl, refl))
 
 pub returns-in-Ok-clause-value : goal.returns-in-Ok-clause-value
 returns-in-Ok-clause-value g c =
     let of = c.new-calls.ensures in
     let polled = rw c.in-Ok.is at c.in-Ready.ensures in
-    (Ok c.in-Ok.taken, Answers.now _ _ _ (c.new-calls.result, c.poll_get.new.outside, (of.manager, of.sink, of.clock), polled), (refl, refl))
+    (Ok c.in-Ok.taken, Answers.now _ _ _ (c.new-calls.result, (of.manager, of.sink, of.clock), polled), (refl, refl))
 
 pub returns-in-Err-clause-table : goal.returns-in-Err-clause-table
 returns-in-Err-clause-table g c =
     let of = c.new-calls.ensures in
     let polled = rw c.in-Err.is at c.in-Ready.ensures in
-    (Ready (Err c.in-Err.error), (c.new-calls.result, c.poll_get.new.outside, (of.manager, of.sink, of.clock), polled), refl)
+    (Ready (Err c.in-Err.error), (c.new-calls.result, (of.manager, of.sink, of.clock), polled), refl)
 
 pub returns-in-Err-clause-value : goal.returns-in-Err-clause-value
 returns-in-Err-clause-value g c =
     let of = c.new-calls.ensures in
     let polled = rw c.in-Err.is at c.in-Ready.ensures in
-    (Err c.in-Err.error, Answers.now _ _ _ (c.new-calls.result, c.poll_get.new.outside, (of.manager, of.sink, of.clock), polled), refl)
+    (Err c.in-Err.error, Answers.now _ _ _ (c.new-calls.result, (of.manager, of.sink, of.clock), polled), refl)
