@@ -16,11 +16,10 @@ use crate::links::{END, Links, Order, Sizes, Vacant};
 use bb8_types::api::QueueStrategy;
 use bb8_types::bounds::END_OF_NUMBERS;
 use bb8_types::standing::{GetPlace, Getting, Place, Standing};
+pub use lendings::Lendings;
 use std::alloc::{AllocError, Global};
 use std::marker::Model;
 use std::mem;
-
-pub use lendings::Lendings;
 
 /// What stands at a place, with its number.
 #[derive(Drop)]
