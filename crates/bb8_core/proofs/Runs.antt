@@ -6,7 +6,7 @@ use Rattle.bb8_tables.specs.declared.keys.GetKey.{GetKey}
 use Rattle.bb8_core.specs.declared.replay.events.Event.{Event}
 use Rattle.bb8_core.specs.declared.replay.events.Answer.{Answer as Told}
 use Rattle.bb8_types.specs.declared.standing.Getting.{Getting}
-use Rattle.bb8_ledger.specs.Acts.{Act, Try, GiveUp, Reason}
+use Rattle.bb8_ledger.specs.Acts.{Act, Try}
 use Rattle.bb8_ledger.specs.Answers.{Unfit}
 use Rattle.bb8_ledger.specs.Ledger.{Ledger, Later, get_of}
 use Rattle.bb8_types.specs.Places.{gets_stand, holds, is_trying}
@@ -29,15 +29,6 @@ held_none (Some x) e = cc
 pub held_some : (o : Option Getting) (k : Option ℕ) → holding o ≡ Some k → (is_some o ≡ true) × (holds o ≡ k)
 held_some None k e = cc
 held_some (Some x) k e = (refl, let both : Some (holds (Some x)) ≡ Some k = e in let same : holds (Some x) ≡ k = cc in same)
-
--- a get that is alive agrees with itself
-pub agrees_alive : (o : Option Getting) → (is_some o && agree (is_some (holds o)) (is_some (holds o))) ≡ is_some o
-agrees_alive None = refl
-agrees_alive (Some x) = each (is_some (holds (Some x)))
-  where
-    each : (b : Bool) → agree b b ≡ true
-    each true = refl
-    each false = refl
 
 -- what is asked of a give-up, by what the get holds
 pub asked_none : (b : Bool) (o : Option Getting) → holding o ≡ None → (is_some o && agree b (is_some (holds o))) ≡ false
@@ -70,11 +61,6 @@ module _ {C : Type 0} where
   -- which tries fit, by what is shown
   pub shown_try : (l : Ledger C) (s : Shown C) (g : ℕ) → Means l s → fits l (Try g) ≡ gets_stand is_trying (get s.gets.places g)
   shown_try l s g means = ap (gets_stand is_trying) (shown_get l s means g)
-
-  -- and which give-ups: the get is alive, and a connection is handed in just where it holds one
-  pub shown_give_up : (l : Ledger C) (s : Shown C) (g : ℕ) (why : Reason) (held : Option C) (broken : Bool) → Means l s
-      → fits l (GiveUp g why held broken) ≡ (is_some (get s.gets.places g) && agree (is_some held) (is_some (holds (get s.gets.places g))))
-  shown_give_up l s g why held broken means = ap (λ (o : Option Getting). is_some o && agree (is_some held) (is_some (holds o))) (shown_get l s means g)
 
   -- whether an event fits does not depend on the connection that it hands in
   hands_in : (conn : ℕ → C) (o : Option Getting) → (is_some o && agree (is_some (option_map conn (holds o))) (is_some (holds o))) ≡ is_some o

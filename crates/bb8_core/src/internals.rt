@@ -4,7 +4,6 @@ ghost use Rattle.std.specs.FinMap as map;
 ghost use Rattle.bb8_ledger.specs.Acts as acts;
 ghost use Rattle.bb8_ledger.specs.Answers as answers;
 ghost use Rattle.bb8_ledger.specs.Ledger as ledger;
-ghost use Rattle.bb8_ledger.specs.Table as table;
 ghost use Rattle.bb8_types.specs.Places as places;
 ghost use Rattle.bb8_tables.specs.Machine as machine;
 ghost use Rattle.bb8_core.specs.Decided as decided;
@@ -666,8 +665,7 @@ impl<C: Drop> PoolInternals<C> {
 
     /// Whether a connection may be added, whichever it is: while a handle is alive.
     pub fn fits_add(&self) -> bool
-        ensures fits { (conn : C) (broken : Bool) → TellsFitting self.now (acts.Add conn broken) result }
-        ensures alive { TellsFitting self.now acts.Begin result }
+        ensures { (conn : C) (broken : Bool) → TellsFitting self.now (acts.Add conn broken) result }
     {
         self.handles >= 1
     }
@@ -698,10 +696,8 @@ impl<C: Drop> PoolInternals<C> {
 
     /// Whether the get may be given up, for whatever reason: where it is alive, and a connection is handed in just where it holds one.
     pub fn fits_give_up(&self, get: GetKey, handing_in: bool) -> bool
-        ensures fits { (why : acts.Reason) (held : Option C) (broken : Bool) → is_some held ≡ handing_in
+        ensures { (why : acts.Reason) (held : Option C) (broken : Bool) → is_some held ≡ handing_in
             → TellsFitting self.now (acts.GiveUp get.number why held broken) result }
-        ensures alive { TellsGet (λ g. is_some g && table.agree handing_in (is_some (places.holds g)))
-            self.now get.number result }
     {
         match self.gets.holds(get) {
             None => false,
@@ -720,28 +716,47 @@ impl<C: Drop> PoolInternals<C> {
         }
     }
 
-    /// Whether a guard may give back a connection of this key, whichever connection is handed in.
-    pub fn fits_put_back(&self, k: Key) -> bool
-        ensures fits { (conn : C) (broken : Bool)
-            → TellsFitting self.now (acts.PutBack k.number conn broken) result }
-        ensures guarded { TellsRecord (places.stands places.is_guarded) self.now k.number result }
+    /// Whether the get is alive.
+    pub(crate) fn is_alive(&self, get: GetKey) -> bool
+        ensures { TellsGet (λ g. is_some g) self.now get.number result }
+    {
+        self.gets.is_alive(get)
+    }
+
+    /// Whether the number is a connection that a guard holds.
+    pub(crate) fn is_guarded(&self, k: Key) -> bool
+        ensures { TellsRecord (places.stands places.is_guarded) self.now k.number result }
     {
         self.records.is_guarded(k)
     }
 
+    /// Whether the number is a claimed approval.
+    pub(crate) fn is_claimed(&self, k: Key) -> bool
+        ensures { TellsRecord (places.stands places.is_claimed) self.now k.number result }
+    {
+        self.records.is_claimed(k)
+    }
+
+    /// Whether a guard may give back a connection of this key, whichever connection is handed in.
+    pub fn fits_put_back(&self, k: Key) -> bool
+        ensures { (conn : C) (broken : Bool)
+            → TellsFitting self.now (acts.PutBack k.number conn broken) result }
+    {
+        self.is_guarded(k)
+    }
+
     /// Whether the approval of this key is claimed and may bring its connection, whichever connection is handed in.
     pub fn fits_opened(&self, a: Key) -> bool
-        ensures fits { (conn : C) → TellsFitting self.now (acts.Opened a.number conn) result }
-        ensures claimed { TellsRecord (places.stands places.is_claimed) self.now a.number result }
+        ensures { (conn : C) → TellsFitting self.now (acts.Opened a.number conn) result }
     {
-        self.records.is_claimed(a)
+        self.is_claimed(a)
     }
 
     /// Whether the approval of this key is claimed and may end without a connection.
     pub fn fits_failed(&self, approval: Key) -> bool
         ensures { TellsFitting self.now (acts.Failed approval.number) result }
     {
-        self.records.is_claimed(approval)
+        self.is_claimed(approval)
     }
 
     /// Whether a handle may be added: while one is alive.

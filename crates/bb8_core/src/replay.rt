@@ -90,17 +90,13 @@ fn fits_at<C: Drop>(pool: &PoolInternals<C>, act: Act, place: usize) -> bool
     ensures { (l : Ledger C) → IsLegal l → Means l pool.now → result ≡ fits_named l act }
 {
     match act {
-        Act::Begin => pool.fits_begin(),
-        Act::Add(_) => pool.fits_add(),
+        Act::Begin | Act::Add(_) => pool.fits_begin(),
         Act::Try(number) => pool.fits_try(GetKey { number, place }),
         Act::CheckedOk(number) => pool.fits_checked_ok(GetKey { number, place }),
         Act::CheckedErr(number, _) => pool.fits_checked_err(GetKey { number, place }),
-        Act::GiveUp(number, _, _) => {
-            let get = GetKey { number, place };
-            pool.fits_give_up(get, pool.held(get).is_some())
-        }
-        Act::PutBack(number, _) => pool.fits_put_back(Key { number, place }),
-        Act::Opened(number) => pool.fits_opened(Key { number, place }),
+        Act::GiveUp(number, _, _) => pool.is_alive(GetKey { number, place }),
+        Act::PutBack(number, _) => pool.is_guarded(Key { number, place }),
+        Act::Opened(number) => pool.is_claimed(Key { number, place }),
         Act::Failed(number) => pool.fits_failed(Key { number, place }),
         Act::Join => pool.fits_join(),
         Act::Leave => pool.fits_leave(),

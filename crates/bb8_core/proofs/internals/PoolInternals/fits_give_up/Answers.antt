@@ -16,22 +16,17 @@ agrees true false = refl
 agrees false true = refl
 agrees false false = refl
 
-pub returns-in-None-clause-alive : goal.returns-in-None-clause-alive
-returns-in-None-clause-alive g c = λ l legal means.
-    sym (ap (λ (o : Option Getting). is_some o && agree c.args.handing_in (is_some (holds o)))
+pub returns-in-None : goal.returns-in-None
+returns-in-None g c = λ why held broken handed l legal means.
+    sym (ap (λ (o : Option Getting). is_some o && agree (is_some held) (is_some (holds o)))
     (shown_get l (view_of c.self.inside) (as_shown l (sym c.self.view_is) means) c.args.get.number)
-    ∙ asked_none c.args.handing_in (get c.self.inside.gets.places c.args.get.number) (sym c.holds.ensures ∙ c.in-None.is))
+    ∙ asked_none (is_some held) (get c.self.inside.gets.places c.args.get.number) (sym c.holds.ensures ∙ c.in-None.is))
 
-pub returns-in-None-clause-fits : goal.returns-in-None-clause-fits
-returns-in-None-clause-fits g c = λ why held broken handed l legal means. rw handed (returns-in-None-clause-alive g c l legal means)
-
-pub returns-in-Some-clause-alive : goal.returns-in-Some-clause-alive
-returns-in-Some-clause-alive g c = λ l legal means.
+pub returns-in-Some : goal.returns-in-Some
+returns-in-Some g c = λ why held broken handed l legal means.
     agrees c.is_some.result c.args.handing_in
-    ∙ ap (agree c.args.handing_in) c.is_some.ensures
-    ∙ sym (ap (λ (o : Option Getting). is_some o && agree c.args.handing_in (is_some (holds o)))
+    ∙ ap (λ (b : Bool). agree b c.is_some.result) (sym handed)
+    ∙ ap (agree (is_some held)) c.is_some.ensures
+    ∙ sym (ap (λ (o : Option Getting). is_some o && agree (is_some held) (is_some (holds o)))
     (shown_get l (view_of c.self.inside) (as_shown l (sym c.self.view_is) means) c.args.get.number)
-    ∙ asked_some c.args.handing_in (get c.self.inside.gets.places c.args.get.number) c.in-Some.held (sym c.holds.ensures ∙ c.in-Some.is))
-
-pub returns-in-Some-clause-fits : goal.returns-in-Some-clause-fits
-returns-in-Some-clause-fits g c = λ why held broken handed l legal means. rw handed (returns-in-Some-clause-alive g c l legal means)
+    ∙ asked_some (is_some held) (get c.self.inside.gets.places c.args.get.number) c.in-Some.held (sym c.holds.ensures ∙ c.in-Some.is))
