@@ -11,8 +11,7 @@ ghost use Rattle.bb8_tables.specs.Views.{no_gets};
 ghost use Rattle.bb8_types.specs.Bounds.{end_of_numbers};
 
 use crate::keys::{GetKey, Key};
-pub use crate::table::held;
-use crate::table::{Lendings, Slot, Table};
+use crate::table::{Lendings, Slot, Table, held};
 use bb8_types::bounds::END_OF_NUMBERS;
 use bb8_types::standing::{GetPlace, Getting};
 use std::alloc::{AllocError, Global};
