@@ -27,18 +27,18 @@ use Rattle.bb8_tables.specs.Views.{ShownRecords, NoneAfter}
 module _ {C : Type 0} where
   -- what a ledger shows, where nothing was lent
   abbrev pub shown : Ledger C → Shown C
-  shown l = shown_beside 0 l
+  shown l = shown_beside 0 0 l
 
   -- a state, whatever was lent
   abbrev pub unexamined : Shown C → Shown C
-  unexamined s = record s { examined = 0 }
+  unexamined s = record s { lent = 0; mark = 0 }
 
   -- what was lent tells nothing of the ledger
   pub bare : {s : Shown C} (l : Ledger C) → Means l s → shown l ≡ unexamined s
   bare l means = ap unexamined means
 
   pub beside : {s : Shown C} (l : Ledger C) → shown l ≡ unexamined s → Means l s
-  beside {s} l is = ap (λ (t : Shown C). record t { examined = s.examined }) is
+  beside {s} l is = ap (λ (t : Shown C). record t { lent = s.lent; mark = s.mark }) is
 
   -- the fields are what is shown
   pub as_shown : {s t : Shown C} (l : Ledger C) → s ≡ t → Means l s → Means l t

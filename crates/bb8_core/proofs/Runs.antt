@@ -1,20 +1,43 @@
 -- Runs: what a state says of its ledger's numbers, an event that does not fit, and lists of events.
-use Rattle.std.proofs.Common.{◌≡◌, ℕ, zero, suc, Bool, false, ◌&&◌, is_some, List, [], ◌∷◌, ◌++◌, take, length, Option, Some, None, IsSome, IfSome, IfNone, refl, sym, ap, ◌∙◌, subst}
+use Rattle.std.proofs.Common.{◌≡◌, ℕ, zero, suc, Bool, true, false, option_map, ◌&&◌, is_some, List, [], ◌∷◌, ◌++◌, take, length, Option, Some, None, IsSome, IfSome, IfNone, refl, sym, ap, ◌∙◌, subst}
 use Rattle.std.specs.FinMap.{get}
 use Rattle.bb8_tables.specs.declared.keys.Key.{Key}
 use Rattle.bb8_tables.specs.declared.keys.GetKey.{GetKey}
 use Rattle.bb8_core.specs.declared.replay.events.Event.{Event}
 use Rattle.bb8_core.specs.declared.replay.events.Answer.{Answer as Told}
 use Rattle.bb8_types.specs.declared.standing.Getting.{Getting}
-use Rattle.bb8_ledger.specs.Acts.{Act, Try, GiveUp, Reason}
+use Rattle.bb8_ledger.specs.Acts.{Act, Try}
 use Rattle.bb8_ledger.specs.Answers.{Unfit}
-use Rattle.bb8_ledger.specs.Ledger.{Ledger, Later}
+use Rattle.bb8_ledger.specs.Ledger.{Ledger, Later, get_of}
 use Rattle.bb8_types.specs.Places.{gets_stand, holds, is_trying}
 use Rattle.bb8_ledger.specs.Table.{fits, agree, Allowed, IsLegal}
 use Rattle.bb8_core.specs.Shown.{Shown, Means, IsRecordIn, IsNoRecordIn, IsGetIn, IsNoGetIn}
-use Rattle.bb8_core.specs.Run.{act_of, answer_of, IsRun, AfterEach}
+use Rattle.bb8_core.specs.declared.replay.events.Act.TheVariants as named
+use Rattle.bb8_core.specs.declared.replay.events.Act.{Act as Named}
+use Rattle.bb8_core.specs.Run.{act_with, act_of, fits_named, answer_of, IsRun, AfterEach}
 use Rattle.bb8_core.proofs.Fitting.{shown, bare, beside, as_shown, shown_record, shown_get}
 use Rattle.bb8_core.proofs.Steps.{unfitting, same_shown, records_kept, gets_kept}
+
+-- what a get holds, where it is alive
+abbrev pub holding : Option Getting → Option (Option ℕ)
+holding = option_map (λ (x : Getting). holds (Some x))
+
+pub held_none : (o : Option Getting) → holding o ≡ None → o ≡ None
+held_none None e = refl
+held_none (Some x) e = cc
+
+pub held_some : (o : Option Getting) (k : Option ℕ) → holding o ≡ Some k → (is_some o ≡ true) × (holds o ≡ k)
+held_some None k e = cc
+held_some (Some x) k e = (refl, let both : Some (holds (Some x)) ≡ Some k = e in let same : holds (Some x) ≡ k = cc in same)
+
+-- what is asked of a give-up, by what the get holds
+pub asked_none : (b : Bool) (o : Option Getting) → holding o ≡ None → (is_some o && agree b (is_some (holds o))) ≡ false
+asked_none b o e = ap (λ (x : Option Getting). is_some x && agree b (is_some (holds x))) (held_none o e)
+
+pub asked_some : (b : Bool) (o : Option Getting) (k : Option ℕ) → holding o ≡ Some k → (is_some o && agree b (is_some (holds o))) ≡ agree b (is_some k)
+asked_some b o k e =
+    let h = held_some o k e in
+    ap (λ (a : Bool). a && agree b (is_some (holds o))) h.0 ∙ ap (λ (x : Option ℕ). agree b (is_some x)) h.1
 
 module _ {C : Type 0} where
   -- ---- what a look-up says of the ledger
@@ -39,15 +62,37 @@ module _ {C : Type 0} where
   pub shown_try : (l : Ledger C) (s : Shown C) (g : ℕ) → Means l s → fits l (Try g) ≡ gets_stand is_trying (get s.gets.places g)
   shown_try l s g means = ap (gets_stand is_trying) (shown_get l s means g)
 
-  -- and which give-ups: the get is alive, and a connection is handed in just where it holds one
-  pub shown_give_up : (l : Ledger C) (s : Shown C) (g : ℕ) (why : Reason) (held : Option C) (broken : Bool) → Means l s
-      → fits l (GiveUp g why held broken) ≡ (is_some (get s.gets.places g) && agree (is_some held) (is_some (holds (get s.gets.places g))))
-  shown_give_up l s g why held broken means = ap (λ (o : Option Getting). is_some o && agree (is_some held) (is_some (holds o))) (shown_get l s means g)
+  -- whether an event fits does not depend on the connection that it hands in
+  hands_in : (conn : ℕ → C) (o : Option Getting) → (is_some o && agree (is_some (option_map conn (holds o))) (is_some (holds o))) ≡ is_some o
+  hands_in conn None = refl
+  hands_in conn (Some x) = each (holds (Some x))
+    where
+      each : (k : Option ℕ) → agree (is_some (option_map conn k)) (is_some k) ≡ true
+      each None = refl
+      each (Some k) = refl
+
+  pub as_named : (conn : ℕ → C) (l : Ledger C) (e : Named) → fits l (act_with conn l e) ≡ fits_named l e
+  as_named conn l named.Begin = refl
+  as_named conn l (named.Try g) = refl
+  as_named conn l (named.CheckedOk g) = refl
+  as_named conn l (named.CheckedErr g broken) = refl
+  as_named conn l (named.GiveUp g why broken) = hands_in conn (get_of l g)
+  as_named conn l (named.PutBack k broken) = refl
+  as_named conn l (named.Fill claimed) = refl
+  as_named conn l named.Claim = refl
+  as_named conn l (named.Opened a) = refl
+  as_named conn l (named.Failed a) = refl
+  as_named conn l (named.Add broken) = refl
+  as_named conn l named.Reap = refl
+  as_named conn l named.State = refl
+  as_named conn l named.Join = refl
+  as_named conn l named.Leave = refl
+  as_named conn l named.Look = refl
 
   -- ---- an event that does not fit changes nothing
 
   unfit_shown : (l : Ledger C) (at : ℕ) (e : Act C) → shown (Later l at e Unfit) ≡ shown l
-  unfit_shown l at e = same_shown _ _ refl refl refl refl (records_kept l) (gets_kept l) refl
+  unfit_shown l at e = same_shown _ _ refl refl refl refl refl (records_kept l) (gets_kept l) refl
 
   pub unfit_now : (l : Ledger C) (s : Shown C) (at : ℕ) (e : Act C) → fits l e ≡ false → Means l s → Allowed l at e Unfit × Means (Later l at e Unfit) s
   unfit_now l s at e misfit means = (unfitting (fits l e) _ _ misfit refl, beside (Later l at e Unfit) (unfit_shown l at e ∙ bare l means))

@@ -14,5 +14,6 @@ module _ {C : Type 0} where
     records = a.records;
     gets = a.gets;
     counts = counts_held a.counters;
-    examined = a.lendings;
+    lent = a.lendings;
+    mark = a.mark;
   }

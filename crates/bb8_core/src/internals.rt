@@ -14,7 +14,7 @@ ghost use Rattle.bb8_types.specs.Figures.{figures_of};
 ghost use Rattle.bb8_core.specs.Endings.{endings_of};
 ghost use Rattle.bb8_core.specs.Run.{opening};
 ghost use Rattle.bb8_core.specs.Parts.{out_of};
-ghost use Rattle.bb8_core.specs.Shown.{Means, Meets, IsFitting, TellsFitting, IsRecordIn, IsNoRecordIn, IsGetIn, IsNoGetIn, IsWithinLimits};
+ghost use Rattle.bb8_core.specs.Shown.{Means, Meets, Lends, examined, IsFitting, TellsFitting, TellsRecord, TellsGet, IsRecordIn, IsNoRecordIn, IsGetIn, IsNoGetIn, IsWithinLimits};
 ghost use Rattle.bb8_core.specs.StepAnswers.{begin_told, try_told, checked_ok_told, checked_err_told, reason_of, give_up_told, put_back_told, claim_told, opened_told, failed_told, add_told, reap_told, join_told, leave_told, look_told, HandsOut, ServesAtOnce, NoneAtOnce, GivesBack, GivesBackInvalid, GivesBackHeld, HandsBack, Refuses, closed_in};
 ghost use Rattle.bb8_types.specs.declared.standing.Holder.TheVariants.{Guard, Get};
 ghost use Rattle.bb8_types.specs.declared.standing.Standing.{Standing};
@@ -26,10 +26,10 @@ pub use crate::answers::{
     GiveUpAnswer, JoinAnswer, LeaveAnswer, Looked, OpenedAnswer, PutBackAnswer, ReapAnswer,
     TryAnswer,
 };
+use bb8_tables::Lendings;
 use bb8_tables::counters::Counters;
-use bb8_tables::gets::{Gets, first_wait, held, held_key, is_notified, is_unnotified};
+use bb8_tables::gets::{Gets, first_wait, held_key, is_notified, is_unnotified};
 pub use bb8_tables::keys::{GetKey, Key};
-use bb8_tables::lendings::Lendings;
 use bb8_tables::records::{Records, one};
 use bb8_types::api::{Config, Moment, State};
 pub use bb8_types::grants::Grant;
@@ -51,6 +51,7 @@ pub struct PoolInternals<C> {
     gets: Gets,
     counters: Counters,
     lendings: Lendings,
+    mark: u64,
 }
 
 impl<C> Model for PoolInternals<C> {
@@ -113,7 +114,6 @@ fn is_closing(broken: bool, expired: bool, handles: u64) -> bool
 
 /// Notifies the oldest waiter that was not notified, where the test passes.
 fn hand_on(gets: &mut Gets, test: bool, lendings: &mut Lendings) -> Option<GetKey>
-    requires { lendings.old < end_of_numbers }
     ensures value { notified_of result ≡ cond test (slice_get gets.old.waiting 0) None }
     ensures state { gets.new ≡ machine.after_notice (notified_of result) gets.old }
     ensures examined { lendings.new ≤ lendings.old + 1 }
@@ -165,14 +165,16 @@ impl<C: Drop> PoolInternals<C> {
         requires { is_lawful (settings_of config) ≡ true }
         ensures { Means (opening config first_number first_get) result }
     {
+        let (records, lendings) = Records::new(alloc, first_number);
         PoolInternals {
             config,
             latest: 0,
             handles: 1,
-            records: Records::new(alloc, first_number),
+            records,
             gets: Gets::new(alloc, first_get),
             counters: Counters::NONE,
-            lendings: Lendings::none(),
+            lendings,
+            mark: 0,
         }
     }
 
@@ -188,19 +190,19 @@ impl<C: Drop> PoolInternals<C> {
 
     /// How many entries of its tables the latest step lent: each time what stands at a place was read or changed. Our own.
     pub fn examined(&self) -> u64
-        ensures { result ≡ self.now.examined }
+        ensures { result ≡ examined self.now }
     {
-        self.lendings.examined()
+        self.lendings.lent().saturating_sub(self.mark)
     }
 
     /// Begins a get. Memory is asked for only where as many gets are alive as ever were.
     pub fn begin(&mut self, at: Moment) -> BeginAnswer
         requires { IsFitting self.old acts.Begin }
         ensures step { Meets self.old at.0 acts.Begin (begin_told result) self.new }
-        ensures examined { self.new.examined ≤ 4 }
+        ensures examined { Lends 4 self.old self.new }
     {
         self.latest = self.latest.max(at.0);
-        self.lendings = Lendings::none();
+        self.mark = self.lendings.lent();
         if !self.gets.has_number() {
             return BeginAnswer::Exhausted;
         }
@@ -221,19 +223,22 @@ impl<C: Drop> PoolInternals<C> {
         ensures some { IfSome result (λ served. ServesAtOnce self.old at.0 served self.new) }
         ensures none { IfNone result (self.new ≡ self.old) }
         ensures cause { IfNone result (NoneAtOnce self.old) }
-        ensures examined { IfSome result (λ served. self.new.examined ≤ 4) }
+        ensures examined { IfSome result (λ served. Lends 4 self.old self.new) }
     {
         if !self.gets.has_room() {
             return None;
         }
         let strategy = self.config.queue_strategy;
-        let mut lendings = Lendings::none();
-        match self.records.take(strategy, Holder::Guard, &mut lendings) {
+        let mark = self.lendings.lent();
+        match self
+            .records
+            .take(strategy, Holder::Guard, &mut self.lendings)
+        {
             None => None,
             Some((key, conn)) => {
                 let now = self.latest.max(at.0);
                 self.latest = now;
-                self.lendings = lendings;
+                self.mark = mark;
                 let get = self.gets.pass();
                 self.counters.started += 1;
                 self.counters.serve(None, now);
@@ -256,11 +261,11 @@ impl<C: Drop> PoolInternals<C> {
         requires { IsFitting self.old (acts.Try get.number) }
         ensures step { Meets self.old at.0 (acts.Try get.number) (try_told result) self.new }
         ensures connection { HandsOut self.old result }
-        ensures examined { self.new.examined ≤ 4 }
+        ensures examined { Lends 4 self.old self.new }
     {
         let now = self.latest.max(at.0);
         self.latest = now;
-        self.lendings = Lendings::none();
+        self.mark = self.lendings.lent();
         let getting = self.gets.getting(get, &mut self.lendings);
         if is_unnotified(getting) {
             return TryAnswer::Waiting(Grant::of_nothing(self.records.next_number()));
@@ -299,11 +304,11 @@ impl<C: Drop> PoolInternals<C> {
         requires { IsFitting self.old (acts.CheckedOk get.number) }
         ensures step { Meets self.old at.0 (acts.CheckedOk get.number)
             (checked_ok_told self.old.records.next result) self.new }
-        ensures examined { self.new.examined ≤ 4 }
+        ensures examined { Lends 4 self.old self.new }
     {
         let now = self.latest.max(at.0);
         self.latest = now;
-        self.lendings = Lendings::none();
+        self.mark = self.lendings.lent();
         let getting = self.gets.getting(get, &mut self.lendings);
         let out = held_key(getting, hint);
         let key = self.records.hand_over(out, &mut self.lendings);
@@ -326,11 +331,11 @@ impl<C: Drop> PoolInternals<C> {
         ensures step { Meets self.old at.0 (acts.CheckedErr get.number broken)
             (checked_err_told result) self.new }
         ensures connection { GivesBackInvalid conn result }
-        ensures examined { self.new.examined ≤ 4 }
+        ensures examined { Lends 4 self.old self.new }
     {
         let now = self.latest.max(at.0);
         self.latest = now;
-        self.lendings = Lendings::none();
+        self.mark = self.lendings.lent();
         let key = held_key(self.gets.getting(get, &mut self.lendings), hint);
         let birth = self.records.birth(key, &mut self.lendings);
         let expired = is_expired(&self.config, now, birth);
@@ -356,7 +361,7 @@ impl<C: Drop> PoolInternals<C> {
         ensures step { Meets self.old at.0 (acts.GiveUp get.number (reason_of reason) held broken)
             (give_up_told result) self.new }
         ensures connection { GivesBackHeld held result }
-        ensures examined { self.new.examined ≤ 4 }
+        ensures examined { Lends 4 self.old self.new }
     {
         match held {
             None => self.give_up_free(at, get, reason, broken),
@@ -376,11 +381,11 @@ impl<C: Drop> PoolInternals<C> {
         ensures step { Meets self.old at.0 (acts.GiveUp get.number (reason_of reason) None broken)
             (give_up_told result) self.new }
         ensures connection { GivesBackHeld None result }
-        ensures examined { self.new.examined ≤ 4 }
+        ensures examined { Lends 4 self.old self.new }
     {
         let now = self.latest.max(at.0);
         self.latest = now;
-        self.lendings = Lendings::none();
+        self.mark = self.lendings.lent();
         let getting = self.gets.getting(get, &mut self.lendings);
         self.gets.end(get);
         self.counters.give_up(reason, first_wait(getting), now);
@@ -403,11 +408,11 @@ impl<C: Drop> PoolInternals<C> {
             (acts.GiveUp get.number (reason_of reason) (Some conn) broken)
             (give_up_told result) self.new }
         ensures connection { GivesBackHeld (Some conn) result }
-        ensures examined { self.new.examined ≤ 4 }
+        ensures examined { Lends 4 self.old self.new }
     {
         let now = self.latest.max(at.0);
         self.latest = now;
-        self.lendings = Lendings::none();
+        self.mark = self.lendings.lent();
         let getting = self.gets.getting(get, &mut self.lendings);
         let key = held_key(getting, hint);
         self.gets.finish(get);
@@ -432,11 +437,11 @@ impl<C: Drop> PoolInternals<C> {
         ensures step { Meets self.old at.0 (acts.PutBack k.number conn broken)
             (put_back_told k.number result) self.new }
         ensures connection { GivesBack conn result }
-        ensures examined { self.new.examined ≤ 4 }
+        ensures examined { Lends 4 self.old self.new }
     {
         let now = self.latest.max(at.0);
         self.latest = now;
-        self.lendings = Lendings::none();
+        self.mark = self.lendings.lent();
         let birth = self.records.birth(k, &mut self.lendings);
         let expired = is_expired(&self.config, now, birth);
         if is_closing(broken, expired, self.handles) {
@@ -454,10 +459,10 @@ impl<C: Drop> PoolInternals<C> {
     /// once where that is asked for.
     pub fn fill(&mut self, at: Moment, claimed: bool) -> Grant
         ensures step { Meets self.old at.0 (acts.Fill claimed) (answers.Granted result) self.new }
-        ensures examined { self.new.examined ≤ 4 }
+        ensures examined { Lends 4 self.old self.new }
     {
         self.latest = self.latest.max(at.0);
-        self.lendings = Lendings::none();
+        self.mark = self.lendings.lent();
         let wanted = want(&self.config, self.handles, &self.records);
         self.records.grant(wanted, claimed)
     }
@@ -465,10 +470,10 @@ impl<C: Drop> PoolInternals<C> {
     /// Claims the unclaimed approval of the least number.
     pub fn claim(&mut self, at: Moment) -> ClaimAnswer
         ensures step { Meets self.old at.0 acts.Claim (claim_told result) self.new }
-        ensures examined { self.new.examined ≤ 4 }
+        ensures examined { Lends 4 self.old self.new }
     {
         self.latest = self.latest.max(at.0);
-        self.lendings = Lendings::none();
+        self.mark = self.lendings.lent();
         if self.handles == 0 {
             return ClaimAnswer::Ended;
         }
@@ -482,11 +487,11 @@ impl<C: Drop> PoolInternals<C> {
         ensures step { Meets self.old at.0 (acts.Opened a.number conn)
             (opened_told a.number result) self.new }
         ensures connection { HandsBack conn result }
-        ensures examined { self.new.examined ≤ 4 }
+        ensures examined { Lends 4 self.old self.new }
     {
         let now = self.latest.max(at.0);
         self.latest = now;
-        self.lendings = Lendings::none();
+        self.mark = self.lendings.lent();
         if self.handles == 0 {
             self.records.close(a, true);
             return OpenedAnswer::Late(conn);
@@ -501,10 +506,10 @@ impl<C: Drop> PoolInternals<C> {
     pub fn failed(&mut self, at: Moment, approval: Key) -> FailedAnswer
         requires { IsFitting self.old (acts.Failed approval.number) }
         ensures step { Meets self.old at.0 (acts.Failed approval.number) (failed_told result) self.new }
-        ensures examined { self.new.examined ≤ 4 }
+        ensures examined { Lends 4 self.old self.new }
     {
         self.latest = self.latest.max(at.0);
-        self.lendings = Lendings::none();
+        self.mark = self.lendings.lent();
         self.records.close(approval, true);
         FailedAnswer::GivenBack
     }
@@ -516,11 +521,11 @@ impl<C: Drop> PoolInternals<C> {
         requires { IsFitting self.old (acts.Add conn broken) }
         ensures step { Meets self.old at.0 (acts.Add conn broken) (add_told result) self.new }
         ensures connection { Refuses conn result }
-        ensures examined { self.new.examined ≤ 4 }
+        ensures examined { Lends 4 self.old self.new }
     {
         let now = self.latest.max(at.0);
         self.latest = now;
-        self.lendings = Lendings::none();
+        self.mark = self.lendings.lent();
         if broken {
             return AddAnswer::Broken(conn);
         }
@@ -542,11 +547,11 @@ impl<C: Drop> PoolInternals<C> {
     /// but the latest moment. It looks at the connections that end, at most at those that are out, and at two more.
     pub fn reap(&mut self, at: Moment) -> ReapAnswer
         ensures step { Meets self.old at.0 acts.Reap (reap_told result) self.new }
-        ensures examined { self.new.examined ≤ closed_in result + out_of self.old + 2 }
+        ensures examined { Lends (closed_in result + out_of self.old + 2) self.old self.new }
     {
         let now = self.latest.max(at.0);
         self.latest = now;
-        self.lendings = Lendings::none();
+        self.mark = self.lendings.lent();
         if self.handles == 0 {
             return ReapAnswer::Ended;
         }
@@ -576,10 +581,10 @@ impl<C: Drop> PoolInternals<C> {
             → figures_of result ≡ ledger.figures l }
         ensures size { result.connections ≤ self.old.config.max_size }
         ensures idle { result.idle_connections ≤ result.connections }
-        ensures examined { self.new.examined ≤ 4 }
+        ensures examined { Lends 4 self.old self.new }
     {
         self.latest = self.latest.max(at.0);
-        self.lendings = Lendings::none();
+        self.mark = self.lendings.lent();
         State {
             connections: self.records.connections(),
             idle_connections: self.records.idle_connections(),
@@ -591,10 +596,10 @@ impl<C: Drop> PoolInternals<C> {
     pub fn join(&mut self, at: Moment) -> JoinAnswer
         requires { IsFitting self.old acts.Join }
         ensures step { Meets self.old at.0 acts.Join (join_told result) self.new }
-        ensures examined { self.new.examined ≤ 4 }
+        ensures examined { Lends 4 self.old self.new }
     {
         self.latest = self.latest.max(at.0);
-        self.lendings = Lendings::none();
+        self.mark = self.lendings.lent();
         if self.handles >= u32::MAX as u64 {
             return JoinAnswer::Exhausted;
         }
@@ -608,7 +613,7 @@ impl<C: Drop> PoolInternals<C> {
         ensures { Meets self.old at.0 acts.Leave (leave_told result) self.new }
     {
         self.latest = self.latest.max(at.0);
-        self.lendings = Lendings::none();
+        self.mark = self.lendings.lent();
         if self.handles == 1 {
             self.handles = 0;
             return LeaveAnswer::Left(self.records.leave());
@@ -620,10 +625,10 @@ impl<C: Drop> PoolInternals<C> {
     /// The effective moment, and whether a handle is alive.
     pub fn look(&mut self, at: Moment) -> Looked
         ensures step { Meets self.old at.0 acts.Look (look_told result) self.new }
-        ensures examined { self.new.examined ≤ 4 }
+        ensures examined { Lends 4 self.old self.new }
     {
         self.latest = self.latest.max(at.0);
-        self.lendings = Lendings::none();
+        self.mark = self.lendings.lent();
         Looked {
             moment: Moment(self.latest),
             alive: self.handles > 0,
@@ -676,7 +681,10 @@ impl<C: Drop> PoolInternals<C> {
     pub fn fits_checked_ok(&self, get: GetKey) -> bool
         ensures { TellsFitting self.now (acts.CheckedOk get.number) result }
     {
-        held(self.gets.getting(get, &mut Lendings::none())).is_some()
+        match self.gets.holds(get) {
+            None => false,
+            Some(held) => held.is_some(),
+        }
     }
 
     /// Whether the check of the get may be told as failed, with a connection that is broken or not: where the get holds a connection.
@@ -691,9 +699,9 @@ impl<C: Drop> PoolInternals<C> {
         ensures { (why : acts.Reason) (held : Option C) (broken : Bool) → is_some held ≡ handing_in
             → TellsFitting self.now (acts.GiveUp get.number why held broken) result }
     {
-        match self.gets.getting(get, &mut Lendings::none()) {
+        match self.gets.holds(get) {
             None => false,
-            Some(getting) => held(Some(getting)).is_some() == handing_in,
+            Some(held) => held.is_some() == handing_in,
         }
     }
 
@@ -702,7 +710,31 @@ impl<C: Drop> PoolInternals<C> {
         ensures { (l : ledger.Ledger C) → Means l self.now
             → result ≡ places.holds (ledger.get_of l get.number) }
     {
-        held(self.gets.getting(get, &mut Lendings::none()))
+        match self.gets.holds(get) {
+            None => None,
+            Some(held) => held,
+        }
+    }
+
+    /// Whether the get is alive.
+    pub(crate) fn is_alive(&self, get: GetKey) -> bool
+        ensures { TellsGet (λ g. is_some g) self.now get.number result }
+    {
+        self.gets.is_alive(get)
+    }
+
+    /// Whether the number is a connection that a guard holds.
+    pub(crate) fn is_guarded(&self, k: Key) -> bool
+        ensures { TellsRecord (places.stands places.is_guarded) self.now k.number result }
+    {
+        self.records.is_guarded(k)
+    }
+
+    /// Whether the number is a claimed approval.
+    pub(crate) fn is_claimed(&self, k: Key) -> bool
+        ensures { TellsRecord (places.stands places.is_claimed) self.now k.number result }
+    {
+        self.records.is_claimed(k)
     }
 
     /// Whether a guard may give back a connection of this key, whichever connection is handed in.
@@ -710,21 +742,21 @@ impl<C: Drop> PoolInternals<C> {
         ensures { (conn : C) (broken : Bool)
             → TellsFitting self.now (acts.PutBack k.number conn broken) result }
     {
-        self.records.is_guarded(k)
+        self.is_guarded(k)
     }
 
     /// Whether the approval of this key is claimed and may bring its connection, whichever connection is handed in.
     pub fn fits_opened(&self, a: Key) -> bool
         ensures { (conn : C) → TellsFitting self.now (acts.Opened a.number conn) result }
     {
-        self.records.is_claimed(a)
+        self.is_claimed(a)
     }
 
     /// Whether the approval of this key is claimed and may end without a connection.
     pub fn fits_failed(&self, approval: Key) -> bool
         ensures { TellsFitting self.now (acts.Failed approval.number) result }
     {
-        self.records.is_claimed(approval)
+        self.is_claimed(approval)
     }
 
     /// Whether a handle may be added: while one is alive.

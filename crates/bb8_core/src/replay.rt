@@ -6,7 +6,7 @@ ghost use Rattle.bb8_ledger.specs.Table as table;
 ghost use Rattle.bb8_ledger.specs.Table.{IsLegal};
 ghost use Rattle.bb8_ledger.specs.Limits.{KeepsLimits, KeepsLaws, KeepsPromises};
 ghost use Rattle.bb8_tables.specs.Keys.{notified_of};
-ghost use Rattle.bb8_core.specs.Run.{act_with, answer_of, opening, IsRun, IsTaken, Happens, Applies, AfterEach};
+ghost use Rattle.bb8_core.specs.Run.{act_with, fits_named, answer_of, opening, IsRun, IsTaken, Happens, Applies, AfterEach};
 ghost use Rattle.bb8_core.specs.declared.replay.events.Act.TheVariants as events;
 ghost use Rattle.bb8_types.specs.Settings.{settings_of, is_lawful};
 ghost use Rattle.bb8_core.specs.Shown.{Means, Meets, IsFitting};
@@ -78,27 +78,25 @@ impl Known {
 
 /// Whether the event fits the state. A connection that it hands in does not matter. Our own.
 pub fn fits<C: Drop>(pool: &PoolInternals<C>, event: Event) -> bool
-    ensures { (conn : ℕ → C) (l : Ledger C) → IsLegal l → Means l pool.now → result ≡ table.fits l (act_with conn l event.act) }
+    ensures named { (l : Ledger C) → IsLegal l → Means l pool.now → result ≡ fits_named l event.act }
+    ensures fits { (conn : ℕ → C) (l : Ledger C) → IsLegal l → Means l pool.now
+        → result ≡ table.fits l (act_with conn l event.act) }
 {
     fits_at(pool, event.act, 0)
 }
 
 /// As `fits`, where the number that the event names may stand at the hint.
 fn fits_at<C: Drop>(pool: &PoolInternals<C>, act: Act, place: usize) -> bool
-    ensures { (conn : ℕ → C) (l : Ledger C) → IsLegal l → Means l pool.now → result ≡ table.fits l (act_with conn l act) }
+    ensures { (l : Ledger C) → IsLegal l → Means l pool.now → result ≡ fits_named l act }
 {
     match act {
-        Act::Begin => pool.fits_begin(),
-        Act::Add(_) => pool.fits_add(),
+        Act::Begin | Act::Add(_) => pool.fits_begin(),
         Act::Try(number) => pool.fits_try(GetKey { number, place }),
         Act::CheckedOk(number) => pool.fits_checked_ok(GetKey { number, place }),
         Act::CheckedErr(number, _) => pool.fits_checked_err(GetKey { number, place }),
-        Act::GiveUp(number, _, _) => {
-            let get = GetKey { number, place };
-            pool.fits_give_up(get, pool.held(get).is_some())
-        }
-        Act::PutBack(number, _) => pool.fits_put_back(Key { number, place }),
-        Act::Opened(number) => pool.fits_opened(Key { number, place }),
+        Act::GiveUp(number, _, _) => pool.is_alive(GetKey { number, place }),
+        Act::PutBack(number, _) => pool.is_guarded(Key { number, place }),
+        Act::Opened(number) => pool.is_claimed(Key { number, place }),
         Act::Failed(number) => pool.fits_failed(Key { number, place }),
         Act::Join => pool.fits_join(),
         Act::Leave => pool.fits_leave(),

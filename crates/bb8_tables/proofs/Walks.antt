@@ -217,7 +217,7 @@ module _ {C : Type 0} where
     pub at_is : at ≡ slice_get rest 0
     pub outs : AreOut a.slots passed
     pub steps : told + length passed ≡ counter
-    pub lendings : lent_now ≡ lent + counter
+    pub lendings : lent_now ≤ lent + counter
     pub left : counter + length rest ≡ many
     pub few : old.conns ≤ most_records
     pub many_few : many ≤ old.conns
@@ -299,7 +299,7 @@ module _ {C : Type 0} where
       births_stands = (births_conn.0, births_conn.1)
 
       -- it passes one that is out
-      pub births_out : {next : Option ℕ} {new_lent : ℕ} → Passes config now a.slots place (Out next) → new_lent ≡ lent_now + 1 → InBirths config now old lent many a told next new_lent (counter + 1)
+      pub births_out : {next : Option ℕ} {new_lent : ℕ} → Passes config now a.slots place (Out next) → new_lent ≤ lent_now + 1 → InBirths config now old lent many a told next new_lent (counter + 1)
       births_out {next} {new_lent} p l =
           let same : births_conn.0 ≡ p.0 = let both : Some births_conn.0 ≡ Some p.0 = sym births_conn.1 ∙ p.1 in cc in
           let conn : is_conn p.0.standing.place ≡ true = subst (λ (x : Slot (Standing C)). is_conn x.standing.place ≡ true) same births_conn.2 in
@@ -325,7 +325,7 @@ module _ {C : Type 0} where
         aged_idle : is_idle p.0.standing.place ≡ true
         aged_idle = lives_idle config now p.0.standing p.2
 
-        pub births_aged : {more new_lent : ℕ} → more ≡ told + 1 → new_lent ≡ lent_now + 1
+        pub births_aged : {more new_lent : ℕ} → more ≡ told + 1 → new_lent ≤ lent_now + 1
             → InBirths config now old lent many (record a { slots = slots; conns = a.conns - 1 }) more next new_lent (counter + 1)
         births_aged {more} {new_lent} is l =
             let are = subst (λ (ks : List ℕ). ArePlaces (λ (x : Slot (Standing C)). is_conn x.standing.place) a.slots.slots ks) cut i.good.births.are in

@@ -1,5 +1,6 @@
 //! The gets of a pool.
-ghost use Rattle.std.specs.Prelude.{◌⊎◌, ◌≡◌, ℕ, ◌+◌, ◌<◌, ◌≤◌, max, true, false, IsSome, is_some, ltb, cond, filter, not, eqb, slice_get, IfSome, IfNone, OnOk, OnErr, Some, None, []};
+ghost use Rattle.std.specs.Prelude.{◌⊎◌, ◌≡◌, ℕ, ◌+◌, ◌<◌, ◌≤◌, max, min, true, false, IsSome, is_some, ltb, cond, filter, not, eqb, slice_get, IfSome, IfNone, OnOk, OnErr, Some, None, []};
+ghost use Rattle.std.specs.Option.{option_map};
 ghost use Rattle.std.specs.FinMap as map;
 ghost use Rattle.bb8_types.specs.declared.standing.Getting.{Getting};
 ghost use Rattle.bb8_types.specs.Numbered as numbered;
@@ -10,8 +11,7 @@ ghost use Rattle.bb8_tables.specs.Views.{no_gets};
 ghost use Rattle.bb8_types.specs.Bounds.{end_of_numbers};
 
 use crate::keys::{GetKey, Key};
-use crate::lendings::Lendings;
-use crate::table::{Slot, Table};
+use crate::table::{Lendings, Slot, Table, held};
 use bb8_types::bounds::END_OF_NUMBERS;
 use bb8_types::standing::{GetPlace, Getting};
 use std::alloc::{AllocError, Global};
@@ -38,16 +38,6 @@ impl Model for Gets {
     ghost view = { view_of_gets };
 
     ghost invariant = { AreGoodGets };
-}
-
-/// Whether a get that stands there may try.
-fn is_trying_place(place: GetPlace) -> bool
-    ensures { result ≡ places.is_trying place }
-{
-    match place {
-        GetPlace::Active | GetPlace::Waiting(_) => true,
-        GetPlace::Holding(_) => false,
-    }
 }
 
 /// Whether a get waits that was not notified.
@@ -90,21 +80,6 @@ pub fn first_wait(getting: Option<Getting>) -> Option<u64>
     }
 }
 
-/// The number of the connection that a get holds, if it holds one.
-pub fn held(getting: Option<Getting>) -> Option<u64>
-    ensures { result ≡ places.holds getting }
-{
-    match getting {
-        Some(
-            Getting {
-                place: GetPlace::Holding(number),
-                ..
-            },
-        ) => Some(number),
-        _ => None,
-    }
-}
-
 /// The key of the connection that a get holds, which may stand at the hint; that of the number 0, if it holds none.
 pub fn held_key(getting: Option<Getting>, hint: usize) -> Key
     ensures { (k : ℕ) → places.holds getting ≡ Some k → result.number ≡ k }
@@ -120,9 +95,10 @@ impl Gets {
     pub fn new(alloc: Global, first: u64) -> Self
         ensures { result ≡ no_gets first }
     {
+        let (slots, _) = Table::new(alloc);
         Gets {
             next: first,
-            slots: Table::new(alloc),
+            slots,
             alive: 0,
             peak: 0,
         }
@@ -227,9 +203,9 @@ impl Gets {
     pub fn wait(&mut self, g: GetKey, now: u64, lendings: &mut Lendings)
         requires stands { (x : Getting) × (map.get self.old.places g.number ≡ Some x)
             × (places.is_unnotified x.place ≡ false) }
-        requires few { lendings.old < end_of_numbers }
         ensures state { self.new ≡ machine.after_wait now g.number self.old }
-        ensures examined { lendings.new ≡ lendings.old + 1 }
+        ensures examined { lendings.new ≤ lendings.old + 1 }
+        ensures counted { min (lendings.old + 1) end_of_numbers ≤ lendings.new }
     {
         match self.slots.locate(g.number, g.place) {
             None => {}
@@ -245,9 +221,9 @@ impl Gets {
         requires off { places.is_unnotified place ≡ false }
         requires stands { (x : Getting) × (map.get self.old.places g.number ≡ Some x)
             × (places.is_unnotified x.place ≡ false) }
-        requires few { lendings.old < end_of_numbers }
         ensures state { self.new ≡ machine.after_turn place g.number self.old }
-        ensures examined { lendings.new ≡ lendings.old + 1 }
+        ensures examined { lendings.new ≤ lendings.old + 1 }
+        ensures counted { min (lendings.old + 1) end_of_numbers ≤ lendings.new }
     {
         match self.slots.locate(g.number, g.place) {
             None => {}
@@ -259,10 +235,10 @@ impl Gets {
 
     /// Notifies the oldest waiter that was not notified.
     pub fn notify(&mut self, lendings: &mut Lendings) -> Option<GetKey>
-        requires { lendings.old < end_of_numbers }
         ensures value { notified_of result ≡ slice_get self.old.waiting 0 }
         ensures state { self.new ≡ machine.after_notice (notified_of result) self.old }
-        ensures examined { lendings.new ≡ lendings.old + numbered.one (is_some result) }
+        ensures examined { lendings.new ≤ lendings.old + numbered.one (is_some result) }
+        ensures counted { min (lendings.old + numbered.one (is_some result)) end_of_numbers ≤ lendings.new }
     {
         match self.slots.first() {
             None => None,
@@ -315,9 +291,9 @@ impl Gets {
 
     /// How the get stands, if it is alive.
     pub fn getting(&self, g: GetKey, lendings: &mut Lendings) -> Option<Getting>
-        requires { lendings.old < end_of_numbers }
         ensures value { result ≡ map.get self.now.places g.number }
-        ensures examined { lendings.new ≡ lendings.old + 1 }
+        ensures examined { lendings.new ≤ lendings.old + 1 }
+        ensures counted { min (lendings.old + 1) end_of_numbers ≤ lendings.new }
     {
         match self.slots.slot(g.number, g.place, lendings) {
             None => None,
@@ -329,16 +305,29 @@ impl Gets {
     pub fn is_alive(&self, g: GetKey) -> bool
         ensures { result ≡ is_some (map.get self.now.places g.number) }
     {
-        self.getting(g, &mut Lendings::none()).is_some()
+        match self.slots.locate(g.number, g.place) {
+            None => false,
+            Some(_) => true,
+        }
     }
 
     /// Whether the get may try.
     pub fn is_trying(&self, g: GetKey) -> bool
         ensures { result ≡ places.gets_stand places.is_trying (map.get self.now.places g.number) }
     {
-        match self.getting(g, &mut Lendings::none()) {
+        match self.slots.is_trying(g.number, g.place) {
             None => false,
-            Some(getting) => is_trying_place(getting.place),
+            Some(answer) => answer,
+        }
+    }
+
+    /// The number of the connection that the get, if it is alive, holds, if it holds one. A question lends nothing.
+    pub fn holds(&self, g: GetKey) -> Option<Option<u64>>
+        ensures { result ≡ option_map (λ x. places.holds (Some x)) (map.get self.now.places g.number) }
+    {
+        match self.slots.holds(g.number, g.place) {
+            None => None,
+            Some(held) => Some(held),
         }
     }
 }

@@ -4,8 +4,9 @@
 pub mod counters;
 pub mod gets;
 pub mod keys;
-pub mod lendings;
 mod links;
 pub mod records;
 mod ring;
 mod table;
+
+pub use table::Lendings;

@@ -1,5 +1,5 @@
 //! The connections and approvals of a pool.
-ghost use Rattle.std.specs.Prelude.{◌≡◌, ◌≢◌, ℕ, Bool, true, false, cond, ◌<◌, ◌≤◌, ◌+◌, IsSome, is_some, IfSome, IfNone, IfOk, IfErr, OnOk, OnErr, max, Some, None, slice_get, length, [], ◌∷◌, ◌++◌, ltb};
+ghost use Rattle.std.specs.Prelude.{◌≡◌, ◌≢◌, ℕ, Bool, true, false, cond, ◌<◌, ◌≤◌, ◌+◌, IsSome, is_some, IfSome, IfNone, IfOk, IfErr, OnOk, OnErr, max, min, Some, None, slice_get, length, [], ◌∷◌, ◌++◌, ltb};
 ghost use Rattle.std.specs.FinMap as map;
 ghost use Rattle.bb8_types.specs.Places as places;
 ghost use Rattle.bb8_tables.specs.Machine as machine;
@@ -13,9 +13,8 @@ ghost use Rattle.bb8_types.specs.Bounds.{end_of_numbers, most_records};
 mod reaps;
 
 use crate::keys::Key;
-use crate::lendings::Lendings;
 use crate::ring::Ring;
-use crate::table::{Slot, Table};
+use crate::table::{Lendings, Slot, Table};
 use bb8_types::api::QueueStrategy;
 use bb8_types::bounds::END_OF_NUMBERS;
 use bb8_types::grants::Grant;
@@ -58,24 +57,6 @@ fn connection_of<C: Drop>(place: Place<C>) -> Option<C>
     match place {
         Place::Idle(conn) => Some(conn),
         Place::Unclaimed | Place::Claimed | Place::Held(_) | Place::Guarded => None,
-    }
-}
-
-fn is_claimed_place<C>(place: &Place<C>) -> bool
-    ensures { result ≡ places.is_claimed place.now }
-{
-    match place {
-        Place::Claimed => true,
-        Place::Unclaimed | Place::Idle(_) | Place::Held(_) | Place::Guarded => false,
-    }
-}
-
-fn is_guarded_place<C>(place: &Place<C>) -> bool
-    ensures { result ≡ places.is_guarded place.now }
-{
-    match place {
-        Place::Guarded => true,
-        Place::Unclaimed | Place::Claimed | Place::Idle(_) | Place::Held(_) => false,
     }
 }
 
@@ -125,28 +106,31 @@ pub fn one(test: bool) -> u64
 }
 
 impl<C: Drop> Records<C> {
-    /// No records, which take no memory.
-    pub fn new(alloc: Global, first: u64) -> Self
-        ensures { result ≡ no_records first }
+    /// No records, which take no memory, and the count of what is lent, which is none yet.
+    pub fn new(alloc: Global, first: u64) -> (Self, Lendings)
+        ensures records { result.0 ≡ no_records first }
+        ensures none { result.1 ≡ 0 }
     {
-        Records {
+        let (slots, lendings) = Table::new(alloc);
+        let records = Records {
             next: first,
-            slots: Table::new(alloc),
+            slots,
             unclaimed: Ring::new(alloc),
             conns: 0,
             approved: 0,
             peak: 0,
-        }
+        };
+        (records, lendings)
     }
 
     /// Claims the unclaimed approval of the least number.
     pub fn claim(&mut self, lendings: &mut Lendings) -> Option<Key>
-        requires { lendings.old < end_of_numbers }
         ensures some { IfSome result (λ key. (slice_get self.old.unclaimed 0 ≡ Some key.number)
             × (self.new ≡ machine.after_claim key.number self.old)) }
         ensures none { IfNone result ((slice_get self.old.unclaimed 0 ≡ None)
             × (self.new ≡ self.old)) }
-        ensures examined { lendings.new ≡ lendings.old + numbered.one (is_some result) }
+        ensures examined { lendings.new ≤ lendings.old + numbered.one (is_some result) }
+        ensures counted { min (lendings.old + numbered.one (is_some result)) end_of_numbers ≤ lendings.new }
     {
         match self.unclaimed.pop() {
             None => None,
@@ -165,7 +149,6 @@ impl<C: Drop> Records<C> {
         holder: Holder,
         lendings: &mut Lendings,
     ) -> Option<(Key, C)>
-        requires { lendings.old < end_of_numbers }
         ensures some { IfSome result (λ r. (places.first_of strategy self.old.idle ≡ Some
             r.0.number) × ((birth entered : ℕ)
             × (map.get self.old.places r.0.number ≡ Some
@@ -173,8 +156,9 @@ impl<C: Drop> Records<C> {
             × (self.new ≡ machine.after_take (places.place_with holder) r.0.number
             self.old)) }
         ensures none { IfNone result ((places.first_of strategy self.old.idle ≡ None)
-            × (self.new ≡ self.old)) }
-        ensures examined { lendings.new ≡ lendings.old + numbered.one (is_some result) }
+            × (self.new ≡ self.old) × (lendings.new ≡ lendings.old)) }
+        ensures examined { lendings.new ≤ lendings.old + numbered.one (is_some result) }
+        ensures counted { min (lendings.old + numbered.one (is_some result)) end_of_numbers ≤ lendings.new }
     {
         match self.slots.first_by(strategy) {
             None => None,
@@ -193,10 +177,10 @@ impl<C: Drop> Records<C> {
     pub fn hand_over(&mut self, k: Key, lendings: &mut Lendings) -> Key
         requires out { (s : Standing C) × (map.get self.old.places k.number ≡ Some s)
             × (places.is_out s.place ≡ true) }
-        requires few { lendings.old < end_of_numbers }
         ensures key { result.number ≡ k.number }
         ensures state { self.new ≡ machine.after_handover k.number self.old }
-        ensures examined { lendings.new ≡ lendings.old + 1 }
+        ensures examined { lendings.new ≤ lendings.old + 1 }
+        ensures counted { min (lendings.old + 1) end_of_numbers ≤ lendings.new }
     {
         match self.slots.locate(k.number, k.place) {
             None => k,
@@ -226,11 +210,11 @@ impl<C: Drop> Records<C> {
             (places.birth_in (map.get self.old.places k.number)) }
         requires out { (s : Standing C) × (map.get self.old.places k.number ≡ Some s)
             × (places.comes_from opening s.place ≡ true) }
-        requires few { lendings.old < end_of_numbers }
         ensures state { self.new ≡ machine.after_entry opening k.number
             (record { place = Idle conn; birth = birth; entered = now }) self.old }
         ensures numbers { self.old.next ≤ end_of_numbers }
-        ensures examined { lendings.new ≡ lendings.old + 1 }
+        ensures examined { lendings.new ≤ lendings.old + 1 }
+        ensures counted { min (lendings.old + 1) end_of_numbers ≤ lendings.new }
     {
         match self.slots.locate(k.number, k.place) {
             None => {}
@@ -504,9 +488,9 @@ impl<C: Drop> Records<C> {
 
     /// The birth of the record.
     pub fn birth(&self, k: Key, lendings: &mut Lendings) -> u64
-        requires { lendings.old < end_of_numbers }
         ensures value { result ≡ places.birth_in (map.get self.now.places k.number) }
-        ensures examined { lendings.new ≡ lendings.old + 1 }
+        ensures examined { lendings.new ≤ lendings.old + 1 }
+        ensures counted { min (lendings.old + 1) end_of_numbers ≤ lendings.new }
     {
         match self.slots.slot(k.number, k.place, lendings) {
             None => 0,
@@ -530,9 +514,9 @@ impl<C: Drop> Records<C> {
     pub fn is_claimed(&self, k: Key) -> bool
         ensures { result ≡ places.stands places.is_claimed (map.get self.now.places k.number) }
     {
-        match self.slots.slot(k.number, k.place, &mut Lendings::none()) {
+        match self.slots.is_claimed(k.number, k.place) {
             None => false,
-            Some(slot) => is_claimed_place(&slot.standing.place),
+            Some(answer) => answer,
         }
     }
 
@@ -540,9 +524,9 @@ impl<C: Drop> Records<C> {
     pub fn is_guarded(&self, k: Key) -> bool
         ensures { result ≡ places.stands places.is_guarded (map.get self.now.places k.number) }
     {
-        match self.slots.slot(k.number, k.place, &mut Lendings::none()) {
+        match self.slots.is_guarded(k.number, k.place) {
             None => false,
-            Some(slot) => is_guarded_place(&slot.standing.place),
+            Some(answer) => answer,
         }
     }
 }

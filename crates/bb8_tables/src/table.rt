@@ -1,20 +1,22 @@
 //! A table of places, in which each number stands once, and some stand in line.
-ghost use Rattle.std.specs.Prelude.{◌≡◌, ◌≢◌, ℕ, List, ◌+◌, ◌-◌, ◌<◌, ◌≤◌, IsSome, IfSome, IfNone, OnOk, OnErr, Some, None, option_copied, [], slice_get, slice_set, length, ◌++◌, ◌∷◌, Bool, true, false, cond};
+ghost use Rattle.std.specs.Prelude.{◌≡◌, ◌≢◌, ℕ, List, ◌+◌, ◌-◌, ◌<◌, ◌≤◌, min, IsSome, IfSome, IfNone, OnOk, OnErr, Some, None, option_copied, [], slice_get, slice_set, length, ◌++◌, ◌∷◌, Bool, true, false, cond};
 ghost use Rattle.bb8_tables.specs.declared.table.Slot.{Slot};
 ghost use Rattle.bb8_tables.specs.declared.links.Order.TheVariants.{Line, Births, Free};
 ghost use Rattle.bb8_types.specs.declared.standing.Standing.{Standing};
 ghost use Rattle.bb8_types.specs.declared.standing.Getting.{Getting};
 ghost use Rattle.bb8_types.specs.Bounds.{end_of_numbers};
-ghost use Rattle.bb8_types.specs.Places.{get_in_wait, first_place};
+ghost use Rattle.bb8_types.specs.Places.{get_in_wait, first_place, is_claimed, is_guarded, is_trying, holds};
 ghost use Rattle.bb8_tables.specs.Machine.{without};
 ghost use Rattle.bb8_tables.specs.Lined.{slot_at, places_of, with_places, is_same};
 ghost use Rattle.bb8_tables.specs.Spelled.{Absent};
 
-use crate::lendings::Lendings;
+mod lendings;
+
 use crate::links::{END, Links, Order, Sizes, Vacant};
 use bb8_types::api::QueueStrategy;
 use bb8_types::bounds::END_OF_NUMBERS;
 use bb8_types::standing::{GetPlace, Getting, Place, Standing};
+pub use lendings::Lendings;
 use std::alloc::{AllocError, Global};
 use std::marker::Model;
 use std::mem;
@@ -47,6 +49,49 @@ impl Vacant for Getting {
     }
 }
 
+fn is_claimed_place<C>(place: &Place<C>) -> bool
+    ensures { result ≡ is_claimed place.now }
+{
+    match place {
+        Place::Claimed => true,
+        Place::Unclaimed | Place::Idle(_) | Place::Held(_) | Place::Guarded => false,
+    }
+}
+
+fn is_guarded_place<C>(place: &Place<C>) -> bool
+    ensures { result ≡ is_guarded place.now }
+{
+    match place {
+        Place::Guarded => true,
+        Place::Unclaimed | Place::Claimed | Place::Idle(_) | Place::Held(_) => false,
+    }
+}
+
+/// Whether a get that stands there may try.
+fn is_trying_place(place: GetPlace) -> bool
+    ensures { result ≡ is_trying place }
+{
+    match place {
+        GetPlace::Active | GetPlace::Waiting(_) => true,
+        GetPlace::Holding(_) => false,
+    }
+}
+
+/// The number of the connection that a get holds, if it holds one.
+pub fn held(getting: Option<Getting>) -> Option<u64>
+    ensures { result ≡ holds getting }
+{
+    match getting {
+        Some(
+            Getting {
+                place: GetPlace::Holding(number),
+                ..
+            },
+        ) => Some(number),
+        _ => None,
+    }
+}
+
 /// Places, with the line of those that stand in it, and those of connections by birth. Ended places are used again.
 #[derive(Drop)]
 pub struct Table<S> {
@@ -68,11 +113,12 @@ impl<S> Model for Table<S> {
 }
 
 impl<S: Drop> Table<S> {
-    /// An empty table, which takes no memory.
-    pub fn new(alloc: Global) -> Self
-        ensures { result ≡ record { slots = []; line = []; births = []; free = [] } }
+    /// An empty table, which takes no memory, and a count of what is lent, which is none yet.
+    pub fn new(alloc: Global) -> (Self, Lendings)
+        ensures table { result.0 ≡ record { slots = []; line = []; births = []; free = [] } }
+        ensures none { result.1 ≡ 0 }
     {
-        Table {
+        let table = Table {
             links: Links {
                 entries: Vec::new(alloc),
             },
@@ -81,7 +127,8 @@ impl<S: Drop> Table<S> {
                 births: 0,
                 free: 0,
             },
-        }
+        };
+        (table, Lendings::none())
     }
 
     /// The place at the old end of an order, which has one.
@@ -218,17 +265,14 @@ impl<S: Drop> Table<S> {
         }
     }
 
-    /// What stands under the number: at the hint, or else where a search finds it.
+    /// What stands under the number, for this file alone.
     #[inline]
-    pub fn slot(&self, number: u64, hint: usize, lendings: &mut Lendings) -> Option<&Slot<S>>
-        requires { lendings.old < end_of_numbers }
+    fn seen(&self, number: u64, hint: usize) -> Option<&Slot<S>>
         ensures some { IfSome (option_copied result)
             (λ x. (i : ℕ) × (slot_at self.now i ≡ Some x) × (x.number ≡ number)) }
         ensures none { IfNone (option_copied result)
             ((i : ℕ) (x : Slot S) → slot_at self.now i ≡ Some x → x.number ≢ number) }
-        ensures examined { lendings.new ≡ lendings.old + 1 }
     {
-        lendings.lend();
         match self.links.found(number, hint) {
             Some(slot) => Some(slot),
             None => match self.search(number) {
@@ -236,6 +280,19 @@ impl<S: Drop> Table<S> {
                 Some(place) => self.links.found(number, place),
             },
         }
+    }
+
+    /// What stands under the number: at the hint, or else where a search finds it. One entry is lent.
+    #[inline]
+    pub fn slot(&self, number: u64, hint: usize, lendings: &mut Lendings) -> Option<&Slot<S>>
+        ensures some { IfSome (option_copied result)
+            (λ x. (i : ℕ) × (slot_at self.now i ≡ Some x) × (x.number ≡ number)) }
+        ensures none { IfNone (option_copied result)
+            ((i : ℕ) (x : Slot S) → slot_at self.now i ≡ Some x → x.number ≢ number) }
+        ensures examined { lendings.new ≡ min (lendings.old + 1) end_of_numbers }
+    {
+        lendings.lend();
+        self.seen(number, hint)
     }
 
     /// The number of what stands at a place.
@@ -251,9 +308,8 @@ impl<S: Drop> Table<S> {
     #[inline]
     pub fn at(&self, place: usize, lendings: &mut Lendings) -> &Slot<S>
         requires stands { IsSome (slot_at self.now place) }
-        requires few { lendings.old < end_of_numbers }
         ensures value { slot_at self.now place ≡ Some result.now }
-        ensures examined { lendings.new ≡ lendings.old + 1 }
+        ensures examined { lendings.new ≡ min (lendings.old + 1) end_of_numbers }
     {
         lendings.lend();
         &self.links.entries[place].slot
@@ -366,14 +422,13 @@ impl<S: Drop> Table<S> {
     #[inline]
     pub fn replace(&mut self, place: usize, standing: S, lendings: &mut Lendings) -> S
         requires stands { IsSome (slot_at self.old place) }
-        requires few { lendings.old < end_of_numbers }
         ensures value { (x : Slot S) → slot_at self.old place ≡ Some x → result ≡ x.standing }
         ensures changed { (x : Slot S) → slot_at self.old place ≡ Some x
             → self.new ≡ record self.old {
               slots =
                   slice_set self.old.slots place (Some (record x { standing = standing }));
             } }
-        ensures examined { lendings.new ≡ lendings.old + 1 }
+        ensures examined { lendings.new ≡ min (lendings.old + 1) end_of_numbers }
     {
         lendings.lend();
         mem::replace(&mut self.links.entries[place].slot.standing, standing)
@@ -481,11 +536,38 @@ impl<S: Drop + Vacant> Table<S> {
 }
 
 impl<C: Drop> Table<Standing<C>> {
+    /// Whether the record of that number, if it stands, is a claimed approval. A question lends nothing.
+    pub fn is_claimed(&self, number: u64, hint: usize) -> Option<bool>
+        ensures some { IfSome result (λ b. (i : ℕ) × (x : Slot (Standing C))
+            × (slot_at self.now i ≡ Some x) × (x.number ≡ number)
+            × (b ≡ is_claimed x.standing.place)) }
+        ensures none { IfNone result ((i : ℕ) (x : Slot (Standing C)) → slot_at self.now i ≡ Some x
+            → x.number ≢ number) }
+    {
+        match self.seen(number, hint) {
+            None => None,
+            Some(slot) => Some(is_claimed_place(&slot.standing.place)),
+        }
+    }
+
+    /// Whether the record of that number, if it stands, is a connection that a guard holds. A question lends nothing.
+    pub fn is_guarded(&self, number: u64, hint: usize) -> Option<bool>
+        ensures some { IfSome result (λ b. (i : ℕ) × (x : Slot (Standing C))
+            × (slot_at self.now i ≡ Some x) × (x.number ≡ number)
+            × (b ≡ is_guarded x.standing.place)) }
+        ensures none { IfNone result ((i : ℕ) (x : Slot (Standing C)) → slot_at self.now i ≡ Some x
+            → x.number ≢ number) }
+    {
+        match self.seen(number, hint) {
+            None => None,
+            Some(slot) => Some(is_guarded_place(&slot.standing.place)),
+        }
+    }
+
     /// Has the record at a place stand elsewhere, and tells its number and where it stood.
     #[inline]
     pub fn put(&mut self, at: usize, place: Place<C>, lendings: &mut Lendings) -> (u64, Place<C>)
         requires stands { IsSome (slot_at self.old at) }
-        requires few { lendings.old < end_of_numbers }
         ensures number { (x : Slot (Standing C)) → slot_at self.old at ≡ Some x
             → result.0 ≡ x.number }
         ensures value { (x : Slot (Standing C)) → slot_at self.old at ≡ Some x
@@ -495,7 +577,7 @@ impl<C: Drop> Table<Standing<C>> {
               slots = slice_set self.old.slots at
                   (Some (record x { standing = record x.standing { place = place } }));
             } }
-        ensures examined { lendings.new ≡ lendings.old + 1 }
+        ensures examined { lendings.new ≡ min (lendings.old + 1) end_of_numbers }
     {
         lendings.lend();
         let slot = &mut self.links.entries[at].slot;
@@ -504,18 +586,45 @@ impl<C: Drop> Table<Standing<C>> {
 }
 
 impl Table<Getting> {
+    /// Whether the get of that number, if it is alive, may try. A question lends nothing.
+    pub fn is_trying(&self, number: u64, hint: usize) -> Option<bool>
+        ensures some { IfSome result (λ b. (i : ℕ) × (x : Slot Getting)
+            × (slot_at self.now i ≡ Some x) × (x.number ≡ number)
+            × (b ≡ is_trying x.standing.place)) }
+        ensures none { IfNone result ((i : ℕ) (x : Slot Getting) → slot_at self.now i ≡ Some x
+            → x.number ≢ number) }
+    {
+        match self.seen(number, hint) {
+            None => None,
+            Some(slot) => Some(is_trying_place(slot.standing.place)),
+        }
+    }
+
+    /// The number of the connection that the get of that number, if it is alive, holds, if it holds one. A question lends nothing.
+    pub fn holds(&self, number: u64, hint: usize) -> Option<Option<u64>>
+        ensures some { IfSome result (λ k. (i : ℕ) × (x : Slot Getting)
+            × (slot_at self.now i ≡ Some x) × (x.number ≡ number)
+            × (k ≡ holds (Some x.standing))) }
+        ensures none { IfNone result ((i : ℕ) (x : Slot Getting) → slot_at self.now i ≡ Some x
+            → x.number ≢ number) }
+    {
+        match self.seen(number, hint) {
+            None => None,
+            Some(slot) => Some(held(Some(slot.standing))),
+        }
+    }
+
     /// Has the get at a place stand elsewhere, and tells its number.
     #[inline]
     pub fn turn(&mut self, at: usize, place: GetPlace, lendings: &mut Lendings) -> u64
         requires stands { IsSome (slot_at self.old at) }
-        requires few { lendings.old < end_of_numbers }
         ensures number { (x : Slot Getting) → slot_at self.old at ≡ Some x → result ≡ x.number }
         ensures changed { (x : Slot Getting) → slot_at self.old at ≡ Some x
             → self.new ≡ record self.old {
               slots = slice_set self.old.slots at
                   (Some (record x { standing = record x.standing { place = place } }));
             } }
-        ensures examined { lendings.new ≡ lendings.old + 1 }
+        ensures examined { lendings.new ≡ min (lendings.old + 1) end_of_numbers }
     {
         lendings.lend();
         let slot = &mut self.links.entries[at].slot;
@@ -527,13 +636,12 @@ impl Table<Getting> {
     #[inline]
     pub fn wait(&mut self, at: usize, now: u64, lendings: &mut Lendings)
         requires stands { IsSome (slot_at self.old at) }
-        requires few { lendings.old < end_of_numbers }
         ensures changed { (x : Slot Getting) → slot_at self.old at ≡ Some x
             → self.new ≡ record self.old {
               slots = slice_set self.old.slots at
                   (Some (record x { standing = get_in_wait now x.standing }));
             } }
-        ensures examined { lendings.new ≡ lendings.old + 1 }
+        ensures examined { lendings.new ≡ min (lendings.old + 1) end_of_numbers }
     {
         lendings.lend();
         let standing = &mut self.links.entries[at].slot.standing;

@@ -87,6 +87,8 @@ fn succeeds_both_ends_of_a_check(rt: HostRuntime) {
     let get = begun(&rt, &mut pool);
     assert_equal(&rt, fitting(&pool, 0), (true, false, false, false));
     let (key, conn, grant) = taken_by(&rt, &mut pool, get);
+    // The get is looked at, the connection goes out, and the get holds it.
+    assert_equal(&rt, pool.examined(), 3);
     assert_equal(
         &rt,
         (key.number, &conn, grant),
@@ -96,6 +98,8 @@ fn succeeds_both_ends_of_a_check(rt: HostRuntime) {
     let Some(CheckedOkAnswer::Served(key)) = checked_ok(&mut pool, NOW, get, key.place) else {
         panic!(rt; "the get holds nothing");
     };
+    // The get is looked at, and a guard has the connection.
+    assert_equal(&rt, pool.examined(), 2);
     assert_equal(&rt, key.number, 0);
     assert_equal(&rt, fitting(&pool, 0), (false, false, false, true));
     assert_equal(&rt, pool.state(NOW), served(1, 0, 1, 0));
@@ -109,6 +113,8 @@ fn succeeds_both_ends_of_a_check(rt: HostRuntime) {
     ) else {
         panic!(rt; "somebody was notified");
     };
+    // The get is looked at, and the connection's birth, and the get is active again.
+    assert_equal(&rt, pool.examined(), 3);
     assert_equal(
         &rt,
         (closed.number, conn, grant),
@@ -138,6 +144,8 @@ fn succeeds_give_ups_of_a_held_connection(rt: HostRuntime) {
     ) else {
         panic!(rt; "it was closed, or somebody was notified");
     };
+    // The get is looked at, and the connection's birth, and the connection is idle again.
+    assert_equal(&rt, pool.examined(), 3);
     assert_equal(&rt, kept.number, 0);
     assert!(rt; !pool.fits_give_up(get, true));
     let get = begun(&rt, &mut pool);
@@ -153,6 +161,7 @@ fn succeeds_give_ups_of_a_held_connection(rt: HostRuntime) {
     ) else {
         panic!(rt; "it was kept, or somebody was notified");
     };
+    assert_equal(&rt, pool.examined(), 2);
     assert_equal(
         &rt,
         (closed.number, conn, grant),

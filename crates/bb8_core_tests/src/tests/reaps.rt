@@ -64,14 +64,14 @@ fn crowd(rt: &impl Abort, alloc: Global, old: u64) -> PoolInternals<u64> {
 }
 
 /// Of 1,000 connections three are out, the oldest, and alone old enough, and a reap closes none; where 40 idle ones are as old, it closes
-/// these.
+/// these. It looks at those, at the three, at the next one by birth, and at the one that has been idle longest.
 #[test]
 fn reap_passes_what_is_out_and_old(rt: HostRuntime) {
     for (old, left) in [(0, 1000), (40, 960)] {
         let mut pool = crowd(&rt, rt.alloc(), old);
         assert_equal(&rt, pool.state(Moment(0)).connections, 1000);
         assert_equal(&rt, reap(&rt, &mut pool, Moment(SECOND)), (0, old));
-        assert!(rt; pool.examined() <= old + 5);
+        assert!(rt; pool.examined() == old + 5);
         let state = pool.state(Moment(0));
         assert_equal(&rt, state.connections, left);
         assert_equal(&rt, state.idle_connections, left - 3);
@@ -97,7 +97,7 @@ fn many_idle(rt: &impl Abort, alloc: Global, queue_strategy: QueueStrategy) -> P
     pool
 }
 
-/// All but one are idle for the limit. A reap closes the ten that entered first, by both strategies, and looks at one more at most; once
+/// All but one are idle for the limit. A reap closes the ten that entered first, by both strategies, and looks at no more; once
 /// the last one is idle for the limit, too, nothing is left to close.
 #[test]
 fn reap_spares_what_is_to_be_idle(rt: HostRuntime) {
@@ -107,13 +107,13 @@ fn reap_spares_what_is_to_be_idle(rt: HostRuntime) {
     ] {
         let mut pool = many_idle(&rt, rt.alloc(), queue_strategy);
         assert_equal(&rt, reap(&rt, &mut pool, Moment(SECOND)), (10, 0));
-        assert!(rt; pool.examined() <= 11);
+        assert_equal(&rt, pool.examined(), 10);
         for number in closed {
             assert!(rt; pool.find(number).is_none(), "{number} stays");
         }
         assert!(rt; pool.find(stays).is_some() && pool.find(back).is_some());
         assert_equal(&rt, reap(&rt, &mut pool, Moment(2 * SECOND)), (0, 0));
-        assert!(rt; pool.examined() <= 1);
+        assert_equal(&rt, pool.examined(), 0);
         let state = pool.state(Moment(0));
         assert_equal(&rt, (state.connections, state.idle_connections), (990, 990));
         let (served, _) = serve(&rt, &mut pool, Moment(2 * SECOND));

@@ -14,8 +14,7 @@ ghost use Rattle.bb8_tables.specs.Reaps as reaps;
 ghost use Rattle.bb8_tables.specs.declared.table.Slot.{Slot};
 
 use super::Records;
-use crate::lendings::Lendings;
-use crate::table::Table;
+use crate::table::{Lendings, Table};
 use bb8_types::api::Config;
 use bb8_types::standing::{Place, Standing};
 use std::time::Duration;
@@ -84,9 +83,8 @@ fn pass_birth<C: Drop>(
 ) -> Passed
     requires member { (j : ℕ) × (slice_get slots.now.births j ≡ Some place) }
     requires stands { (x : Slot (Standing C)) × (slot_at slots.now place ≡ Some x) }
-    requires few { lendings.old < end_of_numbers }
     ensures value { Passes (settings_of config.now) now slots.now place result }
-    ensures examined { lendings.new ≡ lendings.old + 1 }
+    ensures examined { lendings.new ≤ lendings.old + 1 }
 {
     let next = slots.next_birth(place);
     let standing = &slots.at(place, lendings).standing;
@@ -103,7 +101,6 @@ fn pass_birth<C: Drop>(
 impl<C: Drop> Records<C> {
     /// Ends the idle connection that entered first, where it is idle too long, and tells whether. One entry is lent, where one is idle.
     fn reap_first(&mut self, config: &Config, now: u64, lendings: &mut Lendings) -> bool
-        requires few { lendings.old < end_of_numbers }
         ensures ends { MatchBool result
             ((k : ℕ) × (slice_get self.old.idle 0 ≡ Some k)
             × EndsFirst (places.idles_out (settings_of config.now) now) self.old k self.new)
@@ -126,7 +123,6 @@ impl<C: Drop> Records<C> {
     /// Ends the connections that are idle too long, from the one that entered first to the first that is not, but spares `min_idle` idle
     /// ones. An entry is lent for each of them, and at most one more; none where no limit is set.
     fn reap_idle(&mut self, config: &Config, now: u64, lendings: &mut Lendings) -> u32
-        requires few { lendings.old + most_records ≤ end_of_numbers }
         ensures ends { (ks : List ℕ)
             × EndsIdle (settings_of config.now) now self.old ks self.new result }
         ensures examined { lendings.new ≤ lendings.old + (result + 1) }
@@ -150,7 +146,6 @@ impl<C: Drop> Records<C> {
     /// Ends the idle connections that live too long, from the one that was born first to the first that does not, and passes those that are
     /// out. An entry is lent for each of both, and at most one more; none where no limit is set.
     fn reap_aged(&mut self, config: &Config, now: u64, lendings: &mut Lendings) -> u32
-        requires few { lendings.old + most_records ≤ end_of_numbers }
         ensures ends { (ks : List ℕ)
             × Ends (places.lives_out (settings_of config.now) now) self.old ks self.new result }
         ensures none_left { (k : ℕ)
@@ -182,7 +177,6 @@ impl<C: Drop> Records<C> {
     /// Ends each idle connection that lives too long, and then those that are idle too long but for `min_idle`, the one that entered first
     /// before the others, and drops them. Entries are lent for those that end, for those that are out, and for two more at most.
     pub fn reap(&mut self, config: &Config, now: u64, lendings: &mut Lendings) -> Reaped
-        requires few { lendings.old ≤ most_records }
         ensures ends { (js : List ℕ) × (ks : List ℕ)
             × reaps.Reaps (settings_of config.now) now self.old js ks self.new result }
         ensures numbers { self.old.next ≤ end_of_numbers }

@@ -9,9 +9,11 @@ use Rattle.bb8_core.proofs.Steps.{led, at_view, fits_view}
 use Rattle.bb8_core.proofs.GetEnds.{meets_passed}
 use Rattle.bb8_core.proofs.internals.PoolInternals.checked_ok.Goals as goal
 
-pub hand_over-key-requires-clause-out : goal.hand_over-key-requires-clause-out
-hand_over-key-requires-clause-out g c = holds_out (view_of c.self.inside) c.args.get.number c.self.invariant c.getting-getting.ensures.value
-    (fit_holds c.args.get.number c.self.view_is c.self.invariant c.requires c.getting-getting.ensures.value c.held_key-out.ensures)
+pub hand_over-key-requires : goal.hand_over-key-requires
+hand_over-key-requires g c = record {
+  out = holds_out (view_of c.self.inside) c.args.get.number c.self.invariant c.getting-getting.ensures.value
+      (fit_holds c.args.get.number c.self.view_is c.self.invariant c.requires c.getting-getting.ensures.value c.held_key-out.ensures);
+}
 
 pub finish-requires : goal.finish-requires
 finish-requires g c = holds_stands (view_of c.self.inside) c.args.get.number c.getting-getting.ensures.value

@@ -9,6 +9,6 @@ pub invariant_of-result : goal.invariant_of-result
 invariant_of-result g c = (
   opening c.args.config c.args.first_number c.args.first_get,
   c.requires,
-  rw (c.new.ensures, c.new-2.ensures)
-      (same_shown _ _ refl refl refl refl (of_records.shown-none c.args.first_number) (of_gets.shown-none c.args.first_get) refl),
+  rw (c.new-records.ensures.records, c.new.ensures)
+      (same_shown _ _ refl refl refl refl refl (of_records.shown-none c.args.first_number) (of_gets.shown-none c.args.first_get) refl),
 )

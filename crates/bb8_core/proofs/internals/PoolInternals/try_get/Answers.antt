@@ -24,8 +24,8 @@ invariant_of-self g c = led _ c.args.at.0 (acts.Try c.args.get.number) (answers.
 pub grant-grant-requires : goal.grant-grant-requires
 grant-grant-requires g c = omega (arith, due_fits (view_of c.self.inside) _ c.self.invariant (omega arith) c.in-None.ensures.none.1 c.used-taken.ensures c.due-due.ensures)
 
-pub wait-requires-clause-stands : goal.wait-requires-clause-stands
-wait-requires-clause-stands g c = fit_waits c.args.get.number c.self.view_is c.self.invariant c.requires c.getting-getting.ensures.value (sym c.is_unnotified.ensures ∙ c.if-is_unnotified.false)
+pub wait-requires : goal.wait-requires
+wait-requires g c = record { stands = fit_waits c.args.get.number c.self.view_is c.self.invariant c.requires c.getting-getting.ensures.value (sym c.is_unnotified.ensures ∙ c.if-is_unnotified.false) }
 
 pub returns-in-None-clause-step : goal.returns-in-None-clause-step
 returns-in-None-clause-step g c = at_view c.args.at.0 (acts.Try c.args.get.number) (answers.Waiting c.grant-grant.result) c.self.view_is

@@ -11,5 +11,5 @@ returns-then-reserve-clause-room c = λ yes answer after applies.
 pub returns-then-is_ending-clause-room : goal.returns-then-is_ending-clause-room
 returns-then-is_ending-clause-room c = λ yes answer after applies.
     let less = one_less c.args.pool.now c.args.event.at.0 c.args.event.act answer after c.limits.ensures.ledger.0 applies
-    (λ l legal means. sym (c.fits.ensures (λ k. k) l legal means) ∙ yes) (sym c.is_ending.ensures ∙ c.if-is_ending.true) in
+    (λ l legal means. sym (c.fits.ensures.fits (λ k. k) l legal means) ∙ yes) (sym c.is_ending.ensures ∙ c.if-is_ending.true) in
     omega arith

@@ -4,8 +4,8 @@ use Rattle.bb8_tables.specs.Views.{ShownGets}
 use Rattle.bb8_tables.proofs.GetPlaces.{first_stands, turned_stands, notice_good, notice_view, first_number, none_first}
 use Rattle.bb8_tables.proofs.gets.Gets.notify.Goals as goal
 
-pub turn-number-requires-clause-stands : goal.turn-number-requires-clause-stands
-turn-number-requires-clause-stands c = first_stands c.self.inside c.in-Some.place c.self.invariant c.in-Some.ensures
+pub turn-number-requires : goal.turn-number-requires
+turn-number-requires c = record { stands = first_stands c.self.inside c.in-Some.place c.self.invariant c.in-Some.ensures }
 
 pub step_out-requires : goal.step_out-requires
 step_out-requires c = turned_stands c.self.inside c.in-Some.place _ c.turn-number.new.self c.self.invariant c.in-Some.ensures c.turn-number.ensures.changed

@@ -79,3 +79,8 @@ pub returns-in-None-clause-examined : goal.returns-in-None-clause-examined
 returns-in-None-clause-examined g c =
     let shows : Shows c.self.inside c.args.k.number (comes_from c.args.opening) = rw (← c.self.view_is) at c.requires.out in
     never_absent c.self.inside c.args.k.number shows.0 _ shows.1 c.in-None.ensures.none
+
+pub returns-in-None-clause-counted : goal.returns-in-None-clause-counted
+returns-in-None-clause-counted g c =
+    let shows : Shows c.self.inside c.args.k.number (comes_from c.args.opening) = rw (← c.self.view_is) at c.requires.out in
+    never_absent c.self.inside c.args.k.number shows.0 _ shows.1 c.in-None.ensures.none

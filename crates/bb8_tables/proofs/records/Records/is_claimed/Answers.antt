@@ -9,6 +9,4 @@ returns-in-None g c = sym (ap (stands is_claimed) (none_shown c.self.inside c.ar
 pub returns-in-Some : goal.returns-in-Some
 returns-in-Some g c =
     let f = c.in-Some.ensures.some in
-    c.is_claimed_place.ensures ∙ sym (ap (stands is_claimed)
-    (some_shown c.self.inside c.args.k.number f.0 c.in-Some.slot.now c.in-Some.slot.now c.args.self.now c.self.invariant c.self.view_is
-    f.1 f.2 (sym f.1)))
+    f.4 ∙ sym (ap (stands is_claimed) (some_shown c.self.inside c.args.k.number f.0 f.1 f.1 c.args.self.now c.self.invariant c.self.view_is f.2 f.3 (sym f.2)))

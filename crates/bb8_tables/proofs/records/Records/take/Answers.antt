@@ -1,4 +1,4 @@
-use Rattle.std.proofs.Common.{refl, ap, sym, ◌∙◌}
+use Rattle.std.proofs.Common.{◌+◌, min, refl, ap, sym, ◌∙◌, arith}
 use Rattle.std.specs.FinMap.{get}
 use Rattle.bb8_types.specs.Places.{first_of, place_with}
 use Rattle.bb8_tables.specs.Machine as machine
@@ -7,14 +7,14 @@ use Rattle.bb8_tables.proofs.RecordPlaces.{first_stands, put_stands, take_good, 
 use Rattle.bb8_tables.proofs.records.Records.take.Goals as goal
 use Rattle.bb8_tables.proofs.records.Records.take.Goals.{in-None-connection_of, in-Some-connection_of}
 
-pub put-number-requires-clause-stands : goal.put-number-requires-clause-stands
-put-number-requires-clause-stands g c = first_stands c.self.inside _ c.in-Some.place c.self.invariant c.in-Some.ensures
+pub put-number-requires : goal.put-number-requires
+put-number-requires g c = record { stands = first_stands c.self.inside _ c.in-Some.place c.self.invariant c.in-Some.ensures }
 
 pub step_out-requires : goal.step_out-requires
 step_out-requires g c = put_stands c.self.inside _ c.in-Some.place _ c.put-number.new.self c.self.invariant c.in-Some.ensures c.put-number.ensures.changed
 
 pub returns-in-None-clause-none : goal.returns-in-None-clause-none
-returns-in-None-clause-none g c = (ap (λ (s : ShownRecords g.row.C.Denot). first_of c.args.strategy s.idle) (sym c.self.view_is) ∙ idle_none c.self.inside c.args.strategy (sym c.in-None.ensures), refl)
+returns-in-None-clause-none g c = (ap (λ (s : ShownRecords g.row.C.Denot). first_of c.args.strategy s.idle) (sym c.self.view_is) ∙ idle_none c.self.inside c.args.strategy (sym c.in-None.ensures), refl, refl)
 
 pub returns-after-connection_of-clause-none : goal.returns-after-connection_of-clause-none
 returns-after-connection_of-clause-none g c = elim c.match-connection_of.branch [
@@ -51,5 +51,13 @@ returns-after-connection_of-clause-examined g c = elim c.match-connection_of.bra
   | in-None-connection_of w ↦ never_without c.self.inside c.args.strategy c.in-Some.place c.put-number.result.0 c.args.holder c.place_of.result c.put-number.new.self c.step_out.new.self
       c.self.invariant c.in-Some.ensures c.put-number.ensures.number c.place_of.ensures c.put-number.ensures.changed c.step_out.ensures
       c.put-number.result.1 _ c.put-number.ensures.value w.in-None-connection_of.ensures.none
-  | in-Some-connection_of w ↦ rw w.result-is c.put-number.ensures.examined
+  | in-Some-connection_of w ↦ rw w.result-is (omega (arith, c.put-number.ensures.examined))
+]
+
+pub returns-after-connection_of-clause-counted : goal.returns-after-connection_of-clause-counted
+returns-after-connection_of-clause-counted g c = elim c.match-connection_of.branch [
+  | in-None-connection_of w ↦ never_without c.self.inside c.args.strategy c.in-Some.place c.put-number.result.0 c.args.holder c.place_of.result c.put-number.new.self c.step_out.new.self
+      c.self.invariant c.in-Some.ensures c.put-number.ensures.number c.place_of.ensures c.put-number.ensures.changed c.step_out.ensures
+      c.put-number.result.1 _ c.put-number.ensures.value w.in-None-connection_of.ensures.none
+  | in-Some-connection_of w ↦ rw w.result-is (omega (arith, c.put-number.ensures.examined))
 ]
