@@ -2,6 +2,7 @@
 ghost use Rattle.std.specs.Prelude.{◌≡◌, ◌<◌, ◌==◌};
 ghost use Rattle.futures.specs.declared.task.Poll.TheVariants.{Pending};
 
+mod calls;
 mod checks;
 mod clocks;
 mod future;
