@@ -10,6 +10,7 @@ mod gates;
 mod get;
 mod guards;
 mod handles;
+mod lists;
 mod locked;
 mod pool;
 mod rows;
