@@ -16,6 +16,7 @@ mod pool;
 mod rows;
 mod serving;
 mod threads;
+mod unlocked;
 
 use bb8::{
     AddError, Builder, Clock, Config, CustomizeConnection, ErrorSink, ManageConnection, Memory,

@@ -21,27 +21,16 @@ use std::test::Fail;
 use std::thread::{self, JoinHandle, Threads};
 use std::time::Duration;
 
-/// The calls outside, and the drop of a connection. The place of one is its digit in what is written down; at 0 stands no call.
-const CALLS: [&str; 11] = [
-    "",
-    "now",
-    "connect",
-    "poll_connect",
-    "on_acquire",
-    "poll_acquire",
-    "is_valid",
-    "poll_valid",
-    "has_broken",
-    "sink",
-    "dropped",
-];
+/// The calls outside, and the drop of a connection. The place of one, from 0, is its digit in what is written down.
+const CALLS: &str =
+    "- now connect poll_connect on_acquire poll_acquire is_valid poll_valid has_broken sink dropped";
 
 /// Calls wait for nobody.
-const OPEN: u64 = 0;
+pub(super) const OPEN: u64 = 0;
 /// The next call waits.
-const ARMED: u64 = 1;
+pub(super) const ARMED: u64 = 1;
 /// A call waits until the other thread was answered, whose own reading of the clock does not wait and is not written down.
-const WAITING: u64 = 2;
+pub(super) const WAITING: u64 = 2;
 /// The other thread is to end.
 const ENDED: u64 = 3;
 
@@ -50,20 +39,20 @@ const LOOKS: u32 = 10_000_000;
 
 /// What a test shares with its pool's manager, customizer, sink and clock, and with the connections.
 #[derive(Drop)]
-struct Desk {
+pub(super) struct Desk {
     /// The calls since the last look, in digits of four bits.
     calls: Number,
     /// How often a test looked.
     looks: Number,
-    stage: Number,
+    pub(super) stage: Number,
     /// How many calls waited, and how many in vain.
-    waited: Number,
-    missed: Number,
+    pub(super) waited: Number,
+    pub(super) missed: Number,
     /// What the clock tells, in nanoseconds, and the moment of the last poll of an opening.
     moment: Number,
     polled_at: Number,
     /// What comes of openings, preparations and checks: 0 passes, 1 lasts, 2 fails.
-    opening: Number,
+    pub(super) opening: Number,
     preparing: Number,
     check: Number,
     /// Whether connections are found broken: 0 or 1.
@@ -71,7 +60,7 @@ struct Desk {
 }
 
 impl Desk {
-    fn new(alloc: Global) -> Result<Arc<Desk, Global>, Memory> {
+    pub(super) fn new(alloc: Global) -> Result<Arc<Desk, Global>, Memory> {
         let desk = Desk {
             calls: Number::new(0),
             looks: Number::new(0),
@@ -95,7 +84,7 @@ impl Desk {
             ARMED => {
                 self.waited.count();
                 self.stage.set(WAITING);
-                if !self.comes_to(ARMED) {
+                if !self.comes_to(WAITING, false) {
                     self.missed.count();
                 }
             }
@@ -104,10 +93,10 @@ impl Desk {
         self.calls.set(after(self.calls.get(), call));
     }
 
-    /// Whether it comes to this stage within so many looks.
-    fn comes_to(&self, stage: u64) -> bool {
+    /// Whether it comes to be, or not to be, at this stage, within so many looks.
+    pub(super) fn comes_to(&self, stage: u64, is_there: bool) -> bool {
         for _ in 0..LOOKS {
-            if self.stage.get() == stage {
+            if (self.stage.get() == stage) == is_there {
                 return true;
             }
             thread::yield_now();
@@ -120,8 +109,8 @@ impl Desk {
 fn after(written: u64, calls: &str) -> u64 {
     let mut written = written;
     for call in calls.split(' ') {
-        for (digit, name) in CALLS.iter().enumerate() {
-            if *name == call {
+        for (digit, name) in CALLS.split(' ').enumerate() {
+            if name == call {
                 written = written.saturating_mul(16).saturating_add(digit as u64);
             }
         }
@@ -157,7 +146,7 @@ fn share(desk: &Arc<Desk, Global>) -> Result<Arc<Desk, Global>, Memory> {
 }
 
 /// A manager, a customizer, a sink, a clock, a gate or a connection that writes its calls down.
-struct Teller {
+pub(super) struct Teller {
     desk: Arc<Desk, Global>,
     is_connection: bool,
 }
@@ -175,7 +164,7 @@ impl Drop for Teller {
 }
 
 /// One that is no connection.
-fn teller(desk: &Arc<Desk, Global>) -> Result<Teller, Memory> {
+pub(super) fn teller(desk: &Arc<Desk, Global>) -> Result<Teller, Memory> {
     Ok(Teller {
         desk: share(desk)?,
         is_connection: false,
@@ -183,7 +172,7 @@ fn teller(desk: &Arc<Desk, Global>) -> Result<Teller, Memory> {
 }
 
 /// A connection.
-fn connection(desk: &Arc<Desk, Global>) -> Result<Teller, Memory> {
+pub(super) fn connection(desk: &Arc<Desk, Global>) -> Result<Teller, Memory> {
     Ok(Teller {
         desk: share(desk)?,
         is_connection: true,
@@ -273,7 +262,7 @@ impl Gate for Teller {
 }
 
 /// A pool all of whose calls outside are written down.
-type TellerPool<R, L> = Pool<Teller, Teller, Teller, Teller, R, L>;
+pub(super) type TellerPool<R, L> = Pool<Teller, Teller, Teller, Teller, R, L>;
 
 /// What a test polls with, and what it looks at.
 #[derive(Drop)]
@@ -518,7 +507,7 @@ fn handles<R: Runtime + Abort, P: OwnedHandle<Teller>>(tools: &Tools<'_, R>, poo
 }
 
 /// What a thread runs.
-trait Job {
+pub(super) trait Job {
     /// Runs it, and counts.
     fn run(self) -> u64;
 }
@@ -551,7 +540,10 @@ impl<R: Runtime + Abort, L: PoolParts> Job for Asker<R, L> {
 }
 
 /// Starts a thread that asks. None where it could not be started.
-fn start<R: Threads, J: Job + Send + Drop + 'static>(rt: &R, job: J) -> Option<JoinHandle<u64>> {
+pub(super) fn start<R: Threads, J: Job + Send + Drop + 'static>(
+    rt: &R,
+    job: J,
+) -> Option<JoinHandle<u64>> {
     thread::spawn(rt, move || job.run()).ok()
 }
 
