@@ -164,7 +164,7 @@ impl Drop for Teller {
 }
 
 /// One that is no connection.
-pub(super) fn teller(desk: &Arc<Desk, Global>) -> Result<Teller, Memory> {
+pub(super) fn outside_on(desk: &Arc<Desk, Global>) -> Result<Teller, Memory> {
     Ok(Teller {
         desk: share(desk)?,
         is_connection: false,
@@ -566,9 +566,9 @@ fn calls_of_a_pool<R: Runtime + Abort + Threads, L: PoolParts + 'static>(
         .max_size(2)
         .connection_timeout(Duration::from_nanos(100))
         .retry_connection(false)
-        .error_sink(teller(desk)?)
-        .connection_customizer(teller(desk)?)
-        .build_unchecked(teller(desk)?, teller(desk)?, rt, blank)?;
+        .error_sink(outside_on(desk)?)
+        .connection_customizer(outside_on(desk)?)
+        .build_unchecked(outside_on(desk)?, outside_on(desk)?, rt, blank)?;
     tools.made("now");
     let mut asker = None;
     if waits {
@@ -590,7 +590,7 @@ fn calls_of_a_pool<R: Runtime + Abort + Threads, L: PoolParts + 'static>(
     approve(&tools, &pool);
     desk.moment.set(1000);
     desk.opening.set(1);
-    let driven = Driver::new(&pool)?.run(teller(desk)?);
+    let driven = Driver::new(&pool)?.run(outside_on(desk)?);
     tools.made("now connect poll_connect now poll_connect now");
     assert_equal(&rt, driven.turns, 2);
     assert_equal(&rt, desk.polled_at.get(), 1001);
@@ -660,11 +660,11 @@ fn builds<R: Runtime + Abort, L: PoolParts>(rt: R, blank: Blank, course: Course)
         .min_idle(Some(2))
         .test_on_check_out(false)
         .retry_connection(false)
-        .error_sink(teller(desk)?)
-        .connection_customizer(teller(desk)?);
+        .error_sink(outside_on(desk)?)
+        .connection_customizer(outside_on(desk)?);
     let building: bb8::Building<Teller, Teller, Teller, Teller, R, L> = builder.build(
-        teller(desk)?,
-        teller(desk)?,
+        outside_on(desk)?,
+        outside_on(desk)?,
         rt,
         blank,
     );

@@ -86,9 +86,9 @@ fn waits_for_nobody<R: Runtime + Abort + Threads, L: PoolParts + 'static>(
     let pool: TellerPool<R, L> = Builder::new()
         .max_size(2)
         .test_on_check_out(false)
-        .error_sink(teller(desk)?)
-        .connection_customizer(teller(desk)?)
-        .build_unchecked(teller(desk)?, teller(desk)?, rt, blank)?;
+        .error_sink(outside_on(desk)?)
+        .connection_customizer(outside_on(desk)?)
+        .build_unchecked(outside_on(desk)?, outside_on(desk)?, rt, blank)?;
     assert!(&rt; pool.add(connection(desk)?).is_ok());
     assert!(&rt; pool.add(connection(desk)?).is_ok());
     let Some(guard) = Handle::lend(&pool, &task) else {
