@@ -3,7 +3,7 @@ ghost use Rattle.bb8.specs.Parts.{IsBlankOf, unchecked_of};
 ghost use Rattle.bb8.specs.Settings.{default_settings};
 
 use super::calls::{
-    ARMED, Desk, Job, OPEN, Teller, TellerPool, WAITING, connection, start, teller,
+    ARMED, Desk, Job, OPEN, Teller, TellerPool, WAITING, connection, outside_on, start,
 };
 use super::{SlowManager, assert_equal};
 use bb8::{
