@@ -2,6 +2,7 @@
 ghost use Rattle.std.specs.Prelude.{◌≡◌, ◌<◌, ◌==◌};
 ghost use Rattle.futures.specs.declared.task.Poll.TheVariants.{Pending};
 
+mod calls;
 mod checks;
 mod clocks;
 mod future;
@@ -9,11 +10,13 @@ mod gates;
 mod get;
 mod guards;
 mod handles;
+mod lists;
 mod locked;
 mod pool;
 mod rows;
 mod serving;
 mod threads;
+mod unlocked;
 
 use bb8::{
     AddError, Builder, Clock, Config, CustomizeConnection, ErrorSink, ManageConnection, Memory,

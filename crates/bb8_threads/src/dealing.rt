@@ -27,7 +27,7 @@ pub struct Dealt {
     pub notes: Vec<Notes>,
 }
 
-/// Makes the events of one seat, in order. Where there is no room for one, it says so and stops.
+/// Makes the events of one seat, in order. Where there is no room for one, it says so and stops; and it stops where another said so.
 fn make_own<R: Wait, L: Recorded>(
     rt: &R,
     journal: &SharedJournal<L>,
@@ -39,16 +39,54 @@ fn make_own<R: Wait, L: Recorded>(
     let seats = journal.seats();
     let first = seat.number();
     for event in events.iter().skip(first).step_by(seats) {
+        if refused.load(Ordering::SeqCst) {
+            break;
+        }
         if journal.step(rt, &mut seat, *event).is_err() {
             refused.store(true, Ordering::SeqCst);
-            break;
         }
     }
     seat
 }
 
-/// Deals the events to as many threads as the blank ledger has parts, over one journal of the configuration. Where a thread cannot be
-/// started, its events are made all the same, one after the other. `Memory` comes where memory was refused, `NoRoom` included.
+/// Makes the events of each seat in a thread of its own, and gives the seats back once all threads ended. `Memory` comes where a thread
+/// could not be started, or memory for the lists of threads and of seats was refused; then the threads that run stop early.
+fn in_threads<R: Threads + Wait + Sync, L: Recorded + Send + Sync>(
+    rt: &R,
+    alloc: Global,
+    journal: &SharedJournal<L>,
+    list: Vec<Seat<L>>,
+    events: &[Event],
+    refused: &AtomicBool,
+) -> Result<Vec<Seat<L>>, Memory>
+    ensures count { IfOk result (λ back. length back.items ≡ length list.items) }
+{
+    thread::scope(
+        thread::scope_env(),
+        rt,
+        move |scope| -> Result<Vec<Seat<L>>, Memory>
+            ensures { IfOk result (λ back. length back.items ≡ length list.items) }
+        {
+            let mut threads = Vec::new(alloc);
+            for seat in list {
+                let started = scope.spawn(move || make_own(rt, journal, seat, events, refused));
+                let Ok(thread) = started else {
+                    refused.store(true, Ordering::SeqCst);
+                    return Err(Memory);
+                };
+                threads.push(thread)?;
+            }
+            let mut back = Vec::new(alloc);
+            for thread in threads {
+                back.push(thread.join(rt))?;
+            }
+            Ok(back)
+        },
+    )
+}
+
+/// Deals the events to as many threads as the blank ledger has parts, over one journal of the configuration. `Memory` comes where
+/// memory was refused, `NoRoom` included, and where a thread could not be started.
 pub fn deal<R: Threads + Wait + Sync, L: Recorded + Send + Sync>(
     rt: &R,
     alloc: Global,
@@ -70,14 +108,7 @@ pub fn deal<R: Threads + Wait + Sync, L: Recorded + Send + Sync>(
 {
     let (journal, list) = SharedJournal::<L>::new(alloc, config, blank, seats)?;
     let refused = AtomicBool::new(false);
-    let back = thread::map_vec(
-        rt,
-        list,
-        &|seat| make_own(rt, &journal, seat, events, &refused),
-    );
-    let Ok(back) = back else {
-        return Err(Memory);
-    };
+    let back = in_threads(rt, alloc, &journal, list, events, &refused)?;
     if refused.load(Ordering::SeqCst) {
         return Err(Memory);
     }

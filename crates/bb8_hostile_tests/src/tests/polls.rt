@@ -1,4 +1,5 @@
-//! Many polls of all that a pool lends, at random.
+//! Many polls of all that a pool lends, and turns of its driver, at random.
+ghost use Rattle.std.specs.Prelude.{Some};
 ghost use Rattle.bb8.specs.Parts.{IsBlankOf};
 ghost use Rattle.bb8.specs.Settings.{default_settings};
 
@@ -6,7 +7,8 @@ use super::{assert_equal, fill, is_at_rest};
 use bb8::get::GetFuture;
 use bb8::owned::GetOwnedFuture;
 use bb8::{
-    Builder, DedicatedFuture, OwnedConnection, PoolParts, PooledConnection, RunError, State,
+    Builder, Clock, DedicatedFuture, Driver, OwnedConnection, PoolParts, PooledConnection,
+    RunError, State,
 };
 use bb8_trials::Runtime;
 use bb8_trials::hostile::{
@@ -83,6 +85,15 @@ type Dedicated<'a, R, L> = DedicatedFuture<
     L,
 >;
 
+type HostileDriver<R, L> = Driver<
+    HostileManager,
+    HostileSink,
+    HostileCustomizer,
+    HostileClock,
+    R,
+    L,
+>;
+
 /// A get, and whether it was polled.
 #[derive(Drop)]
 struct Begun<F: Drop> {
@@ -94,6 +105,10 @@ struct Begun<F: Drop> {
 #[derive(Clone, Copy)]
 struct Told {
     polls: u64,
+    /// How many openings the turns of the driver polled.
+    driven: u64,
+    /// How many connections were reaped.
+    reaped: u64,
     begun: u64,
     served: u64,
     timed_out: u64,
@@ -107,6 +122,8 @@ impl Told {
     fn new() -> Told {
         Told {
             polls: 0,
+            driven: 0,
+            reaped: 0,
             begun: 0,
             served: 0,
             timed_out: 0,
@@ -131,6 +148,8 @@ impl Told {
 struct Field<'a, R: Runtime + Abort, L: PoolParts> {
     pool: &'a HostilePool<R, L>,
     harness: &'a Harness,
+    driver: HostileDriver<R, L>,
+    clock: HostileClock,
     gets: Vec<Begun<Get<'a, R, L>>>,
     owned_gets: Vec<Begun<OwnedGet<R, L>>>,
     openings: Vec<Dedicated<'a, R, L>>,
@@ -272,10 +291,16 @@ fn let_go<R: Runtime + Abort, L: PoolParts>(field: &mut Field<'_, R, L>) {
     }
 }
 
+/// Makes a turn of the driver.
+fn turn<R: Runtime + Abort, L: PoolParts>(field: &mut Field<'_, R, L>) {
+    let turn = field.driver.turn(field.clock.now());
+    field.told.driven = field.told.driven.saturating_add(turn.polled);
+}
+
 /// One step, which the source picks.
 fn step<R: Runtime + Abort, L: PoolParts>(task: &MockTask, field: &mut Field<'_, R, L>) {
     let source = &field.harness.source;
-    match source.below(16) {
+    match source.below(18) {
         0..=1 => begin_get(field, false),
         2..=3 => begin_get(field, true),
         4..=6 => poll_get(task, field),
@@ -284,6 +309,7 @@ fn step<R: Runtime + Abort, L: PoolParts>(task: &MockTask, field: &mut Field<'_,
         12 => drop(take_one(&mut field.guards, source)),
         13 => drop(take_one(&mut field.owned_guards, source)),
         14 => let_go(field),
+        15..=16 => turn(field),
         _ => {
             let _ = field.pool.add(field.harness.connection());
         }
@@ -315,15 +341,21 @@ fn polls_at_random<R: Runtime + Abort, L: PoolParts>(
     seed: u64,
 ) -> Result<Told, Fail>
     requires { IsBlankOf blank
-        (record default_settings { max_size = 6; connection_timeout = 1000 }) L.name L.parts
-        L.settings }
+        (record default_settings {
+          max_size = 6;
+          idle_timeout = Some 500;
+          connection_timeout = 1000;
+          reaper_rate = 300;
+        }) L.name L.parts L.settings }
 {
     let alloc: Global = rt.alloc();
     let task = MockTask::new(&rt)?;
     let harness = Harness::new(alloc, seed, 8, 100)?;
     let pool: HostilePool<R, L> = Builder::new()
         .max_size(6)
+        .idle_timeout(Some(Duration::from_nanos(500)))
         .connection_timeout(Duration::from_nanos(1000))
+        .reaper_rate(Duration::from_nanos(300))
         .error_sink(harness.sink()?)
         .connection_customizer(harness.customizer()?)
         .build_unchecked(harness.manager()?, harness.clock()?, rt, blank)?;
@@ -331,6 +363,8 @@ fn polls_at_random<R: Runtime + Abort, L: PoolParts>(
     let mut field = Field {
         pool: &pool,
         harness: &harness,
+        driver: Driver::new(&pool)?,
+        clock: harness.clock()?,
         gets: Vec::new(alloc),
         owned_gets: Vec::new(alloc),
         openings: Vec::new(alloc),
@@ -342,7 +376,8 @@ fn polls_at_random<R: Runtime + Abort, L: PoolParts>(
         step(&task, &mut field);
         assert!(&rt; is_in_order(&field), "pool {seed}, step {at}");
     }
-    let told = field.told;
+    let mut told = field.told;
+    told.reaped = pool.state().statistics.connections_closed_idle_timeout;
     drop(field);
     assert!(&rt; is_at_rest(&pool, &harness), "pool {seed}");
     drop(pool);
@@ -356,11 +391,19 @@ fn counts_agree_after_each_of_many_polls(rt: HostRuntime) -> Result<(), Fail> {
     for seed in 0..POOLS {
         let told = polls_at_random::<HostRuntime, Brand>(rt, Blank::new(6), seed)?;
         all.polls = all.polls.saturating_add(told.polls);
+        all.driven = all.driven.saturating_add(told.driven);
+        all.reaped = all.reaped.saturating_add(told.reaped);
         all.served = all.served.saturating_add(told.served);
         all.timed_out = all.timed_out.saturating_add(told.timed_out);
         all.cancelled = all.cancelled.saturating_add(told.cancelled);
     }
     assert!(rt; all.polls >= 10_000, "{} polls", all.polls);
+    assert!(rt;
+        all.driven >= 1000 && all.reaped >= 100,
+        "{} {}",
+        all.driven,
+        all.reaped
+    );
     assert!(rt; all.served >= 1000 && all.timed_out >= 100 && all.cancelled >= 100);
     Ok(())
 }

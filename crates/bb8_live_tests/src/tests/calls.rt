@@ -1,0 +1,687 @@
+//! How often, and in which order, each call outside is made; and that none is made under the pool's lock, nor a connection dropped that a
+//! call closed: in each of them another thread is answered by the pool.
+ghost use Rattle.std.specs.Prelude.{Some, false};
+ghost use Rattle.bb8.specs.Parts.{IsBlankOf};
+ghost use Rattle.bb8.specs.Settings.{default_settings};
+
+use super::{Refused, assert_equal};
+use bb8::{
+    Builder, Clock, CustomizeConnection, Driver, DriverCalls, ErrorSink, Gate, ManageConnection,
+    Memory, Moment, Pool, PoolCalls, PoolParts,
+};
+use bb8_trials::{Course, Handle, Number, OwnedHandle, Runtime, Unbuilt};
+use futures::task::Poll;
+use futures::test::MockTask;
+use std::alloc::Global;
+use std::marker::Brand;
+use std::process::Abort;
+use std::sync::Arc;
+use std::sync::ledger::Blank;
+use std::test::Fail;
+use std::thread::{self, JoinHandle, Threads};
+use std::time::Duration;
+
+/// The calls outside, and the drop of a connection. The place of one, from 0, is its digit in what is written down.
+const CALLS: &str =
+    "- now connect poll_connect on_acquire poll_acquire is_valid poll_valid has_broken sink dropped";
+
+/// Calls wait for nobody.
+pub(super) const OPEN: u64 = 0;
+/// The next call waits.
+pub(super) const ARMED: u64 = 1;
+/// A call waits until the other thread was answered, whose own reading of the clock does not wait and is not written down.
+pub(super) const WAITING: u64 = 2;
+/// The other thread is to end.
+const ENDED: u64 = 3;
+
+/// How often a thread looks before it gives up.
+const LOOKS: u32 = 10_000_000;
+
+/// What a test shares with its pool's manager, customizer, sink and clock, and with the connections.
+#[derive(Drop)]
+pub(super) struct Desk {
+    /// The calls since the last look, in digits of four bits.
+    calls: Number,
+    /// How often a test looked.
+    looks: Number,
+    pub(super) stage: Number,
+    /// How many calls waited, and how many in vain.
+    pub(super) waited: Number,
+    pub(super) missed: Number,
+    /// What the clock tells, in nanoseconds, and the moment of the last poll of an opening.
+    moment: Number,
+    polled_at: Number,
+    /// What comes of openings, preparations and checks: 0 passes, 1 lasts, 2 fails.
+    pub(super) opening: Number,
+    preparing: Number,
+    check: Number,
+    /// Whether connections are found broken: 0 or 1.
+    broken: Number,
+}
+
+impl Desk {
+    pub(super) fn new(alloc: Global) -> Result<Arc<Desk, Global>, Memory> {
+        let desk = Desk {
+            calls: Number::new(0),
+            looks: Number::new(0),
+            stage: Number::new(OPEN),
+            waited: Number::new(0),
+            missed: Number::new(0),
+            moment: Number::new(0),
+            polled_at: Number::new(0),
+            opening: Number::new(0),
+            preparing: Number::new(0),
+            check: Number::new(0),
+            broken: Number::new(0),
+        };
+        Ok(Arc::new(alloc, desk)?)
+    }
+
+    /// Waits until the other thread was answered, where calls are to, and writes the call down.
+    fn call(&self, call: &str) {
+        match self.stage.get() {
+            WAITING => return,
+            ARMED => {
+                self.waited.count();
+                self.stage.set(WAITING);
+                if !self.comes_to(WAITING, false) {
+                    self.missed.count();
+                }
+            }
+            _ => {}
+        }
+        self.calls.set(after(self.calls.get(), call));
+    }
+
+    /// Whether it comes to be, or not to be, at this stage, within so many looks.
+    pub(super) fn comes_to(&self, stage: u64, is_there: bool) -> bool {
+        for _ in 0..LOOKS {
+            if (self.stage.get() == stage) == is_there {
+                return true;
+            }
+            thread::yield_now();
+        }
+        false
+    }
+}
+
+/// What is written down after these calls more, which spaces part.
+fn after(written: u64, calls: &str) -> u64 {
+    let mut written = written;
+    for call in calls.split(' ') {
+        for (digit, name) in CALLS.split(' ').enumerate() {
+            if name == call {
+                written = written.saturating_mul(16).saturating_add(digit as u64);
+            }
+        }
+    }
+    written
+}
+
+/// Asserts that since the last look just these calls were made, in this order.
+fn made(rt: &impl Abort, desk: &Desk, calls: &str) {
+    let (look, found) = (desk.looks.count(), desk.calls.get());
+    assert!(rt;
+        found == after(0, calls),
+        "look {look}: {found:x} and not {calls}"
+    );
+    desk.calls.set(0);
+}
+
+/// What a poll of this course answers.
+fn answer<T: Drop>(course: u64, value: T) -> Poll<Result<T, Refused>> {
+    match course {
+        0 => Poll::Ready(Ok(value)),
+        1 => Poll::Pending,
+        _ => Poll::Ready(Err(Refused(1))),
+    }
+}
+
+/// The same desk once more.
+fn share(desk: &Arc<Desk, Global>) -> Result<Arc<Desk, Global>, Memory> {
+    match Arc::try_clone(desk) {
+        Ok(desk) => Ok(desk),
+        Err(_) => Err(Memory),
+    }
+}
+
+/// A manager, a customizer, a sink, a clock, a gate or a connection that writes its calls down.
+pub(super) struct Teller {
+    desk: Arc<Desk, Global>,
+    is_connection: bool,
+}
+
+impl Drop for Teller {
+    fn drop(self) {
+        let Teller {
+            desk,
+            is_connection,
+        } = self;
+        if is_connection {
+            desk.call("dropped");
+        }
+    }
+}
+
+/// One that is no connection.
+pub(super) fn outside_on(desk: &Arc<Desk, Global>) -> Result<Teller, Memory> {
+    Ok(Teller {
+        desk: share(desk)?,
+        is_connection: false,
+    })
+}
+
+/// A connection.
+pub(super) fn connection(desk: &Arc<Desk, Global>) -> Result<Teller, Memory> {
+    Ok(Teller {
+        desk: share(desk)?,
+        is_connection: true,
+    })
+}
+
+impl ManageConnection for Teller {
+    type Connection = Teller;
+
+    type Error = Refused;
+
+    type Connecting = ();
+
+    type Checking = ();
+
+    fn connect(&self) {
+        self.desk.call("connect");
+    }
+
+    fn poll_connect(&self, _connecting: &mut (), moment: Moment) -> Poll<Result<Teller, Refused>> {
+        self.desk.call("poll_connect");
+        self.desk.polled_at.set(moment.0);
+        match answer(self.desk.opening.get(), ()) {
+            Poll::Pending => Poll::Pending,
+            Poll::Ready(Err(error)) => Poll::Ready(Err(error)),
+            Poll::Ready(Ok(())) => Poll::Ready(connection(&self.desk).map_err(|_| Refused(0))),
+        }
+    }
+
+    fn is_valid(&self, _connection: &mut Teller) {
+        self.desk.call("is_valid");
+    }
+
+    fn poll_valid(
+        &self,
+        _connection: &mut Teller,
+        _checking: &mut (),
+        _moment: Moment,
+    ) -> Poll<Result<(), Refused>> {
+        self.desk.call("poll_valid");
+        answer(self.desk.check.get(), ())
+    }
+
+    fn has_broken(&self, _connection: &mut Teller) -> bool {
+        self.desk.call("has_broken");
+        self.desk.broken.get() != 0
+    }
+}
+
+impl CustomizeConnection<Teller, Refused> for Teller {
+    type Acquiring = ();
+
+    fn on_acquire(&self, _connection: &mut Teller) {
+        self.desk.call("on_acquire");
+    }
+
+    fn poll_acquire(
+        &self,
+        _connection: &mut Teller,
+        _acquiring: &mut (),
+        _moment: Moment,
+    ) -> Poll<Result<(), Refused>> {
+        self.desk.call("poll_acquire");
+        answer(self.desk.preparing.get(), ())
+    }
+}
+
+impl ErrorSink<Refused> for Teller {
+    fn sink(&self, _error: Refused) {
+        self.desk.call("sink");
+    }
+}
+
+impl Clock for Teller {
+    fn now(&self) -> Moment {
+        self.desk.call("now");
+        Moment(self.desk.moment.get())
+    }
+}
+
+impl Gate for Teller {
+    /// Sets the clock on by a nanosecond; after the second turn it does not pause.
+    fn pause(&mut self) -> bool {
+        self.desk.moment.count();
+        self.desk.moment.get() < 1002
+    }
+}
+
+/// A pool all of whose calls outside are written down.
+pub(super) type TellerPool<R, L> = Pool<Teller, Teller, Teller, Teller, R, L>;
+
+/// What a test polls with, and what it looks at.
+#[derive(Drop)]
+struct Tools<'a, R> {
+    rt: R,
+    task: &'a MockTask,
+    desk: &'a Arc<Desk, Global>,
+}
+
+impl<R: Runtime + Abort> Tools<'_, R> {
+    fn made(&self, calls: &str) {
+        made(&self.rt, self.desk, calls);
+    }
+
+    fn add<P: Handle<Teller>>(&self, pool: P) -> Result<(), Memory> {
+        drop(pool.add(connection(self.desk)?));
+        self.made("has_broken now");
+        Ok(())
+    }
+
+    /// Polls a get, which makes these calls.
+    fn poll<P: Handle<Teller>>(&self, pool: P, get: &mut P::Get, calls: &str) {
+        let polled = pool.poll(self.task, get);
+        self.made(calls);
+        let served = matches!(&polled, Poll::Ready(Ok(_)));
+        drop(polled);
+        let closed = served && self.desk.broken.get() != 0;
+        self.made(match (served, closed) {
+            (true, true) => "has_broken now dropped",
+            (true, false) => "has_broken now",
+            _ => "",
+        });
+    }
+}
+
+/// A get that is served, one that is checked for long, one that times out then, and one whose connection is found broken as it is let go.
+fn checked<R: Runtime + Abort, P: Handle<Teller>>(
+    tools: &Tools<'_, R>,
+    pool: P,
+) -> Result<(), Memory> {
+    let desk = tools.desk;
+    tools.add(pool)?;
+    let mut get = pool.get();
+    tools.poll(pool, &mut get, "now is_valid poll_valid");
+    tools.poll(pool, &mut get, "");
+    drop(get);
+    desk.check.set(1);
+    let mut get = pool.get();
+    tools.poll(pool, &mut get, "now is_valid poll_valid");
+    tools.poll(pool, &mut get, "now poll_valid");
+    pool.cancel(get);
+    tools.made("has_broken now");
+    let mut get = pool.get();
+    tools.poll(pool, &mut get, "now is_valid poll_valid");
+    desk.moment.set(100);
+    tools.poll(pool, &mut get, "now poll_valid has_broken");
+    drop(get);
+    tools.made("");
+    let mut get = pool.get();
+    tools.poll(pool, &mut get, "now is_valid poll_valid");
+    desk.broken.set(1);
+    drop(get);
+    tools.made("has_broken now dropped");
+    drop(pool.add(connection(desk)?));
+    tools.made("has_broken now dropped");
+    desk.broken.set(0);
+    desk.check.set(0);
+    Ok(())
+}
+
+/// Gets that wait: one is let go, one times out; and gets whose check fails: one is let go then, and one waits and is served.
+fn waiting<R: Runtime + Abort, P: Handle<Teller>>(
+    tools: &Tools<'_, R>,
+    pool: P,
+) -> Result<(), Memory> {
+    let desk = tools.desk;
+    pool.cancel(pool.get());
+    tools.made("");
+    let mut get = pool.get();
+    tools.poll(pool, &mut get, "now");
+    tools.poll(pool, &mut get, "now");
+    pool.cancel(get);
+    tools.made("now");
+    let mut get = pool.get();
+    tools.poll(pool, &mut get, "now");
+    desk.moment.set(200);
+    tools.poll(pool, &mut get, "now");
+    drop(get);
+    tools.add(pool)?;
+    desk.check.set(2);
+    let mut get = pool.get();
+    tools.poll(
+        pool,
+        &mut get,
+        "now is_valid poll_valid sink has_broken dropped",
+    );
+    drop(get);
+    tools.made("now");
+    tools.add(pool)?;
+    let mut get = pool.get();
+    tools.poll(
+        pool,
+        &mut get,
+        "now is_valid poll_valid sink has_broken dropped",
+    );
+    tools.poll(pool, &mut get, "now");
+    desk.check.set(0);
+    tools.add(pool)?;
+    desk.broken.set(1);
+    tools.poll(pool, &mut get, "now is_valid poll_valid");
+    desk.broken.set(0);
+    Ok(())
+}
+
+/// Gets with a handle of their own: one that is not polled, one that is served, and one that is let go while it is checked.
+fn owned<R: Runtime + Abort, P: Handle<Teller>>(
+    tools: &Tools<'_, R>,
+    pool: P,
+) -> Result<(), Memory> {
+    pool.cancel_owned(pool.get_owned());
+    tools.made("now now");
+    tools.add(pool)?;
+    let mut get = pool.get_owned();
+    let polled = pool.poll_owned(tools.task, &mut get);
+    tools.made("now now is_valid poll_valid");
+    drop(get);
+    tools.made("");
+    drop(polled);
+    tools.made("has_broken now now");
+    tools.desk.check.set(1);
+    let mut get = pool.get_owned();
+    drop(pool.poll_owned(tools.task, &mut get));
+    tools.made("now now is_valid poll_valid");
+    drop(get);
+    tools.made("has_broken now now");
+    tools.desk.check.set(0);
+    Ok(())
+}
+
+/// Connections that the pool does not count: opened and prepared slowly; failing as it is opened, or prepared; let go as it is prepared.
+fn dedicated<R: Runtime + Abort, P: Handle<Teller>>(tools: &Tools<'_, R>, pool: P) {
+    let desk = tools.desk;
+    let mut opening = pool.dedicated_connection();
+    for (connects, prepares, calls) in &[
+        (1, 0, "now connect poll_connect"),
+        (1, 0, "now poll_connect"),
+        (0, 1, "now poll_connect on_acquire poll_acquire"),
+        (0, 1, "now poll_acquire"),
+        (0, 0, "now poll_acquire dropped"),
+        (0, 0, ""),
+    ] {
+        desk.opening.set(*connects);
+        desk.preparing.set(*prepares);
+        drop(pool.poll_dedicated(tools.task, &mut opening));
+        tools.made(calls);
+    }
+    drop(opening);
+    for (connects, prepares, calls, at_the_end) in &[
+        (1, 0, "now connect poll_connect", ""),
+        (2, 0, "now connect poll_connect", ""),
+        (
+            0,
+            1,
+            "now connect poll_connect on_acquire poll_acquire",
+            "dropped",
+        ),
+        (
+            0,
+            2,
+            "now connect poll_connect on_acquire poll_acquire dropped",
+            "",
+        ),
+    ] {
+        desk.opening.set(*connects);
+        desk.preparing.set(*prepares);
+        let mut opening = pool.dedicated_connection();
+        drop(pool.poll_dedicated(tools.task, &mut opening));
+        tools.made(calls);
+        pool.cancel_dedicated(opening);
+        tools.made(at_the_end);
+    }
+    desk.preparing.set(0);
+}
+
+/// Whatever connections are idle are closed as their checks fail, and a get waits and is let go: one approval is open.
+fn approve<R: Runtime + Abort, P: Handle<Teller>>(tools: &Tools<'_, R>, pool: P) {
+    tools.desk.check.set(2);
+    let mut get = pool.get();
+    for _ in 0..pool.state().idle_connections.saturating_add(1) {
+        drop(pool.poll(tools.task, &mut get));
+    }
+    pool.cancel(get);
+    tools.desk.check.set(0);
+    tools.desk.calls.set(0);
+}
+
+/// Turns, which read no clock: one connection is opened and prepared slowly, one opening fails, and one preparation; and a driver that is
+/// dropped with what it prepares.
+fn turns<R: Runtime + Abort, P: Handle<Teller>, D: DriverCalls + Drop>(
+    tools: &Tools<'_, R>,
+    pool: P,
+    driver: D,
+) {
+    let desk = tools.desk;
+    let mut driver = driver;
+    for (approves, connects, prepares, calls) in &[
+        (true, 1, 0, "connect poll_connect"),
+        (false, 1, 0, "poll_connect"),
+        (false, 0, 1, "poll_connect on_acquire poll_acquire"),
+        (false, 0, 0, "poll_acquire"),
+        (false, 0, 0, ""),
+        (true, 2, 0, "connect poll_connect sink"),
+        (
+            true,
+            0,
+            2,
+            "connect poll_connect on_acquire poll_acquire dropped sink",
+        ),
+        (false, 0, 0, ""),
+        (true, 0, 1, "connect poll_connect on_acquire poll_acquire"),
+    ] {
+        if *approves {
+            approve(tools, pool);
+        }
+        desk.opening.set(*connects);
+        desk.preparing.set(*prepares);
+        driver.turn(Moment(300));
+        tools.made(calls);
+    }
+    drop(driver);
+    tools.made("now dropped");
+}
+
+/// A handle more, and its drop.
+fn handles<R: Runtime + Abort, P: OwnedHandle<Teller>>(tools: &Tools<'_, R>, pool: &P) {
+    let copy = pool.try_clone();
+    tools.made("now");
+    drop(copy);
+    tools.made("now");
+    pool.state();
+    tools.made("now");
+}
+
+/// What a thread runs.
+pub(super) trait Job {
+    /// Runs it, and counts.
+    fn run(self) -> u64;
+}
+
+/// Asks the pool for its state while a call outside waits.
+#[derive(Drop)]
+struct Asker<R: Runtime + Abort, L: PoolParts> {
+    pool: TellerPool<R, L>,
+    desk: Arc<Desk, Global>,
+}
+
+impl<R: Runtime + Abort, L: PoolParts> Job for Asker<R, L> {
+    /// How often it was answered.
+    fn run(self) -> u64 {
+        let mut answered: u64 = 0;
+        for _ in 0..LOOKS {
+            match self.desk.stage.get() {
+                WAITING => {
+                    if PoolCalls::state(&self.pool).connections <= 2 {
+                        answered = answered.saturating_add(1);
+                    }
+                    self.desk.stage.set(ARMED);
+                }
+                ENDED => break,
+                _ => thread::yield_now(),
+            }
+        }
+        answered
+    }
+}
+
+/// Starts a thread that asks. None where it could not be started.
+pub(super) fn start<R: Threads, J: Job + Send + Drop + 'static>(
+    rt: &R,
+    job: J,
+) -> Option<JoinHandle<u64>> {
+    thread::spawn(rt, move || job.run()).ok()
+}
+
+/// All calls of a pool and its driver, each of which waits, where that is asked for, until another thread was answered.
+fn calls_of_a_pool<R: Runtime + Abort + Threads, L: PoolParts + 'static>(
+    rt: R,
+    blank: Blank,
+    waits: bool,
+) -> Result<(), Fail>
+    requires { IsBlankOf blank (record default_settings {
+      max_size = 2;
+      connection_timeout = 100;
+      retry_connection = false;
+    }) L.name L.parts L.settings }
+{
+    let desk = &Desk::new(rt.alloc())?;
+    let task = &MockTask::new(&rt)?;
+    let tools = Tools { rt, task, desk };
+    let pool: TellerPool<R, L> = Builder::new()
+        .max_size(2)
+        .connection_timeout(Duration::from_nanos(100))
+        .retry_connection(false)
+        .error_sink(outside_on(desk)?)
+        .connection_customizer(outside_on(desk)?)
+        .build_unchecked(outside_on(desk)?, outside_on(desk)?, rt, blank)?;
+    tools.made("now");
+    let mut asker = None;
+    if waits {
+        let Ok(copy) = pool.try_clone() else {
+            return Err(Fail::from(Memory));
+        };
+        let desk = share(desk)?;
+        asker = start(&rt, Asker { pool: copy, desk });
+        tools.made("now");
+        tools.desk.stage.set(ARMED);
+    }
+    let driver = Driver::new(&pool)?;
+    checked(&tools, &pool)?;
+    waiting(&tools, &pool)?;
+    owned(&tools, &pool)?;
+    handles(&tools, &pool);
+    dedicated(&tools, &pool);
+    turns(&tools, &pool, driver);
+    approve(&tools, &pool);
+    desk.moment.set(1000);
+    desk.opening.set(1);
+    let driven = Driver::new(&pool)?.run(outside_on(desk)?);
+    tools.made("now connect poll_connect now poll_connect now");
+    assert_equal(&rt, driven.turns, 2);
+    assert_equal(&rt, desk.polled_at.get(), 1001);
+    desk.stage.set(ENDED);
+    assert_equal(&rt, asker.is_some(), waits);
+    if let Some(asker) = asker {
+        assert_equal(&rt, asker.join(&rt), desk.waited.get());
+        assert_equal(&rt, desk.missed.get(), 0);
+        assert!(&rt; desk.waited.get() > 100);
+    }
+    Ok(())
+}
+
+/// The polls of a building, which opens two connections: it comes to its end, is let go, or fails. Then its pool is left, whose gets are not
+/// checked.
+fn calls_of_a_building<R: Runtime + Abort, B: Unbuilt<Teller>>(
+    tools: &Tools<'_, R>,
+    building: B,
+    course: Course,
+) {
+    let mut building = building;
+    tools.desk.opening.set(1);
+    drop(building.poll(tools.task));
+    tools.made("now now connect poll_connect connect poll_connect");
+    match course {
+        Course::Passes => {
+            tools.desk.opening.set(0);
+            let polled = building.poll(tools.task);
+            tools.made(
+                "now poll_connect on_acquire poll_acquire poll_connect on_acquire poll_acquire",
+            );
+            if let Poll::Ready(Ok(pool)) = &polled {
+                pool.serves_at_once(tools.task);
+            }
+            tools.made("now has_broken now");
+            drop(polled);
+            tools.made("now dropped dropped");
+            drop(building.poll(tools.task));
+            tools.made("");
+        }
+        Course::Lasts => {
+            building.cancel();
+            tools.made("now now");
+        }
+        Course::Fails => {
+            tools.desk.opening.set(2);
+            drop(building.poll(tools.task));
+            tools.made("now poll_connect now");
+        }
+    }
+}
+
+/// A building whose parts are named.
+fn builds<R: Runtime + Abort, L: PoolParts>(rt: R, blank: Blank, course: Course) -> Result<(), Fail>
+    requires { IsBlankOf blank (record default_settings {
+      max_size = 2;
+      min_idle = Some 2;
+      test_on_check_out = false;
+      retry_connection = false;
+    }) L.name L.parts L.settings }
+{
+    let desk = &Desk::new(rt.alloc())?;
+    let task = &MockTask::new(&rt)?;
+    let tools = Tools { rt, task, desk };
+    let builder = Builder::new()
+        .max_size(2)
+        .min_idle(Some(2))
+        .test_on_check_out(false)
+        .retry_connection(false)
+        .error_sink(outside_on(desk)?)
+        .connection_customizer(outside_on(desk)?);
+    let building: bb8::Building<Teller, Teller, Teller, Teller, R, L> = builder.build(
+        outside_on(desk)?,
+        outside_on(desk)?,
+        rt,
+        blank,
+    );
+    tools.made("");
+    calls_of_a_building(&tools, building, course);
+    Ok(())
+}
+
+#[test]
+fn each_call_is_made_once(rt: HostRuntime) -> Result<(), Fail> {
+    for course in [Course::Passes, Course::Lasts, Course::Fails] {
+        builds::<HostRuntime, Brand>(rt, Blank::new(2), course)?;
+    }
+    calls_of_a_pool::<HostRuntime, Brand>(rt, Blank::new(2), false)
+}
+
+#[test]
+fn no_call_is_made_under_the_lock(rt: HostRuntime) -> Result<(), Fail> {
+    calls_of_a_pool::<HostRuntime, Brand>(rt, Blank::new(2), true)
+}

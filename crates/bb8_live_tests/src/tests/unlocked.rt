@@ -1,0 +1,118 @@
+//! What takes no lock: made while another thread holds the pool's lock.
+ghost use Rattle.bb8.specs.Parts.{IsBlankOf, unchecked_of};
+ghost use Rattle.bb8.specs.Settings.{default_settings};
+
+use super::calls::{
+    ARMED, Desk, Job, OPEN, Teller, TellerPool, WAITING, connection, outside_on, start,
+};
+use super::{SlowManager, assert_equal};
+use bb8::{
+    Builder, Building, Driver, DriverCalls, Guards, Memory, Moment, NopCustomizer, NopErrorSink,
+    Pool, PoolParts, SetClock,
+};
+use bb8_trials::{Handle, Runtime, SECOND};
+use futures::test::MockTask;
+use std::alloc::Global;
+use std::marker::Brand;
+use std::process::Abort;
+use std::sync::Arc;
+use std::sync::ledger::Blank;
+use std::test::Fail;
+use std::thread::Threads;
+
+/// Makes a turn in which a connection is reaped that was idle for 700 seconds.
+#[derive(Drop)]
+struct Turner<R: Runtime + Abort, L: PoolParts> {
+    driver: Driver<Teller, Teller, Teller, Teller, R, L>,
+}
+
+impl<R: Runtime + Abort, L: PoolParts> Job for Turner<R, L> {
+    /// How many openings it polled.
+    fn run(self) -> u64 {
+        let Turner { mut driver } = self;
+        DriverCalls::turn(&mut driver, Moment(700 * SECOND)).polled
+    }
+}
+
+/// A building that is not polled.
+fn plans<R: Runtime, L: PoolParts>(rt: R, blank: Blank) -> Result<(), Memory>
+    requires { IsBlankOf blank default_settings L.name L.parts L.settings }
+{
+    let clock = SetClock::new(rt.alloc(), Moment(0))?;
+    let building: Building<SlowManager, NopErrorSink, NopCustomizer, SetClock, R, L> = Pool::<
+        SlowManager,
+        NopErrorSink,
+        NopCustomizer,
+        SetClock,
+        R,
+        L,
+    >::builder().build(SlowManager, clock, rt, blank);
+    drop(building);
+    Ok(())
+}
+
+/// All calls that take no lock, of a pool of two connections, one of which is in the list.
+fn calls<R: Runtime + Abort, L: PoolParts>(
+    rt: R,
+    task: &MockTask,
+    pool: &TellerPool<R, L>,
+    guards: &mut Guards<'_, Teller, Teller, Teller, Teller, R, L>,
+) -> Result<(), Memory> {
+    assert_equal(&rt, pool.config().max_size, 2);
+    drop(pool.get());
+    let mut opening = pool.dedicated_connection();
+    assert!(&rt; Handle::poll_dedicated(pool, task, &mut opening).is_pending());
+    drop(opening);
+    plans::<R, Brand>(rt, Blank::new(10))?;
+    assert_equal(&rt, (guards.len(), guards.is_empty()), (1, false));
+    assert!(&rt; guards.get_mut(0).is_some());
+    let Some(guard) = guards.remove(0) else {
+        panic!(&rt; "no guard");
+    };
+    assert!(&rt; guards.push(guard).is_ok());
+    drop(Guards::new(rt.alloc(), pool));
+    Ok(())
+}
+
+/// A thread reaps, and the drop of what it closes waits, under the lock, until all calls were made that take no lock.
+fn waits_for_nobody<R: Runtime + Abort + Threads, L: PoolParts + 'static>(
+    rt: R,
+    blank: Blank,
+    desk: &Arc<Desk, Global>,
+) -> Result<(), Fail>
+    requires { IsBlankOf blank (unchecked_of 2) L.name L.parts L.settings }
+{
+    let task = MockTask::new(&rt)?;
+    let pool: TellerPool<R, L> = Builder::new()
+        .max_size(2)
+        .test_on_check_out(false)
+        .error_sink(outside_on(desk)?)
+        .connection_customizer(outside_on(desk)?)
+        .build_unchecked(outside_on(desk)?, outside_on(desk)?, rt, blank)?;
+    assert!(&rt; pool.add(connection(desk)?).is_ok());
+    assert!(&rt; pool.add(connection(desk)?).is_ok());
+    let Some(guard) = Handle::lend(&pool, &task) else {
+        panic!(&rt; "not served");
+    };
+    let mut guards = Guards::new(rt.alloc(), &pool);
+    assert!(&rt; guards.push(guard).is_ok());
+    let driver = Driver::new(&pool)?;
+    desk.stage.set(ARMED);
+    let Some(turner) = start(&rt, Turner { driver }) else {
+        panic!(&rt; "no thread");
+    };
+    assert!(&rt; desk.comes_to(WAITING, true));
+    calls(rt, &task, &pool, &mut guards)?;
+    desk.stage.set(OPEN);
+    assert_equal(&rt, turner.join(&rt), 0);
+    assert_equal(&rt, (desk.waited.get(), desk.missed.get()), (1, 0));
+    assert_equal(&rt, pool.state().connections, 1);
+    Ok(())
+}
+
+#[test]
+fn calls_that_take_no_lock_wait_for_nobody(rt: HostRuntime) -> Result<(), Fail> {
+    let desk = Desk::new(rt.alloc())?;
+    desk.opening.set(1);
+    waits_for_nobody::<HostRuntime, Brand>(rt, Blank::new(2), &desk)
+}
