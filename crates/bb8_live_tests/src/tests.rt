@@ -2,16 +2,13 @@
 ghost use Rattle.std.specs.Prelude.{◌≡◌, ◌<◌, ◌==◌};
 ghost use Rattle.futures.specs.declared.task.Poll.TheVariants.{Pending};
 
-mod checks;
 mod clocks;
-mod future;
 mod gates;
 mod get;
 mod guards;
 mod handles;
 mod locked;
 mod pool;
-mod rows;
 mod serving;
 mod threads;
 
