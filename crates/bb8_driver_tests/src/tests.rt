@@ -10,9 +10,9 @@ use bb8_trials::{Board, Errors, Runtime, Server, ServerBuilder, server_on};
 use futures::test::MockTask;
 use std::alloc::Global;
 use std::fmt::Debug;
+use std::marker::Brand;
 use std::process::Abort;
 use std::sync::Arc;
-use std::marker::Brand;
 use std::sync::ledger::Blank;
 use std::test::Fail;
 

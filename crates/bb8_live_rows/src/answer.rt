@@ -66,7 +66,10 @@ impl fmt::Display for Answer {
             Answer::Gets(State { statistics, .. }) => {
                 let (pending, completed) = (statistics.pending_gets(), statistics.completed_gets());
                 let waited = statistics.get_wait_time.as_nanos();
-                write!(f, "pending {pending} completed {completed} waited {waited} ns")
+                write!(
+                    f,
+                    "pending {pending} completed {completed} waited {waited} ns"
+                )
             }
             Answer::Number(number) => write!(f, "{number}"),
             Answer::Yes => write!(f, "yes"),

@@ -6,7 +6,7 @@ use bb8_trials::{Connection, Handle, OwnedHandle, Polled, Refused, Server, Unbui
 use futures::task::Poll;
 use futures::test::MockTask;
 
-/// A get's number of its connection, how many checks of that were begun, and what a customizer made of it.
+/// A connection's number, how many checks of it were begun, and what a customizer made of it.
 pub type Facts = (u64, u64, u64);
 
 /// What a connection tells.
@@ -41,30 +41,43 @@ pub trait Asked: Drop {
     /// Whether a get that is let go after its first poll is served at it.
     fn serves(&self, task: &MockTask, handle: u64) -> Option<bool>;
 
-    fn add(&self, handle: u64, connection: Connection)
-    -> Option<Result<(), AddError<Connection>>>;
+    fn add(&self, handle: u64, connection: Connection) -> Option<Result<(), AddError<Connection>>>;
 
     fn state(&self, handle: u64) -> Option<State>;
 
-    fn dedicated(&self) -> Option<Self::Dedicated>;
+    fn dedicated(&self) -> Option<Self::Dedicated> {
+        None
+    }
 
     fn poll_dedicated(
         &self,
-        task: &MockTask,
-        opening: &mut Self::Dedicated,
-    ) -> Poll<Result<Connection, Refused>>;
+        _task: &MockTask,
+        _opening: &mut Self::Dedicated,
+    ) -> Poll<Result<Connection, Refused>> {
+        Poll::Pending
+    }
 
-    fn cancel_dedicated(&self, opening: Self::Dedicated);
+    fn cancel_dedicated(&self, opening: Self::Dedicated) {
+        drop(opening);
+    }
 
     /// Another handle goes under this number.
-    fn clone_to(&mut self, number: u64) -> Option<()>;
+    fn clone_to(&mut self, _number: u64) -> Option<()> {
+        None
+    }
 
-    fn leave(&mut self, handle: u64) -> Option<()>;
+    fn leave(&mut self, _handle: u64) -> Option<()> {
+        None
+    }
 
     /// Polls the building of the pool; a pool that it answers is handle 0.
-    fn build(&mut self, task: &MockTask) -> Option<Polled<(), Refused>>;
+    fn build(&mut self, _task: &MockTask) -> Option<Polled<(), Refused>> {
+        None
+    }
 
-    fn cancel_building(&mut self) -> Option<()>;
+    fn cancel_building(&mut self) -> Option<()> {
+        None
+    }
 }
 
 /// Of two kinds of gets, or of guards: one by a handle, and one with a handle of its own.
@@ -146,11 +159,7 @@ impl<P: Handle<Server> + Drop> Asked for Lent<P> {
         Some(self.handle(handle)?.lend(task).is_some())
     }
 
-    fn add(
-        &self,
-        handle: u64,
-        connection: Connection,
-    ) -> Option<Result<(), AddError<Connection>>> {
+    fn add(&self, handle: u64, connection: Connection) -> Option<Result<(), AddError<Connection>>> {
         Some(self.handle(handle)?.add(connection))
     }
 
@@ -172,22 +181,6 @@ impl<P: Handle<Server> + Drop> Asked for Lent<P> {
 
     fn cancel_dedicated(&self, opening: P::Dedicated) {
         self.first.cancel_dedicated(opening);
-    }
-
-    fn clone_to(&mut self, _number: u64) -> Option<()> {
-        None
-    }
-
-    fn leave(&mut self, _handle: u64) -> Option<()> {
-        None
-    }
-
-    fn build(&mut self, _task: &MockTask) -> Option<Polled<(), Refused>> {
-        None
-    }
-
-    fn cancel_building(&mut self) -> Option<()> {
-        None
     }
 }
 
@@ -233,31 +226,13 @@ impl<B: Unbuilt<Server>> Asked for Held<B> {
         Some(self.handles.get(handle)?.serves_at_once(task))
     }
 
-    fn add(
-        &self,
-        handle: u64,
-        connection: Connection,
-    ) -> Option<Result<(), AddError<Connection>>> {
+    fn add(&self, handle: u64, connection: Connection) -> Option<Result<(), AddError<Connection>>> {
         Some(self.handles.get(handle)?.add(connection))
     }
 
     fn state(&self, handle: u64) -> Option<State> {
         Some(self.handles.get(handle)?.state())
     }
-
-    fn dedicated(&self) -> Option<()> {
-        None
-    }
-
-    fn poll_dedicated(
-        &self,
-        _task: &MockTask,
-        _opening: &mut (),
-    ) -> Poll<Result<Connection, Refused>> {
-        Poll::Pending
-    }
-
-    fn cancel_dedicated(&self, _opening: ()) {}
 
     fn clone_to(&mut self, number: u64) -> Option<()> {
         let clone = self.handles.get(0)?.try_clone().ok()?;

@@ -7,7 +7,9 @@ use crate::asked::{Asked, Held, Lent};
 use crate::play::{Play, Stage, set_board};
 use crate::preparing::Preparer;
 use crate::slots::Slots;
-use bb8::{Builder, Building, Config, Driver, DriverCalls, Memory, Moment, Pool, PoolParts, SetClock};
+use bb8::{
+    Builder, Building, Config, Driver, DriverCalls, Memory, Moment, Pool, PoolParts, SetClock,
+};
 use bb8_runner::fault::Fault;
 use bb8_runner::grammar::{fields_of, number};
 use bb8_runner::lines::{NoScript, script_of};
@@ -30,6 +32,8 @@ type LiveBuilder = Builder<Server, Errors, Preparer>;
 /// How a script's pool begins.
 #[derive(Clone, Copy)]
 struct Beginning {
+    /// How many lines stand up to there, behind the configuration.
+    lines: usize,
     /// With its first connections, at the first poll of its building or the second.
     built: bool,
     /// The script polls its building.
@@ -41,11 +45,12 @@ struct Beginning {
 }
 
 /// The beginning that a line is: the word `begin` and others. None where it is none.
-fn beginning_of(fields: &[&str]) -> Option<Beginning> {
+fn beginning_of(fields: &[&str], lines: usize) -> Option<Beginning> {
     let ["begin", words @ ..] = fields else {
         return None;
     };
     let mut beginning = Beginning {
+        lines,
         built: false,
         building: false,
         owned: false,
@@ -64,7 +69,11 @@ fn beginning_of(fields: &[&str]) -> Option<Beginning> {
 }
 
 /// A builder of these settings.
-fn builder_of(board: &Arc<Board, Global>, config: Config, most: Option<u64>) -> Result<LiveBuilder, Memory>
+fn builder_of(
+    board: &Arc<Board, Global>,
+    config: Config,
+    most: Option<u64>,
+) -> Result<LiveBuilder, Memory>
     requires { is_lawful (settings_of config) ≡ true }
 {
     let preparer = Preparer {
@@ -86,17 +95,20 @@ fn builder_of(board: &Arc<Board, Global>, config: Config, most: Option<u64>) -> 
     )
 }
 
-/// Plays the lines behind the beginning.
+/// Plays the lines behind the beginning, in front of which so many stand.
 fn perform<A: Asked, D: DriverCalls + Drop>(
     asked: A,
     drivers: Slots<D>,
     stage: Stage,
     lines: &[&str],
+    beginning: usize,
 ) -> Result<String, Fault> {
     let mut written = String::new(stage.alloc);
     let mut play = Play::new(asked, drivers, stage)?;
-    for line in lines {
-        play.line(line, &mut written)?;
+    for (before, line) in lines.iter().enumerate() {
+        if before > beginning {
+            play.line(line, &mut written)?;
+        }
     }
     Ok(written)
 }
@@ -145,9 +157,17 @@ fn play_on<R: Runtime, L: PoolParts>(
     let mut handles: Slots<LivePool<R, L>> = Slots::new(alloc)?;
     if beginning.building {
         let clock = stage.clock.try_clone()?;
-        let building: LiveBuilding<R, L> = builder.build(server_on(&stage.board)?, clock, rt, blank);
-        let building = Some(building);
-        return perform(Held { building, handles }, drivers, stage, lines);
+        let building: LiveBuilding<R, L> = builder.build(
+            server_on(&stage.board)?,
+            clock,
+            rt,
+            blank,
+        );
+        let held = Held {
+            building: Some(building),
+            handles,
+        };
+        return perform(held, drivers, stage, lines, beginning.lines);
     }
     let Some(pool) = pool_of::<R, L>(rt, blank, builder, &stage, beginning.built)? else {
         return Ok(format!(in alloc; "not built\n")?);
@@ -159,7 +179,8 @@ fn play_on<R: Runtime, L: PoolParts>(
     if beginning.owned {
         let _ = handles.put(0, pool);
         let building: Option<LiveBuilding<R, L>> = None;
-        return perform(Held { building, handles }, drivers, stage, lines);
+        let held = Held { building, handles };
+        return perform(held, drivers, stage, lines, beginning.lines);
     }
     let other = match beginning.two {
         true => pool.try_clone().ok(),
@@ -169,31 +190,26 @@ fn play_on<R: Runtime, L: PoolParts>(
         first: &pool,
         second: other.as_ref(),
     };
-    perform(lent, drivers, stage, lines)
+    perform(lent, drivers, stage, lines, beginning.lines)
 }
 
-/// What the lines between the configuration and the beginning set, and what that is; the lines behind it.
-fn prelude<'a, 'b>(
+/// Sets what the lines in front of the beginning say, and answers that. None where another line stands there.
+fn prelude(
     alloc: Global,
     board: &Board,
     most: &mut Option<u64>,
-    lines: &'b [&'a str],
-) -> Result<Option<(Beginning, &'b [&'a str])>, Fault> {
-    let mut rest = lines;
-    while let [line, others @ ..] = rest {
+    lines: &[&str],
+) -> Result<Option<Beginning>, Fault> {
+    for (before, line) in lines.iter().enumerate() {
         let fields = fields_of(alloc, line)?;
-        if let Some(beginning) = beginning_of(fields.as_slice()) {
-            return Ok(Some((beginning, others)));
+        if let Some(beginning) = beginning_of(fields.as_slice(), before) {
+            return Ok(Some(beginning));
         }
-        let [verb, word] = fields.as_slice() else {
-            return Ok(None);
-        };
-        if *verb == "prepares" {
-            *most = number(word);
-        } else if set_board(board, verb, word).is_none() {
-            return Ok(None);
+        match fields.as_slice() {
+            ["prepares", word] => *most = number(word),
+            [verb, word] if set_board(board, verb, word).is_some() => {}
+            _ => return Ok(None),
         }
-        rest = others;
     }
     Ok(None)
 }
@@ -212,7 +228,7 @@ pub fn play<R: Runtime>(rt: R, script: &str) -> Result<String, Fault> {
     };
     let board = Board::new(alloc)?;
     let mut most = None;
-    let Some((beginning, lines)) = prelude(alloc, &board, &mut most, others)? else {
+    let Some(beginning) = prelude(alloc, &board, &mut most, others)? else {
         return Ok(format!(in alloc; "not a beginning\n")?);
     };
     let clock = SetClock::new(alloc, Moment(0))?;
@@ -231,5 +247,5 @@ pub fn play<R: Runtime>(rt: R, script: &str) -> Result<String, Fault> {
         return Ok(format!(in alloc; "not a configuration\n")?);
     }
     let blank = Blank::new(config.max_size as u64);
-    play_on::<R, Brand>(rt, blank, builder, beginning, stage, lines)
+    play_on::<R, Brand>(rt, blank, builder, beginning, stage, others)
 }

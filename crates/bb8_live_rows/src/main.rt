@@ -33,7 +33,12 @@ impl<R: Runtime> Answers for Live<R> {
 
 /// Ends with the status of what came of the transcripts, and with a word on standard error where that is a fault.
 fn main(rt: HostRuntime) -> io::Result<ExitCode> {
-    let came = run(rt.alloc(), &Live { rt }, &mut rt.reader(), &mut io::writer(&rt));
+    let came = run(
+        rt.alloc(),
+        &Live { rt },
+        &mut rt.reader(),
+        &mut io::writer(&rt),
+    );
     if let Err(fault) = &came {
         eprintln!(rt; "{fault}")?;
     }

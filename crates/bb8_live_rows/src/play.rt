@@ -75,7 +75,10 @@ impl<A: Asked, D: DriverCalls + Drop> Play<A, D> {
     /// Does what a line says, and writes its answer, if it has one.
     pub fn line(&mut self, line: &str, written: &mut String) -> Result<(), Fault> {
         let alloc = self.stage.alloc;
-        match self.answer(fields_of(alloc, line)?.as_slice()).unwrap_or(Answer::Unfit) {
+        match self
+            .answer(fields_of(alloc, line)?.as_slice())
+            .unwrap_or(Answer::Unfit)
+        {
             Answer::Done => {}
             Answer::State(state) => written.push_str(output(alloc, &[], state)?.as_str())?,
             answer => writeln!(written, "{answer}")?,

@@ -4,8 +4,7 @@ use crate::transcripts::{Transcript, transcripts_of};
 use bb8_runner::fault::Fault;
 use bb8_runner::streams::{Sink, Source};
 use std::alloc::Global;
-use std::fmt;
-use std::str;
+use std::{fmt, str};
 
 /// What answers scripts.
 pub trait Answers {
