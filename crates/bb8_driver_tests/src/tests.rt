@@ -3,21 +3,14 @@ ghost use Rattle.std.specs.Prelude.{◌≡◌, true};
 ghost use Rattle.bb8.specs.Parts.{IsBlankOf};
 ghost use Rattle.bb8.specs.Settings.{is_lawful};
 
-mod adding;
-mod closings;
 mod drives;
-mod dropped;
-mod gets;
-mod lazy;
-mod one_state;
-mod turns;
-mod waits;
 
 use bb8::{Driver, Moment, NopCustomizer, Pool, PoolParts, SetClock};
 use bb8_trials::{Board, Errors, Runtime, Server, ServerBuilder, server_on};
 use futures::test::MockTask;
 use std::alloc::Global;
 use std::fmt::Debug;
+use std::marker::Brand;
 use std::process::Abort;
 use std::sync::Arc;
 use std::sync::ledger::Blank;
@@ -71,4 +64,12 @@ fn unchecked<R: Runtime, L: PoolParts>(
         board,
         task,
     })
+}
+
+/// It may be sent to other threads and be shared with them.
+fn is_shared<T: Send + Sync>() {}
+
+#[test]
+fn is_send_sync(_rt: HostRuntime) {
+    is_shared::<ServerPool<HostRuntime, Brand>>();
 }

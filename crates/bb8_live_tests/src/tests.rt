@@ -3,9 +3,7 @@ ghost use Rattle.std.specs.Prelude.{◌≡◌, ◌<◌, ◌==◌};
 ghost use Rattle.futures.specs.declared.task.Poll.TheVariants.{Pending};
 
 mod calls;
-mod checks;
 mod clocks;
-mod future;
 mod gates;
 mod get;
 mod guards;
@@ -13,7 +11,6 @@ mod handles;
 mod lists;
 mod locked;
 mod pool;
-mod rows;
 mod serving;
 mod threads;
 mod unlocked;

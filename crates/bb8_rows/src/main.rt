@@ -3,45 +3,34 @@
 //! The format is in docs/SCRIPTS.md.
 #![tactic(auto)]
 
-use crate::report::Report;
 use bb8_runner::fault::Fault;
-use bb8_runner::streams::{Sink, Source};
+use bb8_runner::script::run_script;
+use bb8_transcripts::report::{Answers, run, status_of};
 use std::alloc::Global;
 use std::io;
 use std::process::ExitCode;
 
-mod report;
 #[cfg(test)]
 mod tests;
-mod transcripts;
 
-/// The exit status where a transcript is answered otherwise.
-const DIFFERENT: u8 = 1;
+/// Answers the scripts of a bare pool.
+#[derive(Clone, Copy)]
+struct Bare;
 
-/// The exit status where reading, writing or memory failed, or the input is no text.
-const FAULT: u8 = 3;
-
-/// Reads all transcripts, runs them, and writes what came of them.
-fn run<R: Source, W: Sink>(alloc: Global, reader: &mut R, writer: &mut W) -> Result<Report, Fault> {
-    let input = reader.read_whole(alloc)?;
-    let Ok(text) = str::from_utf8(input.as_slice()) else {
-        return Err(Fault::Read);
-    };
-    let report = Report::of(alloc, text)?;
-    writer.write_whole(report.told.as_bytes())?;
-    let sums = format!(in alloc; "{report}\n")?;
-    writer.write_whole(sums.as_bytes())?;
-    Ok(report)
+impl Answers for Bare {
+    fn answers(&self, alloc: Global, script: &str) -> Result<Vec<u8>, Fault> {
+        let mut script = script.as_bytes();
+        let mut written = Vec::new(alloc);
+        let _ = run_script(alloc, &mut script, &mut written)?;
+        Ok(written)
+    }
 }
 
 /// Ends with the status of what came of the transcripts, and with a word on standard error where that is a fault.
 fn main(rt: HostRuntime) -> io::Result<ExitCode> {
-    match run(rt.alloc(), &mut rt.reader(), &mut io::writer(&rt)) {
-        Ok(report) if report.different == 0 => Ok(ExitCode::from(0)),
-        Ok(_) => Ok(ExitCode::from(DIFFERENT)),
-        Err(fault) => {
-            eprintln!(rt; "{fault}")?;
-            Ok(ExitCode::from(FAULT))
-        }
+    let came = run(rt.alloc(), &Bare, &mut rt.reader(), &mut io::writer(&rt));
+    if let Err(fault) = &came {
+        eprintln!(rt; "{fault}")?;
     }
+    Ok(ExitCode::from(status_of(&came)))
 }

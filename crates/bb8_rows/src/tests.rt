@@ -1,6 +1,6 @@
 //! That a transcript which is answered otherwise is told.
 
-use super::run;
+use super::{Bare, run};
 use std::test::Fail;
 
 /// One transcript that is answered as it says, and one whose third answer is wrong, and the fourth, too.
@@ -50,7 +50,7 @@ const WRONG_LENGTH_TOLD: &[u8] = b"\
 fn written(rt: &HostRuntime, input: &[u8]) -> Result<Vec<u8>, Fail> {
     let mut reader = input;
     let mut written = Vec::new(rt.alloc());
-    match run(rt.alloc(), &mut reader, &mut written) {
+    match run(rt.alloc(), &Bare, &mut reader, &mut written) {
         Ok(_) => Ok(written),
         Err(_) => Err(Fail::from("a fault")),
     }

@@ -2,9 +2,21 @@
 
 use crate::transcripts::{Transcript, transcripts_of};
 use bb8_runner::fault::Fault;
-use bb8_runner::script::run_script;
+use bb8_runner::streams::{Sink, Source};
 use std::alloc::Global;
-use std::fmt;
+use std::{fmt, str};
+
+/// What answers scripts.
+pub trait Answers {
+    /// What is written for a script, line by line.
+    fn answers(&self, alloc: Global, script: &str) -> Result<Vec<u8>, Fault>;
+}
+
+/// The exit status where a transcript is answered otherwise.
+const DIFFERENT: u8 = 1;
+
+/// The exit status where reading, writing or memory failed, or the input is no text.
+const FAULT: u8 = 3;
 
 /// An answer, or that there is none.
 #[derive(Clone, Copy)]
@@ -36,7 +48,7 @@ pub struct Report {
 
 impl Report {
     /// Runs the transcripts of a file.
-    pub fn of(alloc: Global, text: &str) -> Result<Report, Fault> {
+    fn of<A: Answers>(alloc: Global, player: &A, text: &str) -> Result<Report, Fault> {
         let mut report = Report {
             told: String::new(alloc),
             transcripts: 0,
@@ -46,7 +58,7 @@ impl Report {
         };
         for transcript in transcripts_of(alloc, text)?.iter() {
             if transcript.is_run {
-                report.run(alloc, transcript)?;
+                report.run(alloc, player, transcript)?;
             } else {
                 report.not_run = report.not_run.saturating_add(1);
             }
@@ -54,10 +66,13 @@ impl Report {
         Ok(report)
     }
 
-    fn run(&mut self, alloc: Global, transcript: &Transcript<'_>) -> Result<(), Fault> {
-        let mut script = transcript.script.as_bytes();
-        let mut written = Vec::new(alloc);
-        let _ = run_script(alloc, &mut script, &mut written)?;
+    fn run<A: Answers>(
+        &mut self,
+        alloc: Global,
+        player: &A,
+        transcript: &Transcript<'_>,
+    ) -> Result<(), Fault> {
+        let written = player.answers(alloc, transcript.script.as_str())?;
         let Ok(written) = str::from_utf8(written.as_slice()) else {
             return Err(Fault::Read);
         };
@@ -111,5 +126,32 @@ impl fmt::Display for Report {
             f,
             "transcripts {transcripts} answers {answers} not run {not_run} different {different}"
         )
+    }
+}
+
+/// Reads all transcripts, runs them, and writes what came of them.
+pub fn run<A: Answers, R: Source, W: Sink>(
+    alloc: Global,
+    player: &A,
+    reader: &mut R,
+    writer: &mut W,
+) -> Result<Report, Fault> {
+    let input = reader.read_whole(alloc)?;
+    let Ok(text) = str::from_utf8(input.as_slice()) else {
+        return Err(Fault::Read);
+    };
+    let report = Report::of(alloc, player, text)?;
+    writer.write_whole(report.told.as_bytes())?;
+    let sums = format!(in alloc; "{report}\n")?;
+    writer.write_whole(sums.as_bytes())?;
+    Ok(report)
+}
+
+/// The exit status of what came of transcripts.
+pub fn status_of(came: &Result<Report, Fault>) -> u8 {
+    match came {
+        Ok(report) if report.different == 0 => 0,
+        Ok(_) => DIFFERENT,
+        Err(_) => FAULT,
     }
 }

@@ -1,0 +1,262 @@
+//! The handles of a script's pool, and what they are asked for.
+
+use crate::slots::Slots;
+use bb8::{AddError, Memory, State};
+use bb8_trials::{Connection, Handle, OwnedHandle, Polled, Refused, Server, Unbuilt};
+use futures::task::Poll;
+use futures::test::MockTask;
+
+/// A connection's number, how many checks of it were begun, and what a customizer made of it.
+pub type Facts = (u64, u64, u64);
+
+/// What a connection tells.
+pub fn facts_of(connection: &Connection) -> Facts {
+    (connection.number, connection.checks, connection.field)
+}
+
+/// What a script asks of its pool. A call by a handle that is not there, or that such handles do not have, answers None.
+pub trait Asked: Drop {
+    /// A get, by a handle or with one of its own.
+    type Get: Drop;
+
+    /// What it is served with.
+    type Guard: Drop;
+
+    /// The opening of a connection that the pool does not count.
+    type Dedicated: Drop;
+
+    fn get(&self, handle: u64) -> Option<Self::Get>;
+
+    fn get_owned(&self, handle: u64) -> Option<Self::Get>;
+
+    fn poll(&self, task: &MockTask, get: &mut Self::Get) -> Polled<Self::Guard, Refused>;
+
+    fn cancel(&self, get: Self::Get);
+
+    fn facts(guard: &Self::Guard) -> Facts;
+
+    /// The guard's connection is found broken from now on.
+    fn spoil(guard: &mut Self::Guard);
+
+    /// Whether a get that is let go after its first poll is served at it.
+    fn serves(&self, task: &MockTask, handle: u64) -> Option<bool>;
+
+    fn add(&self, handle: u64, connection: Connection) -> Option<Result<(), AddError<Connection>>>;
+
+    fn state(&self, handle: u64) -> Option<State>;
+
+    fn dedicated(&self) -> Option<Self::Dedicated> {
+        None
+    }
+
+    fn poll_dedicated(
+        &self,
+        _task: &MockTask,
+        _opening: &mut Self::Dedicated,
+    ) -> Poll<Result<Connection, Refused>> {
+        Poll::Pending
+    }
+
+    fn cancel_dedicated(&self, opening: Self::Dedicated) {
+        drop(opening);
+    }
+
+    /// Another handle goes under this number.
+    fn clone_to(&mut self, _number: u64) -> Option<()> {
+        None
+    }
+
+    fn leave(&mut self, _handle: u64) -> Option<()> {
+        None
+    }
+
+    /// Polls the building of the pool; a pool that it answers is handle 0.
+    fn build(&mut self, _task: &MockTask) -> Option<Polled<(), Refused>> {
+        None
+    }
+
+    fn cancel_building(&mut self) -> Option<()> {
+        None
+    }
+}
+
+/// Of two kinds of gets, or of guards: one by a handle, and one with a handle of its own.
+#[derive(Drop)]
+pub enum Either<A: Drop, B: Drop> {
+    Lent(A),
+    Owned(B),
+}
+
+/// One handle by reference, or two.
+#[derive(Drop)]
+pub struct Lent<P: Handle<Server> + Drop> {
+    pub first: P,
+    pub second: Option<P>,
+}
+
+impl<P: Handle<Server> + Drop> Lent<P> {
+    fn handle(&self, handle: u64) -> Option<P> {
+        match handle {
+            0 => Some(self.first),
+            1 => self.second,
+            _ => None,
+        }
+    }
+}
+
+impl<P: Handle<Server> + Drop> Asked for Lent<P> {
+    type Get = Either<P::Get, P::OwnedGet>;
+
+    type Guard = Either<P::Guard, P::OwnedGuard>;
+
+    type Dedicated = P::Dedicated;
+
+    fn get(&self, handle: u64) -> Option<Self::Get> {
+        Some(Either::Lent(self.handle(handle)?.get()))
+    }
+
+    fn get_owned(&self, handle: u64) -> Option<Self::Get> {
+        Some(Either::Owned(self.handle(handle)?.get_owned()))
+    }
+
+    fn poll(&self, task: &MockTask, get: &mut Self::Get) -> Polled<Self::Guard, Refused> {
+        match get {
+            Either::Lent(get) => match self.first.poll(task, get) {
+                Poll::Ready(Ok(guard)) => Poll::Ready(Ok(Either::Lent(guard))),
+                Poll::Ready(Err(error)) => Poll::Ready(Err(error)),
+                Poll::Pending => Poll::Pending,
+            },
+            Either::Owned(get) => match self.first.poll_owned(task, get) {
+                Poll::Ready(Ok(guard)) => Poll::Ready(Ok(Either::Owned(guard))),
+                Poll::Ready(Err(error)) => Poll::Ready(Err(error)),
+                Poll::Pending => Poll::Pending,
+            },
+        }
+    }
+
+    fn cancel(&self, get: Self::Get) {
+        match get {
+            Either::Lent(get) => self.first.cancel(get),
+            Either::Owned(get) => self.first.cancel_owned(get),
+        }
+    }
+
+    fn facts(guard: &Self::Guard) -> Facts {
+        match guard {
+            Either::Lent(guard) => facts_of(guard),
+            Either::Owned(guard) => facts_of(guard),
+        }
+    }
+
+    fn spoil(guard: &mut Self::Guard) {
+        match guard {
+            Either::Lent(guard) => guard.is_broken = true,
+            Either::Owned(guard) => guard.is_broken = true,
+        }
+    }
+
+    fn serves(&self, task: &MockTask, handle: u64) -> Option<bool> {
+        Some(self.handle(handle)?.lend(task).is_some())
+    }
+
+    fn add(&self, handle: u64, connection: Connection) -> Option<Result<(), AddError<Connection>>> {
+        Some(self.handle(handle)?.add(connection))
+    }
+
+    fn state(&self, handle: u64) -> Option<State> {
+        Some(self.handle(handle)?.state())
+    }
+
+    fn dedicated(&self) -> Option<P::Dedicated> {
+        Some(self.first.dedicated_connection())
+    }
+
+    fn poll_dedicated(
+        &self,
+        task: &MockTask,
+        opening: &mut P::Dedicated,
+    ) -> Poll<Result<Connection, Refused>> {
+        self.first.poll_dedicated(task, opening)
+    }
+
+    fn cancel_dedicated(&self, opening: P::Dedicated) {
+        self.first.cancel_dedicated(opening);
+    }
+}
+
+/// Handles that a script may make and drop, and the building of a pool that has none yet.
+#[derive(Drop)]
+pub struct Held<B: Unbuilt<Server>> {
+    pub building: Option<B>,
+    pub handles: Slots<B::Pool>,
+}
+
+impl<B: Unbuilt<Server>> Asked for Held<B> {
+    type Get = <B::Pool as OwnedHandle<Server>>::OwnedGet;
+
+    type Guard = <B::Pool as OwnedHandle<Server>>::OwnedGuard;
+
+    type Dedicated = ();
+
+    fn get(&self, _handle: u64) -> Option<Self::Get> {
+        None
+    }
+
+    fn get_owned(&self, handle: u64) -> Option<Self::Get> {
+        Some(self.handles.get(handle)?.get_owned())
+    }
+
+    fn poll(&self, task: &MockTask, get: &mut Self::Get) -> Polled<Self::Guard, Refused> {
+        B::Pool::poll_owned(task, get)
+    }
+
+    fn cancel(&self, get: Self::Get) {
+        B::Pool::cancel_owned(get);
+    }
+
+    fn facts(guard: &Self::Guard) -> Facts {
+        facts_of(guard)
+    }
+
+    fn spoil(guard: &mut Self::Guard) {
+        guard.is_broken = true;
+    }
+
+    fn serves(&self, task: &MockTask, handle: u64) -> Option<bool> {
+        Some(self.handles.get(handle)?.serves_at_once(task))
+    }
+
+    fn add(&self, handle: u64, connection: Connection) -> Option<Result<(), AddError<Connection>>> {
+        Some(self.handles.get(handle)?.add(connection))
+    }
+
+    fn state(&self, handle: u64) -> Option<State> {
+        Some(self.handles.get(handle)?.state())
+    }
+
+    fn clone_to(&mut self, number: u64) -> Option<()> {
+        let clone = self.handles.get(0)?.try_clone().ok()?;
+        self.handles.put(number, clone)
+    }
+
+    fn leave(&mut self, handle: u64) -> Option<()> {
+        drop(self.handles.take(handle)?);
+        Some(())
+    }
+
+    fn build(&mut self, task: &MockTask) -> Option<Polled<(), Refused>> {
+        Some(match self.building.as_mut()?.poll(task) {
+            Poll::Ready(Ok(pool)) => {
+                self.handles.put(0, pool)?;
+                Poll::Ready(Ok(()))
+            }
+            Poll::Ready(Err(error)) => Poll::Ready(Err(error)),
+            Poll::Pending => Poll::Pending,
+        })
+    }
+
+    fn cancel_building(&mut self) -> Option<()> {
+        self.building.take()?.cancel();
+        Some(())
+    }
+}

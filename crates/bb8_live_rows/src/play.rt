@@ -1,0 +1,229 @@
+//! What each line of a script does.
+
+use crate::answer::{Answer, error_of, poll_of, refusal_of};
+use crate::asked::{Asked, facts_of};
+use crate::slots::Slots;
+use bb8::{DriverCalls, Moment, SetClock};
+use bb8_runner::fault::Fault;
+use bb8_runner::grammar::{fields_of, number};
+use bb8_runner::text::output;
+use bb8_trials::{ALWAYS, Board, Connection, Course, connection_on};
+use futures::task::Poll;
+use futures::test::MockTask;
+use std::alloc::{AllocError, Global};
+use std::fmt::Write;
+use std::sync::Arc;
+
+/// What stands around a script's pool.
+#[derive(Drop)]
+pub struct Stage {
+    pub alloc: Global,
+    pub clock: SetClock,
+    /// The same clock by a handle of its own.
+    pub copy: SetClock,
+    pub board: Arc<Board, Global>,
+    pub task: MockTask,
+}
+
+/// The lines of a script that set how the server answers. None where it is none of these.
+pub fn set_board(board: &Board, verb: &str, word: &str) -> Option<Answer> {
+    let course = match word {
+        "passes" => Some(Course::Passes),
+        "lasts" => Some(Course::Lasts),
+        "fails" => Some(Course::Fails),
+        _ => None,
+    };
+    match verb {
+        "opening" => board.opening.set(course?),
+        "check" => board.check.set(course?),
+        "opens" => board.opens.set(number(word)?),
+        "fails" => board.fails.set(number(word)?),
+        "ready" => board.ready.set(number(word)?),
+        "breaks" if word == "always" => board.breaks.set(ALWAYS),
+        "breaks" => board.breaks.set(number(word)?),
+        _ => return None,
+    }
+    Some(Answer::Done)
+}
+
+/// A script as it is played: all that it has, each under a number.
+#[derive(Drop)]
+pub struct Play<A: Asked, D: DriverCalls + Drop> {
+    asked: A,
+    drivers: Slots<D>,
+    gets: Slots<A::Get>,
+    guards: Slots<A::Guard>,
+    openings: Slots<A::Dedicated>,
+    connections: Slots<Connection>,
+    stage: Stage,
+}
+
+impl<A: Asked, D: DriverCalls + Drop> Play<A, D> {
+    pub fn new(asked: A, drivers: Slots<D>, stage: Stage) -> Result<Play<A, D>, AllocError> {
+        let alloc = stage.alloc;
+        Ok(Play {
+            asked,
+            drivers,
+            gets: Slots::new(alloc)?,
+            guards: Slots::new(alloc)?,
+            openings: Slots::new(alloc)?,
+            connections: Slots::new(alloc)?,
+            stage,
+        })
+    }
+
+    /// Does what a line says, and writes its answer, if it has one.
+    pub fn line(&mut self, line: &str, written: &mut String) -> Result<(), Fault> {
+        let alloc = self.stage.alloc;
+        match self
+            .answer(fields_of(alloc, line)?.as_slice())
+            .unwrap_or(Answer::Unfit)
+        {
+            Answer::Done => {}
+            Answer::State(state) => written.push_str(output(alloc, &[], state)?.as_str())?,
+            answer => writeln!(written, "{answer}")?,
+        }
+        Ok(())
+    }
+
+    fn answer(&mut self, fields: &[&str]) -> Option<Answer> {
+        match fields {
+            ["build"] => Some(poll_of(self.asked.build(&self.stage.task)?)),
+            ["leave", "building"] => self.asked.cancel_building().map(|_| Answer::Done),
+            [verb] => match self.counted(verb) {
+                None => self.by_handle(verb, 0),
+                told => told,
+            },
+            [verb, word] => match set_board(&self.stage.board, verb, word) {
+                None => self.numbered(verb, number(word)?),
+                set => set,
+            },
+            [verb, first, second] => self.paired(verb, number(first)?, number(second)?),
+            _ => None,
+        }
+    }
+
+    /// How many openings were begun, connections dropped, and errors taken; whether the script's task was woken.
+    fn counted(&self, verb: &str) -> Option<Answer> {
+        let board = &self.stage.board;
+        match verb {
+            "begun" => Some(Answer::Number(board.begun.get())),
+            "closed" => Some(Answer::Number(board.closed.get())),
+            "errors" => Some(Answer::Number(board.errors.get())),
+            "woken" => Some(yes_or_no(self.stage.task.is_woken())),
+            _ => None,
+        }
+    }
+
+    /// What a handle tells.
+    fn by_handle(&mut self, verb: &str, handle: u64) -> Option<Answer> {
+        match verb {
+            "state" => self.asked.state(handle).map(Answer::State),
+            "sizes" => self.asked.state(handle).map(Answer::Sizes),
+            "gets" => self.asked.state(handle).map(Answer::Gets),
+            "serves" => self.asked.serves(&self.stage.task, handle).map(yes_or_no),
+            "clone" => self.asked.clone_to(handle).map(|_| Answer::Done),
+            "leave" => self.asked.leave(handle).map(|_| Answer::Done),
+            _ => None,
+        }
+    }
+
+    /// The lines of one number, that of a get or its guard for most.
+    fn numbered(&mut self, verb: &str, n: u64) -> Option<Answer> {
+        match verb {
+            "clock" => self.stage.clock.set(Moment(n)),
+            "copy" => self.stage.copy.set(Moment(n)),
+            "poll" => return self.poll(n),
+            "lend" => return self.lend(n),
+            "drop" => drop(self.gets.take(n)?),
+            "cancel" => self.asked.cancel(self.gets.take(n)?),
+            "guard" => return Some(Answer::Connection(A::facts(self.guards.get(n)?))),
+            "spoil" => A::spoil(self.guards.get_mut(n)?),
+            "return" => drop(self.guards.take(n)?),
+            "rest" => drop(self.drivers.take(n)?),
+            "drive" => {
+                let _ = self.drivers.get_mut(0)?.turn(Moment(n));
+            }
+            "dedicated" => self.openings.put(n, self.asked.dedicated()?)?,
+            "open" => return self.open(n),
+            "close" => self.asked.cancel_dedicated(self.openings.take(n)?),
+            "get" | "own" | "add" | "turn" => return self.paired(verb, n, 0),
+            _ => return self.by_handle(verb, n),
+        }
+        Some(Answer::Done)
+    }
+
+    /// The lines of two numbers, of which the second is that of a handle or a driver for most.
+    fn paired(&mut self, verb: &str, n: u64, m: u64) -> Option<Answer> {
+        match verb {
+            "get" => self.gets.put(n, self.asked.get(m)?)?,
+            "own" => self.gets.put(n, self.asked.get_owned(m)?)?,
+            "make" => self.make(n, m, false)?,
+            "spoiled" => self.make(n, m, true)?,
+            "add" => return self.add(n, m),
+            "turn" => return Some(Answer::Turned(self.drivers.get_mut(m)?.turn(Moment(n)))),
+            _ => return None,
+        }
+        Some(Answer::Done)
+    }
+
+    /// Polls a get. Its guard goes under the get's number.
+    fn poll(&mut self, n: u64) -> Option<Answer> {
+        let get = self.gets.get_mut(n)?;
+        match self.asked.poll(&self.stage.task, get) {
+            Poll::Pending => Some(Answer::Pending),
+            Poll::Ready(Err(error)) => Some(error_of(error)),
+            Poll::Ready(Ok(guard)) => {
+                let (number, _, _) = A::facts(&guard);
+                self.guards.put(n, guard)?;
+                Some(Answer::Served(number))
+            }
+        }
+    }
+
+    /// A get that is dropped after its first poll.
+    fn lend(&mut self, n: u64) -> Option<Answer> {
+        self.gets.put(n, self.asked.get(0)?)?;
+        let answer = self.poll(n);
+        drop(self.gets.take(n)?);
+        answer
+    }
+
+    /// Polls a dedicated opening. Its connection goes under its number.
+    fn open(&mut self, n: u64) -> Option<Answer> {
+        let opening = self.openings.get_mut(n)?;
+        match self.asked.poll_dedicated(&self.stage.task, opening) {
+            Poll::Pending => Some(Answer::Pending),
+            Poll::Ready(Err(error)) => Some(Answer::Refused(error.0)),
+            Poll::Ready(Ok(connection)) => {
+                let facts = facts_of(&connection);
+                self.connections.put(n, connection)?;
+                Some(Answer::Connection(facts))
+            }
+        }
+    }
+
+    /// A connection that no opening brought.
+    fn make(&mut self, n: u64, number: u64, is_broken: bool) -> Option<()> {
+        let mut connection = connection_on(&self.stage.board, number).ok()?;
+        connection.is_broken = is_broken;
+        self.connections.put(n, connection)
+    }
+
+    /// Adds a connection by a handle. One that is refused is there again.
+    fn add(&mut self, n: u64, handle: u64) -> Option<Answer> {
+        let connection = self.connections.take(n)?;
+        match self.asked.add(handle, connection)? {
+            Ok(()) => Some(Answer::Added),
+            Err(error) => {
+                let (answer, connection) = refusal_of(error);
+                self.connections.put(n, connection)?;
+                Some(answer)
+            }
+        }
+    }
+}
+
+fn yes_or_no(yes: bool) -> Answer {
+    if yes { Answer::Yes } else { Answer::No }
+}
