@@ -107,6 +107,13 @@ fn at(fields: &[u64], place: u32) -> u64
     }
 }
 
+/// A bool as 0 or 1.
+fn bit(is: bool) -> u64
+    ensures { result ≡ layout.bit is }
+{
+    if is { 1 } else { 0 }
+}
+
 /// The field of settings at this place, from 0 on in the order of their declaration; a bool as 0 or 1. It is 0 at another place.
 pub(crate) fn setting(settings: Settings, place: u32) -> u64
     ensures { result ≡ layout.setting_at settings place }
@@ -114,8 +121,8 @@ pub(crate) fn setting(settings: Settings, place: u32) -> u64
     let fields = [
         settings.max_size as u64,
         settings.min_idle as u64,
-        settings.test_on_check_out as u64,
-        settings.lifo as u64,
+        bit(settings.test_on_check_out),
+        bit(settings.lifo),
         settings.max_lifetime,
         settings.idle_timeout,
     ];
