@@ -1,6 +1,5 @@
 -- A get that began may try.
 use Rattle.std.proofs.Common.{◌≡◌, ◌∙◌, ◌++◌, ◌∷◌, [], ℕ, Bool, true, false, cond, eqb, Some, sym, ap, MatchBool, option_and_then}
-use Rattle.std.specs.FinMap.{get}
 use Rattle.bb8_types.specs.declared.standing.Getting.{Getting}
 use Rattle.bb8_types.specs.Numbered.{Numbered, at as at_number}
 use Rattle.bb8_types.specs.Places.{gets_stand, is_trying}

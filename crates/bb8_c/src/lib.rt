@@ -166,7 +166,8 @@ pub extern "C" fn bb8_checked_err(
     hint: usize,
 ) -> Told
     requires { IsSome core.old.core }
-    ensures { Within (λ old new. (a : Option (CheckedErrAnswer ℕ)) × (result ≡ in_c.checked_err_in a)
+    ensures { Within (λ old new. (a : Option (CheckedErrAnswer ℕ))
+        × (result ≡ in_c.checked_err_in a)
         × Stepped checked_err_told old at (acts.CheckedErr get.number broken) a new
         × IfSome a (λ told. GivesBackInvalid conn told)) core.old.core core.new.core }
 {
