@@ -2,3 +2,4 @@ mod Values
 mod AsBox
 mod Inside
 mod Begun
+mod AtOnce

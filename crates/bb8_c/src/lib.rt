@@ -31,7 +31,7 @@ ghost use Rattle.bb8_c.specs.declared.steps.Got.{Got};
 ghost use Rattle.bb8_c.specs.InC as in_c;
 ghost use Rattle.bb8_c.specs.Layout as layout;
 ghost use Rattle.bb8_c.specs.Openings.{IsMade};
-ghost use Rattle.bb8_c.specs.Steps.{Stepped, Gets, Within, why};
+ghost use Rattle.bb8_c.specs.Steps.{Stepped, Gets, NotAtOnce, Within, why};
 
 mod figures;
 mod handle;
@@ -111,8 +111,8 @@ pub extern "C" fn bb8_get(alloc: Global, core: &mut Handle, at: u64) -> Told
 pub extern "C" fn bb8_serve_at_once(alloc: Global, core: &mut Handle, at: u64) -> Told
     requires { IsSome core.old.core }
     ensures { Within (λ old new. (a : Option (AtOnce ℕ)) × (result ≡ in_c.at_once_in a)
-        × IfSome a (λ served. ServesAtOnce old at served new) × IfNone a (new ≡ old))
-        core.old.core core.new.core }
+        × IfSome a (λ served. ServesAtOnce old at served new)
+        × IfNone a (new ≡ old) × IfNone a (NotAtOnce old)) core.old.core core.new.core }
 {
     let mut open = core.take(alloc);
     let told = told::at_once(steps::serve_at_once(&mut open, at));

@@ -3,7 +3,7 @@
 ghost use Rattle.std.specs.Prelude.{◌≡◌, ℕ, false, Some, None, IfSome, IfNone};
 ghost use Rattle.bb8_ledger.specs.Acts as acts;
 ghost use Rattle.bb8_core.specs.StepAnswers.{begin_told, try_told, checked_ok_told, checked_err_told, ServesAtOnce, reason_of, give_up_told, put_back_told, opened_told, failed_told, add_told, join_told, leave_told, HandsOut, GivesBack, GivesBackInvalid, GivesBackHeld, HandsBack, Refuses};
-ghost use Rattle.bb8_c.specs.Steps.{Stepped, Gets};
+ghost use Rattle.bb8_c.specs.Steps.{Stepped, Gets, NotAtOnce};
 
 use bb8_core::api::Moment;
 use bb8_core::internals::{
@@ -55,6 +55,7 @@ pub(crate) fn get(core: &mut Core, at: u64) -> Got
 pub(crate) fn serve_at_once(core: &mut Core, at: u64) -> Option<AtOnce<u64>>
     ensures some { IfSome result (λ served. ServesAtOnce core.old at served core.new) }
     ensures none { IfNone result (core.new ≡ core.old) }
+    ensures cause { IfNone result (NotAtOnce core.old) }
 {
     if !core.fits_at_once() {
         return None;
