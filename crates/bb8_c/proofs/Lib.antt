@@ -1,0 +1,5 @@
+mod Values
+mod AsBox
+mod Inside
+mod Begun
+mod AtOnce

@@ -1,0 +1,186 @@
+-- What the steps tell, as it crosses to C.
+use Rattle.std.specs.Prelude.{ℕ, ◌/◌, min, true, false, Option, Some, None}
+use Rattle.std.specs.Duration.{as_nanos}
+use Rattle.bb8_types.specs.Bounds.{most_micros}
+use Rattle.bb8_types.specs.declared.api.figures.State.{State}
+use Rattle.bb8_types.specs.declared.grants.Grant.{Grant}
+use Rattle.bb8_tables.specs.declared.keys.Key.{Key}
+use Rattle.bb8_tables.specs.declared.keys.GetKey.{GetKey}
+use Rattle.bb8_core.specs.declared.answers.BeginAnswer.{BeginAnswer}
+use Rattle.bb8_core.specs.declared.answers.BeginAnswer.TheVariants as begun
+use Rattle.bb8_core.specs.declared.answers.TryAnswer.{TryAnswer}
+use Rattle.bb8_core.specs.declared.answers.TryAnswer.TheVariants as tried
+use Rattle.bb8_core.specs.declared.answers.PutBackAnswer.{PutBackAnswer}
+use Rattle.bb8_core.specs.declared.answers.PutBackAnswer.TheVariants as returned
+use Rattle.bb8_core.specs.declared.answers.AtOnce.{AtOnce}
+use Rattle.bb8_core.specs.declared.answers.CheckedOkAnswer.{CheckedOkAnswer}
+use Rattle.bb8_core.specs.declared.answers.CheckedOkAnswer.TheVariants as passed
+use Rattle.bb8_core.specs.declared.answers.CheckedErrAnswer.{CheckedErrAnswer}
+use Rattle.bb8_core.specs.declared.answers.CheckedErrAnswer.TheVariants as invalid
+use Rattle.bb8_core.specs.declared.answers.GiveUpAnswer.{GiveUpAnswer}
+use Rattle.bb8_core.specs.declared.answers.GiveUpAnswer.TheVariants as given_up
+use Rattle.bb8_core.specs.declared.answers.ClaimAnswer.{ClaimAnswer}
+use Rattle.bb8_core.specs.declared.answers.ClaimAnswer.TheVariants as claimed
+use Rattle.bb8_core.specs.declared.answers.OpenedAnswer.{OpenedAnswer}
+use Rattle.bb8_core.specs.declared.answers.OpenedAnswer.TheVariants as opened
+use Rattle.bb8_core.specs.declared.answers.FailedAnswer.{FailedAnswer}
+use Rattle.bb8_core.specs.declared.answers.FailedAnswer.TheVariants as failed
+use Rattle.bb8_core.specs.declared.answers.AddAnswer.{AddAnswer}
+use Rattle.bb8_core.specs.declared.answers.AddAnswer.TheVariants as adding
+use Rattle.bb8_core.specs.declared.answers.ReapAnswer.{ReapAnswer}
+use Rattle.bb8_core.specs.declared.answers.ReapAnswer.TheVariants as reaping
+use Rattle.bb8_core.specs.declared.answers.JoinAnswer.{JoinAnswer}
+use Rattle.bb8_core.specs.declared.answers.JoinAnswer.TheVariants as joined
+use Rattle.bb8_core.specs.declared.answers.LeaveAnswer.{LeaveAnswer}
+use Rattle.bb8_core.specs.declared.answers.LeaveAnswer.TheVariants as leaving
+use Rattle.bb8_core.specs.declared.answers.Looked.{Looked as Look}
+use Rattle.bb8_c.specs.declared.steps.Got.{Got}
+use Rattle.bb8_c.specs.declared.steps.Got.TheVariants as got
+use Rattle.bb8_c.specs.declared.told.Name.{Name}
+use Rattle.bb8_c.specs.declared.told.Told.{Told}
+use Rattle.bb8_c.specs.declared.figures.Figures.{Figures}
+use Rattle.bb8_c.specs.declared.figures.Looked.{Looked}
+
+-- ---- what answers are made of
+
+-- this kind, and nothing else
+abbrev pub plain : ℕ → Told
+plain kind = record {
+  kind = kind;
+  notifies = false;
+  key = record { number = 0; place = 0 };
+  conn = 0;
+  get = record { number = 0; place = 0 };
+  granted = record { first = 0; count = 0; withheld = 0 };
+}
+
+-- the name of a connection or an approval
+abbrev pub key_in : Key → Name
+key_in k = record { number = k.number; place = k.place }
+
+-- the name of a get
+abbrev pub get_in : GetKey → Name
+get_in g = record { number = g.number; place = g.place }
+
+-- with a connection or an approval
+abbrev pub keyed : ℕ → Key → Told
+keyed kind k = record (plain kind) { key = key_in k }
+
+-- with a connection that is handed out or back
+abbrev pub with_conn : ℕ → Told → Told
+with_conn conn t = record t { conn = conn }
+
+-- with what was granted
+abbrev pub granting : Grant → Told → Told
+granting g t = record t { granted = record { first = g.first; count = g.count; withheld = g.withheld } }
+
+-- with the get that was notified, if one was
+abbrev pub notifying : Option GetKey → Told → Told
+notifying None t = t
+notifying (Some g) t = record t { notifies = true; get = get_in g }
+
+-- ---- the answers; none comes where the event did not fit
+
+abbrev pub begin_in : Option BeginAnswer → Told
+begin_in None = plain 0
+begin_in (Some (begun.Begun g)) = record (plain 1) { get = get_in g }
+begin_in (Some begun.Memory) = plain 2
+begin_in (Some begun.Exhausted) = plain 3
+
+abbrev pub try_in : Option (TryAnswer ℕ) → Told
+try_in None = plain 0
+try_in (Some (tried.Served k c grant)) = granting grant (with_conn c (keyed 4 k))
+try_in (Some (tried.Taken k c grant)) = granting grant (with_conn c (keyed 5 k))
+try_in (Some (tried.Waiting grant)) = granting grant (plain 6)
+
+-- a get in one call: its name, beside what its first try tells
+abbrev pub got_in : Got → Told
+got_in got.Unfit = plain 0
+got_in got.Memory = plain 2
+got_in got.Exhausted = plain 3
+got_in (got.Tried g told) = record (try_in (Some told)) { get = get_in g }
+
+abbrev pub put_back_in : Option (PutBackAnswer ℕ) → Told
+put_back_in None = plain 0
+put_back_in (Some (returned.Kept n)) = notifying n (plain 7)
+put_back_in (Some (returned.Closed c grant n)) = notifying n (granting grant (with_conn c (plain 8)))
+
+abbrev pub at_once_in : Option (AtOnce ℕ) → Told
+at_once_in None = plain 0
+at_once_in (Some s) = record (granting s.grant (with_conn s.conn (keyed 4 s.key))) { get = record { number = s.get; place = 0 } }
+
+abbrev pub checked_ok_in : Option CheckedOkAnswer → Told
+checked_ok_in None = plain 0
+checked_ok_in (Some (passed.Served k)) = keyed 4 k
+
+abbrev pub checked_err_in : Option (CheckedErrAnswer ℕ) → Told
+checked_err_in None = plain 0
+checked_err_in (Some (invalid.Closed k c grant n)) = notifying n (granting grant (with_conn c (keyed 8 k)))
+
+abbrev pub give_up_in : Option (GiveUpAnswer ℕ) → Told
+give_up_in None = plain 0
+give_up_in (Some (given_up.GaveUp n)) = notifying n (plain 9)
+give_up_in (Some (given_up.Kept k n)) = notifying n (keyed 7 k)
+give_up_in (Some (given_up.Closed k c grant n)) = notifying n (granting grant (with_conn c (keyed 8 k)))
+
+abbrev pub claim_in : ClaimAnswer → Told
+claim_in (claimed.Claimed (Some k)) = keyed 10 k
+claim_in (claimed.Claimed None) = plain 11
+claim_in claimed.Ended = plain 12
+
+abbrev pub opened_in : Option (OpenedAnswer ℕ) → Told
+opened_in None = plain 0
+opened_in (Some (opened.Entered n)) = notifying n (plain 13)
+opened_in (Some (opened.Late c)) = with_conn c (plain 14)
+
+abbrev pub failed_in : Option FailedAnswer → Told
+failed_in None = plain 0
+failed_in (Some failed.GivenBack) = plain 15
+
+abbrev pub add_in : Option (AddAnswer ℕ) → Told
+add_in None = plain 0
+add_in (Some (adding.Added k n)) = notifying n (keyed 16 k)
+add_in (Some (adding.Broken c)) = with_conn c (plain 17)
+add_in (Some (adding.NoCapacity c)) = with_conn c (plain 18)
+add_in (Some (adding.Withheld c)) = with_conn c (plain 19)
+
+-- how many connections ended is the number of the key
+abbrev pub reap_in : ReapAnswer → Told
+reap_in (reaping.Reaped closed by_idle by_life grant) = record (granting grant (plain 20)) { key = record { number = closed; place = 0 } }
+reap_in reaping.Ended = plain 12
+
+abbrev pub fill_in : Grant → Told
+fill_in g = granting g (plain 23)
+
+abbrev pub join_in : Option JoinAnswer → Told
+join_in None = plain 0
+join_in (Some joined.Joined) = plain 21
+join_in (Some joined.Exhausted) = plain 3
+
+-- how many connections ended is the number of the key
+abbrev pub leave_in : Option LeaveAnswer → Told
+leave_in None = plain 0
+leave_in (Some (leaving.Left n)) = record (plain 22) { key = record { number = n; place = 0 } }
+
+-- ---- what a core tells of itself
+
+-- the wait time in whole microseconds, which stays at the greatest
+abbrev pub figures_in : State → Figures
+figures_in s = record {
+  connections = s.connections;
+  idle_connections = s.idle_connections;
+  get_wait_micros = min (as_nanos s.statistics.get_wait_time / 1_000) most_micros;
+  get_started = s.statistics.get_started;
+  get_direct = s.statistics.get_direct;
+  get_waited = s.statistics.get_waited;
+  get_timed_out = s.statistics.get_timed_out;
+  get_cancelled = s.statistics.get_cancelled;
+  connections_created = s.statistics.connections_created;
+  connections_closed_broken = s.statistics.connections_closed_broken;
+  connections_closed_invalid = s.statistics.connections_closed_invalid;
+  connections_closed_max_lifetime = s.statistics.connections_closed_max_lifetime;
+  connections_closed_idle_timeout = s.statistics.connections_closed_idle_timeout;
+}
+
+abbrev pub look_in : Look → Looked
+look_in l = record { moment = l.moment.0; alive = l.alive }

@@ -1,0 +1,5 @@
+pub mod Held
+pub mod InC
+pub mod Layout
+pub mod Openings
+pub mod Steps

@@ -1,0 +1,85 @@
+//! A core behind a pointer, as C keeps it.
+ghost use Rattle.std.specs.Prelude.{◌≡◌, ℕ, Option, Some, None, IsSome};
+ghost use Rattle.std.specs.Coded.{coded_ℕ, coded_option};
+ghost use Rattle.bb8_core.specs.Shown.{Shown, shown_code};
+ghost use Rattle.bb8_c.specs.Held.{held};
+
+use crate::parts::Parts;
+use bb8_core::internals::PoolInternals;
+use std::alloc::Global;
+use std::marker::Model;
+
+/// A core of its own on the heap, or nothing. In C it is one pointer, null where it is empty. Its ghost field says which core lies there.
+#[repr(C)]
+#[derive(Drop)]
+pub struct Handle {
+    at: *mut u8,
+    alloc: Global,
+    pub ghost core: { Option (Shown ℕ) } by { coded_option (shown_code coded_ℕ) },
+}
+
+impl Model for Handle {
+    ghost also_owns = { λ h. held h.alloc h.at h.core };
+}
+
+impl Handle {
+    /// No core.
+    pub fn nothing(alloc: Global) -> Handle
+        ensures { result.core ≡ None }
+    {
+        Handle {
+            at: std::ptr::null_mut(),
+            alloc,
+        }
+    }
+
+    /// Hands the core to the handle.
+    pub fn of(core: Box<PoolInternals<u64>>) -> Handle
+        ensures { result.core ≡ Some core.value }
+    {
+        Handle::of_parts(Parts::of(core))
+    }
+
+    /// Takes the core out.
+    pub fn into_box(self) -> Box<PoolInternals<u64>>
+        requires { IsSome self.core }
+        ensures { self.core ≡ Some result.value }
+    {
+        self.into_parts().into_box()
+    }
+
+    /// Takes the core out, and leaves nothing.
+    pub fn take(&mut self, alloc: Global) -> Box<PoolInternals<u64>>
+        requires { IsSome self.old.core }
+        ensures core { self.old.core ≡ Some result.value }
+        ensures nothing { self.new.core ≡ None }
+    {
+        std::mem::replace(self, Handle::nothing(alloc)).into_box()
+    }
+
+    /// A handle from what the box of a core is made of.
+    fn of_parts(parts: Parts<PoolInternals<u64>, Global>) -> Handle
+        ensures { result.core ≡ Some parts.value }
+    {
+        let Parts { at, alloc } = parts;
+        Handle {
+            at: at as *mut u8,
+            alloc,
+        }
+    }
+
+    /// What the box of the core is made of.
+    fn into_parts(self) -> Parts<PoolInternals<u64>, Global>
+        requires { IsSome self.core }
+        ensures { self.core ≡ Some result.value }
+    {
+        let Handle { at, alloc } = self;
+        Parts {
+            at: at as *mut PoolInternals<u64>,
+            alloc,
+        }
+    }
+}
+
+// The core is plain data on the heap, and the handle alone owns it.
+unsafe impl Send for Handle {}

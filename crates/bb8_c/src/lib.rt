@@ -1,0 +1,468 @@
+//! The core of a pool as C calls it: one core behind a handle, a function for each step, and one struct for all answers.
+//!
+//! No function needs more than a handle that is not empty (`bb8_new`: one that is), which C must see to; an event that does not fit is answered
+//! with kind 0, and changes nothing. C keeps the connections, and names them by numbers of its own. Moments are in nanoseconds.
+#![tactic(auto)]
+
+ghost use Rattle.std.specs.Prelude.{◌≡◌, ℕ, Bool, true, false, Option, None, Some, IsSome, IfSome, IfNone};
+ghost use Rattle.bb8_ledger.specs.Acts as acts;
+ghost use Rattle.bb8_ledger.specs.Answers as answers;
+ghost use Rattle.bb8_types.specs.declared.grants.Grant.{Grant};
+ghost use Rattle.bb8_types.specs.declared.api.figures.State.{State};
+ghost use Rattle.bb8_types.specs.Figures.{figures_of};
+ghost use Rattle.bb8_core.specs.declared.answers.BeginAnswer.{BeginAnswer};
+ghost use Rattle.bb8_core.specs.declared.answers.AtOnce.{AtOnce};
+ghost use Rattle.bb8_core.specs.declared.answers.TryAnswer.{TryAnswer};
+ghost use Rattle.bb8_core.specs.declared.answers.CheckedOkAnswer.{CheckedOkAnswer};
+ghost use Rattle.bb8_core.specs.declared.answers.CheckedErrAnswer.{CheckedErrAnswer};
+ghost use Rattle.bb8_core.specs.declared.answers.GiveUpAnswer.{GiveUpAnswer};
+ghost use Rattle.bb8_core.specs.declared.answers.PutBackAnswer.{PutBackAnswer};
+ghost use Rattle.bb8_core.specs.declared.answers.ClaimAnswer.{ClaimAnswer};
+ghost use Rattle.bb8_core.specs.declared.answers.OpenedAnswer.{OpenedAnswer};
+ghost use Rattle.bb8_core.specs.declared.answers.FailedAnswer.{FailedAnswer};
+ghost use Rattle.bb8_core.specs.declared.answers.AddAnswer.{AddAnswer};
+ghost use Rattle.bb8_core.specs.declared.answers.ReapAnswer.{ReapAnswer};
+ghost use Rattle.bb8_core.specs.declared.answers.JoinAnswer.{JoinAnswer};
+ghost use Rattle.bb8_core.specs.declared.answers.LeaveAnswer.{LeaveAnswer};
+ghost use Rattle.bb8_core.specs.declared.answers.Looked.{Looked as Look};
+ghost use Rattle.bb8_core.specs.StepAnswers.{begin_told, try_told, checked_ok_told, checked_err_told, give_up_told, put_back_told, claim_told, opened_told, failed_told, add_told, reap_told, join_told, leave_told, look_told, reason_of, ServesAtOnce, HandsOut, GivesBack, GivesBackInvalid, GivesBackHeld, HandsBack, Refuses};
+ghost use Rattle.bb8_core.specs.Shown.{Meets, IsRecordIn, IsNoRecordIn};
+ghost use Rattle.bb8_c.specs.declared.steps.Got.{Got};
+ghost use Rattle.bb8_c.specs.InC as in_c;
+ghost use Rattle.bb8_c.specs.Layout as layout;
+ghost use Rattle.bb8_c.specs.Openings.{IsMade};
+ghost use Rattle.bb8_c.specs.Steps.{Stepped, Gets, NotAtOnce, Within, why};
+
+mod figures;
+mod handle;
+mod layout;
+mod parts;
+mod settings;
+mod steps;
+mod told;
+
+use bb8_core::api::Moment;
+use bb8_core::internals::{PoolInternals, Reason};
+pub use figures::{Figures, Looked};
+pub use handle::Handle;
+pub use settings::Settings;
+use std::alloc::Global;
+pub use told::{Granted, Name, Told};
+
+/// Makes a core, with one handle of the pool, and puts it into an empty handle. False comes where the settings are not lawful or memory was
+/// refused; then the handle stays empty.
+#[unsafe(no_mangle)]
+pub extern "C" fn bb8_new(alloc: Global, settings: Settings, out: &mut Handle) -> bool
+    requires { out.old.core ≡ None }
+    ensures { IsMade settings result out.new.core }
+{
+    let config = settings.config();
+    if !config.is_lawful() {
+        return false;
+    }
+    match Box::new(alloc, PoolInternals::new(alloc, config)) {
+        Ok(core) => {
+            *out = Handle::of(core);
+            true
+        }
+        Err(_) => false,
+    }
+}
+
+/// Frees a core and all that it keeps; the handle is empty then.
+#[unsafe(no_mangle)]
+pub extern "C" fn bb8_free(alloc: Global, core: &mut Handle)
+    requires { IsSome core.old.core }
+    ensures { core.new.core ≡ None }
+{
+    drop(core.take(alloc));
+}
+
+/// Begins a get: kind 1 with its name, 2 where memory was refused, 3 where no number is left. It does not fit where no handle is alive.
+#[unsafe(no_mangle)]
+pub extern "C" fn bb8_begin(alloc: Global, core: &mut Handle, at: u64) -> Told
+    requires { IsSome core.old.core }
+    ensures { Within (λ old new. (a : Option BeginAnswer) × (result ≡ in_c.begin_in a)
+        × Stepped begin_told old at acts.Begin a new) core.old.core core.new.core }
+{
+    let mut open = core.take(alloc);
+    let told = told::begun(steps::begin(&mut open, at));
+    *core = Handle::of(open);
+    told
+}
+
+/// Begins a get and lets it try once, as `bb8_begin` and then `bb8_try` do, whether it is checked or not, and whether it is served or waits. The name of the get
+/// comes with each answer of the try.
+#[unsafe(no_mangle)]
+pub extern "C" fn bb8_get(alloc: Global, core: &mut Handle, at: u64) -> Told
+    requires { IsSome core.old.core }
+    ensures { Within (λ old new. (a : Got) × (result ≡ in_c.got_in a)
+        × Gets old at a new) core.old.core core.new.core }
+{
+    let mut open = core.take(alloc);
+    let told = told::got(steps::get(&mut open, at));
+    *core = Handle::of(open);
+    told
+}
+
+/// Begins a get and serves it, where connections go out unchecked, one is idle, and the get needs no memory. Else the answer has kind 0, nothing
+/// changed, and `bb8_get` tells more.
+#[unsafe(no_mangle)]
+pub extern "C" fn bb8_serve_at_once(alloc: Global, core: &mut Handle, at: u64) -> Told
+    requires { IsSome core.old.core }
+    ensures { Within (λ old new. (a : Option (AtOnce ℕ)) × (result ≡ in_c.at_once_in a)
+        × IfSome a (λ served. ServesAtOnce old at served new)
+        × IfNone a (new ≡ old) × IfNone a (NotAtOnce old)) core.old.core core.new.core }
+{
+    let mut open = core.take(alloc);
+    let told = told::at_once(steps::serve_at_once(&mut open, at));
+    *core = Handle::of(open);
+    told
+}
+
+/// Lets a get try: kind 4 where it is served, 5 where it holds a connection that is to be checked, 6 where it waits.
+#[unsafe(no_mangle)]
+pub extern "C" fn bb8_try(alloc: Global, core: &mut Handle, at: u64, get: Name) -> Told
+    requires { IsSome core.old.core }
+    ensures { Within (λ old new. (a : Option (TryAnswer ℕ)) × (result ≡ in_c.try_in a)
+        × Stepped try_told old at (acts.Try get.number) a new
+        × IfSome a (λ told. HandsOut old told)) core.old.core core.new.core }
+{
+    let mut open = core.take(alloc);
+    let told = told::tried(steps::try_get(&mut open, at, get.get()));
+    *core = Handle::of(open);
+    told
+}
+
+/// Tells that the check of a get was passed: kind 4. The hint is the place of the key that it holds.
+#[unsafe(no_mangle)]
+pub extern "C" fn bb8_checked_ok(
+    alloc: Global,
+    core: &mut Handle,
+    at: u64,
+    get: Name,
+    hint: usize,
+) -> Told
+    requires { IsSome core.old.core }
+    ensures { Within (λ old new. (a : Option CheckedOkAnswer) × (result ≡ in_c.checked_ok_in a)
+        × Stepped (checked_ok_told old.records.next) old at (acts.CheckedOk get.number) a new)
+        core.old.core core.new.core }
+{
+    let mut open = core.take(alloc);
+    let told = told::checked(steps::checked_ok(&mut open, at, get.get(), hint));
+    *core = Handle::of(open);
+    told
+}
+
+/// Tells that the check of a get failed, which hands its connection in: kind 8. The get may try again. The hint is as of `bb8_checked_ok`.
+#[unsafe(no_mangle)]
+pub extern "C" fn bb8_checked_err(
+    alloc: Global,
+    core: &mut Handle,
+    at: u64,
+    get: Name,
+    conn: u64,
+    broken: bool,
+    hint: usize,
+) -> Told
+    requires { IsSome core.old.core }
+    ensures { Within (λ old new. (a : Option (CheckedErrAnswer ℕ))
+        × (result ≡ in_c.checked_err_in a)
+        × Stepped checked_err_told old at (acts.CheckedErr get.number broken) a new
+        × IfSome a (λ told. GivesBackInvalid conn told)) core.old.core core.new.core }
+{
+    let mut open = core.take(alloc);
+    let told = told::invalid(steps::checked_err(&mut open, at, get.get(), conn, broken, hint));
+    *core = Handle::of(open);
+    told
+}
+
+/// Gives up a get that holds nothing: kind 9.
+#[unsafe(no_mangle)]
+pub extern "C" fn bb8_give_up(
+    alloc: Global,
+    core: &mut Handle,
+    at: u64,
+    get: Name,
+    timed_out: bool,
+) -> Told
+    requires { IsSome core.old.core }
+    ensures { Within (λ old new. (a : Option (GiveUpAnswer ℕ)) × (result ≡ in_c.give_up_in a)
+        × Stepped give_up_told old at (acts.GiveUp get.number (why timed_out) None false) a new
+        × IfSome a (λ told. GivesBackHeld None told)) core.old.core core.new.core }
+{
+    let mut open = core.take(alloc);
+    let told = told::gave_up(steps::give_up(&mut open, at, get.get(), reason(timed_out)));
+    *core = Handle::of(open);
+    told
+}
+
+/// Gives up a get that holds a connection, which is handed in: kind 7 or 8. The hint is as of `bb8_checked_ok`.
+#[unsafe(no_mangle)]
+pub extern "C" fn bb8_give_up_held(
+    alloc: Global,
+    core: &mut Handle,
+    at: u64,
+    get: Name,
+    timed_out: bool,
+    conn: u64,
+    broken: bool,
+    hint: usize,
+) -> Told
+    requires { IsSome core.old.core }
+    ensures { Within (λ old new. (a : Option (GiveUpAnswer ℕ)) × (result ≡ in_c.give_up_in a)
+        × Stepped give_up_told old at
+        (acts.GiveUp get.number (why timed_out) (Some conn) broken) a new
+        × IfSome a (λ told. GivesBackHeld (Some conn) told)) core.old.core core.new.core }
+{
+    let mut open = core.take(alloc);
+    let told = told::gave_up(steps::give_up_held(
+        &mut open,
+        at,
+        get.get(),
+        reason(timed_out),
+        conn,
+        broken,
+        hint,
+    ));
+    *core = Handle::of(open);
+    told
+}
+
+/// Returns a connection that was served: kind 7 where it is idle, 8 where it is closed, and handed back.
+#[unsafe(no_mangle)]
+pub extern "C" fn bb8_put_back(
+    alloc: Global,
+    core: &mut Handle,
+    at: u64,
+    key: Name,
+    conn: u64,
+    broken: bool,
+) -> Told
+    requires { IsSome core.old.core }
+    ensures { Within (λ old new. (a : Option (PutBackAnswer ℕ)) × (result ≡ in_c.put_back_in a)
+        × Stepped (put_back_told key.number) old at (acts.PutBack key.number conn broken) a new
+        × IfSome a (λ told. GivesBack conn told)) core.old.core core.new.core }
+{
+    let mut open = core.take(alloc);
+    let told = told::returned(steps::put_back(&mut open, at, key.key(), conn, broken));
+    *core = Handle::of(open);
+    told
+}
+
+/// Grants what is wanted for `min_idle`, claimed at once or not: kind 23.
+#[unsafe(no_mangle)]
+pub extern "C" fn bb8_fill(alloc: Global, core: &mut Handle, at: u64, claimed: bool) -> Told
+    requires { IsSome core.old.core }
+    ensures { Within (λ old new. (a : Grant) × (result ≡ in_c.fill_in a)
+        × Meets old at (acts.Fill claimed) (answers.Granted a) new) core.old.core core.new.core }
+{
+    let mut open = core.take(alloc);
+    let told = told::filled(open.fill(Moment(at), claimed));
+    *core = Handle::of(open);
+    told
+}
+
+/// Claims an approval: kind 10, or 11 where none is unclaimed, or 12 where no handle is alive.
+#[unsafe(no_mangle)]
+pub extern "C" fn bb8_claim(alloc: Global, core: &mut Handle, at: u64) -> Told
+    requires { IsSome core.old.core }
+    ensures { Within (λ old new. (a : ClaimAnswer) × (result ≡ in_c.claim_in a)
+        × Meets old at acts.Claim (claim_told a) new) core.old.core core.new.core }
+{
+    let mut open = core.take(alloc);
+    let told = told::claimed(open.claim(Moment(at)));
+    *core = Handle::of(open);
+    told
+}
+
+/// Hands in the connection that a claimed approval brought: kind 13, or 14 where no handle is alive and it is handed back.
+#[unsafe(no_mangle)]
+pub extern "C" fn bb8_opened(
+    alloc: Global,
+    core: &mut Handle,
+    at: u64,
+    approval: Name,
+    conn: u64,
+) -> Told
+    requires { IsSome core.old.core }
+    ensures { Within (λ old new. (a : Option (OpenedAnswer ℕ)) × (result ≡ in_c.opened_in a)
+        × Stepped (opened_told approval.number) old at (acts.Opened approval.number conn) a new
+        × IfSome a (λ told. HandsBack conn told)) core.old.core core.new.core }
+{
+    let mut open = core.take(alloc);
+    let told = told::entered(steps::opened(&mut open, at, approval.key(), conn));
+    *core = Handle::of(open);
+    told
+}
+
+/// Ends a claimed approval that brought no connection: kind 15.
+#[unsafe(no_mangle)]
+pub extern "C" fn bb8_failed(alloc: Global, core: &mut Handle, at: u64, approval: Name) -> Told
+    requires { IsSome core.old.core }
+    ensures { Within (λ old new. (a : Option FailedAnswer) × (result ≡ in_c.failed_in a)
+        × Stepped failed_told old at (acts.Failed approval.number) a new)
+        core.old.core core.new.core }
+{
+    let mut open = core.take(alloc);
+    let told = told::given_back(steps::failed(&mut open, at, approval.key()));
+    *core = Handle::of(open);
+    told
+}
+
+/// Adds a connection that no approval brought: kind 16, or 17 as it is broken, 18 as there is no room, 19 as memory or a number is lacking.
+#[unsafe(no_mangle)]
+pub extern "C" fn bb8_add(
+    alloc: Global,
+    core: &mut Handle,
+    at: u64,
+    conn: u64,
+    broken: bool,
+) -> Told
+    requires { IsSome core.old.core }
+    ensures { Within (λ old new. (a : Option (AddAnswer ℕ)) × (result ≡ in_c.add_in a)
+        × Stepped add_told old at (acts.Add conn broken) a new
+        × IfSome a (λ told. Refuses conn told)) core.old.core core.new.core }
+{
+    let mut open = core.take(alloc);
+    let told = told::added(steps::add(&mut open, at, conn, broken));
+    *core = Handle::of(open);
+    told
+}
+
+/// Closes idle connections that are too old or idled too long: kind 20, with how many as the number of the key; 12 where no handle is alive.
+#[unsafe(no_mangle)]
+pub extern "C" fn bb8_reap(alloc: Global, core: &mut Handle, at: u64) -> Told
+    requires { IsSome core.old.core }
+    ensures { Within (λ old new. (a : ReapAnswer) × (result ≡ in_c.reap_in a)
+        × Meets old at acts.Reap (reap_told a) new) core.old.core core.new.core }
+{
+    let mut open = core.take(alloc);
+    let told = told::reaped(open.reap(Moment(at)));
+    *core = Handle::of(open);
+    told
+}
+
+/// Adds a handle of the pool: kind 21, or 3 where 4,294,967,295 are alive.
+#[unsafe(no_mangle)]
+pub extern "C" fn bb8_join(alloc: Global, core: &mut Handle, at: u64) -> Told
+    requires { IsSome core.old.core }
+    ensures { Within (λ old new. (a : Option JoinAnswer) × (result ≡ in_c.join_in a)
+        × Stepped join_told old at acts.Join a new) core.old.core core.new.core }
+{
+    let mut open = core.take(alloc);
+    let told = told::joined(steps::join(&mut open, at));
+    *core = Handle::of(open);
+    told
+}
+
+/// Takes a handle of the pool away: kind 22. With the last one idle connections end, as many as the number of the key.
+#[unsafe(no_mangle)]
+pub extern "C" fn bb8_leave(alloc: Global, core: &mut Handle, at: u64) -> Told
+    requires { IsSome core.old.core }
+    ensures { Within (λ old new. (a : Option LeaveAnswer) × (result ≡ in_c.leave_in a)
+        × Stepped leave_told old at acts.Leave a new) core.old.core core.new.core }
+{
+    let mut open = core.take(alloc);
+    let told = told::left(steps::leave(&mut open, at));
+    *core = Handle::of(open);
+    told
+}
+
+/// The effective moment, and whether a handle of the pool is alive.
+#[unsafe(no_mangle)]
+pub extern "C" fn bb8_look(alloc: Global, core: &mut Handle, at: u64) -> Looked
+    requires { IsSome core.old.core }
+    ensures { Within (λ old new. (a : Look) × (result ≡ in_c.look_in a)
+        × Meets old at acts.Look (look_told a) new) core.old.core core.new.core }
+{
+    let mut open = core.take(alloc);
+    let told = figures::seen(open.look(Moment(at)));
+    *core = Handle::of(open);
+    told
+}
+
+/// What the core tells of itself: every figure of its state.
+#[unsafe(no_mangle)]
+pub extern "C" fn bb8_state(alloc: Global, core: &mut Handle, at: u64) -> Figures
+    requires { IsSome core.old.core }
+    ensures { Within (λ old new. (a : State) × (result ≡ in_c.figures_in a)
+        × Meets old at acts.State (answers.Shown (figures_of a)) new) core.old.core core.new.core }
+{
+    let mut open = core.take(alloc);
+    let told = figures::told(open.state(Moment(at)));
+    *core = Handle::of(open);
+    told
+}
+
+/// Whether a connection or an approval of this number has not ended.
+#[unsafe(no_mangle)]
+pub extern "C" fn bb8_knows(alloc: Global, core: &mut Handle, number: u64) -> bool
+    requires { IsSome core.old.core }
+    ensures { Within (λ old new. (new ≡ old) × (result ≡ true → IsRecordIn old number)
+        × (result ≡ false → IsNoRecordIn old number)) core.old.core core.new.core }
+{
+    let open = core.take(alloc);
+    let told = open.find(number).is_some();
+    *core = Handle::of(open);
+    told
+}
+
+/// How many bytes a struct takes: 0 for `Handle`, 1 `Settings`, 2 `Name`, 3 `Granted`, 4 `Told`, 5 `Looked`, 6 `Figures`. Any other: 0.
+#[unsafe(no_mangle)]
+pub extern "C" fn bb8_size(of: u32) -> usize
+    ensures { result ≡ layout.size_in_c of }
+{
+    layout::size(of)
+}
+
+/// An answer whose fields all differ: they are numbered from 1 in the order of their declaration, and what is a bool is true.
+#[unsafe(no_mangle)]
+pub extern "C" fn bb8_sample_told() -> Told
+    ensures { result ≡ layout.numbered_told }
+{
+    layout::sample_told()
+}
+
+/// Figures that all differ: they are numbered from 1 in the order of their declaration.
+#[unsafe(no_mangle)]
+pub extern "C" fn bb8_sample_figures() -> Figures
+    ensures { result ≡ layout.numbered_figures }
+{
+    layout::sample_figures()
+}
+
+/// A look at moment 1, where a handle is alive.
+#[unsafe(no_mangle)]
+pub extern "C" fn bb8_sample_looked() -> Looked
+    ensures { result ≡ layout.numbered_look }
+{
+    layout::sample_look()
+}
+
+/// What Rattle reads as a field of settings, by its place from 0 on; a bool as 0 or 1. It is 0 at another place.
+#[unsafe(no_mangle)]
+pub extern "C" fn bb8_read_settings(settings: Settings, field: u32) -> u64
+    ensures { result ≡ layout.setting_at settings field }
+{
+    layout::setting(settings, field)
+}
+
+/// What Rattle reads as the number of a name, at 0, and as its place, at 1. It is 0 at another.
+#[unsafe(no_mangle)]
+pub extern "C" fn bb8_read_name(name: Name, field: u32) -> u64
+    ensures { result ≡ layout.name_at name field }
+{
+    layout::part(name, field)
+}
+
+/// Why a get is given up.
+fn reason(timed_out: bool) -> Reason
+    ensures { reason_of result ≡ why timed_out }
+{
+    if timed_out {
+        Reason::TimedOut
+    } else {
+        Reason::Cancelled
+    }
+}
