@@ -63,7 +63,7 @@ impl ManageConnection for Wild {
     }
 
     async fn is_valid(&self, _: &mut Connection) -> Result<(), Refused> {
-        match self.dice.roll(12) {
+        match self.dice.roll(30) {
             0 => return Err(Refused),
             1 => sleep(Duration::from_millis(self.dice.roll(4))).await,
             2 | 3 => tokio::task::yield_now().await,
@@ -73,7 +73,7 @@ impl ManageConnection for Wild {
     }
 
     fn has_broken(&self, _: &mut Connection) -> bool {
-        self.dice.roll(12) == 0
+        self.dice.roll(40) == 0
     }
 }
 
@@ -96,7 +96,7 @@ async fn rounds(pool: Pool<Wild>, open: Arc<AtomicU32>, dice: Dice, rounds: u64)
             3 => drop(pool.get_owned().await),
             4 => drop(pool.add(Connection::open(&open))),
             5 => drop(pool.state()),
-            6 => sleep(brief()).await,
+            6 => sleep(brief() * 4).await,
             _ => {
                 if let Ok(conn) = pool.get().await {
                     match dice.roll(4) {
@@ -135,7 +135,7 @@ async fn storm(weather: Weather) {
         .test_on_check_out(weather.check)
         .queue_strategy(weather.order)
         .connection_timeout(weather.patience)
-        .max_lifetime(Duration::from_millis(20))
+        .max_lifetime(Duration::from_millis(12))
         .idle_timeout(Duration::from_millis(4))
         .reaper_rate(Duration::from_millis(3))
         .build_unchecked(manager);
@@ -148,6 +148,8 @@ async fn storm(weather: Weather) {
     for task in tasks {
         task.await.unwrap();
     }
+    // Long enough for idle connections to be closed, as nobody takes them.
+    sleep(Duration::from_millis(30)).await;
     let state = calm(&pool, &open).await;
     let seen = &state.statistics;
     assert_eq!(seen.pending_gets(), 0);
