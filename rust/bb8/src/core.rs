@@ -1,0 +1,369 @@
+//! The proved core, called by its C interface, and the heap that it asks for memory.
+//!
+//! Nothing checks these declarations against `crates/bb8_c/src` but the tests of `tests/layout.rs`,
+//! which read each field through the library. This file has all `unsafe` of the crate.
+#![allow(unsafe_code)]
+
+use std::ptr;
+
+/// A number, with a hint of the place where that stands what it names.
+#[repr(C)]
+#[derive(Clone, Copy, Debug, Default, PartialEq, Eq)]
+pub(crate) struct Name {
+    pub(crate) number: u64,
+    pub(crate) place: usize,
+}
+
+/// Approvals that a step granted.
+#[repr(C)]
+#[derive(Clone, Copy, Debug, Default, PartialEq, Eq)]
+pub(crate) struct Granted {
+    pub(crate) first: u64,
+    pub(crate) count: u32,
+    pub(crate) withheld: u32,
+}
+
+/// What a step tells. What its kind says nothing of is zero.
+#[repr(C)]
+#[derive(Clone, Copy, Debug, Default, PartialEq, Eq)]
+pub(crate) struct Told {
+    pub(crate) kind: u32,
+    pub(crate) notifies: bool,
+    pub(crate) key: Name,
+    pub(crate) conn: u64,
+    pub(crate) get: Name,
+    pub(crate) granted: Granted,
+}
+
+impl Told {
+    /// The get that was notified.
+    pub(crate) fn notified(&self) -> Option<Name> {
+        self.notifies.then_some(self.get)
+    }
+
+    /// The place on the shelf of the connection that is handed out.
+    pub(crate) fn shelved(&self) -> usize {
+        self.conn as usize
+    }
+}
+
+/// The kinds of what a step tells; one that does not fit tells 0.
+pub(crate) mod kinds {
+    pub(crate) const MEMORY: u32 = 2;
+    pub(crate) const EXHAUSTED: u32 = 3;
+    pub(crate) const SERVED: u32 = 4;
+    pub(crate) const TAKEN: u32 = 5;
+    pub(crate) const WAITING: u32 = 6;
+    pub(crate) const KEPT: u32 = 7;
+    pub(crate) const CLOSED: u32 = 8;
+    pub(crate) const CLAIMED: u32 = 10;
+    pub(crate) const ENTERED: u32 = 13;
+    pub(crate) const ADDED: u32 = 16;
+    pub(crate) const BROKEN: u32 = 17;
+    pub(crate) const NO_CAPACITY: u32 = 18;
+    pub(crate) const REAPED: u32 = 20;
+}
+
+/// What a core holds to. Spans are nanoseconds, and 0 is no limit.
+#[repr(C)]
+#[derive(Clone, Copy, Debug, Default)]
+pub(crate) struct Settings {
+    pub(crate) max_size: u32,
+    pub(crate) min_idle: u32,
+    pub(crate) test_on_check_out: bool,
+    pub(crate) lifo: bool,
+    pub(crate) max_lifetime: u64,
+    pub(crate) idle_timeout: u64,
+}
+
+/// The moment of a core, and whether a handle of its pool is alive.
+#[repr(C)]
+#[derive(Clone, Copy, Debug, Default, PartialEq, Eq)]
+pub(crate) struct Looked {
+    pub(crate) moment: u64,
+    pub(crate) alive: bool,
+}
+
+/// What a core tells of itself.
+#[repr(C)]
+#[derive(Clone, Copy, Debug, Default, PartialEq, Eq)]
+pub(crate) struct Figures {
+    pub(crate) connections: u32,
+    pub(crate) idle_connections: u32,
+    pub(crate) get_wait_micros: u64,
+    pub(crate) get_started: u64,
+    pub(crate) get_direct: u64,
+    pub(crate) get_waited: u64,
+    pub(crate) get_timed_out: u64,
+    pub(crate) get_cancelled: u64,
+    pub(crate) connections_created: u64,
+    pub(crate) connections_closed_broken: u64,
+    pub(crate) connections_closed_invalid: u64,
+    pub(crate) connections_closed_max_lifetime: u64,
+    pub(crate) connections_closed_idle_timeout: u64,
+}
+
+/// Where a core lies; null where there is none.
+#[repr(C)]
+struct Handle {
+    at: *mut u8,
+}
+
+mod exported {
+    use super::{Figures, Handle, Looked, Name, Settings, Told};
+
+    extern "C" {
+        pub(super) fn bb8_new(settings: Settings, out: *mut Handle) -> bool;
+        pub(super) fn bb8_free(core: *mut Handle);
+        pub(super) fn bb8_serve_at_once(core: *mut Handle, at: u64) -> Told;
+        pub(super) fn bb8_get(core: *mut Handle, at: u64) -> Told;
+        pub(super) fn bb8_try(core: *mut Handle, at: u64, get: Name) -> Told;
+        pub(super) fn bb8_checked_ok(core: *mut Handle, at: u64, get: Name, hint: usize) -> Told;
+        pub(super) fn bb8_checked_err(
+            core: *mut Handle,
+            at: u64,
+            get: Name,
+            conn: u64,
+            broken: bool,
+            hint: usize,
+        ) -> Told;
+        pub(super) fn bb8_give_up(core: *mut Handle, at: u64, get: Name, timed_out: bool) -> Told;
+        pub(super) fn bb8_give_up_held(
+            core: *mut Handle,
+            at: u64,
+            get: Name,
+            timed_out: bool,
+            conn: u64,
+            broken: bool,
+            hint: usize,
+        ) -> Told;
+        pub(super) fn bb8_put_back(
+            core: *mut Handle,
+            at: u64,
+            key: Name,
+            conn: u64,
+            broken: bool,
+        ) -> Told;
+        pub(super) fn bb8_fill(core: *mut Handle, at: u64, claimed: bool) -> Told;
+        pub(super) fn bb8_claim(core: *mut Handle, at: u64) -> Told;
+        pub(super) fn bb8_opened(core: *mut Handle, at: u64, approval: Name, conn: u64) -> Told;
+        pub(super) fn bb8_failed(core: *mut Handle, at: u64, approval: Name) -> Told;
+        pub(super) fn bb8_add(core: *mut Handle, at: u64, conn: u64, broken: bool) -> Told;
+        pub(super) fn bb8_reap(core: *mut Handle, at: u64) -> Told;
+        pub(super) fn bb8_leave(core: *mut Handle, at: u64) -> Told;
+        pub(super) fn bb8_look(core: *mut Handle, at: u64) -> Looked;
+        pub(super) fn bb8_state(core: *mut Handle, at: u64) -> Figures;
+        pub(super) fn bb8_knows(core: *mut Handle, number: u64) -> bool;
+    }
+}
+
+/// One core. Its handle is never empty.
+pub(crate) struct Core {
+    handle: Handle,
+    #[cfg(test)]
+    pub(crate) journal: crate::tests::journal::Journal,
+}
+
+// SAFETY: a core is plain data on the heap, which knows no thread, and each step takes it by `&mut`,
+// so that one thread has it at a time; its interface allows it to go to another thread.
+unsafe impl Send for Core {}
+
+macro_rules! steps {
+    ($($(#[$doc:meta])* $name:ident = $export:ident ($($param:ident : $type:ty),*) -> $result:ty;)*) => {
+        $($(#[$doc])*
+        #[inline]
+        pub(crate) fn $name(&mut self, $($param: $type),*) -> $result {
+            // SAFETY: the handle holds a core, and nothing else reaches either during the call, as
+            // both are borrowed here; the arguments are plain data, and any of them may be passed.
+            let told = unsafe { exported::$export(&mut self.handle, $($param),*) };
+            #[cfg(test)]
+            self.journal.note(crate::tests::journal::Step::$name { $($param),* }, &told);
+            told
+        })*
+    };
+}
+
+impl Core {
+    /// A core, with one handle of its pool. None where the settings are not lawful, or memory was
+    /// refused.
+    pub(crate) fn new(settings: Settings) -> Option<Core> {
+        let mut handle = Handle {
+            at: ptr::null_mut(),
+        };
+        // SAFETY: the handle is empty, as the call wants it, and nothing else reaches it.
+        let made = unsafe { exported::bb8_new(settings, &mut handle) };
+        made.then(|| Core {
+            handle,
+            #[cfg(test)]
+            journal: crate::tests::journal::Journal::new(settings),
+        })
+    }
+
+    steps! {
+        /// Serves a get where a connection is idle and none is to be checked; else nothing changes.
+        serve_at_once = bb8_serve_at_once(at: u64) -> Told;
+        /// A get begins and tries once: served, taken to be checked, or waiting.
+        get = bb8_get(at: u64) -> Told;
+        /// A get tries again.
+        try_get = bb8_try(at: u64, get: Name) -> Told;
+        /// The check of what the get holds was passed.
+        checked_ok = bb8_checked_ok(at: u64, get: Name, hint: usize) -> Told;
+        /// The check of what the get holds has failed.
+        checked_err = bb8_checked_err(at: u64, get: Name, conn: u64, broken: bool, hint: usize) -> Told;
+        /// A get that holds nothing ends without a connection.
+        give_up = bb8_give_up(at: u64, get: Name, timed_out: bool) -> Told;
+        /// A get ends without a connection, and hands in what it held.
+        give_up_held = bb8_give_up_held(at: u64, get: Name, timed_out: bool, conn: u64, broken: bool, hint: usize) -> Told;
+        /// A guard hands its connection in.
+        put_back = bb8_put_back(at: u64, key: Name, conn: u64, broken: bool) -> Told;
+        /// Grants what is lacking of `min_idle`.
+        fill = bb8_fill(at: u64, claimed: bool) -> Told;
+        /// Claims the oldest approval that is unclaimed.
+        claim = bb8_claim(at: u64) -> Told;
+        /// A connection was opened for an approval.
+        opened = bb8_opened(at: u64, approval: Name, conn: u64) -> Told;
+        /// An approval is given back.
+        failed = bb8_failed(at: u64, approval: Name) -> Told;
+        /// A connection is added.
+        add = bb8_add(at: u64, conn: u64, broken: bool) -> Told;
+        /// Closes what is too old, or idle too long.
+        reap = bb8_reap(at: u64) -> Told;
+        /// The last handle of the pool goes.
+        leave = bb8_leave(at: u64) -> Told;
+        /// The moment, and whether a handle is alive.
+        look = bb8_look(at: u64) -> Looked;
+        /// What the pool tells of itself.
+        state = bb8_state(at: u64) -> Figures;
+        /// Whether a connection of that number has not ended.
+        knows = bb8_knows(number: u64) -> bool;
+    }
+}
+
+impl Drop for Core {
+    fn drop(&mut self) {
+        // SAFETY: the handle holds a core, which nothing reaches afterwards.
+        unsafe { exported::bb8_free(&mut self.handle) }
+    }
+}
+
+mod heap {
+    //! The heap of the core. The C library gives memory that any type may lie in, and wants no size
+    //! back, which the core does not keep.
+
+    use std::ffi::c_void;
+    use std::ptr::NonNull;
+
+    extern "C" {
+        fn malloc(size: usize) -> *mut c_void;
+        fn realloc(at: *mut c_void, size: usize) -> *mut c_void;
+        fn free(at: *mut c_void);
+    }
+
+    /// Whether memory was given, and where; a pointer to nothing where it was not.
+    #[repr(C)]
+    pub(super) struct Tried {
+        given: bool,
+        at: *mut u8,
+    }
+
+    impl Tried {
+        fn of(at: *mut c_void) -> Tried {
+            match NonNull::new(at.cast::<u8>()) {
+                Some(at) => Tried {
+                    given: true,
+                    at: at.as_ptr(),
+                },
+                None => Tried {
+                    given: false,
+                    at: NonNull::dangling().as_ptr(),
+                },
+            }
+        }
+    }
+
+    /// Memory for so many bytes. The alignment divides 16, which is what `malloc` gives; where no
+    /// byte is asked for, one unit of the alignment is taken, so that the pointer is its own.
+    #[no_mangle]
+    extern "C" fn rattle_alloc(size: usize, alignment: usize) -> Tried {
+        #[cfg(test)]
+        if crate::tests::memory::refuses() {
+            return Tried::of(std::ptr::null_mut());
+        }
+        let size = if size == 0 { alignment } else { size };
+        // SAFETY: `malloc` may be asked for any size.
+        Tried::of(unsafe { malloc(size) })
+    }
+
+    /// Another size for memory that was given; what it holds is kept. Where that is refused, the
+    /// memory is as it was.
+    ///
+    /// # Safety
+    ///
+    /// `at` was given by `rattle_alloc` or by this, and not taken back since.
+    #[no_mangle]
+    unsafe extern "C" fn rattle_realloc(
+        at: *mut u8,
+        _kept: usize,
+        size: usize,
+        alignment: usize,
+    ) -> Tried {
+        #[cfg(test)]
+        if crate::tests::memory::refuses() {
+            return Tried::of(std::ptr::null_mut());
+        }
+        let size = if size == 0 { alignment } else { size };
+        // SAFETY: the caller owes that `at` came from `malloc` or `realloc` and is not freed.
+        Tried::of(unsafe { realloc(at.cast(), size) })
+    }
+
+    /// Takes memory back.
+    ///
+    /// # Safety
+    ///
+    /// `at` was given by one of the others, and nothing uses it any more.
+    #[no_mangle]
+    unsafe extern "C" fn rattle_dealloc(at: *mut u8) {
+        // SAFETY: the caller owes that `at` came from `malloc` or `realloc` and is not freed.
+        unsafe { free(at.cast()) }
+    }
+}
+
+/// What the library tells of its layout, for the tests.
+#[cfg(test)]
+pub(crate) mod layout {
+    use super::{Figures, Looked, Name, Settings, Told};
+
+    mod exported {
+        use super::{Figures, Looked, Name, Settings, Told};
+
+        extern "C" {
+            pub(super) fn bb8_size(of: u32) -> usize;
+            pub(super) fn bb8_sample_told() -> Told;
+            pub(super) fn bb8_sample_figures() -> Figures;
+            pub(super) fn bb8_sample_looked() -> Looked;
+            pub(super) fn bb8_read_settings(settings: Settings, field: u32) -> u64;
+            pub(super) fn bb8_read_name(name: Name, field: u32) -> u64;
+        }
+    }
+
+    macro_rules! plain {
+        ($($name:ident = $export:ident ($($param:ident : $type:ty),*) -> $result:ty;)*) => {
+            $(pub(crate) fn $name($($param: $type),*) -> $result {
+                // SAFETY: the call takes and gives plain data, and any may be passed.
+                unsafe { exported::$export($($param),*) }
+            })*
+        };
+    }
+
+    plain! {
+        size = bb8_size(of: u32) -> usize;
+        sample_told = bb8_sample_told() -> Told;
+        sample_figures = bb8_sample_figures() -> Figures;
+        sample_looked = bb8_sample_looked() -> Looked;
+        read_settings = bb8_read_settings(settings: Settings, field: u32) -> u64;
+        read_name = bb8_read_name(name: Name, field: u32) -> u64;
+    }
+
+    /// The bytes of a handle, as this crate has it.
+    pub(crate) const HANDLE: usize = std::mem::size_of::<super::Handle>();
+}

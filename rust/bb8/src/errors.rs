@@ -1,0 +1,68 @@
+//! Why a pool refuses.
+
+use std::error::Error;
+use std::fmt;
+
+/// Why a get has no connection.
+#[derive(Debug, Clone, PartialEq, Eq)]
+pub enum RunError<E> {
+    /// An error of the manager.
+    User(E),
+    /// No connection was there within `connection_timeout`.
+    TimedOut,
+    /// Memory for the get was refused.
+    Memory,
+    /// The pool has no number left for another get: each below 2^64 - 1 was given.
+    Exhausted,
+}
+
+impl<E: Error + 'static> fmt::Display for RunError<E> {
+    fn fmt(&self, f: &mut fmt::Formatter<'_>) -> fmt::Result {
+        match self {
+            RunError::User(error) => write!(f, "{error}"),
+            RunError::TimedOut => f.write_str("Timed out in bb8"),
+            RunError::Memory => f.write_str("No memory in bb8"),
+            RunError::Exhausted => f.write_str("Numbers used up in bb8"),
+        }
+    }
+}
+
+impl<E: Error + 'static> Error for RunError<E> {
+    fn source(&self) -> Option<&(dyn Error + 'static)> {
+        match self {
+            RunError::User(error) => Some(error),
+            _ => None,
+        }
+    }
+}
+
+impl<E: Error> From<E> for RunError<E> {
+    fn from(error: E) -> Self {
+        RunError::User(error)
+    }
+}
+
+/// Why a pool refused a connection that was to be added. Each case gives the connection back.
+#[derive(Debug, Clone, PartialEq, Eq)]
+pub enum AddError<C> {
+    /// The connection is broken, as the manager's `has_broken` says.
+    Broken(C),
+    /// Connections and openings under way are `max_size` already.
+    NoCapacity(C),
+    /// Memory for its place was refused, or the pool has no number left for it.
+    Withheld(C),
+}
+
+impl<C> fmt::Display for AddError<C> {
+    fn fmt(&self, f: &mut fmt::Formatter<'_>) -> fmt::Result {
+        f.write_str(match self {
+            AddError::Broken(_) => "The connection was broken before it could be added",
+            AddError::NoCapacity(_) => {
+                "Unable to add the connection to the pool due to insufficient capacity"
+            }
+            AddError::Withheld(_) => "No memory or number to add the connection",
+        })
+    }
+}
+
+impl<C: fmt::Debug> Error for AddError<C> {}

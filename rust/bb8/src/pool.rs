@@ -1,0 +1,389 @@
+//! The pool behind its handles: a lock round the core, the shelf and the wakers, and all that takes
+//! it but the gets and the openings.
+
+use crate::builder::{Builder, QueueStrategy};
+use crate::core::{kinds, Core, Name, Settings, Told};
+use crate::errors::{AddError, RunError};
+use crate::figures::State;
+use crate::getting::Getting;
+use crate::lock::{Mutex, MutexGuard};
+use crate::managers::ManageConnection;
+use crate::opening::Opening;
+use crate::shelf::Shelf;
+use crate::waiters::Waiters;
+use futures_util::stream::{FuturesUnordered, StreamExt};
+use std::fmt;
+use std::sync::{Arc, Weak};
+use std::task::Waker;
+use std::time::Duration;
+use tokio::runtime::Handle;
+use tokio::time::{interval_at, Instant, Interval, MissedTickBehavior};
+
+/// A connection that is lent, its name in the core, and its place on the shelf.
+pub(crate) struct Lent<C> {
+    pub(crate) conn: C,
+    pub(crate) key: Name,
+    pub(crate) place: usize,
+}
+
+/// What the lock holds.
+pub(crate) struct Locked<C> {
+    pub(crate) core: Core,
+    pub(crate) shelf: Shelf<C>,
+    pub(crate) waiters: Waiters,
+    /// Whether an approval was left unclaimed, for want of memory or of a runtime.
+    pub(crate) unopened: bool,
+}
+
+impl<C> Locked<C> {
+    /// The waker of the get that a step notified.
+    #[inline]
+    pub(crate) fn waker(&mut self, told: &Told) -> Option<Waker> {
+        self.waiters.take(told.notified()?)
+    }
+
+    /// Takes the connection that a step handed out.
+    #[inline]
+    pub(crate) fn lend(&mut self, told: &Told) -> Lent<C> {
+        let place = told.shelved();
+        Lent {
+            conn: self.shelf.take(place),
+            key: told.key,
+            place,
+        }
+    }
+
+    /// Whether connections are to be opened after a step.
+    #[inline]
+    pub(crate) fn is_due(&self, told: &Told) -> bool {
+        told.granted.count > 0 || self.unopened
+    }
+}
+
+/// What the handles, gets and openings of a pool share.
+pub(crate) struct Shared<M: ManageConnection> {
+    pub(crate) settings: Builder<M>,
+    pub(crate) manager: M,
+    /// The moment from which the core's moments count.
+    started: Instant,
+    /// Whether an age is limited, so that the core needs to know when something becomes idle.
+    has_limits: bool,
+    locked: Mutex<Locked<M::Connection>>,
+}
+
+impl<M: ManageConnection> Shared<M> {
+    #[inline]
+    pub(crate) fn lock(&self) -> MutexGuard<'_, Locked<M::Connection>> {
+        self.locked.lock()
+    }
+
+    /// The moment of an instant, in nanoseconds.
+    pub(crate) fn moment(&self, instant: Instant) -> u64 {
+        nanoseconds(instant.saturating_duration_since(self.started))
+    }
+
+    pub(crate) fn now(&self) -> u64 {
+        self.moment(Instant::now())
+    }
+
+    /// The moment of a step that needs one only where an age is limited.
+    #[inline]
+    fn age_now(&self) -> u64 {
+        if self.has_limits {
+            self.now()
+        } else {
+            0
+        }
+    }
+
+    pub(crate) fn forward(&self, error: M::Error) {
+        self.settings.error_sink.sink(error);
+    }
+
+    pub(crate) async fn connect(&self) -> Result<M::Connection, M::Error> {
+        let mut conn = self.manager.connect().await?;
+        if let Some(customizer) = &self.settings.connection_customizer {
+            customizer.on_acquire(&mut conn).await?;
+        }
+        Ok(conn)
+    }
+
+    /// Unlocks after a step, drops what it closed, has opened what it granted, and wakes whom it
+    /// notified.
+    #[inline]
+    pub(crate) fn settle(
+        self: &Arc<Self>,
+        mut locked: MutexGuard<'_, Locked<M::Connection>>,
+        told: &Told,
+        closed: Option<M::Connection>,
+    ) {
+        let waker = locked.waker(told);
+        let due = locked.is_due(told);
+        drop(locked);
+        drop(closed);
+        if due {
+            self.open();
+        }
+        if let Some(waker) = waker {
+            waker.wake();
+        }
+    }
+
+    /// Has connections opened for all approvals that are unclaimed, each by a task of its own.
+    #[cold]
+    pub(crate) fn open(self: &Arc<Self>) {
+        let Ok(runtime) = Handle::try_current() else {
+            self.lock().unopened = true;
+            return;
+        };
+        self.lock().unopened = false;
+        while let Some(opening) = Opening::claim(self) {
+            runtime.spawn(opening.run_alone());
+        }
+    }
+
+    /// Drops so many connections that have ended, one by one and outside the lock: a connection may
+    /// take time to close, and its drop may call the pool.
+    fn drop_ended(&self, count: u64) {
+        let mut from = 0;
+        for _ in 0..count {
+            let mut locked = self.lock();
+            let Locked { core, shelf, .. } = &mut *locked;
+            let Some((conn, next)) = shelf.take_ended(from, |number| !core.knows(number)) else {
+                return;
+            };
+            drop(locked);
+            drop(conn);
+            from = next;
+        }
+    }
+}
+
+pub(crate) fn nanoseconds(span: Duration) -> u64 {
+    u64::try_from(span.as_nanos()).unwrap_or(u64::MAX)
+}
+
+/// The one handle that the core counts; all handles of the pool share it. Once the last of them is
+/// gone, the core is left, and the idle connections are closed.
+struct Owner<M: ManageConnection> {
+    shared: Arc<Shared<M>>,
+}
+
+impl<M: ManageConnection> Drop for Owner<M> {
+    fn drop(&mut self) {
+        let at = self.shared.now();
+        let told = self.shared.lock().core.leave(at);
+        self.shared.drop_ended(told.key.number);
+    }
+}
+
+pub(crate) struct PoolInner<M: ManageConnection> {
+    owner: Arc<Owner<M>>,
+}
+
+impl<M: ManageConnection> Clone for PoolInner<M> {
+    fn clone(&self) -> Self {
+        PoolInner {
+            owner: self.owner.clone(),
+        }
+    }
+}
+
+impl<M: ManageConnection> fmt::Debug for PoolInner<M> {
+    fn fmt(&self, f: &mut fmt::Formatter<'_>) -> fmt::Result {
+        write!(f, "PoolInner({:p})", self.owner)
+    }
+}
+
+impl<M: ManageConnection> PoolInner<M> {
+    /// A pool of settings that the builder has tested. It reaps, where an age is limited.
+    pub(crate) fn new(settings: Builder<M>, manager: M) -> Self {
+        let limit = |limit: Option<Duration>| limit.map_or(0, nanoseconds);
+        let core = Core::new(Settings {
+            max_size: settings.max_size,
+            min_idle: settings.min_idle.unwrap_or(0),
+            test_on_check_out: settings.test_on_check_out,
+            lifo: settings.queue_strategy == QueueStrategy::Lifo,
+            max_lifetime: limit(settings.max_lifetime),
+            idle_timeout: limit(settings.idle_timeout),
+        });
+        let started = Instant::now();
+        let has_limits = settings.max_lifetime.is_some() || settings.idle_timeout.is_some();
+        let rate = settings.reaper_rate;
+        let shared = Arc::new(Shared {
+            settings,
+            manager,
+            started,
+            has_limits,
+            locked: Mutex::new(Locked {
+                core: core.expect("there is memory for a pool"),
+                shelf: Shelf::new(),
+                waiters: Waiters::new(),
+                unopened: false,
+            }),
+        });
+        let owner = Arc::new(Owner { shared });
+        if has_limits {
+            let mut ticks = interval_at(started + rate, rate);
+            ticks.set_missed_tick_behavior(MissedTickBehavior::Skip);
+            tokio::spawn(reap(ticks, Arc::downgrade(&owner)));
+        }
+        PoolInner { owner }
+    }
+
+    #[inline]
+    fn shared(&self) -> &Arc<Shared<M>> {
+        &self.owner.shared
+    }
+
+    pub(crate) fn settings(&self) -> &Builder<M> {
+        &self.shared().settings
+    }
+
+    pub(crate) async fn connect(&self) -> Result<M::Connection, M::Error> {
+        self.shared().connect().await
+    }
+
+    fn fill(&self) {
+        let shared = self.shared();
+        shared.lock().core.fill(shared.now(), false);
+    }
+
+    /// Opens the first connections.
+    pub(crate) async fn start(&self) -> Result<(), M::Error> {
+        self.fill();
+        let mut openings = FuturesUnordered::new();
+        while let Some(opening) = Opening::claim(self.shared()) {
+            openings.push(opening.run());
+        }
+        while let Some(opened) = openings.next().await {
+            opened?;
+        }
+        Ok(())
+    }
+
+    /// Has the first connections opened.
+    pub(crate) fn spawn_start(&self) {
+        self.fill();
+        self.shared().open();
+    }
+
+    /// Serves a get where a connection is idle and none is to be checked. No timer is made.
+    #[inline]
+    pub(crate) fn get_at_once(&self) -> Option<Lent<M::Connection>> {
+        let shared = self.shared();
+        if shared.settings.test_on_check_out {
+            return None;
+        }
+        let mut locked = shared.lock();
+        // The moment of a get that does not wait counts for nothing.
+        let told = locked.core.serve_at_once(0);
+        if told.kind != kinds::SERVED {
+            return None;
+        }
+        let lent = locked.lend(&told);
+        let due = locked.is_due(&told);
+        drop(locked);
+        if due {
+            shared.open();
+        }
+        Some(lent)
+    }
+
+    pub(crate) async fn get(&self) -> Result<Lent<M::Connection>, RunError<M::Error>> {
+        Getting::new(self.shared()).answer().await
+    }
+
+    /// Takes a connection back that was lent.
+    pub(crate) fn put_back(&self, lent: Lent<M::Connection>) {
+        let shared = self.shared();
+        let Lent {
+            mut conn,
+            key,
+            place,
+        } = lent;
+        let broken = shared.manager.has_broken(&mut conn);
+        // A broken connection is closed before the core gives its room away.
+        let conn = (!broken).then_some(conn);
+        let at = shared.age_now();
+        let mut locked = shared.lock();
+        let told = locked.core.put_back(at, key, place as u64, broken);
+        match conn {
+            Some(conn) if told.kind == kinds::KEPT => {
+                locked.shelf.put(place, key.number, conn);
+                shared.settle(locked, &told, None);
+            }
+            conn => {
+                debug_assert_eq!(told.kind, kinds::CLOSED);
+                locked.shelf.free(place);
+                shared.settle(locked, &told, conn);
+            }
+        }
+    }
+
+    pub(crate) fn add(&self, mut conn: M::Connection) -> Result<(), AddError<M::Connection>> {
+        let shared = self.shared();
+        let broken = shared.manager.has_broken(&mut conn);
+        let at = shared.now();
+        let mut locked = shared.lock();
+        let Some(place) = locked.shelf.keep() else {
+            return Err(match broken {
+                true => AddError::Broken(conn),
+                false => AddError::Withheld(conn),
+            });
+        };
+        let told = locked.core.add(at, place as u64, broken);
+        if told.kind == kinds::ADDED {
+            locked.shelf.put(place, told.key.number, conn);
+            shared.settle(locked, &told, None);
+            return Ok(());
+        }
+        locked.shelf.free(place);
+        Err(match told.kind {
+            kinds::BROKEN => AddError::Broken(conn),
+            kinds::NO_CAPACITY => AddError::NoCapacity(conn),
+            _ => AddError::Withheld(conn),
+        })
+    }
+
+    pub(crate) fn state(&self) -> State {
+        let shared = self.shared();
+        let at = shared.now();
+        let figures = shared.lock().core.state(at);
+        State::from(figures)
+    }
+
+    pub(crate) fn reap(&self) {
+        let shared = self.shared();
+        let at = shared.now();
+        let mut locked = shared.lock();
+        let told = locked.core.reap(at);
+        let due = locked.is_due(&told);
+        drop(locked);
+        if told.kind == kinds::REAPED {
+            shared.drop_ended(told.key.number);
+        }
+        if due {
+            shared.open();
+        }
+    }
+}
+
+/// Reaps at each tick, as long as the pool has a handle.
+async fn reap<M: ManageConnection>(mut ticks: Interval, owner: Weak<Owner<M>>) {
+    loop {
+        ticks.tick().await;
+        let Some(owner) = owner.upgrade() else {
+            return;
+        };
+        PoolInner { owner }.reap();
+    }
+}
+
+#[cfg(test)]
+impl<M: ManageConnection> PoolInner<M> {
+    /// What the lock holds, for a test.
+    pub(crate) fn locked(&self) -> MutexGuard<'_, Locked<M::Connection>> {
+        self.shared().lock()
+    }
+}

@@ -1,0 +1,83 @@
+//! The shelf: a place for each connection, which it has from its opening to its end.
+//!
+//! The core knows a connection by its place. A connection that is out keeps its place, so that its
+//! return asks for no memory.
+
+use std::mem;
+
+/// What stands at a place.
+enum Place<C> {
+    /// Nothing; the next free place, or none.
+    Free(Option<usize>),
+    /// An opening, or a connection that is out.
+    Kept,
+    /// An idle connection, and its number.
+    Idle(u64, C),
+}
+
+/// The places of the connections of one pool.
+pub(crate) struct Shelf<C> {
+    places: Vec<Place<C>>,
+    free: Option<usize>,
+}
+
+impl<C> Shelf<C> {
+    pub(crate) const fn new() -> Self {
+        Shelf {
+            places: Vec::new(),
+            free: None,
+        }
+    }
+
+    /// Keeps a place for a connection that comes; none where memory is refused.
+    pub(crate) fn keep(&mut self) -> Option<usize> {
+        let Some(place) = self.free else {
+            self.places.try_reserve(1).ok()?;
+            self.places.push(Place::Kept);
+            return Some(self.places.len() - 1);
+        };
+        let Place::Free(next) = mem::replace(&mut self.places[place], Place::Kept) else {
+            unreachable!("the free places are free");
+        };
+        self.free = next;
+        Some(place)
+    }
+
+    /// Puts the connection of that number at a place that was kept.
+    pub(crate) fn put(&mut self, place: usize, number: u64, conn: C) {
+        debug_assert!(matches!(self.places[place], Place::Kept));
+        self.places[place] = Place::Idle(number, conn);
+    }
+
+    /// Takes the connection from its place, which is kept.
+    pub(crate) fn take(&mut self, place: usize) -> C {
+        match mem::replace(&mut self.places[place], Place::Kept) {
+            Place::Idle(_, conn) => conn,
+            _ => unreachable!("the core hands out what is idle"),
+        }
+    }
+
+    /// Frees a place that was kept, as its connection has ended.
+    pub(crate) fn free(&mut self, place: usize) {
+        debug_assert!(matches!(self.places[place], Place::Kept));
+        self.places[place] = Place::Free(self.free);
+        self.free = Some(place);
+    }
+
+    /// Takes the first connection, from a place on, of which the test says that it has ended, and
+    /// frees its place; and the place after it.
+    pub(crate) fn take_ended(
+        &mut self,
+        from: usize,
+        mut has_ended: impl FnMut(u64) -> bool,
+    ) -> Option<(C, usize)> {
+        for place in from..self.places.len() {
+            if matches!(self.places[place], Place::Idle(number, _) if has_ended(number)) {
+                let conn = self.take(place);
+                self.free(place);
+                return Some((conn, place + 1));
+            }
+        }
+        None
+    }
+}

@@ -1,0 +1,115 @@
+//! Want of memory is an answer.
+
+use super::memory::granting;
+use super::shadow;
+use crate::{AddError, ManageConnection, Pool, RunError};
+use futures_util::FutureExt;
+use std::convert::Infallible;
+use std::sync::atomic::{AtomicU32, Ordering};
+use std::sync::Arc;
+use std::time::Duration;
+
+struct Counted(Arc<AtomicU32>);
+
+impl Drop for Counted {
+    fn drop(&mut self) {
+        self.0.fetch_sub(1, Ordering::SeqCst);
+    }
+}
+
+struct Counting(Arc<AtomicU32>);
+
+impl Counting {
+    fn open(&self) -> Counted {
+        self.0.fetch_add(1, Ordering::SeqCst);
+        Counted(self.0.clone())
+    }
+}
+
+impl ManageConnection for Counting {
+    type Connection = Counted;
+    type Error = Infallible;
+
+    async fn connect(&self) -> Result<Counted, Infallible> {
+        Ok(self.open())
+    }
+
+    async fn is_valid(&self, _: &mut Counted) -> Result<(), Infallible> {
+        Ok(())
+    }
+
+    fn has_broken(&self, _: &mut Counted) -> bool {
+        false
+    }
+}
+
+#[tokio::test]
+async fn a_get_and_an_adding_tell_that_memory_was_refused() {
+    let open = Arc::new(AtomicU32::new(0));
+    let pool = Pool::builder()
+        .max_size(2)
+        .build_unchecked(Counting(open.clone()));
+    let refused = granting(0, || pool.get().now_or_never());
+    assert!(matches!(refused, Some(Err(RunError::Memory))));
+    let refused = granting(0, || pool.add(Counting(open.clone()).open()));
+    assert!(matches!(refused, Err(AddError::Withheld(_))));
+    drop(refused);
+    let state = pool.state();
+    assert_eq!((state.connections, state.statistics.get_started), (0, 0));
+    assert!(pool.add(Counting(open.clone()).open()).is_ok());
+    assert!(pool.get().await.is_ok());
+    assert_eq!(open.load(Ordering::SeqCst), 1);
+}
+
+/// Three gets and an adding over a pool, each of which may be refused.
+async fn use_of(pool: &Pool<Counting>, open: &Arc<AtomicU32>) {
+    let _refused = pool.add(Counting(open.clone()).open());
+    let gets = futures_util::future::join_all((0..3).map(|_| pool.get()));
+    for got in gets.await {
+        assert!(matches!(
+            got,
+            Ok(_) | Err(RunError::Memory | RunError::TimedOut)
+        ));
+    }
+}
+
+#[test]
+fn nothing_is_lost_whichever_request_is_refused() {
+    for requests in 0..40 {
+        let mut builder = tokio::runtime::Builder::new_current_thread();
+        let runtime = builder.enable_time().start_paused(true).build().unwrap();
+        let open = Arc::new(AtomicU32::new(0));
+        runtime.block_on(async {
+            let pool = Pool::builder()
+                .max_size(4)
+                .min_idle(1)
+                .connection_timeout(Duration::from_secs(1))
+                .build_unchecked(Counting(open.clone()));
+            tokio::task::yield_now().await;
+            // What is refused is refused in the polls of this one task and of the openings.
+            let _used = granting(requests, || use_of(&pool, &open).now_or_never());
+            use_of(&pool, &open).await;
+            tokio::time::sleep(Duration::from_secs(5)).await;
+            let state = pool.state();
+            assert_eq!(state.statistics.pending_gets(), 0);
+            assert_eq!(state.connections, open.load(Ordering::SeqCst));
+            assert_eq!(state.connections, state.idle_connections);
+        });
+        assert_eq!(open.load(Ordering::SeqCst), 0);
+    }
+}
+
+#[tokio::test(start_paused = true)]
+async fn a_shadow_follows_a_pool_that_lends_two() {
+    let open = Arc::new(AtomicU32::new(0));
+    let pool = Pool::builder()
+        .max_size(2)
+        .build(Counting(open.clone()))
+        .await
+        .unwrap();
+    let first = pool.get().await.unwrap();
+    let second = pool.get().await.unwrap();
+    drop((first, second));
+    let locked = pool.inner.locked();
+    assert!(shadow::replay(&locked.core.journal) > 8);
+}
