@@ -1,5 +1,6 @@
 //! What the tests share; every setter and every error once, and each trait implemented once and called through its bound.
 ghost use Rattle.std.specs.Prelude.{◌≡◌, ◌<◌, ◌==◌};
+ghost use Rattle.bb8.specs.Parts.{IsBlankOf, unchecked_of};
 ghost use Rattle.futures.specs.declared.task.Poll.TheVariants.{Pending};
 
 mod calls;
@@ -8,7 +9,6 @@ mod gates;
 mod get;
 mod guards;
 mod handles;
-mod lists;
 mod locked;
 mod pool;
 mod serving;
@@ -17,14 +17,19 @@ mod unlocked;
 
 use bb8::{
     AddError, Builder, Clock, Config, CustomizeConnection, ErrorSink, ManageConnection, Memory,
-    Moment, NopCustomizer, NopErrorSink, Pool, QueueStrategy, RunError, SetClock,
+    Moment, NopCustomizer, NopErrorSink, Pool, PoolParts, QueueStrategy, RunError, SetClock,
 };
+use bb8_trials::Runtime;
 use futures::task::Poll;
+use futures::test::MockTask;
 use std::error::Error;
 use std::fmt;
 use std::fmt::Debug;
+use std::marker::Brand;
 use std::process::Abort;
+use std::sync::ledger::Blank;
 use std::test::Fail;
+use std::thread::Threads;
 use std::time::Duration;
 
 /// Ends the test where what was found is not what is wanted, and prints both.
@@ -34,6 +39,55 @@ fn assert_equal<T: PartialEq + Debug + Drop>(rt: &impl Abort, found: T, wanted: 
 
 /// A pool whose connections are numbers.
 type NumberPool<R, L> = Pool<SlowManager, NopErrorSink, NopCustomizer, SetClock, R, L>;
+
+/// A pool of numbers, the clock that it reads, and a task that polls.
+#[derive(Drop)]
+struct Numbers<R: Runtime, L: PoolParts> {
+    pool: NumberPool<R, L>,
+    clock: SetClock,
+    task: MockTask,
+}
+
+/// What is done with such a pool.
+#[derive(Clone, Copy)]
+enum Trial {
+    Guards,
+    ListOfGuards,
+    ListOfAges,
+    TwoThreads,
+}
+
+/// A trial on a pool that checks no connection.
+fn tries<R: Runtime + Abort + Threads, L: PoolParts>(
+    rt: R,
+    blank: Blank,
+    max_size: u32,
+    trial: Trial,
+) -> Result<(), Fail>
+    requires some { 0 < max_size }
+    requires parts { IsBlankOf blank (unchecked_of max_size) L.name L.parts L.settings }
+{
+    let clock = SetClock::new(rt.alloc(), Moment(0))?;
+    let pool = Builder::new()
+        .max_size(max_size)
+        .test_on_check_out(false)
+        .build_unchecked(SlowManager, clock.try_clone()?, rt, blank)?;
+    let task = MockTask::new(&rt)?;
+    let numbers: Numbers<R, L> = Numbers { pool, clock, task };
+    match trial {
+        Trial::Guards => handles::derefs(rt, numbers),
+        Trial::ListOfGuards => guards::gathers(rt, numbers),
+        Trial::ListOfAges => guards::keeps_the_young(rt, numbers),
+        Trial::TwoThreads => threads::shares_one(rt, numbers),
+    }
+}
+
+/// The same, with parts of its own.
+fn try_numbers<R: Runtime + Abort + Threads>(rt: R, max_size: u32, trial: Trial) -> Result<(), Fail>
+    requires { 0 < max_size }
+{
+    tries::<R, Brand>(rt, Blank::new(max_size as u64), max_size, trial)
+}
 
 /// Opens connection 7 at the moment 5, finds even connections valid, and calls 0 broken.
 #[derive(Drop)]

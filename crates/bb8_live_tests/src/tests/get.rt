@@ -233,7 +233,7 @@ fn rests_after_its_answer(rt: HostRuntime) {
         Poll::Ready(Ok((0, 7))),
     );
     put_back(&rt, &mut pool, key, 7);
-    let before = pool.state(Moment(0));
+    let before = pool.home.state(Moment(0));
     assert_equal(
         &rt,
         poll(&mut pool, &clock, &mut get, SECOND),
@@ -241,6 +241,6 @@ fn rests_after_its_answer(rt: HostRuntime) {
     );
     cancel(&mut pool, &clock, get, SECOND);
     cancel(&mut pool, &clock, GetState::default(), 2 * SECOND);
-    assert_equal(&rt, pool.look(Moment(0)).moment, Moment(0));
-    assert_equal(&rt, pool.state(Moment(0)), before);
+    assert_equal(&rt, pool.home.look(Moment(0)).moment, Moment(0));
+    assert_equal(&rt, pool.home.state(Moment(0)), before);
 }

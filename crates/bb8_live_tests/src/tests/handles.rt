@@ -1,29 +1,21 @@
 //! What a guard shows, and where it may go.
-ghost use Rattle.bb8.specs.Parts.{IsBlankOf, unchecked_of};
 
-use super::{NumberPool, SlowManager, assert_equal};
-use bb8::{Builder, Moment, PoolParts, SetClock};
+use super::{Numbers, Trial, assert_equal, try_numbers};
+use bb8::PoolParts;
 use bb8_trials::Runtime;
 use futures::task::Poll;
-use futures::test::MockTask;
-use std::marker::Brand;
 use std::process::Abort;
-use std::sync::ledger::Blank;
 use std::test::Fail;
 
 /// It may go to another thread.
 fn is_sent<T: Send>(_: &T) {}
 
 /// A guard is printed as its connection, and an owned one is read and written as it; it may go to another thread, as its get may.
-fn derefs<R: Runtime + Abort, L: PoolParts>(rt: R, blank: Blank) -> Result<(), Fail>
-    requires { IsBlankOf blank (unchecked_of 1) L.name L.parts L.settings }
-{
-    let clock = SetClock::new(rt.alloc(), Moment(0))?;
-    let task = MockTask::new(&rt)?;
-    let pool: NumberPool<R, L> = Builder::new()
-        .max_size(1)
-        .test_on_check_out(false)
-        .build_unchecked(SlowManager, clock, rt, blank)?;
+pub(super) fn derefs<R: Runtime + Abort, L: PoolParts>(
+    rt: R,
+    numbers: Numbers<R, L>,
+) -> Result<(), Fail> {
+    let Numbers { pool, task, .. } = numbers;
     assert_equal(&rt, pool.add(7), Ok(()));
     let mut get = pool.get_owned();
     is_sent(&get);
@@ -52,5 +44,5 @@ fn derefs<R: Runtime + Abort, L: PoolParts>(rt: R, blank: Blank) -> Result<(), F
 
 #[test]
 fn succeeds_to_use_an_owned_guard(rt: HostRuntime) -> Result<(), Fail> {
-    derefs::<HostRuntime, Brand>(rt, Blank::new(1))
+    try_numbers(rt, 1, Trial::Guards)
 }

@@ -1,11 +1,12 @@
 //! Two threads that get and return through one pool.
-ghost use Rattle.bb8.specs.Parts.{IsBlankOf, unchecked_of};
+ghost use Rattle.std.specs.Prelude.{◌<◌};
+ghost use Rattle.bb8.specs.Parts.{IsBlankOf};
 ghost use Rattle.bb8.specs.Settings.{default_settings};
 
-use super::{NumberPool, Refused, SlowManager, assert_equal};
+use super::{NumberPool, Numbers, Refused, Trial, assert_equal, try_numbers};
 use bb8::{
-    Builder, ManageConnection, Memory, Moment, NopCustomizer, NopErrorSink, Pool, PoolCalls,
-    PoolParts, SetClock,
+    Builder, ManageConnection, Moment, NopCustomizer, NopErrorSink, Pool, PoolCalls, PoolParts,
+    SetClock,
 };
 use bb8_trials::Runtime;
 use futures::executor::block_on;
@@ -49,14 +50,11 @@ fn twice(rt: &impl Threads, job: &(impl Job + Sync)) -> (bool, bool) {
 }
 
 /// Two threads share a pool of one connection. Each get is served in its turn, and at the end the connection is idle.
-fn shares_one<R: Runtime + Abort + Threads, L: PoolParts>(rt: R, blank: Blank) -> Result<(), Memory>
-    requires { IsBlankOf blank (unchecked_of 1) L.name L.parts L.settings }
-{
-    let clock = SetClock::new(rt.alloc(), Moment(0))?;
-    let pool: NumberPool<R, L> = Builder::new()
-        .max_size(1)
-        .test_on_check_out(false)
-        .build_unchecked(SlowManager, clock, rt, blank)?;
+pub(super) fn shares_one<R: Runtime + Abort + Threads, L: PoolParts>(
+    rt: R,
+    numbers: Numbers<R, L>,
+) -> Result<(), Fail> {
+    let Numbers { pool, .. } = numbers;
     assert_equal(&rt, pool.add(7), Ok(()));
     assert_equal(&rt, twice(&rt, &Rounds { pool: &pool, rt }), (true, true));
     let state = pool.state();
@@ -69,8 +67,7 @@ fn shares_one<R: Runtime + Abort + Threads, L: PoolParts>(rt: R, blank: Blank) -
 
 #[test]
 fn two_threads_share_one(rt: HostRuntime) -> Result<(), Fail> {
-    shares_one::<HostRuntime, Brand>(rt, Blank::new(1))?;
-    Ok(())
+    try_numbers(rt, 1, Trial::TwoThreads)
 }
 
 /// A connection that counts how many hold it.
@@ -157,49 +154,19 @@ impl<R: Runtime + Abort, L: PoolParts> Job for Mixed<'_, R, L> {
     }
 }
 
-/// Two threads share a pool of up to three connections in all that it does. Each connection is checked before it is lent, or none.
+/// Two threads share a pool of up to three connections in all that it does.
 fn shares_all<R: Runtime + Abort + Threads, L: PoolParts>(
     rt: R,
-    blank: Blank,
-    checks: bool,
-) -> Result<(), Memory>
-    requires { IsBlankOf blank
-        (record default_settings { max_size = 3; test_on_check_out = checks }) L.name L.parts
-        L.settings }
-{
-    let clock = SetClock::new(rt.alloc(), Moment(0))?;
-    let pool: HeldPool<R, L> = Builder::new()
-        .max_size(3)
-        .test_on_check_out(checks)
-        .build_unchecked(HeldManager, clock.try_clone()?, rt, blank)?;
-    let mixed = Mixed {
-        pool: &pool,
-        clock: &clock,
-        rt,
-    };
-    assert_equal(&rt, twice(&rt, &mixed), (true, true));
+    pool: &HeldPool<R, L>,
+    clock: &SetClock,
+) {
+    assert_equal(&rt, twice(&rt, &Mixed { pool, clock, rt }), (true, true));
     let state = pool.state();
     assert_equal(&rt, state.connections, state.idle_connections);
     assert_equal(&rt, state.statistics.connections_closed_broken, 0);
     assert_equal(&rt, state.statistics.connections_closed_invalid, 0);
     assert_equal(&rt, state.statistics.pending_gets(), 0);
     assert_equal(&rt, state.statistics.get_started, 4000);
-    Ok(())
-}
-
-/// The same, with parts of its own.
-fn share_all<R: Runtime + Abort + Threads>(rt: R, checks: bool) -> Result<(), Fail> {
-    Ok(shares_all::<R, Brand>(rt, Blank::new(3), checks)?)
-}
-
-#[test]
-fn two_threads_share_all(rt: HostRuntime) -> Result<(), Fail> {
-    share_all(rt, false)
-}
-
-#[test]
-fn two_threads_share_all_with_checks(rt: HostRuntime) -> Result<(), Fail> {
-    share_all(rt, true)
 }
 
 /// A thousand rounds, in each of which a handle is made, a get of that handle's has one of its own, and the handle is dropped before the guard,
@@ -231,44 +198,81 @@ impl<R: Runtime + Abort, L: PoolParts> Job for Cloned<'_, R, L> {
     }
 }
 
-/// Two threads share a pool of two connections by handles and guards of their own. Each connection is checked before it is lent, or none.
-fn shares_handles<R: Runtime + Abort + Threads, L: PoolParts>(
-    rt: R,
-    blank: Blank,
-    checks: bool,
-) -> Result<(), Memory>
-    requires { IsBlankOf blank
-        (record default_settings { max_size = 2; test_on_check_out = checks }) L.name L.parts
-        L.settings }
-{
-    let clock = SetClock::new(rt.alloc(), Moment(0))?;
-    let pool: HeldPool<R, L> = Builder::new()
-        .max_size(2)
-        .test_on_check_out(checks)
-        .build_unchecked(HeldManager, clock, rt, blank)?;
+/// Two threads share a pool of two connections by handles and guards of their own.
+fn shares_handles<R: Runtime + Abort + Threads, L: PoolParts>(rt: R, pool: &HeldPool<R, L>) {
     assert!(&rt; pool.add(Held { holders: 0 }).is_ok());
     assert!(&rt; pool.add(Held { holders: 0 }).is_ok());
-    assert_equal(&rt, twice(&rt, &Cloned { pool: &pool, rt }), (true, true));
+    assert_equal(&rt, twice(&rt, &Cloned { pool, rt }), (true, true));
     let state = pool.state();
     assert_equal(&rt, (state.connections, state.idle_connections), (2, 2));
     assert_equal(&rt, state.statistics.connections_closed_broken, 0);
     assert_equal(&rt, state.statistics.connections_closed_invalid, 0);
     assert_equal(&rt, state.statistics.completed_gets(), 2000);
     assert_equal(&rt, state.statistics.pending_gets(), 0);
+}
+
+/// What two threads share.
+#[derive(Clone, Copy)]
+enum Shared {
+    /// A pool of three, by references.
+    All,
+    /// A pool of two, by handles of their own.
+    Handles,
+}
+
+/// Two threads share a pool. Each connection is checked before it is lent, or none.
+fn shares<R: Runtime + Abort + Threads, L: PoolParts>(
+    rt: R,
+    blank: Blank,
+    max_size: u32,
+    checks: bool,
+    shared: Shared,
+) -> Result<(), Fail>
+    requires some { 0 < max_size }
+    requires parts { IsBlankOf blank
+        (record default_settings { max_size = max_size; test_on_check_out = checks }) L.name L.parts
+        L.settings }
+{
+    let clock = SetClock::new(rt.alloc(), Moment(0))?;
+    let pool: HeldPool<R, L> = Builder::new()
+        .max_size(max_size)
+        .test_on_check_out(checks)
+        .build_unchecked(HeldManager, clock.try_clone()?, rt, blank)?;
+    match shared {
+        Shared::All => shares_all(rt, &pool, &clock),
+        Shared::Handles => shares_handles(rt, &pool),
+    }
     Ok(())
 }
 
 /// The same, with parts of its own.
-fn share_handles<R: Runtime + Abort + Threads>(rt: R, checks: bool) -> Result<(), Fail> {
-    Ok(shares_handles::<R, Brand>(rt, Blank::new(2), checks)?)
+fn share<R: Runtime + Abort + Threads>(
+    rt: R,
+    max_size: u32,
+    checks: bool,
+    shared: Shared,
+) -> Result<(), Fail>
+    requires { 0 < max_size }
+{
+    shares::<R, Brand>(rt, Blank::new(max_size as u64), max_size, checks, shared)
+}
+
+#[test]
+fn two_threads_share_all(rt: HostRuntime) -> Result<(), Fail> {
+    share(rt, 3, false, Shared::All)
+}
+
+#[test]
+fn two_threads_share_all_with_checks(rt: HostRuntime) -> Result<(), Fail> {
+    share(rt, 3, true, Shared::All)
 }
 
 #[test]
 fn two_threads_share_handles(rt: HostRuntime) -> Result<(), Fail> {
-    share_handles(rt, false)
+    share(rt, 2, false, Shared::Handles)
 }
 
 #[test]
 fn two_threads_share_handles_with_checks(rt: HostRuntime) -> Result<(), Fail> {
-    share_handles(rt, true)
+    share(rt, 2, true, Shared::Handles)
 }
