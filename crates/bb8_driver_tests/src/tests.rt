@@ -7,7 +7,6 @@ mod drives;
 
 use bb8::{Driver, Moment, NopCustomizer, Pool, PoolParts, SetClock};
 use bb8_trials::{Board, Errors, Runtime, Server, ServerBuilder, server_on};
-use futures::test::MockTask;
 use std::alloc::Global;
 use std::fmt::Debug;
 use std::marker::Brand;
@@ -27,15 +26,11 @@ type ServerPool<R, L> = Pool<Server, Errors, NopCustomizer, SetClock, R, L>;
 /// A driver of such a pool.
 type ServerDriver<R, L> = Driver<Server, Errors, NopCustomizer, SetClock, R, L>;
 
-/// A pool with a driver, its clock and its server's board, and a task that polls: for a test that hands one of them to a thread, or makes a
-/// second of a kind.
+/// A pool and a driver of it, for a test that hands one of them to a thread.
 #[derive(Drop)]
 struct Case<R: Runtime, L: PoolParts> {
     pool: ServerPool<R, L>,
     driver: ServerDriver<R, L>,
-    clock: SetClock,
-    board: Arc<Board, Global>,
-    task: MockTask,
 }
 
 /// A pool at the moment 0 that was built unchecked, and a driver of it.
@@ -49,21 +44,9 @@ fn unchecked<R: Runtime, L: PoolParts>(
     requires parts { IsBlankOf blank builder.settings L.name L.parts L.settings }
 {
     let clock = SetClock::new(rt.alloc(), Moment(0))?;
-    let task = MockTask::new(&rt)?;
-    let pool: ServerPool<R, L> = builder.build_unchecked(
-        server_on(&board)?,
-        clock.try_clone()?,
-        rt,
-        blank,
-    )?;
+    let pool: ServerPool<R, L> = builder.build_unchecked(server_on(&board)?, clock, rt, blank)?;
     let driver = Driver::new(&pool)?;
-    Ok(Case {
-        pool,
-        driver,
-        clock,
-        board,
-        task,
-    })
+    Ok(Case { pool, driver })
 }
 
 /// It may be sent to other threads and be shared with them.

@@ -48,7 +48,7 @@ fn drives<R: Runtime + Abort, L: PoolParts + 'static>(
 {
     let board = Board::new(rt.alloc())?;
     let builder = builder_on(&board)?.max_size(5).min_idle(Some(2));
-    let Case { pool, driver, .. } = unchecked::<R, L>(rt, blank, board, builder)?;
+    let Case { pool, driver } = unchecked::<R, L>(rt, blank, board, builder)?;
     let kept = if drops {
         drop(pool);
         None
@@ -99,7 +99,7 @@ fn runs_thrice<R: Runtime + Abort, L: PoolParts>(rt: R, blank: Blank) -> Result<
 {
     let board = Board::new(rt.alloc())?;
     let builder = builder_on(&board)?.max_size(5).min_idle(Some(2));
-    let Case { pool, driver, .. } = unchecked::<R, L>(rt, blank, board, builder)?;
+    let Case { pool, driver } = unchecked::<R, L>(rt, blank, board, builder)?;
     let wanted = Driven {
         turns: 3,
         ended: false,
