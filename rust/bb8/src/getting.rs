@@ -5,11 +5,11 @@ use crate::errors::RunError;
 use crate::managers::ManageConnection;
 use crate::pool::{Lent, Shared};
 use std::future::{poll_fn, Future};
-use std::pin::pin;
+use std::pin::{pin, Pin};
 use std::sync::Arc;
 use std::task::{Context, Poll};
 use tokio::task::unconstrained;
-use tokio::time::{sleep_until, Instant};
+use tokio::time::{sleep_until, Instant, Sleep};
 
 /// How far a get has come.
 #[derive(Clone, Copy, PartialEq, Eq)]
@@ -50,26 +50,22 @@ impl<'a, M: ManageConnection> Getting<'a, M> {
     }
 
     /// Runs until its end or its deadline, at which it tries once more. The timer is made only
-    /// where something is to be waited for.
+    /// where something is to be waited for, and on the heap: it is larger than all the rest.
     pub(crate) async fn answer(mut self) -> Answer<M> {
-        let deadline = self
-            .began
-            .checked_add(self.shared.settings.connection_timeout);
         let answer = {
-            let mut timer = pin!(None);
-            let mut run = pin!(self.run(deadline));
+            let mut timer: Option<Pin<Box<Sleep>>> = None;
+            let deadline = self.deadline();
+            let mut run = pin!(self.run());
             poll_fn(|cx| {
                 if let Poll::Ready(answer) = run.as_mut().poll(cx) {
                     return Poll::Ready(answer);
                 }
-                if timer.is_none() {
-                    timer.set(deadline.map(sleep_until));
-                }
-                let Some(timer) = timer.as_mut().as_pin_mut() else {
+                let Some(deadline) = deadline else {
                     return Poll::Pending;
                 };
+                let timer = timer.get_or_insert_with(|| Box::pin(sleep_until(deadline)));
                 // What the check used of the task's budget is not to hold the timer up.
-                pin!(unconstrained(timer))
+                pin!(unconstrained(timer.as_mut()))
                     .poll(cx)
                     .map(|()| Err(RunError::TimedOut))
             })
@@ -81,7 +77,13 @@ impl<'a, M: ManageConnection> Getting<'a, M> {
         answer
     }
 
-    async fn run(&mut self, deadline: Option<Instant>) -> Answer<M> {
+    /// None where it lies beyond all moments.
+    fn deadline(&self) -> Option<Instant> {
+        let limit = self.shared.settings.connection_timeout;
+        self.began.checked_add(limit)
+    }
+
+    async fn run(&mut self) -> Answer<M> {
         loop {
             if let Some(answer) = poll_fn(|cx| self.try_get(cx)).await {
                 return answer;
@@ -89,7 +91,8 @@ impl<'a, M: ManageConnection> Getting<'a, M> {
             if let Some(lent) = self.check().await {
                 return Ok(lent);
             }
-            if deadline.is_some_and(|deadline| Instant::now() >= deadline) {
+            let now = Instant::now();
+            if self.deadline().is_some_and(|deadline| now >= deadline) {
                 return Err(RunError::TimedOut);
             }
             next_poll().await;

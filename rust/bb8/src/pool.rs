@@ -160,7 +160,8 @@ impl<M: ManageConnection> Shared<M> {
 }
 
 pub(crate) fn nanoseconds(span: Duration) -> u64 {
-    u64::try_from(span.as_nanos()).unwrap_or(u64::MAX)
+    let seconds = span.as_secs().saturating_mul(1_000_000_000);
+    seconds.saturating_add(u64::from(span.subsec_nanos()))
 }
 
 /// The one handle that the core counts; all handles of the pool share it. Once the last of them is

@@ -85,6 +85,8 @@ struct Weather {
     rounds: u64,
     /// How long a get may take.
     patience: Duration,
+    /// Whether the clock stands but where all tasks sleep.
+    paused: bool,
 }
 
 /// What one task does.
@@ -153,6 +155,13 @@ async fn storm(weather: Weather) {
     let state = calm(&pool, &open).await;
     let seen = &state.statistics;
     assert_eq!(seen.pending_gets(), 0);
+    // By the machine's clock, which limit comes first is the machine's matter.
+    let by_age = seen.connections_closed_max_lifetime;
+    let as_idle = seen.connections_closed_idle_timeout;
+    let ages = match weather.paused {
+        true => [by_age, as_idle],
+        false => [by_age + as_idle; 2],
+    };
     let counts = [
         seen.get_direct,
         seen.get_waited,
@@ -160,9 +169,9 @@ async fn storm(weather: Weather) {
         seen.get_cancelled,
         seen.connections_created,
         seen.connections_closed_broken,
-        seen.connections_closed_max_lifetime,
-        seen.connections_closed_idle_timeout,
         seen.connections_closed_invalid + u64::from(!weather.check),
+        ages[0],
+        ages[1],
     ];
     println!("{weather:?}: {state:?}");
     assert!(counts.iter().all(|count| *count > 0), "{counts:?}");
@@ -196,6 +205,7 @@ async fn four_threads_by_the_machine_s_clock() {
             tasks: 24,
             rounds: 400,
             patience: Duration::from_millis(6),
+            paused: false,
         })
         .await;
     }
@@ -217,6 +227,7 @@ async fn one_thread_by_a_paused_clock() {
             tasks: 24,
             rounds: 400,
             patience: Duration::from_millis(6),
+            paused: true,
         })
         .await;
     }
