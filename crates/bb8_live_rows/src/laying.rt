@@ -13,7 +13,7 @@ use bb8::{
 use bb8_runner::fault::Fault;
 use bb8_runner::grammar::{fields_of, number};
 use bb8_runner::lines::{NoScript, script_of};
-use bb8_trials::{Board, Errors, Number, Runtime, Server, builder_on, server_on};
+use bb8_trials::{Board, Errors, Handle, Number, Runtime, Server, Unbuilt, builder_on, server_on};
 use futures::task::Poll;
 use futures::test::MockTask;
 use std::alloc::Global;
@@ -113,6 +113,30 @@ fn perform<A: Asked, D: DriverCalls + Drop>(
     Ok(written)
 }
 
+/// Plays a script with handles by reference.
+fn lend<P: Handle<Server> + Drop, D: DriverCalls + Drop>(
+    lent: (P, Option<P>),
+    drivers: Slots<D>,
+    stage: Stage,
+    lines: &[&str],
+    beginning: usize,
+) -> Result<String, Fault> {
+    let (first, second) = lent;
+    perform(Lent { first, second }, drivers, stage, lines, beginning)
+}
+
+/// Plays a script that has its handles, or the building of its pool.
+fn hold<B: Unbuilt<Server>, D: DriverCalls + Drop>(
+    held: (Option<B>, Slots<B::Pool>),
+    drivers: Slots<D>,
+    stage: Stage,
+    lines: &[&str],
+    beginning: usize,
+) -> Result<String, Fault> {
+    let (building, handles) = held;
+    perform(Held { building, handles }, drivers, stage, lines, beginning)
+}
+
 /// A pool of these settings. None where its first connections were not there after two polls of its building.
 fn pool_of<R: Runtime, L: PoolParts>(
     rt: R,
@@ -163,11 +187,13 @@ fn play_on<R: Runtime, L: PoolParts>(
             rt,
             blank,
         );
-        let held = Held {
-            building: Some(building),
-            handles,
-        };
-        return perform(held, drivers, stage, lines, beginning.lines);
+        return hold(
+            (Some(building), handles),
+            drivers,
+            stage,
+            lines,
+            beginning.lines,
+        );
     }
     let Some(pool) = pool_of::<R, L>(rt, blank, builder, &stage, beginning.built)? else {
         return Ok(format!(in alloc; "not built\n")?);
@@ -179,18 +205,14 @@ fn play_on<R: Runtime, L: PoolParts>(
     if beginning.owned {
         let _ = handles.put(0, pool);
         let building: Option<LiveBuilding<R, L>> = None;
-        let held = Held { building, handles };
-        return perform(held, drivers, stage, lines, beginning.lines);
+        return hold((building, handles), drivers, stage, lines, beginning.lines);
     }
     let other = match beginning.two {
         true => pool.try_clone().ok(),
         false => None,
     };
-    let lent = Lent {
-        first: &pool,
-        second: other.as_ref(),
-    };
-    perform(lent, drivers, stage, lines, beginning.lines)
+    let second = other.as_ref();
+    lend((&pool, second), drivers, stage, lines, beginning.lines)
 }
 
 /// Sets what the lines in front of the beginning say, and answers that. None where another line stands there.
