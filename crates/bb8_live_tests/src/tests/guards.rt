@@ -77,17 +77,15 @@ pub(super) fn keeps_the_young<R: Runtime + Abort, L: PoolParts>(
     let state = pool.state();
     assert_equal(&rt, (state.connections, state.idle_connections), (2, 2));
     assert_equal(&rt, state.statistics.connections_closed_max_lifetime, 1);
-    assert_equal(&rt, lent(&pool, &task), (Some(8), Some(9)));
+    assert_equal(&rt, lent(&pool, &task), Some((8, 9)));
     Ok(())
 }
 
 /// The connections that two gets are served with.
-fn lent<R: Runtime, L: PoolParts>(
-    pool: &NumberPool<R, L>,
-    task: &MockTask,
-) -> (Option<u64>, Option<u64>) {
-    let (first, second) = (Handle::lend(pool, task), Handle::lend(pool, task));
-    (first.map(|guard| *guard), second.map(|guard| *guard))
+fn lent<R: Runtime, L: PoolParts>(pool: &NumberPool<R, L>, task: &MockTask) -> Option<(u64, u64)> {
+    let first = Handle::lend(pool, task)?;
+    let second = Handle::lend(pool, task)?;
+    Some((*first, *second))
 }
 
 #[test]
