@@ -4,11 +4,12 @@
 #![tactic(auto)]
 
 use bb8_runner::fault::Fault;
-use bb8_transcripts::report::{Answers, run, status_of};
+use bb8_runner::streams::{Sink, Source};
+use bb8_transcripts::report::{Report, status_of};
+use bb8_transcripts::transcripts::transcripts_of;
 use bb8_trials::Runtime;
-use std::alloc::Global;
-use std::io;
 use std::process::ExitCode;
+use std::{io, str};
 
 mod answer;
 mod asked;
@@ -19,26 +20,33 @@ mod slots;
 #[cfg(test)]
 mod tests;
 
-/// Answers the scripts of live pools.
-#[derive(Clone, Copy)]
-struct Live<R: Runtime> {
+/// Reads all transcripts, runs them on live pools, and writes what came of them.
+fn run<R: Runtime, I: Source, W: Sink>(
     rt: R,
-}
-
-impl<R: Runtime> Answers for Live<R> {
-    fn answers(&self, _alloc: Global, script: &str) -> Result<Vec<u8>, Fault> {
-        Ok(laying::play(self.rt, script)?.into_bytes())
+    reader: &mut I,
+    writer: &mut W,
+) -> Result<Report, Fault> {
+    let alloc = rt.alloc();
+    let input = reader.read_whole(alloc)?;
+    let Ok(text) = str::from_utf8(input.as_slice()) else {
+        return Err(Fault::Read);
+    };
+    let mut report = Report::new(alloc);
+    for transcript in transcripts_of(alloc, text)?.iter() {
+        if transcript.is_run {
+            let written = laying::play(rt, transcript.script.as_str())?;
+            report.add(transcript, written.as_bytes())?;
+        } else {
+            report.pass();
+        }
     }
+    report.write(alloc, writer)?;
+    Ok(report)
 }
 
 /// Ends with the status of what came of the transcripts, and with a word on standard error where that is a fault.
 fn main(rt: HostRuntime) -> io::Result<ExitCode> {
-    let came = run(
-        rt.alloc(),
-        &Live { rt },
-        &mut rt.reader(),
-        &mut io::writer(&rt),
-    );
+    let came = run(rt, &mut rt.reader(), &mut io::writer(&rt));
     if let Err(fault) = &came {
         eprintln!(rt; "{fault}")?;
     }

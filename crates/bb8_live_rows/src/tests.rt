@@ -1,6 +1,6 @@
 //! That a transcript of a live pool which is answered otherwise is told.
 
-use super::{Live, run};
+use super::run;
 use std::test::Fail;
 
 /// A get that is served otherwise than it says, a line that does not fit, and beginnings that are none.
@@ -38,7 +38,7 @@ const WRONG_TOLD: &[u8] = b"\
 fn tells_what_is_answered_otherwise(rt: HostRuntime) -> Result<(), Fail> {
     let mut reader = WRONG;
     let mut written = Vec::new(rt.alloc());
-    let came = run(rt.alloc(), &Live { rt }, &mut reader, &mut written);
+    let came = run(rt, &mut reader, &mut written);
     assert!(rt; came.is_ok());
     assert_eq!(rt; written.as_slice(), WRONG_TOLD);
     Ok(())

@@ -3,4 +3,4 @@
 #![tactic(auto)]
 
 pub mod report;
-mod transcripts;
+pub mod transcripts;

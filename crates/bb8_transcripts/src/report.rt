@@ -47,38 +47,38 @@ pub struct Report {
 }
 
 impl Report {
-    /// Runs the transcripts of a file.
-    fn of<A: Answers>(alloc: Global, player: &A, text: &str) -> Result<Report, Fault> {
-        let mut report = Report {
+    /// Of no transcript yet.
+    pub fn new(alloc: Global) -> Report {
+        Report {
             told: String::new(alloc),
             transcripts: 0,
             answers: 0,
             not_run: 0,
             different: 0,
-        };
-        for transcript in transcripts_of(alloc, text)?.iter() {
-            if transcript.is_run {
-                report.run(alloc, player, transcript)?;
-            } else {
-                report.not_run = report.not_run.saturating_add(1);
-            }
         }
-        Ok(report)
     }
 
-    fn run<A: Answers>(
-        &mut self,
-        alloc: Global,
-        player: &A,
-        transcript: &Transcript<'_>,
-    ) -> Result<(), Fault> {
-        let written = player.answers(alloc, transcript.script.as_str())?;
-        let Ok(written) = str::from_utf8(written.as_slice()) else {
+    /// One more transcript is not run.
+    pub fn pass(&mut self) {
+        self.not_run = self.not_run.saturating_add(1);
+    }
+
+    /// One more transcript was run, and this was written for its script.
+    pub fn add(&mut self, transcript: &Transcript<'_>, written: &[u8]) -> Result<(), Fault> {
+        let Ok(written) = str::from_utf8(written) else {
             return Err(Fault::Read);
         };
         self.transcripts = self.transcripts.saturating_add(1);
         self.answers = self.answers.saturating_add(transcript.wanted.len() as u64);
         self.compare(transcript, written)
+    }
+
+    /// Writes what is told, and the sums.
+    pub fn write<W: Sink>(&self, alloc: Global, writer: &mut W) -> Result<(), Fault> {
+        writer.write_whole(self.told.as_bytes())?;
+        let sums = format!(in alloc; "{self}\n")?;
+        writer.write_whole(sums.as_bytes())?;
+        Ok(())
     }
 
     /// Tells the first line that was written for a script and is not the wanted one.
@@ -140,10 +140,16 @@ pub fn run<A: Answers, R: Source, W: Sink>(
     let Ok(text) = str::from_utf8(input.as_slice()) else {
         return Err(Fault::Read);
     };
-    let report = Report::of(alloc, player, text)?;
-    writer.write_whole(report.told.as_bytes())?;
-    let sums = format!(in alloc; "{report}\n")?;
-    writer.write_whole(sums.as_bytes())?;
+    let mut report = Report::new(alloc);
+    for transcript in transcripts_of(alloc, text)?.iter() {
+        if transcript.is_run {
+            let written = player.answers(alloc, transcript.script.as_str())?;
+            report.add(transcript, written.as_slice())?;
+        } else {
+            report.pass();
+        }
+    }
+    report.write(alloc, writer)?;
     Ok(report)
 }
 
