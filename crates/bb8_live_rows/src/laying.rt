@@ -265,9 +265,10 @@ pub fn play<R: Runtime>(rt: R, script: &str) -> Result<String, Fault> {
         board,
         task,
     };
-    if !Config::from(&builder).is_lawful() {
+    let settings = Config::from(&builder);
+    if !settings.is_lawful() {
         return Ok(format!(in alloc; "not a configuration\n")?);
     }
-    let blank = Blank::new(config.max_size as u64);
+    let blank = Blank::new(settings.max_size as u64);
     play_on::<R, Brand>(rt, blank, builder, beginning, stage, others)
 }
