@@ -1,5 +1,5 @@
 -- An error with which the opening of a pool's first connections fails is one that its manager or its customizer answered.
-use Rattle.std.proofs.Common.{◌≡◌, ℕ, ◌-◌, ◌<◌, Bool, true, false, Option, Some, None, Result, Ok, Err, List, [], ◌∷◌, ◌⊎◌, inl, inr, refl, sym, ◌∙◌, subst}
+use Rattle.std.proofs.Common.{◌≡◌, ℕ, ◌-◌, ◌<◌, Bool, true, false, Option, Some, None, Result, Ok, Err, List, [], ◌∷◌, ◌⊎◌, inl, inr, refl, sym, ◌∙◌, ap, subst}
 use Rattle.std.proofs.lemmas.Bool.{cases_lt}
 use Rattle.std.specs.Prelude.{⊤}
 use Rattle.std.specs.Duration.{as_nanos}
@@ -11,6 +11,7 @@ use Rattle.bb8_types.specs.declared.api.errors.RunError.TheVariants.{User}
 use Rattle.bb8_types.specs.declared.api.managers.ManageConnection.{Ghosts as ManagerOf}
 use Rattle.bb8_types.specs.declared.api.moments.Moment.{Moment}
 use Rattle.bb8_tables.specs.declared.keys.Key.{Key}
+use Rattle.bb8_core.specs.declared.joined.Joined.{Joined}
 use Rattle.bb8_tasks.specs.declared.home.Home.{Ghosts as HomeOf}
 use Rattle.bb8_tasks.specs.declared.home.OpenedStep.{OpenedStep}
 use Rattle.bb8_tasks.specs.declared.home.OpenedStep.TheVariants as opened
@@ -25,6 +26,7 @@ use Rattle.bb8_tasks.specs.declared.replenish.Tries.{Tries}
 use Rattle.bb8_tasks.specs.declared.rounds.OnFailure.TheVariants.{Stop}
 use Rattle.bb8_tasks.specs.declared.rounds.Round.{Round}
 use Rattle.bb8_tasks.specs.declared.rounds.Round.TheVariants as round
+use Rattle.bb8_tasks.specs.Joined.{joined_opener, joined_reports, joined_tasks}
 use Rattle.bb8_tasks.specs.Replenishing as replenishing
 use Rattle.bb8_tasks.specs.Sweeping.{After, AfterRound, Leaves, PollsUntil, Rest, Rounds}
 use Rattle.bb8_locked.specs.declared.locked.Parts.{Ghosts as PartsOf}
@@ -54,44 +56,43 @@ module _ {E : Type 0} (Known : E → Type 0) where
   known : {C N A : Type 0} (a : ReplenishAnswer E) (next : Next C N A E) → next.answer ≡ a → Told a → Told next.answer
   known a next is told = subst (λ (x : ReplenishAnswer E). Told x) (sym is) told
 
--- rounds, over tasks and a sink that leave the calls outside as they are
-module _ {T E H W : Type 0} (polls : T → H → W → ReplenishAnswer E → T → H → W → Type 0) (sinks : W → E → W → Type 0) (Known : E → Type 0) (calls : W)
-    (polled : (t t' : T) (h h' : H) (w w' : W) (r : ReplenishAnswer E) → w ≡ calls → polls t h w r t' h' w' → (w' ≡ calls) × Told Known r)
-    (sunk : (w w' : W) (e : E) → w ≡ calls → sinks w e w' → w' ≡ calls) where
-  after : (r : ReplenishAnswer E) (t : T) (w w' : W) (kept : List T) (stopped : Option E) → w ≡ calls → Told Known r → After polls sinks Stop r t w kept stopped w'
-      → (w' ≡ calls) × Stopped Known stopped
-  after Pending t w w' kept stopped is told a = (a.2 ∙ is, rw a.1 tt)
-  after (Retrying e) t w w' kept stopped is told a = (sunk w w' e is a.0, rw a.2 tt)
-  after (Failed e) t w w' kept stopped is told a = (a.1.1 ∙ is, rw a.1.0 told)
-  after Entered t w w' kept stopped is told a = (a.2 ∙ is, rw a.1 tt)
-  after Late t w w' kept stopped is told a = (a.2 ∙ is, rw a.1 tt)
-  after GivenBack t w w' kept stopped is told a = (a.2 ∙ is, rw a.1 tt)
+-- rounds, over tasks and a sink that leave it so that the calls outside are these
+module _ {T E X : Type 0} (polls : T → X → ReplenishAnswer E → T → X → Type 0) (sinks : X → E → X → Type 0) (Known : E → Type 0) (IsBy : X → Type 0)
+    (polled : (t t' : T) (x x' : X) (r : ReplenishAnswer E) → IsBy x → polls t x r t' x' → IsBy x' × Told Known r)
+    (sunk : (x x' : X) (e : E) → IsBy x → sinks x e x' → IsBy x') where
+  after : (r : ReplenishAnswer E) (t : T) (x x' : X) (kept : List T) (stopped : Option E) → IsBy x → Told Known r → After polls sinks Stop r t x kept stopped x'
+      → IsBy x' × Stopped Known stopped
+  after Pending t x x' kept stopped is told a = (subst IsBy (sym a.2) is, rw a.1 tt)
+  after (Retrying e) t x x' kept stopped is told a = (sunk x x' e is a.0, rw a.2 tt)
+  after (Failed e) t x x' kept stopped is told a = (subst IsBy (sym a.1.1) is, rw a.1.0 told)
+  after Entered t x x' kept stopped is told a = (subst IsBy (sym a.2) is, rw a.1 tt)
+  after Late t x x' kept stopped is told a = (subst IsBy (sym a.2) is, rw a.1 tt)
+  after GivenBack t x x' kept stopped is told a = (subst IsBy (sym a.2) is, rw a.1 tt)
 
-  rest : (now : Option E) (goes : Option E → List T → H → W → Type 0) (ts left : List T) (h h' : H) (w w' : W) (stopped : Option E)
-      → ((s : Option E) (l : List T) (x : H) (y : W) → goes s l x y → Stopped Known s) → Stopped Known now → Rest polls sinks Stop now goes ts h w stopped left h' w'
+  rest : (now : Option E) (goes : Option E → List T → X → Type 0) (ts left : List T) (x x' : X) (stopped : Option E)
+      → ((s : Option E) (l : List T) (y : X) → goes s l y → Stopped Known s) → Stopped Known now → Rest polls sinks Stop now goes ts x stopped left x'
       → Stopped Known stopped
-  rest None goes ts left h h' w w' stopped of told r = of stopped left h' w' r
-  rest (Some e) goes ts left h h' w w' stopped of told r = rw r.0 told
+  rest None goes ts left x x' stopped of told r = of stopped left x' r
+  rest (Some e) goes ts left x x' stopped of told r = rw r.0 told
 
-  until : (ts left : List T) (h h' : H) (w w' : W) (stopped : Option E) → w ≡ calls → PollsUntil polls sinks Stop ts h w stopped left h' w' → Stopped Known stopped
-  until [] left h h' w w' stopped is p = rw p.0 tt
-  until (t ∷ ts) left h h' w w' stopped is (r, t', h1, w1, poll, (kept, now, w2, a, (more, r', all))) =
-      let told = polled t t' h h1 w w1 r is poll in
-      let stood = after r t' w1 w2 kept now told.0 told.1 a in
-      rest now (PollsUntil polls sinks Stop ts h1 w2) ts more h1 h' w2 w' stopped (λ s l x y. until ts l h1 x w2 y s stood.0) stood.1 r'
+  until : (ts left : List T) (x x' : X) (stopped : Option E) → IsBy x → PollsUntil polls sinks Stop ts x stopped left x' → Stopped Known stopped
+  until [] left x x' stopped is p = rw p.0 tt
+  until (t ∷ ts) left x x' stopped is (r, t', x1, poll, (kept, now, x2, a, (more, r', all))) =
+      let told = polled t t' x x1 r is poll in
+      let stood = after r t' x1 x2 kept now told.0 told.1 a in
+      rest now (PollsUntil polls sinks Stop ts x2) ts more x2 x' stopped (λ s l y. until ts l x2 y s stood.0) stood.1 r'
 
-  module _ (lets_go : T → H → W → H → W → Type 0) where
+  module _ (lets_go : T → X → X → Type 0) where
     whole : (left : List T) (r : Round (List T) E) → Leaves polls sinks lets_go left r → Ended Known r
     whole [] r is = rw is tt
     whole (t ∷ ts) r is = rw is tt
 
-    over : (stopped : Option E) (left : List T) (h h' : H) (w w' : W) (r : Round (List T) E) → Stopped Known stopped
-        → AfterRound polls sinks lets_go stopped left h w r h' w' → Ended Known r
-    over None left h h' w w' r told a = whole left r a.0
-    over (Some e) left h h' w w' r told a = rw a.1 told
+    over : (stopped : Option E) (left : List T) (x x' : X) (r : Round (List T) E) → Stopped Known stopped → AfterRound polls sinks lets_go stopped left x r x' → Ended Known r
+    over None left x x' r told a = whole left r a.0
+    over (Some e) left x x' r told a = rw a.1 told
 
-    pub ended : (ts : List T) (h h' : H) (w w' : W) (r : Round (List T) E) → w ≡ calls → Rounds polls sinks lets_go ts h w r h' w' → Ended Known r
-    ended ts h h' w w' r is (stopped, left, h1, w1, p, a) = over stopped left h1 h' w1 w' r (until ts left h h1 w w1 stopped is p) a
+    pub ended : (ts : List T) (x x' : X) (r : Round (List T) E) → IsBy x → Rounds polls sinks lets_go ts x r x' → Ended Known r
+    ended ts x x' r is (stopped, left, x1, p, a) = over stopped left x1 x' r (until ts left x x1 stopped is p) a
 
 -- the tasks of a pool, by the calls of its manager and its customizer, which leave the calls as they are
 module _ {M S Z K R L C E N V A : Type 0} {manager : ManagerOf M C E N V} {d : DebugOf E} {l : PartsOf L} (z : CustomizerOf Z C E A) (sinks : S → E → Type 0)
@@ -100,113 +101,133 @@ module _ {M S Z K R L C E N V A : Type 0} {manager : ManagerOf M C E N V} {d : D
   abbrev Known : E → Type 0
   Known e = IsBuildError (manager.connect_answers calls.manager.now) (z.acquire_answers calls.customizer.now) (User e)
 
-  module _ {H : Type 0} (home : HomeOf H C) (timeout : ℕ) (retry : Bool) (approval : Key) (at : Moment) where
-    fails : (tries : Tries) (e : E) (h h' : H) (next : Next C N A E) → Known e → replenishing.Fails home timeout retry approval at tries e h next h' → Told Known next.answer
-    fails tries e h h' next by f = by_retry retry refl
-      where
-        last : (retry ≡ false) ⊎ (timeout < at.0 - tries.start.0) → Told Known next.answer
-        last why = let g = f.0 why in known Known (Failed e) next g.2 by
+  -- these are the calls outside
+  abbrev IsBy : {H : Type 0} → Joined (PoolOpener M S Z K) H → Type 0
+  IsBy x = x.outside ≡ calls
 
-        by_retry : (r : Bool) → r ≡ retry → Told Known next.answer
-        by_retry false is = last (inl (sym is))
-        by_retry true is =
+  still : {H : Type 0} (x x' : Joined (PoolOpener M S Z K) H) → x' ≡ x → IsBy x → IsBy x'
+  still {H} x x' same is = ap (λ (y : Joined (PoolOpener M S Z K) H). y.outside) same ∙ is
+
+  module _ {H : Type 0} (home : HomeOf H C) (timeout : ℕ) (retry : Bool) (approval : Key) (at : Moment) where
+    fails : (tries : Tries) (e : E) (x x' : Joined (PoolOpener M S Z K) H) (next : Next C N A E) → IsBy x → Known e
+        → replenishing.Fails (joined_tasks home) timeout retry approval at tries e x next x' → IsBy x' × Told Known next.answer
+    fails tries e x x' next is by f = by_retry retry refl
+      where
+        last : (retry ≡ false) ⊎ (timeout < at.0 - tries.start.0) → IsBy x' × Told Known next.answer
+        last why = let g = f.0 why in (g.1.1 ∙ is, known Known (Failed e) next g.2 by)
+
+        by_retry : (r : Bool) → r ≡ retry → IsBy x' × Told Known next.answer
+        by_retry false off = last (inl (sym off))
+        by_retry true on =
             elim (cases_lt timeout (at.0 - tries.start.0)) [
               | inl late ↦ last (inr late)
-              | inr within ↦ (let s = f.1 (sym is) within in known Known (Retrying e) next s.2.0 tt)
+              | inr within ↦ (let s = f.1 (sym on) within in (still x x' s.2.2 is, known Known (Retrying e) next s.2.0 tt))
             ]
 
-    opens : (step : OpenedStep C) (h h' : H) (w w' : PoolOpener M S Z K) (next : Next C N A E) → w ≡ calls
-        → replenishing.AfterOpened home timeout retry approval at (pool_opener z sinks tells shared) step h w next h' w' → (w' ≡ calls) × Told Known next.answer
-    opens (opened.Entered notified) h h' w w' next is a = (a.1 ∙ is, known Known Entered next a.0.0 tt)
-    opens (opened.Late c) h h' w w' next is a = (a.0 ∙ is, known Known Late next a.1.0 tt)
-    opens (opened.Unfit c) h h' w w' next is a = (a.0 ∙ is, known Known GivenBack next a.1.0 tt)
+    opens : (step : OpenedStep C) (x x' : Joined (PoolOpener M S Z K) H) (next : Next C N A E) → IsBy x
+        → replenishing.AfterOpened (joined_tasks home) timeout retry approval at (joined_opener (pool_opener z sinks tells shared)) step x next x'
+        → IsBy x' × Told Known next.answer
+    opens (opened.Entered notified) x x' next is a = (still x x' a.2 is, known Known Entered next a.0 tt)
+    opens (opened.Late c) x x' next is (x1, dropped, a) = (still x1 x' a.2 (dropped.0 ∙ is), known Known Late next a.0 tt)
+    opens (opened.Unfit c) x x' next is (x1, dropped, a) = (still x1 x' a.2 (dropped.0 ∙ is), known Known GivenBack next a.0 tt)
 
-    prepares : (answer : Poll (Result (Unit {0}) E)) (tries : Tries) (c0 c : C) (a0 a : A) (h h' : H) (w w' : PoolOpener M S Z K) (next : Next C N A E) → w ≡ calls
+    prepares : (answer : Poll (Result (Unit {0}) E)) (tries : Tries) (c0 c : C) (a0 a : A) (x x' : Joined (PoolOpener M S Z K) H) (next : Next C N A E) → IsBy x
         → z.acquire_answers calls.customizer.now c0 a0 at answer c a
-        → replenishing.AfterAcquire home timeout retry approval at (pool_opener z sinks tells shared) answer tries c a h w next h' w' → (w' ≡ calls) × Told Known next.answer
-    prepares poll.Pending tries c0 c a0 a h h' w w' next is said p = (p.1 ∙ is, known Known Pending next p.0.0 tt)
-    prepares (poll.Ready (Ok u)) tries c0 c a0 a h h' w w' next is said p = opens p.0 p.1 h' w w' next is p.3
-    prepares (poll.Ready (Err e)) tries c0 c a0 a h h' w w' next is said p = (p.0 ∙ is, fails tries e h h' next (inr (c0, a0, at, c, a, said)) p.1)
+        → replenishing.AfterAcquire (joined_tasks home) timeout retry approval at (joined_opener (pool_opener z sinks tells shared)) answer tries c a x next x'
+        → IsBy x' × Told Known next.answer
+    prepares poll.Pending tries c0 c a0 a x x' next is said p = (still x x' p.2 is, known Known Pending next p.0 tt)
+    prepares (poll.Ready (Ok u)) tries c0 c a0 a x x' next is said (x1, ended, (step, x2, entered, p)) = opens step x2 x' next (entered.1 ∙ ended.0 ∙ is) p
+    prepares (poll.Ready (Err e)) tries c0 c a0 a x x' next is said (x1, ended, (x2, dropped, p)) =
+        fails tries e x2 x' next (dropped.0 ∙ ended.0 ∙ is) (inr (c0, a0, at, c, a, said)) p
 
-    acquires : (tries : Tries) (c : C) (a : A) (h h' : H) (w w' : PoolOpener M S Z K) (next : Next C N A E) → w ≡ calls
-        → replenishing.Acquires home timeout retry approval at (pool_opener z sinks tells shared) tries c a h w next h' w' → (w' ≡ calls) × Told Known next.answer
-    acquires tries c a h h' w w' next is (answer, c1, a1, w1, (said, same), p) =
-        prepares answer tries c c1 a a1 h h' w1 w' next (same ∙ is) (subst (λ (x : PoolOpener M S Z K). z.acquire_answers x.customizer.now c a at answer c1 a1) is said) p
+    acquires : (tries : Tries) (c : C) (a : A) (x x' : Joined (PoolOpener M S Z K) H) (next : Next C N A E) → IsBy x
+        → replenishing.Acquires (joined_tasks home) timeout retry approval at (joined_opener (pool_opener z sinks tells shared)) tries c a x next x'
+        → IsBy x' × Told Known next.answer
+    acquires tries c a x x' next is (answer, c1, a1, x1, polled, p) =
+        prepares answer tries c c1 a a1 x1 x' next (polled.0.1 ∙ is) (subst (λ (w : PoolOpener M S Z K). z.acquire_answers w.customizer.now c a at answer c1 a1) is polled.0.0) p
 
-    connected : (answer : Poll (Result C E)) (tries : Tries) (v0 v : N) (h h' : H) (w w' : PoolOpener M S Z K) (next : Next C N A E) → w ≡ calls
+    connected : (answer : Poll (Result C E)) (tries : Tries) (v0 v : N) (x x' : Joined (PoolOpener M S Z K) H) (next : Next C N A E) → IsBy x
         → manager.connect_answers calls.manager.now v0 at answer v
-        → replenishing.AfterConnect home timeout retry approval at (pool_opener z sinks tells shared) answer tries v h w next h' w' → (w' ≡ calls) × Told Known next.answer
-    connected poll.Pending tries v0 v h h' w w' next is said p = (p.1 ∙ is, known Known Pending next p.0.0 tt)
-    connected (poll.Ready (Ok c)) tries v0 v h h' w w' next is said (a, c1, w1, (begun, same), p) = acquires tries c1 a h h' w1 w' next (same ∙ is) p
-    connected (poll.Ready (Err e)) tries v0 v h h' w w' next is said p = (p.0 ∙ is, fails tries e h h' next (inl (v0, at, v, said)) p.1)
+        → replenishing.AfterConnect (joined_tasks home) timeout retry approval at (joined_opener (pool_opener z sinks tells shared)) answer tries v x next x'
+        → IsBy x' × Told Known next.answer
+    connected poll.Pending tries v0 v x x' next is said p = (still x x' p.2 is, known Known Pending next p.0 tt)
+    connected (poll.Ready (Ok c)) tries v0 v x x' next is said (x1, ended, (a, c1, x2, begun, p)) = acquires tries c1 a x2 x' next (begun.0.1 ∙ ended.0 ∙ is) p
+    connected (poll.Ready (Err e)) tries v0 v x x' next is said (x1, ended, p) = fails tries e x1 x' next (ended.0 ∙ is) (inl (v0, at, v, said)) p
 
-    connects : (tries : Tries) (v : N) (h h' : H) (w w' : PoolOpener M S Z K) (next : Next C N A E) → w ≡ calls
-        → replenishing.Connects home timeout retry approval at (pool_opener z sinks tells shared) tries v h w next h' w' → (w' ≡ calls) × Told Known next.answer
-    connects tries v h h' w w' next is (answer, v1, w1, (said, same), p) =
-        connected answer tries v v1 h h' w1 w' next (same ∙ is) (subst (λ (x : PoolOpener M S Z K). manager.connect_answers x.manager.now v at answer v1) is said) p
+    connects : (tries : Tries) (v : N) (x x' : Joined (PoolOpener M S Z K) H) (next : Next C N A E) → IsBy x
+        → replenishing.Connects (joined_tasks home) timeout retry approval at (joined_opener (pool_opener z sinks tells shared)) tries v x next x'
+        → IsBy x' × Told Known next.answer
+    connects tries v x x' next is (answer, v1, x1, polled, p) =
+        connected answer tries v v1 x1 x' next (polled.0.1 ∙ is) (subst (λ (w : PoolOpener M S Z K). manager.connect_answers w.manager.now v at answer v1) is polled.0.0) p
 
-    begins : (tries : Tries) (h h' : H) (w w' : PoolOpener M S Z K) (next : Next C N A E) → w ≡ calls
-        → replenishing.Begins home timeout retry approval at (pool_opener z sinks tells shared) tries h w next h' w' → (w' ≡ calls) × Told Known next.answer
-    begins tries h h' w w' next is (v, w1, (begun, same), p) = connects tries v h h' w1 w' next (same ∙ is) p
+    begins : (tries : Tries) (x x' : Joined (PoolOpener M S Z K) H) (next : Next C N A E) → IsBy x
+        → replenishing.Begins (joined_tasks home) timeout retry approval at (joined_opener (pool_opener z sinks tells shared)) tries x next x'
+        → IsBy x' × Told Known next.answer
+    begins tries x x' next is (v, x1, begun, p) = connects tries v x1 x' next (begun.0.1 ∙ is) p
 
-    wakes : (tries : Tries) (due : Option Moment) (h h' : H) (w w' : PoolOpener M S Z K) (next : Next C N A E) → w ≡ calls
-        → replenishing.Wakes home timeout retry approval at (pool_opener z sinks tells shared) tries due h w next h' w' → (w' ≡ calls) × Told Known next.answer
-    wakes tries None h h' w w' next is p = (p.1 ∙ is, known Known Pending next p.0.0 tt)
-    wakes tries (Some due) h h' w w' next is p =
+    wakes : (tries : Tries) (due : Option Moment) (x x' : Joined (PoolOpener M S Z K) H) (next : Next C N A E) → IsBy x
+        → replenishing.Wakes (joined_tasks home) timeout retry approval at (joined_opener (pool_opener z sinks tells shared)) tries due x next x'
+        → IsBy x' × Told Known next.answer
+    wakes tries None x x' next is p = (still x x' p.2 is, known Known Pending next p.0 tt)
+    wakes tries (Some due) x x' next is p =
         elim (cases_lt at.0 due.0) [
-          | inl before ↦ (let s = p.1 before in (s.1 ∙ is, known Known Pending next s.0.0 tt))
-          | inr now ↦ begins tries h h' w w' next is (p.0 now)
+          | inl before ↦ (let s = p.1 before in (still x x' s.2 is, known Known Pending next s.0 tt))
+          | inr now ↦ begins tries x x' next is (p.0 now)
         ]
 
-    advances : (stage : Stage C N A) (h h' : H) (w w' : PoolOpener M S Z K) (next : Next C N A E) → w ≡ calls
-        → replenishing.Advances home timeout retry approval at (pool_opener z sinks tells shared) stage h w next h' w' → (w' ≡ calls) × Told Known next.answer
-    advances Start h h' w w' next is p = begins (record { start = at; failures = 0 }) h h' w w' next is p
-    advances (Connecting tries v) h h' w w' next is p = connects tries v h h' w w' next is p
-    advances (Acquiring tries c a) h h' w w' next is p = acquires tries c a h h' w w' next is p
-    advances (Sleeping tries due) h h' w w' next is p = wakes tries due h h' w w' next is p
-    advances Done h h' w w' next is p = (p.1 ∙ is, known Known GivenBack next p.0.0 tt)
+    advances : (stage : Stage C N A) (x x' : Joined (PoolOpener M S Z K) H) (next : Next C N A E) → IsBy x
+        → replenishing.Advances (joined_tasks home) timeout retry approval at (joined_opener (pool_opener z sinks tells shared)) stage x next x'
+        → IsBy x' × Told Known next.answer
+    advances Start x x' next is p = begins (record { start = at; failures = 0 }) x x' next is p
+    advances (Connecting tries v) x x' next is p = connects tries v x x' next is p
+    advances (Acquiring tries c a) x x' next is p = acquires tries c a x x' next is p
+    advances (Sleeping tries due) x x' next is p = wakes tries due x x' next is p
+    advances Done x x' next is p = (still x x' p.2 is, known Known GivenBack next p.0 tt)
 
-    drops : (stage : Stage C N A) (w w' : PoolOpener M S Z K) → w ≡ calls → replenishing.Drops (pool_opener z sinks tells shared) stage w w' → w' ≡ calls
-    drops Start w w' is p = p ∙ is
-    drops (Connecting tries v) w w' is p = p ∙ is
-    drops (Acquiring tries c a) w w' is p = p ∙ is
-    drops (Sleeping tries due) w w' is p = p ∙ is
-    drops Done w w' is p = p ∙ is
+    drops : (stage : Stage C N A) (x x' : Joined (PoolOpener M S Z K) H) → IsBy x → replenishing.Drops (joined_opener (pool_opener z sinks tells shared)) stage x x' → IsBy x'
+    drops Start x x' is p = still x x' p is
+    drops (Connecting tries v) x x' is p = p.0 ∙ is
+    drops (Acquiring tries c a) x x' is (x1, ended, dropped) = dropped.0 ∙ ended.0 ∙ is
+    drops (Sleeping tries due) x x' is p = still x x' p is
+    drops Done x x' is p = still x x' p is
 
-    proceeds : (alive : Bool) (stage : Stage C N A) (h h' : H) (w w' : PoolOpener M S Z K) (next : Next C N A E) → w ≡ calls
-        → replenishing.Proceeds home timeout retry approval at (pool_opener z sinks tells shared) alive stage h w next h' w' → (w' ≡ calls) × Told Known next.answer
-    proceeds true stage h h' w w' next is p = advances stage h h' w w' next is p
-    proceeds false stage h h' w w' next is p = (drops stage w w' is p.0, known Known GivenBack next p.1.2 tt)
+    proceeds : (alive : Bool) (stage : Stage C N A) (x x' : Joined (PoolOpener M S Z K) H) (next : Next C N A E) → IsBy x
+        → replenishing.Proceeds (joined_tasks home) timeout retry approval at (joined_opener (pool_opener z sinks tells shared)) alive stage x next x'
+        → IsBy x' × Told Known next.answer
+    proceeds true stage x x' next is p = advances stage x x' next is p
+    proceeds false stage x x' next is (x1, dropped, p) = (p.1.1 ∙ drops stage x x1 is dropped, known Known GivenBack next p.2 tt)
 
   module _ {H : Type 0} (home : HomeOf H C) (timeout : ℕ) (retry : Bool) (at : Moment) where
-    at_stage : (approval : Key) (latest : Moment) (stage : Stage C N A) (t' : Replenish C N A) (h h' : H) (w w' : PoolOpener M S Z K) (r : ReplenishAnswer E) → w ≡ calls
-        → replenishing.Polls home (pool_opener z sinks tells shared) timeout retry at (record { approval = approval; latest = latest; stage = stage }) h w r t' h' w'
-        → (w' ≡ calls) × Told Known r
-    at_stage approval latest Start t' h h' w w' r is p =
-        proceeds home timeout retry approval t'.latest p.0.alive Start p.1 h' w w' (record { answer = r; stage = t'.stage }) is p.5
-    at_stage approval latest (Connecting tries v) t' h h' w w' r is p =
-        proceeds home timeout retry approval t'.latest p.0.alive (Connecting tries v) p.1 h' w w' (record { answer = r; stage = t'.stage }) is p.5
-    at_stage approval latest (Acquiring tries c a) t' h h' w w' r is p =
-        proceeds home timeout retry approval t'.latest p.0.alive (Acquiring tries c a) p.1 h' w w' (record { answer = r; stage = t'.stage }) is p.5
-    at_stage approval latest (Sleeping tries due) t' h h' w w' r is p =
-        proceeds home timeout retry approval t'.latest p.0.alive (Sleeping tries due) p.1 h' w w' (record { answer = r; stage = t'.stage }) is p.5
-    at_stage approval latest Done t' h h' w w' r is p =
-        (p.3 ∙ is, known Known GivenBack (record { answer = r; stage = t'.stage }) p.0 tt)
+    at_stage : (approval : Key) (latest : Moment) (stage : Stage C N A) (t' : Replenish C N A) (x x' : Joined (PoolOpener M S Z K) H) (r : ReplenishAnswer E) → IsBy x
+        → replenishing.Polls (joined_tasks home) (joined_opener (pool_opener z sinks tells shared)) timeout retry at
+        (record { approval = approval; latest = latest; stage = stage }) x r t' x'
+        → IsBy x' × Told Known r
+    at_stage approval latest Start t' x x' r is p =
+        proceeds home timeout retry approval t'.latest p.0.alive Start p.1 x' (record { answer = r; stage = t'.stage }) (p.2.1 ∙ is) p.5
+    at_stage approval latest (Connecting tries v) t' x x' r is p =
+        proceeds home timeout retry approval t'.latest p.0.alive (Connecting tries v) p.1 x' (record { answer = r; stage = t'.stage }) (p.2.1 ∙ is) p.5
+    at_stage approval latest (Acquiring tries c a) t' x x' r is p =
+        proceeds home timeout retry approval t'.latest p.0.alive (Acquiring tries c a) p.1 x' (record { answer = r; stage = t'.stage }) (p.2.1 ∙ is) p.5
+    at_stage approval latest (Sleeping tries due) t' x x' r is p =
+        proceeds home timeout retry approval t'.latest p.0.alive (Sleeping tries due) p.1 x' (record { answer = r; stage = t'.stage }) (p.2.1 ∙ is) p.5
+    at_stage approval latest Done t' x x' r is p =
+        (still x x' p.2 is, known Known GivenBack (record { answer = r; stage = t'.stage }) p.0 tt)
 
-    polled : (t t' : Replenish C N A) (h h' : H) (w w' : PoolOpener M S Z K) (r : ReplenishAnswer E) → w ≡ calls
-        → replenishing.Polls home (pool_opener z sinks tells shared) timeout retry at t h w r t' h' w' → (w' ≡ calls) × Told Known r
-    polled t t' h h' w w' r is p = at_stage t.approval t.latest t.stage t' h h' w w' r is p
+    polled : (t t' : Replenish C N A) (x x' : Joined (PoolOpener M S Z K) H) (r : ReplenishAnswer E) → IsBy x
+        → replenishing.Polls (joined_tasks home) (joined_opener (pool_opener z sinks tells shared)) timeout retry at t x r t' x' → IsBy x' × Told Known r
+    polled t t' x x' r is p = at_stage t.approval t.latest t.stage t' x x' r is p
 
 module _ {M S Z K R L C E N V A : Type 0} {manager : ManagerOf M C E N V} {d : DebugOf E} {l : PartsOf L} (z : CustomizerOf Z C E A) (sinks : S → E → Type 0)
     (tells : K → Moment → Type 0) (shared : Shared M S Z K R L C E N V manager d l) where
   -- a round of a pool's first tasks that failed had its error of the pool's manager or its customizer
   pub round_failed : (tasks : List (Replenish C N A)) (r : Round (List (Replenish C N A)) E) → OwnRounds z sinks tells shared tasks r
       → Ended (λ e. IsBuildError (manager.connect_answers shared.manager) (z.acquire_answers shared.customizer) (User e)) r
-  round_failed tasks r (calls, calls', are, (at, w1, (told, same), (h, h', free, rounds))) =
+  round_failed tasks r (calls, are, (x, x', of, free, (at, x1, told, rounds))) =
       rw (sym are.0, sym are.2) (ended
-      (replenishing.Polls (link_tasks locked_tasks) (pool_opener z sinks tells shared) (as_nanos shared.config.connection_timeout) shared.config.retry_connection at)
-      (pool_reports z sinks tells shared).sinks (Known z sinks tells shared calls) calls
+      (replenishing.Polls (joined_tasks (link_tasks locked_tasks)) (joined_opener (pool_opener z sinks tells shared)) (as_nanos shared.config.connection_timeout)
+      shared.config.retry_connection at)
+      (joined_reports (pool_reports z sinks tells shared)).sinks (Known z sinks tells shared calls) (IsBy z sinks tells shared calls)
       (polled z sinks tells shared calls (link_tasks locked_tasks) (as_nanos shared.config.connection_timeout) shared.config.retry_connection at)
-      (λ w w' e is sunk. sunk.1 ∙ is)
-      (replenishing.LetsGo (link_tasks locked_tasks) (pool_opener z sinks tells shared) at)
-      tasks h h' w1 calls' r same rounds)
+      (λ y y' e is sunk. sunk.0.1 ∙ is)
+      (replenishing.LetsGo (joined_tasks (link_tasks locked_tasks)) (joined_opener (pool_opener z sinks tells shared)) at)
+      tasks x1 x' r (told.0.1 ∙ of) rounds)

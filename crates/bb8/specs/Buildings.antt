@@ -25,8 +25,7 @@ use Rattle.bb8.specs.declared.building.Building.{Building}
 use Rattle.bb8.specs.declared.building.Plan.{Plan}
 use Rattle.bb8.specs.declared.pool.Pool.{Pool}
 use Rattle.bb8.specs.Choices.{Choices}
-use Rattle.bb8.specs.Handles.{Leaves}
-use Rattle.bb8_shared.specs.Linked.{Answers}
+use Rattle.bb8_shared.specs.Linked.{Answers, OwnLeaves}
 use Rattle.bb8_shared.specs.Opening.{OwnRounds, OwnDropsTasks}
 use Rattle.bb8.specs.Pools.{clock_in, customizer_in, made_in, manager_in, settings_in, sink_in}
 
@@ -57,7 +56,7 @@ module _ {M S Z K R L C E N V A : Type 0} {m : ManagerOf M C E N V} {d : DebugOf
     (tells : K → Moment → Type 0) where
   -- where the first connections of a pool failed the pool is dropped
   abbrev pub AfterFirst : Pool M S Z K R L C E N V A m d l → Round (List (Replenish C N A)) E → Type 0
-  AfterFirst pool (Failed e) = Leaves tells (arc_value pool.shared)
+  AfterFirst pool (Failed e) = OwnLeaves sinks tells (arc_value pool.shared)
   AfterFirst pool Complete = ⊤
   AfterFirst pool (Going tasks) = ⊤
 
@@ -82,7 +81,7 @@ module _ {M S Z K R L C E N V A : Type 0} {m : ManagerOf M C E N V} {d : DebugOf
   -- a building that stands here is let go: its tasks are, and its pool is dropped
   abbrev pub EndsAt : Site (Plan M S Z K R L l p) (Pool M S Z K R L C E N V A m d l) (List (Replenish C N A)) → Type 0
   EndsAt (Planned plan) = ⊤
-  EndsAt (Opening pool tasks) = OwnDropsTasks z sinks tells (arc_value pool.shared) tasks × Leaves tells (arc_value pool.shared)
+  EndsAt (Opening pool tasks) = OwnDropsTasks z sinks tells (arc_value pool.shared) tasks × OwnLeaves sinks tells (arc_value pool.shared)
   EndsAt Done = ⊤
 
   abbrev pub CancelsBuilding : Building M S Z K R L C E N V A m d l p → Type 0

@@ -1,20 +1,24 @@
 -- What callers see of a driver: what it begins with, its turns, and a run of turns.
-use Rattle.std.specs.Prelude.{◌≡◌, ℕ, ◌+◌, ◌-◌, ◌^◌, min, Bool, true, false}
+use Rattle.std.specs.Prelude.{◌≡◌, ℕ, ◌+◌, ◌-◌, ◌^◌, min, Bool, true, false, None}
 use Rattle.std.specs.Arc.{arc_value}
 use Rattle.std.specs.declared.fmt.Debug.{Ghosts as DebugOf}
 use Rattle.bb8_types.specs.declared.api.customizers.CustomizeConnection.{Ghosts as CustomizerOf}
 use Rattle.bb8_types.specs.declared.api.managers.ManageConnection.{Ghosts as ManagerOf}
 use Rattle.bb8_types.specs.declared.api.moments.Moment.{Moment}
+use Rattle.bb8_core.specs.declared.joined.Joined.{Joined}
 use Rattle.bb8_tasks.specs.declared.opener.Opener.{Ghosts as OpenerOf}
 use Rattle.bb8_tasks.specs.declared.opener.PoolOpener.{PoolOpener}
 use Rattle.bb8_tasks.specs.declared.rounds.Reports.{Ghosts as ReportsOf}
+use Rattle.bb8_tasks.specs.Joined.{joined_reports}
 use Rattle.bb8_turns.specs.declared.turning.Turn.{Turn}
 use Rattle.bb8_turns.specs.declared.turning.Turning.{Turning}
 use Rattle.bb8_turns.specs.Turns.{is_ended, Begins}
+use Rattle.bb8_locked.specs.declared.locked.Locked.{Locked}
 use Rattle.bb8_locked.specs.declared.locked.Parts.{Ghosts as PartsOf}
+use Rattle.bb8_shared.specs.declared.link.LinkHome.{LinkHome}
 use Rattle.bb8_shared.specs.declared.shared.Shared.{Shared}
 use Rattle.bb8_shared.specs.Opening.{pool_opener, pool_reports, AreOpenersOf}
-use Rattle.bb8_shared.specs.Turning.{LinkTurns, OwnTurns}
+use Rattle.bb8_shared.specs.Turning.{OwnTurns, TurnsOn}
 use Rattle.bb8.specs.declared.driver.Driver.{Driver}
 use Rattle.bb8.specs.declared.driver.Driven.{Driven}
 use Rattle.bb8.specs.declared.pool.Pool.{Pool}
@@ -38,13 +42,15 @@ pub data Runs {T G : Type 0} (step : T → Turn → T → Type 0) (pauses : G �
 module _ {M S Z K R L C E N V A W : Type 0} {m : ManagerOf M C E N V} {d : DebugOf E} {l : PartsOf L} (opener : OpenerOf W C E N A) (reports : ReportsOf W E)
     (shared : Shared M S Z K R L C E N V m d l) where
   -- the clock is read, and a turn made at that moment
-  abbrev pub LinkTurnsNow : Turning C N A × W → Turn → Turning C N A × W → Type 0
+  abbrev pub LinkTurnsNow : Turning C N A × Joined W (LinkHome (Locked C L l) R) → Turn → Turning C N A × Joined W (LinkHome (Locked C L l) R) → Type 0
   LinkTurnsNow before turn after =
-      (at : Moment) × (w : W) × reports.tells before.1 at w × LinkTurns opener reports shared at before.0 w turn after.0 after.1
+      (at : Moment) × (x : Joined W (LinkHome (Locked C L l) R)) × (joined_reports reports).tells before.1 at x
+      × TurnsOn opener reports shared at before.0 x turn after.0 after.1
 
-  -- a run of such turns
+  -- a run of such turns, before which the pool's lock is free
   abbrev pub LinkRuns : {G : Type 0} → (G → Bool → G → Type 0) → Turning C N A → W → G → Driven → Type 0
-  LinkRuns pauses turning w gate d = Runs LinkTurnsNow pauses (turning, w) gate 0 d
+  LinkRuns pauses turning w gate d =
+      (x : Joined W (LinkHome (Locked C L l) R)) × (x.outside ≡ w) × (x.home.held ≡ None) × Runs LinkTurnsNow pauses (turning, x) gate 0 d
 
 module _ {M S Z K R L C E N V A : Type 0} {m : ManagerOf M C E N V} {d : DebugOf E} {l : PartsOf L} where
   -- whether a driver has ended

@@ -1,4 +1,4 @@
--- The handles of a pool: one more is made, and one leaves.
+-- The handles of a pool: how one more is made.
 use Rattle.std.specs.Prelude.{◌≡◌, Result, Ok, Err, ⊤}
 use Rattle.std.specs.Arc.{arc_value}
 use Rattle.std.specs.declared.fmt.Debug.{Ghosts as DebugOf}
@@ -6,16 +6,15 @@ use Rattle.bb8_types.specs.declared.api.errors.RunError.{RunError}
 use Rattle.bb8_types.specs.declared.api.errors.RunError.TheVariants as errors
 use Rattle.bb8_types.specs.declared.api.managers.ManageConnection.{Ghosts as ManagerOf}
 use Rattle.bb8_types.specs.declared.api.moments.Moment.{Moment}
-use Rattle.bb8_types.specs.Settings.{settings_of}
 use Rattle.bb8_locked.specs.declared.locked.Parts.{Ghosts as PartsOf}
-use Rattle.bb8_locked.specs.declared.locked.handles.Joining.{Joining}
-use Rattle.bb8_locked.specs.declared.locked.handles.Joining.TheVariants as joining
-use Rattle.bb8_shared.specs.Handles.{IsJoining, IsLeaving}
+use Rattle.bb8_locked.specs.declared.handles.Joining.{Joining}
+use Rattle.bb8_locked.specs.declared.handles.Joining.TheVariants as joining
+use Rattle.bb8_shared.specs.Linked.{OwnJoins}
 use Rattle.bb8.specs.declared.handles.Holding.{Holding}
 use Rattle.bb8.specs.declared.pool.Pool.{Pool}
 use Rattle.bb8_shared.specs.declared.shared.Shared.{Shared}
 
-module _ {M S Z K R L C E N V : Type 0} {m : ManagerOf M C E N V} {d : DebugOf E} {l : PartsOf L} (tells : K → Moment → Type 0) where
+module _ {M S Z K R L C E N V : Type 0} {m : ManagerOf M C E N V} {d : DebugOf E} {l : PartsOf L} (sinks : S → E → Type 0) (tells : K → Moment → Type 0) where
   -- What is told of the making of a handle: one more is of the same pool. Where as many are alive as may be, or none is, it is refused.
   abbrev pub IsToldHandle : Shared M S Z K R L C E N V m d l → Joining → Result (Holding M S Z K R L C E N V m d l) (RunError E) → Type 0
   IsToldHandle shared (joining.Joined handle) (Ok holding) = arc_value holding.shared ≡ shared
@@ -28,14 +27,10 @@ module _ {M S Z K R L C E N V : Type 0} {m : ManagerOf M C E N V} {d : DebugOf E
   abbrev pub IsHandleOf : Shared M S Z K R L C E N V m d l → Result (Holding M S Z K R L C E N V m d l) (RunError E) → Type 0
   IsHandleOf shared (Err errors.Memory) = ⊤
   IsHandleOf shared result =
-      (answer : Joining) × IsJoining C (tells shared.clock) (settings_of shared.config) answer × IsToldHandle shared answer result
+      (answer : Joining) × OwnJoins sinks tells shared answer × IsToldHandle shared answer result
 
-  -- a handle of the pool leaves, at a reading of its clock
-  abbrev pub Leaves : Shared M S Z K R L C E N V m d l → Type 0
-  Leaves shared = IsLeaving C (tells shared.clock) (settings_of shared.config)
-
-module _ {M S Z K R L C E N V A : Type 0} {m : ManagerOf M C E N V} {d : DebugOf E} {l : PartsOf L} (tells : K → Moment → Type 0) where
+module _ {M S Z K R L C E N V A : Type 0} {m : ManagerOf M C E N V} {d : DebugOf E} {l : PartsOf L} (sinks : S → E → Type 0) (tells : K → Moment → Type 0) where
   -- the making of one more handle, as the caller has it
   abbrev pub IsClone : Pool M S Z K R L C E N V A m d l → Result (Pool M S Z K R L C E N V A m d l) (RunError E) → Type 0
-  IsClone pool (Ok clone) = IsHandleOf tells (arc_value pool.shared) (Ok (record { shared = clone.shared; handle = clone.handle }))
-  IsClone pool (Err e) = IsHandleOf tells (arc_value pool.shared) (Err e)
+  IsClone pool (Ok clone) = IsHandleOf sinks tells (arc_value pool.shared) (Ok (record { shared = clone.shared; handle = clone.handle }))
+  IsClone pool (Err e) = IsHandleOf sinks tells (arc_value pool.shared) (Err e)

@@ -14,13 +14,11 @@ pub use Rattle.bb8_types.specs.Settings
 pub use Rattle.bb8_gets.specs.Homes
 pub use Rattle.bb8_gets.specs.Polls
 pub use Rattle.bb8_gets.specs.Told
+pub use Rattle.bb8_locked.specs.Chains
 pub use Rattle.bb8_locked.specs.Parts
 pub use Rattle.bb8_locked.specs.Sections
-pub use Rattle.bb8_shared.specs.Addings
 pub use Rattle.bb8_shared.specs.Linked
 pub use Rattle.bb8_shared.specs.Opening
-pub use Rattle.bb8_shared.specs.Returns
-pub use Rattle.bb8_shared.specs.States
 pub use Rattle.bb8_shared.specs.Turning
 pub use Rattle.bb8_tasks.specs.Bounded
 pub use Rattle.bb8_tasks.specs.Building

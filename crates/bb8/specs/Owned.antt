@@ -18,8 +18,8 @@ use Rattle.bb8.specs.declared.owned.GetOwnedFuture.{GetOwnedFuture}
 use Rattle.bb8.specs.declared.owned.Owning.{Owning}
 use Rattle.bb8.specs.declared.owned.Owning.TheVariants.{Refused, Open}
 use Rattle.bb8.specs.declared.pool.Pool.{Pool}
-use Rattle.bb8.specs.Handles.{IsHandleOf, Leaves}
-use Rattle.bb8_shared.specs.Linked.{Answers, OwnPolls, OwnCancels}
+use Rattle.bb8.specs.Handles.{IsHandleOf}
+use Rattle.bb8_shared.specs.Linked.{Answers, OwnCancelsAndLeaves, OwnLeaves, OwnPolls}
 
 module _ {M S Z K R L C E N V A : Type 0} {m : ManagerOf M C E N V} {d : DebugOf E} {l : PartsOf L} where
   -- a guard with this connection in place of its own
@@ -28,24 +28,24 @@ module _ {M S Z K R L C E N V A : Type 0} {m : ManagerOf M C E N V} {d : DebugOf
 
 -- What the steps of such a get do with its handle.
 module _ {M S Z K R L C E N V : Type 0} {m : ManagerOf M C E N V} {d : DebugOf E} {l : PartsOf L} (sinks : S → E → Type 0) (tells : K → Moment → Type 0) where
-  -- a get with a handle of its own is let go: it is given up, where it began and was not answered, and the handle leaves
+  -- a get with a handle of its own is let go: it is given up, where it began and was not answered, and then the handle leaves
   abbrev pub CancelsOwning : Option (Owning M S Z K R L C E N V m d l) → Type 0
   CancelsOwning None = ⊤
   CancelsOwning (Some (Refused e)) = ⊤
-  CancelsOwning (Some (Open holding get)) = OwnCancels sinks tells (arc_value holding.shared) get.stage × Leaves tells (arc_value holding.shared)
+  CancelsOwning (Some (Open holding get)) = OwnCancelsAndLeaves sinks tells (arc_value holding.shared) get.stage
 
-module _ {M S Z K R L C E N V A : Type 0} {m : ManagerOf M C E N V} {d : DebugOf E} {l : PartsOf L} (tells : K → Moment → Type 0) where
+module _ {M S Z K R L C E N V A : Type 0} {m : ManagerOf M C E N V} {d : DebugOf E} {l : PartsOf L} (sinks : S → E → Type 0) (tells : K → Moment → Type 0) where
   -- how a get with a handle of its own begins: the handle is made, or refused
   abbrev pub BeginsOwning : Pool M S Z K R L C E N V A m d l → Option (Owning M S Z K R L C E N V m d l) → Type 0
   BeginsOwning pool None = ⊥
-  BeginsOwning pool (Some (Refused e)) = IsHandleOf tells (arc_value pool.shared) (Err e)
-  BeginsOwning pool (Some (Open holding get)) = IsHandleOf tells (arc_value pool.shared) (Ok holding) × (get.stage ≡ Fresh)
+  BeginsOwning pool (Some (Refused e)) = IsHandleOf sinks tells (arc_value pool.shared) (Err e)
+  BeginsOwning pool (Some (Open holding get)) = IsHandleOf sinks tells (arc_value pool.shared) (Ok holding) × (get.stage ≡ Fresh)
 
 module _ {M S Z K R L C E N V A : Type 0} {m : ManagerOf M C E N V} {d : DebugOf E} {l : PartsOf L} (sinks : S → E → Type 0) (tells : K → Moment → Type 0) where
   -- After a poll on the pool's lock. A guard takes the handle along; with an error the handle leaves.
   abbrev pub AfterOwned : Holding M S Z K R L C E N V m d l → GetState C V (Part L) → Poll (Result (Taken C (Part L)) (RunError E)) → Poll (Result (OwnedConnection M S Z K R L C E N V A m d l) (RunError E)) → Option (Owning M S Z K R L C E N V m d l) → Type 0
   AfterOwned holding get Pending r after = (r ≡ Pending) × (after ≡ Some (Open holding get))
-  AfterOwned holding get (Ready (Err e)) r after = (r ≡ Ready (Err e)) × (after ≡ None) × Leaves tells (arc_value holding.shared)
+  AfterOwned holding get (Ready (Err e)) r after = (r ≡ Ready (Err e)) × (after ≡ None) × OwnLeaves sinks tells (arc_value holding.shared)
   AfterOwned holding get (Ready (Ok taken)) r after = (r ≡ Ready (Ok (record { holding = holding; taken = taken }))) × (after ≡ None)
 
   -- a poll of the get: what stood before its answer, what it answers, and what stands then

@@ -7,7 +7,7 @@ use crate::Builder;
 use crate::pool::{Cancel, Pool};
 use bb8_core::api::{Clock, CustomizeConnection, ErrorSink, ManageConnection, Memory, RunError};
 use bb8_core::internals::Grant;
-use bb8_locked::{NewPool, Parts, begin_pool};
+use bb8_locked::{NewPool, Parts, SectionHome, begin_pool};
 use bb8_shared::{Locks, Opens, Shared};
 use bb8_tasks::PoolOpener;
 pub use bb8_tasks::{Built, Replenish, Round, Site, Tasks};
@@ -226,13 +226,13 @@ impl<
             Site::Planned(plan) => drop(plan),
             Site::Opening(pool, tasks) => {
                 let shared = &*pool.shared;
-                let mut calls = PoolOpener::new(
+                let calls = PoolOpener::new(
                     &shared.manager,
                     &shared.error_sink,
                     &shared.customizer,
                     &shared.clock,
                 );
-                shared.drop_tasks(&mut calls, tasks);
+                shared.drop_tasks(calls, tasks);
             }
             Site::Done => {}
         }
@@ -336,13 +336,13 @@ impl<
             result.answer result.site }
     {
         let shared = &*self.shared;
-        let mut calls = PoolOpener::new(
+        let calls = PoolOpener::new(
             &shared.manager,
             &shared.error_sink,
             &shared.customizer,
             &shared.clock,
         );
-        match shared.open_first(&mut calls, tasks) {
+        match shared.open_first(calls, tasks) {
             Round::Failed(error) => Built {
                 answer: Poll::Ready(Err(RunError::User(error))),
                 site: Site::Done,
@@ -442,7 +442,8 @@ impl<
 
     /// One poll. It is pending while openings go on, and after its answer.
     fn poll(&mut self, cx: &mut Context<'_>) -> Poll<Self::Output>
-        ensures table { PollsBuilding Z.CustomizeConnection S.sinks K.tells self.old result self.new }
+        ensures table { PollsBuilding Z.CustomizeConnection S.sinks K.tells self.old result
+            self.new }
         ensures value { IfReady result (λ out.
             GivesBuilding Z.CustomizeConnection S.sinks K.tells self.old out) }
         ensures again { OnPending result ⊤ }

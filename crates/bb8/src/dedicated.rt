@@ -169,7 +169,8 @@ impl<
 
     /// One poll at the greatest reading of the clock so far. It is pending while the manager or the customizer is, and after its answer.
     fn poll(&mut self, cx: &mut Context<'_>) -> Poll<Self::Output>
-        ensures table { PollsDedicated Z.CustomizeConnection S.sinks K.tells self.old result self.new }
+        ensures table { PollsDedicated Z.CustomizeConnection S.sinks K.tells self.old result
+            self.new }
         ensures pool { self.new.shared.now ≡ self.old.shared.now }
         ensures value { IfReady result (λ out.
             GivesDedicated Z.CustomizeConnection S.sinks K.tells self.old out) }

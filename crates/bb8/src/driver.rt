@@ -4,9 +4,10 @@ ghost use Rattle.std.specs.Arc.{arc_value};
 ghost use Rattle.bb8.specs.Drivers.{has_ended, IsDriverOf};
 
 use crate::pool::Pool;
+use bb8_core::Joined;
 use bb8_core::api::{Clock, CustomizeConnection, ErrorSink, ManageConnection, Memory, Moment};
 use bb8_locked::{Parts, PoolParts};
-use bb8_shared::{Drives, Locks, Shared};
+use bb8_shared::{Drives, LinkHome, Locks, Shared};
 use bb8_tasks::{Opener, PoolOpener, Reports};
 pub use bb8_turns::Turn;
 use bb8_turns::Turning;
@@ -102,13 +103,13 @@ impl<
         ensures stays { has_ended self.old ≡ true → result.ended ≡ true }
     {
         let pool = &*self.shared;
-        let mut calls = PoolOpener::new(
+        let calls = PoolOpener::new(
             &pool.manager,
             &pool.error_sink,
             &pool.customizer,
             &pool.clock,
         );
-        pool.turn_with(&mut calls, &mut self.turning, moment)
+        pool.turn_with(calls, &mut self.turning, moment)
     }
 }
 
@@ -152,42 +153,42 @@ impl<
 /// Runs of turns over any calls outside, as a method of an impl, so that a thread can make one.
 trait RunsWith<C, E, V, A> {
     /// Turns, each at a reading of the clock, until one has ended or the gate does not pause.
-    fn run_with<W: Opener<C, E, Connecting = V, Acquiring = A> + Reports<E>, G: Gate>(
+    fn run_with<W: Opener<C, E, Connecting = V, Acquiring = A> + Reports<E> + Drop, G: Gate>(
         &self,
-        outside: &mut W,
+        outside: W,
         turning: &mut Turning<C, V, A>,
         gate: &mut G,
     ) -> Driven;
 }
 
-impl<
-    M: ManageConnection,
-    S,
-    Z,
-    K,
-    R: Wait + Send + Sync + Drop + 'static,
-    L: Parts,
-    A: Drop,
-> RunsWith<M::Connection, M::Error, M::Connecting, A> for Shared<M, S, Z, K, R, L> {
+impl<M: ManageConnection, S, Z, K, R: Wait + Send + Sync + Drop + 'static, L: Parts, A> RunsWith<
+    M::Connection,
+    M::Error,
+    M::Connecting,
+    A,
+> for Shared<M, S, Z, K, R, L> {
     ghost use Rattle.bb8.specs.Drivers.{LinkRuns};
 
     fn run_with<
         W: Opener<M::Connection, M::Error, Connecting = M::Connecting, Acquiring = A>
-            + Reports<M::Error>,
+            + Reports<M::Error>
+            + Drop,
         G: Gate,
     >(
         &self,
-        outside: &mut W,
+        outside: W,
         turning: &mut Turning<M::Connection, M::Connecting, A>,
         gate: &mut G,
     ) -> Driven
-        ensures { LinkRuns W.Opener W.Reports self.now G.pauses turning.old outside.old gate.old
+        ensures { LinkRuns W.Opener W.Reports self.now G.pauses turning.old outside gate.old
             result }
     {
+        let home = LinkHome::new(&self.locked, &self.rt);
+        let mut pool = Joined { outside, home };
         let mut turns: u64 = 0;
         for _ in self.rt.forever() {
-            let at = outside.now();
-            let turn = self.turn_with(outside, turning, at);
+            let at = pool.now();
+            let turn = turning.turn(at, &mut pool, &self.config);
             turns = turns.saturating_add(1);
             if turn.ended {
                 return Driven { turns, ended: true };
@@ -220,16 +221,17 @@ impl<
     ghost use Rattle.bb8.specs.Drivers.{RunsDriver};
 
     fn run_turns<G: Gate>(&mut self, gate: &mut G) -> Driven
-        ensures { RunsDriver Z.CustomizeConnection S.sinks K.tells G.pauses self.old gate.old result }
+        ensures { RunsDriver Z.CustomizeConnection S.sinks K.tells G.pauses self.old
+            gate.old result }
     {
         let pool = &*self.shared;
-        let mut calls = PoolOpener::new(
+        let calls = PoolOpener::new(
             &pool.manager,
             &pool.error_sink,
             &pool.customizer,
             &pool.clock,
         );
-        pool.run_with(&mut calls, &mut self.turning, gate)
+        pool.run_with(calls, &mut self.turning, gate)
     }
 }
 
@@ -249,13 +251,13 @@ impl<
     {
         let Driver { shared, turning } = self;
         let pool = &*shared;
-        let mut calls = PoolOpener::new(
+        let calls = PoolOpener::new(
             &pool.manager,
             &pool.error_sink,
             &pool.customizer,
             &pool.clock,
         );
-        pool.drop_turning(&mut calls, turning);
+        pool.drop_turning(calls, turning);
     }
 }
 

@@ -1,13 +1,12 @@
 //! The handles of a pool: how one more is made, and how one leaves.
 ghost use Rattle.std.specs.Prelude.{◌≡◌};
 ghost use Rattle.std.specs.Arc.{arc_value};
-ghost use Rattle.bb8_types.specs.Settings.{settings_of};
 
 use crate::pool::{Pool, PoolCalls};
 use bb8_core::api::{Clock, CustomizeConnection, ErrorSink, ManageConnection, RunError};
 use bb8_gets::Calls;
 use bb8_locked::{Handle, Joining, Parts};
-use bb8_shared::{Locks, OnHandles, Shared};
+use bb8_shared::{Locks, OnShared, Shared};
 use std::alloc::Global;
 use std::sync::{Arc, Wait};
 
@@ -38,14 +37,14 @@ impl<
     type Joined = Result<Holding<M, S, Z, K, R, L>, RunError<M::Error>>;
 
     fn join(self) -> Result<Holding<M, S, Z, K, R, L>, RunError<M::Error>>
-        ensures { IsHandleOf K.tells (arc_value self.now.shared) result }
+        ensures { IsHandleOf S.sinks K.tells (arc_value self.now.shared) result }
     {
         let Ok(shared) = Arc::try_clone(&self.shared) else {
             return Err(RunError::Memory);
         };
         let pool = &*self.shared;
-        let mut calls = Calls::new(&pool.manager, &pool.error_sink, &pool.clock);
-        match pool.count_one(&mut calls) {
+        let calls = Calls::new(&pool.manager, &pool.error_sink, &pool.clock);
+        match pool.count_one(calls) {
             Joining::Joined(handle) => Ok(Holding { shared, handle }),
             Joining::Exhausted | Joining::Unfit => Err(RunError::Exhausted),
         }
@@ -67,7 +66,7 @@ impl<
     /// It answers `Exhausted` where 4,294,967,295 handles are alive, and `Memory` where sharing the pool was refused memory; the pool is
     /// then as before. Upstream's `Clone`, which refuses nothing.
     pub fn try_clone(&self) -> Result<Self, RunError<M::Error>>
-        ensures { IsClone K.tells self.now result }
+        ensures { IsClone S.sinks K.tells self.now result }
     {
         PoolCalls::try_clone(self)
     }

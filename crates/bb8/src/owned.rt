@@ -7,7 +7,7 @@ use crate::pool::{Cancel, Pool, PoolCalls};
 use bb8_core::api::{Clock, CustomizeConnection, ErrorSink, ManageConnection, RunError};
 use bb8_gets::{Calls, GetState, Taken};
 use bb8_locked::{Part, Parts};
-use bb8_shared::{Gets, Locks, OnHandles, Returns};
+use bb8_shared::{Gets, Locks, OnShared};
 use futures::Future;
 use futures::task::{Context, Poll};
 use std::fmt::{Debug, Formatter};
@@ -87,8 +87,7 @@ impl<
     R: Locks,
     L: Parts,
 > Owns for Holding<M, S, Z, K, R, L> {
-    ghost use Rattle.bb8.specs.Handles.{Leaves as HandleLeaves};
-    ghost use Rattle.bb8_shared.specs.Linked.{OwnCancels, OwnPolls, OwnReturns};
+    ghost use Rattle.bb8_shared.specs.Linked.{OwnCancels, OwnCancelsAndLeaves, OwnLeaves, OwnPolls, OwnReturnsAndLeaves};
 
     type Get = GetState<M::Connection, M::Checking, Part<L>>;
 
@@ -117,30 +116,30 @@ impl<
     }
 
     fn cancel_owned(self, get: GetState<M::Connection, M::Checking, Part<L>>)
-        ensures get { OwnCancels S.sinks K.tells (arc_value self.shared) get.stage }
-        ensures handle { HandleLeaves K.tells (arc_value self.shared) }
-    {
-        self.let_go(get);
-        self.leave_owned();
-    }
-
-    fn give_back_owned(self, taken: Taken<M::Connection, Part<L>>)
-        ensures connection { OwnReturns S.sinks K.tells (arc_value self.shared) taken }
-        ensures handle { HandleLeaves K.tells (arc_value self.shared) }
-    {
-        let shared = &*self.shared;
-        let mut calls = Calls::new(&shared.manager, &shared.error_sink, &shared.clock);
-        shared.give_back(&mut calls, taken);
-        self.leave_owned();
-    }
-
-    fn leave_owned(self)
-        ensures { HandleLeaves K.tells (arc_value self.shared) }
+        ensures { OwnCancelsAndLeaves S.sinks K.tells (arc_value self.shared) get.stage }
     {
         let Holding { shared, handle } = self;
         let pool = &*shared;
-        let mut calls = Calls::new(&pool.manager, &pool.error_sink, &pool.clock);
-        pool.leave(&mut calls, handle);
+        let calls = Calls::new(&pool.manager, &pool.error_sink, &pool.clock);
+        pool.cancel_and_leave(calls, get, handle);
+    }
+
+    fn give_back_owned(self, taken: Taken<M::Connection, Part<L>>)
+        ensures { OwnReturnsAndLeaves S.sinks K.tells (arc_value self.shared) taken }
+    {
+        let Holding { shared, handle } = self;
+        let pool = &*shared;
+        let calls = Calls::new(&pool.manager, &pool.error_sink, &pool.clock);
+        pool.give_back_and_leave(calls, taken, handle);
+    }
+
+    fn leave_owned(self)
+        ensures { OwnLeaves S.sinks K.tells (arc_value self.shared) }
+    {
+        let Holding { shared, handle } = self;
+        let pool = &*shared;
+        let calls = Calls::new(&pool.manager, &pool.error_sink, &pool.clock);
+        pool.leave(calls, handle);
     }
 }
 
@@ -202,14 +201,16 @@ impl<
                     owning: Some(Owning::Open(holding, get)),
                 },
                 Poll::Ready(Err(error)) => {
-                    holding.cancel_owned(get);
+                    // The get was answered: to let it go calls nothing.
+                    holding.let_go(get);
+                    holding.leave_owned();
                     Stood {
                         answer: Poll::Ready(Err(error)),
                         owning: None,
                     }
                 }
                 Poll::Ready(Ok(taken)) => {
-                    // The get was answered: to let it go calls nothing.
+                    // As above.
                     holding.let_go(get);
                     Stood {
                         answer: Poll::Ready(Ok(OwnedConnection { holding, taken })),
@@ -252,7 +253,7 @@ impl<
     type Get = GetOwnedFuture<M, S, Z, K, R, L>;
 
     fn start_owned(self) -> GetOwnedFuture<M, S, Z, K, R, L>
-        ensures { BeginsOwning K.tells self.now result.owning }
+        ensures { BeginsOwning S.sinks K.tells self.now result.owning }
     {
         let owning = match self.join() {
             Ok(holding) => Owning::Open(holding, GetState::new()),
@@ -279,7 +280,7 @@ impl<
     ///
     /// A handle that is refused, as by `try_clone`, is the answer of the first poll, and then no get begins.
     pub fn get_owned(&self) -> GetOwnedFuture<M, S, Z, K, R, L>
-        ensures { BeginsOwning K.tells self.now result.owning }
+        ensures { BeginsOwning S.sinks K.tells self.now result.owning }
     {
         PoolCalls::get_owned(self)
     }
@@ -387,12 +388,10 @@ impl<
     R: Locks,
     L: Parts,
 > Drop for OwnedConnection<M, S, Z, K, R, L> {
-    ghost use Rattle.bb8.specs.Handles.{Leaves as HandleLeaves};
-    ghost use Rattle.bb8_shared.specs.Linked.{OwnReturns};
+    ghost use Rattle.bb8_shared.specs.Linked.{OwnReturnsAndLeaves};
 
     fn drop(self)
-        ensures connection { OwnReturns S.sinks K.tells (arc_value self.holding.shared) self.taken }
-        ensures handle { HandleLeaves K.tells (arc_value self.holding.shared) }
+        ensures { OwnReturnsAndLeaves S.sinks K.tells (arc_value self.holding.shared) self.taken }
     {
         let OwnedConnection { holding, taken } = self;
         holding.give_back_owned(taken);

@@ -4,8 +4,7 @@ ghost use Rattle.std.specs.Arc.{arc_value};
 ghost use Rattle.bb8_types.specs.declared.grants.Grant.{Grant as GrantOf};
 ghost use Rattle.bb8_types.specs.Settings.{settings_of, default_settings, is_lawful};
 ghost use Rattle.bb8_locked.specs.Parts.{IsBlankOf, HasBegun};
-ghost use Rattle.bb8_shared.specs.Addings.{IsAdding};
-ghost use Rattle.bb8_shared.specs.States.{IsShown};
+ghost use Rattle.bb8_shared.specs.Linked.{OwnAdds, OwnShows};
 
 use crate::Builder;
 use crate::building::{MakesPool, Plan};
@@ -19,7 +18,7 @@ use bb8_core::api::{
 };
 use bb8_gets::{Calls, Taken};
 use bb8_locked::{Handle, Part, Parts};
-use bb8_shared::{Locks, OnShared, Returns, Shared};
+use bb8_shared::{Locks, OnShared, Shared};
 use std::alloc::Global;
 use std::fmt;
 use std::fmt::{Debug, Formatter};
@@ -221,7 +220,7 @@ impl<
     }
 
     fn get_owned(self) -> GetOwnedFuture<M, S, Z, K, R, L>
-        ensures { BeginsOwning K.tells self.now result.owning }
+        ensures { BeginsOwning S.sinks K.tells self.now result.owning }
     {
         self.start_owned()
     }
@@ -234,27 +233,25 @@ impl<
     }
 
     fn add(self, conn: M::Connection) -> Result<(), AddError<M::Connection>>
-        ensures { IsAdding (M.breaks (manager_in self.now)) (K.tells (clock_in self.now))
-            (settings_in self.now) conn result }
+        ensures { OwnAdds S.sinks K.tells (arc_value self.now.shared) conn result }
     {
         let shared = &*self.shared;
-        let mut calls = Calls::new(&shared.manager, &shared.error_sink, &shared.clock);
-        shared.add_with(&mut calls, conn)
+        let calls = Calls::new(&shared.manager, &shared.error_sink, &shared.clock);
+        shared.add_with(calls, conn)
     }
 
     fn state(self) -> State
-        ensures shown { IsShown M.Connection (K.tells (clock_in self.now))
-            (settings_in self.now) result }
+        ensures shown { OwnShows S.sinks K.tells (arc_value self.now.shared) result }
         ensures size { result.connections ≤ (settings_in self.now).max_size }
         ensures idle { result.idle_connections ≤ result.connections }
     {
         let shared = &*self.shared;
-        let mut calls = Calls::new(&shared.manager, &shared.error_sink, &shared.clock);
-        shared.state_with(&mut calls)
+        let calls = Calls::new(&shared.manager, &shared.error_sink, &shared.clock);
+        shared.state_with(calls)
     }
 
     fn try_clone(self) -> Result<Pool<M, S, Z, K, R, L>, RunError<M::Error>>
-        ensures { IsClone K.tells self.now result }
+        ensures { IsClone S.sinks K.tells self.now result }
     {
         match self.join() {
             Ok(Holding { shared, handle }) => Ok(Pool { shared, handle }),
@@ -283,16 +280,14 @@ impl<
     /// nobody turns a driver of the pool, also once that get was let go: then an adding may find no room although fewer connections than
     /// `max_size` are there.
     pub fn add(&self, conn: M::Connection) -> Result<(), AddError<M::Connection>>
-        ensures { IsAdding (M.breaks (manager_in self.now)) (K.tells (clock_in self.now))
-            (settings_in self.now) conn result }
+        ensures { OwnAdds S.sinks K.tells (arc_value self.now.shared) conn result }
     {
         PoolCalls::add(self, conn)
     }
 
     /// How many connections the pool has, how many of them are idle, and what has happened to it. As upstream.
     pub fn state(&self) -> State
-        ensures shown { IsShown M.Connection (K.tells (clock_in self.now))
-            (settings_in self.now) result }
+        ensures shown { OwnShows S.sinks K.tells (arc_value self.now.shared) result }
         ensures size { result.connections ≤ (settings_in self.now).max_size }
         ensures idle { result.idle_connections ≤ result.connections }
     {
@@ -336,10 +331,10 @@ impl<
     R: Locks,
     L: Parts,
 > Drop for Pool<M, S, Z, K, R, L> {
-    ghost use Rattle.bb8.specs.Handles.{Leaves as HandleLeaves};
+    ghost use Rattle.bb8_shared.specs.Linked.{OwnLeaves};
 
     fn drop(self)
-        ensures { HandleLeaves K.tells (arc_value self.shared) }
+        ensures { OwnLeaves S.sinks K.tells (arc_value self.shared) }
     {
         let Pool { shared, handle } = self;
         Holding { shared, handle }.leave_owned();
@@ -374,8 +369,8 @@ impl<
         ensures { OwnReturns S.sinks K.tells self.entry.shared.now self.entry.taken }
     {
         let PooledConnection { shared, taken } = self;
-        let mut calls = Calls::new(&shared.manager, &shared.error_sink, &shared.clock);
-        shared.give_back(&mut calls, taken);
+        let calls = Calls::new(&shared.manager, &shared.error_sink, &shared.clock);
+        shared.give_back(calls, taken);
     }
 }
 

@@ -22,23 +22,24 @@ use Rattle.bb8_types.proofs.Numbered as numbered
 use Rattle.bb8_types.specs.Bounds.{end_of_numbers}
 use Rattle.bb8_types.specs.Grants.{due}
 use Rattle.bb8_types.specs.Settings.{Settings}
+use Rattle.bb8_tables.specs.Lent.{none_lent}
 use Rattle.bb8_tables.specs.Views.{ShownRecords, NoneAfter}
 
 module _ {C : Type 0} where
   -- what a ledger shows, where nothing was lent
   abbrev pub shown : Ledger C → Shown C
-  shown l = shown_beside 0 0 l
+  shown l = shown_beside none_lent l
 
   -- a state, whatever was lent
   abbrev pub unexamined : Shown C → Shown C
-  unexamined s = record s { lent = 0; mark = 0 }
+  unexamined s = record s { lent = none_lent }
 
   -- what was lent tells nothing of the ledger
   pub bare : {s : Shown C} (l : Ledger C) → Means l s → shown l ≡ unexamined s
   bare l means = ap unexamined means
 
   pub beside : {s : Shown C} (l : Ledger C) → shown l ≡ unexamined s → Means l s
-  beside {s} l is = ap (λ (t : Shown C). record t { lent = s.lent; mark = s.mark }) is
+  beside {s} l is = ap (λ (t : Shown C). record t { lent = s.lent }) is
 
   -- the fields are what is shown
   pub as_shown : {s t : Shown C} (l : Ledger C) → s ≡ t → Means l s → Means l t

@@ -128,7 +128,7 @@ module _ {C : Type 0} where
         counts =
             counts_held (served was (max x.latest at) (first_wait_of (get x.gets.places g)));
       }) s _ at (CheckedOk g) (Served k (nothing next)) fit (is_held h, next_is, were)
-      (same_shown _ _ refl refl refl h.now_is refl rs_is gs_is
+      (same_shown _ _ refl refl h.now_is refl rs_is gs_is
       (ap counts_held (counted ∙ ap (λ (m : ℕ). served was m since) h.now_is
       ∙ ap (served was (max s.latest at)) (since_is ∙ ap (λ (x : Option Getting). first_wait_of x) h.get_is))))
       (λ l legal f known.
@@ -136,7 +136,7 @@ module _ {C : Type 0} where
       let st = held_record l g k legal held in
       let stood = holding_is (get_of l g) k held in (
         checks held (record { first = known.1; count = refl; withheld = refl }),
-        same_shown _ _ refl refl refl refl refl
+        same_shown _ _ refl refl refl refl
             (still_raised l _ _
             (shown-handed (start l).first (suc (position l)) (peak l) (records l) k st.0 st.1 st.2 ∙ ap (machine.after_handover k) (later_shown l))
             (peak_holds l)) (ended_gets l g stood.0 stood.1) (count_served l at g k (nothing next) was known.2),
@@ -158,7 +158,7 @@ module _ {C : Type 0} where
         gets = machine.after_notice n (machine.after_turn Active g t.gets);
         counts = counts_held (closed_counters (invalid_counters was) broken (decided.is_old t at k));
       }) s _ at (CheckedErr g broken) (Closed k grant n) fit (is_held h, granted, told.who, were)
-      (same_shown _ _ refl refl refl h.now_is refl rs_is told.after (ap counts_held (closed_is (invalid_counters was) broken r is_is)))
+      (same_shown _ _ refl refl h.now_is refl rs_is told.after (ap counts_held (closed_is (invalid_counters was) broken r is_is)))
       (λ l legal f known.
       let held = holds_in l g k known.0 in
       let st = held_record l g k legal held in
@@ -168,7 +168,7 @@ module _ {C : Type 0} where
       shown-turned (start l).first_get (position l) (get_peak l) (gets l) Active g stood.0 (waited_before l) (get_peak_holds l) stood.1
       (ap is_unnotified stood.2) refl in (
         check_fails held ended.0 known.2,
-        same_shown _ _ refl refl refl refl refl ended.1 (told_shown l g (get_at_place Active) true n _ turned known.2)
+        same_shown _ _ refl refl refl refl ended.1 (told_shown l g (get_at_place Active) true n _ turned known.2)
             (ap (λ (x : Counts). record x {
               broken = x.broken + one broken;
               invalid = x.invalid + 1;
@@ -258,14 +258,14 @@ module _ {C : Type 0} where
             ∙ ap (λ (x : Option Getting). machine.heir_of x (machine.after_get_end g s.gets)) get_is,
         were,
       )
-      (same_shown _ _ refl refl refl now_is refl refl (gs_is ∙ ap (machine.after_notice n) left_is) (ap counts_held (given_up_shown s at g now_is get_is since_is timed let_go)))
+      (same_shown _ _ refl refl now_is refl refl (gs_is ∙ ap (machine.after_notice n) left_is) (ap counts_held (given_up_shown s at g now_is get_is since_is timed let_go)))
       (λ l legal f known.
       let st = giving_is l g None f in
       let n_place : n ≡ cond (is_notified st.0.place) (slice_get (machine.without g (waiting l)) 0) None = known.0
       ∙ ap (λ (x : Option Getting). machine.heir_of x (machine.after_get_end g (shown l).gets))
       (sym (shown_get l (shown l) refl g) ∙ st.1) in (
         gives_up (handed_is l g st.0 n st.1 n_place ∙ ap (λ (x : Option Getting). cond (gets_stand is_notified x) (oldest_waiter l) None) (sym st.1)),
-        same_shown _ _ refl refl refl refl refl (records_kept l)
+        same_shown _ _ refl refl refl refl (records_kept l)
             (told_shown l g after_end (is_notified st.0.place) n _ (ended_gets l g st.0 st.1) n_place)
             (count_gave_up l at g reason broken n ∙ count_given_up l at g reason was known.1),
       ))
@@ -291,14 +291,14 @@ module _ {C : Type 0} where
         counts =
             counts_held (given_up reason (max t.latest at) (first_wait_of (get t.gets.places g)) was);
       }) s _ at (GiveUp g (reason_of reason) (Some c) broken) (Kept k n) fit (is_held h, closing_is broken r keep, told.who, were)
-      (same_shown _ _ refl refl refl h.now_is refl (kept_is c r rs_is) told.after
+      (same_shown _ _ refl refl h.now_is refl (kept_is c r rs_is) told.after
       (ap counts_held (given_up_shown s at g h.now_is h.get_is since_is timed let_go)))
       (λ l legal f known.
       let held = holds_in l g k known.0 in
       let st = held_record l g k legal held in
       let stood = holding_is (get_of l g) k held in (
         gives_up_kept held (closes_is l at k broken ∙ known.1) (oldest_left l g k n held known.2),
-        same_shown _ _ refl refl refl refl refl (kept_shown l at k c st.0 st.1 st.2)
+        same_shown _ _ refl refl refl refl (kept_shown l at k c st.0 st.1 st.2)
             (told_shown l g after_end true n _ (ended_gets l g stood.0 stood.1) known.2)
             (count_kept l at g k reason c broken n ∙ count_given_up l at g reason was known.3),
       ))
@@ -323,7 +323,7 @@ module _ {C : Type 0} where
         counts =
             counts_held (closed_counters (given_up reason (max t.latest at) (first_wait_of (get t.gets.places g)) was) broken (decided.is_old t at k));
       }) s _ at (GiveUp g (reason_of reason) (Some c) broken) (Closed k grant n) fit (is_held h, closing_is broken r closing, granted, told.who, were)
-      (same_shown _ _ refl refl refl h.now_is refl rs_is told.after
+      (same_shown _ _ refl refl h.now_is refl rs_is told.after
       (ap counts_held (closed_is mid broken r is_is
       ∙ ap (λ (x : Counters). closed_counters x broken (decided.is_old s at k)) (given_up_shown s at g h.now_is h.get_is since_is timed let_go))))
       (λ l legal f known.
@@ -333,7 +333,7 @@ module _ {C : Type 0} where
       let ended = ended_shown l k st.0 grant st.1 st.2 known.2 in
       let was_then : Counters = given_up reason (max (latest l) at) (first_wait_of (get (shown l).gets.places g)) was in (
         gives_up_closed held (closes_is l at k broken ∙ known.1) ended.0 (oldest_left l g k n held known.3),
-        same_shown _ _ refl refl refl refl refl ended.1 (told_shown l g after_end true n _ (ended_gets l g stood.0 stood.1) known.3)
+        same_shown _ _ refl refl refl refl ended.1 (told_shown l g after_end true n _ (ended_gets l g stood.0 stood.1) known.3)
             (count_closed l at g k reason c broken grant n
             ∙ ap (λ (x : Counts). with_closing x broken (expires l at k)) (count_given_up l at g reason was known.4)
             ∙ ap (λ (b : Bool). counts_held (closed_counters was_then broken b)) (old_shown l at k)),

@@ -5,6 +5,7 @@ use Rattle.bb8_ledger.specs.Answers.{Answer, Unfit}
 use Rattle.bb8_types.specs.declared.standing.Place.TheVariants.{Guarded, Held}
 use Rattle.bb8_ledger.specs.Ledger.{Ledger, Later, start, records, conns, idle, idle_count, out}
 use Rattle.bb8_ledger.specs.Table.{Row, waits_on, serves, takes_out, waits, checks, check_fails, gives_up_kept, gives_up_closed, keeps, returns_closed, fills, claims, opens, opens_late, fails, adds, reaps, leaves, fits, Allowed, IsLegal}
+use Rattle.bb8_tables.specs.Lent.{Lent}
 use Rattle.bb8_core.specs.Shown.{Shown, shown_beside, Meets, HasLedger}
 use Rattle.bb8_core.specs.Parts.{out_of, Moves, IsCounted}
 use Rattle.bb8_ledger.proofs.Facts.{idle_tally, conns_split}
@@ -56,9 +57,9 @@ module _ {C : Type 0} where
   out_few : (l : Ledger C) → IsLegal l → out l ≤ (start l).config.max_size
   out_few l legal = let split : conns l ≡ idle_count l + out l = conns_split (records l) in omega (arith, (all_fit l legal).size)
 
-  pub counted_at : (l : Ledger C) (at : ℕ) (e : Act C) (a : Answer) (lent mark lent_now mark_now : ℕ) → IsLegal l → Allowed l at e a
-      → IsCounted (shown_beside lent mark l) e a (shown_beside lent_now mark_now (Later l at e a))
-  counted_at l at e a lent mark lent_now mark_now legal allowed = record {
+  pub counted_at : (l : Ledger C) (at : ℕ) (e : Act C) (a : Answer) (lent lent_now : Lent) → IsLegal l → Allowed l at e a
+      → IsCounted (shown_beside lent l) e a (shown_beside lent_now (Later l at e a))
+  counted_at l at e a lent lent_now legal allowed = record {
     config = refl;
     moves = subst (λ (n : ℕ). Moves e a n (out_of (shown (Later l at e a)))) (sym (out_shown l))
         (subst (λ (n : ℕ). Moves e a (out l) n) (sym (out_shown (Later l at e a))) (moved_out l at e a legal allowed));
@@ -70,7 +71,7 @@ module _ {C : Type 0} where
   counted old at e a new h meets =
       let m = meets h.0 h.1 h.2 in
       subst (λ (s : Shown C). IsCounted s e a new) h.2
-      (subst (λ (s : Shown C). IsCounted (shown_beside old.lent old.mark h.0) e a s) m.1 (counted_at h.0 at e a old.lent old.mark new.lent new.mark h.1 m.0))
+      (subst (λ (s : Shown C). IsCounted (shown_beside old.lent h.0) e a s) m.1 (counted_at h.0 at e a old.lent new.lent h.1 m.0))
 
   -- the idle connections are among the connections
   pub idle_few : (s : Shown C) → HasLedger s → length s.records.idle ≤ s.records.conns

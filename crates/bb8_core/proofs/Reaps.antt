@@ -74,7 +74,7 @@ module _ {C : Type 0} where
         subst (λ (t : ShownRecords C). machine.IsGrant t (decided.want s.config s.handles t) grant) ended.state granted.granted,
         were,
       )
-      (same_shown _ _ refl refl refl now_is refl (granted.after ∙ ap (machine.after_grant false grant) ended.state) refl (ap counts_held is_is))
+      (same_shown _ _ refl refl now_is refl (granted.after ∙ ap (machine.after_grant false grant) ended.state) refl (ap counts_held is_is))
       (λ l legal f known.
       let here : Ended_at l at (position l) js ks = ended_at l at (position l) js ks told (entered_before l) refl known.1 in
       let next : Ended_at l at (suc (position l)) js ks = ended_at l at (suc (position l)) js ks told (before_later idle_at (records l) (position l) (entered_before l)) (later_shown l) known.1 in
@@ -85,7 +85,7 @@ module _ {C : Type 0} where
             (known.1.by_idle ∙ idle_many) (known.1.by_life ∙ here.aged)
             (want_is l to grant _ (ended_all_before (position l) (start l).first (reaped_at l at) (records l) (entered_before l))
             (ap (shown_records (start l).first (position l) (peak l)) (sym same) ∙ here.shows) known.2),
-        same_shown _ _ refl refl refl refl refl
+        same_shown _ _ refl refl refl refl
             (changed false l grant.count to _ (ap (shown_records (start l).first (suc (position l)) (peak l)) (sym same) ∙ next.shows ∙ ap (both_ended js ks) (later_shown l))) (gets_kept l)
             (ap (λ (x : Counts). record x { max_lifetime = x.max_lifetime + told.by_life; idle_timeout = x.idle_timeout + told.by_idle }) known.3),
       ))

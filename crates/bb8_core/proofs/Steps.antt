@@ -71,8 +71,8 @@ abbrev pub closed_counters : Counters → Bool → Bool → Counters
 closed_counters was broken aged = record was { broken = was.broken + one broken; max_lifetime = was.max_lifetime + one (not broken && aged) }
 
 module _ {C : Type 0} where
-  pub same_shown : (s t : Shown C) → s.lent ≡ t.lent → s.mark ≡ t.mark → s.config ≡ t.config → s.latest ≡ t.latest → s.handles ≡ t.handles → s.records ≡ t.records → s.gets ≡ t.gets → s.counts ≡ t.counts → s ≡ t
-  same_shown s t lent mark config latest handles records gets counts = λ i. record { config = config i; latest = latest i; handles = handles i; records = records i; gets = gets i; counts = counts i; lent = lent i; mark = mark i }
+  pub same_shown : (s t : Shown C) → s.lent ≡ t.lent → s.config ≡ t.config → s.latest ≡ t.latest → s.handles ≡ t.handles → s.records ≡ t.records → s.gets ≡ t.gets → s.counts ≡ t.counts → s ≡ t
+  same_shown s t lent config latest handles records gets counts = λ i. record { config = config i; latest = latest i; handles = handles i; records = records i; gets = gets i; counts = counts i; lent = lent i }
 
   -- What an event does to a state, as a fact that names the event and the answer: on each legal ledger that the state means the answer is
   -- allowed, and the ledger that it leads to shows this.
@@ -126,12 +126,12 @@ module _ {C : Type 0} where
       × (records (Later l at e a) ≡ records l) × (gets (Later l at e a) ≡ gets l))
       → IsStep s at e a (record s { latest = now; records = rs; gets = gs })
   meets_quiet Known s at e a fit known now_is rs_is gs_is quiet row =
-      meets_by Known (λ t. record t { latest = max t.latest at }) s _ at e a fit known (same_shown _ _ refl refl refl now_is refl rs_is gs_is refl)
+      meets_by Known (λ t. record t { latest = max t.latest at }) s _ at e a fit known (same_shown _ _ refl refl now_is refl rs_is gs_is refl)
       (λ l legal f k.
       let same = quiet l in
       let r = row l legal f k in (
         r.0,
-        same_shown _ _ refl refl refl same.0 same.1
+        same_shown _ _ refl refl same.0 same.1
             (ap (λ (xs : List (Numbered (Standing C))). shown_records (start l).first (suc (position l)) (max (peak l) (conns_of xs + approved_of xs)) xs) r.1 ∙ records_kept l)
             (ap (λ (xs : List (Numbered Getting)). shown_gets (start l).first_get (suc (position l)) (max (get_peak l) (alive_of xs)) xs) r.2 ∙ gets_kept l)
             same.2,
@@ -194,10 +194,10 @@ module _ {C : Type 0} where
   meets_fill {s} {at} {claimed} {g} {now} {rs} now_is granted =
       meets_by (λ t. machine.IsGrant t.records (decided.want t.config t.handles t.records) g)
       (λ t. record t { latest = max t.latest at; records = machine.after_grant claimed g t.records }) s _ at (Fill claimed) (Granted g)
-      (λ l legal means. refl) granted.granted (same_shown _ _ refl refl refl now_is refl granted.after refl refl)
+      (λ l legal means. refl) granted.granted (same_shown _ _ refl refl now_is refl granted.after refl refl)
       (λ l legal f granted_l. (
         fills (want_is l (records l) g _ (entered_before l) refl granted_l),
-        same_shown _ _ refl refl refl refl refl
+        same_shown _ _ refl refl refl refl
             (changed claimed l g.count (records l) _ (later_shown l)) (gets_kept l) refl,
       ))
 
@@ -209,11 +209,11 @@ module _ {C : Type 0} where
   meets_claim {s} {at} {k} {now} {rs} now_is alive_now first rs_is =
       meets_by (λ t. (0 < t.handles) × (slice_get t.records.unclaimed 0 ≡ Some k))
       (λ t. record t { latest = max t.latest at; records = machine.after_claim k t.records }) s _ at Claim (answers.Claimed (Some k))
-      (λ l legal means. refl) (open_now _ alive_now, first) (same_shown _ _ refl refl refl now_is refl rs_is refl refl) (λ l legal f known.
+      (λ l legal means. refl) (open_now _ alive_now, first) (same_shown _ _ refl refl now_is refl rs_is refl refl) (λ l legal f known.
       let is : shown_records (start l).first (suc (position l)) (peak l)
       (update (start l).first k (at_place Claimed) (records l)) ≡ machine.after_claim k (shown l).records =
       shown-claimed (start l).first (suc (position l)) (peak l) (records l) k known.1 ∙ ap (machine.after_claim k) (later_shown l) in
-      (claims known.0 known.1, same_shown _ _ refl refl refl refl refl (still_raised l _ _ is (peak_holds l)) (gets_kept l) refl))
+      (claims known.0 known.1, same_shown _ _ refl refl refl refl (still_raised l _ _ is (peak_holds l)) (gets_kept l) refl))
 
   pub meets_claim_none : {s : Shown C} {at now : ℕ} {rs : ShownRecords C} → now ≡ max s.latest at → s.handles ≢ 0
       → slice_get s.records.unclaimed 0 ≡ None → rs ≡ s.records
@@ -246,14 +246,14 @@ module _ {C : Type 0} where
         counts = record t.counts { created = t.counts.created + 1 };
       }) s _ at (Opened k c) (Entered k n) fit
       (open_now _ alive_now, told.who)
-      (same_shown _ _ refl refl refl now_is refl (rs_is ∙ ap (λ (m : ℕ). machine.after_entry true k (record { place = Idle c; birth = m; entered = m }) s.records) now_is) told.after new_is)
+      (same_shown _ _ refl refl now_is refl (rs_is ∙ ap (λ (m : ℕ). machine.after_entry true k (record { place = Idle c; birth = m; entered = m }) s.records) now_is) told.after new_is)
       (λ l legal f known.
       let st = standing_is is_claimed (record_of l k) f in
       let some : 1 ≤ approved_of (records l) = claimed_counted l k st.0 st.1 (claimed_is st.0.place st.2) in
       let few : conns_of (records l) + approved_of (records l) ≤ peak l = peak_holds l in
       let is = shown-entered (start l).first (position l) (peak l) (records l) true k st.0 c (max (latest l) at) (max (latest l) at)
       (λ r. entry c (max (latest l) at) (max (latest l) at) (position l)) (entered_before l) st.1 st.2 (λ r e. refl) in
-      (opens known.0 known.1, same_shown _ _ refl refl refl refl refl (ap machine.with_peak is ∙ raised_same _ (omega arith)) (gets_told l n known.1) refl))
+      (opens known.0 known.1, same_shown _ _ refl refl refl refl (ap machine.with_peak is ∙ raised_same _ (omega arith)) (gets_told l n known.1) refl))
 
   -- a claimed approval ends
   approval_ended : (l : Ledger C) (k : ℕ) → stands is_claimed (record_of l k) ≡ true
@@ -275,8 +275,8 @@ module _ {C : Type 0} where
       → IsStep s at (Opened k c) (Late k) (record s { latest = now; records = rs })
   meets_late {s} at {k} c {now} {rs} fit now_is ended_now rs_is =
       meets_by (λ t. t.handles ≡ 0) (λ t. record t { latest = max t.latest at; records = machine.after_close true k t.records }) s _ at
-      (Opened k c) (Late k) fit ended_now (same_shown _ _ refl refl refl now_is refl rs_is refl refl)
-      (λ l legal f none. (opens_late none, same_shown _ _ refl refl refl refl refl (approval_ended l k f) (gets_kept l) refl))
+      (Opened k c) (Late k) fit ended_now (same_shown _ _ refl refl now_is refl rs_is refl refl)
+      (λ l legal f none. (opens_late none, same_shown _ _ refl refl refl refl (approval_ended l k f) (gets_kept l) refl))
 
   -- ---- failed
 
@@ -284,8 +284,8 @@ module _ {C : Type 0} where
       → rs ≡ machine.after_close true k s.records → IsStep s at (Failed k) GivenBack (record s { latest = now; records = rs })
   meets_failed {s} at {k} {now} {rs} fit now_is rs_is =
       meets_by (λ t. Unit {0}) (λ t. record t { latest = max t.latest at; records = machine.after_close true k t.records }) s _ at
-      (Failed k) GivenBack fit tt (same_shown _ _ refl refl refl now_is refl rs_is refl refl)
-      (λ l legal f known. (fails, same_shown _ _ refl refl refl refl refl (approval_ended l k f) (gets_kept l) refl))
+      (Failed k) GivenBack fit tt (same_shown _ _ refl refl now_is refl rs_is refl refl)
+      (λ l legal f known. (fails, same_shown _ _ refl refl refl refl (approval_ended l k f) (gets_kept l) refl))
 
   -- ---- put_back
 
@@ -359,11 +359,11 @@ module _ {C : Type 0} where
       meets_by (λ t. (decided.closes t at k broken ≡ false) × (n ≡ slice_get t.gets.waiting 0))
       (λ t. record t { latest = max t.latest at; records = kept_records t at k c; gets = machine.after_notice n t.gets }) s _ at
       (PutBack k c broken) (Kept k n) fit (closing_is broken r keep, told.who)
-      (same_shown _ _ refl refl refl r.now_is refl (kept_is c r rs_is) told.after refl)
+      (same_shown _ _ refl refl r.now_is refl (kept_is c r rs_is) told.after refl)
       (λ l legal f known.
       let st = standing_is is_guarded (record_of l k) f in (
         keeps (closes_is l at k broken ∙ known.0) known.1,
-        same_shown _ _ refl refl refl refl refl (kept_shown l at k c st.0 st.1 (guarded_out st.0.place st.2)) (gets_told l n known.1) refl,
+        same_shown _ _ refl refl refl refl (kept_shown l at k c st.0 st.1 (guarded_out st.0.place st.2)) (gets_told l n known.1) refl,
       ))
 
   -- what the code counts of it is what is decided
@@ -388,12 +388,12 @@ module _ {C : Type 0} where
         gets = machine.after_notice n t.gets;
         counts = counts_held (closed_counters was broken (decided.is_old t at k));
       }) s _ at (PutBack k c broken) (Closed k grant n) fit (closing_is broken r closing, granted, told.who, were)
-      (same_shown _ _ refl refl refl r.now_is refl rs_is told.after (ap counts_held (closed_is was broken r is_is)))
+      (same_shown _ _ refl refl r.now_is refl rs_is told.after (ap counts_held (closed_is was broken r is_is)))
       (λ l legal f known.
       let st = standing_is is_guarded (record_of l k) f in
       let ended = ended_shown l k st.0 grant st.1 (guarded_out st.0.place st.2) known.1 in (
         returns_closed (closes_is l at k broken ∙ known.0) ended.0 known.2,
-        same_shown _ _ refl refl refl refl refl ended.1 (gets_told l n known.2)
+        same_shown _ _ refl refl refl refl ended.1 (gets_told l n known.2)
             (ap (λ (x : Counts). record x {
               broken = x.broken + one broken;
               max_lifetime = x.max_lifetime + one (not broken && is_expired (start l).config.max_lifetime (max (latest l) at) (birth_in (record_of l k)));
@@ -414,10 +414,10 @@ module _ {C : Type 0} where
         counts =
             record t.counts { started = t.counts.started + 1 };
       }) s _ at Begin (Begun n) fit (few, n_is)
-      (same_shown _ _ refl refl refl now_is refl refl gs_is new_is)
+      (same_shown _ _ refl refl now_is refl refl gs_is new_is)
       (λ l legal f known. (
         begins known.1 (subst (λ (m : ℕ). m < end_of_numbers) (sym known.1) known.0),
-        same_shown _ _ refl refl refl refl refl
+        same_shown _ _ refl refl refl refl
             (records_kept l) (shown-begun (start l).first_get (position l) (get_peak l) (gets l) (waited_before l) (get_peak_holds l)) refl,
       ))
 
@@ -515,14 +515,14 @@ module _ {C : Type 0} where
             counts_held (served was (max x.latest at) (first_wait_of (get x.gets.places g)));
       }) s _ at (Try g) (Served k grant) t.fit
       (ap (gets_stand is_unnotified) (sym t.get_is) ∙ not_waiting, unchecked, first, granted.granted, were)
-      (same_shown _ _ refl refl refl t.now_is refl granted.after gs_is
+      (same_shown _ _ refl refl t.now_is refl granted.after gs_is
       (ap counts_held (counted ∙ ap (λ (m : ℕ). served was m since) t.now_is
       ∙ ap (served was (max s.latest at)) (since_is ∙ ap (λ (x : Option Getting). first_wait_of x) t.get_is))))
       (λ l legal f known.
       let st = trying_is l g f in
       let taken = taken_shown l Guarded k grant refl known.2 known.3 in (
         serves (line_test l g false known.0) known.1 known.2 taken.0,
-        same_shown _ _ refl refl refl refl refl taken.1
+        same_shown _ _ refl refl refl refl taken.1
             (shown-ended (start l).first_get (position l) (get_peak l) (gets l) g st.0 (waited_before l) (get_peak_holds l) st.1)
             (count_served l at g k grant was known.4),
       ))
@@ -542,13 +542,13 @@ module _ {C : Type 0} where
         gets = machine.after_turn (Holding k) g x.gets;
       }) s _ at (Try g) (Taken k grant) t.fit
       (ap (gets_stand is_unnotified) (sym t.get_is) ∙ not_waiting, checked, first, granted.granted)
-      (same_shown _ _ refl refl refl t.now_is refl granted.after gs_is refl)
+      (same_shown _ _ refl refl t.now_is refl granted.after gs_is refl)
       (λ l legal f known.
       let st = trying_is l g f in
       let off : gets_stand is_unnotified (get_of l g) ≡ false = line_test l g false known.0 in
       let taken = taken_shown l (Held g) k grant refl known.2 known.3 in (
         takes_out off known.1 known.2 taken.0,
-        same_shown _ _ refl refl refl refl refl taken.1
+        same_shown _ _ refl refl refl refl taken.1
             (shown-turned (start l).first_get (position l) (get_peak l) (gets l) (Holding k) g st.0 (waited_before l) (get_peak_holds l)
             st.1 (ap (gets_stand is_unnotified) (sym st.1) ∙ off) refl) refl,
       ))
@@ -600,12 +600,12 @@ module _ {C : Type 0} where
             machine.after_wait (max x.latest at) g x.gets;
       }) s _ at (Try g) (answers.Waiting grant) t.fit
       (ap (gets_stand is_unnotified) (sym t.get_is) ∙ not_waiting, none, granted_s)
-      (same_shown _ _ refl refl refl t.now_is refl (rs_is ∙ ap (machine.after_grant false grant) taken_is) (gs_is ∙ ap (λ (m : ℕ). machine.after_wait m g s.gets) t.now_is) refl)
+      (same_shown _ _ refl refl t.now_is refl (rs_is ∙ ap (machine.after_grant false grant) taken_is) (gs_is ∙ ap (λ (m : ℕ). machine.after_wait m g s.gets) t.now_is) refl)
       (λ l legal f known.
       let st = trying_is l g f in
       let off : gets_stand is_unnotified (get_of l g) ≡ false = line_test l g false known.0 in (
         waits off known.1 known.2,
-        same_shown _ _ refl refl refl refl refl (changed false l grant.count (records l) _ (later_shown l))
+        same_shown _ _ refl refl refl refl (changed false l grant.count (records l) _ (later_shown l))
             (shown-waits (start l).first_get (position l) (get_peak l) (gets l) (max (latest l) at) g st.0 (waited_before l)
             (get_peak_holds l) st.1 (ap (gets_stand is_unnotified) (sym st.1) ∙ off)) refl,
       ))
@@ -622,8 +622,8 @@ module _ {C : Type 0} where
   pub meets_joined : {s : Shown C} {at now : ℕ} → IsFitting s Join → now ≡ max s.latest at → s.handles < most_handles → IsStep s at Join Joined (record s { latest = now; handles = s.handles + 1 })
   meets_joined {s} {at} {now} fit now_is few = meets_by (λ t. t.handles < most_handles)
       (λ t. record t { latest = max t.latest at; handles = t.handles + 1 }) s _ at Join Joined fit few
-      (same_shown _ _ refl refl refl now_is refl refl refl refl)
-      (λ l legal f known. (joins known, same_shown _ _ refl refl refl refl refl (records_kept l) (gets_kept l) refl))
+      (same_shown _ _ refl refl now_is refl refl refl refl)
+      (λ l legal f known. (joins known, same_shown _ _ refl refl refl refl (records_kept l) (gets_kept l) refl))
 
   pub meets_join_exhausted : {s : Shown C} {at now : ℕ} → IsFitting s Join → now ≡ max s.latest at → most_handles ≤ s.handles → IsStep s at Join Exhausted (record s { latest = now })
   meets_join_exhausted {s} {at} {now} fit now_is many =
@@ -642,7 +642,7 @@ module _ {C : Type 0} where
   meets_left_last {s} {at} {now} {n} {rs} fit now_is last n_is rs_is =
       meets_by (λ t. (t.handles ≡ 1) × (n ≡ length t.records.idle))
       (λ t. record t { latest = max t.latest at; handles = 0; records = machine.after_leave t.records }) s _ at Leave (Left n) fit
-      (last, n_is) (same_shown _ _ refl refl refl now_is refl rs_is refl refl)
+      (last, n_is) (same_shown _ _ refl refl now_is refl rs_is refl refl)
       (λ l legal f known.
       let on : eqb (handles l) 1 ≡ true = ap (λ (m : ℕ). eqb m 1) known.0 in
       let is : shown_records (start l).first (suc (position l)) (peak l) (shut (records l)) ≡ machine.after_leave (shown l).records =
@@ -651,16 +651,16 @@ module _ {C : Type 0} where
       let few : conns_of (records l) + approved_of (records l) ≤ peak l = peak_holds l in
       let fewer : (machine.after_leave (shown l).records).conns + (machine.after_leave (shown l).records).approved ≤ conns_of (records l) + approved_of (records l) = left_few (shown l).records in (
         leaves (known.1 ∙ idle_tally l ∙ ap (λ (b : Bool). cond b (idle_count l) 0) (sym on)),
-        same_shown _ _ refl refl refl refl (ap (λ (m : ℕ). m - 1) known.0) (ap (left_shown l) on ∙ still_raised l (shut (records l)) _ is (omega arith)) (gets_kept l) refl,
+        same_shown _ _ refl refl refl (ap (λ (m : ℕ). m - 1) known.0) (ap (left_shown l) on ∙ still_raised l (shut (records l)) _ is (omega arith)) (gets_kept l) refl,
       ))
 
   pub meets_left : {s : Shown C} {at now : ℕ} → IsFitting s Leave → now ≡ max s.latest at → s.handles ≢ 1 → IsStep s at Leave (Left 0) (record s { latest = now; handles = s.handles - 1 })
   meets_left {s} {at} {now} fit now_is more = meets_by (λ t. t.handles ≢ 1)
       (λ t. record t { latest = max t.latest at; handles = t.handles - 1 }) s _ at Leave (Left 0) fit more
-      (same_shown _ _ refl refl refl now_is refl refl refl refl)
+      (same_shown _ _ refl refl now_is refl refl refl refl)
       (λ l legal f known.
       let off : eqb (handles l) 1 ≡ false = ne_test (handles l) 1 known in
-      (leaves (ap (λ (b : Bool). cond b (idle_count l) 0) (sym off)), same_shown _ _ refl refl refl refl refl (ap (left_shown l) off ∙ records_kept l) (gets_kept l) refl))
+      (leaves (ap (λ (b : Bool). cond b (idle_count l) 0) (sym off)), same_shown _ _ refl refl refl refl (ap (left_shown l) off ∙ records_kept l) (gets_kept l) refl))
 
   -- ---- add
 
@@ -710,10 +710,10 @@ module _ {C : Type 0} where
         gets =
             machine.after_notice n t.gets;
       }) s _ at (Add c false) (Added k n) h.fit (h.room, few, k_is, told.who)
-      (same_shown _ _ refl refl refl h.now_is refl (rs_is ∙ ap (λ (m : ℕ). machine.with_peak (machine.after_birth c m s.records)) h.now_is) told.after refl)
+      (same_shown _ _ refl refl h.now_is refl (rs_is ∙ ap (λ (m : ℕ). machine.with_peak (machine.after_birth c m s.records)) h.now_is) told.after refl)
       (λ l legal f known. (
         adds known.0 known.1 known.2 known.3,
-        same_shown _ _ refl refl refl refl refl
+        same_shown _ _ refl refl refl refl
             (ap machine.with_peak (shown-born (start l).first (position l) (peak l) (records l) c (max (latest l) at) (entered_before l)))
             (gets_told l n known.3) refl,
       ))

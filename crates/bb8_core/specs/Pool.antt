@@ -15,5 +15,4 @@ module _ {C : Type 0} where
     gets = a.gets;
     counts = counts_held a.counters;
     lent = a.lendings;
-    mark = a.mark;
   }

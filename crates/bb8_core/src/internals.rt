@@ -1,5 +1,5 @@
 //! The locked state of a pool.
-ghost use Rattle.std.specs.Prelude.{◌≡◌, ℕ, Bool, ◌+◌, ◌<◌, ◌≤◌, ◌&&◌, ◌||◌, min, not, cond, eqb, slice_get, Option, IsSome, is_some, IfSome, IfNone, true, false, None, Some};
+ghost use Rattle.std.specs.Prelude.{◌≡◌, ◌+◌, ◌≤◌, ◌||◌, min, not, cond, eqb, slice_get, IfSome, IfNone, true, false, None, Some};
 ghost use Rattle.std.specs.FinMap as map;
 ghost use Rattle.bb8_ledger.specs.Acts as acts;
 ghost use Rattle.bb8_ledger.specs.Answers as answers;
@@ -8,18 +8,20 @@ ghost use Rattle.bb8_types.specs.Places as places;
 ghost use Rattle.bb8_tables.specs.Machine as machine;
 ghost use Rattle.bb8_core.specs.Decided as decided;
 ghost use Rattle.bb8_types.specs.Grants as grants;
-ghost use Rattle.bb8_types.specs.Numbered as numbered;
 ghost use Rattle.bb8_types.specs.Settings.{settings_of, is_lawful};
 ghost use Rattle.bb8_types.specs.Figures.{figures_of};
 ghost use Rattle.bb8_core.specs.Endings.{endings_of};
 ghost use Rattle.bb8_core.specs.Run.{opening};
 ghost use Rattle.bb8_core.specs.Parts.{out_of};
-ghost use Rattle.bb8_core.specs.Shown.{Means, Meets, Lends, examined, IsFitting, TellsFitting, TellsRecord, TellsGet, IsRecordIn, IsNoRecordIn, IsGetIn, IsNoGetIn, IsWithinLimits};
+ghost use Rattle.bb8_core.specs.Shown.{Means, Meets, Lends, Searches, examined, searched, IsFitting, IsWithinLimits};
 ghost use Rattle.bb8_core.specs.StepAnswers.{begin_told, try_told, checked_ok_told, checked_err_told, reason_of, give_up_told, put_back_told, claim_told, opened_told, failed_told, add_told, reap_told, join_told, leave_told, look_told, HandsOut, ServesAtOnce, NoneAtOnce, GivesBack, GivesBackInvalid, GivesBackHeld, HandsBack, Refuses, closed_in};
 ghost use Rattle.bb8_types.specs.declared.standing.Holder.TheVariants.{Guard, Get};
 ghost use Rattle.bb8_types.specs.declared.standing.Standing.{Standing};
 ghost use Rattle.bb8_types.specs.Bounds.{end_of_numbers, most_records};
 ghost use Rattle.bb8_tables.specs.Keys.{notified_of};
+ghost use Rattle.bb8_tables.specs.Lent.{Adds};
+
+mod questions;
 
 pub use crate::answers::{
     AddAnswer, AtOnce, BeginAnswer, CheckedErrAnswer, CheckedOkAnswer, ClaimAnswer, FailedAnswer,
@@ -51,7 +53,6 @@ pub struct PoolInternals<C> {
     gets: Gets,
     counters: Counters,
     lendings: Lendings,
-    mark: u64,
 }
 
 impl<C> Model for PoolInternals<C> {
@@ -116,7 +117,7 @@ fn is_closing(broken: bool, expired: bool, handles: u64) -> bool
 fn hand_on(gets: &mut Gets, test: bool, lendings: &mut Lendings) -> Option<GetKey>
     ensures value { notified_of result ≡ cond test (slice_get gets.old.waiting 0) None }
     ensures state { gets.new ≡ machine.after_notice (notified_of result) gets.old }
-    ensures examined { lendings.new ≤ lendings.old + 1 }
+    ensures examined { Adds 1 0 lendings.old lendings.new }
 {
     if test { gets.notify(lendings) } else { None }
 }
@@ -133,7 +134,13 @@ fn holder(config: &Config, get: GetKey) -> Holder
 }
 
 /// Ends a connection that was out, and grants what is wanted then.
-fn end_out<C: Drop>(config: &Config, handles: u64, records: &mut Records<C>, k: Key) -> Grant
+fn end_out<C: Drop>(
+    config: &Config,
+    handles: u64,
+    records: &mut Records<C>,
+    k: Key,
+    lendings: &mut Lendings,
+) -> Grant
     requires out { (s : Standing C) × (map.get records.old.places k.number ≡ Some s)
         × (places.is_out s.place ≡ true) }
     requires size { records.old.conns + records.old.approved ≤ (settings_of config.now).max_size }
@@ -144,8 +151,9 @@ fn end_out<C: Drop>(config: &Config, handles: u64, records: &mut Records<C>, k: 
     ensures state { records.new ≡ machine.after_grant false result
         (machine.after_close false k.number records.old) }
     ensures numbers { records.old.next ≤ end_of_numbers }
+    ensures examined { Adds 0 1 lendings.old lendings.new }
 {
-    records.close(k, false);
+    records.close(k, false, lendings);
     let wanted = want(config, handles, records);
     records.grant(wanted, false)
 }
@@ -174,7 +182,6 @@ impl<C: Drop> PoolInternals<C> {
             gets: Gets::new(alloc, first_get),
             counters: Counters::NONE,
             lendings,
-            mark: 0,
         }
     }
 
@@ -182,7 +189,8 @@ impl<C: Drop> PoolInternals<C> {
     /// legal ledger that it means keeps all limits. It does nothing.
     pub fn limits(&self)
         ensures lawful { is_lawful self.now.config ≡ true }
-        ensures size { self.now.records.conns + self.now.records.approved ≤ self.now.config.max_size }
+        ensures size { self.now.records.conns + self.now.records.approved ≤
+            self.now.config.max_size }
         ensures ledger { IsWithinLimits self.now }
     {
         let _ = &self.config;
@@ -192,7 +200,14 @@ impl<C: Drop> PoolInternals<C> {
     pub fn examined(&self) -> u64
         ensures { result ≡ examined self.now }
     {
-        self.lendings.lent().saturating_sub(self.mark)
+        self.lendings.lent()
+    }
+
+    /// How often the latest step searched a table, as a key that it was handed told a place where its number does not stand. Our own.
+    pub fn searched(&self) -> u64
+        ensures { result ≡ searched self.now }
+    {
+        self.lendings.searched()
     }
 
     /// Begins a get. Memory is asked for only where as many gets are alive as ever were.
@@ -200,9 +215,10 @@ impl<C: Drop> PoolInternals<C> {
         requires { IsFitting self.old acts.Begin }
         ensures step { Meets self.old at.0 acts.Begin (begin_told result) self.new }
         ensures examined { Lends 4 self.old self.new }
+        ensures searched { Searches 0 self.new }
     {
         self.latest = self.latest.max(at.0);
-        self.mark = self.lendings.lent();
+        self.lendings.start();
         if !self.gets.has_number() {
             return BeginAnswer::Exhausted;
         }
@@ -224,12 +240,16 @@ impl<C: Drop> PoolInternals<C> {
         ensures none { IfNone result (self.new ≡ self.old) }
         ensures cause { IfNone result (NoneAtOnce self.old) }
         ensures examined { IfSome result (λ served. Lends 4 self.old self.new) }
+        ensures searched { IfSome result (λ served. Searches 0 self.new) }
     {
         if !self.gets.has_room() {
             return None;
         }
+        if self.records.idle_connections() == 0 {
+            return None;
+        }
+        self.lendings.start();
         let strategy = self.config.queue_strategy;
-        let mark = self.lendings.lent();
         match self
             .records
             .take(strategy, Holder::Guard, &mut self.lendings)
@@ -238,7 +258,6 @@ impl<C: Drop> PoolInternals<C> {
             Some((key, conn)) => {
                 let now = self.latest.max(at.0);
                 self.latest = now;
-                self.mark = mark;
                 let get = self.gets.pass();
                 self.counters.started += 1;
                 self.counters.serve(None, now);
@@ -262,10 +281,11 @@ impl<C: Drop> PoolInternals<C> {
         ensures step { Meets self.old at.0 (acts.Try get.number) (try_told result) self.new }
         ensures connection { HandsOut self.old result }
         ensures examined { Lends 4 self.old self.new }
+        ensures searched { Searches 2 self.new }
     {
         let now = self.latest.max(at.0);
         self.latest = now;
-        self.mark = self.lendings.lent();
+        self.lendings.start();
         let getting = self.gets.getting(get, &mut self.lendings);
         if is_unnotified(getting) {
             return TryAnswer::Waiting(Grant::of_nothing(self.records.next_number()));
@@ -291,7 +311,7 @@ impl<C: Drop> PoolInternals<C> {
                         .turn(get, GetPlace::Holding(key.number), &mut self.lendings);
                     return TryAnswer::Taken(key, conn, grant);
                 }
-                self.gets.finish(get);
+                self.gets.finish(get, &mut self.lendings);
                 self.counters.serve(first_wait(getting), now);
                 TryAnswer::Served(key, conn, grant)
             }
@@ -305,14 +325,15 @@ impl<C: Drop> PoolInternals<C> {
         ensures step { Meets self.old at.0 (acts.CheckedOk get.number)
             (checked_ok_told self.old.records.next result) self.new }
         ensures examined { Lends 4 self.old self.new }
+        ensures searched { Searches 3 self.new }
     {
         let now = self.latest.max(at.0);
         self.latest = now;
-        self.mark = self.lendings.lent();
+        self.lendings.start();
         let getting = self.gets.getting(get, &mut self.lendings);
         let out = held_key(getting, hint);
         let key = self.records.hand_over(out, &mut self.lendings);
-        self.gets.finish(get);
+        self.gets.finish(get, &mut self.lendings);
         self.counters.serve(first_wait(getting), now);
         CheckedOkAnswer::Served(key)
     }
@@ -332,14 +353,21 @@ impl<C: Drop> PoolInternals<C> {
             (checked_err_told result) self.new }
         ensures connection { GivesBackInvalid conn result }
         ensures examined { Lends 4 self.old self.new }
+        ensures searched { Searches 4 self.new }
     {
         let now = self.latest.max(at.0);
         self.latest = now;
-        self.mark = self.lendings.lent();
+        self.lendings.start();
         let key = held_key(self.gets.getting(get, &mut self.lendings), hint);
         let birth = self.records.birth(key, &mut self.lendings);
         let expired = is_expired(&self.config, now, birth);
-        let granted = end_out(&self.config, self.handles, &mut self.records, key);
+        let granted = end_out(
+            &self.config,
+            self.handles,
+            &mut self.records,
+            key,
+            &mut self.lendings,
+        );
         self.counters.invalid += 1;
         self.counters.close(broken, expired);
         self.gets.turn(get, GetPlace::Active, &mut self.lendings);
@@ -362,6 +390,7 @@ impl<C: Drop> PoolInternals<C> {
             (give_up_told result) self.new }
         ensures connection { GivesBackHeld held result }
         ensures examined { Lends 4 self.old self.new }
+        ensures searched { Searches 4 self.new }
     {
         match held {
             None => self.give_up_free(at, get, reason, broken),
@@ -382,12 +411,13 @@ impl<C: Drop> PoolInternals<C> {
             (give_up_told result) self.new }
         ensures connection { GivesBackHeld None result }
         ensures examined { Lends 4 self.old self.new }
+        ensures searched { Searches 2 self.new }
     {
         let now = self.latest.max(at.0);
         self.latest = now;
-        self.mark = self.lendings.lent();
+        self.lendings.start();
         let getting = self.gets.getting(get, &mut self.lendings);
-        self.gets.end(get);
+        self.gets.end(get, &mut self.lendings);
         self.counters.give_up(reason, first_wait(getting), now);
         GiveUpAnswer::GaveUp(hand_on(&mut self.gets, is_notified(getting), &mut self.lendings))
     }
@@ -409,18 +439,25 @@ impl<C: Drop> PoolInternals<C> {
             (give_up_told result) self.new }
         ensures connection { GivesBackHeld (Some conn) result }
         ensures examined { Lends 4 self.old self.new }
+        ensures searched { Searches 4 self.new }
     {
         let now = self.latest.max(at.0);
         self.latest = now;
-        self.mark = self.lendings.lent();
+        self.lendings.start();
         let getting = self.gets.getting(get, &mut self.lendings);
         let key = held_key(getting, hint);
-        self.gets.finish(get);
+        self.gets.finish(get, &mut self.lendings);
         self.counters.give_up(reason, first_wait(getting), now);
         let birth = self.records.birth(key, &mut self.lendings);
         let expired = is_expired(&self.config, now, birth);
         if is_closing(broken, expired, self.handles) {
-            let grant = end_out(&self.config, self.handles, &mut self.records, key);
+            let grant = end_out(
+                &self.config,
+                self.handles,
+                &mut self.records,
+                key,
+                &mut self.lendings,
+            );
             self.counters.close(broken, expired);
             GiveUpAnswer::Closed(key, conn, grant, self.gets.notify(&mut self.lendings))
         } else {
@@ -438,14 +475,21 @@ impl<C: Drop> PoolInternals<C> {
             (put_back_told k.number result) self.new }
         ensures connection { GivesBack conn result }
         ensures examined { Lends 4 self.old self.new }
+        ensures searched { Searches 2 self.new }
     {
         let now = self.latest.max(at.0);
         self.latest = now;
-        self.mark = self.lendings.lent();
+        self.lendings.start();
         let birth = self.records.birth(k, &mut self.lendings);
         let expired = is_expired(&self.config, now, birth);
         if is_closing(broken, expired, self.handles) {
-            let grant = end_out(&self.config, self.handles, &mut self.records, k);
+            let grant = end_out(
+                &self.config,
+                self.handles,
+                &mut self.records,
+                k,
+                &mut self.lendings,
+            );
             self.counters.close(broken, expired);
             PutBackAnswer::Closed(conn, grant, self.gets.notify(&mut self.lendings))
         } else {
@@ -460,9 +504,10 @@ impl<C: Drop> PoolInternals<C> {
     pub fn fill(&mut self, at: Moment, claimed: bool) -> Grant
         ensures step { Meets self.old at.0 (acts.Fill claimed) (answers.Granted result) self.new }
         ensures examined { Lends 4 self.old self.new }
+        ensures searched { Searches 0 self.new }
     {
         self.latest = self.latest.max(at.0);
-        self.mark = self.lendings.lent();
+        self.lendings.start();
         let wanted = want(&self.config, self.handles, &self.records);
         self.records.grant(wanted, claimed)
     }
@@ -471,9 +516,10 @@ impl<C: Drop> PoolInternals<C> {
     pub fn claim(&mut self, at: Moment) -> ClaimAnswer
         ensures step { Meets self.old at.0 acts.Claim (claim_told result) self.new }
         ensures examined { Lends 4 self.old self.new }
+        ensures searched { Searches 0 self.new }
     {
         self.latest = self.latest.max(at.0);
-        self.mark = self.lendings.lent();
+        self.lendings.start();
         if self.handles == 0 {
             return ClaimAnswer::Ended;
         }
@@ -488,12 +534,13 @@ impl<C: Drop> PoolInternals<C> {
             (opened_told a.number result) self.new }
         ensures connection { HandsBack conn result }
         ensures examined { Lends 4 self.old self.new }
+        ensures searched { Searches 1 self.new }
     {
         let now = self.latest.max(at.0);
         self.latest = now;
-        self.mark = self.lendings.lent();
+        self.lendings.start();
         if self.handles == 0 {
-            self.records.close(a, true);
+            self.records.close(a, true, &mut self.lendings);
             return OpenedAnswer::Late(conn);
         }
         self.records
@@ -505,12 +552,14 @@ impl<C: Drop> PoolInternals<C> {
     /// Ends a claimed approval that brought no connection. Nobody is notified.
     pub fn failed(&mut self, at: Moment, approval: Key) -> FailedAnswer
         requires { IsFitting self.old (acts.Failed approval.number) }
-        ensures step { Meets self.old at.0 (acts.Failed approval.number) (failed_told result) self.new }
+        ensures step { Meets self.old at.0 (acts.Failed approval.number)
+            (failed_told result) self.new }
         ensures examined { Lends 4 self.old self.new }
+        ensures searched { Searches 1 self.new }
     {
         self.latest = self.latest.max(at.0);
-        self.mark = self.lendings.lent();
-        self.records.close(approval, true);
+        self.lendings.start();
+        self.records.close(approval, true, &mut self.lendings);
         FailedAnswer::GivenBack
     }
 
@@ -522,10 +571,11 @@ impl<C: Drop> PoolInternals<C> {
         ensures step { Meets self.old at.0 (acts.Add conn broken) (add_told result) self.new }
         ensures connection { Refuses conn result }
         ensures examined { Lends 4 self.old self.new }
+        ensures searched { Searches 0 self.new }
     {
         let now = self.latest.max(at.0);
         self.latest = now;
-        self.mark = self.lendings.lent();
+        self.lendings.start();
         if broken {
             return AddAnswer::Broken(conn);
         }
@@ -548,10 +598,11 @@ impl<C: Drop> PoolInternals<C> {
     pub fn reap(&mut self, at: Moment) -> ReapAnswer
         ensures step { Meets self.old at.0 acts.Reap (reap_told result) self.new }
         ensures examined { Lends (closed_in result + out_of self.old + 2) self.old self.new }
+        ensures searched { Searches 0 self.new }
     {
         let now = self.latest.max(at.0);
         self.latest = now;
-        self.mark = self.lendings.lent();
+        self.lendings.start();
         if self.handles == 0 {
             return ReapAnswer::Ended;
         }
@@ -582,9 +633,10 @@ impl<C: Drop> PoolInternals<C> {
         ensures size { result.connections ≤ self.old.config.max_size }
         ensures idle { result.idle_connections ≤ result.connections }
         ensures examined { Lends 4 self.old self.new }
+        ensures searched { Searches 0 self.new }
     {
         self.latest = self.latest.max(at.0);
-        self.mark = self.lendings.lent();
+        self.lendings.start();
         State {
             connections: self.records.connections(),
             idle_connections: self.records.idle_connections(),
@@ -597,9 +649,10 @@ impl<C: Drop> PoolInternals<C> {
         requires { IsFitting self.old acts.Join }
         ensures step { Meets self.old at.0 acts.Join (join_told result) self.new }
         ensures examined { Lends 4 self.old self.new }
+        ensures searched { Searches 0 self.new }
     {
         self.latest = self.latest.max(at.0);
-        self.mark = self.lendings.lent();
+        self.lendings.start();
         if self.handles >= u32::MAX as u64 {
             return JoinAnswer::Exhausted;
         }
@@ -613,7 +666,7 @@ impl<C: Drop> PoolInternals<C> {
         ensures { Meets self.old at.0 acts.Leave (leave_told result) self.new }
     {
         self.latest = self.latest.max(at.0);
-        self.mark = self.lendings.lent();
+        self.lendings.start();
         if self.handles == 1 {
             self.handles = 0;
             return LeaveAnswer::Left(self.records.leave());
@@ -626,9 +679,10 @@ impl<C: Drop> PoolInternals<C> {
     pub fn look(&mut self, at: Moment) -> Looked
         ensures step { Meets self.old at.0 acts.Look (look_told result) self.new }
         ensures examined { Lends 4 self.old self.new }
+        ensures searched { Searches 0 self.new }
     {
         self.latest = self.latest.max(at.0);
-        self.mark = self.lendings.lent();
+        self.lendings.start();
         Looked {
             moment: Moment(self.latest),
             alive: self.handles > 0,
@@ -644,148 +698,5 @@ impl<C: Drop> PoolInternals<C> {
         (self.gets.alive())
             .saturating_add(self.handles)
             .saturating_add(out as u64)
-    }
-
-    /// Whether a get may begin: while a handle is alive.
-    pub fn fits_begin(&self) -> bool
-        ensures { TellsFitting self.now acts.Begin result }
-    {
-        self.handles != 0
-    }
-
-    /// Whether `serve_at_once` may be called: while a handle is alive, where connections go out unchecked.
-    pub fn fits_at_once(&self) -> bool
-        ensures begin { result ≡ true → IsFitting self.now acts.Begin }
-        ensures unchecked { result ≡ true → self.now.config.test_on_check_out ≡ false }
-        ensures open { self.now.config.test_on_check_out ≡ false
-            → TellsFitting self.now acts.Begin result }
-    {
-        !self.config.test_on_check_out && self.fits_begin()
-    }
-
-    /// Whether a connection may be added, whichever it is: while a handle is alive.
-    pub fn fits_add(&self) -> bool
-        ensures { (conn : C) (broken : Bool) → TellsFitting self.now (acts.Add conn broken) result }
-    {
-        self.handles >= 1
-    }
-
-    /// Whether the get may try.
-    pub fn fits_try(&self, get: GetKey) -> bool
-        ensures { TellsFitting self.now (acts.Try get.number) result }
-    {
-        self.gets.is_trying(get)
-    }
-
-    /// Whether the check of the get may be told as passed: where the get holds a connection.
-    pub fn fits_checked_ok(&self, get: GetKey) -> bool
-        ensures { TellsFitting self.now (acts.CheckedOk get.number) result }
-    {
-        match self.gets.holds(get) {
-            None => false,
-            Some(held) => held.is_some(),
-        }
-    }
-
-    /// Whether the check of the get may be told as failed, with a connection that is broken or not: where the get holds a connection.
-    pub fn fits_checked_err(&self, get: GetKey) -> bool
-        ensures { (broken : Bool) → TellsFitting self.now (acts.CheckedErr get.number broken) result }
-    {
-        self.fits_checked_ok(get)
-    }
-
-    /// Whether the get may be given up, for whatever reason: where it is alive, and a connection is handed in just where it holds one.
-    pub fn fits_give_up(&self, get: GetKey, handing_in: bool) -> bool
-        ensures { (why : acts.Reason) (held : Option C) (broken : Bool) → is_some held ≡ handing_in
-            → TellsFitting self.now (acts.GiveUp get.number why held broken) result }
-    {
-        match self.gets.holds(get) {
-            None => false,
-            Some(held) => held.is_some() == handing_in,
-        }
-    }
-
-    /// The number of the connection that the get holds, if it holds one.
-    pub(crate) fn held(&self, get: GetKey) -> Option<u64>
-        ensures { (l : ledger.Ledger C) → Means l self.now
-            → result ≡ places.holds (ledger.get_of l get.number) }
-    {
-        match self.gets.holds(get) {
-            None => None,
-            Some(held) => held,
-        }
-    }
-
-    /// Whether the get is alive.
-    pub(crate) fn is_alive(&self, get: GetKey) -> bool
-        ensures { TellsGet (λ g. is_some g) self.now get.number result }
-    {
-        self.gets.is_alive(get)
-    }
-
-    /// Whether the number is a connection that a guard holds.
-    pub(crate) fn is_guarded(&self, k: Key) -> bool
-        ensures { TellsRecord (places.stands places.is_guarded) self.now k.number result }
-    {
-        self.records.is_guarded(k)
-    }
-
-    /// Whether the number is a claimed approval.
-    pub(crate) fn is_claimed(&self, k: Key) -> bool
-        ensures { TellsRecord (places.stands places.is_claimed) self.now k.number result }
-    {
-        self.records.is_claimed(k)
-    }
-
-    /// Whether a guard may give back a connection of this key, whichever connection is handed in.
-    pub fn fits_put_back(&self, k: Key) -> bool
-        ensures { (conn : C) (broken : Bool)
-            → TellsFitting self.now (acts.PutBack k.number conn broken) result }
-    {
-        self.is_guarded(k)
-    }
-
-    /// Whether the approval of this key is claimed and may bring its connection, whichever connection is handed in.
-    pub fn fits_opened(&self, a: Key) -> bool
-        ensures { (conn : C) → TellsFitting self.now (acts.Opened a.number conn) result }
-    {
-        self.is_claimed(a)
-    }
-
-    /// Whether the approval of this key is claimed and may end without a connection.
-    pub fn fits_failed(&self, approval: Key) -> bool
-        ensures { TellsFitting self.now (acts.Failed approval.number) result }
-    {
-        self.is_claimed(approval)
-    }
-
-    /// Whether a handle may be added: while one is alive.
-    pub fn fits_join(&self) -> bool
-        ensures { TellsFitting self.now acts.Join result }
-    {
-        self.fits_begin()
-    }
-
-    /// Whether a handle may be dropped: while one is alive.
-    pub fn fits_leave(&self) -> bool
-        ensures { TellsFitting self.now acts.Leave result }
-    {
-        self.fits_join()
-    }
-
-    /// The key of a connection or approval that has not ended, by its number.
-    pub fn find(&self, number: u64) -> Option<Key>
-        ensures some { IfSome result (λ k. (k.number ≡ number) × IsRecordIn self.now number) }
-        ensures none { IfNone result (IsNoRecordIn self.now number) }
-    {
-        self.records.find(number)
-    }
-
-    /// The key of a get that has not ended, by its number.
-    pub fn find_get(&self, number: u64) -> Option<GetKey>
-        ensures some { IfSome result (λ g. (g.number ≡ number) × IsGetIn self.now number) }
-        ensures none { IfNone result (IsNoGetIn self.now number) }
-    {
-        self.gets.find(number)
     }
 }

@@ -5,4 +5,7 @@ pub use bb8_types::api;
 
 mod answers;
 pub mod internals;
+mod joined;
 pub mod replay;
+
+pub use joined::Joined;

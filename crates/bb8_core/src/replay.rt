@@ -78,7 +78,8 @@ impl Known {
 
 /// Whether the event fits the state. A connection that it hands in does not matter. Our own.
 pub fn fits<C: Drop>(pool: &PoolInternals<C>, event: Event) -> bool
-    ensures named { (l : Ledger C) → IsLegal l → Means l pool.now → result ≡ fits_named l event.act }
+    ensures named { (l : Ledger C) → IsLegal l → Means l pool.now
+        → result ≡ fits_named l event.act }
     ensures fits { (conn : ℕ → C) (l : Ledger C) → IsLegal l → Means l pool.now
         → result ≡ table.fits l (act_with conn l event.act) }
 {
@@ -192,7 +193,8 @@ fn give_up(
 
 fn put_back(pool: &mut PoolInternals<u64>, at: Moment, key: Key, broken: bool) -> Answer
     requires { IsFitting pool.old (acts.PutBack key.number key.number broken) }
-    ensures { Meets pool.old at.0 (acts.PutBack key.number key.number broken) (answer_of result) pool.new }
+    ensures { Meets pool.old at.0 (acts.PutBack key.number key.number broken)
+        (answer_of result) pool.new }
 {
     match pool.put_back(at, key, key.number, broken) {
         PutBackAnswer::Kept(notified) => Answer::Kept(key.number, number_of(notified)),
@@ -236,7 +238,8 @@ fn failed(pool: &mut PoolInternals<u64>, at: Moment, key: Key) -> Answer
 
 fn add(pool: &mut PoolInternals<u64>, known: &mut Known, at: Moment, broken: bool) -> Answer
     requires { IsFitting pool.old (acts.Add pool.old.records.next broken) }
-    ensures { Meets pool.old at.0 (acts.Add pool.old.records.next broken) (answer_of result) pool.new }
+    ensures { Meets pool.old at.0 (acts.Add pool.old.records.next broken)
+        (answer_of result) pool.new }
 {
     let number = pool.next_number();
     match pool.add(at, number, broken) {
@@ -345,10 +348,14 @@ pub fn replay(
 ) -> Result<(Vec<Answer>, PoolInternals<u64>), Memory>
     requires { is_lawful (settings_of config) ≡ true }
     ensures answers { IfOk result (λ r. length r.0.items ≡ length events.now) }
-    ensures run { IfOk result (λ r. (last : Ledger ℕ) × IsRun (opening config 0 0) events.now r.0.items last × Means last r.1) }
-    ensures limits { IfOk result (λ r. AfterEach KeepsLimits (opening config 0 0) events.now r.0.items) }
-    ensures laws { IfOk result (λ r. AfterEach KeepsLaws (opening config 0 0) events.now r.0.items) }
-    ensures promises { IfOk result (λ r. AfterEach KeepsPromises (opening config 0 0) events.now r.0.items) }
+    ensures run { IfOk result (λ r. (last : Ledger ℕ)
+        × IsRun (opening config 0 0) events.now r.0.items last × Means last r.1) }
+    ensures limits { IfOk result (λ r. AfterEach KeepsLimits
+        (opening config 0 0) events.now r.0.items) }
+    ensures laws { IfOk result (λ r. AfterEach KeepsLaws
+        (opening config 0 0) events.now r.0.items) }
+    ensures promises { IfOk result (λ r. AfterEach KeepsPromises
+        (opening config 0 0) events.now r.0.items) }
 {
     replay_from(alloc, config, 0, 0, events)
 }
@@ -363,10 +370,15 @@ pub fn replay_from(
 ) -> Result<(Vec<Answer>, PoolInternals<u64>), Memory>
     requires { is_lawful (settings_of config) ≡ true }
     ensures answers { IfOk result (λ r. length r.0.items ≡ length events.now) }
-    ensures run { IfOk result (λ r. (last : Ledger ℕ) × IsRun (opening config first_number first_get) events.now r.0.items last × Means last r.1) }
-    ensures limits { IfOk result (λ r. AfterEach KeepsLimits (opening config first_number first_get) events.now r.0.items) }
-    ensures laws { IfOk result (λ r. AfterEach KeepsLaws (opening config first_number first_get) events.now r.0.items) }
-    ensures promises { IfOk result (λ r. AfterEach KeepsPromises (opening config first_number first_get) events.now r.0.items) }
+    ensures run { IfOk result (λ r. (last : Ledger ℕ)
+        × IsRun (opening config first_number first_get) events.now r.0.items last
+        × Means last r.1) }
+    ensures limits { IfOk result (λ r. AfterEach KeepsLimits
+        (opening config first_number first_get) events.now r.0.items) }
+    ensures laws { IfOk result (λ r. AfterEach KeepsLaws
+        (opening config first_number first_get) events.now r.0.items) }
+    ensures promises { IfOk result (λ r. AfterEach KeepsPromises
+        (opening config first_number first_get) events.now r.0.items) }
 {
     let mut pool = PoolInternals::starting_at(alloc, config, first_number, first_get);
     let mut known = Known::new(alloc, first_number, first_get);

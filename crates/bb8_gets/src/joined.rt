@@ -1,22 +1,14 @@
-//! A home and the calls outside as one value, so that there is one order of all that is done of both.
+//! A home of gets and the calls outside as one value.
 ghost use Rattle.std.specs.Prelude.{◌≡◌};
 
 use super::home::{GetHome, Passed, Returned, Taken, Tried, Unfit};
 use super::outside::Outside;
+use bb8_core::Joined;
 use bb8_core::api::Moment;
 use bb8_core::internals::{
     BeginAnswer, CheckedErrAnswer, GetKey, GiveUpAnswer, Grant, Key, Looked, Reason,
 };
 use futures::task::Poll;
-
-/// A home and the calls outside, as one. A step of the home leaves the calls outside as they were, and a call leaves the home. Our own.
-#[derive(Drop)]
-pub struct Joined<W, H> {
-    /// The calls outside.
-    pub outside: W,
-    /// The home.
-    pub home: H,
-}
 
 impl<C, W, H: GetHome<C>> GetHome<C> for Joined<W, H> {
     type Part = H::Part;

@@ -9,8 +9,9 @@ mod plain;
 mod rows;
 mod state;
 
+pub use bb8_core::Joined;
 pub use calls::Calls;
 pub use home::{GetHome, Passed, Returned, Taken, Tried, Unfit};
-pub use joined::Joined;
 pub use outside::Outside;
+pub use rows::ask;
 pub use state::{Begun, GetState, Held, Next, Settled, Stage};

@@ -21,8 +21,8 @@ fn deadline(moment: Moment, timeout: Duration) -> Option<Moment>
     Some(Moment(moment.0.checked_add(nanos)?))
 }
 
-/// A connection that comes back is asked whether it is broken.
-pub(crate) fn ask<C, V, P, E, X: Outside<C, E, Checking = V>>(
+/// A connection that comes back is asked whether it is broken. Our own.
+pub fn ask<C, V, P, E, X: Outside<C, E, Checking = V>>(
     pool: &mut X,
     taken: Taken<C, P>,
 ) -> Returned<C, P>

@@ -137,7 +137,8 @@ impl<C, V, P> GetState<C, V, P> {
               answer = Ready (Ok taken);
               stage = self.new.stage;
             }) pool.new) }
-        ensures unserved { IfNone result.1 (Unserved X.GetHome X.Outside self.old.stage pool.old result.0 self.new.stage pool.new) }
+        ensures unserved { IfNone result.1 (Unserved X.GetHome X.Outside self.old.stage pool.old
+            result.0 self.new.stage pool.new) }
     {
         match &self.stage {
             Stage::Fresh => {

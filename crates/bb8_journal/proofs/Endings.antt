@@ -15,6 +15,7 @@ use Rattle.bb8_ledger.proofs.Waiters.{alive_counted, begins_alive, notify_alive}
 use Rattle.bb8_ledger.proofs.Effects.{by_fit}
 use Rattle.bb8_ledger.proofs.GetEffects.{trier_leaves, trier_holds, holder_ends, holder_turns, left_alive, left_told_alive}
 use Rattle.bb8_ledger.proofs.Laws.{alive_get}
+use Rattle.bb8_tables.specs.Lent.{none_lent}
 use Rattle.bb8_core.specs.Shown.{Shown, HasLedger}
 use Rattle.bb8_core.proofs.Fitting.{shown}
 use Rattle.bb8_core.specs.Parts.{out_of, Moves}
@@ -85,7 +86,7 @@ module _ {C : Type 0} where
   ends_at l at e a legal allowed =
       by_fit (fits l e) _ _ (Ends (fits l e && is_ending e) (endings_of (shown l)) (endings_of (shown (Later l at e a)))) allowed
       (λ t row. subst (λ (b : Bool). Ends (b && is_ending e) (endings_of (shown l)) (endings_of (shown (Later l at e a)))) (sym t)
-      (row_ends l at e a (out_of (shown l)) (out_of (shown (Later l at e a))) t row (counted_at l at e a 0 0 0 0 legal allowed).moves))
+      (row_ends l at e a (out_of (shown l)) (out_of (shown (Later l at e a))) t row (counted_at l at e a none_lent none_lent legal allowed).moves))
       (λ t is. subst (λ (b : Bool). Ends (b && is_ending e) (endings_of (shown l)) (endings_of (shown (Later l at e a)))) (sym t)
       (let same : endings_of (shown (Later l at e a)) ≡ endings_of (shown l) =
       ap (λ (b : Answer). endings_of (shown (Later l at e b))) is ∙ ap endings_of (unfit_now l (shown l) at e t refl).1 in omega arith))

@@ -1,15 +1,5 @@
 -- What a get holds its last fitting try took; so with the check on nothing is served unchecked.
-use Rattle.std.proofs.Common.{◌≡◌, ◌≢◌, ℕ, max, Bool, true, false, cond, eqb, Some, None, sym, ap, ◌∙◌, refl, ne_eqb}
-use Rattle.bb8_types.specs.declared.grants.Grant.{Grant}
-use Rattle.bb8_types.specs.declared.standing.GetPlace.TheVariants.{Active, Holding}
-use Rattle.bb8_types.specs.declared.standing.Getting.{Getting}
-use Rattle.bb8_types.specs.Numbered.{Numbered, update, after_end}
-use Rattle.bb8_ledger.specs.Acts.{Act}
-use Rattle.bb8_ledger.specs.Answers.{Answer, Taken}
-use Rattle.bb8_ledger.specs.Ledger.{Ledger, Later, start, position, latest, gets, get_of, get_at_place, at_wait}
-use Rattle.bb8_types.specs.Places.{holds, is_trying}
-use Rattle.bb8_ledger.specs.Table.{Row, begins, waits_on, serves, takes_out, waits, checks, check_fails, gives_up, gives_up_kept, gives_up_closed, keeps, returns_closed, opens, adds, IsLegal, fits}
-use Rattle.bb8_ledger.specs.Limits.{HasTaken, last_try, ServesChecked, NeverServesUnchecked}
+use Rattle.bb8_ledger.proofs.Words.{◌≡◌, ◌≢◌, ℕ, max, Bool, true, false, cond, eqb, Some, None, sym, ap, ◌∙◌, refl, ne_eqb, Grant, Active, Holding, Getting, Numbered, update, after_end, Act, Answer, Taken, Ledger, Later, start, position, latest, gets, get_of, get_at_place, at_wait, holds, is_trying, Row, begins, waits_on, serves, takes_out, waits, checks, check_fails, gives_up, gives_up_kept, gives_up_closed, keeps, returns_closed, opens, adds, IsLegal, fits, HasTaken, last_try, ServesChecked, NeverServesUnchecked}
 use Rattle.bb8_ledger.proofs.Waiters.{getting_is}
 use Rattle.bb8_ledger.proofs.Effects.{each_legal}
 use Rattle.bb8_ledger.proofs.GetEffects.{held_at, taken_same, other_holds, put_nothing, waits_nothing, told_holds, begun_holds}

@@ -1,22 +1,10 @@
 -- What one event of a legal ledger does to the records and to the gets, by the place that it moves from and the place that it moves to.
-use Rattle.std.proofs.Common.{◌≡◌, ◌≢◌, ◌⊎◌, ℕ, zero, suc, ◌+◌, ◌*◌, ◌<◌, ◌≤◌, max, Bool, ◌||◌, true, false, cond, eqb, List, [], ◌∷◌, ◌++◌, length, take, drop, ◌-◌, map, Option, Some, None, slice_get, option_map, option_and_then, refl, sym, ap, ◌∙◌, ⊎_elim, inl, inr, arith, subst, length-append, ne_eqb, MatchBool}
-use Rattle.std.proofs.lemmas.List.{length-map}
-use Rattle.std.proofs.Math.Seq.{take-length}
-use Rattle.std.specs.Option.{unwrap_or}
-use Rattle.bb8_types.specs.declared.standing.Place.{Place}
-use Rattle.bb8_types.specs.declared.standing.Place.TheVariants.{Unclaimed, Claimed, Idle, Held, Guarded}
-use Rattle.bb8_types.specs.declared.standing.Standing.{Standing}
-use Rattle.bb8_types.specs.Settings.{Settings, is_lawful}
-use Rattle.bb8_ledger.specs.Acts.{Act, Leave}
-use Rattle.bb8_ledger.specs.Answers.{Answer, Left, Unfit}
-use Rattle.bb8_types.specs.Numbered.{Numbered, at as at_number, update, numbers, in_order, one, standing_at, after_end, after_end_where}
-use Rattle.bb8_ledger.specs.Ledger.{Ledger, Opening, Later, Start, start, position, latest, handles, records, conns, approved, idle_count, out, idle, idle_at, first_idle, unclaimed, record_of, with_ended, outlived, idled, reaped, over_idle_at, tally_places, conns_of, approved_of, idle_of, at_place, entry, at_entry, approval, with_approvals}
-use Rattle.bb8_types.specs.Places.{first_place, stands, is_conn, is_approval, is_idle, is_out, is_unclaimed, is_claimed, is_guarded, is_held_by, idles_out, lives_out, is_left, with_place}
-use Rattle.bb8_ledger.specs.Table.{Row, IsLegal, Allowed, fits, with_record, reaped_at, outlived_at, idled_at}
-use Rattle.bb8_types.proofs.Places.{standing_is, unclaimed_is, claimed_is, guarded_is, idle_is, and_right}
+use Rattle.bb8_ledger.proofs.Words.{◌≡◌, ◌≢◌, ◌⊎◌, ℕ, zero, suc, ◌+◌, ◌<◌, ◌≤◌, max, Bool, ◌||◌, true, false, cond, eqb, List, [], ◌∷◌, ◌++◌, length, take, drop, ◌-◌, map, Option, Some, None, slice_get, option_map, option_and_then, refl, sym, ap, ◌∙◌, ⊎_elim, inl, inr, arith, subst, length-append, ne_eqb, length-map, take-length, unwrap_or, Place, Unclaimed, Idle, Held, Guarded, Standing, Settings, is_lawful, Act, Leave, Answer, Left, Unfit, Numbered, at_number, update, numbers, in_order, one, standing_at, after_end, after_end_where, Ledger, Opening, Later, Start, start, position, latest, handles, records, conns, approved, idle_count, out, idle, idle_at, first_idle, unclaimed, record_of, with_ended, outlived, idled, reaped, over_idle_at, tally_places, conns_of, approved_of, idle_of, at_place, entry, at_entry, approval, with_approvals, first_place, stands, is_conn, is_approval, is_idle, is_out, is_unclaimed, is_claimed, is_guarded, is_held_by, idles_out, lives_out, is_left, with_place, Row, IsLegal, Allowed, fits, with_record, reaped_at, outlived_at, idled_at, standing_is, unclaimed_is, claimed_is, guarded_is, idle_is, and_right, ◌*◌}
+use Rattle.std.proofs.Common.{MatchBool}
+use Rattle.bb8_types.specs.declared.standing.Place.TheVariants.{Claimed}
 use Rattle.bb8_types.proofs.Numbered as numbered
 use Rattle.bb8_ledger.proofs.Facts.{conns_split}
-use Rattle.bb8_ledger.proofs.Waiters.{tally_update}
+use Rattle.bb8_ledger.proofs.Waiters.{tally_update, changed_tally}
 
 -- which way a test went, with what it says
 pub by_fit : (b : Bool) (P Q G : Type 0) → MatchBool b P Q → (b ≡ true → P → G) → (b ≡ false → Q → G) → G
@@ -55,6 +43,34 @@ module _ {R : Type 0} where
           → cond b (Some (f r)) (at_number (suc n) (map f rs) q) ≡ option_map f (cond b (Some r) (at_number (suc n) rs q))
       pick true ih = refl
       pick false ih = ih
+
+  -- what is shown of an element, once one has changed that shows this then
+  pub updated_shows : {X : Type 0} (show : Option R → X) (rs : List R) (n k q : ℕ) (f : R → R) (x : X) → show (option_map f (at_number n rs k)) ≡ x
+      → show (at_number n (update n k f rs) q) ≡ cond (eqb q k) x (show (at_number n rs q))
+  updated_shows show rs n k q f x is =
+      ⊎_elim
+      (λ (t : (eqb q k ≡ true) × (q ≡ k)). rw t.0 (ap (λ (i : ℕ). show (at_number n (update n k f rs) i)) t.1 ∙ ap show (at_same rs n k f) ∙ is))
+      (λ (t : (eqb q k ≡ false) × (q ≢ k)). rw t.0 (ap show (at_other rs n k q f t.1)))
+      (numbered.same_or_not q k)
+
+  -- one has changed, and shows the same
+  pub updated_same : {X : Type 0} (show : Option R → X) (rs : List R) (n k q : ℕ) (f : R → R) → show (option_map f (at_number n rs k)) ≡ show (at_number n rs k)
+      → show (at_number n (update n k f rs) q) ≡ show (at_number n rs q)
+  updated_same show rs n k q f is =
+      ⊎_elim
+      (λ (t : (eqb q k ≡ true) × (q ≡ k)). subst (λ (i : ℕ). show (at_number n (update n k f rs) i) ≡ show (at_number n rs i)) (sym t.1) (ap show (at_same rs n k f) ∙ is))
+      (λ (t : (eqb q k ≡ false) × (q ≢ k)). ap show (at_other rs n k q f t.1))
+      (numbered.same_or_not q k)
+
+  -- one has come that shows as much as none
+  pub appended_same : {X : Type 0} (show : Option R → X) (rs : List R) (n q : ℕ) (new : R) → show (Some new) ≡ show None
+      → show (at_number n (rs ++ new ∷ []) q) ≡ show (at_number n rs q)
+  appended_same show rs n q new is =
+      ap show (numbered.at-append rs new n q)
+      ∙ ⊎_elim
+      (λ (t : (eqb q (n + length rs) ≡ true) × (q ≡ n + length rs)). rw t.0 (is ∙ sym (ap show (numbered.at-past rs n q (omega (arith, t.1))))))
+      (λ (t : (eqb q (n + length rs) ≡ false) × (q ≢ n + length rs)). rw t.0 refl)
+      (numbered.same_or_not q (n + length rs))
 
 module _ {C : Type 0} where
   -- ---- one event after another
@@ -165,92 +181,72 @@ module _ {C : Type 0} where
     pub many_are : length rs ≡ length (records l) + more + n
 
   pub stays_sized : (l : Ledger C) → Sized l None None 0 0 (records l)
-  stays_sized l = record { conns_are = refl; approved_are = omega arith; idle_are = refl; out_are = refl; many_are = omega arith }
+  stays_sized l = omega arith
 
   turned_tally : (l : Ledger C) (k : ℕ) (p : Place C) (q : Option (Place C)) (f : Numbered (Standing C) → Numbered (Standing C))
       (test : Place C → Bool) → Turns l k p q f → tally_places test (with_record l k f) + one (test p) ≡ tally_places test (records l) + one
       (passes test q)
   turned_tally l k p q f test t =
       let m = numbered.standing_found (records l) (start l).first k t.standing t.was in
-      let moved : tally_places test (with_record l k f) + one (stands test m.0.standing) ≡ tally_places test (records l) + one
-      (stands test (f m.0).standing) = tally_update (λ (r : Numbered (Standing C)). stands test r.standing) (records l)
-      (start l).first k f m.0 m.1 in
-      let from : one (stands test m.0.standing) ≡ one (test p) = ap one (ap (stands test) m.2 ∙ ap test t.from) in
+      let from : one (test t.standing.place) ≡ one (test p) = ap one (ap test t.from) in
       let to : one (stands test (f m.0).standing) ≡ one (passes test q) = ap one (stands_by_place test (f m.0).standing ∙ ap (passes test) (t.to m.0 m.2)) in
-      omega arith
+      omega (arith, changed_tally (stands test) f (records l) (start l).first k m.0 (Some t.standing) m.1 m.2)
 
   pub turned_sized : {l : Ledger C} {k : ℕ} {p : Place C} {q : Option (Place C)} {f : Numbered (Standing C) → Numbered (Standing C)} → Turns l k p q f → Sized l (Some p) q 0 0 (with_record l k f)
-  turned_sized {l} {k} {p} {q} {f} t = record {
-    conns_are = turned_tally l k p q f is_conn t;
-    approved_are = omega (arith, turned_tally l k p q f is_approval t);
-    idle_are = turned_tally l k p q f is_idle t;
-    out_are = turned_tally l k p q f is_out t;
-    many_are = omega (arith, numbered.length-update (records l) (start l).first k f);
-  }
+  turned_sized {l} {k} {p} {q} {f} t =
+      omega (
+        arith,
+        turned_tally l k p q f is_conn t,
+        turned_tally l k p q f is_approval t,
+        turned_tally l k p q f is_idle t,
+        turned_tally l k p q f is_out t,
+        numbered.length-update (records l) (start l).first k f,
+      )
 
   added_tally : (l : Ledger C) (p : Place C) (new : Numbered (Standing C)) (test : Place C → Bool) → place_of new.standing ≡ Some p
       → tally_places test (records l ++ new ∷ []) ≡ tally_places test (records l) + one (test p)
   added_tally l p new test is =
       let new_is : one (stands test new.standing) ≡ one (test p) = ap one (stands_by_place test new.standing ∙ ap (passes test) is) in
-      let more : tally_places test (records l ++ new ∷ []) ≡ tally_places test (records l) + one (stands test new.standing) =
-      numbered.tally-append (λ (r : Numbered (Standing C)). stands test r.standing) (records l) new in
-      omega arith
+      omega (arith, numbered.tally-append (λ (r : Numbered (Standing C)). stands test r.standing) (records l) new)
 
   added_sized : (l : Ledger C) (p : Place C) (new : Numbered (Standing C)) → place_of new.standing ≡ Some p → Sized l None (Some p) 1 0 (records l ++ new ∷ [])
-  added_sized l p new is = record {
-    conns_are = omega (arith, added_tally l p new is_conn is);
-    approved_are = omega (arith, added_tally l p new is_approval is);
-    idle_are = omega (arith, added_tally l p new is_idle is);
-    out_are = omega (arith, added_tally l p new is_out is);
-    many_are = omega (arith, length-append (records l) (new ∷ []));
-  }
+  added_sized l p new is =
+      omega (
+        arith,
+        added_tally l p new is_conn is,
+        added_tally l p new is_approval is,
+        added_tally l p new is_idle is,
+        added_tally l p new is_out is,
+        length-append (records l) (new ∷ []),
+      )
 
   -- a connection is added
   pub adds_sized : (l : Ledger C) (at : ℕ) (c : C) → Sized l None (Some (Idle c)) 1 0 (records l ++ entry c (max (latest l) at) (max (latest l) at) (position l) ∷ [])
   adds_sized l at c = added_sized l (Idle c) (entry c (max (latest l) at) (max (latest l) at) (position l)) refl
 
-  -- approvals are made: each is an approval, claimed or not
-  approve_tally : (test : Place C → Bool) (z : ℕ) (claimed : Bool) (n : ℕ) (rs : List (Numbered (Standing C)))
-      → one (stands test (approval {C = C} claimed).standing) ≡ z
-      → tally_places test (with_approvals claimed n rs) ≡ tally_places test rs + z * n
-  approve_tally test z claimed zero rs is = omega arith
-  approve_tally test z claimed (suc n) rs is =
-      let e : tally_places test (with_approvals claimed n rs ++ approval claimed ∷ []) ≡ tally_places test
-      (with_approvals claimed n rs) + one (stands test (approval {C = C} claimed).standing) =
-      numbered.tally-append (λ (r : Numbered (Standing C)). stands test r.standing) (with_approvals claimed n rs) (approval claimed) in
-      let ih : tally_places test (with_approvals claimed n rs) ≡ tally_places test rs + z * n = approve_tally test z claimed n rs is in
-      grind (arith, e, ih, is)
+  -- What stands where once so many approvals are made.
+  pub record Approved (n : ℕ) (rs new : List (Numbered (Standing C))) : Type 0 where
+    pub conns_are : conns_of new ≡ conns_of rs
+    pub approved_are : approved_of new ≡ approved_of rs + n
+    pub idle_are : idle_of new ≡ idle_of rs
+    pub out_are : tally_places is_out new ≡ tally_places is_out rs
+    pub many_are : length new ≡ length rs + n
 
-  pub length-approve : (claimed : Bool) (n : ℕ) (rs : List (Numbered (Standing C))) → length (with_approvals claimed n rs) ≡ length rs + n
-  length-approve claimed zero rs = omega arith
-  length-approve claimed (suc n) rs = let ih : length (with_approvals claimed n rs) ≡ length rs + n = length-approve claimed n rs in
-      omega (arith, length-append (with_approvals claimed n rs) (approval claimed ∷ []))
+  pub approves : (claimed : Bool) (n : ℕ) (rs : List (Numbered (Standing C))) → Approved n rs (with_approvals claimed n rs)
+  approves claimed zero rs = omega arith
+  approves claimed (suc n) rs = one_more claimed (with_approvals claimed n rs) (approves claimed n rs)
+    where
+      more : (test : Place C → Bool) (b : Bool) (new : List (Numbered (Standing C)))
+          → tally_places test (new ++ approval b ∷ []) ≡ tally_places test new + one (stands test (approval {C = C} b).standing)
+      more test b new = numbered.tally-append (λ (r : Numbered (Standing C)). stands test r.standing) new (approval b)
 
-  pub conns-approve : (claimed : Bool) (n : ℕ) (rs : List (Numbered (Standing C))) → conns_of (with_approvals claimed n rs) ≡ conns_of rs
-  conns-approve true n rs = omega (arith, approve_tally is_conn 0 true n rs refl)
-  conns-approve false n rs = omega (arith, approve_tally is_conn 0 false n rs refl)
-
-  pub approved-approve : (claimed : Bool) (n : ℕ) (rs : List (Numbered (Standing C))) → approved_of (with_approvals claimed n rs) ≡ approved_of rs + n
-  approved-approve true n rs = omega (arith, approve_tally is_approval 1 true n rs refl)
-  approved-approve false n rs = omega (arith, approve_tally is_approval 1 false n rs refl)
-
-  pub idle-approve : (claimed : Bool) (n : ℕ) (rs : List (Numbered (Standing C))) → idle_of (with_approvals claimed n rs) ≡ idle_of rs
-  idle-approve true n rs = omega (arith, approve_tally is_idle 0 true n rs refl)
-  idle-approve false n rs = omega (arith, approve_tally is_idle 0 false n rs refl)
-
-  out-approve : (claimed : Bool) (n : ℕ) (rs : List (Numbered (Standing C))) → tally_places is_out (with_approvals claimed n rs) ≡ tally_places is_out rs
-  out-approve true n rs = omega (arith, approve_tally is_out 0 true n rs refl)
-  out-approve false n rs = omega (arith, approve_tally is_out 0 false n rs refl)
+      one_more : (b : Bool) (new : List (Numbered (Standing C))) → Approved n rs new → Approved (suc n) rs (new ++ approval b ∷ [])
+      one_more true new s = omega (arith, s, more is_conn true new, more is_approval true new, more is_idle true new, more is_out true new, length-append new (approval true ∷ []))
+      one_more false new s = omega (arith, s, more is_conn false new, more is_approval false new, more is_idle false new, more is_out false new, length-append new (approval false ∷ []))
 
   pub granted_sized : {l : Ledger C} {p q : Option (Place C)} {more : ℕ} {rs : List (Numbered (Standing C))} (claimed : Bool) (n : ℕ)
       → Sized l p q more 0 rs → Sized l p q more n (with_approvals claimed n rs)
-  granted_sized {rs = rs} claimed n s = record {
-    conns_are = omega (arith, conns-approve claimed n rs, s.conns_are);
-    approved_are = omega (arith, approved-approve claimed n rs, s.approved_are);
-    idle_are = omega (arith, idle-approve claimed n rs, s.idle_are);
-    out_are = omega (arith, out-approve claimed n rs, s.out_are);
-    many_are = omega (arith, length-approve claimed n rs, s.many_are);
-  }
+  granted_sized {rs = rs} claimed n s = omega (arith, s, approves claimed n rs)
 
   -- ---- who holds what
 
@@ -266,29 +262,22 @@ module _ {C : Type 0} where
   pub held_out : (g : ℕ) → IsOut (is_held_by g)
   held_out g = record { unclaimed = refl; claimed = refl; idle = λ c. refl }
 
+  -- whether a record passes, where there is one
+  abbrev pub passing : (Place C → Bool) → Option (Numbered (Standing C)) → Bool
+  passing test o = stands test (option_and_then (λ r. r.standing) o)
+
   -- whether the record j passes, of these records
   abbrev pub tests : (Place C → Bool) → ℕ → List (Numbered (Standing C)) → ℕ → Bool
-  tests test first rs j = stands test (standing_at first rs j)
+  tests test first rs j = passing test (at_number first rs j)
 
   -- one record has moved
   pub turned_tests : {l : Ledger C} {k : ℕ} {p : Place C} {q : Option (Place C)} {f : Numbered (Standing C) → Numbered (Standing C)}
       (test : Place C → Bool) (j : ℕ) → Turns l k p q f
       → tests test (start l).first (with_record l k f) j ≡ cond (eqb j k) (passes test q) (tests test (start l).first (records l) j)
   turned_tests {l} {k} {p} {q} {f} test j t =
-      ⊎_elim
-      (λ (s : (eqb j k ≡ true) × (j ≡ k)). subst (λ (i : ℕ). tests test (start l).first (with_record l k f) i ≡ passes test q)
-      (sym s.1) same ∙ sym (ap (λ (b : Bool). cond b (passes test q) (tests test (start l).first (records l) j)) s.0))
-      (λ (s : (eqb j k ≡ false) × (j ≢ k)). ap (λ (o : Option (Numbered (Standing C))). stands test
-      (option_and_then (λ (r : Numbered (Standing C)). r.standing) o)) (at_other (records l) (start l).first k j f s.1)
-      ∙ sym (ap (λ (b : Bool). cond b (passes test q) (tests test (start l).first (records l) j)) s.0))
-      (numbered.same_or_not j k)
-    where
-      same : tests test (start l).first (with_record l k f) k ≡ passes test q
-      same =
-          let m = numbered.standing_found (records l) (start l).first k t.standing t.was in
-          ap (λ (o : Option (Numbered (Standing C))). stands test (option_and_then (λ (r : Numbered (Standing C)). r.standing) o)) (at_same (records l) (start l).first k f ∙ ap (option_map f) m.1)
-          ∙ stands_by_place test (f m.0).standing
-          ∙ ap (passes test) (t.to m.0 m.2)
+      let m = numbered.standing_found (records l) (start l).first k t.standing t.was in
+      updated_shows (passing test) (records l) (start l).first k j f (passes test q)
+      (ap (λ (o : Option (Numbered (Standing C))). passing test (option_map f o)) m.1 ∙ stands_by_place test (f m.0).standing ∙ ap (passes test) (t.to m.0 m.2))
 
   -- what passed where it stood
   pub turned_from : {l : Ledger C} {k : ℕ} {p : Place C} {q : Option (Place C)} {f : Numbered (Standing C) → Numbered (Standing C)}
@@ -300,29 +289,15 @@ module _ {C : Type 0} where
       (test : Place C → Bool) (j : ℕ) → Turns l k p q f → test p ≡ false → passes test q ≡ false
       → tests test (start l).first (with_record l k f) j ≡ tests test (start l).first (records l) j
   kept_tests {l} {k} {p} {q} {f} test j t was is =
-      turned_tests test j t
-      ∙ ⊎_elim
-      (λ (s : (eqb j k ≡ true) × (j ≡ k)). ap (λ (b : Bool). cond b (passes test q) (tests test (start l).first (records l) j)) s.0 ∙ is
-      ∙ sym (ap (tests test (start l).first (records l)) s.1 ∙ turned_from test t ∙ was))
-      (λ (s : (eqb j k ≡ false) × (j ≢ k)). ap (λ (b : Bool). cond b (passes test q) (tests test (start l).first (records l) j)) s.0)
-      (numbered.same_or_not j k)
+      let m = numbered.standing_found (records l) (start l).first k t.standing t.was in
+      updated_same (passing test) (records l) (start l).first k j f
+      (ap (λ (o : Option (Numbered (Standing C))). passing test (option_map f o)) m.1 ∙ stands_by_place test (f m.0).standing ∙ ap (passes test) (t.to m.0 m.2) ∙ is
+      ∙ sym (turned_from test t ∙ was))
 
   -- a new record that does not pass
   pub added_tests : (test : Place C → Bool) (first j : ℕ) (new : Numbered (Standing C)) (rs : List (Numbered (Standing C)))
       → stands test new.standing ≡ false → tests test first (rs ++ new ∷ []) j ≡ tests test first rs j
-  added_tests test first j new rs off =
-      ap (λ (o : Option (Numbered (Standing C))). stands test (option_and_then (λ (r : Numbered (Standing C)). r.standing) o)) (numbered.at-append rs new first j)
-      ∙ ⊎_elim
-      (λ (t : (eqb j (first + length rs) ≡ true) × (j ≡ first + length rs)).
-      let none : at_number first rs j ≡ None = numbered.at-past rs first j (omega arith) in
-      ap (λ (b : Bool). stands test (option_and_then (λ (r : Numbered (Standing C)). r.standing)
-      (cond b (Some new) (at_number first rs j)))) t.0 ∙ off
-      ∙ sym (ap (λ (o : Option (Numbered (Standing C))). stands test (option_and_then (λ (r : Numbered (Standing C)). r.standing) o))
-      none))
-      (λ (t : (eqb j (first + length rs) ≡ false) × (j ≢ first + length rs)). ap
-      (λ (b : Bool). stands test (option_and_then (λ (r : Numbered (Standing C)). r.standing)
-      (cond b (Some new) (at_number first rs j)))) t.0)
-      (numbered.same_or_not j (first + length rs))
+  added_tests test first j new rs off = appended_same (passing test) rs first j new off
 
   pub granted_tests : (test : Place C → Bool) (first j : ℕ) (claimed : Bool) (n : ℕ) (rs : List (Numbered (Standing C))) → IsOut test
       → tests test first (with_approvals claimed n rs) j ≡ tests test first rs j
@@ -348,13 +323,9 @@ module _ {C : Type 0} where
   pub swept_tests : (test : Place C → Bool) (sweep : Option (Standing C) → Bool) (first j : ℕ) (rs : List (Numbered (Standing C)))
       → ((o : Option (Standing C)) → stands test o ≡ true → sweep o ≡ false)
       → tests test first (map (after_end_where sweep) rs) j ≡ tests test first rs j
-  swept_tests test sweep first j rs spares = ap (λ (o : Option (Numbered (Standing C))). stands test
-      (option_and_then (λ (r : Numbered (Standing C)). r.standing) o)) (at_map rs first j (after_end_where sweep))
-      ∙ each (at_number first rs j)
+  swept_tests test sweep first j rs spares = ap (passing test) (at_map rs first j (after_end_where sweep)) ∙ each (at_number first rs j)
     where
-      each : (o : Option (Numbered (Standing C))) → stands test
-          (option_and_then (λ (r : Numbered (Standing C)). r.standing) (option_map (after_end_where sweep) o)) ≡ stands test
-          (option_and_then (λ (r : Numbered (Standing C)). r.standing) o)
+      each : (o : Option (Numbered (Standing C))) → passing test (option_map (after_end_where sweep) o) ≡ passing test o
       each None = refl
       each (Some r) = spared test sweep spares r
 
@@ -448,46 +419,27 @@ module _ {C : Type 0} where
       record { element = r.0; found = r.1; conn = c.0; passing = λ test. ap (stands test) r.2 ∙ ap test c.1 }
 
   -- a tally loses each of them, or none
-  pub ended_tally : (test : Place C → Bool) (b : Bool) → ((c : C) → test (Idle c) ≡ b) → (first : ℕ) (ks : List ℕ) (rs : List (Numbered (Standing C)))
-      → AllIdle first ks rs → tally_places test (with_ended first ks rs) + cond b (length ks) 0 ≡ tally_places test rs
-  ended_tally test b is first [] rs all = nothing b
-    where
-      nothing : (b : Bool) → tally_places test rs + cond b 0 0 ≡ tally_places test rs
-      nothing true = omega arith
-      nothing false = omega arith
-  ended_tally test b is first (k ∷ ks) rs all =
+  pub ended_tally : (test : Place C → Bool) (z : ℕ) → ((c : C) → one (test (Idle c)) ≡ z) → (first : ℕ) (ks : List ℕ) (rs : List (Numbered (Standing C)))
+      → AllIdle first ks rs → tally_places test (with_ended first ks rs) + z * length ks ≡ tally_places test rs
+  ended_tally test z is first [] rs all = omega arith
+  ended_tally test z is first (k ∷ ks) rs all =
       let r = idle_as first k rs all.0 in
-      let moved : tally_places test (update first k after_end rs) + one (stands test r.element.standing) ≡ tally_places test rs + 0 =
-      tally_update (λ (x : Numbered (Standing C)). stands test x.standing) rs first k after_end r.element r.found in
-      let here : one (stands test r.element.standing) ≡ one b = ap one (r.passing test ∙ is r.conn) in
-      let ih : tally_places test (with_ended first ks (update first k after_end rs)) + cond b (length ks) 0 ≡ tally_places test (update first k after_end rs) =
-      ended_tally test b is first ks (update first k after_end rs) all.1 in
-      let more : cond b (suc (length ks)) 0 ≡ one b + cond b (length ks) 0 = one_more b (length ks) in
-      omega arith
-    where
-      one_more : (b : Bool) (n : ℕ) → cond b (suc n) 0 ≡ one b + cond b n 0
-      one_more true n = omega arith
-      one_more false n = refl
+      let here : one (stands test r.element.standing) ≡ z = ap one (r.passing test) ∙ is r.conn in
+      omega (
+        arith,
+        tally_update (λ (x : Numbered (Standing C)). stands test x.standing) rs first k after_end r.element r.found,
+        ended_tally test z is first ks (update first k after_end rs) all.1,
+      )
 
   -- and what is out stays
   ended_tests : (test : Place C → Bool) → IsOut test → (first : ℕ) (ks : List ℕ) (rs : List (Numbered (Standing C))) (j : ℕ)
       → AllIdle first ks rs → tests test first (with_ended first ks rs) j ≡ tests test first rs j
   ended_tests test o first [] rs j all = refl
-  ended_tests test o first (k ∷ ks) rs j all = ended_tests test o first ks (update first k after_end rs) j all.1
-      ∙ ⊎_elim
-      (λ (t : (eqb j k ≡ true) × (j ≡ k)). ap (tests test first (update first k after_end rs)) t.1 ∙ gone ∙ sym (ap (tests test first rs) t.1 ∙ was))
-      (λ (t : (eqb j k ≡ false) × (j ≢ k)). ap (λ (o : Option (Numbered (Standing C))). stands test (option_and_then (λ (x : Numbered (Standing C)). x.standing) o)) (at_other rs first k j after_end t.1))
-      (numbered.same_or_not j k)
-    where
-      gone : tests test first (update first k after_end rs) k ≡ false
-      gone =
-          let r = idle_as first k rs all.0 in
-          ap (λ (o : Option (Numbered (Standing C))). stands test (option_and_then (λ (x : Numbered (Standing C)). x.standing) o)) (at_same rs first k after_end ∙ ap (option_map after_end) r.found)
-
-      was : tests test first rs k ≡ false
-      was =
-          let r = idle_as first k rs all.0 in
-          ap (λ (o : Option (Numbered (Standing C))). stands test (option_and_then (λ (x : Numbered (Standing C)). x.standing) o)) r.found ∙ r.passing test ∙ o.idle r.conn
+  ended_tests test o first (k ∷ ks) rs j all =
+      let r = idle_as first k rs all.0 in
+      ended_tests test o first ks (update first k after_end rs) j all.1
+      ∙ updated_same (passing test) rs first k j after_end
+      (ap (λ (x : Option (Numbered (Standing C))). passing test (option_map after_end x)) r.found ∙ sym (ap (passing test) r.found ∙ r.passing test ∙ o.idle r.conn))
 
   ended_length : (first : ℕ) (ks : List ℕ) (rs : List (Numbered (Standing C))) → length (with_ended first ks rs) ≡ length rs
   ended_length first [] rs = refl
@@ -525,7 +477,7 @@ module _ {C : Type 0} where
   outlived_line s now = record {
     idle = λ rs k rest h.
         let m = numbered.numbers_member (λ (r : Numbered (Standing C)). lives_out s.config now r.standing) rs s.first 0 k (ap (λ (xs : List ℕ). slice_get xs 0) h) in
-        ap (λ (o : Option (Numbered (Standing C))). stands is_idle (option_and_then (λ (x : Numbered (Standing C)). x.standing) o)) m.1
+        ap (passing is_idle) m.1
         ∙ lives_idle s.config now m.0.standing m.2;
     leaves = λ rs k rest h.
         let m = numbered.numbers_member (λ (r : Numbered (Standing C)). lives_out s.config now r.standing) rs s.first 0 k (ap (λ (xs : List ℕ). slice_get xs 0) h) in
@@ -542,7 +494,7 @@ module _ {C : Type 0} where
   over_idle_line s m now = record {
     idle = λ rs k rest h.
         let x = numbered.in_order_member (over_idle_at s.config now) rs s.first m 0 k (ap (λ (xs : List ℕ). slice_get xs 0) h) in
-        ap (λ (o : Option (Numbered (Standing C))). stands is_idle (option_and_then (λ (x : Numbered (Standing C)). x.standing) o)) x.1
+        ap (passing is_idle) x.1
         ∙ idles_idle s.config now x.0.standing (and_right (idles_out s.config now x.0.standing) _ x.4).0;
     leaves = λ rs k rest h.
         let x = numbered.in_order_member (over_idle_at s.config now) rs s.first m 0 k (ap (λ (xs : List ℕ). slice_get xs 0) h) in
@@ -578,24 +530,18 @@ module _ {C : Type 0} where
   reaped_sized l at =
       let ks : List ℕ = reaped_at l at in
       let all = reaped_idle (start l) (position l) (max (latest l) at) (records l) in
-      record {
-        conns_are = ended_tally is_conn true (λ c. refl) (start l).first ks (records l) all;
-        approved_are = omega (arith, ended_tally is_approval false (λ c. refl) (start l).first ks (records l) all);
-        idle_are = ended_tally is_idle true (λ c. refl) (start l).first ks (records l) all;
-        out_are = omega (arith, ended_tally is_out false (λ c. refl) (start l).first ks (records l) all);
-        many_are = omega (arith, ended_length (start l).first ks (records l));
-        few = omega (arith, length-append (outlived_at l at) (idled_at l at));
-      }
+      omega (
+        arith,
+        ended_tally is_conn 1 (λ c. refl) (start l).first ks (records l) all,
+        ended_tally is_approval 0 (λ c. refl) (start l).first ks (records l) all,
+        ended_tally is_idle 1 (λ c. refl) (start l).first ks (records l) all,
+        ended_tally is_out 0 (λ c. refl) (start l).first ks (records l) all,
+        ended_length (start l).first ks (records l),
+        length-append (outlived_at l at) (idled_at l at),
+      )
 
   pub granted_reaped : {l : Ledger C} {closed life : ℕ} {rs : List (Numbered (Standing C))} (n : ℕ) → AreReaped l closed life 0 rs → AreReaped l closed life n (with_approvals false n rs)
-  granted_reaped {rs = rs} n s = record {
-    conns_are = omega (arith, conns-approve false n rs, s.conns_are);
-    approved_are = omega (arith, approved-approve false n rs, s.approved_are);
-    idle_are = omega (arith, idle-approve false n rs, s.idle_are);
-    out_are = omega (arith, out-approve false n rs, s.out_are);
-    many_are = omega (arith, length-approve false n rs, s.many_are);
-    few = s.few;
-  }
+  granted_reaped {rs = rs} n s = omega (arith, s, approves false n rs)
 
   -- the last leave ends each idle one, and no approval is there that was not
   left_each : (r : Numbered (Standing C)) → (one (stands is_idle (after_end_where is_left r).standing) ≡ 0)

@@ -1,24 +1,11 @@
 -- What holds of every ledger.
-use Rattle.std.proofs.Common.{◌≡◌, ℕ, zero, suc, ◌+◌, ◌≤◌, ◌<◌, max, Bool, true, false, cond, eqb, List, [], ◌∷◌, length, map, Option, Some, None, refl, sym, ◌∙◌, arith, option_map, slice_get, ◌-◌}
-use Rattle.bb8_types.specs.declared.standing.Place.{Place}
-use Rattle.bb8_types.specs.declared.standing.Place.TheVariants.{Unclaimed, Claimed, Idle, Held, Guarded}
-use Rattle.bb8_types.specs.declared.standing.Standing.{Standing}
-use Rattle.bb8_types.specs.declared.standing.GetPlace.{GetPlace}
-use Rattle.bb8_types.specs.declared.standing.GetPlace.TheVariants.{Active, Holding}
+use Rattle.bb8_ledger.proofs.Words.{◌≡◌, ℕ, suc, ◌+◌, ◌≤◌, ◌<◌, max, Bool, true, false, cond, List, [], ◌∷◌, length, Option, Some, None, refl, sym, ◌∙◌, arith, option_map, ◌-◌, Place, Unclaimed, Idle, Held, Guarded, Standing, GetPlace, Active, Holding, Getting, QueueStrategy, Fifo, Lifo, Act, Begin, Try, CheckedOk, CheckedErr, GiveUp, PutBack, Opened, Add, Answer, Begun, Served, Taken, Kept, Closed, GaveUp, Entered, Added, Unfit, Numbered, update, in_order, tally, one, after_end, Ledger, Opening, Later, Start, start, position, latest, records, with_ended, gets, gets_after, conns, approved, conns_of, idle_of, alive, peak, get_peak, idle_at, unnotified_at, at_place, new_get, get_at_place, at_wait, with_notice, idle, idle_count, is_unnotified, gets_stand, stands, is_idle, is_conn, is_out, with_place, get_with_place, get_in_wait, first_of, Before, and_right, standing_is}
+use Rattle.bb8_types.specs.declared.standing.Place.TheVariants.{Claimed}
 use Rattle.bb8_types.specs.declared.standing.GetPlace.TheVariants as get_places
-use Rattle.bb8_types.specs.declared.standing.Getting.{Getting}
-use Rattle.bb8_types.specs.declared.api.configuration.QueueStrategy.{QueueStrategy}
-use Rattle.bb8_types.specs.declared.api.configuration.QueueStrategy.TheVariants.{Fifo, Lifo}
-use Rattle.bb8_ledger.specs.Acts.{Act, Begin, Try, CheckedOk, CheckedErr, GiveUp, PutBack, Fill, Claim, Opened, Failed, Add, Reap, Leave}
-use Rattle.bb8_ledger.specs.Answers.{Answer, Begun, Served, Taken, Waiting, Kept, Closed, GaveUp, Granted, Entered, Late, GivenBack, Added, Reaped, Left, Unfit}
-use Rattle.bb8_ledger.specs.Answers as answers
-use Rattle.bb8_types.specs.Numbered.{Numbered, update, in_order, tally, one, after_end, after_end_where}
-use Rattle.bb8_ledger.specs.Ledger.{Ledger, Opening, Later, Start, start, position, latest, handles, records, records_after, reaped, with_ended, gets, gets_after, conns, approved, conns_of, idle_of, alive, peak, get_peak, idle_at, unnotified_at, at_place, entry, new_get, get_at_place, at_wait, with_notice, idle, idle_count}
-use Rattle.bb8_types.specs.Places.{is_unnotified, gets_stand, stands, is_idle, is_conn, is_out, is_left, with_place, birth_in, get_with_place, get_in_wait, first_of}
-use Rattle.bb8_types.proofs.Numbered.{Before}
+use Rattle.bb8_ledger.specs.Answers.{Waiting}
 use Rattle.bb8_types.proofs.Numbered as numbered
-use Rattle.bb8_ledger.proofs.Standings.{before-approve}
-use Rattle.bb8_types.proofs.Places.{and_right}
+use Rattle.bb8_ledger.proofs.Waiters.{none_past}
+use Rattle.bb8_ledger.proofs.Moments.{AreUpTo, up_to_latest}
 
 -- a test that a get's place fails
 off_get : (p : GetPlace) (o : Option Getting) → is_unnotified p ≡ false → gets_stand is_unnotified (option_map (get_with_place p) o) ≡ true → ⊥
@@ -42,17 +29,10 @@ waits_before first m now k gs b = numbered.before-update_kept unnotified_at gs f
     pick g was p true h = was p h
     pick g was p false h = let e : m ≡ p = numbered.tested m p (and_right (gets_stand is_unnotified (option_map (get_in_wait now) g.standing)) _ h).1 in omega arith
 
--- somebody is first in a line
-pub first_inside : (strategy : QueueStrategy) (xs : List ℕ) → 0 < length xs → (k : ℕ) × (first_of strategy xs ≡ Some k)
-first_inside Fifo [] h = absurd (omega arith)
-first_inside Fifo (x ∷ xs) h = (x, refl)
-first_inside Lifo [] h = absurd (omega arith)
-first_inside Lifo (x ∷ xs) h = let last = inside (x ∷ xs) (length (x ∷ xs) - 1) (omega arith) in last
-  where
-    inside : (ys : List ℕ) (i : ℕ) → i < length ys → (k : ℕ) × (slice_get ys i ≡ Some k)
-    inside [] i h = absurd (omega arith)
-    inside (y ∷ ys) zero h = (y, refl)
-    inside (y ∷ ys) (suc i) h = inside ys i (omega arith)
+-- where nobody is first there is nobody
+pub none_first : (strategy : QueueStrategy) (xs : List ℕ) → first_of strategy xs ≡ None → length xs ≡ 0
+none_first Fifo xs h = omega (arith, none_past xs 0 h)
+none_first Lifo xs h = omega (arith, none_past xs (length xs - 1) h)
 
 module _ {C : Type 0} where
   -- ---- nobody entered, or began to wait, after now
@@ -67,49 +47,22 @@ module _ {C : Type 0} where
   pub ended_before : (m first k : ℕ) (rs : List (Numbered (Standing C))) → Before idle_at m rs → Before idle_at m (update first k after_end rs)
   ended_before m first k rs b = numbered.ended_before (stands is_idle) rs first k m refl b
 
-  ended_where_before : (m : ℕ) (test : Option (Standing C) → Bool) (rs : List (Numbered (Standing C))) → Before idle_at m rs → Before idle_at m (map (after_end_where test) rs)
-  ended_where_before m test rs b = numbered.before-map idle_at rs (after_end_where test) m b (λ r was p h. pick r was p (test r.standing) h)
-    where
-      pick : (r : Numbered (Standing C)) → ((p : ℕ) → idle_at p r ≡ true → p < m) → (p : ℕ) (t : Bool) → idle_at p (cond t (after_end r) r) ≡ true → p < m
-      pick r was p true h = cc
-      pick r was p false h = was p h
-
   pub ended_all_before : (m first : ℕ) (ks : List ℕ) (rs : List (Numbered (Standing C))) → Before idle_at m rs → Before idle_at m (with_ended first ks rs)
   ended_all_before m first [] rs b = b
   ended_all_before m first (k ∷ ks) rs b = ended_all_before m first ks (update first k after_end rs) (ended_before m first k rs b)
 
-  entry_before : (m first k now : ℕ) (c : C) (birth : Numbered (Standing C) → ℕ) (rs : List (Numbered (Standing C)))
-      → Before idle_at (suc m) rs → Before idle_at (suc m) (update first k (λ r. entry c (birth r) now m) rs)
-  entry_before m first k now c birth rs b = numbered.before-update idle_at rs first k (λ r. entry c (birth r) now m) (suc m) b (λ r q h. let e : m ≡ q = numbered.tested m q h in omega arith)
-
-  records_before : (s : Start) (h m now : ℕ) (rs : List (Numbered (Standing C))) (e : Act C) (a : Answer) → Before idle_at (suc m) rs → Before idle_at (suc m) (records_after s h m now rs e a)
-  records_before s h m now rs e Unfit b = b
-  records_before s h m now rs (Try g) (Served k grant) b = before-approve false grant.count (suc m) _ (put_before (suc m) s.first k Guarded rs refl b)
-  records_before s h m now rs (Try g) (Taken k grant) b = before-approve false grant.count (suc m) _ (put_before (suc m) s.first k (Held g) rs refl b)
-  records_before s h m now rs (Try g) (Waiting grant) b = before-approve false grant.count (suc m) rs b
-  records_before s h m now rs (CheckedOk g) (Served k grant) b = put_before (suc m) s.first k Guarded rs refl b
-  records_before s h m now rs (CheckedErr g broken) (Closed k grant n) b = before-approve false grant.count (suc m) _ (ended_before (suc m) s.first k rs b)
-  records_before s h m now rs (GiveUp g why (Some c) broken) (Kept k n) b = entry_before m s.first k now c (λ r. birth_in r.standing) rs b
-  records_before s h m now rs (GiveUp g why held broken) (Closed k grant n) b = before-approve false grant.count (suc m) _ (ended_before (suc m) s.first k rs b)
-  records_before s h m now rs (PutBack k c broken) (Kept j n) b = entry_before m s.first k now c (λ r. birth_in r.standing) rs b
-  records_before s h m now rs (PutBack k c broken) (Closed j grant n) b = before-approve false grant.count (suc m) _ (ended_before (suc m) s.first k rs b)
-  records_before s h m now rs (Fill claimed) (Granted grant) b = before-approve claimed grant.count (suc m) rs b
-  records_before s h m now rs Claim (answers.Claimed (Some k)) b = put_before (suc m) s.first k Claimed rs refl b
-  records_before s h m now rs (Opened k c) (Entered j n) b = entry_before m s.first k now c (λ r. now) rs b
-  records_before s h m now rs (Opened k c) (Late j) b = ended_before (suc m) s.first k rs b
-  records_before s h m now rs (Failed k) GivenBack b = ended_before (suc m) s.first k rs b
-  records_before s h m now rs (Add c broken) (Added k n) b = numbered.before-append idle_at rs (entry c now now m) (suc m) b (λ p t. let e : m ≡ p = numbered.tested m p t in omega arith)
-  records_before s h m now rs Reap (Reaped closed by_idle by_life grant) b = before-approve false grant.count (suc m) _ (ended_all_before (suc m) s.first (reaped s m now rs) rs b)
-  records_before s h m now rs Leave (Left c) b = last (eqb h 1)
-    where
-      last : (t : Bool) → Before idle_at (suc m) (cond t (map (after_end_where is_left) rs) rs)
-      last true = ended_where_before (suc m) is_left rs b
-      last false = b
-  records_before s h m now rs _ _ b = b
-
   pub entered_before : (l : Ledger C) → Before idle_at (position l) (records l)
-  entered_before (Opening s) = tt
-  entered_before (Later l at e a) = records_before (start l) (handles l) (position l) (max (latest l) at) (records l) e a (numbered.before_later idle_at (records l) (position l) (entered_before l))
+  entered_before l = go (records l) (up_to_latest l)
+    where
+      go : (rs : List (Numbered (Standing C))) → AreUpTo (latest l) (position l) rs → Before idle_at (position l) rs
+      go [] u = tt
+      go (r ∷ rs) u = (
+        λ p h.
+            let t = and_right (stands is_idle r.standing) _ h in
+            let s = standing_is is_idle r.standing t.0 in
+            omega (arith, (u.0 s.0 s.1).2 s.2, numbered.tested r.position p t.1),
+        go rs u.1,
+      )
 
   gets_before : (s : Start) (m now : ℕ) (gs : List (Numbered Getting)) (e : Act C) (a : Answer) → Before unnotified_at (suc m) gs → Before unnotified_at (suc m) (gets_after s m now gs e a)
   gets_before s m now gs e Unfit b = b

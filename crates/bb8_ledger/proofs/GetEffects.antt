@@ -1,32 +1,21 @@
 -- What one event does to the gets, where a get that was not in line ends or moves to a place where it does not wait.
-use Rattle.std.proofs.Common.{max, ◌≡◌, ◌≢◌, ℕ, suc, ◌+◌, ◌-◌, min, Bool, true, false, cond, eqb, List, [], ◌∷◌, ◌++◌, length, Option, Some, None, is_some, slice_get, option_map, option_and_then, refl, sym, ap, ◌∙◌, ⊎_elim, arith}
-use Rattle.bb8_types.specs.declared.standing.GetPlace.{GetPlace}
-use Rattle.bb8_types.specs.declared.standing.GetPlace.TheVariants.{Active, Waiting, Holding}
-use Rattle.bb8_types.specs.declared.standing.Getting.{Getting}
-use Rattle.bb8_types.specs.Numbered.{Numbered, at as at_number, update, in_order, one, standing_at, after_end}
-use Rattle.bb8_ledger.specs.Ledger.{Ledger, start, position, latest, gets, alive, notified, unnotified, unnotified_at, oldest_waiter, get_of, tally_gets, alive_of, new_get, get_at_place, at_wait, with_notice}
-use Rattle.bb8_types.specs.Places.{holds, held_in, gets_stand, is_notified, is_unnotified, get_with_place, get_in_wait, is_trying}
-use Rattle.bb8_types.proofs.Numbered.{Before}
+use Rattle.bb8_ledger.proofs.Words.{length-append, ◌≤◌, max, ◌≡◌, ◌≢◌, ℕ, suc, ◌+◌, ◌-◌, min, Bool, true, false, cond, eqb, List, [], ◌∷◌, ◌++◌, length, Option, Some, None, is_some, slice_get, option_map, option_and_then, refl, sym, ap, ◌∙◌, ⊎_elim, arith, GetPlace, Active, Holding, Getting, Numbered, at_number, update, in_order, one, standing_at, after_end, Ledger, start, position, latest, gets, alive, notified, unnotified, unnotified_at, oldest_waiter, get_of, tally_gets, alive_of, new_get, get_at_place, at_wait, with_notice, holds, held_in, gets_stand, is_notified, is_unnotified, get_with_place, get_in_wait, is_trying, Before, and_right}
+use Rattle.bb8_types.specs.declared.standing.GetPlace.TheVariants.{Waiting}
 use Rattle.bb8_types.proofs.Numbered as numbered
 use Rattle.bb8_ledger.proofs.Facts.{waited_before}
-use Rattle.bb8_types.proofs.Places.{and_right}
-use Rattle.bb8_ledger.proofs.Waiters.{getting_is, is_waiting, unnotified_waits, notified_waits, tally_update, notify_length, notify_alive, notify_counted, same_line, InLine, line_later, line_left, line_notified}
-use Rattle.bb8_ledger.proofs.Effects.{at_other, at_same}
+use Rattle.bb8_ledger.proofs.Waiters.{waits_on_same, begins_counted, waiters_few, IsGivenUp, given_up_counted, alive_counted, begins_alive, getting_is, is_waiting, unnotified_waits, notified_waits, changed_tally, notify_length, notify_alive, notify_counted, same_line, InLine, line_later, line_left, line_notified}
+use Rattle.bb8_ledger.proofs.Effects.{updated_shows, updated_same, appended_same}
+
+never_then : {a b : Bool} → (a ≡ true → b ≡ true) → b ≡ false → a ≡ false
+never_then {a = false} then off = refl
+never_then {a = true} then off = let clash : false ≡ true = sym off ∙ then refl in cc
 
 -- who does not wait is neither unnotified nor notified
 off_unnotified : (o : Option Getting) → gets_stand is_waiting o ≡ false → gets_stand is_unnotified o ≡ false
-off_unnotified o off = go (gets_stand is_unnotified o) refl
-  where
-    go : (b : Bool) → gets_stand is_unnotified o ≡ b → gets_stand is_unnotified o ≡ false
-    go false e = e
-    go true e = absurd (let clash : false ≡ true = sym off ∙ unnotified_waits o e in cc)
+off_unnotified o = never_then (unnotified_waits o)
 
 off_notified : (o : Option Getting) → gets_stand is_waiting o ≡ false → gets_stand is_notified o ≡ false
-off_notified o off = go (gets_stand is_notified o) refl
-  where
-    go : (b : Bool) → gets_stand is_notified o ≡ b → gets_stand is_notified o ≡ false
-    go false e = e
-    go true e = absurd (let clash : false ≡ true = sym off ∙ notified_waits o e in cc)
+off_notified o = never_then (notified_waits o)
 
 -- a get that moves to a place where it does not wait
 pub put_off : (p : GetPlace) → is_waiting p ≡ false → (x : Numbered Getting) → gets_stand is_waiting (get_at_place p x).standing ≡ false
@@ -35,6 +24,15 @@ put_off p off x = go x.standing
     go : (o : Option Getting) → gets_stand is_waiting (option_map (get_with_place p) o) ≡ false
     go None = refl
     go (Some s) = off
+
+one_few : (b : Bool) → one b ≤ 1
+one_few true = omega arith
+one_few false = omega arith
+
+-- a get that is alive
+pub alive_get : (o : Option Getting) → is_some o ≡ true → (st : Getting) × (o ≡ Some st)
+alive_get None h = cc
+alive_get (Some st) h = (st, refl)
 
 -- the get that holds a connection
 pub holding_is : (o : Option Getting) (k : ℕ) → holds o ≡ Some k → (s : Getting) × (o ≡ Some s) × (s.place ≡ Holding k)
@@ -100,26 +98,13 @@ module _ {C : Type 0} where
     left_at = numbered.standing_found (gets l) (start l).first_get g t.standing t.was
 
     pub left_alive : alive_of left_gets + 1 ≡ alive l + b
-    left_alive =
-        let e : alive_of left_gets + one (is_some left_at.0.standing) ≡ alive l + one (is_some (f left_at.0).standing) =
-        tally_update (λ (y : Numbered Getting). is_some y.standing) (gets l) (start l).first_get g f left_at.0 left_at.1 in
-        let was : one (is_some left_at.0.standing) ≡ 1 = ap (λ (o : Option Getting). one (is_some o)) left_at.2 in
-        omega (arith, t.lives left_at.0 left_at.2)
+    left_alive = omega (arith, changed_tally is_some f (gets l) (start l).first_get g left_at.0 (Some t.standing) left_at.1 left_at.2, t.lives left_at.0 left_at.2)
 
     left_tally : (test : GetPlace → Bool) → gets_stand test (f left_at.0).standing ≡ false → tally_gets test left_gets + one (test t.standing.place) ≡ tally_gets test (gets l)
-    left_tally test off =
-        let e : tally_gets test left_gets + one (gets_stand test left_at.0.standing) ≡ tally_gets test (gets l) + one
-        (gets_stand test (f left_at.0).standing) = tally_update (λ (y : Numbered Getting). gets_stand test y.standing) (gets l)
-        (start l).first_get g f left_at.0 left_at.1 in
-        let was : one (gets_stand test left_at.0.standing) ≡ one (test t.standing.place) = ap (λ (o : Option Getting). one (gets_stand test o)) left_at.2 in
-        let is : one (gets_stand test (f left_at.0).standing) ≡ 0 = ap one off in
-        omega arith
+    left_tally test off = omega (arith, changed_tally (gets_stand test) f (gets l) (start l).first_get g left_at.0 (Some t.standing) left_at.1 left_at.2, ap one off)
 
     pub left_unnotified : tally_gets is_unnotified left_gets ≡ unnotified l
-    left_unnotified =
-        let e : tally_gets is_unnotified left_gets + one (is_unnotified t.standing.place) ≡ unnotified l = left_tally is_unnotified (off_unnotified (f left_at.0).standing (t.out left_at.0)) in
-        let was : one (is_unnotified t.standing.place) ≡ 0 = ap one t.off in
-        omega arith
+    left_unnotified = omega (arith, left_tally is_unnotified (off_unnotified (f left_at.0).standing (t.out left_at.0)), ap one t.off)
 
     pub left_notified : tally_gets is_notified left_gets + one (is_notified t.standing.place) ≡ notified l
     left_notified = left_tally is_notified (off_notified (f left_at.0).standing (t.out left_at.0))
@@ -139,19 +124,27 @@ module _ {C : Type 0} where
         clash x p h = let no : false ≡ true = sym (off_unnotified (f x).standing (t.out x)) ∙ (and_right (gets_stand is_unnotified (f x).standing) _ h).0 in cc
 
     -- and the oldest waiter is notified
-    pub left_told : (n : Option ℕ) → n ≡ oldest_waiter l
-        → (tally_gets is_unnotified (with_notice (start l).first_get n left_gets) ≡ unnotified l - 1)
-        × (tally_gets is_notified (with_notice (start l).first_get n left_gets) + one (is_notified t.standing.place) ≡ notified l + min 1
-        (unnotified l))
-    left_told n is =
-        let told = notify_counted (start l).first_get (position l) n left_gets left_before (left_oldest n is) in
-        (omega (arith, told.0, left_unnotified), omega (arith, told.1, left_unnotified, left_notified))
-
     pub left_told_alive : (n : Option ℕ) → alive_of (with_notice (start l).first_get n left_gets) + 1 ≡ alive l + b
     left_told_alive n = omega (arith, left_alive, notify_alive (start l).first_get n left_gets)
 
-    pub left_told_length : (n : Option ℕ) → length (with_notice (start l).first_get n left_gets) ≡ length (gets l)
-    left_told_length n = notify_length (start l).first_get n left_gets ∙ left_length
+    -- how many are alive and wait then
+    pub left_sums : (alive_of left_gets + 1 ≡ alive l + b) × (length left_gets ≡ length (gets l)) × (tally_gets is_unnotified left_gets ≡ unnotified l)
+        × (tally_gets is_notified left_gets + one (is_notified t.standing.place) ≡ notified l) × (one (is_notified t.standing.place) ≤ 1)
+    left_sums = (left_alive, left_length, left_unnotified, left_notified, one_few (is_notified t.standing.place))
+
+    -- and once the oldest waiter is notified, where it was not
+    pub left_told_sums : (n : Option ℕ) → n ≡ oldest_waiter l → is_notified t.standing.place ≡ false
+        → (alive_of (with_notice (start l).first_get n left_gets) + 1 ≡ alive l + b)
+        × (length (with_notice (start l).first_get n left_gets) ≡ length (gets l))
+        × (tally_gets is_unnotified (with_notice (start l).first_get n left_gets) ≡ unnotified l - 1)
+        × (tally_gets is_notified (with_notice (start l).first_get n left_gets) ≡ notified l + min 1 (unnotified l))
+    left_told_sums n is off =
+        let told = notify_counted (start l).first_get (position l) n left_gets left_before (left_oldest n is) in (
+          left_told_alive n,
+          notify_length (start l).first_get n left_gets ∙ left_length,
+          omega (arith, told.0, left_unnotified),
+          omega (arith, told.1, left_unnotified, left_notified, ap one off),
+        )
 
     left_in_line : InLine (start l).first_get (position l) (gets l) → InLine (start l).first_get (position l) left_gets
     left_in_line i = line_left (start l).first_get (position l) g f (gets l) left_at.0 left_at.1 (t.out left_at.0) i
@@ -165,18 +158,84 @@ module _ {C : Type 0} where
     left_told_line n is i = line_later (start l).first_get (position l) (with_notice (start l).first_get n left_gets)
         (line_notified (start l).first_get (position l) n left_gets (left_oldest n is) (left_in_line i))
 
--- ---- how many gets there ever were
+-- ---- how many gets there ever were, and how many are alive and wait
 
 module _ {C : Type 0} where
-  -- as many, where one waits, is notified, or gives up
-  pub waits_length : (l : Ledger C) (at g : ℕ) → length (update (start l).first_get g (at_wait (max (latest l) at) (position l)) (gets l)) ≡ length (gets l)
-  waits_length l at g = numbered.length-update (gets l) (start l).first_get g (at_wait (max (latest l) at) (position l))
+  -- the get of a number that is alive, with its position
+  pub getting : (l : Ledger C) (g : ℕ) (st : Getting) → get_of l g ≡ Some st → (x : Numbered Getting) × (at_number (start l).first_get (gets l) g ≡ Some x) × (x.standing ≡ Some st)
+  getting l g st h = numbered.standing_found (gets l) (start l).first_get g st h
 
-  pub told_length : (l : Ledger C) (n : Option ℕ) → length (with_notice (start l).first_get n (gets l)) ≡ length (gets l)
-  told_length l n = notify_length (start l).first_get n (gets l)
+  -- who was in line waits on, and the gets are the same
+  pub waits_on_gets : (l : Ledger C) (at g : ℕ) → gets_stand is_unnotified (get_of l g) ≡ true → update (start l).first_get g (at_wait (max (latest l) at) (position l)) (gets l) ≡ gets l
+  waits_on_gets l at g on =
+      let st = getting_is is_unnotified (get_of l g) on in
+      let m = getting l g st.0 st.1 in
+      waits_on_same (start l).first_get (max (latest l) at) (position l) g (gets l) m.0 m.1 (ap (gets_stand is_unnotified) m.2 ∙ st.2)
 
-  pub given_up_length : (l : Ledger C) (g : ℕ) (n : Option ℕ) → length (with_notice (start l).first_get n (update (start l).first_get g after_end (gets l))) ≡ length (gets l)
-  given_up_length l g n = notify_length (start l).first_get n (update (start l).first_get g after_end (gets l)) ∙ numbered.length-update (gets l) (start l).first_get g after_end
+  -- a get begins
+  pub begun_sums : (l : Ledger C) → (alive_of (gets l ++ new_get ∷ []) ≡ alive l + 1) × (length (gets l ++ new_get ∷ []) ≡ length (gets l) + 1)
+      × (tally_gets is_unnotified (gets l ++ new_get ∷ []) ≡ unnotified l + 0) × (tally_gets is_notified (gets l ++ new_get ∷ []) ≡ notified l + 0)
+  begun_sums l = (
+    numbered.tally-append (λ (x : Numbered Getting). is_some x.standing) (gets l) new_get,
+    length-append (gets l) (new_get ∷ []),
+    numbered.tally-append (λ (x : Numbered Getting). gets_stand is_unnotified x.standing) (gets l) new_get,
+    numbered.tally-append (λ (x : Numbered Getting). gets_stand is_notified x.standing) (gets l) new_get,
+  )
+
+  -- a get waits on
+  pub waits_on_sums : (l : Ledger C) (at g : ℕ) → gets_stand is_unnotified (get_of l g) ≡ true
+      → (alive_of (update (start l).first_get g (at_wait (max (latest l) at) (position l)) (gets l)) ≡ alive l)
+      × (length (update (start l).first_get g (at_wait (max (latest l) at) (position l)) (gets l)) ≡ length (gets l))
+      × (tally_gets is_unnotified (update (start l).first_get g (at_wait (max (latest l) at) (position l)) (gets l)) ≡ unnotified l)
+      × (tally_gets is_notified (update (start l).first_get g (at_wait (max (latest l) at) (position l)) (gets l)) ≡ notified l)
+  waits_on_sums l at g on = rw (waits_on_gets l at g on) (refl, refl, refl, refl)
+
+  -- a get begins to wait
+  pub waits_sums : (l : Ledger C) (at g : ℕ) (gs : List (Numbered Getting)) → gs ≡ update (start l).first_get g (at_wait (max (latest l) at) (position l)) (gets l)
+      → gets_stand is_trying (get_of l g) ≡ true → gets_stand is_unnotified (get_of l g) ≡ false
+      → (alive_of gs ≡ alive l) × (length gs ≡ length (gets l)) × (tally_gets is_unnotified gs ≡ unnotified l + 1) × (tally_gets is_notified gs ≤ notified l)
+      × (notified l ≤ tally_gets is_notified gs + 1) × (tally_gets is_unnotified gs + tally_gets is_notified gs ≤ alive l)
+  waits_sums l at g gs is f off =
+      let st = trier l g f off in
+      let m = getting l g st.0 st.1 in
+      let standing : gets_stand is_unnotified m.0.standing ≡ false = ap (gets_stand is_unnotified) m.2 ∙ st.2 in
+      let as_many : alive_of gs ≡ alive l = ap alive_of is ∙ begins_alive (start l).first_get (max (latest l) at) (position l) g (gets l) in
+      let u : tally_gets is_unnotified gs + one (is_unnotified st.0.place) ≡ unnotified l + 1 =
+      rw is (begins_counted is_unnotified (start l).first_get (max (latest l) at) (position l) g (gets l) m.0 st.0 m.1 m.2 standing) in
+      let n : tally_gets is_notified gs + one (is_notified st.0.place) ≡ notified l + 0 =
+      rw is (begins_counted is_notified (start l).first_get (max (latest l) at) (position l) g (gets l) m.0 st.0 m.1 m.2 standing) in
+      let many : length gs ≡ length (gets l) = ap length is ∙ numbered.length-update (gets l) (start l).first_get g (at_wait (max (latest l) at) (position l)) in
+      omega (arith, as_many, many, u, n, ap one st.2, one_few (is_notified st.0.place), waiters_few gs)
+
+  -- the oldest waiter is notified
+  pub told_sums : (l : Ledger C) (n : Option ℕ) → n ≡ oldest_waiter l
+      → (alive_of (with_notice (start l).first_get n (gets l)) ≡ alive l) × (length (with_notice (start l).first_get n (gets l)) ≡ length (gets l))
+      × (tally_gets is_unnotified (with_notice (start l).first_get n (gets l)) ≡ unnotified l - 1)
+      × (tally_gets is_notified (with_notice (start l).first_get n (gets l)) ≡ notified l + min 1 (unnotified l))
+  told_sums l n is =
+      let told = notify_counted (start l).first_get (position l) n (gets l) (waited_before l) is in
+      (notify_alive (start l).first_get n (gets l), notify_length (start l).first_get n (gets l), told.0, told.1)
+
+  -- which get is notified where a get gives up
+  pub handed_to : (l : Ledger C) (g : ℕ) (n : Option ℕ) (st : Getting) → get_of l g ≡ Some st
+      → n ≡ cond (gets_stand is_notified (get_of l g)) (oldest_waiter l) None
+      → n ≡ cond (is_notified st.place) (oldest_waiter l) None
+  handed_to l g n st h is = is ∙ ap (λ (o : Option Getting). cond (gets_stand is_notified o) (oldest_waiter l) None) h
+
+  -- a get gives up
+  pub given_up_sums : (l : Ledger C) (g : ℕ) (n : Option ℕ) → is_some (get_of l g) ≡ true → n ≡ cond (gets_stand is_notified (get_of l g)) (oldest_waiter l) None
+      → (alive_of (with_notice (start l).first_get n (update (start l).first_get g after_end (gets l))) + 1 ≡ alive l)
+      × (length (with_notice (start l).first_get n (update (start l).first_get g after_end (gets l))) ≡ length (gets l))
+      × IsGivenUp (unnotified l) (notified l) (tally_gets is_unnotified (with_notice (start l).first_get n (update (start l).first_get g after_end (gets l))))
+      (tally_gets is_notified (with_notice (start l).first_get n (update (start l).first_get g after_end (gets l))))
+  given_up_sums l g n some is =
+      let st = alive_get (get_of l g) some in
+      let m = getting l g st.0 st.1 in
+      let ended : alive_of (update (start l).first_get g after_end (gets l)) + 1 ≡ alive l = alive_counted (start l).first_get g (gets l) m.0 st.0 m.1 m.2 in (
+        omega (arith, notify_alive (start l).first_get n (update (start l).first_get g after_end (gets l))),
+        notify_length (start l).first_get n (update (start l).first_get g after_end (gets l)) ∙ numbered.length-update (gets l) (start l).first_get g after_end,
+        given_up_counted (start l).first_get (position l) g n (gets l) m.0 st.0 m.1 m.2 (handed_to l g n st.0 st.1 is) (waited_before l),
+      )
 
 -- ---- what the gets hold
 
@@ -187,6 +246,10 @@ held_at first gs q = holds (standing_at first gs q)
 -- what stands behind a number holds this
 abbrev behind : Option (Numbered Getting) → Option ℕ
 behind o = holds (option_and_then (λ (x : Numbered Getting). x.standing) o)
+
+behind_nothing : (f : Numbered Getting → Numbered Getting) → ((x : Numbered Getting) → holds (f x).standing ≡ None) → (o : Option (Numbered Getting)) → behind (option_map f o) ≡ None
+behind_nothing f nothing None = refl
+behind_nothing f nothing (Some x) = nothing x
 
 -- a place at which nothing is held
 pub put_nothing : (p : GetPlace) → held_in p ≡ None → (x : Numbered Getting) → holds (get_at_place p x).standing ≡ None
@@ -228,41 +291,23 @@ oldest_quiet l n is g e =
     ap (λ (o : Option (Numbered Getting)). holds (option_and_then (λ (x : Numbered Getting). x.standing) o)) m.1
     ∙ stands_quiet is_unnotified (λ k. refl) m.0.standing (and_right (gets_stand is_unnotified m.0.standing) _ m.4).0
 
--- one get has changed, and holds this then
-changed_same : (first g : ℕ) (f : Numbered Getting → Numbered Getting) (gs : List (Numbered Getting)) (q : ℕ) (o : Option ℕ)
-    → behind (option_map f (at_number first gs g)) ≡ o → held_at first (update first g f gs) q ≡ cond (eqb q g) o (held_at first gs q)
-changed_same first g f gs q o is =
-    ⊎_elim
-    (λ (t : (eqb q g ≡ true) × (q ≡ g)). ap (held_at first (update first g f gs)) t.1 ∙ ap behind (at_same gs first g f) ∙ is ∙ sym (ap (λ (b : Bool). cond b o (held_at first gs q)) t.0))
-    (λ (t : (eqb q g ≡ false) × (q ≢ g)). ap behind (at_other gs first g q f t.1) ∙ sym (ap (λ (b : Bool). cond b o (held_at first gs q)) t.0))
-    (numbered.same_or_not q g)
-
--- it holds nothing
+-- one get has changed, and holds nothing
 pub dropped_same : (first g : ℕ) (f : Numbered Getting → Numbered Getting) (gs : List (Numbered Getting)) (q : ℕ)
     → ((x : Numbered Getting) → holds (f x).standing ≡ None) → held_at first (update first g f gs) q ≡ cond (eqb q g) None (held_at first gs q)
-dropped_same first g f gs q nothing = changed_same first g f gs q None (it (at_number first gs g))
-  where
-    it : (o : Option (Numbered Getting)) → behind (option_map f o) ≡ None
-    it None = refl
-    it (Some x) = nothing x
+dropped_same first g f gs q nothing = updated_shows behind gs first g q f None (behind_nothing f nothing (at_number first gs g))
 
 -- nor did it before
 pub quiet_same : (first g : ℕ) (f : Numbered Getting → Numbered Getting) (gs : List (Numbered Getting)) (q : ℕ)
     → ((x : Numbered Getting) → holds (f x).standing ≡ None) → held_at first gs g ≡ None
     → held_at first (update first g f gs) q ≡ held_at first gs q
-quiet_same first g f gs q nothing quiet =
-    dropped_same first g f gs q nothing
-    ∙ ⊎_elim
-    (λ (t : (eqb q g ≡ true) × (q ≡ g)). ap (λ (b : Bool). cond b None (held_at first gs q)) t.0 ∙ sym (ap (held_at first gs) t.1 ∙ quiet))
-    (λ (t : (eqb q g ≡ false) × (q ≢ g)). ap (λ (b : Bool). cond b None (held_at first gs q)) t.0)
-    (numbered.same_or_not q g)
+quiet_same first g f gs q nothing quiet = updated_same behind gs first g q f (behind_nothing f nothing (at_number first gs g) ∙ sym quiet)
 
 -- it takes the connection j
 pub taken_same : (first g j : ℕ) (gs : List (Numbered Getting)) (q : ℕ) (s : Getting) → standing_at first gs g ≡ Some s
     → held_at first (update first g (get_at_place (Holding j)) gs) q ≡ cond (eqb q g) (Some j) (held_at first gs q)
 taken_same first g j gs q s there =
     let m = numbered.standing_found gs first g s there in
-    changed_same first g (get_at_place (Holding j)) gs q (Some j)
+    updated_shows behind gs first g q (get_at_place (Holding j)) (Some j)
     (ap (λ (o : Option (Numbered Getting)). behind (option_map (get_at_place (Holding j)) o)) m.1
     ∙ ap (λ (o : Option Getting). holds (option_map (get_with_place (Holding j)) o)) m.2)
 
@@ -274,14 +319,7 @@ told_same first (Some g) gs q quiet = quiet_same first g (get_at_place (Waiting 
 
 -- a get begins
 pub begun_same : (first : ℕ) (gs : List (Numbered Getting)) (q : ℕ) → held_at first (gs ++ new_get ∷ []) q ≡ held_at first gs q
-begun_same first gs q =
-    ap behind (numbered.at-append gs new_get first q)
-    ∙ ⊎_elim
-    (λ (t : (eqb q (first + length gs) ≡ true) × (q ≡ first + length gs)).
-    ap (λ (b : Bool). behind (cond b (Some new_get) (at_number first gs q))) t.0
-    ∙ sym (ap behind (numbered.at-past gs first q (omega (arith, t.1)))))
-    (λ (t : (eqb q (first + length gs) ≡ false) × (q ≢ first + length gs)). ap (λ (b : Bool). behind (cond b (Some new_get) (at_number first gs q))) t.0)
-    (numbered.same_or_not q (first + length gs))
+begun_same first gs q = appended_same behind gs first q new_get refl
 
 -- a get that holds something was not changed, where what is changed holds nothing
 pub other_holds : (first g : ℕ) (f : Numbered Getting → Numbered Getting) (gs : List (Numbered Getting)) (q k : ℕ)

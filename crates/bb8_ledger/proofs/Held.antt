@@ -1,18 +1,6 @@
 -- What a get holds is out in that get's hands, and what is out in its hands it holds.
-use Rattle.std.proofs.Common.{◌≡◌, ℕ, max, Bool, true, false, cond, eqb, ◌&&◌, List, Option, Some, None, is_some, map, refl, sym, ap, ◌∙◌}
-use Rattle.bb8_types.specs.declared.standing.Place.{Place}
-use Rattle.bb8_types.specs.declared.standing.Place.TheVariants.{Idle, Held, Guarded}
-use Rattle.bb8_types.specs.declared.standing.Standing.{Standing}
-use Rattle.bb8_types.specs.declared.standing.GetPlace.TheVariants.{Active, Holding}
-use Rattle.bb8_types.specs.declared.standing.Getting.{Getting}
-use Rattle.bb8_ledger.specs.Acts.{Act, Leave}
-use Rattle.bb8_ledger.specs.Answers.{Answer, Left}
-use Rattle.bb8_types.specs.Numbered.{Numbered, update, after_end, after_end_where}
-use Rattle.bb8_ledger.specs.Ledger.{Ledger, Later, start, position, latest, handles, records, gets, record_of, get_of, at_place, entry, at_entry, with_approvals, get_at_place, at_wait, with_notice, oldest_waiter}
-use Rattle.bb8_types.specs.Places.{holds, stands, gets_stand, is_held_by, is_left, is_trying, is_notified}
-use Rattle.bb8_ledger.specs.Table.{Row, begins, waits_on, serves, takes_out, waits, checks, check_fails, gives_up, gives_up_kept, gives_up_closed, keeps, returns_closed, fills, claims, opens, opens_late, fails, adds, reaps, leaves, IsLegal, fits, with_record, agree}
+use Rattle.bb8_ledger.proofs.Words.{◌≡◌, ℕ, max, Bool, true, false, cond, eqb, ◌&&◌, List, Option, Some, None, is_some, map, refl, sym, ap, ◌∙◌, Place, Idle, Held, Guarded, Standing, Active, Holding, Getting, Act, Leave, Answer, Left, Numbered, update, after_end, after_end_where, Ledger, Later, start, position, latest, handles, records, gets, record_of, get_of, at_place, entry, at_entry, with_approvals, get_at_place, at_wait, with_notice, oldest_waiter, holds, stands, gets_stand, is_held_by, is_left, is_trying, is_notified, Row, begins, waits_on, serves, takes_out, waits, checks, check_fails, gives_up, gives_up_kept, gives_up_closed, keeps, returns_closed, fills, claims, opens, opens_late, fails, adds, reaps, leaves, IsLegal, fits, with_record, agree, and_right}
 use Rattle.bb8_types.proofs.Numbered as numbered
-use Rattle.bb8_types.proofs.Places.{and_right}
 use Rattle.bb8_ledger.proofs.Waiters.{getting_is}
 use Rattle.bb8_ledger.proofs.Effects.{each_legal, passes, Turns, to_place, returns_turn, closes_turn, opens_turn, ends_turn, held_turns, idle_turns, unclaimed_turns, IsOut, held_out, tests, turned_tests, turned_from, kept_tests, added_tests, granted_tests, swept_tests, reap_tests, leave_spares}
 use Rattle.bb8_ledger.proofs.GetEffects.{held_at, dropped_same, quiet_same, taken_same, told_same, begun_same, put_nothing, waits_nothing, trying_quiet, oldest_quiet}

@@ -1,14 +1,5 @@
 -- The connections that are lent are those that guards hold; so no connection is served twice.
-use Rattle.std.proofs.Common.{◌≡◌, ℕ, max, Bool, true, false, cond, not, eqb, ◌&&◌, ◌||◌, List, Some, refl, sym, ◌∙◌}
-use Rattle.bb8_types.specs.declared.standing.Place.TheVariants.{Guarded, Held}
-use Rattle.bb8_types.specs.declared.standing.Standing.{Standing}
-use Rattle.bb8_ledger.specs.Acts.{Act}
-use Rattle.bb8_ledger.specs.Answers.{Answer}
-use Rattle.bb8_types.specs.Numbered.{Numbered}
-use Rattle.bb8_ledger.specs.Ledger.{Ledger, Later, start, position, latest, records, entry, with_approvals}
-use Rattle.bb8_types.specs.Places.{is_guarded}
-use Rattle.bb8_ledger.specs.Table.{Row, waits_on, serves, takes_out, waits, checks, check_fails, gives_up_kept, gives_up_closed, keeps, returns_closed, fills, claims, opens, opens_late, fails, adds, reaps, leaves, IsLegal, fits}
-use Rattle.bb8_ledger.specs.Limits.{is_lent, ServesUnlent, NeverServesTwice}
+use Rattle.bb8_ledger.proofs.Words.{◌≡◌, ℕ, max, Bool, true, false, cond, not, eqb, ◌&&◌, ◌||◌, List, Some, refl, sym, ◌∙◌, Guarded, Held, Standing, Act, Answer, Numbered, Ledger, Later, start, position, latest, records, entry, with_approvals, is_guarded, Row, waits_on, serves, takes_out, waits, checks, check_fails, gives_up_kept, gives_up_closed, keeps, returns_closed, fills, claims, opens, opens_late, fails, adds, reaps, leaves, IsLegal, fits, is_lent, ServesUnlent, NeverServesTwice}
 use Rattle.bb8_ledger.proofs.Effects.{each_legal, returns_turn, closes_turn, opens_turn, ends_turn, idle_turns, unclaimed_turns, guarded_out, tests, turned_tests, turned_from, kept_tests, added_tests, granted_tests, reap_tests}
 use Rattle.bb8_ledger.proofs.Held.{left_tests, checks_turn, drops_turn, hands_in_turn}
 
@@ -38,10 +29,12 @@ module _ {C : Type 0} where
   row_lent l at _ _ legal f (waits_on {grant} on nothing) h = λ k. granted_guards l k false grant.count (records l) ∙ h k
   row_lent l at _ _ legal f (serves {k = m} {grant} not_waiting off first want) h = λ k. granted_guards l k false grant.count _
       ∙ turned_tests is_guarded k (idle_turns l m Guarded first).1 ∙ one_more (eqb k m) _ _ (h k)
-  row_lent l at _ _ legal f (takes_out {g} {k = m} {grant} not_waiting on first want) h = λ k. granted_guards l k false grant.count _ ∙ kept_tests is_guarded k (idle_turns l m (Held g) first).1 refl refl ∙ h k
+  row_lent l at _ _ legal f (takes_out {g} {k = m} {grant} not_waiting on first want) h =
+      λ k. granted_guards l k false grant.count _ ∙ kept_tests is_guarded k (idle_turns l m (Held g) first).1 refl refl ∙ h k
   row_lent l at _ _ legal f (waits {grant} not_waiting none granted) h = λ k. granted_guards l k false grant.count (records l) ∙ h k
   row_lent l at _ _ legal f (checks {g} {k = m} holds_it nothing) h = λ k. turned_tests is_guarded k (checks_turn l g m legal holds_it) ∙ one_more (eqb k m) _ _ (h k)
-  row_lent l at _ _ legal f (check_fails {g} {k = m} {grant} holds_it want is) h = λ k. granted_guards l k false grant.count _ ∙ kept_tests is_guarded k (drops_turn l g m legal holds_it) refl refl ∙ h k
+  row_lent l at _ _ legal f (check_fails {g} {k = m} {grant} holds_it want is) h =
+      λ k. granted_guards l k false grant.count _ ∙ kept_tests is_guarded k (drops_turn l g m legal holds_it) refl refl ∙ h k
   row_lent l at _ _ legal f (gives_up_kept {g} {k = m} {c} holds_it keep is) h = λ k. kept_tests is_guarded k (hands_in_turn l at g m c legal holds_it) refl refl ∙ h k
   row_lent l at _ _ legal f (gives_up_closed {g} {k = m} {grant} holds_it shut want is) h = λ k. granted_guards l k false grant.count _
       ∙ kept_tests is_guarded k (drops_turn l g m legal holds_it) refl refl ∙ h k

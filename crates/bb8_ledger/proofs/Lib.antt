@@ -1,3 +1,4 @@
+pub mod Words
 pub mod Standings
 pub mod Facts
 pub mod Moments
@@ -5,10 +6,10 @@ pub mod Waiters
 pub mod Effects
 pub mod GetEffects
 pub mod Held
+pub mod Sums
 pub mod Invalid
 pub mod Lent
 pub mod Checked
-pub mod Numbers
 pub mod Wants
 pub mod Reaps
 pub mod Laws

@@ -1,24 +1,9 @@
 -- A reap leaves nothing to close or to grant to a second one at the same moment.
-use Rattle.std.proofs.Common.{◌≡◌, ◌⊎◌, ℕ, zero, suc, ◌+◌, ◌-◌, ◌<◌, ◌≤◌, max, min, Bool, true, false, ◌&&◌, cond, eqb, List, [], ◌∷◌, ◌++◌, length, take, drop, Option, Some, None, refl, sym, ap, ◌∙◌, ⊎_elim, arith, subst, inl, inr, length-take, length-drop}
-use Rattle.std.proofs.Math.Seq.{take-length, drop-length}
-use Rattle.std.specs.Option.{unwrap_or}
-use Rattle.bb8_types.specs.declared.grants.Grant.{Grant}
-use Rattle.bb8_types.specs.declared.standing.Standing.{Standing}
-use Rattle.bb8_types.specs.Settings.{Settings}
-use Rattle.bb8_ledger.specs.Acts.{Act, Reap}
-use Rattle.bb8_ledger.specs.Answers.{Answer, Reaped}
-use Rattle.bb8_types.specs.Numbered.{Numbered, update, tally, one, after_end}
-use Rattle.bb8_ledger.specs.Ledger.{Ledger, Later, start, position, latest, records, handles, conns, approved, idle_count, conns_of, approved_of, idle_of, approval, with_approvals, reaped, outlived, idled, over_idle_at, idle_at, with_ended, Start}
-use Rattle.bb8_types.specs.Places.{is_idle, idles_out, lives_out}
-use Rattle.bb8_ledger.specs.Table.{Row, reaps, reaped_at, IsWant, IsLegal}
-use Rattle.bb8_types.specs.Grants.{due, lacking}
-use Rattle.bb8_ledger.specs.Limits.{reap_granted, IsMadeGood, ReapsOnce, NeverReapsTwice}
-use Rattle.bb8_types.proofs.Numbered.{Before}
+use Rattle.bb8_ledger.proofs.Words.{◌≡◌, ◌⊎◌, ℕ, zero, suc, ◌+◌, ◌-◌, ◌<◌, ◌≤◌, max, Bool, true, false, ◌&&◌, cond, eqb, List, [], ◌∷◌, ◌++◌, length, take, drop, Option, Some, None, refl, sym, ap, ◌∙◌, arith, subst, length-take, length-drop, take-length, drop-length, unwrap_or, Grant, Standing, Settings, Act, Reap, Answer, Reaped, Numbered, update, tally, one, after_end, Ledger, Later, start, position, latest, records, handles, conns, approved, idle_count, conns_of, approved_of, idle_of, approval, with_approvals, reaped, outlived, idled, over_idle_at, idle_at, with_ended, Start, is_idle, idles_out, lives_out, Row, reaps, reaped_at, IsWant, IsLegal, lacking, reap_granted, IsMadeGood, ReapsOnce, NeverReapsTwice, Before, and_right}
 use Rattle.bb8_types.proofs.Numbered as numbered
-use Rattle.bb8_types.proofs.Places.{and_right}
 use Rattle.bb8_ledger.proofs.Facts.{ended_all_before, entered_before}
 use Rattle.bb8_ledger.proofs.Standings.{before-approve}
-use Rattle.bb8_ledger.proofs.Effects.{each_legal, ended_append, ended_tally, front_idle, front_ended, outlived_line, over_idle, over_idle_line, idles_idle, idle-approve, reaped_sized}
+use Rattle.bb8_ledger.proofs.Effects.{each_legal, ended_append, ended_tally, front_idle, front_ended, outlived_line, over_idle, over_idle_line, idles_idle, approves, reaped_sized}
 use Rattle.bb8_ledger.proofs.Wants.{due_open, row_makes_good}
 
 -- no list is left of none
@@ -111,25 +96,22 @@ module _ {C : Type 0} where
       ap (λ (xs : List ℕ). outlived s now (with_ended s.first xs rs)) (sym (take-length (outlived s now rs))) ∙ aged_gone ∙ drop-length (outlived s now rs) in
       let aged_tally : tally (λ r. lives_out s.config now r.standing) then ≡ 0 =
       sym (numbered.length-numbers (λ r. lives_out s.config now r.standing) then s.first) ∙ ap (λ (xs : List ℕ). length xs) aged_none in
-      let aged_last : tally (λ r. lives_out s.config now r.standing) last ≤ tally (λ r. lives_out s.config now r.standing) then =
-      fewer_all_ended (lives_out s.config now) refl s.first ks then in
-      let aged_all : tally (λ r. lives_out s.config now r.standing) (with_approvals false n last) ≡ tally (λ r. lives_out s.config now r.standing) last =
-      approved_none (lives_out s.config now) refl n last in
-      let aged_is : length (outlived s now (with_approvals false n last)) ≡ tally (λ r. lives_out s.config now r.standing) (with_approvals false n last) =
-      numbered.length-numbers (λ r. lives_out s.config now r.standing) (with_approvals false n last) s.first in
       let line_last : over_idle s m now (with_approvals false n last) ≡ drop q line =
       approved_line s m now n last ∙ front_ended s.first (over_idle s m now) (over_idle_line s m now) q line then refl in
-      let idle_all : idle_of (with_approvals false n last) ≡ idle_of last = idle-approve false n last in
-      let idle_last : idle_of last + length ks ≡ idle_of then =
-      ended_tally is_idle true (λ c. refl) s.first ks then (front_idle s.first (over_idle s m now) (over_idle_line s m now) q line then refl) in
       subst (λ (xs : List (Numbered (Standing C))). NoneDue s m now (with_approvals false n xs)) (sym is) (record {
-        aged = omega arith;
+        aged = omega (
+          arith,
+          aged_tally,
+          fewer_all_ended (lives_out s.config now) refl s.first ks then,
+          approved_none (lives_out s.config now) refl n last,
+          numbered.length-numbers (λ r. lives_out s.config now r.standing) (with_approvals false n last) s.first,
+        );
         idled =
             ap (λ (xs : List ℕ). length (take (idle_of (with_approvals false n last) - unwrap_or s.config.min_idle 0) xs)) line_last
             ∙ (omega (
               arith,
-              idle_all,
-              idle_last,
+              approves false n last,
+              ended_tally is_idle 1 (λ c. refl) s.first ks then (front_idle s.first (over_idle s m now) (over_idle_line s m now) q line then refl),
               length-take q line,
               length-drop q line,
               length-take (idle_of (with_approvals false n last) - unwrap_or s.config.min_idle 0) (drop q line),
@@ -156,32 +138,24 @@ module _ {C : Type 0} where
       (λ l at e h before is. let was = h before is in (none_later (start l) (position l) (latest l) (records l) (entered_before l) was.0, was.1))
       (λ l at e a legal f row h. row_reaped l at e a row)
 
-  -- what is wanted once nothing is to be ended, where what was wanted is made good
-  wants_none : (l : Ledger C) (rs : List (Numbered (Standing C))) (g : Grant) → IsWant l rs g → 0 < handles l → conns_of rs ≡ conns l
+  -- what is wanted once nothing is to be ended, where what was wanted was made good and nothing was withheld
+  wants_none : (l : Ledger C) (rs : List (Numbered (Standing C))) (g : Grant) (withheld : ℕ) → IsWant l rs g → 0 < handles l → conns_of rs ≡ conns l
       → approved_of rs ≡ approved l → idle_of rs ≡ idle_count l
-      → (unwrap_or (start l).config.min_idle 0 ≤ idle_count l + approved l) ⊎ ((start l).config.max_size ≤ conns l + approved l)
-      → g.count ≡ 0
-  wants_none l rs g want open_now conns_are approved_are idle_are good =
+      → (unwrap_or (start l).config.min_idle 0 ≤ idle_count l + approved l) ⊎ ((start l).config.max_size ≤ conns l + approved l) ⊎ (0 < withheld)
+      → withheld ≡ 0 → g.count ≡ 0
+  wants_none l rs g withheld want open_now conns_are approved_are idle_are good none =
       let taken : ℕ = conns_of rs + approved_of rs in
       let asked : ℕ = lacking (start l).config (idle_of rs + approved_of rs) in
-      let split : g.count + g.withheld ≡ due (start l).config (handles l) taken asked = want.split in
-      let all : due (start l).config (handles l) taken asked ≡ min asked ((start l).config.max_size - taken) = due_open (start l).config (handles l) taken asked open_now in
-      ⊎_elim
-      (λ (enough : unwrap_or (start l).config.min_idle 0 ≤ idle_count l + approved l). omega arith)
-      (λ (full : (start l).config.max_size ≤ conns l + approved l). omega arith)
-      good
+      omega (arith, want.split, due_open (start l).config (handles l) taken asked open_now, good)
 
   row_once : (l : Ledger C) (at : ℕ) (e : Act C) (a : Answer) → IsLegal l → Row l at e a → ReapsOnce l at a
   row_once l at _ _ legal (reaps {closed} {grant} open_now closed_is by_idle_is by_life_is want) = λ before is still.
       let was = all_reaped l legal before is in
-      let none : length (reaped_at l at) ≡ 0 = ap (λ (now : ℕ). length (reaped (start l) (position l) now (records l))) still ∙ none_reaped (start l) (position l) (latest l) (records l) was.0 in
+      let none : length (reaped_at l at) ≡ 0 =
+      ap (λ (now : ℕ). length (reaped (start l) (position l) now (records l))) still ∙ none_reaped (start l) (position l) (latest l) (records l) was.0 in
       let z = reaped_sized l at in (
         closed_is ∙ none,
-        λ all_given. wants_none l _ grant want open_now (omega (arith, z.conns_are)) (omega (arith, z.approved_are)) (omega (arith, z.idle_are))
-            (⊎_elim (λ (t : unwrap_or (start l).config.min_idle 0 ≤ idle_count l + approved l). inl t)
-            (λ (t : ((start l).config.max_size ≤ conns l + approved l) ⊎ (0 < before.withheld)).
-            ⊎_elim (λ (u : (start l).config.max_size ≤ conns l + approved l). inr u) (λ (u : 0 < before.withheld). absurd (omega arith)) t)
-            (was.1 open_now)),
+        wants_none l _ grant before.withheld want open_now (omega (arith, z.conns_are)) (omega (arith, z.approved_are)) (omega (arith, z.idle_are)) (was.1 open_now),
       )
   row_once l at _ _ legal _ = tt
 

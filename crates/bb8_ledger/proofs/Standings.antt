@@ -1,11 +1,5 @@
 -- What a change of one record does to the sizes.
-use Rattle.std.proofs.Common.{◌≡◌, ℕ, zero, suc, ◌+◌, ◌<◌, Bool, true, false, List, Some, sym, ap, ◌∙◌}
-use Rattle.bb8_types.specs.declared.standing.Place.{Place}
-use Rattle.bb8_types.specs.declared.standing.Standing.{Standing}
-use Rattle.bb8_types.specs.Numbered.{Numbered, at, one}
-use Rattle.bb8_types.specs.Places.{stands, is_conn, is_approval}
-use Rattle.bb8_ledger.specs.Ledger.{idle_at, conns_of, approved_of, approval, with_approvals}
-use Rattle.bb8_types.proofs.Numbered.{change, Before}
+use Rattle.bb8_ledger.proofs.Words.{◌≡◌, ℕ, zero, suc, ◌+◌, ◌<◌, Bool, true, false, List, Some, sym, ap, ◌∙◌, Place, Standing, Numbered, at, one, stands, is_conn, is_approval, idle_at, conns_of, approved_of, approval, with_approvals, change, Before}
 use Rattle.bb8_types.proofs.Numbered as numbered
 
 module _ {C : Type 0} where

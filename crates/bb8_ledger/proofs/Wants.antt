@@ -1,19 +1,7 @@
 -- What is wanted is made good.
-use Rattle.std.proofs.Common.{◌≡◌, ◌⊎◌, ℕ, zero, suc, ◌+◌, ◌-◌, ◌<◌, ◌≤◌, min, Bool, false, cond, List, refl, ap, ◌∙◌, inl, inr, ⊎_elim, arith}
-use Rattle.std.specs.Option.{unwrap_or}
-use Rattle.bb8_types.specs.declared.grants.Grant.{Grant}
-use Rattle.bb8_types.specs.declared.standing.Place.TheVariants.{Held, Guarded}
-use Rattle.bb8_types.specs.declared.standing.Standing.{Standing}
-use Rattle.bb8_types.specs.Settings.{Settings}
-use Rattle.bb8_ledger.specs.Acts.{Act}
-use Rattle.bb8_ledger.specs.Answers.{Answer}
-use Rattle.bb8_types.specs.Numbered.{Numbered, after_end}
-use Rattle.bb8_ledger.specs.Ledger.{with_ended, Ledger, Later, start, records, handles, conns_of, approved_of, idle_of, at_place, with_approvals}
-use Rattle.bb8_ledger.specs.Table.{reaped_at, Row, serves, takes_out, check_fails, gives_up_closed, returns_closed, fills, reaps, IsWant, IsLegal, with_record}
-use Rattle.bb8_types.specs.Grants.{due, lacking}
-use Rattle.bb8_ledger.specs.Limits.{MakesGood, AlwaysMakesGood}
+use Rattle.bb8_ledger.proofs.Words.{◌≡◌, ◌⊎◌, ℕ, zero, suc, ◌+◌, ◌-◌, ◌<◌, ◌≤◌, min, Bool, false, cond, List, refl, ap, ◌∙◌, inl, inr, ⊎_elim, arith, unwrap_or, Grant, Held, Guarded, Standing, Settings, Act, Answer, Numbered, after_end, with_ended, Ledger, Later, start, records, handles, conns_of, approved_of, idle_of, at_place, with_approvals, reaped_at, Row, serves, takes_out, check_fails, gives_up_closed, returns_closed, fills, reaps, IsWant, IsLegal, with_record, due, lacking, MakesGood, AlwaysMakesGood}
 use Rattle.bb8_types.proofs.Numbered as numbered
-use Rattle.bb8_ledger.proofs.Effects.{each_legal, conns-approve, approved-approve, idle-approve}
+use Rattle.bb8_ledger.proofs.Effects.{each_legal, approves}
 
 -- one of two numbers is nothing where the less of them is
 pub either_none : (x y : ℕ) → min x y ≡ 0 → (x ≡ 0) ⊎ (y ≡ 0)
@@ -35,6 +23,11 @@ made_good least size had have took taken count zero split more full =
 pub due_open : (config : Settings) (handles taken asked : ℕ) → 0 < handles → due config handles taken asked ≡ min asked (config.max_size - taken)
 due_open config handles taken asked open_now = ap (λ (b : Bool). cond b 0 (min asked (config.max_size - taken))) (numbered.ne_test handles 0 (λ e. omega arith))
 
+-- or none is
+pub due_or_none : (config : Settings) (handles taken asked : ℕ) → (handles ≡ 0) ⊎ (due config handles taken asked ≡ min asked (config.max_size - taken))
+due_or_none config zero taken asked = inl refl
+due_or_none config (suc handles) taken asked = inr (due_open config (suc handles) taken asked (omega arith))
+
 module _ {C : Type 0} where
   -- once what is wanted of records is granted
   want_made_good : (l : Ledger C) (rs : List (Numbered (Standing C))) (claimed : Bool) (g : Grant) → IsWant l rs g → 0 < handles l
@@ -42,19 +35,12 @@ module _ {C : Type 0} where
       (with_approvals claimed g.count rs)) ⊎ ((start l).config.max_size ≤ conns_of (with_approvals claimed g.count rs) + approved_of
       (with_approvals claimed g.count rs)) ⊎ (0 < g.withheld)
   want_made_good l rs claimed g want open_now =
-      let split : g.count + g.withheld ≡ due (start l).config (handles l) (conns_of rs + approved_of rs) (lacking (start l).config (idle_of rs + approved_of rs)) = want.split in
-      let all : due (start l).config (handles l) (conns_of rs + approved_of rs)
-      (lacking (start l).config (idle_of rs + approved_of rs)) ≡ min (lacking (start l).config (idle_of rs + approved_of rs))
-      ((start l).config.max_size - (conns_of rs + approved_of rs)) =
-      due_open (start l).config (handles l) (conns_of rs + approved_of rs)
-      (lacking (start l).config (idle_of rs + approved_of rs)) open_now in
-      let c : conns_of (with_approvals claimed g.count rs) ≡ conns_of rs = conns-approve claimed g.count rs in
-      let a : approved_of (with_approvals claimed g.count rs) ≡ approved_of rs + g.count = approved-approve claimed g.count rs in
-      let i : idle_of (with_approvals claimed g.count rs) ≡ idle_of rs = idle-approve claimed g.count rs in
-      made_good (unwrap_or (start l).config.min_idle 0) (start l).config.max_size (idle_of rs + approved_of rs)
-      (idle_of (with_approvals claimed g.count rs) + approved_of (with_approvals claimed g.count rs)) (conns_of rs + approved_of rs)
-      (conns_of (with_approvals claimed g.count rs) + approved_of (with_approvals claimed g.count rs)) g.count g.withheld (split ∙ all)
-      (omega arith) (omega arith)
+      let taken : ℕ = conns_of rs + approved_of rs in
+      let have : ℕ = idle_of rs + approved_of rs in
+      let s = approves claimed g.count rs in
+      made_good (unwrap_or (start l).config.min_idle 0) (start l).config.max_size have _ taken _ g.count g.withheld
+      (want.split ∙ due_open (start l).config (handles l) taken (lacking (start l).config have) open_now)
+      (omega (arith, s.idle_are, s.approved_are)) (omega (arith, s.conns_are, s.approved_are))
 
   pub row_makes_good : (l : Ledger C) (at : ℕ) (e : Act C) (a : Answer) → Row l at e a → MakesGood (Later l at e a) e a
   row_makes_good l at _ _ (serves {k} {grant} not_waiting off first want) = want_made_good l (with_record l k (at_place Guarded)) false grant want

@@ -10,35 +10,146 @@ ghost use Rattle.bb8_ledger.specs.WorkedRows.{two_opened, three_out, first_scrip
 /// The last three tell the waits of a back-off in nanoseconds, and how many of them end within the timeout. The behaviour is upstream's
 /// but where the list of differences says otherwise; the function is our own.
 pub fn worked_rows()
-    ensures two_opened { IsRow (record (unchecked 5) { min_idle = Some 2 }) 0 0 two_opened (connections 2 idle 2 started 0 direct 0 waited 0 timed_out 0 cancelled 0 wait_us 0 created 2 broken 0 invalid 0 lifetime 0 idle_timeout 0) }
-    ensures three_out { IsRow (record (unchecked 5) { min_idle = Some 2 }) 0 0 three_out (connections 5 idle 2 started 3 direct 3 waited 0 timed_out 0 cancelled 0 wait_us 0 created 5 broken 0 invalid 0 lifetime 0 idle_timeout 0) }
-    ensures first_script { IsRow (record (unchecked 5) { min_idle = Some 2 }) 0 0 first_script (connections 5 idle 5 started 3 direct 3 waited 0 timed_out 0 cancelled 0 wait_us 0 created 5 broken 0 invalid 0 lifetime 0 idle_timeout 0) }
-    ensures overtaken { IsRow (unchecked 1) 0 0 overtaken (connections 1 idle 0 started 2 direct 1 waited 1 timed_out 0 cancelled 0 wait_us 0 created 1 broken 0 invalid 0 lifetime 0 idle_timeout 0) }
-    ensures handed_on { IsRow (unchecked 1) 0 0 handed_on (connections 1 idle 1 started 3 direct 0 waited 1 timed_out 0 cancelled 1 wait_us 0 created 1 broken 0 invalid 0 lifetime 0 idle_timeout 0) }
-    ensures oldest_first { IsRow (unchecked 3) 0 0 oldest_first (connections 3 idle 2 started 1 direct 1 waited 0 timed_out 0 cancelled 0 wait_us 0 created 0 broken 0 invalid 0 lifetime 0 idle_timeout 0) }
-    ensures newest_first { IsRow (record (unchecked 3) { queue_strategy = Lifo }) 0 0 newest_first (connections 3 idle 2 started 1 direct 1 waited 0 timed_out 0 cancelled 0 wait_us 0 created 0 broken 0 invalid 0 lifetime 0 idle_timeout 0) }
-    ensures check_failed { IsRow default_settings 0 0 check_failed (connections 0 idle 0 started 1 direct 0 waited 0 timed_out 0 cancelled 0 wait_us 0 created 0 broken 1 invalid 1 lifetime 0 idle_timeout 0) }
-    ensures reaped_at_the_limit { IsRow (record default_settings { max_size = 1; max_lifetime = Some 1_000_000_000; idle_timeout = Some 1_000_000_000 }) 0 0 reaped_at_the_limit (connections 0 idle 0 started 0 direct 0 waited 0 timed_out 0 cancelled 0 wait_us 0 created 0 broken 0 invalid 0 lifetime 1 idle_timeout 0) }
-    ensures moment_goes_back { IsRow (record (unchecked 1) { max_lifetime = None; idle_timeout = Some 1_000_000_000 }) 0 0 moment_goes_back (connections 0 idle 0 started 1 direct 1 waited 0 timed_out 0 cancelled 0 wait_us 0 created 0 broken 0 invalid 0 lifetime 0 idle_timeout 1) }
-    ensures get_numbers_used_up { IsRow default_settings 0 18_446_744_073_709_551_614 get_numbers_used_up (connections 0 idle 0 started 1 direct 0 waited 0 timed_out 0 cancelled 0 wait_us 0 created 0 broken 0 invalid 0 lifetime 0 idle_timeout 0) }
-    ensures numbers_used_up { IsRow (record default_settings { max_size = 5; min_idle = Some 3 }) 18_446_744_073_709_551_613 0 numbers_used_up (connections 0 idle 0 started 0 direct 0 waited 0 timed_out 0 cancelled 0 wait_us 0 created 0 broken 0 invalid 0 lifetime 0 idle_timeout 0) }
-    ensures third_place_refused { IsRow (record (unchecked 5) { min_idle = Some 2 }) 0 0 third_place_refused (connections 2 idle 0 started 2 direct 2 waited 0 timed_out 0 cancelled 0 wait_us 0 created 2 broken 0 invalid 0 lifetime 0 idle_timeout 0) }
-    ensures third_adding_withheld { IsRow (unchecked 3) 0 0 third_adding_withheld (connections 3 idle 3 started 1 direct 1 waited 0 timed_out 0 cancelled 0 wait_us 0 created 0 broken 1 invalid 0 lifetime 0 idle_timeout 0) }
-    ensures added_until_full { IsRow (record default_settings { max_size = 3; min_idle = Some 1 }) 0 0 added_until_full (connections 3 idle 3 started 0 direct 0 waited 0 timed_out 0 cancelled 0 wait_us 0 created 1 broken 0 invalid 0 lifetime 0 idle_timeout 0) }
-    ensures returned_unfit { IsRow (unchecked 1) 0 0 returned_unfit (connections 1 idle 1 started 1 direct 1 waited 0 timed_out 0 cancelled 0 wait_us 0 created 0 broken 0 invalid 0 lifetime 0 idle_timeout 0) }
-    ensures none_left_valid { IsRow (record default_settings { max_size = 2; min_idle = Some 2; connection_timeout = 1_000_000_000 }) 0 0 none_left_valid (connections 0 idle 0 started 3 direct 2 waited 0 timed_out 1 cancelled 0 wait_us 1_000_000 created 2 broken 0 invalid 2 lifetime 0 idle_timeout 0) }
-    ensures last_handle_left { IsRow (record default_settings { max_size = 11; min_idle = Some 11 }) 0 0 last_handle_left (connections 0 idle 0 started 0 direct 0 waited 0 timed_out 0 cancelled 0 wait_us 0 created 10 broken 0 invalid 0 lifetime 0 idle_timeout 0) }
-    ensures waited_five_micros { IsRow (record (unchecked 1) { min_idle = Some 1 }) 0 0 waited_five_micros (connections 1 idle 0 started 2 direct 1 waited 1 timed_out 0 cancelled 0 wait_us 5 created 1 broken 0 invalid 0 lifetime 0 idle_timeout 0) }
-    ensures used_again { IsRow (record (unchecked 100) { min_idle = Some 0; queue_strategy = Lifo }) 0 0 used_again (connections 2 idle 0 started 3 direct 1 waited 2 timed_out 0 cancelled 0 wait_us 0 created 2 broken 0 invalid 0 lifetime 0 idle_timeout 0) }
-    ensures idled_out { IsRow (record (unchecked 5) { min_idle = Some 5; max_lifetime = None; idle_timeout = Some 1_000_000_000 }) 0 0 idled_out (connections 5 idle 5 started 1 direct 1 waited 0 timed_out 0 cancelled 0 wait_us 0 created 5 broken 0 invalid 0 lifetime 0 idle_timeout 0) }
-    ensures spared_oldest { IsRow (record (unchecked 5) { min_idle = Some 2; max_lifetime = None; idle_timeout = Some 1_000_000_000 }) 0 0 spared_oldest (connections 2 idle 1 started 1 direct 1 waited 0 timed_out 0 cancelled 0 wait_us 0 created 0 broken 0 invalid 0 lifetime 0 idle_timeout 3) }
-    ensures spared_newest { IsRow (record (unchecked 5) { min_idle = Some 2; max_lifetime = None; idle_timeout = Some 1_000_000_000; queue_strategy = Lifo }) 0 0 spared_newest (connections 2 idle 1 started 1 direct 1 waited 0 timed_out 0 cancelled 0 wait_us 0 created 0 broken 0 invalid 0 lifetime 0 idle_timeout 3) }
-    ensures spared_after_expired { IsRow (record default_settings { max_size = 4; min_idle = Some 2; max_lifetime = Some 2_000_000_000; idle_timeout = Some 1_000_000_000 }) 0 0 spared_after_expired (connections 2 idle 2 started 0 direct 0 waited 0 timed_out 0 cancelled 0 wait_us 0 created 0 broken 0 invalid 0 lifetime 1 idle_timeout 1) }
-    ensures expired_not_spared { IsRow (record default_settings { max_size = 2; min_idle = Some 2; max_lifetime = Some 1_000_000_000; idle_timeout = Some 1_000_000_000 }) 0 0 expired_not_spared (connections 0 idle 0 started 0 direct 0 waited 0 timed_out 0 cancelled 0 wait_us 0 created 0 broken 0 invalid 0 lifetime 2 idle_timeout 0) }
-    ensures returned_too_old { IsRow (record (unchecked 1) { max_lifetime = Some 1_000_000_000 }) 0 0 returned_too_old (connections 0 idle 0 started 1 direct 1 waited 0 timed_out 0 cancelled 0 wait_us 0 created 0 broken 0 invalid 0 lifetime 1 idle_timeout 0) }
-    ensures cancelled_in_check { IsRow (record default_settings { max_size = 1 }) 0 0 cancelled_in_check (connections 0 idle 0 started 2 direct 0 waited 0 timed_out 0 cancelled 2 wait_us 0 created 0 broken 1 invalid 0 lifetime 0 idle_timeout 0) }
-    ensures returned_after_last_handle { IsRow (unchecked 1) 0 0 returned_after_last_handle (connections 0 idle 0 started 1 direct 1 waited 0 timed_out 0 cancelled 0 wait_us 0 created 0 broken 0 invalid 0 lifetime 0 idle_timeout 0) }
-    ensures waits_of_one_second { IsBackOff 1_000_000_000 (400_000_000 ∷ 500_000_000 ∷ 500_000_000 ∷ []) 2 }
-    ensures waits_of_thirty_seconds { IsBackOff 30_000_000_000 (400_000_000 ∷ 800_000_000 ∷ 1_600_000_000 ∷ 3_200_000_000 ∷ 6_400_000_000 ∷ 12_800_000_000 ∷ 15_000_000_000 ∷ []) 6 }
-    ensures waits_of_a_tenth_second { IsBackOff 100_000_000 (50_000_000 ∷ 50_000_000 ∷ 50_000_000 ∷ []) 2 }
+    ensures two_opened { IsRow (record (unchecked 5) { min_idle = Some 2 }) 0 0 two_opened
+        (connections 2 idle 2 started 0 direct 0 waited 0 timed_out 0 cancelled 0
+        wait_us 0 created 2 broken 0 invalid 0 lifetime 0 idle_timeout 0) }
+    ensures three_out { IsRow (record (unchecked 5) { min_idle = Some 2 }) 0 0 three_out
+        (connections 5 idle 2 started 3 direct 3 waited 0 timed_out 0 cancelled 0
+        wait_us 0 created 5 broken 0 invalid 0 lifetime 0 idle_timeout 0) }
+    ensures first_script { IsRow (record (unchecked 5) { min_idle = Some 2 }) 0 0 first_script
+        (connections 5 idle 5 started 3 direct 3 waited 0 timed_out 0 cancelled 0
+        wait_us 0 created 5 broken 0 invalid 0 lifetime 0 idle_timeout 0) }
+    ensures overtaken { IsRow (unchecked 1) 0 0 overtaken
+        (connections 1 idle 0 started 2 direct 1 waited 1 timed_out 0 cancelled 0
+        wait_us 0 created 1 broken 0 invalid 0 lifetime 0 idle_timeout 0) }
+    ensures handed_on { IsRow (unchecked 1) 0 0 handed_on
+        (connections 1 idle 1 started 3 direct 0 waited 1 timed_out 0 cancelled 1
+        wait_us 0 created 1 broken 0 invalid 0 lifetime 0 idle_timeout 0) }
+    ensures oldest_first { IsRow (unchecked 3) 0 0 oldest_first
+        (connections 3 idle 2 started 1 direct 1 waited 0 timed_out 0 cancelled 0
+        wait_us 0 created 0 broken 0 invalid 0 lifetime 0 idle_timeout 0) }
+    ensures newest_first { IsRow (record (unchecked 3) { queue_strategy = Lifo }) 0 0 newest_first
+        (connections 3 idle 2 started 1 direct 1 waited 0 timed_out 0 cancelled 0
+        wait_us 0 created 0 broken 0 invalid 0 lifetime 0 idle_timeout 0) }
+    ensures check_failed { IsRow default_settings 0 0 check_failed
+        (connections 0 idle 0 started 1 direct 0 waited 0 timed_out 0 cancelled 0
+        wait_us 0 created 0 broken 1 invalid 1 lifetime 0 idle_timeout 0) }
+    ensures reaped_at_the_limit { IsRow (record default_settings {
+      max_size = 1;
+      max_lifetime = Some 1_000_000_000;
+      idle_timeout = Some 1_000_000_000;
+    })
+        0 0 reaped_at_the_limit
+        (connections 0 idle 0 started 0 direct 0 waited 0 timed_out 0 cancelled 0
+        wait_us 0 created 0 broken 0 invalid 0 lifetime 1 idle_timeout 0) }
+    ensures moment_goes_back { IsRow (record (unchecked 1) {
+      max_lifetime = None;
+      idle_timeout = Some 1_000_000_000;
+    })
+        0 0 moment_goes_back
+        (connections 0 idle 0 started 1 direct 1 waited 0 timed_out 0 cancelled 0
+        wait_us 0 created 0 broken 0 invalid 0 lifetime 0 idle_timeout 1) }
+    ensures get_numbers_used_up { IsRow default_settings
+        0 18_446_744_073_709_551_614 get_numbers_used_up
+        (connections 0 idle 0 started 1 direct 0 waited 0 timed_out 0 cancelled 0
+        wait_us 0 created 0 broken 0 invalid 0 lifetime 0 idle_timeout 0) }
+    ensures numbers_used_up { IsRow (record default_settings { max_size = 5; min_idle = Some 3 })
+        18_446_744_073_709_551_613 0 numbers_used_up
+        (connections 0 idle 0 started 0 direct 0 waited 0 timed_out 0 cancelled 0
+        wait_us 0 created 0 broken 0 invalid 0 lifetime 0 idle_timeout 0) }
+    ensures third_place_refused { IsRow (record (unchecked 5) { min_idle = Some 2 })
+        0 0 third_place_refused
+        (connections 2 idle 0 started 2 direct 2 waited 0 timed_out 0 cancelled 0
+        wait_us 0 created 2 broken 0 invalid 0 lifetime 0 idle_timeout 0) }
+    ensures third_adding_withheld { IsRow (unchecked 3) 0 0 third_adding_withheld
+        (connections 3 idle 3 started 1 direct 1 waited 0 timed_out 0 cancelled 0
+        wait_us 0 created 0 broken 1 invalid 0 lifetime 0 idle_timeout 0) }
+    ensures added_until_full { IsRow (record default_settings { max_size = 3; min_idle = Some 1 })
+        0 0 added_until_full
+        (connections 3 idle 3 started 0 direct 0 waited 0 timed_out 0 cancelled 0
+        wait_us 0 created 1 broken 0 invalid 0 lifetime 0 idle_timeout 0) }
+    ensures returned_unfit { IsRow (unchecked 1) 0 0 returned_unfit
+        (connections 1 idle 1 started 1 direct 1 waited 0 timed_out 0 cancelled 0
+        wait_us 0 created 0 broken 0 invalid 0 lifetime 0 idle_timeout 0) }
+    ensures none_left_valid { IsRow (record default_settings {
+      max_size = 2;
+      min_idle = Some 2;
+      connection_timeout = 1_000_000_000;
+    })
+        0 0 none_left_valid
+        (connections 0 idle 0 started 3 direct 2 waited 0 timed_out 1 cancelled 0
+        wait_us 1_000_000 created 2 broken 0 invalid 2 lifetime 0 idle_timeout 0) }
+    ensures last_handle_left { IsRow (record default_settings { max_size = 11; min_idle = Some 11 })
+        0 0 last_handle_left
+        (connections 0 idle 0 started 0 direct 0 waited 0 timed_out 0 cancelled 0
+        wait_us 0 created 10 broken 0 invalid 0 lifetime 0 idle_timeout 0) }
+    ensures waited_five_micros { IsRow (record (unchecked 1) { min_idle = Some 1 })
+        0 0 waited_five_micros
+        (connections 1 idle 0 started 2 direct 1 waited 1 timed_out 0 cancelled 0
+        wait_us 5 created 1 broken 0 invalid 0 lifetime 0 idle_timeout 0) }
+    ensures used_again { IsRow (record (unchecked 100) { min_idle = Some 0; queue_strategy = Lifo })
+        0 0 used_again
+        (connections 2 idle 0 started 3 direct 1 waited 2 timed_out 0 cancelled 0
+        wait_us 0 created 2 broken 0 invalid 0 lifetime 0 idle_timeout 0) }
+    ensures idled_out { IsRow (record (unchecked 5) {
+      min_idle = Some 5;
+      max_lifetime = None;
+      idle_timeout = Some 1_000_000_000;
+    })
+        0 0 idled_out
+        (connections 5 idle 5 started 1 direct 1 waited 0 timed_out 0 cancelled 0
+        wait_us 0 created 5 broken 0 invalid 0 lifetime 0 idle_timeout 0) }
+    ensures spared_oldest { IsRow (record (unchecked 5) {
+      min_idle = Some 2;
+      max_lifetime = None;
+      idle_timeout = Some 1_000_000_000;
+    })
+        0 0 spared_oldest
+        (connections 2 idle 1 started 1 direct 1 waited 0 timed_out 0 cancelled 0
+        wait_us 0 created 0 broken 0 invalid 0 lifetime 0 idle_timeout 3) }
+    ensures spared_newest { IsRow (record (unchecked 5) {
+      min_idle = Some 2;
+      max_lifetime = None;
+      idle_timeout = Some 1_000_000_000;
+      queue_strategy = Lifo;
+    })
+        0 0 spared_newest
+        (connections 2 idle 1 started 1 direct 1 waited 0 timed_out 0 cancelled 0
+        wait_us 0 created 0 broken 0 invalid 0 lifetime 0 idle_timeout 3) }
+    ensures spared_after_expired { IsRow (record default_settings {
+      max_size = 4;
+      min_idle = Some 2;
+      max_lifetime = Some 2_000_000_000;
+      idle_timeout = Some 1_000_000_000;
+    })
+        0 0 spared_after_expired
+        (connections 2 idle 2 started 0 direct 0 waited 0 timed_out 0 cancelled 0
+        wait_us 0 created 0 broken 0 invalid 0 lifetime 1 idle_timeout 1) }
+    ensures expired_not_spared { IsRow (record default_settings {
+      max_size = 2;
+      min_idle = Some 2;
+      max_lifetime = Some 1_000_000_000;
+      idle_timeout = Some 1_000_000_000;
+    })
+        0 0 expired_not_spared
+        (connections 0 idle 0 started 0 direct 0 waited 0 timed_out 0 cancelled 0
+        wait_us 0 created 0 broken 0 invalid 0 lifetime 2 idle_timeout 0) }
+    ensures returned_too_old { IsRow (record (unchecked 1) { max_lifetime = Some 1_000_000_000 })
+        0 0 returned_too_old
+        (connections 0 idle 0 started 1 direct 1 waited 0 timed_out 0 cancelled 0
+        wait_us 0 created 0 broken 0 invalid 0 lifetime 1 idle_timeout 0) }
+    ensures cancelled_in_check { IsRow (record default_settings { max_size = 1 })
+        0 0 cancelled_in_check
+        (connections 0 idle 0 started 2 direct 0 waited 0 timed_out 0 cancelled 2
+        wait_us 0 created 0 broken 1 invalid 0 lifetime 0 idle_timeout 0) }
+    ensures returned_after_last_handle { IsRow (unchecked 1) 0 0 returned_after_last_handle
+        (connections 0 idle 0 started 1 direct 1 waited 0 timed_out 0 cancelled 0
+        wait_us 0 created 0 broken 0 invalid 0 lifetime 0 idle_timeout 0) }
+    ensures waits_of_one_second { IsBackOff 1_000_000_000
+        (400_000_000 ∷ 500_000_000 ∷ 500_000_000 ∷ []) 2 }
+    ensures waits_of_thirty_seconds { IsBackOff 30_000_000_000
+        (400_000_000 ∷ 800_000_000 ∷ 1_600_000_000 ∷ 3_200_000_000 ∷ 6_400_000_000 ∷ 12_800_000_000
+        ∷ 15_000_000_000 ∷ []) 6 }
+    ensures waits_of_a_tenth_second { IsBackOff 100_000_000
+        (50_000_000 ∷ 50_000_000 ∷ 50_000_000 ∷ []) 2 }
 {}

@@ -1,6 +1,8 @@
 //! The manager and the pool that are measured.
 
-use bb8::{ManageConnection, Moment, NopCustomizer, NopErrorSink, Pool, SetClock};
+use bb8::{
+    Clock, GetFuture, ManageConnection, Moment, NopCustomizer, NopErrorSink, Pool, PooledConnection,
+};
 use futures::task::Poll;
 use std::error::Error;
 use std::fmt;
@@ -12,8 +14,40 @@ pub trait Runtime: Wait + RandomSource + AllocGlobal + Copy + Send + Sync + Drop
 
 impl<R: Wait + RandomSource + AllocGlobal + Copy + Send + Sync + Drop + 'static> Runtime for R {}
 
+/// A clock that stands still.
+#[derive(Drop)]
+pub struct StillClock;
+
+impl Clock for StillClock {
+    fn now(&self) -> Moment {
+        Moment(0)
+    }
+}
+
 /// A pool whose connections are numbers.
-pub type NumberPool<R, L> = Pool<NumberManager, NopErrorSink, NopCustomizer, SetClock, R, L>;
+pub type NumberPool<K, R, L> = Pool<NumberManager, NopErrorSink, NopCustomizer, K, R, L>;
+
+/// A get of such a pool.
+pub type NumberGet<'a, K, R, L> = GetFuture<
+    'a,
+    NumberManager,
+    NopErrorSink,
+    NopCustomizer,
+    K,
+    R,
+    L,
+>;
+
+/// What guards a connection of such a pool.
+pub type NumberGuard<'a, K, R, L> = PooledConnection<
+    'a,
+    NumberManager,
+    NopErrorSink,
+    NopCustomizer,
+    K,
+    R,
+    L,
+>;
 
 /// Opens the connection 7, and finds each connection valid and whole.
 #[derive(Drop)]

@@ -1,17 +1,17 @@
 //! The rounds.
 
 use crate::manager::{NumberPool, Runtime};
-use bb8::{Memory, PoolCalls, PoolParts};
+use bb8::{Clock, Memory, PoolCalls, PoolParts};
 use futures::executor::block_on;
 use futures::future::ready;
 use futures::task::Poll;
 use futures::test::MockTask;
-use std::thread::{Threads, join};
+use std::thread::{Threads, map_indices};
 
 /// So many gets, each polled once by hand, with their guards dropped: how many were served.
-pub fn polled<R: Runtime, L: PoolParts>(
+pub fn polled<K: Clock, R: Runtime, L: PoolParts>(
     rt: &R,
-    pool: &NumberPool<R, L>,
+    pool: &NumberPool<K, R, L>,
     rounds: u64,
 ) -> Result<u64, Memory> {
     let Ok(task) = MockTask::new(rt) else {
@@ -28,9 +28,9 @@ pub fn polled<R: Runtime, L: PoolParts>(
 }
 
 /// The same by an executor for each get.
-pub fn blocked<R: Runtime, L: PoolParts>(
+pub fn blocked<K: Clock, R: Runtime, L: PoolParts>(
     rt: &R,
-    pool: &NumberPool<R, L>,
+    pool: &NumberPool<K, R, L>,
     rounds: u64,
 ) -> Result<u64, Memory> {
     let mut served: u64 = 0;
@@ -65,13 +65,13 @@ trait Job {
 
 /// So many gets, each polled once by hand, with their guards dropped.
 #[derive(Drop)]
-struct Rounds<'a, R: Runtime, L: PoolParts> {
-    pool: &'a NumberPool<R, L>,
+struct Rounds<'a, K: Clock, R: Runtime, L: PoolParts> {
+    pool: &'a NumberPool<K, R, L>,
     rt: R,
     rounds: u64,
 }
 
-impl<R: Runtime, L: PoolParts> Job for Rounds<'_, R, L> {
+impl<K: Clock, R: Runtime, L: PoolParts> Job for Rounds<'_, K, R, L> {
     fn run(&self) -> u64 {
         let Ok(task) = MockTask::new(&self.rt) else {
             return 0;
@@ -87,21 +87,28 @@ impl<R: Runtime, L: PoolParts> Job for Rounds<'_, R, L> {
     }
 }
 
-/// Runs a job on four threads.
-fn four_times<R: Threads + Sync>(rt: &R, job: &(impl Job + Sync)) -> ((u64, u64), (u64, u64)) {
-    join(
-        rt,
-        || join(rt, || job.run(), || job.run()),
-        || join(rt, || job.run(), || job.run()),
-    )
+/// Runs a job in so many threads: what each was served.
+fn in_threads<R: Threads + AllocGlobal + Sync>(
+    rt: &R,
+    job: &(impl Job + Sync),
+    threads: usize,
+) -> Result<Vec<u64>, Memory> {
+    match map_indices(rt, rt.alloc(), threads, &|_| job.run()) {
+        Ok(served) => Ok(served),
+        Err(_) => Err(Memory),
+    }
 }
 
-/// Four threads of so many rounds each.
-pub fn shared_by_four<R: Runtime + Threads, L: PoolParts>(
+/// So many threads of so many rounds each.
+pub fn shared<K: Clock, R: Runtime + Threads, L: PoolParts>(
     rt: R,
-    pool: &NumberPool<R, L>,
+    pool: &NumberPool<K, R, L>,
     rounds: u64,
-) -> u64 {
-    let ((a, b), (c, d)) = four_times(&rt, &Rounds { pool, rt, rounds });
-    a.saturating_add(b).saturating_add(c).saturating_add(d)
+    threads: usize,
+) -> Result<u64, Memory> {
+    let mut served: u64 = 0;
+    for one in in_threads(&rt, &Rounds { pool, rt, rounds }, threads)?.iter() {
+        served = served.saturating_add(*one);
+    }
+    Ok(served)
 }

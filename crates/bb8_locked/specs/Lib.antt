@@ -1,3 +1,4 @@
+pub mod Chains
 pub mod Gathered
 pub mod Parts
 pub mod Sections

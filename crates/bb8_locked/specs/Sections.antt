@@ -2,8 +2,8 @@
 use Rattle.std.specs.Prelude.{◌≡◌, Bool, true, false, Result, Ok, Err}
 use Rattle.bb8_core.specs.declared.answers.AddAnswer.{AddAnswer}
 use Rattle.bb8_core.specs.declared.answers.AddAnswer.TheVariants as adding
-use Rattle.bb8_locked.specs.declared.locked.handles.Joining.{Joining}
-use Rattle.bb8_locked.specs.declared.locked.handles.Joining.TheVariants as joining
+use Rattle.bb8_locked.specs.declared.handles.Joining.{Joining}
+use Rattle.bb8_locked.specs.declared.handles.Joining.TheVariants as joining
 use Rattle.bb8_ledger.specs.Answers as answers
 use Rattle.bb8_ledger.specs.Answers.{Answer}
 

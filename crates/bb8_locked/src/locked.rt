@@ -4,22 +4,19 @@
 //! answers `Unfit` and changes nothing. No manager, customizer, sink or clock is called here.
 ghost use Rattle.std.specs.Prelude.{◌≡◌, ◌+◌, ◌^◌, ◌<◌, ◌≤◌, true, IfOk};
 ghost use Rattle.bb8_ledger.specs.Acts as acts;
-ghost use Rattle.bb8_ledger.specs.Answers as answers;
-ghost use Rattle.bb8_types.specs.Figures.{figures_of};
 ghost use Rattle.bb8_types.specs.Settings.{Settings, default_settings, is_lawful, settings_of};
 ghost use Rattle.bb8_locked.specs.Parts.{Begins, IsBlankOf};
-ghost use Rattle.bb8_core.specs.StepAnswers.{put_back_told, claim_told, opened_told, add_told, GivesBack, HandsBack, Refuses};
+ghost use Rattle.bb8_core.specs.StepAnswers.{claim_told, opened_told, HandsBack};
 ghost use Rattle.bb8_core.specs.Parts.{out_of};
 ghost use Rattle.bb8_core.specs.Shown.{IsWithinLimits};
 
-mod handles;
-
+use crate::handles::{Handle, Joining, SectionHome};
 use bb8_core::api::{Config, Memory, Moment, State};
 use bb8_core::internals::{
-    AddAnswer, ClaimAnswer, Grant, Key, OpenedAnswer, PoolInternals, PutBackAnswer,
+    AddAnswer, ClaimAnswer, Grant, JoinAnswer, Key, LeaveAnswer, OpenedAnswer, PoolInternals,
+    PutBackAnswer,
 };
-use bb8_gets::Taken;
-pub use handles::{Handle, Joining};
+use bb8_gets::{Returned, Taken, Unfit};
 use std::alloc::Global;
 use std::marker::Brand;
 use std::sync::ledger::{Blank, Ledger, Share, Total};
@@ -113,14 +110,14 @@ pub fn begin_pool<C: Drop, L: Parts>(
     Ok(NewPool {
         total,
         locked,
-        handle: Handle::first(),
+        handle: Handle { _alive: () },
         grant,
     })
 }
 
 impl<C: Drop, L: Parts> Locked<C, L> {
     ghost use Rattle.bb8_gets.specs.Homes.{StepsIn};
-    ghost use Rattle.bb8_locked.specs.Sections.{returned, OnFit, IsSorted};
+    ghost use Rattle.bb8_locked.specs.Sections.{returned, OnFit};
 
     /// What holds of the state, whoever holds the lock. It does nothing.
     pub(crate) fn limits(&self)
@@ -128,51 +125,6 @@ impl<C: Drop, L: Parts> Locked<C, L> {
         ensures settings { self.now.core.config ≡ L.settings }
     {
         self.core.limits();
-    }
-
-    /// Takes back a connection that was out, and its part. Where that does not fit, the connection comes back as the error, and its part
-    /// is gone.
-    pub fn put_back(
-        &mut self,
-        at: Moment,
-        taken: Taken<C, Part<L>>,
-        broken: bool,
-    ) -> Result<PutBackAnswer<C>, C>
-        ensures step { StepsIn L.settings self.old.core at.0
-            (acts.PutBack taken.key.number taken.connection broken)
-            (returned (put_back_told taken.key.number) result) self.new.core }
-        ensures connection { OnFit (GivesBack taken.connection) (λ c. c ≡ taken.connection) result }
-    {
-        self.limits();
-        let Locked { core, rest, .. } = self;
-        let Taken {
-            key,
-            connection,
-            part,
-        } = taken;
-        let Part { share } = part;
-        if !core.fits_put_back(key) {
-            drop(share);
-            return Err(connection);
-        }
-        let answer = core.put_back(at, key, connection, broken);
-        rest.merge(share);
-        Ok(answer)
-    }
-
-    /// Adds a connection that no approval brought. Where that does not fit, the connection comes back as the error.
-    pub fn add(&mut self, at: Moment, conn: C, broken: bool) -> Result<AddAnswer<C>, C>
-        ensures step { StepsIn L.settings self.old.core at.0 (acts.Add conn broken)
-            (returned add_told result) self.new.core }
-        ensures connection { OnFit (Refuses conn) (λ same. same ≡ conn) result }
-        ensures sorted { IfOk result (λ answer. IsSorted broken answer) }
-    {
-        self.limits();
-        let Locked { core, .. } = self;
-        if !core.fits_add() {
-            return Err(conn);
-        }
-        Ok(core.add(at, conn, broken))
     }
 
     /// Claims the unclaimed approval of the least number, for whoever opens its connection.
@@ -198,16 +150,91 @@ impl<C: Drop, L: Parts> Locked<C, L> {
         }
         Ok(core.opened(at, approval, conn))
     }
+}
 
-    /// What the pool tells of itself.
-    pub fn state(&mut self, at: Moment) -> State
-        ensures step { StepsIn L.settings self.old.core at.0 acts.State
-            (answers.Shown (figures_of result)) self.new.core }
-        ensures size { result.connections ≤ L.settings.max_size }
-        ensures idle { result.idle_connections ≤ result.connections }
+/// Each section is one step, from the state that stands there to the next one.
+impl<C: Drop, L: Parts> SectionHome<C> for Locked<C, L> {
+    ghost use Rattle.bb8_types.specs.Figures.{figures_of};
+    ghost use Rattle.bb8_ledger.specs.Answers as answers;
+    ghost use Rattle.bb8_core.specs.StepAnswers.{add_told, leave_told, put_back_told, GivesBack, Refuses};
+    ghost use Rattle.bb8_gets.specs.Homes.{StepsIn};
+    ghost use Rattle.bb8_gets.specs.Told.{answered};
+    ghost use Rattle.bb8_locked.specs.Sections.{joining_told, returned, IsSorted, OnFit};
+
+    ghost puts_back = { λ h at r a h'. StepsIn L.settings h.core at.0 (acts.PutBack r.taken.key.number r.taken.connection r.broken) (returned (put_back_told r.taken.key.number) a) h'.core × OnFit (GivesBack r.taken.connection) (λ c. c ≡ r.taken.connection) a };
+
+    ghost adds = { λ h at conn broken a h'. StepsIn L.settings h.core at.0 (acts.Add conn broken) (returned add_told a) h'.core × OnFit (Refuses conn) (λ same. same ≡ conn) a × IfOk a (IsSorted broken) };
+
+    ghost shows = { λ h at state h'. StepsIn L.settings h.core at.0 acts.State (answers.Shown (figures_of state)) h'.core × (state.connections ≤ L.settings.max_size) × (state.idle_connections ≤ state.connections) };
+
+    ghost joins = { λ h at a h'. StepsIn L.settings h.core at.0 acts.Join (joining_told a) h'.core };
+
+    ghost leaves = { λ h at a h'. StepsIn L.settings h.core at.0 acts.Leave (answered leave_told a) h'.core };
+
+    fn put_back(&mut self, at: Moment, back: Returned<C, Part<L>>) -> Result<PutBackAnswer<C>, C>
+        ensures step { StepsIn L.settings self.old.core at.0
+            (acts.PutBack back.taken.key.number back.taken.connection back.broken)
+            (returned (put_back_told back.taken.key.number) result) self.new.core }
+        ensures connection { OnFit (GivesBack back.taken.connection)
+            (λ c. c ≡ back.taken.connection) result }
+    {
+        self.limits();
+        let Locked { core, rest, .. } = self;
+        let Returned { taken, broken } = back;
+        let Taken {
+            key,
+            connection,
+            part,
+        } = taken;
+        let Part { share } = part;
+        if !core.fits_put_back(key) {
+            drop(share);
+            return Err(connection);
+        }
+        let answer = core.put_back(at, key, connection, broken);
+        rest.merge(share);
+        Ok(answer)
+    }
+
+    fn add(&mut self, at: Moment, conn: C, broken: bool) -> Result<AddAnswer<C>, C>
+        ensures step { StepsIn L.settings self.old.core at.0 (acts.Add conn broken)
+            (returned add_told result) self.new.core }
+        ensures connection { OnFit (Refuses conn) (λ same. same ≡ conn) result }
+        ensures sorted { IfOk result (IsSorted broken) }
     {
         self.limits();
         let Locked { core, .. } = self;
+        if !core.fits_add() {
+            return Err(conn);
+        }
+        Ok(core.add(at, conn, broken))
+    }
+
+    fn state(&mut self, at: Moment) -> State {
+        self.limits();
+        let Locked { core, .. } = self;
         core.state(at)
+    }
+
+    fn join(&mut self, at: Moment) -> Joining {
+        self.limits();
+        let Locked { core, .. } = self;
+        if !core.fits_join() {
+            return Joining::Unfit;
+        }
+        match core.join(at) {
+            JoinAnswer::Joined => Joining::Joined(Handle { _alive: () }),
+            JoinAnswer::Exhausted => Joining::Exhausted,
+        }
+    }
+
+    fn leave(&mut self, at: Moment, handle: Handle) -> Result<LeaveAnswer, Unfit> {
+        self.limits();
+        let Locked { core, .. } = self;
+        let Handle { _alive: () } = handle;
+        if !core.fits_leave() {
+            return Err(Unfit);
+        }
+        Ok(core.leave(at))
     }
 }

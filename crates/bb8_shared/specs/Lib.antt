@@ -1,9 +1,5 @@
-pub mod Addings
-pub mod Handles
 pub mod Linked
 pub mod Opening
-pub mod Returns
-pub mod States
 pub mod Turning
 pub use Rattle.bb8_types.specs.Errors
 pub use Rattle.bb8_types.specs.Figures
@@ -11,5 +7,6 @@ pub use Rattle.bb8_types.specs.Settings
 pub use Rattle.bb8_gets.specs.Homes
 pub use Rattle.bb8_gets.specs.Polls
 pub use Rattle.bb8_gets.specs.Told
+pub use Rattle.bb8_locked.specs.Chains
 pub use Rattle.bb8_locked.specs.Parts
 pub use Rattle.bb8_locked.specs.Sections

@@ -9,6 +9,7 @@ use Rattle.bb8_types.specs.declared.api.customizers.CustomizeConnection.{Ghosts 
 use Rattle.bb8_types.specs.declared.api.managers.ManageConnection.{Ghosts as ManagerOf}
 use Rattle.bb8_ledger.specs.Acts as acts
 use Rattle.bb8_core.specs.StepAnswers.{look_told}
+use Rattle.bb8_core.specs.declared.joined.Joined.{Joined}
 use Rattle.bb8_gets.specs.Homes.{StepsIn}
 use Rattle.bb8_tasks.specs.declared.dedicated.Dedicated.{Dedicated}
 use Rattle.bb8_tasks.specs.declared.home.Home.{Ghosts as HomeOf}
@@ -19,6 +20,7 @@ use Rattle.bb8_tasks.specs.declared.rounds.Reports.{Ghosts as ReportsOf}
 use Rattle.bb8_tasks.specs.declared.rounds.Round.{Round}
 use Rattle.bb8_tasks.specs.Dedicating as dedicating
 use Rattle.bb8_tasks.specs.Homes.{failed_told, opened_told, HandsBack}
+use Rattle.bb8_tasks.specs.Joined.{joined_opener, joined_reports, joined_tasks}
 use Rattle.bb8_tasks.specs.Replenishing.{Polls, LetsGo}
 use Rattle.bb8_tasks.specs.Sweeping.{Rounds, LetsGoEach}
 use Rattle.bb8_locked.specs.declared.locked.Locked.{Locked}
@@ -50,20 +52,21 @@ link_tasks home = record {
 -- What the futures of a pool do with its tasks, of which handles and guards share this, by any calls outside.
 module _ {M S Z K R L C E N V A W : Type 0} {m : ManagerOf M C E N V} {d : DebugOf E} {l : PartsOf L} (opener : OpenerOf W C E N A) (reports : ReportsOf W E)
     (shared : Shared M S Z K R L C E N V m d l) where
-  -- the clock is read, and a round of the tasks, which stops at the first failure, is made on the pool's lock, which is free before
-  abbrev pub LinkRounds : List (Replenish C N A) → W → Round (List (Replenish C N A)) E → W → Type 0
-  LinkRounds tasks w round w' =
-      (at : Moment) × (w1 : W) × reports.tells w at w1
-      × ((h : LinkHome (Locked C L l) R) × (h' : LinkHome (Locked C L l) R) × (h.held ≡ None)
-      × Rounds (Polls (link_tasks locked_tasks) opener (as_nanos shared.config.connection_timeout) shared.config.retry_connection at) reports.sinks
-      (LetsGo (link_tasks locked_tasks) opener at) tasks h w1 round h' w')
+  -- a round of the tasks, which stops at the first failure, on the pool's lock, which is free before: the clock is read, and then the round is
+  -- made
+  abbrev pub LinkRounds : List (Replenish C N A) → W → Round (List (Replenish C N A)) E → Type 0
+  LinkRounds tasks w round =
+      (x : Joined W (LinkHome (Locked C L l) R)) × (x' : Joined W (LinkHome (Locked C L l) R)) × (x.outside ≡ w) × (x.home.held ≡ None)
+      × ((at : Moment) × (x1 : Joined W (LinkHome (Locked C L l) R)) × (joined_reports reports).tells x at x1
+      × Rounds (Polls (joined_tasks (link_tasks locked_tasks)) (joined_opener opener) (as_nanos shared.config.connection_timeout) shared.config.retry_connection at)
+      (joined_reports reports).sinks (LetsGo (joined_tasks (link_tasks locked_tasks)) (joined_opener opener) at) tasks x1 round x')
 
-  -- the clock is read, and each task is let go on the pool's lock: what it holds is dropped, and its approval given back
-  abbrev pub LinkDropsTasks : List (Replenish C N A) → W → W → Type 0
-  LinkDropsTasks tasks w w' =
-      (at : Moment) × (w1 : W) × reports.tells w at w1
-      × ((h : LinkHome (Locked C L l) R) × (h' : LinkHome (Locked C L l) R) × (h.held ≡ None)
-      × LetsGoEach (LetsGo (link_tasks locked_tasks) opener at) tasks h w1 h' w')
+  -- the tasks are let go on the pool's lock: the clock is read, and then what each task holds is let go, and its approval given back
+  abbrev pub LinkDropsTasks : List (Replenish C N A) → W → Type 0
+  LinkDropsTasks tasks w =
+      (x : Joined W (LinkHome (Locked C L l) R)) × (x' : Joined W (LinkHome (Locked C L l) R)) × (x.outside ≡ w) × (x.home.held ≡ None)
+      × ((at : Moment) × (x1 : Joined W (LinkHome (Locked C L l) R)) × (joined_reports reports).tells x at x1
+      × LetsGoEach (LetsGo (joined_tasks (link_tasks locked_tasks)) (joined_opener opener) at) tasks x1 x')
 
 -- What they do by the pool's own manager, customizer, error sink and clock, whose relations these are.
 module _ {M S Z K R L C E N V A : Type 0} {m : ManagerOf M C E N V} {d : DebugOf E} {l : PartsOf L} (z : CustomizerOf Z C E A) (sinks : S → E → Type 0)
@@ -73,8 +76,10 @@ module _ {M S Z K R L C E N V A : Type 0} {m : ManagerOf M C E N V} {d : DebugOf
   pool_opener = record {
     connects = λ calls v after. m.connects calls.manager.now v × (after ≡ calls);
     connect_answers = λ calls v at answer v' after. m.connect_answers calls.manager.now v at answer v' × (after ≡ calls);
+    ends_connect = λ calls _ after. after ≡ calls;
     acquires = λ calls c a c' after. z.acquires calls.customizer.now c a c' × (after ≡ calls);
     acquire_answers = λ calls c a at answer c' a' after. z.acquire_answers calls.customizer.now c a at answer c' a' × (after ≡ calls);
+    ends_acquire = λ calls _ after. after ≡ calls;
     lets_go = λ calls _ after. after ≡ calls;
   }
 
@@ -92,13 +97,11 @@ module _ {M S Z K R L C E N V A : Type 0} {m : ManagerOf M C E N V} {d : DebugOf
 
   -- a round of the tasks that open the pool's first connections
   abbrev pub OwnRounds : List (Replenish C N A) → Round (List (Replenish C N A)) E → Type 0
-  OwnRounds tasks round =
-      (calls : PoolOpener M S Z K) × (calls' : PoolOpener M S Z K) × AreOpenersOf calls × LinkRounds pool_opener pool_reports shared tasks calls round calls'
+  OwnRounds tasks round = (calls : PoolOpener M S Z K) × AreOpenersOf calls × LinkRounds pool_opener pool_reports shared tasks calls round
 
   -- the tasks of the pool are let go
   abbrev pub OwnDropsTasks : List (Replenish C N A) → Type 0
-  OwnDropsTasks tasks =
-      (calls : PoolOpener M S Z K) × (calls' : PoolOpener M S Z K) × AreOpenersOf calls × LinkDropsTasks pool_opener pool_reports shared tasks calls calls'
+  OwnDropsTasks tasks = (calls : PoolOpener M S Z K) × AreOpenersOf calls × LinkDropsTasks pool_opener pool_reports shared tasks calls
 
   -- a poll of the opening of a connection that the pool does not count
   abbrev pub OwnDedicates : Dedicated C N A → Poll (Result C E) → Dedicated C N A → Type 0

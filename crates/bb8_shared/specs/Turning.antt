@@ -7,12 +7,14 @@ use Rattle.bb8_types.specs.declared.api.managers.ManageConnection.{Ghosts as Man
 use Rattle.bb8_types.specs.declared.api.moments.Moment.{Moment}
 use Rattle.bb8_ledger.specs.Acts as acts
 use Rattle.bb8_core.specs.StepAnswers.{claim_told, look_told}
+use Rattle.bb8_core.specs.declared.joined.Joined.{Joined}
 use Rattle.bb8_gets.specs.Homes.{StepsIn}
 use Rattle.bb8_tasks.specs.declared.home.ClaimHome.{Ghosts as ClaimHomeOf}
 use Rattle.bb8_tasks.specs.declared.home.ReapHome.{Ghosts as ReapHomeOf}
 use Rattle.bb8_tasks.specs.declared.opener.Opener.{Ghosts as OpenerOf}
 use Rattle.bb8_tasks.specs.declared.opener.PoolOpener.{PoolOpener}
 use Rattle.bb8_tasks.specs.declared.rounds.Reports.{Ghosts as ReportsOf}
+use Rattle.bb8_tasks.specs.Joined.{joined_claims, joined_opener, joined_reaps, joined_reports, joined_tasks}
 use Rattle.bb8_tasks.specs.ReapHomes.{reap_told}
 use Rattle.bb8_turns.specs.declared.turning.Turn.{Turn}
 use Rattle.bb8_turns.specs.declared.turning.Turning.{Turning}
@@ -48,19 +50,24 @@ link_reaps home = record {
 -- What a driver of a pool does, of which the pool's handles share this, by any calls outside.
 module _ {M S Z K R L C E N V A W : Type 0} {m : ManagerOf M C E N V} {d : DebugOf E} {l : PartsOf L} (opener : OpenerOf W C E N A) (reports : ReportsOf W E)
     (shared : Shared M S Z K R L C E N V m d l) where
-  -- a turn at a moment, made on the pool's lock, which is free before
-  abbrev pub LinkTurns : Moment → Turning C N A → W → Turn → Turning C N A → W → Type 0
-  LinkTurns at turning w turn turning' w' =
-      (h : LinkHome (Locked C L l) R) × (h' : LinkHome (Locked C L l) R) × (h.held ≡ None)
-      × Turns (link_tasks locked_tasks) (link_claims locked_claims) (link_reaps locked_reaps) opener reports.sinks
-      (as_nanos shared.config.connection_timeout) shared.config.retry_connection at turning h w turn turning' h' w'
+  -- a turn at a moment, on the pool's lock and by the calls outside, which are one value
+  abbrev pub TurnsOn : Moment → Turning C N A → Joined W (LinkHome (Locked C L l) R) → Turn → Turning C N A → Joined W (LinkHome (Locked C L l) R) → Type 0
+  TurnsOn at turning x turn turning' x' =
+      Turns (joined_tasks (link_tasks locked_tasks)) (joined_claims (link_claims locked_claims)) (joined_reaps (link_reaps locked_reaps)) (joined_opener opener)
+      (joined_reports reports).sinks (as_nanos shared.config.connection_timeout) shared.config.retry_connection at turning x turn turning' x'
 
-  -- the clock is read, and a driver is let go on the pool's lock: the approval of each of its tasks is given back
-  abbrev pub LinkDropsTurning : Turning C N A → W → W → Type 0
-  LinkDropsTurning turning w w' =
-      (at : Moment) × (w1 : W) × reports.tells w at w1
-      × ((h : LinkHome (Locked C L l) R) × (h' : LinkHome (Locked C L l) R) × (h.held ≡ None)
-      × GivesBack (link_tasks locked_tasks) opener at turning h w1 h' w')
+  -- such a turn, where the lock is free before
+  abbrev pub LinkTurns : Moment → Turning C N A → W → Turn → Turning C N A → Type 0
+  LinkTurns at turning w turn turning' =
+      (x : Joined W (LinkHome (Locked C L l) R)) × (x' : Joined W (LinkHome (Locked C L l) R)) × (x.outside ≡ w) × (x.home.held ≡ None)
+      × TurnsOn at turning x turn turning' x'
+
+  -- a driver is let go on the pool's lock: the clock is read, and then each of its tasks is let go, and its approval given back
+  abbrev pub LinkDropsTurning : Turning C N A → W → Type 0
+  LinkDropsTurning turning w =
+      (x : Joined W (LinkHome (Locked C L l) R)) × (x' : Joined W (LinkHome (Locked C L l) R)) × (x.outside ≡ w) × (x.home.held ≡ None)
+      × ((at : Moment) × (x1 : Joined W (LinkHome (Locked C L l) R)) × (joined_reports reports).tells x at x1
+      × GivesBack (joined_tasks (link_tasks locked_tasks)) (joined_opener opener) at turning x1 x')
 
 -- What it does by the pool's own manager, customizer, error sink and clock, whose relations these are.
 module _ {M S Z K R L C E N V A : Type 0} {m : ManagerOf M C E N V} {d : DebugOf E} {l : PartsOf L} (z : CustomizerOf Z C E A) (sinks : S → E → Type 0)
@@ -68,11 +75,11 @@ module _ {M S Z K R L C E N V A : Type 0} {m : ManagerOf M C E N V} {d : DebugOf
   -- a turn at a moment
   abbrev pub OwnTurns : Moment → Turning C N A → Turn → Turning C N A → Type 0
   OwnTurns at turning turn turning' =
-      (calls : PoolOpener M S Z K) × (calls' : PoolOpener M S Z K) × AreOpenersOf z sinks tells shared calls
-      × LinkTurns (pool_opener z sinks tells shared) (pool_reports z sinks tells shared) shared at turning calls turn turning' calls'
+      (calls : PoolOpener M S Z K) × AreOpenersOf z sinks tells shared calls
+      × LinkTurns (pool_opener z sinks tells shared) (pool_reports z sinks tells shared) shared at turning calls turn turning'
 
   -- the driver is let go
   abbrev pub OwnDropsTurning : Turning C N A → Type 0
   OwnDropsTurning turning =
-      (calls : PoolOpener M S Z K) × (calls' : PoolOpener M S Z K) × AreOpenersOf z sinks tells shared calls
-      × LinkDropsTurning (pool_opener z sinks tells shared) (pool_reports z sinks tells shared) shared turning calls calls'
+      (calls : PoolOpener M S Z K) × AreOpenersOf z sinks tells shared calls
+      × LinkDropsTurning (pool_opener z sinks tells shared) (pool_reports z sinks tells shared) shared turning calls

@@ -4,7 +4,6 @@
 //! tasks that open connections, and the turns of a driver. Manager, customizer, sink and clock are called while the lock is free.
 #![tactic(auto)]
 
-mod adding;
 mod gets;
 mod handles;
 mod link;
@@ -13,11 +12,10 @@ mod opening;
 mod shared;
 mod turning;
 
-pub use adding::OnShared;
 pub use gets::Gets;
-pub use handles::OnHandles;
+pub use handles::OnShared;
 pub use link::LinkHome;
 pub use locks::Locks;
 pub use opening::Opens;
-pub use shared::{Returns, Shared};
+pub use shared::Shared;
 pub use turning::Drives;

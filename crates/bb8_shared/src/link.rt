@@ -1,14 +1,16 @@
-//! A lock as a home of gets.
+//! A lock as a home of gets and of sections.
 ghost use Rattle.std.specs.Prelude.{◌≡◌, None};
 ghost use Rattle.bb8_shared.specs.Linked.{Leads, StartsAt};
 ghost use Rattle.std.specs.Sync.Mutex.{mutex_guard_value};
 
 use crate::locks::Locks;
-use bb8_core::api::Moment;
+use bb8_core::api::{Moment, State};
 use bb8_core::internals::{
-    BeginAnswer, CheckedErrAnswer, GetKey, GiveUpAnswer, Grant, Key, Looked, Reason,
+    AddAnswer, BeginAnswer, CheckedErrAnswer, GetKey, GiveUpAnswer, Grant, Key, LeaveAnswer,
+    Looked, PutBackAnswer, Reason,
 };
 use bb8_gets::{GetHome, Passed, Returned, Taken, Tried, Unfit};
+use bb8_locked::{Handle, Joining, SectionHome};
 use std::sync::{Mutex, MutexGuard};
 
 /// The lock of a home as a home: it is taken at a step where it is not held, and held until it is released.
@@ -156,6 +158,59 @@ impl<'a, C, T: GetHome<C>, R: Locks> GetHome<C> for LinkHome<'a, T, R> {
     {
         let mut guard = self.hold();
         let answer = guard.give_back(at, get, reason, returned);
+        self.held = Some(guard);
+        answer
+    }
+}
+
+impl<'a, C, T: SectionHome<C>, R: Locks> SectionHome<C> for LinkHome<'a, T, R> {
+    ghost puts_back = { λ h at returned a h'. Leads (λ t t'. T.puts_back t at returned a t') h.held h'.held };
+
+    ghost adds = { λ h at c broken a h'. Leads (λ t t'. T.adds t at c broken a t') h.held h'.held };
+
+    ghost shows = { λ h at state h'. Leads (λ t t'. T.shows t at state t') h.held h'.held };
+
+    ghost joins = { λ h at a h'. Leads (λ t t'. T.joins t at a t') h.held h'.held };
+
+    ghost leaves = { λ h at a h'. Leads (λ t t'. T.leaves t at a t') h.held h'.held };
+
+    fn put_back(
+        &mut self,
+        at: Moment,
+        returned: Returned<C, T::Part>,
+    ) -> Result<PutBackAnswer<C>, C>
+        ensures { Leads (λ t t'. T.puts_back t at returned result t') self.old.held self.new.held }
+    {
+        let mut guard = self.hold();
+        let answer = guard.put_back(at, returned);
+        self.held = Some(guard);
+        answer
+    }
+
+    fn add(&mut self, at: Moment, conn: C, broken: bool) -> Result<AddAnswer<C>, C> {
+        let mut guard = self.hold();
+        let answer = guard.add(at, conn, broken);
+        self.held = Some(guard);
+        answer
+    }
+
+    fn state(&mut self, at: Moment) -> State {
+        let mut guard = self.hold();
+        let state = guard.state(at);
+        self.held = Some(guard);
+        state
+    }
+
+    fn join(&mut self, at: Moment) -> Joining {
+        let mut guard = self.hold();
+        let answer = guard.join(at);
+        self.held = Some(guard);
+        answer
+    }
+
+    fn leave(&mut self, at: Moment, handle: Handle) -> Result<LeaveAnswer, Unfit> {
+        let mut guard = self.hold();
+        let answer = guard.leave(at, handle);
         self.held = Some(guard);
         answer
     }

@@ -2,6 +2,7 @@
 use crate::link::{Hold, LinkHome};
 use crate::locks::Locks;
 use crate::shared::Shared;
+use bb8_core::Joined;
 use bb8_core::api::{ManageConnection, Moment};
 use bb8_core::internals::{ClaimAnswer, Key, Looked};
 use bb8_locked::Parts;
@@ -71,16 +72,16 @@ impl<T: ReapHome, R: Locks> ReapHome for LinkHome<'_, T, R> {
 /// What the futures of a pool do with its tasks, as methods of an impl, so that polls and drops can call them.
 pub trait Opens<C, E, V, A> {
     /// A round of tasks that stops at the first failure.
-    fn open_first<W: Opener<C, E, Connecting = V, Acquiring = A> + Reports<E>>(
+    fn open_first<W: Opener<C, E, Connecting = V, Acquiring = A> + Reports<E> + Drop>(
         &self,
-        outside: &mut W,
+        outside: W,
         tasks: Tasks<C, V, A>,
     ) -> Round<Tasks<C, V, A>, E>;
 
     /// Lets tasks go.
-    fn drop_tasks<W: Opener<C, E, Connecting = V, Acquiring = A> + Reports<E>>(
+    fn drop_tasks<W: Opener<C, E, Connecting = V, Acquiring = A> + Reports<E> + Drop>(
         &self,
-        outside: &mut W,
+        outside: W,
         tasks: Tasks<C, V, A>,
     );
 
@@ -100,7 +101,7 @@ pub trait Opens<C, E, V, A> {
 }
 
 /// Manager, customizer, sink and clock are called while the lock is free: it is taken for each step of a task alone.
-impl<M: ManageConnection, S, Z, K, R: Locks, L: Parts, A: Drop> Opens<
+impl<M: ManageConnection, S, Z, K, R: Locks, L: Parts, A> Opens<
     M::Connection,
     M::Error,
     M::Connecting,
@@ -111,28 +112,32 @@ impl<M: ManageConnection, S, Z, K, R: Locks, L: Parts, A: Drop> Opens<
 
     fn open_first<
         W: Opener<M::Connection, M::Error, Connecting = M::Connecting, Acquiring = A>
-            + Reports<M::Error>,
+            + Reports<M::Error>
+            + Drop,
     >(
         &self,
-        outside: &mut W,
+        outside: W,
         tasks: Tasks<M::Connection, M::Connecting, A>,
     ) -> Round<Tasks<M::Connection, M::Connecting, A>, M::Error>
-        ensures { LinkRounds W.Opener W.Reports self.now tasks outside.old result outside.new }
+        ensures { LinkRounds W.Opener W.Reports self.now tasks outside result }
     {
-        let at = outside.now();
-        let mut link = LinkHome::new(&self.locked, &self.rt);
-        tasks.round(at, outside, &self.config, &mut link)
+        let home = LinkHome::new(&self.locked, &self.rt);
+        let mut pool = Joined { outside, home };
+        let at = pool.now();
+        tasks.round(at, &mut pool, &self.config)
     }
 
     fn drop_tasks<
         W: Opener<M::Connection, M::Error, Connecting = M::Connecting, Acquiring = A>
-            + Reports<M::Error>,
-    >(&self, outside: &mut W, tasks: Tasks<M::Connection, M::Connecting, A>)
-        ensures { LinkDropsTasks W.Opener W.Reports self.now tasks outside.old outside.new }
+            + Reports<M::Error>
+            + Drop,
+    >(&self, outside: W, tasks: Tasks<M::Connection, M::Connecting, A>)
+        ensures { LinkDropsTasks W.Opener W.Reports self.now tasks outside }
     {
-        let at = outside.now();
-        let mut link = LinkHome::new(&self.locked, &self.rt);
-        tasks.give_back(at, outside, &mut link);
+        let home = LinkHome::new(&self.locked, &self.rt);
+        let mut pool = Joined { outside, home };
+        let at = pool.now();
+        tasks.give_back(at, &mut pool);
     }
 
     fn poll_dedicated<

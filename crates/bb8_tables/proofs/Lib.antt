@@ -8,6 +8,7 @@ pub mod Orders
 pub mod RecordPlaces
 pub mod ReapPlaces
 pub mod Reaps
+pub mod Lent
 pub mod Walks
 pub mod Approvals
 pub mod Ended

@@ -15,6 +15,8 @@ use Rattle.bb8_tables.specs.declared.table.Slot.{Slot}
 use Rattle.bb8_tables.specs.declared.records.Records.TheInside.{Inside}
 use Rattle.bb8_tables.specs.declared.records.reaps.Passed.TheVariants.{Young, Out, Aged}
 use Rattle.bb8_tables.specs.Dues.{EndsFirst, Ends, EndsIdle, Passes}
+use Rattle.bb8_tables.specs.Lent.{Lent, Adds}
+use Rattle.bb8_tables.proofs.Lent.{adds_none, adds_more, adds_within}
 use Rattle.bb8_tables.specs.Lined.{Lined, slot_at}
 use Rattle.bb8_tables.specs.Machine.{without}
 use Rattle.bb8_tables.specs.Reaps.{after_reap, AreFirst, beyond, Reaps}
@@ -182,21 +184,21 @@ module _ {C : Type 0} where
       ∙ ap (λ (o : Option (Slot (Standing C))). Some (number_in numbered o)) at_place
 
   -- how far the walk has come
-  pub record InIdle (config : Settings) (now : ℕ) (old new : ShownRecords C) (told lent lent_now : ℕ) : Type 0 where
+  pub record InIdle (config : Settings) (now : ℕ) (old new : ShownRecords C) (told : ℕ) (lent lent_now : Lent) : Type 0 where
     pub ks : List ℕ
     pub first : AreFirst (idles_out config now) ks old
     pub ends : Ends (idles_out config now) old ks new told
-    pub lendings : lent_now ≤ lent + told
+    pub lendings : Adds told 0 lent lent_now
 
-  pub idle_more : {config : Settings} {now : ℕ} {old mid new : ShownRecords C} {told lent mid_lent new_lent : ℕ} → InIdle config now old mid told lent mid_lent
-      → (k : ℕ) × (slice_get mid.idle 0 ≡ Some k) × EndsFirst (idles_out config now) mid k new → new_lent ≤ mid_lent + 1
+  pub idle_more : {config : Settings} {now : ℕ} {old mid new : ShownRecords C} {told : ℕ} {lent mid_lent new_lent : Lent} → InIdle config now old mid told lent mid_lent
+      → (k : ℕ) × (slice_get mid.idle 0 ≡ Some k) × EndsFirst (idles_out config now) mid k new → Adds 1 0 mid_lent new_lent
       → InIdle config now old new (told + 1) lent new_lent
-  idle_more {config} {now} {old} {mid} {new} {told} i e l = record {
+  idle_more {config} {now} {old} {mid} {new} {told} {lent} {mid_lent} {new_lent} i e l = record {
     ks = i.ks ++ e.0 ∷ [];
     first = first_more (idles_out config now) i.ks e.0 old i.first (ap (λ (s : ShownRecords C). slice_get s.idle 0) (sym i.ends.state) ∙ e.1)
         (ap (λ (s : ShownRecords C). idles_out config now (get s.places e.0)) (sym i.ends.state) ∙ e.2.is_due);
     ends = ends_more (idles_out config now) i.ends e.2 refl;
-    lendings = omega (arith, i.lendings);
+    lendings = adds_more told 1 lent mid_lent new_lent i.lendings l;
   }
 
   -- ---- the walk along the order of births
@@ -207,7 +209,7 @@ module _ {C : Type 0} where
   AreOut t (k ∷ ks) = ((x : Slot (Standing C)) × (slot_at t k ≡ Some x) × (is_out x.standing.place ≡ true)) × AreOut t ks
 
   -- how far the walk has come: it has passed those that are out, and ended the others
-  pub record InBirths (config : Settings) (now : ℕ) (old : ShownRecords C) (lent many : ℕ) (a : Inside C) (told : ℕ) (at : Option ℕ) (lent_now counter : ℕ) : Type 0 where
+  pub record InBirths (config : Settings) (now : ℕ) (old : ShownRecords C) (lent : Lent) (many : ℕ) (a : Inside C) (told : ℕ) (at : Option ℕ) (lent_now : Lent) (counter : ℕ) : Type 0 where
     pub good : AreGoodRecords a
     pub ks : List ℕ
     pub ends : Ends (lives_out config now) old ks (view_of_records a) told
@@ -217,7 +219,7 @@ module _ {C : Type 0} where
     pub at_is : at ≡ slice_get rest 0
     pub outs : AreOut a.slots passed
     pub steps : told + length passed ≡ counter
-    pub lendings : lent_now ≤ lent + counter
+    pub lendings : Adds counter 0 lent lent_now
     pub left : counter + length rest ≡ many
     pub few : old.conns ≤ most_records
     pub many_few : many ≤ old.conns
@@ -256,7 +258,7 @@ module _ {C : Type 0} where
   pub conns_few : (a : Inside C) (s : ShownRecords C) → AreGoodRecords a → view_of_records a ≡ s → s.conns ≤ most_records
   conns_few a s good shows = let e : a.conns ≡ s.conns = ap (λ (t : ShownRecords C). t.conns) shows in omega (arith, good.sizes.peak_holds, good.sizes.peak_few)
 
-  module _ {config : Settings} {now : ℕ} {old : ShownRecords C} {lent many : ℕ} where
+  module _ {config : Settings} {now : ℕ} {old : ShownRecords C} {lent : Lent} {many : ℕ} where
     -- it begins at the one that was born first
     pub births_start : (a : Inside C) (told : ℕ) (at : Option ℕ) → AreGoodRecords a → view_of_records a ≡ old → told ≡ 0
         → at ≡ slice_get a.slots.births 0 → many ≡ length a.slots.births → InBirths config now old lent many a told at lent 0
@@ -270,7 +272,7 @@ module _ {C : Type 0} where
       at_is = at_is;
       outs = tt;
       steps = omega arith;
-      lendings = omega arith;
+      lendings = adds_none lent;
       left = omega arith;
       few = conns_few a old good shows;
       many_few =
@@ -279,7 +281,7 @@ module _ {C : Type 0} where
           omega (arith, good.conns_are);
     }
 
-    module _ {a : Inside C} {told : ℕ} {place lent_now counter : ℕ} (i : InBirths config now old lent many a told (Some place) lent_now counter) where
+    module _ {a : Inside C} {told place : ℕ} {lent_now : Lent} {counter : ℕ} (i : InBirths config now old lent many a told (Some place) lent_now counter) where
       ahead : (rest : List ℕ) × (i.rest ≡ place ∷ rest)
       ahead = head_split place i.rest (sym i.at_is)
 
@@ -299,7 +301,7 @@ module _ {C : Type 0} where
       births_stands = (births_conn.0, births_conn.1)
 
       -- it passes one that is out
-      pub births_out : {next : Option ℕ} {new_lent : ℕ} → Passes config now a.slots place (Out next) → new_lent ≤ lent_now + 1 → InBirths config now old lent many a told next new_lent (counter + 1)
+      pub births_out : {next : Option ℕ} {new_lent : Lent} → Passes config now a.slots place (Out next) → Adds 1 0 lent_now new_lent → InBirths config now old lent many a told next new_lent (counter + 1)
       births_out {next} {new_lent} p l =
           let same : births_conn.0 ≡ p.0 = let both : Some births_conn.0 ≡ Some p.0 = sym births_conn.1 ∙ p.1 in cc in
           let conn : is_conn p.0.standing.place ≡ true = subst (λ (x : Slot (Standing C)). is_conn x.standing.place ≡ true) same births_conn.2 in
@@ -314,7 +316,7 @@ module _ {C : Type 0} where
             at_is = p.3 i.passed ahead.0 cut;
             outs = out_push a.slots i.passed place p.0 i.outs p.1 (out_conn p.0.standing.place conn p.2);
             steps = omega (arith, i.steps);
-            lendings = omega (arith, i.lendings);
+            lendings = adds_more counter 1 lent lent_now new_lent i.lendings l;
             left = omega (arith, i.left, more_left);
             few = i.few;
             many_few = i.many_few;
@@ -325,7 +327,7 @@ module _ {C : Type 0} where
         aged_idle : is_idle p.0.standing.place ≡ true
         aged_idle = lives_idle config now p.0.standing p.2
 
-        pub births_aged : {more new_lent : ℕ} → more ≡ told + 1 → new_lent ≤ lent_now + 1
+        pub births_aged : {more : ℕ} {new_lent : Lent} → more ≡ told + 1 → Adds 1 0 lent_now new_lent
             → InBirths config now old lent many (record a { slots = slots; conns = a.conns - 1 }) more next new_lent (counter + 1)
         births_aged {more} {new_lent} is l =
             let are = subst (λ (ks : List ℕ). ArePlaces (λ (x : Slot (Standing C)). is_conn x.standing.place) a.slots.slots ks) cut i.good.births.are in
@@ -341,7 +343,7 @@ module _ {C : Type 0} where
               at_is = p.3 i.passed ahead.0 cut;
               outs = out_kept a.slots slots place i.passed (set_updates None (inside a.slots.slots place p.0 p.1) (ap (λ (t : Lined (Slot (Standing C))). t.slots) gone)).others i.outs front;
               steps = omega (arith, i.steps);
-              lendings = omega (arith, i.lendings);
+              lendings = adds_more counter 1 lent lent_now new_lent i.lendings l;
               left = omega (arith, i.left, more_left);
               few = i.few;
               many_few = i.many_few;
@@ -349,7 +351,7 @@ module _ {C : Type 0} where
 
     -- ---- where it ends
 
-    module _ {a : Inside C} {told : ℕ} {at : Option ℕ} {lent_now counter : ℕ} (i : InBirths config now old lent many a told at lent_now counter) where
+    module _ {a : Inside C} {told : ℕ} {at : Option ℕ} {lent_now : Lent} {counter : ℕ} (i : InBirths config now old lent many a told at lent_now counter) where
       -- none is left that lives too long, where none is ahead
       none_aged : ((j k : ℕ) (y : Slot (Standing C)) → slice_get i.rest j ≡ Some k → slot_at a.slots k ≡ Some y → is_expired config.max_lifetime now y.standing.birth ≡ false)
           → (k : ℕ) → lives_out config now (get (view_of_records a).places k) ≡ false
@@ -392,11 +394,11 @@ module _ {C : Type 0} where
           in_births : (j k : ℕ) → slice_get i.passed j ≡ Some k → slice_get a.slots.births j ≡ Some k
           in_births j k e = ap (λ (ks : List ℕ). slice_get ks j) i.births ∙ get_front i.passed i.rest j k e
 
-      pub lent_at_most : lent_now ≤ lent + (told + (old.conns - length old.idle))
-      lent_at_most = omega (arith, i.lendings, i.steps, few_passed)
+      pub lent_at_most : Adds (told + (old.conns - length old.idle)) 0 lent lent_now
+      lent_at_most = adds_within counter (told + (old.conns - length old.idle)) lent lent_now i.lendings (omega (arith, i.steps, few_passed))
 
     -- it stops at the first that does not live too long
-    pub none_after : {a : Inside C} {told : ℕ} {place lent_now counter : ℕ} → InBirths config now old lent many a told (Some place) lent_now counter → Passes config now a.slots place Young
+    pub none_after : {a : Inside C} {told place : ℕ} {lent_now : Lent} {counter : ℕ} → InBirths config now old lent many a told (Some place) lent_now counter → Passes config now a.slots place Young
         → (k : ℕ) → lives_out config now (get (view_of_records a).places k) ≡ false
     none_after {a} {place = place} i p = none_aged i (λ j k y e f. shorter_span config.max_lifetime (now - p.0.standing.birth) (now - y.standing.birth) p.2
         (let l : p.0.standing.birth ≤ y.standing.birth = no_earlier (λ (z : Slot (Standing C)). z.standing.birth) a.slots.slots i.passed (ahead i).0 place k j p.0 y

@@ -1,4 +1,5 @@
 pub mod Keys
+pub mod Lent
 pub mod Views
 pub mod Machine
 pub mod Reaps

@@ -144,7 +144,8 @@ impl Counters {
 
     /// The statistics that a user sees.
     pub fn statistics(&self) -> Statistics
-        requires { self.now.direct + self.now.waited + self.now.timed_out + self.now.cancelled ≤ self.now.started }
+        requires { self.now.direct + self.now.waited + self.now.timed_out + self.now.cancelled ≤
+            self.now.started }
         ensures { counts_of result ≡ counts_held self.now }
     {
         Statistics {

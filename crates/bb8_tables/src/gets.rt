@@ -9,6 +9,7 @@ ghost use Rattle.bb8_tables.specs.Machine as machine;
 ghost use Rattle.bb8_tables.specs.Keys.{notified_of};
 ghost use Rattle.bb8_tables.specs.Views.{no_gets};
 ghost use Rattle.bb8_types.specs.Bounds.{end_of_numbers};
+ghost use Rattle.bb8_tables.specs.Lent.{Adds};
 
 use crate::keys::{GetKey, Key};
 use crate::table::{Lendings, Slot, Table, held};
@@ -204,10 +205,10 @@ impl Gets {
         requires stands { (x : Getting) × (map.get self.old.places g.number ≡ Some x)
             × (places.is_unnotified x.place ≡ false) }
         ensures state { self.new ≡ machine.after_wait now g.number self.old }
-        ensures examined { lendings.new ≤ lendings.old + 1 }
-        ensures counted { min (lendings.old + 1) end_of_numbers ≤ lendings.new }
+        ensures examined { Adds 1 1 lendings.old lendings.new }
+        ensures counted { min (lendings.old.lent + 1) end_of_numbers ≤ lendings.new.lent }
     {
-        match self.slots.locate(g.number, g.place) {
+        match self.slots.locate(g.number, g.place, lendings) {
             None => {}
             Some(place) => {
                 self.slots.wait(place, now, lendings);
@@ -222,10 +223,10 @@ impl Gets {
         requires stands { (x : Getting) × (map.get self.old.places g.number ≡ Some x)
             × (places.is_unnotified x.place ≡ false) }
         ensures state { self.new ≡ machine.after_turn place g.number self.old }
-        ensures examined { lendings.new ≤ lendings.old + 1 }
-        ensures counted { min (lendings.old + 1) end_of_numbers ≤ lendings.new }
+        ensures examined { Adds 1 1 lendings.old lendings.new }
+        ensures counted { min (lendings.old.lent + 1) end_of_numbers ≤ lendings.new.lent }
     {
-        match self.slots.locate(g.number, g.place) {
+        match self.slots.locate(g.number, g.place, lendings) {
             None => {}
             Some(at) => {
                 let _ = self.slots.turn(at, place, lendings);
@@ -237,8 +238,9 @@ impl Gets {
     pub fn notify(&mut self, lendings: &mut Lendings) -> Option<GetKey>
         ensures value { notified_of result ≡ slice_get self.old.waiting 0 }
         ensures state { self.new ≡ machine.after_notice (notified_of result) self.old }
-        ensures examined { lendings.new ≤ lendings.old + numbered.one (is_some result) }
-        ensures counted { min (lendings.old + numbered.one (is_some result)) end_of_numbers ≤ lendings.new }
+        ensures examined { Adds (numbered.one (is_some result)) 0 lendings.old lendings.new }
+        ensures counted { min (lendings.old.lent + numbered.one (is_some result)) end_of_numbers
+            ≤ lendings.new.lent }
     {
         match self.slots.first() {
             None => None,
@@ -252,12 +254,13 @@ impl Gets {
 
     /// Ends a get that is alive.
     #[inline]
-    pub fn end(&mut self, g: GetKey)
+    pub fn end(&mut self, g: GetKey, lendings: &mut Lendings)
         requires { IsSome (map.get self.old.places g.number) }
         ensures state { self.new ≡ machine.after_get_end g.number self.old }
         ensures numbers { self.old.next ≤ end_of_numbers }
+        ensures examined { Adds 0 1 lendings.old lendings.new }
     {
-        match self.slots.locate(g.number, g.place) {
+        match self.slots.locate(g.number, g.place, lendings) {
             None => {}
             Some(place) => {
                 let _ = self.slots.remove(place);
@@ -268,13 +271,14 @@ impl Gets {
 
     /// Ends a get that is alive and in no line.
     #[inline]
-    pub fn finish(&mut self, g: GetKey)
+    pub fn finish(&mut self, g: GetKey, lendings: &mut Lendings)
         requires { (x : Getting) × (map.get self.old.places g.number ≡ Some x)
             × (places.is_unnotified x.place ≡ false) }
         ensures state { self.new ≡ machine.after_get_end g.number self.old }
         ensures numbers { self.old.next ≤ end_of_numbers }
+        ensures examined { Adds 0 1 lendings.old lendings.new }
     {
-        self.end(g);
+        self.end(g, lendings);
     }
 
     /// Where the number stands, if the get is alive.
@@ -283,7 +287,7 @@ impl Gets {
             × IsSome (map.get self.now.places number)) }
         ensures none { IfNone result (map.get self.now.places number ≡ None) }
     {
-        match self.slots.locate(number, 0) {
+        match self.slots.place_of(number, 0) {
             None => None,
             Some(place) => Some(GetKey { number, place }),
         }
@@ -292,8 +296,8 @@ impl Gets {
     /// How the get stands, if it is alive.
     pub fn getting(&self, g: GetKey, lendings: &mut Lendings) -> Option<Getting>
         ensures value { result ≡ map.get self.now.places g.number }
-        ensures examined { lendings.new ≤ lendings.old + 1 }
-        ensures counted { min (lendings.old + 1) end_of_numbers ≤ lendings.new }
+        ensures examined { Adds 1 1 lendings.old lendings.new }
+        ensures counted { min (lendings.old.lent + 1) end_of_numbers ≤ lendings.new.lent }
     {
         match self.slots.slot(g.number, g.place, lendings) {
             None => None,
@@ -305,7 +309,7 @@ impl Gets {
     pub fn is_alive(&self, g: GetKey) -> bool
         ensures { result ≡ is_some (map.get self.now.places g.number) }
     {
-        match self.slots.locate(g.number, g.place) {
+        match self.slots.place_of(g.number, g.place) {
             None => false,
             Some(_) => true,
         }
@@ -323,7 +327,8 @@ impl Gets {
 
     /// The number of the connection that the get, if it is alive, holds, if it holds one. A question lends nothing.
     pub fn holds(&self, g: GetKey) -> Option<Option<u64>>
-        ensures { result ≡ option_map (λ x. places.holds (Some x)) (map.get self.now.places g.number) }
+        ensures { result ≡ option_map (λ x. places.holds (Some x))
+            (map.get self.now.places g.number) }
     {
         match self.slots.holds(g.number, g.place) {
             None => None,

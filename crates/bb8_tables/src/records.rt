@@ -9,6 +9,7 @@ ghost use Rattle.bb8_types.specs.declared.standing.Place.TheVariants.{Unclaimed,
 ghost use Rattle.circular_buffer.specs.Buffer.{buffer};
 ghost use Rattle.bb8_types.specs.declared.standing.Standing.{Standing};
 ghost use Rattle.bb8_types.specs.Bounds.{end_of_numbers, most_records};
+ghost use Rattle.bb8_tables.specs.Lent.{none_lent, Adds};
 
 mod reaps;
 
@@ -109,7 +110,7 @@ impl<C: Drop> Records<C> {
     /// No records, which take no memory, and the count of what is lent, which is none yet.
     pub fn new(alloc: Global, first: u64) -> (Self, Lendings)
         ensures records { result.0 ≡ no_records first }
-        ensures none { result.1 ≡ 0 }
+        ensures none { result.1 ≡ none_lent }
     {
         let (slots, lendings) = Table::new(alloc);
         let records = Records {
@@ -129,8 +130,9 @@ impl<C: Drop> Records<C> {
             × (self.new ≡ machine.after_claim key.number self.old)) }
         ensures none { IfNone result ((slice_get self.old.unclaimed 0 ≡ None)
             × (self.new ≡ self.old)) }
-        ensures examined { lendings.new ≤ lendings.old + numbered.one (is_some result) }
-        ensures counted { min (lendings.old + numbered.one (is_some result)) end_of_numbers ≤ lendings.new }
+        ensures examined { Adds (numbered.one (is_some result)) 0 lendings.old lendings.new }
+        ensures counted { min (lendings.old.lent + numbered.one (is_some result)) end_of_numbers
+            ≤ lendings.new.lent }
     {
         match self.unclaimed.pop() {
             None => None,
@@ -157,8 +159,9 @@ impl<C: Drop> Records<C> {
             self.old)) }
         ensures none { IfNone result ((places.first_of strategy self.old.idle ≡ None)
             × (self.new ≡ self.old) × (lendings.new ≡ lendings.old)) }
-        ensures examined { lendings.new ≤ lendings.old + numbered.one (is_some result) }
-        ensures counted { min (lendings.old + numbered.one (is_some result)) end_of_numbers ≤ lendings.new }
+        ensures examined { Adds (numbered.one (is_some result)) 0 lendings.old lendings.new }
+        ensures counted { min (lendings.old.lent + numbered.one (is_some result)) end_of_numbers
+            ≤ lendings.new.lent }
     {
         match self.slots.first_by(strategy) {
             None => None,
@@ -179,10 +182,10 @@ impl<C: Drop> Records<C> {
             × (places.is_out s.place ≡ true) }
         ensures key { result.number ≡ k.number }
         ensures state { self.new ≡ machine.after_handover k.number self.old }
-        ensures examined { lendings.new ≤ lendings.old + 1 }
-        ensures counted { min (lendings.old + 1) end_of_numbers ≤ lendings.new }
+        ensures examined { Adds 1 1 lendings.old lendings.new }
+        ensures counted { min (lendings.old.lent + 1) end_of_numbers ≤ lendings.new.lent }
     {
-        match self.slots.locate(k.number, k.place) {
+        match self.slots.locate(k.number, k.place, lendings) {
             None => k,
             Some(place) => {
                 let _ = self.slots.put(place, Place::Guarded, lendings);
@@ -213,10 +216,10 @@ impl<C: Drop> Records<C> {
         ensures state { self.new ≡ machine.after_entry opening k.number
             (record { place = Idle conn; birth = birth; entered = now }) self.old }
         ensures numbers { self.old.next ≤ end_of_numbers }
-        ensures examined { lendings.new ≤ lendings.old + 1 }
-        ensures counted { min (lendings.old + 1) end_of_numbers ≤ lendings.new }
+        ensures examined { Adds 1 1 lendings.old lendings.new }
+        ensures counted { min (lendings.old.lent + 1) end_of_numbers ≤ lendings.new.lent }
     {
-        match self.slots.locate(k.number, k.place) {
+        match self.slots.locate(k.number, k.place, lendings) {
             None => {}
             Some(place) => {
                 let idle = Standing {
@@ -235,13 +238,14 @@ impl<C: Drop> Records<C> {
     }
 
     /// Ends a claimed approval, or a connection that a guard or a get held.
-    pub fn close(&mut self, k: Key, opening: bool)
+    pub fn close(&mut self, k: Key, opening: bool, lendings: &mut Lendings)
         requires { (s : Standing C) × (map.get self.old.places k.number ≡ Some s)
             × (places.comes_from opening s.place ≡ true) }
         ensures state { self.new ≡ machine.after_close opening k.number self.old }
         ensures numbers { self.old.next ≤ end_of_numbers }
+        ensures examined { Adds 0 1 lendings.old lendings.new }
     {
-        match self.slots.locate(k.number, k.place) {
+        match self.slots.locate(k.number, k.place, lendings) {
             None => {}
             Some(place) => {
                 let _ = self.slots.remove(place);
@@ -489,8 +493,8 @@ impl<C: Drop> Records<C> {
     /// The birth of the record.
     pub fn birth(&self, k: Key, lendings: &mut Lendings) -> u64
         ensures value { result ≡ places.birth_in (map.get self.now.places k.number) }
-        ensures examined { lendings.new ≤ lendings.old + 1 }
-        ensures counted { min (lendings.old + 1) end_of_numbers ≤ lendings.new }
+        ensures examined { Adds 1 1 lendings.old lendings.new }
+        ensures counted { min (lendings.old.lent + 1) end_of_numbers ≤ lendings.new.lent }
     {
         match self.slots.slot(k.number, k.place, lendings) {
             None => 0,
@@ -504,7 +508,7 @@ impl<C: Drop> Records<C> {
             × IsSome (map.get self.now.places number)) }
         ensures none { IfNone result (map.get self.now.places number ≡ None) }
     {
-        match self.slots.locate(number, 0) {
+        match self.slots.place_of(number, 0) {
             None => None,
             Some(place) => Some(Key { number, place }),
         }

@@ -9,6 +9,7 @@ ghost use Rattle.bb8_types.specs.Places.{get_in_wait, first_place, is_claimed, i
 ghost use Rattle.bb8_tables.specs.Machine.{without};
 ghost use Rattle.bb8_tables.specs.Lined.{slot_at, places_of, with_places, is_same};
 ghost use Rattle.bb8_tables.specs.Spelled.{Absent};
+ghost use Rattle.bb8_tables.specs.Lent.{none_lent, lends, searches, Adds};
 
 mod lendings;
 
@@ -116,7 +117,7 @@ impl<S: Drop> Table<S> {
     /// An empty table, which takes no memory, and a count of what is lent, which is none yet.
     pub fn new(alloc: Global) -> (Self, Lendings)
         ensures table { result.0 ≡ record { slots = []; line = []; births = []; free = [] } }
-        ensures none { result.1 ≡ 0 }
+        ensures none { result.1 ≡ none_lent }
     {
         let table = Table {
             links: Links {
@@ -211,7 +212,10 @@ impl<S: Drop> Table<S> {
         requires apart { 0 < place }
         requires absent { Absent place self.old.free }
         requires number { slot.number < end_of_numbers }
-        ensures { self.new ≡ record self.old { slots = slice_set self.old.slots place (Some slot) } }
+        ensures { self.new ≡ record self.old {
+          slots = slice_set self.old.slots place
+              (Some slot);
+        } }
     {
         self.links.entries[place].slot = slot;
     }
@@ -251,9 +255,22 @@ impl<S: Drop> Table<S> {
         None
     }
 
-    /// Where the number stands: at the hint, or else where a search finds it.
+    /// Where a search finds the number, which is counted.
+    #[cold]
+    fn seek(&self, number: u64, lendings: &mut Lendings) -> Option<usize>
+        ensures some { IfSome result (λ i. (x : Slot S) × (slot_at self.now i ≡ Some x)
+            × (x.number ≡ number)) }
+        ensures none { IfNone result ((i : ℕ) (x : Slot S) → slot_at self.now i ≡ Some x
+            → x.number ≢ number) }
+        ensures counted { lendings.new ≡ searches lendings.old }
+    {
+        lendings.search();
+        self.search(number)
+    }
+
+    /// Where the number stands, for a question, which counts nothing: at the hint, or else where a search finds it.
     #[inline]
-    pub fn locate(&self, number: u64, hint: usize) -> Option<usize>
+    pub fn place_of(&self, number: u64, hint: usize) -> Option<usize>
         ensures some { IfSome result (λ i. (x : Slot S) × (slot_at self.now i ≡ Some x)
             × (x.number ≡ number)) }
         ensures none { IfNone result ((i : ℕ) (x : Slot S) → slot_at self.now i ≡ Some x
@@ -265,7 +282,42 @@ impl<S: Drop> Table<S> {
         }
     }
 
-    /// What stands under the number, for this file alone.
+    /// Where the number stands: at the hint, or else where a search finds it, which is counted.
+    #[inline]
+    pub fn locate(&self, number: u64, hint: usize, lendings: &mut Lendings) -> Option<usize>
+        ensures some { IfSome result (λ i. (x : Slot S) × (slot_at self.now i ≡ Some x)
+            × (x.number ≡ number)) }
+        ensures none { IfNone result ((i : ℕ) (x : Slot S) → slot_at self.now i ≡ Some x
+            → x.number ≢ number) }
+        ensures right { (x : Slot S) → slot_at self.now hint ≡ Some x → x.number ≡ number
+            → lendings.new ≡ lendings.old }
+        ensures stale { ((x : Slot S) → slot_at self.now hint ≡ Some x → x.number ≢ number)
+            → lendings.new ≡ searches lendings.old }
+        ensures searched { Adds 0 1 lendings.old lendings.new }
+        ensures lent { lendings.new.lent ≡ lendings.old.lent }
+    {
+        match self.links.found(number, hint) {
+            Some(_) => Some(hint),
+            None => self.seek(number, lendings),
+        }
+    }
+
+    /// What a search finds under the number, which is counted.
+    #[cold]
+    fn sought(&self, number: u64, lendings: &mut Lendings) -> Option<&Slot<S>>
+        ensures some { IfSome (option_copied result)
+            (λ x. (i : ℕ) × (slot_at self.now i ≡ Some x) × (x.number ≡ number)) }
+        ensures none { IfNone (option_copied result)
+            ((i : ℕ) (x : Slot S) → slot_at self.now i ≡ Some x → x.number ≢ number) }
+        ensures counted { lendings.new ≡ searches lendings.old }
+    {
+        match self.seek(number, lendings) {
+            None => None,
+            Some(place) => self.links.found(number, place),
+        }
+    }
+
+    /// What stands under the number, for a question, which counts nothing.
     #[inline]
     fn seen(&self, number: u64, hint: usize) -> Option<&Slot<S>>
         ensures some { IfSome (option_copied result)
@@ -282,17 +334,25 @@ impl<S: Drop> Table<S> {
         }
     }
 
-    /// What stands under the number: at the hint, or else where a search finds it. One entry is lent.
+    /// What stands under the number: at the hint, or else where a search finds it, which is counted. One entry is lent.
     #[inline]
     pub fn slot(&self, number: u64, hint: usize, lendings: &mut Lendings) -> Option<&Slot<S>>
         ensures some { IfSome (option_copied result)
             (λ x. (i : ℕ) × (slot_at self.now i ≡ Some x) × (x.number ≡ number)) }
         ensures none { IfNone (option_copied result)
             ((i : ℕ) (x : Slot S) → slot_at self.now i ≡ Some x → x.number ≢ number) }
-        ensures examined { lendings.new ≡ min (lendings.old + 1) end_of_numbers }
+        ensures right { (x : Slot S) → slot_at self.now hint ≡ Some x → x.number ≡ number
+            → lendings.new ≡ lends lendings.old }
+        ensures stale { ((x : Slot S) → slot_at self.now hint ≡ Some x → x.number ≢ number)
+            → lendings.new ≡ searches (lends lendings.old) }
+        ensures searched { Adds 1 1 lendings.old lendings.new }
+        ensures lent { lendings.new.lent ≡ min (lendings.old.lent + 1) end_of_numbers }
     {
         lendings.lend();
-        self.seen(number, hint)
+        match self.links.found(number, hint) {
+            Some(slot) => Some(slot),
+            None => self.sought(number, lendings),
+        }
     }
 
     /// The number of what stands at a place.
@@ -309,7 +369,7 @@ impl<S: Drop> Table<S> {
     pub fn at(&self, place: usize, lendings: &mut Lendings) -> &Slot<S>
         requires stands { IsSome (slot_at self.now place) }
         ensures value { slot_at self.now place ≡ Some result.now }
-        ensures examined { lendings.new ≡ min (lendings.old + 1) end_of_numbers }
+        ensures examined { lendings.new ≡ lends lendings.old }
     {
         lendings.lend();
         &self.links.entries[place].slot
@@ -428,7 +488,7 @@ impl<S: Drop> Table<S> {
               slots =
                   slice_set self.old.slots place (Some (record x { standing = standing }));
             } }
-        ensures examined { lendings.new ≡ min (lendings.old + 1) end_of_numbers }
+        ensures examined { lendings.new ≡ lends lendings.old }
     {
         lendings.lend();
         mem::replace(&mut self.links.entries[place].slot.standing, standing)
@@ -471,7 +531,10 @@ impl<S: Drop + Vacant> Table<S> {
 
     /// Adds an entry where nothing stands, which leads to itself.
     fn append(&mut self) -> Result<(), AllocError>
-        ensures ok { OnOk result (self.new ≡ record self.old { slots = self.old.slots ++ None ∷ [] }) }
+        ensures ok { OnOk result (self.new ≡ record self.old {
+          slots = self.old.slots ++
+              None ∷ [];
+        }) }
         ensures err { OnErr result (self.new ≡ self.old) }
         ensures absent { Absent (length self.old.slots) self.old.free }
     {
@@ -577,7 +640,7 @@ impl<C: Drop> Table<Standing<C>> {
               slots = slice_set self.old.slots at
                   (Some (record x { standing = record x.standing { place = place } }));
             } }
-        ensures examined { lendings.new ≡ min (lendings.old + 1) end_of_numbers }
+        ensures examined { lendings.new ≡ lends lendings.old }
     {
         lendings.lend();
         let slot = &mut self.links.entries[at].slot;
@@ -624,7 +687,7 @@ impl Table<Getting> {
               slots = slice_set self.old.slots at
                   (Some (record x { standing = record x.standing { place = place } }));
             } }
-        ensures examined { lendings.new ≡ min (lendings.old + 1) end_of_numbers }
+        ensures examined { lendings.new ≡ lends lendings.old }
     {
         lendings.lend();
         let slot = &mut self.links.entries[at].slot;
@@ -641,7 +704,7 @@ impl Table<Getting> {
               slots = slice_set self.old.slots at
                   (Some (record x { standing = get_in_wait now x.standing }));
             } }
-        ensures examined { lendings.new ≡ min (lendings.old + 1) end_of_numbers }
+        ensures examined { lendings.new ≡ lends lendings.old }
     {
         lendings.lend();
         let standing = &mut self.links.entries[at].slot.standing;

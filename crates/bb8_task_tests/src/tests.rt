@@ -1,5 +1,6 @@
 //! Tests of the tasks of a pool and of a driver's turns, against values that were worked out by hand.
 
+mod ends;
 mod lists;
 mod plain_reaper;
 mod polls;

@@ -10,7 +10,6 @@ use Rattle.bb8_core.specs.declared.answers.Looked.{Looked}
 use Rattle.bb8_tasks.specs.declared.backoff.Reply.{Reply}
 use Rattle.bb8_tasks.specs.declared.backoff.Reply.TheVariants as replies
 use Rattle.bb8_tasks.specs.declared.backoff.Scripted.{Scripted}
-use Rattle.bb8_tasks.specs.declared.backoff.Steady.{Steady}
 use Rattle.bb8_tasks.specs.declared.home.OpenedStep.{OpenedStep}
 use Rattle.bb8_tasks.specs.declared.replenish.Next.{Next}
 use Rattle.bb8_tasks.specs.declared.replenish.ReplenishAnswer.{ReplenishAnswer}
@@ -48,57 +47,67 @@ module _ (timeout : ℕ) (retry : Bool) (m : Moment) where
 
   module _ (approval : Key) where
     -- what is opened is entered
-    entered : (h h' : Steady) (w w' : Scripted) (next : Row) → Enters steady timeout retry approval m scripted tt h w next h' w' → (next.stage ≡ Done) × (w' ≡ w)
-    entered h h' w w' next r =
-        let at = subst (λ (step : OpenedStep (Unit {0})). AfterOpened steady timeout retry approval m scripted step r.1 w next h' w') r.2 r.3 in
-        (at.0.1, at.1)
+    entered : (x x' : Scripted) (next : Row) → Enters steady timeout retry approval m scripted tt x next x' → (next.stage ≡ Done) × (x' ≡ x)
+    entered x x' next (step, x1, (is, same), r) =
+        let at = subst (λ (s : OpenedStep (Unit {0})). AfterOpened steady timeout retry approval m scripted s x1 next x') is r in
+        (at.1, at.2 ∙ same)
 
     -- a poll of the preparation, which is ready
-    prepared : (answer : Poll (Result (Unit {0}) (Unit {0}))) (tries : Tries) (h h' : Steady) (w w' : Scripted) (next : Row) → answer ≡ Ready (Ok tt)
-        → AfterAcquire steady timeout retry approval m scripted answer tries tt tt h w next h' w' → (next.stage ≡ Done) × (w' ≡ w)
-    prepared answer tries h h' w w' next is r =
-        entered h h' w w' next (subst (λ (x : Poll (Result (Unit {0}) (Unit {0}))). AfterAcquire steady timeout retry approval m scripted x tries tt tt h w next h' w') is r)
+    prepared : (answer : Poll (Result (Unit {0}) (Unit {0}))) (tries : Tries) (x x' : Scripted) (next : Row) → answer ≡ Ready (Ok tt)
+        → AfterAcquire steady timeout retry approval m scripted answer tries tt tt x next x' → (next.stage ≡ Done) × (x' ≡ x)
+    prepared answer tries x x' next is r =
+        let (x1, same, at) = subst (λ (y : Poll (Result (Unit {0}) (Unit {0}))). AfterAcquire steady timeout retry approval m scripted y tries tt tt x next x') is r in
+        let done = entered x1 x' next at in
+        (done.0, done.1 ∙ same)
 
     -- a poll of the opening leads where its reply says
-    leads : (reply : Reply) (tries : Tries) (h h' : Steady) (w w' : Scripted) (next : Row)
-        → AfterConnect steady timeout retry approval m scripted (told reply) tries tt h w next h' w' → Leads reply tries next.stage × (w' ≡ w)
-    leads replies.Pending tries h h' w w' next r = (r.0.1, r.1)
-    leads replies.Ok tries h h' w w' next r =
-        let done = prepared r.4.0 tries h h' r.4.3 w' next r.4.4.0 r.4.5 in
-        (done.0, done.1 ∙ r.4.4.1 ∙ r.3)
-    leads replies.Err tries h h' w w' next r = ((λ over. (r.1.0 over).3, λ on within. let s = r.1.1 on within in (s.0, s.1, s.2.1)), r.0)
+    leads : (reply : Reply) (tries : Tries) (x x' : Scripted) (next : Row)
+        → AfterConnect steady timeout retry approval m scripted (told reply) tries tt x next x' → Leads reply tries next.stage × (x' ≡ x)
+    leads replies.Pending tries x x' next r = (r.1, r.2)
+    leads replies.Ok tries x x' next (x1, ended, (acquiring, c, x2, begun_so, (answer, c1, acquiring1, x3, (is, same), r))) =
+        let done = prepared answer tries x3 x' next is r in
+        (done.0, done.1 ∙ same ∙ begun_so ∙ ended)
+    leads replies.Err tries x x' next (x1, ended, r) =
+        ((λ over. (r.0 over).3, λ on within. let s = r.1 on within in (s.0, s.1, s.2.1)), stays retry refl ∙ ended)
+      where
+        over : (retry ≡ false) ⊎ (timeout < m.0 - tries.start.0) → x' ≡ x1
+        over why = (r.0 why).1.1
+
+        stays : (b : Bool) → b ≡ retry → x' ≡ x1
+        stays false is = over (inl (sym is))
+        stays true is = elim (cases_lt timeout (m.0 - tries.start.0)) [ inl late ↦ over (inr late) | inr within ↦ (r.1 (sym is) within).2.2 ]
 
     -- a poll of an opening that is under way
-    connects : (reply : Reply) (tries : Tries) (connecting : Unit {0}) (h h' : Steady) (w w' : Scripted) (next : Row) → w.reply ≡ reply
-        → Connects steady timeout retry approval m scripted tries connecting h w next h' w' → Leads reply tries next.stage × (w' ≡ w)
-    connects reply tries connecting h h' w w' next is r =
-        let answer : r.0 ≡ told reply = r.3.0 ∙ ap told is in
-        let after = subst (λ (x : Poll (Result (Unit {0}) (Unit {0}))). AfterConnect steady timeout retry approval m scripted x tries tt h r.2 next h' w') answer r.4 in
-        let led = leads reply tries h h' r.2 w' next after in
-        (led.0, led.1 ∙ r.3.1)
+    connects : (reply : Reply) (tries : Tries) (connecting : Unit {0}) (x x' : Scripted) (next : Row) → x.reply ≡ reply
+        → Connects steady timeout retry approval m scripted tries connecting x next x' → Leads reply tries next.stage × (x' ≡ x)
+    connects reply tries connecting x x' next is (answer, connecting1, x1, (said, same), r) =
+        let told_so : answer ≡ told reply = said ∙ ap told is in
+        let after = subst (λ (y : Poll (Result (Unit {0}) (Unit {0}))). AfterConnect steady timeout retry approval m scripted y tries tt x1 next x') told_so r in
+        let led = leads reply tries x1 x' next after in
+        (led.0, led.1 ∙ same)
 
     -- a poll that begins an opening
-    begins : (reply : Reply) (tries : Tries) (h h' : Steady) (w w' : Scripted) (next : Row) → w ≡ record { reply = reply; tries = 0 }
-        → Begins steady timeout retry approval m scripted tries h w next h' w' → (w'.tries ≡ 1) × Leads reply tries next.stage
-    begins reply tries h h' w w' next is r =
-        let told_so : r.1.reply ≡ reply = ap (λ (x : Scripted). x.reply) (r.2 ∙ ap begun is) in
-        let went = connects reply tries r.0 h h' r.1 w' next told_so r.3 in
-        (ap (λ (x : Scripted). x.tries) (went.1 ∙ r.2 ∙ ap begun is), went.0)
+    begins : (reply : Reply) (tries : Tries) (x x' : Scripted) (next : Row) → x ≡ record { reply = reply; tries = 0 }
+        → Begins steady timeout retry approval m scripted tries x next x' → (x'.tries ≡ 1) × Leads reply tries next.stage
+    begins reply tries x x' next is (connecting, x1, begun_so, r) =
+        let told_so : x1.reply ≡ reply = ap (λ (y : Scripted). y.reply) (begun_so ∙ ap begun is) in
+        let went = connects reply tries connecting x1 x' next told_so r in
+        (ap (λ (y : Scripted). y.tries) (went.1 ∙ begun_so ∙ ap begun is), went.0)
 
     -- after the look, a poll of a task that has not ended
-    turns : (reply : Reply) (stage : Standing) (h h' : Steady) (w w' : Scripted) (next : Row) → w ≡ record { reply = reply; tries = 0 }
-        → Proceeds steady timeout retry approval m scripted true stage h w next h' w' → Moves reply stage w'.tries next.stage
-    turns reply Start h h' w w' next is r = begins reply (record { start = m; failures = 0 }) h h' w w' next is r
-    turns reply (Connecting tries connecting) h h' w w' next is r =
-        let went = connects reply tries connecting h h' w w' next (ap (λ (x : Scripted). x.reply) is) r in
-        (ap (λ (x : Scripted). x.tries) (went.1 ∙ is), went.0)
-    turns reply (Acquiring tries c acquiring) h h' w w' next is r =
-        let done = prepared r.0 tries h h' r.3 w' next r.4.0 r.5 in
-        (ap (λ (x : Scripted). x.tries) (done.1 ∙ r.4.1 ∙ is), done.0)
-    turns reply (Sleeping tries None) h h' w w' next is r = (ap (λ (x : Scripted). x.tries) (r.1 ∙ is), r.0.1)
-    turns reply (Sleeping tries (Some due)) h h' w w' next is r =
-        (λ now. begins reply tries h h' w w' next is (r.0 now), λ later. let b = r.1 later in (ap (λ (x : Scripted). x.tries) (b.1 ∙ is), b.0.1))
-    turns reply Done h h' w w' next is r = (ap (λ (x : Scripted). x.tries) (r.1 ∙ is), r.0.1)
+    turns : (reply : Reply) (stage : Standing) (x x' : Scripted) (next : Row) → x ≡ record { reply = reply; tries = 0 }
+        → Proceeds steady timeout retry approval m scripted true stage x next x' → Moves reply stage x'.tries next.stage
+    turns reply Start x x' next is r = begins reply (record { start = m; failures = 0 }) x x' next is r
+    turns reply (Connecting tries connecting) x x' next is r =
+        let went = connects reply tries connecting x x' next (ap (λ (y : Scripted). y.reply) is) r in
+        (ap (λ (y : Scripted). y.tries) (went.1 ∙ is), went.0)
+    turns reply (Acquiring tries c acquiring) x x' next is (answer, c1, acquiring1, x1, (said, same), r) =
+        let done = prepared answer tries x1 x' next said r in
+        (ap (λ (y : Scripted). y.tries) (done.1 ∙ same ∙ is), done.0)
+    turns reply (Sleeping tries None) x x' next is r = (ap (λ (y : Scripted). y.tries) (r.2 ∙ is), r.1)
+    turns reply (Sleeping tries (Some due)) x x' next is r =
+        (λ now. begins reply tries x x' next is (r.0 now), λ later. let b = r.1 later in (ap (λ (y : Scripted). y.tries) (b.2 ∙ is), b.1))
+    turns reply Done x x' next is r = (ap (λ (y : Scripted). y.tries) (r.2 ∙ is), r.1)
 
 -- the moment of a poll: the greater of the clock's and the one of the poll before, but none is taken once the task has ended
 abbrev pub IsMoment : Moment → Moment → Standing → Moment → Type 0
@@ -111,26 +120,28 @@ module _ (timeout : ℕ) (retry : Bool) where
   Led p latest stage tried t' = IsMoment p.0 latest stage t'.latest × Moves timeout retry t'.latest p.1 stage tried t'.stage
 
   -- one poll of a task that has not ended, after its look
-  looked : (p : Moment × Reply) (approval : Key) (latest : Moment) (stage : Standing) (tried : ℕ) (a : ReplenishAnswer (Unit {0})) (t' : Task) (seen : Looked) (h h' : Steady) (w' : Scripted)
-      → seen ≡ record { moment = p.0; alive = true } → t'.latest.0 ≡ max seen.moment.0 latest.0 → tried ≡ w'.tries
-      → Proceeds steady timeout retry approval t'.latest scripted seen.alive stage h (record { reply = p.1; tries = 0 }) (record { answer = a; stage = t'.stage }) h' w'
+  looked : (p : Moment × Reply) (approval : Key) (latest : Moment) (stage : Standing) (tried : ℕ) (a : ReplenishAnswer (Unit {0})) (t' : Task) (seen : Looked) (x x' : Scripted)
+      → seen ≡ record { moment = p.0; alive = true } → x ≡ record { reply = p.1; tries = 0 } → t'.latest.0 ≡ max seen.moment.0 latest.0 → tried ≡ x'.tries
+      → Proceeds steady timeout retry approval t'.latest scripted seen.alive stage x (record { answer = a; stage = t'.stage }) x'
       → (t'.latest.0 ≡ max p.0.0 latest.0) × Moves timeout retry t'.latest p.1 stage tried t'.stage
-  looked p approval latest stage tried a t' seen h h' w' is at count r =
-      let w : Scripted = record { reply = p.1; tries = 0 } in
+  looked p approval latest stage tried a t' seen x x' is same at count r =
       let next : Row = record { answer = a; stage = t'.stage } in
-      let alive = subst (λ (x : Looked). Proceeds steady timeout retry approval t'.latest scripted x.alive stage h w next h' w') is r in
-      let moves = turns timeout retry t'.latest approval p.1 stage h h' w w' next refl alive in
-      (at ∙ ap (λ (x : Looked). max x.moment.0 latest.0) is, subst (λ (n : ℕ). Moves timeout retry t'.latest p.1 stage n t'.stage) (sym count) moves)
+      let alive = subst (λ (y : Looked). Proceeds steady timeout retry approval t'.latest scripted y.alive stage x next x') is r in
+      let moves = turns timeout retry t'.latest approval p.1 stage x x' next same alive in
+      (at ∙ ap (λ (y : Looked). max y.moment.0 latest.0) is, subst (λ (n : ℕ). Moves timeout retry t'.latest p.1 stage n t'.stage) (sym count) moves)
 
   -- one poll of a task that stands so
   moved-at : (p : Moment × Reply) (approval : Key) (latest : Moment) (stage : Standing) (tried : ℕ) (a : ReplenishAnswer (Unit {0})) (t' : Task)
       → Polled timeout retry p (record { approval = approval; latest = latest; stage = stage }) tried a t' → Led p latest stage tried t'
-  moved-at p approval latest Start tried a t' r = looked p approval latest Start tried a t' r.3.0 r.3.1 r.1 r.2 r.3.2 r.3.3 r.4 r.3.5
-  moved-at p approval latest (Connecting tries connecting) tried a t' r = looked p approval latest (Connecting tries connecting) tried a t' r.3.0 r.3.1 r.1 r.2 r.3.2 r.3.3 r.4 r.3.5
-  moved-at p approval latest (Acquiring tries c acquiring) tried a t' r = looked p approval latest (Acquiring tries c acquiring) tried a t' r.3.0 r.3.1 r.1 r.2 r.3.2 r.3.3 r.4 r.3.5
-  moved-at p approval latest (Sleeping tries due) tried a t' r = looked p approval latest (Sleeping tries due) tried a t' r.3.0 r.3.1 r.1 r.2 r.3.2 r.3.3 r.4 r.3.5
-  moved-at p approval latest Done tried a t' r =
-      (ap (λ (x : Task). x.latest) r.3.1, (r.4 ∙ ap (λ (x : Scripted). x.tries) r.3.3, ap (λ (x : Task). x.stage) r.3.1))
+  moved-at p approval latest Start tried a t' (x', (seen, x, (is, same), at, key, r), count) = looked p approval latest Start tried a t' seen x x' is same at count r
+  moved-at p approval latest (Connecting tries connecting) tried a t' (x', (seen, x, (is, same), at, key, r), count) =
+      looked p approval latest (Connecting tries connecting) tried a t' seen x x' is same at count r
+  moved-at p approval latest (Acquiring tries c acquiring) tried a t' (x', (seen, x, (is, same), at, key, r), count) =
+      looked p approval latest (Acquiring tries c acquiring) tried a t' seen x x' is same at count r
+  moved-at p approval latest (Sleeping tries due) tried a t' (x', (seen, x, (is, same), at, key, r), count) =
+      looked p approval latest (Sleeping tries due) tried a t' seen x x' is same at count r
+  moved-at p approval latest Done tried a t' (x', (told_so, stays, same), count) =
+      (ap (λ (y : Task). y.latest) stays, (count ∙ ap (λ (y : Scripted). y.tries) same, ap (λ (y : Task). y.stage) stays))
 
   -- one poll in plain words
   pub moved : (p : Moment × Reply) (t : Task) (tried : ℕ) (a : ReplenishAnswer (Unit {0})) (t' : Task) → Polled timeout retry p t tried a t' → Led p t.latest t.stage tried t'

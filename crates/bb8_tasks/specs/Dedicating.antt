@@ -26,17 +26,19 @@ module _ {C V A : Type 0} where
   abbrev pub Leaves : {E : Type 0} → Poll (Result C E) → Opening C V A → Opened C V A E → Type 0
   Leaves answer stage next = (next.answer ≡ answer) × (next.stage ≡ stage)
 
--- what an opening that stands so holds is dropped: of connections the one that is being prepared
+-- what an opening that stands so holds is let go: what is under way ends, and the connection that was prepared is dropped then
 abbrev pub Drops : {C E V A W : Type 0} → OpenerOf W C E V A → Opening C V A → W → W → Type 0
-Drops opener (Acquiring c acquiring) w w' = opener.lets_go w c w'
+Drops opener (Connecting connecting) w w' = opener.ends_connect w connecting w'
+Drops {W = W} opener (Acquiring c acquiring) w w' = (w1 : W) × opener.ends_acquire w acquiring w1 × opener.lets_go w1 c w'
 Drops opener stage w w' = w' ≡ w
 
 module _ {C E V A W : Type 0} (opener : OpenerOf W C E V A) (m : Moment) where
-  -- after a poll of the preparation, which left the connection and the preparation like this
+  -- after a poll of the preparation, which left the connection and the preparation like this: one that has answered ends first
   abbrev pub AfterAcquire : Poll (Result (Unit {0}) E) → C → A → W → Opened C V A E → W → Type 0
   AfterAcquire Pending c acquiring w next w' = Leaves Pending (Acquiring c acquiring) next × (w' ≡ w)
-  AfterAcquire (Ready (Ok u)) c acquiring w next w' = Leaves (Ready (Ok c)) Done next × (w' ≡ w)
-  AfterAcquire (Ready (Err e)) c acquiring w next w' = opener.lets_go w c w' × Leaves (Ready (Err e)) Done next
+  AfterAcquire (Ready (Ok u)) c acquiring w next w' = opener.ends_acquire w acquiring w' × Leaves (Ready (Ok c)) Done next
+  AfterAcquire (Ready (Err e)) c acquiring w next w' =
+      (w1 : W) × opener.ends_acquire w acquiring w1 × opener.lets_go w1 c w' × Leaves (Ready (Err e)) Done next
 
   -- the preparation is polled
   abbrev pub Acquires : C → A → W → Opened C V A E → W → Type 0
@@ -44,12 +46,13 @@ module _ {C E V A W : Type 0} (opener : OpenerOf W C E V A) (m : Moment) where
       (answer : Poll (Result (Unit {0}) E)) × (c1 : C) × (acquiring1 : A) × (w1 : W)
       × opener.acquire_answers w c acquiring m answer c1 acquiring1 w1 × AfterAcquire answer c1 acquiring1 w1 next w'
 
-  -- after a poll of the opening, which left it like this
+  -- after a poll of the opening, which left it like this: one that has answered ends first
   abbrev pub AfterConnect : Poll (Result C E) → V → W → Opened C V A E → W → Type 0
   AfterConnect Pending connecting w next w' = Leaves Pending (Connecting connecting) next × (w' ≡ w)
   AfterConnect (Ready (Ok c)) connecting w next w' =
-      (acquiring : A) × (c1 : C) × (w1 : W) × opener.acquires w c acquiring c1 w1 × Acquires c1 acquiring w1 next w'
-  AfterConnect (Ready (Err e)) connecting w next w' = Leaves (Ready (Err e)) Done next × (w' ≡ w)
+      (w1 : W) × opener.ends_connect w connecting w1
+      × ((acquiring : A) × (c1 : C) × (w2 : W) × opener.acquires w1 c acquiring c1 w2 × Acquires c1 acquiring w2 next w')
+  AfterConnect (Ready (Err e)) connecting w next w' = opener.ends_connect w connecting w' × Leaves (Ready (Err e)) Done next
 
   -- the opening is polled
   abbrev pub Connects : V → W → Opened C V A E → W → Type 0

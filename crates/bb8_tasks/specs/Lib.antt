@@ -2,6 +2,7 @@ pub mod Bounded
 pub mod Building
 pub mod Dedicating
 pub mod Homes
+pub mod Joined
 pub mod Played
 pub mod ReapHomes
 pub mod Reaping

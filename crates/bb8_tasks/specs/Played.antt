@@ -6,7 +6,6 @@ use Rattle.bb8_types.specs.declared.api.moments.Moment.{Moment}
 use Rattle.bb8_tasks.specs.declared.backoff.Reply.{Reply}
 use Rattle.bb8_tasks.specs.declared.backoff.Reply.TheVariants as replies
 use Rattle.bb8_tasks.specs.declared.backoff.Scripted.{Scripted}
-use Rattle.bb8_tasks.specs.declared.backoff.Steady.{Steady}
 use Rattle.bb8_tasks.specs.declared.home.FailedStep.TheVariants as failing
 use Rattle.bb8_tasks.specs.declared.home.Home.{Ghosts as HomeOf}
 use Rattle.bb8_tasks.specs.declared.home.OpenedStep.TheVariants as opening
@@ -25,22 +24,24 @@ told replies.Err = Ready (Err tt)
 abbrev pub begun : Scripted → Scripted
 begun script = record { reply = script.reply; tries = min (script.tries + 1) 255 }
 
--- the relations of an opener that answers by its reply, and whose preparations are ready at once
+-- the relations of the value of a replay as an opener: it answers by its reply, and its preparations are ready at once
 abbrev pub scripted : OpenerOf Scripted (Unit {0}) (Unit {0}) (Unit {0}) (Unit {0})
 scripted = record {
   connects = λ script _ after. after ≡ begun script;
   connect_answers = λ script _ _ answer _ after. (answer ≡ told script.reply) × (after ≡ script);
+  ends_connect = λ script _ after. after ≡ script;
   acquires = λ script _ _ _ after. after ≡ script;
   acquire_answers = λ script _ _ _ answer _ _ after. (answer ≡ Ready (Ok tt)) × (after ≡ script);
+  ends_acquire = λ script _ after. after ≡ script;
   lets_go = λ script _ after. after ≡ script;
 }
 
--- the relations of a home that keeps a handle and enters what is opened
-abbrev pub steady : HomeOf Steady (Unit {0})
+-- its relations as a home: it keeps a handle, and enters what is opened
+abbrev pub steady : HomeOf Scripted (Unit {0})
 steady = record {
-  looks = λ _ at seen _. seen ≡ record { moment = at; alive = true };
-  opens = λ _ _ _ _ step _. step ≡ opening.Entered None;
-  fails = λ _ _ _ step _. step ≡ failing.GivenBack;
+  looks = λ script at seen after. (seen ≡ record { moment = at; alive = true }) × (after ≡ script);
+  opens = λ script _ _ _ step after. (step ≡ opening.Entered None) × (after ≡ script);
+  fails = λ script _ _ step after. (step ≡ failing.GivenBack) × (after ≡ script);
 }
 
 -- a task whose connections, openings and preparations are nothing
@@ -55,8 +56,7 @@ module _ (timeout : ℕ) (retry : Bool) where
   -- one poll by the table, at its moment and with its reply: it begins so many openings
   abbrev pub Polled : Moment × Reply → Task → ℕ → ReplenishAnswer (Unit {0}) → Task → Type 0
   Polled p t tries answer t' =
-      (home : Steady) × (home' : Steady) × (after : Scripted)
-      × Polls steady scripted timeout retry p.0 t home (record { reply = p.1; tries = 0 }) answer t' home' after × (tries ≡ after.tries)
+      (after : Scripted) × Polls steady scripted timeout retry p.0 t (record { reply = p.1; tries = 0 }) answer t' after × (tries ≡ after.tries)
 
   -- polls by the table, one after another: the answers, and how many openings they begin
   abbrev pub Runs : Task → List (Moment × Reply) → List (ReplenishAnswer (Unit {0})) → ℕ → Task → Type 0

@@ -1,4 +1,4 @@
--- The table of a replenishing's polls, over the relations of any home and of any opener.
+-- The table of a replenishing's polls, over the relations of any value that is a home and an opener: one chain of steps and calls.
 use Rattle.std.specs.Prelude.{◌≡◌, ℕ, ◌+◌, ◌-◌, ◌<◌, ◌≤◌, max, min, Bool, true, false, Option, Some, None, Result, Ok, Err, ◌⊎◌}
 use Rattle.std.specs.Bool.{MatchBool}
 use Rattle.futures.specs.declared.task.Poll.{Poll}
@@ -43,107 +43,111 @@ module _ {C V A : Type 0} where
   is_done (Sleeping tries due) = false
   is_done Done = true
 
--- what a task that stands so holds is dropped: of connections the one that is being prepared
-abbrev pub Drops : {C E V A W : Type 0} → OpenerOf W C E V A → Stage C V A → W → W → Type 0
-Drops opener (Acquiring tries c acquiring) w w' = opener.lets_go w c w'
-Drops opener stage w w' = w' ≡ w
+-- what a task that stands so holds is let go: what is under way ends, and the connection that was prepared is dropped then
+abbrev pub Drops : {C E V A X : Type 0} → OpenerOf X C E V A → Stage C V A → X → X → Type 0
+Drops opener (Connecting tries connecting) x x' = opener.ends_connect x connecting x'
+Drops {X = X} opener (Acquiring tries c acquiring) x x' = (x1 : X) × opener.ends_acquire x acquiring x1 × opener.lets_go x1 c x'
+Drops opener stage x x' = x' ≡ x
 
-module _ {C E V A H : Type 0} (home : HomeOf H C) (timeout : ℕ) (retry : Bool) (approval : Key) (m : Moment) where
-  -- a row leaves this answer and stage, and the home as it is
-  abbrev pub Leaves : ReplenishAnswer E → Stage C V A → H → Next C V A E → H → Type 0
-  Leaves answer stage h next h' = (next.answer ≡ answer) × (next.stage ≡ stage) × (h' ≡ h)
+module _ {C E V A X : Type 0} (home : HomeOf X C) (timeout : ℕ) (retry : Bool) (approval : Key) (m : Moment) where
+  -- a row leaves this answer and stage, and makes no step and no call
+  abbrev pub Leaves : ReplenishAnswer E → Stage C V A → X → Next C V A E → X → Type 0
+  Leaves answer stage x next x' = (next.answer ≡ answer) × (next.stage ≡ stage) × (x' ≡ x)
 
   -- the approval is given back and the task ends with this answer, whatever that step answers
-  abbrev pub GivesBack : ReplenishAnswer E → H → Next C V A E → H → Type 0
-  GivesBack answer h next h' = (step : FailedStep) × home.fails h m approval step h' × (next.answer ≡ answer) × (next.stage ≡ Done)
+  abbrev pub GivesBack : ReplenishAnswer E → X → Next C V A E → X → Type 0
+  GivesBack answer x next x' = (step : FailedStep) × home.fails x m approval step x' × (next.answer ≡ answer) × (next.stage ≡ Done)
 
   -- the task tries again later: it sleeps until its wait is over
-  abbrev pub Sleeps : Tries → E → H → Next C V A E → H → Type 0
-  Sleeps tries e h next h' =
-      (due : Option Moment) × IsDue m (wait timeout tries.failures) due × Leaves (answers.Retrying e) (Sleeping tries due) h next h'
+  abbrev pub Sleeps : Tries → E → X → Next C V A E → X → Type 0
+  Sleeps tries e x next x' =
+      (due : Option Moment) × IsDue m (wait timeout tries.failures) due × Leaves (answers.Retrying e) (Sleeping tries due) x next x'
 
   -- a failure, after these tries
-  abbrev pub Fails : Tries → E → H → Next C V A E → H → Type 0
-  Fails tries e h next h' =
-      ((retry ≡ false) ⊎ (timeout < m.0 - tries.start.0) → GivesBack (answers.Failed e) h next h')
-      × (retry ≡ true → m.0 - tries.start.0 ≤ timeout → Sleeps (failed_once_more tries) e h next h')
+  abbrev pub Fails : Tries → E → X → Next C V A E → X → Type 0
+  Fails tries e x next x' =
+      ((retry ≡ false) ⊎ (timeout < m.0 - tries.start.0) → GivesBack (answers.Failed e) x next x')
+      × (retry ≡ true → m.0 - tries.start.0 ≤ timeout → Sleeps (failed_once_more tries) e x next x')
 
-  module _ {W : Type 0} (opener : OpenerOf W C E V A) where
+  module _ (opener : OpenerOf X C E V A) where
     -- after the step `opened`: a connection that it hands back is dropped
-    abbrev pub AfterOpened : OpenedStep C → H → W → Next C V A E → H → W → Type 0
-    AfterOpened (opened.Entered notified) h w next h' w' = Leaves answers.Entered Done h next h' × (w' ≡ w)
-    AfterOpened (opened.Late c) h w next h' w' = opener.lets_go w c w' × Leaves answers.Late Done h next h'
-    AfterOpened (opened.Unfit c) h w next h' w' = opener.lets_go w c w' × Leaves answers.GivenBack Done h next h'
+    abbrev pub AfterOpened : OpenedStep C → X → Next C V A E → X → Type 0
+    AfterOpened (opened.Entered notified) x next x' = Leaves answers.Entered Done x next x'
+    AfterOpened (opened.Late c) x next x' = (x1 : X) × opener.lets_go x c x1 × Leaves answers.Late Done x1 next x'
+    AfterOpened (opened.Unfit c) x next x' = (x1 : X) × opener.lets_go x c x1 × Leaves answers.GivenBack Done x1 next x'
 
     -- the connection is entered
-    abbrev pub Enters : C → H → W → Next C V A E → H → W → Type 0
-    Enters c h w next h' w' = (step : OpenedStep C) × (h1 : H) × home.opens h m approval c step h1 × AfterOpened step h1 w next h' w'
+    abbrev pub Enters : C → X → Next C V A E → X → Type 0
+    Enters c x next x' = (step : OpenedStep C) × (x1 : X) × home.opens x m approval c step x1 × AfterOpened step x1 next x'
 
-    -- after a poll of the preparation, which left the connection and the preparation like this
-    abbrev pub AfterAcquire : Poll (Result (Unit {0}) E) → Tries → C → A → H → W → Next C V A E → H → W → Type 0
-    AfterAcquire Pending tries c acquiring h w next h' w' = Leaves answers.Pending (Acquiring tries c acquiring) h next h' × (w' ≡ w)
-    AfterAcquire (Ready (Ok u)) tries c acquiring h w next h' w' = Enters c h w next h' w'
-    AfterAcquire (Ready (Err e)) tries c acquiring h w next h' w' = opener.lets_go w c w' × Fails tries e h next h'
+    -- after a poll of the preparation, which left the connection and the preparation like this: one that has answered ends first, and a
+    -- connection that it failed is dropped before the failure is a step of the home
+    abbrev pub AfterAcquire : Poll (Result (Unit {0}) E) → Tries → C → A → X → Next C V A E → X → Type 0
+    AfterAcquire Pending tries c acquiring x next x' = Leaves answers.Pending (Acquiring tries c acquiring) x next x'
+    AfterAcquire (Ready (Ok u)) tries c acquiring x next x' = (x1 : X) × opener.ends_acquire x acquiring x1 × Enters c x1 next x'
+    AfterAcquire (Ready (Err e)) tries c acquiring x next x' =
+        (x1 : X) × opener.ends_acquire x acquiring x1 × ((x2 : X) × opener.lets_go x1 c x2 × Fails tries e x2 next x')
 
     -- the preparation is polled
-    abbrev pub Acquires : Tries → C → A → H → W → Next C V A E → H → W → Type 0
-    Acquires tries c acquiring h w next h' w' =
-        (answer : Poll (Result (Unit {0}) E)) × (c1 : C) × (acquiring1 : A) × (w1 : W)
-        × opener.acquire_answers w c acquiring m answer c1 acquiring1 w1 × AfterAcquire answer tries c1 acquiring1 h w1 next h' w'
+    abbrev pub Acquires : Tries → C → A → X → Next C V A E → X → Type 0
+    Acquires tries c acquiring x next x' =
+        (answer : Poll (Result (Unit {0}) E)) × (c1 : C) × (acquiring1 : A) × (x1 : X)
+        × opener.acquire_answers x c acquiring m answer c1 acquiring1 x1 × AfterAcquire answer tries c1 acquiring1 x1 next x'
 
-    -- after a poll of the opening, which left it like this
-    abbrev pub AfterConnect : Poll (Result C E) → Tries → V → H → W → Next C V A E → H → W → Type 0
-    AfterConnect Pending tries connecting h w next h' w' = Leaves answers.Pending (Connecting tries connecting) h next h' × (w' ≡ w)
-    AfterConnect (Ready (Ok c)) tries connecting h w next h' w' =
-        (acquiring : A) × (c1 : C) × (w1 : W) × opener.acquires w c acquiring c1 w1 × Acquires tries c1 acquiring h w1 next h' w'
-    AfterConnect (Ready (Err e)) tries connecting h w next h' w' = (w' ≡ w) × Fails tries e h next h'
+    -- after a poll of the opening, which left it like this: one that has answered ends first
+    abbrev pub AfterConnect : Poll (Result C E) → Tries → V → X → Next C V A E → X → Type 0
+    AfterConnect Pending tries connecting x next x' = Leaves answers.Pending (Connecting tries connecting) x next x'
+    AfterConnect (Ready (Ok c)) tries connecting x next x' =
+        (x1 : X) × opener.ends_connect x connecting x1
+        × ((acquiring : A) × (c1 : C) × (x2 : X) × opener.acquires x1 c acquiring c1 x2 × Acquires tries c1 acquiring x2 next x')
+    AfterConnect (Ready (Err e)) tries connecting x next x' = (x1 : X) × opener.ends_connect x connecting x1 × Fails tries e x1 next x'
 
     -- the opening is polled
-    abbrev pub Connects : Tries → V → H → W → Next C V A E → H → W → Type 0
-    Connects tries connecting h w next h' w' =
-        (answer : Poll (Result C E)) × (connecting1 : V) × (w1 : W)
-        × opener.connect_answers w connecting m answer connecting1 w1 × AfterConnect answer tries connecting1 h w1 next h' w'
+    abbrev pub Connects : Tries → V → X → Next C V A E → X → Type 0
+    Connects tries connecting x next x' =
+        (answer : Poll (Result C E)) × (connecting1 : V) × (x1 : X)
+        × opener.connect_answers x connecting m answer connecting1 x1 × AfterConnect answer tries connecting1 x1 next x'
 
     -- an opening is begun, the one of this poll
-    abbrev pub Begins : Tries → H → W → Next C V A E → H → W → Type 0
-    Begins tries h w next h' w' = (connecting : V) × (w1 : W) × opener.connects w connecting w1 × Connects tries connecting h w1 next h' w'
+    abbrev pub Begins : Tries → X → Next C V A E → X → Type 0
+    Begins tries x next x' = (connecting : V) × (x1 : X) × opener.connects x connecting x1 × Connects tries connecting x1 next x'
 
     -- a task that sleeps
-    abbrev pub Wakes : Tries → Option Moment → H → W → Next C V A E → H → W → Type 0
-    Wakes tries None h w next h' w' = Leaves answers.Pending (Sleeping tries None) h next h' × (w' ≡ w)
-    Wakes tries (Some due) h w next h' w' =
-        (due.0 ≤ m.0 → Begins tries h w next h' w')
-        × (m.0 < due.0 → Leaves answers.Pending (Sleeping tries (Some due)) h next h' × (w' ≡ w))
+    abbrev pub Wakes : Tries → Option Moment → X → Next C V A E → X → Type 0
+    Wakes tries None x next x' = Leaves answers.Pending (Sleeping tries None) x next x'
+    Wakes tries (Some due) x next x' =
+        (due.0 ≤ m.0 → Begins tries x next x')
+        × (m.0 < due.0 → Leaves answers.Pending (Sleeping tries (Some due)) x next x')
 
     -- the rows of each stage, where a handle is alive
-    abbrev pub Advances : Stage C V A → H → W → Next C V A E → H → W → Type 0
-    Advances Start h w next h' w' = Begins (record { start = m; failures = 0 }) h w next h' w'
-    Advances (Connecting tries connecting) h w next h' w' = Connects tries connecting h w next h' w'
-    Advances (Acquiring tries c acquiring) h w next h' w' = Acquires tries c acquiring h w next h' w'
-    Advances (Sleeping tries due) h w next h' w' = Wakes tries due h w next h' w'
-    Advances Done h w next h' w' = Leaves answers.GivenBack Done h next h' × (w' ≡ w)
+    abbrev pub Advances : Stage C V A → X → Next C V A E → X → Type 0
+    Advances Start x next x' = Begins (record { start = m; failures = 0 }) x next x'
+    Advances (Connecting tries connecting) x next x' = Connects tries connecting x next x'
+    Advances (Acquiring tries c acquiring) x next x' = Acquires tries c acquiring x next x'
+    Advances (Sleeping tries due) x next x' = Wakes tries due x next x'
+    Advances Done x next x' = Leaves answers.GivenBack Done x next x'
 
-    -- after the look at the home: without a handle all is dropped and given back
-    abbrev pub Proceeds : Bool → Stage C V A → H → W → Next C V A E → H → W → Type 0
-    Proceeds true stage h w next h' w' = Advances stage h w next h' w'
-    Proceeds false stage h w next h' w' = Drops opener stage w w' × GivesBack answers.GivenBack h next h'
+    -- after the look at the home: without a handle all is let go, and given back then
+    abbrev pub Proceeds : Bool → Stage C V A → X → Next C V A E → X → Type 0
+    Proceeds true stage x next x' = Advances stage x next x'
+    Proceeds false stage x next x' = (x1 : X) × Drops opener stage x x1 × GivesBack answers.GivenBack x1 next x'
 
-module _ {C E V A H W : Type 0} (home : HomeOf H C) (opener : OpenerOf W C E V A) where
+module _ {C E V A X : Type 0} (home : HomeOf X C) (opener : OpenerOf X C E V A) where
   -- a poll of a task that has not ended: its moment is the greater of what the look answers and the moment of the poll before
-  abbrev pub Turns : ℕ → Bool → Moment → Replenish C V A → H → W → ReplenishAnswer E → Replenish C V A → H → W → Type 0
-  Turns timeout retry at t h w answer t' h' w' =
-      (seen : Looked) × (h1 : H) × home.looks h at seen h1
+  abbrev pub Turns : ℕ → Bool → Moment → Replenish C V A → X → ReplenishAnswer E → Replenish C V A → X → Type 0
+  Turns timeout retry at t x answer t' x' =
+      (seen : Looked) × (x1 : X) × home.looks x at seen x1
       × (t'.latest.0 ≡ max seen.moment.0 t.latest.0) × (t'.approval ≡ t.approval)
-      × Proceeds home timeout retry t.approval t'.latest opener seen.alive t.stage h1 w (record { answer = answer; stage = t'.stage }) h' w'
+      × Proceeds home timeout retry t.approval t'.latest opener seen.alive t.stage x1 (record { answer = answer; stage = t'.stage }) x'
 
-  -- The whole poll at a reading of the clock: what it answers, and the task, the home and the opener then. A task that has ended makes no
-  -- call.
-  abbrev pub Polls : ℕ → Bool → Moment → Replenish C V A → H → W → ReplenishAnswer E → Replenish C V A → H → W → Type 0
-  Polls timeout retry at t h w answer t' h' w' =
-      MatchBool (is_done t.stage) ((answer ≡ answers.GivenBack) × (t' ≡ t) × (h' ≡ h) × (w' ≡ w)) (Turns timeout retry at t h w answer t' h' w')
+  -- The whole poll at a reading of the clock: what it answers, and the task, and the home and the opener then. A task that has ended makes
+  -- no call.
+  abbrev pub Polls : ℕ → Bool → Moment → Replenish C V A → X → ReplenishAnswer E → Replenish C V A → X → Type 0
+  Polls timeout retry at t x answer t' x' =
+      MatchBool (is_done t.stage) ((answer ≡ answers.GivenBack) × (t' ≡ t) × (x' ≡ x)) (Turns timeout retry at t x answer t' x')
 
-  -- a task that is let go: where it has not ended, what it holds is dropped, and its approval is given back
-  abbrev pub LetsGo : Moment → Replenish C V A → H → W → H → W → Type 0
-  LetsGo at t h w h' w' =
-      MatchBool (is_done t.stage) ((h' ≡ h) × (w' ≡ w))
-      (Drops opener t.stage w w' × ((step : FailedStep) × home.fails h at t.approval step h'))
+  -- a task that is let go: where it has not ended, what it holds is let go, and its approval is given back then
+  abbrev pub LetsGo : Moment → Replenish C V A → X → X → Type 0
+  LetsGo at t x x' =
+      MatchBool (is_done t.stage) (x' ≡ x)
+      ((x1 : X) × Drops opener t.stage x x1 × ((step : FailedStep) × home.fails x1 at t.approval step x'))

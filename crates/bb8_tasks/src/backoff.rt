@@ -26,7 +26,8 @@ pub enum Reply {
     Err,
 }
 
-/// Answers each poll of an opening by this reply, counts the openings that are begun, and prepares at once. Connections are nothing.
+/// Answers each poll of an opening by this reply, counts the openings that are begun, and prepares at once. As a home it keeps a handle and
+/// enters what is opened, and its moment is each reading of the clock. Connections are nothing.
 #[derive(Drop)]
 pub struct Scripted {
     reply: Reply,
@@ -42,9 +43,13 @@ impl Opener<(), ()> for Scripted {
 
     ghost connect_answers = { λ script _ _ answer _ after. (answer ≡ told script.reply) × (after ≡ script) };
 
+    ghost ends_connect = { λ script _ after. after ≡ script };
+
     ghost acquires = { λ script _ _ _ after. after ≡ script };
 
     ghost acquire_answers = { λ script _ _ _ answer _ _ after. (answer ≡ Ready (Ok tt)) × (after ≡ script) };
+
+    ghost ends_acquire = { λ script _ after. after ≡ script };
 
     ghost lets_go = { λ script _ after. after ≡ script };
 
@@ -60,6 +65,8 @@ impl Opener<(), ()> for Scripted {
         }
     }
 
+    fn end_connect(&mut self, _connecting: ()) {}
+
     fn on_acquire(&mut self, _connection: &mut ()) {}
 
     fn poll_acquire(
@@ -71,19 +78,17 @@ impl Opener<(), ()> for Scripted {
         Poll::Ready(Ok(()))
     }
 
+    fn end_acquire(&mut self, _acquiring: ()) {}
+
     fn let_go(&mut self, _connection: ()) {}
 }
 
-/// A home that keeps a handle and enters what is opened. Its moment is each reading of the clock.
-#[derive(Drop)]
-pub struct Steady;
+impl Home<()> for Scripted {
+    ghost looks = { λ script at seen after. (seen ≡ record { moment = at; alive = true }) × (after ≡ script) };
 
-impl Home<()> for Steady {
-    ghost looks = { λ _ at seen _. seen ≡ record { moment = at; alive = true } };
+    ghost opens = { λ script _ _ _ step after. (step ≡ opening.Entered None) × (after ≡ script) };
 
-    ghost opens = { λ _ _ _ _ step _. step ≡ opening.Entered None };
-
-    ghost fails = { λ _ _ _ step _. step ≡ failing.GivenBack };
+    ghost fails = { λ script _ _ step after. (step ≡ failing.GivenBack) × (after ≡ script) };
 
     fn look(&mut self, at: Moment) -> Looked {
         Looked {
@@ -121,7 +126,7 @@ fn play(
         (at, reply) task.old result.1 result.0 task.new }
 {
     let mut script = Scripted { reply, tries: 0 };
-    let answer = task.poll(at, &mut script, config, &mut Steady);
+    let answer = task.poll(at, &mut script, config);
     (answer, script.tries)
 }
 
@@ -173,6 +178,6 @@ pub fn replay_backoff(
         reply: Reply::Pending,
         tries: 0,
     };
-    task.give_back(Moment(0), &mut script, &mut Steady);
+    task.give_back(Moment(0), &mut script);
     played
 }

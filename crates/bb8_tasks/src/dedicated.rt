@@ -48,8 +48,12 @@ fn acquire<C, E, W: Opener<C, E>>(
 {
     match opener.poll_acquire(&mut connection, &mut acquiring, moment) {
         Poll::Pending => leaves(Poll::Pending, Opening::Acquiring(connection, acquiring)),
-        Poll::Ready(Ok(())) => leaves(Poll::Ready(Ok(connection)), Opening::Done),
+        Poll::Ready(Ok(())) => {
+            opener.end_acquire(acquiring);
+            leaves(Poll::Ready(Ok(connection)), Opening::Done)
+        }
         Poll::Ready(Err(error)) => {
+            opener.end_acquire(acquiring);
             opener.let_go(connection);
             leaves(Poll::Ready(Err(error)), Opening::Done)
         }
@@ -67,10 +71,14 @@ fn connect<C, E, W: Opener<C, E>>(
     match opener.poll_connect(&mut connecting, moment) {
         Poll::Pending => leaves(Poll::Pending, Opening::Connecting(connecting)),
         Poll::Ready(Ok(mut connection)) => {
+            opener.end_connect(connecting);
             let acquiring = opener.on_acquire(&mut connection);
             acquire(opener, moment, connection, acquiring)
         }
-        Poll::Ready(Err(error)) => leaves(Poll::Ready(Err(error)), Opening::Done),
+        Poll::Ready(Err(error)) => {
+            opener.end_connect(connecting);
+            leaves(Poll::Ready(Err(error)), Opening::Done)
+        }
     }
 }
 
@@ -103,7 +111,7 @@ fn advance<C, E, W: Opener<C, E>>(
     }
 }
 
-impl<C, V: Drop, A: Drop> Opening<C, V, A> {
+impl<C, V, A> Opening<C, V, A> {
     /// Whether it was answered.
     fn is_done(&self) -> bool
         ensures { result ≡ is_done self.now }
@@ -126,7 +134,7 @@ pub struct Dedicated<C, V, A> {
     pub stage: Opening<C, V, A>,
 }
 
-impl<C, V: Drop, A: Drop> Dedicated<C, V, A> {
+impl<C, V, A> Dedicated<C, V, A> {
     /// An opening that was not polled yet. Our own.
     pub fn new() -> Self
         ensures { result ≡ fresh }
@@ -151,7 +159,8 @@ impl<C, V: Drop, A: Drop> Dedicated<C, V, A> {
     /// One poll of the opening, at the greatest reading of the clock so far. Our own.
     ///
     /// It begins one opening at its first poll, and goes on from the opening to the preparation in the same poll. It answers the connection,
-    /// or the first error; a connection whose preparation failed is dropped. After an answer each poll is pending, and calls nothing.
+    /// or the first error; a connection whose preparation failed is dropped. An opening or a preparation that has answered ends before what
+    /// follows. After an answer each poll is pending, and calls nothing.
     pub fn poll<E, W: Opener<C, E, Connecting = V, Acquiring = A> + Reports<E>>(
         &mut self,
         outside: &mut W,
@@ -170,17 +179,17 @@ impl<C, V: Drop, A: Drop> Dedicated<C, V, A> {
         answer
     }
 
-    /// Lets the opening go: a connection that it holds is dropped. Our own.
+    /// Lets the opening go: what is under way ends, and a connection that it holds is dropped then. Our own.
     pub fn cancel<E, W: Opener<C, E, Connecting = V, Acquiring = A>>(self, outside: &mut W)
         ensures { Drops W.Opener self.stage outside.old outside.new }
     {
         let Dedicated { latest: _, stage } = self;
         match stage {
             Opening::Acquiring(connection, acquiring) => {
-                drop(acquiring);
+                outside.end_acquire(acquiring);
                 outside.let_go(connection);
             }
-            Opening::Connecting(connecting) => drop(connecting),
+            Opening::Connecting(connecting) => outside.end_connect(connecting),
             Opening::Fresh | Opening::Done => {}
         }
     }

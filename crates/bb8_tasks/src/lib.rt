@@ -6,6 +6,7 @@ mod backoff;
 mod building;
 mod dedicated;
 mod home;
+mod joined;
 mod opener;
 mod plain;
 mod plain_reap;

@@ -10,13 +10,14 @@ use futures::task::Poll;
 /// The calls by which connections `C` are opened and prepared, which may fail with an `E`, and where they are let go. Our own.
 ///
 /// Each call changes the value that it is made of, by a relation that says nothing else and has no default. So a chain of these relations
-/// is the list of all calls, in their order: one that is made twice, left out or made at another place does not fit it.
+/// is the list of all calls, in their order: one that is made twice, left out or made at another place does not fit it. What an opening or a
+/// preparation has begun cannot be let go but by name, too, so its end has its place among them.
 pub trait Opener<C, E> {
     /// A connection that is being opened.
-    type Connecting: Drop;
+    type Connecting;
 
     /// A connection's preparation that is under way.
-    type Acquiring: Drop;
+    type Acquiring;
 
     // Holds before an opening is begun, of the opening, and after it.
     ghost connects: { Self → Self.Connecting → Self → Type 0 };
@@ -24,12 +25,18 @@ pub trait Opener<C, E> {
     // Holds before a poll of an opening at a moment, of the answer, of the opening then, and after it.
     ghost connect_answers: { Self → Self.Connecting → MomentOf → PollOf (Result C E) → Self.Connecting → Self → Type 0 };
 
+    // Holds before an opening is ended, and after it.
+    ghost ends_connect: { Self → Self.Connecting → Self → Type 0 };
+
     // Holds before a connection's preparation is begun, of the preparation, of the connection then, and after it.
     ghost acquires: { Self → C → Self.Acquiring → C → Self → Type 0 };
 
     // Holds before a poll of a connection's preparation at a moment, of the answer, of the connection and the preparation then, and after
     // it.
     ghost acquire_answers: { Self → C → Self.Acquiring → MomentOf → PollOf (Result (Unit {0}) E) → C → Self.Acquiring → Self → Type 0 };
+
+    // Holds before a preparation is ended, and after it.
+    ghost ends_acquire: { Self → Self.Acquiring → Self → Type 0 };
 
     // Holds before a connection is dropped, and after it.
     ghost lets_go: { Self → C → Self → Type 0 };
@@ -46,6 +53,10 @@ pub trait Opener<C, E> {
     ) -> Poll<Result<C, E>>
         ensures { connect_answers self.old connecting.old moment result connecting.new self.new };
 
+    /// Ends an opening, which is dropped. Our own.
+    fn end_connect(&mut self, connecting: Self::Connecting)
+        ensures { ends_connect self.old connecting self.new };
+
     /// Begins to prepare a connection. Our own.
     fn on_acquire(&mut self, connection: &mut C) -> Self::Acquiring
         ensures { acquires self.old connection.old result connection.new self.new };
@@ -59,6 +70,10 @@ pub trait Opener<C, E> {
     ) -> Poll<Result<(), E>>
         ensures { acquire_answers self.old connection.old acquiring.old moment result connection.new
             acquiring.new self.new };
+
+    /// Ends a preparation, which is dropped. Our own.
+    fn end_acquire(&mut self, acquiring: Self::Acquiring)
+        ensures { ends_acquire self.old acquiring self.new };
 
     /// Drops a connection. Our own.
     fn let_go(&mut self, connection: C)
@@ -104,9 +119,13 @@ impl<M: ManageConnection, S, Z: CustomizeConnection<M::Connection, M::Error>, K>
 
     ghost connect_answers = { λ opener v m answer v' after. M.connect_answers opener.manager.now v m answer v' × (after ≡ opener) };
 
+    ghost ends_connect = { λ opener _ after. after ≡ opener };
+
     ghost acquires = { λ opener c a c' after. Z.acquires opener.customizer.now c a c' × (after ≡ opener) };
 
     ghost acquire_answers = { λ opener c a m answer c' a' after. Z.acquire_answers opener.customizer.now c a m answer c' a' × (after ≡ opener) };
+
+    ghost ends_acquire = { λ opener _ after. after ≡ opener };
 
     ghost lets_go = { λ opener _ after. after ≡ opener };
 
@@ -122,6 +141,10 @@ impl<M: ManageConnection, S, Z: CustomizeConnection<M::Connection, M::Error>, K>
         self.manager.poll_connect(connecting, moment)
     }
 
+    fn end_connect(&mut self, connecting: M::Connecting) {
+        drop(connecting)
+    }
+
     fn on_acquire(&mut self, connection: &mut M::Connection) -> Z::Acquiring {
         self.customizer.on_acquire(connection)
     }
@@ -133,6 +156,10 @@ impl<M: ManageConnection, S, Z: CustomizeConnection<M::Connection, M::Error>, K>
         moment: Moment,
     ) -> Poll<Result<(), M::Error>> {
         self.customizer.poll_acquire(connection, acquiring, moment)
+    }
+
+    fn end_acquire(&mut self, acquiring: Z::Acquiring) {
+        drop(acquiring)
     }
 
     fn let_go(&mut self, connection: M::Connection) {

@@ -96,22 +96,22 @@ fn leaves<C, V, A, E>(answer: ReplenishAnswer<E>, stage: Stage<C, V, A>) -> Next
     Next { answer, stage }
 }
 
-/// Drops what a task holds.
-fn let_go<C, E, W: Opener<C, E>>(opener: &mut W, stage: Stage<C, W::Connecting, W::Acquiring>)
-    ensures { Drops W.Opener stage opener.old opener.new }
+/// Lets go what a task holds.
+fn let_go<C, E, X: Opener<C, E>>(pool: &mut X, stage: Stage<C, X::Connecting, X::Acquiring>)
+    ensures { Drops X.Opener stage pool.old pool.new }
 {
     match stage {
         Stage::Acquiring(_, connection, acquiring) => {
-            drop(acquiring);
-            opener.let_go(connection);
+            pool.end_acquire(acquiring);
+            pool.let_go(connection);
         }
-        Stage::Connecting(_, connecting) => drop(connecting),
+        Stage::Connecting(_, connecting) => pool.end_connect(connecting),
         Stage::Sleeping(_tries, _due) => {}
         Stage::Start | Stage::Done => {}
     }
 }
 
-impl<C, V: Drop, A: Drop> Stage<C, V, A> {
+impl<C, V, A> Stage<C, V, A> {
     /// Whether the task has ended.
     fn is_done(&self) -> bool
         ensures { result ≡ is_done self.now }
@@ -127,13 +127,13 @@ impl<C, V: Drop, A: Drop> Stage<C, V, A> {
 
 impl Row {
     /// A failure.
-    fn fail<C, V, A, E, H: Home<C>>(self, home: &mut H, tries: Tries, error: E) -> Next<C, V, A, E>
-        ensures { Fails H.Home (as_nanos self.timeout) self.retry self.approval self.moment
-            tries error home.old result home.new }
+    fn fail<C, V, A, E, X: Home<C>>(self, pool: &mut X, tries: Tries, error: E) -> Next<C, V, A, E>
+        ensures { Fails X.Home (as_nanos self.timeout) self.retry self.approval self.moment
+            tries error pool.old result pool.new }
     {
         let elapsed = u128::from(self.moment.0.saturating_sub(tries.start.0));
         if !self.retry || elapsed > self.timeout.as_nanos() {
-            let _ = home.failed(self.moment, self.approval);
+            let _ = pool.failed(self.moment, self.approval);
             return leaves(ReplenishAnswer::Failed(error), Stage::Done);
         }
         let tries = one_more(tries);
@@ -145,100 +145,103 @@ impl Row {
     }
 
     /// The connection is entered.
-    fn enter<C, E, W: Opener<C, E>, H: Home<C>>(
+    fn enter<C, E, X: Home<C> + Opener<C, E>>(
         self,
-        opener: &mut W,
-        home: &mut H,
+        pool: &mut X,
         connection: C,
-    ) -> Next<C, W::Connecting, W::Acquiring, E>
-        ensures { Enters H.Home (as_nanos self.timeout) self.retry self.approval self.moment
-            W.Opener connection home.old opener.old result home.new opener.new }
+    ) -> Next<C, X::Connecting, X::Acquiring, E>
+        ensures { Enters X.Home (as_nanos self.timeout) self.retry self.approval self.moment
+            X.Opener connection pool.old result pool.new }
     {
-        match home.opened(self.moment, self.approval, connection) {
+        match pool.opened(self.moment, self.approval, connection) {
             OpenedStep::Entered(_) => leaves(ReplenishAnswer::Entered, Stage::Done),
             OpenedStep::Late(connection) => {
-                opener.let_go(connection);
+                pool.let_go(connection);
                 leaves(ReplenishAnswer::Late, Stage::Done)
             }
             OpenedStep::Unfit(connection) => {
-                opener.let_go(connection);
+                pool.let_go(connection);
                 leaves(ReplenishAnswer::GivenBack, Stage::Done)
             }
         }
     }
 
     /// The preparation is polled.
-    fn acquire<C, E, W: Opener<C, E>, H: Home<C>>(
+    fn acquire<C, E, X: Home<C> + Opener<C, E>>(
         self,
-        opener: &mut W,
-        home: &mut H,
+        pool: &mut X,
         tries: Tries,
         mut connection: C,
-        mut acquiring: W::Acquiring,
-    ) -> Next<C, W::Connecting, W::Acquiring, E>
-        ensures { Acquires H.Home (as_nanos self.timeout) self.retry self.approval self.moment
-            W.Opener tries connection acquiring home.old opener.old result home.new opener.new }
+        mut acquiring: X::Acquiring,
+    ) -> Next<C, X::Connecting, X::Acquiring, E>
+        ensures { Acquires X.Home (as_nanos self.timeout) self.retry self.approval self.moment
+            X.Opener tries connection acquiring pool.old result pool.new }
     {
-        match opener.poll_acquire(&mut connection, &mut acquiring, self.moment) {
+        match pool.poll_acquire(&mut connection, &mut acquiring, self.moment) {
             Poll::Pending => leaves(
                 ReplenishAnswer::Pending,
                 Stage::Acquiring(tries, connection, acquiring),
             ),
-            Poll::Ready(Ok(())) => self.enter(opener, home, connection),
+            Poll::Ready(Ok(())) => {
+                pool.end_acquire(acquiring);
+                self.enter(pool, connection)
+            }
             Poll::Ready(Err(error)) => {
-                opener.let_go(connection);
-                self.fail(home, tries, error)
+                pool.end_acquire(acquiring);
+                pool.let_go(connection);
+                self.fail(pool, tries, error)
             }
         }
     }
 
     /// The opening is polled.
-    fn connect<C, E, W: Opener<C, E>, H: Home<C>>(
+    fn connect<C, E, X: Home<C> + Opener<C, E>>(
         self,
-        opener: &mut W,
-        home: &mut H,
+        pool: &mut X,
         tries: Tries,
-        mut connecting: W::Connecting,
-    ) -> Next<C, W::Connecting, W::Acquiring, E>
-        ensures { Connects H.Home (as_nanos self.timeout) self.retry self.approval self.moment
-            W.Opener tries connecting home.old opener.old result home.new opener.new }
+        mut connecting: X::Connecting,
+    ) -> Next<C, X::Connecting, X::Acquiring, E>
+        ensures { Connects X.Home (as_nanos self.timeout) self.retry self.approval self.moment
+            X.Opener tries connecting pool.old result pool.new }
     {
-        match opener.poll_connect(&mut connecting, self.moment) {
+        match pool.poll_connect(&mut connecting, self.moment) {
             Poll::Pending => leaves(
                 ReplenishAnswer::Pending,
                 Stage::Connecting(tries, connecting),
             ),
             Poll::Ready(Ok(mut connection)) => {
-                let acquiring = opener.on_acquire(&mut connection);
-                self.acquire(opener, home, tries, connection, acquiring)
+                pool.end_connect(connecting);
+                let acquiring = pool.on_acquire(&mut connection);
+                self.acquire(pool, tries, connection, acquiring)
             }
-            Poll::Ready(Err(error)) => self.fail(home, tries, error),
+            Poll::Ready(Err(error)) => {
+                pool.end_connect(connecting);
+                self.fail(pool, tries, error)
+            }
         }
     }
 
     /// An opening is begun.
-    fn begin<C, E, W: Opener<C, E>, H: Home<C>>(
+    fn begin<C, E, X: Home<C> + Opener<C, E>>(
         self,
-        opener: &mut W,
-        home: &mut H,
+        pool: &mut X,
         tries: Tries,
-    ) -> Next<C, W::Connecting, W::Acquiring, E>
-        ensures { Begins H.Home (as_nanos self.timeout) self.retry self.approval self.moment
-            W.Opener tries home.old opener.old result home.new opener.new }
+    ) -> Next<C, X::Connecting, X::Acquiring, E>
+        ensures { Begins X.Home (as_nanos self.timeout) self.retry self.approval self.moment
+            X.Opener tries pool.old result pool.new }
     {
-        let connecting = opener.connect();
-        self.connect(opener, home, tries, connecting)
+        let connecting = pool.connect();
+        self.connect(pool, tries, connecting)
     }
 
     /// The row of the task's stage, where a handle is alive.
-    fn advance<C, E, W: Opener<C, E>, H: Home<C>>(
+    fn advance<C, E, X: Home<C> + Opener<C, E>>(
         self,
-        opener: &mut W,
-        home: &mut H,
-        stage: Stage<C, W::Connecting, W::Acquiring>,
-    ) -> Next<C, W::Connecting, W::Acquiring, E>
-        ensures { Advances H.Home (as_nanos self.timeout) self.retry self.approval self.moment
-            W.Opener stage home.old opener.old result home.new opener.new }
+        pool: &mut X,
+        stage: Stage<C, X::Connecting, X::Acquiring>,
+    ) -> Next<C, X::Connecting, X::Acquiring, E>
+        ensures { Advances X.Home (as_nanos self.timeout) self.retry self.approval self.moment
+            X.Opener stage pool.old result pool.new }
     {
         match stage {
             Stage::Start => {
@@ -246,15 +249,15 @@ impl Row {
                     start: self.moment,
                     failures: 0,
                 };
-                self.begin(opener, home, tries)
+                self.begin(pool, tries)
             }
-            Stage::Connecting(tries, connecting) => self.connect(opener, home, tries, connecting),
+            Stage::Connecting(tries, connecting) => self.connect(pool, tries, connecting),
             Stage::Acquiring(tries, connection, acquiring) => {
-                self.acquire(opener, home, tries, connection, acquiring)
+                self.acquire(pool, tries, connection, acquiring)
             }
             Stage::Sleeping(tries, Some(due)) => {
                 if due <= self.moment {
-                    self.begin(opener, home, tries)
+                    self.begin(pool, tries)
                 } else {
                     leaves(ReplenishAnswer::Pending, Stage::Sleeping(tries, Some(due)))
                 }
@@ -267,21 +270,20 @@ impl Row {
     }
 
     /// What a task does after its look.
-    fn proceed<C, E, W: Opener<C, E>, H: Home<C>>(
+    fn proceed<C, E, X: Home<C> + Opener<C, E>>(
         self,
-        opener: &mut W,
-        home: &mut H,
+        pool: &mut X,
         alive: bool,
-        stage: Stage<C, W::Connecting, W::Acquiring>,
-    ) -> Next<C, W::Connecting, W::Acquiring, E>
-        ensures { Proceeds H.Home (as_nanos self.timeout) self.retry self.approval self.moment
-            W.Opener alive stage home.old opener.old result home.new opener.new }
+        stage: Stage<C, X::Connecting, X::Acquiring>,
+    ) -> Next<C, X::Connecting, X::Acquiring, E>
+        ensures { Proceeds X.Home (as_nanos self.timeout) self.retry self.approval self.moment
+            X.Opener alive stage pool.old result pool.new }
     {
         if alive {
-            return self.advance(opener, home, stage);
+            return self.advance(pool, stage);
         }
-        let_go(opener, stage);
-        let _ = home.failed(self.moment, self.approval);
+        let_go(pool, stage);
+        let _ = pool.failed(self.moment, self.approval);
         leaves(ReplenishAnswer::GivenBack, Stage::Done)
     }
 }
@@ -296,7 +298,7 @@ pub struct Replenish<C, V, A> {
     stage: Stage<C, V, A>,
 }
 
-impl<C, V: Drop, A: Drop> Replenish<C, V, A> {
+impl<C, V, A> Replenish<C, V, A> {
     /// A task for an approval, which was not polled yet. Our own.
     pub fn new(approval: Key) -> Self
         ensures { result ≡ fresh approval }
@@ -311,7 +313,12 @@ impl<C, V: Drop, A: Drop> Replenish<C, V, A> {
     /// Puts another stage in the place of one that has ended.
     fn stand(&mut self, stage: Stage<C, V, A>)
         requires { self.old.stage ≡ IsDone }
-        ensures { self.new ≡ record { approval = self.old.approval; latest = self.old.latest; stage = stage } }
+        ensures { self.new ≡ record {
+          approval = self.old.approval;
+          latest = self.old.latest;
+          stage
+              = stage;
+        } }
     {
         match mem::replace(&mut self.stage, stage) {
             Stage::Done => {}
@@ -324,21 +331,19 @@ impl<C, V: Drop, A: Drop> Replenish<C, V, A> {
     /// It looks at the home first, and begins one opening at most. A try that failed is made again later, where `retry_connection` is set
     /// and no more than the `connection_timeout` has passed since the first one; else its approval is given back. After an answer other
     /// than `Pending` and `Retrying` each poll answers `GivenBack`, calls nothing and changes nothing.
-    pub fn poll<E, W: Opener<C, E, Connecting = V, Acquiring = A>, H: Home<C>>(
+    pub fn poll<E, X: Home<C> + Opener<C, E, Connecting = V, Acquiring = A>>(
         &mut self,
         at: Moment,
-        opener: &mut W,
+        pool: &mut X,
         config: &Config,
-        home: &mut H,
     ) -> ReplenishAnswer<E>
-        ensures { Polls H.Home W.Opener (as_nanos config.now.connection_timeout)
-            config.now.retry_connection at self.old home.old opener.old result self.new home.new
-            opener.new }
+        ensures { Polls X.Home X.Opener (as_nanos config.now.connection_timeout)
+            config.now.retry_connection at self.old pool.old result self.new pool.new }
     {
         if self.stage.is_done() {
             return ReplenishAnswer::GivenBack;
         }
-        let seen = home.look(at);
+        let seen = pool.look(at);
         let moment = Moment(seen.moment.0.max(self.latest.0));
         self.latest = moment;
         let row = Row {
@@ -348,7 +353,7 @@ impl<C, V: Drop, A: Drop> Replenish<C, V, A> {
             moment,
         };
         let stage = mem::replace(&mut self.stage, Stage::Done);
-        let Next { answer, stage } = row.proceed(opener, home, seen.alive, stage);
+        let Next { answer, stage } = row.proceed(pool, seen.alive, stage);
         self.stand(stage);
         answer
     }
@@ -370,13 +375,12 @@ impl<C, V: Drop, A: Drop> Replenish<C, V, A> {
 
     /// Lets the task go, at a reading `at` of the clock: where it has not ended, what it holds is dropped, and its approval given back.
     /// Our own.
-    pub fn give_back<E, W: Opener<C, E, Connecting = V, Acquiring = A>, H: Home<C>>(
+    pub fn give_back<E, X: Home<C> + Opener<C, E, Connecting = V, Acquiring = A>>(
         self,
         at: Moment,
-        opener: &mut W,
-        home: &mut H,
+        pool: &mut X,
     )
-        ensures { LetsGo H.Home W.Opener at self home.old opener.old home.new opener.new }
+        ensures { LetsGo X.Home X.Opener at self pool.old pool.new }
     {
         let Replenish {
             approval,
@@ -384,9 +388,9 @@ impl<C, V: Drop, A: Drop> Replenish<C, V, A> {
             stage,
         } = self;
         if stage.is_done() {
-            return let_go(opener, stage);
+            return let_go(pool, stage);
         }
-        let_go(opener, stage);
-        let _ = home.failed(at, approval);
+        let_go(pool, stage);
+        let _ = pool.failed(at, approval);
     }
 }

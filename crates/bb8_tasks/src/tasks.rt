@@ -31,7 +31,7 @@ impl<C, V, A> Model for Tasks<C, V, A> {
     ghost view = { λ tasks. tasks.queue.items };
 }
 
-impl<C, V: Drop, A: Drop> Tasks<C, V, A> {
+impl<C, V, A> Tasks<C, V, A> {
     /// No tasks. Our own.
     pub fn new(alloc: Global) -> Self
         ensures { result ≡ [] }
@@ -97,40 +97,38 @@ impl<C, V: Drop, A: Drop> Tasks<C, V, A> {
     ///
     /// The error of a try that is made again goes to the sink, and so does that of a last try where `on_failure` says so; else the round
     /// stops with that error, polls no further task, and keeps those.
-    pub fn poll_until<E, W: Opener<C, E, Connecting = V, Acquiring = A> + Reports<E>, H: Home<C>>(
+    pub fn poll_until<E, X: Home<C> + Opener<C, E, Connecting = V, Acquiring = A> + Reports<E>>(
         &mut self,
         at: Moment,
-        outside: &mut W,
+        pool: &mut X,
         config: &Config,
-        home: &mut H,
         on_failure: OnFailure,
     ) -> Option<E>
-        ensures { PollsUntil (Polls H.Home W.Opener (as_nanos config.now.connection_timeout)
-            config.now.retry_connection at) W.sinks on_failure self.old home.old outside.old
-            result self.new home.new outside.new }
+        ensures { PollsUntil (Polls X.Home X.Opener (as_nanos config.now.connection_timeout)
+            config.now.retry_connection at) X.sinks on_failure self.old pool.old result self.new
+            pool.new }
     {
         let mut stopped = None;
         let count = self.len();
         for _ in 0..count {
-            stopped = self.turn(at, outside, config, home, on_failure, stopped);
+            stopped = self.turn(at, pool, config, on_failure, stopped);
         }
         stopped
     }
 
     /// The first task's turn in a round that stopped with an error, or goes on.
-    fn turn<E, W: Opener<C, E, Connecting = V, Acquiring = A> + Reports<E>, H: Home<C>>(
+    fn turn<E, X: Home<C> + Opener<C, E, Connecting = V, Acquiring = A> + Reports<E>>(
         &mut self,
         at: Moment,
-        outside: &mut W,
+        pool: &mut X,
         config: &Config,
-        home: &mut H,
         on_failure: OnFailure,
         stopped: Option<E>,
     ) -> Option<E>
         requires { 0 < length self.old }
-        ensures { Turns (Polls H.Home W.Opener (as_nanos config.now.connection_timeout)
-            config.now.retry_connection at) W.sinks on_failure stopped self.old home.old
-            outside.old result self.new home.new outside.new }
+        ensures { Turns (Polls X.Home X.Opener (as_nanos config.now.connection_timeout)
+            config.now.retry_connection at) X.sinks on_failure stopped self.old pool.old result
+            self.new pool.new }
     {
         let Some(mut task) = self.queue.pop_front() else {
             return stopped;
@@ -142,13 +140,13 @@ impl<C, V: Drop, A: Drop> Tasks<C, V, A> {
             }
             None => {}
         }
-        match task.poll(at, outside, config, home) {
+        match task.poll(at, pool, config) {
             ReplenishAnswer::Pending => {
                 self.queue.push_back_reserved(task);
                 None
             }
             ReplenishAnswer::Retrying(error) => {
-                outside.sink(error);
+                pool.sink(error);
                 self.queue.push_back_reserved(task);
                 None
             }
@@ -157,7 +155,7 @@ impl<C, V: Drop, A: Drop> Tasks<C, V, A> {
                 match on_failure {
                     OnFailure::Stop => Some(error),
                     OnFailure::GoOn => {
-                        outside.sink(error);
+                        pool.sink(error);
                         None
                     }
                 }
@@ -170,37 +168,34 @@ impl<C, V: Drop, A: Drop> Tasks<C, V, A> {
     }
 
     /// Lets each task go, in their order, so that the approval of each that has not ended is given back. Our own.
-    pub fn give_back<E, W: Opener<C, E, Connecting = V, Acquiring = A>, H: Home<C>>(
+    pub fn give_back<E, X: Home<C> + Opener<C, E, Connecting = V, Acquiring = A>>(
         self,
         at: Moment,
-        outside: &mut W,
-        home: &mut H,
+        pool: &mut X,
     )
-        ensures { LetsGoEach (LetsGo H.Home W.Opener at) self home.old outside.old home.new
-            outside.new }
+        ensures { LetsGoEach (LetsGo X.Home X.Opener at) self pool.old pool.new }
     {
         let Tasks { mut queue } = self;
         while let Some(task) = queue.pop_front() {
-            task.give_back(at, outside, home);
+            task.give_back(at, pool);
         }
         queue.destroy_empty();
     }
 
     /// A round of polls that stops at the first failure of a last try, and then lets all other tasks go. Our own.
-    pub fn round<E, W: Opener<C, E, Connecting = V, Acquiring = A> + Reports<E>, H: Home<C>>(
+    pub fn round<E, X: Home<C> + Opener<C, E, Connecting = V, Acquiring = A> + Reports<E>>(
         mut self,
         at: Moment,
-        outside: &mut W,
+        pool: &mut X,
         config: &Config,
-        home: &mut H,
     ) -> Round<Self, E>
-        ensures { Rounds (Polls H.Home W.Opener (as_nanos config.now.connection_timeout)
-            config.now.retry_connection at) W.sinks (LetsGo H.Home W.Opener at) self home.old
-            outside.old result home.new outside.new }
+        ensures { Rounds (Polls X.Home X.Opener (as_nanos config.now.connection_timeout)
+            config.now.retry_connection at) X.sinks (LetsGo X.Home X.Opener at) self pool.old
+            result pool.new }
     {
-        match self.poll_until(at, outside, config, home, OnFailure::Stop) {
+        match self.poll_until(at, pool, config, OnFailure::Stop) {
             Some(error) => {
-                self.give_back(at, outside, home);
+                self.give_back(at, pool);
                 Round::Failed(error)
             }
             None => {
@@ -222,18 +217,17 @@ impl<C, V: Drop, A: Drop> Tasks<C, V, A> {
     }
 
     /// A round of polls that goes on after each failure: each task is polled once, and each error goes to the sink. Our own.
-    pub fn poll_each<E, W: Opener<C, E, Connecting = V, Acquiring = A> + Reports<E>, H: Home<C>>(
+    pub fn poll_each<E, X: Home<C> + Opener<C, E, Connecting = V, Acquiring = A> + Reports<E>>(
         &mut self,
         at: Moment,
-        outside: &mut W,
+        pool: &mut X,
         config: &Config,
-        home: &mut H,
     )
-        ensures { PollsUntil (Polls H.Home W.Opener (as_nanos config.now.connection_timeout)
-            config.now.retry_connection at) W.sinks IsGoOn self.old home.old outside.old None
-            self.new home.new outside.new }
+        ensures { PollsUntil (Polls X.Home X.Opener (as_nanos config.now.connection_timeout)
+            config.now.retry_connection at) X.sinks IsGoOn self.old pool.old None self.new
+            pool.new }
     {
-        match self.poll_until(at, outside, config, home, OnFailure::GoOn) {
+        match self.poll_until(at, pool, config, OnFailure::GoOn) {
             None => {}
             Some(_) => unreachable!(),
         }

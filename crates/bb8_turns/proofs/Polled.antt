@@ -6,22 +6,21 @@ use Rattle.bb8_tasks.specs.declared.rounds.OnFailure.TheVariants.{GoOn}
 use Rattle.bb8_tasks.specs.Sweeping.{After, Rest, PollsUntil}
 use Rattle.bb8_turns.specs.Rounds.{kept, Reports, PollsEach}
 
-module _ {T E H W : Type 0} (polls : T → H → W → ReplenishAnswer E → T → H → W → Type 0) (sinks : W → E → W → Type 0) where
+module _ {T E X : Type 0} (polls : T → X → ReplenishAnswer E → T → X → Type 0) (sinks : X → E → X → Type 0) where
   -- what such a round does after a poll
-  after : (r : ReplenishAnswer E) (t : T) (w : W) (ts : List T) (o : Option E) (w' : W) → After polls sinks GoOn r t w ts o w'
-      → (o ≡ None) × (ts ≡ kept r t) × Reports polls sinks r w w'
-  after Pending t w ts o w' a = (a.1, a.0, a.2)
-  after (Retrying e) t w ts o w' a = (a.2, a.1, a.0)
-  after (Failed e) t w ts o w' a = (a.1.1, a.0, a.1.0)
-  after Entered t w ts o w' a = (a.1, a.0, a.2)
-  after Late t w ts o w' a = (a.1, a.0, a.2)
-  after GivenBack t w ts o w' a = (a.1, a.0, a.2)
+  after : (r : ReplenishAnswer E) (t : T) (x : X) (ts : List T) (o : Option E) (x' : X) → After polls sinks GoOn r t x ts o x'
+      → (o ≡ None) × (ts ≡ kept r t) × Reports polls sinks r x x'
+  after Pending t x ts o x' a = (a.1, a.0, a.2)
+  after (Retrying e) t x ts o x' a = (a.2, a.1, a.0)
+  after (Failed e) t x ts o x' a = (a.1.1, a.0, a.1.0)
+  after Entered t x ts o x' a = (a.1, a.0, a.2)
+  after Late t x ts o x' a = (a.1, a.0, a.2)
+  after GivenBack t x ts o x' a = (a.1, a.0, a.2)
 
-  pub polls_each : (ts : List T) (h : H) (w : W) (left : List T) (h' : H) (w' : W) → PollsUntil polls sinks GoOn ts h w None left h' w'
-      → PollsEach polls sinks ts h w left h' w'
-  polls_each [] h w left h' w' p = (p.1, p.2, p.3)
-  polls_each (t ∷ ts) h w left h' w' (r, t', h1, w1, p, (ts1, now, w2, done, (more, rest, is))) =
-      let a = after r t' w1 ts1 now w2 done in
-      let on : PollsUntil polls sinks GoOn ts h1 w2 None more h' w' =
-      subst (λ (x : Option E). Rest polls sinks GoOn x (PollsUntil polls sinks GoOn ts h1 w2) ts h1 w2 None more h' w') a.0 rest in
-      (r, t', h1, w1, p, (w2, a.2, (more, polls_each ts h1 w2 more h' w' on, rw (is, a.1) refl)))
+  pub polls_each : (ts : List T) (x : X) (left : List T) (x' : X) → PollsUntil polls sinks GoOn ts x None left x' → PollsEach polls sinks ts x left x'
+  polls_each [] x left x' p = (p.1, p.2)
+  polls_each (t ∷ ts) x left x' (r, t', x1, p, (ts1, now, x2, done, (more, rest, is))) =
+      let a = after r t' x1 ts1 now x2 done in
+      let on : PollsUntil polls sinks GoOn ts x2 None more x' =
+      subst (λ (o : Option E). Rest polls sinks GoOn o (PollsUntil polls sinks GoOn ts x2) ts x2 None more x') a.0 rest in
+      (r, t', x1, p, (x2, a.2, (more, polls_each ts x2 more x' on, rw (is, a.1) refl)))

@@ -9,16 +9,16 @@ kept Pending t = t ∷ []
 kept (Retrying e) t = t ∷ []
 kept _ t = []
 
-module _ {T E H W : Type 0} (polls : T → H → W → ReplenishAnswer E → T → H → W → Type 0) (sinks : W → E → W → Type 0) where
+module _ {T E X : Type 0} (polls : T → X → ReplenishAnswer E → T → X → Type 0) (sinks : X → E → X → Type 0) where
   -- the error of an answer, where it has one, goes to the sink, once
-  abbrev pub Reports : ReplenishAnswer E → W → W → Type 0
-  Reports (Retrying e) w w' = sinks w e w'
-  Reports (Failed e) w w' = sinks w e w'
-  Reports _ w w' = w' ≡ w
+  abbrev pub Reports : ReplenishAnswer E → X → X → Type 0
+  Reports (Retrying e) x x' = sinks x e x'
+  Reports (Failed e) x x' = sinks x e x'
+  Reports _ x x' = x' ≡ x
 
   -- each task is polled once, in their order; left are those that asked to be polled again
-  abbrev pub PollsEach : List T → H → W → List T → H → W → Type 0
-  PollsEach [] h w left h' w' = (left ≡ []) × (h' ≡ h) × (w' ≡ w)
-  PollsEach (t ∷ ts) h w left h' w' =
-      (r : ReplenishAnswer E) × (t' : T) × (h1 : H) × (w1 : W) × polls t h w r t' h1 w1
-      × ((w2 : W) × Reports r w1 w2 × ((more : List T) × PollsEach ts h1 w2 more h' w' × (left ≡ kept r t' ++ more)))
+  abbrev pub PollsEach : List T → X → List T → X → Type 0
+  PollsEach [] x left x' = (left ≡ []) × (x' ≡ x)
+  PollsEach (t ∷ ts) x left x' =
+      (r : ReplenishAnswer E) × (t' : T) × (x1 : X) × polls t x r t' x1
+      × ((x2 : X) × Reports r x1 x2 × ((more : List T) × PollsEach ts x2 more x' × (left ≡ kept r t' ++ more)))

@@ -1,4 +1,4 @@
--- A turn of a driver, over the relations of any home, of any opener and of any sink.
+-- A turn of a driver, over the relations of any value that is a home, an opener and a sink: one chain of steps and calls.
 use Rattle.std.specs.Prelude.{◌≡◌, ℕ, Bool, true, false, ◌||◌, is_some, Option, Some, None, List, [], ◌∷◌, ◌++◌, map, length, ◌⊎◌}
 use Rattle.std.specs.Duration.{as_nanos}
 use Rattle.bb8_types.specs.declared.api.moments.Moment.{Moment}
@@ -70,26 +70,26 @@ module _ {H : Type 0} (home : ClaimHomeOf H) (at : Moment) where
     abbrev pub Claims : List (Replenish C V A) → H → Bool → List (Replenish C V A) → H → Type 0
     Claims ts h ended ts' h' = (h1 : H) × TakesOnEach ts h ts' h1 × Stops ended h1 h'
 
-module _ {C E V A H W : Type 0} (home : HomeOf H C) (opener : OpenerOf W C E V A) (at : Moment) where
+module _ {C E V A X : Type 0} (home : HomeOf X C) (opener : OpenerOf X C E V A) (at : Moment) where
   -- a driver that is let go: each of its tasks is let go, in their order
-  abbrev pub GivesBack : Turning C V A → H → W → H → W → Type 0
-  GivesBack (Going reaper ts) h w h' w' = LetsGoEach (LetsGo home opener at) ts h w h' w'
-  GivesBack Ended h w h' w' = (h' ≡ h) × (w' ≡ w)
+  abbrev pub GivesBack : Turning C V A → X → X → Type 0
+  GivesBack (Going reaper ts) x x' = LetsGoEach (LetsGo home opener at) ts x x'
+  GivesBack Ended x x' = x' ≡ x
 
-module _ {C E V A H W : Type 0} (home : HomeOf H C) (claim_home : ClaimHomeOf H) (reap_home : ReapHomeOf H) (opener : OpenerOf W C E V A)
-    (sinks : W → E → W → Type 0) (timeout : ℕ) (retry : Bool) (at : Moment) where
+module _ {C E V A X : Type 0} (home : HomeOf X C) (claim_home : ClaimHomeOf X) (reap_home : ReapHomeOf X) (opener : OpenerOf X C E V A)
+    (sinks : X → E → X → Type 0) (timeout : ℕ) (retry : Bool) (at : Moment) where
   -- after the claims: each task is polled; or, where no handle is alive, each is let go, and the driver has ended
-  abbrev pub Proceeds : Bool → Option Reaper → List (Replenish C V A) → H → W → Turn → Turning C V A → H → W → Type 0
-  Proceeds false reaper ts h w turn t' h' w' =
-      (left : List (Replenish C V A)) × PollsEach (Polls home opener timeout retry at) sinks ts h w left h' w'
+  abbrev pub Proceeds : Bool → Option Reaper → List (Replenish C V A) → X → Turn → Turning C V A → X → Type 0
+  Proceeds false reaper ts x turn t' x' =
+      (left : List (Replenish C V A)) × PollsEach (Polls home opener timeout retry at) sinks ts x left x'
       × (turn ≡ record { polled = length ts; ended = false }) × (t' ≡ Going reaper left)
-  Proceeds true reaper ts h w turn t' h' w' =
-      LetsGoEach (LetsGo home opener at) ts h w h' w' × (turn ≡ record { polled = 0; ended = true }) × (t' ≡ Ended)
+  Proceeds true reaper ts x turn t' x' =
+      LetsGoEach (LetsGo home opener at) ts x x' × (turn ≡ record { polled = 0; ended = true }) × (t' ≡ Ended)
 
   -- A turn: the reaper is polled, approvals are claimed, and the tasks that there are then are polled. One that has ended makes no call.
-  abbrev pub Turns : Turning C V A → H → W → Turn → Turning C V A → H → W → Type 0
-  Turns (Going reaper ts) h w turn t' h' w' =
-      (reaper1 : Option Reaper) × (h1 : H) × PollsReaper reap_home at reaper h reaper1 h1
-      × ((ended : Bool) × (ts1 : List (Replenish C V A)) × (h2 : H) × Claims claim_home at ts h1 ended ts1 h2
-      × Proceeds ended reaper1 ts1 h2 w turn t' h' w')
-  Turns Ended h w turn t' h' w' = (turn ≡ record { polled = 0; ended = true }) × (t' ≡ Ended) × (h' ≡ h) × (w' ≡ w)
+  abbrev pub Turns : Turning C V A → X → Turn → Turning C V A → X → Type 0
+  Turns (Going reaper ts) x turn t' x' =
+      (reaper1 : Option Reaper) × (x1 : X) × PollsReaper reap_home at reaper x reaper1 x1
+      × ((ended : Bool) × (ts1 : List (Replenish C V A)) × (x2 : X) × Claims claim_home at ts x1 ended ts1 x2
+      × Proceeds ended reaper1 ts1 x2 turn t' x')
+  Turns Ended x turn t' x' = (turn ≡ record { polled = 0; ended = true }) × (t' ≡ Ended) × (x' ≡ x)

@@ -7,7 +7,7 @@ use bb8_tasks::{ClaimHome, Tasks};
 
 /// Claims approvals until none is unclaimed, and takes on their tasks. It stops where there is no place for one more task, and there makes
 /// no claim. Whether it stopped as no handle is alive.
-pub(crate) fn claim_each<C, V: Drop, A: Drop, H: ClaimHome>(
+pub(crate) fn claim_each<C, V, A, H: ClaimHome>(
     tasks: &mut Tasks<C, V, A>,
     at: Moment,
     home: &mut H,

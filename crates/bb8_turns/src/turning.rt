@@ -56,23 +56,21 @@ fn poll_reaper<H: ReapHome>(reaper: &mut Option<Reaper>, at: Moment, home: &mut 
 #[tactic(auto, using(crate::proofs::Polled::polls_each))]
 fn poll_tasks<
     C,
-    V: Drop,
-    A: Drop,
+    V,
+    A,
     E: Drop,
-    W: Opener<C, E, Connecting = V, Acquiring = A> + Reports<E>,
-    H: Home<C>,
->(tasks: &mut Tasks<C, V, A>, at: Moment, outside: &mut W, config: &Config, home: &mut H) -> u64
+    X: Home<C> + Opener<C, E, Connecting = V, Acquiring = A> + Reports<E>,
+>(tasks: &mut Tasks<C, V, A>, at: Moment, pool: &mut X, config: &Config) -> u64
     ensures number { result ≡ length tasks.old }
-    ensures each { PollsEach (Polls H.Home W.Opener (as_nanos config.now.connection_timeout)
-        config.now.retry_connection at) W.sinks tasks.old home.old outside.old tasks.new home.new
-        outside.new }
+    ensures each { PollsEach (Polls X.Home X.Opener (as_nanos config.now.connection_timeout)
+        config.now.retry_connection at) X.sinks tasks.old pool.old tasks.new pool.new }
 {
     let number = tasks.len() as u64;
-    tasks.poll_each(at, outside, config, home);
+    tasks.poll_each(at, pool, config);
     number
 }
 
-impl<C, V: Drop, A: Drop> Turning<C, V, A> {
+impl<C, V, A> Turning<C, V, A> {
     /// What a driver begins with: no task, and a reaper where `max_lifetime` or `idle_timeout` is set, whose ticks count from the moment
     /// `start` on. Our own.
     pub fn new(alloc: Global, config: &Config, start: Moment) -> Self
@@ -90,12 +88,15 @@ impl<C, V: Drop, A: Drop> Turning<C, V, A> {
     /// task, lets all go, so that their approvals are given back, and has ended: each later turn calls nothing.
     pub fn turn<
         E: Drop,
-        W: Opener<C, E, Connecting = V, Acquiring = A> + Reports<E>,
-        H: Home<C> + ClaimHome + ReapHome,
-    >(&mut self, at: Moment, outside: &mut W, config: &Config, home: &mut H) -> Turn
-        ensures table { Turns H.Home H.ClaimHome H.ReapHome W.Opener W.sinks
+        X: Home<C>
+            + ClaimHome
+            + ReapHome
+            + Opener<C, E, Connecting = V, Acquiring = A>
+            + Reports<E>,
+    >(&mut self, at: Moment, pool: &mut X, config: &Config) -> Turn
+        ensures table { Turns X.Home X.ClaimHome X.ReapHome X.Opener X.sinks
             (as_nanos config.now.connection_timeout) config.now.retry_connection at self.old
-            home.old outside.old result self.new home.new outside.new }
+            pool.old result self.new pool.new }
         ensures ended { result.ended ≡ is_ended self.new }
         ensures none { result.ended ≡ true → result.polled ≡ 0 }
         ensures stays { is_ended self.old ≡ true → result.ended ≡ true }
@@ -106,32 +107,31 @@ impl<C, V: Drop, A: Drop> Turning<C, V, A> {
                 ended: true,
             };
         };
-        poll_reaper(reaper, at, home);
-        if claim_each(tasks, at, home) {
-            mem::replace(self, Turning::Ended).give_back(at, outside, home);
+        poll_reaper(reaper, at, pool);
+        if claim_each(tasks, at, pool) {
+            mem::replace(self, Turning::Ended).give_back(at, pool);
             return Turn {
                 polled: 0,
                 ended: true,
             };
         }
         Turn {
-            polled: poll_tasks(tasks, at, outside, config, home),
+            polled: poll_tasks(tasks, at, pool, config),
             ended: false,
         }
     }
 
     /// Lets the driver go, at a reading `at` of the clock, and each of its tasks, in their order: the approval of each that has not ended is
     /// given back. Our own.
-    pub fn give_back<E, W: Opener<C, E, Connecting = V, Acquiring = A>, H: Home<C>>(
+    pub fn give_back<E, X: Home<C> + Opener<C, E, Connecting = V, Acquiring = A>>(
         self,
         at: Moment,
-        outside: &mut W,
-        home: &mut H,
+        pool: &mut X,
     )
-        ensures { GivesBack H.Home W.Opener at self home.old outside.old home.new outside.new }
+        ensures { GivesBack X.Home X.Opener at self pool.old pool.new }
     {
         match self {
-            Turning::Going(_reaper, tasks) => tasks.give_back(at, outside, home),
+            Turning::Going(_reaper, tasks) => tasks.give_back(at, pool),
             Turning::Ended => {}
         }
     }

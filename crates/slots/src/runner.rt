@@ -1,14 +1,8 @@
 //! A runner of jobs over a pool of slots.
-ghost use Rattle.std.specs.Prelude.{◌≡◌, ◌≤◌, ◌<◌, ◌+◌, ◌^◌, ◌-◌, [], None, IfOk, OnOk, IfErr, OnErr, OnSome};
-ghost use Rattle.futures.specs.declared.task.Poll.{Poll as PollOf};
-ghost use Rattle.bb8_gets.specs.declared.state.Stage.TheVariants.{Fresh as IsFresh};
-ghost use Rattle.bb8_turns.specs.declared.turning.Turn.{Turn as TurnOf};
-ghost use Rattle.bb8.specs.Drivers.{IsDriverOf, TurnsDriver};
-ghost use Rattle.bb8.specs.Gets.{PollsGet};
+ghost use Rattle.std.specs.Prelude.{◌≡◌, ◌≤◌, ◌+◌, [], None, IfOk, OnOk, IfErr, OnErr, OnSome};
 ghost use Rattle.bb8.specs.GuardLists.{most_in, number_in};
-ghost use Rattle.bb8.specs.Pools.{settings_in, stage_of, IsOf};
-ghost use Rattle.slots.specs.Entries.{ids, left_after, outcome_of, phase_of, place_of, running, Adds, AreIds, AreIds-prop};
-ghost use Rattle.slots.specs.Turns.{StepsEach};
+ghost use Rattle.bb8.specs.Pools.{settings_in};
+ghost use Rattle.slots.specs.Entries.{ids, left_after, outcome_of, phase_of, place_of, running, AreIds, AreIds-prop};
 
 use crate::entries::{Entry, Place, phase_at, take_ended};
 use crate::job::{Job, Outcome, Phase};
@@ -90,12 +84,15 @@ impl<
     R: Wait + AllocGlobal + Send + Sync + Drop + 'static,
     L: Parts,
 > Runner<'a, J, S, Z, K, R, L> {
+    ghost use Rattle.bb8.specs.Drivers.{IsDriverOf};
+    ghost use Rattle.slots.specs.Runners.{driver_of, jobs_in, next_id, pool_of};
+
     /// A runner of the pool that has no job yet, with a driver of the pool. It fails only where `Driver::new` does. Our own.
     pub fn new(alloc: Global, pool: &'a Pool<SlotManager, S, Z, K, R, L>) -> Result<Self, Memory>
-        ensures pool { IfOk result (λ runner. runner.pool.now ≡ pool.now) }
-        ensures driver { IfOk result (λ runner. IsDriverOf runner.driver pool.now) }
-        ensures empty { IfOk result (λ runner. runner.entries.items ≡ []) }
-        ensures next { IfOk result (λ runner. runner.next ≡ 0) }
+        ensures pool { IfOk result (λ runner. pool_of runner ≡ pool.now) }
+        ensures driver { IfOk result (λ runner. IsDriverOf (driver_of runner) pool.now) }
+        ensures empty { IfOk result (λ runner. jobs_in runner ≡ []) }
+        ensures next { IfOk result (λ runner. next_id runner ≡ 0) }
     {
         let driver = Driver::new(pool)?;
         Ok(Runner {
@@ -117,20 +114,21 @@ impl<
     R: Wait + Send + Sync + Drop + 'static,
     L: Parts,
 > RunnerCalls for Runner<'a, J, S, Z, K, R, L> {
+    ghost use Rattle.futures.specs.Task.{Keeps};
+    ghost use Rattle.slots.specs.Runners.{jobs_in, most_running, next_id, pool_of, running_in, StepsJobs, TakesOn, TurnsIts};
+
     type Job = J;
 
     type Outcome = Outcome<J::Out>;
 
     fn submit(&mut self, job: J) -> Result<u64, J>
-        ensures id { IfOk result (λ id. id ≡ self.old.next) }
-        ensures next { OnOk result (self.new.next ≡ self.old.next + 1) }
-        ensures added { OnOk result (Adds
-            (λ get. (stage_of get ≡ IsFresh) × IsOf get self.old.pool.now) self.old.next job
-            self.old.entries.items self.new.entries.items) }
+        ensures id { IfOk result (λ id. id ≡ next_id self.old) }
+        ensures next { OnOk result (next_id self.new ≡ next_id self.old + 1) }
+        ensures added { OnOk result (TakesOn self.old job self.new) }
         ensures back { IfErr result (λ back. back ≡ job) }
-        ensures same { OnErr result ((self.new.entries.items ≡ self.old.entries.items)
-            × (self.new.next ≡ self.old.next)) }
-        ensures pool { self.new.pool.now ≡ self.old.pool.now }
+        ensures same { OnErr result (jobs_in self.new ≡ jobs_in self.old) }
+        ensures unnumbered { OnErr result (next_id self.new ≡ next_id self.old) }
+        ensures pool { pool_of self.new ≡ pool_of self.old }
     {
         if self.next == u64::MAX || self.entries.reserve(1).is_err() {
             return Err(job);
@@ -146,36 +144,35 @@ impl<
     }
 
     fn turn(&mut self, moment: Moment, cx: &mut Context<'_>) -> u64
-        ensures driver { (turn : TurnOf) × TurnsDriver Z.CustomizeConnection S.sinks K.tells moment
-            self.old.driver turn self.new.driver }
-        ensures steps { StepsEach J.polls (PollsGet S.sinks K.tells) moment
-            self.old.entries.items self.new.entries.items result }
-        ensures next { self.new.next ≡ self.old.next }
-        ensures pool { self.new.pool.now ≡ self.old.pool.now }
+        ensures driver { TurnsIts Z.CustomizeConnection S.sinks K.tells moment self.old self.new }
+        ensures steps { StepsJobs J.polls S.sinks K.tells moment self.old self.new result }
+        ensures next { next_id self.new ≡ next_id self.old }
+        ensures pool { pool_of self.new ≡ pool_of self.old }
+        ensures kept { Keeps cx.old cx.new }
     {
         let _ = DriverCalls::turn(&mut self.driver, moment);
         self.guards.step_each(&mut self.entries, moment, cx)
     }
 
     fn phase(&self, id: u64) -> Option<Phase>
-        ensures { result ≡ phase_of (place_of id self.now.entries.items) }
+        ensures { result ≡ phase_of (place_of id (jobs_in self.now)) }
     {
         phase_at(&self.entries, id)
     }
 
     fn running(&self) -> u64
-        ensures number { result ≡ running self.now.entries.items }
-        ensures within { result ≤ (settings_in self.now.pool.now).max_size }
+        ensures number { result ≡ running_in self.now }
+        ensures within { result ≤ most_running self.now }
     {
         GuardsCalls::len(&self.guards) as u64
     }
 
     fn take(&mut self, id: u64) -> Option<Outcome<J::Out>>
-        ensures outcome { result ≡ outcome_of (place_of id self.old.entries.items) }
-        ensures left { self.new.entries.items ≡ left_after result id self.old.entries.items }
-        ensures gone { OnSome result (place_of id self.new.entries.items ≡ None) }
-        ensures next { self.new.next ≡ self.old.next }
-        ensures pool { self.new.pool.now ≡ self.old.pool.now }
+        ensures outcome { result ≡ outcome_of (place_of id (jobs_in self.old)) }
+        ensures left { jobs_in self.new ≡ left_after result id (jobs_in self.old) }
+        ensures gone { OnSome result (place_of id (jobs_in self.new) ≡ None) }
+        ensures next { next_id self.new ≡ next_id self.old }
+        ensures pool { pool_of self.new ≡ pool_of self.old }
     {
         take_ended(&mut self.entries, id)
     }

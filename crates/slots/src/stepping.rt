@@ -1,5 +1,6 @@
 //! One step of one job.
 ghost use Rattle.std.specs.Prelude.{◌≡◌, ◌+◌, ◌≤◌, ◌<◌};
+ghost use Rattle.futures.specs.Task.{Keeps};
 ghost use Rattle.bb8.specs.Gets.{PollsGet};
 ghost use Rattle.bb8.specs.GuardLists.{number_in, AreOfOne};
 ghost use Rattle.slots.specs.Entries.{guards_for};
@@ -91,6 +92,7 @@ impl<
         ensures held { number_in self.new ≡ number_in self.old + guards_for result.place }
         ensures pool { AreOfOne self.new self.old }
         ensures one { result.ended ≤ 1 }
+        ensures kept { Keeps cx.old cx.new }
     {
         let mut get = get;
         match get.poll(cx) {
@@ -128,6 +130,7 @@ impl<
             ≡ number_in self.old + guards_for result.place }
         ensures pool { AreOfOne self.new self.old }
         ensures one { result.ended ≤ 1 }
+        ensures kept { Keeps cx.old cx.new }
     {
         match place {
             Place::Waiting(job, get) => self.step_get(job, get, cx),

@@ -1,6 +1,7 @@
 //! One step of each job.
 ghost use Rattle.std.specs.Prelude.{◌≡◌, ◌≤◌, ◌<◌};
 ghost use Rattle.std.specs.VecDeque.{deque_len};
+ghost use Rattle.futures.specs.Task.{Keeps};
 ghost use Rattle.bb8.specs.Gets.{PollsGet};
 ghost use Rattle.bb8.specs.GuardLists.{most_in, number_in, AreOfOne};
 ghost use Rattle.slots.specs.Entries.{running};
@@ -48,6 +49,7 @@ impl<
         ensures length { deque_len queue.new ≡ deque_len queue.old }
         ensures pool { AreOfOne self.new self.old }
         ensures one { result ≤ 1 }
+        ensures kept { Keeps cx.old cx.new }
     {
         let Some(Entry { id, place }) = queue.pop_front() else {
             return 0;
@@ -69,6 +71,7 @@ impl<
             → running queue.new.items ≡ number_in self.new }
         ensures pool { AreOfOne self.new self.old }
         ensures within { number_in self.new ≤ most_in self.new }
+        ensures kept { Keeps cx.old cx.new }
     {
         let count = queue.len();
         let mut ended: u64 = 0;

@@ -91,7 +91,11 @@ macro_rules! pool {
 
             /// Nanoseconds of the clock for each get and its drop, on four threads.
             pub fn four(size: u32, count: u64) -> f64 {
-                let runtime = Builder::new_multi_thread().worker_threads(4).enable_time().build().unwrap();
+                let runtime = Builder::new_multi_thread()
+                    .worker_threads(4)
+                    .enable_time()
+                    .build()
+                    .unwrap();
                 runtime.block_on(async {
                     let pool = pool(size, false, false).await;
                     let start = Instant::now();
@@ -111,7 +115,9 @@ macro_rules! pool {
             /// Nanoseconds for each of so many gets that wait for three connections.
             pub fn crowd(count: u64) -> f64 {
                 one_thread().block_on(async {
-                    let builder = Pool::builder().max_size(3).connection_timeout(Duration::from_secs(60));
+                    let builder = Pool::builder()
+                        .max_size(3)
+                        .connection_timeout(Duration::from_secs(60));
                     let pool = builder.build(Numbers).await.unwrap();
                     let start = Instant::now();
                     let tasks: Vec<_> = (0..count)
@@ -134,8 +140,15 @@ pool!(bb8);
 pool!(original);
 
 fn r2d2_pool(size: u32) -> r2d2::Pool<Numbers> {
-    let builder = r2d2::Pool::builder().max_size(size).min_idle(Some(size)).test_on_check_out(false);
-    builder.max_lifetime(None).idle_timeout(None).build(Numbers).unwrap()
+    let builder = r2d2::Pool::builder()
+        .max_size(size)
+        .min_idle(Some(size))
+        .test_on_check_out(false);
+    builder
+        .max_lifetime(None)
+        .idle_timeout(None)
+        .build(Numbers)
+        .unwrap()
 }
 
 fn r2d2_rounds(pool: &r2d2::Pool<Numbers>, count: u64) {
@@ -165,7 +178,12 @@ fn r2d2_four(size: u32, count: u64) -> f64 {
 fn line(name: &str, repetitions: usize, mut run: impl FnMut() -> f64) {
     let mut all: Vec<f64> = (0..repetitions).map(|_| run()).collect();
     all.sort_by(f64::total_cmp);
-    println!("{name:<60} median {:>8.0} ns   least {:>8.0}   greatest {:>8.0}", all[repetitions / 2], all[0], all[repetitions - 1]);
+    println!(
+        "{name:<60} median {:>8.0} ns   least {:>8.0}   greatest {:>8.0}",
+        all[repetitions / 2],
+        all[0],
+        all[repetitions - 1]
+    );
 }
 
 fn main() {
@@ -187,16 +205,32 @@ fn main() {
         return;
     }
     let n = 200_000;
-    for (name, check, limits) in [("check off, no limits", false, false), ("check on, no limits", true, false), ("check off, default limits", false, true)] {
-        line(&format!("ours, one thread, {name}"), 9, || bb8::one(n, check, limits));
-        line(&format!("original, one thread, {name}"), 9, || original::one(n, check, limits));
+    for (name, check, limits) in [
+        ("check off, no limits", false, false),
+        ("check on, no limits", true, false),
+        ("check off, default limits", false, true),
+    ] {
+        line(&format!("ours, one thread, {name}"), 9, || {
+            bb8::one(n, check, limits)
+        });
+        line(&format!("original, one thread, {name}"), 9, || {
+            original::one(n, check, limits)
+        });
     }
     line("r2d2, one thread", 9, || r2d2_one(n));
     for size in [4, 16] {
-        line(&format!("ours, 4 threads, pool of {size}"), 7, || bb8::four(size, 30_000));
-        line(&format!("original, 4 threads, pool of {size}"), 7, || original::four(size, 30_000));
-        line(&format!("r2d2, 4 threads, pool of {size}"), 7, || r2d2_four(size, 30_000));
+        line(&format!("ours, 4 threads, pool of {size}"), 7, || {
+            bb8::four(size, 30_000)
+        });
+        line(&format!("original, 4 threads, pool of {size}"), 7, || {
+            original::four(size, 30_000)
+        });
+        line(&format!("r2d2, 4 threads, pool of {size}"), 7, || {
+            r2d2_four(size, 30_000)
+        });
     }
     line("ours, 25,000 waiters on 3, each", 5, || bb8::crowd(25_000));
-    line("original, 25,000 waiters on 3, each", 5, || original::crowd(25_000));
+    line("original, 25,000 waiters on 3, each", 5, || {
+        original::crowd(25_000)
+    });
 }

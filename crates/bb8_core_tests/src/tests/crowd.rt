@@ -129,9 +129,9 @@ fn serve_from(rt: &impl Abort, pool: &mut PoolInternals<u32>, first: GetKey) -> 
     CROWD
 }
 
-/// Asserts how many entries the step that was made lent.
+/// Asserts how many entries the step that was made lent, and that it searched for none, as each key told where its number stands.
 fn assert_lent(rt: &impl Abort, pool: &PoolInternals<u32>, wanted: u64) {
-    assert_equal(&rt, pool.examined(), wanted);
+    assert_equal(&rt, (pool.examined(), pool.searched()), (wanted, 0));
 }
 
 #[test]

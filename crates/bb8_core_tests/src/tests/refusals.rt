@@ -1,14 +1,11 @@
 //! Runs in which any one request for memory is refused, or all from any on, as `refusals/run` makes them. These tests hold with refusals and
 //! without; the others need all of their memory.
 
-use super::steps::{Link, NOW};
+use super::steps::NOW;
 use super::{assert_equal, unchecked};
-use bb8_asked::{add, begin, failed, give_up, join, leave, opened, put_back, try_get};
-use bb8_core::internals::{
-    AddAnswer, BeginAnswer, ClaimAnswer, FailedAnswer, GetKey, GiveUpAnswer, Grant, JoinAnswer,
-    LeaveAnswer, OpenedAnswer, PoolInternals, PutBackAnswer, ReapAnswer, Reason, TryAnswer,
-};
-use bb8_core::replay::{Act, Answer, Event, fits, replay};
+use bb8_core::internals::{Grant, PoolInternals, Reason};
+use bb8_core::replay::{Act, Answer, Event, Known, apply, replay};
+use std::alloc::Global;
 use std::process::Abort;
 
 /// How many connections the pool may have, and how many idle ones it tries for.
@@ -264,162 +261,50 @@ impl Watch {
             _ => false,
         }
     }
+}
 
-    /// Asserts that the pool tells of each connection that came in, and of no other.
-    fn assert_whole(&self, rt: &impl Abort, pool: &mut PoolInternals<Link>) {
-        let state = pool.state(NOW);
-        assert_equal(&rt, state.connections as u64, self.connections());
-        assert_equal(
-            &rt,
-            state.idle_connections as u64,
-            self.count(&[Stands::Idle]),
-        );
+/// A pool, and what is known of it.
+#[derive(Drop)]
+struct Watched<'a, R> {
+    rt: &'a R,
+    pool: PoolInternals<u64>,
+    known: Known,
+    watch: Watch,
+}
+
+impl<R: Abort> Watched<'_, R> {
+    /// Asserts that an event is answered as the rules allow, and that the pool tells of each connection that came in, and of no other.
+    fn make(&mut self, act: Act) {
+        let answer = apply(&mut self.pool, &mut self.known, Event { at: NOW, act });
+        assert!(self.rt; self.watch.allows(act, answer), "{answer:?} to {act:?}");
+        let (state, watch) = (self.pool.state(NOW), &self.watch);
+        let all = watch.connections();
+        assert_equal(self.rt, state.connections as u64, all);
+        let idle = watch.count(&[Stands::Idle]);
+        assert_equal(self.rt, state.idle_connections as u64, idle);
         let created = state.statistics.connections_created;
-        assert_equal(&rt, created.saturating_add(self.added), self.connections());
-        assert_equal(&rt, state.statistics.get_started, self.next_get);
-        assert_equal(&rt, state.statistics.pending_gets(), self.alive());
+        assert_equal(self.rt, created.saturating_add(watch.added), all);
+        assert_equal(self.rt, state.statistics.get_started, watch.next_get);
+        assert_equal(self.rt, state.statistics.pending_gets(), watch.alive());
     }
-}
 
-/// The connection that an approval brings.
-fn link_of(number: u64) -> Link {
-    match number {
-        0 => Link::Red,
-        1 => Link::Green,
-        2 => Link::Blue,
-        3 => Link::White,
-        _ => Link::Black,
-    }
-}
-
-/// The number of the get that was notified.
-fn number_of(notified: Option<GetKey>) -> Option<u64> {
-    notified.map(|get| get.number)
-}
-
-/// What an adding is answered, of which the next number is known. A refused connection has to be the one that was handed in.
-fn added(rt: &impl Abort, pool: &mut PoolInternals<Link>, number: u64, broken: bool) -> Answer {
-    match add(pool, NOW, link_of(number), broken).expect(rt, "the step fits") {
-        AddAnswer::Added(key, notified) => Answer::Added(key.number, number_of(notified)),
-        AddAnswer::Broken(conn) => {
-            assert_equal(&rt, conn, link_of(number));
-            Answer::Broken
+    /// Takes every idle connection, also where one begin is refused, but not where several are; the other gets wait. Then every connection
+    /// comes back, and every get is let go.
+    fn settle(&mut self) {
+        for _ in 0..8 {
+            self.make(Act::Begin);
+            self.make(Act::Try(self.watch.next_get.saturating_sub(1)));
         }
-        AddAnswer::NoCapacity(conn) => {
-            assert_equal(&rt, conn, link_of(number));
-            Answer::NoCapacity
+        assert!(self.rt; self.watch.count(&[Stands::Idle]) == 0 || self.watch.refused > 1);
+        for number in 0..8 {
+            self.make(Act::PutBack(number, false));
         }
-        AddAnswer::Withheld(conn) => {
-            assert_equal(&rt, conn, link_of(number));
-            Answer::Withheld
+        assert_equal(self.rt, self.watch.count(&[Stands::Out]), 0);
+        for get in 0..16 {
+            self.make(Act::GiveUp(get, Reason::Cancelled, false));
         }
+        assert_equal(self.rt, self.watch.alive(), 0);
     }
-}
-
-/// What the bare state answers to a try. The connection that is served has to be the one that came in.
-fn tried(rt: &impl Abort, pool: &mut PoolInternals<Link>, get: u64) -> Answer {
-    let get = pool.find_get(get).expect(rt, "the get is alive");
-    match try_get(pool, NOW, get).expect(rt, "the step fits") {
-        TryAnswer::Served(key, conn, grant) => {
-            assert_equal(&rt, conn, link_of(key.number));
-            Answer::Served(key.number, grant)
-        }
-        TryAnswer::Taken(..) => panic!(rt; "the pool checks nothing"),
-        TryAnswer::Waiting(grant) => Answer::Waiting(grant),
-    }
-}
-
-/// What the bare state answers to a return.
-fn returned(rt: &impl Abort, pool: &mut PoolInternals<Link>, number: u64, broken: bool) -> Answer {
-    let key = pool.find(number).expect(rt, "the connection is out");
-    match put_back(pool, NOW, key, link_of(number), broken).expect(rt, "the step fits") {
-        PutBackAnswer::Kept(notified) => Answer::Kept(number, number_of(notified)),
-        PutBackAnswer::Closed(_, grant, notified) => {
-            Answer::Closed(number, grant, number_of(notified))
-        }
-    }
-}
-
-/// What the bare state answers to an opening.
-fn entered(rt: &impl Abort, pool: &mut PoolInternals<Link>, number: u64) -> Answer {
-    let key = pool.find(number).expect(rt, "the approval stands");
-    match opened(pool, NOW, key, link_of(number)).expect(rt, "the step fits") {
-        OpenedAnswer::Entered(notified) => Answer::Entered(number, number_of(notified)),
-        OpenedAnswer::Late(_) => Answer::Late(number),
-    }
-}
-
-/// What the bare state answers to a reap.
-fn reaped(pool: &mut PoolInternals<Link>) -> Answer {
-    match pool.reap(NOW) {
-        ReapAnswer::Reaped {
-            closed,
-            by_idle,
-            by_life,
-            grant,
-        } => Answer::Reaped {
-            closed,
-            by_idle,
-            by_life,
-            grant,
-        },
-        ReapAnswer::Ended => Answer::Ended,
-    }
-}
-
-/// What the bare state answers.
-fn answer(rt: &impl Abort, pool: &mut PoolInternals<Link>, next: u64, act: Act) -> Answer {
-    if !fits(pool, Event { at: NOW, act }) {
-        return Answer::Unfit;
-    }
-    match act {
-        Act::Begin => match begin(pool, NOW).expect(rt, "the step fits") {
-            BeginAnswer::Begun(get) => Answer::Begun(get.number),
-            BeginAnswer::Memory => Answer::Memory,
-            BeginAnswer::Exhausted => Answer::Exhausted,
-        },
-        Act::Try(get) => tried(rt, pool, get),
-        Act::CheckedOk(_) | Act::CheckedErr(..) => panic!(rt; "the pool checks nothing"),
-        Act::GiveUp(get, reason, _) => {
-            let get = pool.find_get(get).expect(rt, "the get is alive");
-            match give_up(pool, NOW, get, reason, None, false, 0).expect(rt, "the step fits") {
-                GiveUpAnswer::GaveUp(notified) => Answer::GaveUp(number_of(notified)),
-                _ => panic!(rt; "{get:?} held nothing"),
-            }
-        }
-        Act::PutBack(number, broken) => returned(rt, pool, number, broken),
-        Act::Fill(claimed) => Answer::Granted(pool.fill(NOW, claimed)),
-        Act::Claim => match pool.claim(NOW) {
-            ClaimAnswer::Claimed(key) => Answer::Claimed(key.map(|key| key.number)),
-            ClaimAnswer::Ended => Answer::Ended,
-        },
-        Act::Opened(number) => entered(rt, pool, number),
-        Act::Add(broken) => added(rt, pool, next, broken),
-        Act::Reap => reaped(pool),
-        Act::State => Answer::Shown(pool.state(NOW)),
-        Act::Failed(number) => {
-            let key = pool.find(number).expect(rt, "the approval stands");
-            match failed(pool, NOW, key).expect(rt, "the step fits") {
-                FailedAnswer::GivenBack => Answer::GivenBack,
-            }
-        }
-        Act::Join => match join(pool, NOW).expect(rt, "the step fits") {
-            JoinAnswer::Joined => Answer::Joined,
-            JoinAnswer::Exhausted => Answer::Exhausted,
-        },
-        Act::Leave => {
-            let LeaveAnswer::Left(closed) = leave(pool, NOW).expect(rt, "the step fits");
-            Answer::Left(closed)
-        }
-        Act::Look => Answer::Looked(NOW, pool.look(NOW).alive),
-    }
-}
-
-/// Asserts that the bare state answers as the rules allow, and that it has lost no connection.
-fn assert_allowed(rt: &impl Abort, watch: &mut Watch, pool: &mut PoolInternals<Link>, act: Act) {
-    let answer = answer(rt, pool, watch.next, act);
-    assert!(rt; watch.allows(act, answer), "{answer:?} to {act:?}");
-    watch.assert_whole(rt, pool);
 }
 
 /// The first worked script: three gets are served beside two idle connections, and come back.
@@ -448,49 +333,32 @@ fn first_script() -> [Act; 20] {
     ]
 }
 
-/// Runs the first worked script.
-fn run_script(rt: &impl Abort, watch: &mut Watch, pool: &mut PoolInternals<Link>) {
-    for act in first_script() {
-        assert_allowed(rt, watch, pool, act);
+/// A pool in which these events happen, and then each get ends.
+fn settles<R: Abort>(rt: &R, alloc: Global, events: &[Act]) {
+    let config = unchecked(5, Some(2));
+    assert!(rt; config.is_lawful());
+    let mut watched = Watched {
+        rt,
+        pool: PoolInternals::new(alloc, config),
+        known: Known::new(alloc, 0, 0),
+        watch: Watch::new(),
+    };
+    for act in events {
+        watched.make(*act);
     }
-}
-
-/// Lets every get go that is alive.
-fn let_all_go(rt: &impl Abort, watch: &mut Watch, pool: &mut PoolInternals<Link>) {
-    for get in 0..16 {
-        assert_allowed(rt, watch, pool, Act::GiveUp(get, Reason::Cancelled, false));
-    }
-    assert_equal(&rt, watch.alive(), 0);
-}
-
-/// Takes every idle connection, also where one begin is refused, but not where several are; the other gets wait.
-fn take_all(rt: &impl Abort, watch: &mut Watch, pool: &mut PoolInternals<Link>) {
-    for _ in 0..8 {
-        assert_allowed(rt, watch, pool, Act::Begin);
-        let newest = watch.next_get.saturating_sub(1);
-        assert_allowed(rt, watch, pool, Act::Try(newest));
-    }
-    assert!(rt; watch.count(&[Stands::Idle]) == 0 || watch.refused > 1);
-}
-
-/// Gives every connection back that is out.
-fn put_all_back(rt: &impl Abort, watch: &mut Watch, pool: &mut PoolInternals<Link>) {
-    for number in 0..8 {
-        assert_allowed(rt, watch, pool, Act::PutBack(number, false));
-    }
-    assert_equal(&rt, watch.count(&[Stands::Out]), 0);
+    watched.settle();
 }
 
 #[test]
 fn refused_memory_loses_no_connection(rt: HostRuntime) {
-    let config = unchecked(5, Some(2));
-    assert!(rt; config.is_lawful());
-    let mut pool = PoolInternals::new(rt.alloc(), config);
-    let mut watch = Watch::new();
-    run_script(&rt, &mut watch, &mut pool);
-    take_all(&rt, &mut watch, &mut pool);
-    put_all_back(&rt, &mut watch, &mut pool);
-    let_all_go(&rt, &mut watch, &mut pool);
+    settles(&rt, rt.alloc(), &first_script());
+}
+
+#[test]
+fn refused_memory_loses_no_added_connection(rt: HostRuntime) {
+    let add = Act::Add(false);
+    let events = [add, add, add, add, add, add, add, Act::Add(true)];
+    settles(&rt, rt.alloc(), &events);
 }
 
 #[test]
@@ -509,19 +377,4 @@ fn refused_memory_in_a_replay(rt: HostRuntime) {
     let state = pool.state(NOW);
     assert_equal(&rt, state.connections as u64, watch.connections());
     assert_equal(&rt, state.statistics.pending_gets(), watch.alive());
-}
-
-#[test]
-fn refused_memory_loses_no_added_connection(rt: HostRuntime) {
-    let config = unchecked(5, Some(2));
-    assert!(rt; config.is_lawful());
-    let mut pool = PoolInternals::new(rt.alloc(), config);
-    let mut watch = Watch::new();
-    for _ in 0..SIZE + 2 {
-        assert_allowed(&rt, &mut watch, &mut pool, Act::Add(false));
-    }
-    assert_allowed(&rt, &mut watch, &mut pool, Act::Add(true));
-    take_all(&rt, &mut watch, &mut pool);
-    put_all_back(&rt, &mut watch, &mut pool);
-    let_all_go(&rt, &mut watch, &mut pool);
 }

@@ -302,6 +302,8 @@ fn stale_keys_name_the_right_get(rt: HostRuntime) {
         place: taken_over,
     };
     let (key, conn, _) = served_by(&rt, &mut pool, stale);
+    // It is searched for as it is looked at, and as it ends.
+    assert_equal(&rt, pool.searched(), 2);
     assert_equal(&rt, (key.number, conn), (0, Link::Red));
     assert!(rt; pool.find_get(0).is_none());
     assert_equal(&rt, pool.find_get(1).map(|get| get.number), Some(1));

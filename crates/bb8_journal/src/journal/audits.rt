@@ -74,7 +74,8 @@ fn has_noted(notes: &Notes, index: u64, entry: Entry) -> bool
 
 /// Whether this was noted by its seat.
 fn is_noted(notes: &[Notes], index: u64, entry: Entry) -> bool
-    ensures { Decides result (Contains (lines_noted notes.now) (index, (entry.seat, entry.answer))) }
+    ensures { Decides result (Contains (lines_noted notes.now)
+        (index, (entry.seat, entry.answer))) }
 {
     for note in notes {
         if has_noted(note, index, entry) {

@@ -9,8 +9,8 @@ use bb8::{Config, Moment, PoolParts};
 use bb8_core::internals::{
     AddAnswer, BeginAnswer, ClaimAnswer, LeaveAnswer, OpenedAnswer, PutBackAnswer,
 };
-use bb8_gets::{GetHome, Tried, Unfit};
-use bb8_locked::{Joining, Locked, NewPool, begin_pool};
+use bb8_gets::{GetHome, Returned, Tried, Unfit};
+use bb8_locked::{Joining, Locked, NewPool, SectionHome, begin_pool};
 use std::marker::Brand;
 use std::process::Abort;
 use std::sync::ledger::Blank;
@@ -94,7 +94,11 @@ fn comes_back_late<L: PoolParts>(rt: &impl Abort, new: NewPool<u64, L>) {
     assert!(rt; matches!(locked.leave(Moment(0), handle), Ok(LeaveAnswer::Left(0))));
     assert!(rt; matches!(locked.leave(Moment(0), clone), Ok(LeaveAnswer::Left(0))));
     assert_equal(rt, sizes(&mut locked), (1, 0));
-    let answer = locked.put_back(Moment(0), taken, false);
+    let returned = Returned {
+        taken,
+        broken: false,
+    };
+    let answer = locked.put_back(Moment(0), returned);
     assert!(rt; matches!(answer, Ok(PutBackAnswer::Closed(7, _, None))));
     assert_equal(rt, sizes(&mut locked), (0, 0));
     let statistics = locked.state(Moment(0)).statistics;

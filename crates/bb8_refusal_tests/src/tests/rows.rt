@@ -1,12 +1,9 @@
 //! Worked rows in which memory is refused, once or for good: the answers before, at and after the refusal.
 
 use super::{assert_equal, is_refused, is_refused_afterwards};
-use bb8_asked::{add, begin, opened, put_back, try_get};
 use bb8_core::api::{Config, Moment};
-use bb8_core::internals::{
-    AddAnswer, BeginAnswer, ClaimAnswer, GetKey, Grant, Key, OpenedAnswer, PoolInternals,
-    PutBackAnswer, TryAnswer,
-};
+use bb8_core::internals::{Grant, PoolInternals};
+use bb8_core::replay::{Act, Answer, Event, Known, apply};
 use std::alloc::Global;
 use std::process::Abort;
 
@@ -30,11 +27,11 @@ fn withheld(first: u64, count: u32) -> Grant {
     }
 }
 
-/// A bare state that checks nothing, how many requests for memory it was refused, and whether memory stays refused. Its connections are
-/// numbered as they are handed in.
+/// A bare state that checks nothing, how many requests for memory it was refused, and whether memory stays refused.
 #[derive(Drop)]
 struct Row {
     pool: PoolInternals<u64>,
+    known: Known,
     alloc: Global,
     refused: u32,
     is_for_good: bool,
@@ -51,6 +48,7 @@ impl Row {
         assert!(rt; config.is_lawful());
         Row {
             pool: PoolInternals::new(alloc, config),
+            known: Known::new(alloc, 0, 0),
             alloc,
             refused: 0,
             is_for_good: false,
@@ -78,105 +76,34 @@ impl Row {
         );
     }
 
-    /// A connection is added; where it is withheld nothing changes, and it is added at the next ask, unless memory stays refused. Whether it
-    /// was added.
-    fn adds(&mut self, rt: &impl Abort, number: u64) -> bool {
+    /// What an event is answered.
+    fn answer(&mut self, act: Act) -> Answer {
+        apply(&mut self.pool, &mut self.known, Event { at: NOW, act })
+    }
+
+    /// An event is answered so, and needs no memory.
+    fn makes(&mut self, rt: &impl Abort, act: Act, answer: Answer) {
+        assert_equal(rt, self.answer(act), answer);
+    }
+
+    /// An event is answered so; where it is refused memory nothing changes, and it is answered so at the next ask, unless memory stays
+    /// refused. Whether it came to be.
+    fn tries(&mut self, rt: &impl Abort, act: Act, answer: Answer, refusal: Answer) -> bool {
         let before = self.pool.state(NOW);
-        let mut conn = number;
-        for _ in 0..2 {
-            match add(&mut self.pool, NOW, conn, false) {
-                Some(AddAnswer::Added(key, None)) => {
-                    assert_equal(&rt, key.number, number);
-                    return true;
-                }
-                Some(AddAnswer::Withheld(back)) => {
-                    assert_equal(&rt, (back, self.pool.state(NOW)), (number, before));
-                    if self.stays_refused(rt) {
-                        return false;
-                    }
-                    conn = back;
-                }
-                _ => panic!(rt;
-                    "{number} was neither added nor withheld, or somebody was notified"
-                ),
-            }
-        }
-        panic!(rt; "{number} was withheld twice");
-    }
-
-    /// A connection is added for which no memory is needed.
-    fn adds_below(&mut self, rt: &impl Abort, number: u64) {
-        let Some(AddAnswer::Added(key, None)) = add(&mut self.pool, NOW, number, false) else {
-            panic!(rt; "{number} was refused, or somebody was notified");
-        };
-        assert_equal(&rt, key.number, number);
-    }
-
-    /// A get begins; where memory is refused, it does at the next ask, unless memory stays refused.
-    fn begins(&mut self, rt: &impl Abort, number: u64) -> Option<GetKey> {
-        for _ in 0..2 {
-            match begin(&mut self.pool, NOW) {
-                Some(BeginAnswer::Begun(get)) => {
-                    assert_equal(&rt, get.number, number);
-                    return Some(get);
-                }
-                Some(BeginAnswer::Memory) => {
-                    if self.stays_refused(rt) {
-                        return None;
-                    }
-                }
-                _ => panic!(rt; "no handle is alive, or no number is left"),
-            }
-        }
-        panic!(rt; "get {number} was refused twice");
-    }
-
-    /// A get begins for which no memory is needed.
-    fn begins_below(&mut self, rt: &impl Abort, number: u64) -> GetKey {
-        let Some(BeginAnswer::Begun(get)) = begin(&mut self.pool, NOW) else {
-            panic!(rt; "get {number} was refused");
-        };
-        assert_equal(&rt, get.number, number);
-        get
-    }
-
-    /// A get is served with this connection, and this is granted.
-    fn is_served(&mut self, rt: &impl Abort, get: GetKey, number: u64) -> (Key, Grant) {
-        let Some(TryAnswer::Served(key, conn, grant)) = try_get(&mut self.pool, NOW, get) else {
-            panic!(rt; "{get:?} was not served");
-        };
-        assert_equal(&rt, (key.number, conn), (number, number));
-        (key, grant)
-    }
-
-    /// What is wanted is asked for; where it is withheld, it is granted at the next ask, unless memory stays refused. Whether it was
-    /// granted.
-    fn fills(&mut self, rt: &impl Abort, first: u64, count: u32) -> bool {
-        let grant = self.pool.fill(NOW, false);
-        if grant.count > 0 {
-            assert_equal(&rt, grant, granted(first, count));
+        let first = self.answer(act);
+        if first == answer {
             return true;
         }
-        assert_equal(&rt, grant, withheld(first, count));
+        assert_equal(rt, (first, self.pool.state(NOW)), (refusal, before));
         let stays = self.stays_refused(rt);
-        let due = if stays {
-            withheld(first, count)
-        } else {
-            granted(first, count)
-        };
-        assert_equal(&rt, self.pool.fill(NOW, false), due);
+        self.makes(rt, act, if stays { refusal } else { answer });
         !stays
     }
 
-    /// An approval is claimed and opened.
-    fn opens(&mut self, rt: &impl Abort, number: u64) {
-        let ClaimAnswer::Claimed(Some(key)) = self.pool.claim(NOW) else {
-            panic!(rt; "nothing was claimed");
-        };
-        assert_equal(&rt, key.number, number);
-        let Some(OpenedAnswer::Entered(None)) = opened(&mut self.pool, NOW, key, number) else {
-            panic!(rt; "no handle is alive, or somebody was notified");
-        };
+    /// A connection is added under this number; where it is refused memory it is withheld.
+    fn adds(&mut self, rt: &impl Abort, number: u64) -> bool {
+        let added = Answer::Added(number, None);
+        self.tries(rt, Act::Add(false), added, Answer::Withheld)
     }
 }
 
@@ -197,20 +124,18 @@ fn is_withheld_past_the_peak(rt: &impl Abort, row: &mut Row) -> Option<bool> {
     if !(row.adds(rt, 0) && row.adds(rt, 1)) {
         return None;
     }
-    let get = row.begins(rt, 0)?;
-    let (key, grant) = row.is_served(rt, get, 0);
-    assert_equal(&rt, grant, granted(2, 0));
-    let Some(PutBackAnswer::Closed(conn, grant, None)) = put_back(&mut row.pool, NOW, key, 0, true)
-    else {
-        panic!(rt; "a broken connection was kept, or somebody was notified");
-    };
-    assert_equal(&rt, (conn, grant), (0, granted(2, 0)));
+    if !row.tries(rt, Act::Begin, Answer::Begun(0), Answer::Memory) {
+        return None;
+    }
+    row.makes(rt, Act::Try(0), Answer::Served(0, granted(2, 0)));
+    let closed = Answer::Closed(0, granted(2, 0), None);
+    row.makes(rt, Act::PutBack(0, true), closed);
     let before = row.refused;
-    row.adds_below(rt, 2);
-    let connections = if row.adds(rt, 3) { 3 } else { 2 };
+    row.makes(rt, Act::Add(false), Answer::Added(2, None));
+    let (connections, next) = if row.adds(rt, 3) { (3, 4) } else { (2, 3) };
     row.assert_sizes(rt, connections, connections);
-    let get = row.begins_below(rt, 1);
-    let _ = row.is_served(rt, get, 1);
+    row.makes(rt, Act::Begin, Answer::Begun(1));
+    row.makes(rt, Act::Try(1), Answer::Served(1, granted(next, 0)));
     row.assert_sizes(rt, connections, connections - 1);
     Some(row.refused > before)
 }
@@ -218,33 +143,38 @@ fn is_withheld_past_the_peak(rt: &impl Abort, row: &mut Row) -> Option<bool> {
 /// Two are opened, and a get is served, which asks for a third place; what is not granted there is asked for by the next get. Whether memory
 /// was refused for the third place.
 fn is_third_place_withheld(rt: &impl Abort, row: &mut Row) -> Option<bool> {
-    if !row.fills(rt, 0, 2) {
+    let (two, none) = (granted(0, 2), withheld(0, 2));
+    if !row.tries(
+        rt,
+        Act::Fill(false),
+        Answer::Granted(two),
+        Answer::Granted(none),
+    ) {
         return None;
     }
-    row.opens(rt, 0);
-    row.opens(rt, 1);
-    let get = row.begins(rt, 0)?;
-    let (_, grant) = row.is_served(rt, get, 0);
-    let is_row = grant.withheld > 0;
-    let due = if is_row {
-        withheld(2, 1)
-    } else {
-        granted(2, 1)
-    };
-    assert_equal(&rt, grant, due);
-    let stays = is_row && row.stays_refused(rt);
-    let get = row.begins_below(rt, 1);
-    let (_, grant) = row.is_served(rt, get, 1);
-    if is_row {
-        let due = if stays { withheld(2, 2) } else { granted(2, 2) };
-        assert_equal(&rt, grant, due);
-    } else {
-        if grant.withheld > 0 {
-            row.stays_refused(rt);
-        }
-        let asked = grant.count.saturating_add(grant.withheld);
-        assert_equal(&rt, (grant.first, asked), (3, 1));
+    for number in 0..2 {
+        row.makes(rt, Act::Claim, Answer::Claimed(Some(number)));
+        row.makes(rt, Act::Opened(number), Answer::Entered(number, None));
     }
+    if !row.tries(rt, Act::Begin, Answer::Begun(0), Answer::Memory) {
+        return None;
+    }
+    let served = row.answer(Act::Try(0));
+    let is_row = served == Answer::Served(0, withheld(2, 1));
+    assert!(rt; is_row || served == Answer::Served(0, granted(2, 1)));
+    let stays = is_row && row.stays_refused(rt);
+    row.makes(rt, Act::Begin, Answer::Begun(1));
+    let served = row.answer(Act::Try(1));
+    let due = match (is_row, stays) {
+        (true, true) => withheld(2, 2),
+        (true, false) => granted(2, 2),
+        _ if served == Answer::Served(1, granted(3, 1)) => granted(3, 1),
+        _ => {
+            row.stays_refused(rt);
+            withheld(3, 1)
+        }
+    };
+    assert_equal(rt, served, Answer::Served(1, due));
     Some(is_row)
 }
 

@@ -10,6 +10,7 @@ ghost use Rattle.bb8_types.specs.Bounds.{end_of_numbers, most_records};
 ghost use Rattle.bb8_tables.specs.Dues.{Ends, EndsFirst, EndsIdle, Passes};
 ghost use Rattle.bb8_types.specs.declared.standing.Standing.{Standing};
 ghost use Rattle.bb8_tables.specs.Lined.{slot_at};
+ghost use Rattle.bb8_tables.specs.Lent.{Adds};
 ghost use Rattle.bb8_tables.specs.Reaps as reaps;
 ghost use Rattle.bb8_tables.specs.declared.table.Slot.{Slot};
 
@@ -84,7 +85,7 @@ fn pass_birth<C: Drop>(
     requires member { (j : ℕ) × (slice_get slots.now.births j ≡ Some place) }
     requires stands { (x : Slot (Standing C)) × (slot_at slots.now place ≡ Some x) }
     ensures value { Passes (settings_of config.now) now slots.now place result }
-    ensures examined { lendings.new ≤ lendings.old + 1 }
+    ensures examined { Adds 1 0 lendings.old lendings.new }
 {
     let next = slots.next_birth(place);
     let standing = &slots.at(place, lendings).standing;
@@ -106,7 +107,7 @@ impl<C: Drop> Records<C> {
             × EndsFirst (places.idles_out (settings_of config.now) now) self.old k self.new)
             (((k : ℕ) → places.idles_out (settings_of config.now) now (map.get self.old.places k) ≡ false)
             × (self.new ≡ self.old)) }
-        ensures examined { lendings.new ≤ lendings.old + 1 }
+        ensures examined { Adds 1 0 lendings.old lendings.new }
     {
         let Some(place) = self.slots.first() else {
             return false;
@@ -125,7 +126,7 @@ impl<C: Drop> Records<C> {
     fn reap_idle(&mut self, config: &Config, now: u64, lendings: &mut Lendings) -> u32
         ensures ends { (ks : List ℕ)
             × EndsIdle (settings_of config.now) now self.old ks self.new result }
-        ensures examined { lendings.new ≤ lendings.old + (result + 1) }
+        ensures examined { Adds (result + 1) 0 lendings.old lendings.new }
     {
         if config.idle_timeout.is_none() {
             return 0;
@@ -150,8 +151,8 @@ impl<C: Drop> Records<C> {
             × Ends (places.lives_out (settings_of config.now) now) self.old ks self.new result }
         ensures none_left { (k : ℕ)
             → places.lives_out (settings_of config.now) now (map.get self.new.places k) ≡ false }
-        ensures examined { lendings.new ≤ lendings.old
-            + (result + (self.old.conns - length self.old.idle) + 1) }
+        ensures examined { Adds (result + (self.old.conns - length self.old.idle) + 1) 0
+            lendings.old lendings.new }
     {
         let mut closed = 0;
         if config.max_lifetime.is_none() {
@@ -180,8 +181,8 @@ impl<C: Drop> Records<C> {
         ensures ends { (js : List ℕ) × (ks : List ℕ)
             × reaps.Reaps (settings_of config.now) now self.old js ks self.new result }
         ensures numbers { self.old.next ≤ end_of_numbers }
-        ensures examined { lendings.new ≤ lendings.old
-            + (result.closed + (self.old.conns - length self.old.idle) + 2) }
+        ensures examined { Adds (result.closed + (self.old.conns - length self.old.idle) + 2) 0
+            lendings.old lendings.new }
     {
         let _next = &self.next;
         let by_life = self.reap_aged(config, now, lendings);

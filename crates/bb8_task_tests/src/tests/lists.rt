@@ -2,6 +2,7 @@
 
 use super::assert_equal;
 use super::polls::{Counting, Still, sizes};
+use bb8_core::Joined;
 use bb8_core::api::{Config, ErrorSink, Moment, NopCustomizer};
 use bb8_core::internals::{ClaimAnswer, PoolInternals};
 use bb8_tasks::{PoolOpener, Round, Tasks};
@@ -64,10 +65,11 @@ fn pool_of_two(
 #[test]
 fn each_claimed_approval_has_its_turn(rt: HostRuntime) {
     let config = two_idle(false);
-    let mut pool = pool_of_two(&rt, rt.alloc(), config, false);
+    let home = pool_of_two(&rt, rt.alloc(), config, false);
     let manager = Counting::new(true);
     let sink = Sum::new();
-    let mut opener = PoolOpener::new(&manager, &sink, &NopCustomizer, &Still);
+    let outside = PoolOpener::new(&manager, &sink, &NopCustomizer, &Still);
+    let mut pool = Joined { outside, home };
     let mut tasks = Tasks::new(rt.alloc());
     for number in 0..2u64 {
         let Ok(ClaimAnswer::Claimed(Some(approval))) = tasks.claim(Moment(0), &mut pool) else {
@@ -78,40 +80,42 @@ fn each_claimed_approval_has_its_turn(rt: HostRuntime) {
     let last = tasks.claim(Moment(0), &mut pool);
     assert!(&rt; matches!(last, Ok(ClaimAnswer::Claimed(None))));
     assert_equal(&rt, tasks.len(), 2);
-    tasks.poll_each(Moment(0), &mut opener, &config, &mut pool);
+    tasks.poll_each(Moment(0), &mut pool, &config);
     assert!(&rt; tasks.is_empty());
     assert_equal(&rt, (manager.connects(), sink.get()), (2, 3));
-    assert!(&rt; pool.find(0).is_none() && pool.find(1).is_none());
-    tasks.give_back(Moment(0), &mut opener, &mut pool);
+    assert!(&rt; pool.home.find(0).is_none() && pool.home.find(1).is_none());
+    tasks.give_back(Moment(0), &mut pool);
 }
 
 #[test]
 fn round_stops_at_the_first_failure(rt: HostRuntime) -> Result<(), Fail> {
     let config = two_idle(false);
-    let mut pool = pool_of_two(&rt, rt.alloc(), config, true);
+    let home = pool_of_two(&rt, rt.alloc(), config, true);
     let manager = Counting::new(true);
     let sink = Sum::new();
-    let mut opener = PoolOpener::new(&manager, &sink, &NopCustomizer, &Still);
+    let outside = PoolOpener::new(&manager, &sink, &NopCustomizer, &Still);
+    let mut pool = Joined { outside, home };
     let tasks = Tasks::for_approvals(rt.alloc(), 0, 2)?;
-    match tasks.round(Moment(0), &mut opener, &config, &mut pool) {
+    match tasks.round(Moment(0), &mut pool, &config) {
         Round::Failed(error) => assert_equal(&rt, error, 1),
         Round::Complete => panic!(&rt; "no try failed"),
-        Round::Going(tasks) => tasks.give_back(Moment(0), &mut opener, &mut pool),
+        Round::Going(tasks) => tasks.give_back(Moment(0), &mut pool),
     }
     assert_equal(&rt, (manager.connects(), sink.get()), (1, 0));
-    assert!(&rt; pool.find(0).is_none() && pool.find(1).is_none());
+    assert!(&rt; pool.home.find(0).is_none() && pool.home.find(1).is_none());
     Ok(())
 }
 
 #[test]
 fn round_goes_on_while_tries_are_left(rt: HostRuntime) -> Result<(), Fail> {
     let config = two_idle(true);
-    let mut pool = pool_of_two(&rt, rt.alloc(), config, true);
+    let home = pool_of_two(&rt, rt.alloc(), config, true);
     let manager = Counting::new(true);
     let sink = Sum::new();
-    let mut opener = PoolOpener::new(&manager, &sink, &NopCustomizer, &Still);
+    let outside = PoolOpener::new(&manager, &sink, &NopCustomizer, &Still);
+    let mut pool = Joined { outside, home };
     let tasks = Tasks::for_approvals(rt.alloc(), 0, 2)?;
-    let tasks = match tasks.round(Moment(0), &mut opener, &config, &mut pool) {
+    let tasks = match tasks.round(Moment(0), &mut pool, &config) {
         Round::Going(tasks) => tasks,
         Round::Complete | Round::Failed(_) => panic!(&rt; "the round ended"),
     };
@@ -120,25 +124,26 @@ fn round_goes_on_while_tries_are_left(rt: HostRuntime) -> Result<(), Fail> {
         (tasks.len(), manager.connects(), sink.get()),
         (2, 2, 3),
     );
-    assert!(&rt; pool.find(0).is_some() && pool.find(1).is_some());
-    tasks.give_back(Moment(0), &mut opener, &mut pool);
-    assert!(&rt; pool.find(0).is_none() && pool.find(1).is_none());
+    assert!(&rt; pool.home.find(0).is_some() && pool.home.find(1).is_some());
+    tasks.give_back(Moment(0), &mut pool);
+    assert!(&rt; pool.home.find(0).is_none() && pool.home.find(1).is_none());
     Ok(())
 }
 
 #[test]
 fn round_is_complete_once_all_are_open(rt: HostRuntime) -> Result<(), Fail> {
     let config = two_idle(true);
-    let mut pool = pool_of_two(&rt, rt.alloc(), config, true);
+    let home = pool_of_two(&rt, rt.alloc(), config, true);
     let manager = Counting::new(false);
     let sink = Sum::new();
-    let mut opener = PoolOpener::new(&manager, &sink, &NopCustomizer, &Still);
+    let outside = PoolOpener::new(&manager, &sink, &NopCustomizer, &Still);
+    let mut pool = Joined { outside, home };
     let tasks = Tasks::for_approvals(rt.alloc(), 0, 2)?;
-    match tasks.round(Moment(0), &mut opener, &config, &mut pool) {
+    match tasks.round(Moment(0), &mut pool, &config) {
         Round::Complete => {}
         Round::Failed(_) => panic!(&rt; "a try failed"),
-        Round::Going(tasks) => tasks.give_back(Moment(0), &mut opener, &mut pool),
+        Round::Going(tasks) => tasks.give_back(Moment(0), &mut pool),
     }
-    assert_equal(&rt, sizes(&mut pool), (2, 2));
+    assert_equal(&rt, sizes(&mut pool.home), (2, 2));
     Ok(())
 }

@@ -2,6 +2,7 @@
 
 use super::assert_equal;
 use bb8_asked::leave;
+use bb8_core::Joined;
 use bb8_core::api::{
     Clock, Config, CustomizeConnection, ManageConnection, Moment, NopCustomizer, NopErrorSink,
 };
@@ -145,9 +146,10 @@ pub(super) fn sizes(pool: &mut PoolInternals<u64>) -> (u32, u32) {
 #[test]
 fn opening_that_always_fails(rt: HostRuntime) {
     let config = one_in_five_seconds();
-    let (mut pool, approval) = pool_of_one(&rt, rt.alloc(), config);
+    let (home, approval) = pool_of_one(&rt, rt.alloc(), config);
     let manager = Counting::new(true);
-    let mut opener = PoolOpener::new(&manager, &NopErrorSink, &NopCustomizer, &Still);
+    let outside = PoolOpener::new(&manager, &NopErrorSink, &NopCustomizer, &Still);
+    let mut pool = Joined { outside, home };
     let mut task = Replenish::new(approval);
     for (at, answer) in [
         (0, ReplenishAnswer::Retrying(1)),
@@ -161,99 +163,99 @@ fn opening_that_always_fails(rt: HostRuntime) {
         (5300 * MILLI, ReplenishAnswer::Failed(5)),
         (9000 * MILLI, ReplenishAnswer::GivenBack),
     ] {
-        assert_equal(
-            &rt,
-            task.poll(Moment(at), &mut opener, &config, &mut pool),
-            answer,
-        );
+        assert_equal(&rt, task.poll(Moment(at), &mut pool, &config), answer);
     }
     assert_equal(&rt, manager.connects(), 5);
     // The approval was given back, and a fill grants it again.
-    assert!(&rt; pool.find(approval.number).is_none());
-    assert_equal(&rt, pool.fill(Moment(0), false).count, 1);
-    task.give_back(Moment(0), &mut opener, &mut pool);
+    assert!(&rt; pool.home.find(approval.number).is_none());
+    assert_equal(&rt, pool.home.fill(Moment(0), false).count, 1);
+    task.give_back(Moment(0), &mut pool);
 }
 
 #[test]
 fn failed_preparation_is_a_failed_try(rt: HostRuntime) {
     let config = one_in_five_seconds();
-    let (mut pool, approval) = pool_of_one(&rt, rt.alloc(), config);
+    let (home, approval) = pool_of_one(&rt, rt.alloc(), config);
     let manager = Counting::new(false);
-    let mut opener = PoolOpener::new(&manager, &NopErrorSink, &Refusing, &Still);
+    let outside = PoolOpener::new(&manager, &NopErrorSink, &Refusing, &Still);
+    let mut pool = Joined { outside, home };
     let mut task = Replenish::new(approval);
-    let first = task.poll(Moment(0), &mut opener, &config, &mut pool);
+    let first = task.poll(Moment(0), &mut pool, &config);
     assert_equal(&rt, first, ReplenishAnswer::Retrying(1));
-    let second = task.poll(Moment(400 * MILLI), &mut opener, &config, &mut pool);
+    let second = task.poll(Moment(400 * MILLI), &mut pool, &config);
     assert_equal(&rt, second, ReplenishAnswer::Pending);
-    assert_equal(&rt, sizes(&mut pool), (0, 0));
-    let third = task.poll(Moment(0), &mut opener, &config, &mut pool);
+    assert_equal(&rt, sizes(&mut pool.home), (0, 0));
+    let third = task.poll(Moment(0), &mut pool, &config);
     assert_equal(&rt, third, ReplenishAnswer::Entered);
-    assert_equal(&rt, sizes(&mut pool), (1, 1));
-    let fourth = task.poll(Moment(0), &mut opener, &config, &mut pool);
+    assert_equal(&rt, sizes(&mut pool.home), (1, 1));
+    let fourth = task.poll(Moment(0), &mut pool, &config);
     assert_equal(&rt, fourth, ReplenishAnswer::GivenBack);
     assert_equal(&rt, manager.connects(), 2);
-    task.give_back(Moment(0), &mut opener, &mut pool);
-    assert_equal(&rt, sizes(&mut pool), (1, 1));
+    task.give_back(Moment(0), &mut pool);
+    assert_equal(&rt, sizes(&mut pool.home), (1, 1));
 }
 
 #[test]
 fn no_handle_gives_the_approval_back(rt: HostRuntime) {
     let config = one_in_five_seconds();
-    let (mut pool, approval) = pool_of_one(&rt, rt.alloc(), config);
+    let (home, approval) = pool_of_one(&rt, rt.alloc(), config);
     let manager = Counting::new(false);
-    let mut opener = PoolOpener::new(&manager, &NopErrorSink, &Refusing, &Still);
+    let outside = PoolOpener::new(&manager, &NopErrorSink, &Refusing, &Still);
+    let mut pool = Joined { outside, home };
     let mut task = Replenish::new(approval);
     assert_equal(
         &rt,
-        task.poll(Moment(0), &mut opener, &config, &mut pool),
+        task.poll(Moment(0), &mut pool, &config),
         ReplenishAnswer::Retrying(1),
     );
     assert_equal(
         &rt,
-        task.poll(Moment(400 * MILLI), &mut opener, &config, &mut pool),
+        task.poll(Moment(400 * MILLI), &mut pool, &config),
         ReplenishAnswer::Pending,
     );
-    assert!(&rt; leave(&mut pool, Moment(0)).is_some());
-    assert!(&rt; pool.find(approval.number).is_some());
+    assert!(&rt; leave(&mut pool.home, Moment(0)).is_some());
+    assert!(&rt; pool.home.find(approval.number).is_some());
     assert_equal(
         &rt,
-        task.poll(Moment(0), &mut opener, &config, &mut pool),
+        task.poll(Moment(0), &mut pool, &config),
         ReplenishAnswer::GivenBack,
     );
-    assert!(&rt; pool.find(approval.number).is_none());
-    task.give_back(Moment(0), &mut opener, &mut pool);
+    assert!(&rt; pool.home.find(approval.number).is_none());
+    task.give_back(Moment(0), &mut pool);
 }
 
 #[test]
 fn task_that_is_let_go_gives_its_approval_back(rt: HostRuntime) {
     let config = one_in_five_seconds();
-    let (mut pool, approval) = pool_of_one(&rt, rt.alloc(), config);
+    let (home, approval) = pool_of_one(&rt, rt.alloc(), config);
     let manager = Counting::new(false);
-    let mut opener = PoolOpener::new(&manager, &NopErrorSink, &NopCustomizer, &Still);
+    let outside = PoolOpener::new(&manager, &NopErrorSink, &NopCustomizer, &Still);
+    let mut pool = Joined { outside, home };
     let task = Replenish::new(approval);
-    task.give_back(Moment(0), &mut opener, &mut pool);
-    assert!(&rt; pool.find(approval.number).is_none());
-    assert_equal(&rt, pool.fill(Moment(0), false).count, 1);
-    assert!(&rt; !pool.fits_failed(approval));
+    task.give_back(Moment(0), &mut pool);
+    assert!(&rt; pool.home.find(approval.number).is_none());
+    assert_equal(&rt, pool.home.fill(Moment(0), false).count, 1);
+    assert!(&rt; !pool.home.fits_failed(approval));
     assert_equal(&rt, manager.connects(), 0);
 }
 
 #[test]
 fn unknown_approval_enters_nothing(rt: HostRuntime) {
     let config = one_in_five_seconds();
-    let (mut pool, approval) = pool_of_one(&rt, rt.alloc(), config);
+    let (home, approval) = pool_of_one(&rt, rt.alloc(), config);
     let manager = Counting::new(false);
-    let mut opener = PoolOpener::new(&manager, &NopErrorSink, &NopCustomizer, &Still);
+    let outside = PoolOpener::new(&manager, &NopErrorSink, &NopCustomizer, &Still);
+    let mut pool = Joined { outside, home };
     let mut task = Replenish::new(Key {
         number: 7,
         place: 0,
     });
     assert_equal(
         &rt,
-        task.poll(Moment(0), &mut opener, &config, &mut pool),
+        task.poll(Moment(0), &mut pool, &config),
         ReplenishAnswer::GivenBack,
     );
-    assert_equal(&rt, sizes(&mut pool), (0, 0));
-    assert!(&rt; pool.find(approval.number).is_some());
-    task.give_back(Moment(0), &mut opener, &mut pool);
+    assert_equal(&rt, sizes(&mut pool.home), (0, 0));
+    assert!(&rt; pool.home.find(approval.number).is_some());
+    task.give_back(Moment(0), &mut pool);
 }

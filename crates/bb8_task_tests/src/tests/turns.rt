@@ -3,6 +3,7 @@ ghost use Rattle.std.specs.Prelude.{⊤};
 
 use super::assert_equal;
 use bb8_asked::{begin, leave, try_get};
+use bb8_core::Joined;
 use bb8_core::api::{Config, Moment};
 use bb8_core::internals::{BeginAnswer, ClaimAnswer, Grant, Key, Looked, PoolInternals};
 use bb8_tasks::{
@@ -59,9 +60,13 @@ impl Opener<u64, u64> for Counting {
 
     ghost connect_answers = { λ _ _ _ _ _ _. ⊤ };
 
+    ghost ends_connect = { λ _ _ _. ⊤ };
+
     ghost acquires = { λ _ _ _ _ _. ⊤ };
 
     ghost acquire_answers = { λ _ _ _ _ _ _ _ _. ⊤ };
+
+    ghost ends_acquire = { λ _ _ _. ⊤ };
 
     ghost lets_go = { λ _ _ _. ⊤ };
 
@@ -78,6 +83,8 @@ impl Opener<u64, u64> for Counting {
         }
     }
 
+    fn end_connect(&mut self, _connecting: u64) {}
+
     fn on_acquire(&mut self, _connection: &mut u64) {}
 
     fn poll_acquire(
@@ -88,6 +95,8 @@ impl Opener<u64, u64> for Counting {
     ) -> Poll<Result<(), u64>> {
         Poll::Ready(Ok(()))
     }
+
+    fn end_acquire(&mut self, _acquiring: ()) {}
 
     fn let_go(&mut self, _connection: u64) {}
 }
@@ -165,8 +174,7 @@ impl ReapHome for Granting {
 /// A driver over a pool of these settings.
 struct Driven {
     config: Config,
-    home: Granting,
-    outside: Counting,
+    pool: Joined<Counting, Granting>,
     turning: Turning<u64, u64, ()>,
 }
 
@@ -178,11 +186,13 @@ impl Driven {
         }
         Driven {
             config,
-            home: Granting {
-                pool: PoolInternals::new(alloc, config),
-                reaps: 0,
+            pool: Joined {
+                outside: Counting::new(reply),
+                home: Granting {
+                    pool: PoolInternals::new(alloc, config),
+                    reaps: 0,
+                },
             },
-            outside: Counting::new(reply),
             turning: Turning::new(alloc, &config, Moment(0)),
         }
     }
@@ -190,24 +200,23 @@ impl Driven {
     /// A turn at so many milliseconds.
     fn turn(&mut self, millis: u64) -> Turn {
         let at = Moment(millis.saturating_mul(MILLI));
-        self.turning
-            .turn(at, &mut self.outside, &self.config, &mut self.home)
+        self.turning.turn(at, &mut self.pool, &self.config)
     }
 
     /// How many connections there are, and how many are idle.
     fn sizes(&mut self) -> (u32, u32) {
-        let state = self.home.pool.state(Moment(0));
+        let state = self.pool.home.pool.state(Moment(0));
         (state.connections, state.idle_connections)
     }
 
     /// Approvals are granted as far as connections are wanted.
     fn fill(&mut self) -> Grant {
-        self.home.pool.fill(Moment(0), false)
+        self.pool.home.pool.fill(Moment(0), false)
     }
 
     /// A get begins and waits, for which an approval is granted.
     fn wait(&mut self, rt: &impl Abort) {
-        let pool = &mut self.home.pool;
+        let pool = &mut self.pool.home.pool;
         let Some(BeginAnswer::Begun(get)) = begin(pool, Moment(0)) else {
             panic!(rt; "no get began");
         };
@@ -216,19 +225,18 @@ impl Driven {
 
     /// The only handle is dropped.
     fn leave(&mut self, rt: &impl Abort) {
-        assert!(rt; leave(&mut self.home.pool, Moment(0)).is_some());
+        assert!(rt; leave(&mut self.pool.home.pool, Moment(0)).is_some());
     }
 
     /// The driver is dropped.
     fn give_back(self) -> Granting {
         let Driven {
             config: _,
-            mut home,
-            mut outside,
+            mut pool,
             turning,
         } = self;
-        turning.give_back(Moment(0), &mut outside, &mut home);
-        home
+        turning.give_back(Moment(0), &mut pool);
+        pool.home
     }
 }
 
@@ -267,7 +275,7 @@ fn first_turns(rt: HostRuntime) {
     driven.leave(&rt);
     assert_equal(&rt, driven.turn(0), ENDED);
     assert_equal(&rt, driven.turn(60_000), ENDED);
-    assert_equal(&rt, driven.outside.connects, 2);
+    assert_equal(&rt, driven.pool.outside.connects, 2);
     let home = driven.give_back();
     assert_equal(&rt, home.reaps, 0);
 }
@@ -283,11 +291,19 @@ fn failing_opening_without_retry(rt: HostRuntime) {
     let mut driven = Driven::new(&rt, rt.alloc(), config, Reply::Fails);
     driven.wait(&rt);
     assert_equal(&rt, driven.turn(0), went_on(1));
-    assert_equal(&rt, (driven.outside.sunk, driven.outside.last_sunk), (1, 1));
+    assert_equal(
+        &rt,
+        (driven.pool.outside.sunk, driven.pool.outside.last_sunk),
+        (1, 1),
+    );
     // The approval was given back.
-    assert!(&rt; driven.home.pool.find(0).is_none());
+    assert!(&rt; driven.pool.home.pool.find(0).is_none());
     assert_equal(&rt, driven.turn(500), went_on(0));
-    assert_equal(&rt, (driven.outside.connects, driven.outside.sunk), (1, 1));
+    assert_equal(
+        &rt,
+        (driven.pool.outside.connects, driven.pool.outside.sunk),
+        (1, 1),
+    );
     let _ = driven.give_back();
 }
 
@@ -297,12 +313,20 @@ fn task_that_tries_again_stays(rt: HostRuntime) {
     let mut driven = Driven::new(&rt, rt.alloc(), two_of_five(), Reply::Fails);
     let _ = driven.fill();
     assert_equal(&rt, driven.turn(0), went_on(2));
-    assert_equal(&rt, (driven.outside.sunk, driven.outside.last_sunk), (2, 2));
+    assert_equal(
+        &rt,
+        (driven.pool.outside.sunk, driven.pool.outside.last_sunk),
+        (2, 2),
+    );
     assert_equal(&rt, driven.turn(399), went_on(2));
-    assert_equal(&rt, driven.outside.connects, 2);
-    driven.outside.reply = Reply::Opens;
+    assert_equal(&rt, driven.pool.outside.connects, 2);
+    driven.pool.outside.reply = Reply::Opens;
     assert_equal(&rt, driven.turn(400), went_on(2));
-    assert_equal(&rt, (driven.outside.connects, driven.outside.sunk), (4, 2));
+    assert_equal(
+        &rt,
+        (driven.pool.outside.connects, driven.pool.outside.sunk),
+        (4, 2),
+    );
     assert_equal(&rt, driven.sizes(), (2, 2));
     assert_equal(&rt, driven.turn(400), went_on(0));
     let _ = driven.give_back();
@@ -344,11 +368,11 @@ fn driver_that_ends_gives_its_approvals_back(rt: HostRuntime) {
     assert_equal(&rt, driven.turn(0), went_on(2));
     assert_equal(&rt, driven.turn(0), went_on(2));
     driven.leave(&rt);
-    assert!(&rt; driven.home.pool.find(0).is_some());
-    assert!(&rt; driven.home.pool.find(1).is_some());
+    assert!(&rt; driven.pool.home.pool.find(0).is_some());
+    assert!(&rt; driven.pool.home.pool.find(1).is_some());
     assert_equal(&rt, driven.turn(0), ENDED);
-    assert!(&rt; driven.home.pool.find(0).is_none());
-    assert!(&rt; driven.home.pool.find(1).is_none());
+    assert!(&rt; driven.pool.home.pool.find(0).is_none());
+    assert!(&rt; driven.pool.home.pool.find(1).is_none());
     let _ = driven.give_back();
 }
 

@@ -40,7 +40,8 @@ pub trait CustomizeConnection<C, E>: Send + Sync + Drop + 'static {
         acquiring: &mut Self::Acquiring,
         moment: Moment,
     ) -> Poll<Result<(), E>>
-        ensures { acquire_answers self.now connection.old acquiring.old moment result connection.new acquiring.new };
+        ensures { acquire_answers self.now connection.old acquiring.old moment result connection.new
+            acquiring.new };
 }
 
 /// The customizer that leaves each connection as it is and is ready at once: what a pool has where none is set. Our own: upstream has an

@@ -69,7 +69,8 @@ pub trait ManageConnection: Sized + Send + Sync + Drop + 'static {
         checking: &mut Self::Checking,
         moment: Moment,
     ) -> Poll<Result<(), Self::Error>>
-        ensures { check_answers self.now connection.old checking.old moment result connection.new checking.new };
+        ensures { check_answers self.now connection.old checking.old moment result connection.new
+            checking.new };
 
     /// Whether a connection is known to be of no more use, without waiting. It is asked of a connection that comes back to the pool, is
     /// added to it or failed its check; one that comes back broken is closed, and one that is to be added is refused. As

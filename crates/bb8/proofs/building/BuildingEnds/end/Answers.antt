@@ -7,7 +7,6 @@ returns-in-Opening g c =
     rw c.in-Opening.is (
       (
         c.new-calls.result,
-        c.drop_tasks.new.outside,
         (rw shared at of.manager, rw shared at of.sink, rw shared at of.customizer, rw shared at of.clock),
         c.drop_tasks.ensures,
       ),

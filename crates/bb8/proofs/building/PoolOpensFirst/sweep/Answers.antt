@@ -9,7 +9,6 @@ returns-in-Failed g c =
       (
         (
           c.new-calls.result,
-          c.open_first.new.outside,
           (rw shared at of.manager, rw shared at of.sink, rw shared at of.customizer, rw shared at of.clock),
           rw shared at c.open_first.ensures,
         ),
@@ -26,7 +25,6 @@ returns-in-Complete g c =
       (
         (
           c.new-calls.result,
-          c.open_first.new.outside,
           (rw shared at of.manager, rw shared at of.sink, rw shared at of.customizer, rw shared at of.clock),
           rw shared at c.open_first.ensures,
         ),
@@ -43,7 +41,6 @@ returns-in-Going g c =
       (
         (
           c.new-calls.result,
-          c.open_first.new.outside,
           (rw shared at of.manager, rw shared at of.sink, rw shared at of.customizer, rw shared at of.clock),
           rw shared at c.open_first.ensures,
         ),

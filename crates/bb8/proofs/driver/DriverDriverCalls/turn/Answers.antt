@@ -8,7 +8,6 @@ returns-clause-table g c =
       refl,
       (
         c.new-calls.result,
-        c.turn_with.new.outside,
         (rw shared at of.manager, rw shared at of.sink, rw shared at of.customizer, rw shared at of.clock),
         rw shared at c.turn_with.ensures.table,
       ),

@@ -9,7 +9,7 @@ pub returns-in-Ready-Err : goal.returns-in-Ready-Err
 returns-in-Ready-Err g c =
     let polled = rw c.in-Ready-Err.field-0-is at c.in-Ready-Err.ensures in
     rw (c.in-Some-Open.is, c.in-Some-Open.field-0-is)
-    (Ready (Err c.in-Ready-Err.error), c.poll_owned.new.get, polled, (refl, refl, c.cancel_owned.ensures.handle))
+    (Ready (Err c.in-Ready-Err.error), c.poll_owned.new.get, polled, (refl, refl, c.leave_owned.ensures))
 
 pub returns-in-Ready-Ok : goal.returns-in-Ready-Ok
 returns-in-Ready-Ok g c =

@@ -1,7 +1,7 @@
-use Rattle.std.proofs.Common.{rules}
 use Rattle.bb8.proofs.owned.HoldingOwns.leave_owned.Goals as goal
 
 pub returns : goal.returns
 returns g c =
-    let s = rw c.deref-pool.ensures at c.leave.ensures in
-    (s.0, search rules, s.2)
+    let shared = c.deref-pool.ensures in
+    let of = c.new-calls.ensures in
+    (c.new-calls.result, (rw shared at of.manager, rw shared at of.sink, rw shared at of.clock), c.leave.ensures)

@@ -1,16 +1,7 @@
-use Rattle.std.proofs.Common.{rules}
 use Rattle.bb8.proofs.pool.RefPoolPoolCalls.add.Goals as goal
 
 pub returns : goal.returns
 returns g c =
-    let adding = (rw c.deref-shared.ensures at c.add_with.ensures).1 in
-    record {
-      broken = adding.broken;
-      after = adding.after;
-      asked = search rules;
-      at = adding.at;
-      read = search rules;
-      answer = adding.answer;
-      step = adding.step;
-      told = adding.told;
-    }
+    let shared = c.deref-shared.ensures in
+    let of = c.new-calls.ensures in
+    (c.new-calls.result, (rw shared at of.manager, rw shared at of.sink, rw shared at of.clock), c.add_with.ensures)

@@ -3,6 +3,7 @@ use Rattle.std.specs.FinMap.{get}
 use Rattle.bb8_types.specs.Places.{first_of, place_with}
 use Rattle.bb8_tables.specs.Machine as machine
 use Rattle.bb8_tables.specs.Views.{ShownRecords}
+use Rattle.bb8_tables.proofs.Lent.{adds_lent}
 use Rattle.bb8_tables.proofs.RecordPlaces.{first_stands, put_stands, take_good, take_view, taken_first, taken_connection, never_without, idle_none}
 use Rattle.bb8_tables.proofs.records.Records.take.Goals as goal
 use Rattle.bb8_tables.proofs.records.Records.take.Goals.{in-None-connection_of, in-Some-connection_of}
@@ -51,7 +52,7 @@ returns-after-connection_of-clause-examined g c = elim c.match-connection_of.bra
   | in-None-connection_of w ↦ never_without c.self.inside c.args.strategy c.in-Some.place c.put-number.result.0 c.args.holder c.place_of.result c.put-number.new.self c.step_out.new.self
       c.self.invariant c.in-Some.ensures c.put-number.ensures.number c.place_of.ensures c.put-number.ensures.changed c.step_out.ensures
       c.put-number.result.1 _ c.put-number.ensures.value w.in-None-connection_of.ensures.none
-  | in-Some-connection_of w ↦ rw w.result-is (omega (arith, c.put-number.ensures.examined))
+  | in-Some-connection_of w ↦ rw (w.result-is, c.put-number.ensures.examined) (adds_lent c.args.lendings.now)
 ]
 
 pub returns-after-connection_of-clause-counted : goal.returns-after-connection_of-clause-counted
@@ -59,5 +60,5 @@ returns-after-connection_of-clause-counted g c = elim c.match-connection_of.bran
   | in-None-connection_of w ↦ never_without c.self.inside c.args.strategy c.in-Some.place c.put-number.result.0 c.args.holder c.place_of.result c.put-number.new.self c.step_out.new.self
       c.self.invariant c.in-Some.ensures c.put-number.ensures.number c.place_of.ensures c.put-number.ensures.changed c.step_out.ensures
       c.put-number.result.1 _ c.put-number.ensures.value w.in-None-connection_of.ensures.none
-  | in-Some-connection_of w ↦ rw w.result-is (omega (arith, c.put-number.ensures.examined))
+  | in-Some-connection_of w ↦ rw (w.result-is, c.put-number.ensures.examined) (omega arith)
 ]

@@ -5,8 +5,7 @@ use Rattle.bb8_tasks.proofs.tasks.Tasks.give_back.Given as goal
 
 abbrev pub invariant-loop-task : goal.invariant-loop-task
 invariant-loop-task g l =
-    (h : _) (w : _) → LetsGoEach (LetsGo g.H.Home g.W.Opener l.fn.at) l.queue.items l.home l.outside h w
-    → LetsGoEach (LetsGo g.H.Home g.W.Opener l.fn.at) l.fn.self l.fn.home l.fn.outside h w
+    (x : _) → LetsGoEach (LetsGo g.X.Home g.X.Opener l.fn.at) l.queue.items l.pool x → LetsGoEach (LetsGo g.X.Home g.X.Opener l.fn.at) l.fn.self l.fn.pool x
 
 abbrev pub decreases-loop-task : goal.decreases-loop-task
 decreases-loop-task g l = deque_len l.queue

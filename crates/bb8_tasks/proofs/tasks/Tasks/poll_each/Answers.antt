@@ -4,6 +4,6 @@ use Rattle.bb8_tasks.proofs.tasks.Tasks.poll_each.Goals as goal
 
 pub unreachable-requires : goal.unreachable-requires
 unreachable-requires g c =
-    let none = never-stops _ _ _ _ _ _ _ _ _ c.poll_until.ensures in
+    let none = never-stops _ _ _ _ _ _ _ c.poll_until.ensures in
     let clash : Some c.in-Some.field-0 ≡ None = sym c.in-Some.is ∙ none in
     cc

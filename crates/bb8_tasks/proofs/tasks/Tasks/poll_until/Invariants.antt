@@ -6,5 +6,5 @@ use Rattle.bb8_tasks.proofs.tasks.Tasks.poll_until.Given as goal
 
 abbrev pub invariant-loop : goal.invariant-loop
 invariant-loop g l =
-    Midway (Polls g.H.Home g.W.Opener (as_nanos l.fn.config.connection_timeout) l.fn.config.retry_connection l.fn.at) g.W.Reports.sinks l.fn.on_failure
-    l.fn.self l.fn.home l.fn.outside l.self l.home l.outside l.stopped (l.count - l.counter)
+    Midway (Polls g.X.Home g.X.Opener (as_nanos l.fn.config.connection_timeout) l.fn.config.retry_connection l.fn.at) g.X.Reports.sinks l.fn.on_failure
+    l.fn.self l.fn.pool l.self l.pool l.stopped (l.count - l.counter)

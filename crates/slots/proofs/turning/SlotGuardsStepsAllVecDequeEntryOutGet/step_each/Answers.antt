@@ -11,6 +11,7 @@ loop-init g c = record {
   most = omega arith;
   held = λ h. h;
   pool = refl;
+  kept = λ fact h. h;
 }
 
 pub loop-preserved : goal.loop-preserved
@@ -21,6 +22,7 @@ loop-preserved g c =
       most = omega arith;
       held = λ h. c.step_first-ended.ensures.held (c.loop.invariant.held h);
       pool = c.step_first-ended.ensures.pool ∙ c.loop.invariant.pool;
+      kept = λ fact h. c.step_first-ended.ensures.kept fact (c.loop.invariant.kept fact h);
     }
 
 pub returns-clause-steps : goal.returns-clause-steps

@@ -1,5 +1,6 @@
 use Rattle.std.proofs.Common.{◌≡◌, ◌-◌, ◌≤◌}
 use Rattle.std.specs.VecDeque.{deque_len}
+use Rattle.futures.specs.Task.{Keeps}
 use Rattle.bb8.specs.GuardLists.{number_in, AreOfOne}
 use Rattle.bb8.specs.Gets.{PollsGet}
 use Rattle.slots.specs.Entries.{running}
@@ -13,4 +14,5 @@ invariant-loop g l = record {
   most : l.ended ≤ l.counter;
   held : running l.fn.queue.items ≡ number_in l.fn.self → running l.queue.items ≡ number_in l.self;
   pool : AreOfOne l.self l.fn.self;
+  kept : Keeps l.fn.cx l.cx;
 }

@@ -1,0 +1,66 @@
+//! Runs over r2d2, whose gets hold up their thread.
+
+use crate::numbers::{Never, Numbers};
+use crate::Run;
+use r2d2::{ManageConnection, Pool};
+use std::hint::black_box;
+use std::thread;
+
+impl ManageConnection for Numbers {
+    type Connection = u64;
+    type Error = Never;
+
+    fn connect(&self) -> Result<u64, Never> {
+        Ok(7)
+    }
+
+    fn is_valid(&self, _: &mut u64) -> Result<(), Never> {
+        Ok(())
+    }
+
+    fn has_broken(&self, _: &mut u64) -> bool {
+        false
+    }
+}
+
+/// A pool that is full.
+fn pool(size: u32, check: bool, limits: bool) -> Pool<Numbers> {
+    let builder = Pool::builder().max_size(size).min_idle(Some(size)).test_on_check_out(check);
+    let builder = if limits {
+        builder
+    } else {
+        builder.max_lifetime(None).idle_timeout(None)
+    };
+    builder.build(Numbers).expect("it opens numbers")
+}
+
+/// So many gets, each dropped: how many were served.
+fn rounds(pool: &Pool<Numbers>, count: u64) -> u64 {
+    let mut served = 0;
+    for _ in 0..count {
+        if let Ok(guard) = pool.get() {
+            black_box(*guard);
+            served += 1;
+        }
+    }
+    served
+}
+
+/// The same in so many threads.
+fn shared(pool: &Pool<Numbers>, count: u64, threads: u32) -> u64 {
+    thread::scope(|scope| {
+        let all: Vec<_> = (0..threads).map(|_| scope.spawn(|| rounds(pool, count))).collect();
+        all.into_iter().map(|one| one.join().expect("it ends")).sum()
+    })
+}
+
+/// The answer of a run.
+pub fn answer(run: &Run) -> Option<u64> {
+    match run.mode.as_str() {
+        "hand" => Some(rounds(&pool(run.size, false, true), run.count)),
+        "free" => Some(rounds(&pool(run.size, false, false), run.count)),
+        "check" => Some(rounds(&pool(run.size, true, true), run.count)),
+        "threads" => Some(shared(&pool(run.size, false, true), run.count, run.threads)),
+        _ => None,
+    }
+}

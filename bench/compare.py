@@ -1,0 +1,139 @@
+#!/usr/bin/env python3
+"""Measures the core and the live pool beside the original, r2d2, and the Rust crate over the core, and keeps the figures.
+
+    bench/compare.py [--original FOLDER] [--built] [instructions] [bytes] [times]
+
+Without a part it measures all three. With --built it takes what an earlier run built; else it builds what is to be had, and says in a line what is not: the core and the live pool by the kit,
+r2d2 and the original where cargo finds them; the original's crate may also lie in FOLDER. The figures go to bench/figures.txt, and the
+pictures in docs/ are drawn of them.
+"""
+import argparse
+import datetime
+import os
+import re
+import shutil
+import statistics
+import subprocess
+import sys
+
+import draw
+import figures
+import measures
+import programs
+from measures import CORE_OF, CRATE_OF, LIVE_OF, ORIGINAL_CORE, ORIGINAL_OF, POOLS, R2D2_OF
+
+REPETITIONS = 9
+# all pairs of a run that is timed, in all its threads together
+PAIRS = 800_000
+ROUNDS = 4_000_000
+CROWDS = (10_000, 25_000, 50_000, 100_000)
+THREADS = ((1, 16), (2, 16), (4, 16), (8, 16), (4, 4))
+
+
+def taken():
+    """When, where and of what the figures are."""
+    now = datetime.datetime.now(datetime.timezone.utc).strftime("%Y-%m-%d %H:%M UTC")
+    commit = (programs.ran(["git", "rev-parse", "--short", "HEAD"]) or "unknown").strip()
+    changed = programs.ran(["git", "status", "--porcelain", "--", "../bench", "../crates", "../rust", ":!figures.txt"])
+    tools = [(programs.ran(words) or "").strip() for words in (["rustc", "--version"], ["valgrind", "--version"], ["rt", "version"])]
+    crates = []
+    if os.path.exists(os.path.join(programs.WORK, "Cargo.lock")):
+        with open(os.path.join(programs.WORK, "Cargo.lock"), encoding="utf-8") as told:
+            crates = re.findall(r'name = "(tokio|r2d2)"\nversion = "([^"]*)"', told.read())
+    of = [f"{name} {version}" for name, version in crates] + [f"the original {programs.VERSION}"]
+    return [f"Taken {now} at commit {commit}{' with changes' if changed else ''}, on {programs.machine()}.",
+            f"By {', '.join(tool for tool in tools if tool)}; {', '.join(of)}."]
+
+
+def load():
+    return "/".join(f"{one:.1f}" for one in os.getloadavg())
+
+
+def runs(have):
+    """The runs that are timed: what, whose, the run with `{}` for its number, that number, and by how many its time is divided."""
+    if CORE_OF in have:
+        for size in measures.SIZES:
+            yield measures.round_of(size), CORE_OF, [programs.CORE, "rounds", str(size), "{}"], ROUNDS, ROUNDS
+            if ORIGINAL_OF in have:
+                yield measures.round_of(size), ORIGINAL_CORE, measures.beside(ORIGINAL_OF, "core", size), ROUNDS, ROUNDS
+    for threads, size in THREADS:
+        what = f"a pair, {threads} thread{'' if threads == 1 else 's'}, pool of {size}"
+        for whose in (LIVE_OF, *POOLS):
+            if whose in have:
+                run = measures.live("threads", size) if whose == LIVE_OF else measures.beside(whose, "threads", size)
+                yield what, whose, [*run, str(threads)], PAIRS // threads, PAIRS
+    for gets in CROWDS:
+        if CORE_OF in have:
+            yield f"a crowd of {gets:,}", CORE_OF, [programs.CORE, "crowd", "{}"], gets, 1
+        for whose in (LIVE_OF, CRATE_OF, ORIGINAL_OF):
+            if whose in have:
+                run = measures.live("crowd", 1) if whose == LIVE_OF else measures.beside(whose, "crowd", 1)
+                yield f"a crowd of {gets:,}", whose, run, gets, 1
+
+
+def times(have):
+    """The times: each run is made once in each turn, beside the others, and the least that a run of nothing takes is taken off."""
+    wanted = list(runs(have))
+    told = {(what, whose): ([], []) for what, whose, *_ in wanted}
+    for _ in range(REPETITIONS):
+        for what, whose, words, number, _ in wanted:
+            for count, kept in zip((0, number), told[what, whose]):
+                kept.append(measures.timed([word.format(count) for word in words]))
+    rows = [["what", "whose", "least wall ns", "median", "greatest", "median processor ns"]]
+    for what, whose, _, _, by in wanted:
+        none, whole = (list(zip(*each)) for each in told[what, whose])
+        walls, used = ([(one - min(less)) / by for one in more] for less, more in zip(none, whole))
+        shown = [min(walls), statistics.median(walls), max(walls), statistics.median(used)]
+        rows.append([what, whose, *(f"{one:.0f}" if one >= 100 else f"{one:.1f}" for one in shown)])
+    return rows
+
+
+def measured(part, have):
+    """The notes and rows of a part."""
+    before, notes = load(), taken()
+    if part == "instructions":
+        rows = [["what", "whose", "instructions"]]
+        rows += [[what, whose, str(figure)] for what, whose, figure in measures.counted([*measures.own_counts(have), *measures.other_counts(have)])]
+        return notes, rows
+    if part == "bytes":
+        return notes, [["what", "whose", "bytes"], *map(list, measures.heaps(have))]
+    rows = times(have)
+    notes.append(f"Of {REPETITIONS} interleaved runs each. The machine's load was {before} before (1, 5 and 15 minutes) and {load()} after: where it is "
+                 "not near 0, other work ran beside them.")
+    return notes, rows
+
+
+def main():
+    asked = argparse.ArgumentParser(description="Measures the pools and keeps the figures.")
+    asked.add_argument("parts", nargs="*", metavar="PART", help="instructions, bytes or times")
+    asked.add_argument("--original", metavar="FOLDER", default=os.environ.get("ORIGINAL"), help="the original's crate")
+    asked.add_argument("--built", action="store_true", help="builds nothing, and takes what stands built")
+    asked = asked.parse_args()
+    parts = asked.parts or ["instructions", "bytes", "times"]
+    if not set(parts) <= {"instructions", "bytes", "times"}:
+        sys.exit("the parts are instructions, bytes and times")
+    if asked.built:
+        core, live, pools = programs.standing()
+    else:
+        core, live, pools = programs.is_core_built(), programs.is_live_built(), programs.beside(asked.original)
+    have = [whose for whose, is_there in ((CORE_OF, core), (LIVE_OF, live)) if is_there]
+    have += [whose for whose, name in POOLS.items() if name in pools]
+    kept = figures.read()
+    for part in parts:
+        if part != "times" and shutil.which("valgrind") is None:
+            programs.lacks(f"{part} (no valgrind)")
+        elif have:
+            print(f"{part}: {', '.join(have)}", flush=True)
+            kept[part] = measured(part, have)
+    if kept:
+        figures.write({part: kept[part] for part in ("instructions", "bytes", "times") if part in kept})
+        draw.write()
+        with open(figures.PATH, encoding="utf-8") as told:
+            print(told.read(), end="")
+
+
+if __name__ == "__main__":
+    try:
+        main()
+    except subprocess.CalledProcessError as error:
+        sys.exit(f"{error.cmd} failed: {error.stderr[-500:]}")

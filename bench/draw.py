@@ -1,0 +1,191 @@
+#!/usr/bin/env python3
+"""Draws the kept figures, bench/figures.txt, as docs/*.svg.
+
+    bench/draw.py            draws them
+    bench/draw.py --check    says which of the pictures is not the one of the kept figures; nothing is written
+"""
+import math
+import os
+import sys
+
+import figures
+from measures import CORE_OF, CRATE_OF, LIVE_OF, ORIGINAL_CORE, ORIGINAL_OF, R2D2_OF, SIZES, round_of
+from programs import TOP
+
+WIDTH, LEFT, RIGHT = 720, 60, 150
+TITLE, TOP_OF, TALL, FOOT = 52, 72, 220, 58
+# the colours in light and in dark, by whose the figure is
+COLOURS = {CORE_OF: ("a", "#0969da", "#58a6ff"), LIVE_OF: ("a", "#0969da", "#58a6ff"), CRATE_OF: ("b", "#1a7f37", "#3fb950"),
+           ORIGINAL_OF: ("c", "#bc4c00", "#f0883e"), ORIGINAL_CORE: ("c", "#bc4c00", "#f0883e"), R2D2_OF: ("d", "#8250df", "#bc8cff")}
+# names in words
+NAMES = {CORE_OF: "the proved core", LIVE_OF: "the live pool", CRATE_OF: "the Rust crate", ORIGINAL_OF: "the original",
+         ORIGINAL_CORE: "the original's core", R2D2_OF: "r2d2"}
+POOLS = (LIVE_OF, CRATE_OF, R2D2_OF, ORIGINAL_OF)
+
+
+def style():
+    light = "".join(f".{name}{{fill:{one}}}.l{name}{{stroke:{one}}}" for name, one, _ in sorted(set(COLOURS.values())))
+    dark = "".join(f".{name}{{fill:{one}}}.l{name}{{stroke:{one}}}" for name, _, one in sorted(set(COLOURS.values())))
+    return ("<style>text{font:13px sans-serif;fill:#1f2328}.t{font-size:16px;font-weight:600}.s{font-size:11px;fill:#59636e}"
+            ".back{fill:#fff}.g{stroke:#d1d9e0}.l{fill:none;stroke-width:2.5}" + light
+            + "@media(prefers-color-scheme:dark){text{fill:#e6edf3}.s{fill:#9198a1}.back{fill:#0d1117}.g{stroke:#3d444d}" + dark + "}</style>")
+
+
+def text(x, y, words, kind="", anchor="start"):
+    words = words.replace("&", "&amp;").replace("<", "&lt;")
+    return f'<text x="{x:g}" y="{y:g}"' + (f' class="{kind}"' if kind else "") + ("" if anchor == "start" else f' text-anchor="{anchor}"') + f">{words}</text>"
+
+
+def picture(tall, title, below, parts):
+    """A picture of this height, with its title, a line below it, and its parts."""
+    head = f'<svg xmlns="http://www.w3.org/2000/svg" viewBox="0 0 {WIDTH} {tall}" width="{WIDTH}" height="{tall}" role="img">'
+    lines = [head, f"<title>{title}</title>", style(), f'<rect class="back" width="{WIDTH}" height="{tall}"/>',
+             text(16, 26, title, "t"), text(16, 44, below, "s"), *parts, "</svg>"]
+    return "\n".join(lines) + "\n"
+
+
+def bars(title, below, groups):
+    """Bars to the right, in groups: a name, and what bars it has, each whose, and its figure."""
+    greatest = max(figure for _, each in groups for _, figure in each)
+    parts, y = [], TITLE + 14
+    for name, each in groups:
+        parts.append(text(16, y + 10, name))
+        y += 20
+        for whose, figure in each:
+            long = (WIDTH - LEFT - 160) * figure / greatest
+            parts += [text(126, y + 13, NAMES[whose], "", "end"),
+                      f'<rect class="{COLOURS[whose][0]}" x="134" y="{y}" width="{long:.1f}" height="18" rx="2"/>',
+                      text(140 + long, y + 13, f"{figure:,.0f}")]
+            y += 23
+        y += 12
+    return picture(y, title, below, parts)
+
+
+def steps(greatest):
+    """Where the lines across stand: at most six, at round numbers."""
+    unit = 10 ** math.floor(math.log10(greatest))
+    unit = next(unit * by for by in (0.2, 0.5, 1, 2, 5) if greatest / (unit * by) <= 5.5)
+    return [unit * at for at in range(math.ceil(greatest / unit) + 1)]
+
+
+def apart(places):
+    """The same places, each at least 16 from the one above it."""
+    moved, last = {}, -math.inf
+    for key in sorted(places, key=places.get):
+        last = moved[key] = max(places[key], last + 16)
+    return moved
+
+
+def lines(title, below, across, up, marks, drawn):
+    """Lines over marks, which are places from 0 to 1 with their names; each line is whose, and a figure for each mark."""
+    marks_up = steps(max(figure for each in drawn.values() for figure in each))
+    foot, wide = TOP_OF + TALL, WIDTH - LEFT - RIGHT
+    parts = [text(16, TOP_OF - 8, up, "s")]
+    for mark in marks_up:
+        y = foot - TALL * mark / marks_up[-1]
+        parts += [f'<path class="g" d="M{LEFT} {y:.1f}H{LEFT + wide}"/>', text(LEFT - 8, y + 4, f"{mark:,g}", "s", "end")]
+    for place, name in marks:
+        parts.append(text(LEFT + wide * place, foot + 18, name, "s", "middle"))
+    parts.append(text(LEFT + wide / 2, foot + 38, across, "s", "middle"))
+    ends = {}
+    for whose, each in drawn.items():
+        at = [(LEFT + wide * place, foot - TALL * figure / marks_up[-1]) for (place, _), figure in zip(marks, each)]
+        colour = COLOURS[whose][0]
+        parts.append(f'<path class="l l{colour}" d="M' + "L".join(f"{x:.1f} {y:.1f}" for x, y in at) + '"/>')
+        parts += [f'<circle class="{colour}" cx="{x:.1f}" cy="{y:.1f}" r="3.5"/>' for x, y in at]
+        ends[whose] = at[-1][1] + 4
+    for whose, y in apart(ends).items():
+        parts.append(text(LEFT + wide + 10, y, NAMES[whose], COLOURS[whose][0]))
+    return picture(foot + FOOT, title, below, parts)
+
+
+def figures_of(table, whats, whose, at=0):
+    """The figures of these, where all were measured."""
+    each = [table[(what, whose)][at] for what in whats if (what, whose) in table]
+    return [float(one) for one in each] if len(each) == len(whats) else None
+
+
+def drawn_of(table, whats, whom, by=lambda one: one):
+    found = {whose: figures_of(table, whats, whose) for whose in whom}
+    return {whose: [by(one) for one in each] for whose, each in found.items() if each}
+
+
+def pair(parts):
+    counts = figures.table(parts, "instructions")
+    groups = [(words, [(whose, float(counts[(what, whose)][0])) for whose in POOLS if (what, whose) in counts])
+              for what, words in (("a pair, check off", "Connections go out unchecked"), ("a pair, check on", "Each is checked first, by a check that is ready at once"))]
+    groups = [group for group in groups if group[1]]
+    return groups and bars("A get and its return, in instructions", "One thread, counted by callgrind; fewer is better", groups)
+
+
+def rounds(parts):
+    whats = [round_of(size) for size in SIZES]
+    drawn = drawn_of(figures.table(parts, "instructions"), whats, (CORE_OF, ORIGINAL_CORE))
+    marks = [(at / (len(SIZES) - 1), f"{size:,}") for at, size in enumerate(SIZES)]
+    return drawn and lines("A round does not grow with the pool", "A get begins, is served and gives back, without future and manager; the original's core with its lock",
+                           "connections in the pool", "instructions a round", marks, drawn)
+
+
+def sized(table, name):
+    """The numbers that such rows are of."""
+    return sorted({int(what.removeprefix(name).replace(",", "")) for what, _ in table if what.startswith(name)})
+
+
+def crowd(parts):
+    table = figures.table(parts, "times")
+    sizes = sized(table, "a crowd of ")
+    drawn = drawn_of(table, [f"a crowd of {size:,}" for size in sizes], (CORE_OF, LIVE_OF, CRATE_OF, ORIGINAL_OF), lambda one: one / 1e6)
+    # the core and the live pool stand in one picture here: the core is left out where both were measured
+    drawn = {whose: each for whose, each in drawn.items() if whose != CORE_OF or LIVE_OF not in drawn}
+    return drawn and lines("A crowd that waits for one connection", "All wait and are served one by one, polled by hand in one thread; the best of nine runs",
+                           "gets that wait", "milliseconds for all of them", [(size / sizes[-1], f"{size:,}") for size in sizes], drawn)
+
+
+def threads(parts):
+    table = figures.table(parts, "times")
+    many = [count for count in (1, 2, 4, 8) if any(what == named(count) for what, _ in table)]
+    drawn = drawn_of(table, [named(count) for count in many], POOLS, lambda one: 1e3 / one)
+    marks = [(at / max(len(many) - 1, 1), str(count)) for at, count in enumerate(many)]
+    return drawn and lines("Gets and returns a second, by threads", "A pool of 16 connections, no check, the machine's clock; the best of nine runs; more is better",
+                           "threads that get and return without a pause", "million pairs a second", marks, drawn)
+
+
+def named(count):
+    return f"a pair, {count} thread{'' if count == 1 else 's'}, pool of 16"
+
+
+def drawings():
+    """What each picture is to be, by its file."""
+    parts = figures.read()
+    made = {"pair": pair(parts), "rounds": rounds(parts), "crowd": crowd(parts), "threads": threads(parts)}
+    return {os.path.join(TOP, "docs", f"{name}.svg"): drawn for name, drawn in made.items() if drawn}
+
+
+def write():
+    for path, drawn in drawings().items():
+        with open(path, "w", encoding="utf-8") as out:
+            out.write(drawn)
+
+
+def stale():
+    """The pictures that are not those of the kept figures."""
+    for path, drawn in drawings().items():
+        told = None
+        if os.path.exists(path):
+            with open(path, encoding="utf-8") as kept:
+                told = kept.read()
+        if told != drawn:
+            yield os.path.relpath(path, TOP)
+
+
+def main():
+    if sys.argv[1:] == ["--check"]:
+        others = list(stale())
+        for path in others:
+            print(f"{path} is not the picture of bench/figures.txt; bench/draw.py draws it")
+        sys.exit(1 if others else 0)
+    write()
+
+
+if __name__ == "__main__":
+    main()

@@ -1,0 +1,40 @@
+"""The kept figures, bench/figures.txt: parts with notes and a table each, in plain text."""
+import os
+
+PATH = os.path.join(os.path.dirname(os.path.abspath(__file__)), "figures.txt")
+HEAD = """What a get costs, beside other pools. `bench/compare.py` wrote this file; `bench/draw.py` draws docs/*.svg from it, and `bench/bar.py`
+compares with it. What each line means is told in bench/README.md.
+"""
+
+
+def read():
+    """Each part's notes and rows, by the part's name; nothing where there is no file yet."""
+    parts = {}
+    if not os.path.exists(PATH):
+        return parts
+    with open(PATH, encoding="utf-8") as told:
+        for line in told.read().splitlines():
+            if line.startswith("== "):
+                notes, rows = [], []
+                parts[line.strip("= ")] = (notes, rows)
+            elif parts and " | " in line:
+                rows.append([cell.strip() for cell in line.split(" | ")])
+            elif parts and line:
+                notes.append(line)
+    return parts
+
+
+def write(parts):
+    text = HEAD
+    for name, (notes, rows) in parts.items():
+        widths = [max(len(row[at]) for row in rows) for at in range(len(rows[0]))]
+        lines = [" | ".join(cell.ljust(width) if at < 2 else cell.rjust(width) for at, (cell, width) in enumerate(zip(row, widths))).rstrip()
+                 for row in rows]
+        text += f"\n== {name} ==\n" + "\n".join(notes) + "\n\n" + "\n".join(lines) + "\n"
+    with open(PATH, "w", encoding="utf-8") as out:
+        out.write(text)
+
+
+def table(parts, name):
+    """A part's figures: the cells after the first two, by those two. The first row names the columns."""
+    return {(row[0], row[1]): row[2:] for row in parts.get(name, ([], [[]]))[1][1:]}

@@ -1,0 +1,154 @@
+//! The questions that a state answers: whether an event fits, and where a number stands.
+ghost use Rattle.std.specs.Prelude.{◌≡◌, Bool, Option, is_some, IfSome, IfNone, true, false, None, Some};
+ghost use Rattle.bb8_ledger.specs.Acts as acts;
+ghost use Rattle.bb8_ledger.specs.Ledger as ledger;
+ghost use Rattle.bb8_types.specs.Places as places;
+ghost use Rattle.bb8_core.specs.Shown.{Means, IsFitting, TellsFitting, TellsRecord, TellsGet, IsRecordIn, IsNoRecordIn, IsGetIn, IsNoGetIn};
+
+use super::{GetKey, Key, PoolInternals};
+
+impl<C: Drop> PoolInternals<C> {
+    /// Whether a get may begin: while a handle is alive.
+    pub fn fits_begin(&self) -> bool
+        ensures { TellsFitting self.now acts.Begin result }
+    {
+        self.handles != 0
+    }
+
+    /// Whether `serve_at_once` may be called: while a handle is alive, where connections go out unchecked.
+    pub fn fits_at_once(&self) -> bool
+        ensures begin { result ≡ true → IsFitting self.now acts.Begin }
+        ensures unchecked { result ≡ true → self.now.config.test_on_check_out ≡ false }
+        ensures open { self.now.config.test_on_check_out ≡ false
+            → TellsFitting self.now acts.Begin result }
+    {
+        !self.config.test_on_check_out && self.fits_begin()
+    }
+
+    /// Whether a connection may be added, whichever it is: while a handle is alive.
+    pub fn fits_add(&self) -> bool
+        ensures { (conn : C) (broken : Bool) → TellsFitting self.now (acts.Add conn broken) result }
+    {
+        self.handles >= 1
+    }
+
+    /// Whether the get may try.
+    pub fn fits_try(&self, get: GetKey) -> bool
+        ensures { TellsFitting self.now (acts.Try get.number) result }
+    {
+        self.gets.is_trying(get)
+    }
+
+    /// Whether the check of the get may be told as passed: where the get holds a connection.
+    pub fn fits_checked_ok(&self, get: GetKey) -> bool
+        ensures { TellsFitting self.now (acts.CheckedOk get.number) result }
+    {
+        match self.gets.holds(get) {
+            None => false,
+            Some(held) => held.is_some(),
+        }
+    }
+
+    /// Whether the check of the get may be told as failed, with a connection that is broken or not: where the get holds a connection.
+    pub fn fits_checked_err(&self, get: GetKey) -> bool
+        ensures { (broken : Bool) → TellsFitting self.now
+            (acts.CheckedErr get.number broken) result }
+    {
+        self.fits_checked_ok(get)
+    }
+
+    /// Whether the get may be given up, for whatever reason: where it is alive, and a connection is handed in just where it holds one.
+    pub fn fits_give_up(&self, get: GetKey, handing_in: bool) -> bool
+        ensures { (why : acts.Reason) (held : Option C) (broken : Bool) → is_some held ≡ handing_in
+            → TellsFitting self.now (acts.GiveUp get.number why held broken) result }
+    {
+        match self.gets.holds(get) {
+            None => false,
+            Some(held) => held.is_some() == handing_in,
+        }
+    }
+
+    /// The number of the connection that the get holds, if it holds one.
+    pub(crate) fn held(&self, get: GetKey) -> Option<u64>
+        ensures { (l : ledger.Ledger C) → Means l self.now
+            → result ≡ places.holds (ledger.get_of l get.number) }
+    {
+        match self.gets.holds(get) {
+            None => None,
+            Some(held) => held,
+        }
+    }
+
+    /// Whether the get is alive.
+    pub(crate) fn is_alive(&self, get: GetKey) -> bool
+        ensures { TellsGet (λ g. is_some g) self.now get.number result }
+    {
+        self.gets.is_alive(get)
+    }
+
+    /// Whether the number is a connection that a guard holds.
+    pub(crate) fn is_guarded(&self, k: Key) -> bool
+        ensures { TellsRecord (places.stands places.is_guarded) self.now k.number result }
+    {
+        self.records.is_guarded(k)
+    }
+
+    /// Whether the number is a claimed approval.
+    pub(crate) fn is_claimed(&self, k: Key) -> bool
+        ensures { TellsRecord (places.stands places.is_claimed) self.now k.number result }
+    {
+        self.records.is_claimed(k)
+    }
+
+    /// Whether a guard may give back a connection of this key, whichever connection is handed in.
+    pub fn fits_put_back(&self, k: Key) -> bool
+        ensures { (conn : C) (broken : Bool)
+            → TellsFitting self.now (acts.PutBack k.number conn broken) result }
+    {
+        self.is_guarded(k)
+    }
+
+    /// Whether the approval of this key is claimed and may bring its connection, whichever connection is handed in.
+    pub fn fits_opened(&self, a: Key) -> bool
+        ensures { (conn : C) → TellsFitting self.now (acts.Opened a.number conn) result }
+    {
+        self.is_claimed(a)
+    }
+
+    /// Whether the approval of this key is claimed and may end without a connection.
+    pub fn fits_failed(&self, approval: Key) -> bool
+        ensures { TellsFitting self.now (acts.Failed approval.number) result }
+    {
+        self.is_claimed(approval)
+    }
+
+    /// Whether a handle may be added: while one is alive.
+    pub fn fits_join(&self) -> bool
+        ensures { TellsFitting self.now acts.Join result }
+    {
+        self.fits_begin()
+    }
+
+    /// Whether a handle may be dropped: while one is alive.
+    pub fn fits_leave(&self) -> bool
+        ensures { TellsFitting self.now acts.Leave result }
+    {
+        self.fits_join()
+    }
+
+    /// The key of a connection or approval that has not ended, by its number.
+    pub fn find(&self, number: u64) -> Option<Key>
+        ensures some { IfSome result (λ k. (k.number ≡ number) × IsRecordIn self.now number) }
+        ensures none { IfNone result (IsNoRecordIn self.now number) }
+    {
+        self.records.find(number)
+    }
+
+    /// The key of a get that has not ended, by its number.
+    pub fn find_get(&self, number: u64) -> Option<GetKey>
+        ensures some { IfSome result (λ g. (g.number ≡ number) × IsGetIn self.now number) }
+        ensures none { IfNone result (IsNoGetIn self.now number) }
+    {
+        self.gets.find(number)
+    }
+}

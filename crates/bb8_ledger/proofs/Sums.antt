@@ -1,0 +1,179 @@
+-- What each row of the step table does to the sizes, the numbers and the statistics.
+use Rattle.bb8_ledger.proofs.Words.{⊤, ◌≡◌, ◌⊎◌, ℕ, ◌+◌, ◌-◌, ◌<◌, ◌≤◌, min, Bool, true, false, cond, not, eqb, ltb, ◌&&◌, List, Option, Some, None, is_some, refl, ap, inl, inr, ⊎_elim, arith, length-append, Grant, Guarded, Held, Standing, Settings, Numbered, one, due, lacking, Act, Try, CheckedOk, GiveUp, Leave, Reason, TimedOut, Cancelled, Answer, Kept, Closed, GaveUp, Entered, Reaped, Left, Unfit, Ledger, Later, start, records, handles, idle, idle_count, first_idle, unnotified, notified, conns, approved, conns_of, approved_of, idle_of, alive, expires, waited_since, started, direct, waited, timed_out, cancelled, created, broken, expired, invalid, idled_out, get_of, Row, begins, waits_on, serves, takes_out, waits, checks, check_fails, gives_up, gives_up_kept, gives_up_closed, keeps, returns_closed, fills, claims, opens, opens_late, fails, adds, reaps, joins, leaves, IsWant, IsLegal, fits, outlived_at, idled_at, GivesNext, NeverGivesAgain, numbers_given, gets_given, lost, and_right, nat_tests}
+use Rattle.bb8_ledger.proofs.Effects.{each_legal, returns_turn, closes_turn, opens_turn, ends_turn, idle_turns, unclaimed_turns, stays_sized, turned_sized, adds_sized, granted_sized, reaped_sized, granted_reaped, left_sized}
+use Rattle.bb8_ledger.proofs.GetEffects.{trier_leaves, trier_holds, holder_ends, holder_turns, left_sums, left_told_sums, begun_sums, waits_on_sums, waits_sums, told_sums, given_up_sums}
+use Rattle.bb8_ledger.proofs.Facts.{idle_tally, none_first}
+use Rattle.bb8_ledger.proofs.Wants.{due_or_none}
+use Rattle.bb8_ledger.proofs.Held.{checks_turn, drops_turn, hands_in_turn}
+
+-- ---- words for the sums
+
+-- how many connections an answer says were closed
+abbrev ended_by : Answer → ℕ
+ended_by (Closed k grant n) = 1
+ended_by (Reaped closed by_idle by_life grant) = closed
+ended_by _ = 0
+
+-- how many connections an answer says that approvals brought
+abbrev entered_by : Answer → ℕ
+entered_by (Entered k n) = 1
+entered_by _ = 0
+
+pub due_few : (config : Settings) (handles taken asked : ℕ) → due config handles taken asked ≤ config.max_size - taken
+due_few config handles taken asked = go (eqb handles 0)
+  where
+    go : (b : Bool) → cond b 0 (min asked (config.max_size - taken)) ≤ config.max_size - taken
+    go true = omega arith
+    go false = omega arith
+
+one_of : (b x : Bool) → one b + one (not b && x) ≤ 1
+one_of true x = omega arith
+one_of false true = omega arith
+one_of false false = omega arith
+
+either_one : (b : Bool) → one (not b) + one b ≡ 1
+either_one true = refl
+either_one false = refl
+
+-- one is asked for, or there are enough
+one_or_enough : (have need : ℕ) → (one (ltb have need) ≡ 1) ⊎ (need ≤ have)
+one_or_enough have need = go (ltb have need) refl
+  where
+    go : (b : Bool) → ltb have need ≡ b → (one (ltb have need) ≡ 1) ⊎ (need ≤ have)
+    go true e = inl (ap one e)
+    go false e = inr (grind (arith, nat_tests, e))
+
+-- a handle is alive
+is_open : (n : ℕ) → ltb 0 n ≡ true → 0 < n
+is_open n e = grind (arith, nat_tests, e)
+
+-- how far the notified waiters may be fewer after an event, where so many are not notified then
+abbrev Lowers : {C : Type 0} → Act C → ℕ → ℕ → Type 0
+Lowers (Try g) less unnotified = ⊤
+Lowers (GiveUp g why held broken) less unnotified = min less unnotified ≡ 0
+Lowers _ less unnotified = less ≡ 0
+
+module _ {C : Type 0} where
+  -- nobody is idle where nobody is first
+  none_idle : (l : Ledger C) → first_idle l ≡ None → idle_count l ≡ 0
+  none_idle l none = omega (arith, idle_tally l, none_first (start l).config.queue_strategy (idle l) none)
+
+  -- the last handle leaves, or as much stands there as before
+  left_or_same : (l : Ledger C) (at n : ℕ) → ((handles l ≡ 1) × (idle_of (records (Later l at Leave (Left n))) ≡ 0))
+      ⊎ ((conns_of (records (Later l at Leave (Left n))) ≡ conns l) × (approved_of (records (Later l at Leave (Left n))) ≡ approved l)
+      × (idle_of (records (Later l at Leave (Left n))) ≡ idle_count l))
+  left_or_same l at n =
+      ⊎_elim
+      (λ (t : (handles l ≡ 1) × (idle_of (records (Later l at Leave (Left n))) ≡ 0)). inl t)
+      (λ (same : records (Later l at Leave (Left n)) ≡ records l). inr (ap conns_of same, ap approved_of same, ap idle_of same))
+      (left_sized l at n).last
+
+  -- what is granted is within the size
+  wanted_few : (l : Ledger C) (rs : List (Numbered (Standing C))) (g : Grant) → IsWant l rs g → g.count ≤ (start l).config.max_size - (conns_of rs + approved_of rs)
+  wanted_few l rs g want =
+      let taken : ℕ = conns_of rs + approved_of rs in
+      let asked : ℕ = lacking (start l).config (idle_of rs + approved_of rs) in
+      let split : g.count + g.withheld ≡ due (start l).config (handles l) taken asked = want.split in
+      omega (arith, due_few (start l).config (handles l) taken asked)
+
+  -- a served get counts once
+  served_once : (l : Ledger C) (e : Act C) → one (not (is_some (waited_since l e))) + one (is_some (waited_since l e)) ≡ 1
+  served_once l e = either_one (is_some (waited_since l e))
+
+  -- a get that gives up counts once
+  gave_up : (l : Ledger C) (at g : ℕ) (why : Reason) (held : Option C) (broken : Bool) (a : Answer) → (a ≡ Unfit → ⊥)
+      → timed_out (Later l at (GiveUp g why held broken) a) + cancelled (Later l at (GiveUp g why held broken) a) ≡ timed_out l + cancelled l + 1
+  gave_up l at g why held broken Unfit off = absurd (off refl)
+  gave_up l at g TimedOut held broken _ off = omega arith
+  gave_up l at g Cancelled held broken _ off = omega arith
+
+  -- While somebody waits unnotified, the idle ones do not outnumber the notified ones; while a handle is alive, the unnotified ones do not
+  -- outnumber the open approvals, or what could still serve is promised, but for what was lost.
+  pub record Serves (l : Ledger C) : Type 0 where
+    pub served : min (unnotified l) (idle_count l - notified l) ≡ 0
+    pub promised : min (handles l) (min (unnotified l - (approved l + lost l)) ((start l).config.max_size - (conns l + approved l) + idle_count l - (notified l + lost l))) ≡ 0
+
+  -- ---- the sums of a row
+
+  -- An answer gives the next numbers, the size is kept, each connection that ends is counted as one that stood there, and each get that
+  -- began is answered once or alive.
+  pub record Sums (l : Ledger C) (at : ℕ) (e : Act C) (a : Answer) : Type 0 where
+    pub gives : GivesNext l at e a
+    pub size : conns l + approved l ≤ (start l).config.max_size → conns (Later l at e a) + approved (Later l at e a) ≤ (start l).config.max_size
+    pub all_few : conns (Later l at e a) + approved (Later l at e a) + ended_by a ≤ conns l + approved l + numbers_given a
+    pub approved_few : approved (Later l at e a) + entered_by a ≤ approved l + numbers_given a
+    pub created_are : created (Later l at e a) ≡ created l + entered_by a
+    pub closed_few : broken (Later l at e a) + expired (Later l at e a) ≤ broken l + expired l + ended_by a
+    pub invalid_few : invalid (Later l at e a) + idled_out (Later l at e a) ≤ invalid l + idled_out l + ended_by a
+    pub started_are : started (Later l at e a) ≡ started l + gets_given a
+    pub answered_are : direct (Later l at e a) + waited (Later l at e a) + timed_out (Later l at e a) + cancelled (Later l at e a) + alive
+        (Later l at e a) ≡ direct l + waited l + timed_out l + cancelled l + alive l + gets_given a
+    pub serves : conns l + approved l ≤ (start l).config.max_size → Serves l → Serves (Later l at e a)
+    pub remembers : Lowers e (notified l - notified (Later l at e a)) (unnotified (Later l at e a))
+
+  pub row_sums : (l : Ledger C) (at : ℕ) (e : Act C) (a : Answer) → IsLegal l → fits l e ≡ true → Row l at e a → Sums l at e a
+  row_sums l at _ _ legal f (begins {g} is few) = omega (arith, begun_sums l)
+  row_sums l at _ _ legal f (waits_on {g} {grant} on nothing) = omega (arith, granted_sized false grant.count (stays_sized l), waits_on_sums l at g on)
+  row_sums l at _ _ legal f (serves {g} {k} {grant} not_waiting off first want) =
+      let z = turned_sized (idle_turns l k Guarded first).1 in
+      omega (arith, z, granted_sized false grant.count z, wanted_few l _ grant want, left_sums (trier_leaves l g f not_waiting), served_once l (Try g))
+  row_sums l at _ _ legal f (takes_out {g} {k} {grant} not_waiting on first want) =
+      let z = turned_sized (idle_turns l k (Held g) first).1 in
+      omega (arith, z, granted_sized false grant.count z, wanted_few l _ grant want, left_sums (trier_holds l g k f not_waiting))
+  row_sums l at _ _ legal f (waits {g} {grant} not_waiting none granted) =
+      let asked : ℕ = one (ltb (approved l) (alive l)) in
+      omega (
+        arith,
+        granted_sized false grant.count (stays_sized l),
+        waits_sums l at g _ refl f not_waiting,
+        due_few (start l).config (handles l) (conns l + approved l) asked,
+        due_or_none (start l).config (handles l) (conns l + approved l) asked,
+        one_or_enough (approved l) (alive l),
+        none_idle l none,
+      )
+  row_sums l at _ _ legal f (checks {g} {k} holds_it nothing) =
+      let t = holder_ends l g k holds_it in
+      omega (arith, turned_sized (checks_turn l g k legal holds_it), left_sums t.0, ap one t.1, served_once l (CheckedOk g))
+  row_sums l at _ _ legal f (check_fails {g} {k} {broken = b} {grant} {n} holds_it want is) =
+      let z = turned_sized (drops_turn l g k legal holds_it) in
+      let t = holder_turns l g k holds_it in
+      omega (arith, z, granted_sized false grant.count z, wanted_few l _ grant want, left_told_sums t.0 n is t.1, one_of b (expires l at k))
+  row_sums l at _ _ legal f (gives_up {g} {why} {broken} {n} is) =
+      omega (arith, given_up_sums l g n (and_right (is_some (get_of l g)) _ f).0 is, gave_up l at g why None broken (GaveUp n) (λ e. cc))
+  row_sums l at _ _ legal f (gives_up_kept {g} {k} {why} {c} {broken = b} {n} holds_it keep is) =
+      let t = holder_ends l g k holds_it in
+      omega (arith, turned_sized (hands_in_turn l at g k c legal holds_it), left_told_sums t.0 n is t.1, gave_up l at g why (Some c) b (Kept k n) (λ e. cc))
+  row_sums l at _ _ legal f (gives_up_closed {g} {k} {why} {c} {broken = b} {grant} {n} holds_it shut want is) =
+      let z = turned_sized (drops_turn l g k legal holds_it) in
+      let t = holder_ends l g k holds_it in
+      omega (
+        arith,
+        z,
+        granted_sized false grant.count z,
+        wanted_few l _ grant want,
+        left_told_sums t.0 n is t.1,
+        one_of b (expires l at k),
+        gave_up l at g why (Some c) b (Closed k grant n) (λ e. cc),
+      )
+  row_sums l at _ _ legal f (keeps {k} {c} {n} keep is) = omega (arith, turned_sized (returns_turn l at k c f), told_sums l n is)
+  row_sums l at _ _ legal f (returns_closed {k} {c} {broken = b} {grant} {n} shut want is) =
+      let z = turned_sized (closes_turn l k f) in
+      omega (arith, z, granted_sized false grant.count z, wanted_few l _ grant want, told_sums l n is, one_of b (expires l at k))
+  row_sums l at _ _ legal f (fills {claimed} {grant} want) = omega (arith, granted_sized claimed grant.count (stays_sized l), wanted_few l _ grant want)
+  row_sums l at _ _ legal f (claims {k = Some k} open_now first) = omega (arith, turned_sized (unclaimed_turns l k first))
+  row_sums l at _ _ legal f (opens {k} {c} {n} open_now is) = omega (arith, turned_sized (opens_turn l at k c f), told_sums l n is)
+  row_sums l at _ _ legal f (opens_late {k} none) = omega (arith, turned_sized (ends_turn l k f))
+  row_sums l at _ _ legal f (fails {k}) = omega (arith, turned_sized (ends_turn l k f))
+  row_sums l at _ _ legal f (adds {k} {c} {n} room few is who) = omega (arith, adds_sized l at c, told_sums l n who)
+  row_sums l at _ _ legal f (reaps {closed} {by_idle} {by_life} {grant} open_now closed_is by_idle_is by_life_is want) =
+      let z = reaped_sized l at in
+      omega (arith, z, granted_reaped grant.count z, wanted_few l _ grant want, length-append (outlived_at l at) (idled_at l at))
+  row_sums l at _ _ legal f (joins few) = omega (arith, is_open (handles l) f)
+  row_sums l at _ _ legal f (leaves {n} is) = omega (arith, left_sized l at n, left_or_same l at n)
+  row_sums l at _ _ legal f _ = omega arith
+
+  -- ---- what they sum up to
+
+  -- no number is given again
+  pub never_again : (l : Ledger C) → IsLegal l → NeverGivesAgain l
+  never_again = each_legal NeverGivesAgain (λ s lawful. tt) (λ l at e before. (before, omega arith)) (λ l at e a legal f row before. (before, (row_sums l at e a legal f row).gives))

@@ -1,0 +1,99 @@
+//! Gets that wait for connections that are all out.
+
+use crate::manager::{NumberGet, NumberGuard, NumberPool, Runtime};
+use bb8::{Clock, Memory, PoolParts};
+use futures::task::Poll;
+use futures::test::MockTask;
+
+/// How many polls last a while.
+const POLLS: u64 = 200_000;
+
+/// Gets that wait, and the guards that they wait for.
+#[derive(Drop)]
+struct Crowd<'a, K: Clock, R: Runtime, L: PoolParts> {
+    task: MockTask,
+    guards: Vec<NumberGuard<'a, K, R, L>>,
+    gets: Vec<NumberGet<'a, K, R, L>>,
+}
+
+/// Takes so many connections, which are all, and has so many gets wait, each polled once by hand.
+fn waiting<'a, K: Clock, R: Runtime, L: PoolParts>(
+    rt: &R,
+    pool: &'a NumberPool<K, R, L>,
+    gets: u64,
+    size: u32,
+) -> Result<Crowd<'a, K, R, L>, Memory> {
+    let Ok(task) = MockTask::new(rt) else {
+        return Err(Memory);
+    };
+    let mut crowd = Crowd {
+        task,
+        guards: Vec::new(rt.alloc()),
+        gets: Vec::new(rt.alloc()),
+    };
+    for _ in 0..size {
+        if let Poll::Ready(Ok(guard)) = crowd.task.poll(&mut pool.get()) {
+            crowd.guards.push(guard)?;
+        }
+    }
+    for _ in 0..gets {
+        let mut get = pool.get();
+        if let Poll::Pending = crowd.task.poll(&mut get) {
+            crowd.gets.push(get)?;
+        }
+    }
+    Ok(crowd)
+}
+
+/// So many gets wait; then one after another a guard is dropped, and the get that waited longest is polled by hand and served: how many were.
+pub fn served_in_turn<K: Clock, R: Runtime, L: PoolParts>(
+    rt: &R,
+    pool: &NumberPool<K, R, L>,
+    gets: u64,
+    size: u32,
+) -> Result<u64, Memory> {
+    let Crowd {
+        task,
+        mut guards,
+        mut gets,
+    } = waiting(rt, pool, gets, size)?;
+    let mut served: u64 = 0;
+    for get in gets.iter_mut() {
+        drop(guards.pop());
+        if let Poll::Ready(Ok(guard)) = task.poll(get) {
+            served = served.saturating_add(1);
+            guards.push(guard)?;
+        }
+    }
+    Ok(served)
+}
+
+/// So many gets wait, and the one that came last is polled by hand for a while: how many there are.
+pub fn kept_waiting<K: Clock, R: Runtime, L: PoolParts>(
+    rt: &R,
+    pool: &NumberPool<K, R, L>,
+    gets: u64,
+    size: u32,
+) -> Result<u64, Memory> {
+    let mut crowd = waiting(rt, pool, gets, size)?;
+    let mut last = crowd.gets.pop();
+    if let Some(get) = &mut last {
+        for _ in 0..POLLS {
+            let _ = crowd.task.poll(get);
+        }
+    }
+    Ok(gets)
+}
+
+/// So many gets wait, and are let go: how many were.
+pub fn let_go<K: Clock, R: Runtime, L: PoolParts>(
+    rt: &R,
+    pool: &NumberPool<K, R, L>,
+    gets: u64,
+    size: u32,
+) -> Result<u64, Memory> {
+    let crowd = waiting(rt, pool, gets, size)?;
+    let many = crowd.gets.len() as u64;
+    drop(crowd.gets);
+    Ok(many)
+}

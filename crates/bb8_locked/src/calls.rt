@@ -1,0 +1,122 @@
+//! What guards and handles do with a pool, over any home with sections and any calls outside.
+//!
+//! The home is released after each section, before anything else is called.
+ghost use Rattle.bb8_locked.specs.Chains.{Adds, AfterReturn, CancelsAndLeaves, IsTold, Joins, Leaves, Returns, ReturnsAndLeaves, Shows};
+
+use crate::handles::{Handle, Joining, SectionHome};
+use bb8_core::api::{AddError, State};
+use bb8_core::internals::{AddAnswer, PutBackAnswer};
+use bb8_gets::{GetState, Outside, Taken, ask};
+
+/// A guard's connection comes back: it is asked whether it is broken, the clock is read, and the home takes it back and is released. What
+/// does not stay is dropped then.
+pub fn give_back<C, V, P, E, X: SectionHome<C, Part = P> + Outside<C, E, Checking = V>>(
+    pool: &mut X,
+    taken: Taken<C, P>,
+)
+    ensures { Returns X.GetHome X.SectionHome.own X.Outside taken pool.old pool.new }
+{
+    let returned = ask(pool, taken);
+    let at = pool.now();
+    let answer = pool.put_back(at, returned);
+    pool.release();
+    drop_closed(pool, answer);
+}
+
+/// A connection that does not stay as it comes back is dropped.
+fn drop_closed<C, E, X: Outside<C, E>>(pool: &mut X, answer: Result<PutBackAnswer<C>, C>)
+    ensures { AfterReturn X.Outside answer pool.old pool.new }
+{
+    match answer {
+        Ok(PutBackAnswer::Kept(_)) => {}
+        Ok(PutBackAnswer::Closed(closed, ..)) => pool.let_go(closed),
+        Err(unfit) => pool.let_go(unfit),
+    }
+}
+
+/// A connection is added: it is asked whether it is broken, the clock is read, and the home takes or refuses it and is released.
+pub fn add<C, V, P, E, X: SectionHome<C, Part = P> + Outside<C, E, Checking = V>>(
+    pool: &mut X,
+    mut conn: C,
+) -> Result<(), AddError<C>>
+    ensures { Adds X.GetHome X.SectionHome.own X.Outside conn pool.old result pool.new }
+{
+    let broken = pool.has_broken(&mut conn);
+    let at = pool.now();
+    let answer = pool.add(at, conn, broken);
+    pool.release();
+    told(answer)
+}
+
+/// What the caller of an adding is told. A pool whose last handle left would have no capacity; whoever calls it has one.
+fn told<C>(answer: Result<AddAnswer<C>, C>) -> Result<(), AddError<C>>
+    ensures { IsTold answer result }
+{
+    match answer {
+        Ok(AddAnswer::Added(_, _)) => Ok(()),
+        Ok(AddAnswer::Broken(conn)) => Err(AddError::Broken(conn)),
+        Ok(AddAnswer::NoCapacity(conn)) | Err(conn) => Err(AddError::NoCapacity(conn)),
+        Ok(AddAnswer::Withheld(conn)) => Err(AddError::Withheld(conn)),
+    }
+}
+
+/// What the home tells of itself, at a reading of the clock.
+pub fn state<C, V, P, E, X: SectionHome<C, Part = P> + Outside<C, E, Checking = V>>(
+    pool: &mut X,
+) -> State
+    ensures { Shows X.GetHome X.SectionHome.own X.Outside pool.old result pool.new }
+{
+    let at = pool.now();
+    let state = pool.state(at);
+    pool.release();
+    state
+}
+
+/// One handle more is counted, or refused, at a reading of the clock.
+pub fn join<C, V, P, E, X: SectionHome<C, Part = P> + Outside<C, E, Checking = V>>(
+    pool: &mut X,
+) -> Joining
+    ensures { Joins X.GetHome X.SectionHome.own X.Outside pool.old result pool.new }
+{
+    let at = pool.now();
+    let answer = pool.join(at);
+    pool.release();
+    answer
+}
+
+/// A handle leaves, at a reading of the clock. What the last one closes is dropped before the home is released.
+pub fn leave<C, V, P, E, X: SectionHome<C, Part = P> + Outside<C, E, Checking = V>>(
+    pool: &mut X,
+    handle: Handle,
+)
+    ensures { Leaves X.GetHome X.SectionHome.own X.Outside pool.old pool.new }
+{
+    let at = pool.now();
+    let _ = pool.leave(at, handle);
+    pool.release();
+}
+
+/// The connection of a guard that has a handle comes back, and then the handle leaves.
+pub fn give_back_and_leave<C, V, P, E, X: SectionHome<C, Part = P> + Outside<C, E, Checking = V>>(
+    pool: &mut X,
+    taken: Taken<C, P>,
+    handle: Handle,
+)
+    ensures { ReturnsAndLeaves X.GetHome X.SectionHome.own X.Outside taken pool.old pool.new }
+{
+    give_back(pool, taken);
+    leave(pool, handle);
+}
+
+/// A get that has a handle is let go, the home is released, and then the handle leaves.
+pub fn cancel_and_leave<C, V, P, E, X: SectionHome<C, Part = P> + Outside<C, E, Checking = V>>(
+    pool: &mut X,
+    get: GetState<C, V, P>,
+    handle: Handle,
+)
+    ensures { CancelsAndLeaves X.GetHome X.SectionHome.own X.Outside get.stage pool.old pool.new }
+{
+    get.cancel_step(pool);
+    pool.release();
+    leave(pool, handle);
+}

@@ -1,0 +1,81 @@
+-- What callers see of a runner: its jobs, its next id, its pool and its driver; and what its calls do to them.
+use Rattle.std.specs.Prelude.{◌≡◌, ℕ, List, ⊤}
+use Rattle.std.specs.contracts.prelude.InfallibleDebug.TheImpl as infallible
+use Rattle.std.specs.declared.convert.Infallible.{Infallible}
+use Rattle.futures.specs.declared.task.Poll.{Poll}
+use Rattle.bb8_types.specs.declared.api.clocks.Clock.{Ghosts as ClockOf}
+use Rattle.bb8_types.specs.declared.api.customizers.CustomizeConnection.{Ghosts as CustomizerOf}
+use Rattle.bb8_types.specs.declared.api.moments.Moment.{Moment}
+use Rattle.bb8_types.specs.declared.api.sinks.ErrorSink.{Ghosts as SinkOf}
+use Rattle.bb8_gets.specs.declared.state.Stage.TheVariants.{Fresh}
+use Rattle.bb8_turns.specs.declared.turning.Turn.{Turn}
+use Rattle.bb8.specs.declared.Parts.{Ghosts as PartsOf}
+use Rattle.bb8.specs.declared.driver.Driver.{Driver}
+use Rattle.bb8.specs.declared.get.future.GetFuture.{GetFuture}
+use Rattle.bb8.specs.declared.pool.Pool.{Pool}
+use Rattle.bb8.specs.Drivers.{TurnsDriver}
+use Rattle.bb8.specs.Gets.{PollsGet}
+use Rattle.bb8.specs.Pools.{settings_in, stage_of, IsOf}
+use Rattle.slots.specs.contracts.slot.SlotManagerManageConnection.TheImpl as manager
+use Rattle.slots.specs.declared.entries.Entry.{Entry}
+use Rattle.slots.specs.declared.job.Job.{Ghosts as JobOf}
+use Rattle.slots.specs.declared.runner.Runner.{Runner}
+use Rattle.slots.specs.declared.slot.Slot.{Slot}
+use Rattle.slots.specs.declared.slot.SlotManager.{SlotManager}
+use Rattle.slots.specs.Entries.{running, Adds}
+use Rattle.slots.specs.Turns.{StepsEach}
+
+module _ (S Z K R L A : Type 0) (l : PartsOf L) where
+  -- a pool of slots
+  abbrev pub SlotPool : Type 0
+  SlotPool = Pool SlotManager S Z K R L Slot Infallible ⊤ ⊤ A manager.ghosts infallible.ghosts l
+
+  -- a driver of one
+  abbrev pub SlotDriver : Type 0
+  SlotDriver = Driver SlotManager S Z K R L Slot Infallible ⊤ ⊤ A manager.ghosts infallible.ghosts l
+
+  -- a get of a slot
+  abbrev pub SlotGet : Type 0
+  SlotGet = GetFuture SlotManager S Z K R L Slot Infallible ⊤ ⊤ A manager.ghosts infallible.ghosts l
+
+module _ {J S Z K R L O A : Type 0} {j : JobOf J O} {s : SinkOf S Infallible} {z : CustomizerOf Z Slot Infallible A} {k : ClockOf K} {l : PartsOf L} where
+  -- the jobs of a runner whose outcomes were not taken, in the order of their ids
+  abbrev pub jobs_in : Runner J S Z K R L O A j s z k l → List (Entry J O (SlotGet S Z K R L A l))
+  jobs_in runner = runner.entries.items
+
+  -- how many of them run
+  abbrev pub running_in : Runner J S Z K R L O A j s z k l → ℕ
+  running_in runner = running (jobs_in runner)
+
+  -- the id that the next job gets
+  abbrev pub next_id : Runner J S Z K R L O A j s z k l → ℕ
+  next_id runner = runner.next
+
+  -- the pool of a runner
+  abbrev pub pool_of : Runner J S Z K R L O A j s z k l → SlotPool S Z K R L A l
+  pool_of runner = runner.pool.now
+
+  -- the driver of a runner
+  abbrev pub driver_of : Runner J S Z K R L O A j s z k l → SlotDriver S Z K R L A l
+  driver_of runner = runner.driver
+
+  -- how many jobs may run: as many as the pool may have connections
+  abbrev pub most_running : Runner J S Z K R L O A j s z k l → ℕ
+  most_running runner = (settings_in (pool_of runner)).max_size
+
+  -- a job is taken on: it stands behind the others, under the next id, and waits by a get of the pool that was not polled
+  abbrev pub TakesOn : Runner J S Z K R L O A j s z k l → J → Runner J S Z K R L O A j s z k l → Type 0
+  TakesOn runner job runner' =
+      Adds (λ get. (stage_of get ≡ Fresh) × IsOf get (pool_of runner)) (next_id runner) job (jobs_in runner) (jobs_in runner')
+
+  -- the driver makes a turn at a moment
+  abbrev pub TurnsIts : CustomizerOf Z Slot Infallible A → (S → Infallible → Type 0) → (K → Moment → Type 0) → Moment
+      → Runner J S Z K R L O A j s z k l → Runner J S Z K R L O A j s z k l → Type 0
+  TurnsIts customizer sinks tells moment runner runner' =
+      (turn : Turn) × TurnsDriver customizer sinks tells moment (driver_of runner) turn (driver_of runner')
+
+  -- each job makes a step at a moment, and so many end
+  abbrev pub StepsJobs : (J → Moment → Poll O → J → Type 0) → (S → Infallible → Type 0) → (K → Moment → Type 0) → Moment
+      → Runner J S Z K R L O A j s z k l → Runner J S Z K R L O A j s z k l → ℕ → Type 0
+  StepsJobs polls sinks tells moment runner runner' ended =
+      StepsEach polls (PollsGet sinks tells) moment (jobs_in runner) (jobs_in runner') ended
