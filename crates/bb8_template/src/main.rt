@@ -1,0 +1,30 @@
+//! Threads that share a pool of connections.
+#![tactic(auto)]
+
+mod manager;
+mod service;
+
+use crate::manager::Manager;
+use crate::service::Asking;
+use bb8::{Builder, MachineClock};
+use std::io;
+use std::process::ExitCode;
+
+/// How many threads share the pool.
+const THREADS: usize = 4;
+
+fn main(rt: HostRuntime) -> io::Result<ExitCode> {
+    let outcome = Builder::new()
+        .max_size(2)
+        .serve(Manager, MachineClock(rt), rt, THREADS, &Asking { rt });
+    match outcome {
+        Ok(answered) => {
+            println!(rt; "{answered} questions answered")?;
+            Ok(ExitCode::SUCCESS)
+        }
+        Err(error) => {
+            eprintln!(rt; "no pool: {error}")?;
+            Ok(ExitCode::FAILURE)
+        }
+    }
+}
