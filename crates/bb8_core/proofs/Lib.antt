@@ -6,6 +6,7 @@ pub mod Fitting
 pub mod Steps
 pub mod GetEnds
 pub mod Reaps
+pub mod Closings
 pub mod Runs
 pub mod AtOnce
 pub mod Parts

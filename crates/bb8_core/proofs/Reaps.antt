@@ -35,14 +35,14 @@ module _ {C : Type 0} where
       (λ l legal f none. (reap_ended none, refl, refl))
 
   -- what the code ended is what the ledger's list ends, at any position
-  abbrev Ended_at : Ledger C → ℕ → ℕ → List ℕ → List ℕ → Type 0
+  abbrev pub Ended_at : Ledger C → ℕ → ℕ → List ℕ → List ℕ → Type 0
   Ended_at l at p js ks = AreEnded (start l) p (peak l) (max (latest l) at) js ks (records l)
 
   -- the records once both have ended
-  abbrev both_ended : List ℕ → List ℕ → ShownRecords C → ShownRecords C
+  abbrev pub both_ended : List ℕ → List ℕ → ShownRecords C → ShownRecords C
   both_ended js ks rs = after_reap ks (after_reap js rs)
 
-  ended_at : (l : Ledger C) (at p : ℕ) (js ks : List ℕ) (told : Told) → Before idle_at p (records l) → shown_records (start l).first p (peak l) (records l) ≡ (shown l).records
+  pub ended_at : (l : Ledger C) (at p : ℕ) (js ks : List ℕ) (told : Told) → Before idle_at p (records l) → shown_records (start l).first p (peak l) (records l) ≡ (shown l).records
       → Reaps (start l).config (max (latest l) at) (shown l).records js ks (both_ended js ks (shown l).records) told → Ended_at l at p js ks
   ended_at l at p js ks told before is h =
       let r = subst (λ (s : ShownRecords C). Reaps (start l).config (max (latest l) at) s js ks (both_ended js ks s) told) (sym is) h in

@@ -57,7 +57,7 @@ module _ {C : Type 0} where
     show = shown_records first p top
 
     -- the idle connection that is first ends
-    shown-idle_end : (rs : List (Numbered (Standing C))) (k : ℕ) (rest : List ℕ) → in_order idle_at first rs p ≡ k ∷ rest
+    pub shown-idle_end : (rs : List (Numbered (Standing C))) (k : ℕ) (rest : List ℕ) → in_order idle_at first rs p ≡ k ∷ rest
         → (show (update first k after_end rs) ≡ machine.after_idle_end k (show rs)) × (shut (update first k after_end rs) ≡ shut rs)
     shown-idle_end rs k rest h =
         let m : (r : Numbered (Standing C)) × (at first rs k ≡ Some r) × (q : ℕ) × (q < p)

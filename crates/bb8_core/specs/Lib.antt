@@ -1,6 +1,7 @@
 pub mod Shown
 pub mod Decided
 pub mod StepAnswers
+pub mod Closings
 pub mod Pool
 pub mod Run
 pub mod Parts
@@ -16,6 +17,7 @@ pub use Rattle.bb8_types.specs.ErrorLaws
 pub use Rattle.bb8_tables.specs.Keys
 pub use Rattle.bb8_tables.specs.Views
 pub use Rattle.bb8_tables.specs.Machine
+pub use Rattle.bb8_tables.specs.Closed
 pub use Rattle.bb8_ledger.specs.Acts
 pub use Rattle.bb8_ledger.specs.Answers
 pub use Rattle.bb8_ledger.specs.Ledger

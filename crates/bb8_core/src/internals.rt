@@ -14,6 +14,7 @@ ghost use Rattle.bb8_core.specs.Endings.{endings_of};
 ghost use Rattle.bb8_core.specs.Run.{opening};
 ghost use Rattle.bb8_core.specs.Parts.{out_of};
 ghost use Rattle.bb8_core.specs.Shown.{Means, Meets, Lends, Searches, examined, searched, IsFitting, IsWithinLimits};
+ghost use Rattle.bb8_core.specs.Closings.{OffersReaped, OffersLeft};
 ghost use Rattle.bb8_core.specs.StepAnswers.{begin_told, try_told, checked_ok_told, checked_err_told, reason_of, give_up_told, put_back_told, claim_told, opened_told, failed_told, add_told, reap_told, join_told, leave_told, look_told, HandsOut, ServesAtOnce, NoneAtOnce, GivesBack, GivesBackInvalid, GivesBackHeld, HandsBack, Refuses, closed_in};
 ghost use Rattle.bb8_types.specs.declared.standing.Holder.TheVariants.{Guard, Get};
 ghost use Rattle.bb8_types.specs.declared.standing.Standing.{Standing};
@@ -29,6 +30,7 @@ pub use crate::answers::{
     TryAnswer,
 };
 use bb8_tables::Lendings;
+pub use bb8_tables::closed::{Closed, ClosedList};
 use bb8_tables::counters::Counters;
 use bb8_tables::gets::{Gets, first_wait, held_key, is_notified, is_unnotified};
 pub use bb8_tables::keys::{GetKey, Key};
@@ -600,13 +602,27 @@ impl<C: Drop> PoolInternals<C> {
         ensures examined { Lends (closed_in result + out_of self.old + 2) self.old self.new }
         ensures searched { Searches 0 self.new }
     {
+        let mut dropped = self.records.no_list();
+        self.reap_into(at, &mut dropped)
+    }
+
+    /// Reaps as `reap` does, and puts the connections that it closes into a list, in the order in which it closes them. What the list has no
+    /// room for is dropped. Our own.
+    pub fn reap_into(&mut self, at: Moment, closed: &mut ClosedList<C>) -> ReapAnswer
+        ensures closed { OffersReaped self.old at.0 result closed.old closed.new }
+        ensures step { Meets self.old at.0 acts.Reap (reap_told result) self.new }
+        ensures examined { Lends (closed_in result + out_of self.old + 2) self.old self.new }
+        ensures searched { Searches 0 self.new }
+    {
         let now = self.latest.max(at.0);
         self.latest = now;
         self.lendings.start();
         if self.handles == 0 {
             return ReapAnswer::Ended;
         }
-        let reaped = self.records.reap(&self.config, now, &mut self.lendings);
+        let reaped = self
+            .records
+            .reap(&self.config, now, closed, &mut self.lendings);
         let wanted = want(&self.config, self.handles, &self.records);
         let grant = self.records.grant(wanted, false);
         self.counters.reap(reaped.by_idle, reaped.by_life);
@@ -665,11 +681,21 @@ impl<C: Drop> PoolInternals<C> {
         requires { IsFitting self.old acts.Leave }
         ensures { Meets self.old at.0 acts.Leave (leave_told result) self.new }
     {
+        let mut dropped = self.records.no_list();
+        self.leave_into(at, &mut dropped)
+    }
+
+    /// Leaves as `leave` does, and puts the connections that it closes into a list, in line. What the list has no room for is dropped. Our own.
+    pub fn leave_into(&mut self, at: Moment, closed: &mut ClosedList<C>) -> LeaveAnswer
+        requires { IsFitting self.old acts.Leave }
+        ensures step { Meets self.old at.0 acts.Leave (leave_told result) self.new }
+        ensures closed { OffersLeft self.old closed.old closed.new }
+    {
         self.latest = self.latest.max(at.0);
         self.lendings.start();
         if self.handles == 1 {
             self.handles = 0;
-            return LeaveAnswer::Left(self.records.leave());
+            return LeaveAnswer::Left(self.records.leave(closed));
         }
         self.handles -= 1;
         LeaveAnswer::Left(0)

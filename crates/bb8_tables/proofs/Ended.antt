@@ -1,6 +1,9 @@
 -- Lines that end, the first one first.
 use Rattle.std.proofs.Common.{◌≡◌, ℕ, ◌+◌, ◌<◌, ◌≤◌, List, [], ◌∷◌, length, drop, Option, Some, None, IfSome, IfNone, slice_get, refl, ap, ◌∙◌, arith}
+use Rattle.circular_buffer.specs.Buffer.{Buffer}
+use Rattle.bb8_tables.specs.declared.closed.Closed.{Closed}
 use Rattle.bb8_tables.specs.declared.keys.Key.{Key}
+use Rattle.bb8_tables.specs.Closed.{offered_all, closed_of}
 use Rattle.bb8_tables.specs.Views.{ShownRecords}
 use Rattle.bb8_tables.specs.Machine as machine
 
@@ -15,6 +18,14 @@ module _ {C : Type 0} where
       go : (xs : List ℕ) → slice_get xs 0 ≡ Some key.number → machine.after_idle_ends (drop 1 xs) (machine.after_idle_end key.number s) ≡ machine.after_idle_ends xs s
       go [] h = cc
       go (x ∷ xs) h = let same : key.number ≡ x = cc in ap (λ (k : ℕ). machine.after_idle_ends xs (machine.after_idle_end k s)) same
+
+  -- and the list has all of it
+  pub idles_listed_all : (s : ShownRecords C) (n m : ℕ) {offered u : Buffer (Closed C)} → offered_all (closed_of s.idle s.places) offered ≡ u → length s.idle + n ≡ m → m ≤ n → offered ≡ u
+  idles_listed_all s n m {offered} same is past = go s.idle is ∙ same
+    where
+      go : (xs : List ℕ) → length xs + n ≡ m → offered ≡ offered_all (closed_of xs s.places) offered
+      go [] e = refl
+      go (x ∷ xs) e = absurd (omega arith)
 
   -- so the line is shorter by one
   pub idles_shorter : (s t : ShownRecords C) (o : Option Key) (n m : ℕ)

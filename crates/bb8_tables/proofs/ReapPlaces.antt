@@ -1,14 +1,17 @@
 -- Idle connections that end.
-use Rattle.std.proofs.Common.{◌≡◌, ℕ, ◌+◌, ◌-◌, ◌≤◌, Bool, true, false, ◌&&◌, List, [], ◌∷◌, length, Option, Some, None, option_map, slice_get, refl, sym, ap, ◌∙◌, arith, subst, length-append}
+use Rattle.std.proofs.Common.{◌≡◌, ℕ, ◌+◌, ◌-◌, ◌≤◌, Bool, true, false, ◌&&◌, List, [], ◌∷◌, length, Option, Some, None, option_map, slice_get, refl, sym, ap, ◌∙◌, arith, subst, length-append, append-nil}
 use Rattle.std.proofs.lemmas.List.{drop-map, length-map}
 use Rattle.std.proofs.lemmas.Option.{slice_get-map}
-use Rattle.std.specs.FinMap.{remove}
+use Rattle.std.specs.FinMap.{get, remove}
+use Rattle.circular_buffer.specs.Buffer.{Buffer}
 use Rattle.bb8_types.specs.Settings.{Settings}
 use Rattle.bb8_types.specs.Places.{is_idle, is_unclaimed, is_conn, is_approval, lives_out}
 use Rattle.bb8_types.specs.Numbered.{tally}
 use Rattle.bb8_types.specs.declared.standing.Standing.{Standing}
 use Rattle.bb8_tables.specs.declared.table.Slot.{Slot}
 use Rattle.bb8_tables.specs.declared.records.Records.TheInside.{Inside}
+use Rattle.bb8_tables.specs.declared.closed.Closed.{Closed}
+use Rattle.bb8_tables.specs.Closed.{offered_all, closed_in}
 use Rattle.bb8_tables.specs.Dues.{EndsFirst}
 use Rattle.bb8_tables.specs.Lined.{Lined, slot_at}
 use Rattle.bb8_tables.specs.Machine.{without}
@@ -85,13 +88,15 @@ module _ {C : Type 0} where
         ap (λ (ks : List ℕ). length ks + 1) freed_line ∙ one_shorter a.slots.slots a.slots.line place there.0 good.idle.are there.1
 
     -- it ends because it was due
-    pub freed_due : (test : Option (Standing C) → Bool) (old : ShownRecords C) → view_of_records a ≡ old → test (Some x.standing) ≡ true
-        → EndsFirst test old x.number (view_of_records (record a { slots = slots; conns = a.conns - 1 }))
-    freed_due test old shows is = subst (λ (s : ShownRecords C). EndsFirst test s x.number (view_of_records (record a { slots = slots; conns = a.conns - 1 }))) shows (record {
+    pub freed_due : (test : Option (Standing C) → Bool) (old : ShownRecords C) {list offered : Buffer (Closed C)} → view_of_records a ≡ old → test (Some x.standing) ≡ true
+        → offered ≡ offered_all (closed_in x.number (Some x.standing)) list → EndsFirst test old x.number (view_of_records (record a { slots = slots; conns = a.conns - 1 })) list offered
+    freed_due test old {list} {offered} shows is listed = subst (λ (s : ShownRecords C). EndsFirst test s x.number (view_of_records (record a { slots = slots; conns = a.conns - 1 })) list offered) shows (record {
       is_due = ap test (shown_at a place x.number x good at_place refl) ∙ is;
       state = freed_view;
       conns = (let some : 1 ≤ a.conns = freed_counted in omega arith);
       idle = ap (λ (n : ℕ). n + 1) (length-map slots.line (λ (i : ℕ). number_in numbered (slot_at slots i))) ∙ freed_shorter ∙ sym (length-map a.slots.line (λ (i : ℕ). number_in numbered (slot_at a.slots i)));
+      listed = listed
+          ∙ ap (λ (xs : List (Closed C)). offered_all xs list) (ap (closed_in x.number) (sym (shown_at a place x.number x good at_place refl)) ∙ sym (append-nil (closed_in x.number (get (view_of_records a).places x.number))));
     })
 
   -- none ends where none is idle
@@ -130,3 +135,11 @@ module _ {C : Type 0} where
     idle_end_first = slice_get-map (λ (i : ℕ). number_in numbered (slot_at a.slots i)) a.slots.line 0
         ∙ ap (option_map (λ (i : ℕ). number_in numbered (slot_at a.slots i))) (sym first)
         ∙ ap (λ (o : Option (Slot (Standing C))). Some (number_in numbered o)) ended.1 ∙ ap (λ (q : ℕ). Some q) (sym (number_is ended.0 ended.1))
+
+    pub idle_end_listed : {list offered : Buffer (Closed C)}
+        → ((x : Slot (Standing C)) → slot_at a.slots place ≡ Some x → offered ≡ offered_all (closed_in x.number (Some x.standing)) list)
+        → offered ≡ offered_all (closed_in number (get (view_of_records a).places number)) list
+    idle_end_listed {list} put = put ended.0 ended.1
+        ∙ ap (λ (xs : List (Closed C)). offered_all xs list)
+        (ap (closed_in ended.0.number) (sym (shown_at a place ended.0.number ended.0 good ended.1 refl))
+        ∙ ap (λ (k : ℕ). closed_in k (get (view_of_records a).places k)) (sym (number_is ended.0 ended.1)))

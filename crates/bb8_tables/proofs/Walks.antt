@@ -14,6 +14,9 @@ use Rattle.bb8_types.specs.declared.standing.Standing.{Standing}
 use Rattle.bb8_tables.specs.declared.table.Slot.{Slot}
 use Rattle.bb8_tables.specs.declared.records.Records.TheInside.{Inside}
 use Rattle.bb8_tables.specs.declared.records.reaps.Passed.TheVariants.{Young, Out, Aged}
+use Rattle.circular_buffer.specs.Buffer.{Buffer}
+use Rattle.bb8_tables.specs.declared.closed.Closed.{Closed}
+use Rattle.bb8_tables.specs.Closed.{offered_all, closed_in, closed_of}
 use Rattle.bb8_tables.specs.Dues.{EndsFirst, Ends, EndsIdle, Passes}
 use Rattle.bb8_tables.specs.Lent.{Lent, Adds}
 use Rattle.bb8_tables.proofs.Lent.{adds_none, adds_more, adds_within}
@@ -29,7 +32,7 @@ use Rattle.bb8_tables.proofs.Lines.{get_absent}
 use Rattle.bb8_tables.proofs.Orders.{found_in, no_earlier}
 use Rattle.bb8_tables.proofs.RecordPlaces.{Frees, numbered}
 use Rattle.bb8_tables.proofs.ReapPlaces.{lives_idle, freed_good, freed_births, freed_due}
-use Rattle.bb8_tables.proofs.Reaps.{none_ended, first_more, ends_more}
+use Rattle.bb8_tables.proofs.Reaps.{listed_both, none_ended, first_more, ends_more}
 use Rattle.bb8_tables.proofs.Slots.{held_found, line_length, set_updates, inside}
 use Rattle.bb8_tables.proofs.Spelled.{without_absent}
 
@@ -184,16 +187,17 @@ module _ {C : Type 0} where
       ∙ ap (λ (o : Option (Slot (Standing C))). Some (number_in numbered o)) at_place
 
   -- how far the walk has come
-  pub record InIdle (config : Settings) (now : ℕ) (old new : ShownRecords C) (told : ℕ) (lent lent_now : Lent) : Type 0 where
+  pub record InIdle (config : Settings) (now : ℕ) (old new : ShownRecords C) (told : ℕ) (list listed : Buffer (Closed C)) (lent lent_now : Lent) : Type 0 where
     pub ks : List ℕ
     pub first : AreFirst (idles_out config now) ks old
-    pub ends : Ends (idles_out config now) old ks new told
+    pub ends : Ends (idles_out config now) old ks new told list listed
     pub lendings : Adds told 0 lent lent_now
 
-  pub idle_more : {config : Settings} {now : ℕ} {old mid new : ShownRecords C} {told : ℕ} {lent mid_lent new_lent : Lent} → InIdle config now old mid told lent mid_lent
-      → (k : ℕ) × (slice_get mid.idle 0 ≡ Some k) × EndsFirst (idles_out config now) mid k new → Adds 1 0 mid_lent new_lent
-      → InIdle config now old new (told + 1) lent new_lent
-  idle_more {config} {now} {old} {mid} {new} {told} {lent} {mid_lent} {new_lent} i e l = record {
+  pub idle_more : {config : Settings} {now : ℕ} {old mid new : ShownRecords C} {told : ℕ} {list listed offered : Buffer (Closed C)} {lent mid_lent new_lent : Lent}
+      → InIdle config now old mid told list listed lent mid_lent
+      → (k : ℕ) × (slice_get mid.idle 0 ≡ Some k) × EndsFirst (idles_out config now) mid k new listed offered → Adds 1 0 mid_lent new_lent
+      → InIdle config now old new (told + 1) list offered lent new_lent
+  idle_more {config} {now} {old} {mid} {new} {told} {list} {listed} {offered} {lent} {mid_lent} {new_lent} i e l = record {
     ks = i.ks ++ e.0 ∷ [];
     first = first_more (idles_out config now) i.ks e.0 old i.first (ap (λ (s : ShownRecords C). slice_get s.idle 0) (sym i.ends.state) ∙ e.1)
         (ap (λ (s : ShownRecords C). idles_out config now (get s.places e.0)) (sym i.ends.state) ∙ e.2.is_due);
@@ -209,10 +213,10 @@ module _ {C : Type 0} where
   AreOut t (k ∷ ks) = ((x : Slot (Standing C)) × (slot_at t k ≡ Some x) × (is_out x.standing.place ≡ true)) × AreOut t ks
 
   -- how far the walk has come: it has passed those that are out, and ended the others
-  pub record InBirths (config : Settings) (now : ℕ) (old : ShownRecords C) (lent : Lent) (many : ℕ) (a : Inside C) (told : ℕ) (at : Option ℕ) (lent_now : Lent) (counter : ℕ) : Type 0 where
+  pub record InBirths (config : Settings) (now : ℕ) (old : ShownRecords C) (list : Buffer (Closed C)) (lent : Lent) (many : ℕ) (a : Inside C) (told : ℕ) (at : Option ℕ) (listed : Buffer (Closed C)) (lent_now : Lent) (counter : ℕ) : Type 0 where
     pub good : AreGoodRecords a
     pub ks : List ℕ
-    pub ends : Ends (lives_out config now) old ks (view_of_records a) told
+    pub ends : Ends (lives_out config now) old ks (view_of_records a) told list listed
     pub passed : List ℕ
     pub rest : List ℕ
     pub births : a.slots.births ≡ passed ++ rest
@@ -258,14 +262,14 @@ module _ {C : Type 0} where
   pub conns_few : (a : Inside C) (s : ShownRecords C) → AreGoodRecords a → view_of_records a ≡ s → s.conns ≤ most_records
   conns_few a s good shows = let e : a.conns ≡ s.conns = ap (λ (t : ShownRecords C). t.conns) shows in omega (arith, good.sizes.peak_holds, good.sizes.peak_few)
 
-  module _ {config : Settings} {now : ℕ} {old : ShownRecords C} {lent : Lent} {many : ℕ} where
+  module _ {config : Settings} {now : ℕ} {old : ShownRecords C} {list : Buffer (Closed C)} {lent : Lent} {many : ℕ} where
     -- it begins at the one that was born first
     pub births_start : (a : Inside C) (told : ℕ) (at : Option ℕ) → AreGoodRecords a → view_of_records a ≡ old → told ≡ 0
-        → at ≡ slice_get a.slots.births 0 → many ≡ length a.slots.births → InBirths config now old lent many a told at lent 0
+        → at ≡ slice_get a.slots.births 0 → many ≡ length a.slots.births → InBirths config now old list lent many a told at list lent 0
     births_start a told at good shows zero_told at_is all = record {
       good = good;
       ks = [];
-      ends = subst (λ (s : ShownRecords C). Ends (lives_out config now) s [] (view_of_records a) told) shows (none_ended (lives_out config now) (view_of_records a) told zero_told);
+      ends = subst (λ (s : ShownRecords C). Ends (lives_out config now) s [] (view_of_records a) told list list) shows (none_ended (lives_out config now) (view_of_records a) told list zero_told);
       passed = [];
       rest = a.slots.births;
       births = refl;
@@ -281,7 +285,7 @@ module _ {C : Type 0} where
           omega (arith, good.conns_are);
     }
 
-    module _ {a : Inside C} {told place : ℕ} {lent_now : Lent} {counter : ℕ} (i : InBirths config now old lent many a told (Some place) lent_now counter) where
+    module _ {a : Inside C} {told place : ℕ} {listed : Buffer (Closed C)} {lent_now : Lent} {counter : ℕ} (i : InBirths config now old list lent many a told (Some place) listed lent_now counter) where
       ahead : (rest : List ℕ) × (i.rest ≡ place ∷ rest)
       ahead = head_split place i.rest (sym i.at_is)
 
@@ -301,7 +305,8 @@ module _ {C : Type 0} where
       births_stands = (births_conn.0, births_conn.1)
 
       -- it passes one that is out
-      pub births_out : {next : Option ℕ} {new_lent : Lent} → Passes config now a.slots place (Out next) → Adds 1 0 lent_now new_lent → InBirths config now old lent many a told next new_lent (counter + 1)
+      pub births_out : {next : Option ℕ} {new_lent : Lent} → Passes config now a.slots place (Out next) → Adds 1 0 lent_now new_lent
+          → InBirths config now old list lent many a told next listed new_lent (counter + 1)
       births_out {next} {new_lent} p l =
           let same : births_conn.0 ≡ p.0 = let both : Some births_conn.0 ≡ Some p.0 = sym births_conn.1 ∙ p.1 in cc in
           let conn : is_conn p.0.standing.place ≡ true = subst (λ (x : Slot (Standing C)). is_conn x.standing.place ≡ true) same births_conn.2 in
@@ -327,15 +332,16 @@ module _ {C : Type 0} where
         aged_idle : is_idle p.0.standing.place ≡ true
         aged_idle = lives_idle config now p.0.standing p.2
 
-        pub births_aged : {more : ℕ} {new_lent : Lent} → more ≡ told + 1 → Adds 1 0 lent_now new_lent
-            → InBirths config now old lent many (record a { slots = slots; conns = a.conns - 1 }) more next new_lent (counter + 1)
-        births_aged {more} {new_lent} is l =
+        pub births_aged : {more : ℕ} {offered : Buffer (Closed C)} {new_lent : Lent} → more ≡ told + 1 → ((x : Slot (Standing C)) → slot_at a.slots place ≡ Some x
+            → offered ≡ offered_all (closed_in x.number (Some x.standing)) listed) → Adds 1 0 lent_now new_lent
+            → InBirths config now old list lent many (record a { slots = slots; conns = a.conns - 1 }) more next offered new_lent (counter + 1)
+        births_aged {more} {offered} {new_lent} is put l =
             let are = subst (λ (ks : List ℕ). ArePlaces (λ (x : Slot (Standing C)). is_conn x.standing.place) a.slots.slots ks) cut i.good.births.are in
             let front : Absent place i.passed = absent_front a.slots.slots i.passed ahead.0 place are in
             record {
               good = freed_good a place p.0 slots i.good p.1 aged_idle gone;
               ks = i.ks ++ p.0.number ∷ [];
-              ends = ends_more (lives_out config now) i.ends (freed_due a place p.0 slots i.good p.1 aged_idle gone (lives_out config now) (view_of_records a) refl p.2) is;
+              ends = ends_more (lives_out config now) i.ends (freed_due a place p.0 slots i.good p.1 aged_idle gone (lives_out config now) (view_of_records a) refl p.2 (put p.0 p.1)) is;
               passed = i.passed;
               rest = ahead.0;
               births = freed_births a place p.0 slots i.good p.1 aged_idle gone ∙ ap (without place) cut
@@ -351,7 +357,7 @@ module _ {C : Type 0} where
 
     -- ---- where it ends
 
-    module _ {a : Inside C} {told : ℕ} {at : Option ℕ} {lent_now : Lent} {counter : ℕ} (i : InBirths config now old lent many a told at lent_now counter) where
+    module _ {a : Inside C} {told : ℕ} {at : Option ℕ} {listed : Buffer (Closed C)} {lent_now : Lent} {counter : ℕ} (i : InBirths config now old list lent many a told at listed lent_now counter) where
       -- none is left that lives too long, where none is ahead
       none_aged : ((j k : ℕ) (y : Slot (Standing C)) → slice_get i.rest j ≡ Some k → slot_at a.slots k ≡ Some y → is_expired config.max_lifetime now y.standing.birth ≡ false)
           → (k : ℕ) → lives_out config now (get (view_of_records a).places k) ≡ false
@@ -398,7 +404,8 @@ module _ {C : Type 0} where
       lent_at_most = adds_within counter (told + (old.conns - length old.idle)) lent lent_now i.lendings (omega (arith, i.steps, few_passed))
 
     -- it stops at the first that does not live too long
-    pub none_after : {a : Inside C} {told place : ℕ} {lent_now : Lent} {counter : ℕ} → InBirths config now old lent many a told (Some place) lent_now counter → Passes config now a.slots place Young
+    pub none_after : {a : Inside C} {told place : ℕ} {listed : Buffer (Closed C)} {lent_now : Lent} {counter : ℕ} → InBirths config now old list lent many a told (Some place) listed lent_now counter
+        → Passes config now a.slots place Young
         → (k : ℕ) → lives_out config now (get (view_of_records a).places k) ≡ false
     none_after {a} {place = place} i p = none_aged i (λ j k y e f. shorter_span config.max_lifetime (now - p.0.standing.birth) (now - y.standing.birth) p.2
         (let l : p.0.standing.birth ≤ y.standing.birth = no_earlier (λ (z : Slot (Standing C)). z.standing.birth) a.slots.slots i.passed (ahead i).0 place k j p.0 y
@@ -407,23 +414,27 @@ module _ {C : Type 0} where
 
   -- ---- both walks
 
-  pub reaps_both : {config : Settings} {now : ℕ} {old mid new : ShownRecords C} {js ks : List ℕ} {aged idle : ℕ} → Ends (lives_out config now) old js mid aged
-      → ((k : ℕ) → lives_out config now (get mid.places k) ≡ false) → EndsIdle config now mid ks new idle
-      → Reaps config now old js ks new (record { closed = aged + idle; by_idle = idle; by_life = aged })
-  reaps_both {config} {now} {old} {mid} {new} {js} {ks} {aged} {idle} a none b = record {
-    aged = a.each;
-    none_aged = subst (λ (s : ShownRecords C). (k : ℕ) → lives_out config now (get s.places k) ≡ false) a.state none;
-    first = subst (AreFirst (idles_out config now) ks) a.state b.first;
-    few = subst (λ (s : ShownRecords C). length ks ≤ beyond config s) a.state (omega (arith, b.few, b.ends.closed));
-    all = ⊎_elim
-        (λ (t : idle ≡ beyond config mid). inl (sym b.ends.closed ∙ t ∙ ap (beyond config) a.state))
-        (λ (t : (k : ℕ) → idles_out config now (get new.places k) ≡ false). inr (subst (λ (s : ShownRecords C). (k : ℕ) → idles_out config now (get s.places k) ≡ false) (state_is a b) t))
-        b.all;
-    state = state_is a b;
-    closed = omega (arith, a.closed, b.ends.closed);
-    by_idle = b.ends.closed;
-    by_life = a.closed;
-  }
+  pub reaps_both : {config : Settings} {now : ℕ} {old mid new : ShownRecords C} {js ks : List ℕ} {aged idle : ℕ} {list listed offered : Buffer (Closed C)}
+      → Ends (lives_out config now) old js mid aged list listed
+      → ((k : ℕ) → lives_out config now (get mid.places k) ≡ false) → EndsIdle config now mid ks new idle listed offered
+      → Reaps config now old js ks new (record { closed = aged + idle; by_idle = idle; by_life = aged }) × (offered ≡ offered_all (closed_of (js ++ ks) old.places) list)
+  reaps_both {config} {now} {old} {mid} {new} {js} {ks} {aged} {idle} {list} {listed} {offered} a none b = (
+    record {
+      aged = a.each;
+      none_aged = subst (λ (s : ShownRecords C). (k : ℕ) → lives_out config now (get s.places k) ≡ false) a.state none;
+      first = subst (AreFirst (idles_out config now) ks) a.state b.first;
+      few = subst (λ (s : ShownRecords C). length ks ≤ beyond config s) a.state (omega (arith, b.few, b.ends.closed));
+      all = ⊎_elim
+          (λ (t : idle ≡ beyond config mid). inl (sym b.ends.closed ∙ t ∙ ap (beyond config) a.state))
+          (λ (t : (k : ℕ) → idles_out config now (get new.places k) ≡ false). inr (subst (λ (s : ShownRecords C). (k : ℕ) → idles_out config now (get s.places k) ≡ false) (state_is a b) t))
+          b.all;
+      state = state_is a b;
+      closed = omega (arith, a.closed, b.ends.closed);
+      by_idle = b.ends.closed;
+      by_life = a.closed;
+    },
+    listed_both js ks old list a.listed (subst (λ (s : ShownRecords C). offered ≡ offered_all (closed_of ks s.places) listed) a.state b.ends.listed),
+  )
     where
-      state_is : Ends (lives_out config now) old js mid aged → EndsIdle config now mid ks new idle → new ≡ after_reap ks (after_reap js old)
+      state_is : Ends (lives_out config now) old js mid aged list listed → EndsIdle config now mid ks new idle listed offered → new ≡ after_reap ks (after_reap js old)
       state_is a b = b.ends.state ∙ ap (after_reap ks) a.state

@@ -3,6 +3,7 @@ pub mod Lent
 pub mod Views
 pub mod Machine
 pub mod Reaps
+pub mod Closed
 pub mod Spelled
 pub mod Lined
 pub mod Dues

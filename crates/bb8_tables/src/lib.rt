@@ -1,12 +1,13 @@
 //! Tables, lines and counters of a pool's state, which know no ledger.
 #![tactic(auto)]
 
+pub mod closed;
 pub mod counters;
 pub mod gets;
 pub mod keys;
 mod links;
 pub mod records;
-mod ring;
+pub mod ring;
 mod table;
 
 pub use table::Lendings;

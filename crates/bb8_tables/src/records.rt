@@ -1,5 +1,5 @@
 //! The connections and approvals of a pool.
-ghost use Rattle.std.specs.Prelude.{◌≡◌, ◌≢◌, ℕ, Bool, true, false, cond, ◌<◌, ◌≤◌, ◌+◌, IsSome, is_some, IfSome, IfNone, IfOk, IfErr, OnOk, OnErr, max, min, Some, None, slice_get, length, [], ◌∷◌, ◌++◌, ltb};
+ghost use Rattle.std.specs.Prelude.{◌≡◌, ◌≢◌, ℕ, Bool, true, false, cond, ◌<◌, ◌≤◌, ◌+◌, IsSome, is_some, IfSome, IfNone, IfOk, IfErr, OnOk, OnErr, max, min, Some, None, slice_get, slice_set, length, [], ◌∷◌, ◌++◌, ltb};
 ghost use Rattle.std.specs.FinMap as map;
 ghost use Rattle.bb8_types.specs.Places as places;
 ghost use Rattle.bb8_tables.specs.Machine as machine;
@@ -10,9 +10,13 @@ ghost use Rattle.circular_buffer.specs.Buffer.{buffer};
 ghost use Rattle.bb8_types.specs.declared.standing.Standing.{Standing};
 ghost use Rattle.bb8_types.specs.Bounds.{end_of_numbers, most_records};
 ghost use Rattle.bb8_tables.specs.Lent.{none_lent, Adds};
+ghost use Rattle.bb8_tables.specs.Closed.{offered_all, closed_in, closed_of};
+ghost use Rattle.bb8_tables.specs.Lined.{slot_at};
+ghost use Rattle.bb8_tables.specs.declared.table.Slot.{Slot};
 
 mod reaps;
 
+use crate::closed::{Closed, ClosedList};
 use crate::keys::Key;
 use crate::ring::Ring;
 use crate::table::{Lendings, Slot, Table};
@@ -59,6 +63,31 @@ fn connection_of<C: Drop>(place: Place<C>) -> Option<C>
         Place::Idle(conn) => Some(conn),
         Place::Unclaimed | Place::Claimed | Place::Held(_) | Place::Guarded => None,
     }
+}
+
+/// Frees the place of an idle connection, which is offered to a list, and tells its number.
+fn close_at<C: Drop>(
+    slots: &mut Table<Standing<C>>,
+    place: usize,
+    closed: &mut ClosedList<C>,
+) -> u64
+    requires { IsSome (slot_at slots.old place) }
+    ensures number { (x : Slot (Standing C)) → slot_at slots.old place ≡ Some x
+        → result ≡ x.number }
+    ensures state { slots.new ≡ record {
+      slots = slice_set slots.old.slots place None;
+      line = machine.without place slots.old.line;
+      births = machine.without place slots.old.births;
+      free = slots.old.free ++ place ∷ [];
+    } }
+    ensures listed { (x : Slot (Standing C)) → slot_at slots.old place ≡ Some x
+        → closed.new ≡ offered_all (closed_in x.number (Some x.standing)) closed.old }
+{
+    let Slot { number, standing } = slots.take_out(place);
+    if let Place::Idle(conn) = standing.place {
+        closed.offer(Closed { number, conn });
+    }
+    number
 }
 
 /// Where a connection stands that somebody holds.
@@ -122,6 +151,13 @@ impl<C: Drop> Records<C> {
             peak: 0,
         };
         (records, lendings)
+    }
+
+    /// A list with no room, which takes no memory.
+    pub fn no_list(&self) -> ClosedList<C>
+        ensures { result ≡ buffer [] 0 }
+    {
+        self.unclaimed.another()
     }
 
     /// Claims the unclaimed approval of the least number.
@@ -255,16 +291,19 @@ impl<C: Drop> Records<C> {
         }
     }
 
-    /// Ends the idle connection that entered first.
-    fn end_idle(&mut self) -> Option<Key>
+    /// Ends the idle connection that entered first, and offers it to a list.
+    fn end_idle(&mut self, closed: &mut ClosedList<C>) -> Option<Key>
         ensures some { IfSome result (λ key. (slice_get self.old.idle 0 ≡ Some key.number)
             × (self.new ≡ machine.after_idle_end key.number self.old)) }
         ensures none { IfNone result ((slice_get self.old.idle 0 ≡ None) × (self.new ≡ self.old)) }
+        ensures listed { IfSome result (λ key. closed.new ≡ offered_all
+            (closed_in key.number (map.get self.old.places key.number)) closed.old) }
+        ensures same { IfNone result (closed.new ≡ closed.old) }
     {
         match self.slots.first() {
             None => None,
             Some(place) => {
-                let number = self.slots.remove(place);
+                let number = close_at(&mut self.slots, place, closed);
                 self.conns -= 1;
                 Some(Key { number, place })
             }
@@ -288,14 +327,16 @@ impl<C: Drop> Records<C> {
         }
     }
 
-    /// Ends all idle connections, and tells how many they were.
-    fn end_idles(&mut self) -> u32
+    /// Ends all idle connections, offers them to a list, and tells how many they were.
+    fn end_idles(&mut self, closed: &mut ClosedList<C>) -> u32
         ensures many { result ≡ length self.old.idle }
+        ensures listed { closed.new ≡ offered_all (closed_of self.old.idle self.old.places)
+            closed.old }
         ensures state { self.new ≡ machine.after_idle_ends self.old.idle self.old }
     {
         let many = self.idle_connections();
         for _ in 0..many {
-            let _ = self.end_idle();
+            let _ = self.end_idle(closed);
         }
         many
     }
@@ -309,12 +350,14 @@ impl<C: Drop> Records<C> {
         }
     }
 
-    /// Ends all that nobody holds or claimed: the idle connections, which are counted, and the unclaimed approvals.
-    pub fn leave(&mut self) -> u32
+    /// Ends all that nobody holds or claimed: the idle connections, which are counted and offered to a list, and the unclaimed approvals.
+    pub fn leave(&mut self, closed: &mut ClosedList<C>) -> u32
         ensures many { result ≡ length self.old.idle }
+        ensures listed { closed.new ≡ offered_all (closed_of self.old.idle self.old.places)
+            closed.old }
         ensures state { self.new ≡ machine.after_leave self.old }
     {
-        let many = self.end_idles();
+        let many = self.end_idles(closed);
         self.end_unclaimeds();
         many
     }

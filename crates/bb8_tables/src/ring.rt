@@ -1,6 +1,7 @@
 //! A ring that takes memory only when it grows.
 ghost use Rattle.std.specs.Prelude.{◌≡◌, ◌≤◌, ◌<◌, ◌++◌, ◌∷◌, [], length, slice_get, drop, OnOk, OnErr};
 ghost use Rattle.circular_buffer.specs.Buffer.{buffer};
+ghost use Rattle.bb8_tables.specs.Closed.{offered};
 
 use circular_buffer::HeapCircularBuffer;
 use std::alloc::{AllocError, Global};
@@ -32,6 +33,13 @@ impl<T: Drop> Ring<T> {
         Ring { alloc, made: None }
     }
 
+    /// An empty ring over the same memory, of which it takes none.
+    pub fn another<U: Drop>(&self) -> Ring<U>
+        ensures { result ≡ buffer [] 0 }
+    {
+        Ring::new(self.alloc)
+    }
+
     /// Makes room for so many items in all.
     pub fn grow(&mut self, capacity: usize) -> Result<(), AllocError>
         requires { length self.old.items ≤ capacity }
@@ -52,6 +60,18 @@ impl<T: Drop> Ring<T> {
     pub fn push(&mut self, item: T)
         requires { length self.old.items < self.old.capacity }
         ensures { self.new ≡ buffer (self.old.items ++ item ∷ []) self.old.capacity }
+    {
+        match &mut self.made {
+            Some(ring) => {
+                let _ = ring.try_push_back(item);
+            }
+            None => {}
+        }
+    }
+
+    /// Adds an item at the back, where there is room, and drops it where there is none.
+    pub fn offer(&mut self, item: T)
+        ensures { self.new ≡ offered item self.old }
     {
         match &mut self.made {
             Some(ring) => {

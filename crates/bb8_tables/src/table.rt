@@ -355,15 +355,6 @@ impl<S: Drop> Table<S> {
         }
     }
 
-    /// The number of what stands at a place.
-    #[inline]
-    fn number_at(&self, place: usize) -> u64
-        requires { IsSome (slot_at self.now place) }
-        ensures { (x : Slot S) → slot_at self.now place ≡ Some x → result ≡ x.number }
-    {
-        self.links.entries[place].slot.number
-    }
-
     /// What stands at a place. One entry is lent.
     #[inline]
     pub fn at(&self, place: usize, lendings: &mut Lendings) -> &Slot<S>
@@ -496,20 +487,41 @@ impl<S: Drop> Table<S> {
 }
 
 impl<S: Drop + Vacant> Table<S> {
-    /// Has nothing stand at a place.
+    /// Has nothing stand at a place, and gives back what stood there.
     #[inline]
-    fn clear(&mut self, place: usize)
+    fn clear(&mut self, place: usize) -> Slot<S>
         requires { IsSome (slot_at self.old place) }
+        ensures value { (x : Slot S) → slot_at self.old place ≡ Some x → result ≡ x }
         ensures state { self.new ≡ record self.old { slots = slice_set self.old.slots place None } }
         ensures absent { Absent place self.old.free }
     {
-        self.links.entries[place].slot = Slot {
+        let vacant = Slot {
             number: END_OF_NUMBERS,
             standing: S::vacant(),
         };
+        mem::replace(&mut self.links.entries[place].slot, vacant)
     }
 
-    /// Frees a place, wherever it stands in the orders, and tells which number ended there.
+    /// Frees a place, wherever it stands in the orders, and gives back what stood there.
+    pub fn take_out(&mut self, place: usize) -> Slot<S>
+        requires { IsSome (slot_at self.old place) }
+        ensures value { (x : Slot S) → slot_at self.old place ≡ Some x → result ≡ x }
+        ensures state { self.new ≡ record {
+          slots = slice_set self.old.slots place None;
+          line = without place self.old.line;
+          births = without place self.old.births;
+          free = self.old.free ++ place ∷ [];
+        } }
+    {
+        let _links = &self.links;
+        self.step_out(place);
+        self.unlink(Order::Births, place);
+        let slot = self.clear(place);
+        self.push(Order::Free, place);
+        slot
+    }
+
+    /// Frees a place, and tells which number ended there.
     pub fn remove(&mut self, place: usize) -> u64
         requires { IsSome (slot_at self.old place) }
         ensures number { (x : Slot S) → slot_at self.old place ≡ Some x → result ≡ x.number }
@@ -520,13 +532,7 @@ impl<S: Drop + Vacant> Table<S> {
           free = self.old.free ++ place ∷ [];
         } }
     {
-        let number = self.number_at(place);
-        let _links = &self.links;
-        self.step_out(place);
-        self.unlink(Order::Births, place);
-        self.clear(place);
-        self.push(Order::Free, place);
-        number
+        self.take_out(place).number
     }
 
     /// Adds an entry where nothing stands, which leads to itself.

@@ -142,14 +142,15 @@ impl<M: ManageConnection> Shared<M> {
         }
     }
 
-    /// Drops so many connections that have ended, one by one and outside the lock: a connection may
-    /// take time to close, and its drop may call the pool.
-    fn drop_ended(&self, count: u64) {
+    /// Drops so many connections of which the test says that they have ended, one by one and outside
+    /// the lock: a connection may take time to close, and its drop may call the pool.
+    fn drop_ended(&self, count: u64, has_ended: impl Fn(&mut Core, u64) -> bool) {
         let mut from = 0;
         for _ in 0..count {
             let mut locked = self.lock();
             let Locked { core, shelf, .. } = &mut *locked;
-            let Some((conn, next)) = shelf.take_ended(from, |number| !core.knows(number)) else {
+            let ended = shelf.take_ended(from, |number| has_ended(core, number));
+            let Some((conn, next)) = ended else {
                 return;
             };
             drop(locked);
@@ -174,7 +175,8 @@ impl<M: ManageConnection> Drop for Owner<M> {
     fn drop(&mut self) {
         let at = self.shared.now();
         let told = self.shared.lock().core.leave(at);
-        self.shared.drop_ended(told.key.number);
+        // All that was idle has ended, so none is asked for.
+        self.shared.drop_ended(told.key.number, |_, _| true);
     }
 }
 
@@ -362,7 +364,7 @@ impl<M: ManageConnection> PoolInner<M> {
         let due = locked.is_due(&told);
         drop(locked);
         if told.kind == kinds::REAPED {
-            shared.drop_ended(told.key.number);
+            shared.drop_ended(told.key.number, |core, number| !core.knows(number));
         }
         if due {
             shared.open();

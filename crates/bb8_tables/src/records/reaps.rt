@@ -1,5 +1,5 @@
 //! The reap of idle connections, by two walks: along the line of the idle, and along the order of births.
-ghost use Rattle.std.specs.Prelude.{◌≡◌, ◌≤◌, ◌<◌, ◌+◌, ◌-◌, ℕ, List, Some, length, slice_get, false};
+ghost use Rattle.std.specs.Prelude.{◌≡◌, ◌≤◌, ◌<◌, ◌+◌, ◌-◌, ◌++◌, ℕ, List, Some, length, slice_get, false};
 ghost use Rattle.std.specs.Bool.{MatchBool};
 ghost use Rattle.std.specs.Option.{option_map};
 ghost use Rattle.std.specs.Duration.{as_nanos};
@@ -12,9 +12,11 @@ ghost use Rattle.bb8_types.specs.declared.standing.Standing.{Standing};
 ghost use Rattle.bb8_tables.specs.Lined.{slot_at};
 ghost use Rattle.bb8_tables.specs.Lent.{Adds};
 ghost use Rattle.bb8_tables.specs.Reaps as reaps;
+ghost use Rattle.bb8_tables.specs.Closed.{offered_all, closed_of};
 ghost use Rattle.bb8_tables.specs.declared.table.Slot.{Slot};
 
-use super::Records;
+use super::{Records, close_at};
+use crate::closed::ClosedList;
 use crate::table::{Lendings, Table};
 use bb8_types::api::Config;
 use bb8_types::standing::{Place, Standing};
@@ -101,12 +103,19 @@ fn pass_birth<C: Drop>(
 
 impl<C: Drop> Records<C> {
     /// Ends the idle connection that entered first, where it is idle too long, and tells whether. One entry is lent, where one is idle.
-    fn reap_first(&mut self, config: &Config, now: u64, lendings: &mut Lendings) -> bool
+    fn reap_first(
+        &mut self,
+        config: &Config,
+        now: u64,
+        closed: &mut ClosedList<C>,
+        lendings: &mut Lendings,
+    ) -> bool
         ensures ends { MatchBool result
             ((k : ℕ) × (slice_get self.old.idle 0 ≡ Some k)
-            × EndsFirst (places.idles_out (settings_of config.now) now) self.old k self.new)
+            × EndsFirst (places.idles_out (settings_of config.now) now) self.old k self.new
+            closed.old closed.new)
             (((k : ℕ) → places.idles_out (settings_of config.now) now (map.get self.old.places k) ≡ false)
-            × (self.new ≡ self.old)) }
+            × (self.new ≡ self.old) × (closed.new ≡ closed.old)) }
         ensures examined { Adds 1 0 lendings.old lendings.new }
     {
         let Some(place) = self.slots.first() else {
@@ -116,16 +125,22 @@ impl<C: Drop> Records<C> {
         if !due {
             return false;
         }
-        let _ = self.slots.remove(place);
+        let _ = close_at(&mut self.slots, place, closed);
         self.conns -= 1;
         true
     }
 
     /// Ends the connections that are idle too long, from the one that entered first to the first that is not, but spares `min_idle` idle
     /// ones. An entry is lent for each of them, and at most one more; none where no limit is set.
-    fn reap_idle(&mut self, config: &Config, now: u64, lendings: &mut Lendings) -> u32
-        ensures ends { (ks : List ℕ)
-            × EndsIdle (settings_of config.now) now self.old ks self.new result }
+    fn reap_idle(
+        &mut self,
+        config: &Config,
+        now: u64,
+        closed: &mut ClosedList<C>,
+        lendings: &mut Lendings,
+    ) -> u32
+        ensures ends { (ks : List ℕ) × EndsIdle (settings_of config.now) now
+            self.old ks self.new result closed.old closed.new }
         ensures examined { Adds (result + 1) 0 lendings.old lendings.new }
     {
         if config.idle_timeout.is_none() {
@@ -136,7 +151,7 @@ impl<C: Drop> Records<C> {
             .idle_connections()
             .saturating_sub(config.min_idle.unwrap_or(0));
         for ended in 0..many {
-            let more = self.reap_first(config, now, lendings);
+            let more = self.reap_first(config, now, closed, lendings);
             if !more {
                 return ended;
             }
@@ -146,17 +161,23 @@ impl<C: Drop> Records<C> {
 
     /// Ends the idle connections that live too long, from the one that was born first to the first that does not, and passes those that are
     /// out. An entry is lent for each of both, and at most one more; none where no limit is set.
-    fn reap_aged(&mut self, config: &Config, now: u64, lendings: &mut Lendings) -> u32
-        ensures ends { (ks : List ℕ)
-            × Ends (places.lives_out (settings_of config.now) now) self.old ks self.new result }
+    fn reap_aged(
+        &mut self,
+        config: &Config,
+        now: u64,
+        closed: &mut ClosedList<C>,
+        lendings: &mut Lendings,
+    ) -> u32
+        ensures ends { (ks : List ℕ) × Ends (places.lives_out (settings_of config.now) now)
+            self.old ks self.new result closed.old closed.new }
         ensures none_left { (k : ℕ)
             → places.lives_out (settings_of config.now) now (map.get self.new.places k) ≡ false }
         ensures examined { Adds (result + (self.old.conns - length self.old.idle) + 1) 0
             lendings.old lendings.new }
     {
-        let mut closed = 0;
+        let mut many = 0;
         if config.max_lifetime.is_none() {
-            return closed;
+            return many;
         }
         let mut at = self.slots.first_birth();
         for _ in 0..self.slots.births() {
@@ -165,28 +186,35 @@ impl<C: Drop> Records<C> {
                 Passed::Young => break,
                 Passed::Out(next) => at = next,
                 Passed::Aged(next) => {
-                    let _ = self.slots.remove(place);
+                    let _ = close_at(&mut self.slots, place, closed);
                     self.conns -= 1;
-                    closed += 1;
+                    many += 1;
                     at = next;
                 }
             }
         }
-        closed
+        many
     }
 
     /// Ends each idle connection that lives too long, and then those that are idle too long but for `min_idle`, the one that entered first
-    /// before the others, and drops them. Entries are lent for those that end, for those that are out, and for two more at most.
-    pub fn reap(&mut self, config: &Config, now: u64, lendings: &mut Lendings) -> Reaped
+    /// before the others, and offers them to a list. Entries are lent for those that end, for those that are out, and for two more at most.
+    pub fn reap(
+        &mut self,
+        config: &Config,
+        now: u64,
+        closed: &mut ClosedList<C>,
+        lendings: &mut Lendings,
+    ) -> Reaped
         ensures ends { (js : List ℕ) × (ks : List ℕ)
-            × reaps.Reaps (settings_of config.now) now self.old js ks self.new result }
+            × reaps.Reaps (settings_of config.now) now self.old js ks self.new result
+            × (closed.new ≡ offered_all (closed_of (js ++ ks) self.old.places) closed.old) }
         ensures numbers { self.old.next ≤ end_of_numbers }
         ensures examined { Adds (result.closed + (self.old.conns - length self.old.idle) + 2) 0
             lendings.old lendings.new }
     {
         let _next = &self.next;
-        let by_life = self.reap_aged(config, now, lendings);
-        let by_idle = self.reap_idle(config, now, lendings);
+        let by_life = self.reap_aged(config, now, closed, lendings);
+        let by_idle = self.reap_idle(config, now, closed, lendings);
         Reaped {
             closed: by_life + by_idle,
             by_idle,

@@ -1,6 +1,6 @@
-use Rattle.std.proofs.Common.{ap, sym, ◌∙◌, ℕ, Option, Some, is_some, option_map}
+use Rattle.std.proofs.Common.{ap, sym, ◌∙◌, ℕ, Option, Some, option_map}
 use Rattle.bb8_types.specs.declared.standing.Getting.{Getting}
-use Rattle.bb8_types.specs.Places.{gets_stand, is_trying, holds}
+use Rattle.bb8_types.specs.Places.{holds}
 use Rattle.bb8_tables.proofs.GetPlaces.{none_shown, some_shown}
 use Rattle.bb8_tables.proofs.gets.Gets.holds.Goals as goal
 

@@ -1,6 +1,5 @@
-use Rattle.std.proofs.Common.{ap, sym, ◌∙◌, Option, Some, is_some, option_map}
-use Rattle.bb8_types.specs.declared.standing.Getting.{Getting}
-use Rattle.bb8_types.specs.Places.{gets_stand, is_trying, holds}
+use Rattle.std.proofs.Common.{ap, sym, ◌∙◌}
+use Rattle.bb8_types.specs.Places.{gets_stand, is_trying}
 use Rattle.bb8_tables.proofs.GetPlaces.{none_shown, some_shown}
 use Rattle.bb8_tables.proofs.gets.Gets.is_trying.Goals as goal
 

@@ -12,6 +12,7 @@ returns-in_default-clause-ends g c = (
   subst (λ (s : ShownRecords g.row.C.Denot). (k : ℕ) → idles_out (settings_of c.args.config.now) c.args.now (get s.places k) ≡ false) c.self.view_is
       (none_in_line (settings_of c.args.config.now) c.args.now c.self.inside c.self.invariant (sym c.first.ensures ∙ c.in_default.is)),
   refl,
+  refl,
 )
 
 pub returns-then-not-due-clause-ends : goal.returns-then-not-due-clause-ends
@@ -20,22 +21,23 @@ returns-then-not-due-clause-ends g c = (
       (first_not_due (settings_of c.args.config.now) c.args.now c.self.inside c.in-Some.place c.at.result.now c.self.invariant (sym c.in-Some.ensures) c.at.ensures.value
       (sym c.idles_out-due.ensures ∙ c.if-not-due.true)),
   refl,
+  refl,
 )
 
 pub overflow_sub-self : goal.overflow_sub-self
-overflow_sub-self g c = freed_counted c.self.inside c.in-Some.place c.at.result.now c.remove.new.self c.self.invariant c.at.ensures.value
-    (first_idle c.self.inside c.in-Some.place c.at.result.now c.self.invariant (sym c.in-Some.ensures) c.at.ensures.value) c.remove.ensures.state
+overflow_sub-self g c = freed_counted c.self.inside c.in-Some.place c.at.result.now c.close_at.new.slots c.self.invariant c.at.ensures.value
+    (first_idle c.self.inside c.in-Some.place c.at.result.now c.self.invariant (sym c.in-Some.ensures) c.at.ensures.value) c.close_at.ensures.state
 
 pub invariant_of-self : goal.invariant_of-self
-invariant_of-self g c = freed_good c.self.inside c.in-Some.place c.at.result.now c.remove.new.self c.self.invariant c.at.ensures.value
-    (first_idle c.self.inside c.in-Some.place c.at.result.now c.self.invariant (sym c.in-Some.ensures) c.at.ensures.value) c.remove.ensures.state
+invariant_of-self g c = freed_good c.self.inside c.in-Some.place c.at.result.now c.close_at.new.slots c.self.invariant c.at.ensures.value
+    (first_idle c.self.inside c.in-Some.place c.at.result.now c.self.invariant (sym c.in-Some.ensures) c.at.ensures.value) c.close_at.ensures.state
 
 pub returns-clause-ends : goal.returns-clause-ends
 returns-clause-ends g c = (
   c.at.result.now.number,
   ap (λ (s : ShownRecords g.row.C.Denot). slice_get s.idle 0) (sym c.self.view_is) ∙ first_shown c.self.inside c.in-Some.place c.at.result.now (sym c.in-Some.ensures) c.at.ensures.value,
-  freed_due c.self.inside c.in-Some.place c.at.result.now c.remove.new.self c.self.invariant c.at.ensures.value
-      (first_idle c.self.inside c.in-Some.place c.at.result.now c.self.invariant (sym c.in-Some.ensures) c.at.ensures.value) c.remove.ensures.state
+  freed_due c.self.inside c.in-Some.place c.at.result.now c.close_at.new.slots c.self.invariant c.at.ensures.value
+      (first_idle c.self.inside c.in-Some.place c.at.result.now c.self.invariant (sym c.in-Some.ensures) c.at.ensures.value) c.close_at.ensures.state
       (idles_out (settings_of c.args.config.now) c.args.now) c.args.self.now c.self.view_is
-      (sym c.idles_out-due.ensures ∙ c.if-not-due.false),
+      (sym c.idles_out-due.ensures ∙ c.if-not-due.false) (c.close_at.ensures.listed c.at.result.now c.at.ensures.value),
 )

@@ -1,4 +1,4 @@
-use Rattle.std.proofs.Common.{◌+◌, min, refl, ap, sym, ◌∙◌, arith}
+use Rattle.std.proofs.Common.{refl, ap, sym, ◌∙◌, arith}
 use Rattle.std.specs.FinMap.{get}
 use Rattle.bb8_types.specs.Places.{first_of, place_with}
 use Rattle.bb8_tables.specs.Machine as machine

@@ -6,9 +6,10 @@ use Rattle.bb8_ledger.specs.Answers as answers
 use Rattle.bb8_core.specs.Pool.{view_of}
 use Rattle.bb8_core.proofs.Fitting.{due_fits}
 use Rattle.bb8_core.proofs.ShownReaped.{reap_few}
+use Rattle.bb8_core.proofs.Closings.{reap_offers, no_reap_offers}
 use Rattle.bb8_core.proofs.Reaps.{meets_reap_ended, meets_reaped, reaped_few}
 use Rattle.bb8_core.proofs.Steps.{grants, led, at_view}
-use Rattle.bb8_core.proofs.internals.PoolInternals.reap.Goals as goal
+use Rattle.bb8_core.proofs.internals.PoolInternals.reap_into.Goals as goal
 
 pub returns-then-self-eq0-clause-step : goal.returns-then-self-eq0-clause-step
 returns-then-self-eq0-clause-step g c = at_view c.args.at.0 acts.Reap answers.Ended c.self.view_is (meets_reap_ended c.max-now.ensures c.if-self-eq0.true)
@@ -42,3 +43,9 @@ returns-clause-step g c = at_view c.args.at.0 acts.Reap (answers.Reaped c.reap-r
 pub invariant_of-self-2 : goal.invariant_of-self-2
 invariant_of-self-2 g c = led _ c.args.at.0 acts.Reap
     (answers.Reaped c.reap-reaped.result.closed c.reap-reaped.result.by_idle c.reap-reaped.result.by_life c.grant-grant.result) c.self.view_is c.self.invariant (returns-clause-step g c)
+
+pub returns-then-self-eq0-clause-closed : goal.returns-then-self-eq0-clause-closed
+returns-then-self-eq0-clause-closed g c = no_reap_offers c.args.at.0 c.args.closed.now
+
+pub returns-clause-closed : goal.returns-clause-closed
+returns-clause-closed g c = reap_offers c.args.at.0 c.grant-grant.result c.args.closed.now c.self.view_is c.max-now.ensures c.reap-reaped.ensures.ends.2 c.reap-reaped.ensures.ends.3

@@ -1,0 +1,37 @@
+-- The connections that a reap or the last leave closes, one by one.
+use Rattle.std.specs.Prelude.{◌≡◌, ℕ, cond, eqb, List, [], ◌∷◌, ⊤}
+use Rattle.circular_buffer.specs.Buffer.{Buffer}
+use Rattle.bb8_types.specs.Numbered.{tally}
+use Rattle.bb8_tables.specs.Closed.{offered_all}
+use Rattle.bb8_tables.specs.declared.closed.Closed.{Closed}
+use Rattle.bb8_ledger.specs.Ledger.{Ledger}
+use Rattle.bb8_ledger.specs.Table.{IsLegal, reaped_at}
+use Rattle.bb8_core.specs.declared.answers.ReapAnswer.{ReapAnswer}
+use Rattle.bb8_core.specs.declared.answers.ReapAnswer.TheVariants as reaping
+use Rattle.bb8_core.specs.Shown.{Shown, Means}
+use Rattle.bb8_core.specs.StepAnswers.{IsIdleAs}
+
+module _ {C : Type 0} where
+  -- these connections, one after another, are idle under these numbers
+  abbrev pub AreIdleAs : Shown C → List ℕ → List (Closed C) → Type 0
+  AreIdleAs s [] [] = ⊤
+  AreIdleAs s (k ∷ ks) (x ∷ xs) = (x.number ≡ k) × IsIdleAs s k x.conn × AreIdleAs s ks xs
+  AreIdleAs s _ _ = ⊥
+
+  -- A list is offered the connections that were idle under these numbers, in this order.
+  abbrev pub Offers : Shown C → List ℕ → Buffer (Closed C) → Buffer (Closed C) → Type 0
+  Offers s ks list offered = (xs : List (Closed C)) × AreIdleAs s ks xs × (offered ≡ offered_all xs list)
+
+  -- the numbers that the ledger's reap ends, where the answer tells of one
+  abbrev pub ended_by : ReapAnswer → Ledger C → ℕ → List ℕ
+  ended_by (reaping.Reaped closed by_idle by_life grant) l at = reaped_at l at
+  ended_by reaping.Ended l at = []
+
+  -- A reap offers the connections that it closes, as they were closed: each number that the ledger's reap ends comes as often as there.
+  abbrev pub OffersReaped : Shown C → ℕ → ReapAnswer → Buffer (Closed C) → Buffer (Closed C) → Type 0
+  OffersReaped s at a list offered = (ks : List ℕ) × Offers s ks list offered
+      × ((l : Ledger C) → IsLegal l → Means l s → (k : ℕ) → tally (eqb k) ks ≡ tally (eqb k) (ended_by a l at))
+
+  -- The last leave offers all idle connections, in line; another one none.
+  abbrev pub OffersLeft : Shown C → Buffer (Closed C) → Buffer (Closed C) → Type 0
+  OffersLeft s list offered = Offers s (cond (eqb s.handles 1) s.records.idle []) list offered
