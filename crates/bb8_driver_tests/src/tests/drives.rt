@@ -5,11 +5,12 @@ ghost use Rattle.bb8.specs.Settings.{default_settings};
 
 use super::{Case, assert_equal, unchecked};
 use bb8::{
-    Builder, Driven, Driver, Gate, ManageConnection, Memory, Moment, NopCustomizer, NopErrorSink,
-    Pool, PoolParts, SetClock, drive,
+    Builder, Driven, Driver, Gate, ManageConnection, Moment, NopCustomizer, NopErrorSink, Pool,
+    PoolParts, SetClock, drive,
 };
 use bb8_trials::{Board, Refused, Runtime, builder_on, sizes};
 use futures::task::Poll;
+use futures::test::MockTask;
 use std::alloc::Global;
 use std::marker::Brand;
 use std::process::Abort;
@@ -140,9 +141,11 @@ fn comes_to(stage: &AtomicU64, wanted: u64) -> bool {
     false
 }
 
-/// Whose one opening waits, at its poll, until another thread has got an answer of the pool, and fails where it waits too long.
+/// Whose first opening hangs, at its poll, until another thread has got answers of the pool, and fails where it waits too long. Others are
+/// done at once.
 #[derive(Drop)]
 struct SlowServer {
+    begun: AtomicU64,
     stage: Arc<AtomicU64, Global>,
 }
 
@@ -151,13 +154,19 @@ impl ManageConnection for SlowServer {
 
     type Error = Refused;
 
-    type Connecting = ();
+    /// How many openings were begun before.
+    type Connecting = u64;
 
     type Checking = ();
 
-    fn connect(&self) {}
+    fn connect(&self) -> u64 {
+        self.begun.fetch_add(1, Ordering::SeqCst)
+    }
 
-    fn poll_connect(&self, _connecting: &mut (), _moment: Moment) -> Poll<Result<u64, Refused>> {
+    fn poll_connect(&self, connecting: &mut u64, _moment: Moment) -> Poll<Result<u64, Refused>> {
+        if *connecting > 0 {
+            return Poll::Ready(Ok(8));
+        }
         self.stage.store(WAITING, Ordering::SeqCst);
         if !comes_to(&self.stage, ANSWERED) {
             return Poll::Ready(Err(Refused(1)));
@@ -182,32 +191,43 @@ impl ManageConnection for SlowServer {
     }
 }
 
-/// A pool of such a server's one connection.
+/// A pool of such a server's connections.
 type SlowPool<R, L> = Pool<SlowServer, NopErrorSink, NopCustomizer, SetClock, R, L>;
 
-/// A driver's thread polls an opening, which goes on only once `state` was answered in the test's own thread.
+/// A driver's thread hangs in the poll of an opening. Meanwhile `state` is answered in the test's own thread, and another driver opens the
+/// connection that a second get asks for, which serves the first one.
 fn answers_meanwhile<R: Runtime + Abort + Threads, L: PoolParts + 'static>(
     rt: R,
     blank: Blank,
-) -> Result<(), Memory>
-    requires { IsBlankOf blank (record (unchecked_of 1) { min_idle = Some 1 }) L.name L.parts
+) -> Result<(), Fail>
+    requires { IsBlankOf blank (record (unchecked_of 2) { min_idle = Some 1 }) L.name L.parts
         L.settings }
 {
+    let task = MockTask::new(&rt)?;
     let clock = SetClock::new(rt.alloc(), Moment(0))?;
     let stage = Arc::new(rt.alloc(), AtomicU64::new(CLOSED))?;
-    let Ok(copy) = Arc::try_clone(&stage) else {
-        return Err(Memory);
+    let server = SlowServer {
+        begun: AtomicU64::new(0),
+        stage: Arc::try_clone(&stage)?,
     };
     let pool: SlowPool<R, L> = Builder::new()
-        .max_size(1)
+        .max_size(2)
         .min_idle(Some(1))
         .test_on_check_out(false)
-        .build_unchecked(SlowServer { stage: copy }, clock, rt, blank)?;
+        .build_unchecked(server, clock, rt, blank)?;
     let Ok(thread) = drive(&rt, Driver::new(&pool)?, Pauses { left: 0 }) else {
         panic!(&rt; "no thread");
     };
     assert!(&rt; comes_to(&stage, WAITING));
     assert_equal(&rt, pool.state().connections, 0);
+    let mut other = Driver::new(&pool)?;
+    let mut first = pool.get();
+    assert!(&rt; task.poll(&mut first).is_pending());
+    let mut second = pool.get();
+    assert!(&rt; task.poll(&mut second).is_pending());
+    let _ = other.turn(Moment(0));
+    assert!(&rt; matches!(task.poll(&mut first), Poll::Ready(Ok(_))));
+    assert_equal(&rt, pool.state().connections, 1);
     stage.store(ANSWERED, Ordering::SeqCst);
     let wanted = Driven {
         turns: 1,
@@ -215,12 +235,11 @@ fn answers_meanwhile<R: Runtime + Abort + Threads, L: PoolParts + 'static>(
     };
     assert_equal(&rt, thread.join(&rt), wanted);
     assert_equal(&rt, stage.load(Ordering::SeqCst), PASSED);
-    assert_equal(&rt, pool.state().connections, 1);
+    assert_equal(&rt, pool.state().connections, 2);
     Ok(())
 }
 
 #[test]
 fn gate_two_threads(rt: HostRuntime) -> Result<(), Fail> {
-    answers_meanwhile::<HostRuntime, Brand>(rt, Blank::new(1))?;
-    Ok(())
+    answers_meanwhile::<HostRuntime, Brand>(rt, Blank::new(2))
 }

@@ -13,6 +13,10 @@ use std::fmt::Debug;
 /// polls it until it is ready and not again, and may drop it before. No call is made under the pool's lock; connections may be dropped
 /// under it.
 ///
+/// A poll runs in the thread that polls: a driver's, where a connection is opened, and that of a get's caller, where one is checked. One that
+/// blocks holds up what else that thread does, which is the driver's other openings and its reaper, or the get, past its deadline. So a
+/// poll answers pending where it would wait, or more drivers of the pool run, each in a thread of its own.
+///
 /// Each call has a ghost member, a relation between what the call was given and what it answered. The implementer chooses it, and
 /// one that is left out allows everything. What is proved of a pool holds for every choice.
 pub trait ManageConnection: Sized + Send + Sync + Drop + 'static {

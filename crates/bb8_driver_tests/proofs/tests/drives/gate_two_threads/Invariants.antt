@@ -6,4 +6,4 @@ abbrev pub ghosts-answers_meanwhile-L-Ledger : goal.ghosts-answers_meanwhile-L-L
 ghosts-answers_meanwhile-L-Ledger g a = record { name = a.blank.name; parts = a.blank.parts }
 
 abbrev pub ghosts-answers_meanwhile-L-Parts : goal.ghosts-answers_meanwhile-L-Parts
-ghosts-answers_meanwhile-L-Parts g a = record { settings = record (unchecked_of 1) { min_idle = Some 1 } }
+ghosts-answers_meanwhile-L-Parts g a = record { settings = record (unchecked_of 2) { min_idle = Some 1 } }
