@@ -1,2 +1,3 @@
 pub mod Built
 pub mod Failing
+pub mod Lends

@@ -3,6 +3,7 @@
 use Rattle.std.specs.Prelude.{◌≡◌, ℕ, List, vec_len}
 use Rattle.std.specs.Arc.{arc_value}
 use Rattle.std.specs.List.{AllZip}
+use Rattle.std.specs.Vec.{with_item}
 use Rattle.std.specs.declared.fmt.Debug.{Ghosts as DebugOf}
 use Rattle.bb8_types.specs.declared.api.clocks.Clock.{Ghosts as ClockOf}
 use Rattle.bb8_types.specs.declared.api.customizers.CustomizeConnection.{Ghosts as CustomizerOf}
@@ -26,6 +27,10 @@ module _ {M S Z K R L C E N V A : Type 0} {m : ManagerOf M C E N V} {d : DebugOf
   abbrev pub ticket_of : PooledConnection M S Z K R L C E N V A m d l → Ticket M S Z K R L C E N V m d l
   ticket_of guard = record { shared = guard.shared; key = guard.taken.key }
 
+  -- a guard with this connection in place of its own
+  abbrev pub with_connection : PooledConnection M S Z K R L C E N V A m d l → C → PooledConnection M S Z K R L C E N V A m d l
+  with_connection guard connection = record guard { taken = record guard.taken { connection = connection } }
+
 module _ {M S Z K R L C E N V A : Type 0} {m : ManagerOf M C E N V} {d : DebugOf E} {s : SinkOf S E} {z : CustomizerOf Z C E A} {k : ClockOf K} {l : PartsOf L} where
   -- the connections of the guards of a list
   abbrev pub connections_in : Guards M S Z K R L C E N V A m d s z k l → List C
@@ -42,6 +47,10 @@ module _ {M S Z K R L C E N V A : Type 0} {m : ManagerOf M C E N V} {d : DebugOf
   -- how many guards a list may have: as many as its pool may have connections
   abbrev pub most_in : Guards M S Z K R L C E N V A m d s z k l → ℕ
   most_in guards = guards.shared.now.config.max_size
+
+  -- a list with this connection in place of the one of an index
+  abbrev pub with_connection_at : Guards M S Z K R L C E N V A m d s z k l → ℕ → C → Guards M S Z K R L C E N V A m d s z k l
+  with_connection_at guards index connection = record guards { connections = with_item guards.connections index connection }
 
   -- the list is of guards of this pool
   abbrev pub IsListOf : Guards M S Z K R L C E N V A m d s z k l → Pool M S Z K R L C E N V A m d l → Type 0

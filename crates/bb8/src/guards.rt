@@ -8,6 +8,7 @@ use bb8_gets::Taken;
 use bb8_locked::{Gathered, Parts};
 use bb8_shared::{Locks, Shared};
 use std::alloc::Global;
+use std::marker::PhantomData;
 
 /// Where a connection of a list goes back to, and its key.
 #[derive(Drop)]
@@ -76,7 +77,10 @@ impl<
     R: Locks,
     L: Parts,
 > GuardsCalls for Guards<'a, M, S, Z, K, R, L> {
-    ghost use Rattle.bb8.specs.GuardLists.{connection_of, connections_in, most_in, number_in, ticket_of, tickets_in, AreOfOne, IsListOf};
+    ghost use Rattle.std.specs.Borrow.{LendsIf, sem};
+    ghost use mir.Syntax.{named};
+    ghost use Rattle.bb8.specs.GuardLists.{connection_of, connections_in, most_in, number_in, ticket_of, tickets_in, with_connection_at, AreOfOne, IsListOf};
+    ghost use Rattle.bb8.specs.contracts.guards.Guards.{the_row};
 
     type Pool = &'a Pool<M, S, Z, K, R, L>;
 
@@ -137,6 +141,7 @@ impl<
                     connection,
                     part,
                 },
+                lends: PhantomData,
             });
         }
         match self.connections.push(connection) {
@@ -152,7 +157,11 @@ impl<
                     connection,
                     part,
                 };
-                Err(PooledConnection { shared, taken })
+                Err(PooledConnection {
+                    shared,
+                    taken,
+                    lends: PhantomData,
+                })
             }
         }
     }
@@ -181,10 +190,19 @@ impl<
             connection,
             part,
         };
-        Some(PooledConnection { shared, taken })
+        Some(PooledConnection {
+            shared,
+            taken,
+            lends: PhantomData,
+        })
     }
 
     fn get_mut(&mut self, index: usize) -> Option<&mut M::Connection>
+        ensures* writes_back { sem 𝓛 (LendsIf
+            (the_row (record { mir = named 1; lft = [] }) M.row S.row Z.row K.row R.row L.row
+            M.Connection.row M.Error.row M.Connecting.row M.Checking.row Z.Acquiring.row _ _ _ _ _ _
+            (record { name = L.name; parts = L.parts }))
+            M.Connection.row self.entry result (with_connection_at self.old index) self.old) }
         ensures some { IsSome result ↔ (index < number_in self.old) }
         ensures connection { IfSome result (λ connection. connection.now
             ≡ slice_index_or (connections_in self.old) index connection.now) }
@@ -202,7 +220,10 @@ impl<
     R: Locks,
     L: Parts,
 > Guards<'a, M, S, Z, K, R, L> {
-    ghost use Rattle.bb8.specs.GuardLists.{connection_of, connections_in, most_in, number_in, ticket_of, tickets_in, AreOfOne, IsListOf};
+    ghost use Rattle.std.specs.Borrow.{LendsIf, sem};
+    ghost use mir.Syntax.{named};
+    ghost use Rattle.bb8.specs.GuardLists.{connection_of, connections_in, most_in, number_in, ticket_of, tickets_in, with_connection_at, AreOfOne, IsListOf};
+    ghost use Rattle.bb8.specs.contracts.guards.Guards.{the_row};
 
     /// An empty list of guards of this pool. It takes no memory. Our own.
     pub fn new(alloc: Global, pool: &'a Pool<M, S, Z, K, R, L>) -> Self
@@ -263,6 +284,11 @@ impl<
 
     /// The connection of the guard of an index. None where there is no such index. Our own.
     pub fn get_mut(&mut self, index: usize) -> Option<&mut M::Connection>
+        ensures* writes_back { sem 𝓛 (LendsIf
+            (the_row (record { mir = named 1; lft = [] }) M.row S.row Z.row K.row R.row L.row
+            M.Connection.row M.Error.row M.Connecting.row M.Checking.row Z.Acquiring.row _ _ _ _ _ _
+            (record { name = L.name; parts = L.parts }))
+            M.Connection.row self.entry result (with_connection_at self.old index) self.old) }
         ensures some { IsSome result ↔ (index < number_in self.old) }
         ensures connection { IfSome result (λ connection. connection.now
             ≡ slice_index_or (connections_in self.old) index connection.now) }
@@ -298,7 +324,11 @@ impl<
                     connection,
                     part,
                 };
-                drop(PooledConnection { shared, taken });
+                drop(PooledConnection {
+                    shared,
+                    taken,
+                    lends: PhantomData,
+                });
             }
         }
     }

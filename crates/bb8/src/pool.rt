@@ -64,6 +64,8 @@ pub struct PooledConnection<
 > {
     pub(crate) shared: &'a Shared<M, S, Z, K, R, L>,
     pub(crate) taken: Taken<M::Connection, Part<L>>,
+    /// By it the borrow checker knows what the guard is after a lend of its connection.
+    pub(crate) lends: PhantomData<&'a ()>,
 }
 
 impl<
@@ -130,7 +132,11 @@ impl<
         ensures pool { result.0 ≡ self.entry.shared }
         ensures taken { result.1 ≡ self.entry.taken }
     {
-        let PooledConnection { shared, taken } = self;
+        let PooledConnection {
+            shared,
+            taken,
+            lends: _,
+        } = self;
         (shared, taken)
     }
 }
@@ -368,7 +374,11 @@ impl<
     fn drop(self)
         ensures { OwnReturns S.sinks K.tells self.entry.shared.now self.entry.taken }
     {
-        let PooledConnection { shared, taken } = self;
+        let PooledConnection {
+            shared,
+            taken,
+            lends: _,
+        } = self;
         let calls = Calls::new(&shared.manager, &shared.error_sink, &shared.clock);
         shared.give_back(calls, taken);
     }
@@ -399,9 +409,22 @@ impl<
     R: Locks,
     L: Parts,
 > DerefMut for PooledConnection<'_, M, S, Z, K, R, L> {
+    ghost use Rattle.std.specs.Prelude.{[]};
+    ghost use Rattle.std.specs.Borrow.{Lends, sem};
+    ghost use mir.Syntax.{named};
+    ghost use Rattle.bb8.specs.GuardLists.{with_connection};
+    ghost use Rattle.bb8.specs.contracts.pool.PooledConnection.{the_row};
+
     ghost deref_mut_gives = { λ guard connection. connection ≡ guard.taken.connection };
 
-    fn deref_mut(&mut self) -> &mut M::Connection {
+    fn deref_mut(&mut self) -> &mut M::Connection
+        ensures* writes_back { sem 𝓛 (Lends
+            (the_row (record { mir = named 1; lft = [] }) M.row S.row Z.row K.row R.row L.row
+            M.Connection.row M.Error.row M.Connecting.row M.Checking.row Z.Acquiring.row _ _ _
+            (record { name = L.name; parts = L.parts }))
+            M.Connection.row self.entry result (with_connection self.old)) }
+        ensures shows { result.now ≡ self.old.taken.connection }
+    {
         let taken = &mut self.taken;
         &mut taken.connection
     }

@@ -8,6 +8,7 @@ use bb8_locked::{Part, Parts};
 use bb8_shared::{Gets, Locks, Shared};
 use futures::Future;
 use futures::task::{Context, Poll};
+use std::marker::PhantomData;
 use std::sync::Wait;
 
 /// What `Pool::get` answers: a get that does nothing until it is polled.
@@ -179,7 +180,11 @@ impl<
             Poll::Pending => return cx.yield_now(),
         };
         match answer {
-            Ok(taken) => Poll::Ready(Ok(PooledConnection { shared, taken })),
+            Ok(taken) => Poll::Ready(Ok(PooledConnection {
+                shared,
+                taken,
+                lends: PhantomData,
+            })),
             Err(error) => Poll::Ready(Err(error)),
         }
     }
