@@ -220,6 +220,7 @@ mod handles;
 mod machine;
 pub mod owned;
 pub mod pool;
+mod printing;
 mod serving;
 
 pub use bb8_core::api::{
@@ -239,4 +240,5 @@ pub use guards::{Guards, GuardsCalls};
 pub use machine::MachineClock;
 pub use owned::{GetOwnedFuture, OwnedConnection};
 pub use pool::{Cancel, Pool, PoolCalls, PooledConnection};
+pub use printing::{ErrorLine, PrintingSink};
 pub use serving::Service;
