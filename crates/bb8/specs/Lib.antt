@@ -7,6 +7,7 @@ pub mod GuardLists
 pub mod Handles
 pub mod Owned
 pub mod Pools
+pub mod Printing
 pub mod Services
 pub use Rattle.bb8_types.specs.Errors
 pub use Rattle.bb8_types.specs.Figures

@@ -210,6 +210,7 @@
 //! (`ghosts-run-L-Parts`), as in `bb8_live_bench`.
 #![tactic(auto)]
 
+mod alone;
 mod builder;
 pub mod building;
 pub mod dedicated;
@@ -218,10 +219,13 @@ pub mod get;
 pub mod guards;
 mod handles;
 mod machine;
+mod memory;
 pub mod owned;
 pub mod pool;
+mod printing;
 mod serving;
 
+pub use alone::User;
 pub use bb8_core::api::{
     AddError, Clock, Config, CustomizeConnection, ErrorSink, ManageConnection, Memory, Moment,
     NopCustomizer, NopErrorSink, QueueStrategy, RunError, SetClock, State, Statistics,
@@ -236,7 +240,9 @@ pub use dedicated::DedicatedFuture;
 pub use driver::{Driven, Driver, DriverCalls, Gate, NoThread, Turn, drive};
 pub use get::GetFuture;
 pub use guards::{Guards, GuardsCalls};
-pub use machine::MachineClock;
+pub use machine::{MachineClock, Runtime};
+pub use memory::OrMemory;
 pub use owned::{GetOwnedFuture, OwnedConnection};
 pub use pool::{Cancel, Pool, PoolCalls, PooledConnection};
+pub use printing::{ErrorLine, PrintingSink};
 pub use serving::Service;

@@ -1,6 +1,24 @@
-//! The machine's clock.
+//! The machine: its clock, and the runtime that a program hands in.
 use bb8_core::api::{Clock, Moment};
+use std::random::RandomSource;
+use std::sync::Wait;
 use std::time::Clock as MachineTime;
+
+/// What a program asks of the runtime that it hands to its pool, in one name: that it waits, tells the time, draws random bits for
+/// `block_on`, allocates, and may be copied and sent. `main`'s runtime is one. `Builder::serve` asks for `Threads` besides. Our own.
+pub trait Runtime: Wait
+    + MachineTime
+    + RandomSource
+    + AllocGlobal
+    + Copy
+    + Send
+    + Sync
+    + Drop
+    + 'static {}
+
+impl<
+    R: Wait + MachineTime + RandomSource + AllocGlobal + Copy + Send + Sync + Drop + 'static,
+> Runtime for R {}
 
 /// The machine's clock that never goes back, read through a runtime. Our own: upstream reads that clock itself.
 ///

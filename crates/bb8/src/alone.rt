@@ -1,0 +1,122 @@
+//! A pool for one thread: a small program's, or a test's.
+ghost use Rattle.std.specs.Prelude.{◌≡◌, ⊤, IfOk, true};
+ghost use Rattle.bb8_types.specs.Settings.{is_lawful};
+ghost use Rattle.bb8_locked.specs.Parts.{IsBlankOf};
+ghost use Rattle.bb8.specs.Drivers.{IsDriverOf};
+ghost use Rattle.bb8.specs.Services.{Basis, basis, basis_of};
+
+use crate::Builder;
+use crate::driver::Driver;
+use crate::pool::Pool;
+use bb8_core::api::{Clock, Config, CustomizeConnection, ErrorSink, ManageConnection, Memory};
+use bb8_locked::PoolParts;
+use bb8_shared::Locks;
+use std::marker::Brand;
+use std::sync::Wait;
+use std::sync::ledger::Blank;
+
+/// What one thread does with a pool and a driver of it, by whatever parts `L` the connections that are out are counted.
+/// `Builder::with_pool` runs it. Our own.
+///
+/// As in a `Service`, its method calls the pool by `PoolCalls` and the driver by `DriverCalls`. Its ghost members are relations between
+/// what it was given and what it answers, with the pool's settings, manager and clock; one that is left out allows everything.
+pub trait User<
+    M: ManageConnection,
+    S: ErrorSink<M::Error>,
+    Z: CustomizeConnection<M::Connection, M::Error>,
+    K: Clock,
+    R: Locks,
+> {
+    /// What comes of it. Our own.
+    type Outcome;
+
+    // Holds of a user and the settings, the manager and the clock of each pool that it may be run over.
+    ghost suits: { Self → Basis M K → Type 0 } = { λ _ _. ⊤ };
+
+    // Holds of a user, what its pool was built of, and each outcome that it may have.
+    ghost comes_to: { Self → Basis M K → Self.Outcome → Type 0 } = { λ _ _ _. ⊤ };
+
+    /// What is done with the pool, which has no connection yet, and its driver, which made no turn. Our own.
+    fn run<L: PoolParts>(
+        &self,
+        pool: &Pool<M, S, Z, K, R, L>,
+        driver: &mut Driver<M, S, Z, K, R, L>,
+    ) -> Self::Outcome
+        requires pool { suits self.now (basis_of pool.now) }
+        requires driver { IsDriverOf driver.old pool.now }
+        ensures { comes_to self.now (basis_of pool.now) result };
+}
+
+/// A pool whose parts are named, built of this and not polled.
+fn built<
+    M: ManageConnection,
+    S: ErrorSink<M::Error>,
+    Z: CustomizeConnection<M::Connection, M::Error>,
+    K: Clock,
+    R: Wait + AllocGlobal + Send + Sync + Drop + 'static,
+    L: PoolParts,
+>(
+    builder: Builder<M, S, Z>,
+    manager: M,
+    clock: K,
+    rt: R,
+    blank: Blank,
+) -> Result<Pool<M, S, Z, K, R, L>, Memory>
+    requires lawful { is_lawful builder.settings ≡ true }
+    requires parts { IsBlankOf blank builder.settings L.name L.parts L.settings }
+    ensures { IfOk result (λ pool. basis_of pool ≡ basis builder.settings manager clock) }
+{
+    builder.build_unchecked(manager, clock, rt, blank)
+}
+
+/// Runs a user over a pool whose parts are named.
+fn run_with<
+    M: ManageConnection,
+    S: ErrorSink<M::Error>,
+    Z: CustomizeConnection<M::Connection, M::Error>,
+    K: Clock,
+    R: Wait + AllocGlobal + Send + Sync + Drop + 'static,
+    L: PoolParts,
+    V: User<M, S, Z, K, R>,
+>(
+    builder: Builder<M, S, Z>,
+    manager: M,
+    clock: K,
+    rt: R,
+    blank: Blank,
+    user: &V,
+) -> Result<V::Outcome, Memory>
+    requires lawful { is_lawful builder.settings ≡ true }
+    requires parts { IsBlankOf blank builder.settings L.name L.parts L.settings }
+    requires suits { V.suits user.now (basis builder.settings manager clock) }
+    ensures { IfOk result (V.comes_to user.now (basis builder.settings manager clock)) }
+{
+    let pool: Pool<M, S, Z, K, R, L> = built(builder, manager, clock, rt, blank)?;
+    let mut driver = Driver::new(&pool)?;
+    Ok(user.run(&pool, &mut driver))
+}
+
+impl<
+    M: ManageConnection,
+    S: ErrorSink<M::Error>,
+    Z: CustomizeConnection<M::Connection, M::Error>,
+> Builder<M, S, Z> {
+    /// Builds a pool as `build_unchecked` does, with parts of its own, and runs a user over it and a driver of it, in this thread. Then
+    /// both are dropped. Our own.
+    ///
+    /// No thread is started and nothing is waited for: a connection is opened where the user turns the driver. For small programs, and
+    /// for tests on a `SetClock`. It fails only where the pool or its driver was refused memory; then the user did not run.
+    pub fn with_pool<
+        K: Clock,
+        R: Wait + AllocGlobal + Send + Sync + Drop + 'static,
+        V: User<M, S, Z, K, R>,
+    >(self, manager: M, clock: K, rt: R, user: &V) -> Result<V::Outcome, Memory>
+        requires lawful { is_lawful self.settings ≡ true }
+        requires suits { V.suits user.now (basis self.settings manager clock) }
+        ensures { IfOk result (V.comes_to user.now (basis self.settings manager clock)) }
+    {
+        let config = Config::from(&self);
+        let blank = Blank::new(config.max_size as u64);
+        run_with::<M, S, Z, K, R, Brand, V>(self, manager, clock, rt, blank, user)
+    }
+}

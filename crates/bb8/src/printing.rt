@@ -1,0 +1,46 @@
+//! A sink that prints.
+ghost use Rattle.std.specs.Prelude.{◌≡◌};
+ghost use Rattle.bb8.specs.Printing.{line_text};
+
+use bb8_core::api::ErrorSink;
+use std::fmt;
+
+/// An error of a pool that has a name, as one line: the name, a colon, and the error as it displays. Our own.
+#[derive(Clone, Copy, Debug)]
+pub struct ErrorLine<'a, E> {
+    /// What the error was about. Our own.
+    pub name: &'a str,
+    /// The error. Our own.
+    pub error: &'a E,
+}
+
+impl<E: fmt::Display> fmt::Display for ErrorLine<'_, E> {
+    ghost output = { λ line. line_text line.name.now (E.output line.error.now) };
+
+    fn fmt<W: fmt::Write>(&self, f: &mut fmt::Formatter<W>) -> fmt::Result {
+        write!(f, "{}: {}", self.name, self.error)
+    }
+}
+
+/// Prints each error to the standard error, as an `ErrorLine`. One that cannot be written is dropped. Our own: upstream leaves the sink
+/// to the user.
+///
+/// The name is that of the pool or of its server; which try of an opening it was, or which check, the manager's error may say.
+#[derive(Clone, Copy, Debug)]
+pub struct PrintingSink<R> {
+    /// What prints. Our own.
+    pub rt: R,
+    /// What its errors are about. Our own.
+    pub name: &'static str,
+}
+
+impl<E: fmt::Display + Drop, R: Eprint + Send + Sync + Drop + 'static> ErrorSink<E>
+    for PrintingSink<R> {
+    fn sink(&self, error: E) {
+        let line = ErrorLine {
+            name: self.name,
+            error: &error,
+        };
+        let _ = self.rt.eprintln(line);
+    }
+}
