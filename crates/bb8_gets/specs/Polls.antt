@@ -1,6 +1,6 @@
 -- The table of a get's polls, over the relations of any home and of any calls outside. As these are free, the table says which calls are
 -- made, how many, and in which order.
-use Rattle.std.specs.Prelude.{◌≡◌, ℕ, ◌+◌, ◌<◌, ◌≤◌, Bool, true, false, Option, Some, None, Result, Ok, Err}
+use Rattle.std.specs.Prelude.{◌≡◌, ℕ, ◌+◌, ◌-◌, ◌<◌, ◌≤◌, min, Bool, true, false, Option, Some, None, Result, Ok, Err}
 use Rattle.std.specs.Bool.{MatchBool}
 use Rattle.futures.specs.declared.task.Poll.{Poll}
 use Rattle.futures.specs.declared.task.Poll.TheVariants.{Ready, Pending}
@@ -54,6 +54,19 @@ holds_nothing Done = true
 abbrev pub IsDeadline : Moment → ℕ → Option Moment → Type 0
 IsDeadline m timeout (Some deadline) = deadline.0 ≡ m.0 + timeout
 IsDeadline m timeout None = last_moment < m.0 + timeout
+
+-- so long at most, and not past the deadline
+abbrev pub within : ℕ → Option Moment → ℕ → ℕ
+within most (Some deadline) now = min most (deadline.0 - now)
+within most None now = most
+
+-- the nanoseconds for which a thread may sleep before it polls the get again
+abbrev pub rest_of : {C V P : Type 0} → Stage C V P → ℕ → ℕ
+rest_of Fresh now = 0
+rest_of (Trying b) now = 0
+rest_of (Waiting b) now = within 50000000 b.deadline now
+rest_of (Checking b held) now = within 1000000 b.deadline now
+rest_of Done now = 0
 
 -- the connection whose check failed, which is closed
 abbrev pub closed_in : {C : Type 0} → CheckedErrAnswer C → C

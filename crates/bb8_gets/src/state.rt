@@ -1,7 +1,7 @@
 //! Where a get stands, its poll, and its letting go.
 ghost use Rattle.std.specs.Prelude.{◌≡◌, ℕ, true, Ok, IfSome, IfNone};
 ghost use Rattle.std.specs.Duration.{as_nanos};
-ghost use Rattle.bb8_gets.specs.Polls.{holds_nothing, is_done, Polls, Starts, Goes, Unserved, CancelsFree, CancelsHeld, Cancels};
+ghost use Rattle.bb8_gets.specs.Polls.{holds_nothing, is_done, rest_of, Polls, Starts, Goes, Unserved, CancelsFree, CancelsHeld, Cancels};
 ghost use Rattle.bb8_gets.specs.declared.state.Stage.TheVariants.{Done as IsDone, Fresh as IsFresh};
 ghost use Rattle.futures.specs.declared.task.Poll.TheVariants.{Ready};
 
@@ -13,6 +13,12 @@ use bb8_core::internals::{GetKey, Looked, Reason};
 use futures::task::Poll;
 use std::mem;
 use std::time::Duration;
+
+/// The nanoseconds after which a get that waits is polled again, rung for or not.
+const LONGEST_WAIT: u64 = 50_000_000;
+
+/// The nanoseconds after which a check is polled again.
+const LONGEST_CHECK: u64 = 1_000_000;
 
 /// A get that began, and its deadline, which may be none. Our own.
 #[derive(Clone, Copy, Debug)]
@@ -171,12 +177,24 @@ impl<C, V, P> GetState<C, V, P> {
     {
         match seen {
             None => self.again(pool, timeout),
-            Some(seen) => {
-                let Settled { answer, stage } = begin(pool, seen.moment, timeout);
-                self.stand(stage);
-                answer
-            }
+            Some(seen) => self.start_step(pool, seen.moment, timeout),
         }
+    }
+
+    /// A first poll from a moment on at which its home was looked at: the get begins and tries. Our own.
+    pub fn start_step<E, X: GetHome<C, Part = P> + Outside<C, E, Checking = V>>(
+        &mut self,
+        pool: &mut X,
+        moment: Moment,
+        timeout: Duration,
+    ) -> Poll<Result<Taken<C, P>, RunError<E>>>
+        requires { holds_nothing self.old.stage ≡ true }
+        ensures { Starts X.GetHome X.Outside moment (as_nanos timeout) pool.old
+            (record { answer = result; stage = self.new.stage }) pool.new }
+    {
+        let Settled { answer, stage } = begin(pool, moment, timeout);
+        self.stand(stage);
+        answer
     }
 
     /// A poll from its begin on.
@@ -195,6 +213,23 @@ impl<C, V, P> GetState<C, V, P> {
         let Settled { answer, stage } = go(pool, timeout, stage);
         self.stand(stage);
         answer
+    }
+
+    /// How long a thread may sleep after a poll that was pending, before it polls the get again: not past the get's deadline, and one that waits
+    /// at most 50 milliseconds, one whose connection is checked a millisecond. Our own.
+    pub fn rest(&self, now: Moment) -> Duration
+        ensures { as_nanos result ≡ rest_of self.now.stage now.0 }
+    {
+        let (most, deadline) = match &self.stage {
+            Stage::Waiting(begun) => (LONGEST_WAIT, begun.deadline),
+            Stage::Checking(begun, _) => (LONGEST_CHECK, begun.deadline),
+            Stage::Fresh | Stage::Trying(_) | Stage::Done => (0, None),
+        };
+        let left = match deadline {
+            Some(deadline) => deadline.0.saturating_sub(now.0),
+            None => most,
+        };
+        Duration::from_nanos(most.min(left))
     }
 
     /// Lets the get go: one that began and was not answered is given up as cancelled, at a reading of the clock. A connection that it holds

@@ -1,12 +1,15 @@
 //! What guards and handles do with a pool, over any home with sections and any calls outside.
 //!
 //! The home is released after each section, before anything else is called.
-ghost use Rattle.bb8_locked.specs.Chains.{Adds, AfterReturn, CancelsAndLeaves, IsTold, Joins, Leaves, Returns, ReturnsAndLeaves, Shows};
+ghost use Rattle.std.specs.Duration.{as_nanos};
+ghost use Rattle.bb8_locked.specs.Chains.{Adds, AfterReturn, CancelsAndLeaves, IsTold, Joins, Leaves, Returns, ReturnsAndLeaves, Shows, TakesNow, TriesOnce};
 
 use crate::handles::{Handle, Joining, SectionHome};
-use bb8_core::api::{AddError, State};
+use bb8_core::api::{AddError, Moment, RunError, State};
 use bb8_core::internals::{AddAnswer, PutBackAnswer};
 use bb8_gets::{GetState, Outside, Taken, ask};
+use futures::task::Poll;
+use std::time::Duration;
 
 /// A guard's connection comes back: it is asked whether it is broken, the clock is read, and the home takes it back and is released. What
 /// does not stay is dropped then.
@@ -70,6 +73,45 @@ pub fn state<C, V, P, E, X: SectionHome<C, Part = P> + Outside<C, E, Checking = 
     let state = pool.state(at);
     pool.release();
     state
+}
+
+/// A connection at once, or none. Where the home has none idle no get begins; else one tries once under the same taking, and is let go where
+/// that did not answer it.
+pub fn take_now<C, V, P, E, X: SectionHome<C, Part = P> + Outside<C, E, Checking = V>>(
+    pool: &mut X,
+    timeout: Duration,
+) -> Result<Option<Taken<C, P>>, RunError<E>>
+    ensures { TakesNow X.GetHome X.SectionHome.own X.Outside (as_nanos timeout) pool.old result
+        pool.new }
+{
+    let at = pool.now();
+    let moment = pool.look(at).moment;
+    let state = pool.state(moment);
+    if state.idle_connections == 0 {
+        pool.release();
+        return Ok(None);
+    }
+    try_once(pool, moment, timeout)
+}
+
+/// A get begins and tries at a moment, and is let go where that did not answer it.
+fn try_once<C, V, P, E, X: SectionHome<C, Part = P> + Outside<C, E, Checking = V>>(
+    pool: &mut X,
+    moment: Moment,
+    timeout: Duration,
+) -> Result<Option<Taken<C, P>>, RunError<E>>
+    ensures { TriesOnce X.GetHome X.SectionHome.own X.Outside moment (as_nanos timeout)
+        pool.old result pool.new }
+{
+    let mut get = GetState::new();
+    let answer = get.start_step(pool, moment, timeout);
+    pool.release();
+    get.cancel_step(pool);
+    match answer {
+        Poll::Ready(Ok(taken)) => Ok(Some(taken)),
+        Poll::Ready(Err(error)) => Err(error),
+        Poll::Pending => Ok(None),
+    }
 }
 
 /// One handle more is counted, or refused, at a reading of the clock.

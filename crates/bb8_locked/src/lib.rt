@@ -9,7 +9,9 @@ mod home;
 mod locked;
 mod opens;
 
-pub use calls::{add, cancel_and_leave, give_back, give_back_and_leave, join, leave, state};
+pub use calls::{
+    add, cancel_and_leave, give_back, give_back_and_leave, join, leave, state, take_now,
+};
 pub use gathered::Gathered;
 pub use handles::{Handle, Joining, SectionHome};
 pub use locked::{Locked, NewPool, Part, Parts, PoolParts, begin_pool};
