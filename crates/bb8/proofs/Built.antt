@@ -17,12 +17,12 @@ use Rattle.bb8_tasks.specs.declared.building.Site.TheVariants.{Planned, Opening,
 use Rattle.bb8_tasks.specs.declared.replenish.Replenish.{Replenish}
 use Rattle.bb8_tasks.specs.declared.rounds.Round.{Round}
 use Rattle.bb8_tasks.specs.declared.rounds.Round.TheVariants.{Failed, Complete, Going}
-use Rattle.bb8_tasks.specs.Building.{AfterRound, Polls}
-use Rattle.bb8_locked.specs.declared.locked.Parts.{Ghosts as PartsOf}
-use Rattle.bb8_shared.specs.Linked.{Answers}
+use Rattle.bb8_tasks.specs.Building.{AfterFirstRound, BuildingPolls}
+use Rattle.bb8_lock.specs.declared.locked.Parts.{Ghosts as PartsOf}
+use Rattle.bb8_lock.specs.Linked.{Answers}
 use Rattle.bb8.specs.declared.building.Plan.{Plan}
 use Rattle.bb8.specs.declared.pool.Pool.{Pool}
-use Rattle.bb8.specs.Buildings.{IsBuildError, IsMade, PlansSite, PollsSite, PoolRounds}
+use Rattle.bb8.specs.Buildings.{IsBuildError, PoolIsMade, PlansSite, PollsSite, PoolRounds}
 use Rattle.bb8.specs.Choices.{Choices}
 use Rattle.bb8.specs.Pools.{customizer_in}
 use Rattle.bb8.specs.Services.{basis, basis_of, Basis}
@@ -46,20 +46,20 @@ Tells has b Error Pending = ⊤
 module _ {B I P T E : Type 0} (makes : I → Result (P × T) Memory → Type 0) (rounds : P → T → Round T E → Type 0) (of : I → B) (has : P → B)
     (is_made : (i : I) (made : P × T) → makes i (Ok made) → has made.0 ≡ of i) (b : B) (Error : RunError E → Type 0) (refused : Error errors.Memory)
     (failed : (p : P) (ts : T) (round : Round T E) → has p ≡ b → rounds p ts round → Ended (λ e. Error (errors.User e)) round) where
-  swept : (p : P) (round : Round T E) (r : Poll (Result P (RunError E))) (s : Site I P T) → AfterRound rounds round p r s → Ended (λ e. Error (errors.User e)) round → has p ≡ b
+  swept : (p : P) (round : Round T E) (r : Poll (Result P (RunError E))) (s : Site I P T) → AfterFirstRound rounds round p r s → Ended (λ e. Error (errors.User e)) round → has p ≡ b
       → Tells has b Error r × Stands of has b s
   swept p (Failed e) r s (told, at) ended is = rw (told, at) (ended, tt)
   swept p Complete r s (told, at) ended is = rw (told, at) (is, tt)
   swept p (Going ts) r s (told, at) ended is = rw (told, at) (tt, is)
 
-  polled : (s s' : Site I P T) (r : Poll (Result P (RunError E))) → Polls makes rounds s r s' → Stands of has b s → Tells has b Error r × Stands of has b s'
+  polled : (s s' : Site I P T) (r : Poll (Result P (RunError E))) → BuildingPolls makes rounds s r s' → Stands of has b s → Tells has b Error r × Stands of has b s'
   polled (Planned i) s' r (Ok made, of_plan, (round, at, after)) is =
       let of_b = is_made i made of_plan ∙ is in swept made.0 round r s' after (failed made.0 made.1 round of_b at) of_b
   polled (Planned i) s' r (Err none, of_plan, (told, at)) is = rw (told, at) (refused, tt)
   polled (Opening p ts) s' r (round, at, after) is = swept p round r s' after (failed p ts round is at) is
   polled Done s' r (told, at) is = rw (told, at) (tt, tt)
 
-  pub built : (s : Site I P T) (x : Result P (RunError E)) → Answers (Polls makes rounds) s x → Stands of has b s → Answered has b Error x
+  pub built : (s : Site I P T) (x : Result P (RunError E)) → Answers (BuildingPolls makes rounds) s x → Stands of has b s → Answered has b Error x
   built _ _ (Answers.now s t x polls) is = (polled s t (Ready x) polls is).0
   built _ _ (Answers.later s t x polls more) is = built t x more (polled s t Pending polls is).1
 
@@ -87,7 +87,7 @@ module _ {M S Z K R L C E N V A : Type 0} {m : ManagerOf M C E N V} {d : DebugOf
 module _ {M S Z K R L C E N V A : Type 0} {m : ManagerOf M C E N V} {d : DebugOf E} {l : PartsOf L} {p : LedgerOf L} (z : CustomizerOf Z C E A) (sinks : S → E → Type 0)
     (tells : K → Moment → Type 0) where
   -- a pool is made of its plan's settings, manager, clock and customizer
-  is_made : (plan : Plan M S Z K R L l p) (made : Pool M S Z K R L C E N V A m d l × List (Replenish C N A)) → IsMade tells plan made.0 made.1
+  is_made : (plan : Plan M S Z K R L l p) (made : Pool M S Z K R L C E N V A m d l × List (Replenish C N A)) → PoolIsMade tells plan made.0 made.1
       → origin_of made.0 ≡ origin_in plan
   is_made plan made (grant, opened, tasks) = rw (opened.settings, opened.manager, opened.clock, opened.customizer) refl
 

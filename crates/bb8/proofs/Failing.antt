@@ -28,10 +28,10 @@ use Rattle.bb8_tasks.specs.declared.rounds.Round.{Round}
 use Rattle.bb8_tasks.specs.declared.rounds.Round.TheVariants as round
 use Rattle.bb8_tasks.specs.Joined.{joined_opener, joined_reports, joined_tasks}
 use Rattle.bb8_tasks.specs.Replenishing as replenishing
-use Rattle.bb8_tasks.specs.Sweeping.{After, AfterRound, Leaves, PollsUntil, Rest, Rounds}
-use Rattle.bb8_locked.specs.declared.locked.Parts.{Ghosts as PartsOf}
-use Rattle.bb8_shared.specs.declared.shared.Shared.{Shared}
-use Rattle.bb8_shared.specs.Opening.{link_tasks, locked_tasks, pool_opener, pool_reports, OwnRounds}
+use Rattle.bb8_tasks.specs.Sweeping.{After, AfterRound, RoundLeaves, PollsUntil, Rest, Rounds}
+use Rattle.bb8_lock.specs.declared.locked.Parts.{Ghosts as PartsOf}
+use Rattle.bb8_lock.specs.declared.shared.Shared.{Shared}
+use Rattle.bb8_lock.specs.Opening.{link_tasks, locked_tasks, pool_opener, pool_reports, OwnRounds}
 use Rattle.bb8.specs.Buildings.{IsBuildError}
 
 -- what is known of an error, of the answer of a task, of what stopped a round, and of a round
@@ -83,7 +83,7 @@ module _ {T E X : Type 0} (polls : T → X → ReplenishAnswer E → T → X →
       rest now (PollsUntil polls sinks Stop ts x2) ts more x2 x' stopped (λ s l y. until ts l x2 y s stood.0) stood.1 r'
 
   module _ (lets_go : T → X → X → Type 0) where
-    whole : (left : List T) (r : Round (List T) E) → Leaves polls sinks lets_go left r → Ended Known r
+    whole : (left : List T) (r : Round (List T) E) → RoundLeaves polls sinks lets_go left r → Ended Known r
     whole [] r is = rw is tt
     whole (t ∷ ts) r is = rw is tt
 
@@ -110,7 +110,7 @@ module _ {M S Z K R L C E N V A : Type 0} {manager : ManagerOf M C E N V} {d : D
 
   module _ {H : Type 0} (home : HomeOf H C) (timeout : ℕ) (retry : Bool) (approval : Key) (at : Moment) where
     fails : (tries : Tries) (e : E) (x x' : Joined (PoolOpener M S Z K) H) (next : Next C N A E) → IsBy x → Known e
-        → replenishing.Fails (joined_tasks home) timeout retry approval at tries e x next x' → IsBy x' × Told Known next.answer
+        → replenishing.TaskFails (joined_tasks home) timeout retry approval at tries e x next x' → IsBy x' × Told Known next.answer
     fails tries e x x' next is by f = by_retry retry refl
       where
         last : (retry ≡ false) ⊎ (timeout < at.0 - tries.start.0) → IsBy x' × Told Known next.answer
@@ -133,7 +133,7 @@ module _ {M S Z K R L C E N V A : Type 0} {manager : ManagerOf M C E N V} {d : D
 
     prepares : (answer : Poll (Result (Unit {0}) E)) (tries : Tries) (c0 c : C) (a0 a : A) (x x' : Joined (PoolOpener M S Z K) H) (next : Next C N A E) → IsBy x
         → z.acquire_answers calls.customizer.now c0 a0 at answer c a
-        → replenishing.AfterAcquire (joined_tasks home) timeout retry approval at (joined_opener (pool_opener z sinks tells shared)) answer tries c a x next x'
+        → replenishing.AfterTaskAcquire (joined_tasks home) timeout retry approval at (joined_opener (pool_opener z sinks tells shared)) answer tries c a x next x'
         → IsBy x' × Told Known next.answer
     prepares poll.Pending tries c0 c a0 a x x' next is said p = (still x x' p.2 is, known Known Pending next p.0 tt)
     prepares (poll.Ready (Ok u)) tries c0 c a0 a x x' next is said (x1, ended, (step, x2, entered, p)) = opens step x2 x' next (entered.1 ∙ ended.0 ∙ is) p
@@ -141,27 +141,27 @@ module _ {M S Z K R L C E N V A : Type 0} {manager : ManagerOf M C E N V} {d : D
         fails tries e x2 x' next (dropped.0 ∙ ended.0 ∙ is) (inr (c0, a0, at, c, a, said)) p
 
     acquires : (tries : Tries) (c : C) (a : A) (x x' : Joined (PoolOpener M S Z K) H) (next : Next C N A E) → IsBy x
-        → replenishing.Acquires (joined_tasks home) timeout retry approval at (joined_opener (pool_opener z sinks tells shared)) tries c a x next x'
+        → replenishing.TaskAcquires (joined_tasks home) timeout retry approval at (joined_opener (pool_opener z sinks tells shared)) tries c a x next x'
         → IsBy x' × Told Known next.answer
     acquires tries c a x x' next is (answer, c1, a1, x1, polled, p) =
         prepares answer tries c c1 a a1 x1 x' next (polled.0.1 ∙ is) (subst (λ (w : PoolOpener M S Z K). z.acquire_answers w.customizer.now c a at answer c1 a1) is polled.0.0) p
 
     connected : (answer : Poll (Result C E)) (tries : Tries) (v0 v : N) (x x' : Joined (PoolOpener M S Z K) H) (next : Next C N A E) → IsBy x
         → manager.connect_answers calls.manager.now v0 at answer v
-        → replenishing.AfterConnect (joined_tasks home) timeout retry approval at (joined_opener (pool_opener z sinks tells shared)) answer tries v x next x'
+        → replenishing.AfterTaskConnect (joined_tasks home) timeout retry approval at (joined_opener (pool_opener z sinks tells shared)) answer tries v x next x'
         → IsBy x' × Told Known next.answer
     connected poll.Pending tries v0 v x x' next is said p = (still x x' p.2 is, known Known Pending next p.0 tt)
     connected (poll.Ready (Ok c)) tries v0 v x x' next is said (x1, ended, (a, c1, x2, begun, p)) = acquires tries c1 a x2 x' next (begun.0.1 ∙ ended.0 ∙ is) p
     connected (poll.Ready (Err e)) tries v0 v x x' next is said (x1, ended, p) = fails tries e x1 x' next (ended.0 ∙ is) (inl (v0, at, v, said)) p
 
     connects : (tries : Tries) (v : N) (x x' : Joined (PoolOpener M S Z K) H) (next : Next C N A E) → IsBy x
-        → replenishing.Connects (joined_tasks home) timeout retry approval at (joined_opener (pool_opener z sinks tells shared)) tries v x next x'
+        → replenishing.TaskConnects (joined_tasks home) timeout retry approval at (joined_opener (pool_opener z sinks tells shared)) tries v x next x'
         → IsBy x' × Told Known next.answer
     connects tries v x x' next is (answer, v1, x1, polled, p) =
         connected answer tries v v1 x1 x' next (polled.0.1 ∙ is) (subst (λ (w : PoolOpener M S Z K). manager.connect_answers w.manager.now v at answer v1) is polled.0.0) p
 
     begins : (tries : Tries) (x x' : Joined (PoolOpener M S Z K) H) (next : Next C N A E) → IsBy x
-        → replenishing.Begins (joined_tasks home) timeout retry approval at (joined_opener (pool_opener z sinks tells shared)) tries x next x'
+        → replenishing.TaskBegins (joined_tasks home) timeout retry approval at (joined_opener (pool_opener z sinks tells shared)) tries x next x'
         → IsBy x' × Told Known next.answer
     begins tries x x' next is (v, x1, begun, p) = connects tries v x1 x' next (begun.0.1 ∙ is) p
 
@@ -176,7 +176,7 @@ module _ {M S Z K R L C E N V A : Type 0} {manager : ManagerOf M C E N V} {d : D
         ]
 
     advances : (stage : Stage C N A) (x x' : Joined (PoolOpener M S Z K) H) (next : Next C N A E) → IsBy x
-        → replenishing.Advances (joined_tasks home) timeout retry approval at (joined_opener (pool_opener z sinks tells shared)) stage x next x'
+        → replenishing.TaskAdvances (joined_tasks home) timeout retry approval at (joined_opener (pool_opener z sinks tells shared)) stage x next x'
         → IsBy x' × Told Known next.answer
     advances Start x x' next is p = begins (record { start = at; failures = 0 }) x x' next is p
     advances (Connecting tries v) x x' next is p = connects tries v x x' next is p
@@ -184,7 +184,7 @@ module _ {M S Z K R L C E N V A : Type 0} {manager : ManagerOf M C E N V} {d : D
     advances (Sleeping tries due) x x' next is p = wakes tries due x x' next is p
     advances Done x x' next is p = (still x x' p.2 is, known Known GivenBack next p.0 tt)
 
-    drops : (stage : Stage C N A) (x x' : Joined (PoolOpener M S Z K) H) → IsBy x → replenishing.Drops (joined_opener (pool_opener z sinks tells shared)) stage x x' → IsBy x'
+    drops : (stage : Stage C N A) (x x' : Joined (PoolOpener M S Z K) H) → IsBy x → replenishing.DropsTask (joined_opener (pool_opener z sinks tells shared)) stage x x' → IsBy x'
     drops Start x x' is p = still x x' p is
     drops (Connecting tries v) x x' is p = p.0 ∙ is
     drops (Acquiring tries c a) x x' is (x1, ended, dropped) = dropped.0 ∙ ended.0 ∙ is
@@ -192,14 +192,14 @@ module _ {M S Z K R L C E N V A : Type 0} {manager : ManagerOf M C E N V} {d : D
     drops Done x x' is p = still x x' p is
 
     proceeds : (alive : Bool) (stage : Stage C N A) (x x' : Joined (PoolOpener M S Z K) H) (next : Next C N A E) → IsBy x
-        → replenishing.Proceeds (joined_tasks home) timeout retry approval at (joined_opener (pool_opener z sinks tells shared)) alive stage x next x'
+        → replenishing.TaskProceeds (joined_tasks home) timeout retry approval at (joined_opener (pool_opener z sinks tells shared)) alive stage x next x'
         → IsBy x' × Told Known next.answer
     proceeds true stage x x' next is p = advances stage x x' next is p
     proceeds false stage x x' next is (x1, dropped, p) = (p.1.1 ∙ drops stage x x1 is dropped, known Known GivenBack next p.2 tt)
 
   module _ {H : Type 0} (home : HomeOf H C) (timeout : ℕ) (retry : Bool) (at : Moment) where
     at_stage : (approval : Key) (latest : Moment) (stage : Stage C N A) (t' : Replenish C N A) (x x' : Joined (PoolOpener M S Z K) H) (r : ReplenishAnswer E) → IsBy x
-        → replenishing.Polls (joined_tasks home) (joined_opener (pool_opener z sinks tells shared)) timeout retry at
+        → replenishing.TaskPolls (joined_tasks home) (joined_opener (pool_opener z sinks tells shared)) timeout retry at
         (record { approval = approval; latest = latest; stage = stage }) x r t' x'
         → IsBy x' × Told Known r
     at_stage approval latest Start t' x x' r is p =
@@ -214,7 +214,7 @@ module _ {M S Z K R L C E N V A : Type 0} {manager : ManagerOf M C E N V} {d : D
         (still x x' p.2 is, known Known GivenBack (record { answer = r; stage = t'.stage }) p.0 tt)
 
     polled : (t t' : Replenish C N A) (x x' : Joined (PoolOpener M S Z K) H) (r : ReplenishAnswer E) → IsBy x
-        → replenishing.Polls (joined_tasks home) (joined_opener (pool_opener z sinks tells shared)) timeout retry at t x r t' x' → IsBy x' × Told Known r
+        → replenishing.TaskPolls (joined_tasks home) (joined_opener (pool_opener z sinks tells shared)) timeout retry at t x r t' x' → IsBy x' × Told Known r
     polled t t' x x' r is p = at_stage t.approval t.latest t.stage t' x x' r is p
 
 module _ {M S Z K R L C E N V A : Type 0} {manager : ManagerOf M C E N V} {d : DebugOf E} {l : PartsOf L} (z : CustomizerOf Z C E A) (sinks : S → E → Type 0)
@@ -224,7 +224,7 @@ module _ {M S Z K R L C E N V A : Type 0} {manager : ManagerOf M C E N V} {d : D
       → Ended (λ e. IsBuildError (manager.connect_answers shared.manager) (z.acquire_answers shared.customizer) (User e)) r
   round_failed tasks r (calls, are, (x, x', of, free, (at, x1, told, rounds))) =
       rw (sym are.0, sym are.2) (ended
-      (replenishing.Polls (joined_tasks (link_tasks locked_tasks)) (joined_opener (pool_opener z sinks tells shared)) (as_nanos shared.config.connection_timeout)
+      (replenishing.TaskPolls (joined_tasks (link_tasks locked_tasks)) (joined_opener (pool_opener z sinks tells shared)) (as_nanos shared.config.connection_timeout)
       shared.config.retry_connection at)
       (joined_reports (pool_reports z sinks tells shared)).sinks (Known z sinks tells shared calls) (IsBy z sinks tells shared calls)
       (polled z sinks tells shared calls (link_tasks locked_tasks) (as_nanos shared.config.connection_timeout) shared.config.retry_connection at)

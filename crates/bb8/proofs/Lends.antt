@@ -10,7 +10,7 @@ use Rattle.bb8_types.specs.declared.api.clocks.Clock.{Ghosts as ClockOf}
 use Rattle.bb8_types.specs.declared.api.customizers.CustomizeConnection.{Ghosts as CustomizerOf}
 use Rattle.bb8_types.specs.declared.api.managers.ManageConnection.{Ghosts as ManagerOf}
 use Rattle.bb8_types.specs.declared.api.sinks.ErrorSink.{Ghosts as SinkOf}
-use Rattle.bb8_locked.specs.declared.locked.Parts.{Ghosts as PartsOf}
+use Rattle.bb8_lock.specs.declared.locked.Parts.{Ghosts as PartsOf}
 use Rattle.bb8.specs.declared.guards.Guards.{Guards}
 
 -- what is lent, or is not, is the same where the lender is, after the lend and without it

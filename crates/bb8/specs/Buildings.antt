@@ -17,16 +17,16 @@ use Rattle.bb8_tasks.specs.declared.building.Site.TheVariants.{Planned, Opening,
 use Rattle.bb8_tasks.specs.declared.replenish.Replenish.{Replenish}
 use Rattle.bb8_tasks.specs.declared.rounds.Round.{Round}
 use Rattle.bb8_tasks.specs.declared.rounds.Round.TheVariants.{Failed, Complete, Going}
-use Rattle.bb8_tasks.specs.Building.{Polls}
+use Rattle.bb8_tasks.specs.Building.{BuildingPolls}
 use Rattle.bb8_tasks.specs.Sweeping.{AreFor}
-use Rattle.bb8_locked.specs.declared.locked.Parts.{Ghosts as PartsOf}
-use Rattle.bb8_locked.specs.Parts.{HasBegun}
+use Rattle.bb8_lock.specs.declared.locked.Parts.{Ghosts as PartsOf}
+use Rattle.bb8_lock.specs.Parts.{HasBegun}
 use Rattle.bb8.specs.declared.building.Building.{Building}
 use Rattle.bb8.specs.declared.building.Plan.{Plan}
 use Rattle.bb8.specs.declared.pool.Pool.{Pool}
 use Rattle.bb8.specs.Choices.{Choices}
-use Rattle.bb8_shared.specs.Linked.{Answers, OwnLeaves}
-use Rattle.bb8_shared.specs.Opening.{OwnRounds, OwnDropsTasks}
+use Rattle.bb8_lock.specs.Linked.{Answers, OwnLeaves}
+use Rattle.bb8_lock.specs.Opening.{OwnRounds, OwnDropsTasks}
 use Rattle.bb8.specs.Pools.{clock_in, customizer_in, made_in, manager_in, settings_in, sink_in}
 
 module _ {M S Z K R L C E N V A : Type 0} {m : ManagerOf M C E N V} {d : DebugOf E} {l : PartsOf L} {p : LedgerOf L} (tells : K → Moment → Type 0) where
@@ -40,8 +40,8 @@ module _ {M S Z K R L C E N V A : Type 0} {m : ManagerOf M C E N V} {d : DebugOf
     pub customizer : customizer_in pool ≡ plan.builder.connection_customizer
 
   -- the same, with a task for each of the approvals, which are claimed
-  abbrev pub IsMade : Plan M S Z K R L l p → Pool M S Z K R L C E N V A m d l → List (Replenish C N A) → Type 0
-  IsMade plan pool tasks = (grant : Grant) × IsOpened plan true pool grant × AreFor grant.first grant.count tasks
+  abbrev pub PoolIsMade : Plan M S Z K R L l p → Pool M S Z K R L C E N V A m d l → List (Replenish C N A) → Type 0
+  PoolIsMade plan pool tasks = (grant : Grant) × IsOpened plan true pool grant × AreFor grant.first grant.count tasks
 
 module _ {M S Z K R L C E N V A : Type 0} {m : ManagerOf M C E N V} {d : DebugOf E} {l : PartsOf L} {p : LedgerOf L} where
   -- the building of a pool by this builder, manager and clock, which was not polled yet
@@ -69,7 +69,7 @@ module _ {M S Z K R L C E N V A : Type 0} {m : ManagerOf M C E N V} {d : DebugOf
   -- a poll of a building that stands here: what it answers, and where it stands then
   abbrev pub PollsSite : Site (Plan M S Z K R L l p) (Pool M S Z K R L C E N V A m d l) (List (Replenish C N A)) → Poll (Result (Pool M S Z K R L C E N V A m d l) (RunError E))
       → Site (Plan M S Z K R L l p) (Pool M S Z K R L C E N V A m d l) (List (Replenish C N A)) → Type 0
-  PollsSite = Polls (λ plan (made : Result (Pool M S Z K R L C E N V A m d l × List (Replenish C N A)) Memory). IfOk made (λ x. IsMade tells plan x.0 x.1)) (PoolRounds z sinks tells)
+  PollsSite = BuildingPolls (λ plan (made : Result (Pool M S Z K R L C E N V A m d l × List (Replenish C N A)) Memory). IfOk made (λ x. PoolIsMade tells plan x.0 x.1)) (PoolRounds z sinks tells)
 
   abbrev pub PollsBuilding : Building M S Z K R L C E N V A m d l p → Poll (Result (Pool M S Z K R L C E N V A m d l) (RunError E)) → Building M S Z K R L C E N V A m d l p → Type 0
   PollsBuilding building answer after = PollsSite building.site answer after.site

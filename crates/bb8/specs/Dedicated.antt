@@ -6,10 +6,10 @@ use Rattle.bb8_types.specs.declared.api.customizers.CustomizeConnection.{Ghosts 
 use Rattle.bb8_types.specs.declared.api.managers.ManageConnection.{Ghosts as ManagerOf}
 use Rattle.bb8_types.specs.declared.api.moments.Moment.{Moment}
 use Rattle.bb8_tasks.specs.declared.dedicated.Dedicated.{Dedicated}
-use Rattle.bb8_locked.specs.declared.locked.Parts.{Ghosts as PartsOf}
+use Rattle.bb8_lock.specs.declared.locked.Parts.{Ghosts as PartsOf}
 use Rattle.bb8.specs.declared.dedicated.DedicatedFuture.{DedicatedFuture}
-use Rattle.bb8_shared.specs.Linked.{Answers}
-use Rattle.bb8_shared.specs.Opening.{OwnDedicates, OwnDropsOpening}
+use Rattle.bb8_lock.specs.Linked.{Answers}
+use Rattle.bb8_lock.specs.Opening.{OwnDedicates, OwnDropsOpening}
 
 module _ {M S Z K R L C E N V A : Type 0} {m : ManagerOf M C E N V} {d : DebugOf E} {l : PartsOf L} where
   -- the opening of a future

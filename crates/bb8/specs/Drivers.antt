@@ -10,15 +10,15 @@ use Rattle.bb8_tasks.specs.declared.opener.Opener.{Ghosts as OpenerOf}
 use Rattle.bb8_tasks.specs.declared.opener.PoolOpener.{PoolOpener}
 use Rattle.bb8_tasks.specs.declared.rounds.Reports.{Ghosts as ReportsOf}
 use Rattle.bb8_tasks.specs.Joined.{joined_reports}
-use Rattle.bb8_turns.specs.declared.turning.Turn.{Turn}
-use Rattle.bb8_turns.specs.declared.turning.Turning.{Turning}
-use Rattle.bb8_turns.specs.Turns.{is_ended, Begins}
-use Rattle.bb8_locked.specs.declared.locked.Locked.{Locked}
-use Rattle.bb8_locked.specs.declared.locked.Parts.{Ghosts as PartsOf}
-use Rattle.bb8_shared.specs.declared.link.LinkHome.{LinkHome}
-use Rattle.bb8_shared.specs.declared.shared.Shared.{Shared}
-use Rattle.bb8_shared.specs.Opening.{pool_opener, pool_reports, AreOpenersOf}
-use Rattle.bb8_shared.specs.Turning.{OwnTurns, TurnsOn}
+use Rattle.bb8_tasks.specs.declared.turning.Turn.{Turn}
+use Rattle.bb8_tasks.specs.declared.turning.Turning.{Turning}
+use Rattle.bb8_tasks.specs.Turns.{is_ended, DriverBegins}
+use Rattle.bb8_lock.specs.declared.locked.Locked.{Locked}
+use Rattle.bb8_lock.specs.declared.locked.Parts.{Ghosts as PartsOf}
+use Rattle.bb8_lock.specs.declared.link.LinkHome.{LinkHome}
+use Rattle.bb8_lock.specs.declared.shared.Shared.{Shared}
+use Rattle.bb8_lock.specs.Opening.{pool_opener, pool_reports, AreOpenersOf}
+use Rattle.bb8_lock.specs.Turning.{OwnTurns, TurnsOn}
 use Rattle.bb8.specs.declared.driver.Driver.{Driver}
 use Rattle.bb8.specs.declared.driver.Driven.{Driven}
 use Rattle.bb8.specs.declared.pool.Pool.{Pool}
@@ -59,7 +59,7 @@ module _ {M S Z K R L C E N V A : Type 0} {m : ManagerOf M C E N V} {d : DebugOf
 
   -- the driver is of that pool, and made no turn yet; the ticks of its reaper count from the moment at which the pool was made
   abbrev pub IsDriverOf : Driver M S Z K R L C E N V A m d l → Pool M S Z K R L C E N V A m d l → Type 0
-  IsDriverOf driver pool = (arc_value driver.shared ≡ arc_value pool.shared) × Begins (settings_in pool) (made_in pool) driver.turning
+  IsDriverOf driver pool = (arc_value driver.shared ≡ arc_value pool.shared) × DriverBegins (settings_in pool) (made_in pool) driver.turning
 
 module _ {M S Z K R L C E N V A : Type 0} {m : ManagerOf M C E N V} {d : DebugOf E} {l : PartsOf L} (z : CustomizerOf Z C E A) (sinks : S → E → Type 0)
     (tells : K → Moment → Type 0) where

@@ -1,6 +1,6 @@
 -- What callers see of a get: its polls, and what it answers at last.
 use Rattle.std.specs.Prelude.{◌≡◌, Result}
-use Rattle.bb8_locked.specs.declared.locked.Parts.{Ghosts as PartsOf}
+use Rattle.bb8_lock.specs.declared.locked.Parts.{Ghosts as PartsOf}
 use Rattle.std.specs.declared.fmt.Debug.{Ghosts as DebugOf}
 use Rattle.futures.specs.declared.task.Poll.{Poll}
 use Rattle.bb8_types.specs.declared.api.errors.RunError.{RunError}
@@ -8,9 +8,9 @@ use Rattle.bb8_types.specs.declared.api.managers.ManageConnection.{Ghosts as Man
 use Rattle.bb8_types.specs.declared.api.moments.Moment.{Moment}
 use Rattle.bb8.specs.declared.get.future.GetFuture.{GetFuture}
 use Rattle.bb8_gets.specs.declared.home.Taken.{Taken}
-use Rattle.bb8_locked.specs.declared.locked.Part.{Part}
+use Rattle.bb8_lock.specs.declared.locked.Part.{Part}
 use Rattle.bb8.specs.declared.pool.PooledConnection.{PooledConnection}
-use Rattle.bb8_shared.specs.Linked.{OwnPolls, OwnGives, OwnCancels, MakesGuard, MakesPoll}
+use Rattle.bb8_lock.specs.Linked.{OwnPolls, OwnGives, OwnCancels, MakesGuard, MakesPoll}
 use Rattle.bb8.specs.Pools.{stage_of}
 
 module _ {M S Z K R L C E N V A : Type 0} {m : ManagerOf M C E N V} {d : DebugOf E} {l : PartsOf L} where
@@ -27,8 +27,8 @@ module _ {M S Z K R L C E N V A : Type 0} {m : ManagerOf M C E N V} {d : DebugOf
         × MakesPoll (Guards future) given answer
 
     -- what the get may answer at last
-    abbrev pub GivesGet : GetFuture M S Z K R L C E N V A m d l → Result (PooledConnection M S Z K R L C E N V A m d l) (RunError E) → Type 0
-    GivesGet future out =
+    abbrev pub GivesAtLast : GetFuture M S Z K R L C E N V A m d l → Result (PooledConnection M S Z K R L C E N V A m d l) (RunError E) → Type 0
+    GivesAtLast future out =
         (given : Result (Taken C (Part L)) (RunError E))
         × OwnGives sinks tells future.shared.now (stage_of future) given
         × MakesGuard (Guards future) given out

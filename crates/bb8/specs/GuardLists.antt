@@ -10,9 +10,9 @@ use Rattle.bb8_types.specs.declared.api.customizers.CustomizeConnection.{Ghosts 
 use Rattle.bb8_types.specs.declared.api.managers.ManageConnection.{Ghosts as ManagerOf}
 use Rattle.bb8_types.specs.declared.api.moments.Moment.{Moment}
 use Rattle.bb8_types.specs.declared.api.sinks.ErrorSink.{Ghosts as SinkOf}
-use Rattle.bb8_locked.specs.declared.locked.Part.{Part}
-use Rattle.bb8_locked.specs.declared.locked.Parts.{Ghosts as PartsOf}
-use Rattle.bb8_shared.specs.Linked.{OwnReturns}
+use Rattle.bb8_lock.specs.declared.locked.Part.{Part}
+use Rattle.bb8_lock.specs.declared.locked.Parts.{Ghosts as PartsOf}
+use Rattle.bb8_lock.specs.Linked.{OwnReturns}
 use Rattle.bb8.specs.declared.guards.Guards.{Guards}
 use Rattle.bb8.specs.declared.guards.Ticket.{Ticket}
 use Rattle.bb8.specs.declared.pool.Pool.{Pool}

@@ -6,13 +6,13 @@ use Rattle.bb8_types.specs.declared.api.errors.RunError.{RunError}
 use Rattle.bb8_types.specs.declared.api.errors.RunError.TheVariants as errors
 use Rattle.bb8_types.specs.declared.api.managers.ManageConnection.{Ghosts as ManagerOf}
 use Rattle.bb8_types.specs.declared.api.moments.Moment.{Moment}
-use Rattle.bb8_locked.specs.declared.locked.Parts.{Ghosts as PartsOf}
-use Rattle.bb8_locked.specs.declared.handles.Joining.{Joining}
-use Rattle.bb8_locked.specs.declared.handles.Joining.TheVariants as joining
-use Rattle.bb8_shared.specs.Linked.{OwnJoins}
+use Rattle.bb8_lock.specs.declared.locked.Parts.{Ghosts as PartsOf}
+use Rattle.bb8_lock.specs.declared.section_home.Joining.{Joining}
+use Rattle.bb8_lock.specs.declared.section_home.Joining.TheVariants as joining
+use Rattle.bb8_lock.specs.Linked.{OwnJoins}
 use Rattle.bb8.specs.declared.handles.Holding.{Holding}
 use Rattle.bb8.specs.declared.pool.Pool.{Pool}
-use Rattle.bb8_shared.specs.declared.shared.Shared.{Shared}
+use Rattle.bb8_lock.specs.declared.shared.Shared.{Shared}
 
 module _ {M S Z K R L C E N V : Type 0} {m : ManagerOf M C E N V} {d : DebugOf E} {l : PartsOf L} (sinks : S → E → Type 0) (tells : K → Moment → Type 0) where
   -- What is told of the making of a handle: one more is of the same pool. Where as many are alive as may be, or none is, it is refused.

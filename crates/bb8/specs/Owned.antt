@@ -10,8 +10,8 @@ use Rattle.bb8_types.specs.declared.api.moments.Moment.{Moment}
 use Rattle.bb8_gets.specs.declared.home.Taken.{Taken}
 use Rattle.bb8_gets.specs.declared.state.GetState.{GetState}
 use Rattle.bb8_gets.specs.declared.state.Stage.TheVariants.{Fresh}
-use Rattle.bb8_locked.specs.declared.locked.Part.{Part}
-use Rattle.bb8_locked.specs.declared.locked.Parts.{Ghosts as PartsOf}
+use Rattle.bb8_lock.specs.declared.locked.Part.{Part}
+use Rattle.bb8_lock.specs.declared.locked.Parts.{Ghosts as PartsOf}
 use Rattle.bb8.specs.declared.handles.Holding.{Holding}
 use Rattle.bb8.specs.declared.owned.OwnedConnection.{OwnedConnection}
 use Rattle.bb8.specs.declared.owned.GetOwnedFuture.{GetOwnedFuture}
@@ -19,7 +19,7 @@ use Rattle.bb8.specs.declared.owned.Owning.{Owning}
 use Rattle.bb8.specs.declared.owned.Owning.TheVariants.{Refused, Open}
 use Rattle.bb8.specs.declared.pool.Pool.{Pool}
 use Rattle.bb8.specs.Handles.{IsHandleOf}
-use Rattle.bb8_shared.specs.Linked.{Answers, OwnCancelsAndLeaves, OwnLeaves, OwnPolls}
+use Rattle.bb8_lock.specs.Linked.{Answers, OwnCancelsAndLeaves, OwnLeaves, OwnPolls}
 
 module _ {M S Z K R L C E N V A : Type 0} {m : ManagerOf M C E N V} {d : DebugOf E} {l : PartsOf L} where
   -- a guard with this connection in place of its own

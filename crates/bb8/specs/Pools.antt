@@ -5,11 +5,11 @@ use Rattle.std.specs.declared.fmt.Debug.{Ghosts as DebugOf}
 use Rattle.bb8_types.specs.declared.api.managers.ManageConnection.{Ghosts as ManagerOf}
 use Rattle.bb8_types.specs.declared.api.moments.Moment.{Moment}
 use Rattle.bb8_types.specs.Settings.{Settings, settings_of}
-use Rattle.bb8_locked.specs.declared.locked.Parts.{Ghosts as PartsOf}
+use Rattle.bb8_lock.specs.declared.locked.Parts.{Ghosts as PartsOf}
 use Rattle.bb8.specs.declared.pool.Pool.{Pool}
 use Rattle.bb8.specs.declared.get.future.GetFuture.{GetFuture}
 use Rattle.bb8_gets.specs.declared.state.Stage.{Stage}
-use Rattle.bb8_locked.specs.declared.locked.Part.{Part}
+use Rattle.bb8_lock.specs.declared.locked.Part.{Part}
 
 module _ {M S Z K R L C E N V A : Type 0} {m : ManagerOf M C E N V} {d : DebugOf E} {l : PartsOf L} where
   -- the settings of a pool

@@ -1,7 +1,7 @@
 //! A pool for one thread: a small program's, or a test's.
 ghost use Rattle.std.specs.Prelude.{◌≡◌, ⊤, IfOk, true};
 ghost use Rattle.bb8_types.specs.Settings.{is_lawful};
-ghost use Rattle.bb8_locked.specs.Parts.{IsBlankOf};
+ghost use Rattle.bb8_lock.specs.Parts.{IsBlankOf};
 ghost use Rattle.bb8.specs.Drivers.{IsDriverOf};
 ghost use Rattle.bb8.specs.Services.{Basis, basis, basis_of};
 
@@ -9,8 +9,7 @@ use crate::Builder;
 use crate::driver::Driver;
 use crate::pool::Pool;
 use bb8_core::api::{Clock, Config, CustomizeConnection, ErrorSink, ManageConnection, Memory};
-use bb8_locked::PoolParts;
-use bb8_shared::Locks;
+use bb8_lock::{Locks, PoolParts};
 use std::marker::Brand;
 use std::sync::Wait;
 use std::sync::ledger::Blank;

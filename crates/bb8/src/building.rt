@@ -1,14 +1,13 @@
 //! The building of a pool that has its first connections.
 ghost use Rattle.std.specs.Prelude.{◌≡◌, true};
 ghost use Rattle.bb8_types.specs.Settings.{is_lawful};
-ghost use Rattle.bb8_locked.specs.Parts.{IsBlankOf};
+ghost use Rattle.bb8_lock.specs.Parts.{IsBlankOf};
 
 use crate::Builder;
 use crate::pool::{Cancel, Pool};
 use bb8_core::api::{Clock, CustomizeConnection, ErrorSink, ManageConnection, Memory, RunError};
 use bb8_core::internals::Grant;
-use bb8_locked::{NewPool, Parts, SectionHome, begin_pool};
-use bb8_shared::{Locks, Opens, Shared};
+use bb8_lock::{Locks, NewPool, Opens, Parts, SectionHome, Shared, begin_pool};
 use bb8_tasks::PoolOpener;
 pub use bb8_tasks::{Built, Replenish, Round, Site, Tasks};
 use futures::Future;
@@ -53,7 +52,7 @@ impl<
     L: Parts,
 > MakesPool for Plan<M, S, Z, K, R, L> {
     ghost use Rattle.std.specs.Prelude.{◌+◌, ◌^◌, ◌<◌, IfOk};
-    ghost use Rattle.bb8.specs.Buildings.{IsMade, IsOpened};
+    ghost use Rattle.bb8.specs.Buildings.{PoolIsMade, IsOpened};
 
     type Opened = Result<(Pool<M, S, Z, K, R, L>, Grant), Memory>;
 
@@ -118,7 +117,7 @@ impl<
         ),
         Memory,
     >
-        ensures { IfOk result (λ made. IsMade K.tells self made.0 made.1) }
+        ensures { IfOk result (λ made. PoolIsMade K.tells self made.0 made.1) }
     {
         let alloc = self.rt.alloc();
         let (pool, grant) = self.open(true)?;

@@ -5,8 +5,7 @@ ghost use Rattle.bb8_tasks.specs.Dedicating.{fresh};
 
 use crate::pool::{Cancel, Pool};
 use bb8_core::api::{Clock, CustomizeConnection, ErrorSink, ManageConnection, Moment};
-use bb8_locked::Parts;
-use bb8_shared::{Locks, Opens, Shared};
+use bb8_lock::{Locks, Opens, Parts, Shared};
 use bb8_tasks::PoolOpener;
 pub use bb8_tasks::{Dedicated, Opened, Opening};
 use futures::Future;

@@ -6,11 +6,9 @@ ghost use Rattle.bb8.specs.Drivers.{has_ended, IsDriverOf};
 use crate::pool::Pool;
 use bb8_core::Joined;
 use bb8_core::api::{Clock, CustomizeConnection, ErrorSink, ManageConnection, Memory, Moment};
-use bb8_locked::{Parts, PoolParts};
-use bb8_shared::{Drives, LinkHome, Locks, Shared};
-use bb8_tasks::{Opener, PoolOpener, Reports};
-pub use bb8_turns::Turn;
-use bb8_turns::Turning;
+use bb8_lock::{Drives, LinkHome, Locks, Parts, PoolParts, Shared};
+pub use bb8_tasks::Turn;
+use bb8_tasks::{Opener, PoolOpener, Reports, Turning};
 use std::alloc::Global;
 use std::sync::{Arc, Wait};
 use std::thread;
@@ -243,7 +241,7 @@ impl<
     R: Locks,
     L: Parts,
 > Drop for Driver<M, S, Z, K, R, L> {
-    ghost use Rattle.bb8_shared.specs.Turning.{OwnDropsTurning};
+    ghost use Rattle.bb8_lock.specs.Turning.{OwnDropsTurning};
 
     fn drop(self)
         ensures { OwnDropsTurning Z.CustomizeConnection S.sinks K.tells (arc_value self.shared)

@@ -5,8 +5,7 @@ use crate::pool::{IntoParts, Pool, PooledConnection};
 use bb8_core::api::{Clock, CustomizeConnection, ErrorSink, ManageConnection};
 use bb8_core::internals::Key;
 use bb8_gets::Taken;
-use bb8_locked::{Gathered, Parts};
-use bb8_shared::{Locks, Shared};
+use bb8_lock::{Gathered, Locks, Parts, Shared};
 use std::alloc::Global;
 use std::marker::PhantomData;
 

@@ -5,8 +5,7 @@ ghost use Rattle.std.specs.Arc.{arc_value};
 use crate::pool::{Pool, PoolCalls};
 use bb8_core::api::{Clock, CustomizeConnection, ErrorSink, ManageConnection, RunError};
 use bb8_gets::Calls;
-use bb8_locked::{Handle, Joining, Parts};
-use bb8_shared::{Locks, OnShared, Shared};
+use bb8_lock::{Handle, Joining, Locks, OnShared, Parts, Shared};
 use std::alloc::Global;
 use std::sync::{Arc, Wait};
 

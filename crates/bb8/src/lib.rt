@@ -231,8 +231,7 @@ pub use bb8_core::api::{
     NopCustomizer, NopErrorSink, QueueStrategy, RunError, SetClock, State, Statistics,
 };
 pub use bb8_core::{api, internals, replay};
-pub use bb8_locked::{Parts, PoolParts};
-pub use bb8_shared::Locks;
+pub use bb8_lock::{Locks, Parts, PoolParts};
 pub use bb8_tasks as tasks;
 pub use builder::Builder;
 pub use building::Building;

@@ -6,8 +6,7 @@ use crate::handles::{Holding, Joins};
 use crate::pool::{Cancel, Pool, PoolCalls};
 use bb8_core::api::{Clock, CustomizeConnection, ErrorSink, ManageConnection, RunError};
 use bb8_gets::{Calls, GetState, Taken};
-use bb8_locked::{Part, Parts};
-use bb8_shared::{Gets, Locks, OnShared};
+use bb8_lock::{Gets, Locks, OnShared, Part, Parts};
 use futures::Future;
 use futures::task::{Context, Poll};
 use std::fmt::{Debug, Formatter};
@@ -87,7 +86,7 @@ impl<
     R: Locks,
     L: Parts,
 > Owns for Holding<M, S, Z, K, R, L> {
-    ghost use Rattle.bb8_shared.specs.Linked.{OwnCancels, OwnCancelsAndLeaves, OwnLeaves, OwnPolls, OwnReturnsAndLeaves};
+    ghost use Rattle.bb8_lock.specs.Linked.{OwnCancels, OwnCancelsAndLeaves, OwnLeaves, OwnPolls, OwnReturnsAndLeaves};
 
     type Get = GetState<M::Connection, M::Checking, Part<L>>;
 
@@ -388,7 +387,7 @@ impl<
     R: Locks,
     L: Parts,
 > Drop for OwnedConnection<M, S, Z, K, R, L> {
-    ghost use Rattle.bb8_shared.specs.Linked.{OwnReturnsAndLeaves};
+    ghost use Rattle.bb8_lock.specs.Linked.{OwnReturnsAndLeaves};
 
     fn drop(self)
         ensures { OwnReturnsAndLeaves S.sinks K.tells (arc_value self.holding.shared) self.taken }

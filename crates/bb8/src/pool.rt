@@ -3,8 +3,8 @@ ghost use Rattle.std.specs.Prelude.{◌≡◌, ◌≤◌, ◌<◌, true, false, 
 ghost use Rattle.std.specs.Arc.{arc_value};
 ghost use Rattle.bb8_types.specs.declared.grants.Grant.{Grant as GrantOf};
 ghost use Rattle.bb8_types.specs.Settings.{settings_of, default_settings, is_lawful};
-ghost use Rattle.bb8_locked.specs.Parts.{IsBlankOf, HasBegun};
-ghost use Rattle.bb8_shared.specs.Linked.{OwnAdds, OwnShows};
+ghost use Rattle.bb8_lock.specs.Parts.{IsBlankOf, HasBegun};
+ghost use Rattle.bb8_lock.specs.Linked.{OwnAdds, OwnShows};
 
 use crate::Builder;
 use crate::building::{MakesPool, Plan};
@@ -17,8 +17,7 @@ use bb8_core::api::{
     NopCustomizer, NopErrorSink, RunError, SetClock, State,
 };
 use bb8_gets::{Calls, Taken};
-use bb8_locked::{Handle, Part, Parts};
-use bb8_shared::{Locks, OnShared, Shared};
+use bb8_lock::{Handle, Locks, OnShared, Part, Parts, Shared};
 use std::alloc::Global;
 use std::fmt;
 use std::fmt::{Debug, Formatter};
@@ -337,7 +336,7 @@ impl<
     R: Locks,
     L: Parts,
 > Drop for Pool<M, S, Z, K, R, L> {
-    ghost use Rattle.bb8_shared.specs.Linked.{OwnLeaves};
+    ghost use Rattle.bb8_lock.specs.Linked.{OwnLeaves};
 
     fn drop(self)
         ensures { OwnLeaves S.sinks K.tells (arc_value self.shared) }
@@ -369,7 +368,7 @@ impl<
     R: Locks,
     L: Parts,
 > Drop for PooledConnection<'_, M, S, Z, K, R, L> {
-    ghost use Rattle.bb8_shared.specs.Linked.{OwnReturns};
+    ghost use Rattle.bb8_lock.specs.Linked.{OwnReturns};
 
     fn drop(self)
         ensures { OwnReturns S.sinks K.tells self.entry.shared.now self.entry.taken }

@@ -1,7 +1,7 @@
 //! A service: threads that share a pool for as long as they run.
 ghost use Rattle.std.specs.Prelude.{◌≡◌, ℕ, ⊤, List, Result, IfOk, IfErr, true, false};
 ghost use Rattle.bb8_types.specs.Settings.{is_lawful};
-ghost use Rattle.bb8_locked.specs.Parts.{IsBlankOf};
+ghost use Rattle.bb8_lock.specs.Parts.{IsBlankOf};
 ghost use Rattle.bb8.specs.Buildings.{IsBuildError};
 ghost use Rattle.bb8.specs.Services.{Basis, basis, basis_of, EachTold, IsOutcome};
 
@@ -12,8 +12,7 @@ use crate::pool::Pool;
 use bb8_core::api::{
     Clock, Config, CustomizeConnection, ErrorSink, ManageConnection, Memory, RunError,
 };
-use bb8_locked::PoolParts;
-use bb8_shared::Locks;
+use bb8_lock::{Locks, PoolParts};
 use futures::executor::block_on;
 use std::alloc::Global;
 use std::marker::Brand;

@@ -30,7 +30,7 @@ ghost use Rattle.bb8_core.specs.Shown.{Meets, IsRecordIn, IsNoRecordIn};
 ghost use Rattle.bb8_c.specs.declared.steps.Got.{Got};
 ghost use Rattle.bb8_c.specs.InC as in_c;
 ghost use Rattle.bb8_c.specs.Layout as layout;
-ghost use Rattle.bb8_c.specs.Openings.{IsMade};
+ghost use Rattle.bb8_c.specs.Openings.{CoreIsMade};
 ghost use Rattle.bb8_c.specs.Steps.{Stepped, Gets, NotAtOnce, Within, why};
 
 mod figures;
@@ -54,7 +54,7 @@ pub use told::{Granted, Name, Told};
 #[unsafe(no_mangle)]
 pub extern "C" fn bb8_new(alloc: Global, settings: Settings, out: &mut Handle) -> bool
     requires { out.old.core ≡ None }
-    ensures { IsMade settings result out.new.core }
+    ensures { CoreIsMade settings result out.new.core }
 {
     let config = settings.config();
     if !config.is_lawful() {

@@ -20,7 +20,7 @@ ghost use Rattle.bb8_types.specs.declared.standing.Holder.TheVariants.{Guard, Ge
 ghost use Rattle.bb8_types.specs.declared.standing.Standing.{Standing};
 ghost use Rattle.bb8_types.specs.Bounds.{end_of_numbers, most_records};
 ghost use Rattle.bb8_tables.specs.Keys.{notified_of};
-ghost use Rattle.bb8_tables.specs.Lent.{Adds};
+ghost use Rattle.bb8_tables.specs.Lent.{AddsLent};
 
 mod questions;
 
@@ -119,7 +119,7 @@ fn is_closing(broken: bool, expired: bool, handles: u64) -> bool
 fn hand_on(gets: &mut Gets, test: bool, lendings: &mut Lendings) -> Option<GetKey>
     ensures value { notified_of result ≡ cond test (slice_get gets.old.waiting 0) None }
     ensures state { gets.new ≡ machine.after_notice (notified_of result) gets.old }
-    ensures examined { Adds 1 0 lendings.old lendings.new }
+    ensures examined { AddsLent 1 0 lendings.old lendings.new }
 {
     if test { gets.notify(lendings) } else { None }
 }
@@ -153,7 +153,7 @@ fn end_out<C: Drop>(
     ensures state { records.new ≡ machine.after_grant false result
         (machine.after_close false k.number records.old) }
     ensures numbers { records.old.next ≤ end_of_numbers }
-    ensures examined { Adds 0 1 lendings.old lendings.new }
+    ensures examined { AddsLent 0 1 lendings.old lendings.new }
 {
     records.close(k, false, lendings);
     let wanted = want(config, handles, records);

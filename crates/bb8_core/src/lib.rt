@@ -4,6 +4,7 @@
 pub use bb8_types::api;
 
 mod answers;
+pub mod asked;
 pub mod internals;
 mod joined;
 pub mod replay;

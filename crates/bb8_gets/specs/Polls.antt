@@ -79,14 +79,14 @@ module _ {C E V P X : Type 0} (outside : OutsideOf X C E V) where
 
 module _ {C E V P X : Type 0} (home : HomeOf X C P) (outside : OutsideOf X C E V) where
   -- after a step a connection is dropped
-  abbrev pub Drops : C → X → X → Type 0
-  Drops c x x' = (x1 : X) × home.releases x x1 × outside.lets_go x1 c x'
+  abbrev pub DropsAfterStep : C → X → X → Type 0
+  DropsAfterStep c x x' = (x1 : X) × home.releases x x1 × outside.lets_go x1 c x'
 
   -- after the giving up of a get: a connection that was closed is dropped
   abbrev pub AfterGiveUp : GiveUpAnswer C → X → X → Type 0
   AfterGiveUp (given_up.GaveUp n) x x' = (x' ≡ x)
   AfterGiveUp (given_up.Kept k n) x x' = (x' ≡ x)
-  AfterGiveUp (given_up.Closed k c grant n) x x' = Drops c x x'
+  AfterGiveUp (given_up.Closed k c grant n) x x' = DropsAfterStep c x x'
 
   -- after the try to give up a get that holds no connection
   abbrev pub AfterLeave : Result (GiveUpAnswer C) Unfit → X → X → Type 0
@@ -96,12 +96,12 @@ module _ {C E V P X : Type 0} (home : HomeOf X C P) (outside : OutsideOf X C E V
   -- after the try to give up a get that holds a connection: one that the home does not take is dropped, too
   abbrev pub AfterBack : Result (GiveUpAnswer C) C → X → X → Type 0
   AfterBack (Ok a) x x' = AfterGiveUp a x x'
-  AfterBack (Err c) x x' = Drops c x x'
+  AfterBack (Err c) x x' = DropsAfterStep c x x'
 
 module _ {C E V P X : Type 0} (home : HomeOf X C P) (outside : OutsideOf X C E V) (m : Moment) where
   -- a get that holds no connection is given up
-  abbrev pub Leaves : GetKey → Reason → X → X → Type 0
-  Leaves g why x x' =
+  abbrev pub LeavesLine : GetKey → Reason → X → X → Type 0
+  LeavesLine g why x x' =
       (a : Result (GiveUpAnswer C) Unfit) × (x1 : X) × home.gives_up x m g why a x1 × AfterLeave home outside a x1 x'
 
   -- a get that held a connection is given up
@@ -110,34 +110,34 @@ module _ {C E V P X : Type 0} (home : HomeOf X C P) (outside : OutsideOf X C E V
       (a : Result (GiveUpAnswer C) C) × (x1 : X) × home.gives_back x m g why r a x1 × AfterBack home outside a x1 x'
 
   -- a row leads to this and makes no call
-  abbrev pub Leads : Next C V P E → X → Next C V P E → X → Type 0
-  Leads to x next x' = (next ≡ to) × (x' ≡ x)
+  abbrev pub MovesTo : Next C V P E → X → Next C V P E → X → Type 0
+  MovesTo to x next x' = (next ≡ to) × (x' ≡ x)
 
   -- after the failing of a check: the connection is dropped
   abbrev pub AfterFail : Result (CheckedErrAnswer C) C → Open → X → Next C V P E → X → Type 0
-  AfterFail (Ok a) b x next x' = Drops home outside (closed_in a) x x' × (next ≡ Stand (Trying b))
-  AfterFail (Err c) b x next x' = Drops home outside c x x' × (next ≡ Answer (Err errors.TimedOut))
+  AfterFail (Ok a) b x next x' = DropsAfterStep home outside (closed_in a) x x' × (next ≡ Stand (Trying b))
+  AfterFail (Err c) b x next x' = DropsAfterStep home outside c x x' × (next ≡ Answer (Err errors.TimedOut))
 
   -- a check that failed: the sink has the error, the connection is asked whether it is broken, and the home closes it
-  abbrev pub Fails : Open → Taken C P → E → X → Next C V P E → X → Type 0
-  Fails b t e x next x' =
+  abbrev pub CheckFails : Open → Taken C P → E → X → Next C V P E → X → Type 0
+  CheckFails b t e x next x' =
       (x1 : X) × outside.sinks x e x1
       × ((r : Returned C P) × (x2 : X) × Asks outside t x1 r x2
       × ((a : Result (CheckedErrAnswer C) C) × (x3 : X) × home.fails x2 m b.get r a x3 × AfterFail a b x3 next x'))
 
   -- after the passing of a check
   abbrev pub AfterPass : Result (Passed P) Unfit → C → X → Next C V P E → X → Type 0
-  AfterPass (Ok p) c x next x' = Leads (Answer (Ok (record { key = p.key; connection = c; part = p.part }))) x next x'
-  AfterPass (Err u) c x next x' = Drops home outside c x x' × (next ≡ Answer (Err errors.TimedOut))
+  AfterPass (Ok p) c x next x' = MovesTo (Answer (Ok (record { key = p.key; connection = c; part = p.part }))) x next x'
+  AfterPass (Err u) c x next x' = DropsAfterStep home outside c x x' × (next ≡ Answer (Err errors.TimedOut))
 
   -- after a poll of a check, which left the connection and the check like this: a check that answered ends first
   abbrev pub AfterCheck : Poll (Result (Unit {0}) E) → Open → Held C V P → X → Next C V P E → X → Type 0
-  AfterCheck Pending b held x next x' = Leads (Stand (Checking b held)) x next x'
+  AfterCheck Pending b held x next x' = MovesTo (Stand (Checking b held)) x next x'
   AfterCheck (Ready (Ok u)) b held x next x' =
       (x1 : X) × outside.ends_check x held.checking x1
       × ((a : Result (Passed P) Unfit) × (x2 : X) × home.passes x1 m b.get held.taken.key held.taken.part a x2
       × AfterPass a held.taken.connection x2 next x')
-  AfterCheck (Ready (Err e)) b held x next x' = (x1 : X) × outside.ends_check x held.checking x1 × Fails b held.taken e x1 next x'
+  AfterCheck (Ready (Err e)) b held x next x' = (x1 : X) × outside.ends_check x held.checking x1 × CheckFails b held.taken e x1 next x'
 
   -- a check is polled
   abbrev pub Checks : Open → Held C V P → X → Next C V P E → X → Type 0
@@ -148,13 +148,13 @@ module _ {C E V P X : Type 0} (home : HomeOf X C P) (outside : OutsideOf X C E V
 
   -- after a try: a connection that is to be checked is polled in the same poll
   abbrev pub AfterTry : Result (Tried C P) Unfit → Open → X → Next C V P E → X → Type 0
-  AfterTry (Ok (tried.Served t grant)) b x next x' = Leads (Answer (Ok t)) x next x'
+  AfterTry (Ok (tried.Served t grant)) b x next x' = MovesTo (Answer (Ok t)) x next x'
   AfterTry (Ok (tried.Taken t grant)) b x next x' =
       (x1 : X) × home.releases x x1
       × ((v : V) × (c : C) × (x2 : X) × outside.checks x1 t.connection v c x2
       × Checks b (record { taken = record t { connection = c }; checking = v }) x2 next x')
-  AfterTry (Ok (tried.Waiting grant)) b x next x' = Leads (Stand (Waiting b)) x next x'
-  AfterTry (Err u) b x next x' = Leads (Answer (Err errors.TimedOut)) x next x'
+  AfterTry (Ok (tried.Waiting grant)) b x next x' = MovesTo (Stand (Waiting b)) x next x'
+  AfterTry (Err u) b x next x' = MovesTo (Answer (Err errors.TimedOut)) x next x'
 
   abbrev pub Tries : Open → X → Next C V P E → X → Type 0
   Tries b x next x' = (t : Result (Tried C P) Unfit) × (x1 : X) × home.tries x m b.get t x1 × AfterTry t b x1 next x'
@@ -163,25 +163,25 @@ module _ {C E V P X : Type 0} (home : HomeOf X C P) (outside : OutsideOf X C E V
   abbrev pub AfterBegin : Result BeginAnswer Unfit → ℕ → X → Next C V P E → X → Type 0
   AfterBegin (Ok (Begun g)) timeout x next x' =
       (deadline : Option Moment) × IsDeadline m timeout deadline × Tries (record { get = g; deadline = deadline }) x next x'
-  AfterBegin (Ok Memory) timeout x next x' = Leads (Answer (Err errors.Memory)) x next x'
-  AfterBegin (Ok Exhausted) timeout x next x' = Leads (Answer (Err errors.Exhausted)) x next x'
-  AfterBegin (Err u) timeout x next x' = Leads (Answer (Err errors.TimedOut)) x next x'
+  AfterBegin (Ok Memory) timeout x next x' = MovesTo (Answer (Err errors.Memory)) x next x'
+  AfterBegin (Ok Exhausted) timeout x next x' = MovesTo (Answer (Err errors.Exhausted)) x next x'
+  AfterBegin (Err u) timeout x next x' = MovesTo (Answer (Err errors.TimedOut)) x next x'
 
-  abbrev pub Begins : ℕ → X → Next C V P E → X → Type 0
-  Begins timeout x next x' = (b : Result BeginAnswer Unfit) × (x1 : X) × home.begins x m b x1 × AfterBegin b timeout x1 next x'
+  abbrev pub GetBegins : ℕ → X → Next C V P E → X → Type 0
+  GetBegins timeout x next x' = (b : Result BeginAnswer Unfit) × (x1 : X) × home.begins x m b x1 × AfterBegin b timeout x1 next x'
 
   -- the rows of each state
-  abbrev pub Advances : ℕ → Stage C V P → X → Next C V P E → X → Type 0
-  Advances timeout Fresh x next x' = Begins timeout x next x'
-  Advances timeout (Trying b) x next x' = Tries b x next x'
-  Advances timeout (Waiting b) x next x' = Tries b x next x'
-  Advances timeout (Checking b held) x next x' = (x1 : X) × home.releases x x1 × Checks b held x1 next x'
-  Advances timeout Done x next x' = Leads (Stand Done) x next x'
+  abbrev pub GetAdvances : ℕ → Stage C V P → X → Next C V P E → X → Type 0
+  GetAdvances timeout Fresh x next x' = GetBegins timeout x next x'
+  GetAdvances timeout (Trying b) x next x' = Tries b x next x'
+  GetAdvances timeout (Waiting b) x next x' = Tries b x next x'
+  GetAdvances timeout (Checking b held) x next x' = (x1 : X) × home.releases x x1 × Checks b held x1 next x'
+  GetAdvances timeout Done x next x' = MovesTo (Stand Done) x next x'
 
   -- a get gives up, as its deadline came: a connection that it holds is asked whether it is broken
   abbrev pub TimesOut : Stage C V P → X → X → Type 0
-  TimesOut (Trying b) x x' = Leaves b.get TimedOut x x'
-  TimesOut (Waiting b) x x' = Leaves b.get TimedOut x x'
+  TimesOut (Trying b) x x' = LeavesLine b.get TimedOut x x'
+  TimesOut (Waiting b) x x' = LeavesLine b.get TimedOut x x'
   TimesOut (Checking b held) x x' =
       (x1 : X) × outside.ends_check x held.checking x1
       × ((r : Returned C P) × (x2 : X) × Asks outside held.taken x1 r x2 × TakesBack b.get TimedOut r x2 x')
@@ -207,14 +207,14 @@ module _ {C E V P X : Type 0} (home : HomeOf X C P) (outside : OutsideOf X C E V
   Settles Done x settled x' = Stays Done x settled x'
 
   -- the end of a poll: an answer is given, and without one the deadline is compared
-  abbrev pub Ends : Next C V P E → X → Settled C V P E → X → Type 0
-  Ends (Answer a) x settled x' = (settled.answer ≡ Ready a) × (settled.stage ≡ Done) × (x' ≡ x)
-  Ends (Stand stage) x settled x' = Settles stage x settled x'
+  abbrev pub EndsPoll : Next C V P E → X → Settled C V P E → X → Type 0
+  EndsPoll (Answer a) x settled x' = (settled.answer ≡ Ready a) × (settled.stage ≡ Done) × (x' ≡ x)
+  EndsPoll (Stand stage) x settled x' = Settles stage x settled x'
 
   -- a first poll, once the home was looked at
   abbrev pub Starts : ℕ → X → Settled C V P E → X → Type 0
   Starts timeout x settled x' =
-      (next : Next C V P E) × (x1 : X) × Begins timeout x next x1 × Ends next x1 settled x'
+      (next : Next C V P E) × (x1 : X) × GetBegins timeout x next x1 × EndsPoll next x1 settled x'
 
 module _ {C E V P X : Type 0} (home : HomeOf X C P) (outside : OutsideOf X C E V) where
   -- A poll of a get that was not answered: the clock is read, the home looked at, the get goes on, and it answers or its deadline is
@@ -223,12 +223,12 @@ module _ {C E V P X : Type 0} (home : HomeOf X C P) (outside : OutsideOf X C E V
   Goes timeout stage x settled x' =
       (at : Moment) × (x1 : X) × outside.tells x at x1
       × ((seen : Looked) × (x2 : X) × home.looks x1 at seen x2
-      × ((next : Next C V P E) × (x3 : X) × Advances home outside seen.moment timeout stage x2 next x3
-      × Ends home outside seen.moment next x3 settled x'))
+      × ((next : Next C V P E) × (x3 : X) × GetAdvances home outside seen.moment timeout stage x2 next x3
+      × EndsPoll home outside seen.moment next x3 settled x'))
 
   -- The whole poll: what it answers, and the stage, the home and the calls outside then. In Done no call is made.
-  abbrev pub Polls : ℕ → Stage C V P → X → Settled C V P E → X → Type 0
-  Polls timeout stage x settled x' =
+  abbrev pub GetPolls : ℕ → Stage C V P → X → Settled C V P E → X → Type 0
+  GetPolls timeout stage x settled x' =
       MatchBool (is_done stage) ((settled.answer ≡ Pending) × (settled.stage ≡ stage) × (x' ≡ x)) (Goes timeout stage x settled x')
 
   -- The begin of a poll that did not serve: where it saw the home, a get that was not polled before has read the clock and looked at its home,
@@ -243,7 +243,7 @@ module _ {C E V P X : Type 0} (home : HomeOf X C P) (outside : OutsideOf X C E V
 
   -- a get that began and holds no connection is let go
   abbrev pub CancelsFree : GetKey → X → X → Type 0
-  CancelsFree g x x' = (at : Moment) × (x1 : X) × outside.tells x at x1 × Leaves home outside at g Cancelled x1 x'
+  CancelsFree g x x' = (at : Moment) × (x1 : X) × outside.tells x at x1 × LeavesLine home outside at g Cancelled x1 x'
 
   -- a get whose connection is being checked is let go
   abbrev pub CancelsHeld : GetKey → Held C V P → X → X → Type 0

@@ -3,7 +3,7 @@
 //! The home is released between a step and what is then called outside.
 ghost use Rattle.std.specs.Prelude.{◌≡◌};
 ghost use Rattle.std.specs.Duration.{as_nanos};
-ghost use Rattle.bb8_gets.specs.Polls.{IsDeadline, closed_in, AfterGiveUp, Asks, Fails, Checks, Tries, Begins, Advances, Drops, Leaves, TakesBack, TimesOut, Settles, Ends, Starts, Goes};
+ghost use Rattle.bb8_gets.specs.Polls.{IsDeadline, closed_in, AfterGiveUp, Asks, CheckFails, Checks, Tries, GetBegins, GetAdvances, DropsAfterStep, LeavesLine, TakesBack, TimesOut, Settles, EndsPoll, Starts, Goes};
 
 use super::home::{GetHome, Passed, Returned, Taken, Tried, Unfit};
 use super::outside::Outside;
@@ -49,7 +49,7 @@ fn drop_it<C, V, P, E, X: GetHome<C, Part = P> + Outside<C, E, Checking = V>>(
     pool: &mut X,
     connection: C,
 )
-    ensures { Drops X.GetHome X.Outside connection pool.old pool.new }
+    ensures { DropsAfterStep X.GetHome X.Outside connection pool.old pool.new }
 {
     pool.release();
     pool.let_go(connection);
@@ -71,7 +71,7 @@ fn fail<C, V, P, E, X: GetHome<C, Part = P> + Outside<C, E, Checking = V>>(
     taken: Taken<C, P>,
     error: E,
 ) -> Next<C, V, P, E>
-    ensures { Fails X.GetHome X.Outside moment begun taken error pool.old result pool.new }
+    ensures { CheckFails X.GetHome X.Outside moment begun taken error pool.old result pool.new }
 {
     pool.sink(error);
     let returned = ask(pool, taken);
@@ -179,7 +179,7 @@ fn start<C, V, P, E, X: GetHome<C, Part = P> + Outside<C, E, Checking = V>>(
     moment: Moment,
     timeout: Duration,
 ) -> Next<C, V, P, E>
-    ensures { Begins X.GetHome X.Outside moment (as_nanos timeout) pool.old result
+    ensures { GetBegins X.GetHome X.Outside moment (as_nanos timeout) pool.old result
         pool.new }
 {
     match pool.begin(moment) {
@@ -200,7 +200,7 @@ fn advance<C, V, P, E, X: GetHome<C, Part = P> + Outside<C, E, Checking = V>>(
     timeout: Duration,
     stage: Stage<C, V, P>,
 ) -> Next<C, V, P, E>
-    ensures { Advances X.GetHome X.Outside moment (as_nanos timeout) stage pool.old result
+    ensures { GetAdvances X.GetHome X.Outside moment (as_nanos timeout) stage pool.old result
         pool.new }
 {
     match stage {
@@ -234,7 +234,7 @@ pub(crate) fn leave<C, V, P, E, X: GetHome<C, Part = P> + Outside<C, E, Checking
     get: GetKey,
     reason: Reason,
 )
-    ensures { Leaves X.GetHome X.Outside moment get reason pool.old pool.new }
+    ensures { LeavesLine X.GetHome X.Outside moment get reason pool.old pool.new }
 {
     match pool.give_up(moment, get, reason) {
         Ok(answer) => after(pool, answer),
@@ -313,7 +313,7 @@ fn end<C, V, P, E, X: GetHome<C, Part = P> + Outside<C, E, Checking = V>>(
     moment: Moment,
     next: Next<C, V, P, E>,
 ) -> Settled<C, V, P, E>
-    ensures { Ends X.GetHome X.Outside moment next pool.old result pool.new }
+    ensures { EndsPoll X.GetHome X.Outside moment next pool.old result pool.new }
 {
     match next {
         Next::Answer(answer) => Settled {

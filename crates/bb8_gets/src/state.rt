@@ -1,7 +1,7 @@
 //! Where a get stands, its poll, and its letting go.
 ghost use Rattle.std.specs.Prelude.{◌≡◌, ℕ, true, Ok, IfSome, IfNone};
 ghost use Rattle.std.specs.Duration.{as_nanos};
-ghost use Rattle.bb8_gets.specs.Polls.{holds_nothing, is_done, rest_of, Polls, Starts, Goes, Unserved, CancelsFree, CancelsHeld, Cancels};
+ghost use Rattle.bb8_gets.specs.Polls.{holds_nothing, is_done, rest_of, GetPolls, Starts, Goes, Unserved, CancelsFree, CancelsHeld, Cancels};
 ghost use Rattle.bb8_gets.specs.declared.state.Stage.TheVariants.{Done as IsDone, Fresh as IsFresh};
 ghost use Rattle.futures.specs.declared.task.Poll.TheVariants.{Ready};
 
@@ -120,7 +120,7 @@ impl<C, V, P> GetState<C, V, P> {
         pool: &mut X,
         timeout: Duration,
     ) -> Poll<Result<Taken<C, P>, RunError<E>>>
-        ensures { Polls X.GetHome X.Outside (as_nanos timeout) self.old.stage pool.old
+        ensures { GetPolls X.GetHome X.Outside (as_nanos timeout) self.old.stage pool.old
             (record { answer = result; stage = self.new.stage }) pool.new }
     {
         let (seen, served) = self.serve_step(pool);
@@ -138,7 +138,7 @@ impl<C, V, P> GetState<C, V, P> {
         &mut self,
         pool: &mut X,
     ) -> (Option<Looked>, Option<Taken<C, P>>)
-        ensures served { IfSome result.1 (λ taken. (timeout : ℕ) → Polls X.GetHome X.Outside timeout
+        ensures served { IfSome result.1 (λ taken. (timeout : ℕ) → GetPolls X.GetHome X.Outside timeout
             self.old.stage pool.old (record {
               answer = Ready (Ok taken);
               stage = self.new.stage;
@@ -172,7 +172,7 @@ impl<C, V, P> GetState<C, V, P> {
     ) -> Poll<Result<Taken<C, P>, RunError<E>>>
         requires { IfSome seen (λ _. self.old.stage ≡ IsDone) }
         ensures { (stage : _) (x : _) → Unserved X.GetHome X.Outside stage x seen
-            self.old.stage pool.old → Polls X.GetHome X.Outside (as_nanos timeout)
+            self.old.stage pool.old → GetPolls X.GetHome X.Outside (as_nanos timeout)
             stage x (record { answer = result; stage = self.new.stage }) pool.new }
     {
         match seen {
@@ -203,7 +203,7 @@ impl<C, V, P> GetState<C, V, P> {
         pool: &mut X,
         timeout: Duration,
     ) -> Poll<Result<Taken<C, P>, RunError<E>>>
-        ensures { Polls X.GetHome X.Outside (as_nanos timeout) self.old.stage pool.old
+        ensures { GetPolls X.GetHome X.Outside (as_nanos timeout) self.old.stage pool.old
             (record { answer = result; stage = self.new.stage }) pool.new }
     {
         if self.stage.is_done() {

@@ -23,14 +23,14 @@ use Rattle.bb8_core.specs.Run.{act_of, answer_of, Happens, IsTaken}
 use Rattle.bb8_core.specs.Endings.{endings_of}
 use Rattle.bb8_core.proofs.Parts.{counted_at}
 use Rattle.bb8_core.proofs.Runs.{unfit_now}
-use Rattle.bb8_journal.specs.Endings.{is_ending, is_named_ending, Ends}
+use Rattle.bb8_journal.specs.Endings.{is_ending, is_named_ending, CountsDown}
 
 -- a handle is alive
 is_open : (n : ℕ) → ltb 0 n ≡ true → 0 < n
 is_open n e = grind (arith, nat_tests, e)
 
 -- by what a state shows
-ends_shown : (ending : Bool) (before after m n : ℕ) → before ≡ m → after ≡ n → Ends ending before after → Ends ending m n
+ends_shown : (ending : Bool) (before after m n : ℕ) → before ≡ m → after ≡ n → CountsDown ending before after → CountsDown ending m n
 ends_shown true before after m n p q h = omega arith
 ends_shown false before after m n p q h = omega arith
 
@@ -46,7 +46,7 @@ module _ {C : Type 0} where
 
   -- each row, where so many connections are out before and after it
   row_ends : (l : Ledger C) (at : ℕ) (e : Act C) (a : Answer) (before after : ℕ) → fits l e ≡ true → Row l at e a → Moves e a before after
-      → Ends (is_ending e) (alive l + (handles l + before)) (alive (Later l at e a) + (handles (Later l at e a) + after))
+      → CountsDown (is_ending e) (alive l + (handles l + before)) (alive (Later l at e a) + (handles (Later l at e a) + after))
   row_ends l at _ _ before after f (begins is few) moves = omega (arith, numbered.tally-append (λ r. is_some r.standing) (gets l) new_get)
   row_ends l at _ _ before after f (begin_refused few full) moves = omega arith
   row_ends l at _ _ before after f (begin_exhausted many) moves = omega arith
@@ -82,12 +82,12 @@ module _ {C : Type 0} where
 
   -- the same of what is shown: an event that is taken ends as it says, and one that is not changes nothing
   ends_at : (l : Ledger C) (at : ℕ) (e : Act C) (a : Answer) → IsLegal l → Allowed l at e a
-      → Ends (fits l e && is_ending e) (endings_of (shown l)) (endings_of (shown (Later l at e a)))
+      → CountsDown (fits l e && is_ending e) (endings_of (shown l)) (endings_of (shown (Later l at e a)))
   ends_at l at e a legal allowed =
-      by_fit (fits l e) _ _ (Ends (fits l e && is_ending e) (endings_of (shown l)) (endings_of (shown (Later l at e a)))) allowed
-      (λ t row. subst (λ (b : Bool). Ends (b && is_ending e) (endings_of (shown l)) (endings_of (shown (Later l at e a)))) (sym t)
+      by_fit (fits l e) _ _ (CountsDown (fits l e && is_ending e) (endings_of (shown l)) (endings_of (shown (Later l at e a)))) allowed
+      (λ t row. subst (λ (b : Bool). CountsDown (b && is_ending e) (endings_of (shown l)) (endings_of (shown (Later l at e a)))) (sym t)
       (row_ends l at e a (out_of (shown l)) (out_of (shown (Later l at e a))) t row (counted_at l at e a none_lent none_lent legal allowed).moves))
-      (λ t is. subst (λ (b : Bool). Ends (b && is_ending e) (endings_of (shown l)) (endings_of (shown (Later l at e a)))) (sym t)
+      (λ t is. subst (λ (b : Bool). CountsDown (b && is_ending e) (endings_of (shown l)) (endings_of (shown (Later l at e a)))) (sym t)
       (let same : endings_of (shown (Later l at e a)) ≡ endings_of (shown l) =
       ap (λ (b : Answer). endings_of (shown (Later l at e b))) is ∙ ap endings_of (unfit_now l (shown l) at e t refl).1 in omega arith))
 
@@ -111,7 +111,7 @@ named_ending l named.Leave = refl
 named_ending l named.Look = refl
 
 -- it may be taken or not: at most one more
-at_most : (taken : Bool) (before after : ℕ) → Ends taken before after → after ≤ before + 1
+at_most : (taken : Bool) (before after : ℕ) → CountsDown taken before after → after ≤ before + 1
 at_most true before after h = omega arith
 at_most false before after h = h
 
@@ -129,5 +129,5 @@ one_less old at e a new h happens taken ending =
     let m = happens h.0 h.1 h.2 in
     let is : (fits h.0 (act_of h.0 e) && is_ending (act_of h.0 e)) ≡ true =
     ap (λ (b : Bool). b && is_ending (act_of h.0 e)) (taken h.0 h.1 h.2) ∙ named_ending h.0 e ∙ ending in
-    subst (λ (b : Bool). Ends b (endings_of old) (endings_of new)) is
+    subst (λ (b : Bool). CountsDown b (endings_of old) (endings_of new)) is
     (ends_shown _ _ _ _ _ (ap endings_of h.2) (ap endings_of m.1) (ends_at h.0 at (act_of h.0 e) (answer_of a) h.1 m.0))

@@ -20,5 +20,5 @@ is_named_ending named.Leave = true
 is_named_ending _ = false
 
 -- An ending event leaves fewer of them to come, and another one at most one more.
-abbrev pub Ends : Bool → ℕ → ℕ → Type 0
-Ends ending before after = MatchBool ending (after + 1 ≤ before) (after ≤ before + 1)
+abbrev pub CountsDown : Bool → ℕ → ℕ → Type 0
+CountsDown ending before after = MatchBool ending (after + 1 ≤ before) (after ≤ before + 1)

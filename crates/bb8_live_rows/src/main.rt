@@ -4,9 +4,9 @@
 #![tactic(auto)]
 
 use bb8_runner::fault::Fault;
+use bb8_runner::report::{Report, status_of};
 use bb8_runner::streams::{Sink, Source};
-use bb8_transcripts::report::{Report, status_of};
-use bb8_transcripts::transcripts::transcripts_of;
+use bb8_runner::transcripts::transcripts_of;
 use bb8_trials::Runtime;
 use std::process::ExitCode;
 use std::{io, str};

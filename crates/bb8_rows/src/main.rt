@@ -4,8 +4,8 @@
 #![tactic(auto)]
 
 use bb8_runner::fault::Fault;
+use bb8_runner::report::{Answers, run, status_of};
 use bb8_runner::script::run_script;
-use bb8_transcripts::report::{Answers, run, status_of};
 use std::alloc::Global;
 use std::io;
 use std::process::ExitCode;

@@ -1,4 +1,4 @@
-//! Runs a script of events over a pool: from bytes to bytes.
+//! Runs a script of events over a pool: from bytes to bytes, also in threads over one journal.
 #![tactic(auto)]
 
 pub mod fault;
@@ -6,8 +6,11 @@ pub mod grammar;
 mod laws;
 pub mod lines;
 mod overrides;
+pub mod report;
 pub mod script;
 mod settings;
 pub mod streams;
 pub mod text;
+pub mod threads;
+pub mod transcripts;
 pub mod verdict;

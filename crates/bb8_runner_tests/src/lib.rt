@@ -1,4 +1,4 @@
-//! Tests of scripts from bytes to bytes, by public items alone.
+//! Scripts from bytes to bytes, and journals of what threads made: rows that were worked out by hand, audits that must say no, refused memory.
 #![tactic(auto)]
 
 #[cfg(test)]

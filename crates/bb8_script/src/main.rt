@@ -3,14 +3,14 @@
 #![tactic(auto)]
 
 ghost use Rattle.std.specs.Prelude.{◌≡◌, ◌≤◌, ℕ, IsErr, Ok, Some};
-ghost use Rattle.bb8_threads.specs.declared.arguments.Mode.TheVariants.{Threads};
+ghost use Rattle.bb8_runner.specs.declared.threads.arguments.Mode.TheVariants.{Threads};
 ghost use Rattle.bb8_runner.specs.declared.verdict.Verdict.TheVariants.{Ran, Bad};
 
 use bb8_runner::fault::Fault;
 use bb8_runner::script::run_script;
+use bb8_runner::threads::arguments::{Mode, arguments};
+use bb8_runner::threads::script::run_threads;
 use bb8_runner::verdict::Verdict;
-use bb8_threads::arguments::{Mode, arguments};
-use bb8_threads::script::run_threads;
 use std::env::Env;
 use std::io::ErrorKind;
 use std::process::ExitCode;

@@ -1,7 +1,7 @@
 -- Laws of links that spell a list of places.
 use Rattle.std.proofs.Common.{◌≡◌, ◌≢◌, ◌⊎◌, ℕ, zero, suc, ◌+◌, ◌<◌, ◌≤◌, true, false, eqb, List, [], ◌∷◌, ◌++◌, length, slice_get, Some, None, refl, sym, ap, ◌∙◌, inl, inr, ⊎_elim, arith, subst, ne_eqb}
 use Rattle.std.proofs.lemmas.Bool.Decides.{eqb_tells}
-use Rattle.bb8_tables.specs.Spelled.{Absent, walk, Leads, Spells, Joins}
+use Rattle.bb8_tables.specs.Spelled.{Absent, walk, LinksLead, Spells, Joins}
 use Rattle.bb8_tables.specs.Machine.{without}
 
 -- ---- lists of places
@@ -99,7 +99,7 @@ few_below (suc n) xs d b =
 
 -- ---- the walk along the links gives the list
 
-walk_leads : (after before : ℕ → ℕ) (a z : ℕ) (xs : List ℕ) → Leads after before a xs z → walk after (length xs) (after a) ≡ xs
+walk_leads : (after before : ℕ → ℕ) (a z : ℕ) (xs : List ℕ) → LinksLead after before a xs z → walk after (length xs) (after a) ≡ xs
 walk_leads after before a z [] l = refl
 walk_leads after before a z (x ∷ xs) l =
     let e : after a ≡ x = l.0 in
@@ -113,20 +113,20 @@ length-walk after (suc n) a = ap suc (length-walk after n (after a))
 
 module _ (after before : ℕ → ℕ) (z : ℕ) where
   -- the links lead back from z to what leads to z
-  pub last_leads : (a : ℕ) (xs : List ℕ) → Leads after before a xs z → after (before z) ≡ z
+  pub last_leads : (a : ℕ) (xs : List ℕ) → LinksLead after before a xs z → after (before z) ≡ z
   last_leads a [] l = cc
   last_leads a (x ∷ xs) l = last_leads x xs l.2
 
   -- no place stands twice
-  not_again : (c y x : ℕ) (ys : List ℕ) → Leads after before y ys z → before x ≡ c → y ≢ c → Absent c ys → Absent x ys
+  not_again : (c y x : ℕ) (ys : List ℕ) → LinksLead after before y ys z → before x ≡ c → y ≢ c → Absent c ys → Absent x ys
   not_again c y x [] l e n a = tt
   not_again c y x (u ∷ us) l e n a =
       ((λ s. n (let b : before u ≡ y = l.1 in let same : before u ≡ before x = ap before s in sym b ∙ same ∙ e)), not_again c u x us l.2 e a.0 a.1)
 
-  rest_absent : (c x : ℕ) (xs : List ℕ) → Leads after before c (x ∷ xs) z → Absent c (x ∷ xs) → Absent x xs
+  rest_absent : (c x : ℕ) (xs : List ℕ) → LinksLead after before c (x ∷ xs) z → Absent c (x ∷ xs) → Absent x xs
   rest_absent c x xs l a = not_again c x x xs l.2 l.1 a.0 a.1
 
-  distinct : (c : ℕ) (xs : List ℕ) → Leads after before c xs z → Absent c xs → Distinct xs
+  distinct : (c : ℕ) (xs : List ℕ) → LinksLead after before c xs z → Absent c xs → Distinct xs
   distinct c [] l a = tt
   distinct c (x ∷ xs) l a = let rest : Absent x xs = rest_absent c x xs l a in (rest, distinct x xs l.2 rest)
 
@@ -137,7 +137,7 @@ module _ (after before : ℕ → ℕ) (z : ℕ) where
     pub moves : after p ≢ p
     pub fewer : length (without p xs) + 1 ≡ length xs
 
-  member_or_not : (p c : ℕ) (xs : List ℕ) → Leads after before c xs z → Absent c xs → z ≢ p → Absent p xs ⊎ IsMember p xs
+  member_or_not : (p c : ℕ) (xs : List ℕ) → LinksLead after before c xs z → Absent c xs → z ≢ p → Absent p xs ⊎ IsMember p xs
   member_or_not p c [] l a n = inl tt
   member_or_not p c (x ∷ xs) l a n =
       let rest : Absent x xs = rest_absent c x xs l a in
@@ -155,18 +155,18 @@ module _ (after before : ℕ → ℕ) (z : ℕ) where
       (member_or_not p x xs l.2 rest n))
       (eqb_tells x p)
     where
-      ahead : (ys : List ℕ) → x ≡ p → Leads after before x ys z → before (after p) ≡ p
+      ahead : (ys : List ℕ) → x ≡ p → LinksLead after before x ys z → before (after p) ≡ p
       ahead [] e l = let a : after x ≡ z = l.0 in let b : before z ≡ x = l.1 in cc
       ahead (y ∷ ys) e l = let a : after x ≡ y = l.0 in let b : before y ≡ x = l.1 in cc
 
-      moved : (ys : List ℕ) → x ≡ p → Leads after before x ys z → Absent x ys → after p ≢ p
+      moved : (ys : List ℕ) → x ≡ p → LinksLead after before x ys z → Absent x ys → after p ≢ p
       moved [] e l a s = let f : after x ≡ z = l.0 in n (sym f ∙ ap after e ∙ s)
       moved (y ∷ ys) e l a s = let f : after x ≡ y = l.0 in a.0 (sym f ∙ ap after e ∙ s ∙ sym e)
 
 -- ---- a place comes to the new end
 
 module _ (af be af1 be1 af2 be2 : ℕ → ℕ) (z p : ℕ) (j1 : Joins af be af1 be1 (be z) p) (j2 : Joins af1 be1 af2 be2 p z) (apart : p ≢ z) where
-  push_leads : (c : ℕ) (xs : List ℕ) → Leads af be c xs z → c ≢ p → Absent p xs → Absent z xs → Leads af2 be2 c (xs ++ p ∷ []) z
+  push_leads : (c : ℕ) (xs : List ℕ) → LinksLead af be c xs z → c ≢ p → Absent p xs → Absent z xs → LinksLead af2 be2 c (xs ++ p ∷ []) z
   push_leads c [] l n a b =
       let e : be z ≡ c = l.1 in
       let e1 : af2 c ≡ af1 c = j2.after_others c n in
@@ -212,11 +212,11 @@ module _ (af be af1 be1 af2 be2 : ℕ → ℕ) (z p : ℕ) (j1 : Joins af be af1
   before_kept : (i : ℕ) → i ≢ p → be i ≢ p → be2 i ≡ be i
   before_kept i n m = j2.before_others i n ∙ j1.before_others i (λ e. m (ap be e ∙ forth))
 
-  kept_leads : (c : ℕ) (xs : List ℕ) → Leads af be c xs z → c ≢ p → Absent p xs → Leads af2 be2 c xs z
+  kept_leads : (c : ℕ) (xs : List ℕ) → LinksLead af be c xs z → c ≢ p → Absent p xs → LinksLead af2 be2 c xs z
   kept_leads c [] l n a = (after_kept c n (λ e. apart (sym e ∙ l.0)) ∙ l.0, before_kept z (λ e. apart (sym e)) (λ e. n (sym l.1 ∙ e)) ∙ l.1)
   kept_leads c (x ∷ xs) l n a = (after_kept c n (λ e. a.0 (sym l.0 ∙ e)) ∙ l.0, before_kept x a.0 (λ e. n (sym l.1 ∙ e)) ∙ l.1, kept_leads x xs l.2 a.0 a.1)
 
-  bridged_leads : (c : ℕ) (xs : List ℕ) → Leads af be p xs z → be p ≡ c → c ≢ p → Absent p xs → Leads af2 be2 c xs z
+  bridged_leads : (c : ℕ) (xs : List ℕ) → LinksLead af be p xs z → be p ≡ c → c ≢ p → Absent p xs → LinksLead af2 be2 c xs z
   bridged_leads c [] l e n a =
       let e1 : af2 c ≡ af1 c = j2.after_others c n in
       let e2 : af1 (be p) ≡ af p = j1.after_is in
@@ -232,7 +232,7 @@ module _ (af be af1 be1 af2 be2 : ℕ → ℕ) (z p : ℕ) (j1 : Joins af be af1
       let e5 : af p ≡ x = l.0 in
       (cc, cc, kept_leads x xs l.2 a.0 a.1)
 
-  remove_leads : (c : ℕ) (xs : List ℕ) → Leads af be c xs z → Absent c xs → c ≢ p → Leads af2 be2 c (without p xs) z
+  remove_leads : (c : ℕ) (xs : List ℕ) → LinksLead af be c xs z → Absent c xs → c ≢ p → LinksLead af2 be2 c (without p xs) z
   remove_leads c [] l a n = kept_leads c [] l n tt
   remove_leads c (x ∷ xs) l a n =
       let rest : Absent x xs = rest_absent af be z c x xs l a in
@@ -240,9 +240,9 @@ module _ (af be af1 be1 af2 be2 : ℕ → ℕ) (z p : ℕ) (j1 : Joins af be af1
       (λ (t : (eqb x p ≡ true) × (x ≡ p)).
       let absent : Absent p xs = subst (λ (q : ℕ). Absent q xs) t.1 rest in
       let e : without p xs ≡ xs = without_absent p xs absent in
-      rw (t.0, e) (bridged_leads c xs (subst (λ (q : ℕ). Leads af be q xs z) t.1 l.2) (ap be (sym t.1) ∙ l.1) n absent))
+      rw (t.0, e) (bridged_leads c xs (subst (λ (q : ℕ). LinksLead af be q xs z) t.1 l.2) (ap be (sym t.1) ∙ l.1) n absent))
       (λ (t : (eqb x p ≡ false) × (x ≢ p)).
-      let r : Leads af2 be2 c (x ∷ without p xs) z = (after_kept c n (λ e. t.1 (sym l.0 ∙ e)) ∙ l.0, before_kept x t.1 (λ e. n (sym l.1 ∙ e)) ∙ l.1, remove_leads x xs l.2 rest t.1) in
+      let r : LinksLead af2 be2 c (x ∷ without p xs) z = (after_kept c n (λ e. t.1 (sym l.0 ∙ e)) ∙ l.0, before_kept x t.1 (λ e. n (sym l.1 ∙ e)) ∙ l.1, remove_leads x xs l.2 rest t.1) in
       rw t.0 r)
       (eqb_tells x p)
 
@@ -262,7 +262,7 @@ module _ (af be af1 be1 af2 be2 : ℕ → ℕ) (z p : ℕ) (j1 : Joins af be af1
 -- ---- the ends, and who is there
 
 module _ (af be : ℕ → ℕ) (z : ℕ) where
-  last_from : (c x : ℕ) (xs : List ℕ) → Leads af be c (x ∷ xs) z → slice_get (x ∷ xs) (length xs) ≡ Some (be z)
+  last_from : (c x : ℕ) (xs : List ℕ) → LinksLead af be c (x ∷ xs) z → slice_get (x ∷ xs) (length xs) ≡ Some (be z)
   last_from c x [] l = let e : be z ≡ x = l.2.1 in ap (λ (q : ℕ). Some q) (sym e)
   last_from c x (y ∷ ys) l = last_from x y ys l.2
 
@@ -272,7 +272,7 @@ module _ (af be : ℕ → ℕ) (z : ℕ) where
   pub last_is : (x : ℕ) (xs : List ℕ) → Spells af be z (x ∷ xs) → slice_get (x ∷ xs) (length xs) ≡ Some (be z)
   last_is x xs s = last_from z x xs s.leads
 
-  from_here : (c p : ℕ) (passed rest : List ℕ) → Leads af be c (passed ++ p ∷ rest) z → Leads af be p rest z
+  from_here : (c p : ℕ) (passed rest : List ℕ) → LinksLead af be c (passed ++ p ∷ rest) z → LinksLead af be p rest z
   from_here c p [] rest l = l.2
   from_here c p (x ∷ passed) rest l = from_here x p passed rest l.2
 
@@ -314,10 +314,10 @@ module _ (af be : ℕ → ℕ) (z : ℕ) where
   pub spelled_few : (n : ℕ) (xs : List ℕ) → Spells af be z xs → ((p : ℕ) → af p ≢ p → p < n) → length xs ≤ n
   spelled_few n xs s inside = few_below n xs (distinct af be z z xs s.leads s.apart) (go z xs s.leads s.apart s.apart)
     where
-      go : (c : ℕ) (ys : List ℕ) → Leads af be c ys z → Absent c ys → Absent z ys → Below n ys
+      go : (c : ℕ) (ys : List ℕ) → LinksLead af be c ys z → Absent c ys → Absent z ys → Below n ys
       go c [] l a b = tt
       go c (y ∷ ys) l a b = let rest : Absent y ys = rest_absent af be z c y ys l a in (inside y (λ e. moved y ys l.2 rest b.0 e), go y ys l.2 rest b.1)
         where
-          moved : (x : ℕ) (us : List ℕ) → Leads af be x us z → Absent x us → x ≢ z → af x ≡ x → ⊥
+          moved : (x : ℕ) (us : List ℕ) → LinksLead af be x us z → Absent x us → x ≢ z → af x ≡ x → ⊥
           moved x [] l r n e = n (sym e ∙ l.0)
           moved x (u ∷ us) l r n e = r.0 (sym l.0 ∙ e)

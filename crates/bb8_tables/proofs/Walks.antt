@@ -18,7 +18,7 @@ use Rattle.circular_buffer.specs.Buffer.{Buffer}
 use Rattle.bb8_tables.specs.declared.closed.Closed.{Closed}
 use Rattle.bb8_tables.specs.Closed.{offered_all, closed_in, closed_of}
 use Rattle.bb8_tables.specs.Dues.{EndsFirst, Ends, EndsIdle, Passes}
-use Rattle.bb8_tables.specs.Lent.{Lent, Adds}
+use Rattle.bb8_tables.specs.Lent.{Lent, AddsLent}
 use Rattle.bb8_tables.proofs.Lent.{adds_none, adds_more, adds_within}
 use Rattle.bb8_tables.specs.Lined.{Lined, slot_at}
 use Rattle.bb8_tables.specs.Machine.{without}
@@ -191,11 +191,11 @@ module _ {C : Type 0} where
     pub ks : List ℕ
     pub first : AreFirst (idles_out config now) ks old
     pub ends : Ends (idles_out config now) old ks new told list listed
-    pub lendings : Adds told 0 lent lent_now
+    pub lendings : AddsLent told 0 lent lent_now
 
   pub idle_more : {config : Settings} {now : ℕ} {old mid new : ShownRecords C} {told : ℕ} {list listed offered : Buffer (Closed C)} {lent mid_lent new_lent : Lent}
       → InIdle config now old mid told list listed lent mid_lent
-      → (k : ℕ) × (slice_get mid.idle 0 ≡ Some k) × EndsFirst (idles_out config now) mid k new listed offered → Adds 1 0 mid_lent new_lent
+      → (k : ℕ) × (slice_get mid.idle 0 ≡ Some k) × EndsFirst (idles_out config now) mid k new listed offered → AddsLent 1 0 mid_lent new_lent
       → InIdle config now old new (told + 1) list offered lent new_lent
   idle_more {config} {now} {old} {mid} {new} {told} {list} {listed} {offered} {lent} {mid_lent} {new_lent} i e l = record {
     ks = i.ks ++ e.0 ∷ [];
@@ -223,7 +223,7 @@ module _ {C : Type 0} where
     pub at_is : at ≡ slice_get rest 0
     pub outs : AreOut a.slots passed
     pub steps : told + length passed ≡ counter
-    pub lendings : Adds counter 0 lent lent_now
+    pub lendings : AddsLent counter 0 lent lent_now
     pub left : counter + length rest ≡ many
     pub few : old.conns ≤ most_records
     pub many_few : many ≤ old.conns
@@ -305,7 +305,7 @@ module _ {C : Type 0} where
       births_stands = (births_conn.0, births_conn.1)
 
       -- it passes one that is out
-      pub births_out : {next : Option ℕ} {new_lent : Lent} → Passes config now a.slots place (Out next) → Adds 1 0 lent_now new_lent
+      pub births_out : {next : Option ℕ} {new_lent : Lent} → Passes config now a.slots place (Out next) → AddsLent 1 0 lent_now new_lent
           → InBirths config now old list lent many a told next listed new_lent (counter + 1)
       births_out {next} {new_lent} p l =
           let same : births_conn.0 ≡ p.0 = let both : Some births_conn.0 ≡ Some p.0 = sym births_conn.1 ∙ p.1 in cc in
@@ -333,7 +333,7 @@ module _ {C : Type 0} where
         aged_idle = lives_idle config now p.0.standing p.2
 
         pub births_aged : {more : ℕ} {offered : Buffer (Closed C)} {new_lent : Lent} → more ≡ told + 1 → ((x : Slot (Standing C)) → slot_at a.slots place ≡ Some x
-            → offered ≡ offered_all (closed_in x.number (Some x.standing)) listed) → Adds 1 0 lent_now new_lent
+            → offered ≡ offered_all (closed_in x.number (Some x.standing)) listed) → AddsLent 1 0 lent_now new_lent
             → InBirths config now old list lent many (record a { slots = slots; conns = a.conns - 1 }) more next offered new_lent (counter + 1)
         births_aged {more} {offered} {new_lent} is put l =
             let are = subst (λ (ks : List ℕ). ArePlaces (λ (x : Slot (Standing C)). is_conn x.standing.place) a.slots.slots ks) cut i.good.births.are in
@@ -400,7 +400,7 @@ module _ {C : Type 0} where
           in_births : (j k : ℕ) → slice_get i.passed j ≡ Some k → slice_get a.slots.births j ≡ Some k
           in_births j k e = ap (λ (ks : List ℕ). slice_get ks j) i.births ∙ get_front i.passed i.rest j k e
 
-      pub lent_at_most : Adds (told + (old.conns - length old.idle)) 0 lent lent_now
+      pub lent_at_most : AddsLent (told + (old.conns - length old.idle)) 0 lent lent_now
       lent_at_most = adds_within counter (told + (old.conns - length old.idle)) lent lent_now i.lendings (omega (arith, i.steps, few_passed))
 
     -- it stops at the first that does not live too long

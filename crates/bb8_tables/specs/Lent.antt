@@ -30,8 +30,8 @@ abbrev pub searches : Lent → Lent
 searches l = record l { searched = min (l.searched + 1) end_of_numbers }
 
 -- in one step at most so many entries more were lent, and at most so many searches more made
-abbrev pub Adds : ℕ → ℕ → Lent → Lent → Type 0
-Adds entries more old new = (new.step ≡ old.step) × (new.lent ≤ old.lent + entries) × (new.searched ≤ old.searched + more)
+abbrev pub AddsLent : ℕ → ℕ → Lent → Lent → Type 0
+AddsLent entries more old new = (new.step ≡ old.step) × (new.lent ≤ old.lent + entries) × (new.searched ≤ old.searched + more)
 
 abbrev pub lent_code : Coded Lent
 lent_code =

@@ -9,7 +9,7 @@ ghost use Rattle.bb8_tables.specs.Machine as machine;
 ghost use Rattle.bb8_tables.specs.Keys.{notified_of};
 ghost use Rattle.bb8_tables.specs.Views.{no_gets};
 ghost use Rattle.bb8_types.specs.Bounds.{end_of_numbers};
-ghost use Rattle.bb8_tables.specs.Lent.{Adds};
+ghost use Rattle.bb8_tables.specs.Lent.{AddsLent};
 
 use crate::keys::{GetKey, Key};
 use crate::table::{Lendings, Slot, Table, held};
@@ -205,7 +205,7 @@ impl Gets {
         requires stands { (x : Getting) × (map.get self.old.places g.number ≡ Some x)
             × (places.is_unnotified x.place ≡ false) }
         ensures state { self.new ≡ machine.after_wait now g.number self.old }
-        ensures examined { Adds 1 1 lendings.old lendings.new }
+        ensures examined { AddsLent 1 1 lendings.old lendings.new }
         ensures counted { min (lendings.old.lent + 1) end_of_numbers ≤ lendings.new.lent }
     {
         match self.slots.locate(g.number, g.place, lendings) {
@@ -223,7 +223,7 @@ impl Gets {
         requires stands { (x : Getting) × (map.get self.old.places g.number ≡ Some x)
             × (places.is_unnotified x.place ≡ false) }
         ensures state { self.new ≡ machine.after_turn place g.number self.old }
-        ensures examined { Adds 1 1 lendings.old lendings.new }
+        ensures examined { AddsLent 1 1 lendings.old lendings.new }
         ensures counted { min (lendings.old.lent + 1) end_of_numbers ≤ lendings.new.lent }
     {
         match self.slots.locate(g.number, g.place, lendings) {
@@ -238,7 +238,7 @@ impl Gets {
     pub fn notify(&mut self, lendings: &mut Lendings) -> Option<GetKey>
         ensures value { notified_of result ≡ slice_get self.old.waiting 0 }
         ensures state { self.new ≡ machine.after_notice (notified_of result) self.old }
-        ensures examined { Adds (numbered.one (is_some result)) 0 lendings.old lendings.new }
+        ensures examined { AddsLent (numbered.one (is_some result)) 0 lendings.old lendings.new }
         ensures counted { min (lendings.old.lent + numbered.one (is_some result)) end_of_numbers
             ≤ lendings.new.lent }
     {
@@ -258,7 +258,7 @@ impl Gets {
         requires { IsSome (map.get self.old.places g.number) }
         ensures state { self.new ≡ machine.after_get_end g.number self.old }
         ensures numbers { self.old.next ≤ end_of_numbers }
-        ensures examined { Adds 0 1 lendings.old lendings.new }
+        ensures examined { AddsLent 0 1 lendings.old lendings.new }
     {
         match self.slots.locate(g.number, g.place, lendings) {
             None => {}
@@ -276,7 +276,7 @@ impl Gets {
             × (places.is_unnotified x.place ≡ false) }
         ensures state { self.new ≡ machine.after_get_end g.number self.old }
         ensures numbers { self.old.next ≤ end_of_numbers }
-        ensures examined { Adds 0 1 lendings.old lendings.new }
+        ensures examined { AddsLent 0 1 lendings.old lendings.new }
     {
         self.end(g, lendings);
     }
@@ -296,7 +296,7 @@ impl Gets {
     /// How the get stands, if it is alive.
     pub fn getting(&self, g: GetKey, lendings: &mut Lendings) -> Option<Getting>
         ensures value { result ≡ map.get self.now.places g.number }
-        ensures examined { Adds 1 1 lendings.old lendings.new }
+        ensures examined { AddsLent 1 1 lendings.old lendings.new }
         ensures counted { min (lendings.old.lent + 1) end_of_numbers ≤ lendings.new.lent }
     {
         match self.slots.slot(g.number, g.place, lendings) {

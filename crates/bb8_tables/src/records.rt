@@ -9,7 +9,7 @@ ghost use Rattle.bb8_types.specs.declared.standing.Place.TheVariants.{Unclaimed,
 ghost use Rattle.circular_buffer.specs.Buffer.{buffer};
 ghost use Rattle.bb8_types.specs.declared.standing.Standing.{Standing};
 ghost use Rattle.bb8_types.specs.Bounds.{end_of_numbers, most_records};
-ghost use Rattle.bb8_tables.specs.Lent.{none_lent, Adds};
+ghost use Rattle.bb8_tables.specs.Lent.{none_lent, AddsLent};
 ghost use Rattle.bb8_tables.specs.Closed.{offered_all, closed_in, closed_of};
 ghost use Rattle.bb8_tables.specs.Lined.{slot_at};
 ghost use Rattle.bb8_tables.specs.declared.table.Slot.{Slot};
@@ -166,7 +166,7 @@ impl<C: Drop> Records<C> {
             × (self.new ≡ machine.after_claim key.number self.old)) }
         ensures none { IfNone result ((slice_get self.old.unclaimed 0 ≡ None)
             × (self.new ≡ self.old)) }
-        ensures examined { Adds (numbered.one (is_some result)) 0 lendings.old lendings.new }
+        ensures examined { AddsLent (numbered.one (is_some result)) 0 lendings.old lendings.new }
         ensures counted { min (lendings.old.lent + numbered.one (is_some result)) end_of_numbers
             ≤ lendings.new.lent }
     {
@@ -195,7 +195,7 @@ impl<C: Drop> Records<C> {
             self.old)) }
         ensures none { IfNone result ((places.first_of strategy self.old.idle ≡ None)
             × (self.new ≡ self.old) × (lendings.new ≡ lendings.old)) }
-        ensures examined { Adds (numbered.one (is_some result)) 0 lendings.old lendings.new }
+        ensures examined { AddsLent (numbered.one (is_some result)) 0 lendings.old lendings.new }
         ensures counted { min (lendings.old.lent + numbered.one (is_some result)) end_of_numbers
             ≤ lendings.new.lent }
     {
@@ -218,7 +218,7 @@ impl<C: Drop> Records<C> {
             × (places.is_out s.place ≡ true) }
         ensures key { result.number ≡ k.number }
         ensures state { self.new ≡ machine.after_handover k.number self.old }
-        ensures examined { Adds 1 1 lendings.old lendings.new }
+        ensures examined { AddsLent 1 1 lendings.old lendings.new }
         ensures counted { min (lendings.old.lent + 1) end_of_numbers ≤ lendings.new.lent }
     {
         match self.slots.locate(k.number, k.place, lendings) {
@@ -252,7 +252,7 @@ impl<C: Drop> Records<C> {
         ensures state { self.new ≡ machine.after_entry opening k.number
             (record { place = Idle conn; birth = birth; entered = now }) self.old }
         ensures numbers { self.old.next ≤ end_of_numbers }
-        ensures examined { Adds 1 1 lendings.old lendings.new }
+        ensures examined { AddsLent 1 1 lendings.old lendings.new }
         ensures counted { min (lendings.old.lent + 1) end_of_numbers ≤ lendings.new.lent }
     {
         match self.slots.locate(k.number, k.place, lendings) {
@@ -279,7 +279,7 @@ impl<C: Drop> Records<C> {
             × (places.comes_from opening s.place ≡ true) }
         ensures state { self.new ≡ machine.after_close opening k.number self.old }
         ensures numbers { self.old.next ≤ end_of_numbers }
-        ensures examined { Adds 0 1 lendings.old lendings.new }
+        ensures examined { AddsLent 0 1 lendings.old lendings.new }
     {
         match self.slots.locate(k.number, k.place, lendings) {
             None => {}
@@ -536,7 +536,7 @@ impl<C: Drop> Records<C> {
     /// The birth of the record.
     pub fn birth(&self, k: Key, lendings: &mut Lendings) -> u64
         ensures value { result ≡ places.birth_in (map.get self.now.places k.number) }
-        ensures examined { Adds 1 1 lendings.old lendings.new }
+        ensures examined { AddsLent 1 1 lendings.old lendings.new }
         ensures counted { min (lendings.old.lent + 1) end_of_numbers ≤ lendings.new.lent }
     {
         match self.slots.slot(k.number, k.place, lendings) {

@@ -9,7 +9,7 @@ ghost use Rattle.bb8_types.specs.Places.{get_in_wait, first_place, is_claimed, i
 ghost use Rattle.bb8_tables.specs.Machine.{without};
 ghost use Rattle.bb8_tables.specs.Lined.{slot_at, places_of, with_places, is_same};
 ghost use Rattle.bb8_tables.specs.Spelled.{Absent};
-ghost use Rattle.bb8_tables.specs.Lent.{none_lent, lends, searches, Adds};
+ghost use Rattle.bb8_tables.specs.Lent.{none_lent, lends, searches, AddsLent};
 
 mod lendings;
 
@@ -293,7 +293,7 @@ impl<S: Drop> Table<S> {
             → lendings.new ≡ lendings.old }
         ensures stale { ((x : Slot S) → slot_at self.now hint ≡ Some x → x.number ≢ number)
             → lendings.new ≡ searches lendings.old }
-        ensures searched { Adds 0 1 lendings.old lendings.new }
+        ensures searched { AddsLent 0 1 lendings.old lendings.new }
         ensures lent { lendings.new.lent ≡ lendings.old.lent }
     {
         match self.links.found(number, hint) {
@@ -345,7 +345,7 @@ impl<S: Drop> Table<S> {
             → lendings.new ≡ lends lendings.old }
         ensures stale { ((x : Slot S) → slot_at self.now hint ≡ Some x → x.number ≢ number)
             → lendings.new ≡ searches (lends lendings.old) }
-        ensures searched { Adds 1 1 lendings.old lendings.new }
+        ensures searched { AddsLent 1 1 lendings.old lendings.new }
         ensures lent { lendings.new.lent ≡ min (lendings.old.lent + 1) end_of_numbers }
     {
         lendings.lend();

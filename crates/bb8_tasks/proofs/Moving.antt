@@ -17,7 +17,7 @@ use Rattle.bb8_tasks.specs.declared.replenish.Stage.{Stage}
 use Rattle.bb8_tasks.specs.declared.replenish.Stage.TheVariants.{Start, Connecting, Acquiring, Sleeping, Done}
 use Rattle.bb8_tasks.specs.declared.replenish.Tries.{Tries}
 use Rattle.bb8_tasks.specs.Played.{told, begun, scripted, steady, Task, Polled}
-use Rattle.bb8_tasks.specs.Replenishing.{IsDue, failed_once_more, AfterOpened, AfterAcquire, AfterConnect, Enters, Connects, Begins, Proceeds}
+use Rattle.bb8_tasks.specs.Replenishing.{IsDue, failed_once_more, AfterOpened, AfterTaskAcquire, AfterTaskConnect, Enters, TaskConnects, TaskBegins, TaskProceeds}
 
 -- where such a task stands
 abbrev pub Standing : Type 0
@@ -54,15 +54,15 @@ module _ (timeout : ℕ) (retry : Bool) (m : Moment) where
 
     -- a poll of the preparation, which is ready
     prepared : (answer : Poll (Result (Unit {0}) (Unit {0}))) (tries : Tries) (x x' : Scripted) (next : Row) → answer ≡ Ready (Ok tt)
-        → AfterAcquire steady timeout retry approval m scripted answer tries tt tt x next x' → (next.stage ≡ Done) × (x' ≡ x)
+        → AfterTaskAcquire steady timeout retry approval m scripted answer tries tt tt x next x' → (next.stage ≡ Done) × (x' ≡ x)
     prepared answer tries x x' next is r =
-        let (x1, same, at) = subst (λ (y : Poll (Result (Unit {0}) (Unit {0}))). AfterAcquire steady timeout retry approval m scripted y tries tt tt x next x') is r in
+        let (x1, same, at) = subst (λ (y : Poll (Result (Unit {0}) (Unit {0}))). AfterTaskAcquire steady timeout retry approval m scripted y tries tt tt x next x') is r in
         let done = entered x1 x' next at in
         (done.0, done.1 ∙ same)
 
     -- a poll of the opening leads where its reply says
     leads : (reply : Reply) (tries : Tries) (x x' : Scripted) (next : Row)
-        → AfterConnect steady timeout retry approval m scripted (told reply) tries tt x next x' → Leads reply tries next.stage × (x' ≡ x)
+        → AfterTaskConnect steady timeout retry approval m scripted (told reply) tries tt x next x' → Leads reply tries next.stage × (x' ≡ x)
     leads replies.Pending tries x x' next r = (r.1, r.2)
     leads replies.Ok tries x x' next (x1, ended, (acquiring, c, x2, begun_so, (answer, c1, acquiring1, x3, (is, same), r))) =
         let done = prepared answer tries x3 x' next is r in
@@ -79,16 +79,16 @@ module _ (timeout : ℕ) (retry : Bool) (m : Moment) where
 
     -- a poll of an opening that is under way
     connects : (reply : Reply) (tries : Tries) (connecting : Unit {0}) (x x' : Scripted) (next : Row) → x.reply ≡ reply
-        → Connects steady timeout retry approval m scripted tries connecting x next x' → Leads reply tries next.stage × (x' ≡ x)
+        → TaskConnects steady timeout retry approval m scripted tries connecting x next x' → Leads reply tries next.stage × (x' ≡ x)
     connects reply tries connecting x x' next is (answer, connecting1, x1, (said, same), r) =
         let told_so : answer ≡ told reply = said ∙ ap told is in
-        let after = subst (λ (y : Poll (Result (Unit {0}) (Unit {0}))). AfterConnect steady timeout retry approval m scripted y tries tt x1 next x') told_so r in
+        let after = subst (λ (y : Poll (Result (Unit {0}) (Unit {0}))). AfterTaskConnect steady timeout retry approval m scripted y tries tt x1 next x') told_so r in
         let led = leads reply tries x1 x' next after in
         (led.0, led.1 ∙ same)
 
     -- a poll that begins an opening
     begins : (reply : Reply) (tries : Tries) (x x' : Scripted) (next : Row) → x ≡ record { reply = reply; tries = 0 }
-        → Begins steady timeout retry approval m scripted tries x next x' → (x'.tries ≡ 1) × Leads reply tries next.stage
+        → TaskBegins steady timeout retry approval m scripted tries x next x' → (x'.tries ≡ 1) × Leads reply tries next.stage
     begins reply tries x x' next is (connecting, x1, begun_so, r) =
         let told_so : x1.reply ≡ reply = ap (λ (y : Scripted). y.reply) (begun_so ∙ ap begun is) in
         let went = connects reply tries connecting x1 x' next told_so r in
@@ -96,7 +96,7 @@ module _ (timeout : ℕ) (retry : Bool) (m : Moment) where
 
     -- after the look, a poll of a task that has not ended
     turns : (reply : Reply) (stage : Standing) (x x' : Scripted) (next : Row) → x ≡ record { reply = reply; tries = 0 }
-        → Proceeds steady timeout retry approval m scripted true stage x next x' → Moves reply stage x'.tries next.stage
+        → TaskProceeds steady timeout retry approval m scripted true stage x next x' → Moves reply stage x'.tries next.stage
     turns reply Start x x' next is r = begins reply (record { start = m; failures = 0 }) x x' next is r
     turns reply (Connecting tries connecting) x x' next is r =
         let went = connects reply tries connecting x x' next (ap (λ (y : Scripted). y.reply) is) r in
@@ -122,11 +122,11 @@ module _ (timeout : ℕ) (retry : Bool) where
   -- one poll of a task that has not ended, after its look
   looked : (p : Moment × Reply) (approval : Key) (latest : Moment) (stage : Standing) (tried : ℕ) (a : ReplenishAnswer (Unit {0})) (t' : Task) (seen : Looked) (x x' : Scripted)
       → seen ≡ record { moment = p.0; alive = true } → x ≡ record { reply = p.1; tries = 0 } → t'.latest.0 ≡ max seen.moment.0 latest.0 → tried ≡ x'.tries
-      → Proceeds steady timeout retry approval t'.latest scripted seen.alive stage x (record { answer = a; stage = t'.stage }) x'
+      → TaskProceeds steady timeout retry approval t'.latest scripted seen.alive stage x (record { answer = a; stage = t'.stage }) x'
       → (t'.latest.0 ≡ max p.0.0 latest.0) × Moves timeout retry t'.latest p.1 stage tried t'.stage
   looked p approval latest stage tried a t' seen x x' is same at count r =
       let next : Row = record { answer = a; stage = t'.stage } in
-      let alive = subst (λ (y : Looked). Proceeds steady timeout retry approval t'.latest scripted y.alive stage x next x') is r in
+      let alive = subst (λ (y : Looked). TaskProceeds steady timeout retry approval t'.latest scripted y.alive stage x next x') is r in
       let moves = turns timeout retry t'.latest approval p.1 stage x x' next same alive in
       (at ∙ ap (λ (y : Looked). max y.moment.0 latest.0) is, subst (λ (n : ℕ). Moves timeout retry t'.latest p.1 stage n t'.stage) (sym count) moves)
 

@@ -5,7 +5,7 @@ use Rattle.bb8_tasks.specs.declared.replenish.ReplenishAnswer.{ReplenishAnswer}
 use Rattle.bb8_tasks.specs.declared.replenish.ReplenishAnswer.TheVariants.{Pending, Retrying, Failed, Entered, Late, GivenBack}
 use Rattle.bb8_tasks.specs.declared.rounds.OnFailure.{OnFailure}
 use Rattle.bb8_tasks.specs.declared.rounds.OnFailure.TheVariants.{GoOn}
-use Rattle.bb8_tasks.specs.Sweeping.{After, Rest, PollsUntil, Turns, Midway}
+use Rattle.bb8_tasks.specs.Sweeping.{After, Rest, PollsUntil, QueueTurns, RoundMidway}
 
 module _ {T E X : Type 0} (polls : T → X → ReplenishAnswer E → T → X → Type 0) (sinks : X → E → X → Type 0) (on : OnFailure) where
   -- what still has to be shown of the tasks behind
@@ -15,7 +15,7 @@ module _ {T E X : Type 0} (polls : T → X → ReplenishAnswer E → T → X →
       → PollsUntil polls sinks on first start s (behind ++ last) x'
 
   step : (first : List T) (start : X) (q q' : List T) (x x1 : X) (o o1 : Option E) (k : ℕ) (ahead behind : List T) → 0 < k → length ahead ≡ k
-      → q ≡ ahead ++ behind → Goes first start o ahead x behind → Turns polls sinks on o q x o1 q' x1 → Midway polls sinks on first start q' x1 o1 (k - 1)
+      → q ≡ ahead ++ behind → Goes first start o ahead x behind → QueueTurns polls sinks on o q x o1 q' x1 → RoundMidway polls sinks on first start q' x1 o1 (k - 1)
   step first start q q' x x1 o o1 k [] behind some len eq go turn = absurd (omega arith)
   step first start q q' x x1 None o1 k (a ∷ more) behind some len eq go (t, rest, e, (r, t', x2, kept, p, after, e')) =
       let head : t ≡ a = cc in
@@ -38,11 +38,11 @@ module _ {T E X : Type 0} (polls : T → X → ReplenishAnswer E → T → X →
       )
 
   pub Midway-step : (first : List T) (start : X) (q q' : List T) (x x1 : X) (o o1 : Option E) (n k : ℕ) → k < n
-      → Midway polls sinks on first start q x o (n - k) → Turns polls sinks on o q x o1 q' x1 → Midway polls sinks on first start q' x1 o1 (n - (k + 1))
+      → RoundMidway polls sinks on first start q x o (n - k) → QueueTurns polls sinks on o q x o1 q' x1 → RoundMidway polls sinks on first start q' x1 o1 (n - (k + 1))
   Midway-step first start q q' x x1 o o1 n k more m turn =
       let some : 0 < n - k = omega arith in
       let less : n - k - 1 ≡ n - (k + 1) = omega arith in
-      subst (λ (y : ℕ). Midway polls sinks on first start q' x1 o1 y) less
+      subst (λ (y : ℕ). RoundMidway polls sinks on first start q' x1 o1 y) less
       (step first start q q' x x1 o o1 (n - k) m.0 m.1 some m.2 m.3 m.4 turn)
 
   over : (first : List T) (start : X) (q : List T) (x : X) (o : Option E) (ahead behind : List T) → length ahead ≡ 0 → q ≡ ahead ++ behind
@@ -54,10 +54,10 @@ module _ {T E X : Type 0} (polls : T → X → ReplenishAnswer E → T → X →
   over first start q x o (a ∷ more) behind len eq go = absurd (omega arith)
 
   pub Midway-over : (first : List T) (start : X) (q : List T) (x : X) (o : Option E) (k : ℕ) → k ≡ 0
-      → Midway polls sinks on first start q x o k → PollsUntil polls sinks on first start o q x
+      → RoundMidway polls sinks on first start q x o k → PollsUntil polls sinks on first start o q x
   Midway-over first start q x o k none m = over first start q x o m.0 m.1 (m.2 ∙ none) m.3 m.4
 
-  pub Midway-first : (first : List T) (start : X) (k : ℕ) → k ≡ length first → Midway polls sinks on first start first start None (k - 0)
+  pub Midway-first : (first : List T) (start : X) (k : ℕ) → k ≡ length first → RoundMidway polls sinks on first start first start None (k - 0)
   Midway-first first start k is = (first, [], omega (arith, is), sym (append-nil first), λ s last x' goes. goes)
 
 module _ {T E X : Type 0} (polls : T → X → ReplenishAnswer E → T → X → Type 0) (sinks : X → E → X → Type 0) where

@@ -21,7 +21,7 @@ module _ {C : Type 0} where
   opened_told a (opened.Unfit c) = answers.Unfit
 
   -- the connection that is handed back is the one that was handed in
-  abbrev pub HandsBack : C → OpenedStep C → Type 0
-  HandsBack c (opened.Entered notified) = ⊤
-  HandsBack c (opened.Late c') = c' ≡ c
-  HandsBack c (opened.Unfit c') = c' ≡ c
+  abbrev pub HandsOpenedBack : C → OpenedStep C → Type 0
+  HandsOpenedBack c (opened.Entered notified) = ⊤
+  HandsOpenedBack c (opened.Late c') = c' ≡ c
+  HandsOpenedBack c (opened.Unfit c') = c' ≡ c

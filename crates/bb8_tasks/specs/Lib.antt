@@ -7,4 +7,6 @@ pub mod Played
 pub mod ReapHomes
 pub mod Reaping
 pub mod Replenishing
+pub mod Rounds
 pub mod Sweeping
+pub mod Turns

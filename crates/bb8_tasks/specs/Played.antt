@@ -12,7 +12,7 @@ use Rattle.bb8_tasks.specs.declared.home.OpenedStep.TheVariants as opening
 use Rattle.bb8_tasks.specs.declared.opener.Opener.{Ghosts as OpenerOf}
 use Rattle.bb8_tasks.specs.declared.replenish.Replenish.{Replenish}
 use Rattle.bb8_tasks.specs.declared.replenish.ReplenishAnswer.{ReplenishAnswer}
-use Rattle.bb8_tasks.specs.Replenishing.{fresh, Polls}
+use Rattle.bb8_tasks.specs.Replenishing.{fresh, TaskPolls}
 
 -- the answer of a poll of an opening that a reply stands for
 abbrev pub told : Reply → Poll (Result (Unit {0}) (Unit {0}))
@@ -56,7 +56,7 @@ module _ (timeout : ℕ) (retry : Bool) where
   -- one poll by the table, at its moment and with its reply: it begins so many openings
   abbrev pub Polled : Moment × Reply → Task → ℕ → ReplenishAnswer (Unit {0}) → Task → Type 0
   Polled p t tries answer t' =
-      (after : Scripted) × Polls steady scripted timeout retry p.0 t (record { reply = p.1; tries = 0 }) answer t' after × (tries ≡ after.tries)
+      (after : Scripted) × TaskPolls steady scripted timeout retry p.0 t (record { reply = p.1; tries = 0 }) answer t' after × (tries ≡ after.tries)
 
   -- polls by the table, one after another: the answers, and how many openings they begin
   abbrev pub Runs : Task → List (Moment × Reply) → List (ReplenishAnswer (Unit {0})) → ℕ → Task → Type 0

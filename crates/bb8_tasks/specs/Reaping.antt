@@ -39,8 +39,8 @@ module _ {H : Type 0} (home : HomeOf H) where
   Reaps m t h r t' h' = (s : ReapStep) × home.reaps h m s h' × AfterReap s m t r t'
 
   -- the rows after the look: no handle is alive, a tick is due, none is due
-  abbrev pub Proceeds : Bool → Moment → Reaper → H → ReaperAnswer → Reaper → H → Type 0
-  Proceeds alive m t h r t' h' =
+  abbrev pub ReaperProceeds : Bool → Moment → Reaper → H → ReaperAnswer → Reaper → H → Type 0
+  ReaperProceeds alive m t h r t' h' =
       MatchBool alive
       (MatchBool (is_due t.due m) (Reaps m t h r t' h') (Stands t t.due t.ended t' × (r ≡ Idle) × (h' ≡ h)))
       (Stands t t.due true t' × (r ≡ Ended) × (h' ≡ h))
@@ -50,8 +50,8 @@ module _ {H : Type 0} (home : HomeOf H) (at : Moment) where
   abbrev pub Looks : Reaper → H → ReaperAnswer → Reaper → H → Type 0
   Looks t h r t' h' =
       (seen : Looked) × (h1 : H) × home.looks h at seen h1
-      × (t'.latest.0 ≡ max seen.moment.0 t.latest.0) × Proceeds home seen.alive t'.latest t h1 r t' h'
+      × (t'.latest.0 ≡ max seen.moment.0 t.latest.0) × ReaperProceeds home seen.alive t'.latest t h1 r t' h'
 
   -- The whole poll at a reading of the clock. One that has ended makes no call.
-  abbrev pub Polls : Reaper → H → ReaperAnswer → Reaper → H → Type 0
-  Polls t h r t' h' = MatchBool t.ended ((r ≡ Ended) × (t' ≡ t) × (h' ≡ h)) (Looks t h r t' h')
+  abbrev pub ReaperPolls : Reaper → H → ReaperAnswer → Reaper → H → Type 0
+  ReaperPolls t h r t' h' = MatchBool t.ended ((r ≡ Ended) × (t' ≡ t) × (h' ≡ h)) (Looks t h r t' h')

@@ -44,37 +44,37 @@ module _ {C V A : Type 0} where
   is_done Done = true
 
 -- what a task that stands so holds is let go: what is under way ends, and the connection that was prepared is dropped then
-abbrev pub Drops : {C E V A X : Type 0} → OpenerOf X C E V A → Stage C V A → X → X → Type 0
-Drops opener (Connecting tries connecting) x x' = opener.ends_connect x connecting x'
-Drops {X = X} opener (Acquiring tries c acquiring) x x' = (x1 : X) × opener.ends_acquire x acquiring x1 × opener.lets_go x1 c x'
-Drops opener stage x x' = x' ≡ x
+abbrev pub DropsTask : {C E V A X : Type 0} → OpenerOf X C E V A → Stage C V A → X → X → Type 0
+DropsTask opener (Connecting tries connecting) x x' = opener.ends_connect x connecting x'
+DropsTask {X = X} opener (Acquiring tries c acquiring) x x' = (x1 : X) × opener.ends_acquire x acquiring x1 × opener.lets_go x1 c x'
+DropsTask opener stage x x' = x' ≡ x
 
 module _ {C E V A X : Type 0} (home : HomeOf X C) (timeout : ℕ) (retry : Bool) (approval : Key) (m : Moment) where
   -- a row leaves this answer and stage, and makes no step and no call
-  abbrev pub Leaves : ReplenishAnswer E → Stage C V A → X → Next C V A E → X → Type 0
-  Leaves answer stage x next x' = (next.answer ≡ answer) × (next.stage ≡ stage) × (x' ≡ x)
+  abbrev pub TaskStandsAt : ReplenishAnswer E → Stage C V A → X → Next C V A E → X → Type 0
+  TaskStandsAt answer stage x next x' = (next.answer ≡ answer) × (next.stage ≡ stage) × (x' ≡ x)
 
   -- the approval is given back and the task ends with this answer, whatever that step answers
-  abbrev pub GivesBack : ReplenishAnswer E → X → Next C V A E → X → Type 0
-  GivesBack answer x next x' = (step : FailedStep) × home.fails x m approval step x' × (next.answer ≡ answer) × (next.stage ≡ Done)
+  abbrev pub GivesApprovalBack : ReplenishAnswer E → X → Next C V A E → X → Type 0
+  GivesApprovalBack answer x next x' = (step : FailedStep) × home.fails x m approval step x' × (next.answer ≡ answer) × (next.stage ≡ Done)
 
   -- the task tries again later: it sleeps until its wait is over
   abbrev pub Sleeps : Tries → E → X → Next C V A E → X → Type 0
   Sleeps tries e x next x' =
-      (due : Option Moment) × IsDue m (wait timeout tries.failures) due × Leaves (answers.Retrying e) (Sleeping tries due) x next x'
+      (due : Option Moment) × IsDue m (wait timeout tries.failures) due × TaskStandsAt (answers.Retrying e) (Sleeping tries due) x next x'
 
   -- a failure, after these tries
-  abbrev pub Fails : Tries → E → X → Next C V A E → X → Type 0
-  Fails tries e x next x' =
-      ((retry ≡ false) ⊎ (timeout < m.0 - tries.start.0) → GivesBack (answers.Failed e) x next x')
+  abbrev pub TaskFails : Tries → E → X → Next C V A E → X → Type 0
+  TaskFails tries e x next x' =
+      ((retry ≡ false) ⊎ (timeout < m.0 - tries.start.0) → GivesApprovalBack (answers.Failed e) x next x')
       × (retry ≡ true → m.0 - tries.start.0 ≤ timeout → Sleeps (failed_once_more tries) e x next x')
 
   module _ (opener : OpenerOf X C E V A) where
     -- after the step `opened`: a connection that it hands back is dropped
     abbrev pub AfterOpened : OpenedStep C → X → Next C V A E → X → Type 0
-    AfterOpened (opened.Entered notified) x next x' = Leaves answers.Entered Done x next x'
-    AfterOpened (opened.Late c) x next x' = (x1 : X) × opener.lets_go x c x1 × Leaves answers.Late Done x1 next x'
-    AfterOpened (opened.Unfit c) x next x' = (x1 : X) × opener.lets_go x c x1 × Leaves answers.GivenBack Done x1 next x'
+    AfterOpened (opened.Entered notified) x next x' = TaskStandsAt answers.Entered Done x next x'
+    AfterOpened (opened.Late c) x next x' = (x1 : X) × opener.lets_go x c x1 × TaskStandsAt answers.Late Done x1 next x'
+    AfterOpened (opened.Unfit c) x next x' = (x1 : X) × opener.lets_go x c x1 × TaskStandsAt answers.GivenBack Done x1 next x'
 
     -- the connection is entered
     abbrev pub Enters : C → X → Next C V A E → X → Type 0
@@ -82,72 +82,72 @@ module _ {C E V A X : Type 0} (home : HomeOf X C) (timeout : ℕ) (retry : Bool)
 
     -- after a poll of the preparation, which left the connection and the preparation like this: one that has answered ends first, and a
     -- connection that it failed is dropped before the failure is a step of the home
-    abbrev pub AfterAcquire : Poll (Result (Unit {0}) E) → Tries → C → A → X → Next C V A E → X → Type 0
-    AfterAcquire Pending tries c acquiring x next x' = Leaves answers.Pending (Acquiring tries c acquiring) x next x'
-    AfterAcquire (Ready (Ok u)) tries c acquiring x next x' = (x1 : X) × opener.ends_acquire x acquiring x1 × Enters c x1 next x'
-    AfterAcquire (Ready (Err e)) tries c acquiring x next x' =
-        (x1 : X) × opener.ends_acquire x acquiring x1 × ((x2 : X) × opener.lets_go x1 c x2 × Fails tries e x2 next x')
+    abbrev pub AfterTaskAcquire : Poll (Result (Unit {0}) E) → Tries → C → A → X → Next C V A E → X → Type 0
+    AfterTaskAcquire Pending tries c acquiring x next x' = TaskStandsAt answers.Pending (Acquiring tries c acquiring) x next x'
+    AfterTaskAcquire (Ready (Ok u)) tries c acquiring x next x' = (x1 : X) × opener.ends_acquire x acquiring x1 × Enters c x1 next x'
+    AfterTaskAcquire (Ready (Err e)) tries c acquiring x next x' =
+        (x1 : X) × opener.ends_acquire x acquiring x1 × ((x2 : X) × opener.lets_go x1 c x2 × TaskFails tries e x2 next x')
 
     -- the preparation is polled
-    abbrev pub Acquires : Tries → C → A → X → Next C V A E → X → Type 0
-    Acquires tries c acquiring x next x' =
+    abbrev pub TaskAcquires : Tries → C → A → X → Next C V A E → X → Type 0
+    TaskAcquires tries c acquiring x next x' =
         (answer : Poll (Result (Unit {0}) E)) × (c1 : C) × (acquiring1 : A) × (x1 : X)
-        × opener.acquire_answers x c acquiring m answer c1 acquiring1 x1 × AfterAcquire answer tries c1 acquiring1 x1 next x'
+        × opener.acquire_answers x c acquiring m answer c1 acquiring1 x1 × AfterTaskAcquire answer tries c1 acquiring1 x1 next x'
 
     -- after a poll of the opening, which left it like this: one that has answered ends first
-    abbrev pub AfterConnect : Poll (Result C E) → Tries → V → X → Next C V A E → X → Type 0
-    AfterConnect Pending tries connecting x next x' = Leaves answers.Pending (Connecting tries connecting) x next x'
-    AfterConnect (Ready (Ok c)) tries connecting x next x' =
+    abbrev pub AfterTaskConnect : Poll (Result C E) → Tries → V → X → Next C V A E → X → Type 0
+    AfterTaskConnect Pending tries connecting x next x' = TaskStandsAt answers.Pending (Connecting tries connecting) x next x'
+    AfterTaskConnect (Ready (Ok c)) tries connecting x next x' =
         (x1 : X) × opener.ends_connect x connecting x1
-        × ((acquiring : A) × (c1 : C) × (x2 : X) × opener.acquires x1 c acquiring c1 x2 × Acquires tries c1 acquiring x2 next x')
-    AfterConnect (Ready (Err e)) tries connecting x next x' = (x1 : X) × opener.ends_connect x connecting x1 × Fails tries e x1 next x'
+        × ((acquiring : A) × (c1 : C) × (x2 : X) × opener.acquires x1 c acquiring c1 x2 × TaskAcquires tries c1 acquiring x2 next x')
+    AfterTaskConnect (Ready (Err e)) tries connecting x next x' = (x1 : X) × opener.ends_connect x connecting x1 × TaskFails tries e x1 next x'
 
     -- the opening is polled
-    abbrev pub Connects : Tries → V → X → Next C V A E → X → Type 0
-    Connects tries connecting x next x' =
+    abbrev pub TaskConnects : Tries → V → X → Next C V A E → X → Type 0
+    TaskConnects tries connecting x next x' =
         (answer : Poll (Result C E)) × (connecting1 : V) × (x1 : X)
-        × opener.connect_answers x connecting m answer connecting1 x1 × AfterConnect answer tries connecting1 x1 next x'
+        × opener.connect_answers x connecting m answer connecting1 x1 × AfterTaskConnect answer tries connecting1 x1 next x'
 
     -- an opening is begun, the one of this poll
-    abbrev pub Begins : Tries → X → Next C V A E → X → Type 0
-    Begins tries x next x' = (connecting : V) × (x1 : X) × opener.connects x connecting x1 × Connects tries connecting x1 next x'
+    abbrev pub TaskBegins : Tries → X → Next C V A E → X → Type 0
+    TaskBegins tries x next x' = (connecting : V) × (x1 : X) × opener.connects x connecting x1 × TaskConnects tries connecting x1 next x'
 
     -- a task that sleeps
     abbrev pub Wakes : Tries → Option Moment → X → Next C V A E → X → Type 0
-    Wakes tries None x next x' = Leaves answers.Pending (Sleeping tries None) x next x'
+    Wakes tries None x next x' = TaskStandsAt answers.Pending (Sleeping tries None) x next x'
     Wakes tries (Some due) x next x' =
-        (due.0 ≤ m.0 → Begins tries x next x')
-        × (m.0 < due.0 → Leaves answers.Pending (Sleeping tries (Some due)) x next x')
+        (due.0 ≤ m.0 → TaskBegins tries x next x')
+        × (m.0 < due.0 → TaskStandsAt answers.Pending (Sleeping tries (Some due)) x next x')
 
     -- the rows of each stage, where a handle is alive
-    abbrev pub Advances : Stage C V A → X → Next C V A E → X → Type 0
-    Advances Start x next x' = Begins (record { start = m; failures = 0 }) x next x'
-    Advances (Connecting tries connecting) x next x' = Connects tries connecting x next x'
-    Advances (Acquiring tries c acquiring) x next x' = Acquires tries c acquiring x next x'
-    Advances (Sleeping tries due) x next x' = Wakes tries due x next x'
-    Advances Done x next x' = Leaves answers.GivenBack Done x next x'
+    abbrev pub TaskAdvances : Stage C V A → X → Next C V A E → X → Type 0
+    TaskAdvances Start x next x' = TaskBegins (record { start = m; failures = 0 }) x next x'
+    TaskAdvances (Connecting tries connecting) x next x' = TaskConnects tries connecting x next x'
+    TaskAdvances (Acquiring tries c acquiring) x next x' = TaskAcquires tries c acquiring x next x'
+    TaskAdvances (Sleeping tries due) x next x' = Wakes tries due x next x'
+    TaskAdvances Done x next x' = TaskStandsAt answers.GivenBack Done x next x'
 
     -- after the look at the home: without a handle all is let go, and given back then
-    abbrev pub Proceeds : Bool → Stage C V A → X → Next C V A E → X → Type 0
-    Proceeds true stage x next x' = Advances stage x next x'
-    Proceeds false stage x next x' = (x1 : X) × Drops opener stage x x1 × GivesBack answers.GivenBack x1 next x'
+    abbrev pub TaskProceeds : Bool → Stage C V A → X → Next C V A E → X → Type 0
+    TaskProceeds true stage x next x' = TaskAdvances stage x next x'
+    TaskProceeds false stage x next x' = (x1 : X) × DropsTask opener stage x x1 × GivesApprovalBack answers.GivenBack x1 next x'
 
 module _ {C E V A X : Type 0} (home : HomeOf X C) (opener : OpenerOf X C E V A) where
   -- a poll of a task that has not ended: its moment is the greater of what the look answers and the moment of the poll before
-  abbrev pub Turns : ℕ → Bool → Moment → Replenish C V A → X → ReplenishAnswer E → Replenish C V A → X → Type 0
-  Turns timeout retry at t x answer t' x' =
+  abbrev pub TaskTurns : ℕ → Bool → Moment → Replenish C V A → X → ReplenishAnswer E → Replenish C V A → X → Type 0
+  TaskTurns timeout retry at t x answer t' x' =
       (seen : Looked) × (x1 : X) × home.looks x at seen x1
       × (t'.latest.0 ≡ max seen.moment.0 t.latest.0) × (t'.approval ≡ t.approval)
-      × Proceeds home timeout retry t.approval t'.latest opener seen.alive t.stage x1 (record { answer = answer; stage = t'.stage }) x'
+      × TaskProceeds home timeout retry t.approval t'.latest opener seen.alive t.stage x1 (record { answer = answer; stage = t'.stage }) x'
 
   -- The whole poll at a reading of the clock: what it answers, and the task, and the home and the opener then. A task that has ended makes
   -- no call.
-  abbrev pub Polls : ℕ → Bool → Moment → Replenish C V A → X → ReplenishAnswer E → Replenish C V A → X → Type 0
-  Polls timeout retry at t x answer t' x' =
-      MatchBool (is_done t.stage) ((answer ≡ answers.GivenBack) × (t' ≡ t) × (x' ≡ x)) (Turns timeout retry at t x answer t' x')
+  abbrev pub TaskPolls : ℕ → Bool → Moment → Replenish C V A → X → ReplenishAnswer E → Replenish C V A → X → Type 0
+  TaskPolls timeout retry at t x answer t' x' =
+      MatchBool (is_done t.stage) ((answer ≡ answers.GivenBack) × (t' ≡ t) × (x' ≡ x)) (TaskTurns timeout retry at t x answer t' x')
 
   -- a task that is let go: where it has not ended, what it holds is let go, and its approval is given back then
   abbrev pub LetsGo : Moment → Replenish C V A → X → X → Type 0
   LetsGo at t x x' =
       MatchBool (is_done t.stage) (x' ≡ x)
-      ((x1 : X) × Drops opener t.stage x x1 × ((step : FailedStep) × home.fails x1 at t.approval step x'))
+      ((x1 : X) × DropsTask opener t.stage x x1 × ((step : FailedStep) × home.fails x1 at t.approval step x'))

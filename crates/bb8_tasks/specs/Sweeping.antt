@@ -19,10 +19,10 @@ module _ {C V A : Type 0} where
   AreFor first (suc n) ts = (before : List (Replenish C V A)) × (key : Key) × AreFor first n before × (key.number ≡ first + n) × (ts ≡ before ++ fresh key ∷ [])
 
   -- the list gains a task for the approval that was claimed
-  abbrev pub TakesOn : ClaimAnswer → List (Replenish C V A) → List (Replenish C V A) → Type 0
-  TakesOn (Claimed (Some key)) ts ts' = ts' ≡ ts ++ fresh key ∷ []
-  TakesOn (Claimed None) ts ts' = ts' ≡ ts
-  TakesOn Ended ts ts' = ts' ≡ ts
+  abbrev pub TakesTaskOn : ClaimAnswer → List (Replenish C V A) → List (Replenish C V A) → Type 0
+  TakesTaskOn (Claimed (Some key)) ts ts' = ts' ≡ ts ++ fresh key ∷ []
+  TakesTaskOn (Claimed None) ts ts' = ts' ≡ ts
+  TakesTaskOn Ended ts ts' = ts' ≡ ts
 
 -- Rounds of a list, over any poll of a task, over any sink, and whatever is done at a failure.
 module _ {T E X : Type 0} (polls : T → X → ReplenishAnswer E → T → X → Type 0) (sinks : X → E → X → Type 0) (on_failure : OnFailure) where
@@ -54,16 +54,16 @@ module _ {T E X : Type 0} (polls : T → X → ReplenishAnswer E → T → X →
 
   -- One turn of a queue: where the round goes on its first task is polled, and goes to the back where it is kept; where it stopped the first
   -- task goes to the back unpolled.
-  abbrev pub Turns : Option E → List T → X → Option E → List T → X → Type 0
-  Turns None queue x stopped queue' x' =
+  abbrev pub QueueTurns : Option E → List T → X → Option E → List T → X → Type 0
+  QueueTurns None queue x stopped queue' x' =
       (t : T) × (rest : List T) × (queue ≡ t ∷ rest)
       × ((r : ReplenishAnswer E) × (t' : T) × (x1 : X) × (kept : List T) × polls t x r t' x1 × After r t' x1 kept stopped x' × (queue' ≡ rest ++ kept))
-  Turns (Some e) queue x stopped queue' x' =
+  QueueTurns (Some e) queue x stopped queue' x' =
       (t : T) × (rest : List T) × (queue ≡ t ∷ rest) × (queue' ≡ rest ++ t ∷ []) × (stopped ≡ Some e) × (x' ≡ x)
 
   -- so many tasks at the front of the queue still have their turn, and behind them stand those that had it and are kept
-  abbrev pub Midway : List T → X → List T → X → Option E → ℕ → Type 0
-  Midway first start queue x stopped count =
+  abbrev pub RoundMidway : List T → X → List T → X → Option E → ℕ → Type 0
+  RoundMidway first start queue x stopped count =
       (ahead : List T) × (behind : List T) × (length ahead ≡ count) × (queue ≡ ahead ++ behind)
       × ((s : Option E) (last : List T) (x' : X) → Rest stopped (PollsUntil ahead x) ahead x s last x' → PollsUntil first start s (behind ++ last) x')
 
@@ -75,14 +75,14 @@ module _ {T X : Type 0} (lets_go : T → X → X → Type 0) where
 
 module _ {T E X : Type 0} (polls : T → X → ReplenishAnswer E → T → X → Type 0) (sinks : X → E → X → Type 0) (lets_go : T → X → X → Type 0) where
   -- what a round that went to its end leaves
-  abbrev pub Leaves : List T → Round (List T) E → Type 0
-  Leaves [] r = r ≡ round.Complete
-  Leaves (t ∷ ts) r = r ≡ round.Going (t ∷ ts)
+  abbrev pub RoundLeaves : List T → Round (List T) E → Type 0
+  RoundLeaves [] r = r ≡ round.Complete
+  RoundLeaves (t ∷ ts) r = r ≡ round.Going (t ∷ ts)
 
   -- where a round stopped all that are left are let go
   abbrev pub AfterRound : Option E → List T → X → Round (List T) E → X → Type 0
   AfterRound (Some e) left x r x' = LetsGoEach lets_go left x x' × (r ≡ round.Failed e)
-  AfterRound None left x r x' = Leaves left r × (x' ≡ x)
+  AfterRound None left x r x' = RoundLeaves left r × (x' ≡ x)
 
   -- a round that stops at the first failure
   abbrev pub Rounds : List T → X → Round (List T) E → X → Type 0

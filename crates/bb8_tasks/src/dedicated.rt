@@ -1,6 +1,6 @@
 //! The opening of a connection that no pool counts.
 ghost use Rattle.std.specs.Prelude.{◌≡◌};
-ghost use Rattle.bb8_tasks.specs.Dedicating.{fresh, is_done, Acquires, Advances, Begins, Connects, Drops, Polls};
+ghost use Rattle.bb8_tasks.specs.Dedicating.{fresh, is_done, OpeningAcquires, OpeningAdvances, OpeningBegins, OpeningConnects, DropsOpening, OpeningPolls};
 ghost use Rattle.bb8_tasks.specs.declared.dedicated.Opening.TheVariants.{Done as IsDone};
 
 use super::opener::Opener;
@@ -44,7 +44,7 @@ fn acquire<C, E, W: Opener<C, E>>(
     mut connection: C,
     mut acquiring: W::Acquiring,
 ) -> Opened<C, W::Connecting, W::Acquiring, E>
-    ensures { Acquires W.Opener moment connection acquiring opener.old result opener.new }
+    ensures { OpeningAcquires W.Opener moment connection acquiring opener.old result opener.new }
 {
     match opener.poll_acquire(&mut connection, &mut acquiring, moment) {
         Poll::Pending => leaves(Poll::Pending, Opening::Acquiring(connection, acquiring)),
@@ -66,7 +66,7 @@ fn connect<C, E, W: Opener<C, E>>(
     moment: Moment,
     mut connecting: W::Connecting,
 ) -> Opened<C, W::Connecting, W::Acquiring, E>
-    ensures { Connects W.Opener moment connecting opener.old result opener.new }
+    ensures { OpeningConnects W.Opener moment connecting opener.old result opener.new }
 {
     match opener.poll_connect(&mut connecting, moment) {
         Poll::Pending => leaves(Poll::Pending, Opening::Connecting(connecting)),
@@ -87,7 +87,7 @@ fn begin<C, E, W: Opener<C, E>>(
     opener: &mut W,
     moment: Moment,
 ) -> Opened<C, W::Connecting, W::Acquiring, E>
-    ensures { Begins W.Opener moment opener.old result opener.new }
+    ensures { OpeningBegins W.Opener moment opener.old result opener.new }
 {
     let connecting = opener.connect();
     connect(opener, moment, connecting)
@@ -99,7 +99,7 @@ fn advance<C, E, W: Opener<C, E>>(
     moment: Moment,
     stage: Opening<C, W::Connecting, W::Acquiring>,
 ) -> Opened<C, W::Connecting, W::Acquiring, E>
-    ensures { Advances W.Opener moment stage opener.old result opener.new }
+    ensures { OpeningAdvances W.Opener moment stage opener.old result opener.new }
 {
     match stage {
         Opening::Fresh => begin(opener, moment),
@@ -165,7 +165,7 @@ impl<C, V, A> Dedicated<C, V, A> {
         &mut self,
         outside: &mut W,
     ) -> Poll<Result<C, E>>
-        ensures { Polls W.Opener W.tells self.old outside.old result self.new outside.new }
+        ensures { OpeningPolls W.Opener W.tells self.old outside.old result self.new outside.new }
     {
         if self.stage.is_done() {
             return Poll::Pending;
@@ -181,7 +181,7 @@ impl<C, V, A> Dedicated<C, V, A> {
 
     /// Lets the opening go: what is under way ends, and a connection that it holds is dropped then. Our own.
     pub fn cancel<E, W: Opener<C, E, Connecting = V, Acquiring = A>>(self, outside: &mut W)
-        ensures { Drops W.Opener self.stage outside.old outside.new }
+        ensures { DropsOpening W.Opener self.stage outside.old outside.new }
     {
         let Dedicated { latest: _, stage } = self;
         match stage {

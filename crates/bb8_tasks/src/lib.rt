@@ -1,9 +1,10 @@
 //! The polled tasks of a pool: the opening of a connection, with its waits between tries, its replay over a list of polls, lists of such
-//! tasks, the opening of a connection that no pool counts, and the reaper.
+//! tasks, the opening of a connection that no pool counts, the reaper, and the turns of a driver, which claims approvals and polls their tasks.
 #![tactic(auto)]
 
 mod backoff;
 mod building;
+mod claims;
 mod dedicated;
 mod home;
 mod joined;
@@ -14,6 +15,7 @@ mod reaper;
 mod replenish;
 mod rounds;
 mod tasks;
+mod turning;
 mod waits;
 
 pub use backoff::{Backoff, Reply, replay_backoff};
@@ -25,4 +27,5 @@ pub use reaper::{Reaper, ReaperAnswer};
 pub use replenish::{Next, Replenish, ReplenishAnswer, Stage, Tries};
 pub use rounds::{OnFailure, Reports, Round};
 pub use tasks::Tasks;
+pub use turning::{Turn, Turning};
 pub use waits::wait_after;

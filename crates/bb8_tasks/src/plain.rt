@@ -2,7 +2,7 @@
 ghost use Rattle.bb8_ledger.specs.Acts as acts;
 ghost use Rattle.bb8_core.specs.StepAnswers.{claim_told, look_told};
 ghost use Rattle.bb8_core.specs.PlainSteps.{Steps};
-ghost use Rattle.bb8_tasks.specs.Homes.{failed_told, opened_told, HandsBack};
+ghost use Rattle.bb8_tasks.specs.Homes.{failed_told, opened_told, HandsOpenedBack};
 
 use super::home::{ClaimHome, FailedStep, Home, OpenedStep};
 use bb8_core::api::Moment;
@@ -13,7 +13,7 @@ use bb8_core::internals::{ClaimAnswer, FailedAnswer, Key, Looked, OpenedAnswer, 
 impl<C: Drop> Home<C> for PoolInternals<C> {
     ghost looks = { λ pool at seen after. Steps pool at.0 acts.Look (look_told seen) after };
 
-    ghost opens = { λ pool at a c step after. Steps pool at.0 (acts.Opened a.number c) (opened_told a.number step) after × HandsBack c step };
+    ghost opens = { λ pool at a c step after. Steps pool at.0 (acts.Opened a.number c) (opened_told a.number step) after × HandsOpenedBack c step };
 
     ghost fails = { λ pool at a step after. Steps pool at.0 (acts.Failed a.number) (failed_told step) after };
 

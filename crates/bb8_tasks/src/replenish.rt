@@ -1,7 +1,7 @@
 //! The task that opens the connection of one approval, and its poll.
 ghost use Rattle.std.specs.Prelude.{◌≡◌};
 ghost use Rattle.std.specs.Duration.{as_nanos};
-ghost use Rattle.bb8_tasks.specs.Replenishing.{IsDue, failed_once_more, is_done, Drops, Fails, Enters, Acquires, Connects, Begins, Advances, Proceeds, Polls, LetsGo, fresh};
+ghost use Rattle.bb8_tasks.specs.Replenishing.{IsDue, failed_once_more, is_done, DropsTask, TaskFails, Enters, TaskAcquires, TaskConnects, TaskBegins, TaskAdvances, TaskProceeds, TaskPolls, LetsGo, fresh};
 ghost use Rattle.bb8_tasks.specs.declared.replenish.Stage.TheVariants.{Done as IsDone};
 
 use super::home::{Home, OpenedStep};
@@ -98,7 +98,7 @@ fn leaves<C, V, A, E>(answer: ReplenishAnswer<E>, stage: Stage<C, V, A>) -> Next
 
 /// Lets go what a task holds.
 fn let_go<C, E, X: Opener<C, E>>(pool: &mut X, stage: Stage<C, X::Connecting, X::Acquiring>)
-    ensures { Drops X.Opener stage pool.old pool.new }
+    ensures { DropsTask X.Opener stage pool.old pool.new }
 {
     match stage {
         Stage::Acquiring(_, connection, acquiring) => {
@@ -128,7 +128,7 @@ impl<C, V, A> Stage<C, V, A> {
 impl Row {
     /// A failure.
     fn fail<C, V, A, E, X: Home<C>>(self, pool: &mut X, tries: Tries, error: E) -> Next<C, V, A, E>
-        ensures { Fails X.Home (as_nanos self.timeout) self.retry self.approval self.moment
+        ensures { TaskFails X.Home (as_nanos self.timeout) self.retry self.approval self.moment
             tries error pool.old result pool.new }
     {
         let elapsed = u128::from(self.moment.0.saturating_sub(tries.start.0));
@@ -174,7 +174,7 @@ impl Row {
         mut connection: C,
         mut acquiring: X::Acquiring,
     ) -> Next<C, X::Connecting, X::Acquiring, E>
-        ensures { Acquires X.Home (as_nanos self.timeout) self.retry self.approval self.moment
+        ensures { TaskAcquires X.Home (as_nanos self.timeout) self.retry self.approval self.moment
             X.Opener tries connection acquiring pool.old result pool.new }
     {
         match pool.poll_acquire(&mut connection, &mut acquiring, self.moment) {
@@ -201,7 +201,7 @@ impl Row {
         tries: Tries,
         mut connecting: X::Connecting,
     ) -> Next<C, X::Connecting, X::Acquiring, E>
-        ensures { Connects X.Home (as_nanos self.timeout) self.retry self.approval self.moment
+        ensures { TaskConnects X.Home (as_nanos self.timeout) self.retry self.approval self.moment
             X.Opener tries connecting pool.old result pool.new }
     {
         match pool.poll_connect(&mut connecting, self.moment) {
@@ -227,7 +227,7 @@ impl Row {
         pool: &mut X,
         tries: Tries,
     ) -> Next<C, X::Connecting, X::Acquiring, E>
-        ensures { Begins X.Home (as_nanos self.timeout) self.retry self.approval self.moment
+        ensures { TaskBegins X.Home (as_nanos self.timeout) self.retry self.approval self.moment
             X.Opener tries pool.old result pool.new }
     {
         let connecting = pool.connect();
@@ -240,7 +240,7 @@ impl Row {
         pool: &mut X,
         stage: Stage<C, X::Connecting, X::Acquiring>,
     ) -> Next<C, X::Connecting, X::Acquiring, E>
-        ensures { Advances X.Home (as_nanos self.timeout) self.retry self.approval self.moment
+        ensures { TaskAdvances X.Home (as_nanos self.timeout) self.retry self.approval self.moment
             X.Opener stage pool.old result pool.new }
     {
         match stage {
@@ -276,7 +276,7 @@ impl Row {
         alive: bool,
         stage: Stage<C, X::Connecting, X::Acquiring>,
     ) -> Next<C, X::Connecting, X::Acquiring, E>
-        ensures { Proceeds X.Home (as_nanos self.timeout) self.retry self.approval self.moment
+        ensures { TaskProceeds X.Home (as_nanos self.timeout) self.retry self.approval self.moment
             X.Opener alive stage pool.old result pool.new }
     {
         if alive {
@@ -337,7 +337,7 @@ impl<C, V, A> Replenish<C, V, A> {
         pool: &mut X,
         config: &Config,
     ) -> ReplenishAnswer<E>
-        ensures { Polls X.Home X.Opener (as_nanos config.now.connection_timeout)
+        ensures { TaskPolls X.Home X.Opener (as_nanos config.now.connection_timeout)
             config.now.retry_connection at self.old pool.old result self.new pool.new }
     {
         if self.stage.is_done() {

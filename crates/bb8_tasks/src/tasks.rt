@@ -1,8 +1,8 @@
 //! The tasks of a pool, in the order in which their approvals were claimed.
 ghost use Rattle.std.specs.Prelude.{◌≡◌, ◌++◌, ◌∷◌, ◌+◌, ◌^◌, ◌<◌, ◌↔◌, true, None, [], IfOk, OnErr, length};
 ghost use Rattle.std.specs.Duration.{as_nanos};
-ghost use Rattle.bb8_tasks.specs.Replenishing.{Polls, LetsGo};
-ghost use Rattle.bb8_tasks.specs.Sweeping.{AreFor, TakesOn, PollsUntil, Turns, LetsGoEach, Rounds};
+ghost use Rattle.bb8_tasks.specs.Replenishing.{TaskPolls, LetsGo};
+ghost use Rattle.bb8_tasks.specs.Sweeping.{AreFor, TakesTaskOn, PollsUntil, QueueTurns, LetsGoEach, Rounds};
 ghost use Rattle.bb8_tasks.specs.declared.rounds.OnFailure.TheVariants.{GoOn as IsGoOn};
 
 use super::home::{ClaimHome, Home};
@@ -80,7 +80,7 @@ impl<C, V, A> Tasks<C, V, A> {
     /// approval is claimed. Our own.
     pub fn claim<H: ClaimHome>(&mut self, at: Moment, home: &mut H) -> Result<ClaimAnswer, Memory>
         ensures claimed { IfOk result (λ answer. H.claims home.old at answer home.new) }
-        ensures task { IfOk result (λ answer. TakesOn answer self.old self.new) }
+        ensures task { IfOk result (λ answer. TakesTaskOn answer self.old self.new) }
         ensures refused { OnErr result ((self.new ≡ self.old) × (home.new ≡ home.old)) }
     {
         if self.queue.reserve(1).is_err() {
@@ -104,7 +104,7 @@ impl<C, V, A> Tasks<C, V, A> {
         config: &Config,
         on_failure: OnFailure,
     ) -> Option<E>
-        ensures { PollsUntil (Polls X.Home X.Opener (as_nanos config.now.connection_timeout)
+        ensures { PollsUntil (TaskPolls X.Home X.Opener (as_nanos config.now.connection_timeout)
             config.now.retry_connection at) X.sinks on_failure self.old pool.old result self.new
             pool.new }
     {
@@ -126,7 +126,7 @@ impl<C, V, A> Tasks<C, V, A> {
         stopped: Option<E>,
     ) -> Option<E>
         requires { 0 < length self.old }
-        ensures { Turns (Polls X.Home X.Opener (as_nanos config.now.connection_timeout)
+        ensures { QueueTurns (TaskPolls X.Home X.Opener (as_nanos config.now.connection_timeout)
             config.now.retry_connection at) X.sinks on_failure stopped self.old pool.old result
             self.new pool.new }
     {
@@ -189,7 +189,7 @@ impl<C, V, A> Tasks<C, V, A> {
         pool: &mut X,
         config: &Config,
     ) -> Round<Self, E>
-        ensures { Rounds (Polls X.Home X.Opener (as_nanos config.now.connection_timeout)
+        ensures { Rounds (TaskPolls X.Home X.Opener (as_nanos config.now.connection_timeout)
             config.now.retry_connection at) X.sinks (LetsGo X.Home X.Opener at) self pool.old
             result pool.new }
     {
@@ -223,7 +223,7 @@ impl<C, V, A> Tasks<C, V, A> {
         pool: &mut X,
         config: &Config,
     )
-        ensures { PollsUntil (Polls X.Home X.Opener (as_nanos config.now.connection_timeout)
+        ensures { PollsUntil (TaskPolls X.Home X.Opener (as_nanos config.now.connection_timeout)
             config.now.retry_connection at) X.sinks IsGoOn self.old pool.old None self.new
             pool.new }
     {

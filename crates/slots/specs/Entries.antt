@@ -74,5 +74,5 @@ module _ {J O G : Type 0} where
   left_after (Some outcome) id es = without id es
 
   -- a job is added behind the others, under an id of its own; it waits by a get that is `fresh`
-  abbrev pub Adds : (G → Type 0) → ℕ → J → List (Entry J O G) → List (Entry J O G) → Type 0
-  Adds fresh id job es es' = (get : G) × fresh get × (es' ≡ es ++ record { id = id; place = Waiting job get } ∷ [])
+  abbrev pub AddsJob : (G → Type 0) → ℕ → J → List (Entry J O G) → List (Entry J O G) → Type 0
+  AddsJob fresh id job es es' = (get : G) × fresh get × (es' ≡ es ++ record { id = id; place = Waiting job get } ∷ [])

@@ -8,7 +8,7 @@ use Rattle.bb8_types.specs.declared.api.customizers.CustomizeConnection.{Ghosts 
 use Rattle.bb8_types.specs.declared.api.moments.Moment.{Moment}
 use Rattle.bb8_types.specs.declared.api.sinks.ErrorSink.{Ghosts as SinkOf}
 use Rattle.bb8_gets.specs.declared.state.Stage.TheVariants.{Fresh}
-use Rattle.bb8_turns.specs.declared.turning.Turn.{Turn}
+use Rattle.bb8_tasks.specs.declared.turning.Turn.{Turn}
 use Rattle.bb8.specs.declared.Parts.{Ghosts as PartsOf}
 use Rattle.bb8.specs.declared.driver.Driver.{Driver}
 use Rattle.bb8.specs.declared.get.future.GetFuture.{GetFuture}
@@ -22,7 +22,7 @@ use Rattle.slots.specs.declared.job.Job.{Ghosts as JobOf}
 use Rattle.slots.specs.declared.runner.Runner.{Runner}
 use Rattle.slots.specs.declared.slot.Slot.{Slot}
 use Rattle.slots.specs.declared.slot.SlotManager.{SlotManager}
-use Rattle.slots.specs.Entries.{running, Adds}
+use Rattle.slots.specs.Entries.{running, AddsJob}
 use Rattle.slots.specs.Turns.{StepsEach}
 
 module _ (S Z K R L A : Type 0) (l : PartsOf L) where
@@ -64,9 +64,9 @@ module _ {J S Z K R L O A : Type 0} {j : JobOf J O} {s : SinkOf S Infallible} {z
   most_running runner = (settings_in (pool_of runner)).max_size
 
   -- a job is taken on: it stands behind the others, under the next id, and waits by a get of the pool that was not polled
-  abbrev pub TakesOn : Runner J S Z K R L O A j s z k l → J → Runner J S Z K R L O A j s z k l → Type 0
-  TakesOn runner job runner' =
-      Adds (λ get. (stage_of get ≡ Fresh) × IsOf get (pool_of runner)) (next_id runner) job (jobs_in runner) (jobs_in runner')
+  abbrev pub TakesJobOn : Runner J S Z K R L O A j s z k l → J → Runner J S Z K R L O A j s z k l → Type 0
+  TakesJobOn runner job runner' =
+      AddsJob (λ get. (stage_of get ≡ Fresh) × IsOf get (pool_of runner)) (next_id runner) job (jobs_in runner) (jobs_in runner')
 
   -- the driver makes a turn at a moment
   abbrev pub TurnsIts : CustomizerOf Z Slot Infallible A → (S → Infallible → Type 0) → (K → Moment → Type 0) → Moment

@@ -38,26 +38,26 @@ module _ {J O G D : Type 0} (polls_get : G → Poll (Result D (RunError Infallib
 
 module _ {J O G D : Type 0} (polls : J → Moment → Poll O → J → Type 0) (polls_get : G → Poll (Result D (RunError Infallible)) → G → Type 0) (now : Moment) where
   -- what a turn makes of a job that stands so, and how many jobs end by it; one that has ended is left alone
-  abbrev pub Steps : Place J O G → Place J O G → ℕ → Type 0
-  Steps (Waiting job get) place ended = StepsGet polls_get job get place ended
-  Steps (Running job) place ended = StepsJob polls now job place ended
-  Steps (Ended outcome) place ended = (place ≡ Ended outcome) × (ended ≡ 0)
+  abbrev pub JobSteps : Place J O G → Place J O G → ℕ → Type 0
+  JobSteps (Waiting job get) place ended = StepsGet polls_get job get place ended
+  JobSteps (Running job) place ended = StepsJob polls now job place ended
+  JobSteps (Ended outcome) place ended = (place ≡ Ended outcome) × (ended ≡ 0)
 
   -- what a turn makes of jobs: one step of each, under its id and in their order, and how many jobs end
   abbrev pub StepsEach : List (Entry J O G) → List (Entry J O G) → ℕ → Type 0
   StepsEach [] es' ended = (es' ≡ []) × (ended ≡ 0)
   StepsEach (e ∷ es) es' ended =
-      (place : Place J O G) × (one : ℕ) × Steps e.place place one
+      (place : Place J O G) × (one : ℕ) × JobSteps e.place place one
       × ((rest : List (Entry J O G)) × (more : ℕ) × StepsEach es rest more × (es' ≡ record { id = e.id; place = place } ∷ rest) × (ended ≡ one + more))
 
   -- one step of the first job of a queue, which goes to the back
   abbrev pub StepsFirst : List (Entry J O G) → List (Entry J O G) → ℕ → Type 0
   StepsFirst queue queue' ended =
-      (e : Entry J O G) × (rest : List (Entry J O G)) × (place : Place J O G) × (queue ≡ e ∷ rest) × Steps e.place place ended
+      (e : Entry J O G) × (rest : List (Entry J O G)) × (place : Place J O G) × (queue ≡ e ∷ rest) × JobSteps e.place place ended
       × (queue' ≡ rest ++ record { id = e.id; place = place } ∷ [])
 
   -- so many jobs at the front of the queue still have their step, and behind them stand those that had it
-  abbrev pub Midway : List (Entry J O G) → List (Entry J O G) → ℕ → ℕ → Type 0
-  Midway first queue ended count =
+  abbrev pub TurnMidway : List (Entry J O G) → List (Entry J O G) → ℕ → ℕ → Type 0
+  TurnMidway first queue ended count =
       (ahead : List (Entry J O G)) × (behind : List (Entry J O G)) × (length ahead ≡ count) × (queue ≡ ahead ++ behind)
       × ((last : List (Entry J O G)) (more : ℕ) → StepsEach ahead last more → StepsEach first (behind ++ last) (ended + more))

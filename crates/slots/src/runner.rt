@@ -115,7 +115,7 @@ impl<
     L: Parts,
 > RunnerCalls for Runner<'a, J, S, Z, K, R, L> {
     ghost use Rattle.futures.specs.Task.{Keeps};
-    ghost use Rattle.slots.specs.Runners.{jobs_in, most_running, next_id, pool_of, running_in, StepsJobs, TakesOn, TurnsIts};
+    ghost use Rattle.slots.specs.Runners.{jobs_in, most_running, next_id, pool_of, running_in, StepsJobs, TakesJobOn, TurnsIts};
 
     type Job = J;
 
@@ -124,7 +124,7 @@ impl<
     fn submit(&mut self, job: J) -> Result<u64, J>
         ensures id { IfOk result (λ id. id ≡ next_id self.old) }
         ensures next { OnOk result (next_id self.new ≡ next_id self.old + 1) }
-        ensures added { OnOk result (TakesOn self.old job self.new) }
+        ensures added { OnOk result (TakesJobOn self.old job self.new) }
         ensures back { IfErr result (λ back. back ≡ job) }
         ensures same { OnErr result (jobs_in self.new ≡ jobs_in self.old) }
         ensures unnumbered { OnErr result (next_id self.new ≡ next_id self.old) }

@@ -4,7 +4,7 @@ ghost use Rattle.futures.specs.Task.{Keeps};
 ghost use Rattle.bb8.specs.Gets.{PollsGet};
 ghost use Rattle.bb8.specs.GuardLists.{number_in, AreOfOne};
 ghost use Rattle.slots.specs.Entries.{guards_for};
-ghost use Rattle.slots.specs.Turns.{StepsJob, StepsGet, Steps};
+ghost use Rattle.slots.specs.Turns.{StepsJob, StepsGet, JobSteps};
 
 use crate::entries::Place;
 use crate::job::{Job, Outcome};
@@ -123,7 +123,7 @@ impl<
         now: Moment,
         cx: &mut Context<'_>,
     ) -> Stepped<J, J::Out, Get<'a, S, Z, K, R, L>>
-        ensures steps { Steps J.polls (PollsGet S.sinks K.tells) now place.entry result.place
+        ensures steps { JobSteps J.polls (PollsGet S.sinks K.tells) now place.entry result.place
             result.ended }
         ensures held { guards_for place.entry ≤ number_in self.old
             → number_in self.new + guards_for place.entry

@@ -4,8 +4,7 @@ ghost use Rattle.std.specs.Prelude.{◌≡◌};
 use crate::pool::{Cancel, Pool, PooledConnection};
 use bb8_core::api::{Clock, CustomizeConnection, ErrorSink, ManageConnection, RunError};
 use bb8_gets::{Calls, GetState};
-use bb8_locked::{Part, Parts};
-use bb8_shared::{Gets, Locks, Shared};
+use bb8_lock::{Gets, Locks, Part, Parts, Shared};
 use futures::Future;
 use futures::task::{Context, Poll};
 use std::marker::PhantomData;
@@ -156,20 +155,20 @@ impl<
     ghost use Rattle.std.specs.Prelude.{⊤};
     ghost use Rattle.futures.specs.Poll.{IfReady, OnPending};
     ghost use Rattle.futures.specs.Task.{Covers, Keeps};
-    ghost use Rattle.bb8.specs.Gets.{GivesGet, PollsGet};
+    ghost use Rattle.bb8.specs.Gets.{GivesAtLast, PollsGet};
 
     type Output = Result<PooledConnection<'a, M, S, Z, K, R, L>, RunError<M::Error>>;
 
-    ghost gives = { λ future out. GivesGet S.sinks K.tells future out };
+    ghost gives = { λ future out. GivesAtLast S.sinks K.tells future out };
 
     /// One poll at the clock's reading. It is pending while the get waits before its deadline, and after its answer.
     fn poll(&mut self, cx: &mut Context<'_>) -> Poll<Self::Output>
         ensures table { PollsGet S.sinks K.tells self.old result self.new }
         ensures pool { self.new.shared.now ≡ self.old.shared.now }
-        ensures value { IfReady result (λ out. GivesGet S.sinks K.tells self.old out) }
+        ensures value { IfReady result (λ out. GivesAtLast S.sinks K.tells self.old out) }
         ensures again { OnPending result ⊤ }
         ensures same { OnPending result
-            ((x : _) → GivesGet S.sinks K.tells self.new x → GivesGet S.sinks K.tells self.old x) }
+            ((x : _) → GivesAtLast S.sinks K.tells self.new x → GivesAtLast S.sinks K.tells self.old x) }
         ensures registered { OnPending result (Covers cx.new (λ _. ⊥)) }
         ensures kept { Keeps cx.old cx.new }
     {

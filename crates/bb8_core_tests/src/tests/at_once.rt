@@ -2,8 +2,8 @@
 
 use super::steps::{Link, NOW, served_by};
 use super::{assert_equal, unchecked};
-use bb8_asked::{add, begin, put_back, serve_at_once};
 use bb8_core::api::Config;
+use bb8_core::asked::{add, begin, put_back, serve_at_once};
 use bb8_core::internals::{AddAnswer, BeginAnswer, PoolInternals, PutBackAnswer};
 
 /// The first get raises the peak and goes by the two steps; the second is served in one step, as get 1 with connection 0; with nothing idle

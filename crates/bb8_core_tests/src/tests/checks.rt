@@ -3,8 +3,8 @@ ghost use Rattle.std.specs.Prelude.{◌+◌, ◌≤◌};
 
 use super::steps::{Link, NOW, taken_by};
 use super::{assert_equal, granted, served};
-use bb8_asked::{add, begin, checked_err, checked_ok, give_up, put_back};
 use bb8_core::api::{Config, State, Statistics};
+use bb8_core::asked::{add, begin, checked_err, checked_ok, give_up, put_back};
 use bb8_core::internals::{
     AddAnswer, BeginAnswer, CheckedErrAnswer, CheckedOkAnswer, GetKey, GiveUpAnswer, PoolInternals,
     PutBackAnswer,

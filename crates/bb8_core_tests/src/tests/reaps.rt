@@ -1,8 +1,8 @@
 //! A reap of many connections, of which some are out, or are to stay.
 
 use super::{SECOND, assert_equal, unchecked};
-use bb8_asked::{add, begin, put_back, try_get};
 use bb8_core::api::{Config, Moment, QueueStrategy};
+use bb8_core::asked::{add, begin, put_back, try_get};
 use bb8_core::internals::{BeginAnswer, Key, PoolInternals, PutBackAnswer, ReapAnswer, TryAnswer};
 use std::alloc::Global;
 use std::process::Abort;

@@ -1,7 +1,7 @@
 //! Each step of the bare state, over connections that are no numbers.
 use super::{assert_equal, granted, served, unchecked};
-use bb8_asked::{add, begin, opened, put_back, try_get};
 use bb8_core::api::{Config, Moment, QueueStrategy};
+use bb8_core::asked::{add, begin, opened, put_back, try_get};
 use bb8_core::internals::{
     AddAnswer, BeginAnswer, ClaimAnswer, GetKey, Grant, Key, OpenedAnswer, PoolInternals,
     PutBackAnswer, TryAnswer,

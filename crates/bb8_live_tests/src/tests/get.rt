@@ -79,7 +79,7 @@ fn cancel(pool: &mut Plain<'_>, clock: &SetClock, get: GetState<u64, (), ()>, at
 
 /// Adds a connection, and tells its key.
 fn add(rt: &impl Abort, pool: &mut Plain<'_>, at: u64, connection: u64) -> Key {
-    let added = bb8_asked::add(&mut pool.home, Moment(at), connection, false);
+    let added = bb8_core::asked::add(&mut pool.home, Moment(at), connection, false);
     let Some(AddAnswer::Added(key, _)) = added else {
         panic!(rt; "{connection} was not added");
     };
@@ -88,7 +88,7 @@ fn add(rt: &impl Abort, pool: &mut Plain<'_>, at: u64, connection: u64) -> Key {
 
 /// Gives back a connection that a guard holds.
 fn put_back(rt: &impl Abort, pool: &mut Plain<'_>, key: Key, connection: u64) {
-    let answer = bb8_asked::put_back(&mut pool.home, Moment(0), key, connection, false);
+    let answer = bb8_core::asked::put_back(&mut pool.home, Moment(0), key, connection, false);
     assert!(rt; answer.is_some(), "no guard holds {key:?}");
 }
 

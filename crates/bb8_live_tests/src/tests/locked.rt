@@ -10,7 +10,7 @@ use bb8_core::internals::{
     AddAnswer, BeginAnswer, ClaimAnswer, LeaveAnswer, OpenedAnswer, PutBackAnswer,
 };
 use bb8_gets::{GetHome, Returned, Tried, Unfit};
-use bb8_locked::{Joining, Locked, NewPool, SectionHome, begin_pool};
+use bb8_lock::{Joining, Locked, NewPool, SectionHome, begin_pool};
 use std::marker::Brand;
 use std::process::Abort;
 use std::sync::ledger::Blank;

@@ -2,8 +2,8 @@
 //! requests for memory are refused. That each answer is allowed is proved.
 
 use super::{Board, Counted, assert_equal, is_refused_afterwards};
-use bb8_asked::{add, begin, checked_err, checked_ok, give_up, opened, put_back, try_get};
 use bb8_core::api::{Config, Moment};
+use bb8_core::asked::{add, begin, checked_err, checked_ok, give_up, opened, put_back, try_get};
 use bb8_core::internals::{
     AddAnswer, BeginAnswer, CheckedErrAnswer, CheckedOkAnswer, ClaimAnswer, GetKey, GiveUpAnswer,
     Grant, Key, OpenedAnswer, PoolInternals, PutBackAnswer, ReapAnswer, Reason, TryAnswer,

@@ -2,8 +2,8 @@
 //! A pool of 4,294,967,295 of them would take more than the addresses that there are.
 
 use super::assert_equal;
-use bb8_asked::{add, begin, opened, put_back, try_get};
 use bb8_core::api::{Config, Moment};
+use bb8_core::asked::{add, begin, opened, put_back, try_get};
 use bb8_core::internals::{
     AddAnswer, BeginAnswer, ClaimAnswer, GetKey, Grant, OpenedAnswer, PoolInternals, PutBackAnswer,
     TryAnswer,

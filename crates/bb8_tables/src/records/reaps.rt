@@ -10,7 +10,7 @@ ghost use Rattle.bb8_types.specs.Bounds.{end_of_numbers, most_records};
 ghost use Rattle.bb8_tables.specs.Dues.{Ends, EndsFirst, EndsIdle, Passes};
 ghost use Rattle.bb8_types.specs.declared.standing.Standing.{Standing};
 ghost use Rattle.bb8_tables.specs.Lined.{slot_at};
-ghost use Rattle.bb8_tables.specs.Lent.{Adds};
+ghost use Rattle.bb8_tables.specs.Lent.{AddsLent};
 ghost use Rattle.bb8_tables.specs.Reaps as reaps;
 ghost use Rattle.bb8_tables.specs.Closed.{offered_all, closed_of};
 ghost use Rattle.bb8_tables.specs.declared.table.Slot.{Slot};
@@ -87,7 +87,7 @@ fn pass_birth<C: Drop>(
     requires member { (j : ℕ) × (slice_get slots.now.births j ≡ Some place) }
     requires stands { (x : Slot (Standing C)) × (slot_at slots.now place ≡ Some x) }
     ensures value { Passes (settings_of config.now) now slots.now place result }
-    ensures examined { Adds 1 0 lendings.old lendings.new }
+    ensures examined { AddsLent 1 0 lendings.old lendings.new }
 {
     let next = slots.next_birth(place);
     let standing = &slots.at(place, lendings).standing;
@@ -116,7 +116,7 @@ impl<C: Drop> Records<C> {
             closed.old closed.new)
             (((k : ℕ) → places.idles_out (settings_of config.now) now (map.get self.old.places k) ≡ false)
             × (self.new ≡ self.old) × (closed.new ≡ closed.old)) }
-        ensures examined { Adds 1 0 lendings.old lendings.new }
+        ensures examined { AddsLent 1 0 lendings.old lendings.new }
     {
         let Some(place) = self.slots.first() else {
             return false;
@@ -141,7 +141,7 @@ impl<C: Drop> Records<C> {
     ) -> u32
         ensures ends { (ks : List ℕ) × EndsIdle (settings_of config.now) now
             self.old ks self.new result closed.old closed.new }
-        ensures examined { Adds (result + 1) 0 lendings.old lendings.new }
+        ensures examined { AddsLent (result + 1) 0 lendings.old lendings.new }
     {
         if config.idle_timeout.is_none() {
             return 0;
@@ -172,7 +172,7 @@ impl<C: Drop> Records<C> {
             self.old ks self.new result closed.old closed.new }
         ensures none_left { (k : ℕ)
             → places.lives_out (settings_of config.now) now (map.get self.new.places k) ≡ false }
-        ensures examined { Adds (result + (self.old.conns - length self.old.idle) + 1) 0
+        ensures examined { AddsLent (result + (self.old.conns - length self.old.idle) + 1) 0
             lendings.old lendings.new }
     {
         let mut many = 0;
@@ -209,7 +209,7 @@ impl<C: Drop> Records<C> {
             × reaps.Reaps (settings_of config.now) now self.old js ks self.new result
             × (closed.new ≡ offered_all (closed_of (js ++ ks) self.old.places) closed.old) }
         ensures numbers { self.old.next ≤ end_of_numbers }
-        ensures examined { Adds (result.closed + (self.old.conns - length self.old.idle) + 2) 0
+        ensures examined { AddsLent (result.closed + (self.old.conns - length self.old.idle) + 2) 0
             lendings.old lendings.new }
     {
         let _next = &self.next;

@@ -1,8 +1,8 @@
 //! A reaper that is polled by hand over the plain state.
 
 use super::assert_equal;
-use bb8_asked::{add, leave};
 use bb8_core::api::{Config, Moment};
+use bb8_core::asked::{add, leave};
 use bb8_core::internals::{Grant, PoolInternals};
 use bb8_tasks::{Reaped, Reaper, ReaperAnswer};
 use std::alloc::Global;

@@ -1,11 +1,11 @@
 //! Replenishings that are polled by hand over the plain state, with a manager that counts.
 
 use super::assert_equal;
-use bb8_asked::leave;
 use bb8_core::Joined;
 use bb8_core::api::{
     Clock, Config, CustomizeConnection, ManageConnection, Moment, NopCustomizer, NopErrorSink,
 };
+use bb8_core::asked::leave;
 use bb8_core::internals::{ClaimAnswer, Key, PoolInternals};
 use bb8_tasks::{PoolOpener, Replenish, ReplenishAnswer};
 use futures::task::Poll;

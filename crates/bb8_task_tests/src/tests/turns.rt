@@ -2,14 +2,14 @@
 ghost use Rattle.std.specs.Prelude.{⊤};
 
 use super::assert_equal;
-use bb8_asked::{begin, leave, try_get};
 use bb8_core::Joined;
 use bb8_core::api::{Config, Moment};
+use bb8_core::asked::{begin, leave, try_get};
 use bb8_core::internals::{BeginAnswer, ClaimAnswer, Grant, Key, Looked, PoolInternals};
 use bb8_tasks::{
-    ClaimHome, FailedStep, Home, OpenedStep, Opener, ReapHome, ReapStep, Reaped, Reports,
+    ClaimHome, FailedStep, Home, OpenedStep, Opener, ReapHome, ReapStep, Reaped, Reports, Turn,
+    Turning,
 };
-use bb8_turns::{Turn, Turning};
 use futures::task::Poll;
 use std::alloc::Global;
 use std::process::Abort;

@@ -1,7 +1,7 @@
 //! When a pool is reaped.
 ghost use Rattle.std.specs.Prelude.{◌≡◌, ◌<◌, false};
 ghost use Rattle.std.specs.Duration.{as_nanos};
-ghost use Rattle.bb8_tasks.specs.Reaping.{IsNextTick, is_due, Reaps, Proceeds, Polls};
+ghost use Rattle.bb8_tasks.specs.Reaping.{IsNextTick, is_due, Reaps, ReaperProceeds, ReaperPolls};
 
 use super::{Reaper, ReaperAnswer};
 use crate::home::{ReapHome, ReapStep};
@@ -57,7 +57,7 @@ impl Reaper {
     /// It looks at the home first, and reaps once where a tick is due, however many were missed. Once no handle is alive each poll answers
     /// `Ended`, and calls nothing.
     pub fn poll<H: ReapHome>(&mut self, at: Moment, home: &mut H) -> ReaperAnswer
-        ensures { Polls H.ReapHome at self.old home.old result self.new home.new }
+        ensures { ReaperPolls H.ReapHome at self.old home.old result self.new home.new }
     {
         if self.ended {
             return ReaperAnswer::Ended;
@@ -80,7 +80,7 @@ impl Reaper {
 
     /// What a poll does after its look.
     fn proceed<H: ReapHome>(&mut self, home: &mut H, moment: Moment, alive: bool) -> ReaperAnswer
-        ensures row { Proceeds H.ReapHome alive moment self.old home.old result self.new home.new }
+        ensures row { ReaperProceeds H.ReapHome alive moment self.old home.old result self.new home.new }
         ensures latest { self.new.latest ≡ self.old.latest }
     {
         if !alive {

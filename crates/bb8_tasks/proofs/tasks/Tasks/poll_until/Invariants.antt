@@ -1,10 +1,10 @@
 use Rattle.std.proofs.Common.{◌-◌}
 use Rattle.std.specs.Duration.{as_nanos}
-use Rattle.bb8_tasks.specs.Replenishing.{Polls}
-use Rattle.bb8_tasks.specs.Sweeping.{Midway}
+use Rattle.bb8_tasks.specs.Replenishing.{TaskPolls}
+use Rattle.bb8_tasks.specs.Sweeping.{RoundMidway}
 use Rattle.bb8_tasks.proofs.tasks.Tasks.poll_until.Given as goal
 
 abbrev pub invariant-loop : goal.invariant-loop
 invariant-loop g l =
-    Midway (Polls g.X.Home g.X.Opener (as_nanos l.fn.config.connection_timeout) l.fn.config.retry_connection l.fn.at) g.X.Reports.sinks l.fn.on_failure
+    RoundMidway (TaskPolls g.X.Home g.X.Opener (as_nanos l.fn.config.connection_timeout) l.fn.config.retry_connection l.fn.at) g.X.Reports.sinks l.fn.on_failure
     l.fn.self l.fn.pool l.self l.pool l.stopped (l.count - l.counter)

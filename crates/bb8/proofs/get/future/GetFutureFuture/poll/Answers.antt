@@ -1,6 +1,6 @@
 use Rattle.std.proofs.Common.{Ok, Err, refl}
 use Rattle.futures.specs.declared.task.Poll.TheVariants.{Ready, Pending}
-use Rattle.bb8_shared.specs.Linked.{Answers}
+use Rattle.bb8_lock.specs.Linked.{Answers}
 use Rattle.bb8.proofs.get.future.GetFutureFuture.poll.Goals as goal
 
 pub returns-in-Pending-clause-table : goal.returns-in-Pending-clause-table

@@ -1,6 +1,0 @@
-use Rattle.std.proofs.Common.{sym, ◌∙◌}
-use Rattle.bb8_core.specs.StepAnswers.{reason_of}
-use Rattle.bb8_asked.proofs.give_up.Goals as goal
-
-pub give_up-requires : goal.give_up-requires
-give_up-requires g c = λ l legal means. sym (c.fits_give_up.ensures (reason_of c.args.reason) c.args.held c.args.broken (sym c.is_some.ensures) l legal means) ∙ c.if-not-fits_give_up.false

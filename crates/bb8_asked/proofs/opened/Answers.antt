@@ -1,5 +1,0 @@
-use Rattle.std.proofs.Common.{sym, ◌∙◌}
-use Rattle.bb8_asked.proofs.opened.Goals as goal
-
-pub opened-requires : goal.opened-requires
-opened-requires g c = λ l legal means. sym (c.fits_opened.ensures c.args.conn l legal means) ∙ c.if-not-fits_opened.false

@@ -1,0 +1,186 @@
+-- What holds of the sections of a pool.
+use Rattle.std.proofs.Common.{◌≡◌, ℕ, ◌+◌, ◌^◌, ◌<◌, ◌≤◌, length, Bool, true, false, Option, Some, None, IfNone, is_some, refl, sym, ap, ◌∙◌, arith}
+use Rattle.bb8_core.specs.declared.answers.GiveUpAnswer.{GiveUpAnswer}
+use Rattle.bb8_core.specs.declared.answers.GiveUpAnswer.TheVariants as given_back
+use Rattle.bb8_core.specs.declared.answers.CheckedErrAnswer.{CheckedErrAnswer}
+use Rattle.bb8_core.specs.declared.answers.CheckedErrAnswer.TheVariants as invalid
+use Rattle.bb8_core.specs.declared.answers.PutBackAnswer.{PutBackAnswer}
+use Rattle.bb8_core.specs.declared.answers.PutBackAnswer.TheVariants.{Kept, Closed}
+use Rattle.bb8_core.specs.declared.answers.AddAnswer.{AddAnswer}
+use Rattle.bb8_core.specs.declared.answers.AddAnswer.TheVariants as adding
+use Rattle.bb8_types.specs.declared.api.configuration.Config.{Config}
+use Rattle.bb8_types.specs.declared.grants.Grant.{Grant}
+use Rattle.bb8_types.specs.Settings.{Settings, settings_of, is_lawful}
+use Rattle.bb8_ledger.specs.Acts.{Act, CheckedErr, GiveUp, PutBack, Fill, Add, Reason}
+use Rattle.bb8_ledger.specs.Answers as answers
+use Rattle.bb8_ledger.specs.Answers.{Answer, Broken, Granted, Unfit}
+use Rattle.bb8_ledger.specs.Ledger.{Ledger, Later, next, records}
+use Rattle.bb8_core.specs.StepAnswers.{checked_err_told, give_up_told, put_back_told, add_told}
+use Rattle.bb8_ledger.specs.Table.{fits, Allowed, IsLegal, Row, fills, add_broken, add_full, add_exhausted, add_refused, adds, gives_up, gives_up_kept, gives_up_closed}
+use Rattle.bb8_core.specs.Shown.{Shown, Means, Meets, IsFitting, HasLedger, IsWithinLimits}
+use Rattle.bb8_core.specs.Run.{opening}
+use Rattle.bb8_lock.specs.Sections.{IsSorted}
+use Rattle.bb8_core.specs.Parts.{out_of, Moves}
+use Rattle.bb8_core.proofs.Parts.{counted}
+use Rattle.bb8_ledger.proofs.Effects.{by_fit}
+use Rattle.bb8_core.proofs.Runs.{unfit_now}
+use Rattle.bb8_ledger.proofs.Laws.{keeps_limits, keeps_laws, keeps_promises}
+
+-- where there is none, this follows from that
+pub on_none : {X P Q : Type 0} (r : Option X) → IfNone r P → (P → Q) → IfNone r Q
+on_none None p f = f p
+on_none (Some x) p f = tt
+
+-- an answer that a connection came back
+abbrev pub brings_back : Answer → Bool
+brings_back (answers.Kept k n) = true
+brings_back (answers.Closed k grant n) = true
+brings_back _ = false
+
+-- an answer that a connection was refused as broken
+abbrev refuses_broken : Answer → Bool
+refuses_broken Broken = true
+refuses_broken _ = false
+
+module _ {C : Type 0} where
+  -- Such an event fits each legal ledger that the state means, or none.
+  abbrev pub Says : Shown C → Act C → Bool → Type 0
+  Says s e b = (l : Ledger C) → IsLegal l → Means l s → b ≡ fits l e
+
+  pub fitting : (s : Shown C) (e : Act C) → Says s e true → IsFitting s e
+  fitting s e says = λ l legal means. sym (says l legal means)
+
+  pub unfit_step : (s : Shown C) (at : ℕ) (e : Act C) → Says s e false → Meets s at e Unfit s
+  unfit_step s at e says = λ l legal means. unfit_now l s at e (sym (says l legal means)) means
+
+  -- a step leads to a state that has a ledger
+  pub follows : (s new : Shown C) (at : ℕ) (e : Act C) (a : Answer) → HasLedger s → Meets s at e a new → HasLedger new
+  follows s new at e a h m = let step = m h.0 h.1 h.2 in (Later h.0 at e a, (h.1, step.0), step.1)
+
+  -- whatever has a ledger keeps the limits
+  pub within : (s : Shown C) → HasLedger s → IsWithinLimits s
+  within s h = (h, λ l legal means. (keeps_limits l legal, keeps_laws l legal, keeps_promises l legal))
+
+  -- a step that moves nothing leaves the parts as they are
+  pub unmoved : (old new : Shown C) (at : ℕ) (e : Act C) (a : Answer) (rest : ℕ) → HasLedger old → Meets old at e a new
+      → (Moves e a (out_of old) (out_of new) → out_of new ≡ out_of old) → out_of old + rest ≡ old.config.max_size
+      → out_of new + rest ≡ new.config.max_size
+  unmoved old new at e a rest h meets same parts =
+      let k = counted old at e a new h meets in
+      let size : new.config.max_size ≡ old.config.max_size = ap (λ (c : Settings). c.max_size) k.config in
+      let moved : out_of new ≡ out_of old = same k.moves in
+      omega (arith, moved, size, parts)
+
+  -- no step changes the settings
+  pub kept_settings : (old new : Shown C) (at : ℕ) (e : Act C) (a : Answer) (settings : Settings) → HasLedger old → Meets old at e a new → old.config ≡ settings → new.config ≡ settings
+  kept_settings old new at e a settings h meets is = (counted old at e a new h meets).config ∙ is
+
+  -- where one more goes out there is a part for it
+  pub has_part : (old new : Shown C) (at : ℕ) (e : Act C) (a : Answer) (rest : ℕ) → HasLedger old → Meets old at e a new
+      → (Moves e a (out_of old) (out_of new) → out_of new ≡ out_of old + 1) → out_of old + rest ≡ old.config.max_size → 1 ≤ rest
+  has_part old new at e a rest h meets more parts =
+      let k = counted old at e a new h meets in
+      let size : new.config.max_size ≡ old.config.max_size = ap (λ (c : Settings). c.max_size) k.config in
+      let moved : out_of new ≡ out_of old + 1 = more k.moves in
+      omega (arith, moved, size, parts, k.few)
+
+  -- one more goes out with a part
+  pub gone_out : (old new : Shown C) (at : ℕ) (e : Act C) (a : Answer) (rest less : ℕ) → HasLedger old → Meets old at e a new
+      → (Moves e a (out_of old) (out_of new) → out_of new ≡ out_of old + 1) → out_of old + rest ≡ old.config.max_size → less + 1 ≡ rest
+      → out_of new + less ≡ new.config.max_size
+  gone_out old new at e a rest less h meets more parts split =
+      let k = counted old at e a new h meets in
+      let size : new.config.max_size ≡ old.config.max_size = ap (λ (c : Settings). c.max_size) k.config in
+      let moved : out_of new ≡ out_of old + 1 = more k.moves in
+      omega (arith, moved, size, parts, split)
+
+  -- one comes back with its part
+  pub come_back : (old new : Shown C) (at : ℕ) (e : Act C) (a : Answer) (rest : ℕ) → HasLedger old → Meets old at e a new
+      → (Moves e a (out_of old) (out_of new) → out_of new + 1 ≡ out_of old) → out_of old + rest ≡ old.config.max_size
+      → out_of new + (rest + 1) ≡ new.config.max_size
+  come_back old new at e a rest h meets less parts =
+      let k = counted old at e a new h meets in
+      let size : new.config.max_size ≡ old.config.max_size = ap (λ (c : Settings). c.max_size) k.config in
+      let moved : out_of new + 1 ≡ out_of old = less k.moves in
+      omega (arith, moved, size, parts)
+
+  -- a return brings one back
+  pub put_it_back : (k : ℕ) (c : C) (b : Bool) (answer : PutBackAnswer C) (before after : ℕ) → Moves (PutBack k c b) (put_back_told k answer) before after → after + 1 ≡ before
+  put_it_back k c b (Kept n) before after moves = moves
+  put_it_back k c b (Closed conn grant n) before after moves = moves
+
+  -- an adding is refused as broken just where the connection is broken
+  add_row : (l : Ledger C) (at : ℕ) (c : C) (b : Bool) (a : Answer) → Row l at (Add c b) a → refuses_broken a ≡ b
+  add_row l at c _ _ add_broken = refl
+  add_row l at c _ _ (add_full full) = refl
+  add_row l at c _ _ (add_exhausted room many) = refl
+  add_row l at c _ _ (add_refused room few full) = refl
+  add_row l at c _ _ (adds room few is who) = refl
+
+  sorted_as : (answer : AddAnswer C) (b : Bool) → refuses_broken (add_told answer) ≡ b → IsSorted b answer
+  sorted_as (adding.Added k n) b is = sym is
+  sorted_as (adding.Broken c) b is = sym is
+  sorted_as (adding.NoCapacity c) b is = sym is
+  sorted_as (adding.Withheld c) b is = sym is
+
+  pub add_sorted : (old new : Shown C) (at : ℕ) (c : C) (b : Bool) (answer : AddAnswer C) → HasLedger old → Says old (Add c b) true → Meets old at (Add c b) (add_told answer) new → IsSorted b answer
+  add_sorted old new at c b answer h says meets =
+      sorted_as answer b
+      (by_fit (fits h.0 (Add c b)) _ _ (refuses_broken (add_told answer) ≡ b) (meets h.0 h.1 h.2).0
+      (λ f row. add_row h.0 at c b (add_told answer) row)
+      (λ f is. absurd (let clash : true ≡ false = says h.0 h.1 h.2 ∙ f in cc)))
+
+  -- a new state keeps its settings as its first approvals are granted
+  pub begun_settings : (config : Config) (first first_get : ℕ) (old new : Shown C) (at : ℕ) (claimed : Bool) (grant : Grant)
+      → is_lawful (settings_of config) ≡ true → Means (opening config first first_get) old → Meets old at (Fill claimed) (Granted grant) new
+      → new.config ≡ settings_of config
+  begun_settings config first first_get old new at claimed grant lawful means meets =
+      kept_settings old new at (Fill claimed) (Granted grant) (settings_of config) (opening config first first_get, lawful, means) meets
+      (ap (λ (s : Shown C). s.config) (sym means))
+
+  -- a new state has nothing out, also once its first approvals are granted
+  pub none_out : (config : Config) (first first_get : ℕ) (old new : Shown C) (at : ℕ) (claimed : Bool) (grant : Grant)
+      → is_lawful (settings_of config) ≡ true → Means (opening config first first_get) old → Meets old at (Fill claimed) (Granted grant) new
+      → out_of new ≡ 0
+  none_out config first first_get old new at claimed grant lawful means meets =
+      let k = counted old at (Fill claimed) (Granted grant) new (opening config first first_get, lawful, means) meets in
+      k.moves ∙ ap out_of (sym means)
+
+  -- a give-up brings a connection back just where one is handed in
+  give_up_row : (l : Ledger C) (at g : ℕ) (why : Reason) (held : Option C) (b : Bool) (a : Answer) → Row l at (GiveUp g why held b) a → brings_back a ≡ is_some held
+  give_up_row l at g why _ b _ (gives_up who) = refl
+  give_up_row l at g why _ b _ (gives_up_kept holds stays who) = refl
+  give_up_row l at g why _ b _ (gives_up_closed holds closes granted who) = refl
+
+  pub given_up : (old new : Shown C) (at g : ℕ) (why : Reason) (held : Option C) (b : Bool) (a : Answer) → HasLedger old
+      → Says old (GiveUp g why held b) true → Meets old at (GiveUp g why held b) a new → brings_back a ≡ is_some held
+  given_up old new at g why held b a h says meets =
+      by_fit (fits h.0 (GiveUp g why held b)) _ _ (brings_back a ≡ is_some held) (meets h.0 h.1 h.2).0
+      (λ f row. give_up_row h.0 at g why held b a row)
+      (λ f is. absurd (let clash : true ≡ false = says h.0 h.1 h.2 ∙ f in cc))
+
+  -- a give-up that brings none back moves nothing
+  pub gave_up : (g : ℕ) (why : Reason) (held : Option C) (b : Bool) (answer : GiveUpAnswer C) (before after : ℕ) → brings_back (give_up_told answer) ≡ false
+      → Moves (GiveUp g why held b) (give_up_told answer) before after → after ≡ before
+  gave_up g why held b (given_back.GaveUp n) before after none moves = moves
+  gave_up g why held b (given_back.Kept k n) before after none moves = absurd (let clash : true ≡ false = none in cc)
+  gave_up g why held b (given_back.Closed k c grant n) before after none moves = absurd (let clash : true ≡ false = none in cc)
+
+  -- one that brings a connection back brings one
+  pub gave_back : (g : ℕ) (why : Reason) (held : Option C) (b : Bool) (answer : GiveUpAnswer C) (before after : ℕ) → brings_back (give_up_told answer) ≡ true
+      → Moves (GiveUp g why held b) (give_up_told answer) before after → after + 1 ≡ before
+  gave_back g why held b (given_back.GaveUp n) before after some moves = absurd (let clash : false ≡ true = some in cc)
+  gave_back g why held b (given_back.Kept k n) before after some moves = moves
+  gave_back g why held b (given_back.Closed k c grant n) before after some moves = moves
+
+  -- the failing of a check brings one back
+  pub failed_back : (g : ℕ) (b : Bool) (answer : CheckedErrAnswer C) (before after : ℕ) → Moves {C = C} (CheckedErr g b) (checked_err_told answer) before after → after + 1 ≡ before
+  failed_back g b (invalid.Closed k c grant n) before after moves = moves
+
+  -- what a new pool is granted for its first connections has numbers that a u64 can be
+  pub first_numbers : (config : Config) (at : ℕ) (claimed : Bool) (grant : Grant) → Allowed {C = C} (opening config 0 0) at (Fill claimed) (Granted grant)
+      → grant.first + grant.count < 2 ^ 64
+  first_numbers config at claimed grant allowed = filled (opening config 0 0) allowed refl refl
+    where
+      filled : (l : Ledger C) → Row l at (Fill claimed) (Granted grant) → next l ≡ 0 → length (records l) ≡ 0 → grant.first + grant.count < 2 ^ 64
+      filled l (fills want) none empty = let first = want.first in let most = want.most in omega arith

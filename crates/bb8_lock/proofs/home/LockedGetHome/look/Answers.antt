@@ -1,0 +1,12 @@
+use Rattle.bb8_ledger.specs.Acts as acts
+use Rattle.bb8_lock.proofs.Sections.{kept_settings, unmoved}
+use Rattle.bb8_lock.proofs.home.LockedGetHome.look.Goals as goal
+
+pub invariant_of-self : goal.invariant_of-self
+invariant_of-self g c = record {
+  parts = unmoved _ _ _ acts.Look _ _ c.limits.ensures.limits.0 c.look.ensures.step
+      (λ m. m) c.args.self.now.parts;
+  amount = c.args.self.now.amount;
+  settled =
+      kept_settings _ _ _ acts.Look _ _ c.limits.ensures.limits.0 c.look.ensures.step c.args.self.now.settled;
+}

@@ -1,0 +1,100 @@
+-- What guards and handles do with a pool, over the relations of any home with sections and of any calls outside. As these are free, each says
+-- which calls and steps are made, how many, and in which order.
+use Rattle.std.specs.Prelude.{◌≡◌, ℕ, ◌<◌, Bool, Option, Some, None, Result, Ok, Err}
+use Rattle.futures.specs.declared.task.Poll.{Poll}
+use Rattle.futures.specs.declared.task.Poll.TheVariants.{Ready, Pending}
+use Rattle.bb8_types.specs.declared.api.errors.AddError.{AddError}
+use Rattle.bb8_types.specs.declared.api.errors.AddError.TheVariants.{Broken, NoCapacity, Withheld}
+use Rattle.bb8_types.specs.declared.api.errors.RunError.{RunError}
+use Rattle.bb8_types.specs.declared.api.figures.State.{State}
+use Rattle.bb8_types.specs.declared.api.moments.Moment.{Moment}
+use Rattle.bb8_core.specs.declared.answers.AddAnswer.{AddAnswer}
+use Rattle.bb8_core.specs.declared.answers.AddAnswer.TheVariants as adding
+use Rattle.bb8_core.specs.declared.answers.LeaveAnswer.{LeaveAnswer}
+use Rattle.bb8_core.specs.declared.answers.Looked.{Looked}
+use Rattle.bb8_core.specs.declared.answers.PutBackAnswer.{PutBackAnswer}
+use Rattle.bb8_core.specs.declared.answers.PutBackAnswer.TheVariants as put_back
+use Rattle.bb8_gets.specs.declared.home.GetHome.{Ghosts as HomeOf}
+use Rattle.bb8_gets.specs.declared.home.Returned.{Returned}
+use Rattle.bb8_gets.specs.declared.home.Taken.{Taken}
+use Rattle.bb8_gets.specs.declared.home.Unfit.{Unfit}
+use Rattle.bb8_gets.specs.declared.outside.Outside.{Ghosts as OutsideOf}
+use Rattle.bb8_gets.specs.declared.state.Settled.{Settled}
+use Rattle.bb8_gets.specs.declared.state.Stage.{Stage}
+use Rattle.bb8_gets.specs.Polls.{Asks, Cancels, Starts}
+use Rattle.bb8_lock.specs.declared.section_home.Joining.{Joining}
+use Rattle.bb8_lock.specs.declared.section_home.SectionHome.{Ghosts as SectionsOf}
+
+-- What the caller of an adding is told: where no handle is alive there is no capacity.
+abbrev pub IsTold : {C : Type 0} → Result (AddAnswer C) C → Result (Unit {0}) (AddError C) → Type 0
+IsTold (Ok (adding.Added k n)) told = told ≡ Ok tt
+IsTold (Ok (adding.Broken c)) told = told ≡ Err (Broken c)
+IsTold (Ok (adding.NoCapacity c)) told = told ≡ Err (NoCapacity c)
+IsTold (Ok (adding.Withheld c)) told = told ≡ Err (Withheld c)
+IsTold (Err c) told = told ≡ Err (NoCapacity c)
+
+-- what a poll answered, and none where it did not answer
+abbrev pub served_in : {A E : Type 0} → Poll (Result A E) → Result (Option A) E
+served_in (Ready (Ok a)) = Ok (Some a)
+served_in (Ready (Err e)) = Err e
+served_in Pending = Ok None
+
+module _ {C E V X : Type 0} (outside : OutsideOf X C E V) where
+  -- a connection that is not idle now is dropped
+  abbrev pub AfterReturn : Result (PutBackAnswer C) C → X → X → Type 0
+  AfterReturn (Ok (put_back.Kept n)) x x' = x' ≡ x
+  AfterReturn (Ok (put_back.Closed c grant n)) x x' = outside.lets_go x c x'
+  AfterReturn (Err c) x x' = outside.lets_go x c x'
+
+module _ {C E V P X : Type 0} (home : HomeOf X C P) (sections : SectionsOf X C P) (outside : OutsideOf X C E V) where
+  -- the clock is read, a section is made, and the home is released
+  abbrev pub Section : (X → Moment → X → Type 0) → X → X → Type 0
+  Section Step x x' = (at : Moment) × (x1 : X) × (x2 : X) × outside.tells x at x1 × Step x1 at x2 × home.releases x2 x'
+
+  -- a guard's connection comes back: it is asked whether it is broken, the home takes it back, and it is dropped where it does not stay
+  abbrev pub Returns : Taken C P → X → X → Type 0
+  Returns taken x x' =
+      (r : Returned C P) × (x1 : X) × Asks outside taken x r x1
+      × ((a : Result (PutBackAnswer C) C) × (x2 : X) × Section (λ s at s'. sections.puts_back s at r a s') x1 x2 × AfterReturn outside a x2 x')
+
+  -- a connection is added: it is asked whether it is broken, and the home takes or refuses what is left of it
+  abbrev pub AddsOutside : C → X → Result (Unit {0}) (AddError C) → X → Type 0
+  AddsOutside conn x result x' =
+      (broken : Bool) × (after : C) × (x1 : X) × outside.breaks x conn broken after x1
+      × ((a : Result (AddAnswer C) C) × Section (λ s at s'. sections.adds s at after broken a s') x1 x' × IsTold a result)
+
+  -- the home tells of itself
+  abbrev pub Shows : X → State → X → Type 0
+  Shows x state x' = Section (λ s at s'. sections.shows s at state s') x x'
+
+  -- one handle more is counted, or refused
+  abbrev pub Joins : X → Joining → X → Type 0
+  Joins x a x' = Section (λ s at s'. sections.joins s at a s') x x'
+
+  -- a handle leaves
+  abbrev pub HandleLeaves : X → X → Type 0
+  HandleLeaves x x' = (a : Result LeaveAnswer Unfit) × Section (λ s at s'. sections.leaves s at a s') x x'
+
+  -- a guard's connection comes back, and then its handle leaves
+  abbrev pub ReturnsAndLeaves : Taken C P → X → X → Type 0
+  ReturnsAndLeaves taken x x' = (x1 : X) × Returns taken x x1 × HandleLeaves x1 x'
+
+  -- a get is let go, the home is released, and then the get's handle leaves
+  abbrev pub CancelsAndLeaves : Stage C V P → X → X → Type 0
+  CancelsAndLeaves stage x x' = (x1 : X) × (x2 : X) × Cancels home outside stage x x1 × home.releases x1 x2 × HandleLeaves x2 x'
+
+  -- a get begins and tries at this moment, the home is released, and the get is let go where it was not answered
+  abbrev pub TriesOnce : Moment → ℕ → X → Result (Option (Taken C P)) (RunError E) → X → Type 0
+  TriesOnce m timeout x result x' =
+      (settled : Settled C V P E) × (x1 : X) × (x2 : X) × Starts home outside m timeout x settled x1 × home.releases x1 x2
+      × Cancels home outside settled.stage x2 x' × (result ≡ served_in settled.answer)
+
+  -- A connection at once, or none: the clock is read, and the home looked at and asked what it has. Where that is nothing idle, it is
+  -- released, and no get begins; else a get tries once, before the home is released.
+  abbrev pub TakesNow : ℕ → X → Result (Option (Taken C P)) (RunError E) → X → Type 0
+  TakesNow timeout x result x' =
+      (at : Moment) × (x1 : X) × outside.tells x at x1
+      × ((seen : Looked) × (x2 : X) × home.looks x1 at seen x2
+      × ((state : State) × (x3 : X) × sections.shows x2 seen.moment state x3
+      × (state.idle_connections ≡ 0 → (result ≡ Ok None) × home.releases x3 x')
+      × (0 < state.idle_connections → TriesOnce seen.moment timeout x3 result x')))

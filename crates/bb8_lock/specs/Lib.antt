@@ -1,0 +1,14 @@
+pub mod Chains
+pub mod Gathered
+pub mod Linked
+pub mod Opening
+pub mod Parts
+pub mod Sections
+pub mod Serving
+pub mod Turning
+pub use Rattle.bb8_gets.specs.Homes
+pub use Rattle.bb8_gets.specs.Polls
+pub use Rattle.bb8_gets.specs.Told
+pub use Rattle.bb8_types.specs.Errors
+pub use Rattle.bb8_types.specs.Figures
+pub use Rattle.bb8_types.specs.Settings

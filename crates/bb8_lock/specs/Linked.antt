@@ -1,0 +1,253 @@
+-- What gets, guards and handles do on a pool: the tables at what a pool's lock holds, while it is held, and at the pool's own manager, error sink
+-- and clock.
+use Rattle.std.specs.Prelude.{◌≡◌, ◌≤◌, false, None, Option, Some, Result, Ok, Err, IfOk, ⊤}
+use Rattle.std.specs.Sync.Mutex.{mutex_guard_value}
+use Rattle.std.specs.declared.sync.MutexGuard.{MutexGuard}
+use Rattle.std.specs.declared.fmt.Debug.{Ghosts as DebugOf}
+use Rattle.futures.specs.declared.task.Poll.{Poll}
+use Rattle.futures.specs.declared.task.Poll.TheVariants.{Ready, Pending}
+use Rattle.bb8_types.specs.declared.api.moments.Moment.{Moment}
+use Rattle.bb8_types.specs.declared.api.errors.AddError.{AddError}
+use Rattle.bb8_types.specs.declared.api.errors.RunError.{RunError}
+use Rattle.bb8_types.specs.declared.api.figures.State.{State}
+use Rattle.bb8_types.specs.declared.api.managers.ManageConnection.{Ghosts as ManagerOf}
+use Rattle.bb8_types.specs.Figures.{figures_of}
+use Rattle.bb8_types.specs.Settings.{settings_of}
+use Rattle.bb8_ledger.specs.Acts as acts
+use Rattle.bb8_ledger.specs.Answers as answers
+use Rattle.bb8_core.specs.StepAnswers.{add_told, begin_told, checked_err_told, give_up_told, leave_told, look_told, put_back_told, reason_of, GivesBack, Refuses}
+use Rattle.bb8_gets.specs.declared.calls.Calls.{Calls}
+use Rattle.bb8_gets.specs.declared.home.GetHome.{Ghosts as HomeOf}
+use Rattle.bb8_gets.specs.declared.home.Taken.{Taken}
+use Rattle.bb8_core.specs.declared.joined.Joined.{Joined}
+use Rattle.bb8_gets.specs.declared.outside.Outside.{Ghosts as OutsideOf}
+use Rattle.bb8_gets.specs.declared.state.Settled.{Settled}
+use Rattle.bb8_gets.specs.declared.state.Stage.{Stage}
+use Rattle.bb8_lock.specs.declared.section_home.Joining.{Joining}
+use Rattle.bb8_lock.specs.declared.section_home.SectionHome.{Ghosts as SectionsOf}
+use Rattle.bb8_lock.specs.declared.locked.Locked.{Locked}
+use Rattle.bb8_lock.specs.declared.locked.Part.{Part}
+use Rattle.bb8_lock.specs.declared.locked.Parts.{Ghosts as PartsOf}
+use Rattle.bb8_lock.specs.declared.link.LinkHome.{LinkHome}
+use Rattle.bb8_lock.specs.declared.shared.Shared.{Shared}
+use Rattle.bb8_gets.specs.Homes.{StepsIn}
+use Rattle.bb8_gets.specs.Told.{answered, passed_told, tried_told, HandsBackHeld, HandsBackInvalid, HandsOutOf}
+use Rattle.bb8_gets.specs.Polls.{GetPolls, Cancels}
+use Rattle.bb8_lock.specs.Chains.{AddsOutside, CancelsAndLeaves, Joins, HandleLeaves, Returns, ReturnsAndLeaves, Shows}
+use Rattle.bb8_lock.specs.Sections.{joining_told, returned, IsSorted, OnFit}
+
+-- The relations of what a pool's lock holds as a home: each step leads from the state that stands there to the next one. What the answer is
+-- follows from that very state, which keeps the limits.
+abbrev pub locked_home : {C L : Type 0} {l : PartsOf L} → HomeOf (Locked C L l) C (Part L)
+locked_home {l = l} = record {
+  releases = λ h h'. h' ≡ h;
+  looks = λ h at seen h'. StepsIn l.settings h.core at.0 acts.Look (look_told seen) h'.core;
+  begins = λ h at b h'. StepsIn l.settings h.core at.0 acts.Begin (answered begin_told b) h'.core;
+  tries = λ h at get t h'. StepsIn l.settings h.core at.0 (acts.Try get.number) (tried_told t) h'.core × HandsOutOf h.core t;
+  passes = λ h at get key part a h'. StepsIn l.settings h.core at.0 (acts.CheckedOk get.number) (passed_told h.core.records.next a) h'.core;
+  fails = λ h at get r a h'. StepsIn l.settings h.core at.0 (acts.CheckedErr get.number r.broken) (answered checked_err_told a) h'.core × HandsBackInvalid r.taken.connection a;
+  gives_up = λ h at get reason a h'. StepsIn l.settings h.core at.0 (acts.GiveUp get.number (reason_of reason) None false) (answered give_up_told a) h'.core;
+  gives_back = λ h at get reason r a h'. StepsIn l.settings h.core at.0 (acts.GiveUp get.number (reason_of reason) (Some r.taken.connection) r.broken) (answered give_up_told a) h'.core × HandsBackHeld r.taken.connection a;
+}
+
+-- the same of the sections
+abbrev pub locked_sections : {C L : Type 0} {l : PartsOf L} → SectionsOf (Locked C L l) C (Part L)
+locked_sections {l = l} = record {
+  puts_back = λ h at r a h'. StepsIn l.settings h.core at.0 (acts.PutBack r.taken.key.number r.taken.connection r.broken) (returned (put_back_told r.taken.key.number) a) h'.core × OnFit (GivesBack r.taken.connection) (λ c. c ≡ r.taken.connection) a;
+  adds = λ h at conn broken a h'. StepsIn l.settings h.core at.0 (acts.Add conn broken) (returned add_told a) h'.core × OnFit (Refuses conn) (λ same. same ≡ conn) a × IfOk a (IsSorted broken);
+  shows = λ h at state h'. StepsIn l.settings h.core at.0 acts.State (answers.Shown (figures_of state)) h'.core × (state.connections ≤ l.settings.max_size) × (state.idle_connections ≤ state.connections);
+  joins = λ h at a h'. StepsIn l.settings h.core at.0 acts.Join (joining_told a) h'.core;
+  leaves = λ h at a h'. StepsIn l.settings h.core at.0 acts.Leave (answered leave_told a) h'.core;
+}
+
+module _ {T : Type 0} where
+  -- a step starts at this: at what is held, or, where nothing is, at whatever stands behind the lock
+  abbrev pub StartsAt : Option (MutexGuard T) → T → Type 0
+  StartsAt (Some guard) t = mutex_guard_value guard ≡ t
+  StartsAt None t = ⊤
+
+  -- this is held
+  abbrev pub Holds : Option (MutexGuard T) → T → Type 0
+  Holds (Some guard) t = mutex_guard_value guard ≡ t
+  Holds None t = ⊥
+
+  -- a step leads from what is held, or else stands behind the lock, to what is held then
+  abbrev pub LeadsHeld : (T → T → Type 0) → Option (MutexGuard T) → Option (MutexGuard T) → Type 0
+  LeadsHeld Step held held' = (t : T) × (t' : T) × StartsAt held t × Holds held' t' × Step t t'
+
+-- The relations of a lock as a home, by those of what it holds. While the lock is held each step starts where the one before ended; once it was
+-- let go, the next one starts at whatever stands behind it.
+abbrev pub link_home : {C P R T : Type 0} → HomeOf T C P → HomeOf (LinkHome T R) C P
+link_home home = record {
+  releases = λ h h'. h'.held ≡ None;
+  looks = λ h at seen h'. LeadsHeld (λ t t'. home.looks t at seen t') h.held h'.held;
+  begins = λ h at b h'. LeadsHeld (λ t t'. home.begins t at b t') h.held h'.held;
+  tries = λ h at get a h'. LeadsHeld (λ t t'. home.tries t at get a t') h.held h'.held;
+  passes = λ h at get key part a h'. LeadsHeld (λ t t'. home.passes t at get key part a t') h.held h'.held;
+  fails = λ h at get returned a h'. LeadsHeld (λ t t'. home.fails t at get returned a t') h.held h'.held;
+  gives_up = λ h at get reason a h'. LeadsHeld (λ t t'. home.gives_up t at get reason a t') h.held h'.held;
+  gives_back = λ h at get reason returned a h'. LeadsHeld (λ t t'. home.gives_back t at get reason returned a t') h.held h'.held;
+}
+
+abbrev pub link_sections : {C P R T : Type 0} → SectionsOf T C P → SectionsOf (LinkHome T R) C P
+link_sections sections = record {
+  puts_back = λ h at returned a h'. LeadsHeld (λ t t'. sections.puts_back t at returned a t') h.held h'.held;
+  adds = λ h at c broken a h'. LeadsHeld (λ t t'. sections.adds t at c broken a t') h.held h'.held;
+  shows = λ h at state h'. LeadsHeld (λ t t'. sections.shows t at state t') h.held h'.held;
+  joins = λ h at a h'. LeadsHeld (λ t t'. sections.joins t at a t') h.held h'.held;
+  leaves = λ h at a h'. LeadsHeld (λ t t'. sections.leaves t at a t') h.held h'.held;
+}
+
+-- The relations of a home and of calls outside as one value: a step of the home leaves the calls as they were, and a call leaves the home.
+abbrev pub joined_home : {C P W H : Type 0} → HomeOf H C P → HomeOf (Joined W H) C P
+joined_home home = record {
+  releases = λ x x'. home.releases x.home x'.home × (x'.outside ≡ x.outside);
+  looks = λ x at seen x'. home.looks x.home at seen x'.home × (x'.outside ≡ x.outside);
+  begins = λ x at b x'. home.begins x.home at b x'.home × (x'.outside ≡ x.outside);
+  tries = λ x at get a x'. home.tries x.home at get a x'.home × (x'.outside ≡ x.outside);
+  passes = λ x at get key part a x'. home.passes x.home at get key part a x'.home × (x'.outside ≡ x.outside);
+  fails = λ x at get r a x'. home.fails x.home at get r a x'.home × (x'.outside ≡ x.outside);
+  gives_up = λ x at get reason a x'. home.gives_up x.home at get reason a x'.home × (x'.outside ≡ x.outside);
+  gives_back = λ x at get reason r a x'. home.gives_back x.home at get reason r a x'.home × (x'.outside ≡ x.outside);
+}
+
+abbrev pub joined_sections : {C P W H : Type 0} → SectionsOf H C P → SectionsOf (Joined W H) C P
+joined_sections sections = record {
+  puts_back = λ x at r a x'. sections.puts_back x.home at r a x'.home × (x'.outside ≡ x.outside);
+  adds = λ x at c broken a x'. sections.adds x.home at c broken a x'.home × (x'.outside ≡ x.outside);
+  shows = λ x at state x'. sections.shows x.home at state x'.home × (x'.outside ≡ x.outside);
+  joins = λ x at a x'. sections.joins x.home at a x'.home × (x'.outside ≡ x.outside);
+  leaves = λ x at a x'. sections.leaves x.home at a x'.home × (x'.outside ≡ x.outside);
+}
+
+abbrev pub joined_calls : {C E V W H : Type 0} → OutsideOf W C E V → OutsideOf (Joined W H) C E V
+joined_calls outside = record {
+  tells = λ x at x'. outside.tells x.outside at x'.outside × (x'.home ≡ x.home);
+  checks = λ x c v c' x'. outside.checks x.outside c v c' x'.outside × (x'.home ≡ x.home);
+  check_answers = λ x c v at a c' v' x'. outside.check_answers x.outside c v at a c' v' x'.outside × (x'.home ≡ x.home);
+  ends_check = λ x v x'. outside.ends_check x.outside v x'.outside × (x'.home ≡ x.home);
+  breaks = λ x c broken c' x'. outside.breaks x.outside c broken c' x'.outside × (x'.home ≡ x.home);
+  sinks = λ x e x'. outside.sinks x.outside e x'.outside × (x'.home ≡ x.home);
+  lets_go = λ x c x'. outside.lets_go x.outside c x'.outside × (x'.home ≡ x.home);
+}
+
+-- x is the answer of this poll, or of a later one, where each poll is a step
+pub data Answers {S A : Type 0} (step : S → Poll A → S → Type 0) : S → A → Type 0 where
+  now : (s t : S) (x : A) → step s (Ready x) t → Answers step s x
+  later : (s t : S) (x : A) → step s Pending t → Answers step t x → Answers step s x
+
+-- What the gets, guards and handles of a pool do, which share this, by any calls outside.
+module _ {M S Z K R L C E N V W : Type 0} {m : ManagerOf M C E N V} {d : DebugOf E} {l : PartsOf L} (outside : OutsideOf W C E V) (shared : Shared M S Z K R L C E N V m d l) where
+  -- the calls outside and the pool's lock, as one value
+  abbrev Linked : Type 0
+  Linked = Joined W (LinkHome (Locked C L l) R)
+
+  -- this is done by these calls outside and on the lock, which is free before
+  abbrev pub OnLock : (Linked → Linked → Type 0) → W → Type 0
+  OnLock Does w = (x : Linked) × (x' : Linked) × (x.outside ≡ w) × (x.home.held ≡ None) × Does x x'
+
+  abbrev gets : HomeOf Linked C (Part L)
+  gets = joined_home (link_home locked_home)
+
+  abbrev sections : SectionsOf Linked C (Part L)
+  sections = joined_sections (link_sections locked_sections)
+
+  -- A poll of a get goes by the table.
+  abbrev pub LinkPolls : Stage C V (Part L) → W → Settled C V (Part L) E → Type 0
+  LinkPolls stage w settled = OnLock (λ x x'. GetPolls gets (joined_calls outside) (settings_of shared.config).connection_timeout stage x settled x') w
+
+  -- A get is let go by the table; one that has a handle, and then the handle.
+  abbrev pub LinkCancels : Stage C V (Part L) → W → Type 0
+  LinkCancels stage w = OnLock (Cancels gets (joined_calls outside) stage) w
+
+  abbrev pub LinkCancelsAndLeaves : Stage C V (Part L) → W → Type 0
+  LinkCancelsAndLeaves stage w = OnLock (CancelsAndLeaves gets sections (joined_calls outside) stage) w
+
+  -- A guard's connection comes back; where the guard has a handle, that leaves then.
+  abbrev pub LinkReturns : Taken C (Part L) → W → Type 0
+  LinkReturns taken w = OnLock (Returns gets sections (joined_calls outside) taken) w
+
+  abbrev pub LinkReturnsAndLeaves : Taken C (Part L) → W → Type 0
+  LinkReturnsAndLeaves taken w = OnLock (ReturnsAndLeaves gets sections (joined_calls outside) taken) w
+
+  -- one handle more is made or refused, and one leaves
+  abbrev pub LinkJoins : Joining → W → Type 0
+  LinkJoins answer w = OnLock (λ x x'. Joins gets sections (joined_calls outside) x answer x') w
+
+  abbrev pub LinkLeaves : W → Type 0
+  LinkLeaves w = OnLock (HandleLeaves gets sections (joined_calls outside)) w
+
+  -- a connection is added
+  abbrev pub LinkAdds : C → Result (Unit {0}) (AddError C) → W → Type 0
+  LinkAdds conn result w = OnLock (λ x x'. AddsOutside gets sections (joined_calls outside) conn x result x') w
+
+  -- the pool tells of itself
+  abbrev pub LinkShows : State → W → Type 0
+  LinkShows state w = OnLock (λ x x'. Shows gets sections (joined_calls outside) x state x') w
+
+-- What they do by the pool's own manager, error sink and clock, whose relations these are.
+module _ {M S Z K R L C E N V : Type 0} {m : ManagerOf M C E N V} {d : DebugOf E} {l : PartsOf L} (sinks : S → E → Type 0) (tells : K → Moment → Type 0) (shared : Shared M S Z K R L C E N V m d l) where
+  -- the relations of the calls of a pool's manager, error sink and clock
+  abbrev pub pool_calls : OutsideOf (Calls M S K) C E V
+  pool_calls = record {
+    tells = λ calls moment after. tells calls.clock.now moment × (after ≡ calls);
+    checks = λ calls c v c' after. m.checks calls.manager.now c v c' × (after ≡ calls);
+    check_answers = λ calls c v moment answer c' v' after. m.check_answers calls.manager.now c v moment answer c' v' × (after ≡ calls);
+    ends_check = λ calls _ after. after ≡ calls;
+    breaks = λ calls c broken c' after. m.breaks calls.manager.now c broken c' × (after ≡ calls);
+    sinks = λ calls e after. sinks calls.sink.now e × (after ≡ calls);
+    lets_go = λ calls _ after. after ≡ calls;
+  }
+
+  -- these are the calls of the pool's manager, error sink and clock
+  abbrev pub AreOf : Calls M S K → Type 0
+  AreOf calls = (calls.manager.now ≡ shared.manager) × (calls.sink.now ≡ shared.error_sink) × (calls.clock.now ≡ shared.clock)
+
+  -- this is done by these calls
+  abbrev pub Own : (Calls M S K → Type 0) → Type 0
+  Own Does = (calls : Calls M S K) × AreOf calls × Does calls
+
+  abbrev pub OwnPolls : Stage C V (Part L) → Poll (Result (Taken C (Part L)) (RunError E)) → Stage C V (Part L) → Type 0
+  OwnPolls stage r stage' = Own (λ calls. LinkPolls pool_calls shared stage calls (record { answer = r; stage = stage' }))
+
+  -- what the polls of such a get answer at last
+  abbrev pub OwnGives : Stage C V (Part L) → Result (Taken C (Part L)) (RunError E) → Type 0
+  OwnGives stage x = Answers OwnPolls stage x
+
+  abbrev pub OwnCancels : Stage C V (Part L) → Type 0
+  OwnCancels stage = Own (LinkCancels pool_calls shared stage)
+
+  abbrev pub OwnCancelsAndLeaves : Stage C V (Part L) → Type 0
+  OwnCancelsAndLeaves stage = Own (LinkCancelsAndLeaves pool_calls shared stage)
+
+  abbrev pub OwnReturns : Taken C (Part L) → Type 0
+  OwnReturns taken = Own (LinkReturns pool_calls shared taken)
+
+  abbrev pub OwnReturnsAndLeaves : Taken C (Part L) → Type 0
+  OwnReturnsAndLeaves taken = Own (LinkReturnsAndLeaves pool_calls shared taken)
+
+  abbrev pub OwnJoins : Joining → Type 0
+  OwnJoins answer = Own (LinkJoins pool_calls shared answer)
+
+  abbrev pub OwnLeaves : Type 0
+  OwnLeaves = Own (LinkLeaves pool_calls shared)
+
+  abbrev pub OwnAdds : C → Result (Unit {0}) (AddError C) → Type 0
+  OwnAdds conn result = Own (LinkAdds pool_calls shared conn result)
+
+  abbrev pub OwnShows : State → Type 0
+  OwnShows state = Own (LinkShows pool_calls shared state)
+
+-- a guard is made of what was served, and an error is passed on
+abbrev pub MakesGuard : {A B E : Type 0} → (A → B → Type 0) → Result A E → Result B E → Type 0
+MakesGuard Makes (Ok a) (Ok b) = Makes a b
+MakesGuard Makes (Err e) (Err f) = e ≡ f
+MakesGuard Makes (Ok a) (Err f) = ⊥
+MakesGuard Makes (Err e) (Ok b) = ⊥
+
+-- a poll's answer with a guard in place of what was served
+abbrev pub MakesPoll : {A B E : Type 0} → (A → B → Type 0) → Poll (Result A E) → Poll (Result B E) → Type 0
+MakesPoll Makes (Ready a) (Ready b) = MakesGuard Makes a b
+MakesPoll Makes Pending Pending = ⊤
+MakesPoll Makes (Ready a) Pending = ⊥
+MakesPoll Makes Pending (Ready b) = ⊥

@@ -1,0 +1,115 @@
+-- Tasks on a pool's lock, which is taken for each of their steps alone, and by the pool's own manager, customizer, error sink and clock.
+use Rattle.std.specs.Prelude.{◌≡◌, None, Option, Result, List}
+use Rattle.std.specs.Duration.{as_nanos}
+use Rattle.std.specs.declared.sync.MutexGuard.{MutexGuard}
+use Rattle.std.specs.declared.fmt.Debug.{Ghosts as DebugOf}
+use Rattle.futures.specs.declared.task.Poll.{Poll}
+use Rattle.bb8_types.specs.declared.api.moments.Moment.{Moment}
+use Rattle.bb8_types.specs.declared.api.customizers.CustomizeConnection.{Ghosts as CustomizerOf}
+use Rattle.bb8_types.specs.declared.api.managers.ManageConnection.{Ghosts as ManagerOf}
+use Rattle.bb8_ledger.specs.Acts as acts
+use Rattle.bb8_core.specs.StepAnswers.{look_told}
+use Rattle.bb8_core.specs.declared.joined.Joined.{Joined}
+use Rattle.bb8_gets.specs.Homes.{StepsIn}
+use Rattle.bb8_tasks.specs.declared.dedicated.Dedicated.{Dedicated}
+use Rattle.bb8_tasks.specs.declared.home.Home.{Ghosts as HomeOf}
+use Rattle.bb8_tasks.specs.declared.opener.Opener.{Ghosts as OpenerOf}
+use Rattle.bb8_tasks.specs.declared.opener.PoolOpener.{PoolOpener}
+use Rattle.bb8_tasks.specs.declared.replenish.Replenish.{Replenish}
+use Rattle.bb8_tasks.specs.declared.rounds.Reports.{Ghosts as ReportsOf}
+use Rattle.bb8_tasks.specs.declared.rounds.Round.{Round}
+use Rattle.bb8_tasks.specs.Dedicating as dedicating
+use Rattle.bb8_tasks.specs.Homes.{failed_told, opened_told, HandsOpenedBack}
+use Rattle.bb8_tasks.specs.Joined.{joined_opener, joined_reports, joined_tasks}
+use Rattle.bb8_tasks.specs.Replenishing.{TaskPolls, LetsGo}
+use Rattle.bb8_tasks.specs.Sweeping.{Rounds, LetsGoEach}
+use Rattle.bb8_lock.specs.declared.locked.Locked.{Locked}
+use Rattle.bb8_lock.specs.declared.locked.Parts.{Ghosts as PartsOf}
+use Rattle.bb8_lock.specs.declared.link.LinkHome.{LinkHome}
+use Rattle.bb8_lock.specs.declared.shared.Shared.{Shared}
+use Rattle.bb8_lock.specs.Linked.{StartsAt}
+
+-- the relations of what a pool's lock holds as a home of tasks: each step leads from the state that stands there, which keeps the limits
+abbrev pub locked_tasks : {C L : Type 0} {l : PartsOf L} → HomeOf (Locked C L l) C
+locked_tasks {l = l} = record {
+  looks = λ h at seen h'. StepsIn l.settings h.core at.0 acts.Look (look_told seen) h'.core;
+  opens = λ h at a c step h'. StepsIn l.settings h.core at.0 (acts.Opened a.number c) (opened_told a.number step) h'.core × HandsOpenedBack c step;
+  fails = λ h at a step h'. StepsIn l.settings h.core at.0 (acts.Failed a.number) (failed_told step) h'.core;
+}
+
+-- A step on what is held, or else on whatever stands behind the lock, which is taken for it. Nothing is held then.
+abbrev pub Visits : {T : Type 0} → (T → T → Type 0) → Option (MutexGuard T) → Option (MutexGuard T) → Type 0
+Visits {T} Step held held' = (t : T) × (t' : T) × StartsAt held t × Step t t' × (held' ≡ None)
+
+-- the relations of a lock as a home of tasks, by those of what it holds
+abbrev pub link_tasks : {C R T : Type 0} → HomeOf T C → HomeOf (LinkHome T R) C
+link_tasks home = record {
+  looks = λ h at seen h'. Visits (λ t t'. home.looks t at seen t') h.held h'.held;
+  opens = λ h at a c step h'. Visits (λ t t'. home.opens t at a c step t') h.held h'.held;
+  fails = λ h at a step h'. Visits (λ t t'. home.fails t at a step t') h.held h'.held;
+}
+
+-- What the futures of a pool do with its tasks, of which handles and guards share this, by any calls outside.
+module _ {M S Z K R L C E N V A W : Type 0} {m : ManagerOf M C E N V} {d : DebugOf E} {l : PartsOf L} (opener : OpenerOf W C E N A) (reports : ReportsOf W E)
+    (shared : Shared M S Z K R L C E N V m d l) where
+  -- a round of the tasks, which stops at the first failure, on the pool's lock, which is free before: the clock is read, and then the round is
+  -- made
+  abbrev pub LinkRounds : List (Replenish C N A) → W → Round (List (Replenish C N A)) E → Type 0
+  LinkRounds tasks w round =
+      (x : Joined W (LinkHome (Locked C L l) R)) × (x' : Joined W (LinkHome (Locked C L l) R)) × (x.outside ≡ w) × (x.home.held ≡ None)
+      × ((at : Moment) × (x1 : Joined W (LinkHome (Locked C L l) R)) × (joined_reports reports).tells x at x1
+      × Rounds (TaskPolls (joined_tasks (link_tasks locked_tasks)) (joined_opener opener) (as_nanos shared.config.connection_timeout) shared.config.retry_connection at)
+      (joined_reports reports).sinks (LetsGo (joined_tasks (link_tasks locked_tasks)) (joined_opener opener) at) tasks x1 round x')
+
+  -- the tasks are let go on the pool's lock: the clock is read, and then what each task holds is let go, and its approval given back
+  abbrev pub LinkDropsTasks : List (Replenish C N A) → W → Type 0
+  LinkDropsTasks tasks w =
+      (x : Joined W (LinkHome (Locked C L l) R)) × (x' : Joined W (LinkHome (Locked C L l) R)) × (x.outside ≡ w) × (x.home.held ≡ None)
+      × ((at : Moment) × (x1 : Joined W (LinkHome (Locked C L l) R)) × (joined_reports reports).tells x at x1
+      × LetsGoEach (LetsGo (joined_tasks (link_tasks locked_tasks)) (joined_opener opener) at) tasks x1 x')
+
+-- What they do by the pool's own manager, customizer, error sink and clock, whose relations these are.
+module _ {M S Z K R L C E N V A : Type 0} {m : ManagerOf M C E N V} {d : DebugOf E} {l : PartsOf L} (z : CustomizerOf Z C E A) (sinks : S → E → Type 0)
+    (tells : K → Moment → Type 0) (shared : Shared M S Z K R L C E N V m d l) where
+  -- the relations of the calls of a pool's manager and customizer
+  abbrev pub pool_opener : OpenerOf (PoolOpener M S Z K) C E N A
+  pool_opener = record {
+    connects = λ calls v after. m.connects calls.manager.now v × (after ≡ calls);
+    connect_answers = λ calls v at answer v' after. m.connect_answers calls.manager.now v at answer v' × (after ≡ calls);
+    ends_connect = λ calls _ after. after ≡ calls;
+    acquires = λ calls c a c' after. z.acquires calls.customizer.now c a c' × (after ≡ calls);
+    acquire_answers = λ calls c a at answer c' a' after. z.acquire_answers calls.customizer.now c a at answer c' a' × (after ≡ calls);
+    ends_acquire = λ calls _ after. after ≡ calls;
+    lets_go = λ calls _ after. after ≡ calls;
+  }
+
+  -- the relations of the calls of its error sink and clock
+  abbrev pub pool_reports : ReportsOf (PoolOpener M S Z K) E
+  pool_reports = record {
+    tells = λ calls at after. tells calls.clock.now at × (after ≡ calls);
+    sinks = λ calls e after. sinks calls.sink.now e × (after ≡ calls);
+  }
+
+  -- these are the calls of the pool's manager, error sink, customizer and clock
+  abbrev pub AreOpenersOf : PoolOpener M S Z K → Type 0
+  AreOpenersOf calls =
+      (calls.manager.now ≡ shared.manager) × (calls.sink.now ≡ shared.error_sink) × (calls.customizer.now ≡ shared.customizer) × (calls.clock.now ≡ shared.clock)
+
+  -- a round of the tasks that open the pool's first connections
+  abbrev pub OwnRounds : List (Replenish C N A) → Round (List (Replenish C N A)) E → Type 0
+  OwnRounds tasks round = (calls : PoolOpener M S Z K) × AreOpenersOf calls × LinkRounds pool_opener pool_reports shared tasks calls round
+
+  -- the tasks of the pool are let go
+  abbrev pub OwnDropsTasks : List (Replenish C N A) → Type 0
+  OwnDropsTasks tasks = (calls : PoolOpener M S Z K) × AreOpenersOf calls × LinkDropsTasks pool_opener pool_reports shared tasks calls
+
+  -- a poll of the opening of a connection that the pool does not count
+  abbrev pub OwnDedicates : Dedicated C N A → Poll (Result C E) → Dedicated C N A → Type 0
+  OwnDedicates opening answer opening' =
+      (calls : PoolOpener M S Z K) × (calls' : PoolOpener M S Z K) × AreOpenersOf calls
+      × dedicating.OpeningPolls pool_opener pool_reports.tells opening calls answer opening' calls'
+
+  -- such an opening is let go
+  abbrev pub OwnDropsOpening : Dedicated C N A → Type 0
+  OwnDropsOpening opening =
+      (calls : PoolOpener M S Z K) × (calls' : PoolOpener M S Z K) × AreOpenersOf calls × dedicating.DropsOpening pool_opener opening.stage calls calls'

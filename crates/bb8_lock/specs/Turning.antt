@@ -1,0 +1,85 @@
+-- The turns of a driver on a pool's lock, which is taken for each step alone, and by the pool's own manager, customizer, error sink and clock.
+use Rattle.std.specs.Prelude.{◌≡◌, None}
+use Rattle.std.specs.Duration.{as_nanos}
+use Rattle.std.specs.declared.fmt.Debug.{Ghosts as DebugOf}
+use Rattle.bb8_types.specs.declared.api.customizers.CustomizeConnection.{Ghosts as CustomizerOf}
+use Rattle.bb8_types.specs.declared.api.managers.ManageConnection.{Ghosts as ManagerOf}
+use Rattle.bb8_types.specs.declared.api.moments.Moment.{Moment}
+use Rattle.bb8_ledger.specs.Acts as acts
+use Rattle.bb8_core.specs.StepAnswers.{claim_told, look_told}
+use Rattle.bb8_core.specs.declared.joined.Joined.{Joined}
+use Rattle.bb8_gets.specs.Homes.{StepsIn}
+use Rattle.bb8_tasks.specs.declared.home.ClaimHome.{Ghosts as ClaimHomeOf}
+use Rattle.bb8_tasks.specs.declared.home.ReapHome.{Ghosts as ReapHomeOf}
+use Rattle.bb8_tasks.specs.declared.opener.Opener.{Ghosts as OpenerOf}
+use Rattle.bb8_tasks.specs.declared.opener.PoolOpener.{PoolOpener}
+use Rattle.bb8_tasks.specs.declared.rounds.Reports.{Ghosts as ReportsOf}
+use Rattle.bb8_tasks.specs.Joined.{joined_claims, joined_opener, joined_reaps, joined_reports, joined_tasks}
+use Rattle.bb8_tasks.specs.ReapHomes.{reap_told}
+use Rattle.bb8_tasks.specs.declared.turning.Turn.{Turn}
+use Rattle.bb8_tasks.specs.declared.turning.Turning.{Turning}
+use Rattle.bb8_tasks.specs.Turns.{DriverLetsGo, DriverTurns}
+use Rattle.bb8_lock.specs.declared.locked.Locked.{Locked}
+use Rattle.bb8_lock.specs.declared.locked.Parts.{Ghosts as PartsOf}
+use Rattle.bb8_lock.specs.declared.link.LinkHome.{LinkHome}
+use Rattle.bb8_lock.specs.declared.shared.Shared.{Shared}
+use Rattle.bb8_lock.specs.Opening.{AreOpenersOf, link_tasks, locked_tasks, pool_opener, pool_reports, Visits}
+
+-- the relations of what a pool's lock holds as a home of claims, and as a home of reaps
+abbrev pub locked_claims : {C L : Type 0} {l : PartsOf L} → ClaimHomeOf (Locked C L l)
+locked_claims {l = l} = record {
+  claims = λ h at answer h'. StepsIn l.settings h.core at.0 acts.Claim (claim_told answer) h'.core;
+}
+
+abbrev pub locked_reaps : {C L : Type 0} {l : PartsOf L} → ReapHomeOf (Locked C L l)
+locked_reaps {l = l} = record {
+  looks = λ h at seen h'. StepsIn l.settings h.core at.0 acts.Look (look_told seen) h'.core;
+  reaps = λ h at step h'. StepsIn l.settings h.core at.0 acts.Reap (reap_told step) h'.core;
+}
+
+-- the relations of a lock as such homes, by those of what it holds
+abbrev pub link_claims : {R T : Type 0} → ClaimHomeOf T → ClaimHomeOf (LinkHome T R)
+link_claims home = record { claims = λ h at answer h'. Visits (λ t t'. home.claims t at answer t') h.held h'.held }
+
+abbrev pub link_reaps : {R T : Type 0} → ReapHomeOf T → ReapHomeOf (LinkHome T R)
+link_reaps home = record {
+  looks = λ h at seen h'. Visits (λ t t'. home.looks t at seen t') h.held h'.held;
+  reaps = λ h at step h'. Visits (λ t t'. home.reaps t at step t') h.held h'.held;
+}
+
+-- What a driver of a pool does, of which the pool's handles share this, by any calls outside.
+module _ {M S Z K R L C E N V A W : Type 0} {m : ManagerOf M C E N V} {d : DebugOf E} {l : PartsOf L} (opener : OpenerOf W C E N A) (reports : ReportsOf W E)
+    (shared : Shared M S Z K R L C E N V m d l) where
+  -- a turn at a moment, on the pool's lock and by the calls outside, which are one value
+  abbrev pub TurnsOn : Moment → Turning C N A → Joined W (LinkHome (Locked C L l) R) → Turn → Turning C N A → Joined W (LinkHome (Locked C L l) R) → Type 0
+  TurnsOn at turning x turn turning' x' =
+      DriverTurns (joined_tasks (link_tasks locked_tasks)) (joined_claims (link_claims locked_claims)) (joined_reaps (link_reaps locked_reaps)) (joined_opener opener)
+      (joined_reports reports).sinks (as_nanos shared.config.connection_timeout) shared.config.retry_connection at turning x turn turning' x'
+
+  -- such a turn, where the lock is free before
+  abbrev pub LinkTurns : Moment → Turning C N A → W → Turn → Turning C N A → Type 0
+  LinkTurns at turning w turn turning' =
+      (x : Joined W (LinkHome (Locked C L l) R)) × (x' : Joined W (LinkHome (Locked C L l) R)) × (x.outside ≡ w) × (x.home.held ≡ None)
+      × TurnsOn at turning x turn turning' x'
+
+  -- a driver is let go on the pool's lock: the clock is read, and then each of its tasks is let go, and its approval given back
+  abbrev pub LinkDropsTurning : Turning C N A → W → Type 0
+  LinkDropsTurning turning w =
+      (x : Joined W (LinkHome (Locked C L l) R)) × (x' : Joined W (LinkHome (Locked C L l) R)) × (x.outside ≡ w) × (x.home.held ≡ None)
+      × ((at : Moment) × (x1 : Joined W (LinkHome (Locked C L l) R)) × (joined_reports reports).tells x at x1
+      × DriverLetsGo (joined_tasks (link_tasks locked_tasks)) (joined_opener opener) at turning x1 x')
+
+-- What it does by the pool's own manager, customizer, error sink and clock, whose relations these are.
+module _ {M S Z K R L C E N V A : Type 0} {m : ManagerOf M C E N V} {d : DebugOf E} {l : PartsOf L} (z : CustomizerOf Z C E A) (sinks : S → E → Type 0)
+    (tells : K → Moment → Type 0) (shared : Shared M S Z K R L C E N V m d l) where
+  -- a turn at a moment
+  abbrev pub OwnTurns : Moment → Turning C N A → Turn → Turning C N A → Type 0
+  OwnTurns at turning turn turning' =
+      (calls : PoolOpener M S Z K) × AreOpenersOf z sinks tells shared calls
+      × LinkTurns (pool_opener z sinks tells shared) (pool_reports z sinks tells shared) shared at turning calls turn turning'
+
+  -- the driver is let go
+  abbrev pub OwnDropsTurning : Turning C N A → Type 0
+  OwnDropsTurning turning =
+      (calls : PoolOpener M S Z K) × AreOpenersOf z sinks tells shared calls
+      × LinkDropsTurning (pool_opener z sinks tells shared) (pool_reports z sinks tells shared) shared turning calls

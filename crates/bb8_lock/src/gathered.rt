@@ -1,0 +1,56 @@
+//! Parts that are held together.
+ghost use Rattle.std.specs.Prelude.{◌≡◌, ℕ, ◌+◌, ◌<◌, ◌≤◌};
+ghost use Rattle.bb8_lock.specs.Gathered.{number_in};
+
+use crate::Part;
+use std::marker::Model;
+use std::sync::ledger::{Ledger, Share, Total};
+
+/// Some of the parts, or none. Contracts see how many they are. Our own.
+#[derive(Drop)]
+pub struct Gathered<L: Ledger> {
+    share: Option<Share<L>>,
+}
+
+impl<L: Ledger> Model for Gathered<L> {
+    ghost Value = { ℕ };
+
+    ghost view = { λ p. number_in (λ s. s.parts) p.share };
+
+    ghost invariant = { λ p. number_in (λ s. s.amount) p.share ≡ number_in (λ s. s.parts) p.share };
+}
+
+impl<L: Ledger> Gathered<L> {
+    /// No part. Our own.
+    pub fn none() -> Self
+        ensures { result ≡ 0 }
+    {
+        Gathered { share: None }
+    }
+
+    /// Takes one part more. There are never more than the total. Our own.
+    pub fn put(&mut self, part: Part<L>, total: &Total<L>)
+        ensures one_more { self.new ≡ self.old + 1 }
+        ensures within { self.new ≤ total.now.amount }
+    {
+        let Part { share: mut all } = part;
+        if let Some(share) = self.share.take() {
+            all.merge(share);
+        }
+        total.audit(&mut all);
+        self.share = Some(all);
+    }
+
+    /// Gives one part back. Our own.
+    pub fn take_one(&mut self) -> Part<L>
+        requires { 0 < self.old }
+        ensures { self.new + 1 ≡ self.old }
+    {
+        match &mut self.share {
+            Some(share) => Part {
+                share: share.split_off(1, 1),
+            },
+            None => unreachable!(),
+        }
+    }
+}

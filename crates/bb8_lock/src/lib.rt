@@ -1,0 +1,32 @@
+//! The lock of a pool: what it holds, what is done to that under one taking, and what takes it. The first are the state and the parts by
+//! which connections out are counted. The others are a get's polls, a guard's return, adding, the figures, a handle that is counted or leaves,
+//! the tasks that open connections, and the turns of a driver; manager, customizer, sink and clock are called while the lock is free.
+#![tactic(auto)]
+
+mod calls;
+mod gathered;
+mod gets;
+mod home;
+mod link;
+mod locked;
+mod locks;
+mod on_shared;
+mod opening;
+mod opens;
+mod section_home;
+mod shared;
+mod turning;
+
+pub use calls::{
+    add, cancel_and_leave, give_back, give_back_and_leave, join, leave, state, take_now,
+};
+pub use gathered::Gathered;
+pub use gets::Gets;
+pub use link::LinkHome;
+pub use locked::{Locked, NewPool, Part, Parts, PoolParts, begin_pool};
+pub use locks::Locks;
+pub use on_shared::OnShared;
+pub use opening::Opens;
+pub use section_home::{Handle, Joining, SectionHome};
+pub use shared::Shared;
+pub use turning::Drives;

@@ -1,0 +1,217 @@
+//! A lock as a home of gets and of sections.
+ghost use Rattle.std.specs.Prelude.{◌≡◌, None};
+ghost use Rattle.bb8_lock.specs.Linked.{LeadsHeld, StartsAt};
+ghost use Rattle.std.specs.Sync.Mutex.{mutex_guard_value};
+
+use crate::locks::Locks;
+use crate::{Handle, Joining, SectionHome};
+use bb8_core::api::{Moment, State};
+use bb8_core::internals::{
+    AddAnswer, BeginAnswer, CheckedErrAnswer, GetKey, GiveUpAnswer, Grant, Key, LeaveAnswer,
+    Looked, PutBackAnswer, Reason,
+};
+use bb8_gets::{GetHome, Passed, Returned, Taken, Tried, Unfit};
+use std::sync::{Mutex, MutexGuard};
+
+/// The lock of a home as a home: it is taken at a step where it is not held, and held until it is released.
+#[derive(Drop)]
+pub struct LinkHome<'a, T, R> {
+    mutex: &'a Mutex<T>,
+    rt: &'a R,
+    held: Option<MutexGuard<'a, T>>,
+}
+
+impl<'a, T, R> LinkHome<'a, T, R> {
+    /// The home that takes this lock, which is not held yet.
+    pub fn new(mutex: &'a Mutex<T>, rt: &'a R) -> Self
+        ensures { result.held ≡ None }
+    {
+        LinkHome {
+            mutex,
+            rt,
+            held: None,
+        }
+    }
+}
+
+/// What a step of such a home begins with, as a method of an impl, so that its steps can call it.
+pub trait Hold {
+    type Guard;
+
+    /// What is held, or else the lock is taken.
+    fn hold(&mut self) -> Self::Guard;
+}
+
+impl<'a, T, R: Locks> Hold for LinkHome<'a, T, R> {
+    type Guard = MutexGuard<'a, T>;
+
+    fn hold(&mut self) -> MutexGuard<'a, T>
+        ensures start { StartsAt self.old.held (mutex_guard_value result) }
+        ensures free { self.new.held ≡ None }
+    {
+        match self.held.take() {
+            Some(guard) => guard,
+            None => self.rt.take(self.mutex),
+        }
+    }
+}
+
+impl<'a, C, T: GetHome<C>, R: Locks> GetHome<C> for LinkHome<'a, T, R> {
+    type Part = T::Part;
+
+    ghost releases = { λ h h'. h'.held ≡ None };
+
+    ghost looks = { λ h at seen h'. LeadsHeld (λ t t'. T.looks t at seen t') h.held h'.held };
+
+    ghost begins = { λ h at b h'. LeadsHeld (λ t t'. T.begins t at b t') h.held h'.held };
+
+    ghost tries = { λ h at get a h'. LeadsHeld (λ t t'. T.tries t at get a t') h.held h'.held };
+
+    ghost passes = { λ h at get key part a h'. LeadsHeld (λ t t'. T.passes t at get key part a t') h.held h'.held };
+
+    ghost fails = { λ h at get returned a h'. LeadsHeld (λ t t'. T.fails t at get returned a t') h.held h'.held };
+
+    ghost gives_up = { λ h at get reason a h'. LeadsHeld (λ t t'. T.gives_up t at get reason a t') h.held h'.held };
+
+    ghost gives_back = { λ h at get reason returned a h'. LeadsHeld (λ t t'. T.gives_back t at get reason returned a t') h.held h'.held };
+
+    fn release(&mut self) {
+        self.held = None;
+    }
+
+    fn look(&mut self, at: Moment) -> Looked {
+        let mut guard = self.hold();
+        let seen = guard.look(at);
+        self.held = Some(guard);
+        seen
+    }
+
+    fn serve(&mut self, at: Moment) -> (Looked, Option<(Taken<C, T::Part>, Grant)>) {
+        let mut guard = self.hold();
+        let answer = guard.serve(at);
+        self.held = Some(guard);
+        answer
+    }
+
+    fn begin(&mut self, at: Moment) -> Result<BeginAnswer, Unfit> {
+        let mut guard = self.hold();
+        let answer = guard.begin(at);
+        self.held = Some(guard);
+        answer
+    }
+
+    fn try_get(&mut self, at: Moment, get: GetKey) -> Result<Tried<C, T::Part>, Unfit> {
+        let mut guard = self.hold();
+        let answer = guard.try_get(at, get);
+        self.held = Some(guard);
+        answer
+    }
+
+    fn checked_ok(
+        &mut self,
+        at: Moment,
+        get: GetKey,
+        key: Key,
+        part: T::Part,
+    ) -> Result<Passed<T::Part>, Unfit> {
+        let mut guard = self.hold();
+        let answer = guard.checked_ok(at, get, key, part);
+        self.held = Some(guard);
+        answer
+    }
+
+    fn checked_err(
+        &mut self,
+        at: Moment,
+        get: GetKey,
+        returned: Returned<C, T::Part>,
+    ) -> Result<CheckedErrAnswer<C>, C>
+        ensures { LeadsHeld (λ t t'. T.fails t at get returned result t') self.old.held self.new.held }
+    {
+        let mut guard = self.hold();
+        let answer = guard.checked_err(at, get, returned);
+        self.held = Some(guard);
+        answer
+    }
+
+    fn give_up(
+        &mut self,
+        at: Moment,
+        get: GetKey,
+        reason: Reason,
+    ) -> Result<GiveUpAnswer<C>, Unfit> {
+        let mut guard = self.hold();
+        let answer = guard.give_up(at, get, reason);
+        self.held = Some(guard);
+        answer
+    }
+
+    fn give_back(
+        &mut self,
+        at: Moment,
+        get: GetKey,
+        reason: Reason,
+        returned: Returned<C, T::Part>,
+    ) -> Result<GiveUpAnswer<C>, C>
+        ensures { LeadsHeld (λ t t'. T.gives_back t at get reason returned result t') self.old.held
+            self.new.held }
+    {
+        let mut guard = self.hold();
+        let answer = guard.give_back(at, get, reason, returned);
+        self.held = Some(guard);
+        answer
+    }
+}
+
+impl<'a, C, T: SectionHome<C>, R: Locks> SectionHome<C> for LinkHome<'a, T, R> {
+    ghost puts_back = { λ h at returned a h'. LeadsHeld (λ t t'. T.puts_back t at returned a t') h.held h'.held };
+
+    ghost adds = { λ h at c broken a h'. LeadsHeld (λ t t'. T.adds t at c broken a t') h.held h'.held };
+
+    ghost shows = { λ h at state h'. LeadsHeld (λ t t'. T.shows t at state t') h.held h'.held };
+
+    ghost joins = { λ h at a h'. LeadsHeld (λ t t'. T.joins t at a t') h.held h'.held };
+
+    ghost leaves = { λ h at a h'. LeadsHeld (λ t t'. T.leaves t at a t') h.held h'.held };
+
+    fn put_back(
+        &mut self,
+        at: Moment,
+        returned: Returned<C, T::Part>,
+    ) -> Result<PutBackAnswer<C>, C>
+        ensures { LeadsHeld (λ t t'. T.puts_back t at returned result t') self.old.held self.new.held }
+    {
+        let mut guard = self.hold();
+        let answer = guard.put_back(at, returned);
+        self.held = Some(guard);
+        answer
+    }
+
+    fn add(&mut self, at: Moment, conn: C, broken: bool) -> Result<AddAnswer<C>, C> {
+        let mut guard = self.hold();
+        let answer = guard.add(at, conn, broken);
+        self.held = Some(guard);
+        answer
+    }
+
+    fn state(&mut self, at: Moment) -> State {
+        let mut guard = self.hold();
+        let state = guard.state(at);
+        self.held = Some(guard);
+        state
+    }
+
+    fn join(&mut self, at: Moment) -> Joining {
+        let mut guard = self.hold();
+        let answer = guard.join(at);
+        self.held = Some(guard);
+        answer
+    }
+
+    fn leave(&mut self, at: Moment, handle: Handle) -> Result<LeaveAnswer, Unfit> {
+        let mut guard = self.hold();
+        let answer = guard.leave(at, handle);
+        self.held = Some(guard);
+        answer
+    }
+}

@@ -1,0 +1,240 @@
+//! What the lock of a pool holds, and the sections: what is done to it under one taking of the lock.
+//!
+//! A section is lent the state. Where its event fits it takes one step; where it does not, as no code of this crate brings about, it
+//! answers `Unfit` and changes nothing. No manager, customizer, sink or clock is called here.
+ghost use Rattle.std.specs.Prelude.{◌≡◌, ◌+◌, ◌^◌, ◌<◌, ◌≤◌, true, IfOk};
+ghost use Rattle.bb8_ledger.specs.Acts as acts;
+ghost use Rattle.bb8_types.specs.Settings.{Settings, default_settings, is_lawful, settings_of};
+ghost use Rattle.bb8_lock.specs.Parts.{PoolBegins, IsBlankOf};
+ghost use Rattle.bb8_core.specs.StepAnswers.{claim_told, opened_told, HandsBack};
+ghost use Rattle.bb8_core.specs.Parts.{out_of};
+ghost use Rattle.bb8_core.specs.Shown.{IsWithinLimits};
+
+use crate::section_home::{Handle, Joining, SectionHome};
+use bb8_core::api::{Config, Memory, Moment, State};
+use bb8_core::internals::{
+    AddAnswer, ClaimAnswer, Grant, JoinAnswer, Key, LeaveAnswer, OpenedAnswer, PoolInternals,
+    PutBackAnswer,
+};
+use bb8_gets::{Returned, Taken, Unfit};
+use std::alloc::Global;
+use std::marker::Brand;
+use std::sync::ledger::{Blank, Ledger, Share, Total};
+
+/// The parts by which the connections of one pool are counted, as many as its `max_size`, and the settings of that pool. They tie what the
+/// lock holds to what stands beside the lock: of one pool's parts there is one value of settings. Our own.
+pub trait Parts: Ledger {
+    // The settings of the pool that the parts are of.
+    ghost settings: { Settings };
+}
+
+impl Parts for Brand {
+    ghost settings = { default_settings };
+}
+
+/// The parts of a pool that threads share. A program names `Brand`. Our own.
+pub trait PoolParts: Parts + Send + Sync {}
+
+impl PoolParts for Brand {}
+
+/// What the lock holds: the state, which has the pool's settings, and the parts that go with no connection. Each connection that is out has
+/// one part with it, so parts and connections out are together as many as `max_size`.
+#[derive(Drop)]
+pub struct Locked<C, L: Parts> {
+    pub(crate) core: PoolInternals<C>,
+    pub(crate) rest: Share<L>,
+    ghost parts: { out_of core + rest.parts ≡ core.config.max_size },
+    ghost amount: { rest.amount ≡ rest.parts },
+    ghost settled: { core.config ≡ L.settings },
+}
+
+/// One of the parts. It cannot be let go but by a section that takes it back.
+pub struct Part<L: Ledger> {
+    pub share: Share<L>,
+    ghost one: { share.parts ≡ 1 },
+    ghost counts: { share.amount ≡ 1 },
+}
+
+/// What a new pool is made of. Our own.
+pub struct NewPool<C, L: Parts> {
+    /// How many parts there are.
+    pub total: Total<L>,
+    /// What its lock holds.
+    pub locked: Locked<C, L>,
+    /// Its one handle.
+    pub handle: Handle,
+    /// The approvals for its first connections.
+    pub grant: Grant,
+}
+
+/// Lays out the parts of a new pool beside its state, which has nothing out; the total says how many there are.
+fn lay_out_parts<C: Drop, L: Parts>(
+    core: PoolInternals<C>,
+    blank: Blank,
+    max_size: u32,
+) -> (Total<L>, Locked<C, L>)
+    requires parts { IsBlankOf blank core.config L.name L.parts L.settings }
+    requires same { core.config.max_size ≡ max_size }
+    requires some { 0 < max_size }
+    requires none_out { out_of core ≡ 0 }
+    ensures total { result.0.amount ≡ max_size }
+    ensures state { result.1.core ≡ core }
+{
+    let (mut book, mut rest) = blank.open::<L>();
+    book.add(&mut rest, max_size as u64);
+    (book.close(), Locked { core, rest })
+}
+
+/// A new pool with one handle: its lock holds the state with the pool's settings, its first approvals, which are claimed or not, and its
+/// parts. It fails where memory for an approval is refused.
+pub fn begin_pool<C: Drop, L: Parts>(
+    alloc: Global,
+    config: Config,
+    at: Moment,
+    blank: Blank,
+    claimed: bool,
+) -> Result<NewPool<C, L>, Memory>
+    requires lawful { is_lawful (settings_of config) ≡ true }
+    requires parts { IsBlankOf blank (settings_of config) L.name L.parts L.settings }
+    ensures total { IfOk result (λ new. new.total.amount ≡ config.max_size) }
+    ensures first { IfOk result (λ new. PoolBegins (settings_of config) claimed at.0 new.grant
+        new.locked.core) }
+    ensures numbers { IfOk result (λ new. new.grant.first + new.grant.count < 2 ^ 64) }
+{
+    let mut core = PoolInternals::new(alloc, config);
+    let grant = core.fill(at, claimed);
+    if grant.withheld > 0 {
+        return Err(Memory);
+    }
+    let (total, locked) = lay_out_parts(core, blank, config.max_size);
+    Ok(NewPool {
+        total,
+        locked,
+        handle: Handle { _alive: () },
+        grant,
+    })
+}
+
+impl<C: Drop, L: Parts> Locked<C, L> {
+    ghost use Rattle.bb8_gets.specs.Homes.{StepsIn};
+    ghost use Rattle.bb8_lock.specs.Sections.{returned, OnFit};
+
+    /// What holds of the state, whoever holds the lock. It does nothing.
+    pub(crate) fn limits(&self)
+        ensures limits { IsWithinLimits self.now.core }
+        ensures settings { self.now.core.config ≡ L.settings }
+    {
+        self.core.limits();
+    }
+
+    /// Claims the unclaimed approval of the least number, for whoever opens its connection.
+    pub fn claim(&mut self, at: Moment) -> ClaimAnswer
+        ensures { StepsIn L.settings self.old.core at.0 acts.Claim
+            (claim_told result) self.new.core }
+    {
+        self.limits();
+        let Locked { core, .. } = self;
+        core.claim(at)
+    }
+
+    /// Makes idle the connection that a claimed approval brought. Where that does not fit, the connection comes back as the error.
+    pub fn opened(&mut self, at: Moment, approval: Key, conn: C) -> Result<OpenedAnswer<C>, C>
+        ensures step { StepsIn L.settings self.old.core at.0 (acts.Opened approval.number conn)
+            (returned (opened_told approval.number) result) self.new.core }
+        ensures connection { OnFit (HandsBack conn) (λ same. same ≡ conn) result }
+    {
+        self.limits();
+        let Locked { core, .. } = self;
+        if !core.fits_opened(approval) {
+            return Err(conn);
+        }
+        Ok(core.opened(at, approval, conn))
+    }
+}
+
+/// Each section is one step, from the state that stands there to the next one.
+impl<C: Drop, L: Parts> SectionHome<C> for Locked<C, L> {
+    ghost use Rattle.bb8_types.specs.Figures.{figures_of};
+    ghost use Rattle.bb8_ledger.specs.Answers as answers;
+    ghost use Rattle.bb8_core.specs.StepAnswers.{add_told, leave_told, put_back_told, GivesBack, Refuses};
+    ghost use Rattle.bb8_gets.specs.Homes.{StepsIn};
+    ghost use Rattle.bb8_gets.specs.Told.{answered};
+    ghost use Rattle.bb8_lock.specs.Sections.{joining_told, returned, IsSorted, OnFit};
+
+    ghost puts_back = { λ h at r a h'. StepsIn L.settings h.core at.0 (acts.PutBack r.taken.key.number r.taken.connection r.broken) (returned (put_back_told r.taken.key.number) a) h'.core × OnFit (GivesBack r.taken.connection) (λ c. c ≡ r.taken.connection) a };
+
+    ghost adds = { λ h at conn broken a h'. StepsIn L.settings h.core at.0 (acts.Add conn broken) (returned add_told a) h'.core × OnFit (Refuses conn) (λ same. same ≡ conn) a × IfOk a (IsSorted broken) };
+
+    ghost shows = { λ h at state h'. StepsIn L.settings h.core at.0 acts.State (answers.Shown (figures_of state)) h'.core × (state.connections ≤ L.settings.max_size) × (state.idle_connections ≤ state.connections) };
+
+    ghost joins = { λ h at a h'. StepsIn L.settings h.core at.0 acts.Join (joining_told a) h'.core };
+
+    ghost leaves = { λ h at a h'. StepsIn L.settings h.core at.0 acts.Leave (answered leave_told a) h'.core };
+
+    fn put_back(&mut self, at: Moment, back: Returned<C, Part<L>>) -> Result<PutBackAnswer<C>, C>
+        ensures step { StepsIn L.settings self.old.core at.0
+            (acts.PutBack back.taken.key.number back.taken.connection back.broken)
+            (returned (put_back_told back.taken.key.number) result) self.new.core }
+        ensures connection { OnFit (GivesBack back.taken.connection)
+            (λ c. c ≡ back.taken.connection) result }
+    {
+        self.limits();
+        let Locked { core, rest, .. } = self;
+        let Returned { taken, broken } = back;
+        let Taken {
+            key,
+            connection,
+            part,
+        } = taken;
+        let Part { share } = part;
+        if !core.fits_put_back(key) {
+            drop(share);
+            return Err(connection);
+        }
+        let answer = core.put_back(at, key, connection, broken);
+        rest.merge(share);
+        Ok(answer)
+    }
+
+    fn add(&mut self, at: Moment, conn: C, broken: bool) -> Result<AddAnswer<C>, C>
+        ensures step { StepsIn L.settings self.old.core at.0 (acts.Add conn broken)
+            (returned add_told result) self.new.core }
+        ensures connection { OnFit (Refuses conn) (λ same. same ≡ conn) result }
+        ensures sorted { IfOk result (IsSorted broken) }
+    {
+        self.limits();
+        let Locked { core, .. } = self;
+        if !core.fits_add() {
+            return Err(conn);
+        }
+        Ok(core.add(at, conn, broken))
+    }
+
+    fn state(&mut self, at: Moment) -> State {
+        self.limits();
+        let Locked { core, .. } = self;
+        core.state(at)
+    }
+
+    fn join(&mut self, at: Moment) -> Joining {
+        self.limits();
+        let Locked { core, .. } = self;
+        if !core.fits_join() {
+            return Joining::Unfit;
+        }
+        match core.join(at) {
+            JoinAnswer::Joined => Joining::Joined(Handle { _alive: () }),
+            JoinAnswer::Exhausted => Joining::Exhausted,
+        }
+    }
+
+    fn leave(&mut self, at: Moment, handle: Handle) -> Result<LeaveAnswer, Unfit> {
+        self.limits();
+        let Locked { core, .. } = self;
+        let Handle { _alive: () } = handle;
+        if !core.fits_leave() {
+            return Err(Unfit);
+        }
+        Ok(core.leave(at))
+    }
+}

@@ -1,0 +1,167 @@
+//! The lock of a pool as a home of the tasks that open connections and of the reaper, and what the pool's futures do with such tasks.
+use crate::Parts;
+use crate::link::{Hold, LinkHome};
+use crate::locks::Locks;
+use crate::shared::Shared;
+use bb8_core::Joined;
+use bb8_core::api::{ManageConnection, Moment};
+use bb8_core::internals::{ClaimAnswer, Key, Looked};
+use bb8_tasks::{
+    ClaimHome, Dedicated, FailedStep, Home, OpenedStep, Opener, ReapHome, ReapStep, Reports, Round,
+    Tasks,
+};
+use futures::task::Poll;
+
+/// The lock is taken for each step, and is free again when the step has answered.
+impl<C, T: Home<C>, R: Locks> Home<C> for LinkHome<'_, T, R> {
+    ghost use Rattle.bb8_lock.specs.Opening.{Visits};
+
+    ghost looks = { λ h at seen h'. Visits (λ t t'. T.looks t at seen t') h.held h'.held };
+
+    ghost opens = { λ h at a c step h'. Visits (λ t t'. T.opens t at a c step t') h.held h'.held };
+
+    ghost fails = { λ h at a step h'. Visits (λ t t'. T.fails t at a step t') h.held h'.held };
+
+    fn look(&mut self, at: Moment) -> Looked {
+        let mut guard = self.hold();
+        guard.look(at)
+    }
+
+    fn opened(&mut self, at: Moment, approval: Key, connection: C) -> OpenedStep<C> {
+        let mut guard = self.hold();
+        guard.opened(at, approval, connection)
+    }
+
+    fn failed(&mut self, at: Moment, approval: Key) -> FailedStep {
+        let mut guard = self.hold();
+        guard.failed(at, approval)
+    }
+}
+
+/// The lock is taken for the step alone.
+impl<T: ClaimHome, R: Locks> ClaimHome for LinkHome<'_, T, R> {
+    ghost use Rattle.bb8_lock.specs.Opening.{Visits};
+
+    ghost claims = { λ h at answer h'. Visits (λ t t'. T.claims t at answer t') h.held h'.held };
+
+    fn claim(&mut self, at: Moment) -> ClaimAnswer {
+        let mut guard = self.hold();
+        guard.claim(at)
+    }
+}
+
+/// The lock is taken for each step alone.
+impl<T: ReapHome, R: Locks> ReapHome for LinkHome<'_, T, R> {
+    ghost use Rattle.bb8_lock.specs.Opening.{Visits};
+
+    ghost looks = { λ h at seen h'. Visits (λ t t'. T.looks t at seen t') h.held h'.held };
+
+    ghost reaps = { λ h at step h'. Visits (λ t t'. T.reaps t at step t') h.held h'.held };
+
+    fn look(&mut self, at: Moment) -> Looked {
+        let mut guard = self.hold();
+        guard.look(at)
+    }
+
+    fn reap(&mut self, at: Moment) -> ReapStep {
+        let mut guard = self.hold();
+        guard.reap(at)
+    }
+}
+
+/// What the futures of a pool do with its tasks, as methods of an impl, so that polls and drops can call them.
+pub trait Opens<C, E, V, A> {
+    /// A round of tasks that stops at the first failure.
+    fn open_first<W: Opener<C, E, Connecting = V, Acquiring = A> + Reports<E> + Drop>(
+        &self,
+        outside: W,
+        tasks: Tasks<C, V, A>,
+    ) -> Round<Tasks<C, V, A>, E>;
+
+    /// Lets tasks go.
+    fn drop_tasks<W: Opener<C, E, Connecting = V, Acquiring = A> + Reports<E> + Drop>(
+        &self,
+        outside: W,
+        tasks: Tasks<C, V, A>,
+    );
+
+    /// One poll of the opening of a connection that the pool does not count.
+    fn poll_dedicated<W: Opener<C, E, Connecting = V, Acquiring = A> + Reports<E>>(
+        &self,
+        outside: &mut W,
+        dedicated: Dedicated<C, V, A>,
+    ) -> (Poll<Result<C, E>>, Dedicated<C, V, A>);
+
+    /// Lets such an opening go.
+    fn cancel_dedicated<W: Opener<C, E, Connecting = V, Acquiring = A>>(
+        &self,
+        outside: &mut W,
+        dedicated: Dedicated<C, V, A>,
+    );
+}
+
+/// Manager, customizer, sink and clock are called while the lock is free: it is taken for each step of a task alone.
+impl<M: ManageConnection, S, Z, K, R: Locks, L: Parts, A> Opens<
+    M::Connection,
+    M::Error,
+    M::Connecting,
+    A,
+> for Shared<M, S, Z, K, R, L> {
+    ghost use Rattle.bb8_tasks.specs.Dedicating.{DropsOpening, OpeningPolls};
+    ghost use Rattle.bb8_lock.specs.Opening.{LinkRounds, LinkDropsTasks};
+
+    fn open_first<
+        W: Opener<M::Connection, M::Error, Connecting = M::Connecting, Acquiring = A>
+            + Reports<M::Error>
+            + Drop,
+    >(
+        &self,
+        outside: W,
+        tasks: Tasks<M::Connection, M::Connecting, A>,
+    ) -> Round<Tasks<M::Connection, M::Connecting, A>, M::Error>
+        ensures { LinkRounds W.Opener W.Reports self.now tasks outside result }
+    {
+        let home = LinkHome::new(&self.locked, &self.rt);
+        let mut pool = Joined { outside, home };
+        let at = pool.now();
+        tasks.round(at, &mut pool, &self.config)
+    }
+
+    fn drop_tasks<
+        W: Opener<M::Connection, M::Error, Connecting = M::Connecting, Acquiring = A>
+            + Reports<M::Error>
+            + Drop,
+    >(&self, outside: W, tasks: Tasks<M::Connection, M::Connecting, A>)
+        ensures { LinkDropsTasks W.Opener W.Reports self.now tasks outside }
+    {
+        let home = LinkHome::new(&self.locked, &self.rt);
+        let mut pool = Joined { outside, home };
+        let at = pool.now();
+        tasks.give_back(at, &mut pool);
+    }
+
+    fn poll_dedicated<
+        W: Opener<M::Connection, M::Error, Connecting = M::Connecting, Acquiring = A>
+            + Reports<M::Error>,
+    >(
+        &self,
+        outside: &mut W,
+        mut dedicated: Dedicated<M::Connection, M::Connecting, A>,
+    ) -> (
+        Poll<Result<M::Connection, M::Error>>,
+        Dedicated<M::Connection, M::Connecting, A>,
+    )
+        ensures { OpeningPolls W.Opener W.tells dedicated outside.old result.0 result.1 outside.new }
+    {
+        let answer = dedicated.poll(outside);
+        (answer, dedicated)
+    }
+
+    fn cancel_dedicated<
+        W: Opener<M::Connection, M::Error, Connecting = M::Connecting, Acquiring = A>,
+    >(&self, outside: &mut W, dedicated: Dedicated<M::Connection, M::Connecting, A>)
+        ensures { DropsOpening W.Opener dedicated.stage outside.old outside.new }
+    {
+        dedicated.cancel(outside);
+    }
+}

@@ -1,0 +1,13 @@
+//! What the tests share.
+
+mod drivers;
+mod hostile;
+mod serving;
+
+use std::fmt::Debug;
+use std::process::Abort;
+
+/// Ends the test where what was found is not what is wanted, and prints both.
+fn assert_equal<T: PartialEq + Debug + Drop>(rt: &impl Abort, found: T, wanted: T) {
+    assert_eq!(rt; found, wanted);
+}

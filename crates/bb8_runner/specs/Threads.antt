@@ -1,0 +1,39 @@
+-- What is written for a script that threads ran.
+use Rattle.std.specs.Prelude.{◌≡◌, ℕ, Bool, if◌then◌else◌, List, ◌++◌, length, codes, decimal}
+use Rattle.std.specs.Bool.{Decides}
+use Rattle.std.specs.List.{sum_by}
+use Rattle.bb8_types.specs.Settings.{Settings}
+use Rattle.bb8_types.specs.Figures.{Figures}
+use Rattle.bb8_ledger.specs.Ledger.{Ledger, figures, opening_with}
+use Rattle.bb8_core.specs.Run.{IsRun}
+use Rattle.bb8_core.specs.declared.replay.events.Event.{Event}
+use Rattle.bb8_journal.specs.declared.journal.entries.Entry.{Entry}
+use Rattle.bb8_journal.specs.declared.journal.seats.Notes.{Notes}
+use Rattle.bb8_journal.specs.History.{events_of, answers_of}
+use Rattle.bb8_journal.specs.Notes.{steps_of, notes_of}
+use Rattle.bb8_journal.specs.Audit.{IsAccount}
+use Rattle.bb8_runner.specs.declared.verdict.Verdict.{Verdict}
+use Rattle.bb8_runner.specs.declared.verdict.Verdict.TheVariants.{Ran, Bad}
+use Rattle.bb8_runner.specs.Script.{Spells, IsFirstBad, lines_of}
+use Rattle.bb8_runner.specs.Text.{line, state_text, bad_line_text}
+
+-- how many entries there are, what the audit says, and the state line
+abbrev pub dealt_text : ℕ → Bool → Figures → List ℕ
+dealt_text entries audited last = line (codes "entries " ++ decimal entries) ++ (line (if audited then codes "audit yes" else codes "audit no") ++ line (state_text last))
+
+-- The text tells of a legal history of the settings, from a pool to which nothing happened, and of the state that it leads to. It has as
+-- many entries as the seats made steps, and the audit says yes just where their notes account for it.
+pub record IsDealtText (settings : Settings) (text : List ℕ) : Type 0 where
+  pub entries : List Entry
+  pub notes : List Notes
+  pub last : Ledger ℕ
+  pub allowed : IsRun (opening_with settings 0 0) (events_of entries) (answers_of entries) last
+  pub counted : length entries ≡ sum_by (λ n. steps_of (notes_of n)) notes
+  pub audited : Bool
+  pub audits : Decides audited (IsAccount entries notes)
+  pub told : text ≡ dealt_text (length entries) audited (figures last)
+
+-- The text for the input: that of a history of the script's configuration, or the one line on its first bad line.
+abbrev pub IsThreadsAnswer : List ℕ → Verdict → List ℕ → Type 0
+IsThreadsAnswer input Ran text = (settings : Settings) × (events : List Event) × Spells (lines_of input) settings events × IsDealtText settings text
+IsThreadsAnswer input Bad text = (n : ℕ) × IsFirstBad (lines_of input) n × (text ≡ bad_line_text n)

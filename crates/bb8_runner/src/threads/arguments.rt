@@ -1,0 +1,43 @@
+//! What the arguments of the program ask for.
+ghost use Rattle.std.specs.Prelude.{◌≡◌, ◌≤◌, ℕ, Some, map, string_bytes};
+ghost use Rattle.bb8_runner.specs.Arguments.{threads_of, arguments_of};
+ghost use Rattle.bb8_runner.specs.declared.threads.arguments.Mode.TheVariants.{Threads};
+
+use crate::grammar::number;
+
+/// How a script is run. Our own, as all of this crate.
+#[derive(Clone, Copy, Debug, PartialEq, Eq)]
+pub enum Mode {
+    /// One event after the other, and each answer is told.
+    Script,
+    /// In so many threads, from 1 to 64, over one journal.
+    Threads(u8),
+}
+
+/// So many threads, where they are from 1 to 64.
+fn threads_of(count: u64) -> Option<Mode>
+    ensures { result ≡ threads_of count }
+{
+    match u8::try_from(count) {
+        Ok(count @ 1..=64) => Some(Mode::Threads(count)),
+        _ => None,
+    }
+}
+
+/// What the words after the program's name ask for: no word, or `threads` and a number from 1 to 64, which is read as in a script. None
+/// where they are none of these.
+pub fn arguments(words: &[String]) -> Option<Mode>
+    ensures mode { result ≡ arguments_of (map string_bytes words.now) }
+    ensures threads { (n : ℕ) → result ≡ Some (Threads n) → (1 ≤ n) × (n ≤ 64) }
+{
+    match words {
+        [] => Some(Mode::Script),
+        [word, count] => {
+            if word.as_str() != "threads" {
+                return None;
+            }
+            threads_of(number(count.as_str())?)
+        }
+        _ => None,
+    }
+}

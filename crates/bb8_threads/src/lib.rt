@@ -1,7 +1,0 @@
-//! Runs a script in threads over one journal: from bytes to bytes, and what a program's arguments ask for.
-#![tactic(auto)]
-
-pub mod arguments;
-pub mod dealing;
-pub mod script;
-mod text;

@@ -1,5 +1,0 @@
-use Rattle.bb8_turns.specs.Turns.{TakesOnEach}
-use Rattle.bb8_turns.proofs.claims.claim_each.Given as goal
-
-abbrev pub invariant-loop : goal.invariant-loop
-invariant-loop g l = TakesOnEach g.H.ClaimHome l.fn.at l.fn.tasks l.fn.home l.tasks l.home
