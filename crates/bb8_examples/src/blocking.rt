@@ -1,0 +1,123 @@
+//! A manager over a client that blocks: each call of it takes the thread that polls.
+use bb8::{
+    Builder, MachineClock, ManageConnection, Moment, NopCustomizer, Pool, PoolCalls, PoolParts,
+    PrintingSink, RunError, Runtime, Service,
+};
+use futures::executor::block_on;
+use futures::task::Poll;
+use std::thread::Threads;
+use std::time::{Clock, Duration};
+use std::{fmt, thread};
+
+/// How long a call of the client takes.
+const CALL_MILLIS: u64 = 2;
+
+/// A connection of a client that has no other calls than those that block.
+#[derive(Drop)]
+pub struct File {
+    reads: u64,
+}
+
+/// The server of the files is down.
+#[derive(Clone, Copy, Debug, PartialEq, Eq)]
+pub struct Down;
+
+impl fmt::Display for Down {
+    fn fmt<W: fmt::Write>(&self, f: &mut fmt::Formatter<W>) -> fmt::Result {
+        write!(f, "the server of the files is down")
+    }
+}
+
+/// Opens files.
+#[derive(Drop)]
+pub struct Files<R> {
+    /// What the client waits by.
+    pub rt: R,
+    /// Whether the server is down.
+    pub is_down: bool,
+}
+
+impl<R: Clock + Send + Sync + Drop + 'static> ManageConnection for Files<R> {
+    type Connection = File;
+
+    type Error = Down;
+
+    type Connecting = ();
+
+    type Checking = ();
+
+    fn connect(&self) {}
+
+    /// Blocks the driver's thread: other openings and the reaper wait meanwhile, gets do not but for what they would be opened.
+    fn poll_connect(&self, _connecting: &mut (), _moment: Moment) -> Poll<Result<File, Down>> {
+        thread::sleep(&self.rt, Duration::from_millis(CALL_MILLIS));
+        if self.is_down {
+            return Poll::Ready(Err(Down));
+        }
+        Poll::Ready(Ok(File { reads: 0 }))
+    }
+
+    fn is_valid(&self, _file: &mut File) {}
+
+    /// Asks nobody: a check that blocked would hold its get past the deadline. What broke is found at use, and told by `has_broken`.
+    fn poll_valid(
+        &self,
+        _file: &mut File,
+        _checking: &mut (),
+        _moment: Moment,
+    ) -> Poll<Result<(), Down>> {
+        Poll::Ready(Ok(()))
+    }
+
+    fn has_broken(&self, file: &mut File) -> bool {
+        file.reads == u64::MAX
+    }
+}
+
+/// Threads that read files.
+#[derive(Drop)]
+struct Reading<R> {
+    rt: R,
+}
+
+/// The pool of the files, whose errors are printed.
+type FilePool<R, L> = Pool<Files<R>, PrintingSink<R>, NopCustomizer, MachineClock<R>, R, L>;
+
+impl<R: Runtime + Eprint> Service<Files<R>, PrintingSink<R>, NopCustomizer, MachineClock<R>, R>
+    for Reading<R> {
+    type Told = u64;
+
+    type Outcome = u64;
+
+    fn begin<L: PoolParts>(&self, _pool: &FilePool<R, L>) -> Result<(), u64> {
+        Ok(())
+    }
+
+    /// The guard's connection is used in this thread, so a call of it may block.
+    fn run<L: PoolParts>(&self, pool: &FilePool<R, L>, _thread: usize) -> u64 {
+        let Ok(Ok(mut file)) = block_on(&self.rt, PoolCalls::get(pool)) else {
+            return 0;
+        };
+        thread::sleep(&self.rt, Duration::from_millis(CALL_MILLIS));
+        file.reads = file.reads.saturating_add(1);
+        file.reads.min(1)
+    }
+
+    fn end<L: PoolParts>(&self, _pool: &FilePool<R, L>, told: &[u64]) -> u64 {
+        let mut sum: u64 = 0;
+        for one in told {
+            sum = sum.saturating_add(*one);
+        }
+        sum
+    }
+}
+
+/// How many of four threads read a file, by a pool of two.
+pub fn reads<R: Runtime + Threads + Eprint>(rt: R, files: Files<R>) -> Result<u64, RunError<Down>> {
+    Builder::new()
+        .max_size(2)
+        .min_idle(Some(1))
+        .connection_timeout(Duration::from_secs(1))
+        .error_sink(PrintingSink { rt, name: "files" })
+        .serve(files, MachineClock(rt), rt, 4, &Reading { rt })
+}

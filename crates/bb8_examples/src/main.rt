@@ -1,0 +1,52 @@
+//! Examples, each a few lines that print: how the errors of a get are told apart, a pool whose settings are read at run time, a manager over
+//! a client that blocks, and a sink that prints. `tests` tests a manager.
+#![tactic(auto)]
+
+mod blocking;
+mod errors;
+mod settings;
+#[cfg(test)]
+mod tests;
+
+use crate::blocking::{Files, reads};
+use crate::errors::{Ended, ends};
+use crate::settings::{SETTINGS, served};
+use bb8::RunError;
+use std::io;
+
+/// What became of a get, in words.
+fn word_of(ended: Ended) -> &'static str {
+    match ended {
+        Ended::Served => "served",
+        Ended::TimedOut => "timed out",
+        Ended::Pool => "refused by the pool",
+        Ended::Executor => "not polled to its end, as the executor found no memory",
+    }
+}
+
+fn main(rt: HostRuntime) -> io::Result<()> {
+    match ends(rt) {
+        Ok((first, second)) => println!(rt;
+            "errors: {}, then {}",
+            word_of(first),
+            word_of(second)
+        )?,
+        Err(_) => println!(rt; "errors: no pool")?,
+    }
+    for (size, idle) in SETTINGS {
+        match served(rt, size, idle) {
+            Some(Ok(count)) => println!(rt; "settings {size} and {idle}: {count} served")?,
+            Some(Err(_)) => println!(rt; "settings {size} and {idle}: no pool")?,
+            None => println!(rt; "settings {size} and {idle}: not lawful")?,
+        }
+    }
+    match reads(rt, Files { rt, is_down: false }) {
+        Ok(count) => println!(rt; "blocking: {count} read")?,
+        Err(_) => println!(rt; "blocking: no pool")?,
+    }
+    match reads(rt, Files { rt, is_down: true }) {
+        Err(RunError::User(error)) => println!(rt; "blocking: {error}")?,
+        _ => println!(rt; "blocking: a pool of a server that is down")?,
+    }
+    Ok(())
+}

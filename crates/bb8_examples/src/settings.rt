@@ -1,0 +1,51 @@
+//! A pool whose settings are read at run time: they are asked whether a pool can hold to them before it is built.
+use crate::errors::{NumberPool, Numbers};
+use bb8::{
+    Builder, Config, MachineClock, NopCustomizer, NopErrorSink, PoolCalls, PoolParts, RunError,
+    Runtime, Service,
+};
+use futures::executor::block_on;
+use std::thread::Threads;
+
+/// Settings as they might be read: the most connections, and how many are to be idle.
+pub const SETTINGS: [(u32, u32); 3] = [(3, 1), (2, 5), (0, 0)];
+
+/// Threads that get once each.
+#[derive(Drop)]
+struct Once<R> {
+    rt: R,
+}
+
+impl<R: Runtime> Service<Numbers, NopErrorSink, NopCustomizer, MachineClock<R>, R> for Once<R> {
+    type Told = bool;
+
+    type Outcome = usize;
+
+    fn begin<L: PoolParts>(&self, _pool: &NumberPool<R, L>) -> Result<(), usize> {
+        Ok(())
+    }
+
+    fn run<L: PoolParts>(&self, pool: &NumberPool<R, L>, _thread: usize) -> bool {
+        matches!(block_on(&self.rt, PoolCalls::get(pool)), Ok(Ok(_)))
+    }
+
+    fn end<L: PoolParts>(&self, _pool: &NumberPool<R, L>, told: &[bool]) -> usize {
+        told.iter().filter(|served| **served).count()
+    }
+}
+
+/// How many threads were served by a pool of these settings. None where they are not lawful.
+pub fn served<R: Runtime + Threads>(
+    rt: R,
+    size: u32,
+    idle: u32,
+) -> Option<Result<usize, RunError<()>>> {
+    if size == 0 {
+        return None;
+    }
+    let builder = Builder::new().max_size(size).min_idle(Some(idle));
+    if !Config::from(&builder).is_lawful() {
+        return None;
+    }
+    Some(builder.serve(Numbers, MachineClock(rt), rt, 4, &Once { rt }))
+}

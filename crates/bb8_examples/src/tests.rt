@@ -1,0 +1,57 @@
+//! How a manager is tested: alone, and under a pool in one thread, on a clock that the test sets.
+use crate::blocking::{Down, Files};
+use bb8::{
+    Builder, Driver, DriverCalls, ManageConnection, Moment, NopCustomizer, NopErrorSink, Pool,
+    PoolCalls, PoolParts, Runtime, SetClock, User,
+};
+use futures::task::Poll;
+use futures::test::MockTask;
+use std::test::Fail;
+
+#[test]
+fn server_that_is_down_refuses(rt: HostRuntime) -> Result<(), Fail> {
+    let files = Files { rt, is_down: true };
+    files.connect();
+    let polled = files.poll_connect(&mut (), Moment(0));
+    assert!(&rt; matches!(polled, Poll::Ready(Err(Down))));
+    Ok(())
+}
+
+/// A get that waits, until a turn of the driver has opened its connection.
+#[derive(Drop)]
+struct Waits {
+    task: MockTask,
+}
+
+impl<R: Runtime> User<Files<R>, NopErrorSink, NopCustomizer, SetClock, R> for Waits {
+    /// Whether it was so.
+    type Outcome = bool;
+
+    fn run<L: PoolParts>(
+        &self,
+        pool: &Pool<Files<R>, NopErrorSink, NopCustomizer, SetClock, R, L>,
+        driver: &mut Driver<Files<R>, NopErrorSink, NopCustomizer, SetClock, R, L>,
+    ) -> bool {
+        let mut get = PoolCalls::get(pool);
+        if !self.task.poll(&mut get).is_pending() {
+            return false;
+        }
+        let _ = DriverCalls::turn(driver, Moment(0));
+        let served = matches!(self.task.poll(&mut get), Poll::Ready(Ok(_)));
+        served && PoolCalls::state(pool).idle_connections == 1
+    }
+}
+
+#[test]
+fn turn_opens_for_a_get(rt: HostRuntime) -> Result<(), Fail> {
+    let files = Files { rt, is_down: false };
+    let clock = SetClock::new(rt.alloc(), Moment(0))?;
+    let waits = Waits {
+        task: MockTask::new(&rt)?,
+    };
+    let was_served = Builder::new()
+        .max_size(2)
+        .with_pool(files, clock, rt, &waits)?;
+    assert!(&rt; was_served);
+    Ok(())
+}
