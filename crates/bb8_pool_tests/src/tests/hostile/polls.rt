@@ -145,9 +145,9 @@ impl Told {
 
 /// A pool, and what a test holds of it.
 #[derive(Drop)]
-struct Field<'a, R: Runtime + Abort, L: PoolParts> {
+struct Field<'a, 'h, R: Runtime + Abort, L: PoolParts> {
     pool: &'a HostilePool<R, L>,
-    harness: &'a Harness,
+    harness: &'h Harness,
     driver: HostileDriver<R, L>,
     clock: HostileClock,
     gets: Vec<Begun<Get<'a, R, L>>>,
@@ -211,7 +211,7 @@ fn take_get<F: Drop>(gets: &mut Vec<Begun<F>>, source: &Source, told: &mut Told)
 }
 
 /// Begins a get, with a handle of its own or not, where there are not many yet.
-fn begin_get<R: Runtime + Abort, L: PoolParts>(field: &mut Field<'_, R, L>, owned: bool) {
+fn begin_get<R: Runtime + Abort, L: PoolParts>(field: &mut Field<'_, '_, R, L>, owned: bool) {
     if owned && field.owned_gets.len() < MOST_GETS {
         let _ = field.owned_gets.push(Begun {
             future: field.pool.get_owned(),
@@ -227,7 +227,7 @@ fn begin_get<R: Runtime + Abort, L: PoolParts>(field: &mut Field<'_, R, L>, owne
 }
 
 /// Polls a get, and keeps the guard that it was served.
-fn poll_get<R: Runtime + Abort, L: PoolParts>(task: &MockTask, field: &mut Field<'_, R, L>) {
+fn poll_get<R: Runtime + Abort, L: PoolParts>(task: &MockTask, field: &mut Field<'_, '_, R, L>) {
     let source = &field.harness.source;
     if let Some(mut guard) = poll_one(task, source, &mut field.gets, &mut field.told) {
         if !guard.hold(&field.harness.gauges.holdings) {
@@ -238,7 +238,10 @@ fn poll_get<R: Runtime + Abort, L: PoolParts>(task: &MockTask, field: &mut Field
 }
 
 /// Polls a get with a handle of its own, and keeps the guard that it was served.
-fn poll_owned_get<R: Runtime + Abort, L: PoolParts>(task: &MockTask, field: &mut Field<'_, R, L>) {
+fn poll_owned_get<R: Runtime + Abort, L: PoolParts>(
+    task: &MockTask,
+    field: &mut Field<'_, '_, R, L>,
+) {
     let source = &field.harness.source;
     if let Some(mut guard) = poll_one(task, source, &mut field.owned_gets, &mut field.told) {
         if !guard.hold(&field.harness.gauges.holdings) {
@@ -249,7 +252,10 @@ fn poll_owned_get<R: Runtime + Abort, L: PoolParts>(task: &MockTask, field: &mut
 }
 
 /// Polls the opening of a connection that the pool does not count, or begins one; one that was opened is added to the pool.
-fn poll_opening<R: Runtime + Abort, L: PoolParts>(task: &MockTask, field: &mut Field<'_, R, L>) {
+fn poll_opening<R: Runtime + Abort, L: PoolParts>(
+    task: &MockTask,
+    field: &mut Field<'_, '_, R, L>,
+) {
     let Some(mut opening) = take_one(&mut field.openings, &field.harness.source) else {
         let _ = field.openings.push(field.pool.dedicated_connection());
         return;
@@ -267,7 +273,7 @@ fn poll_opening<R: Runtime + Abort, L: PoolParts>(task: &MockTask, field: &mut F
 }
 
 /// Lets a get go, or the opening of a connection.
-fn let_go<R: Runtime + Abort, L: PoolParts>(field: &mut Field<'_, R, L>) {
+fn let_go<R: Runtime + Abort, L: PoolParts>(field: &mut Field<'_, '_, R, L>) {
     let source = &field.harness.source;
     match source.below(6) {
         0 => drop(take_get(&mut field.gets, source, &mut field.told)),
@@ -292,13 +298,13 @@ fn let_go<R: Runtime + Abort, L: PoolParts>(field: &mut Field<'_, R, L>) {
 }
 
 /// Makes a turn of the driver.
-fn turn<R: Runtime + Abort, L: PoolParts>(field: &mut Field<'_, R, L>) {
+fn turn<R: Runtime + Abort, L: PoolParts>(field: &mut Field<'_, '_, R, L>) {
     let turn = field.driver.turn(field.clock.now());
     field.told.driven = field.told.driven.saturating_add(turn.polled);
 }
 
 /// One step, which the source picks.
-fn step<R: Runtime + Abort, L: PoolParts>(task: &MockTask, field: &mut Field<'_, R, L>) {
+fn step<R: Runtime + Abort, L: PoolParts>(task: &MockTask, field: &mut Field<'_, '_, R, L>) {
     let source = &field.harness.source;
     match source.below(18) {
         0..=1 => begin_get(field, false),
@@ -317,7 +323,7 @@ fn step<R: Runtime + Abort, L: PoolParts>(task: &MockTask, field: &mut Field<'_,
 }
 
 /// Whether the pool, the test and the connections themselves count the same.
-fn is_in_order<R: Runtime + Abort, L: PoolParts>(field: &Field<'_, R, L>) -> bool {
+fn is_in_order<R: Runtime + Abort, L: PoolParts>(field: &Field<'_, '_, R, L>) -> bool {
     let gauges = &field.harness.gauges;
     let state = field.pool.state();
     let held = field.guards.len().saturating_add(field.owned_guards.len()) as u64;
