@@ -111,8 +111,8 @@ def kept_bytes(words):
     return max(lasted, key=lasted.get)
 
 
-# where the tables that double are just full, and where they have just doubled
-FULL, DOUBLED = 4_096, 4_097
+# where lists that double are just full, and where they have just doubled; our tables have an entry more, and are full before
+OURS_FULL, FULL, DOUBLED = 4_094, 4_096, 4_097
 
 
 def heaps(have):
@@ -128,7 +128,7 @@ def heaps(have):
                 runs.append(("a waiting get", whose, lambda many, whose=whose: [BESIDE, POOLS[whose], "wait", str(many), "1"]))
     for what, whose, words in runs:
         first = kept_bytes(words(1))
-        for many, state in ((FULL, "full"), (DOUBLED, "just grown")):
+        for many in (OURS_FULL, FULL, DOUBLED) if whose == LIVE_OF else (FULL, DOUBLED):
             yield f"{what}, {many:,} of them", whose, f"{(kept_bytes(words(many)) - first) / (many - 1):.0f}"
     for whose in (CRATE_OF, ORIGINAL_OF):
         if whose in have:

@@ -9,14 +9,15 @@ use Rattle.bb8_types.specs.declared.api.moments.Moment.{Moment}
 use Rattle.bb8.specs.declared.get.future.GetFuture.{GetFuture}
 use Rattle.bb8_gets.specs.declared.home.Taken.{Taken}
 use Rattle.bb8_lock.specs.declared.locked.Part.{Part}
+use Rattle.bb8_lock.specs.declared.shared.Shared.{Shared}
 use Rattle.bb8.specs.declared.pool.PooledConnection.{PooledConnection}
 use Rattle.bb8_lock.specs.Linked.{OwnPolls, OwnGives, OwnCancels, MakesGuard, MakesPoll}
 use Rattle.bb8.specs.Pools.{stage_of}
 
 module _ {M S Z K R L C E N V A : Type 0} {m : ManagerOf M C E N V} {d : DebugOf E} {l : PartsOf L} where
-  -- the guard, which is of the get's pool, has the connection that was served, and its part
-  abbrev pub Guards : GetFuture M S Z K R L C E N V A m d l → Taken C (Part L) → PooledConnection M S Z K R L C E N V A m d l → Type 0
-  Guards future served guard = (guard.shared.now ≡ future.shared.now) × (guard.taken ≡ served)
+  -- the guard, which is of that pool, has the connection that was served, and its part
+  abbrev pub Guards : Shared M S Z K R L C E N V m d l → Taken C (Part L) → PooledConnection M S Z K R L C E N V A m d l → Type 0
+  Guards shared served guard = (guard.shared.now ≡ shared) × (guard.taken ≡ served)
 
   module _ (sinks : S → E → Type 0) (tells : K → Moment → Type 0) where
     -- a poll of the get: where it stood, what it answers, and where it stands then
@@ -24,14 +25,14 @@ module _ {M S Z K R L C E N V A : Type 0} {m : ManagerOf M C E N V} {d : DebugOf
     PollsGet future answer after =
         (given : Poll (Result (Taken C (Part L)) (RunError E)))
         × OwnPolls sinks tells future.shared.now (stage_of future) given (stage_of after)
-        × MakesPoll (Guards future) given answer
+        × MakesPoll (Guards future.shared.now) given answer
 
     -- what the get may answer at last
     abbrev pub GivesAtLast : GetFuture M S Z K R L C E N V A m d l → Result (PooledConnection M S Z K R L C E N V A m d l) (RunError E) → Type 0
     GivesAtLast future out =
         (given : Result (Taken C (Part L)) (RunError E))
         × OwnGives sinks tells future.shared.now (stage_of future) given
-        × MakesGuard (Guards future) given out
+        × MakesGuard (Guards future.shared.now) given out
 
     -- the get is let go: given up as cancelled, where it began and was not answered
     abbrev pub CancelsGet : GetFuture M S Z K R L C E N V A m d l → Type 0

@@ -1,3 +1,4 @@
+pub mod Blocking
 pub mod Buildings
 pub mod Choices
 pub mod Dedicated

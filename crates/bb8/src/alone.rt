@@ -46,28 +46,6 @@ pub trait User<
         ensures { comes_to self.now (basis_of pool.now) result };
 }
 
-/// A pool whose parts are named, built of this and not polled.
-fn built<
-    M: ManageConnection,
-    S: ErrorSink<M::Error>,
-    Z: CustomizeConnection<M::Connection, M::Error>,
-    K: Clock,
-    R: Wait + AllocGlobal + Send + Sync + Drop + 'static,
-    L: PoolParts,
->(
-    builder: Builder<M, S, Z>,
-    manager: M,
-    clock: K,
-    rt: R,
-    blank: Blank,
-) -> Result<Pool<M, S, Z, K, R, L>, Memory>
-    requires lawful { is_lawful builder.settings ≡ true }
-    requires parts { IsBlankOf blank builder.settings L.name L.parts L.settings }
-    ensures { IfOk result (λ pool. basis_of pool ≡ basis builder.settings manager clock) }
-{
-    builder.build_unchecked(manager, clock, rt, blank)
-}
-
 /// Runs a user over a pool whose parts are named.
 fn run_with<
     M: ManageConnection,
@@ -90,7 +68,7 @@ fn run_with<
     requires suits { V.suits user.now (basis builder.settings manager clock) }
     ensures { IfOk result (V.comes_to user.now (basis builder.settings manager clock)) }
 {
-    let pool: Pool<M, S, Z, K, R, L> = built(builder, manager, clock, rt, blank)?;
+    let pool: Pool<M, S, Z, K, R, L> = builder.build_unchecked(manager, clock, rt, blank)?;
     let mut driver = Driver::new(&pool)?;
     Ok(user.run(&pool, &mut driver))
 }

@@ -7,7 +7,7 @@ use crate::Builder;
 use crate::pool::{Cancel, Pool};
 use bb8_core::api::{Clock, CustomizeConnection, ErrorSink, ManageConnection, Memory, RunError};
 use bb8_core::internals::Grant;
-use bb8_lock::{Locks, NewPool, Opens, Parts, SectionHome, Shared, begin_pool};
+use bb8_lock::{Belled, Locks, NewPool, Opens, Parts, SectionHome, Shared, begin_pool};
 use bb8_tasks::PoolOpener;
 pub use bb8_tasks::{Built, Replenish, Round, Site, Tasks};
 use futures::Future;
@@ -15,7 +15,7 @@ use futures::task::{Context, Poll};
 use std::marker::PhantomData;
 use std::mem;
 use std::sync::ledger::Blank;
-use std::sync::{Arc, Mutex, Wait};
+use std::sync::{Arc, Wait};
 
 /// What a pool is to be made of.
 #[derive(Drop)]
@@ -64,7 +64,7 @@ impl<
         Memory,
     >;
 
-    fn open(self, claimed: bool) -> Result<(Pool<M, S, Z, K, R, L>, Grant), Memory>
+    fn open(self, claimed: bool) -> Self::Opened
         ensures opened { IfOk result (λ x. IsOpened K.tells self claimed x.0 x.1) }
         ensures numbers { IfOk result (λ x. x.1.first + x.1.count < 2 ^ 64) }
     {
@@ -94,7 +94,7 @@ impl<
             config,
             made: at,
             total,
-            locked: Mutex::new(locked),
+            locked: Belled::new(locked),
         };
         match Arc::new(alloc, shared) {
             Ok(shared) => Ok((Pool { shared, handle }, grant)),
@@ -108,15 +108,7 @@ impl<
     }
 
     /// Where memory for the tasks is refused the pool is dropped.
-    fn make(
-        self,
-    ) -> Result<
-        (
-            Pool<M, S, Z, K, R, L>,
-            Tasks<M::Connection, M::Connecting, Z::Acquiring>,
-        ),
-        Memory,
-    >
+    fn make(self) -> Self::Made
         ensures { IfOk result (λ made. PoolIsMade K.tells self made.0 made.1) }
     {
         let alloc = self.rt.alloc();
@@ -172,7 +164,9 @@ impl<
         blank: Blank,
     ) -> Building<M, S, Z, K, R, L>
         requires lawful { is_lawful self.settings ≡ true }
-        requires parts { IsBlankOf blank self.settings L.name L.parts L.settings }
+        requires parts { (L.name ≡ blank.name) × (L.parts ≡ blank.parts) }
+        requires size { blank.parts ≡ self.settings.max_size }
+        requires settings { L.settings ≡ self.settings }
         ensures { IsPlanned self manager clock result }
     {
         Building {
@@ -212,13 +206,7 @@ impl<
         Tasks<M::Connection, M::Connecting, Z::Acquiring>,
     >;
 
-    fn end(
-        site: Site<
-            Plan<M, S, Z, K, R, L>,
-            Pool<M, S, Z, K, R, L>,
-            Tasks<M::Connection, M::Connecting, Z::Acquiring>,
-        >,
-    )
+    fn end(site: Self::Site)
         ensures { EndsAt Z.CustomizeConnection S.sinks K.tells site }
     {
         match site {
@@ -322,15 +310,7 @@ impl<
         M::Error,
     >;
 
-    fn sweep(
-        self,
-        tasks: Tasks<M::Connection, M::Connecting, Z::Acquiring>,
-    ) -> Built<
-        Plan<M, S, Z, K, R, L>,
-        Pool<M, S, Z, K, R, L>,
-        Tasks<M::Connection, M::Connecting, Z::Acquiring>,
-        M::Error,
-    >
+    fn sweep(self, tasks: Self::Tasks) -> Self::Built
         ensures { Sweeps (PoolRounds Z.CustomizeConnection S.sinks K.tells) self tasks
             result.answer result.site }
     {
@@ -391,18 +371,7 @@ impl<
         M::Error,
     >;
 
-    fn advance(
-        site: Site<
-            Plan<M, S, Z, K, R, L>,
-            Pool<M, S, Z, K, R, L>,
-            Tasks<M::Connection, M::Connecting, Z::Acquiring>,
-        >,
-    ) -> Built<
-        Plan<M, S, Z, K, R, L>,
-        Pool<M, S, Z, K, R, L>,
-        Tasks<M::Connection, M::Connecting, Z::Acquiring>,
-        M::Error,
-    >
+    fn advance(site: Self::Site) -> Self::Built
         ensures { PollsSite Z.CustomizeConnection S.sinks K.tells site result.answer result.site }
     {
         match site {

@@ -25,9 +25,9 @@ pub struct DedicatedFuture<
     R: Locks,
     L: Parts,
 > {
-    shared: &'a Shared<M, S, Z, K, R, L>,
-    latest: Moment,
-    stage: Opening<M::Connection, M::Connecting, Z::Acquiring>,
+    pub(crate) shared: &'a Shared<M, S, Z, K, R, L>,
+    pub(crate) latest: Moment,
+    pub(crate) stage: Opening<M::Connection, M::Connecting, Z::Acquiring>,
 }
 
 impl<
@@ -45,34 +45,6 @@ impl<
     ///
     /// It answers the first error of manager or customizer; it is tried once. A connection whose preparation failed is dropped.
     pub fn dedicated_connection(&self) -> DedicatedFuture<'_, M, S, Z, K, R, L>
-        ensures new { opening_of result ≡ fresh }
-        ensures pool { result.shared.now ≡ arc_value self.now.shared }
-    {
-        self.start_dedicated()
-    }
-}
-
-/// What `Pool::dedicated_connection` does, as a method of an impl, so that such methods can call it.
-pub(crate) trait StartDedicated {
-    type Dedicated;
-
-    fn start_dedicated(self) -> Self::Dedicated;
-}
-
-impl<
-    'a,
-    M: ManageConnection,
-    S: ErrorSink<M::Error>,
-    Z: CustomizeConnection<M::Connection, M::Error>,
-    K: Clock,
-    R: Locks,
-    L: Parts,
-> StartDedicated for &'a Pool<M, S, Z, K, R, L> {
-    ghost use Rattle.bb8.specs.Dedicated.{opening_of};
-
-    type Dedicated = DedicatedFuture<'a, M, S, Z, K, R, L>;
-
-    fn start_dedicated(self) -> DedicatedFuture<'a, M, S, Z, K, R, L>
         ensures new { opening_of result ≡ fresh }
         ensures pool { result.shared.now ≡ arc_value self.now.shared }
     {

@@ -3,6 +3,7 @@ ghost use Rattle.std.specs.Prelude.{◌≡◌, ℕ, ⊤, Bool, true, IfOk};
 ghost use Rattle.std.specs.Arc.{arc_value};
 ghost use Rattle.bb8.specs.Drivers.{has_ended, IsDriverOf};
 
+use crate::jobs::{Job, NoThread, start};
 use crate::pool::Pool;
 use bb8_core::Joined;
 use bb8_core::api::{Clock, CustomizeConnection, ErrorSink, ManageConnection, Memory, Moment};
@@ -11,7 +12,6 @@ pub use bb8_tasks::Turn;
 use bb8_tasks::{Opener, PoolOpener, Reports, Turning};
 use std::alloc::Global;
 use std::sync::{Arc, Wait};
-use std::thread;
 use std::thread::{JoinHandle, Threads};
 
 /// Opens the connections that a pool approved, and reaps those that idled or lived too long, at its turns. Our own: upstream spawns a task
@@ -51,10 +51,6 @@ pub struct Driven {
     /// Whether the last turn ended, as no handle of the pool was alive.
     pub ended: bool,
 }
-
-/// No thread could be made for a driver, which was dropped. Our own.
-#[derive(Clone, Copy, Debug, PartialEq, Eq)]
-pub struct NoThread;
 
 impl<
     M: ManageConnection,
@@ -259,13 +255,6 @@ impl<
     }
 }
 
-/// What a thread does.
-trait Job {
-    type Told;
-
-    fn run(self) -> Self::Told;
-}
-
 /// A driver with its gate.
 #[derive(Drop)]
 struct Gated<D, G> {
@@ -284,26 +273,12 @@ impl<
 > Job for Gated<Driver<M, S, Z, K, R, L>, G> {
     type Told = Driven;
 
-    fn run(self) -> Driven {
+    fn run(self, _thread: usize) -> Driven {
         let Gated {
             mut driver,
             mut gate,
         } = self;
         driver.run_turns(&mut gate)
-    }
-}
-
-/// Starts a job in a thread of its own.
-fn start<R: Threads, J: Job + Send + Drop + 'static>(
-    threads: &R,
-    job: J,
-) -> Result<JoinHandle<J::Told>, NoThread>
-where
-    J::Told: Send + Drop + 'static,
-{
-    match thread::spawn(threads, move || job.run()) {
-        Ok(handle) => Ok(handle),
-        Err(_) => Err(NoThread),
     }
 }
 
@@ -322,5 +297,5 @@ pub fn drive<
     driver: Driver<M, S, Z, K, R, L>,
     gate: G,
 ) -> Result<JoinHandle<Driven>, NoThread> {
-    start(threads, Gated { driver, gate })
+    start(threads, 0, Gated { driver, gate })
 }

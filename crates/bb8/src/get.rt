@@ -7,4 +7,3 @@ pub use bb8_gets::{
     Unfit,
 };
 pub use future::GetFuture;
-pub(crate) use future::StartGet;

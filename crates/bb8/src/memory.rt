@@ -2,7 +2,7 @@
 ghost use Rattle.std.specs.Prelude.{◌≡◌, IfOk, IfErr, Ok, Err};
 ghost use Rattle.bb8_types.specs.declared.api.errors.RunError.TheVariants as errors;
 
-use crate::driver::NoThread;
+use crate::jobs::NoThread;
 use bb8_core::api::{Memory, RunError};
 
 impl From<NoThread> for Memory {

@@ -2,7 +2,7 @@
 ghost use Rattle.std.specs.Prelude.{◌≡◌};
 ghost use Rattle.std.specs.Arc.{arc_value};
 
-use crate::handles::{Holding, Joins};
+use crate::handles::Holding;
 use crate::pool::{Cancel, Pool, PoolCalls};
 use bb8_core::api::{Clock, CustomizeConnection, ErrorSink, ManageConnection, RunError};
 use bb8_gets::{Calls, GetState, Taken};
@@ -26,8 +26,8 @@ pub struct OwnedConnection<
     R: Locks,
     L: Parts,
 > {
-    holding: Holding<M, S, Z, K, R, L>,
-    taken: Taken<M::Connection, Part<L>>,
+    pub(crate) holding: Holding<M, S, Z, K, R, L>,
+    pub(crate) taken: Taken<M::Connection, Part<L>>,
 }
 
 /// Where a get with a handle of its own stands before its answer.
@@ -51,7 +51,7 @@ pub struct GetOwnedFuture<
     R: Locks,
     L: Parts,
 > {
-    owning: Option<Owning<M, S, Z, K, R, L>>,
+    pub(crate) owning: Option<Owning<M, S, Z, K, R, L>>,
 }
 
 /// What a handle does, and a get or a guard that has one of its own, as methods of an impl, so that polls and drops can call them.
@@ -94,10 +94,7 @@ impl<
 
     type Taken = Taken<M::Connection, Part<L>>;
 
-    fn poll_owned(
-        &self,
-        get: &mut GetState<M::Connection, M::Checking, Part<L>>,
-    ) -> Poll<Result<Taken<M::Connection, Part<L>>, RunError<M::Error>>>
+    fn poll_owned(&self, get: &mut Self::Get) -> Self::Polled
         ensures { OwnPolls S.sinks K.tells (arc_value self.now.shared) get.old.stage result
             get.new.stage }
     {
@@ -106,7 +103,7 @@ impl<
         shared.poll_get(calls, get)
     }
 
-    fn let_go(&self, get: GetState<M::Connection, M::Checking, Part<L>>)
+    fn let_go(&self, get: Self::Get)
         ensures { OwnCancels S.sinks K.tells (arc_value self.now.shared) get.stage }
     {
         let shared = &*self.shared;
@@ -114,7 +111,7 @@ impl<
         shared.cancel_get(calls, get);
     }
 
-    fn cancel_owned(self, get: GetState<M::Connection, M::Checking, Part<L>>)
+    fn cancel_owned(self, get: Self::Get)
         ensures { OwnCancelsAndLeaves S.sinks K.tells (arc_value self.shared) get.stage }
     {
         let Holding { shared, handle } = self;
@@ -123,7 +120,7 @@ impl<
         pool.cancel_and_leave(calls, get, handle);
     }
 
-    fn give_back_owned(self, taken: Taken<M::Connection, Part<L>>)
+    fn give_back_owned(self, taken: Self::Taken)
         ensures { OwnReturnsAndLeaves S.sinks K.tells (arc_value self.shared) taken }
     {
         let Holding { shared, handle } = self;
@@ -182,7 +179,7 @@ impl<
 
     type Stood = Stood<M, S, Z, K, R, L>;
 
-    fn poll_owning(owning: Option<Owning<M, S, Z, K, R, L>>) -> Stood<M, S, Z, K, R, L>
+    fn poll_owning(owning: Self::Owning) -> Self::Stood
         ensures { OwningPolls S.sinks K.tells owning result.answer result.owning }
     {
         match owning {
@@ -220,46 +217,13 @@ impl<
         }
     }
 
-    fn cancel_owning(owning: Option<Owning<M, S, Z, K, R, L>>)
+    fn cancel_owning(owning: Self::Owning)
         ensures { CancelsOwning S.sinks K.tells owning }
     {
         match owning {
             None => {}
             Some(Owning::Refused(error)) => drop(error),
             Some(Owning::Open(holding, get)) => holding.cancel_owned(get),
-        }
-    }
-}
-
-/// What `Pool::get_owned` does, as a method of an impl, so that such methods can call it.
-pub(crate) trait StartOwned {
-    type Get;
-
-    fn start_owned(self) -> Self::Get;
-}
-
-impl<
-    'a,
-    M: ManageConnection,
-    S: ErrorSink<M::Error>,
-    Z: CustomizeConnection<M::Connection, M::Error>,
-    K: Clock,
-    R: Locks,
-    L: Parts,
-> StartOwned for &'a Pool<M, S, Z, K, R, L> {
-    ghost use Rattle.bb8.specs.Owned.{BeginsOwning};
-
-    type Get = GetOwnedFuture<M, S, Z, K, R, L>;
-
-    fn start_owned(self) -> GetOwnedFuture<M, S, Z, K, R, L>
-        ensures { BeginsOwning S.sinks K.tells self.now result.owning }
-    {
-        let owning = match self.join() {
-            Ok(holding) => Owning::Open(holding, GetState::new()),
-            Err(error) => Owning::Refused(error),
-        };
-        GetOwnedFuture {
-            owning: Some(owning),
         }
     }
 }

@@ -1,23 +1,24 @@
 //! The pool, and the guard of a connection that is out.
 ghost use Rattle.std.specs.Prelude.{◌≡◌, ◌≤◌, ◌<◌, true, false, IfOk};
 ghost use Rattle.std.specs.Arc.{arc_value};
+ghost use Rattle.std.specs.Duration.{as_nanos};
 ghost use Rattle.bb8_types.specs.declared.grants.Grant.{Grant as GrantOf};
 ghost use Rattle.bb8_types.specs.Settings.{settings_of, default_settings, is_lawful};
-ghost use Rattle.bb8_lock.specs.Parts.{IsBlankOf, HasBegun};
+ghost use Rattle.bb8_lock.specs.Parts.{HasBegun};
 ghost use Rattle.bb8_lock.specs.Linked.{OwnAdds, OwnShows};
 
 use crate::Builder;
 use crate::building::{MakesPool, Plan};
-use crate::dedicated::{DedicatedFuture, StartDedicated};
-use crate::get::{GetFuture, StartGet};
+use crate::dedicated::{Dedicated, DedicatedFuture};
+use crate::get::GetFuture;
 use crate::handles::{Holding, Joins};
-use crate::owned::{GetOwnedFuture, Owns, StartOwned};
+use crate::owned::{GetOwnedFuture, OwnedConnection, Owning, Owns};
 use bb8_core::api::{
     AddError, Clock, Config, CustomizeConnection, ErrorSink, ManageConnection, Memory,
     NopCustomizer, NopErrorSink, RunError, SetClock, State,
 };
-use bb8_gets::{Calls, Taken};
-use bb8_lock::{Handle, Locks, OnShared, Part, Parts, Shared};
+use bb8_gets::{Calls, GetState, Taken};
+use bb8_lock::{Handle, Locks, OnShared, Part, Parts, Shared, Waits};
 use std::alloc::Global;
 use std::fmt;
 use std::fmt::{Debug, Formatter};
@@ -25,6 +26,7 @@ use std::marker::PhantomData;
 use std::ops::{Deref, DerefMut};
 use std::sync::ledger::Blank;
 use std::sync::{Arc, Wait};
+use std::time::Duration;
 
 /// A handle of a pool of connections. Threads share one by reference, or have one each (`try_clone`). It lends connections out as guards,
 /// which give them back when they are dropped.
@@ -86,7 +88,9 @@ impl<
         L: Parts,
     >(self, manager: M, clock: K, rt: R, blank: Blank) -> Result<Pool<M, S, Z, K, R, L>, Memory>
         requires lawful { is_lawful self.settings ≡ true }
-        requires parts { IsBlankOf blank self.settings L.name L.parts L.settings }
+        requires parts { (L.name ≡ blank.name) × (L.parts ≡ blank.parts) }
+        requires size { blank.parts ≡ self.settings.max_size }
+        requires settings { L.settings ≡ self.settings }
         ensures settings { IfOk result (λ pool. settings_in pool ≡ self.settings) }
         ensures first { IfOk result (λ pool. (grant : GrantOf) × HasBegun M.Connection
             (λ at. K.tells clock at × (made_in pool ≡ at)) self.settings false grant) }
@@ -163,11 +167,29 @@ pub trait PoolCalls {
     /// The future of a dedicated connection. Our own.
     type Dedicated;
 
+    /// A guard. Our own.
+    type Guard;
+
+    /// A guard that has a handle of its own. Our own.
+    type Owned;
+
     /// As `Pool::get`. Our own.
     fn get(self) -> Self::Get;
 
     /// As `Pool::get_owned`. Our own.
     fn get_owned(self) -> Self::GetOwned;
+
+    /// As `Pool::try_get`. Our own.
+    fn try_get(self) -> Result<Option<Self::Guard>, RunError<Self::Error>>;
+
+    /// As `Pool::get_blocking`. Our own.
+    fn get_blocking(self) -> Result<Self::Guard, RunError<Self::Error>>;
+
+    /// As `Pool::get_blocking_timeout`. Our own.
+    fn get_blocking_timeout(self, timeout: Duration) -> Result<Self::Guard, RunError<Self::Error>>;
+
+    /// As `Pool::get_owned_blocking`. Our own.
+    fn get_owned_blocking(self) -> Result<Self::Owned, RunError<Self::Error>>;
 
     /// As `Pool::dedicated_connection`. Our own.
     fn dedicated_connection(self) -> Self::Dedicated;
@@ -198,6 +220,7 @@ impl<
     R: Wait + Send + Sync + Drop + 'static,
     L: Parts,
 > PoolCalls for &'a Pool<M, S, Z, K, R, L> {
+    ghost use Rattle.bb8.specs.Blocking.{GetsAtOnce, WaitsForGet, WaitsForOwned};
     ghost use Rattle.bb8.specs.Dedicated.{opening_of};
     ghost use Rattle.bb8.specs.Handles.{IsClone};
     ghost use Rattle.bb8.specs.Owned.{BeginsOwning};
@@ -217,24 +240,101 @@ impl<
 
     type Dedicated = DedicatedFuture<'a, M, S, Z, K, R, L>;
 
+    type Guard = PooledConnection<'a, M, S, Z, K, R, L>;
+
+    type Owned = OwnedConnection<M, S, Z, K, R, L>;
+
     fn get(self) -> GetFuture<'a, M, S, Z, K, R, L>
         ensures new { stage_of result ≡ IsFresh }
         ensures pool { IsOf result self.now }
     {
-        self.start_get()
+        GetFuture {
+            shared: &*self.shared,
+            get: GetState::new(),
+        }
     }
 
     fn get_owned(self) -> GetOwnedFuture<M, S, Z, K, R, L>
         ensures { BeginsOwning S.sinks K.tells self.now result.owning }
     {
-        self.start_owned()
+        let owning = match self.join() {
+            Ok(holding) => Owning::Open(holding, GetState::new()),
+            Err(error) => Owning::Refused(error),
+        };
+        GetOwnedFuture {
+            owning: Some(owning),
+        }
+    }
+
+    fn try_get(self) -> Result<Option<PooledConnection<'a, M, S, Z, K, R, L>>, RunError<M::Error>>
+        ensures { GetsAtOnce S.sinks K.tells self.now result }
+    {
+        let shared = &*self.shared;
+        let calls = Calls::new(&shared.manager, &shared.error_sink, &shared.clock);
+        match shared.take_now_with(calls) {
+            Ok(Some(taken)) => Ok(Some(PooledConnection {
+                shared,
+                taken,
+                lends: PhantomData,
+            })),
+            Ok(None) => Ok(None),
+            Err(error) => Err(error),
+        }
+    }
+
+    fn get_blocking(self) -> Result<PooledConnection<'a, M, S, Z, K, R, L>, RunError<M::Error>>
+        ensures { WaitsForGet S.sinks K.tells (settings_in self.now).connection_timeout self.now
+            result }
+    {
+        PoolCalls::get_blocking_timeout(self, self.shared.config.connection_timeout)
+    }
+
+    fn get_blocking_timeout(
+        self,
+        timeout: Duration,
+    ) -> Result<PooledConnection<'a, M, S, Z, K, R, L>, RunError<M::Error>>
+        ensures { WaitsForGet S.sinks K.tells (as_nanos timeout) self.now result }
+    {
+        let shared = &*self.shared;
+        let calls = Calls::new(&shared.manager, &shared.error_sink, &shared.clock);
+        match shared.wait_for(calls, timeout) {
+            Ok(taken) => Ok(PooledConnection {
+                shared,
+                taken,
+                lends: PhantomData,
+            }),
+            Err(error) => Err(error),
+        }
+    }
+
+    fn get_owned_blocking(self) -> Result<OwnedConnection<M, S, Z, K, R, L>, RunError<M::Error>>
+        ensures { WaitsForOwned S.sinks K.tells self.now result }
+    {
+        let holding = match self.join() {
+            Ok(holding) => holding,
+            Err(error) => return Err(error),
+        };
+        let shared = &*holding.shared;
+        let calls = Calls::new(&shared.manager, &shared.error_sink, &shared.clock);
+        match shared.wait_for(calls, shared.config.connection_timeout) {
+            Ok(taken) => Ok(OwnedConnection { holding, taken }),
+            Err(error) => {
+                holding.leave_owned();
+                Err(error)
+            }
+        }
     }
 
     fn dedicated_connection(self) -> DedicatedFuture<'a, M, S, Z, K, R, L>
         ensures new { opening_of result ≡ fresh }
         ensures pool { result.shared.now ≡ arc_value self.now.shared }
     {
-        self.start_dedicated()
+        let Dedicated { latest, stage } = Dedicated::new();
+        DedicatedFuture {
+            shared: &*self.shared,
+            latest,
+            stage,
+        }
     }
 
     fn add(self, conn: M::Connection) -> Result<(), AddError<M::Connection>>

@@ -7,7 +7,9 @@ ghost use Rattle.bb8.specs.Services.{Basis, basis, basis_of, EachTold, IsOutcome
 
 use crate::Builder;
 use crate::building::Building;
-use crate::driver::{Driven, Driver, Gate, NoThread, drive};
+use crate::driver::{Driven, Driver, Gate, drive};
+use crate::jobs::{Job, in_threads};
+use crate::memory::OrMemory;
 use crate::pool::Pool;
 use bb8_core::api::{
     Clock, Config, CustomizeConnection, ErrorSink, ManageConnection, Memory, RunError,
@@ -20,7 +22,7 @@ use std::random::RandomSource;
 use std::sync::atomic::{AtomicBool, Ordering};
 use std::sync::ledger::Blank;
 use std::sync::{Arc, Wait};
-use std::thread::{JoinHandle, Threads, map_indices};
+use std::thread::{JoinHandle, Threads};
 use std::time::Duration;
 use std::{thread, time};
 
@@ -71,19 +73,6 @@ pub trait Service<
         ensures { ends self.now (basis_of pool.now) told.now result };
 }
 
-/// What each thread does.
-trait Job {
-    type Told;
-
-    ghost is_ready: { Self → Type 0 };
-
-    ghost tells: { Self → ℕ → Self.Told → Type 0 };
-
-    fn do_as(&self, thread: usize) -> Self::Told
-        requires { is_ready self.now }
-        ensures { tells self.now thread result };
-}
-
 /// A service on its pool.
 #[derive(Drop)]
 struct OnPool<
@@ -108,32 +97,15 @@ impl<
     R: Locks,
     L: PoolParts,
     V: Service<M, S, Z, K, R>,
-> Job for OnPool<'_, M, S, Z, K, R, L, V> {
+> Job for &OnPool<'_, M, S, Z, K, R, L, V> {
     type Told = V::Told;
 
-    ghost is_ready = { λ job. V.suits job.service.now (basis_of job.pool.now) };
+    ghost is_ready = { λ job. V.suits job.now.service.now (basis_of job.now.pool.now) };
 
-    ghost tells = { λ job thread told. V.tells job.service.now (basis_of job.pool.now) thread told };
+    ghost tells = { λ job thread told. V.tells job.now.service.now (basis_of job.now.pool.now) thread told };
 
-    fn do_as(&self, thread: usize) -> V::Told {
+    fn run(self, thread: usize) -> V::Told {
         self.service.run(self.pool, thread)
-    }
-}
-
-/// Does a job in as many threads, and gives what they tell, in order.
-fn in_threads<R: Threads + AllocGlobal + Sync, J: Job + Sync>(
-    rt: &R,
-    threads: usize,
-    job: &J,
-) -> Result<Vec<J::Told>, Memory>
-where
-    J::Told: Send + Drop,
-    requires { J.is_ready job.now }
-    ensures { IfOk result (λ told. EachTold (J.tells job.now) threads told.items) }
-{
-    match map_indices(rt, rt.alloc(), threads, &|thread| job.do_as(thread)) {
-        Ok(told) => Ok(told),
-        Err(_) => Err(Memory),
     }
 }
 
@@ -220,10 +192,7 @@ fn drive_while<
     over: Arc<AtomicBool, Global>,
 ) -> Result<JoinHandle<Driven>, Memory> {
     let driver = Driver::new(pool)?;
-    match drive(&rt, driver, WhileServing { rt, over }) {
-        Ok(thread) => Ok(thread),
-        Err(NoThread) => Err(Memory),
-    }
+    Ok(drive(&rt, driver, WhileServing { rt, over })?)
 }
 
 /// Runs a service over a pool whose parts are named.
@@ -262,24 +231,17 @@ fn serve_with<
     ensures failed { IfErr result (IsBuildError
         (M.connect_answers manager) (Z.acquire_answers builder.connection_customizer)) }
 {
-    let Ok(over) = Arc::new(rt.alloc(), AtomicBool::new(false)) else {
-        return Err(RunError::Memory);
-    };
+    let over = Arc::new(rt.alloc(), AtomicBool::new(false)).or_memory::<M::Error>()?;
     let Ok(seen) = Arc::try_clone(&over) else {
         return Err(RunError::Memory);
     };
     let pool: Pool<M, S, Z, K, R, L> = built(builder, manager, clock, rt, blank)?;
-    let Ok(thread) = drive_while(&pool, rt, seen) else {
-        return Err(RunError::Memory);
-    };
+    let thread = drive_while(&pool, rt, seen).or_memory::<M::Error>()?;
     let outcome = run_service(&rt, &pool, threads, service);
     over.store(true, Ordering::Relaxed);
     drop(pool);
     let _ = thread.join(&rt);
-    match outcome {
-        Ok(outcome) => Ok(outcome),
-        Err(Memory) => Err(RunError::Memory),
-    }
+    outcome.or_memory()
 }
 
 impl<

@@ -3,3 +3,4 @@ mod AsBox
 mod Inside
 mod Begun
 mod AtOnce
+mod Listed

@@ -4,6 +4,7 @@ use Rattle.std.specs.Duration.{as_nanos}
 use Rattle.bb8_types.specs.Bounds.{most_micros}
 use Rattle.bb8_types.specs.declared.api.figures.State.{State}
 use Rattle.bb8_types.specs.declared.grants.Grant.{Grant}
+use Rattle.bb8_tables.specs.declared.closed.Closed.{Closed}
 use Rattle.bb8_tables.specs.declared.keys.Key.{Key}
 use Rattle.bb8_tables.specs.declared.keys.GetKey.{GetKey}
 use Rattle.bb8_core.specs.declared.answers.BeginAnswer.{BeginAnswer}
@@ -31,9 +32,10 @@ use Rattle.bb8_core.specs.declared.answers.ReapAnswer.{ReapAnswer}
 use Rattle.bb8_core.specs.declared.answers.ReapAnswer.TheVariants as reaping
 use Rattle.bb8_core.specs.declared.answers.JoinAnswer.{JoinAnswer}
 use Rattle.bb8_core.specs.declared.answers.JoinAnswer.TheVariants as joined
-use Rattle.bb8_core.specs.declared.answers.LeaveAnswer.{LeaveAnswer}
 use Rattle.bb8_core.specs.declared.answers.LeaveAnswer.TheVariants as leaving
 use Rattle.bb8_core.specs.declared.answers.Looked.{Looked as Look}
+use Rattle.bb8_c.specs.declared.listing.Left.{Left}
+use Rattle.bb8_c.specs.declared.listing.Left.TheVariants as left
 use Rattle.bb8_c.specs.declared.steps.Got.{Got}
 use Rattle.bb8_c.specs.declared.steps.Got.TheVariants as got
 use Rattle.bb8_c.specs.declared.told.Name.{Name}
@@ -65,6 +67,10 @@ get_in g = record { number = g.number; place = g.place }
 -- with a connection or an approval
 abbrev pub keyed : ℕ → Key → Told
 keyed kind k = record (plain kind) { key = key_in k }
+
+-- with a number for a key
+abbrev pub numbered : ℕ → ℕ → Told
+numbered kind n = keyed kind (record { number = n; place = 0 })
 
 -- with a connection that is handed out or back
 abbrev pub with_conn : ℕ → Told → Told
@@ -144,10 +150,11 @@ add_in (Some (adding.Broken c)) = with_conn c (plain 17)
 add_in (Some (adding.NoCapacity c)) = with_conn c (plain 18)
 add_in (Some (adding.Withheld c)) = with_conn c (plain 19)
 
--- how many connections ended is the number of the key
-abbrev pub reap_in : ReapAnswer → Told
-reap_in (reaping.Reaped closed by_idle by_life grant) = record (granting grant (plain 20)) { key = record { number = closed; place = 0 } }
-reap_in reaping.Ended = plain 12
+-- how many connections ended is the number of the key; nothing is told where memory was refused
+abbrev pub reap_in : Option ReapAnswer → Told
+reap_in None = plain 2
+reap_in (Some (reaping.Reaped closed by_idle by_life grant)) = granting grant (numbered 20 closed)
+reap_in (Some reaping.Ended) = plain 12
 
 abbrev pub fill_in : Grant → Told
 fill_in g = granting g (plain 23)
@@ -158,9 +165,15 @@ join_in (Some joined.Joined) = plain 21
 join_in (Some joined.Exhausted) = plain 3
 
 -- how many connections ended is the number of the key
-abbrev pub leave_in : Option LeaveAnswer → Told
-leave_in None = plain 0
-leave_in (Some (leaving.Left n)) = record (plain 22) { key = record { number = n; place = 0 } }
+abbrev pub leave_in : Left → Told
+leave_in left.Unfit = plain 0
+leave_in left.Memory = plain 2
+leave_in (left.Told (leaving.Left n)) = numbered 22 n
+
+-- a connection that was closed
+abbrev pub closed_in : Option (Closed ℕ) → Told
+closed_in None = plain 0
+closed_in (Some c) = with_conn c.conn (numbered 24 c.number)
 
 -- ---- what a core tells of itself
 

@@ -1,11 +1,20 @@
--- Steps that are taken only where their events fit, and steps behind a handle.
-use Rattle.std.specs.Prelude.{◌≡◌, ◌⊎◌, ℕ, Bool, true, false, Option, Some, None}
-use Rattle.bb8_ledger.specs.Acts.{Act, Reason, TimedOut, Cancelled, Begin, Try}
+-- Steps that are taken only where their events fit, what they list as closed, and steps behind a handle.
+use Rattle.std.specs.Prelude.{◌≡◌, ◌⊎◌, ℕ, Bool, true, false, cond, eqb, List, [], ◌++◌, drop, slice_get, Option, Some, None}
+use Rattle.bb8_types.specs.Numbered.{tally}
+use Rattle.bb8_tables.specs.declared.closed.Closed.{Closed}
+use Rattle.bb8_ledger.specs.Acts.{Act, Reason, TimedOut, Cancelled, Begin, Try, Reap, Leave}
 use Rattle.bb8_ledger.specs.Answers.{Answer, Begun, Memory, Exhausted}
-use Rattle.bb8_core.specs.Shown.{Shown, Meets, TellsFitting}
-use Rattle.bb8_core.specs.StepAnswers.{try_told, HandsOut, NoneAtOnce}
+use Rattle.bb8_ledger.specs.Ledger.{Ledger}
+use Rattle.bb8_ledger.specs.Table.{IsLegal}
+use Rattle.bb8_core.specs.declared.answers.ReapAnswer.{ReapAnswer}
+use Rattle.bb8_core.specs.Closings.{AreIdleAs, ended_by}
+use Rattle.bb8_core.specs.Shown.{Shown, Means, Meets, TellsFitting}
+use Rattle.bb8_core.specs.StepAnswers.{try_told, reap_told, leave_told, HandsOut, NoneAtOnce}
 use Rattle.bb8_c.specs.declared.steps.Got.{Got}
 use Rattle.bb8_c.specs.declared.steps.Got.TheVariants as got
+use Rattle.bb8_c.specs.declared.listing.Listing.{Listing}
+use Rattle.bb8_c.specs.declared.listing.Left.{Left}
+use Rattle.bb8_c.specs.declared.listing.Left.TheVariants as left
 
 -- where the event fits it is taken and answered so; otherwise nothing is told, and nothing changed
 abbrev pub Stepped : {A : Type 0} → (A → Answer) → Shown ℕ → ℕ → Act ℕ → Option A → Shown ℕ → Type 0
@@ -24,11 +33,36 @@ Gets old at got.Exhausted new = Meets old at Begin Exhausted new
 Gets old at (got.Tried g told) new = (between : Shown ℕ) × Meets old at Begin (Begun g.number) between
     × Meets between at (Try g.number) (try_told told) new × HandsOut between told
 
+-- listed behind those that were are connections that were idle under these numbers, one after another
+abbrev pub Lists : List ℕ → Listing → Listing → Type 0
+Lists ks old new = (xs : List (Closed ℕ)) × AreIdleAs old.internals ks xs × (new.closed.items ≡ old.closed.items ++ xs)
+
+-- A reap lists all that it closes: each number that the ledger's reap ends comes as often as there. Where nothing is told nothing changed.
+abbrev pub Reaps : Listing → ℕ → Option ReapAnswer → Listing → Type 0
+Reaps old at None new = new ≡ old
+Reaps old at (Some a) new = Meets old.internals at Reap (reap_told a) new.internals × (ks : List ℕ) × Lists ks old new
+    × ((l : Ledger ℕ) → IsLegal l → Means l old.internals → (k : ℕ) → tally (eqb k) ks ≡ tally (eqb k) (ended_by a l at))
+
+-- the last leave lists all that is idle, in line; another one nothing
+abbrev pub Leaves : Listing → ℕ → Left → Listing → Type 0
+Leaves old at left.Unfit new = (new ≡ old) × TellsFitting old.internals Leave false
+Leaves old at left.Memory new = new ≡ old
+Leaves old at (left.Told a) new = Meets old.internals at Leave (leave_told a) new.internals
+    × Lists (cond (eqb old.internals.handles 1) old.internals.records.idle []) old new
+
+-- the first of the list is told, and taken out of it
+abbrev pub TellsNext : Listing → Option (Closed ℕ) → Listing → Type 0
+TellsNext old told new = (told ≡ slice_get old.closed.items 0) × (new.closed.items ≡ drop 1 old.closed.items) × (new.internals ≡ old.internals)
+
 -- a handle held a core before and holds one after, and these two are so related
-abbrev pub Within : (Shown ℕ → Shown ℕ → Type 0) → Option (Shown ℕ) → Option (Shown ℕ) → Type 0
+abbrev pub Within : (Listing → Listing → Type 0) → Option Listing → Option Listing → Type 0
 Within P None after = ⊥
 Within P (Some old) None = ⊥
 Within P (Some old) (Some new) = P old new
+
+-- the same of a step of the core, which lists nothing
+abbrev pub Beside : (Shown ℕ → Shown ℕ → Type 0) → Option Listing → Option Listing → Type 0
+Beside P = Within (λ old new. P old.internals new.internals × (new.closed ≡ old.closed))
 
 -- why a get is given up
 abbrev pub why : Bool → Reason

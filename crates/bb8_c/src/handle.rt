@@ -1,11 +1,11 @@
 //! A core behind a pointer, as C keeps it.
-ghost use Rattle.std.specs.Prelude.{◌≡◌, ℕ, Option, Some, None, IsSome};
-ghost use Rattle.std.specs.Coded.{coded_ℕ, coded_option};
-ghost use Rattle.bb8_core.specs.Shown.{Shown, shown_code};
-ghost use Rattle.bb8_c.specs.Held.{held};
+ghost use Rattle.std.specs.Prelude.{◌≡◌, Option, Some, None, IsSome};
+ghost use Rattle.std.specs.Coded.{coded_option};
+ghost use Rattle.bb8_c.specs.declared.listing.Listing.{Listing};
+ghost use Rattle.bb8_c.specs.Held.{held, listing_code};
 
+use crate::listing::Listing;
 use crate::parts::Parts;
-use bb8_core::internals::PoolInternals;
 use std::alloc::Global;
 use std::marker::Model;
 
@@ -15,7 +15,7 @@ use std::marker::Model;
 pub struct Handle {
     at: *mut u8,
     alloc: Global,
-    pub ghost core: { Option (Shown ℕ) } by { coded_option (shown_code coded_ℕ) },
+    pub ghost core: { Option Listing } by { coded_option listing_code },
 }
 
 impl Model for Handle {
@@ -34,14 +34,14 @@ impl Handle {
     }
 
     /// Hands the core to the handle.
-    pub fn of(core: Box<PoolInternals<u64>>) -> Handle
+    pub fn of(core: Box<Listing>) -> Handle
         ensures { result.core ≡ Some core.value }
     {
         Handle::of_parts(Parts::of(core))
     }
 
     /// Takes the core out.
-    pub fn into_box(self) -> Box<PoolInternals<u64>>
+    pub fn into_box(self) -> Box<Listing>
         requires { IsSome self.core }
         ensures { self.core ≡ Some result.value }
     {
@@ -49,7 +49,7 @@ impl Handle {
     }
 
     /// Takes the core out, and leaves nothing.
-    pub fn take(&mut self, alloc: Global) -> Box<PoolInternals<u64>>
+    pub fn take(&mut self, alloc: Global) -> Box<Listing>
         requires { IsSome self.old.core }
         ensures core { self.old.core ≡ Some result.value }
         ensures nothing { self.new.core ≡ None }
@@ -58,7 +58,7 @@ impl Handle {
     }
 
     /// A handle from what the box of a core is made of.
-    fn of_parts(parts: Parts<PoolInternals<u64>, Global>) -> Handle
+    fn of_parts(parts: Parts<Listing, Global>) -> Handle
         ensures { result.core ≡ Some parts.value }
     {
         let Parts { at, alloc } = parts;
@@ -69,13 +69,13 @@ impl Handle {
     }
 
     /// What the box of the core is made of.
-    fn into_parts(self) -> Parts<PoolInternals<u64>, Global>
+    fn into_parts(self) -> Parts<Listing, Global>
         requires { IsSome self.core }
         ensures { self.core ≡ Some result.value }
     {
         let Handle { at, alloc } = self;
         Parts {
-            at: at as *mut PoolInternals<u64>,
+            at: at as *mut Listing,
             alloc,
         }
     }

@@ -23,19 +23,21 @@ ghost use Rattle.bb8_core.specs.declared.answers.FailedAnswer.{FailedAnswer};
 ghost use Rattle.bb8_core.specs.declared.answers.AddAnswer.{AddAnswer};
 ghost use Rattle.bb8_core.specs.declared.answers.ReapAnswer.{ReapAnswer};
 ghost use Rattle.bb8_core.specs.declared.answers.JoinAnswer.{JoinAnswer};
-ghost use Rattle.bb8_core.specs.declared.answers.LeaveAnswer.{LeaveAnswer};
 ghost use Rattle.bb8_core.specs.declared.answers.Looked.{Looked as Look};
-ghost use Rattle.bb8_core.specs.StepAnswers.{begin_told, try_told, checked_ok_told, checked_err_told, give_up_told, put_back_told, claim_told, opened_told, failed_told, add_told, reap_told, join_told, leave_told, look_told, reason_of, ServesAtOnce, HandsOut, GivesBack, GivesBackInvalid, GivesBackHeld, HandsBack, Refuses};
+ghost use Rattle.bb8_core.specs.StepAnswers.{begin_told, try_told, checked_ok_told, checked_err_told, give_up_told, put_back_told, claim_told, opened_told, failed_told, add_told, join_told, look_told, reason_of, ServesAtOnce, HandsOut, GivesBack, GivesBackInvalid, GivesBackHeld, HandsBack, Refuses};
 ghost use Rattle.bb8_core.specs.Shown.{Meets, IsRecordIn, IsNoRecordIn};
+ghost use Rattle.bb8_tables.specs.declared.closed.Closed.{Closed};
+ghost use Rattle.bb8_c.specs.declared.listing.Left.{Left};
 ghost use Rattle.bb8_c.specs.declared.steps.Got.{Got};
 ghost use Rattle.bb8_c.specs.InC as in_c;
 ghost use Rattle.bb8_c.specs.Layout as layout;
 ghost use Rattle.bb8_c.specs.Openings.{CoreIsMade};
-ghost use Rattle.bb8_c.specs.Steps.{Stepped, Gets, NotAtOnce, Within, why};
+ghost use Rattle.bb8_c.specs.Steps.{Stepped, Gets, NotAtOnce, Reaps, Leaves, TellsNext, Within, Beside, why};
 
 mod figures;
 mod handle;
 mod layout;
+mod listing;
 mod parts;
 mod settings;
 mod steps;
@@ -45,9 +47,21 @@ use bb8_core::api::Moment;
 use bb8_core::internals::{PoolInternals, Reason};
 pub use figures::{Figures, Looked};
 pub use handle::Handle;
+use listing::Listing;
 pub use settings::Settings;
 use std::alloc::Global;
+use steps::Core;
 pub use told::{Granted, Name, Told};
+
+// What a step tells of the core, which is taken out of its handle for it.
+macro_rules! with_core {
+    ($alloc:ident, $handle:ident => $told:ident::$tell:ident($on:ident::$step:ident($($argument:expr),*))) => {{
+        let mut open = $handle.take($alloc);
+        let told = $told::$tell($on::$step(&mut open.internals, $($argument),*));
+        *$handle = Handle::of(open);
+        told
+    }};
+}
 
 /// Makes a core, with one handle of the pool, and puts it into an empty handle. False comes where the settings are not lawful or memory was
 /// refused; then the handle stays empty.
@@ -60,7 +74,8 @@ pub extern "C" fn bb8_new(alloc: Global, settings: Settings, out: &mut Handle) -
     if !config.is_lawful() {
         return false;
     }
-    match Box::new(alloc, PoolInternals::new(alloc, config)) {
+    let core = Listing::new(alloc, PoolInternals::new(alloc, config));
+    match Box::new(alloc, core) {
         Ok(core) => {
             *out = Handle::of(core);
             true
@@ -82,13 +97,10 @@ pub extern "C" fn bb8_free(alloc: Global, core: &mut Handle)
 #[unsafe(no_mangle)]
 pub extern "C" fn bb8_begin(alloc: Global, core: &mut Handle, at: u64) -> Told
     requires { IsSome core.old.core }
-    ensures { Within (λ old new. (a : Option BeginAnswer) × (result ≡ in_c.begin_in a)
+    ensures { Beside (λ old new. (a : Option BeginAnswer) × (result ≡ in_c.begin_in a)
         × Stepped begin_told old at acts.Begin a new) core.old.core core.new.core }
 {
-    let mut open = core.take(alloc);
-    let told = told::begun(steps::begin(&mut open, at));
-    *core = Handle::of(open);
-    told
+    with_core!(alloc, core => told::begun(steps::begin(at)))
 }
 
 /// Begins a get and lets it try once, as `bb8_begin` and then `bb8_try` do, whether it is checked or not, and whether it is served or waits. The name of the get
@@ -96,13 +108,10 @@ pub extern "C" fn bb8_begin(alloc: Global, core: &mut Handle, at: u64) -> Told
 #[unsafe(no_mangle)]
 pub extern "C" fn bb8_get(alloc: Global, core: &mut Handle, at: u64) -> Told
     requires { IsSome core.old.core }
-    ensures { Within (λ old new. (a : Got) × (result ≡ in_c.got_in a)
+    ensures { Beside (λ old new. (a : Got) × (result ≡ in_c.got_in a)
         × Gets old at a new) core.old.core core.new.core }
 {
-    let mut open = core.take(alloc);
-    let told = told::got(steps::get(&mut open, at));
-    *core = Handle::of(open);
-    told
+    with_core!(alloc, core => told::got(steps::get(at)))
 }
 
 /// Begins a get and serves it, where connections go out unchecked, one is idle, and the get needs no memory. Else the answer has kind 0, nothing
@@ -110,28 +119,22 @@ pub extern "C" fn bb8_get(alloc: Global, core: &mut Handle, at: u64) -> Told
 #[unsafe(no_mangle)]
 pub extern "C" fn bb8_serve_at_once(alloc: Global, core: &mut Handle, at: u64) -> Told
     requires { IsSome core.old.core }
-    ensures { Within (λ old new. (a : Option (AtOnce ℕ)) × (result ≡ in_c.at_once_in a)
+    ensures { Beside (λ old new. (a : Option (AtOnce ℕ)) × (result ≡ in_c.at_once_in a)
         × IfSome a (λ served. ServesAtOnce old at served new)
         × IfNone a (new ≡ old) × IfNone a (NotAtOnce old)) core.old.core core.new.core }
 {
-    let mut open = core.take(alloc);
-    let told = told::at_once(steps::serve_at_once(&mut open, at));
-    *core = Handle::of(open);
-    told
+    with_core!(alloc, core => told::at_once(steps::serve_at_once(at)))
 }
 
 /// Lets a get try: kind 4 where it is served, 5 where it holds a connection that is to be checked, 6 where it waits.
 #[unsafe(no_mangle)]
 pub extern "C" fn bb8_try(alloc: Global, core: &mut Handle, at: u64, get: Name) -> Told
     requires { IsSome core.old.core }
-    ensures { Within (λ old new. (a : Option (TryAnswer ℕ)) × (result ≡ in_c.try_in a)
+    ensures { Beside (λ old new. (a : Option (TryAnswer ℕ)) × (result ≡ in_c.try_in a)
         × Stepped try_told old at (acts.Try get.number) a new
         × IfSome a (λ told. HandsOut old told)) core.old.core core.new.core }
 {
-    let mut open = core.take(alloc);
-    let told = told::tried(steps::try_get(&mut open, at, get.get()));
-    *core = Handle::of(open);
-    told
+    with_core!(alloc, core => told::tried(steps::try_get(at, get.get())))
 }
 
 /// Tells that the check of a get was passed: kind 4. The hint is the place of the key that it holds.
@@ -144,14 +147,11 @@ pub extern "C" fn bb8_checked_ok(
     hint: usize,
 ) -> Told
     requires { IsSome core.old.core }
-    ensures { Within (λ old new. (a : Option CheckedOkAnswer) × (result ≡ in_c.checked_ok_in a)
+    ensures { Beside (λ old new. (a : Option CheckedOkAnswer) × (result ≡ in_c.checked_ok_in a)
         × Stepped (checked_ok_told old.records.next) old at (acts.CheckedOk get.number) a new)
         core.old.core core.new.core }
 {
-    let mut open = core.take(alloc);
-    let told = told::checked(steps::checked_ok(&mut open, at, get.get(), hint));
-    *core = Handle::of(open);
-    told
+    with_core!(alloc, core => told::checked(steps::checked_ok(at, get.get(), hint)))
 }
 
 /// Tells that the check of a get failed, which hands its connection in: kind 8. The get may try again. The hint is as of `bb8_checked_ok`.
@@ -166,15 +166,12 @@ pub extern "C" fn bb8_checked_err(
     hint: usize,
 ) -> Told
     requires { IsSome core.old.core }
-    ensures { Within (λ old new. (a : Option (CheckedErrAnswer ℕ))
+    ensures { Beside (λ old new. (a : Option (CheckedErrAnswer ℕ))
         × (result ≡ in_c.checked_err_in a)
         × Stepped checked_err_told old at (acts.CheckedErr get.number broken) a new
         × IfSome a (λ told. GivesBackInvalid conn told)) core.old.core core.new.core }
 {
-    let mut open = core.take(alloc);
-    let told = told::invalid(steps::checked_err(&mut open, at, get.get(), conn, broken, hint));
-    *core = Handle::of(open);
-    told
+    with_core!(alloc, core => told::invalid(steps::checked_err(at, get.get(), conn, broken, hint)))
 }
 
 /// Gives up a get that holds nothing: kind 9.
@@ -187,14 +184,11 @@ pub extern "C" fn bb8_give_up(
     timed_out: bool,
 ) -> Told
     requires { IsSome core.old.core }
-    ensures { Within (λ old new. (a : Option (GiveUpAnswer ℕ)) × (result ≡ in_c.give_up_in a)
+    ensures { Beside (λ old new. (a : Option (GiveUpAnswer ℕ)) × (result ≡ in_c.give_up_in a)
         × Stepped give_up_told old at (acts.GiveUp get.number (why timed_out) None false) a new
         × IfSome a (λ told. GivesBackHeld None told)) core.old.core core.new.core }
 {
-    let mut open = core.take(alloc);
-    let told = told::gave_up(steps::give_up(&mut open, at, get.get(), reason(timed_out)));
-    *core = Handle::of(open);
-    told
+    with_core!(alloc, core => told::gave_up(steps::give_up(at, get.get(), reason(timed_out))))
 }
 
 /// Gives up a get that holds a connection, which is handed in: kind 7 or 8. The hint is as of `bb8_checked_ok`.
@@ -210,23 +204,12 @@ pub extern "C" fn bb8_give_up_held(
     hint: usize,
 ) -> Told
     requires { IsSome core.old.core }
-    ensures { Within (λ old new. (a : Option (GiveUpAnswer ℕ)) × (result ≡ in_c.give_up_in a)
+    ensures { Beside (λ old new. (a : Option (GiveUpAnswer ℕ)) × (result ≡ in_c.give_up_in a)
         × Stepped give_up_told old at
         (acts.GiveUp get.number (why timed_out) (Some conn) broken) a new
         × IfSome a (λ told. GivesBackHeld (Some conn) told)) core.old.core core.new.core }
 {
-    let mut open = core.take(alloc);
-    let told = told::gave_up(steps::give_up_held(
-        &mut open,
-        at,
-        get.get(),
-        reason(timed_out),
-        conn,
-        broken,
-        hint,
-    ));
-    *core = Handle::of(open);
-    told
+    with_core!(alloc, core => told::gave_up(steps::give_up_held(at, get.get(), reason(timed_out), conn, broken, hint)))
 }
 
 /// Returns a connection that was served: kind 7 where it is idle, 8 where it is closed, and handed back.
@@ -240,40 +223,31 @@ pub extern "C" fn bb8_put_back(
     broken: bool,
 ) -> Told
     requires { IsSome core.old.core }
-    ensures { Within (λ old new. (a : Option (PutBackAnswer ℕ)) × (result ≡ in_c.put_back_in a)
+    ensures { Beside (λ old new. (a : Option (PutBackAnswer ℕ)) × (result ≡ in_c.put_back_in a)
         × Stepped (put_back_told key.number) old at (acts.PutBack key.number conn broken) a new
         × IfSome a (λ told. GivesBack conn told)) core.old.core core.new.core }
 {
-    let mut open = core.take(alloc);
-    let told = told::returned(steps::put_back(&mut open, at, key.key(), conn, broken));
-    *core = Handle::of(open);
-    told
+    with_core!(alloc, core => told::returned(steps::put_back(at, key.key(), conn, broken)))
 }
 
 /// Grants what is wanted for `min_idle`, claimed at once or not: kind 23.
 #[unsafe(no_mangle)]
 pub extern "C" fn bb8_fill(alloc: Global, core: &mut Handle, at: u64, claimed: bool) -> Told
     requires { IsSome core.old.core }
-    ensures { Within (λ old new. (a : Grant) × (result ≡ in_c.fill_in a)
+    ensures { Beside (λ old new. (a : Grant) × (result ≡ in_c.fill_in a)
         × Meets old at (acts.Fill claimed) (answers.Granted a) new) core.old.core core.new.core }
 {
-    let mut open = core.take(alloc);
-    let told = told::filled(open.fill(Moment(at), claimed));
-    *core = Handle::of(open);
-    told
+    with_core!(alloc, core => told::filled(Core::fill(Moment(at), claimed)))
 }
 
 /// Claims an approval: kind 10, or 11 where none is unclaimed, or 12 where no handle is alive.
 #[unsafe(no_mangle)]
 pub extern "C" fn bb8_claim(alloc: Global, core: &mut Handle, at: u64) -> Told
     requires { IsSome core.old.core }
-    ensures { Within (λ old new. (a : ClaimAnswer) × (result ≡ in_c.claim_in a)
+    ensures { Beside (λ old new. (a : ClaimAnswer) × (result ≡ in_c.claim_in a)
         × Meets old at acts.Claim (claim_told a) new) core.old.core core.new.core }
 {
-    let mut open = core.take(alloc);
-    let told = told::claimed(open.claim(Moment(at)));
-    *core = Handle::of(open);
-    told
+    with_core!(alloc, core => told::claimed(Core::claim(Moment(at))))
 }
 
 /// Hands in the connection that a claimed approval brought: kind 13, or 14 where no handle is alive and it is handed back.
@@ -286,28 +260,22 @@ pub extern "C" fn bb8_opened(
     conn: u64,
 ) -> Told
     requires { IsSome core.old.core }
-    ensures { Within (λ old new. (a : Option (OpenedAnswer ℕ)) × (result ≡ in_c.opened_in a)
+    ensures { Beside (λ old new. (a : Option (OpenedAnswer ℕ)) × (result ≡ in_c.opened_in a)
         × Stepped (opened_told approval.number) old at (acts.Opened approval.number conn) a new
         × IfSome a (λ told. HandsBack conn told)) core.old.core core.new.core }
 {
-    let mut open = core.take(alloc);
-    let told = told::entered(steps::opened(&mut open, at, approval.key(), conn));
-    *core = Handle::of(open);
-    told
+    with_core!(alloc, core => told::entered(steps::opened(at, approval.key(), conn)))
 }
 
 /// Ends a claimed approval that brought no connection: kind 15.
 #[unsafe(no_mangle)]
 pub extern "C" fn bb8_failed(alloc: Global, core: &mut Handle, at: u64, approval: Name) -> Told
     requires { IsSome core.old.core }
-    ensures { Within (λ old new. (a : Option FailedAnswer) × (result ≡ in_c.failed_in a)
+    ensures { Beside (λ old new. (a : Option FailedAnswer) × (result ≡ in_c.failed_in a)
         × Stepped failed_told old at (acts.Failed approval.number) a new)
         core.old.core core.new.core }
 {
-    let mut open = core.take(alloc);
-    let told = told::given_back(steps::failed(&mut open, at, approval.key()));
-    *core = Handle::of(open);
-    told
+    with_core!(alloc, core => told::given_back(steps::failed(at, approval.key())))
 }
 
 /// Adds a connection that no approval brought: kind 16, or 17 as it is broken, 18 as there is no room, 19 as memory or a number is lacking.
@@ -320,25 +288,23 @@ pub extern "C" fn bb8_add(
     broken: bool,
 ) -> Told
     requires { IsSome core.old.core }
-    ensures { Within (λ old new. (a : Option (AddAnswer ℕ)) × (result ≡ in_c.add_in a)
+    ensures { Beside (λ old new. (a : Option (AddAnswer ℕ)) × (result ≡ in_c.add_in a)
         × Stepped add_told old at (acts.Add conn broken) a new
         × IfSome a (λ told. Refuses conn told)) core.old.core core.new.core }
 {
-    let mut open = core.take(alloc);
-    let told = told::added(steps::add(&mut open, at, conn, broken));
-    *core = Handle::of(open);
-    told
+    with_core!(alloc, core => told::added(steps::add(at, conn, broken)))
 }
 
-/// Closes idle connections that are too old or idled too long: kind 20, with how many as the number of the key; 12 where no handle is alive.
+/// Closes idle connections that are too old or idled too long: kind 20, with how many as the number of the key; `bb8_closed_next` tells which.
+/// It is 12 where no handle is alive, and 2 where memory to list them was refused; then nothing changed.
 #[unsafe(no_mangle)]
 pub extern "C" fn bb8_reap(alloc: Global, core: &mut Handle, at: u64) -> Told
     requires { IsSome core.old.core }
-    ensures { Within (λ old new. (a : ReapAnswer) × (result ≡ in_c.reap_in a)
-        × Meets old at acts.Reap (reap_told a) new) core.old.core core.new.core }
+    ensures { Within (λ old new. (a : Option ReapAnswer) × (result ≡ in_c.reap_in a)
+        × Reaps old at a new) core.old.core core.new.core }
 {
     let mut open = core.take(alloc);
-    let told = told::reaped(open.reap(Moment(at)));
+    let told = told::reaped(open.reap(at));
     *core = Handle::of(open);
     told
 }
@@ -347,24 +313,35 @@ pub extern "C" fn bb8_reap(alloc: Global, core: &mut Handle, at: u64) -> Told
 #[unsafe(no_mangle)]
 pub extern "C" fn bb8_join(alloc: Global, core: &mut Handle, at: u64) -> Told
     requires { IsSome core.old.core }
-    ensures { Within (λ old new. (a : Option JoinAnswer) × (result ≡ in_c.join_in a)
+    ensures { Beside (λ old new. (a : Option JoinAnswer) × (result ≡ in_c.join_in a)
         × Stepped join_told old at acts.Join a new) core.old.core core.new.core }
 {
+    with_core!(alloc, core => told::joined(steps::join(at)))
+}
+
+/// Takes a handle of the pool away: kind 22. With the last one idle connections end, as many as the number of the key; `bb8_closed_next` tells
+/// which. It is 2 where memory to list them was refused; then nothing changed.
+#[unsafe(no_mangle)]
+pub extern "C" fn bb8_leave(alloc: Global, core: &mut Handle, at: u64) -> Told
+    requires { IsSome core.old.core }
+    ensures { Within (λ old new. (a : Left) × (result ≡ in_c.leave_in a)
+        × Leaves old at a new) core.old.core core.new.core }
+{
     let mut open = core.take(alloc);
-    let told = told::joined(steps::join(&mut open, at));
+    let told = told::left(open.leave(at));
     *core = Handle::of(open);
     told
 }
 
-/// Takes a handle of the pool away: kind 22. With the last one idle connections end, as many as the number of the key.
+/// Tells the connection that a reap or the last leave closed first, of those that were not told yet: kind 24. It is 0 where all were told.
 #[unsafe(no_mangle)]
-pub extern "C" fn bb8_leave(alloc: Global, core: &mut Handle, at: u64) -> Told
+pub extern "C" fn bb8_closed_next(alloc: Global, core: &mut Handle) -> Told
     requires { IsSome core.old.core }
-    ensures { Within (λ old new. (a : Option LeaveAnswer) × (result ≡ in_c.leave_in a)
-        × Stepped leave_told old at acts.Leave a new) core.old.core core.new.core }
+    ensures { Within (λ old new. (a : Option (Closed ℕ)) × (result ≡ in_c.closed_in a)
+        × TellsNext old a new) core.old.core core.new.core }
 {
     let mut open = core.take(alloc);
-    let told = told::left(steps::leave(&mut open, at));
+    let told = told::closed(open.next());
     *core = Handle::of(open);
     told
 }
@@ -373,37 +350,31 @@ pub extern "C" fn bb8_leave(alloc: Global, core: &mut Handle, at: u64) -> Told
 #[unsafe(no_mangle)]
 pub extern "C" fn bb8_look(alloc: Global, core: &mut Handle, at: u64) -> Looked
     requires { IsSome core.old.core }
-    ensures { Within (λ old new. (a : Look) × (result ≡ in_c.look_in a)
+    ensures { Beside (λ old new. (a : Look) × (result ≡ in_c.look_in a)
         × Meets old at acts.Look (look_told a) new) core.old.core core.new.core }
 {
-    let mut open = core.take(alloc);
-    let told = figures::seen(open.look(Moment(at)));
-    *core = Handle::of(open);
-    told
+    with_core!(alloc, core => figures::seen(Core::look(Moment(at))))
 }
 
 /// What the core tells of itself: every figure of its state.
 #[unsafe(no_mangle)]
 pub extern "C" fn bb8_state(alloc: Global, core: &mut Handle, at: u64) -> Figures
     requires { IsSome core.old.core }
-    ensures { Within (λ old new. (a : State) × (result ≡ in_c.figures_in a)
+    ensures { Beside (λ old new. (a : State) × (result ≡ in_c.figures_in a)
         × Meets old at acts.State (answers.Shown (figures_of a)) new) core.old.core core.new.core }
 {
-    let mut open = core.take(alloc);
-    let told = figures::told(open.state(Moment(at)));
-    *core = Handle::of(open);
-    told
+    with_core!(alloc, core => figures::told(Core::state(Moment(at))))
 }
 
 /// Whether a connection or an approval of this number has not ended.
 #[unsafe(no_mangle)]
 pub extern "C" fn bb8_knows(alloc: Global, core: &mut Handle, number: u64) -> bool
     requires { IsSome core.old.core }
-    ensures { Within (λ old new. (new ≡ old) × (result ≡ true → IsRecordIn old number)
+    ensures { Beside (λ old new. (new ≡ old) × (result ≡ true → IsRecordIn old number)
         × (result ≡ false → IsNoRecordIn old number)) core.old.core core.new.core }
 {
     let open = core.take(alloc);
-    let told = open.find(number).is_some();
+    let told = open.internals.find(number).is_some();
     *core = Handle::of(open);
     told
 }

@@ -2,14 +2,13 @@
 
 ghost use Rattle.std.specs.Prelude.{◌≡◌, ℕ, false, Some, None, IfSome, IfNone};
 ghost use Rattle.bb8_ledger.specs.Acts as acts;
-ghost use Rattle.bb8_core.specs.StepAnswers.{begin_told, try_told, checked_ok_told, checked_err_told, ServesAtOnce, reason_of, give_up_told, put_back_told, opened_told, failed_told, add_told, join_told, leave_told, HandsOut, GivesBack, GivesBackInvalid, GivesBackHeld, HandsBack, Refuses};
+ghost use Rattle.bb8_core.specs.StepAnswers.{begin_told, try_told, checked_ok_told, checked_err_told, ServesAtOnce, reason_of, give_up_told, put_back_told, opened_told, failed_told, add_told, join_told, HandsOut, GivesBack, GivesBackInvalid, GivesBackHeld, HandsBack, Refuses};
 ghost use Rattle.bb8_c.specs.Steps.{Stepped, Gets, NotAtOnce};
 
 use bb8_core::api::Moment;
 use bb8_core::internals::{
     AddAnswer, AtOnce, BeginAnswer, CheckedErrAnswer, CheckedOkAnswer, FailedAnswer, GetKey,
-    GiveUpAnswer, JoinAnswer, Key, LeaveAnswer, OpenedAnswer, PoolInternals, PutBackAnswer, Reason,
-    TryAnswer,
+    GiveUpAnswer, JoinAnswer, Key, OpenedAnswer, PoolInternals, PutBackAnswer, Reason, TryAnswer,
 };
 
 /// A core over connections that the caller keeps, and names by numbers of its own.
@@ -210,14 +209,4 @@ pub(crate) fn join(core: &mut Core, at: u64) -> Option<JoinAnswer>
         return None;
     }
     Some(core.join(Moment(at)))
-}
-
-/// Takes a handle of the pool away.
-pub(crate) fn leave(core: &mut Core, at: u64) -> Option<LeaveAnswer>
-    ensures { Stepped leave_told core.old at acts.Leave result core.new }
-{
-    if !core.fits_leave() {
-        return None;
-    }
-    Some(core.leave(Moment(at)))
 }

@@ -2,11 +2,12 @@
 ghost use Rattle.std.specs.Prelude.{◌≡◌};
 ghost use Rattle.bb8_c.specs.InC as in_c;
 
+use crate::listing::Left;
 use crate::steps::Got;
 use bb8_core::internals::{
-    AddAnswer, AtOnce, BeginAnswer, CheckedErrAnswer, CheckedOkAnswer, ClaimAnswer, FailedAnswer,
-    GetKey, GiveUpAnswer, Grant, JoinAnswer, Key, LeaveAnswer, OpenedAnswer, PutBackAnswer,
-    ReapAnswer, TryAnswer,
+    AddAnswer, AtOnce, BeginAnswer, CheckedErrAnswer, CheckedOkAnswer, ClaimAnswer, Closed,
+    FailedAnswer, GetKey, GiveUpAnswer, Grant, JoinAnswer, Key, LeaveAnswer, OpenedAnswer,
+    PutBackAnswer, ReapAnswer, TryAnswer,
 };
 
 // The kinds of answers. They are part of what C relies on, and never change.
@@ -58,6 +59,8 @@ const JOINED: u32 = 21;
 const LEFT: u32 = 22;
 
 const GRANTED: u32 = 23;
+
+const TOLD_CLOSED: u32 = 24;
 
 /// Names a connection, an approval or a get by its number, with a hint where it stands, which may be stale and changes no answer.
 #[repr(C)]
@@ -177,6 +180,13 @@ fn keyed(kind: u32, key: Key) -> Told
         key: named(key),
         ..NOTHING
     }
+}
+
+/// This kind, with a number for a key.
+fn numbered(kind: u32, number: u64) -> Told
+    ensures { result ≡ in_c.numbered kind number }
+{
+    keyed(kind, Key { number, place: 0 })
 }
 
 impl Told {
@@ -378,18 +388,15 @@ pub(crate) fn added(answer: Option<AddAnswer<u64>>) -> Told
 }
 
 /// What a reap tells: how many connections ended stands in the number of the key.
-pub(crate) fn reaped(answer: ReapAnswer) -> Told
+pub(crate) fn reaped(answer: Option<ReapAnswer>) -> Told
     ensures { result ≡ in_c.reap_in answer }
 {
     match answer {
-        ReapAnswer::Reaped { closed, grant, .. } => Told {
-            key: Name {
-                number: closed as u64,
-                place: 0,
-            },
-            ..of(REAPED).with(grant)
-        },
-        ReapAnswer::Ended => of(ENDED),
+        None => of(MEMORY),
+        Some(ReapAnswer::Reaped { closed, grant, .. }) => {
+            numbered(REAPED, closed as u64).with(grant)
+        }
+        Some(ReapAnswer::Ended) => of(ENDED),
     }
 }
 
@@ -412,17 +419,22 @@ pub(crate) fn joined(answer: Option<JoinAnswer>) -> Told
 }
 
 /// What a leave tells: how many connections ended stands in the number of the key.
-pub(crate) fn left(answer: Option<LeaveAnswer>) -> Told
+pub(crate) fn left(answer: Left) -> Told
     ensures { result ≡ in_c.leave_in answer }
 {
     match answer {
+        Left::Unfit => NOTHING,
+        Left::Memory => of(MEMORY),
+        Left::Told(LeaveAnswer::Left(count)) => numbered(LEFT, count as u64),
+    }
+}
+
+/// What is told of a connection that was closed.
+pub(crate) fn closed(next: Option<Closed<u64>>) -> Told
+    ensures { result ≡ in_c.closed_in next }
+{
+    match next {
         None => NOTHING,
-        Some(LeaveAnswer::Left(count)) => Told {
-            key: Name {
-                number: count as u64,
-                place: 0,
-            },
-            ..of(LEFT)
-        },
+        Some(Closed { number, conn }) => numbered(TOLD_CLOSED, number).with_conn(conn),
     }
 }

@@ -1,23 +1,8 @@
 -- A begin and a try in one step.
-use Rattle.std.proofs.Common.{◌≡◌, ℕ, ◌+◌, ◌<◌, max, Bool, false, cond, Option, Some, None, refl, sym, ap, ◌∙◌, arith, subst}
-use Rattle.std.specs.FinMap.{get}
-use Rattle.bb8_types.specs.declared.grants.Grant.{Grant}
-use Rattle.bb8_types.specs.declared.standing.Place.TheVariants.{Guarded}
-use Rattle.bb8_types.specs.declared.standing.GetPlace.TheVariants.{Active}
-use Rattle.bb8_types.specs.declared.standing.Getting.{Getting}
-use Rattle.bb8_tables.specs.declared.counters.Counters.{Counters}
-use Rattle.bb8_ledger.specs.Acts.{Begin, Try}
-use Rattle.bb8_types.specs.Figures.{Counts}
-use Rattle.bb8_ledger.specs.Answers.{Begun, Served}
-use Rattle.bb8_types.specs.Places.{first_of, gets_stand, is_trying}
+use Rattle.bb8_core.proofs.Words.{◌≡◌, ℕ, ◌+◌, ◌<◌, max, Bool, false, cond, Option, Some, None, refl, sym, ap, ◌∙◌, arith, subst, get, Grant, Guarded, Active, Getting, Counters, Begin, Try, Counts, Begun, Served, first_of, gets_stand, is_trying, counts_held, Shown, IsFitting, ShownRecords, ShownGets, eqb_self, get_inserted, end_of_numbers}
 use Rattle.bb8_tables.specs.Machine as machine
-use Rattle.bb8_tables.specs.Counted.{counts_held}
-use Rattle.bb8_core.specs.Shown.{Shown, IsFitting}
-use Rattle.bb8_tables.specs.Views.{ShownRecords, ShownGets}
-use Rattle.bb8_types.proofs.Numbered.{eqb_self, get_inserted}
 use Rattle.bb8_core.proofs.Runs.{shown_try}
 use Rattle.bb8_core.proofs.Steps.{IsStep, Grants, served, meets_begun, meets_served}
-use Rattle.bb8_types.specs.Bounds.{end_of_numbers}
 
 -- a get that has begun
 abbrev pub fresh : Getting
@@ -36,12 +21,11 @@ module _ {C : Type 0} where
   stands_new s now = get_inserted s.gets.places s.gets.next fresh s.gets.next ∙ ap (λ (b : Bool). cond b (Some fresh) (get s.gets.places s.gets.next)) (eqb_self s.gets.next)
 
   fits_between : (s : Shown C) (now : ℕ) → IsFitting (between s now) (Try s.gets.next)
-  fits_between s now l legal means =
-      shown_try l (between s now) s.gets.next means ∙ ap (gets_stand is_trying) (stands_new s now)
+  fits_between s now l legal means = shown_try l (between s now) s.gets.next means ∙ ap (gets_stand is_trying) (stands_new s now)
 
   pub meets_begun_between : {s : Shown C} (at : ℕ) {now n : ℕ} → n ≡ s.gets.next → IsFitting s Begin → now ≡ max s.latest at
       → s.gets.next < end_of_numbers → IsStep s at Begin (Begun n) (between s now)
-  meets_begun_between at n_is fit now_is few = meets_begun at fit now_is few refl refl n_is
+  meets_begun_between at n_is fit now_is few = meets_begun now_is fit few refl refl n_is
 
   -- what is done to the fields, from the state between on
   pub meets_served_between : (s : Shown C) {at now n k : ℕ} {grant : Grant} {rs : ShownRecords C} {gs : ShownGets}
@@ -54,7 +38,7 @@ module _ {C : Type 0} where
       let again : now ≡ max now at = omega (arith, now_is) in
       subst (λ (m : ℕ). IsStep (between s now) at (Try m) (Served k grant)
       (record s { latest = now; records = rs; gets = gs; counts = counts_held is })) (sym n_is)
-      (meets_served (record was { started = was.started + 1 })
-      (record { fit = fits_between s now; now_is = again; get_is = sym (stands_new s now) }) refl off first
+      (meets_served {s = between s now} again (record was { started = was.started + 1 })
+      (record { fit = fits_between s now; get_is = sym (stands_new s now) }) refl off first
       (record { granted = granted.granted; after = granted.after }) gs_is
       (ap (λ (x : Counts). record x { started = x.started + 1 }) were) refl counted)

@@ -1,28 +1,12 @@
 -- The connections that a reap or the last leave closes, one by one.
-use Rattle.std.proofs.Common.{◌≡◌, ◌≢◌, ⊎_elim, ℕ, suc, ◌+◌, ◌<◌, max, Bool, true, false, cond, eqb, List, [], ◌∷◌, ◌++◌, drop, slice_get, Option, option_and_then, Some, None, refl, sym, ap, ◌∙◌, arith, subst}
-use Rattle.std.specs.FinMap.{FinMap, get, remove}
+use Rattle.bb8_core.proofs.Words.{◌≡◌, ◌≢◌, ⊎_elim, ℕ, suc, ◌+◌, ◌<◌, max, Bool, true, false, cond, eqb, List, [], ◌∷◌, ◌++◌, drop, slice_get, Option, option_and_then, Some, None, refl, sym, ap, ◌∙◌, arith, subst, FinMap, get, remove, Grant, Idle, Standing, Numbered, at_number, update, numbers, in_order, tally, one, after_end, stands, is_idle, idles_out, lives_out, Told, Reaps, after_reap, after_reaped, AreReaped, AreFirst, ShownRecords, Ledger, Start, start, position, latest, records, peak, idle_at, outlived, reaped_at, outlived_at, idled_at, Shown, HasLedger, shown_records, Before, same_or_not, at-below, get_removed, and_right, standing_is, idle_is, lives_idle, idles_idle, entered_before, ended_before}
 use Rattle.std.specs.Ordering.{nat_cmp}
 use Rattle.circular_buffer.specs.Buffer.{Buffer}
-use Rattle.bb8_types.specs.declared.grants.Grant.{Grant}
-use Rattle.bb8_types.specs.declared.standing.Place.TheVariants.{Idle}
-use Rattle.bb8_types.specs.declared.standing.Standing.{Standing}
-use Rattle.bb8_types.specs.Numbered.{Numbered, at as at_number, update, numbers, in_order, tally, one, after_end}
-use Rattle.bb8_types.specs.Places.{stands, is_idle, idles_out, lives_out}
 use Rattle.bb8_tables.specs.declared.closed.Closed.{Closed}
-use Rattle.bb8_tables.specs.declared.records.reaps.Reaped.{Reaped as Told}
 use Rattle.bb8_tables.specs.Closed.{offered_all, closed_at, closed_in, closed_of}
-use Rattle.bb8_tables.specs.Reaps.{Reaps, after_reap, after_reaped, AreReaped, AreFirst}
-use Rattle.bb8_tables.specs.Views.{ShownRecords}
-use Rattle.bb8_ledger.specs.Ledger.{Ledger, Start, start, position, latest, records, peak, idle_at, outlived}
-use Rattle.bb8_ledger.specs.Table.{reaped_at, outlived_at, idled_at}
 use Rattle.bb8_core.specs.declared.answers.ReapAnswer.TheVariants as reaping
 use Rattle.bb8_core.specs.Closings.{AreIdleAs, OffersReaped, OffersLeft}
-use Rattle.bb8_core.specs.Shown.{Shown, HasLedger, shown_records}
 use Rattle.bb8_types.proofs.Numbered as numbered
-use Rattle.bb8_types.proofs.Numbered.{Before, same_or_not, at-below, get_removed}
-use Rattle.bb8_types.proofs.Places.{and_right, standing_is, idle_is}
-use Rattle.bb8_ledger.proofs.Effects.{lives_idle, idles_idle}
-use Rattle.bb8_ledger.proofs.Facts.{entered_before, ended_before}
 use Rattle.bb8_core.proofs.Fitting.{shown, shown_record}
 use Rattle.bb8_core.proofs.Reaps.{both_ended, Ended_at, ended_at}
 use Rattle.bb8_core.proofs.ShownLeft.{shown-idle_end}
@@ -114,8 +98,7 @@ module _ {C : Type 0} where
         go (Some r) e = let is = idle_is r.place (idle r (sym (ap test e) ∙ each.0)) in (r, is.0, e, is.1)
 
     -- a number is among them once if it passed before, and does not any more
-    reaped_count : (k : ℕ) (ks : List ℕ) (s : ShownRecords C) → AreReaped test ks s
-        → tally (eqb k) ks + one (test (get (after_reap ks s).places k)) ≡ one (test (get s.places k))
+    reaped_count : (k : ℕ) (ks : List ℕ) (s : ShownRecords C) → AreReaped test ks s → tally (eqb k) ks + one (test (get (after_reap ks s).places k)) ≡ one (test (get s.places k))
     reaped_count k [] s each = omega arith
     reaped_count k (j ∷ js) s each =
         let ih : tally (eqb k) js + one (test (get (after_reap js (after_reaped j s)).places k)) ≡ one (test (get (remove s.places j) k)) = reaped_count k js (after_reaped j s) each.1 in

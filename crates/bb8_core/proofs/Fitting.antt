@@ -1,29 +1,8 @@
 -- What the condition of a step says of what is shown.
-use Rattle.std.proofs.Common.{◌≡◌, ℕ, ◌≤◌, Bool, true, false, Option, Some, None, is_some, refl, sym, ap, ◌∙◌, subst, ◌+◌, ◌-◌, ◌<◌, max, arith}
-use Rattle.std.proofs.lemmas.Bool.{ltb-true}
-use Rattle.std.specs.FinMap.{get}
-use Rattle.bb8_types.specs.declared.standing.Place.{Place}
-use Rattle.bb8_types.specs.declared.standing.Place.TheVariants.{Unclaimed, Claimed, Idle, Held, Guarded}
-use Rattle.bb8_types.specs.declared.standing.Standing.{Standing}
-use Rattle.bb8_types.specs.declared.standing.Getting.{Getting}
-use Rattle.bb8_ledger.specs.Acts.{Try, GiveUp, Leave, Reason, Cancelled}
-use Rattle.bb8_ledger.specs.Ledger.{Ledger, conns, approved, alive, get_of, start, latest, handles, records, gets, record_of}
-use Rattle.bb8_types.specs.Places.{holds, stands, gets_stand, is_unnotified, is_claimed, is_guarded, is_held_by, is_out}
-use Rattle.bb8_ledger.specs.Table.{fits, IsLegal}
-use Rattle.bb8_core.specs.Shown.{Shown, shown_beside, HasLedger, IsFitting, Means}
-use Rattle.bb8_types.proofs.Places.{standing_is, claimed_is, guarded_out, and_right}
-use Rattle.bb8_ledger.proofs.GetEffects.{holding_is}
-use Rattle.bb8_ledger.proofs.Held.{all_held}
+use Rattle.bb8_core.proofs.Words.{◌≡◌, ℕ, ◌≤◌, Bool, true, false, Option, Some, None, is_some, refl, sym, ap, ◌∙◌, subst, ◌+◌, ◌-◌, ◌<◌, max, arith, ltb-true, get, Place, Unclaimed, Claimed, Idle, Held, Guarded, Standing, Getting, Try, GiveUp, Leave, Reason, Cancelled, Ledger, conns, approved, alive, get_of, start, latest, handles, records, gets, record_of, holds, stands, gets_stand, is_unnotified, is_claimed, is_guarded, is_held_by, is_out, fits, IsLegal, Shown, shown_beside, HasLedger, IsFitting, Means, standing_is, claimed_is, guarded_out, and_right, holding_is, all_held, alive_get, trying_is, alive_is, out_counted, claimed_counted, Fits, all_fit, due_few, Numbered, end_of_numbers, due, Settings, none_lent, ShownRecords, NoneAfter}
 use Rattle.bb8_ledger.proofs.Invalid.{few_ended}
 use Rattle.bb8_ledger.proofs.Moments.{none_later}
-use Rattle.bb8_ledger.proofs.Laws.{alive_get, trying_is, alive_is, out_counted, claimed_counted, Fits, all_fit, due_few}
-use Rattle.bb8_types.specs.Numbered.{Numbered}
 use Rattle.bb8_types.proofs.Numbered as numbered
-use Rattle.bb8_types.specs.Bounds.{end_of_numbers}
-use Rattle.bb8_types.specs.Grants.{due}
-use Rattle.bb8_types.specs.Settings.{Settings}
-use Rattle.bb8_tables.specs.Lent.{none_lent}
-use Rattle.bb8_tables.specs.Views.{ShownRecords, NoneAfter}
 
 module _ {C : Type 0} where
   -- what a ledger shows, where nothing was lent
@@ -80,10 +59,8 @@ module _ {C : Type 0} where
   pub due_fits : (s : Shown C) {taken was : ShownRecords C} {used n : ℕ} (asked : ℕ) → HasLedger s
       → was.conns + was.approved ≤ s.records.conns + s.records.approved → taken ≡ was → used ≡ taken.conns + taken.approved
       → n ≡ due s.config s.handles used asked → taken.conns + taken.approved + n ≤ s.config.max_size
-  due_fits s {taken} {was} {used} {n} asked h few taken_is used_is n_is =
-      let same : used ≡ was.conns + was.approved = used_is ∙ ap (λ (t : ShownRecords C). t.conns + t.approved) taken_is in
-      let least : due s.config s.handles used asked ≤ s.config.max_size - used = due_few s.config s.handles used asked in
-      omega (arith, (shown_fits s h).size)
+  due_fits s {was = was} asked h few taken_is used_is n_is = due_within s.config s.handles {was = was} asked (omega (arith, few, (shown_fits s h).size)) taken_is (n_is
+      ∙ ap (λ (u : ℕ). due s.config s.handles u asked) used_is)
 
   -- connections that were closed as invalid, or idled out, are no more than the numbers that are free
   pub ended_shown : (s : Shown C) → HasLedger s → s.counts.invalid + s.counts.idle_timeout + s.records.conns + s.records.approved ≤ s.records.next
@@ -188,17 +165,20 @@ module _ {C : Type 0} where
       some_held (Some k) e = (k, refl)
 
   -- a give-up hands a connection in where the get holds one
-  pub give_up_holds : (l : Ledger C) (g : ℕ) (why : Reason) (c : C) (broken : Bool) → fits l (GiveUp g why (Some c) broken) ≡ true → is_some (holds (get_of l g)) ≡ true
-  give_up_holds l g why c broken f = (and_right (is_some (get_of l g)) _ f).1
+  pub give_up_holds : {t : Shown C} (g : ℕ) (why : Reason) (c : C) (broken : Bool) → IsFitting t (GiveUp g why (Some c) broken)
+      → (l : Ledger C) → IsLegal l → Means l t → is_some (holds (get_of l g)) ≡ true
+  give_up_holds g why c broken fit l legal means = (and_right (is_some (get_of l g)) _ (fit l legal means)).1
 
   -- what it holds is out
-  pub holds_out : {o : Option Getting} {k : ℕ} (s : Shown C) (g : ℕ) → HasLedger s → o ≡ get s.gets.places g → holds o ≡ Some k
-      → (st : Standing C) × (get s.records.places k ≡ Some st) × (is_out st.place ≡ true)
-  holds_out {o} {k} s g h get_is held =
-      let st = held_record h.0 g k h.1 (ap (λ (x : Option Getting). holds x) (shown_get h.0 s h.2 g ∙ sym get_is) ∙ held) in
-      (st.0, sym (shown_record h.0 s h.2 k) ∙ st.1, st.2)
+  pub holds_out : {s t : Shown C} {o : Option Getting} {n : ℕ} (g : ℕ) → s ≡ t → HasLedger s
+      → ((l : Ledger C) → IsLegal l → Means l t → is_some (holds (get_of l g)) ≡ true) → o ≡ get s.gets.places g
+      → ((k : ℕ) → holds o ≡ Some k → n ≡ k) → (st : Standing C) × (get s.records.places n ≡ Some st) × (is_out st.place ≡ true)
+  holds_out {s} {n = n} g is h fit get_is names =
+      let st = held_record h.0 g n h.1 (ap (λ (x : Option Getting). holds x) (shown_get h.0 s h.2 g ∙ sym get_is) ∙ fit_holds g is h fit get_is names) in
+      (st.0, sym (shown_record h.0 s h.2 n) ∙ st.1, st.2)
 
   -- and it stands in no line
-  pub holds_stands : {o : Option Getting} {k : ℕ} (s : Shown C) (g : ℕ) → o ≡ get s.gets.places g → holds o ≡ Some k
-      → (st : Getting) × (get s.gets.places g ≡ Some st) × (is_unnotified st.place ≡ false)
-  holds_stands {o} {k} s g get_is held = let st = holding_is o k held in (st.0, sym get_is ∙ st.1, ap is_unnotified st.2)
+  pub holds_stands : {s t : Shown C} {o : Option Getting} {n : ℕ} (g : ℕ) → s ≡ t → HasLedger s
+      → ((l : Ledger C) → IsLegal l → Means l t → is_some (holds (get_of l g)) ≡ true) → o ≡ get s.gets.places g
+      → ((k : ℕ) → holds o ≡ Some k → n ≡ k) → (st : Getting) × (get s.gets.places g ≡ Some st) × (is_unnotified st.place ≡ false)
+  holds_stands {o = o} {n = n} g is h fit get_is names = let st = holding_is o n (fit_holds g is h fit get_is names) in (st.0, sym get_is ∙ st.1, ap is_unnotified st.2)

@@ -1,33 +1,13 @@
 -- The steps at which a get lets go of what it holds, or ends without being served: both ends of a check, and a give-up.
-use Rattle.std.proofs.Common.{◌≡◌, ℕ, suc, ◌+◌, ◌*◌, max, min, Bool, true, false, not, eqb, ◌&&◌, ◌||◌, cond, List, Option, Some, None, slice_get, refl, sym, ap, ◌∙◌, IfSome}
-use Rattle.std.specs.FinMap.{get}
-use Rattle.bb8_types.specs.declared.grants.Grant.{Grant}
-use Rattle.bb8_types.specs.declared.standing.Place.TheVariants.{Idle}
-use Rattle.bb8_types.specs.declared.standing.GetPlace.TheVariants.{Active}
-use Rattle.bb8_types.specs.declared.standing.Getting.{Getting}
-use Rattle.bb8_tables.specs.declared.counters.Counters.{Counters}
+use Rattle.bb8_core.proofs.Words.{◌≡◌, ℕ, suc, ◌+◌, ◌*◌, max, min, Bool, true, false, not, eqb, ◌&&◌, ◌||◌, cond, List, Option, Some, None, slice_get, refl, sym, ap, ◌∙◌, IfSome, get, Grant, Idle, Active, Getting, Counters, reason_of, counts_held, Counts, CheckedOk, CheckedErr, GiveUp, Served, Kept, Closed, GaveUp, Numbered, update, in_order, standing_at, one, after_end, Ledger, Later, start, position, latest, records, gets, peak, get_peak, get_of, counts, wait_micros, broken, timed_out, cancelled, with_notice, get_at_place, unnotified_at, oldest_waiter, waiting, expires, holds, first_wait_of, is_notified, is_unnotified, gets_stand, micros_since, checks, check_fails, gives_up, gives_up_kept, gives_up_closed, Shown, IsFitting, ShownRecords, ShownGets, waited_before, peak_holds, get_peak_holds, holding_is, most_micros}
 use Rattle.bb8_types.specs.declared.reasons.Reason.{Reason as Named}
 use Rattle.bb8_types.specs.declared.reasons.Reason.TheVariants as reasons
-use Rattle.bb8_core.specs.StepAnswers.{reason_of}
-use Rattle.bb8_tables.specs.Counted.{counts_held}
-use Rattle.bb8_types.specs.Figures.{Counts}
-use Rattle.bb8_ledger.specs.Acts.{CheckedOk, CheckedErr, GiveUp}
-use Rattle.bb8_ledger.specs.Answers.{Served, Kept, Closed, GaveUp}
-use Rattle.bb8_types.specs.Numbered.{Numbered, update, in_order, standing_at, one, after_end}
-use Rattle.bb8_ledger.specs.Ledger.{Ledger, Later, start, position, latest, records, gets, peak, get_peak, get_of, counts, wait_micros, broken, timed_out, cancelled, with_notice, get_at_place, unnotified_at, oldest_waiter, waiting, expires}
-use Rattle.bb8_types.specs.Places.{holds, first_wait_of, is_notified, is_unnotified, gets_stand, micros_since}
-use Rattle.bb8_ledger.specs.Table.{checks, check_fails, gives_up, gives_up_kept, gives_up_closed}
-use Rattle.bb8_core.specs.Shown.{Shown, IsFitting}
-use Rattle.bb8_tables.specs.Views.{ShownRecords, ShownGets}
 use Rattle.bb8_tables.specs.Machine as machine
 use Rattle.bb8_core.specs.Decided as decided
 use Rattle.bb8_core.proofs.ShownRecords.{shown-handed}
 use Rattle.bb8_core.proofs.ShownGets.{shown-ended, shown-turned, noticed_later, first_waits, without_other, notified_out}
-use Rattle.bb8_ledger.proofs.Facts.{waited_before, peak_holds, get_peak_holds}
-use Rattle.bb8_ledger.proofs.GetEffects.{holding_is}
 use Rattle.bb8_core.proofs.Fitting.{shown, shown_get, giving_is, held_record}
 use Rattle.bb8_core.proofs.Steps.{IsStep, Notices, Returned, meets_by, same_shown, served, count_served, same_micros, next_gets, records_kept, later_shown, still_raised, kept_records, kept_is, kept_shown, closes_is, closing_is, IsEndGrant, ended_records, ended_shown, closed_counters, closed_is, old_shown}
-use Rattle.bb8_types.specs.Bounds.{most_micros}
 
 -- whoever is named stands there
 named_stands : (first p : ℕ) (gs : List (Numbered Getting)) (b : Bool) (n : Option ℕ)
@@ -41,23 +21,21 @@ pub notices : {left was gs : ShownGets} {n : Option ℕ} → left ≡ was → n 
 notices {n = n} is who after = record { who = who ∙ ap (λ (x : ShownGets). slice_get x.waiting 0) is; after = after ∙ ap (machine.after_notice n) is }
 
 -- the counters after a give-up for this reason, of a get that first waited then
-abbrev given_up : Named → ℕ → Option ℕ → Counters → Counters
+abbrev pub given_up : Named → ℕ → Option ℕ → Counters → Counters
 given_up reasons.TimedOut now since was = record was { timed_out = was.timed_out + 1; wait_micros = min most_micros (was.wait_micros + micros_since now since) }
 given_up reasons.Cancelled now since was = record was { cancelled = was.cancelled + 1 }
 
 -- what the code says of the counters, one clause a reason
-given_up_is : (reason : Named) (now : ℕ) (since : Option ℕ) {was is : Counters}
+pub given_up_is : (reason : Named) (now : ℕ) (since : Option ℕ) {was is : Counters}
     → (reason ≡ reasons.TimedOut → is ≡ given_up reasons.TimedOut now since was)
     → (reason ≡ reasons.Cancelled → is ≡ given_up reasons.Cancelled now since was) → is ≡ given_up reason now since was
 given_up_is reasons.TimedOut now since timed let_go = timed refl
 given_up_is reasons.Cancelled now since timed let_go = let_go refl
 
 -- a give-up closes nothing by itself
-pub given_up_open : (reason : Named) (now : ℕ) (since : Option ℕ) {was is : Counters}
-    → (reason ≡ reasons.TimedOut → is ≡ given_up reasons.TimedOut now since was)
-    → (reason ≡ reasons.Cancelled → is ≡ given_up reasons.Cancelled now since was) → is.broken + is.max_lifetime ≡ was.broken + was.max_lifetime
-given_up_open reasons.TimedOut now since timed let_go = ap (λ (x : Counters). x.broken + x.max_lifetime) (timed refl)
-given_up_open reasons.Cancelled now since timed let_go = ap (λ (x : Counters). x.broken + x.max_lifetime) (let_go refl)
+pub given_up_open : (reason : Named) (now : ℕ) (since : Option ℕ) (was : Counters) {is : Counters} → is ≡ given_up reason now since was → is.broken + is.max_lifetime ≡ was.broken + was.max_lifetime
+given_up_open reasons.TimedOut now since was e = ap (λ (x : Counters). x.broken + x.max_lifetime) e
+given_up_open reasons.Cancelled now since was e = ap (λ (x : Counters). x.broken + x.max_lifetime) e
 
 -- the counters after a check that failed
 abbrev invalid_counters : Counters → Counters
@@ -84,8 +62,7 @@ module _ {C : Type 0} where
       noticed_later (start l).first_get (suc (position l)) (get_peak l) out n named ∙ ap (machine.after_notice n) is
 
   -- a get that ends
-  ended_gets : (l : Ledger C) (g : ℕ) (st : Getting) → get_of l g ≡ Some st
-      → next_gets l (update (start l).first_get g after_end (gets l)) ≡ machine.after_get_end g (shown l).gets
+  ended_gets : (l : Ledger C) (g : ℕ) (st : Getting) → get_of l g ≡ Some st → next_gets l (update (start l).first_get g after_end (gets l)) ≡ machine.after_get_end g (shown l).gets
   ended_gets l g st is = shown-ended (start l).first_get (position l) (get_peak l) (gets l) g st (waited_before l) (get_peak_holds l) is
 
   -- ---- a get that holds a connection
@@ -107,8 +84,7 @@ module _ {C : Type 0} where
   holds_in l g k held = ap (λ (x : Option Getting). holds x) (shown_get l (shown l) refl g) ∙ held
 
   -- the oldest waiter is the first of those that are left
-  oldest_left : (l : Ledger C) (g k : ℕ) (n : Option ℕ) → holds (get_of l g) ≡ Some k
-      → n ≡ slice_get (machine.after_get_end g (shown l).gets).waiting 0 → n ≡ oldest_waiter l
+  oldest_left : (l : Ledger C) (g k : ℕ) (n : Option ℕ) → holds (get_of l g) ≡ Some k → n ≡ slice_get (machine.after_get_end g (shown l).gets).waiting 0 → n ≡ oldest_waiter l
   oldest_left l g k n held n_is =
       let st = holding_is (get_of l g) k held in
       n_is ∙ ap (λ (xs : List ℕ). slice_get xs 0) (without_other (start l).first_get (position l) (gets l) g st.0 st.1 (ap is_unnotified st.2))
@@ -125,8 +101,7 @@ module _ {C : Type 0} where
         latest = max x.latest at;
         records = machine.after_handover k x.records;
         gets = machine.after_get_end g x.gets;
-        counts =
-            counts_held (served was (max x.latest at) (first_wait_of (get x.gets.places g)));
+        counts = counts_held (served was (max x.latest at) (first_wait_of (get x.gets.places g)));
       }) s _ at (CheckedOk g) (Served k (nothing next)) fit (is_held h, next_is, were)
       (same_shown _ _ refl refl h.now_is refl rs_is gs_is
       (ap counts_held (counted ∙ ap (λ (m : ℕ). served was m since) h.now_is
@@ -169,12 +144,7 @@ module _ {C : Type 0} where
       (ap is_unnotified stood.2) refl in (
         check_fails held ended.0 known.2,
         same_shown _ _ refl refl refl refl ended.1 (told_shown l g (get_at_place Active) true n _ turned known.2)
-            (ap (λ (x : Counts). record x {
-              broken = x.broken + one broken;
-              invalid = x.invalid + 1;
-              max_lifetime =
-                  x.max_lifetime + one (not broken && expires l at k);
-            }) known.3
+            (ap (λ (x : Counts). record x { broken = x.broken + one broken; invalid = x.invalid + 1; max_lifetime = x.max_lifetime + one (not broken && expires l at k) }) known.3
             ∙ ap (λ (b : Bool). counts_held (closed_counters (invalid_counters was) broken b)) (old_shown l at k)),
       ))
 
@@ -194,8 +164,7 @@ module _ {C : Type 0} where
       ap (λ (x : Counts). record x { timed_out = x.timed_out + 1; wait_time = 1000 * min most_micros (wait_micros l + micros_since (max (latest l) at) (first_wait_of (get_of l g))) }) were
       ∙ ap (λ (m : ℕ). record (counts_held was) {
         timed_out = was.timed_out + 1;
-        wait_time =
-            1000 * min most_micros (m + micros_since (max (latest l) at) (first_wait_of (get_of l g)));
+        wait_time = 1000 * min most_micros (m + micros_since (max (latest l) at) (first_wait_of (get_of l g)));
       }) (same_micros l was were)
       ∙ ap (λ (o : Option Getting). counts_held (given_up reasons.TimedOut (max (latest l) at) (first_wait_of o) was)) (shown_get l (shown l) refl g)
   count_given_up l at g reasons.Cancelled was were = ap (λ (x : Counts). record x { cancelled = x.cancelled + 1 }) were
@@ -217,14 +186,10 @@ module _ {C : Type 0} where
   count_closed l at g k reasons.Cancelled c broken grant n = refl
 
   -- the counters after a give-up, by what is shown
-  given_up_shown : (s : Shown C) (at g : ℕ) {now : ℕ} {reason : Named} {o : Option Getting} {since : Option ℕ} {was is : Counters}
-      → now ≡ max s.latest at → o ≡ get s.gets.places g → since ≡ first_wait_of o
-      → (reason ≡ reasons.TimedOut → is ≡ given_up reasons.TimedOut now since was)
-      → (reason ≡ reasons.Cancelled → is ≡ given_up reasons.Cancelled now since was)
-      → is ≡ given_up reason (max s.latest at) (first_wait_of (get s.gets.places g)) was
-  given_up_shown s at g {now} {reason} {o} {since} {was} now_is get_is since_is timed let_go =
-      given_up_is reason now since timed let_go
-      ∙ ap (λ (m : ℕ). given_up reason m since was) now_is
+  given_up_shown : (s : Shown C) (at g : ℕ) (reason : Named) (was : Counters) {now : ℕ} {o : Option Getting} {since : Option ℕ} {is : Counters} → now ≡ max s.latest at → o ≡ get s.gets.places g
+      → since ≡ first_wait_of o → is ≡ given_up reason now since was → is ≡ given_up reason (max s.latest at) (first_wait_of (get s.gets.places g)) was
+  given_up_shown s at g reason was {since = since} now_is get_is since_is counted =
+      counted ∙ ap (λ (m : ℕ). given_up reason m since was) now_is
       ∙ ap (λ (x : Option ℕ). given_up reason (max s.latest at) x was) (since_is ∙ ap (λ (x : Option Getting). first_wait_of x) get_is)
 
   -- whom a give-up notifies is the oldest waiter, where the get had been notified
@@ -238,27 +203,25 @@ module _ {C : Type 0} where
       go false off e = e
 
   -- no connection is handed in, and whether it is broken does not matter
-  pub meets_given_up : {s : Shown C} {at g : ℕ} {reason : Named} (broken : Bool) {now : ℕ} {o : Option Getting} {since : Option
+  pub meets_given_up : {s : Shown C} {at g : ℕ} (reason : Named) (broken : Bool) {now : ℕ} {o : Option Getting} {since : Option
       ℕ} {left : ShownGets} {test : Bool} {n : Option ℕ} {gs : ShownGets} (was : Counters) {is : Counters}
       → IsFitting s (GiveUp g (reason_of reason) None broken) → now ≡ max s.latest at → o ≡ get s.gets.places g
       → left ≡ machine.after_get_end g s.gets → test ≡ gets_stand is_notified o → n ≡ cond test (slice_get left.waiting 0) None
       → gs ≡ machine.after_notice n left → s.counts ≡ counts_held was → since ≡ first_wait_of o
-      → (reason ≡ reasons.TimedOut → is ≡ given_up reasons.TimedOut now since was)
-      → (reason ≡ reasons.Cancelled → is ≡ given_up reasons.Cancelled now since was)
+      → is ≡ given_up reason now since was
       → IsStep s at (GiveUp g (reason_of reason) None broken) (GaveUp n) (record s { latest = now; gets = gs; counts = counts_held is })
-  meets_given_up {s} {at} {g} {reason} broken {now} {o} {since} {left} {test} {n} {gs} was {is} fit now_is get_is left_is test_is n_is gs_is were since_is timed let_go =
+  meets_given_up {s} {at} {g} reason broken {now} {o} {since} {left} {test} {n} {gs} was {is} fit now_is get_is left_is test_is n_is gs_is were since_is counted =
       meets_by (λ x. (n ≡ machine.heir_of (get x.gets.places g) (machine.after_get_end g x.gets)) × (x.counts ≡ counts_held was))
       (λ x. record x {
         latest = max x.latest at;
         gets = machine.after_notice n (machine.after_get_end g x.gets);
-        counts =
-            counts_held (given_up reason (max x.latest at) (first_wait_of (get x.gets.places g)) was);
+        counts = counts_held (given_up reason (max x.latest at) (first_wait_of (get x.gets.places g)) was);
       }) s _ at (GiveUp g (reason_of reason) None broken) (GaveUp n) fit (
         n_is ∙ ap (λ (b : Bool). cond b (slice_get left.waiting 0) None) test_is ∙ ap (λ (x : ShownGets). machine.heir_of o x) left_is
             ∙ ap (λ (x : Option Getting). machine.heir_of x (machine.after_get_end g s.gets)) get_is,
         were,
       )
-      (same_shown _ _ refl refl now_is refl refl (gs_is ∙ ap (machine.after_notice n) left_is) (ap counts_held (given_up_shown s at g now_is get_is since_is timed let_go)))
+      (same_shown _ _ refl refl now_is refl refl (gs_is ∙ ap (machine.after_notice n) left_is) (ap counts_held (given_up_shown s at g reason was now_is get_is since_is counted)))
       (λ l legal f known.
       let st = giving_is l g None f in
       let n_place : n ≡ cond (is_notified st.0.place) (slice_get (machine.without g (waiting l)) 0) None = known.0
@@ -271,28 +234,26 @@ module _ {C : Type 0} where
       ))
 
   -- the connection that is handed in is idle again
-  pub meets_given_up_kept : {s : Shown C} {at g k : ℕ} {reason : Named} {c : C} {broken : Bool} {now birth : ℕ} {aged : Bool} {o : Option
+  pub meets_given_up_kept : {s : Shown C} {at g k : ℕ} (reason : Named) {c : C} {broken : Bool} {now birth : ℕ} {aged : Bool} {o : Option
       Getting} {since : Option ℕ} {rs : ShownRecords C} {n : Option ℕ} {gs : ShownGets} (was : Counters) {is : Counters}
       → IsFitting s (GiveUp g (reason_of reason) (Some c) broken) → Holds s at g k now o → Returned s at k now birth aged
       → (broken || (aged || eqb s.handles 0)) ≡ false
       → rs ≡ machine.after_entry false k (record { place = Idle c; birth = birth; entered = now }) s.records
       → Notices (machine.after_get_end g s.gets) n gs → s.counts ≡ counts_held was → since ≡ first_wait_of o
-      → (reason ≡ reasons.TimedOut → is ≡ given_up reasons.TimedOut now since was)
-      → (reason ≡ reasons.Cancelled → is ≡ given_up reasons.Cancelled now since was)
+      → is ≡ given_up reason now since was
       → IsStep s at (GiveUp g (reason_of reason) (Some c) broken) (Kept k n)
       (record s { latest = now; records = rs; gets = gs; counts = counts_held is })
-  meets_given_up_kept {s} {at} {g} {k} {reason} {c} {broken} {now} {birth} {aged} {o} {since} {rs} {n} {gs} was {is} fit h r keep rs_is told were since_is timed let_go =
+  meets_given_up_kept {s} {at} {g} {k} reason {c} {broken} {now} {birth} {aged} {o} {since} {rs} {n} {gs} was {is} fit h r keep rs_is told were since_is counted =
       meets_by (λ t. IsHeld t g k × (decided.closes t at k broken ≡ false)
       × (n ≡ slice_get (machine.after_get_end g t.gets).waiting 0) × (t.counts ≡ counts_held was))
       (λ t. record t {
         latest = max t.latest at;
         records = kept_records t at k c;
         gets = machine.after_notice n (machine.after_get_end g t.gets);
-        counts =
-            counts_held (given_up reason (max t.latest at) (first_wait_of (get t.gets.places g)) was);
+        counts = counts_held (given_up reason (max t.latest at) (first_wait_of (get t.gets.places g)) was);
       }) s _ at (GiveUp g (reason_of reason) (Some c) broken) (Kept k n) fit (is_held h, closing_is broken r keep, told.who, were)
       (same_shown _ _ refl refl h.now_is refl (kept_is c r rs_is) told.after
-      (ap counts_held (given_up_shown s at g h.now_is h.get_is since_is timed let_go)))
+      (ap counts_held (given_up_shown s at g reason was h.now_is h.get_is since_is counted)))
       (λ l legal f known.
       let held = holds_in l g k known.0 in
       let st = held_record l g k legal held in
@@ -304,28 +265,26 @@ module _ {C : Type 0} where
       ))
 
   -- the connection that is handed in is closed
-  pub meets_given_up_closed : {s : Shown C} {at g k : ℕ} {reason : Named} {c : C} {broken : Bool} {now birth : ℕ} {aged : Bool} {o : Option
+  pub meets_given_up_closed : {s : Shown C} {at g k : ℕ} (reason : Named) {c : C} {broken : Bool} {now birth : ℕ} {aged : Bool} {o : Option
       Getting} {since : Option ℕ} {grant : Grant} {rs : ShownRecords C} {n : Option ℕ} {gs : ShownGets} (was : Counters)
       {mid is : Counters} → IsFitting s (GiveUp g (reason_of reason) (Some c) broken) → Holds s at g k now o → Returned s at k now birth aged
       → (broken || (aged || eqb s.handles 0)) ≡ true → IsEndGrant s k grant → rs ≡ ended_records s k grant
       → Notices (machine.after_get_end g s.gets) n gs → s.counts ≡ counts_held was → since ≡ first_wait_of o
-      → (reason ≡ reasons.TimedOut → mid ≡ given_up reasons.TimedOut now since was)
-      → (reason ≡ reasons.Cancelled → mid ≡ given_up reasons.Cancelled now since was) → is ≡ closed_counters mid broken aged
+      → mid ≡ given_up reason now since was → is ≡ closed_counters mid broken aged
       → IsStep s at (GiveUp g (reason_of reason) (Some c) broken) (Closed k grant n)
       (record s { latest = now; records = rs; gets = gs; counts = counts_held is })
-  meets_given_up_closed {s} {at} {g} {k} {reason} {c} {broken} {now} {birth} {aged} {o} {since} {grant} {rs} {n} {gs} was {mid} {is} fit h r closing granted rs_is told were since_is timed let_go is_is =
+  meets_given_up_closed {s} {at} {g} {k} reason {c} {broken} {now} {birth} {aged} {o} {since} {grant} {rs} {n} {gs} was {mid} {is} fit h r closing granted rs_is told were since_is counted is_is =
       meets_by (λ t. IsHeld t g k × (decided.closes t at k broken ≡ true) × IsEndGrant t k grant
       × (n ≡ slice_get (machine.after_get_end g t.gets).waiting 0) × (t.counts ≡ counts_held was))
       (λ t. record t {
         latest = max t.latest at;
         records = ended_records t k grant;
         gets = machine.after_notice n (machine.after_get_end g t.gets);
-        counts =
-            counts_held (closed_counters (given_up reason (max t.latest at) (first_wait_of (get t.gets.places g)) was) broken (decided.is_old t at k));
+        counts = counts_held (closed_counters (given_up reason (max t.latest at) (first_wait_of (get t.gets.places g)) was) broken (decided.is_old t at k));
       }) s _ at (GiveUp g (reason_of reason) (Some c) broken) (Closed k grant n) fit (is_held h, closing_is broken r closing, granted, told.who, were)
       (same_shown _ _ refl refl h.now_is refl rs_is told.after
       (ap counts_held (closed_is mid broken r is_is
-      ∙ ap (λ (x : Counters). closed_counters x broken (decided.is_old s at k)) (given_up_shown s at g h.now_is h.get_is since_is timed let_go))))
+      ∙ ap (λ (x : Counters). closed_counters x broken (decided.is_old s at k)) (given_up_shown s at g reason was h.now_is h.get_is since_is counted))))
       (λ l legal f known.
       let held = holds_in l g k known.0 in
       let st = held_record l g k legal held in

@@ -1,3 +1,4 @@
+pub mod Words
 pub mod ShownRecords
 pub mod ShownLeft
 pub mod ShownReaped

@@ -1,18 +1,7 @@
 -- How many connections are out of the pool, step by step.
-use Rattle.std.proofs.Common.{◌≡◌, ℕ, ◌+◌, ◌-◌, ◌≤◌, length, true, false, Some, refl, sym, ap, ◌∙◌, subst, arith}
-use Rattle.bb8_ledger.specs.Acts.{Act, Begin}
-use Rattle.bb8_ledger.specs.Answers.{Answer, Unfit}
-use Rattle.bb8_types.specs.declared.standing.Place.TheVariants.{Guarded, Held}
-use Rattle.bb8_ledger.specs.Ledger.{Ledger, Later, start, records, conns, idle, idle_count, out}
-use Rattle.bb8_ledger.specs.Table.{Row, waits_on, serves, takes_out, waits, checks, check_fails, gives_up_kept, gives_up_closed, keeps, returns_closed, fills, claims, opens, opens_late, fails, adds, reaps, leaves, fits, Allowed, IsLegal}
-use Rattle.bb8_tables.specs.Lent.{Lent}
-use Rattle.bb8_core.specs.Shown.{Shown, shown_beside, Meets, HasLedger}
+use Rattle.bb8_core.proofs.Words.{◌≡◌, ℕ, ◌+◌, ◌-◌, ◌≤◌, length, true, false, Some, refl, sym, ap, ◌∙◌, subst, arith, Act, Begin, Answer, Unfit, Guarded, Held, Ledger, Later, start, records, conns, idle, idle_count, out, Row, waits_on, serves, takes_out, waits, checks, check_fails, gives_up_kept, gives_up_closed, keeps, returns_closed, fills, claims, opens, opens_late, fails, adds, reaps, leaves, fits, Allowed, IsLegal, Lent, Shown, shown_beside, Meets, HasLedger, idle_tally, conns_split, each_allowed, returns_turn, closes_turn, opens_turn, ends_turn, idle_turns, unclaimed_turns, stays_sized, turned_sized, adds_sized, granted_sized, reaped_sized, granted_reaped, left_sized, checks_turn, drops_turn, hands_in_turn, all_fit}
 use Rattle.bb8_core.specs.Parts.{out_of, Moves, IsCounted}
-use Rattle.bb8_ledger.proofs.Facts.{idle_tally, conns_split}
-use Rattle.bb8_ledger.proofs.Effects.{each_allowed, returns_turn, closes_turn, opens_turn, ends_turn, idle_turns, unclaimed_turns, stays_sized, turned_sized, adds_sized, granted_sized, reaped_sized, granted_reaped, left_sized}
-use Rattle.bb8_ledger.proofs.Held.{checks_turn, drops_turn, hands_in_turn}
 use Rattle.bb8_core.proofs.Fitting.{shown}
-use Rattle.bb8_ledger.proofs.Laws.{all_fit}
 
 module _ {C : Type 0} where
   -- what is out in a ledger, by what it shows

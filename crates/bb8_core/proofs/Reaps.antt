@@ -1,25 +1,7 @@
 -- The step of a reap.
-use Rattle.std.proofs.Common.{◌≡◌, ◌≢◌, ℕ, suc, ◌+◌, ◌<◌, ◌≤◌, max, false, List, length, refl, sym, ap, ◌∙◌, arith, subst, length-append}
-use Rattle.bb8_types.specs.declared.grants.Grant.{Grant}
-use Rattle.bb8_types.specs.declared.standing.Standing.{Standing}
-use Rattle.bb8_tables.specs.declared.counters.Counters.{Counters}
-use Rattle.bb8_tables.specs.declared.records.reaps.Reaped.{Reaped as Told}
-use Rattle.bb8_tables.specs.Counted.{counts_held}
-use Rattle.bb8_tables.specs.Reaps.{Reaps, after_reap}
-use Rattle.bb8_tables.specs.Views.{ShownRecords}
+use Rattle.bb8_core.proofs.Words.{◌≡◌, ◌≢◌, ℕ, suc, ◌+◌, ◌<◌, ◌≤◌, max, false, List, length, refl, sym, ap, ◌∙◌, arith, subst, length-append, Grant, Standing, Counters, Told, counts_held, Reaps, after_reap, ShownRecords, end_of_numbers, Counts, Numbered, Reap, Reaped, Ended, Ledger, start, position, latest, records, peak, idle_at, with_ended, reap_ended, reaps, reaped_at, outlived_at, idled_at, Shown, shown_records, HasLedger, Before, before_later, entered_before, ended_all_before, reaped_sized, ended_append}
 use Rattle.bb8_tables.specs.Machine as machine
-use Rattle.bb8_types.specs.Bounds.{end_of_numbers}
-use Rattle.bb8_types.specs.Figures.{Counts}
-use Rattle.bb8_types.specs.Numbered.{Numbered}
-use Rattle.bb8_ledger.specs.Acts.{Reap}
-use Rattle.bb8_ledger.specs.Answers.{Reaped, Ended}
-use Rattle.bb8_ledger.specs.Ledger.{Ledger, start, position, latest, records, peak, idle_at, with_ended}
-use Rattle.bb8_ledger.specs.Table.{reap_ended, reaps, reaped_at, outlived_at, idled_at}
-use Rattle.bb8_core.specs.Shown.{Shown, shown_records, HasLedger}
 use Rattle.bb8_core.specs.Decided as decided
-use Rattle.bb8_types.proofs.Numbered.{Before, before_later}
-use Rattle.bb8_ledger.proofs.Facts.{entered_before, ended_all_before}
-use Rattle.bb8_ledger.proofs.Effects.{reaped_sized, ended_append}
 use Rattle.bb8_core.proofs.Fitting.{shown, shown_fits, ended_shown}
 use Rattle.bb8_core.proofs.ShownReaped.{AreEnded, all_ended}
 use Rattle.bb8_core.proofs.Steps.{same_shown, IsStep, meets_by, meets_quiet, Grants, changed, want_is, open_now, later_shown, gets_kept}
@@ -31,7 +13,7 @@ reaped_counters was told = record was { max_lifetime = was.max_lifetime + told.b
 module _ {C : Type 0} where
   pub meets_reap_ended : {s : Shown C} {at now : ℕ} → now ≡ max s.latest at → s.handles ≡ 0 → IsStep s at Reap Ended (record s { latest = now })
   meets_reap_ended {s} {at} {now} now_is ended_now =
-      meets_quiet (λ t. t.handles ≡ 0) s at Reap Ended (λ l legal means. refl) ended_now now_is refl refl (λ l. (refl, refl, refl))
+      meets_quiet now_is (λ t. t.handles ≡ 0) Reap Ended (λ l legal means. refl) ended_now refl refl (λ l. (refl, refl, refl))
       (λ l legal f none. (reap_ended none, refl, refl))
 
   -- what the code ended is what the ledger's list ends, at any position

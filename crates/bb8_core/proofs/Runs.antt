@@ -1,5 +1,5 @@
 -- Runs: what a state says of its ledger's numbers, an event that does not fit, and lists of events.
-use Rattle.std.proofs.Common.{◌≡◌, ℕ, zero, suc, Bool, true, false, option_map, ◌&&◌, is_some, List, [], ◌∷◌, ◌++◌, take, length, Option, Some, None, IsSome, IfSome, IfNone, refl, sym, ap, ◌∙◌, subst}
+use Rattle.std.proofs.Common.{◌≡◌, ℕ, zero, suc, true, false, option_map, ◌&&◌, is_some, List, [], ◌∷◌, ◌++◌, take, length, Option, Some, None, IsSome, IfSome, IfNone, refl, sym, ap, ◌∙◌, subst}
 use Rattle.std.specs.FinMap.{get}
 use Rattle.bb8_tables.specs.declared.keys.Key.{Key}
 use Rattle.bb8_tables.specs.declared.keys.GetKey.{GetKey}
@@ -17,27 +17,6 @@ use Rattle.bb8_core.specs.declared.replay.events.Act.{Act as Named}
 use Rattle.bb8_core.specs.Run.{act_with, act_of, fits_named, answer_of, IsRun, AfterEach}
 use Rattle.bb8_core.proofs.Fitting.{shown, bare, beside, as_shown, shown_record, shown_get}
 use Rattle.bb8_core.proofs.Steps.{unfitting, same_shown, records_kept, gets_kept}
-
--- what a get holds, where it is alive
-abbrev pub holding : Option Getting → Option (Option ℕ)
-holding = option_map (λ (x : Getting). holds (Some x))
-
-pub held_none : (o : Option Getting) → holding o ≡ None → o ≡ None
-held_none None e = refl
-held_none (Some x) e = cc
-
-pub held_some : (o : Option Getting) (k : Option ℕ) → holding o ≡ Some k → (is_some o ≡ true) × (holds o ≡ k)
-held_some None k e = cc
-held_some (Some x) k e = (refl, let both : Some (holds (Some x)) ≡ Some k = e in let same : holds (Some x) ≡ k = cc in same)
-
--- what is asked of a give-up, by what the get holds
-pub asked_none : (b : Bool) (o : Option Getting) → holding o ≡ None → (is_some o && agree b (is_some (holds o))) ≡ false
-asked_none b o e = ap (λ (x : Option Getting). is_some x && agree b (is_some (holds x))) (held_none o e)
-
-pub asked_some : (b : Bool) (o : Option Getting) (k : Option ℕ) → holding o ≡ Some k → (is_some o && agree b (is_some (holds o))) ≡ agree b (is_some k)
-asked_some b o k e =
-    let h = held_some o k e in
-    ap (λ (a : Bool). a && agree b (is_some (holds o))) h.0 ∙ ap (λ (x : Option ℕ). agree b (is_some x)) h.1
 
 module _ {C : Type 0} where
   -- ---- what a look-up says of the ledger

@@ -1,20 +1,9 @@
 -- What each change of the gets does to what is shown of them.
-use Rattle.std.proofs.Common.{◌≡◌, ℕ, suc, ◌+◌, ◌≤◌, max, Bool, true, false, eqb, ◌&&◌, List, [], ◌∷◌, ◌++◌, Option, Some, None, IfSome, is_some, option_and_then, option_map, slice_get, refl, sym, ap, ◌∙◌, arith, length-append}
-use Rattle.std.specs.FinMap.{insert}
-use Rattle.bb8_types.specs.declared.standing.Getting.{Getting}
-use Rattle.bb8_types.specs.declared.standing.GetPlace.{GetPlace}
-use Rattle.bb8_types.specs.declared.standing.GetPlace.TheVariants.{Active, Waiting, Holding}
-use Rattle.bb8_types.specs.Numbered.{Numbered, update, in_order, standing_at, standings, after_end}
-use Rattle.bb8_types.specs.Places.{gets_stand, is_unnotified, is_notified, get_with_place, get_in_wait}
-use Rattle.bb8_ledger.specs.Ledger.{unnotified_at, alive_of, new_get, with_notice, get_at_place, at_wait}
-use Rattle.bb8_tables.specs.Views.{ShownGets, no_gets}
-use Rattle.bb8_core.specs.Shown.{shown_gets}
+use Rattle.bb8_core.proofs.Words.{◌≡◌, ℕ, suc, ◌+◌, ◌≤◌, max, Bool, true, false, eqb, ◌&&◌, List, [], ◌∷◌, ◌++◌, Option, Some, None, IfSome, is_some, option_and_then, option_map, slice_get, refl, sym, ap, ◌∙◌, arith, length-append, insert, Getting, GetPlace, Active, Holding, Numbered, update, in_order, standing_at, standings, after_end, gets_stand, is_unnotified, is_notified, get_with_place, get_in_wait, unnotified_at, alive_of, new_get, with_notice, get_at_place, at_wait, ShownGets, no_gets, shown_gets, change, Before, and_right, same_gets}
+use Rattle.bb8_types.specs.declared.standing.GetPlace.TheVariants.{Waiting}
 use Rattle.bb8_tables.specs.Machine as machine
-use Rattle.bb8_types.proofs.Numbered.{change, Before}
 use Rattle.bb8_types.proofs.Numbered as numbered
 use Rattle.bb8_ledger.proofs.Waiters.{tally_same, begins_now, waiter, getting_is, alive_counted, begins_alive, notify_alive}
-use Rattle.bb8_types.proofs.Places.{and_right}
-use Rattle.bb8_tables.proofs.Views.{same_gets}
 
 -- a get that stands in no line is at no position of it
 not_in_line : (g : Numbered Getting) (s : Getting) → g.standing ≡ Some s → is_unnotified s.place ≡ false → (q : ℕ) → unnotified_at q g ≡ false
@@ -24,11 +13,7 @@ module _ (first p top : ℕ) (gs : List (Numbered Getting)) where
   abbrev before : ShownGets
   before = shown_gets first p top gs
 
-  -- an event at which nobody begins to wait
-  pub shown-later : Before unnotified_at p gs → shown_gets first (suc p) top gs ≡ before
-  shown-later b = same_gets _ _ refl refl (numbered.in_order-later unnotified_at gs first p b) refl refl
-
-  -- nor does a get begin
+  -- an event at which no get begins, nor begins to wait
   pub shown-kept : Before unnotified_at p gs → alive_of gs ≤ top → shown_gets first (suc p) (max top (alive_of gs)) gs ≡ before
   shown-kept b few = same_gets _ _ refl refl (numbered.in_order-later unnotified_at gs first p b) refl (omega arith)
 

@@ -1,20 +1,8 @@
 -- What the leave of the last handle does to what is shown: idle connections and unclaimed approvals end, one after another.
-use Rattle.std.proofs.Common.{◌≡◌, ◌≢◌, ℕ, suc, ◌+◌, ◌-◌, ◌<◌, ◌≤◌, Bool, true, false, cond, eqb, ◌&&◌, ◌||◌, List, [], ◌∷◌, map, length, drop, slice_get, Option, Some, None, refl, sym, ap, ◌∙◌, arith, ⊎_elim}
-use Rattle.bb8_types.specs.declared.standing.Place.{Place}
-use Rattle.bb8_types.specs.declared.standing.Place.TheVariants.{Unclaimed, Idle}
-use Rattle.bb8_types.specs.declared.standing.Standing.{Standing}
-use Rattle.bb8_types.specs.Numbered.{Numbered, at, update, numbers, in_order, tally, one, after_end, after_end_where}
-use Rattle.bb8_types.specs.Places.{stands, is_conn, is_approval, is_unclaimed, is_idle, is_left}
-use Rattle.bb8_ledger.specs.Ledger.{idle_at, conns_of, approved_of}
-use Rattle.bb8_tables.specs.Views.{ShownRecords}
-use Rattle.bb8_core.specs.Shown.{shown_records}
+use Rattle.bb8_core.proofs.Words.{◌≡◌, ◌≢◌, ℕ, suc, ◌+◌, ◌-◌, ◌<◌, ◌≤◌, Bool, true, false, cond, eqb, ◌&&◌, ◌||◌, List, [], ◌∷◌, map, length, drop, slice_get, Option, Some, None, refl, sym, ap, ◌∙◌, arith, ⊎_elim, Place, Unclaimed, Idle, Standing, Numbered, at, update, numbers, in_order, tally, one, after_end, after_end_where, stands, is_conn, is_approval, is_unclaimed, is_idle, is_left, idle_at, conns_of, ShownRecords, shown_records, change, Before, same_or_not, change_below, and_right, standing_is, unclaimed_is, idle_is, tested, ended_before, idle_counted, remove, standings}
 use Rattle.bb8_tables.specs.Machine as machine
-use Rattle.bb8_types.proofs.Numbered.{change, Before, same_or_not, change_below}
 use Rattle.bb8_types.proofs.Numbered as numbered
-use Rattle.bb8_types.proofs.Places.{and_right, standing_is, unclaimed_is, idle_is}
-use Rattle.bb8_ledger.proofs.Standings.{tested, conns-change, approved-change}
-use Rattle.bb8_ledger.proofs.Facts.{ended_before, idle_counted}
-use Rattle.bb8_tables.proofs.Views.{same_records}
+use Rattle.bb8_core.proofs.ShownRecords.{shown-changed}
 
 -- an element is changed to one that a function makes the same
 pub map-change : {R S : Type 0} (f : R → S) (rs : List R) (n k : ℕ) (new old : R) → at n rs k ≡ Some old → f new ≡ f old → map f (change n k new rs) ≡ map f rs
@@ -52,6 +40,18 @@ module _ {C : Type 0} where
   unclaimed_left : (s : Standing C) → is_unclaimed s.place ≡ true → is_left (Some s) ≡ true
   unclaimed_left s h = let place : s.place ≡ Unclaimed = unclaimed_is s.place h in ap (λ (p : Place C). is_idle p || is_unclaimed p) place
 
+  -- an idle connection ends, and what is left of the line is told
+  pub idle-ended : {line : List ℕ} (first p top : ℕ) (rs : List (Numbered (Standing C))) (k : ℕ) (r : Numbered (Standing C)) → at first rs k ≡ Some r → stands is_idle r.standing ≡ true
+      → in_order idle_at first (change first k (after_end r) rs) p ≡ line
+      → shown_records first p top (change first k (after_end r) rs) ≡ record (shown_records first p top rs) { places = remove (standings first rs) k; idle = line; conns = conns_of rs - 1 }
+  idle-ended first p top rs k r h idle_now left =
+      let was = standing_is is_idle r.standing idle_now in
+      let place = idle_is was.0.place was.2 in
+      shown-changed first p top k rs (after_end r) r true false false false h (tested is_conn r was.0 (Idle place.0) was.1 place.1) refl
+      (tested is_approval r was.0 (Idle place.0) was.1 place.1) refl refl (numbered.numbered-change_none (λ (x : Numbered (Standing C)). x.standing) rs first k (after_end r) r h refl) left
+      (numbered.numbers-change_kept (λ x. stands is_unclaimed x.standing) rs first k (after_end r) r h (sym (tested is_unclaimed r was.0 (Idle place.0) was.1 place.1)))
+      (λ n e. omega arith) (λ n e. omega arith) refl
+
   module _ (first p top : ℕ) where
     abbrev show : List (Numbered (Standing C)) → ShownRecords C
     show = shown_records first p top
@@ -63,22 +63,10 @@ module _ {C : Type 0} where
         let m : (r : Numbered (Standing C)) × (at first rs k ≡ Some r) × (q : ℕ) × (q < p)
         × (idle_at q r ≡ true) = numbered.in_order_member idle_at rs first p 0 k (ap (λ (xs : List ℕ). slice_get xs 0) h) in
         let r : Numbered (Standing C) = m.0 in
-        let was = standing_is is_idle r.standing (and_right (stands is_idle r.standing) _ m.4).0 in
-        let place = idle_is was.0.place was.2 in
-        let shows =
-        ap show (numbered.update_is rs first k after_end r m.1)
-        ∙ same_records (show (change first k (after_end r) rs)) (machine.after_idle_end k (show rs))
-        (ap (λ (n : ℕ). first + n) (numbered.length-change rs first k (after_end r)))
-        (numbered.numbered-change_none (λ (x : Numbered (Standing C)). x.standing) rs first k (after_end r) r m.1 refl)
-        (numbered.in_order-change_head idle_at idle_once rs first k rest (after_end r) (λ q. refl) p h ∙ sym (ap (drop 1) h))
-        (numbered.numbers-change_kept (λ x. stands is_unclaimed x.standing) rs first k (after_end r) r m.1 (sym (tested is_unclaimed r was.0 (Idle place.0) was.1 place.1)))
-        (let e : conns_of (change first k (after_end r) rs) + 1 ≡ conns_of rs + 0 =
-        conns-change first rs k (after_end r) r true false m.1 (tested is_conn r was.0 (Idle place.0) was.1 place.1) refl in
-        omega arith)
-        (let e : approved_of (change first k (after_end r) rs) + 0 ≡ approved_of rs + 0 =
-        approved-change first rs k (after_end r) r false false m.1 (tested is_approval r was.0 (Idle place.0) was.1 place.1) refl in
-        omega arith)
-        refl in
+        let idle_now = (and_right (stands is_idle r.standing) _ m.4).0 in
+        let was = standing_is is_idle r.standing idle_now in
+        let shows = ap show (numbered.update_is rs first k after_end r m.1) ∙ idle-ended first p top rs k r m.1 idle_now
+        (numbered.in_order-change_head idle_at idle_once rs first k rest (after_end r) (λ q. refl) p h ∙ sym (ap (drop 1) h)) in
         (shows, shut_ended first k rs r m.1 (ap is_left was.1 ∙ idle_left was.0 was.2))
 
     -- the unclaimed approval that is first ends
@@ -86,25 +74,19 @@ module _ {C : Type 0} where
         → numbers (λ r. stands is_unclaimed r.standing) first rs ≡ k ∷ rest
         → (show (update first k after_end rs) ≡ machine.after_unclaimed_end k (show rs)) × (shut (update first k after_end rs) ≡ shut rs)
     shown-unclaimed_end rs k rest h =
-        let m : (r : Numbered (Standing C)) × (at first rs k ≡ Some r)
-        × (stands is_unclaimed r.standing ≡ true) =
+        let m : (r : Numbered (Standing C)) × (at first rs k ≡ Some r) × (stands is_unclaimed r.standing ≡ true) =
         numbered.numbers_member (λ r. stands is_unclaimed r.standing) rs first 0 k (ap (λ (xs : List ℕ). slice_get xs 0) h) in
         let r : Numbered (Standing C) = m.0 in
         let was = standing_is is_unclaimed r.standing m.2 in
         let place : was.0.place ≡ Unclaimed = unclaimed_is was.0.place was.2 in
         let shows =
         ap show (numbered.update_is rs first k after_end r m.1)
-        ∙ same_records (show (change first k (after_end r) rs)) (machine.after_unclaimed_end k (show rs))
-        (ap (λ (n : ℕ). first + n) (numbered.length-change rs first k (after_end r)))
+        ∙ shown-changed {t = machine.after_unclaimed_end k (show rs)} first p top k rs (after_end r) r false false true false m.1 (tested is_conn r was.0 Unclaimed was.1 place) refl
+        (tested is_approval r was.0 Unclaimed was.1 place) refl refl
         (numbered.numbered-change_none (λ (x : Numbered (Standing C)). x.standing) rs first k (after_end r) r m.1 refl)
         (numbered.in_order-change_kept idle_at rs first k (after_end r) r m.1 p (λ q l. sym (ap (λ (b : Bool). b && eqb r.position q) (tested is_idle r was.0 Unclaimed was.1 place))))
         (numbered.numbers-change_head (λ x. stands is_unclaimed x.standing) rs first k rest (after_end r) h refl ∙ sym (ap (drop 1) h))
-        (let e : conns_of (change first k (after_end r) rs) + 0 ≡ conns_of rs + 0 =
-        conns-change first rs k (after_end r) r false false m.1 (tested is_conn r was.0 Unclaimed was.1 place) refl in omega arith)
-        (let e : approved_of (change first k (after_end r) rs) + 1 ≡ approved_of rs + 0 =
-        approved-change first rs k (after_end r) r true false m.1 (tested is_approval r was.0 Unclaimed was.1 place) refl in
-        omega arith)
-        refl in
+        (λ n e. omega arith) (λ n e. omega arith) refl in
         (shows, shut_ended first k rs r m.1 (ap is_left was.1 ∙ unclaimed_left was.0 was.2))
 
     -- records that are left alone by all that ends

@@ -1,25 +1,8 @@
 -- What a reap does to what is shown: those that live too long end, wherever they stand in line, and then some from the front of the line.
-use Rattle.std.proofs.Common.{◌≡◌, ◌≢◌, ℕ, zero, suc, ◌+◌, ◌-◌, ◌≤◌, Bool, true, false, cond, eqb, ◌&&◌, List, [], ◌∷◌, ◌++◌, map, filter, take, length, slice_get, Option, Some, None, option_and_then, ◌⊎◌, inl, inr, refl, sym, ap, ◌∙◌, arith, subst, eq-eqb, ne_eqb}
+use Rattle.bb8_core.proofs.Words.{◌≡◌, ◌≢◌, ℕ, zero, suc, ◌+◌, ◌-◌, ◌≤◌, Bool, true, false, cond, eqb, ◌&&◌, List, [], ◌∷◌, ◌++◌, map, filter, take, length, slice_get, Option, Some, None, option_and_then, ◌⊎◌, inl, inr, refl, sym, ap, ◌∙◌, arith, subst, eq-eqb, ne_eqb, unwrap_or, get, Standing, Settings, Numbered, at, update, numbers, in_order, tally, one, standing_at, after_end, after_end_where, stands, is_idle, idles_out, lives_out, Start, idle_at, idle_of, with_ended, outlived, idled, over_idle_at, ShownRecords, after_reaped, after_reap, AreReaped, AreFirst, beyond, shown_records, change, same_or_not, at-below, Before, and_right, idle_counted, ended_all_before, ended_swept, over_idle, over_idle_line, lives_idle, idles_idle}
 use Rattle.std.proofs.lemmas.List.Elements.{filter-append}
-use Rattle.std.specs.Option.{unwrap_or}
-use Rattle.std.specs.FinMap.{get}
-use Rattle.bb8_types.specs.declared.standing.Place.TheVariants.{Idle}
-use Rattle.bb8_types.specs.declared.standing.Standing.{Standing}
-use Rattle.bb8_types.specs.Settings.{Settings}
-use Rattle.bb8_types.specs.Numbered.{Numbered, at, update, numbers, in_order, tally, one, standing_at, after_end, after_end_where}
-use Rattle.bb8_types.specs.Places.{stands, is_conn, is_approval, is_idle, is_unclaimed, idles_out, lives_out}
-use Rattle.bb8_ledger.specs.Ledger.{Start, idle_at, idle_of, conns_of, approved_of, with_ended, outlived, idled, over_idle_at}
-use Rattle.bb8_tables.specs.Views.{ShownRecords}
-use Rattle.bb8_tables.specs.Reaps.{after_reaped, after_reap, AreReaped, AreFirst, beyond}
-use Rattle.bb8_core.specs.Shown.{shown_records}
-use Rattle.bb8_types.proofs.Numbered.{change, same_or_not, at-below, Before}
 use Rattle.bb8_types.proofs.Numbered as numbered
-use Rattle.bb8_types.proofs.Places.{idle_is, and_right, standing_is}
-use Rattle.bb8_tables.proofs.Views.{same_records}
-use Rattle.bb8_ledger.proofs.Facts.{idle_counted, ended_all_before}
-use Rattle.bb8_ledger.proofs.Standings.{tested, conns-change, approved-change}
-use Rattle.bb8_ledger.proofs.Effects.{ended_swept, over_idle, over_idle_line, lives_idle, idles_idle}
-use Rattle.bb8_core.proofs.ShownLeft.{map-change}
+use Rattle.bb8_core.proofs.ShownLeft.{map-change, idle-ended}
 
 module _ {C : Type 0} where
   -- what stands in an element, if there is one
@@ -101,21 +84,7 @@ module _ {C : Type 0} where
     -- an idle one ends, wherever it stands in line
     shown-idle_end : (rs : List (Numbered (Standing C))) (k : ℕ) (r : Numbered (Standing C)) → at s.first rs k ≡ Some r → stands is_idle r.standing ≡ true
         → show (change s.first k (after_end r) rs) ≡ after_reaped k (show rs)
-    shown-idle_end rs k r h idle_now =
-        let was = standing_is is_idle r.standing idle_now in
-        let place = idle_is was.0.place was.2 in
-        same_records (show (change s.first k (after_end r) rs)) (after_reaped k (show rs))
-        (ap (λ (n : ℕ). s.first + n) (numbered.length-change rs s.first k (after_end r)))
-        (numbered.numbered-change_none (λ (x : Numbered (Standing C)). x.standing) rs s.first k (after_end r) r h refl)
-        (numbered.in_order-change_off idle_at rs s.first k (after_end r) (λ q. refl) p)
-        (numbered.numbers-change_kept (λ x. stands is_unclaimed x.standing) rs s.first k (after_end r) r h (sym (tested is_unclaimed r was.0 (Idle place.0) was.1 place.1)))
-        (let e : conns_of (change s.first k (after_end r) rs) + 1 ≡ conns_of rs + 0 =
-        conns-change s.first rs k (after_end r) r true false h (tested is_conn r was.0 (Idle place.0) was.1 place.1) refl in
-        omega arith)
-        (let e : approved_of (change s.first k (after_end r) rs) + 0 ≡ approved_of rs + 0 =
-        approved-change s.first rs k (after_end r) r false false h (tested is_approval r was.0 (Idle place.0) was.1 place.1) refl in
-        omega arith)
-        refl
+    shown-idle_end rs k r h idle_now = idle-ended s.first p top rs k r h idle_now (numbered.in_order-change_off idle_at rs s.first k (after_end r) (λ q. refl) p)
 
     -- ---- those that live too long
 
@@ -156,8 +125,7 @@ module _ {C : Type 0} where
       pub shows : show (with_ended s.first (outlived s now rs) rs) ≡ after_reap ks (show rs)
       pub closed : length ks ≡ length (outlived s now rs)
 
-    pub all_aged : (ks : List ℕ) (rs : List (Numbered (Standing C))) → AreReaped due ks (show rs)
-        → ((k : ℕ) → due (get (after_reap ks (show rs)).places k) ≡ false) → AreAged ks rs
+    pub all_aged : (ks : List ℕ) (rs : List (Numbered (Standing C))) → AreReaped due ks (show rs) → ((k : ℕ) → due (get (after_reap ks (show rs)).places k) ≡ false) → AreAged ks rs
     all_aged ks rs each none =
         let e : Ends ks rs = ends ks rs each in
         let left = nothing_due due refl e.to s.first (λ k. sym (ap due (shown_standing e.to k)) ∙ ap (λ (t : ShownRecords C). due (get t.places k)) e.shows ∙ none k) in
@@ -251,8 +219,4 @@ module _ {C : Type 0} where
         (subst (λ (t : ShownRecords C). AreFirst (idles_out s.config now) ks t) (sym a.shows) first)
         (subst (λ (t : ShownRecords C). length ks ≤ beyond s.config t) (sym a.shows) few)
         (subst (λ (t : ShownRecords C). (length ks ≡ beyond s.config t) ⊎ ((k : ℕ) → idles_out s.config now (get (after_reap ks t).places k) ≡ false)) (sym a.shows) all) in
-        record {
-          shows = i.shows ∙ ap (after_reap ks) a.shows;
-          aged = a.closed;
-          idle = i.are ∙ ap (λ (n : ℕ). take n (over_idle s p now then)) q_is;
-        }
+        record { shows = i.shows ∙ ap (after_reap ks) a.shows; aged = a.closed; idle = i.are ∙ ap (λ (n : ℕ). take n (over_idle s p now then)) q_is }

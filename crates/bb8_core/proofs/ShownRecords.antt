@@ -1,20 +1,7 @@
 -- What each change of the records does to what is shown of them.
-use Rattle.std.proofs.Common.{◌≡◌, ℕ, zero, suc, ◌+◌, ◌-◌, ◌<◌, ◌≤◌, Bool, true, false, eqb, ◌&&◌, List, [], ◌∷◌, ◌++◌, Option, Some, slice_get, drop, option_and_then, option_map, refl, sym, ap, ◌∙◌, arith, length, length-append, append-nil, cond, not}
-use Rattle.std.specs.FinMap.{insert, get}
-use Rattle.bb8_types.specs.declared.standing.Place.{Place}
-use Rattle.bb8_types.specs.declared.standing.Place.TheVariants.{Unclaimed, Claimed, Idle, Guarded}
-use Rattle.bb8_types.specs.declared.standing.Standing.{Standing}
-use Rattle.bb8_types.specs.Numbered.{Numbered, at, update, numbers, one, standings, standing_at, after_end}
-use Rattle.bb8_types.specs.Places.{stands, is_conn, is_approval, is_unclaimed, is_idle, is_out, with_place, comes_from}
-use Rattle.bb8_ledger.specs.Ledger.{idle_at, conns_of, approved_of, at_place, approval, with_approvals, entry}
-use Rattle.bb8_tables.specs.Views.{ShownRecords, no_records}
-use Rattle.bb8_core.specs.Shown.{shown_records}
+use Rattle.bb8_core.proofs.Words.{◌≡◌, ℕ, zero, suc, ◌+◌, ◌-◌, ◌<◌, ◌≤◌, Bool, true, false, eqb, ◌&&◌, List, [], ◌∷◌, ◌++◌, Option, Some, slice_get, drop, option_and_then, option_map, refl, sym, ap, ◌∙◌, arith, length, length-append, append-nil, cond, not, insert, get, Place, Unclaimed, Claimed, Idle, Guarded, Standing, Numbered, at, update, numbers, one, standings, standing_at, after_end, stands, is_conn, is_approval, is_unclaimed, is_idle, is_out, with_place, comes_from, idle_at, conns_of, approved_of, at_place, approval, with_approvals, entry, ShownRecords, no_records, shown_records, change, Before, and_right, idle_from, unclaimed_from, conn_from, approval_from, standing_is, unclaimed_is, idle_is, tested, conns-change, approved-change, same_records, in_order}
 use Rattle.bb8_tables.specs.Machine as machine
-use Rattle.bb8_types.proofs.Numbered.{change, Before}
 use Rattle.bb8_types.proofs.Numbered as numbered
-use Rattle.bb8_types.proofs.Places.{and_right, idle_from, unclaimed_from, conn_from, approval_from, standing_is, unclaimed_is, idle_is}
-use Rattle.bb8_ledger.proofs.Standings.{tested, conns-change, approved-change}
-use Rattle.bb8_tables.proofs.Views.{same_records}
 
 head_gone : (k : ℕ) (xs ys : List ℕ) → slice_get xs 0 ≡ Some k → ((rest : List ℕ) → xs ≡ k ∷ rest → ys ≡ rest) → ys ≡ drop 1 xs
 head_gone k [] ys e f = cc
@@ -37,6 +24,18 @@ module _ {C : Type 0} where
       (sym (numbered.get-numbered (λ (x : Numbered (Standing C)). x.standing) rs first k
       ∙ ap (option_and_then (λ (x : Numbered (Standing C)). x.standing)) h ∙ e))
 
+  -- One record changes: the sizes follow from what it was and what it is, and the rest is told.
+  pub shown-changed : {t : ShownRecords C} (first p top k : ℕ) (rs : List (Numbered (Standing C))) (new r : Numbered (Standing C)) (a b c d : Bool)
+      → at first rs k ≡ Some r → stands is_conn r.standing ≡ a → stands is_conn new.standing ≡ b
+      → stands is_approval r.standing ≡ c → stands is_approval new.standing ≡ d
+      → first + length rs ≡ t.next → standings first (change first k new rs) ≡ t.places → in_order idle_at first (change first k new rs) p ≡ t.idle
+      → numbers (λ x. stands is_unclaimed x.standing) first (change first k new rs) ≡ t.unclaimed
+      → ((n : ℕ) → n + one a ≡ conns_of rs + one b → n ≡ t.conns) → ((n : ℕ) → n + one c ≡ approved_of rs + one d → n ≡ t.approved)
+      → top ≡ t.peak → shown_records first p top (change first k new rs) ≡ t
+  shown-changed first p top k rs new r a b c d h was_conn conn was_approval approval next places idle unclaimed conns approved peak =
+      same_records _ _ (ap (λ (n : ℕ). first + n) (numbered.length-change rs first k new) ∙ next) places idle unclaimed
+      (conns _ (conns-change first rs k new r a b h was_conn conn)) (approved _ (approved-change first rs k new r c d h was_approval approval)) peak
+
   module _ (first p top : ℕ) (rs : List (Numbered (Standing C))) where
     abbrev before : ShownRecords C
     before = shown_records first p top rs
@@ -54,18 +53,12 @@ module _ {C : Type 0} where
         let new : Numbered (Standing C) = at_place Claimed r in
         let is : new.standing ≡ Some (with_place Claimed was.0) = ap (option_map (with_place Claimed)) was.1 in
         ap (shown_records first p top) (numbered.update_is rs first k (at_place Claimed) r m.1)
-        ∙ same_records _ _
-        (ap (λ (n : ℕ). first + n) (numbered.length-change rs first k new))
+        ∙ shown-changed first p top k rs new r false false true true m.1 (tested is_conn r was.0 Unclaimed was.1 place) (ap (stands is_conn) is)
+        (tested is_approval r was.0 Unclaimed was.1 place) (ap (stands is_approval) is) refl
         (places-put first rs k Claimed r was.0 m.1 was.1)
         (numbered.in_order-change_kept idle_at rs first k new r m.1 p (λ q l. not_idle new (ap (stands is_idle) is) q ∙ sym (not_idle r (tested is_idle r was.0 Unclaimed was.1 place) q)))
         (head_gone k before.unclaimed _ h (λ rest e. numbered.numbers-change_head (λ x. stands is_unclaimed x.standing) rs first k rest new e (ap (stands is_unclaimed) is)))
-        (let e : conns_of (change first k new rs) + 0 ≡ conns_of rs + 0 =
-        conns-change first rs k new r false false m.1 (tested is_conn r was.0 Unclaimed was.1 place) (ap (stands is_conn) is) in
-        omega arith)
-        (let e : approved_of (change first k new rs) + 1 ≡ approved_of rs + 1 =
-        approved-change first rs k new r true true m.1 (tested is_approval r was.0 Unclaimed was.1 place)
-        (ap (stands is_approval) is) in omega arith)
-        refl
+        (λ n e. omega arith) (λ n e. omega arith) refl
 
     -- an idle connection goes out
     pub shown-taken : (out : Place C) (k j : ℕ) → is_idle out ≡ false → is_unclaimed out ≡ false → is_conn out ≡ true
@@ -78,19 +71,13 @@ module _ {C : Type 0} where
         let new : Numbered (Standing C) = at_place out r in
         let is : new.standing ≡ Some (with_place out was.0) = ap (option_map (with_place out)) was.1 in
         ap (shown_records first p top) (numbered.update_is rs first k (at_place out) r m.1)
-        ∙ same_records _ _
-        (ap (λ (n : ℕ). first + n) (numbered.length-change rs first k new))
+        ∙ shown-changed first p top k rs new r true true false false m.1 (tested is_conn r was.0 (Idle place.0) was.1 place.1) (ap (stands is_conn) is ∙ conn_now)
+        (tested is_approval r was.0 (Idle place.0) was.1 place.1) (ap (stands is_approval) is ∙ ap not conn_now) refl
         (places-put first rs k out r was.0 m.1 was.1)
         (numbered.in_order-change_off idle_at rs first k new (not_idle new (ap (stands is_idle) is ∙ not_idle_now)) p)
         (numbered.numbers-change_kept (λ x. stands is_unclaimed x.standing) rs first k new r m.1
         (ap (stands is_unclaimed) is ∙ not_unclaimed_now ∙ sym (tested is_unclaimed r was.0 (Idle place.0) was.1 place.1)))
-        (let e : conns_of (change first k new rs) + 1 ≡ conns_of rs + 1 =
-        conns-change first rs k new r true true m.1 (tested is_conn r was.0 (Idle place.0) was.1 place.1)
-        (ap (stands is_conn) is ∙ conn_now) in omega arith)
-        (let e : approved_of (change first k new rs) + 0 ≡ approved_of rs + 0 =
-        approved-change first rs k new r false false m.1 (tested is_approval r was.0 (Idle place.0) was.1 place.1)
-        (ap (stands is_approval) is ∙ ap not conn_now) in omega arith)
-        refl
+        (λ n e. omega arith) (λ n e. omega arith) refl
 
     -- a guard takes over a connection that is out
     pub shown-handed : (k : ℕ) (s : Standing C) → standing_at first rs k ≡ Some s → is_out s.place ≡ true
@@ -102,19 +89,13 @@ module _ {C : Type 0} where
         let is : new.standing ≡ Some (with_place Guarded s) = ap (option_map (with_place Guarded)) m.2 in
         let test : (t : Place C → Bool) (x : Bool) → t s.place ≡ x → stands t r.standing ≡ x = λ t x e. tested t r s s.place m.2 refl ∙ e in
         ap (shown_records first p top) (numbered.update_is rs first k (at_place Guarded) r m.1)
-        ∙ same_records _ _
-        (ap (λ (n : ℕ). first + n) (numbered.length-change rs first k new))
+        ∙ shown-changed first p top k rs new r true true false false m.1 (test is_conn true (conn_from false s.place out_now)) (ap (stands is_conn) is)
+        (test is_approval false (approval_from false s.place out_now)) (ap (stands is_approval) is) refl
         (places-put first rs k Guarded r s m.1 m.2)
         (numbered.in_order-change_kept idle_at rs first k new r m.1 p (λ q l. not_idle new (ap (stands is_idle) is) q ∙ sym (not_idle r (test is_idle false (idle_from false s.place out_now)) q)))
         (numbered.numbers-change_kept (λ x. stands is_unclaimed x.standing) rs first k new r m.1
         (ap (stands is_unclaimed) is ∙ sym (test is_unclaimed false (unclaimed_from false s.place out_now))))
-        (let e : conns_of (change first k new rs) + 1 ≡ conns_of rs + 1 =
-        conns-change first rs k new r true true m.1 (test is_conn true (conn_from false s.place out_now)) (ap (stands is_conn) is) in
-        omega arith)
-        (let e : approved_of (change first k new rs) + 0 ≡ approved_of rs + 0 =
-        approved-change first rs k new r false false m.1 (test is_approval false (approval_from false s.place out_now))
-        (ap (stands is_approval) is) in omega arith)
-        refl
+        (λ n e. omega arith) (λ n e. omega arith) refl
 
     -- a claimed approval, or a connection that was out, ends
     pub shown-closed : (opening : Bool) (k : ℕ) (s : Standing C) → standing_at first rs k ≡ Some s → comes_from opening s.place ≡ true
@@ -125,18 +106,12 @@ module _ {C : Type 0} where
         let new : Numbered (Standing C) = after_end r in
         let test : (t : Place C → Bool) (x : Bool) → t s.place ≡ x → stands t r.standing ≡ x = λ t x e. tested t r s s.place m.2 refl ∙ e in
         ap (shown_records first p top) (numbered.update_is rs first k after_end r m.1)
-        ∙ same_records _ _
-        (ap (λ (n : ℕ). first + n) (numbered.length-change rs first k new))
+        ∙ shown-changed first p top k rs new r (not opening) false opening false m.1 (test is_conn (not opening) (conn_from opening s.place place)) refl
+        (test is_approval opening (approval_from opening s.place place)) refl refl
         (numbered.numbered-change_none (λ (x : Numbered (Standing C)). x.standing) rs first k new r m.1 refl)
         (numbered.in_order-change_kept idle_at rs first k new r m.1 p (λ q l. sym (not_idle r (test is_idle false (idle_from opening s.place place)) q)))
         (numbered.numbers-change_kept (λ x. stands is_unclaimed x.standing) rs first k new r m.1 (sym (test is_unclaimed false (unclaimed_from opening s.place place))))
-        (let e : conns_of (change first k new rs) + one (not opening) ≡ conns_of rs + 0 =
-        conns-change first rs k new r (not opening) false m.1 (test is_conn (not opening) (conn_from opening s.place place)) refl in
-        omega arith)
-        (let e : approved_of (change first k new rs) + one opening ≡ approved_of rs + 0 =
-        approved-change first rs k new r opening false m.1 (test is_approval opening (approval_from opening s.place place)) refl in
-        omega arith)
-        refl
+        (λ n e. omega arith) (λ n e. omega arith) refl
 
     -- the number k enters at this position, which was a claimed approval or out
     pub shown-entered : (opening : Bool) (k : ℕ) (s : Standing C) (c : C) (birth now : ℕ)
@@ -150,16 +125,13 @@ module _ {C : Type 0} where
         let new : Numbered (Standing C) = entry c birth now p in
         let test : (t : Place C → Bool) (x : Bool) → t s.place ≡ x → stands t r.standing ≡ x = λ t x e. tested t r s s.place m.2 refl ∙ e in
         ap (shown_records first (suc p) top) (numbered.update_is rs first k f r m.1 ∙ ap (λ (x : Numbered (Standing C)). change first k x rs) (is r m.2))
-        ∙ same_records _ _
-        (ap (λ (n : ℕ). first + n) (numbered.length-change rs first k new))
+        ∙ shown-changed first (suc p) top k rs new r (not opening) true opening false m.1 (test is_conn (not opening) (conn_from opening s.place place)) refl
+        (test is_approval opening (approval_from opening s.place place)) refl refl
         (numbered.numbered-change_some (λ (x : Numbered (Standing C)). x.standing) rs first k new r (record { place = Idle c; birth = birth; entered = now }) m.1 refl)
         (numbered.in_order-enter idle_at rs first k p new r b m.1 (not_idle r (test is_idle false (idle_from opening s.place place)))
         (numbered.eqb_self p) (λ q below. numbered.ne_test p q (λ e. omega arith)))
         (numbered.numbers-change_kept (λ x. stands is_unclaimed x.standing) rs first k new r m.1 (sym (test is_unclaimed false (unclaimed_from opening s.place place))))
-        (conns_are opening (conns_of (change first k new rs)) (conns_of rs) (conns-change first rs k new r (not opening) true m.1 (test is_conn (not opening) (conn_from opening s.place place)) refl))
-        (approved_are opening (approved_of (change first k new rs)) (approved_of rs)
-        (approved-change first rs k new r opening false m.1 (test is_approval opening (approval_from opening s.place place)) refl))
-        refl
+        (λ n e. conns_are opening n (conns_of rs) e) (λ n e. approved_are opening n (approved_of rs) e) refl
       where
         conns_are : (o : Bool) (n m : ℕ) → n + one (not o) ≡ m + 1 → n ≡ m + one o
         conns_are true n m e = omega arith

@@ -1,38 +1,17 @@
 -- Each step, from what it does to what is shown to what it does on every legal ledger.
-use Rattle.std.proofs.Common.{◌≡◌, ℕ, suc, ◌+◌, ◌-◌, ◌*◌, ◌<◌, ◌≤◌, max, min, Bool, true, false, not, eqb, ◌&&◌, ◌||◌, List, length, Option, Some, None, slice_get, refl, sym, ap, ◌∙◌, arith, subst, is_some, MatchBool, ◌≢◌, IfSome, cond, ltb}
-use Rattle.std.specs.FinMap.{get}
-use Rattle.std.proofs.lemmas.Bool.Decides.{leb_tells, nat_tests}
-use Rattle.bb8_types.specs.declared.grants.Grant.{Grant}
-use Rattle.bb8_types.specs.declared.standing.Place.{Place}
-use Rattle.bb8_types.specs.declared.standing.Place.TheVariants.{Claimed, Idle, Held, Guarded}
-use Rattle.bb8_types.specs.declared.standing.Standing.{Standing}
-use Rattle.bb8_types.specs.declared.standing.GetPlace.TheVariants.{Holding}
-use Rattle.bb8_types.specs.declared.standing.Getting.{Getting}
-use Rattle.bb8_tables.specs.declared.counters.Counters.{Counters}
-use Rattle.bb8_tables.specs.Counted.{counts_held}
-use Rattle.bb8_types.specs.Figures.{Counts, Figures}
-use Rattle.bb8_ledger.specs.Acts.{Act, Begin, Try, PutBack, Fill, Claim, Opened, Failed, State, Add, Join, Leave, Look}
-use Rattle.bb8_ledger.specs.Answers.{Answer, Begun, Memory, Exhausted, Served, Taken, Kept, Closed, Granted, Ended, Entered, Late, GivenBack, Shown as ShownFigures, Broken, NoCapacity, Withheld, Added, GaveUp, Joined, Left, Looked}
+use Rattle.bb8_core.proofs.Words.{◌≡◌, ℕ, suc, ◌+◌, ◌-◌, ◌*◌, ◌<◌, ◌≤◌, max, min, Bool, true, false, not, eqb, ◌&&◌, ◌||◌, List, length, Option, Some, None, slice_get, refl, sym, ap, ◌∙◌, arith, subst, is_some, MatchBool, ◌≢◌, IfSome, cond, ltb, get, nat_tests, Grant, Place, Claimed, Idle, Held, Guarded, Standing, Holding, Getting, Counters, counts_held, Counts, Figures, Act, Begin, Try, PutBack, Fill, Claim, Opened, Failed, Add, Join, Leave, Look, Answer, Begun, Memory, Exhausted, Served, Taken, Kept, Closed, Granted, Ended, Entered, Late, GivenBack, Broken, NoCapacity, Withheld, Added, Joined, Left, Looked, Numbered, update, one, after_end, at_entry, Ledger, Later, start, position, latest, handles, records, gets, peak, get_peak, alive, idle, record_of, get_of, idle_at, at_place, entry, with_approvals, idle_count, conns_of, approved_of, alive_of, counts, figures, wait_micros, next, with_notice, oldest_waiter, waiting, stands, first_of, first_place, first_wait_of, is_claimed, is_guarded, is_out, is_unnotified, gets_stand, birth_in, is_expired, micros_since, Allowed, IsLegal, Row, begins, begin_refused, begin_exhausted, serves, keeps, returns_closed, takes_out, fills, claims, claim_ended, opens, opens_late, fails, fits, closes, IsWant, with_record, adds, add_broken, add_full, add_exhausted, add_refused, waits_on, waits, joins, join_exhausted, leaves, looks, due, lacking, IsGranted, IsNoGrant, Shown, shown_records, shown_gets, Means, Meets, HasLedger, IsFitting, ShownRecords, ShownGets, Before, before_later, ne_test, standing_is, claimed_is, guarded_out, idle_from, unclaimed_from, conn_from, entered_before, waited_before, put_before, ended_before, peak_holds, get_peak_holds, idle_counted, idle_tally, trying_is, claimed_counted, waits_on_gets, end_of_numbers, most_handles, most_micros}
+use Rattle.std.proofs.lemmas.Bool.Decides.{leb_tells}
+use Rattle.bb8_ledger.specs.Acts.{State}
+use Rattle.bb8_ledger.specs.Answers.{Shown as ShownFigures}
 use Rattle.bb8_ledger.specs.Answers as answers
-use Rattle.bb8_types.specs.Numbered.{Numbered, update, one, after_end}
-use Rattle.bb8_ledger.specs.Ledger.{at_entry, Ledger, Later, start, position, latest, handles, records, gets, peak, get_peak, alive, idle, record_of, get_of, idle_at, at_place, entry, with_approvals, idle_count, conns_of, approved_of, alive_of, counts, figures, wait_micros, next, with_notice, oldest_waiter, waiting}
-use Rattle.bb8_types.specs.Places.{stands, first_of, first_place, first_wait_of, is_claimed, is_guarded, is_out, is_unnotified, gets_stand, birth_in, is_expired, micros_since}
-use Rattle.bb8_ledger.specs.Table.{Allowed, IsLegal, Row, begins, begin_refused, begin_exhausted, serves, keeps, returns_closed, takes_out, fills, claims, claim_ended, opens, opens_late, fails, shows, fits, closes, IsWant, with_record, adds, add_broken, add_full, add_exhausted, add_refused, waits_on, waits, joins, join_exhausted, leaves, looks}
-use Rattle.bb8_types.specs.Grants.{due, lacking, IsGranted, IsNoGrant}
-use Rattle.bb8_core.specs.Shown.{Shown, shown_records, shown_gets, Means, Meets, HasLedger, IsFitting}
-use Rattle.bb8_tables.specs.Views.{ShownRecords, ShownGets}
+use Rattle.bb8_ledger.specs.Table.{shows}
 use Rattle.bb8_tables.specs.Machine as machine
 use Rattle.bb8_core.specs.Decided as decided
-use Rattle.bb8_types.proofs.Numbered.{Before, before_later, ne_test}
 use Rattle.bb8_core.proofs.ShownRecords.{shown-claimed, shown-taken, shown-closed, shown-entered, shown-approve, raised_same, shown-born}
-use Rattle.bb8_types.proofs.Places.{standing_is, claimed_is, guarded_out, idle_from, unclaimed_from, conn_from}
 use Rattle.bb8_core.proofs.ShownRecords as of_records
 use Rattle.bb8_core.proofs.ShownLeft.{shut, shown-left, left_few}
 use Rattle.bb8_core.proofs.ShownGets.{shown-kept, shown-begun, shown-ended, shown-turned, shown-waits, noticed_later, first_waits}
-use Rattle.bb8_ledger.proofs.Facts.{entered_before, waited_before, put_before, ended_before, peak_holds, get_peak_holds, idle_counted, idle_tally}
 use Rattle.bb8_core.proofs.Fitting.{shown, unexamined, bare, beside, as_shown, shown_record, shown_get}
-use Rattle.bb8_ledger.proofs.Laws.{trying_is, claimed_counted, waits_on_gets}
-use Rattle.bb8_types.specs.Bounds.{end_of_numbers, most_handles, most_micros}
 
 fitting : (b : Bool) (P Q : Type 0) → b ≡ true → P → MatchBool b P Q
 fitting true P Q e p = p
@@ -87,8 +66,8 @@ module _ {C : Type 0} where
   pub led : {s t : Shown C} (new : Shown C) (at : ℕ) (e : Act C) (a : Answer) → s ≡ t → HasLedger s → Meets t at e a new → HasLedger new
   led new at e a is h meets = let step = meets h.0 h.1 (as_shown h.0 is h.2) in (Later h.0 at e a, (h.1, step.0), step.1)
 
-  pub at_view : {s t new : Shown C} (at : ℕ) (e : Act C) (a : Answer) → s ≡ t → IsStep s at e a new → Meets t at e a new
-  at_view at e a is m l legal means = let done = m.leads l legal (as_shown l (sym is) means) in (done.0, beside (Later l at e a) done.1)
+  pub at_view : {s t new : Shown C} {at : ℕ} {e : Act C} {a : Answer} → s ≡ t → IsStep s at e a new → Meets t at e a new
+  at_view {at = at} {e = e} {a = a} is m l legal means = let done = m.leads l legal (as_shown l (sym is) means) in (done.0, beside (Later l at e a) done.1)
 
   pub fits_view : {s t : Shown C} (e : Act C) → s ≡ t → IsFitting t e → IsFitting s e
   fits_view e is f l legal means = f l legal (as_shown l is means)
@@ -117,25 +96,6 @@ module _ {C : Type 0} where
         let done = step l legal taken (subst Known (sym (bare l means)) known) in
         (fitting (fits l e) _ _ taken done.0, done.1 ∙ ap next (bare l means) ∙ sym is);
   }
-
-  -- the same of an event that changes the latest moment alone
-  pub meets_quiet : (Known : Shown C → Type 0) (s : Shown C) {now : ℕ} {rs : ShownRecords C} {gs : ShownGets} (at : ℕ) (e : Act C) (a : Answer)
-      → IsFitting s e → Known (unexamined s) → now ≡ max s.latest at → rs ≡ s.records → gs ≡ s.gets
-      → ((l : Ledger C) → (latest (Later l at e a) ≡ max (latest l) at) × (handles (Later l at e a) ≡ handles l)
-      × (counts (Later l at e a) ≡ counts l)) → ((l : Ledger C) → IsLegal l → fits l e ≡ true → Known (shown l) → Row l at e a
-      × (records (Later l at e a) ≡ records l) × (gets (Later l at e a) ≡ gets l))
-      → IsStep s at e a (record s { latest = now; records = rs; gets = gs })
-  meets_quiet Known s at e a fit known now_is rs_is gs_is quiet row =
-      meets_by Known (λ t. record t { latest = max t.latest at }) s _ at e a fit known (same_shown _ _ refl refl now_is refl rs_is gs_is refl)
-      (λ l legal f k.
-      let same = quiet l in
-      let r = row l legal f k in (
-        r.0,
-        same_shown _ _ refl refl same.0 same.1
-            (ap (λ (xs : List (Numbered (Standing C))). shown_records (start l).first (suc (position l)) (max (peak l) (conns_of xs + approved_of xs)) xs) r.1 ∙ records_kept l)
-            (ap (λ (xs : List (Numbered Getting)). shown_gets (start l).first_get (suc (position l)) (max (get_peak l) (alive_of xs)) xs) r.2 ∙ gets_kept l)
-            same.2,
-      ))
 
   -- the records of a ledger, shown one position later
   pub later_shown : (l : Ledger C) → shown_records (start l).first (suc (position l)) (peak l) (records l) ≡ (shown l).records
@@ -187,74 +147,6 @@ module _ {C : Type 0} where
       → shown_records (start l).first (suc (position l)) (max (peak l) (conns_of rs + approved_of rs)) rs ≡ new
   still_raised l rs new is few = raised_same _ (subst (λ (t : ShownRecords C). t.conns + t.approved ≤ peak l) (sym is) few) ∙ is
 
-  -- ---- fill
-
-  pub meets_fill : {s : Shown C} {at : ℕ} {claimed : Bool} {g : Grant} {now : ℕ} {rs : ShownRecords C} → now ≡ max s.latest at
-      → Grants s claimed s.records g rs → IsStep s at (Fill claimed) (Granted g) (record s { latest = now; records = rs })
-  meets_fill {s} {at} {claimed} {g} {now} {rs} now_is granted =
-      meets_by (λ t. machine.IsGrant t.records (decided.want t.config t.handles t.records) g)
-      (λ t. record t { latest = max t.latest at; records = machine.after_grant claimed g t.records }) s _ at (Fill claimed) (Granted g)
-      (λ l legal means. refl) granted.granted (same_shown _ _ refl refl now_is refl granted.after refl refl)
-      (λ l legal f granted_l. (
-        fills (want_is l (records l) g _ (entered_before l) refl granted_l),
-        same_shown _ _ refl refl refl refl
-            (changed claimed l g.count (records l) _ (later_shown l)) (gets_kept l) refl,
-      ))
-
-  -- ---- claim
-
-  pub meets_claim : {s : Shown C} {at k now : ℕ} {rs : ShownRecords C} → now ≡ max s.latest at → s.handles ≢ 0
-      → slice_get s.records.unclaimed 0 ≡ Some k → rs ≡ machine.after_claim k s.records
-      → IsStep s at Claim (answers.Claimed (Some k)) (record s { latest = now; records = rs })
-  meets_claim {s} {at} {k} {now} {rs} now_is alive_now first rs_is =
-      meets_by (λ t. (0 < t.handles) × (slice_get t.records.unclaimed 0 ≡ Some k))
-      (λ t. record t { latest = max t.latest at; records = machine.after_claim k t.records }) s _ at Claim (answers.Claimed (Some k))
-      (λ l legal means. refl) (open_now _ alive_now, first) (same_shown _ _ refl refl now_is refl rs_is refl refl) (λ l legal f known.
-      let is : shown_records (start l).first (suc (position l)) (peak l)
-      (update (start l).first k (at_place Claimed) (records l)) ≡ machine.after_claim k (shown l).records =
-      shown-claimed (start l).first (suc (position l)) (peak l) (records l) k known.1 ∙ ap (machine.after_claim k) (later_shown l) in
-      (claims known.0 known.1, same_shown _ _ refl refl refl refl (still_raised l _ _ is (peak_holds l)) (gets_kept l) refl))
-
-  pub meets_claim_none : {s : Shown C} {at now : ℕ} {rs : ShownRecords C} → now ≡ max s.latest at → s.handles ≢ 0
-      → slice_get s.records.unclaimed 0 ≡ None → rs ≡ s.records
-      → IsStep s at Claim (answers.Claimed None) (record s { latest = now; records = rs })
-  meets_claim_none {s} {at} {now} {rs} now_is alive_now none rs_is =
-      meets_quiet (λ t. (0 < t.handles) × (slice_get t.records.unclaimed 0 ≡ None)) s at Claim (answers.Claimed None)
-      (λ l legal means. refl) (open_now _ alive_now, none) now_is rs_is refl (λ l. (refl, refl, refl))
-      (λ l legal f known. (claims known.0 known.1, refl, refl))
-
-  pub meets_claim_ended : {s : Shown C} {at now : ℕ} → now ≡ max s.latest at → s.handles ≡ 0 → IsStep s at Claim Ended (record s { latest = now })
-  meets_claim_ended {s} {at} {now} now_is ended_now =
-      meets_quiet (λ t. t.handles ≡ 0) s at Claim Ended (λ l legal means. refl) ended_now now_is refl refl (λ l. (refl, refl, refl))
-      (λ l legal f none. (claim_ended none, refl, refl))
-
-  -- ---- opened
-
-  pub meets_opened : {s : Shown C} (at : ℕ) {k : ℕ} (c : C) {now : ℕ} {rs : ShownRecords C} {n : Option ℕ} {gs : ShownGets} {new : Counts}
-      → IsFitting s (Opened k c) → now ≡ max s.latest at → s.handles ≢ 0
-      → rs ≡ machine.after_entry true k (record { place = Idle c; birth = now; entered = now }) s.records → Notices s.gets n gs
-      → new ≡ record s.counts { created = s.counts.created + 1 }
-      → IsStep s at (Opened k c) (Entered k n) (record s { latest = now; records = rs; gets = gs; counts = new })
-  meets_opened {s} at {k} c {now} {rs} {n} {gs} {new} fit now_is alive_now rs_is told new_is =
-      meets_by (λ t. (0 < t.handles) × (n ≡ slice_get t.gets.waiting 0))
-      (λ t. record t {
-        latest = max t.latest at;
-        records =
-            machine.after_entry true k (record { place = Idle c; birth = max t.latest at; entered = max t.latest at }) t.records;
-        gets =
-            machine.after_notice n t.gets;
-        counts = record t.counts { created = t.counts.created + 1 };
-      }) s _ at (Opened k c) (Entered k n) fit
-      (open_now _ alive_now, told.who)
-      (same_shown _ _ refl refl now_is refl (rs_is ∙ ap (λ (m : ℕ). machine.after_entry true k (record { place = Idle c; birth = m; entered = m }) s.records) now_is) told.after new_is)
-      (λ l legal f known.
-      let st = standing_is is_claimed (record_of l k) f in
-      let some : 1 ≤ approved_of (records l) = claimed_counted l k st.0 st.1 (claimed_is st.0.place st.2) in
-      let few : conns_of (records l) + approved_of (records l) ≤ peak l = peak_holds l in
-      let is = shown-entered (start l).first (position l) (peak l) (records l) true k st.0 c (max (latest l) at) (max (latest l) at)
-      (λ r. entry c (max (latest l) at) (max (latest l) at) (position l)) (entered_before l) st.1 st.2 (λ r e. refl) in
-      (opens known.0 known.1, same_shown _ _ refl refl refl refl (ap machine.with_peak is ∙ raised_same _ (omega arith)) (gets_told l n known.1) refl))
-
   -- a claimed approval ends
   approval_ended : (l : Ledger C) (k : ℕ) → stands is_claimed (record_of l k) ≡ true
       → shown_records (start l).first (suc (position l))
@@ -263,29 +155,11 @@ module _ {C : Type 0} where
       (shown l).records
   approval_ended l k f =
       let st = standing_is is_claimed (record_of l k) f in
-      let is : shown_records (start l).first (suc (position l)) (peak l)
-      (update (start l).first k after_end (records l)) ≡ machine.after_close true k (shown l).records =
+      let is : shown_records (start l).first (suc (position l)) (peak l) (update (start l).first k after_end (records l)) ≡ machine.after_close true k (shown l).records =
       shown-closed (start l).first (suc (position l)) (peak l) (records l) true k st.0 st.1 st.2
       ∙ ap (machine.after_close true k) (later_shown l) in
       let few : conns_of (records l) + approved_of (records l) ≤ peak l = peak_holds l in
       still_raised l _ _ is (omega arith)
-
-  pub meets_late : {s : Shown C} (at : ℕ) {k : ℕ} (c : C) {now : ℕ} {rs : ShownRecords C} → IsFitting s (Opened k c) → now ≡ max s.latest at
-      → s.handles ≡ 0 → rs ≡ machine.after_close true k s.records
-      → IsStep s at (Opened k c) (Late k) (record s { latest = now; records = rs })
-  meets_late {s} at {k} c {now} {rs} fit now_is ended_now rs_is =
-      meets_by (λ t. t.handles ≡ 0) (λ t. record t { latest = max t.latest at; records = machine.after_close true k t.records }) s _ at
-      (Opened k c) (Late k) fit ended_now (same_shown _ _ refl refl now_is refl rs_is refl refl)
-      (λ l legal f none. (opens_late none, same_shown _ _ refl refl refl refl (approval_ended l k f) (gets_kept l) refl))
-
-  -- ---- failed
-
-  pub meets_failed : {s : Shown C} (at : ℕ) {k now : ℕ} {rs : ShownRecords C} → IsFitting s (Failed k) → now ≡ max s.latest at
-      → rs ≡ machine.after_close true k s.records → IsStep s at (Failed k) GivenBack (record s { latest = now; records = rs })
-  meets_failed {s} at {k} {now} {rs} fit now_is rs_is =
-      meets_by (λ t. Unit {0}) (λ t. record t { latest = max t.latest at; records = machine.after_close true k t.records }) s _ at
-      (Failed k) GivenBack fit tt (same_shown _ _ refl refl now_is refl rs_is refl refl)
-      (λ l legal f known. (fails, same_shown _ _ refl refl refl refl (approval_ended l k f) (gets_kept l) refl))
 
   -- ---- put_back
 
@@ -401,45 +275,6 @@ module _ {C : Type 0} where
             ∙ ap (λ (b : Bool). counts_held (closed_counters was broken b)) (old_shown l at k)),
       ))
 
-  -- ---- begin
-
-  pub meets_begun : {s : Shown C} (at : ℕ) {n now : ℕ} {gs : ShownGets} {new : Counts} → IsFitting s Begin → now ≡ max s.latest at
-      → s.gets.next < end_of_numbers → gs ≡ machine.after_begin s.gets → new ≡ record s.counts { started = s.counts.started + 1 }
-      → n ≡ s.gets.next → IsStep s at Begin (Begun n) (record s { latest = now; gets = gs; counts = new })
-  meets_begun {s} at {n} {now} {gs} {new} fit now_is few gs_is new_is n_is =
-      meets_by (λ t. (t.gets.next < end_of_numbers) × (n ≡ t.gets.next))
-      (λ t. record t {
-        latest = max t.latest at;
-        gets = machine.after_begin t.gets;
-        counts =
-            record t.counts { started = t.counts.started + 1 };
-      }) s _ at Begin (Begun n) fit (few, n_is)
-      (same_shown _ _ refl refl now_is refl refl gs_is new_is)
-      (λ l legal f known. (
-        begins known.1 (subst (λ (m : ℕ). m < end_of_numbers) (sym known.1) known.0),
-        same_shown _ _ refl refl refl refl
-            (records_kept l) (shown-begun (start l).first_get (position l) (get_peak l) (gets l) (waited_before l) (get_peak_holds l)) refl,
-      ))
-
-  pub meets_memory : {s : Shown C} (at : ℕ) {now : ℕ} {gs : ShownGets} → IsFitting s Begin → now ≡ max s.latest at
-      → s.gets.next < end_of_numbers → s.gets.alive ≡ s.gets.peak → gs ≡ s.gets
-      → IsStep s at Begin Memory (record s { latest = now; gets = gs })
-  meets_memory {s} at {now} {gs} fit now_is few full gs_is =
-      meets_quiet (λ t. (t.gets.next < end_of_numbers) × (t.gets.alive ≡ t.gets.peak)) s at Begin Memory fit (few, full) now_is refl gs_is
-      (λ l. (refl, refl, refl)) (λ l legal f known. (begin_refused known.0 known.1, refl, refl))
-
-  pub meets_exhausted : {s : Shown C} (at : ℕ) {now : ℕ} → IsFitting s Begin → now ≡ max s.latest at → end_of_numbers ≤ s.gets.next → IsStep s at Begin Exhausted (record s { latest = now })
-  meets_exhausted {s} at {now} fit now_is many = meets_quiet
-      (λ t. end_of_numbers ≤ t.gets.next) s at Begin Exhausted fit many now_is refl refl (λ l. (refl, refl, refl))
-      (λ l legal f known. (begin_exhausted known, refl, refl))
-
-  -- ---- state
-
-  pub meets_state : {s : Shown C} {at now : ℕ} {f : Figures} → now ≡ max s.latest at → ((l : Ledger C) → Means l s → f ≡ figures l) → IsStep s at State (ShownFigures f) (record s { latest = now })
-  meets_state {s} {at} {now} {f} now_is told = meets_quiet (λ t. (l : Ledger C) → Means l t → f ≡ figures l) s at State (ShownFigures f)
-      (λ l legal means. refl) (λ l means. told l (beside l means)) now_is refl refl (λ l. (refl, refl, refl))
-      (λ l legal fit known. (subst (λ (x : Figures). Row l at State (ShownFigures x)) (sym (known l refl)) shows, refl, refl))
-
   -- what a state shows is what its ledger tells
   pub figures_told : (s : Shown C) (l : Ledger C) → Means l s → record { connections = s.records.conns; idle = length s.records.idle; counts = s.counts } ≡ figures l
   figures_told s l means =
@@ -464,13 +299,12 @@ module _ {C : Type 0} where
       ∙ ap (λ (o : Option Getting). counts_held (served was (max (latest l) at) (first_wait_of o))) (shown_get l (shown l) refl g)
 
   -- what the code knows when a get tries
-  pub record Tries (s : Shown C) (at g now : ℕ) (o : Option Getting) : Type 0 where
+  pub record Tries (s : Shown C) (g : ℕ) (o : Option Getting) : Type 0 where
     pub fit : IsFitting s (Try g)
-    pub now_is : now ≡ max s.latest at
     pub get_is : o ≡ get s.gets.places g
 
-  pub tries : {s t : Shown C} {at g now : ℕ} {o : Option Getting} → s ≡ t → IsFitting t (Try g) → now ≡ max s.latest at → o ≡ get s.gets.places g → Tries s at g now o
-  tries {g = g} is fit now_is get_is = record { fit = fits_view (Try g) is fit; now_is = now_is; get_is = get_is }
+  pub tries : {s t : Shown C} {g : ℕ} {o : Option Getting} → s ≡ t → IsFitting t (Try g) → o ≡ get s.gets.places g → Tries s g o
+  tries {g = g} is fit get_is = record { fit = fits_view (Try g) is fit; get_is = get_is }
 
   -- a test of the get, as it is shown
   line_test : (l : Ledger C) (g : ℕ) (b : Bool) → gets_stand is_unnotified (get (shown l).gets.places g) ≡ b → gets_stand is_unnotified (get_of l g) ≡ b
@@ -498,73 +332,6 @@ module _ {C : Type 0} where
       (conn_from false out out_now) first_later ∙ ap (machine.after_take out k) (later_shown l) in
       (want_is l rs grant _ (put_before (position l) (start l).first k out (records l) off (entered_before l)) is granted, changed false l grant.count rs _ later)
 
-  pub meets_served : {s : Shown C} {at g k : ℕ} {grant : Grant} {now : ℕ} {o : Option Getting} {since : Option ℕ} {rs : ShownRecords
-      C} {gs : ShownGets} (was : Counters) {is : Counters} → Tries s at g now o → gets_stand is_unnotified o ≡ false
-      → s.config.test_on_check_out ≡ false → first_of s.config.queue_strategy s.records.idle ≡ Some k
-      → Grants s false (machine.after_take Guarded k s.records) grant rs → gs ≡ machine.after_get_end g s.gets → s.counts ≡ counts_held was
-      → since ≡ first_wait_of o → is ≡ served was now since
-      → IsStep s at (Try g) (Served k grant) (record s { latest = now; records = rs; gets = gs; counts = counts_held is })
-  meets_served {s} {at} {g} {k} {grant} {now} {o} {since} {rs} {gs} was {is} t not_waiting unchecked first granted gs_is were since_is counted =
-      meets_by (λ x. (gets_stand is_unnotified (get x.gets.places g) ≡ false) × (x.config.test_on_check_out ≡ false)
-      × (first_of x.config.queue_strategy x.records.idle ≡ Some k) × IsTakeGrant x Guarded k grant × (x.counts ≡ counts_held was))
-      (λ x. record x {
-        latest = max x.latest at;
-        records = machine.after_grant false grant (machine.after_take Guarded k x.records);
-        gets = machine.after_get_end g x.gets;
-        counts =
-            counts_held (served was (max x.latest at) (first_wait_of (get x.gets.places g)));
-      }) s _ at (Try g) (Served k grant) t.fit
-      (ap (gets_stand is_unnotified) (sym t.get_is) ∙ not_waiting, unchecked, first, granted.granted, were)
-      (same_shown _ _ refl refl t.now_is refl granted.after gs_is
-      (ap counts_held (counted ∙ ap (λ (m : ℕ). served was m since) t.now_is
-      ∙ ap (served was (max s.latest at)) (since_is ∙ ap (λ (x : Option Getting). first_wait_of x) t.get_is))))
-      (λ l legal f known.
-      let st = trying_is l g f in
-      let taken = taken_shown l Guarded k grant refl known.2 known.3 in (
-        serves (line_test l g false known.0) known.1 known.2 taken.0,
-        same_shown _ _ refl refl refl refl taken.1
-            (shown-ended (start l).first_get (position l) (get_peak l) (gets l) g st.0 (waited_before l) (get_peak_holds l) st.1)
-            (count_served l at g k grant was known.4),
-      ))
-
-  -- where it is checked, the get holds it
-  pub meets_taken : {s : Shown C} {at g k : ℕ} {grant : Grant} {now : ℕ} {o : Option Getting} {rs : ShownRecords C} {gs : ShownGets}
-      → Tries s at g now o → gets_stand is_unnotified o ≡ false → s.config.test_on_check_out ≡ true
-      → first_of s.config.queue_strategy s.records.idle ≡ Some k → Grants s false (machine.after_take (Held g) k s.records) grant rs
-      → gs ≡ machine.after_turn (Holding k) g s.gets
-      → IsStep s at (Try g) (Taken k grant) (record s { latest = now; records = rs; gets = gs })
-  meets_taken {s} {at} {g} {k} {grant} {now} {o} {rs} {gs} t not_waiting checked first granted gs_is =
-      meets_by (λ x. (gets_stand is_unnotified (get x.gets.places g) ≡ false) × (x.config.test_on_check_out ≡ true)
-      × (first_of x.config.queue_strategy x.records.idle ≡ Some k) × IsTakeGrant x (Held g) k grant)
-      (λ x. record x {
-        latest = max x.latest at;
-        records = machine.after_grant false grant (machine.after_take (Held g) k x.records);
-        gets = machine.after_turn (Holding k) g x.gets;
-      }) s _ at (Try g) (Taken k grant) t.fit
-      (ap (gets_stand is_unnotified) (sym t.get_is) ∙ not_waiting, checked, first, granted.granted)
-      (same_shown _ _ refl refl t.now_is refl granted.after gs_is refl)
-      (λ l legal f known.
-      let st = trying_is l g f in
-      let off : gets_stand is_unnotified (get_of l g) ≡ false = line_test l g false known.0 in
-      let taken = taken_shown l (Held g) k grant refl known.2 known.3 in (
-        takes_out off known.1 known.2 taken.0,
-        same_shown _ _ refl refl refl refl taken.1
-            (shown-turned (start l).first_get (position l) (get_peak l) (gets l) (Holding k) g st.0 (waited_before l) (get_peak_holds l)
-            st.1 (ap (gets_stand is_unnotified) (sym st.1) ∙ off) refl) refl,
-      ))
-
-  -- a get that waits and was not notified waits on
-  pub meets_waits_on : {s : Shown C} {at g now : ℕ} {o : Option Getting} {grant : Grant} → Tries s at g now o
-      → gets_stand is_unnotified o ≡ true → IsNoGrant s.records.next grant
-      → IsStep s at (Try g) (answers.Waiting grant) (record s { latest = now })
-  meets_waits_on {s} {at} {g} {now} {o} {grant} t waiting nothing =
-      meets_quiet (λ x. (gets_stand is_unnotified (get x.gets.places g) ≡ true) × IsNoGrant x.records.next grant) s at (Try g)
-      (answers.Waiting grant) t.fit (ap (gets_stand is_unnotified) (sym t.get_is) ∙ waiting, nothing) t.now_is refl refl
-      (λ l. (refl, refl, refl))
-      (λ l legal f known.
-      let on : gets_stand is_unnotified (get_of l g) ≡ true = ap (gets_stand is_unnotified) (shown_get l (shown l) refl g) ∙ known.0 in
-      (waits_on on known.1, ap (λ (m : ℕ). with_approvals false m (records l)) known.1.count, waits_on_gets l at g on))
-
   -- what is due to a get that waits
   pub due_waiting : (s : Shown C) {taken : ShownRecords C} {used asked open_now alive_now d : ℕ} → taken ≡ s.records
       → used ≡ taken.conns + taken.approved → open_now ≡ taken.approved → alive_now ≡ s.gets.alive → asked ≡ one (ltb open_now alive_now)
@@ -577,143 +344,317 @@ module _ {C : Type 0} where
       (asked_is ∙ ap (λ (n : ℕ). one (ltb n alive_now)) (open_is ∙ ap (λ (t : ShownRecords C). t.approved) taken_is)
       ∙ ap (λ (n : ℕ). one (ltb s.records.approved n)) alive_is)
 
-  -- where nothing is idle, a get waits that did not, or was notified
-  pub meets_waits : {s : Shown C} {at g now : ℕ} {o : Option Getting} {taken : ShownRecords
-      C} {due_now : ℕ} {grant : Grant} {rs : ShownRecords C} {gs : ShownGets} → Tries s at g now o → gets_stand is_unnotified o ≡ false
-      → first_of s.config.queue_strategy s.records.idle ≡ None → taken ≡ s.records
-      → due_now ≡ due s.config s.handles (s.records.conns + s.records.approved) (one (ltb s.records.approved s.gets.alive))
-      → machine.IsGrant taken due_now grant → rs ≡ machine.after_grant false grant taken → gs ≡ machine.after_wait now g s.gets
-      → IsStep s at (Try g) (answers.Waiting grant) (record s { latest = now; records = rs; gets = gs })
-  meets_waits {s} {at} {g} {now} {o} {taken} {due_now} {grant} {rs} {gs} t not_waiting none taken_is due_is granted rs_is gs_is =
-      let granted_s : machine.IsGrant s.records (due s.config s.handles (s.records.conns + s.records.approved)
-      (one (ltb s.records.approved s.gets.alive))) grant =
-      subst (λ (x : ShownRecords C). machine.IsGrant x
-      (due s.config s.handles (s.records.conns + s.records.approved) (one (ltb s.records.approved s.gets.alive))) grant) taken_is
-      (subst (λ (m : ℕ). machine.IsGrant taken m grant) due_is granted) in
-      meets_by (λ x. (gets_stand is_unnotified (get x.gets.places g) ≡ false) × (first_of x.config.queue_strategy x.records.idle ≡ None)
-      × machine.IsGrant x.records (due x.config x.handles (x.records.conns + x.records.approved)
-      (one (ltb x.records.approved x.gets.alive))) grant)
-      (λ x. record x {
-        latest = max x.latest at;
-        records = machine.after_grant false grant x.records;
-        gets =
-            machine.after_wait (max x.latest at) g x.gets;
-      }) s _ at (Try g) (answers.Waiting grant) t.fit
-      (ap (gets_stand is_unnotified) (sym t.get_is) ∙ not_waiting, none, granted_s)
-      (same_shown _ _ refl refl t.now_is refl (rs_is ∙ ap (machine.after_grant false grant) taken_is) (gs_is ∙ ap (λ (m : ℕ). machine.after_wait m g s.gets) t.now_is) refl)
-      (λ l legal f known.
-      let st = trying_is l g f in
-      let off : gets_stand is_unnotified (get_of l g) ≡ false = line_test l g false known.0 in (
-        waits off known.1 known.2,
-        same_shown _ _ refl refl refl refl (changed false l grant.count (records l) _ (later_shown l))
-            (shown-waits (start l).first_get (position l) (get_peak l) (gets l) (max (latest l) at) g st.0 (waited_before l)
-            (get_peak_holds l) st.1 (ap (gets_stand is_unnotified) (sym st.1) ∙ off)) refl,
-      ))
-
-  -- ---- look
-
-  pub meets_look : {s : Shown C} {at now : ℕ} {alive_now : Bool} → now ≡ max s.latest at → alive_now ≡ ltb 0 s.handles → IsStep s at Look (Looked now alive_now) (record s { latest = now })
-  meets_look {s} {at} {now} {alive_now} now_is alive_is =
-      meets_quiet (λ t. (now ≡ max t.latest at) × (alive_now ≡ ltb 0 t.handles)) s at Look (Looked now alive_now) (λ l legal means. refl)
-      (now_is, alive_is) now_is refl refl (λ l. (refl, refl, refl)) (λ l legal f known. (looks known.0 known.1, refl, refl))
-
-  -- ---- join
-
-  pub meets_joined : {s : Shown C} {at now : ℕ} → IsFitting s Join → now ≡ max s.latest at → s.handles < most_handles → IsStep s at Join Joined (record s { latest = now; handles = s.handles + 1 })
-  meets_joined {s} {at} {now} fit now_is few = meets_by (λ t. t.handles < most_handles)
-      (λ t. record t { latest = max t.latest at; handles = t.handles + 1 }) s _ at Join Joined fit few
-      (same_shown _ _ refl refl now_is refl refl refl refl)
-      (λ l legal f known. (joins known, same_shown _ _ refl refl refl refl (records_kept l) (gets_kept l) refl))
-
-  pub meets_join_exhausted : {s : Shown C} {at now : ℕ} → IsFitting s Join → now ≡ max s.latest at → most_handles ≤ s.handles → IsStep s at Join Exhausted (record s { latest = now })
-  meets_join_exhausted {s} {at} {now} fit now_is many =
-      meets_quiet (λ t. most_handles ≤ t.handles) s at Join Exhausted fit many now_is refl refl (λ l. (refl, refl, refl))
-      (λ l legal f known. (join_exhausted known, refl, refl))
-
-  -- ---- leave
-
   -- the records after the leave of a handle, where it is the last one or not
   abbrev left_shown : (l : Ledger C) (b : Bool) → ShownRecords C
   left_shown l b = let rs : List (Numbered (Standing C)) = cond b (shut (records l)) (records l) in shown_records (start l).first (suc (position l)) (max (peak l) (conns_of rs + approved_of rs)) rs
 
-  pub meets_left_last : {s : Shown C} {at now n : ℕ} {rs : ShownRecords C} → IsFitting s Leave → now ≡ max s.latest at → s.handles ≡ 1
-      → n ≡ length s.records.idle → rs ≡ machine.after_leave s.records
-      → IsStep s at Leave (Left n) (record s { latest = now; handles = 0; records = rs })
-  meets_left_last {s} {at} {now} {n} {rs} fit now_is last n_is rs_is =
-      meets_by (λ t. (t.handles ≡ 1) × (n ≡ length t.records.idle))
-      (λ t. record t { latest = max t.latest at; handles = 0; records = machine.after_leave t.records }) s _ at Leave (Left n) fit
-      (last, n_is) (same_shown _ _ refl refl now_is refl rs_is refl refl)
-      (λ l legal f known.
-      let on : eqb (handles l) 1 ≡ true = ap (λ (m : ℕ). eqb m 1) known.0 in
-      let is : shown_records (start l).first (suc (position l)) (peak l) (shut (records l)) ≡ machine.after_leave (shown l).records =
-      shown-left (start l).first (suc (position l)) (peak l) (records l)
-      (before_later idle_at (records l) (position l) (entered_before l)) ∙ ap machine.after_leave (later_shown l) in
-      let few : conns_of (records l) + approved_of (records l) ≤ peak l = peak_holds l in
-      let fewer : (machine.after_leave (shown l).records).conns + (machine.after_leave (shown l).records).approved ≤ conns_of (records l) + approved_of (records l) = left_few (shown l).records in (
-        leaves (known.1 ∙ idle_tally l ∙ ap (λ (b : Bool). cond b (idle_count l) 0) (sym on)),
-        same_shown _ _ refl refl refl (ap (λ (m : ℕ). m - 1) known.0) (ap (left_shown l) on ∙ still_raised l (shut (records l)) _ is (omega arith)) (gets_kept l) refl,
-      ))
-
-  pub meets_left : {s : Shown C} {at now : ℕ} → IsFitting s Leave → now ≡ max s.latest at → s.handles ≢ 1 → IsStep s at Leave (Left 0) (record s { latest = now; handles = s.handles - 1 })
-  meets_left {s} {at} {now} fit now_is more = meets_by (λ t. t.handles ≢ 1)
-      (λ t. record t { latest = max t.latest at; handles = t.handles - 1 }) s _ at Leave (Left 0) fit more
-      (same_shown _ _ refl refl now_is refl refl refl refl)
-      (λ l legal f known.
-      let off : eqb (handles l) 1 ≡ false = ne_test (handles l) 1 known in
-      (leaves (ap (λ (b : Bool). cond b (idle_count l) 0) (sym off)), same_shown _ _ refl refl refl refl (ap (left_shown l) off ∙ records_kept l) (gets_kept l) refl))
-
-  -- ---- add
-
-  -- a refusal changes the latest moment alone
-  pub meets_add_broken : {s : Shown C} (at : ℕ) (c : C) {now : ℕ} → IsFitting s (Add c true) → now ≡ max s.latest at → IsStep s at (Add c true) Broken (record s { latest = now })
-  meets_add_broken {s} at c {now} fit now_is = meets_quiet (λ t. Unit {0}) s at (Add c true) Broken fit tt now_is refl refl (λ l. (refl, refl, refl)) (λ l legal f known. (add_broken, refl, refl))
-
-  pub meets_add_full : {s : Shown C} (at : ℕ) (c : C) {now : ℕ} → IsFitting s (Add c false) → now ≡ max s.latest at
-      → s.records.conns + s.records.approved ≡ s.config.max_size → IsStep s at (Add c false) NoCapacity (record s { latest = now })
-  meets_add_full {s} at c {now} fit now_is full =
-      meets_quiet (λ t. t.records.conns + t.records.approved ≡ t.config.max_size) s at (Add c false) NoCapacity fit full now_is refl refl
-      (λ l. (refl, refl, refl)) (λ l legal f known. (add_full known, refl, refl))
-
   -- what the code knows when one is added that is not broken, and there is room
-  pub record Adds (s : Shown C) (at : ℕ) (c : C) (now : ℕ) : Type 0 where
+  pub record Adds (s : Shown C) (c : C) : Type 0 where
     pub fit : IsFitting s (Add c false)
-    pub now_is : now ≡ max s.latest at
     pub room : s.records.conns + s.records.approved ≢ s.config.max_size
 
-  pub has_room : {s t : Shown C} {at : ℕ} {c : C} {now used : ℕ} → s ≡ t → IsFitting t (Add c false) → now ≡ max s.latest at
-      → used ≡ s.records.conns + s.records.approved → used ≢ s.config.max_size → Adds s at c now
-  has_room {c = c} is fit now_is used_is room = record { fit = fits_view (Add c false) is fit; now_is = now_is; room = λ e. room (used_is ∙ e) }
+  pub has_room : {s t : Shown C} {c : C} {used : ℕ} → s ≡ t → IsFitting t (Add c false) → used ≡ s.records.conns + s.records.approved → used ≢ s.config.max_size → Adds s c
+  has_room {c = c} is fit used_is room = record { fit = fits_view (Add c false) is fit; room = λ e. room (used_is ∙ e) }
 
-  pub meets_add_exhausted : {s : Shown C} {at : ℕ} {c : C} {now : ℕ} → Adds s at c now → end_of_numbers ≤ s.records.next → IsStep s at (Add c false) Withheld (record s { latest = now })
-  meets_add_exhausted {s} {at} {c} {now} h many =
-      meets_quiet (λ t. (t.records.conns + t.records.approved ≢ t.config.max_size) × (end_of_numbers ≤ t.records.next)) s at
-      (Add c false) Withheld h.fit (h.room, many) h.now_is refl refl (λ l. (refl, refl, refl))
-      (λ l legal f known. (add_exhausted known.0 known.1, refl, refl))
+  -- ---- the steps, where the moment of the event is told
 
-  pub meets_add_refused : {s : Shown C} {at : ℕ} {c : C} {now : ℕ} {rs : ShownRecords C} → Adds s at c now → s.records.next < end_of_numbers
-      → s.records.conns + s.records.approved ≡ s.records.peak → rs ≡ s.records
-      → IsStep s at (Add c false) Withheld (record s { latest = now; records = rs })
-  meets_add_refused {s} {at} {c} {now} {rs} h few full rs_is =
-      meets_quiet (λ t. (t.records.conns + t.records.approved ≢ t.config.max_size) × (t.records.next < end_of_numbers)
-      × (t.records.conns + t.records.approved ≡ t.records.peak)) s at (Add c false) Withheld h.fit (h.room, few, full) h.now_is rs_is refl
-      (λ l. (refl, refl, refl)) (λ l legal f known. (add_refused known.0 known.1 known.2, refl, refl))
+  module _ {s : Shown C} {at now : ℕ} (now_is : now ≡ max s.latest at) where
+    -- an event that changes the latest moment alone
+    pub meets_quiet : (Known : Shown C → Type 0) {rs : ShownRecords C} {gs : ShownGets} (e : Act C) (a : Answer) → IsFitting s e → Known (unexamined s) → rs ≡ s.records → gs ≡ s.gets
+        → ((l : Ledger C) → (latest (Later l at e a) ≡ max (latest l) at) × (handles (Later l at e a) ≡ handles l)
+        × (counts (Later l at e a) ≡ counts l)) → ((l : Ledger C) → IsLegal l → fits l e ≡ true → Known (shown l) → Row l at e a
+        × (records (Later l at e a) ≡ records l) × (gets (Later l at e a) ≡ gets l))
+        → IsStep s at e a (record s { latest = now; records = rs; gets = gs })
+    meets_quiet Known e a fit known rs_is gs_is quiet row =
+        meets_by Known (λ t. record t { latest = max t.latest at }) s _ at e a fit known (same_shown _ _ refl refl now_is refl rs_is gs_is refl)
+        (λ l legal f k.
+        let same = quiet l in
+        let r = row l legal f k in (
+          r.0,
+          same_shown _ _ refl refl same.0 same.1
+              (ap (λ (xs : List (Numbered (Standing C))). shown_records (start l).first (suc (position l)) (max (peak l) (conns_of xs + approved_of xs)) xs) r.1 ∙ records_kept l)
+              (ap (λ (xs : List (Numbered Getting)). shown_gets (start l).first_get (suc (position l)) (max (get_peak l) (alive_of xs)) xs) r.2 ∙ gets_kept l)
+              same.2,
+        ))
 
-  pub meets_added : {s : Shown C} {at : ℕ} {k : ℕ} {c : C} {now : ℕ} {rs : ShownRecords C} {n : Option ℕ} {gs : ShownGets} → Adds s at c now
-      → Notices s.gets n gs → s.records.next < end_of_numbers → k ≡ s.records.next → rs ≡ machine.with_peak (machine.after_birth c now s.records)
-      → IsStep s at (Add c false) (Added k n) (record s { latest = now; records = rs; gets = gs })
-  meets_added {s} {at} {k} {c} {now} {rs} {n} {gs} h told few k_is rs_is =
-      meets_by (λ t. (t.records.conns + t.records.approved ≢ t.config.max_size) × (t.records.next < end_of_numbers) × (k ≡ t.records.next)
-      × (n ≡ slice_get t.gets.waiting 0)) (λ t. record
-      t {
-        latest = max t.latest at;
-        records = machine.with_peak (machine.after_birth c (max t.latest at) t.records);
-        gets =
-            machine.after_notice n t.gets;
-      }) s _ at (Add c false) (Added k n) h.fit (h.room, few, k_is, told.who)
-      (same_shown _ _ refl refl h.now_is refl (rs_is ∙ ap (λ (m : ℕ). machine.with_peak (machine.after_birth c m s.records)) h.now_is) told.after refl)
-      (λ l legal f known. (
-        adds known.0 known.1 known.2 known.3,
-        same_shown _ _ refl refl refl refl
-            (ap machine.with_peak (shown-born (start l).first (position l) (peak l) (records l) c (max (latest l) at) (entered_before l)))
-            (gets_told l n known.3) refl,
-      ))
+    pub meets_fill : {claimed : Bool} {g : Grant} {rs : ShownRecords C} → Grants s claimed s.records g rs → IsStep s at (Fill claimed) (Granted g) (record s { latest = now; records = rs })
+    meets_fill {claimed} {g} {rs} granted =
+        meets_by (λ t. machine.IsGrant t.records (decided.want t.config t.handles t.records) g)
+        (λ t. record t { latest = max t.latest at; records = machine.after_grant claimed g t.records }) s _ at (Fill claimed) (Granted g)
+        (λ l legal means. refl) granted.granted (same_shown _ _ refl refl now_is refl granted.after refl refl)
+        (λ l legal f granted_l. (
+          fills (want_is l (records l) g _ (entered_before l) refl granted_l),
+          same_shown _ _ refl refl refl refl
+              (changed claimed l g.count (records l) _ (later_shown l)) (gets_kept l) refl,
+        ))
+
+    pub meets_claim : {k : ℕ} {rs : ShownRecords C} → s.handles ≢ 0
+        → slice_get s.records.unclaimed 0 ≡ Some k → rs ≡ machine.after_claim k s.records
+        → IsStep s at Claim (answers.Claimed (Some k)) (record s { latest = now; records = rs })
+    meets_claim {k} {rs} alive_now first rs_is =
+        meets_by (λ t. (0 < t.handles) × (slice_get t.records.unclaimed 0 ≡ Some k))
+        (λ t. record t { latest = max t.latest at; records = machine.after_claim k t.records }) s _ at Claim (answers.Claimed (Some k))
+        (λ l legal means. refl) (open_now _ alive_now, first) (same_shown _ _ refl refl now_is refl rs_is refl refl) (λ l legal f known.
+        let is : shown_records (start l).first (suc (position l)) (peak l) (update (start l).first k (at_place Claimed) (records l)) ≡ machine.after_claim k (shown l).records =
+        shown-claimed (start l).first (suc (position l)) (peak l) (records l) k known.1 ∙ ap (machine.after_claim k) (later_shown l) in
+        (claims known.0 known.1, same_shown _ _ refl refl refl refl (still_raised l _ _ is (peak_holds l)) (gets_kept l) refl))
+
+    pub meets_claim_none : {rs : ShownRecords C} → s.handles ≢ 0
+        → slice_get s.records.unclaimed 0 ≡ None → rs ≡ s.records
+        → IsStep s at Claim (answers.Claimed None) (record s { latest = now; records = rs })
+    meets_claim_none {rs} alive_now none rs_is =
+        meets_quiet (λ t. (0 < t.handles) × (slice_get t.records.unclaimed 0 ≡ None)) Claim (answers.Claimed None)
+        (λ l legal means. refl) (open_now _ alive_now, none) rs_is refl (λ l. (refl, refl, refl))
+        (λ l legal f known. (claims known.0 known.1, refl, refl))
+
+    pub meets_claim_ended : s.handles ≡ 0 → IsStep s at Claim Ended (record s { latest = now })
+    meets_claim_ended ended_now =
+        meets_quiet (λ t. t.handles ≡ 0) Claim Ended (λ l legal means. refl) ended_now refl refl (λ l. (refl, refl, refl))
+        (λ l legal f none. (claim_ended none, refl, refl))
+
+    pub meets_opened : {k : ℕ} (c : C) {rs : ShownRecords C} {n : Option ℕ} {gs : ShownGets} {new : Counts} → IsFitting s (Opened k c) → s.handles ≢ 0
+        → rs ≡ machine.after_entry true k (record { place = Idle c; birth = now; entered = now }) s.records → Notices s.gets n gs
+        → new ≡ record s.counts { created = s.counts.created + 1 }
+        → IsStep s at (Opened k c) (Entered k n) (record s { latest = now; records = rs; gets = gs; counts = new })
+    meets_opened {k} c {rs} {n} {gs} {new} fit alive_now rs_is told new_is =
+        meets_by (λ t. (0 < t.handles) × (n ≡ slice_get t.gets.waiting 0))
+        (λ t. record t {
+          latest = max t.latest at;
+          records = machine.after_entry true k (record { place = Idle c; birth = max t.latest at; entered = max t.latest at }) t.records;
+          gets = machine.after_notice n t.gets;
+          counts = record t.counts { created = t.counts.created + 1 };
+        }) s _ at (Opened k c) (Entered k n) fit
+        (open_now _ alive_now, told.who)
+        (same_shown _ _ refl refl now_is refl (rs_is ∙ ap (λ (m : ℕ). machine.after_entry true k (record { place = Idle c; birth = m; entered = m }) s.records) now_is) told.after new_is)
+        (λ l legal f known.
+        let st = standing_is is_claimed (record_of l k) f in
+        let some : 1 ≤ approved_of (records l) = claimed_counted l k st.0 st.1 (claimed_is st.0.place st.2) in
+        let few : conns_of (records l) + approved_of (records l) ≤ peak l = peak_holds l in
+        let is = shown-entered (start l).first (position l) (peak l) (records l) true k st.0 c (max (latest l) at) (max (latest l) at)
+        (λ r. entry c (max (latest l) at) (max (latest l) at) (position l)) (entered_before l) st.1 st.2 (λ r e. refl) in
+        (opens known.0 known.1, same_shown _ _ refl refl refl refl (ap machine.with_peak is ∙ raised_same _ (omega arith)) (gets_told l n known.1) refl))
+
+    pub meets_late : {k : ℕ} (c : C) {rs : ShownRecords C} → IsFitting s (Opened k c) → s.handles ≡ 0 → rs ≡ machine.after_close true k s.records
+        → IsStep s at (Opened k c) (Late k) (record s { latest = now; records = rs })
+    meets_late {k} c {rs} fit ended_now rs_is =
+        meets_by (λ t. t.handles ≡ 0) (λ t. record t { latest = max t.latest at; records = machine.after_close true k t.records }) s _ at
+        (Opened k c) (Late k) fit ended_now (same_shown _ _ refl refl now_is refl rs_is refl refl)
+        (λ l legal f none. (opens_late none, same_shown _ _ refl refl refl refl (approval_ended l k f) (gets_kept l) refl))
+
+    pub meets_failed : {k : ℕ} {rs : ShownRecords C} → IsFitting s (Failed k) → rs ≡ machine.after_close true k s.records → IsStep s at (Failed k) GivenBack (record s { latest = now; records = rs })
+    meets_failed {k} {rs} fit rs_is =
+        meets_by (λ t. Unit {0}) (λ t. record t { latest = max t.latest at; records = machine.after_close true k t.records }) s _ at
+        (Failed k) GivenBack fit tt (same_shown _ _ refl refl now_is refl rs_is refl refl)
+        (λ l legal f known. (fails, same_shown _ _ refl refl refl refl (approval_ended l k f) (gets_kept l) refl))
+
+    pub meets_begun : {n : ℕ} {gs : ShownGets} {new : Counts} → IsFitting s Begin → s.gets.next < end_of_numbers → gs ≡ machine.after_begin s.gets
+        → new ≡ record s.counts { started = s.counts.started + 1 }
+        → n ≡ s.gets.next → IsStep s at Begin (Begun n) (record s { latest = now; gets = gs; counts = new })
+    meets_begun {n} {gs} {new} fit few gs_is new_is n_is =
+        meets_by (λ t. (t.gets.next < end_of_numbers) × (n ≡ t.gets.next))
+        (λ t. record t {
+          latest = max t.latest at;
+          gets = machine.after_begin t.gets;
+          counts = record t.counts { started = t.counts.started + 1 };
+        }) s _ at Begin (Begun n) fit (few, n_is)
+        (same_shown _ _ refl refl now_is refl refl gs_is new_is)
+        (λ l legal f known. (
+          begins known.1 (subst (λ (m : ℕ). m < end_of_numbers) (sym known.1) known.0),
+          same_shown _ _ refl refl refl refl
+              (records_kept l) (shown-begun (start l).first_get (position l) (get_peak l) (gets l) (waited_before l) (get_peak_holds l)) refl,
+        ))
+
+    pub meets_memory : {gs : ShownGets} → IsFitting s Begin → s.gets.next < end_of_numbers → s.gets.alive ≡ s.gets.peak → gs ≡ s.gets
+        → IsStep s at Begin Memory (record s { latest = now; gets = gs })
+    meets_memory {gs} fit few full gs_is =
+        meets_quiet (λ t. (t.gets.next < end_of_numbers) × (t.gets.alive ≡ t.gets.peak)) Begin Memory fit (few, full) refl gs_is
+        (λ l. (refl, refl, refl)) (λ l legal f known. (begin_refused known.0 known.1, refl, refl))
+
+    pub meets_exhausted : IsFitting s Begin → end_of_numbers ≤ s.gets.next → IsStep s at Begin Exhausted (record s { latest = now })
+    meets_exhausted fit many = meets_quiet
+        (λ t. end_of_numbers ≤ t.gets.next) Begin Exhausted fit many refl refl (λ l. (refl, refl, refl))
+        (λ l legal f known. (begin_exhausted known, refl, refl))
+
+    pub meets_state : {f : Figures} → ((l : Ledger C) → Means l s → f ≡ figures l) → IsStep s at State (ShownFigures f) (record s { latest = now })
+    meets_state {f} told = meets_quiet (λ t. (l : Ledger C) → Means l t → f ≡ figures l) State (ShownFigures f)
+        (λ l legal means. refl) (λ l means. told l (beside l means)) refl refl (λ l. (refl, refl, refl))
+        (λ l legal fit known. (subst (λ (x : Figures). Row l at State (ShownFigures x)) (sym (known l refl)) shows, refl, refl))
+
+    pub meets_served : {g k : ℕ} {grant : Grant} {o : Option Getting} {since : Option ℕ} {rs : ShownRecords C} {gs : ShownGets} (was : Counters) {is : Counters}
+        → Tries s g o → gets_stand is_unnotified o ≡ false
+        → s.config.test_on_check_out ≡ false → first_of s.config.queue_strategy s.records.idle ≡ Some k
+        → Grants s false (machine.after_take Guarded k s.records) grant rs → gs ≡ machine.after_get_end g s.gets → s.counts ≡ counts_held was
+        → since ≡ first_wait_of o → is ≡ served was now since
+        → IsStep s at (Try g) (Served k grant) (record s { latest = now; records = rs; gets = gs; counts = counts_held is })
+    meets_served {g} {k} {grant} {o} {since} {rs} {gs} was {is} t not_waiting unchecked first granted gs_is were since_is counted =
+        meets_by (λ x. (gets_stand is_unnotified (get x.gets.places g) ≡ false) × (x.config.test_on_check_out ≡ false)
+        × (first_of x.config.queue_strategy x.records.idle ≡ Some k) × IsTakeGrant x Guarded k grant × (x.counts ≡ counts_held was))
+        (λ x. record x {
+          latest = max x.latest at;
+          records = machine.after_grant false grant (machine.after_take Guarded k x.records);
+          gets = machine.after_get_end g x.gets;
+          counts = counts_held (served was (max x.latest at) (first_wait_of (get x.gets.places g)));
+        }) s _ at (Try g) (Served k grant) t.fit
+        (ap (gets_stand is_unnotified) (sym t.get_is) ∙ not_waiting, unchecked, first, granted.granted, were)
+        (same_shown _ _ refl refl now_is refl granted.after gs_is
+        (ap counts_held (counted ∙ ap (λ (m : ℕ). served was m since) now_is
+        ∙ ap (served was (max s.latest at)) (since_is ∙ ap (λ (x : Option Getting). first_wait_of x) t.get_is))))
+        (λ l legal f known.
+        let st = trying_is l g f in
+        let taken = taken_shown l Guarded k grant refl known.2 known.3 in (
+          serves (line_test l g false known.0) known.1 known.2 taken.0,
+          same_shown _ _ refl refl refl refl taken.1
+              (shown-ended (start l).first_get (position l) (get_peak l) (gets l) g st.0 (waited_before l) (get_peak_holds l) st.1)
+              (count_served l at g k grant was known.4),
+        ))
+
+    -- where it is checked, the get holds it
+    pub meets_taken : {g k : ℕ} {grant : Grant} {o : Option Getting} {rs : ShownRecords C} {gs : ShownGets} → Tries s g o → gets_stand is_unnotified o ≡ false → s.config.test_on_check_out ≡ true
+        → first_of s.config.queue_strategy s.records.idle ≡ Some k → Grants s false (machine.after_take (Held g) k s.records) grant rs
+        → gs ≡ machine.after_turn (Holding k) g s.gets
+        → IsStep s at (Try g) (Taken k grant) (record s { latest = now; records = rs; gets = gs })
+    meets_taken {g} {k} {grant} {o} {rs} {gs} t not_waiting checked first granted gs_is =
+        meets_by (λ x. (gets_stand is_unnotified (get x.gets.places g) ≡ false) × (x.config.test_on_check_out ≡ true)
+        × (first_of x.config.queue_strategy x.records.idle ≡ Some k) × IsTakeGrant x (Held g) k grant)
+        (λ x. record x {
+          latest = max x.latest at;
+          records = machine.after_grant false grant (machine.after_take (Held g) k x.records);
+          gets = machine.after_turn (Holding k) g x.gets;
+        }) s _ at (Try g) (Taken k grant) t.fit
+        (ap (gets_stand is_unnotified) (sym t.get_is) ∙ not_waiting, checked, first, granted.granted)
+        (same_shown _ _ refl refl now_is refl granted.after gs_is refl)
+        (λ l legal f known.
+        let st = trying_is l g f in
+        let off : gets_stand is_unnotified (get_of l g) ≡ false = line_test l g false known.0 in
+        let taken = taken_shown l (Held g) k grant refl known.2 known.3 in (
+          takes_out off known.1 known.2 taken.0,
+          same_shown _ _ refl refl refl refl taken.1
+              (shown-turned (start l).first_get (position l) (get_peak l) (gets l) (Holding k) g st.0 (waited_before l) (get_peak_holds l)
+              st.1 (ap (gets_stand is_unnotified) (sym st.1) ∙ off) refl) refl,
+        ))
+
+    -- a get that waits and was not notified waits on
+    pub meets_waits_on : {g : ℕ} {o : Option Getting} {grant : Grant} → Tries s g o
+        → gets_stand is_unnotified o ≡ true → IsNoGrant s.records.next grant
+        → IsStep s at (Try g) (answers.Waiting grant) (record s { latest = now })
+    meets_waits_on {g} {o} {grant} t waiting nothing =
+        meets_quiet (λ x. (gets_stand is_unnotified (get x.gets.places g) ≡ true) × IsNoGrant x.records.next grant) (Try g)
+        (answers.Waiting grant) t.fit (ap (gets_stand is_unnotified) (sym t.get_is) ∙ waiting, nothing) refl refl
+        (λ l. (refl, refl, refl))
+        (λ l legal f known.
+        let on : gets_stand is_unnotified (get_of l g) ≡ true = ap (gets_stand is_unnotified) (shown_get l (shown l) refl g) ∙ known.0 in
+        (waits_on on known.1, ap (λ (m : ℕ). with_approvals false m (records l)) known.1.count, waits_on_gets l at g on))
+
+    -- where nothing is idle, a get waits that did not, or was notified
+    pub meets_waits : {g : ℕ} {o : Option Getting} {taken : ShownRecords C} {due_now : ℕ} {grant : Grant} {rs : ShownRecords C} {gs : ShownGets} → Tries s g o → gets_stand is_unnotified o ≡ false
+        → first_of s.config.queue_strategy s.records.idle ≡ None → taken ≡ s.records
+        → due_now ≡ due s.config s.handles (s.records.conns + s.records.approved) (one (ltb s.records.approved s.gets.alive))
+        → machine.IsGrant taken due_now grant → rs ≡ machine.after_grant false grant taken → gs ≡ machine.after_wait now g s.gets
+        → IsStep s at (Try g) (answers.Waiting grant) (record s { latest = now; records = rs; gets = gs })
+    meets_waits {g} {o} {taken} {due_now} {grant} {rs} {gs} t not_waiting none taken_is due_is granted rs_is gs_is =
+        let granted_s : machine.IsGrant s.records (due s.config s.handles (s.records.conns + s.records.approved) (one (ltb s.records.approved s.gets.alive))) grant =
+        subst (λ (x : ShownRecords C). machine.IsGrant x
+        (due s.config s.handles (s.records.conns + s.records.approved) (one (ltb s.records.approved s.gets.alive))) grant) taken_is
+        (subst (λ (m : ℕ). machine.IsGrant taken m grant) due_is granted) in
+        meets_by (λ x. (gets_stand is_unnotified (get x.gets.places g) ≡ false) × (first_of x.config.queue_strategy x.records.idle ≡ None)
+        × machine.IsGrant x.records (due x.config x.handles (x.records.conns + x.records.approved)
+        (one (ltb x.records.approved x.gets.alive))) grant)
+        (λ x. record x {
+          latest = max x.latest at;
+          records = machine.after_grant false grant x.records;
+          gets = machine.after_wait (max x.latest at) g x.gets;
+        }) s _ at (Try g) (answers.Waiting grant) t.fit
+        (ap (gets_stand is_unnotified) (sym t.get_is) ∙ not_waiting, none, granted_s)
+        (same_shown _ _ refl refl now_is refl (rs_is ∙ ap (machine.after_grant false grant) taken_is) (gs_is ∙ ap (λ (m : ℕ). machine.after_wait m g s.gets) now_is) refl)
+        (λ l legal f known.
+        let st = trying_is l g f in
+        let off : gets_stand is_unnotified (get_of l g) ≡ false = line_test l g false known.0 in (
+          waits off known.1 known.2,
+          same_shown _ _ refl refl refl refl (changed false l grant.count (records l) _ (later_shown l))
+              (shown-waits (start l).first_get (position l) (get_peak l) (gets l) (max (latest l) at) g st.0 (waited_before l)
+              (get_peak_holds l) st.1 (ap (gets_stand is_unnotified) (sym st.1) ∙ off)) refl,
+        ))
+
+    pub meets_look : {alive_now : Bool} → alive_now ≡ ltb 0 s.handles → IsStep s at Look (Looked now alive_now) (record s { latest = now })
+    meets_look {alive_now} alive_is =
+        meets_quiet (λ t. (now ≡ max t.latest at) × (alive_now ≡ ltb 0 t.handles)) Look (Looked now alive_now) (λ l legal means. refl)
+        (now_is, alive_is) refl refl (λ l. (refl, refl, refl)) (λ l legal f known. (looks known.0 known.1, refl, refl))
+
+    pub meets_joined : IsFitting s Join → s.handles < most_handles → IsStep s at Join Joined (record s { latest = now; handles = s.handles + 1 })
+    meets_joined fit few = meets_by (λ t. t.handles < most_handles)
+        (λ t. record t { latest = max t.latest at; handles = t.handles + 1 }) s _ at Join Joined fit few
+        (same_shown _ _ refl refl now_is refl refl refl refl)
+        (λ l legal f known. (joins known, same_shown _ _ refl refl refl refl (records_kept l) (gets_kept l) refl))
+
+    pub meets_join_exhausted : IsFitting s Join → most_handles ≤ s.handles → IsStep s at Join Exhausted (record s { latest = now })
+    meets_join_exhausted fit many =
+        meets_quiet (λ t. most_handles ≤ t.handles) Join Exhausted fit many refl refl (λ l. (refl, refl, refl))
+        (λ l legal f known. (join_exhausted known, refl, refl))
+
+    pub meets_left_last : {n : ℕ} {rs : ShownRecords C} → IsFitting s Leave → s.handles ≡ 1
+        → n ≡ length s.records.idle → rs ≡ machine.after_leave s.records
+        → IsStep s at Leave (Left n) (record s { latest = now; handles = 0; records = rs })
+    meets_left_last {n} {rs} fit last n_is rs_is =
+        meets_by (λ t. (t.handles ≡ 1) × (n ≡ length t.records.idle))
+        (λ t. record t { latest = max t.latest at; handles = 0; records = machine.after_leave t.records }) s _ at Leave (Left n) fit
+        (last, n_is) (same_shown _ _ refl refl now_is refl rs_is refl refl)
+        (λ l legal f known.
+        let on : eqb (handles l) 1 ≡ true = ap (λ (m : ℕ). eqb m 1) known.0 in
+        let is : shown_records (start l).first (suc (position l)) (peak l) (shut (records l)) ≡ machine.after_leave (shown l).records =
+        shown-left (start l).first (suc (position l)) (peak l) (records l)
+        (before_later idle_at (records l) (position l) (entered_before l)) ∙ ap machine.after_leave (later_shown l) in
+        let few : conns_of (records l) + approved_of (records l) ≤ peak l = peak_holds l in
+        let fewer : (machine.after_leave (shown l).records).conns + (machine.after_leave (shown l).records).approved ≤ conns_of (records l) + approved_of (records l) = left_few (shown l).records in (
+          leaves (known.1 ∙ idle_tally l ∙ ap (λ (b : Bool). cond b (idle_count l) 0) (sym on)),
+          same_shown _ _ refl refl refl (ap (λ (m : ℕ). m - 1) known.0) (ap (left_shown l) on ∙ still_raised l (shut (records l)) _ is (omega arith)) (gets_kept l) refl,
+        ))
+
+    pub meets_left : IsFitting s Leave → s.handles ≢ 1 → IsStep s at Leave (Left 0) (record s { latest = now; handles = s.handles - 1 })
+    meets_left fit more = meets_by (λ t. t.handles ≢ 1)
+        (λ t. record t { latest = max t.latest at; handles = t.handles - 1 }) s _ at Leave (Left 0) fit more
+        (same_shown _ _ refl refl now_is refl refl refl refl)
+        (λ l legal f known.
+        let off : eqb (handles l) 1 ≡ false = ne_test (handles l) 1 known in
+        (leaves (ap (λ (b : Bool). cond b (idle_count l) 0) (sym off)), same_shown _ _ refl refl refl refl (ap (left_shown l) off ∙ records_kept l) (gets_kept l) refl))
+
+    -- a refusal changes the latest moment alone
+    pub meets_add_broken : (c : C) → IsFitting s (Add c true) → IsStep s at (Add c true) Broken (record s { latest = now })
+    meets_add_broken c fit = meets_quiet (λ t. Unit {0}) (Add c true) Broken fit tt refl refl (λ l. (refl, refl, refl)) (λ l legal f known. (add_broken, refl, refl))
+
+    pub meets_add_full : (c : C) → IsFitting s (Add c false) → s.records.conns + s.records.approved ≡ s.config.max_size → IsStep s at (Add c false) NoCapacity (record s { latest = now })
+    meets_add_full c fit full =
+        meets_quiet (λ t. t.records.conns + t.records.approved ≡ t.config.max_size) (Add c false) NoCapacity fit full refl refl
+        (λ l. (refl, refl, refl)) (λ l legal f known. (add_full known, refl, refl))
+
+    pub meets_add_exhausted : {c : C} → Adds s c → end_of_numbers ≤ s.records.next → IsStep s at (Add c false) Withheld (record s { latest = now })
+    meets_add_exhausted {c} h many =
+        meets_quiet (λ t. (t.records.conns + t.records.approved ≢ t.config.max_size) × (end_of_numbers ≤ t.records.next))
+        (Add c false) Withheld h.fit (h.room, many) refl refl (λ l. (refl, refl, refl))
+        (λ l legal f known. (add_exhausted known.0 known.1, refl, refl))
+
+    pub meets_add_refused : {c : C} {rs : ShownRecords C} → Adds s c → s.records.next < end_of_numbers
+        → s.records.conns + s.records.approved ≡ s.records.peak → rs ≡ s.records
+        → IsStep s at (Add c false) Withheld (record s { latest = now; records = rs })
+    meets_add_refused {c} {rs} h few full rs_is =
+        meets_quiet (λ t. (t.records.conns + t.records.approved ≢ t.config.max_size) × (t.records.next < end_of_numbers)
+        × (t.records.conns + t.records.approved ≡ t.records.peak)) (Add c false) Withheld h.fit (h.room, few, full) rs_is refl
+        (λ l. (refl, refl, refl)) (λ l legal f known. (add_refused known.0 known.1 known.2, refl, refl))
+
+    pub meets_added : {k : ℕ} {c : C} {rs : ShownRecords C} {n : Option ℕ} {gs : ShownGets} → Adds s c
+        → Notices s.gets n gs → s.records.next < end_of_numbers → k ≡ s.records.next → rs ≡ machine.with_peak (machine.after_birth c now s.records)
+        → IsStep s at (Add c false) (Added k n) (record s { latest = now; records = rs; gets = gs })
+    meets_added {k} {c} {rs} {n} {gs} h told few k_is rs_is =
+        meets_by (λ t. (t.records.conns + t.records.approved ≢ t.config.max_size) × (t.records.next < end_of_numbers) × (k ≡ t.records.next)
+        × (n ≡ slice_get t.gets.waiting 0)) (λ t. record
+        t {
+          latest = max t.latest at;
+          records = machine.with_peak (machine.after_birth c (max t.latest at) t.records);
+          gets = machine.after_notice n t.gets;
+        }) s _ at (Add c false) (Added k n) h.fit (h.room, few, k_is, told.who)
+        (same_shown _ _ refl refl now_is refl (rs_is ∙ ap (λ (m : ℕ). machine.with_peak (machine.after_birth c m s.records)) now_is) told.after refl)
+        (λ l legal f known. (
+          adds known.0 known.1 known.2 known.3,
+          same_shown _ _ refl refl refl refl
+              (ap machine.with_peak (shown-born (start l).first (position l) (peak l) (records l) c (max (latest l) at) (entered_before l)))
+              (gets_told l n known.3) refl,
+        ))

@@ -4,9 +4,9 @@ use Rattle.bb8_types.specs.Settings.{settings_of}
 use Rattle.bb8_core.specs.Shown.{Shown}
 use Rattle.bb8_tables.specs.Counted.{counts_held}
 
-module _ {C : Type 0} where
+module _ {C A : Type 0} where
   -- what the fields show
-  abbrev pub view_of : Inside C → Shown C
+  abbrev pub view_of : Inside C A → Shown C
   view_of a = record {
     config = settings_of a.config;
     latest = a.latest;

@@ -29,12 +29,12 @@ pub use crate::answers::{
     GiveUpAnswer, JoinAnswer, LeaveAnswer, Looked, OpenedAnswer, PutBackAnswer, ReapAnswer,
     TryAnswer,
 };
-use bb8_tables::Lendings;
 pub use bb8_tables::closed::{Closed, ClosedList};
 use bb8_tables::counters::Counters;
 use bb8_tables::gets::{Gets, first_wait, held_key, is_notified, is_unnotified};
 pub use bb8_tables::keys::{GetKey, Key};
 use bb8_tables::records::{Records, one};
+use bb8_tables::{Asking, Lendings};
 use bb8_types::api::{Config, Moment, State};
 pub use bb8_types::grants::Grant;
 pub use bb8_types::reasons::Reason;
@@ -46,8 +46,10 @@ use std::marker::Model;
 /// manager and wait for nothing. Its name and its part are upstream's, its steps are our own.
 ///
 /// Whoever has one has what some legal ledger shows, so it keeps the limits: see `limits`.
+///
+/// Its steps know nothing of `A`, so they can look at the tables on the state's own count alone. Who knows that it is `Asking` may ask.
 #[derive(Drop)]
-pub struct PoolInternals<C> {
+pub struct PoolInternals<C, A = Asking> {
     config: Config,
     latest: u64,
     handles: u64,
@@ -55,9 +57,10 @@ pub struct PoolInternals<C> {
     gets: Gets,
     counters: Counters,
     lendings: Lendings,
+    asking: A,
 }
 
-impl<C> Model for PoolInternals<C> {
+impl<C, A> Model for PoolInternals<C, A> {
     ghost use Rattle.bb8_core.specs.Shown.{Shown, shown_code, HasLedger};
     ghost use Rattle.bb8_core.specs.Pool.{view_of};
 
@@ -175,7 +178,7 @@ impl<C: Drop> PoolInternals<C> {
         requires { is_lawful (settings_of config) ≡ true }
         ensures { Means (opening config first_number first_get) result }
     {
-        let (records, lendings) = Records::new(alloc, first_number);
+        let (records, asking) = Records::new(alloc, first_number);
         PoolInternals {
             config,
             latest: 0,
@@ -183,10 +186,13 @@ impl<C: Drop> PoolInternals<C> {
             records,
             gets: Gets::new(alloc, first_get),
             counters: Counters::NONE,
-            lendings,
+            lendings: asking.count(),
+            asking,
         }
     }
+}
 
+impl<C: Drop, A> PoolInternals<C, A> {
     /// What holds of every state, whoever has it: its configuration is lawful, connections and open approvals are within the size, and the
     /// legal ledger that it means keeps all limits. It does nothing.
     pub fn limits(&self)
@@ -679,7 +685,9 @@ impl<C: Drop> PoolInternals<C> {
     /// Takes a handle away. With the last one all idle connections and all unclaimed approvals end; the connections are dropped here.
     pub fn leave(&mut self, at: Moment) -> LeaveAnswer
         requires { IsFitting self.old acts.Leave }
-        ensures { Meets self.old at.0 acts.Leave (leave_told result) self.new }
+        ensures step { Meets self.old at.0 acts.Leave (leave_told result) self.new }
+        ensures examined { Lends 0 self.old self.new }
+        ensures searched { Searches 0 self.new }
     {
         let mut dropped = self.records.no_list();
         self.leave_into(at, &mut dropped)
@@ -690,6 +698,8 @@ impl<C: Drop> PoolInternals<C> {
         requires { IsFitting self.old acts.Leave }
         ensures step { Meets self.old at.0 acts.Leave (leave_told result) self.new }
         ensures closed { OffersLeft self.old closed.old closed.new }
+        ensures examined { Lends 0 self.old self.new }
+        ensures searched { Searches 0 self.new }
     {
         self.latest = self.latest.max(at.0);
         self.lendings.start();

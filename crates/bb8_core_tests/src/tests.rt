@@ -1,4 +1,4 @@
-//! Tests against values from outside: rows that were worked out by hand, each call once, and refused memory.
+//! Tests against values from outside: rows that were worked out by hand, and each call once.
 
 use bb8_core::api::{Config, State, Statistics};
 use bb8_core::internals::Grant;
@@ -10,7 +10,6 @@ mod at_once;
 mod checks;
 mod crowd;
 mod reaps;
-mod refusals;
 mod replays;
 mod steps;
 mod surface;

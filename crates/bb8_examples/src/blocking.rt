@@ -3,7 +3,6 @@ use bb8::{
     Builder, MachineClock, ManageConnection, Moment, NopCustomizer, Pool, PoolCalls, PoolParts,
     PrintingSink, RunError, Runtime, Service,
 };
-use futures::executor::block_on;
 use futures::task::Poll;
 use std::thread::Threads;
 use std::time::{Clock, Duration};
@@ -95,7 +94,7 @@ impl<R: Runtime + Eprint> Service<Files<R>, PrintingSink<R>, NopCustomizer, Mach
 
     /// The guard's connection is used in this thread, so a call of it may block.
     fn run<L: PoolParts>(&self, pool: &FilePool<R, L>, _thread: usize) -> u64 {
-        let Ok(Ok(mut file)) = block_on(&self.rt, PoolCalls::get(pool)) else {
+        let Ok(mut file) = PoolCalls::get_blocking(pool) else {
             return 0;
         };
         thread::sleep(&self.rt, Duration::from_millis(CALL_MILLIS));

@@ -1,9 +1,8 @@
-//! The errors of a get, told apart: that of the executor, which had no memory to poll it with, and those of the pool.
+//! The errors of a get, told apart.
 use bb8::{
     Builder, MachineClock, ManageConnection, Moment, NopCustomizer, NopErrorSink, Pool, PoolCalls,
     PoolParts, RunError, Runtime, Service,
 };
-use futures::executor::block_on;
 use futures::task::Poll;
 use std::thread::Threads;
 use std::time::Duration;
@@ -55,17 +54,13 @@ pub enum Ended {
     TimedOut,
     /// The pool had no memory or no number for it.
     Pool,
-    /// The executor had no memory, and dropped it.
-    Executor,
 }
 
 /// A get while the only connection is there, and one while it is out.
 #[derive(Drop)]
-struct Twice<R> {
-    rt: R,
-}
+struct Twice;
 
-impl<R: Runtime> Service<Numbers, NopErrorSink, NopCustomizer, MachineClock<R>, R> for Twice<R> {
+impl<R: Runtime> Service<Numbers, NopErrorSink, NopCustomizer, MachineClock<R>, R> for Twice {
     type Told = ();
 
     type Outcome = (Ended, Ended);
@@ -77,18 +72,16 @@ impl<R: Runtime> Service<Numbers, NopErrorSink, NopCustomizer, MachineClock<R>, 
     fn run<L: PoolParts>(&self, _pool: &NumberPool<R, L>, _thread: usize) {}
 
     fn end<L: PoolParts>(&self, pool: &NumberPool<R, L>, _told: &[()]) -> (Ended, Ended) {
-        let first = block_on(&self.rt, PoolCalls::get(pool));
-        let second = match block_on(&self.rt, PoolCalls::get(pool)) {
-            Ok(Ok(_guard)) => Ended::Served,
-            Ok(Err(RunError::TimedOut)) => Ended::TimedOut,
-            Ok(Err(_)) => Ended::Pool,
-            Err(_) => Ended::Executor,
+        let first = PoolCalls::get_blocking(pool);
+        let second = match PoolCalls::get_blocking(pool) {
+            Ok(_guard) => Ended::Served,
+            Err(RunError::TimedOut) => Ended::TimedOut,
+            Err(_) => Ended::Pool,
         };
         match first {
-            Ok(Ok(_guard)) => (Ended::Served, second),
-            Ok(Err(RunError::TimedOut)) => (Ended::TimedOut, second),
-            Ok(Err(_)) => (Ended::Pool, second),
-            Err(_) => (Ended::Executor, second),
+            Ok(_guard) => (Ended::Served, second),
+            Err(RunError::TimedOut) => (Ended::TimedOut, second),
+            Err(_) => (Ended::Pool, second),
         }
     }
 }
@@ -98,5 +91,5 @@ pub fn ends<R: Runtime + Threads>(rt: R) -> Result<(Ended, Ended), RunError<()>>
     Builder::new()
         .max_size(1)
         .connection_timeout(Duration::from_millis(20))
-        .serve(Numbers, MachineClock(rt), rt, 0, &Twice { rt })
+        .serve(Numbers, MachineClock(rt), rt, 0, &Twice)
 }

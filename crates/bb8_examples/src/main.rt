@@ -20,7 +20,6 @@ fn word_of(ended: Ended) -> &'static str {
         Ended::Served => "served",
         Ended::TimedOut => "timed out",
         Ended::Pool => "refused by the pool",
-        Ended::Executor => "not polled to its end, as the executor found no memory",
     }
 }
 

@@ -4,7 +4,6 @@ use bb8::{
     Builder, Config, MachineClock, NopCustomizer, NopErrorSink, PoolCalls, PoolParts, RunError,
     Runtime, Service,
 };
-use futures::executor::block_on;
 use std::thread::Threads;
 
 /// Settings as they might be read: the most connections, and how many are to be idle.
@@ -12,11 +11,9 @@ pub const SETTINGS: [(u32, u32); 3] = [(3, 1), (2, 5), (0, 0)];
 
 /// Threads that get once each.
 #[derive(Drop)]
-struct Once<R> {
-    rt: R,
-}
+struct Once;
 
-impl<R: Runtime> Service<Numbers, NopErrorSink, NopCustomizer, MachineClock<R>, R> for Once<R> {
+impl<R: Runtime> Service<Numbers, NopErrorSink, NopCustomizer, MachineClock<R>, R> for Once {
     type Told = bool;
 
     type Outcome = usize;
@@ -26,7 +23,7 @@ impl<R: Runtime> Service<Numbers, NopErrorSink, NopCustomizer, MachineClock<R>, 
     }
 
     fn run<L: PoolParts>(&self, pool: &NumberPool<R, L>, _thread: usize) -> bool {
-        matches!(block_on(&self.rt, PoolCalls::get(pool)), Ok(Ok(_)))
+        PoolCalls::get_blocking(pool).is_ok()
     }
 
     fn end<L: PoolParts>(&self, _pool: &NumberPool<R, L>, told: &[bool]) -> usize {
@@ -47,5 +44,5 @@ pub fn served<R: Runtime + Threads>(
     if !Config::from(&builder).is_lawful() {
         return None;
     }
-    Some(builder.serve(Numbers, MachineClock(rt), rt, 4, &Once { rt }))
+    Some(builder.serve(Numbers, MachineClock(rt), rt, 4, &Once))
 }

@@ -1,20 +1,18 @@
 -- How many ending events may still come, step by step.
-use Rattle.std.proofs.Common.{◌≡◌, ℕ, ◌+◌, ◌<◌, ◌≤◌, max, Bool, true, false, ◌&&◌, ltb, Option, is_some, refl, sym, ap, ◌∙◌, subst, arith}
+use Rattle.std.proofs.Common.{◌≡◌, ℕ, ◌+◌, ◌<◌, ◌≤◌, max, Bool, true, false, ◌&&◌, ltb, is_some, refl, sym, ap, ◌∙◌, subst, arith}
 use Rattle.std.proofs.lemmas.Bool.Decides.{nat_tests}
 use Rattle.bb8_core.specs.declared.replay.events.Act.{Act as Named}
 use Rattle.bb8_core.specs.declared.replay.events.Act.TheVariants as named
 use Rattle.bb8_core.specs.declared.replay.events.Answer.{Answer as Told}
 use Rattle.bb8_ledger.specs.Acts.{Act}
 use Rattle.bb8_ledger.specs.Answers.{Answer}
-use Rattle.bb8_ledger.specs.Ledger.{Ledger, Later, start, position, latest, handles, gets, alive, alive_of, get_of, new_get, with_notice}
-use Rattle.bb8_types.specs.Numbered.{update, after_end}
-use Rattle.bb8_ledger.specs.Table.{Row, begins, begin_refused, begin_exhausted, waits_on, serves, takes_out, waits, checks, check_fails, gives_up, gives_up_kept, gives_up_closed, keeps, returns_closed, fills, claims, claim_ended, opens, opens_late, fails, add_broken, add_full, add_exhausted, add_refused, adds, reap_ended, reaps, shows, joins, join_exhausted, leaves, looks, fits, Allowed, IsLegal}
+use Rattle.bb8_ledger.specs.Ledger.{Ledger, Later, start, position, latest, handles, gets, alive, get_of, new_get}
+use Rattle.bb8_ledger.specs.Table.{Row, begins, waits_on, serves, takes_out, waits, checks, check_fails, gives_up, gives_up_kept, gives_up_closed, keeps, returns_closed, opens, adds, leaves, fits, Allowed, IsLegal}
 use Rattle.bb8_types.proofs.Places.{and_right}
 use Rattle.bb8_types.proofs.Numbered as numbered
-use Rattle.bb8_ledger.proofs.Waiters.{alive_counted, begins_alive, notify_alive}
+use Rattle.bb8_ledger.proofs.Waiters.{begins_alive, notify_alive}
 use Rattle.bb8_ledger.proofs.Effects.{by_fit}
-use Rattle.bb8_ledger.proofs.GetEffects.{trier_leaves, trier_holds, holder_ends, holder_turns, left_alive, left_told_alive}
-use Rattle.bb8_ledger.proofs.Laws.{alive_get}
+use Rattle.bb8_ledger.proofs.GetEffects.{given_up_sums, trier_leaves, trier_holds, holder_ends, holder_turns, left_alive, left_told_alive}
 use Rattle.bb8_tables.specs.Lent.{none_lent}
 use Rattle.bb8_core.specs.Shown.{Shown, HasLedger}
 use Rattle.bb8_core.proofs.Fitting.{shown}
@@ -35,50 +33,25 @@ ends_shown true before after m n p q h = omega arith
 ends_shown false before after m n p q h = omega arith
 
 module _ {C : Type 0} where
-  -- a get that is given up ends, whoever is notified
-  given_up : (l : Ledger C) (g : ℕ) (n : Option ℕ) → is_some (get_of l g) ≡ true
-      → alive_of (with_notice (start l).first_get n (update (start l).first_get g after_end (gets l))) + 1 ≡ alive l
-  given_up l g n some =
-      let st = alive_get (get_of l g) some in
-      let m = numbered.standing_found (gets l) (start l).first_get g st.0 st.1 in
-      let e : alive_of (update (start l).first_get g after_end (gets l)) + 1 ≡ alive l = alive_counted (start l).first_get g (gets l) m.0 st.0 m.1 m.2 in
-      omega (arith, notify_alive (start l).first_get n (update (start l).first_get g after_end (gets l)))
-
   -- each row, where so many connections are out before and after it
   row_ends : (l : Ledger C) (at : ℕ) (e : Act C) (a : Answer) (before after : ℕ) → fits l e ≡ true → Row l at e a → Moves e a before after
       → CountsDown (is_ending e) (alive l + (handles l + before)) (alive (Later l at e a) + (handles (Later l at e a) + after))
   row_ends l at _ _ before after f (begins is few) moves = omega (arith, numbered.tally-append (λ r. is_some r.standing) (gets l) new_get)
-  row_ends l at _ _ before after f (begin_refused few full) moves = omega arith
-  row_ends l at _ _ before after f (begin_exhausted many) moves = omega arith
   row_ends l at _ _ before after f (waits_on {g} {grant} on nothing) moves = omega (arith, begins_alive (start l).first_get (max (latest l) at) (position l) g (gets l))
   row_ends l at _ _ before after f (serves {g} {k} {grant} off unchecked first want) moves = omega (arith, left_alive (trier_leaves l g f off))
   row_ends l at _ _ before after f (takes_out {g} {k} {grant} off checked first want) moves = omega (arith, left_alive (trier_holds l g k f off))
   row_ends l at _ _ before after f (waits {g} {grant} off none granted) moves = omega (arith, begins_alive (start l).first_get (max (latest l) at) (position l) g (gets l))
   row_ends l at _ _ before after f (checks {g} {k} holds_it nothing) moves = omega (arith, left_alive (holder_ends l g k holds_it).0)
   row_ends l at _ _ before after f (check_fails {g} {k} {n = n} holds_it want is) moves = omega (arith, left_told_alive (holder_turns l g k holds_it).0 n)
-  row_ends l at _ _ before after f (gives_up {g} {n = n} is) moves = omega (arith, given_up l g n (and_right (is_some (get_of l g)) _ f).0)
+  row_ends l at _ _ before after f (gives_up {g} {n = n} is) moves = omega (arith, (given_up_sums l g n (and_right (is_some (get_of l g)) _ f).0 is).0)
   row_ends l at _ _ before after f (gives_up_kept {g} {k} {n = n} holds_it keep is) moves = omega (arith, left_told_alive (holder_ends l g k holds_it).0 n)
   row_ends l at _ _ before after f (gives_up_closed {g} {k} {n = n} holds_it shut want is) moves = omega (arith, left_told_alive (holder_ends l g k holds_it).0 n)
   row_ends l at _ _ before after f (keeps {n = n} keep is) moves = omega (arith, notify_alive (start l).first_get n (gets l))
   row_ends l at _ _ before after f (returns_closed {n = n} shut want is) moves = omega (arith, notify_alive (start l).first_get n (gets l))
-  row_ends l at _ _ before after f (fills want) moves = omega arith
-  row_ends l at _ _ before after f (claims some first) moves = omega arith
-  row_ends l at _ _ before after f (claim_ended none) moves = omega arith
   row_ends l at _ _ before after f (opens {n = n} some is) moves = omega (arith, notify_alive (start l).first_get n (gets l))
-  row_ends l at _ _ before after f (opens_late none) moves = omega arith
-  row_ends l at _ _ before after f fails moves = omega arith
-  row_ends l at _ _ before after f add_broken moves = omega arith
-  row_ends l at _ _ before after f (add_full full) moves = omega arith
-  row_ends l at _ _ before after f (add_exhausted room none) moves = omega arith
-  row_ends l at _ _ before after f (add_refused room few full) moves = omega arith
   row_ends l at _ _ before after f (adds {n = n} room few is who) moves = omega (arith, notify_alive (start l).first_get n (gets l))
-  row_ends l at _ _ before after f (reap_ended none) moves = omega arith
-  row_ends l at _ _ before after f (reaps some closed by_idle by_life want) moves = omega arith
-  row_ends l at _ _ before after f shows moves = omega arith
-  row_ends l at _ _ before after f (joins few) moves = omega arith
-  row_ends l at _ _ before after f (join_exhausted many) moves = omega arith
   row_ends l at _ _ before after f (leaves is) moves = omega (arith, is_open (handles l) f)
-  row_ends l at _ _ before after f (looks is open_is) moves = omega arith
+  row_ends l at _ _ before after f _ moves = omega arith
 
   -- the same of what is shown: an event that is taken ends as it says, and one that is not changes nothing
   ends_at : (l : Ledger C) (at : ℕ) (e : Act C) (a : Answer) → IsLegal l → Allowed l at e a
@@ -94,21 +67,7 @@ module _ {C : Type 0} where
 -- a named event is an ending one just where the event that it stands for is
 named_ending : (l : Ledger ℕ) (e : Named) → is_ending (act_of l e) ≡ is_named_ending e
 named_ending l named.Begin = refl
-named_ending l (named.Try g) = refl
-named_ending l (named.CheckedOk g) = refl
-named_ending l (named.CheckedErr g broken) = refl
-named_ending l (named.GiveUp g why broken) = refl
-named_ending l (named.PutBack k broken) = refl
-named_ending l (named.Fill claimed) = refl
-named_ending l named.Claim = refl
-named_ending l (named.Opened a) = refl
-named_ending l (named.Failed a) = refl
-named_ending l (named.Add broken) = refl
-named_ending l named.Reap = refl
-named_ending l named.State = refl
-named_ending l named.Join = refl
-named_ending l named.Leave = refl
-named_ending l named.Look = refl
+named_ending l _ = refl
 
 -- it may be taken or not: at most one more
 at_most : (taken : Bool) (before after : ℕ) → CountsDown taken before after → after ≤ before + 1

@@ -1,10 +1,10 @@
 -- What one event of a legal ledger does to the records and to the gets, by the place that it moves from and the place that it moves to.
-use Rattle.bb8_ledger.proofs.Words.{◌≡◌, ◌≢◌, ◌⊎◌, ℕ, zero, suc, ◌+◌, ◌<◌, ◌≤◌, max, Bool, ◌||◌, true, false, cond, eqb, List, [], ◌∷◌, ◌++◌, length, take, drop, ◌-◌, map, Option, Some, None, slice_get, option_map, option_and_then, refl, sym, ap, ◌∙◌, ⊎_elim, inl, inr, arith, subst, length-append, ne_eqb, length-map, take-length, unwrap_or, Place, Unclaimed, Idle, Held, Guarded, Standing, Settings, is_lawful, Act, Leave, Answer, Left, Unfit, Numbered, at_number, update, numbers, in_order, one, standing_at, after_end, after_end_where, Ledger, Opening, Later, Start, start, position, latest, handles, records, conns, approved, idle_count, out, idle, idle_at, first_idle, unclaimed, record_of, with_ended, outlived, idled, reaped, over_idle_at, tally_places, conns_of, approved_of, idle_of, at_place, entry, at_entry, approval, with_approvals, first_place, stands, is_conn, is_approval, is_idle, is_out, is_unclaimed, is_claimed, is_guarded, is_held_by, idles_out, lives_out, is_left, with_place, Row, IsLegal, Allowed, fits, with_record, reaped_at, outlived_at, idled_at, standing_is, unclaimed_is, claimed_is, guarded_is, idle_is, and_right, ◌*◌}
+use Rattle.bb8_ledger.proofs.Words.{ne_eqb, ◌≡◌, ◌≢◌, ◌⊎◌, ℕ, zero, suc, ◌+◌, ◌<◌, ◌≤◌, max, Bool, true, false, cond, eqb, List, [], ◌∷◌, ◌++◌, length, take, drop, ◌-◌, map, Option, Some, None, slice_get, option_map, option_and_then, refl, sym, ap, ◌∙◌, ⊎_elim, inl, inr, arith, subst, length-append, length-map, take-length, unwrap_or, Place, Unclaimed, Idle, Held, Guarded, Standing, Holder, Guard, Get, Settings, is_lawful, Act, Leave, Answer, Left, Unfit, Numbered, at_number, update, numbers, in_order, one, standing_at, after_end, after_end_where, Ledger, Opening, Later, Start, start, position, latest, handles, records, conns, approved, idle_count, out, idle, idle_at, first_idle, unclaimed, record_of, with_ended, outlived, idled, reaped, over_idle_at, tally_places, conns_of, approved_of, idle_of, at_place, entry, at_entry, approval, with_approvals, first_place, stands, is_conn, is_approval, is_idle, is_out, is_unclaimed, is_claimed, is_guarded, is_held_by, idles_out, lives_out, is_left, with_place, Row, IsLegal, Allowed, fits, with_record, reaped_at, outlived_at, idled_at, standing_is, unclaimed_is, claimed_is, guarded_is, idle_is, and_right, ◌*◌}
 use Rattle.std.proofs.Common.{MatchBool}
 use Rattle.bb8_types.specs.declared.standing.Place.TheVariants.{Claimed}
 use Rattle.bb8_types.proofs.Numbered as numbered
 use Rattle.bb8_ledger.proofs.Facts.{conns_split}
-use Rattle.bb8_ledger.proofs.Waiters.{tally_update, changed_tally}
+use Rattle.bb8_ledger.proofs.Waiters.{at_update, changed_tally}
 
 -- which way a test went, with what it says
 pub by_fit : (b : Bool) (P Q G : Type 0) → MatchBool b P Q → (b ≡ true → P → G) → (b ≡ false → Q → G) → G
@@ -12,54 +12,24 @@ by_fit true P Q G m fit misfit = fit refl m
 by_fit false P Q G m fit misfit = misfit refl m
 
 module _ {R : Type 0} where
-  -- an element that is not changed
-  pub at_other : (rs : List R) (n k q : ℕ) (f : R → R) → q ≢ k → at_number n (update n k f rs) q ≡ at_number n rs q
-  at_other [] n k q f h = refl
-  at_other (r ∷ rs) n k q f h =
-      ⊎_elim
-      (λ (t : (eqb q n ≡ true) × (q ≡ n)).
-      let no : eqb k n ≡ false = ne_eqb k n (λ s. omega arith) in
-      rw (t.0, no) refl)
-      (λ (t : (eqb q n ≡ false) × (q ≢ n)). rw t.0 (at_other rs (suc n) k q f h))
-      (numbered.same_or_not q n)
-
-  -- the element that is changed
-  pub at_same : (rs : List R) (n k : ℕ) (f : R → R) → at_number n (update n k f rs) k ≡ option_map f (at_number n rs k)
-  at_same [] n k f = refl
-  at_same (r ∷ rs) n k f = pick (eqb k n) (at_same rs (suc n) k f)
-    where
-      pick : (b : Bool) → at_number (suc n) (update (suc n) k f rs) k ≡ option_map f (at_number (suc n) rs k)
-          → cond b (Some (cond b (f r) r)) (at_number (suc n) (update (suc n) k f rs) k) ≡ option_map f
-          (cond b (Some r) (at_number (suc n) rs k))
-      pick true ih = refl
-      pick false ih = ih
-
-  -- each element is changed
-  pub at_map : (rs : List R) (n q : ℕ) (f : R → R) → at_number n (map f rs) q ≡ option_map f (at_number n rs q)
-  at_map [] n q f = refl
-  at_map (r ∷ rs) n q f = pick (eqb q n) (at_map rs (suc n) q f)
-    where
-      pick : (b : Bool) → at_number (suc n) (map f rs) q ≡ option_map f (at_number (suc n) rs q)
-          → cond b (Some (f r)) (at_number (suc n) (map f rs) q) ≡ option_map f (cond b (Some r) (at_number (suc n) rs q))
-      pick true ih = refl
-      pick false ih = ih
-
   -- what is shown of an element, once one has changed that shows this then
   pub updated_shows : {X : Type 0} (show : Option R → X) (rs : List R) (n k q : ℕ) (f : R → R) (x : X) → show (option_map f (at_number n rs k)) ≡ x
       → show (at_number n (update n k f rs) q) ≡ cond (eqb q k) x (show (at_number n rs q))
   updated_shows show rs n k q f x is =
-      ⊎_elim
-      (λ (t : (eqb q k ≡ true) × (q ≡ k)). rw t.0 (ap (λ (i : ℕ). show (at_number n (update n k f rs) i)) t.1 ∙ ap show (at_same rs n k f) ∙ is))
-      (λ (t : (eqb q k ≡ false) × (q ≢ k)). rw t.0 (ap show (at_other rs n k q f t.1)))
+      ap show (at_update rs n k q f)
+      ∙ ⊎_elim
+      (λ (t : (eqb q k ≡ true) × (q ≡ k)). rw t.0 (ap (λ (i : ℕ). show (option_map f (at_number n rs i))) t.1 ∙ is))
+      (λ (t : (eqb q k ≡ false) × (q ≢ k)). rw t.0 refl)
       (numbered.same_or_not q k)
 
   -- one has changed, and shows the same
   pub updated_same : {X : Type 0} (show : Option R → X) (rs : List R) (n k q : ℕ) (f : R → R) → show (option_map f (at_number n rs k)) ≡ show (at_number n rs k)
       → show (at_number n (update n k f rs) q) ≡ show (at_number n rs q)
   updated_same show rs n k q f is =
-      ⊎_elim
-      (λ (t : (eqb q k ≡ true) × (q ≡ k)). subst (λ (i : ℕ). show (at_number n (update n k f rs) i) ≡ show (at_number n rs i)) (sym t.1) (ap show (at_same rs n k f) ∙ is))
-      (λ (t : (eqb q k ≡ false) × (q ≢ k)). ap show (at_other rs n k q f t.1))
+      updated_shows show rs n k q f _ is
+      ∙ ⊎_elim
+      (λ (t : (eqb q k ≡ true) × (q ≡ k)). rw t.0 (ap (λ (i : ℕ). show (at_number n rs i)) (sym t.1)))
+      (λ (t : (eqb q k ≡ false) × (q ≢ k)). rw t.0 refl)
       (numbered.same_or_not q k)
 
   -- one has come that shows as much as none
@@ -125,11 +95,8 @@ module _ {C : Type 0} where
       record { standing = s.0; was = s.1; from = only s.0.place s.2; to = to s.0 }
 
   held_by : (g : ℕ) (p : Place C) → is_held_by g p ≡ true → p ≡ Held g
-  held_by g Unclaimed h = cc
-  held_by g Claimed h = cc
-  held_by g (Idle c) h = cc
   held_by g (Held m) h = ap (λ (n : ℕ). Held n) (sym (numbered.tested g m h))
-  held_by g Guarded h = cc
+  held_by g _ h = cc
 
   pub held_turns : (l : Ledger C) (g k : ℕ) (q : Option (Place C)) (f : Numbered (Standing C) → Numbered (Standing C))
       → stands (is_held_by g) (record_of l k) ≡ true
@@ -203,26 +170,16 @@ module _ {C : Type 0} where
         numbered.length-update (records l) (start l).first k f,
       )
 
-  added_tally : (l : Ledger C) (p : Place C) (new : Numbered (Standing C)) (test : Place C → Bool) → place_of new.standing ≡ Some p
-      → tally_places test (records l ++ new ∷ []) ≡ tally_places test (records l) + one (test p)
-  added_tally l p new test is =
-      let new_is : one (stands test new.standing) ≡ one (test p) = ap one (stands_by_place test new.standing ∙ ap (passes test) is) in
-      omega (arith, numbered.tally-append (λ (r : Numbered (Standing C)). stands test r.standing) (records l) new)
-
-  added_sized : (l : Ledger C) (p : Place C) (new : Numbered (Standing C)) → place_of new.standing ≡ Some p → Sized l None (Some p) 1 0 (records l ++ new ∷ [])
-  added_sized l p new is =
-      omega (
-        arith,
-        added_tally l p new is_conn is,
-        added_tally l p new is_approval is,
-        added_tally l p new is_idle is,
-        added_tally l p new is_out is,
-        length-append (records l) (new ∷ []),
-      )
+  appended_tally : (test : Place C → Bool) (rs : List (Numbered (Standing C))) (new : Numbered (Standing C))
+      → tally_places test (rs ++ new ∷ []) ≡ tally_places test rs + one (stands test new.standing)
+  appended_tally test rs new = numbered.tally-append (λ (r : Numbered (Standing C)). stands test r.standing) rs new
 
   -- a connection is added
   pub adds_sized : (l : Ledger C) (at : ℕ) (c : C) → Sized l None (Some (Idle c)) 1 0 (records l ++ entry c (max (latest l) at) (max (latest l) at) (position l) ∷ [])
-  adds_sized l at c = added_sized l (Idle c) (entry c (max (latest l) at) (max (latest l) at) (position l)) refl
+  adds_sized l at c =
+      let new : Numbered (Standing C) = entry c (max (latest l) at) (max (latest l) at) (position l) in
+      let more : (test : Place C → Bool) → tally_places test (records l ++ new ∷ []) ≡ tally_places test (records l) + one (test (Idle c)) = λ test. appended_tally test (records l) new in
+      omega (arith, more is_conn, more is_approval, more is_idle, more is_out, length-append (records l) (new ∷ []))
 
   -- What stands where once so many approvals are made.
   pub record Approved (n : ℕ) (rs new : List (Numbered (Standing C))) : Type 0 where
@@ -238,7 +195,7 @@ module _ {C : Type 0} where
     where
       more : (test : Place C → Bool) (b : Bool) (new : List (Numbered (Standing C)))
           → tally_places test (new ++ approval b ∷ []) ≡ tally_places test new + one (stands test (approval {C = C} b).standing)
-      more test b new = numbered.tally-append (λ (r : Numbered (Standing C)). stands test r.standing) new (approval b)
+      more test b new = appended_tally test new (approval b)
 
       one_more : (b : Bool) (new : List (Numbered (Standing C))) → Approved n rs new → Approved (suc n) rs (new ++ approval b ∷ [])
       one_more true new s = omega (arith, s, more is_conn true new, more is_approval true new, more is_idle true new, more is_out true new, length-append new (approval true ∷ []))
@@ -250,106 +207,77 @@ module _ {C : Type 0} where
 
   -- ---- who holds what
 
-  -- a test that only connections pass that are out
-  pub record IsOut (test : Place C → Bool) : Type 0 where
-    pub unclaimed : test Unclaimed ≡ false
-    pub claimed : test Claimed ≡ false
-    pub idle : (c : C) → test (Idle c) ≡ false
+  -- who has the connection at a place, where it is out
+  abbrev pub holder_in : Option (Place C) → Option Holder
+  holder_in (Some (Held g)) = Some (Get g)
+  holder_in (Some Guarded) = Some Guard
+  holder_in _ = None
 
-  pub guarded_out : IsOut is_guarded
-  guarded_out = record { unclaimed = refl; claimed = refl; idle = λ c. refl }
+  -- who has the connection of a record
+  abbrev pub holder : Option (Numbered (Standing C)) → Option Holder
+  holder o = holder_in (place_of (option_and_then (λ r. r.standing) o))
 
-  pub held_out : (g : ℕ) → IsOut (is_held_by g)
-  held_out g = record { unclaimed = refl; claimed = refl; idle = λ c. refl }
-
-  -- whether a record passes, where there is one
-  abbrev pub passing : (Place C → Bool) → Option (Numbered (Standing C)) → Bool
-  passing test o = stands test (option_and_then (λ r. r.standing) o)
-
-  -- whether the record j passes, of these records
-  abbrev pub tests : (Place C → Bool) → ℕ → List (Numbered (Standing C)) → ℕ → Bool
-  tests test first rs j = passing test (at_number first rs j)
+  -- who has the connection of a number, of these records
+  abbrev pub holder_at : ℕ → List (Numbered (Standing C)) → ℕ → Option Holder
+  holder_at first rs j = holder (at_number first rs j)
 
   -- one record has moved
-  pub turned_tests : {l : Ledger C} {k : ℕ} {p : Place C} {q : Option (Place C)} {f : Numbered (Standing C) → Numbered (Standing C)}
-      (test : Place C → Bool) (j : ℕ) → Turns l k p q f
-      → tests test (start l).first (with_record l k f) j ≡ cond (eqb j k) (passes test q) (tests test (start l).first (records l) j)
-  turned_tests {l} {k} {p} {q} {f} test j t =
+  pub turned_holder : {l : Ledger C} {k : ℕ} {p : Place C} {q : Option (Place C)} {f : Numbered (Standing C) → Numbered (Standing C)}
+      (j : ℕ) → Turns l k p q f → holder_at (start l).first (with_record l k f) j ≡ cond (eqb j k) (holder_in q) (holder_at (start l).first (records l) j)
+  turned_holder {l} {k} {q = q} {f = f} j t =
       let m = numbered.standing_found (records l) (start l).first k t.standing t.was in
-      updated_shows (passing test) (records l) (start l).first k j f (passes test q)
-      (ap (λ (o : Option (Numbered (Standing C))). passing test (option_map f o)) m.1 ∙ stands_by_place test (f m.0).standing ∙ ap (passes test) (t.to m.0 m.2))
+      updated_shows holder (records l) (start l).first k j f (holder_in q) (ap (λ (o : Option (Numbered (Standing C))). holder (option_map f o)) m.1 ∙ ap holder_in (t.to m.0 m.2))
 
-  -- what passed where it stood
+  -- and who had its connection
   pub turned_from : {l : Ledger C} {k : ℕ} {p : Place C} {q : Option (Place C)} {f : Numbered (Standing C) → Numbered (Standing C)}
-      (test : Place C → Bool) → Turns l k p q f → tests test (start l).first (records l) k ≡ test p
-  turned_from test t = ap (stands test) t.was ∙ ap test t.from
+      → Turns l k p q f → holder_at (start l).first (records l) k ≡ holder_in (Some p)
+  turned_from t = ap (λ (o : Option (Standing C)). holder_in (place_of o)) t.was ∙ ap (λ (x : Place C). holder_in (Some x)) t.from
 
-  -- a record moved that did not pass, and does not then
-  pub kept_tests : {l : Ledger C} {k : ℕ} {p : Place C} {q : Option (Place C)} {f : Numbered (Standing C) → Numbered (Standing C)}
-      (test : Place C → Bool) (j : ℕ) → Turns l k p q f → test p ≡ false → passes test q ≡ false
-      → tests test (start l).first (with_record l k f) j ≡ tests test (start l).first (records l) j
-  kept_tests {l} {k} {p} {q} {f} test j t was is =
+  -- a record has moved that nobody had, and nobody has
+  pub kept_holder : {l : Ledger C} {k : ℕ} {p : Place C} {q : Option (Place C)} {f : Numbered (Standing C) → Numbered (Standing C)}
+      (j : ℕ) → Turns l k p q f → holder_in (Some p) ≡ None → holder_in q ≡ None → holder_at (start l).first (with_record l k f) j ≡ holder_at (start l).first (records l) j
+  kept_holder {l} {k} {f = f} j t was is =
       let m = numbered.standing_found (records l) (start l).first k t.standing t.was in
-      updated_same (passing test) (records l) (start l).first k j f
-      (ap (λ (o : Option (Numbered (Standing C))). passing test (option_map f o)) m.1 ∙ stands_by_place test (f m.0).standing ∙ ap (passes test) (t.to m.0 m.2) ∙ is
-      ∙ sym (turned_from test t ∙ was))
+      updated_same holder (records l) (start l).first k j f
+      (ap (λ (o : Option (Numbered (Standing C))). holder (option_map f o)) m.1 ∙ ap holder_in (t.to m.0 m.2) ∙ is ∙ sym (turned_from t ∙ was))
 
-  -- a new record that does not pass
-  pub added_tests : (test : Place C → Bool) (first j : ℕ) (new : Numbered (Standing C)) (rs : List (Numbered (Standing C)))
-      → stands test new.standing ≡ false → tests test first (rs ++ new ∷ []) j ≡ tests test first rs j
-  added_tests test first j new rs off = appended_same (passing test) rs first j new off
-
-  pub granted_tests : (test : Place C → Bool) (first j : ℕ) (claimed : Bool) (n : ℕ) (rs : List (Numbered (Standing C))) → IsOut test
-      → tests test first (with_approvals claimed n rs) j ≡ tests test first rs j
-  granted_tests test first j claimed zero rs o = refl
-  granted_tests test first j claimed (suc n) rs o = added_tests test first j (approval claimed) (with_approvals claimed n rs) (off claimed) ∙ granted_tests test first j claimed n rs o
+  -- approvals are made, which nobody has
+  pub granted_holder : (first j : ℕ) (claimed : Bool) (n : ℕ) (rs : List (Numbered (Standing C))) → holder_at first (with_approvals claimed n rs) j ≡ holder_at first rs j
+  granted_holder first j claimed zero rs = refl
+  granted_holder first j claimed (suc n) rs = appended_same holder (with_approvals claimed n rs) first j (approval claimed) (free claimed) ∙ granted_holder first j claimed n rs
     where
-      off : (b : Bool) → stands test (approval {C = C} b).standing ≡ false
-      off true = o.claimed
-      off false = o.unclaimed
+      free : (b : Bool) → holder (Some (approval {C = C} b)) ≡ None
+      free true = refl
+      free false = refl
 
-  -- a record that passes does not end
-  spared : (test : Place C → Bool) (sweep : Option (Standing C) → Bool)
-      → ((o : Option (Standing C)) → stands test o ≡ true → sweep o ≡ false) → (r : Numbered (Standing C))
-      → stands test (after_end_where sweep r).standing ≡ stands test r.standing
-  spared test sweep spares r = pick (sweep r.standing) refl (stands test r.standing) refl
+  -- What the last leave does to a record: it is not idle then, it is no approval that it was not, and who has it has it.
+  record IsSwept (old new : Numbered (Standing C)) : Type 0 where
+    pub idle : one (stands is_idle new.standing) ≡ 0
+    pub approval : one (stands is_approval new.standing) ≤ one (stands is_approval old.standing)
+    pub out : one (stands is_out new.standing) ≡ one (stands is_out old.standing)
+    pub holder : holder (Some new) ≡ holder (Some old)
+
+  swept : (r : Numbered (Standing C)) → IsSwept r (after_end_where is_left r)
+  swept r = go r.standing
     where
-      pick : (b : Bool) → sweep r.standing ≡ b → (d : Bool) → stands test r.standing ≡ d → stands test (cond b (after_end r) r).standing ≡ stands test r.standing
-      pick false e d g = refl
-      pick true e false g = sym g
-      pick true e true g = absurd (let clash : true ≡ false = sym e ∙ spares r.standing g in cc)
+      by_place : (p : Place C) (birth entered : ℕ) → let old : Numbered (Standing C) = record { standing = Some (record { place = p; birth = birth; entered = entered }); position = r.position } in
+          IsSwept old (after_end_where is_left old)
+      by_place Unclaimed birth entered = record { idle = refl; approval = omega arith; out = refl; holder = refl }
+      by_place _ birth entered = record { idle = refl; approval = omega arith; out = refl; holder = refl }
 
-  -- records end, of which none passed
-  pub swept_tests : (test : Place C → Bool) (sweep : Option (Standing C) → Bool) (first j : ℕ) (rs : List (Numbered (Standing C)))
-      → ((o : Option (Standing C)) → stands test o ≡ true → sweep o ≡ false)
-      → tests test first (map (after_end_where sweep) rs) j ≡ tests test first rs j
-  swept_tests test sweep first j rs spares = ap (passing test) (at_map rs first j (after_end_where sweep)) ∙ each (at_number first rs j)
+      go : (o : Option (Standing C)) → let old : Numbered (Standing C) = record { standing = o; position = r.position } in IsSwept old (after_end_where is_left old)
+      go None = record { idle = refl; approval = omega arith; out = refl; holder = refl }
+      go (Some s) = by_place s.place s.birth s.entered
+
+  -- the last leave
+  pub left_holder : (first j : ℕ) (rs : List (Numbered (Standing C))) → holder_at first (map (after_end_where is_left) rs) j ≡ holder_at first rs j
+  left_holder first j [] = refl
+  left_holder first j (r ∷ rs) = pick (eqb j first) (left_holder (suc first) j rs)
     where
-      each : (o : Option (Numbered (Standing C))) → passing test (option_map (after_end_where sweep) o) ≡ passing test o
-      each None = refl
-      each (Some r) = spared test sweep spares r
-
-  -- what the last leave ends is idle or unclaimed
-  pub leave_spares : (test : Place C → Bool) → ((c : C) → test (Idle c) ≡ false) → test Unclaimed ≡ false → (o : Option (Standing C)) → stands test o ≡ true → is_left o ≡ false
-  leave_spares test off unclaimed None h = refl
-  leave_spares test off unclaimed (Some s) h = go s.place h
-    where
-      go : (p : Place C) → test p ≡ true → (is_idle p || is_unclaimed p) ≡ false
-      go Unclaimed e = absurd (let clash : false ≡ true = sym unclaimed ∙ e in cc)
-      go Claimed e = refl
-      go (Idle c) e = absurd (let clash : false ≡ true = sym (off c) ∙ e in cc)
-      go (Held g) e = refl
-      go Guarded e = refl
-
-  -- the tally of what is out changes with no sweep
-  swept_out : (test : Place C → Bool) (sweep : Option (Standing C) → Bool)
-      → ((o : Option (Standing C)) → stands test o ≡ true → sweep o ≡ false) → (rs : List (Numbered (Standing C)))
-      → tally_places test (map (after_end_where sweep) rs) ≡ tally_places test rs
-  swept_out test sweep spares [] = refl
-  swept_out test sweep spares (r ∷ rs) =
-      let ih : tally_places test (map (after_end_where sweep) rs) ≡ tally_places test rs = swept_out test sweep spares rs in
-      let here : one (stands test (after_end_where sweep r).standing) ≡ one (stands test r.standing) = ap one (spared test sweep spares r) in
-      omega arith
+      pick : (b : Bool) → holder_at (suc first) (map (after_end_where is_left) rs) j ≡ holder_at (suc first) rs j
+          → holder (cond b (Some (after_end_where is_left r)) (at_number (suc first) (map (after_end_where is_left) rs) j)) ≡ holder (cond b (Some r) (at_number (suc first) rs j))
+      pick true later = (swept r).holder
+      pick false later = later
 
   -- The sizes after a reap.
   pub record AreReaped (l : Ledger C) (closed life n : ℕ) (rs : List (Numbered (Standing C))) : Type 0 where
@@ -398,48 +326,32 @@ module _ {C : Type 0} where
   -- each of these is idle when it ends
   abbrev pub AllIdle : ℕ → List ℕ → List (Numbered (Standing C)) → Type 0
   AllIdle first [] rs = Unit {0}
-  AllIdle first (k ∷ ks) rs = (tests is_idle first rs k ≡ true) × AllIdle first ks (update first k after_end rs)
+  AllIdle first (k ∷ ks) rs = (stands is_idle (standing_at first rs k) ≡ true) × AllIdle first ks (update first k after_end rs)
 
   all_idle_append : (first : ℕ) (ks js : List ℕ) (rs : List (Numbered (Standing C))) → AllIdle first ks rs → AllIdle first js (with_ended first ks rs) → AllIdle first (ks ++ js) rs
   all_idle_append first [] js rs a b = b
   all_idle_append first (k ∷ ks) js rs a b = (a.0, all_idle_append first ks js (update first k after_end rs) a.1 b)
-
-  -- an idle record, found by its number
-  record IdleAs (first k : ℕ) (rs : List (Numbered (Standing C))) : Type 0 where
-    pub element : Numbered (Standing C)
-    pub found : at_number first rs k ≡ Some element
-    pub conn : C
-    pub passing : (test : Place C → Bool) → stands test element.standing ≡ test (Idle conn)
-
-  idle_as : (first k : ℕ) (rs : List (Numbered (Standing C))) → tests is_idle first rs k ≡ true → IdleAs first k rs
-  idle_as first k rs h =
-      let s = standing_is is_idle (standing_at first rs k) h in
-      let r = numbered.standing_found rs first k s.0 s.1 in
-      let c = idle_is s.0.place s.2 in
-      record { element = r.0; found = r.1; conn = c.0; passing = λ test. ap (stands test) r.2 ∙ ap test c.1 }
 
   -- a tally loses each of them, or none
   pub ended_tally : (test : Place C → Bool) (z : ℕ) → ((c : C) → one (test (Idle c)) ≡ z) → (first : ℕ) (ks : List ℕ) (rs : List (Numbered (Standing C)))
       → AllIdle first ks rs → tally_places test (with_ended first ks rs) + z * length ks ≡ tally_places test rs
   ended_tally test z is first [] rs all = omega arith
   ended_tally test z is first (k ∷ ks) rs all =
-      let r = idle_as first k rs all.0 in
-      let here : one (stands test r.element.standing) ≡ z = ap one (r.passing test) ∙ is r.conn in
-      omega (
-        arith,
-        tally_update (λ (x : Numbered (Standing C)). stands test x.standing) rs first k after_end r.element r.found,
-        ended_tally test z is first ks (update first k after_end rs) all.1,
-      )
+      let s = standing_is is_idle (standing_at first rs k) all.0 in
+      let r = numbered.standing_found rs first k s.0 s.1 in
+      let c = idle_is s.0.place s.2 in
+      let here : one (test s.0.place) ≡ z = ap (λ (p : Place C). one (test p)) c.1 ∙ is c.0 in
+      omega (arith, changed_tally (stands test) after_end rs first k r.0 (Some s.0) r.1 r.2, ended_tally test z is first ks (update first k after_end rs) all.1)
 
-  -- and what is out stays
-  ended_tests : (test : Place C → Bool) → IsOut test → (first : ℕ) (ks : List ℕ) (rs : List (Numbered (Standing C))) (j : ℕ)
-      → AllIdle first ks rs → tests test first (with_ended first ks rs) j ≡ tests test first rs j
-  ended_tests test o first [] rs j all = refl
-  ended_tests test o first (k ∷ ks) rs j all =
-      let r = idle_as first k rs all.0 in
-      ended_tests test o first ks (update first k after_end rs) j all.1
-      ∙ updated_same (passing test) rs first k j after_end
-      (ap (λ (x : Option (Numbered (Standing C))). passing test (option_map after_end x)) r.found ∙ sym (ap (passing test) r.found ∙ r.passing test ∙ o.idle r.conn))
+  -- and nobody has one of them
+  ended_holder : (first : ℕ) (ks : List ℕ) (rs : List (Numbered (Standing C))) (j : ℕ) → AllIdle first ks rs → holder_at first (with_ended first ks rs) j ≡ holder_at first rs j
+  ended_holder first [] rs j all = refl
+  ended_holder first (k ∷ ks) rs j all =
+      let s = standing_is is_idle (standing_at first rs k) all.0 in
+      let r = numbered.standing_found rs first k s.0 s.1 in
+      let free : holder (at_number first rs k) ≡ None = ap (λ (o : Option (Standing C)). holder_in (place_of o)) s.1 ∙ ap (λ (p : Place C). holder_in (Some p)) (idle_is s.0.place s.2).1 in
+      ended_holder first ks (update first k after_end rs) j all.1
+      ∙ updated_same holder rs first k j after_end (ap (λ (x : Option (Numbered (Standing C))). holder (option_map after_end x)) r.1 ∙ sym free)
 
   ended_length : (first : ℕ) (ks : List ℕ) (rs : List (Numbered (Standing C))) → length (with_ended first ks rs) ≡ length rs
   ended_length first [] rs = refl
@@ -449,7 +361,7 @@ module _ {C : Type 0} where
 
   -- a line of idle records, of which the first one leaves it by its end
   pub record IsLine (first : ℕ) (line : List (Numbered (Standing C)) → List ℕ) : Type 0 where
-    pub idle : (rs : List (Numbered (Standing C))) (k : ℕ) (rest : List ℕ) → line rs ≡ k ∷ rest → tests is_idle first rs k ≡ true
+    pub idle : (rs : List (Numbered (Standing C))) (k : ℕ) (rest : List ℕ) → line rs ≡ k ∷ rest → stands is_idle (standing_at first rs k) ≡ true
     pub leaves : (rs : List (Numbered (Standing C))) (k : ℕ) (rest : List ℕ) → line rs ≡ k ∷ rest → line (update first k after_end rs) ≡ rest
 
   pub front_idle : (first : ℕ) (line : List (Numbered (Standing C)) → List ℕ) → IsLine first line → (q : ℕ) (xs : List ℕ) (rs : List (Numbered (Standing C)))
@@ -477,7 +389,7 @@ module _ {C : Type 0} where
   outlived_line s now = record {
     idle = λ rs k rest h.
         let m = numbered.numbers_member (λ (r : Numbered (Standing C)). lives_out s.config now r.standing) rs s.first 0 k (ap (λ (xs : List ℕ). slice_get xs 0) h) in
-        ap (passing is_idle) m.1
+        ap (λ (o : Option (Numbered (Standing C))). stands is_idle (option_and_then (λ r. r.standing) o)) m.1
         ∙ lives_idle s.config now m.0.standing m.2;
     leaves = λ rs k rest h.
         let m = numbered.numbers_member (λ (r : Numbered (Standing C)). lives_out s.config now r.standing) rs s.first 0 k (ap (λ (xs : List ℕ). slice_get xs 0) h) in
@@ -494,7 +406,7 @@ module _ {C : Type 0} where
   over_idle_line s m now = record {
     idle = λ rs k rest h.
         let x = numbered.in_order_member (over_idle_at s.config now) rs s.first m 0 k (ap (λ (xs : List ℕ). slice_get xs 0) h) in
-        ap (passing is_idle) x.1
+        ap (λ (o : Option (Numbered (Standing C))). stands is_idle (option_and_then (λ r. r.standing) o)) x.1
         ∙ idles_idle s.config now x.0.standing (and_right (idles_out s.config now x.0.standing) _ x.4).0;
     leaves = λ rs k rest h.
         let x = numbered.in_order_member (over_idle_at s.config now) rs s.first m 0 k (ap (λ (xs : List ℕ). slice_get xs 0) h) in
@@ -520,10 +432,9 @@ module _ {C : Type 0} where
       (subst (λ (ks : List ℕ). AllIdle s.first ks rs) (take-length (outlived s now rs)) aged)
       (front_idle s.first (over_idle s m now) (over_idle_line s m now) (idle_of then - unwrap_or s.config.min_idle 0) (over_idle s m now then) then refl)
 
-  -- a reap spares what is out
-  pub reap_tests : (test : Place C → Bool) → IsOut test → (l : Ledger C) (at j : ℕ)
-      → tests test (start l).first (with_ended (start l).first (reaped_at l at) (records l)) j ≡ tests test (start l).first (records l) j
-  reap_tests test out l at j = ended_tests test out (start l).first (reaped_at l at) (records l) j (reaped_idle (start l) (position l) (max (latest l) at) (records l))
+  -- a reap spares what somebody has
+  pub reaped_holder : (l : Ledger C) (at j : ℕ) → holder_at (start l).first (with_ended (start l).first (reaped_at l at) (records l)) j ≡ holder_at (start l).first (records l) j
+  reaped_holder l at j = ended_holder (start l).first (reaped_at l at) (records l) j (reaped_idle (start l) (position l) (max (latest l) at) (records l))
 
   pub reaped_sized : (l : Ledger C) (at : ℕ) → AreReaped l (length (reaped_at l at)) (length (outlived_at l at)) 0
       (with_ended (start l).first (reaped_at l at) (records l))
@@ -543,35 +454,13 @@ module _ {C : Type 0} where
   pub granted_reaped : {l : Ledger C} {closed life : ℕ} {rs : List (Numbered (Standing C))} (n : ℕ) → AreReaped l closed life 0 rs → AreReaped l closed life n (with_approvals false n rs)
   granted_reaped {rs = rs} n s = omega (arith, s, approves false n rs)
 
-  -- the last leave ends each idle one, and no approval is there that was not
-  left_each : (r : Numbered (Standing C)) → (one (stands is_idle (after_end_where is_left r).standing) ≡ 0)
-      × (one (stands is_approval (after_end_where is_left r).standing) ≤ one (stands is_approval r.standing))
-  left_each r = go r.standing refl
-    where
-      pick : (o : Option (Standing C)) (b : Bool) → r.standing ≡ o → (b ≡ false → one (stands is_idle o) ≡ 0)
-          → (one (stands is_idle (cond b (after_end r) r).standing) ≡ 0)
-          × (one (stands is_approval (cond b (after_end r) r).standing) ≤ one (stands is_approval r.standing))
-      pick o true e idle_is = (refl, omega arith)
-      pick o false e idle_is = (ap (λ (x : Option (Standing C)). one (stands is_idle x)) e ∙ idle_is refl, omega arith)
-
-      by_place : (p : Place C) → (is_idle p || is_unclaimed p) ≡ false → one (is_idle p) ≡ 0
-      by_place Unclaimed e = refl
-      by_place Claimed e = refl
-      by_place (Idle c) e = cc
-      by_place (Held g) e = refl
-      by_place Guarded e = refl
-
-      go : (o : Option (Standing C)) → r.standing ≡ o → (one (stands is_idle (cond (is_left r.standing) (after_end r) r).standing) ≡ 0)
-          × (one (stands is_approval (cond (is_left r.standing) (after_end r) r).standing) ≤ one (stands is_approval r.standing))
-      go None e = pick None (is_left r.standing) e (λ off. refl)
-      go (Some s) e = pick (Some s) (is_left r.standing) e (λ off. by_place s.place (sym (ap is_left e) ∙ off))
-
-  left_sweep : (rs : List (Numbered (Standing C))) → (idle_of (map (after_end_where is_left) rs) ≡ 0) × (approved_of (map (after_end_where is_left) rs) ≤ approved_of rs)
-  left_sweep [] = (refl, omega arith)
+  left_sweep : (rs : List (Numbered (Standing C))) → let new : List (Numbered (Standing C)) = map (after_end_where is_left) rs in
+      (idle_of new ≡ 0) × (approved_of new ≤ approved_of rs) × (tally_places is_out new ≡ tally_places is_out rs)
+  left_sweep [] = (refl, omega arith, refl)
   left_sweep (r ∷ rs) =
       let ih = left_sweep rs in
-      let here = left_each r in
-      (omega (arith, ih.0, here.0), omega (arith, ih.1, here.1))
+      let here = swept r in
+      (omega (arith, ih.0, here.idle), omega (arith, ih.1, here.approval), omega (arith, ih.2, here.out))
 
   -- The sizes after the leave of a handle.
   pub record AreLeft (l : Ledger C) (rs : List (Numbered (Standing C))) : Type 0 where
@@ -579,22 +468,20 @@ module _ {C : Type 0} where
     pub approved_few : approved_of rs ≤ approved l
     pub out_are : tally_places is_out rs ≡ out l
     pub many_are : length rs ≡ length (records l)
-    pub last : ((handles l ≡ 1) × (idle_of rs ≡ 0)) ⊎ (rs ≡ records l)
+    pub last : ((handles l ≡ 1) × (idle_of rs ≡ 0)) ⊎ ((conns_of rs ≡ conns l) × (approved_of rs ≡ approved l) × (idle_of rs ≡ idle_count l))
 
   pub left_sized : (l : Ledger C) (at n : ℕ) → AreLeft l (records (Later l at Leave (Left n)))
   left_sized l at n = pick (eqb (handles l) 1) refl
     where
       pick : (b : Bool) → eqb (handles l) 1 ≡ b → AreLeft l (cond b (map (after_end_where is_left) (records l)) (records l))
-      pick false e = record { conns_few = omega arith; approved_few = omega arith; out_are = refl; many_are = refl; last = inr refl }
+      pick false e = record { conns_few = omega arith; approved_few = omega arith; out_are = refl; many_are = refl; last = inr (refl, refl, refl) }
       pick true e =
           let rs : List (Numbered (Standing C)) = map (after_end_where is_left) (records l) in
           let sweep = left_sweep (records l) in
-          let out_is : tally_places is_out rs ≡ out l = swept_out is_out is_left (leave_spares is_out (λ c. refl) refl) (records l) in
           record {
             conns_few = omega (arith, conns_split rs, conns_split (records l), sweep.0);
             approved_few = sweep.1;
-            out_are = out_is;
+            out_are = sweep.2;
             many_are = omega (arith, length-map (records l) (after_end_where is_left));
-            last =
-                inl (numbered.tested (handles l) 1 e, sweep.0);
+            last = inl (numbered.tested (handles l) 1 e, sweep.0);
           }

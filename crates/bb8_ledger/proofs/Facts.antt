@@ -1,6 +1,5 @@
 -- What holds of every ledger.
-use Rattle.bb8_ledger.proofs.Words.{◌≡◌, ℕ, suc, ◌+◌, ◌≤◌, ◌<◌, max, Bool, true, false, cond, List, [], ◌∷◌, length, Option, Some, None, refl, sym, ◌∙◌, arith, option_map, ◌-◌, Place, Unclaimed, Idle, Held, Guarded, Standing, GetPlace, Active, Holding, Getting, QueueStrategy, Fifo, Lifo, Act, Begin, Try, CheckedOk, CheckedErr, GiveUp, PutBack, Opened, Add, Answer, Begun, Served, Taken, Kept, Closed, GaveUp, Entered, Added, Unfit, Numbered, update, in_order, tally, one, after_end, Ledger, Opening, Later, Start, start, position, latest, records, with_ended, gets, gets_after, conns, approved, conns_of, idle_of, alive, peak, get_peak, idle_at, unnotified_at, at_place, new_get, get_at_place, at_wait, with_notice, idle, idle_count, is_unnotified, gets_stand, stands, is_idle, is_conn, is_out, with_place, get_with_place, get_in_wait, first_of, Before, and_right, standing_is}
-use Rattle.bb8_types.specs.declared.standing.Place.TheVariants.{Claimed}
+use Rattle.bb8_ledger.proofs.Words.{◌≡◌, ℕ, suc, ◌+◌, ◌≤◌, ◌<◌, max, Bool, true, false, cond, List, [], ◌∷◌, length, Option, Some, None, refl, sym, ◌∙◌, arith, option_map, ◌-◌, Place, Unclaimed, Standing, GetPlace, Active, Holding, Getting, QueueStrategy, Fifo, Lifo, Act, Begin, Try, CheckedOk, CheckedErr, GiveUp, PutBack, Opened, Add, Answer, Begun, Served, Taken, Kept, Closed, GaveUp, Entered, Added, Unfit, Numbered, update, in_order, tally, one, after_end, Ledger, Opening, Later, Start, start, position, latest, records, with_ended, gets, gets_after, conns, approved, conns_of, idle_of, alive, peak, get_peak, idle_at, unnotified_at, at_place, new_get, get_at_place, at_wait, with_notice, idle, idle_count, is_unnotified, gets_stand, stands, is_idle, is_conn, is_out, with_place, get_with_place, get_in_wait, first_of, Before, and_right, standing_is}
 use Rattle.bb8_types.specs.declared.standing.GetPlace.TheVariants as get_places
 use Rattle.bb8_ledger.specs.Answers.{Waiting}
 use Rattle.bb8_types.proofs.Numbered as numbered
@@ -114,10 +113,7 @@ module _ {C : Type 0} where
     where
       by_place : (p : Place C) → one (is_conn p) ≡ one (is_idle p) + one (is_out p)
       by_place Unclaimed = omega arith
-      by_place Claimed = omega arith
-      by_place (Idle c) = omega arith
-      by_place (Held g) = omega arith
-      by_place Guarded = omega arith
+      by_place _ = omega arith
 
       place : (o : Option (Standing C)) → one (stands is_conn o) ≡ one (stands is_idle o) + one (stands is_out o)
       place None = omega arith

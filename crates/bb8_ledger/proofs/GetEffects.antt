@@ -3,19 +3,8 @@ use Rattle.bb8_ledger.proofs.Words.{length-append, ◌≤◌, max, ◌≡◌, �
 use Rattle.bb8_types.specs.declared.standing.GetPlace.TheVariants.{Waiting}
 use Rattle.bb8_types.proofs.Numbered as numbered
 use Rattle.bb8_ledger.proofs.Facts.{waited_before}
-use Rattle.bb8_ledger.proofs.Waiters.{waits_on_same, begins_counted, waiters_few, IsGivenUp, given_up_counted, alive_counted, begins_alive, getting_is, is_waiting, unnotified_waits, notified_waits, changed_tally, notify_length, notify_alive, notify_counted, same_line, InLine, line_later, line_left, line_notified}
-use Rattle.bb8_ledger.proofs.Effects.{updated_shows, updated_same, appended_same}
-
-never_then : {a b : Bool} → (a ≡ true → b ≡ true) → b ≡ false → a ≡ false
-never_then {a = false} then off = refl
-never_then {a = true} then off = let clash : false ≡ true = sym off ∙ then refl in cc
-
--- who does not wait is neither unnotified nor notified
-off_unnotified : (o : Option Getting) → gets_stand is_waiting o ≡ false → gets_stand is_unnotified o ≡ false
-off_unnotified o = never_then (unnotified_waits o)
-
-off_notified : (o : Option Getting) → gets_stand is_waiting o ≡ false → gets_stand is_notified o ≡ false
-off_notified o = never_then (notified_waits o)
+use Rattle.bb8_ledger.proofs.Waiters.{not_waiting, one_few, waits_on_same, begins_counted, waiters_few, IsGivenUp, given_up_counted, alive_counted, begins_alive, getting_is, is_waiting, changed_tally, notify_length, notify_alive, notify_counted, same_line, InLine, line_later, line_left, line_notified}
+use Rattle.bb8_ledger.proofs.Effects.{updated_shows, appended_same}
 
 -- a get that moves to a place where it does not wait
 pub put_off : (p : GetPlace) → is_waiting p ≡ false → (x : Numbered Getting) → gets_stand is_waiting (get_at_place p x).standing ≡ false
@@ -25,9 +14,19 @@ put_off p off x = go x.standing
     go None = refl
     go (Some s) = off
 
-one_few : (b : Bool) → one b ≤ 1
-one_few true = omega arith
-one_few false = omega arith
+-- So many of these gets are alive, wait unnotified, and wait notified, and so many there ever were.
+pub record GetsAre (gs : List (Numbered Getting)) (living unnotified notified many : ℕ) : Type 0 where
+  pub alive_are : alive_of gs ≡ living
+  pub unnotified_are : tally_gets is_unnotified gs ≡ unnotified
+  pub notified_are : tally_gets is_notified gs ≡ notified
+  pub many_are : length gs ≡ many
+
+-- the first of the unnotified is notified, if there is one
+told_are : (first m : ℕ) (n : Option ℕ) (gs : List (Numbered Getting)) → Before unnotified_at m gs → n ≡ slice_get (in_order unnotified_at first gs m) 0
+    → GetsAre (with_notice first n gs) (alive_of gs) (tally_gets is_unnotified gs - 1) (tally_gets is_notified gs + min 1 (tally_gets is_unnotified gs)) (length gs)
+told_are first m n gs before is =
+    let told = notify_counted first m n gs before is in
+    record { alive_are = notify_alive first n gs; unnotified_are = told.0; notified_are = told.1; many_are = notify_length first n gs }
 
 -- a get that is alive
 pub alive_get : (o : Option Getting) → is_some o ≡ true → (st : Getting) × (o ≡ Some st)
@@ -40,9 +39,8 @@ holding_is None k h = cc
 holding_is (Some s) k h = (s, refl, go s.place h)
   where
     go : (p : GetPlace) → held_in p ≡ Some k → p ≡ Holding k
-    go Active h = cc
-    go (Waiting b) h = cc
     go (Holding j) h = let same : j ≡ k = cc in ap Holding same
+    go _ h = cc
 
 module _ {C : Type 0} where
   -- the get g is alive and not in line, and is changed to one that does not wait: b more are alive than with it ended
@@ -64,8 +62,7 @@ module _ {C : Type 0} where
     was = was;
     off = off;
     out = put_off p still;
-    lives =
-        λ x e. ap (λ (o : Option Getting). one (is_some (option_map (get_with_place p) o))) e;
+    lives = λ x e. ap (λ (o : Option Getting). one (is_some (option_map (get_with_place p) o))) e;
   }
 
   -- a get that tries and was not in line
@@ -103,25 +100,14 @@ module _ {C : Type 0} where
     left_tally : (test : GetPlace → Bool) → gets_stand test (f left_at.0).standing ≡ false → tally_gets test left_gets + one (test t.standing.place) ≡ tally_gets test (gets l)
     left_tally test off = omega (arith, changed_tally (gets_stand test) f (gets l) (start l).first_get g left_at.0 (Some t.standing) left_at.1 left_at.2, ap one off)
 
-    pub left_unnotified : tally_gets is_unnotified left_gets ≡ unnotified l
-    left_unnotified = omega (arith, left_tally is_unnotified (off_unnotified (f left_at.0).standing (t.out left_at.0)), ap one t.off)
-
-    pub left_notified : tally_gets is_notified left_gets + one (is_notified t.standing.place) ≡ notified l
-    left_notified = left_tally is_notified (off_notified (f left_at.0).standing (t.out left_at.0))
-
-    pub left_length : length left_gets ≡ length (gets l)
-    left_length = numbered.length-update (gets l) (start l).first_get g f
-
     left_oldest : (n : Option ℕ) → n ≡ oldest_waiter l → n ≡ slice_get (in_order unnotified_at (start l).first_get left_gets (position l)) 0
     left_oldest n is = is ∙ sym (ap (λ (xs : List ℕ). slice_get xs 0)
         (same_line (start l).first_get (position l) g f (gets l) left_at.0 left_at.1 (ap (gets_stand is_unnotified) left_at.2 ∙ t.off)
-        (off_unnotified (f left_at.0).standing (t.out left_at.0))))
+        (not_waiting (f left_at.0).standing (t.out left_at.0)).0))
 
     left_before : Before unnotified_at (position l) left_gets
-    left_before = numbered.before-update unnotified_at (gets l) (start l).first_get g f (position l) (waited_before l) (λ x p h. absurd (clash x p h))
-      where
-        clash : (x : Numbered Getting) (p : ℕ) → unnotified_at p (f x) ≡ true → ⊥
-        clash x p h = let no : false ≡ true = sym (off_unnotified (f x).standing (t.out x)) ∙ (and_right (gets_stand is_unnotified (f x).standing) _ h).0 in cc
+    left_before = numbered.before-update unnotified_at (gets l) (start l).first_get g f (position l) (waited_before l) (λ x p h.
+        absurd (let no : false ≡ true = sym (not_waiting (f x).standing (t.out x)).0 ∙ (and_right (gets_stand is_unnotified (f x).standing) _ h).0 in cc))
 
     -- and the oldest waiter is notified
     pub left_told_alive : (n : Option ℕ) → alive_of (with_notice (start l).first_get n left_gets) + 1 ≡ alive l + b
@@ -130,21 +116,21 @@ module _ {C : Type 0} where
     -- how many are alive and wait then
     pub left_sums : (alive_of left_gets + 1 ≡ alive l + b) × (length left_gets ≡ length (gets l)) × (tally_gets is_unnotified left_gets ≡ unnotified l)
         × (tally_gets is_notified left_gets + one (is_notified t.standing.place) ≡ notified l) × (one (is_notified t.standing.place) ≤ 1)
-    left_sums = (left_alive, left_length, left_unnotified, left_notified, one_few (is_notified t.standing.place))
+    left_sums = omega (
+      arith,
+      left_alive,
+      numbered.length-update (gets l) (start l).first_get g f,
+      left_tally is_unnotified (not_waiting (f left_at.0).standing (t.out left_at.0)).0,
+      ap one t.off,
+      left_tally is_notified (not_waiting (f left_at.0).standing (t.out left_at.0)).1,
+      one_few (is_notified t.standing.place),
+    )
 
-    -- and once the oldest waiter is notified, where it was not
-    pub left_told_sums : (n : Option ℕ) → n ≡ oldest_waiter l → is_notified t.standing.place ≡ false
-        → (alive_of (with_notice (start l).first_get n left_gets) + 1 ≡ alive l + b)
-        × (length (with_notice (start l).first_get n left_gets) ≡ length (gets l))
-        × (tally_gets is_unnotified (with_notice (start l).first_get n left_gets) ≡ unnotified l - 1)
-        × (tally_gets is_notified (with_notice (start l).first_get n left_gets) ≡ notified l + min 1 (unnotified l))
-    left_told_sums n is off =
-        let told = notify_counted (start l).first_get (position l) n left_gets left_before (left_oldest n is) in (
-          left_told_alive n,
-          notify_length (start l).first_get n left_gets ∙ left_length,
-          omega (arith, told.0, left_unnotified),
-          omega (arith, told.1, left_unnotified, left_notified, ap one off),
-        )
+    -- and once the oldest waiter is notified
+    pub left_told : (n : Option ℕ) → n ≡ oldest_waiter l
+        → GetsAre (with_notice (start l).first_get n left_gets) (alive_of left_gets) (tally_gets is_unnotified left_gets - 1)
+        (tally_gets is_notified left_gets + min 1 (tally_gets is_unnotified left_gets)) (length left_gets)
+    left_told n is = told_are (start l).first_get (position l) n left_gets left_before (left_oldest n is)
 
     left_in_line : InLine (start l).first_get (position l) (gets l) → InLine (start l).first_get (position l) left_gets
     left_in_line i = line_left (start l).first_get (position l) g f (gets l) left_at.0 left_at.1 (t.out left_at.0) i
@@ -173,48 +159,47 @@ module _ {C : Type 0} where
       waits_on_same (start l).first_get (max (latest l) at) (position l) g (gets l) m.0 m.1 (ap (gets_stand is_unnotified) m.2 ∙ st.2)
 
   -- a get begins
-  pub begun_sums : (l : Ledger C) → (alive_of (gets l ++ new_get ∷ []) ≡ alive l + 1) × (length (gets l ++ new_get ∷ []) ≡ length (gets l) + 1)
-      × (tally_gets is_unnotified (gets l ++ new_get ∷ []) ≡ unnotified l + 0) × (tally_gets is_notified (gets l ++ new_get ∷ []) ≡ notified l + 0)
-  begun_sums l = (
-    numbered.tally-append (λ (x : Numbered Getting). is_some x.standing) (gets l) new_get,
-    length-append (gets l) (new_get ∷ []),
-    numbered.tally-append (λ (x : Numbered Getting). gets_stand is_unnotified x.standing) (gets l) new_get,
-    numbered.tally-append (λ (x : Numbered Getting). gets_stand is_notified x.standing) (gets l) new_get,
-  )
+  pub begun_sums : (l : Ledger C) → GetsAre (gets l ++ new_get ∷ []) (alive l + 1) (unnotified l + 0) (notified l + 0) (length (gets l) + 1)
+  begun_sums l = record {
+    alive_are = numbered.tally-append (λ x. is_some x.standing) (gets l) new_get;
+    unnotified_are = numbered.tally-append (λ x. gets_stand is_unnotified x.standing) (gets l) new_get;
+    notified_are = numbered.tally-append (λ x. gets_stand is_notified x.standing) (gets l) new_get;
+    many_are = length-append (gets l) (new_get ∷ []);
+  }
+
+  -- the gets once one of them has waited
+  abbrev waited_gets : Ledger C → ℕ → ℕ → List (Numbered Getting)
+  waited_gets l at g = update (start l).first_get g (at_wait (max (latest l) at) (position l)) (gets l)
 
   -- a get waits on
-  pub waits_on_sums : (l : Ledger C) (at g : ℕ) → gets_stand is_unnotified (get_of l g) ≡ true
-      → (alive_of (update (start l).first_get g (at_wait (max (latest l) at) (position l)) (gets l)) ≡ alive l)
-      × (length (update (start l).first_get g (at_wait (max (latest l) at) (position l)) (gets l)) ≡ length (gets l))
-      × (tally_gets is_unnotified (update (start l).first_get g (at_wait (max (latest l) at) (position l)) (gets l)) ≡ unnotified l)
-      × (tally_gets is_notified (update (start l).first_get g (at_wait (max (latest l) at) (position l)) (gets l)) ≡ notified l)
-  waits_on_sums l at g on = rw (waits_on_gets l at g on) (refl, refl, refl, refl)
+  pub waits_on_sums : (l : Ledger C) (at g : ℕ) → gets_stand is_unnotified (get_of l g) ≡ true → GetsAre (waited_gets l at g) (alive l) (unnotified l) (notified l) (length (gets l))
+  waits_on_sums l at g on = rw (waits_on_gets l at g on) (record { alive_are = refl; unnotified_are = refl; notified_are = refl; many_are = refl })
 
   -- a get begins to wait
-  pub waits_sums : (l : Ledger C) (at g : ℕ) (gs : List (Numbered Getting)) → gs ≡ update (start l).first_get g (at_wait (max (latest l) at) (position l)) (gets l)
-      → gets_stand is_trying (get_of l g) ≡ true → gets_stand is_unnotified (get_of l g) ≡ false
-      → (alive_of gs ≡ alive l) × (length gs ≡ length (gets l)) × (tally_gets is_unnotified gs ≡ unnotified l + 1) × (tally_gets is_notified gs ≤ notified l)
+  pub waits_sums : (l : Ledger C) (at g : ℕ) → gets_stand is_trying (get_of l g) ≡ true → gets_stand is_unnotified (get_of l g) ≡ false
+      → let gs : List (Numbered Getting) = waited_gets l at g in
+      (alive_of gs ≡ alive l) × (length gs ≡ length (gets l)) × (tally_gets is_unnotified gs ≡ unnotified l + 1) × (tally_gets is_notified gs ≤ notified l)
       × (notified l ≤ tally_gets is_notified gs + 1) × (tally_gets is_unnotified gs + tally_gets is_notified gs ≤ alive l)
-  waits_sums l at g gs is f off =
+  waits_sums l at g f off =
+      let now : ℕ = max (latest l) at in
       let st = trier l g f off in
       let m = getting l g st.0 st.1 in
       let standing : gets_stand is_unnotified m.0.standing ≡ false = ap (gets_stand is_unnotified) m.2 ∙ st.2 in
-      let as_many : alive_of gs ≡ alive l = ap alive_of is ∙ begins_alive (start l).first_get (max (latest l) at) (position l) g (gets l) in
-      let u : tally_gets is_unnotified gs + one (is_unnotified st.0.place) ≡ unnotified l + 1 =
-      rw is (begins_counted is_unnotified (start l).first_get (max (latest l) at) (position l) g (gets l) m.0 st.0 m.1 m.2 standing) in
-      let n : tally_gets is_notified gs + one (is_notified st.0.place) ≡ notified l + 0 =
-      rw is (begins_counted is_notified (start l).first_get (max (latest l) at) (position l) g (gets l) m.0 st.0 m.1 m.2 standing) in
-      let many : length gs ≡ length (gets l) = ap length is ∙ numbered.length-update (gets l) (start l).first_get g (at_wait (max (latest l) at) (position l)) in
-      omega (arith, as_many, many, u, n, ap one st.2, one_few (is_notified st.0.place), waiters_few gs)
+      omega (
+        arith,
+        begins_alive (start l).first_get now (position l) g (gets l),
+        begins_counted is_unnotified (start l).first_get now (position l) g (gets l) m.0 st.0 m.1 m.2 standing,
+        begins_counted is_notified (start l).first_get now (position l) g (gets l) m.0 st.0 m.1 m.2 standing,
+        numbered.length-update (gets l) (start l).first_get g (at_wait now (position l)),
+        ap one st.2,
+        one_few (is_notified st.0.place),
+        waiters_few (waited_gets l at g),
+      )
 
   -- the oldest waiter is notified
   pub told_sums : (l : Ledger C) (n : Option ℕ) → n ≡ oldest_waiter l
-      → (alive_of (with_notice (start l).first_get n (gets l)) ≡ alive l) × (length (with_notice (start l).first_get n (gets l)) ≡ length (gets l))
-      × (tally_gets is_unnotified (with_notice (start l).first_get n (gets l)) ≡ unnotified l - 1)
-      × (tally_gets is_notified (with_notice (start l).first_get n (gets l)) ≡ notified l + min 1 (unnotified l))
-  told_sums l n is =
-      let told = notify_counted (start l).first_get (position l) n (gets l) (waited_before l) is in
-      (notify_alive (start l).first_get n (gets l), notify_length (start l).first_get n (gets l), told.0, told.1)
+      → GetsAre (with_notice (start l).first_get n (gets l)) (alive l) (unnotified l - 1) (notified l + min 1 (unnotified l)) (length (gets l))
+  told_sums l n is = told_are (start l).first_get (position l) n (gets l) (waited_before l) is
 
   -- which get is notified where a get gives up
   pub handed_to : (l : Ledger C) (g : ℕ) (n : Option ℕ) (st : Getting) → get_of l g ≡ Some st
@@ -224,16 +209,14 @@ module _ {C : Type 0} where
 
   -- a get gives up
   pub given_up_sums : (l : Ledger C) (g : ℕ) (n : Option ℕ) → is_some (get_of l g) ≡ true → n ≡ cond (gets_stand is_notified (get_of l g)) (oldest_waiter l) None
-      → (alive_of (with_notice (start l).first_get n (update (start l).first_get g after_end (gets l))) + 1 ≡ alive l)
-      × (length (with_notice (start l).first_get n (update (start l).first_get g after_end (gets l))) ≡ length (gets l))
-      × IsGivenUp (unnotified l) (notified l) (tally_gets is_unnotified (with_notice (start l).first_get n (update (start l).first_get g after_end (gets l))))
-      (tally_gets is_notified (with_notice (start l).first_get n (update (start l).first_get g after_end (gets l))))
+      → let gs : List (Numbered Getting) = with_notice (start l).first_get n (update (start l).first_get g after_end (gets l)) in
+      (alive_of gs + 1 ≡ alive l) × (length gs ≡ length (gets l)) × IsGivenUp (unnotified l) (notified l) (tally_gets is_unnotified gs) (tally_gets is_notified gs)
   given_up_sums l g n some is =
       let st = alive_get (get_of l g) some in
       let m = getting l g st.0 st.1 in
-      let ended : alive_of (update (start l).first_get g after_end (gets l)) + 1 ≡ alive l = alive_counted (start l).first_get g (gets l) m.0 st.0 m.1 m.2 in (
-        omega (arith, notify_alive (start l).first_get n (update (start l).first_get g after_end (gets l))),
-        notify_length (start l).first_get n (update (start l).first_get g after_end (gets l)) ∙ numbered.length-update (gets l) (start l).first_get g after_end,
+      let ended : List (Numbered Getting) = update (start l).first_get g after_end (gets l) in (
+        omega (arith, alive_counted (start l).first_get g (gets l) m.0 st.0 m.1 m.2, notify_alive (start l).first_get n ended),
+        notify_length (start l).first_get n ended ∙ numbered.length-update (gets l) (start l).first_get g after_end,
         given_up_counted (start l).first_get (position l) g n (gets l) m.0 st.0 m.1 m.2 (handed_to l g n st.0 st.1 is) (waited_before l),
       )
 
@@ -247,10 +230,6 @@ held_at first gs q = holds (standing_at first gs q)
 abbrev behind : Option (Numbered Getting) → Option ℕ
 behind o = holds (option_and_then (λ (x : Numbered Getting). x.standing) o)
 
-behind_nothing : (f : Numbered Getting → Numbered Getting) → ((x : Numbered Getting) → holds (f x).standing ≡ None) → (o : Option (Numbered Getting)) → behind (option_map f o) ≡ None
-behind_nothing f nothing None = refl
-behind_nothing f nothing (Some x) = nothing x
-
 -- a place at which nothing is held
 pub put_nothing : (p : GetPlace) → held_in p ≡ None → (x : Numbered Getting) → holds (get_at_place p x).standing ≡ None
 put_nothing p none x = go x.standing
@@ -260,14 +239,13 @@ put_nothing p none x = go x.standing
     go (Some s) = none
 
 -- a get at a place that holds nothing
-pub stands_quiet : (test : GetPlace → Bool) → ((k : ℕ) → test (Holding k) ≡ false) → (o : Option Getting) → gets_stand test o ≡ true → holds o ≡ None
+stands_quiet : (test : GetPlace → Bool) → ((k : ℕ) → test (Holding k) ≡ false) → (o : Option Getting) → gets_stand test o ≡ true → holds o ≡ None
 stands_quiet test off None e = refl
 stands_quiet test off (Some s) e = go s.place e
   where
     go : (p : GetPlace) → test p ≡ true → held_in p ≡ None
-    go Active e = refl
-    go (Waiting b) e = refl
     go (Holding k) e = absurd (let clash : false ≡ true = sym (off k) ∙ e in cc)
+    go _ e = refl
 
 pub waits_nothing : (now p : ℕ) (x : Numbered Getting) → holds (at_wait now p x).standing ≡ None
 waits_nothing now p x = pick (gets_stand is_unnotified x.standing) refl
@@ -288,53 +266,47 @@ trying_quiet = stands_quiet is_trying (λ k. refl)
 pub oldest_quiet : {C : Type 0} (l : Ledger C) (n : Option ℕ) → n ≡ oldest_waiter l → (g : ℕ) → n ≡ Some g → holds (get_of l g) ≡ None
 oldest_quiet l n is g e =
     let m = numbered.in_order_member unnotified_at (gets l) (start l).first_get (position l) 0 g (sym is ∙ e) in
-    ap (λ (o : Option (Numbered Getting)). holds (option_and_then (λ (x : Numbered Getting). x.standing) o)) m.1
-    ∙ stands_quiet is_unnotified (λ k. refl) m.0.standing (and_right (gets_stand is_unnotified m.0.standing) _ m.4).0
+    ap behind m.1 ∙ stands_quiet is_unnotified (λ k. refl) m.0.standing (and_right (gets_stand is_unnotified m.0.standing) _ m.4).0
 
 -- one get has changed, and holds nothing
-pub dropped_same : (first g : ℕ) (f : Numbered Getting → Numbered Getting) (gs : List (Numbered Getting)) (q : ℕ)
+pub dropped_holds : (first g : ℕ) (f : Numbered Getting → Numbered Getting) (gs : List (Numbered Getting)) (q : ℕ)
     → ((x : Numbered Getting) → holds (f x).standing ≡ None) → held_at first (update first g f gs) q ≡ cond (eqb q g) None (held_at first gs q)
-dropped_same first g f gs q nothing = updated_shows behind gs first g q f None (behind_nothing f nothing (at_number first gs g))
-
--- nor did it before
-pub quiet_same : (first g : ℕ) (f : Numbered Getting → Numbered Getting) (gs : List (Numbered Getting)) (q : ℕ)
-    → ((x : Numbered Getting) → holds (f x).standing ≡ None) → held_at first gs g ≡ None
-    → held_at first (update first g f gs) q ≡ held_at first gs q
-quiet_same first g f gs q nothing quiet = updated_same behind gs first g q f (behind_nothing f nothing (at_number first gs g) ∙ sym quiet)
+dropped_holds first g f gs q nothing = updated_shows behind gs first g q f None (none (at_number first gs g))
+  where
+    none : (o : Option (Numbered Getting)) → behind (option_map f o) ≡ None
+    none None = refl
+    none (Some x) = nothing x
 
 -- it takes the connection j
-pub taken_same : (first g j : ℕ) (gs : List (Numbered Getting)) (q : ℕ) (s : Getting) → standing_at first gs g ≡ Some s
+pub taken_holds : (first g j : ℕ) (gs : List (Numbered Getting)) (q : ℕ) (s : Getting) → standing_at first gs g ≡ Some s
     → held_at first (update first g (get_at_place (Holding j)) gs) q ≡ cond (eqb q g) (Some j) (held_at first gs q)
-taken_same first g j gs q s there =
+taken_holds first g j gs q s there =
     let m = numbered.standing_found gs first g s there in
     updated_shows behind gs first g q (get_at_place (Holding j)) (Some j)
     (ap (λ (o : Option (Numbered Getting)). behind (option_map (get_at_place (Holding j)) o)) m.1
     ∙ ap (λ (o : Option Getting). holds (option_map (get_with_place (Holding j)) o)) m.2)
 
 -- a get that holds nothing is notified, or none
-pub told_same : (first : ℕ) (n : Option ℕ) (gs : List (Numbered Getting)) (q : ℕ) → ((g : ℕ) → n ≡ Some g → held_at first gs g ≡ None)
+pub told_holds : (first : ℕ) (n : Option ℕ) (gs : List (Numbered Getting)) (q : ℕ) → ((g : ℕ) → n ≡ Some g → held_at first gs g ≡ None)
     → held_at first (with_notice first n gs) q ≡ held_at first gs q
-told_same first None gs q quiet = refl
-told_same first (Some g) gs q quiet = quiet_same first g (get_at_place (Waiting true)) gs q (put_nothing (Waiting true) refl) (quiet g refl)
-
--- a get begins
-pub begun_same : (first : ℕ) (gs : List (Numbered Getting)) (q : ℕ) → held_at first (gs ++ new_get ∷ []) q ≡ held_at first gs q
-begun_same first gs q = appended_same behind gs first q new_get refl
-
--- a get that holds something was not changed, where what is changed holds nothing
-pub other_holds : (first g : ℕ) (f : Numbered Getting → Numbered Getting) (gs : List (Numbered Getting)) (q k : ℕ)
-    → ((x : Numbered Getting) → holds (f x).standing ≡ None) → held_at first (update first g f gs) q ≡ Some k → (q ≢ g)
-    × (held_at first gs q ≡ Some k)
-other_holds first g f gs q k nothing now =
-    let is : cond (eqb q g) None (held_at first gs q) ≡ Some k = sym (dropped_same first g f gs q nothing) ∙ now in
-    ⊎_elim
-    (λ (t : (eqb q g ≡ true) × (q ≡ g)). absurd (let clash : None ≡ Some k = sym (ap (λ (b : Bool). cond b None (held_at first gs q)) t.0) ∙ is in cc))
-    (λ (t : (eqb q g ≡ false) × (q ≢ g)). (t.1, sym (ap (λ (b : Bool). cond b None (held_at first gs q)) t.0) ∙ is))
+told_holds first None gs q quiet = refl
+told_holds first (Some g) gs q quiet = dropped_holds first g (get_at_place (Waiting true)) gs q (put_nothing (Waiting true) refl)
+    ∙ ⊎_elim
+    (λ (t : (eqb q g ≡ true) × (q ≡ g)). rw t.0 (sym (ap (held_at first gs) t.1 ∙ quiet g refl)))
+    (λ (t : (eqb q g ≡ false) × (q ≢ g)). rw t.0 refl)
     (numbered.same_or_not q g)
 
-pub told_holds : (first : ℕ) (n : Option ℕ) (gs : List (Numbered Getting)) (q k : ℕ) → held_at first (with_notice first n gs) q ≡ Some k → held_at first gs q ≡ Some k
-told_holds first None gs q k h = h
-told_holds first (Some g) gs q k h = (other_holds first g (get_at_place (Waiting true)) gs q k (put_nothing (Waiting true) refl) h).1
+-- and so it is once a get has changed that holds nothing then
+pub told_dropped : (first g : ℕ) (f : Numbered Getting → Numbered Getting) (n : Option ℕ) (gs : List (Numbered Getting)) (q : ℕ)
+    → ((x : Numbered Getting) → holds (f x).standing ≡ None) → ((m : ℕ) → n ≡ Some m → held_at first gs m ≡ None)
+    → held_at first (with_notice first n (update first g f gs)) q ≡ cond (eqb q g) None (held_at first gs q)
+told_dropped first g f n gs q nothing quiet =
+    told_holds first n (update first g f gs) q (λ m e. dropped_holds first g f gs m nothing ∙ none (eqb m g) (quiet m e)) ∙ dropped_holds first g f gs q nothing
+  where
+    none : (b : Bool) {o : Option ℕ} → o ≡ None → cond b None o ≡ None
+    none true e = refl
+    none false e = e
 
-pub begun_holds : (first : ℕ) (gs : List (Numbered Getting)) (q k : ℕ) → held_at first (gs ++ new_get ∷ []) q ≡ Some k → held_at first gs q ≡ Some k
-begun_holds first gs q k h = sym (begun_same first gs q) ∙ h
+-- a get begins
+pub begun_holds : (first : ℕ) (gs : List (Numbered Getting)) (q : ℕ) → held_at first (gs ++ new_get ∷ []) q ≡ held_at first gs q
+begun_holds first gs q = appended_same behind gs first q new_get refl

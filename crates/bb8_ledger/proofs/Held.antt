@@ -1,11 +1,13 @@
--- What a get holds is out in that get's hands, and what is out in its hands it holds.
-use Rattle.bb8_ledger.proofs.Words.{◌≡◌, ℕ, max, Bool, true, false, cond, eqb, ◌&&◌, List, Option, Some, None, is_some, map, refl, sym, ap, ◌∙◌, Place, Idle, Held, Guarded, Standing, Active, Holding, Getting, Act, Leave, Answer, Left, Numbered, update, after_end, after_end_where, Ledger, Later, start, position, latest, handles, records, gets, record_of, get_of, at_place, entry, at_entry, with_approvals, get_at_place, at_wait, with_notice, oldest_waiter, holds, stands, gets_stand, is_held_by, is_left, is_trying, is_notified, Row, begins, waits_on, serves, takes_out, waits, checks, check_fails, gives_up, gives_up_kept, gives_up_closed, keeps, returns_closed, fills, claims, opens, opens_late, fails, adds, reaps, leaves, IsLegal, fits, with_record, agree, and_right}
+-- Who holds what: what a get holds is out in its hands and its last fitting try took it, and what is lent is with a guard.
+use Rattle.bb8_ledger.proofs.Words.{◌≡◌, ℕ, max, Bool, true, false, cond, not, eqb, ◌&&◌, ◌||◌, Option, Some, None, is_some, List, map, option_map, refl, sym, ap, ◌∙◌, subst, Grant, Place, Idle, Held, Guarded, Standing, Holder, Guard, Get, Active, Act, Try, PutBack, Leave, Answer, Served, Taken, Kept, Closed, Left, Numbered, update, after_end, after_end_where, Ledger, Later, start, position, latest, handles, records, gets, record_of, get_of, at_place, entry, at_entry, with_approvals, get_at_place, at_wait, with_notice, oldest_waiter, holds, stands, gets_stand, is_held_by, is_left, is_trying, is_notified, Row, begins, waits_on, serves, takes_out, waits, checks, check_fails, gives_up, gives_up_kept, gives_up_closed, keeps, returns_closed, fills, claims, opens, opens_late, fails, adds, reaps, leaves, IsLegal, fits, agree, and_right, HasTaken, last_try, ServesChecked, NeverServesUnchecked, is_lent, ServesUnlent, NeverServesTwice}
+use Rattle.std.specs.Option.{IfSome}
 use Rattle.bb8_types.proofs.Numbered as numbered
+use Rattle.bb8_ledger.specs.Acts.{get_in}
 use Rattle.bb8_ledger.proofs.Waiters.{getting_is}
-use Rattle.bb8_ledger.proofs.Effects.{each_legal, passes, Turns, to_place, returns_turn, closes_turn, opens_turn, ends_turn, held_turns, idle_turns, unclaimed_turns, IsOut, held_out, tests, turned_tests, turned_from, kept_tests, added_tests, granted_tests, swept_tests, reap_tests, leave_spares}
-use Rattle.bb8_ledger.proofs.GetEffects.{held_at, dropped_same, quiet_same, taken_same, told_same, begun_same, put_nothing, waits_nothing, trying_quiet, oldest_quiet}
+use Rattle.bb8_ledger.proofs.Effects.{each_legal, place_of, Turns, to_place, returns_turn, closes_turn, opens_turn, ends_turn, held_turns, idle_turns, unclaimed_turns, holder_in, holder_at, holder, turned_holder, turned_from, kept_holder, appended_same, granted_holder, reaped_holder, left_holder}
+use Rattle.bb8_ledger.proofs.GetEffects.{held_at, dropped_holds, taken_holds, told_holds, told_dropped, begun_holds, put_nothing, waits_nothing, trying_quiet, oldest_quiet}
 
--- whether it is k that is held
+-- whether it is this number
 abbrev is_it : ℕ → Option ℕ → Bool
 is_it k None = false
 is_it k (Some j) = eqb k j
@@ -14,89 +16,106 @@ it_is : (k : ℕ) (o : Option ℕ) → is_it k o ≡ true → o ≡ Some k
 it_is k None e = cc
 it_is k (Some j) e = ap (λ (i : ℕ). Some i) (sym (numbered.tested k j e))
 
-module _ {C : Type 0} where
-  -- the leave of a handle spares what is out
-  pub left_tests : (test : Place C → Bool) → IsOut test → (l : Ledger C) (at n j : ℕ) → tests test (start l).first (records (Later l at Leave (Left n))) j ≡ tests test (start l).first (records l) j
-  left_tests test out l at n j = pick (eqb (handles l) 1)
-    where
-      pick : (b : Bool) → tests test (start l).first (cond b (map (after_end_where is_left) (records l)) (records l)) j ≡ tests test (start l).first (records l) j
-      pick true = swept_tests test is_left (start l).first j (records l) (leave_spares test out.idle out.unclaimed)
-      pick false = refl
+if_it : (P : ℕ → Type 0) (o : Option ℕ) → IfSome o P → (k : ℕ) → is_it k o ≡ true → P k
+if_it P None h k e = cc
+if_it P (Some j) h k e = subst P (sym (numbered.tested k j e)) h
 
-  -- ---- who holds what
+-- whether the get g has it
+abbrev has_get : ℕ → Option Holder → Bool
+has_get g (Some (Get h)) = eqb g h
+has_get g _ = false
+
+-- whether a guard has it
+abbrev has_guard : Option Holder → Bool
+has_guard (Some Guard) = true
+has_guard _ = false
+
+-- ---- what an event hands over, by its answer
+
+-- the connection that an answer names
+abbrev named : Answer → Option ℕ
+named (Served k grant) = Some k
+named (Taken k grant) = Some k
+named (Kept k n) = Some k
+named (Closed k grant n) = Some k
+named _ = None
+
+-- what the get of an event holds then
+abbrev taken_in : Answer → Option ℕ
+taken_in (Taken k grant) = Some k
+taken_in _ = None
+
+-- one more is lent, or one less, or the same
+one_more : (b : Bool) (y : Option Holder) (x : Bool) → has_guard y ≡ x → has_guard (cond b (Some Guard) y) ≡ (b || x)
+one_more true y x e = refl
+one_more false y x e = e
+
+one_less : (b : Bool) (y : Option Holder) (x : Bool) → has_guard y ≡ x → has_guard (cond b None y) ≡ (not b && x)
+one_less true y x e = refl
+one_less false y x e = e
+
+as_many : (b : Bool) (to from y : Option Holder) → (b ≡ true → y ≡ from) → has_guard from ≡ has_guard to → has_guard (cond b to y) ≡ has_guard y
+as_many true to from y is same = sym same ∙ sym (ap has_guard (is refl))
+as_many false to from y is same = refl
+
+-- the event's get tried
+tried : (b : Bool) (a : Answer) (o : Option ℕ) (last : Option Answer) (k : ℕ) → (o ≡ Some k → (grant : Grant) × (last ≡ Some (Taken k grant)))
+    → cond b (taken_in a) o ≡ Some k → (grant : Grant) × (cond b (Some a) last ≡ Some (Taken k grant))
+tried true (Taken j grant) o last k h e = let same : j ≡ k = cc in (grant, ap (λ (i : ℕ). Some (Taken i grant)) same)
+tried true _ o last k h e = cc
+tried false a o last k h e = h e
+
+-- or it holds nothing
+not_it : (b : Bool) (o : Option ℕ) (k : ℕ) → cond b None o ≡ Some k → o ≡ Some k
+not_it true o k e = cc
+not_it false o k e = e
+
+module _ {C : Type 0} where
+  -- what the get of an event held
+  abbrev held_before : Act C → Answer → Option ℕ
+  held_before (Try g) a = None
+  held_before (PutBack k c broken) a = None
+  held_before e a = named a
+
+  -- who had the connection
+  abbrev comes_from : Act C → Option Holder
+  comes_from (Try g) = None
+  comes_from (PutBack k c broken) = Some Guard
+  comes_from e = option_map Get (get_in e)
+
+  -- who has it then
+  abbrev goes_to : Act C → Answer → Option Holder
+  goes_to e (Served k grant) = Some Guard
+  goes_to e (Taken k grant) = option_map Get (get_in e)
+  goes_to e _ = None
+
+  -- who has a connection
+  abbrev holder_of : Ledger C → ℕ → Option Holder
+  holder_of l k = holder_at (start l).first (records l) k
+
+  -- The get of an event then holds what the answer took, the connection that the answer names goes from one holder to another, and nothing
+  -- else is handed over.
+  record Hands (l : Ledger C) (at : ℕ) (e : Act C) (a : Answer) : Type 0 where
+    pub gets : (g : ℕ) → holds (get_of (Later l at e a) g) ≡ cond (is_it g (get_in e)) (taken_in a) (holds (get_of l g))
+    pub had : IfSome (get_in e) (λ g. holds (get_of l g) ≡ held_before e a)
+    pub conns : (k : ℕ) → holder_of (Later l at e a) k ≡ cond (is_it k (named a)) (goes_to e a) (holder_of l k)
+    pub from : IfSome (named a) (λ k. holder_of l k ≡ comes_from e)
 
   -- A get holds a connection just where that connection is out in its hands.
   abbrev AllHold : Ledger C → Type 0
-  AllHold l = (g k : ℕ) → is_it k (holds (get_of l g)) ≡ tests (is_held_by g) (start l).first (records l) k
+  AllHold l = (g k : ℕ) → is_it k (holds (get_of l g)) ≡ has_get g (holder_of l k)
 
-  -- a record moved that no get held, and none holds
-  unheld : {l : Ledger C} {j : ℕ} {p : Place C} {q : Option (Place C)} {f : Numbered (Standing C) → Numbered (Standing C)} (g k : ℕ)
-      → Turns l j p q f → is_held_by g p ≡ false → passes (is_held_by g) q ≡ false
-      → tests (is_held_by g) (start l).first (records l) k ≡ tests (is_held_by g) (start l).first (with_record l j f) k
-  unheld g k t was is = sym (kept_tests (is_held_by g) k t was is)
-
-  -- approvals are made, which no get holds
-  granted : (first : ℕ) (rs : List (Numbered (Standing C))) (g k : ℕ) (claimed : Bool) (n : ℕ) → tests (is_held_by g) first rs k ≡ tests (is_held_by g) first (with_approvals claimed n rs) k
-  granted first rs g k claimed n = sym (granted_tests (is_held_by g) first k claimed n rs (held_out g))
+  held_by : (g : ℕ) (o : Option (Standing C)) → stands (is_held_by g) o ≡ has_get g (holder_in (place_of o))
+  held_by g None = refl
+  held_by g (Some s) = go s.place
+    where
+      go : (p : Place C) → is_held_by g p ≡ has_get g (holder_in (Some p))
+      go (Held h) = refl
+      go _ = refl
 
   -- the connection of a get that holds it is out in its hands
-  in_hand : (l : Ledger C) (g k : ℕ) → AllHold l → holds (get_of l g) ≡ Some k → tests (is_held_by g) (start l).first (records l) k ≡ true
-  in_hand l g k h holds_it = sym (h g k) ∙ ap (is_it k) holds_it ∙ numbered.eqb_self k
-
-  -- the get q lets go of what it holds
-  let_go : {l : Ledger C} {q j : ℕ} {to : Option (Place C)} {f : Numbered (Standing C) → Numbered (Standing C)}
-      (d : Numbered Getting → Numbered Getting) (g k : ℕ) → AllHold l → holds (get_of l q) ≡ Some j → Turns l j (Held q) to f
-      → passes (is_held_by g) to ≡ false → ((x : Numbered Getting) → holds (d x).standing ≡ None)
-      → is_it k (held_at (start l).first_get (update (start l).first_get q d (gets l)) g) ≡ tests (is_held_by g) (start l).first (with_record l j f) k
-  let_go {l} {q} {j} {to} {f} d g k h holds_it t off nothing =
-      ap (is_it k) (dropped_same (start l).first_get q d (gets l) g nothing)
-      ∙ pick (eqb g q) (eqb k j) refl refl
-      ∙ sym (turned_tests (is_held_by g) k t ∙ ap (λ (b : Bool). cond (eqb k j) b (tests (is_held_by g) (start l).first (records l) k)) off)
-    where
-      pick : (a b : Bool) → eqb g q ≡ a → eqb k j ≡ b → is_it k (cond a None (holds (get_of l g))) ≡ cond b false (tests (is_held_by g) (start l).first (records l) k)
-      pick true true same it = refl
-      pick true false same it = sym (sym (h g k) ∙ ap (λ (i : ℕ). is_it k (holds (get_of l i))) (numbered.tested g q same) ∙ ap (is_it k) holds_it ∙ it)
-      pick false true same it = h g k ∙ ap (tests (is_held_by g) (start l).first (records l)) (numbered.tested k j it) ∙ turned_from (is_held_by g) t ∙ same
-      pick false false same it = h g k
-
-  -- the get q takes an idle connection
-  takes : (l : Ledger C) (q j g k : ℕ) → AllHold l → gets_stand is_trying (get_of l q) ≡ true → (c : C) × Turns l j (Idle c) (Some (Held q)) (at_place (Held q))
-      → is_it k (held_at (start l).first_get (update (start l).first_get q (get_at_place (Holding j)) (gets l)) g) ≡ tests (is_held_by g)
-      (start l).first (with_record l j (at_place (Held q))) k
-  takes l q j g k h tries t =
-      let st = getting_is is_trying (get_of l q) tries in
-      ap (is_it k) (taken_same (start l).first_get q j (gets l) g st.0 st.1)
-      ∙ pick (eqb g q) (eqb k j) refl refl
-      ∙ sym (turned_tests (is_held_by g) k t.1)
-    where
-      pick : (a b : Bool) → eqb g q ≡ a → eqb k j ≡ b → is_it k (cond a (Some j) (holds (get_of l g))) ≡ cond b (eqb g q) (tests (is_held_by g) (start l).first (records l) k)
-      pick true true same it = it ∙ sym same
-      pick true false same it =
-          it ∙ sym (sym (h g k) ∙ ap (λ (i : ℕ). is_it k (holds (get_of l i))) (numbered.tested g q same) ∙ ap (is_it k) (trying_quiet (get_of l q) tries))
-      pick false true same it = h g k ∙ ap (tests (is_held_by g) (start l).first (records l)) (numbered.tested k j it) ∙ turned_from (is_held_by g) t.1 ∙ sym same
-      pick false false same it = h g k
-
-  -- the get q, which held nothing, moves or ends, and holds nothing
-  stays : (l : Ledger C) (q : ℕ) (d : Numbered Getting → Numbered Getting) (g k : ℕ) → holds (get_of l q) ≡ None → ((x : Numbered Getting) → holds (d x).standing ≡ None)
-      → is_it k (held_at (start l).first_get (update (start l).first_get q d (gets l)) g) ≡ is_it k (holds (get_of l g))
-  stays l q d g k quiet nothing = ap (is_it k) (quiet_same (start l).first_get q d (gets l) g nothing quiet)
-
-  -- the oldest waiter is notified, which holds nothing
-  told : (l : Ledger C) (n : Option ℕ) (g k : ℕ) → n ≡ oldest_waiter l → is_it k (held_at (start l).first_get (with_notice (start l).first_get n (gets l)) g) ≡ is_it k (holds (get_of l g))
-  told l n g k is = ap (is_it k) (told_same (start l).first_get n (gets l) g (oldest_quiet l n is))
-
-  -- and so it is once a get has moved or ended that holds nothing then
-  told_after : (l : Ledger C) (q : ℕ) (d : Numbered Getting → Numbered Getting) (n : Option ℕ) (g k : ℕ)
-      → ((m : ℕ) → n ≡ Some m → holds (get_of l m) ≡ None) → ((x : Numbered Getting) → holds (d x).standing ≡ None)
-      → is_it k (held_at (start l).first_get (with_notice (start l).first_get n (update (start l).first_get q d (gets l))) g) ≡ is_it k
-      (held_at (start l).first_get (update (start l).first_get q d (gets l)) g)
-  told_after l q d n g k quiet nothing =
-      ap (is_it k) (told_same (start l).first_get n (update (start l).first_get q d (gets l)) g
-      (λ m e. dropped_same (start l).first_get q d (gets l) m nothing ∙ none (eqb m q) (quiet m e)))
-    where
-      none : (b : Bool) {o : Option ℕ} → o ≡ None → cond b None o ≡ None
-      none true e = refl
-      none false e = e
+  in_hand : (l : Ledger C) (g k : ℕ) → AllHold l → holds (get_of l g) ≡ Some k → stands (is_held_by g) (record_of l k) ≡ true
+  in_hand l g k h holds_it = held_by g (record_of l k) ∙ sym (h g k) ∙ ap (is_it k) holds_it ∙ numbered.eqb_self k
 
   -- a get that gives up and hands nothing in holds nothing
   free_quiet : (l : Ledger C) (g : ℕ) → (is_some (get_of l g) && agree false (is_some (holds (get_of l g)))) ≡ true → holds (get_of l g) ≡ None
@@ -114,57 +133,121 @@ module _ {C : Type 0} where
       pick true to = oldest_quiet l (oldest_waiter l) refl m to
       pick false to = cc
 
-  row_hold : (l : Ledger C) (at : ℕ) (e : Act C) (a : Answer) → fits l e ≡ true → Row l at e a → AllHold l → AllHold (Later l at e a)
-  row_hold l at _ _ f (begins is few) h = λ g k. ap (is_it k) (begun_same (start l).first_get (gets l) g) ∙ h g k
-  row_hold l at _ _ f (waits_on {g = q} {grant} on nothing) h =
-      λ g k. stays l q (at_wait (max (latest l) at) (position l)) g k (trying_quiet (get_of l q) f) (waits_nothing (max (latest l) at) (position l))
-      ∙ h g k ∙ granted (start l).first _ g k false grant.count
-  row_hold l at _ _ f (serves {g = q} {k = j} {grant} not_waiting off first want) h =
-      λ g k. stays l q after_end g k (trying_quiet (get_of l q) f) (λ x. refl)
-      ∙ h g k ∙ unheld g k (idle_turns l j Guarded first).1 refl refl ∙ granted (start l).first _ g k false grant.count
-  row_hold l at _ _ f (takes_out {g = q} {k = j} {grant} not_waiting on first want) h =
-      λ g k. takes l q j g k h f (idle_turns l j (Held q) first) ∙ granted (start l).first _ g k false grant.count
-  row_hold l at _ _ f (waits {g = q} {grant} not_waiting none granted_it) h =
-      λ g k. stays l q (at_wait (max (latest l) at) (position l)) g k (trying_quiet (get_of l q) f) (waits_nothing (max (latest l) at) (position l))
-      ∙ h g k ∙ granted (start l).first _ g k false grant.count
-  row_hold l at _ _ f (checks {g = q} {k = j} holds_it nothing) h =
-      λ g k. let_go after_end g k h holds_it (held_turns l q j (Some Guarded) (at_place Guarded) (in_hand l q j h holds_it) (to_place Guarded)) refl (λ x. refl)
-  row_hold l at _ _ f (check_fails {g = q} {k = j} {grant} {n} holds_it want is) h =
-      λ g k. told_after l q (get_at_place Active) n g k (oldest_quiet l n is) (put_nothing Active refl)
-      ∙ let_go (get_at_place Active) g k h holds_it (held_turns l q j None after_end (in_hand l q j h holds_it) (λ s r e. refl)) refl (put_nothing Active refl)
-      ∙ granted (start l).first _ g k false grant.count
-  row_hold l at _ _ f (gives_up {g = q} {n} is) h =
-      λ g k. told_after l q after_end n g k (handed_quiet l n q is) (λ x. refl)
-      ∙ stays l q after_end g k (free_quiet l q f) (λ x. refl) ∙ h g k
-  row_hold l at _ _ f (gives_up_kept {g = q} {k = j} {c} {n} holds_it keep is) h =
-      λ g k. told_after l q after_end n g k (oldest_quiet l n is) (λ x. refl)
-      ∙ let_go after_end g k h holds_it (held_turns l q j (Some (Idle c)) (at_entry c (max (latest l) at) (position l))
-      (in_hand l q j h holds_it) (λ s r e. refl)) refl (λ x. refl)
-  row_hold l at _ _ f (gives_up_closed {g = q} {k = j} {grant} {n} holds_it shut want is) h =
-      λ g k. told_after l q after_end n g k (oldest_quiet l n is) (λ x. refl)
-      ∙ let_go after_end g k h holds_it (held_turns l q j None after_end (in_hand l q j h holds_it) (λ s r e. refl)) refl (λ x. refl)
-      ∙ granted (start l).first _ g k false grant.count
-  row_hold l at _ _ f (keeps {k = j} {c} {n} keep is) h = λ g k. told l n g k is ∙ h g k ∙ unheld g k (returns_turn l at j c f) refl refl
-  row_hold l at _ _ f (returns_closed {k = j} {grant} {n} shut want is) h =
-      λ g k. told l n g k is ∙ h g k ∙ unheld g k (closes_turn l j f) refl refl ∙ granted (start l).first _ g k false grant.count
-  row_hold l at _ _ f (fills {claimed} {grant} want) h = λ g k. h g k ∙ granted (start l).first _ g k claimed grant.count
-  row_hold l at _ _ f (claims {k = Some j} open_now first) h = λ g k. h g k ∙ unheld g k (unclaimed_turns l j first) refl refl
-  row_hold l at _ _ f (opens {k = j} {c} {n} open_now is) h = λ g k. told l n g k is ∙ h g k ∙ unheld g k (opens_turn l at j c f) refl refl
-  row_hold l at _ _ f (opens_late {k = j} none) h = λ g k. h g k ∙ unheld g k (ends_turn l j f) refl refl
-  row_hold l at _ _ f (fails {k = j}) h = λ g k. h g k ∙ unheld g k (ends_turn l j f) refl refl
-  row_hold l at _ _ f (adds {c} {n} room few is who) h =
-      λ g k. told l n g k who ∙ h g k
-      ∙ sym (added_tests (is_held_by g) (start l).first k (entry c (max (latest l) at) (max (latest l) at) (position l)) (records l) refl)
-  row_hold l at _ _ f (reaps {grant} open_now closed_is by_idle_is by_life_is want) h =
-      λ g k. h g k
-      ∙ sym (reap_tests (is_held_by g) (held_out g) l at k)
-      ∙ granted (start l).first _ g k false grant.count
-  row_hold l at _ _ f (leaves {n} is) h = λ g k. h g k ∙ sym (left_tests (is_held_by g) (held_out g) l at n k)
-  row_hold l at _ _ f _ h = h
+  -- a get ends, and another is notified; the oldest waiter is notified
+  ended : (l : Ledger C) (q : ℕ) (n : Option ℕ) → ((m : ℕ) → n ≡ Some m → holds (get_of l m) ≡ None) → (g : ℕ)
+      → held_at (start l).first_get (with_notice (start l).first_get n (update (start l).first_get q after_end (gets l))) g ≡ cond (eqb g q) None (holds (get_of l g))
+  ended l q n quiet g = told_dropped (start l).first_get q after_end n (gets l) g (λ x. refl) quiet
+
+  told : (l : Ledger C) (n : Option ℕ) → n ≡ oldest_waiter l → (g : ℕ) → held_at (start l).first_get (with_notice (start l).first_get n (gets l)) g ≡ holds (get_of l g)
+  told l n is g = told_holds (start l).first_get n (gets l) g (oldest_quiet l n is)
+
+  -- a get waits
+  waiting : (l : Ledger C) (at q g : ℕ) → held_at (start l).first_get (update (start l).first_get q (at_wait (max (latest l) at) (position l)) (gets l)) g ≡ cond (eqb g q) None (holds (get_of l g))
+  waiting l at q g = dropped_holds (start l).first_get q (at_wait (max (latest l) at) (position l)) (gets l) g (waits_nothing (max (latest l) at) (position l))
+
+  -- approvals are made
+  granted : (l : Ledger C) (claimed : Bool) (n : ℕ) (rs : List (Numbered (Standing C))) (k : ℕ) → holder_at (start l).first (with_approvals claimed n rs) k ≡ holder_at (start l).first rs k
+  granted l claimed n rs k = granted_holder (start l).first k claimed n rs
+
+  -- a handle leaves
+  left : (l : Ledger C) (at n k : ℕ) → holder_of (Later l at Leave (Left n)) k ≡ holder_of l k
+  left l at n k = pick (eqb (handles l) 1)
+    where
+      pick : (b : Bool) → holder_at (start l).first (cond b (map (after_end_where is_left) (records l)) (records l)) k ≡ holder_of l k
+      pick true = left_holder (start l).first k (records l)
+      pick false = refl
+
+  row_hands : (l : Ledger C) (at : ℕ) (e : Act C) (a : Answer) → AllHold l → fits l e ≡ true → Row l at e a → Hands l at e a
+  row_hands l at _ _ h f (begins is few) = record { gets = begun_holds (start l).first_get (gets l); had = tt; conns = λ k. refl; from = tt }
+  row_hands l at _ _ h f (waits_on {g = q} {grant} on nothing) =
+      record { gets = waiting l at q; had = trying_quiet (get_of l q) f; conns = granted l false grant.count (records l); from = tt }
+  row_hands l at _ _ h f (serves {g = q} {k = j} {grant} anew off first want) =
+      let t = (idle_turns l j Guarded first).1 in
+      record { gets = ended l q None (λ m e. cc); had = trying_quiet (get_of l q) f; conns = λ k. granted l false grant.count _ k ∙ turned_holder k t; from = turned_from t }
+  row_hands l at _ _ h f (takes_out {g = q} {k = j} {grant} anew on first want) =
+      let t = (idle_turns l j (Held q) first).1 in
+      let s = getting_is is_trying (get_of l q) f in
+      record {
+        gets = λ g. taken_holds (start l).first_get q j (gets l) g s.0 s.1;
+        had = trying_quiet (get_of l q) f;
+        conns = λ k. granted l false grant.count _ k ∙ turned_holder k t;
+        from = turned_from t;
+      }
+  row_hands l at _ _ h f (waits {g = q} {grant} anew none due) =
+      record { gets = waiting l at q; had = trying_quiet (get_of l q) f; conns = granted l false grant.count (records l); from = tt }
+  row_hands l at _ _ h f (checks {g = q} {k = j} holds_it nothing) =
+      let t = held_turns l q j (Some Guarded) (at_place Guarded) (in_hand l q j h holds_it) (to_place Guarded) in
+      record { gets = ended l q None (λ m e. cc); had = holds_it; conns = λ k. turned_holder k t; from = turned_from t }
+  row_hands l at _ _ h f (check_fails {g = q} {k = j} {grant} {n} holds_it want is) =
+      let t = held_turns l q j None after_end (in_hand l q j h holds_it) (λ s r e. refl) in
+      record {
+        gets = λ g. told_dropped (start l).first_get q (get_at_place Active) n (gets l) g (put_nothing Active refl) (oldest_quiet l n is);
+        had = holds_it;
+        conns = λ k. granted l false grant.count _ k ∙ turned_holder k t;
+        from = turned_from t;
+      }
+  row_hands l at _ _ h f (gives_up {g = q} {n} is) = record { gets = ended l q n (handed_quiet l n q is); had = free_quiet l q f; conns = λ k. refl; from = tt }
+  row_hands l at _ _ h f (gives_up_kept {g = q} {k = j} {c} {n} holds_it keep is) =
+      let t = held_turns l q j (Some (Idle c)) (at_entry c (max (latest l) at) (position l)) (in_hand l q j h holds_it) (λ s r e. refl) in
+      record { gets = ended l q n (oldest_quiet l n is); had = holds_it; conns = λ k. turned_holder k t; from = turned_from t }
+  row_hands l at _ _ h f (gives_up_closed {g = q} {k = j} {grant} {n} holds_it shut want is) =
+      let t = held_turns l q j None after_end (in_hand l q j h holds_it) (λ s r e. refl) in
+      record { gets = ended l q n (oldest_quiet l n is); had = holds_it; conns = λ k. granted l false grant.count _ k ∙ turned_holder k t; from = turned_from t }
+  row_hands l at _ _ h f (keeps {k = j} {c} {n} keep is) =
+      let t = returns_turn l at j c f in
+      record { gets = told l n is; had = tt; conns = λ k. turned_holder k t; from = turned_from t }
+  row_hands l at _ _ h f (returns_closed {k = j} {grant} {n} shut want is) =
+      let t = closes_turn l j f in
+      record { gets = told l n is; had = tt; conns = λ k. granted l false grant.count _ k ∙ turned_holder k t; from = turned_from t }
+  row_hands l at _ _ h f (fills {claimed} {grant} want) = record { gets = λ g. refl; had = tt; conns = granted l claimed grant.count (records l); from = tt }
+  row_hands l at _ _ h f (claims {k = Some j} open_now first) = record { gets = λ g. refl; had = tt; conns = λ k. kept_holder k (unclaimed_turns l j first) refl refl; from = tt }
+  row_hands l at _ _ h f (opens {k = j} {c} {n} open_now is) = record { gets = told l n is; had = tt; conns = λ k. kept_holder k (opens_turn l at j c f) refl refl; from = tt }
+  row_hands l at _ _ h f (opens_late {k = j} none) = record { gets = λ g. refl; had = tt; conns = λ k. kept_holder k (ends_turn l j f) refl refl; from = tt }
+  row_hands l at _ _ h f (fails {k = j}) = record { gets = λ g. refl; had = tt; conns = λ k. kept_holder k (ends_turn l j f) refl refl; from = tt }
+  row_hands l at _ _ h f (adds {c} {n} room few is who) =
+      record { gets = told l n who; had = tt; conns = λ k. appended_same holder (records l) (start l).first k (entry c (max (latest l) at) (max (latest l) at) (position l)) refl; from = tt }
+  row_hands l at _ _ h f (reaps {grant} open_now closed_is by_idle_is by_life_is want) =
+      record { gets = λ g. refl; had = tt; conns = λ k. granted l false grant.count _ k ∙ reaped_holder l at k; from = tt }
+  row_hands l at _ _ h f (leaves {n} is) = record { gets = λ g. refl; had = tt; conns = left l at n; from = tt }
+  row_hands l at _ _ h f _ = record { gets = λ g. refl; had = tt; conns = λ k. refl; from = tt }
+
+  -- ---- what a get holds is out in its hands
+
+  -- What a get held was named, or it holds it still; and only the event's get has the connection before or then.
+  record IsMatched (e : Act C) (a : Answer) : Type 0 where
+    pub other_conn : (k : ℕ) → is_it k (named a) ≡ false → is_it k (taken_in a) ≡ is_it k (held_before e a)
+    pub other_get : (g : ℕ) → is_it g (get_in e) ≡ false → has_get g (comes_from e) ≡ has_get g (goes_to e a)
+    pub same : (g k : ℕ) → is_it g (get_in e) ≡ true → is_it k (named a) ≡ true → is_it k (taken_in a) ≡ has_get g (goes_to e a)
+
+  matched : {l : Ledger C} {at : ℕ} {e : Act C} {a : Answer} → Row l at e a → IsMatched e a
+  matched (takes_out anew on first want) = record { other_conn = λ k off. off; other_get = λ g off. sym off; same = λ g k a b. b ∙ sym a }
+  matched (checks holds_it nothing) = record { other_conn = λ k off. sym off; other_get = λ g off. off; same = λ g k a b. refl }
+  matched (gives_up is) = record { other_conn = λ k off. refl; other_get = λ g off. off; same = λ g k a b. refl }
+  matched (check_fails holds_it want is) = record { other_conn = λ k off. sym off; other_get = λ g off. off; same = λ g k a b. refl }
+  matched (gives_up_kept holds_it keep is) = record { other_conn = λ k off. sym off; other_get = λ g off. off; same = λ g k a b. refl }
+  matched (gives_up_closed holds_it shut want is) = record { other_conn = λ k off. sym off; other_get = λ g off. off; same = λ g k a b. refl }
+  matched _ = record { other_conn = λ k off. refl; other_get = λ g off. refl; same = λ g k a b. refl }
+
+  row_hold : (l : Ledger C) (at : ℕ) (e : Act C) (a : Answer) → AllHold l → Hands l at e a → IsMatched e a → AllHold (Later l at e a)
+  row_hold l at e a h x m g k = ap (is_it k) (x.gets g)
+      ∙ pick (is_it g (get_in e)) (is_it k (named a)) (if_it _ (get_in e) x.had g) (if_it _ (named a) x.from k) (m.other_conn k) (m.other_get g) (m.same g k)
+      ∙ sym (ap (has_get g) (x.conns k))
+    where
+      pick : (b d : Bool) → (b ≡ true → holds (get_of l g) ≡ held_before e a) → (d ≡ true → holder_of l k ≡ comes_from e)
+          → (d ≡ false → is_it k (taken_in a) ≡ is_it k (held_before e a)) → (b ≡ false → has_get g (comes_from e) ≡ has_get g (goes_to e a))
+          → (b ≡ true → d ≡ true → is_it k (taken_in a) ≡ has_get g (goes_to e a))
+          → is_it k (cond b (taken_in a) (holds (get_of l g))) ≡ has_get g (cond d (goes_to e a) (holder_of l k))
+      pick true true had from conn get same = same refl refl
+      pick true false had from conn get same = conn refl ∙ sym (ap (is_it k) (had refl)) ∙ h g k
+      pick false true had from conn get same = h g k ∙ ap (has_get g) (from refl) ∙ get refl
+      pick false false had from conn get same = h g k
 
   -- so it is in every legal ledger
   all_hold : (l : Ledger C) → IsLegal l → AllHold l
-  all_hold = each_legal AllHold (λ s lawful g k. refl) (λ l at e h. h) (λ l at e a legal f row h. row_hold l at e a f row h)
+  all_hold = each_legal AllHold (λ s lawful g k. refl) (λ l at e h. h) (λ l at e a legal f row h. row_hold l at e a h (row_hands l at e a h f row) (matched row))
+
+  hands : (l : Ledger C) (at : ℕ) (e : Act C) (a : Answer) → IsLegal l → fits l e ≡ true → Row l at e a → Hands l at e a
+  hands l at e a legal = row_hands l at e a (all_hold l legal)
 
   -- what a get holds is out in its hands
   pub all_held : (l : Ledger C) → IsLegal l → (g k : ℕ) → holds (get_of l g) ≡ Some k → stands (is_held_by g) (record_of l k) ≡ true
@@ -172,7 +255,57 @@ module _ {C : Type 0} where
 
   -- and what is out in its hands it holds
   pub all_holding : (l : Ledger C) → IsLegal l → (g k : ℕ) → stands (is_held_by g) (record_of l k) ≡ true → holds (get_of l g) ≡ Some k
-  all_holding l legal g k out = it_is k (holds (get_of l g)) (all_hold l legal g k ∙ out)
+  all_holding l legal g k out = it_is k (holds (get_of l g)) (all_hold l legal g k ∙ sym (held_by g (record_of l k)) ∙ out)
+
+  -- ---- what is lent is with a guard
+
+  abbrev IsLentRight : Ledger C → Type 0
+  IsLentRight l = (k : ℕ) → has_guard (holder_of l k) ≡ is_lent l k
+
+  row_lent : (l : Ledger C) (at : ℕ) (e : Act C) (a : Answer) → Row l at e a → Hands l at e a → IsLentRight l → IsLentRight (Later l at e a)
+  row_lent l at _ _ (serves {k = m} anew off first want) x h = λ k. ap has_guard (x.conns k) ∙ one_more (eqb k m) _ _ (h k)
+  row_lent l at _ _ (checks {k = m} holds_it nothing) x h = λ k. ap has_guard (x.conns k) ∙ one_more (eqb k m) _ _ (h k)
+  row_lent l at _ _ (keeps {k = m} keep is) x h = λ k. ap has_guard (x.conns k) ∙ one_less (eqb k m) _ _ (h k)
+  row_lent l at _ _ (returns_closed {k = m} shut want is) x h = λ k. ap has_guard (x.conns k) ∙ one_less (eqb k m) _ _ (h k)
+  row_lent l at e a row x h = λ k. ap has_guard (x.conns k)
+      ∙ as_many (is_it k (named a)) (goes_to e a) (comes_from e) (holder_of l k) (if_it (λ i. holder_of l i ≡ comes_from e) (named a) x.from k) refl ∙ h k
+
+  lent_right : (l : Ledger C) → IsLegal l → IsLentRight l
+  lent_right = each_legal IsLentRight (λ s lawful k. refl) (λ l at e h. h) (λ l at e a legal f row h. row_lent l at e a row (hands l at e a legal f row) h)
+
+  row_unlent : (l : Ledger C) (at : ℕ) (e : Act C) (a : Answer) → IsLegal l → Row l at e a → Hands l at e a → ServesUnlent l a
+  row_unlent l at _ _ legal (serves {k} anew off first want) x = sym (lent_right l legal k) ∙ ap has_guard x.from
+  row_unlent l at _ _ legal (checks {k} holds_it nothing) x = sym (lent_right l legal k) ∙ ap has_guard x.from
+  row_unlent l at _ _ legal _ x = tt
+
+  -- no connection is served again before its guard gave it back
+  pub never_twice : (l : Ledger C) → IsLegal l → NeverServesTwice l
+  never_twice = each_legal NeverServesTwice (λ s lawful. tt) (λ l at e before. (before, tt))
+      (λ l at e a legal f row before. (before, row_unlent l at e a legal row (hands l at e a legal f row)))
+
+  -- ---- what a get holds its last fitting try took
+
+  abbrev AllTaken : Ledger C → Type 0
+  AllTaken l = (g k : ℕ) → holds (get_of l g) ≡ Some k → HasTaken l g k
+
+  row_taken : (l : Ledger C) (at : ℕ) (e : Act C) (a : Answer) → Row l at e a → Hands l at e a → AllTaken l → AllTaken (Later l at e a)
+  row_taken l at _ _ (waits_on {g = q} on nothing) x h = λ g k now. tried (eqb g q) _ _ (last_try l g) k (h g k) (sym (x.gets g) ∙ now)
+  row_taken l at _ _ (serves {g = q} anew off first want) x h = λ g k now. tried (eqb g q) _ _ (last_try l g) k (h g k) (sym (x.gets g) ∙ now)
+  row_taken l at _ _ (takes_out {g = q} anew on first want) x h = λ g k now. tried (eqb g q) _ _ (last_try l g) k (h g k) (sym (x.gets g) ∙ now)
+  row_taken l at _ _ (waits {g = q} anew none due) x h = λ g k now. tried (eqb g q) _ _ (last_try l g) k (h g k) (sym (x.gets g) ∙ now)
+  row_taken l at e a row x h = λ g k now. h g k (not_it (is_it g (get_in e)) _ k (sym (x.gets g) ∙ now))
+
+  all_taken : (l : Ledger C) → IsLegal l → AllTaken l
+  all_taken = each_legal AllTaken (λ s lawful g k now. cc) (λ l at e h. h) (λ l at e a legal f row h. row_taken l at e a row (hands l at e a legal f row) h)
+
+  row_checked : (l : Ledger C) (at : ℕ) (e : Act C) (a : Answer) → IsLegal l → Row l at e a → ServesChecked l e a
+  row_checked l at _ _ legal (serves anew off first want) = λ on. absurd (let clash : false ≡ true = sym off ∙ on in cc)
+  row_checked l at _ _ legal (checks {g} {k} holds_it nothing) = λ on. (g, refl, all_taken l legal g k holds_it)
+  row_checked l at _ _ legal _ = tt
+
+  -- with the check on, nothing is served unchecked
+  pub never_unchecked : (l : Ledger C) → IsLegal l → NeverServesUnchecked l
+  never_unchecked = each_legal NeverServesUnchecked (λ s lawful. tt) (λ l at e before. (before, tt)) (λ l at e a legal f row before. (before, row_checked l at e a legal row))
 
   -- ---- the record that a get holds
 

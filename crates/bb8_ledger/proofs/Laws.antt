@@ -2,18 +2,16 @@
 use Rattle.bb8_ledger.proofs.Words.{Place, stands, one, ◌≡◌, ◌⊎◌, ℕ, suc, ◌+◌, ◌-◌, ◌<◌, ◌≤◌, max, min, true, false, Option, Some, sym, ap, ◌∙◌, inl, inr, ⊎_elim, arith, subst, is_some, Standing, Getting, is_lawful, Counts, Act, Try, GiveUp, Answer, update, after_end, Ledger, Opening, Later, start, position, latest, records, gets, handles, next, next_get, conns, approved, idle_count, alive, alive_of, notified, unnotified, oldest_waiter, record_of, get_of, with_notice, counts, is_conn, is_approval, is_out, gets_stand, is_unnotified, is_trying, Row, begins, waits_on, serves, takes_out, waits, checks, check_fails, gives_up, gives_up_kept, gives_up_closed, keeps, returns_closed, opens, adds, IsLegal, fits, KeepsLimits, KeepsLaws, KeepsPromises, NeverForgets, MayLower, lost, and_right, conn_from}
 use Rattle.bb8_types.specs.declared.standing.Place.TheVariants.{Claimed}
 use Rattle.bb8_types.proofs.Numbered as numbered
-use Rattle.bb8_ledger.proofs.Facts.{conns_split}
+use Rattle.bb8_ledger.proofs.Facts.{conns_split, waited_before}
 use Rattle.bb8_ledger.proofs.Waiters.{changed_tally, getting_is, alive_counted, InLine, line_later, line_begun, line_begins, line_notified, line_given_up}
 use Rattle.bb8_ledger.proofs.Effects.{each_legal}
 use Rattle.bb8_ledger.proofs.GetEffects.{getting, handed_to, trier, trier_leaves, trier_holds, holder_ends, holder_turns, left_line, left_told_line}
-use Rattle.bb8_ledger.proofs.Lent.{never_twice}
 use Rattle.bb8_ledger.proofs.Sums.{Sums, Serves, row_sums, never_again}
 pub use Rattle.bb8_ledger.proofs.Sums.{due_few}
 pub use Rattle.bb8_ledger.proofs.GetEffects.{alive_get, waits_on_gets}
 use Rattle.bb8_ledger.proofs.Wants.{either_none, makes_good}
 use Rattle.bb8_ledger.proofs.Reaps.{never_reaps_twice}
-use Rattle.bb8_ledger.proofs.Checked.{never_unchecked}
-use Rattle.bb8_ledger.proofs.Held.{all_held, all_holding}
+use Rattle.bb8_ledger.proofs.Held.{all_held, all_holding, never_twice, never_unchecked}
 
 -- The sizes and the statistics of a ledger fit together.
 pub record Fits (max_size conns approved next alive next_get : ℕ) (c : Counts) : Type 0 where
@@ -104,7 +102,7 @@ module _ {C : Type 0} where
   row_in_line l at _ _ f (waits {g} not_waiting none granted) i =
       let st = trier l g f not_waiting in
       let m = getting l g st.0 st.1 in
-      line_begins (start l).first_get (max (latest l) at) (position l) g (gets l) m.0 st.0 m.1 m.2 (ap (gets_stand is_unnotified) m.2 ∙ st.2) i
+      line_begins (start l).first_get (max (latest l) at) (position l) g (gets l) m.0 st.0 m.1 m.2 (ap (gets_stand is_unnotified) m.2 ∙ st.2) (waited_before l) i
   row_in_line l at _ _ f (checks {g} {k} holds_it nothing) i = left_line (holder_ends l g k holds_it).0 i
   row_in_line l at _ _ f (check_fails {g} {k} {n} holds_it want is) i = left_told_line (holder_turns l g k holds_it).0 n is i
   row_in_line l at _ _ f (gives_up {g} {n} is) i =
@@ -123,7 +121,7 @@ module _ {C : Type 0} where
   -- those who wait stand in line
   pub all_in_line : (l : Ledger C) → IsLegal l → AllInLine l
   all_in_line = each_legal AllInLine
-      (λ s lawful. record { below = λ g a e w. cc; apart = λ g h a b e d w v same. cc; turn = λ g h a b e d w v. cc })
+      (λ s lawful. record { turn = 0; turn_few = omega arith; keeps = λ g a e. cc; apart = λ q. omega arith })
       (λ l at e i. line_later (start l).first_get (position l) (gets l) i) (λ l at e a legal f row i. row_in_line l at e a f row i)
 
   -- an event forgets no notification
@@ -154,5 +152,5 @@ module _ {C : Type 0} where
         (λ (e : (start l).config.max_size - (conns l + approved l) + idle_count l - (notified l + lost l) ≡ 0). inr (omega arith))
         (either_none (unnotified l - (approved l + lost l)) ((start l).config.max_size - (conns l + approved l) + idle_count l - (notified l + lost l)) (promised_open l open_now (all_serve l legal)));
     remembered = never_forgets l legal;
-    in_turn = (all_in_line l legal).turn;
+    in_turn = (let i = all_in_line l legal in λ g h a b e d told untold. omega (arith, (i.keeps g a e).0 told, (i.keeps h b d).1 untold));
   }

@@ -8,8 +8,6 @@ pub mod GetEffects
 pub mod Held
 pub mod Sums
 pub mod Invalid
-pub mod Lent
-pub mod Checked
 pub mod Wants
 pub mod Reaps
 pub mod Laws

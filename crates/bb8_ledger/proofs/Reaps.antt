@@ -1,9 +1,10 @@
 -- A reap leaves nothing to close or to grant to a second one at the same moment.
-use Rattle.bb8_ledger.proofs.Words.{◌≡◌, ◌⊎◌, ℕ, zero, suc, ◌+◌, ◌-◌, ◌<◌, ◌≤◌, max, Bool, true, false, ◌&&◌, cond, eqb, List, [], ◌∷◌, ◌++◌, length, take, drop, Option, Some, None, refl, sym, ap, ◌∙◌, arith, subst, length-take, length-drop, take-length, drop-length, unwrap_or, Grant, Standing, Settings, Act, Reap, Answer, Reaped, Numbered, update, tally, one, after_end, Ledger, Later, start, position, latest, records, handles, conns, approved, idle_count, conns_of, approved_of, idle_of, approval, with_approvals, reaped, outlived, idled, over_idle_at, idle_at, with_ended, Start, is_idle, idles_out, lives_out, Row, reaps, reaped_at, IsWant, IsLegal, lacking, reap_granted, IsMadeGood, ReapsOnce, NeverReapsTwice, Before, and_right}
+use Rattle.bb8_ledger.proofs.Words.{◌≡◌, ℕ, zero, suc, ◌+◌, ◌-◌, ◌≤◌, max, Bool, true, false, cond, eqb, List, [], ◌∷◌, ◌++◌, length, take, drop, Option, Some, None, refl, sym, ap, ◌∙◌, arith, subst, length-take, length-drop, take-length, drop-length, unwrap_or, Grant, Standing, Settings, Act, Reap, Answer, Reaped, Numbered, update, tally, one, after_end, Ledger, Later, start, position, latest, records, handles, conns_of, approved_of, idle_of, approval, with_approvals, reaped, outlived, idled, over_idle_at, idle_at, with_ended, Start, is_idle, idles_out, lives_out, Row, reaps, reaped_at, IsLegal, lacking, reap_granted, IsMadeGood, ReapsOnce, NeverReapsTwice, Before, and_right}
 use Rattle.bb8_types.proofs.Numbered as numbered
 use Rattle.bb8_ledger.proofs.Facts.{ended_all_before, entered_before}
 use Rattle.bb8_ledger.proofs.Standings.{before-approve}
 use Rattle.bb8_ledger.proofs.Effects.{each_legal, ended_append, ended_tally, front_idle, front_ended, outlived_line, over_idle, over_idle_line, idles_idle, approves, reaped_sized}
+use Rattle.bb8_ledger.proofs.Waiters.{both_hold}
 use Rattle.bb8_ledger.proofs.Wants.{due_open, row_makes_good}
 
 -- no list is left of none
@@ -16,34 +17,22 @@ module _ {C : Type 0} where
   fewer_ended : (test : Option (Standing C) → Bool) → test None ≡ false → (rs : List (Numbered (Standing C))) (n k : ℕ)
       → tally (λ r. test r.standing) (update n k after_end rs) ≤ tally (λ r. test r.standing) rs
   fewer_ended test off [] n k = omega arith
-  fewer_ended test off (r ∷ rs) n k =
-      let ih : tally (λ x. test x.standing) (update (suc n) k after_end rs) ≤ tally (λ x. test x.standing) rs = fewer_ended test off rs (suc n) k in
-      let here : one (test (cond (eqb k n) (after_end r) r).standing) ≤ one (test r.standing) = pick (eqb k n) in
-      omega arith
+  fewer_ended test off (r ∷ rs) n k = omega (arith, fewer_ended test off rs (suc n) k, pick (eqb k n))
     where
       pick : (b : Bool) → one (test (cond b (after_end r) r).standing) ≤ one (test r.standing)
-      pick true = let none : one (test None) ≡ 0 = ap one off in omega arith
+      pick true = omega (arith, ap one off)
       pick false = omega arith
 
   fewer_all_ended : (test : Option (Standing C) → Bool) → test None ≡ false → (first : ℕ) (ks : List ℕ) (rs : List (Numbered (Standing C)))
       → tally (λ r. test r.standing) (with_ended first ks rs) ≤ tally (λ r. test r.standing) rs
   fewer_all_ended test off first [] rs = omega arith
-  fewer_all_ended test off first (k ∷ ks) rs =
-      let ih : tally (λ x. test x.standing) (with_ended first ks (update first k after_end rs)) ≤ tally (λ x. test x.standing) (update first k after_end rs) =
-      fewer_all_ended test off first ks (update first k after_end rs) in
-      omega (arith, ih, fewer_ended test off rs first k)
+  fewer_all_ended test off first (k ∷ ks) rs = omega (arith, fewer_all_ended test off first ks (update first k after_end rs), fewer_ended test off rs first k)
 
   -- nor what was approved since
   approved_none : (test : Option (Standing C) → Bool) → test (approval {C = C} false).standing ≡ false → (n : ℕ) (rs : List (Numbered (Standing C)))
       → tally (λ r. test r.standing) (with_approvals false n rs) ≡ tally (λ r. test r.standing) rs
   approved_none test off zero rs = refl
-  approved_none test off (suc n) rs =
-      let more : tally (λ r. test r.standing) (with_approvals false n rs ++ approval false ∷ []) ≡ tally
-      (λ r. test r.standing) (with_approvals false n rs) + one (test (approval {C = C} false).standing) =
-      numbered.tally-append (λ (r : Numbered (Standing C)). test r.standing) (with_approvals false n rs) (approval false) in
-      let none : one (test (approval {C = C} false).standing) ≡ 0 = ap one off in
-      let ih : tally (λ r. test r.standing) (with_approvals false n rs) ≡ tally (λ r. test r.standing) rs = approved_none test off n rs in
-      omega arith
+  approved_none test off (suc n) rs = omega (arith, numbered.tally-append (λ r. test r.standing) (with_approvals false n rs) (approval false), ap one off, approved_none test off n rs)
 
   -- an approval is in no line of idle ones
   approved_line : (s : Start) (m now n : ℕ) (rs : List (Numbered (Standing C))) → over_idle s m now (with_approvals false n rs) ≡ over_idle s m now rs
@@ -55,13 +44,8 @@ module _ {C : Type 0} where
   over_idle_before config now m [] b = tt
   over_idle_before config now m (r ∷ rs) b = (λ p h. b.0 p (entered p h), over_idle_before config now m rs b.1)
     where
-      both : (x y : Bool) → x ≡ true → y ≡ true → (x && y) ≡ true
-      both true true e f = refl
-      both true false e f = cc
-      both false y e f = cc
-
       entered : (p : ℕ) → over_idle_at config now p r ≡ true → idle_at p r ≡ true
-      entered p h = let t = and_right (idles_out config now r.standing) _ h in both _ _ (idles_idle config now r.standing t.0) t.1
+      entered p h = let t = and_right (idles_out config now r.standing) _ h in both_hold _ _ (idles_idle config now r.standing t.0) t.1
 
   -- nothing is there to end at a moment
   pub record NoneDue (s : Start) (m now : ℕ) (rs : List (Numbered (Standing C))) : Type 0 where
@@ -138,25 +122,14 @@ module _ {C : Type 0} where
       (λ l at e h before is. let was = h before is in (none_later (start l) (position l) (latest l) (records l) (entered_before l) was.0, was.1))
       (λ l at e a legal f row h. row_reaped l at e a row)
 
-  -- what is wanted once nothing is to be ended, where what was wanted was made good and nothing was withheld
-  wants_none : (l : Ledger C) (rs : List (Numbered (Standing C))) (g : Grant) (withheld : ℕ) → IsWant l rs g → 0 < handles l → conns_of rs ≡ conns l
-      → approved_of rs ≡ approved l → idle_of rs ≡ idle_count l
-      → (unwrap_or (start l).config.min_idle 0 ≤ idle_count l + approved l) ⊎ ((start l).config.max_size ≤ conns l + approved l) ⊎ (0 < withheld)
-      → withheld ≡ 0 → g.count ≡ 0
-  wants_none l rs g withheld want open_now conns_are approved_are idle_are good none =
-      let taken : ℕ = conns_of rs + approved_of rs in
-      let asked : ℕ = lacking (start l).config (idle_of rs + approved_of rs) in
-      omega (arith, want.split, due_open (start l).config (handles l) taken asked open_now, good)
-
   row_once : (l : Ledger C) (at : ℕ) (e : Act C) (a : Answer) → IsLegal l → Row l at e a → ReapsOnce l at a
   row_once l at _ _ legal (reaps {closed} {grant} open_now closed_is by_idle_is by_life_is want) = λ before is still.
       let was = all_reaped l legal before is in
       let none : length (reaped_at l at) ≡ 0 =
       ap (λ (now : ℕ). length (reaped (start l) (position l) now (records l))) still ∙ none_reaped (start l) (position l) (latest l) (records l) was.0 in
-      let z = reaped_sized l at in (
-        closed_is ∙ none,
-        wants_none l _ grant before.withheld want open_now (omega (arith, z.conns_are)) (omega (arith, z.approved_are)) (omega (arith, z.idle_are)) (was.1 open_now),
-      )
+      let rs : List (Numbered (Standing C)) = with_ended (start l).first (reaped_at l at) (records l) in
+      let due_is = due_open (start l).config (handles l) (conns_of rs + approved_of rs) (lacking (start l).config (idle_of rs + approved_of rs)) open_now in
+      (closed_is ∙ none, λ nothing_withheld. omega (arith, want.split, due_is, was.1 open_now, reaped_sized l at))
   row_once l at _ _ legal _ = tt
 
   -- a reap leaves nothing to a second one

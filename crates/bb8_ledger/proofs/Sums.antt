@@ -1,7 +1,7 @@
 -- What each row of the step table does to the sizes, the numbers and the statistics.
-use Rattle.bb8_ledger.proofs.Words.{⊤, ◌≡◌, ◌⊎◌, ℕ, ◌+◌, ◌-◌, ◌<◌, ◌≤◌, min, Bool, true, false, cond, not, eqb, ltb, ◌&&◌, List, Option, Some, None, is_some, refl, ap, inl, inr, ⊎_elim, arith, length-append, Grant, Guarded, Held, Standing, Settings, Numbered, one, due, lacking, Act, Try, CheckedOk, GiveUp, Leave, Reason, TimedOut, Cancelled, Answer, Kept, Closed, GaveUp, Entered, Reaped, Left, Unfit, Ledger, Later, start, records, handles, idle, idle_count, first_idle, unnotified, notified, conns, approved, conns_of, approved_of, idle_of, alive, expires, waited_since, started, direct, waited, timed_out, cancelled, created, broken, expired, invalid, idled_out, get_of, Row, begins, waits_on, serves, takes_out, waits, checks, check_fails, gives_up, gives_up_kept, gives_up_closed, keeps, returns_closed, fills, claims, opens, opens_late, fails, adds, reaps, joins, leaves, IsWant, IsLegal, fits, outlived_at, idled_at, GivesNext, NeverGivesAgain, numbers_given, gets_given, lost, and_right, nat_tests}
+use Rattle.bb8_ledger.proofs.Words.{⊤, ◌≡◌, ◌⊎◌, ℕ, ◌+◌, ◌-◌, ◌<◌, ◌≤◌, min, Bool, true, false, cond, not, eqb, ltb, ◌&&◌, List, Option, Some, None, is_some, refl, ap, inl, inr, arith, length-append, Grant, Guarded, Held, Standing, Settings, Numbered, one, due, lacking, Act, Try, CheckedOk, GiveUp, Reason, TimedOut, Cancelled, Answer, Kept, Closed, GaveUp, Entered, Reaped, Unfit, Ledger, Later, start, handles, idle, idle_count, first_idle, unnotified, notified, conns, approved, conns_of, approved_of, idle_of, alive, expires, waited_since, started, direct, waited, timed_out, cancelled, created, broken, expired, invalid, idled_out, get_of, Row, begins, waits_on, serves, takes_out, waits, checks, check_fails, gives_up, gives_up_kept, gives_up_closed, keeps, returns_closed, fills, claims, opens, opens_late, fails, adds, reaps, joins, leaves, IsWant, IsLegal, fits, outlived_at, idled_at, GivesNext, NeverGivesAgain, numbers_given, gets_given, lost, and_right, nat_tests}
 use Rattle.bb8_ledger.proofs.Effects.{each_legal, returns_turn, closes_turn, opens_turn, ends_turn, idle_turns, unclaimed_turns, stays_sized, turned_sized, adds_sized, granted_sized, reaped_sized, granted_reaped, left_sized}
-use Rattle.bb8_ledger.proofs.GetEffects.{trier_leaves, trier_holds, holder_ends, holder_turns, left_sums, left_told_sums, begun_sums, waits_on_sums, waits_sums, told_sums, given_up_sums}
+use Rattle.bb8_ledger.proofs.GetEffects.{trier_leaves, trier_holds, holder_ends, holder_turns, left_sums, left_told, begun_sums, waits_on_sums, waits_sums, told_sums, given_up_sums}
 use Rattle.bb8_ledger.proofs.Facts.{idle_tally, none_first}
 use Rattle.bb8_ledger.proofs.Wants.{due_or_none}
 use Rattle.bb8_ledger.proofs.Held.{checks_turn, drops_turn, hands_in_turn}
@@ -31,6 +31,7 @@ one_of true x = omega arith
 one_of false true = omega arith
 one_of false false = omega arith
 
+-- a served get counts once
 either_one : (b : Bool) → one (not b) + one b ≡ 1
 either_one true = refl
 either_one false = refl
@@ -58,16 +59,6 @@ module _ {C : Type 0} where
   none_idle : (l : Ledger C) → first_idle l ≡ None → idle_count l ≡ 0
   none_idle l none = omega (arith, idle_tally l, none_first (start l).config.queue_strategy (idle l) none)
 
-  -- the last handle leaves, or as much stands there as before
-  left_or_same : (l : Ledger C) (at n : ℕ) → ((handles l ≡ 1) × (idle_of (records (Later l at Leave (Left n))) ≡ 0))
-      ⊎ ((conns_of (records (Later l at Leave (Left n))) ≡ conns l) × (approved_of (records (Later l at Leave (Left n))) ≡ approved l)
-      × (idle_of (records (Later l at Leave (Left n))) ≡ idle_count l))
-  left_or_same l at n =
-      ⊎_elim
-      (λ (t : (handles l ≡ 1) × (idle_of (records (Later l at Leave (Left n))) ≡ 0)). inl t)
-      (λ (same : records (Later l at Leave (Left n)) ≡ records l). inr (ap conns_of same, ap approved_of same, ap idle_of same))
-      (left_sized l at n).last
-
   -- what is granted is within the size
   wanted_few : (l : Ledger C) (rs : List (Numbered (Standing C))) (g : Grant) → IsWant l rs g → g.count ≤ (start l).config.max_size - (conns_of rs + approved_of rs)
   wanted_few l rs g want =
@@ -75,10 +66,6 @@ module _ {C : Type 0} where
       let asked : ℕ = lacking (start l).config (idle_of rs + approved_of rs) in
       let split : g.count + g.withheld ≡ due (start l).config (handles l) taken asked = want.split in
       omega (arith, due_few (start l).config (handles l) taken asked)
-
-  -- a served get counts once
-  served_once : (l : Ledger C) (e : Act C) → one (not (is_some (waited_since l e))) + one (is_some (waited_since l e)) ≡ 1
-  served_once l e = either_one (is_some (waited_since l e))
 
   -- a get that gives up counts once
   gave_up : (l : Ledger C) (at g : ℕ) (why : Reason) (held : Option C) (broken : Bool) (a : Answer) → (a ≡ Unfit → ⊥)
@@ -116,7 +103,7 @@ module _ {C : Type 0} where
   row_sums l at _ _ legal f (waits_on {g} {grant} on nothing) = omega (arith, granted_sized false grant.count (stays_sized l), waits_on_sums l at g on)
   row_sums l at _ _ legal f (serves {g} {k} {grant} not_waiting off first want) =
       let z = turned_sized (idle_turns l k Guarded first).1 in
-      omega (arith, z, granted_sized false grant.count z, wanted_few l _ grant want, left_sums (trier_leaves l g f not_waiting), served_once l (Try g))
+      omega (arith, z, granted_sized false grant.count z, wanted_few l _ grant want, left_sums (trier_leaves l g f not_waiting), either_one (is_some (waited_since l (Try g))))
   row_sums l at _ _ legal f (takes_out {g} {k} {grant} not_waiting on first want) =
       let z = turned_sized (idle_turns l k (Held g) first).1 in
       omega (arith, z, granted_sized false grant.count z, wanted_few l _ grant want, left_sums (trier_holds l g k f not_waiting))
@@ -125,7 +112,7 @@ module _ {C : Type 0} where
       omega (
         arith,
         granted_sized false grant.count (stays_sized l),
-        waits_sums l at g _ refl f not_waiting,
+        waits_sums l at g f not_waiting,
         due_few (start l).config (handles l) (conns l + approved l) asked,
         due_or_none (start l).config (handles l) (conns l + approved l) asked,
         one_or_enough (approved l) (alive l),
@@ -133,16 +120,16 @@ module _ {C : Type 0} where
       )
   row_sums l at _ _ legal f (checks {g} {k} holds_it nothing) =
       let t = holder_ends l g k holds_it in
-      omega (arith, turned_sized (checks_turn l g k legal holds_it), left_sums t.0, ap one t.1, served_once l (CheckedOk g))
+      omega (arith, turned_sized (checks_turn l g k legal holds_it), left_sums t.0, ap one t.1, either_one (is_some (waited_since l (CheckedOk g))))
   row_sums l at _ _ legal f (check_fails {g} {k} {broken = b} {grant} {n} holds_it want is) =
       let z = turned_sized (drops_turn l g k legal holds_it) in
       let t = holder_turns l g k holds_it in
-      omega (arith, z, granted_sized false grant.count z, wanted_few l _ grant want, left_told_sums t.0 n is t.1, one_of b (expires l at k))
+      omega (arith, z, granted_sized false grant.count z, wanted_few l _ grant want, left_sums t.0, left_told t.0 n is, ap one t.1, one_of b (expires l at k))
   row_sums l at _ _ legal f (gives_up {g} {why} {broken} {n} is) =
       omega (arith, given_up_sums l g n (and_right (is_some (get_of l g)) _ f).0 is, gave_up l at g why None broken (GaveUp n) (λ e. cc))
   row_sums l at _ _ legal f (gives_up_kept {g} {k} {why} {c} {broken = b} {n} holds_it keep is) =
       let t = holder_ends l g k holds_it in
-      omega (arith, turned_sized (hands_in_turn l at g k c legal holds_it), left_told_sums t.0 n is t.1, gave_up l at g why (Some c) b (Kept k n) (λ e. cc))
+      omega (arith, turned_sized (hands_in_turn l at g k c legal holds_it), left_sums t.0, left_told t.0 n is, ap one t.1, gave_up l at g why (Some c) b (Kept k n) (λ e. cc))
   row_sums l at _ _ legal f (gives_up_closed {g} {k} {why} {c} {broken = b} {grant} {n} holds_it shut want is) =
       let z = turned_sized (drops_turn l g k legal holds_it) in
       let t = holder_ends l g k holds_it in
@@ -151,7 +138,9 @@ module _ {C : Type 0} where
         z,
         granted_sized false grant.count z,
         wanted_few l _ grant want,
-        left_told_sums t.0 n is t.1,
+        left_sums t.0,
+        left_told t.0 n is,
+        ap one t.1,
         one_of b (expires l at k),
         gave_up l at g why (Some c) b (Closed k grant n) (λ e. cc),
       )
@@ -169,7 +158,7 @@ module _ {C : Type 0} where
       let z = reaped_sized l at in
       omega (arith, z, granted_reaped grant.count z, wanted_few l _ grant want, length-append (outlived_at l at) (idled_at l at))
   row_sums l at _ _ legal f (joins few) = omega (arith, is_open (handles l) f)
-  row_sums l at _ _ legal f (leaves {n} is) = omega (arith, left_sized l at n, left_or_same l at n)
+  row_sums l at _ _ legal f (leaves {n} is) = omega (arith, left_sized l at n, (left_sized l at n).last)
   row_sums l at _ _ legal f _ = omega arith
 
   -- ---- what they sum up to

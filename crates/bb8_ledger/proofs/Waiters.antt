@@ -1,5 +1,5 @@
 -- What each change of the gets does to those who wait: how many they are, and in which order they wait.
-use Rattle.bb8_ledger.proofs.Words.{◌≡◌, ◌≢◌, ◌⊎◌, ℕ, zero, suc, ◌+◌, ◌-◌, ◌<◌, ◌≤◌, min, Bool, true, false, cond, eqb, ◌&&◌, List, [], ◌∷◌, ◌++◌, length, Option, Some, None, is_some, slice_get, option_map, refl, sym, ap, ◌∙◌, ⊎_elim, arith, subst, inl, inr, GetPlace, Active, Holding, Getting, Numbered, at, update, numbers, in_order, tally, one, after_end, gets_stand, is_unnotified, is_notified, get_with_place, get_in_wait, unnotified_at, tally_gets, alive_of, new_get, get_at_place, at_wait, with_notice, change, Before, and_right}
+use Rattle.bb8_ledger.proofs.Words.{◌≡◌, ne_eqb, eq-eqb, option_map, ◌≢◌, ◌⊎◌, ℕ, zero, suc, ◌+◌, ◌-◌, ◌<◌, ◌≤◌, min, Bool, true, false, cond, eqb, ◌&&◌, List, [], ◌∷◌, ◌++◌, length, Option, Some, None, is_some, slice_get, refl, sym, ap, ◌∙◌, ⊎_elim, arith, subst, inl, inr, GetPlace, Active, Holding, Getting, Numbered, at, update, numbers, in_order, tally, one, after_end, gets_stand, is_unnotified, is_notified, get_with_place, get_in_wait, unnotified_at, tally_gets, alive_of, new_get, get_at_place, at_wait, with_notice, change, Before, and_right}
 use Rattle.bb8_types.specs.declared.standing.GetPlace.TheVariants.{Waiting}
 use Rattle.bb8_types.proofs.Numbered as numbered
 
@@ -45,47 +45,18 @@ module _ {R : Type 0} where
       (λ (t : (eqb p m ≡ false) × (p ≢ m)). in_order_some stands rs n m q p r h on (omega (arith, t.1)) (no_front (in_order stands n rs m) (numbers (stands m) n rs) none))
       (numbered.same_or_not p m)
 
-  -- the first in the list stands at the least position
-  pub in_order_least : (stands : ℕ → R → Bool) (rs : List R) (n m k : ℕ) → slice_get (in_order stands n rs m) 0 ≡ Some k → (r : R)
-      × (at n rs k ≡ Some r) × (p : ℕ) × (p < m) × (stands p r ≡ true)
-      × ((h q : ℕ) (s : R) → at n rs h ≡ Some s → stands q s ≡ true → q < m → p ≤ q)
+  -- the first in the list stands at a position below which nobody stands
+  abbrev Least : (ℕ → R → Bool) → List R → (n m k : ℕ) → Type 0
+  Least stands rs n m k = (r : R) × (at n rs k ≡ Some r) × (p : ℕ) × (p < m) × (stands p r ≡ true) × (in_order stands n rs p ≡ [])
+
+  in_order_least : (stands : ℕ → R → Bool) (rs : List R) (n m k : ℕ) → slice_get (in_order stands n rs m) 0 ≡ Some k → Least stands rs n m k
   in_order_least stands rs n zero k h = cc
   in_order_least stands rs n (suc m) k h = go (in_order_least stands rs n m k) (in_order stands n rs m) refl h
     where
-      go : (slice_get (in_order stands n rs m) 0 ≡ Some k → (r : R) × (at n rs k ≡ Some r) × (p : ℕ) × (p < m) × (stands p r ≡ true)
-          × ((h q : ℕ) (s : R) → at n rs h ≡ Some s → stands q s ≡ true → q < m → p ≤ q)) → (xs : List ℕ) → in_order stands n rs m ≡ xs
-          → slice_get (xs ++ numbers (stands m) n rs) 0 ≡ Some k → (r : R) × (at n rs k ≡ Some r) × (p : ℕ) × (p < suc m)
-          × (stands p r ≡ true) × ((h q : ℕ) (s : R) → at n rs h ≡ Some s → stands q s ≡ true → q < suc m → p ≤ q)
-      go ih [] e first =
-          let t : (r : R) × (at n rs k ≡ Some r) × (stands m r ≡ true) = numbered.numbers_member (stands m) rs n 0 k first in (
-            t.0,
-            t.1,
-            m,
-            omega arith,
-            t.2,
-            λ h q s there on below.
-                ⊎_elim
-                (λ (same : (eqb q m ≡ true) × (q ≡ m)). omega (arith, same.1))
-                (λ (other : (eqb q m ≡ false) × (q ≢ m)). absurd (in_order_some stands rs n m h q s there on (omega (arith, other.1)) e))
-                (numbered.same_or_not q m),
-          )
-      go ih (x ∷ xs) e first =
-          let is : Some x ≡ Some k = first in
-          let t : (r : R) × (at n rs k ≡ Some r) × (p : ℕ) × (p < m) × (stands p r ≡ true)
-          × ((h q : ℕ) (s : R) → at n rs h ≡ Some s → stands q s ≡ true → q < m → p ≤ q) =
-          ih (ap (λ (ys : List ℕ). slice_get ys 0) e ∙ is) in
-          let under : t.2 < m = t.3 in (
-            t.0,
-            t.1,
-            t.2,
-            omega arith,
-            t.4,
-            λ h q s there on below.
-                ⊎_elim
-                (λ (same : (eqb q m ≡ true) × (q ≡ m)). omega (arith, same.1))
-                (λ (other : (eqb q m ≡ false) × (q ≢ m)). t.5 h q s there on (omega (arith, other.1)))
-                (numbered.same_or_not q m),
-          )
+      go : (slice_get (in_order stands n rs m) 0 ≡ Some k → Least stands rs n m k) → (xs : List ℕ) → in_order stands n rs m ≡ xs
+          → slice_get (xs ++ numbers (stands m) n rs) 0 ≡ Some k → Least stands rs n (suc m) k
+      go ih [] e first = let t = numbered.numbers_member (stands m) rs n 0 k first in (t.0, t.1, m, omega arith, t.2, e)
+      go ih (x ∷ xs) e first = let t = ih (ap (λ (ys : List ℕ). slice_get ys 0) e ∙ first) in (t.0, t.1, t.2, omega (arith, t.3), t.4, t.5)
 
   -- an element that is changed to itself
   change_self : (rs : List R) (n k : ℕ) (r : R) → at n rs k ≡ Some r → change n k r rs ≡ rs
@@ -100,16 +71,33 @@ module _ {R : Type 0} where
       (λ (t : (eqb k n ≡ false) × (k ≢ n)). rw t.0 (ap (λ (ys : List R). x ∷ ys) (change_self rs (suc n) k r (rw t.0 at h))))
       (numbered.same_or_not k n)
 
-  -- who stands in a changed list
-  changed_at : (rs : List R) (n k q : ℕ) (new old r : R) → at n rs k ≡ Some old → at n (change n k new rs) q ≡ Some r → ((q ≡ k) × (r ≡ new)) ⊎ ((q ≢ k) × (at n rs q ≡ Some r))
-  changed_at rs n k q new old r h e =
+  -- the element q, once the element k has changed
+  pub at_update : (rs : List R) (n k q : ℕ) (f : R → R) → at n (update n k f rs) q ≡ cond (eqb q k) (option_map f (at n rs q)) (at n rs q)
+  at_update [] n k q f = cond_same (eqb q k)
+    where
+      cond_same : (b : Bool) → let none : Option R = None in none ≡ cond b none none
+      cond_same true = refl
+      cond_same false = refl
+  at_update (r ∷ rs) n k q f =
+      ⊎_elim
+      (λ (t : (eqb q n ≡ true) × (q ≡ n)).
+      ⊎_elim
+      (λ (u : (eqb k n ≡ true) × (k ≡ n)). let same : eqb q k ≡ true = eq-eqb q k (t.1 ∙ sym u.1) in rw (t.0, u.0, same) refl)
+      (λ (u : (eqb k n ≡ false) × (k ≢ n)). let other : eqb q k ≡ false = ne_eqb q k (λ e. u.1 (sym e ∙ t.1)) in rw (t.0, u.0, other) refl)
+      (numbered.same_or_not k n))
+      (λ (t : (eqb q n ≡ false) × (q ≢ n)). rw t.0 (at_update rs (suc n) k q f))
+      (numbered.same_or_not q n)
+
+  -- who stands in a list of which an element has changed
+  updated_at : (rs : List R) (n k q : ℕ) (f : R → R) (old r : R) → at n rs k ≡ Some old → at n (update n k f rs) q ≡ Some r → ((q ≡ k) × (r ≡ f old)) ⊎ ((q ≢ k) × (at n rs q ≡ Some r))
+  updated_at rs n k q f old r h e =
+      let is : cond (eqb q k) (option_map f (at n rs q)) (at n rs q) ≡ Some r = sym (at_update rs n k q f) ∙ e in
       ⊎_elim
       (λ (t : (eqb q k ≡ true) × (q ≡ k)).
-      let now : at n (change n k new rs) q ≡ Some new = subst (λ (i : ℕ). at n (change n k new rs) i ≡ Some new) (sym t.1) (numbered.at-change_same rs n k new old h) in
-      let both : Some r ≡ Some new = sym e ∙ now in
-      let same : r ≡ new = cc in
+      let both : Some (f old) ≡ Some r = sym (ap (option_map f) (ap (at n rs) t.1 ∙ h)) ∙ rw t.0 at is in
+      let same : r ≡ f old = cc in
       inl (t.1, same))
-      (λ (t : (eqb q k ≡ false) × (q ≢ k)). inr (t.1, sym (numbered.at-change_other rs n k q new t.1) ∙ e))
+      (λ (t : (eqb q k ≡ false) × (q ≢ k)). inr (t.1, rw t.0 at is))
       (numbered.same_or_not q k)
 
   -- how many pass once an element is changed
@@ -147,38 +135,26 @@ is_waiting (Waiting notified) = true
 is_waiting (Holding k) = false
 
 unnotified_place : (p : GetPlace) → is_unnotified p ≡ true → p ≡ Waiting false
-unnotified_place Active h = cc
-unnotified_place (Waiting true) h = cc
 unnotified_place (Waiting false) h = refl
-unnotified_place (Holding k) h = cc
+unnotified_place _ h = cc
 
-pub unnotified_waits : (o : Option Getting) → gets_stand is_unnotified o ≡ true → gets_stand is_waiting o ≡ true
-unnotified_waits o h = let s = getting_is is_unnotified o h in ap (gets_stand is_waiting) s.1 ∙ ap is_waiting (unnotified_place s.0.place s.2)
-
-pub notified_waits : (o : Option Getting) → gets_stand is_notified o ≡ true → gets_stand is_waiting o ≡ true
-notified_waits o h = let s = getting_is is_notified o h in ap (gets_stand is_waiting) s.1 ∙ waits s.0.place s.2
+-- who does not wait is neither unnotified nor notified
+pub not_waiting : (o : Option Getting) → gets_stand is_waiting o ≡ false → (gets_stand is_unnotified o ≡ false) × (gets_stand is_notified o ≡ false)
+not_waiting None off = (refl, refl)
+not_waiting (Some s) off = go s.place off
   where
-    waits : (p : GetPlace) → is_notified p ≡ true → is_waiting p ≡ true
-    waits Active h = cc
-    waits (Waiting b) h = refl
-    waits (Holding k) h = cc
+    go : (p : GetPlace) → is_waiting p ≡ false → (is_unnotified p ≡ false) × (is_notified p ≡ false)
+    go (Waiting b) off = cc
+    go _ off = (refl, refl)
 
 -- a get is counted once at most among those who wait
 one_place : (p : GetPlace) → one (is_unnotified p) + one (is_notified p) ≤ 1
-one_place Active = omega arith
 one_place (Waiting true) = omega arith
-one_place (Waiting false) = omega arith
-one_place (Holding k) = omega arith
+one_place _ = omega arith
 
 untold_place : (p : GetPlace) → is_notified p ≡ true → is_unnotified p ≡ false
-untold_place Active told = cc
 untold_place (Waiting true) told = refl
-untold_place (Waiting false) told = cc
-untold_place (Holding k) told = cc
-
-never_both : (o : Option Getting) → gets_stand is_notified o ≡ true → gets_stand is_unnotified o ≡ true → ⊥
-never_both None told untold = cc
-never_both (Some s) told untold = let clash : false ≡ true = sym (untold_place s.place told) ∙ untold in cc
+untold_place _ told = cc
 
 -- those who wait are alive
 pub waiters_few : (gs : List (Numbered Getting)) → tally_gets is_unnotified gs + tally_gets is_notified gs ≤ alive_of gs
@@ -198,11 +174,6 @@ waiters_few (g ∷ gs) =
 pub alive_counted : (first g : ℕ) (gs : List (Numbered Getting)) (x : Numbered Getting) (s : Getting) → at first gs g ≡ Some x
     → x.standing ≡ Some s → alive_of (update first g after_end gs) + 1 ≡ alive_of gs
 alive_counted first g gs x s h is = omega (arith, changed_tally is_some after_end gs first g x (Some s) h is)
-
--- a get ends
-pub ended_counted : (test : GetPlace → Bool) (first g : ℕ) (gs : List (Numbered Getting)) (x : Numbered Getting) (s : Getting)
-    → at first gs g ≡ Some x → x.standing ≡ Some s → tally_gets test (update first g after_end gs) + one (test s.place) ≡ tally_gets test gs
-ended_counted test first g gs x s h is = omega (arith, changed_tally (gets_stand test) after_end gs first g x (Some s) h is)
 
 -- a get that waits from a position on
 abbrev pub waiter : ℕ → ℕ → Option Getting → Numbered Getting
@@ -247,21 +218,14 @@ pub notify_alive : (first : ℕ) (n : Option ℕ) (gs : List (Numbered Getting))
 notify_alive first None gs = refl
 notify_alive first (Some g) gs = tally_same (λ (y : Numbered Getting). is_some y.standing) (get_at_place (Waiting true)) (λ x. as_some (get_with_place (Waiting true)) x.standing) gs first g
 
--- those in the line of the unnotified are as many as they are
-pub waiting_counted : (first m : ℕ) (gs : List (Numbered Getting)) → Before unnotified_at m gs → length (in_order unnotified_at first gs m) ≡ tally_gets is_unnotified gs
-waiting_counted first m gs b = numbered.line_counted (gets_stand is_unnotified) gs first m b
-
--- where nobody is first, nobody is unnotified
-pub none_unnotified : (first m : ℕ) (gs : List (Numbered Getting)) → Before unnotified_at m gs → slice_get (in_order unnotified_at first gs m) 0 ≡ None → tally_gets is_unnotified gs ≡ 0
-none_unnotified first m gs b none = omega (arith, waiting_counted first m gs b, none_past (in_order unnotified_at first gs m) 0 none)
-
 -- the first of the unnotified, if there is one, is notified
 pub notify_counted : (first m : ℕ) (n : Option ℕ) (gs : List (Numbered Getting)) → Before unnotified_at m gs
     → n ≡ slice_get (in_order unnotified_at first gs m) 0
     → (tally_gets is_unnotified (with_notice first n gs) ≡ tally_gets is_unnotified gs - 1)
     × (tally_gets is_notified (with_notice first n gs) ≡ tally_gets is_notified gs + min 1 (tally_gets is_unnotified gs))
 notify_counted first m None gs b is =
-    let none : tally_gets is_unnotified gs ≡ 0 = none_unnotified first m gs b (sym is) in
+    let counted : length (in_order unnotified_at first gs m) ≡ tally_gets is_unnotified gs = numbered.line_counted (gets_stand is_unnotified) gs first m b in
+    let none : tally_gets is_unnotified gs ≡ 0 = omega (arith, none_past (in_order unnotified_at first gs m) 0 (sym is)) in
     (omega arith, omega arith)
 notify_counted first m (Some g) gs b is =
     let t : (x : Numbered Getting) × (at first gs g ≡ Some x) × (p : ℕ) × (p < m) × (unnotified_at p x ≡ true) = numbered.in_order_member unnotified_at gs first m 0 g (sym is) in
@@ -284,165 +248,143 @@ same_line first m g f gs x h off still =
 
 -- ---- the order of those who wait
 
--- a get that waits; one that was notified; one that was not
-abbrev pub Waits : Numbered Getting → Type 0
-Waits a = gets_stand is_waiting a.standing ≡ true
+pub both_hold : (a b : Bool) → a ≡ true → b ≡ true → (a && b) ≡ true
+both_hold true b e f = f
+both_hold false b e f = cc
 
-abbrev pub IsTold : Numbered Getting → Type 0
-IsTold a = gets_stand is_notified a.standing ≡ true
+both_false : (a b : Bool) → b ≡ false → (a && b) ≡ false
+both_false true b f = f
+both_false false b f = refl
 
-abbrev pub IsUntold : Numbered Getting → Type 0
-IsUntold a = gets_stand is_unnotified a.standing ≡ true
+pub one_few : (b : Bool) → one b ≤ 1
+one_few true = omega arith
+one_few false = omega arith
 
--- Who waits waits since a position of its own before this one; each notified waiter since an earlier one than each that was not notified.
+-- a get that was notified waits since before this position, and one that was not since then at the earliest
+abbrev pub Keeps : ℕ → Numbered Getting → Type 0
+Keeps turn a = (gets_stand is_notified a.standing ≡ true → a.position < turn) × (gets_stand is_unnotified a.standing ≡ true → turn ≤ a.position)
+
+-- One position, no later than this one, parts the notified waiters from those that were not, of which no two wait since the same.
 pub record InLine (first p : ℕ) (gs : List (Numbered Getting)) : Type 0 where
-  pub below : (g : ℕ) (a : Numbered Getting) → at first gs g ≡ Some a → Waits a → a.position < p
-  pub apart : (g h : ℕ) (a b : Numbered Getting) → at first gs g ≡ Some a → at first gs h ≡ Some b → Waits a → Waits b → a.position ≡ b.position → g ≡ h
-  pub turn : (g h : ℕ) (a b : Numbered Getting) → at first gs g ≡ Some a → at first gs h ≡ Some b → IsTold a → IsUntold b → a.position < b.position
-
--- who waits now waited before, and nothing changed for it
-line_kept : (first p q : ℕ) (gs new : List (Numbered Getting)) → p ≤ q → ((g : ℕ) (a : Numbered Getting) → at first new g ≡ Some a → Waits a → at first gs g ≡ Some a)
-    → InLine first p gs → InLine first q new
-line_kept first p q gs new later from i = record {
-  below = λ g a e w. (let l : a.position < p = i.below g a (from g a e w) w in omega arith);
-  apart = λ g h a b e f w v same. i.apart g h a b (from g a e w) (from h b f v) w v same;
-  turn = λ g h a b e f w v. i.turn g h a b (from g a e (notified_waits a.standing w)) (from h b f (unnotified_waits b.standing v)) w v;
-}
+  pub turn : ℕ
+  pub turn_few : turn ≤ p
+  pub keeps : (g : ℕ) (a : Numbered Getting) → at first gs g ≡ Some a → Keeps turn a
+  pub apart : (q : ℕ) → tally (unnotified_at q) gs ≤ 1
 
 pub line_later : (first p : ℕ) (gs : List (Numbered Getting)) → InLine first p gs → InLine first (suc p) gs
-line_later first p gs i = line_kept first p (suc p) gs gs (omega arith) (λ g a e w. e) i
+line_later first p gs i = record { turn = i.turn; turn_few = omega (arith, i.turn_few); keeps = i.keeps; apart = i.apart }
 
 pub line_begun : (first p : ℕ) (gs : List (Numbered Getting)) → InLine first p gs → InLine first (suc p) (gs ++ new_get ∷ [])
-line_begun first p gs i = line_kept first p (suc p) gs (gs ++ new_get ∷ []) (omega arith) (λ g a e w. pick g a w (eqb g (first + length gs)) (sym (numbered.at-append gs new_get first g) ∙ e)) i
+line_begun first p gs i = record {
+  turn = i.turn;
+  turn_few = omega (arith, i.turn_few);
+  keeps = λ g a e. pick g a (eqb g (first + length gs)) (sym (numbered.at-append gs new_get first g) ∙ e);
+  apart = λ q. omega (arith, i.apart q, numbered.tally-append (unnotified_at q) gs new_get);
+}
   where
-    pick : (g : ℕ) (a : Numbered Getting) → Waits a → (b : Bool) → cond b (Some new_get) (at first gs g) ≡ Some a → at first gs g ≡ Some a
-    pick g a w true e =
-        let is : Some new_get ≡ Some a = e in
-        let same : a ≡ new_get = cc in
-        let clash : false ≡ true = sym (ap (λ (y : Numbered Getting). gets_stand is_waiting y.standing) same) ∙ w in
-        cc
-    pick g a w false e = e
+    pick : (g : ℕ) (a : Numbered Getting) (b : Bool) → cond b (Some new_get) (at first gs g) ≡ Some a → Keeps i.turn a
+    pick g a true e = let is : Some new_get ≡ Some a = e in let same : new_get ≡ a = cc in subst (Keeps i.turn) same (λ w. cc, λ w. cc)
+    pick g a false e = i.keeps g a e
 
--- A get with this number fits among the others: below this position, at one of its own, after the notified ones if it was not notified,
--- and before those that were not if it was.
-record FitsIn (first q g : ℕ) (gs : List (Numbered Getting)) (y : Numbered Getting) : Type 0 where
-  pub below : Waits y → y.position < q
-  pub apart : (h : ℕ) (b : Numbered Getting) → at first gs h ≡ Some b → h ≢ g → Waits y → Waits b → y.position ≢ b.position
-  pub before : (h : ℕ) (b : Numbered Getting) → at first gs h ≡ Some b → h ≢ g → IsTold y → IsUntold b → y.position < b.position
-  pub after : (h : ℕ) (b : Numbered Getting) → at first gs h ≡ Some b → h ≢ g → IsTold b → IsUntold y → b.position < y.position
-
--- the get k, once the get g is another
-abbrev Stood : (first g : ℕ) (gs : List (Numbered Getting)) (y : Numbered Getting) → ℕ → Numbered Getting → Type 0
-Stood first g gs y k a = ((k ≡ g) × (a ≡ y)) ⊎ ((k ≢ g) × (at first gs k ≡ Some a))
-
--- a get is changed, and fits in then
-line_changed : (first p q g : ℕ) (f : Numbered Getting → Numbered Getting) (gs : List (Numbered Getting)) (x : Numbered Getting) → at first gs g ≡ Some x
-    → p ≤ q → FitsIn first q g gs (f x) → InLine first p gs → InLine first q (update first g f gs)
-line_changed first p q g f gs x h later j i = subst (InLine first q) (sym (numbered.update_is gs first g f x h)) (record {
-  below = λ k a e w. under k a (changed_at gs first g k (f x) x a h e) w;
-  apart = λ k r a b e d w v same. two k r a b (changed_at gs first g k (f x) x a h e) (changed_at gs first g r (f x) x b h d) w v same;
-  turn = λ k r a b e d w v. in_turn k r a b (changed_at gs first g k (f x) x a h e) (changed_at gs first g r (f x) x b h d) w v;
-})
-  where
-    there : (a : Numbered Getting) → a ≡ f x → a.position ≡ (f x).position
-    there a same = ap (λ (z : Numbered Getting). z.position) same
-
-    under : (k : ℕ) (a : Numbered Getting) → Stood first g gs (f x) k a → Waits a → a.position < q
-    under k a (inl t) w = omega (arith, there a t.1, j.below (subst Waits t.1 w))
-    under k a (inr t) w = omega (arith, i.below k a t.1 w)
-
-    two : (k r : ℕ) (a b : Numbered Getting) → Stood first g gs (f x) k a → Stood first g gs (f x) r b → Waits a → Waits b → a.position ≡ b.position → k ≡ r
-    two k r a b (inl t) (inl u) w v same = t.0 ∙ sym u.0
-    two k r a b (inl t) (inr u) w v same = absurd (j.apart r b u.1 u.0 (subst Waits t.1 w) v (sym (there a t.1) ∙ same))
-    two k r a b (inr t) (inl u) w v same = absurd (j.apart k a t.1 t.0 (subst Waits u.1 v) w (sym (there b u.1) ∙ sym same))
-    two k r a b (inr t) (inr u) w v same = i.apart k r a b t.1 u.1 w v same
-
-    in_turn : (k r : ℕ) (a b : Numbered Getting) → Stood first g gs (f x) k a → Stood first g gs (f x) r b → IsTold a → IsUntold b → a.position < b.position
-    in_turn k r a b (inl t) (inl u) w v = absurd (never_both (f x).standing (subst IsTold t.1 w) (subst IsUntold u.1 v))
-    in_turn k r a b (inl t) (inr u) w v = omega (arith, there a t.1, j.before r b u.1 u.0 (subst IsTold t.1 w) v)
-    in_turn k r a b (inr t) (inl u) w v = omega (arith, there b u.1, j.after k a t.1 t.0 w (subst IsUntold u.1 v))
-    in_turn k r a b (inr t) (inr u) w v = i.turn k r a b t.1 u.1 w v
+-- a get is changed, and the position that parts them may be another
+line_changed : (first q turn g : ℕ) (f : Numbered Getting → Numbered Getting) (gs : List (Numbered Getting)) (x : Numbered Getting) → at first gs g ≡ Some x
+    → turn ≤ q → Keeps turn (f x) → ((k : ℕ) (a : Numbered Getting) → k ≢ g → at first (update first g f gs) k ≡ Some a → at first gs k ≡ Some a → Keeps turn a)
+    → ((r : ℕ) → tally (unnotified_at r) (update first g f gs) ≤ 1) → InLine first q (update first g f gs)
+line_changed first q turn g f gs x h few new others apart = record {
+  turn = turn;
+  turn_few = few;
+  keeps = λ k a e.
+      ⊎_elim
+      (λ (t : (k ≡ g) × (a ≡ f x)). subst (Keeps turn) (sym t.1) new)
+      (λ (t : (k ≢ g) × (at first gs k ≡ Some a)). others k a t.0 e t.1)
+      (updated_at gs first g k f x a h e);
+  apart = apart;
+}
 
 -- a get is changed, and does not wait
 pub line_left : (first p g : ℕ) (f : Numbered Getting → Numbered Getting) (gs : List (Numbered Getting)) (x : Numbered Getting)
     → at first gs g ≡ Some x → gets_stand is_waiting (f x).standing ≡ false → InLine first p gs → InLine first p (update first g f gs)
-line_left first p g f gs x h off i = subst (InLine first p) (sym (numbered.update_is gs first g f x h)) (line_kept first p p gs (change first g (f x) gs) (omega arith) (λ q a e w.
-    ⊎_elim
-    (λ (t : (q ≡ g) × (a ≡ f x)). absurd (let clash : false ≡ true = sym off ∙ subst Waits t.1 w in cc))
-    (λ (t : (q ≢ g) × (at first gs q ≡ Some a)). t.1)
-    (changed_at gs first g q (f x) x a h e)) i)
+line_left first p g f gs x h off i =
+    let no_told : gets_stand is_notified (f x).standing ≡ false = (not_waiting (f x).standing off).1 in
+    let no_untold : gets_stand is_unnotified (f x).standing ≡ false = (not_waiting (f x).standing off).0 in
+    line_changed first p i.turn g f gs x h i.turn_few
+    (λ w. absurd (let clash : false ≡ true = sym no_told ∙ w in cc), λ w. absurd (let clash : false ≡ true = sym no_untold ∙ w in cc))
+    (λ k a other now e. i.keeps k a e)
+    (λ r. omega (arith, i.apart r, tally_update (unnotified_at r) gs first g f x h, ap (λ (b : Bool). one (b && eqb (f x).position r)) no_untold))
 
 -- a get comes into line last
 pub line_begins : (first now p g : ℕ) (gs : List (Numbered Getting)) (x : Numbered Getting) (s : Getting) → at first gs g ≡ Some x
-    → x.standing ≡ Some s → gets_stand is_unnotified x.standing ≡ false → InLine first p gs
+    → x.standing ≡ Some s → gets_stand is_unnotified x.standing ≡ false → Before unnotified_at p gs → InLine first p gs
     → InLine first (suc p) (update first g (at_wait now p) gs)
-line_begins first now p g gs x s h is off i =
+line_begins first now p g gs x s h is off before i =
     let same : at_wait now p x ≡ waiter now p x.standing = begins_now now p x off in
     let last : (at_wait now p x).position ≡ p = ap (λ (z : Numbered Getting). z.position) same in
-    let untold : gets_stand is_notified (at_wait now p x).standing ≡ false =
+    let no_told : gets_stand is_notified (at_wait now p x).standing ≡ false =
     ap (λ (z : Numbered Getting). gets_stand is_notified z.standing) same
     ∙ ap (λ (o : Option Getting). gets_stand is_notified (option_map (get_in_wait now) o)) is in
-    line_changed first p (suc p) g (at_wait now p) gs x h (omega arith) (record {
-      below = λ w. omega arith;
-      apart = λ k b e other w v. omega (arith, i.below k b e v);
-      before = λ k b e other w v. absurd (let no : false ≡ true = sym untold ∙ w in cc);
-      after = λ k b e other w v. omega (arith, i.below k b e (notified_waits b.standing w));
-    }) i
+    line_changed first (suc p) i.turn g (at_wait now p) gs x h (omega (arith, i.turn_few))
+    (λ w. absurd (let clash : false ≡ true = sym no_told ∙ w in cc), λ w. omega (arith, i.turn_few))
+    (λ k a other now_is e. i.keeps k a e)
+    (λ r. apart r last (numbered.same_or_not p r))
+  where
+    apart : (r : ℕ) → (at_wait now p x).position ≡ p → ((eqb p r ≡ true) × (p ≡ r)) ⊎ ((eqb p r ≡ false) × (p ≢ r)) → tally (unnotified_at r) (update first g (at_wait now p) gs) ≤ 1
+    apart r last (inl t) =
+        let none : tally (unnotified_at p) gs ≡ 0 = sym (numbered.length-numbers (unnotified_at p) gs first) ∙ ap (λ (ks : List ℕ). length ks) (numbered.none_at unnotified_at gs first p before) in
+        omega (arith, tally_update (unnotified_at r) gs first g (at_wait now p) x h, ap (λ (q : ℕ). tally (unnotified_at q) gs) t.1, one_few (unnotified_at r (at_wait now p x)))
+    apart r last (inr t) =
+        let elsewhere : one (unnotified_at r (at_wait now p x)) ≡ 0 = ap one (both_false (gets_stand is_unnotified (at_wait now p x).standing) _ (ap (λ (q : ℕ). eqb q r) last ∙ t.0)) in
+        omega (arith, i.apart r, tally_update (unnotified_at r) gs first g (at_wait now p) x h)
 
 -- the first of the unnotified is notified where it stands
 pub line_notified : (first p : ℕ) (n : Option ℕ) (gs : List (Numbered Getting)) → n ≡ slice_get (in_order unnotified_at first gs p) 0 → InLine first p gs → InLine first p (with_notice first n gs)
 line_notified first p None gs is i = i
 line_notified first p (Some g) gs is i =
-    let t : (x : Numbered Getting) × (at first gs g ≡ Some x) × (q : ℕ) × (q < p) × (unnotified_at q x ≡ true)
-    × ((h r : ℕ) (s : Numbered Getting) → at first gs h ≡ Some s → unnotified_at r s ≡ true → r < p → q ≤ r) =
-    in_order_least unnotified_at gs first p g (sym is) in
-    let on : IsUntold t.0 × (eqb t.0.position t.2 ≡ true) = and_right (gets_stand is_unnotified t.0.standing) _ t.4 in
+    let t = in_order_least unnotified_at gs first p g (sym is) in
+    let on : (gets_stand is_unnotified t.0.standing ≡ true) × (eqb t.0.position t.2 ≡ true) = and_right (gets_stand is_unnotified t.0.standing) _ t.4 in
     let here : t.0.position ≡ t.2 = numbered.tested t.0.position t.2 on.1 in
     let s = getting_is is_unnotified t.0.standing on.0 in
-    let told : gets_stand is_unnotified (get_at_place (Waiting true) t.0).standing ≡ false = ap (λ (o : Option Getting). gets_stand is_unnotified (option_map (get_with_place (Waiting true)) o)) s.1 in
-    let waits : Waits t.0 = unnotified_waits t.0.standing on.0 in
-    let own : (h : ℕ) (b : Numbered Getting) → at first gs h ≡ Some b → h ≢ g → Waits b → t.0.position ≢ b.position = λ h b e other v same. other (sym (i.apart g h t.0 b t.1 e waits v same)) in
-    line_changed first p p g (get_at_place (Waiting true)) gs t.0 t.1 (omega arith) (record {
-      below = λ w. i.below g t.0 t.1 waits;
-      apart = λ h b e other w v. own h b e other v;
-      before = λ h b e other w v.
-          (let v_waits : Waits b = unnotified_waits b.standing v in
-          let at_own : unnotified_at b.position b ≡ true = both_hold (gets_stand is_unnotified b.standing) (eqb b.position b.position) v (numbered.eqb_self b.position) in
-          omega (arith, own h b e other v_waits, t.5 h b.position b e at_own (i.below h b e v_waits)));
-      after = λ h b e other w v. absurd (let no : false ≡ true = sym told ∙ v in cc);
-    }) i
-  where
-    both_hold : (a b : Bool) → a ≡ true → b ≡ true → (a && b) ≡ true
-    both_hold true b e f = f
-    both_hold false b e f = cc
+    let no_untold : gets_stand is_unnotified (get_at_place (Waiting true) t.0).standing ≡ false =
+    ap (λ (o : Option Getting). gets_stand is_unnotified (option_map (get_with_place (Waiting true)) o)) s.1 in
+    let less : (r : ℕ) → tally (unnotified_at r) (update first g (get_at_place (Waiting true)) gs) + one (unnotified_at r t.0) ≡ tally (unnotified_at r) gs = λ r.
+    omega (arith, tally_update (unnotified_at r) gs first g (get_at_place (Waiting true)) t.0 t.1, ap (λ (b : Bool). one (b && eqb t.0.position r)) no_untold) in
+    line_changed first p (suc t.2) g (get_at_place (Waiting true)) gs t.0 t.1 (omega (arith, t.3))
+    (λ w. omega arith, λ w. absurd (let clash : false ≡ true = sym no_untold ∙ w in cc))
+    (λ k a other now e. (
+      λ w. omega (arith, (i.keeps k a e).0 w, (i.keeps g t.0 t.1).1 on.0),
+      λ w.
+          let at_own : unnotified_at a.position a ≡ true = both_hold (gets_stand is_unnotified a.standing) (eqb a.position a.position) w (numbered.eqb_self a.position) in
+          let not_below : a.position < t.2 → ⊥ = λ l. in_order_some unnotified_at gs first t.2 k a.position a e at_own l t.5 in
+          let not_there : a.position ≢ t.2 = λ same. omega (
+            arith,
+            some_tally (unnotified_at t.2) _ first k a now (subst (λ (q : ℕ). unnotified_at q a ≡ true) same at_own),
+            less t.2,
+            i.apart t.2,
+            ap one t.4,
+          ) in
+          omega (arith, not_below, not_there),
+    ))
+    (λ r. omega (arith, i.apart r, less r))
 
 -- a get that ends hands its notification on, where it was notified
 handed : (first m g : ℕ) (n : Option ℕ) (gs : List (Numbered Getting)) (x : Numbered Getting) (s : Getting) → at first gs g ≡ Some x
     → x.standing ≡ Some s → n ≡ cond (is_notified s.place) (slice_get (in_order unnotified_at first gs m) 0) None
-    → ((n ≡ None) × (is_notified s.place ≡ false))
-    ⊎ ((n ≡ slice_get (in_order unnotified_at first (update first g after_end gs) m) 0) × (is_notified s.place ≡ true))
-handed first m g n gs x s h is who = go (is_notified s.place) refl
+    → n ≡ cond (is_notified s.place) (slice_get (in_order unnotified_at first (update first g after_end gs) m) 0) None
+handed first m g n gs x s h is who = who ∙ pick (is_notified s.place) refl
   where
-    line : ℕ → Option ℕ
-    line q = slice_get (in_order unnotified_at first gs q) 0
-
-    go : (b : Bool) → is_notified s.place ≡ b → ((n ≡ None) × (is_notified s.place ≡ false))
-        ⊎ ((n ≡ slice_get (in_order unnotified_at first (update first g after_end gs) m) 0) × (is_notified s.place ≡ true))
-    go false e = inl (who ∙ ap (λ (t : Bool). cond t (line m) None) e, e)
-    go true e =
-        let off : gets_stand is_unnotified x.standing ≡ false = ap (gets_stand is_unnotified) is ∙ untold_place s.place e in
-        inr (who ∙ ap (λ (t : Bool). cond t (line m) None) e ∙ sym (ap (λ (xs : List ℕ). slice_get xs 0) (same_line first m g after_end gs x h off refl)), e)
+    pick : (b : Bool) → is_notified s.place ≡ b
+        → cond b (slice_get (in_order unnotified_at first gs m) 0) None ≡ cond b (slice_get (in_order unnotified_at first (update first g after_end gs) m) 0) None
+    pick true e = sym (ap (λ (xs : List ℕ). slice_get xs 0) (same_line first m g after_end gs x h (ap (gets_stand is_unnotified) is ∙ untold_place s.place e) refl))
+    pick false e = refl
 
 pub line_given_up : (first p g : ℕ) (n : Option ℕ) (gs : List (Numbered Getting)) (x : Numbered Getting) (s : Getting)
     → at first gs g ≡ Some x → x.standing ≡ Some s → n ≡ cond (is_notified s.place) (slice_get (in_order unnotified_at first gs p) 0) None → InLine first p gs
     → InLine first p (with_notice first n (update first g after_end gs))
-line_given_up first p g n gs x s h is who i =
-    let left : InLine first p (update first g after_end gs) = line_left first p g after_end gs x h refl i in
-    ⊎_elim
-    (λ (t : (n ≡ None) × (is_notified s.place ≡ false)). rw t.0 left)
-    (λ (t : (n ≡ slice_get (in_order unnotified_at first (update first g after_end gs) p) 0) × (is_notified s.place ≡ true)).
-    line_notified first p n (update first g after_end gs) t.0 left)
-    (handed first p g n gs x s h is who)
+line_given_up first p g n gs x s h is who i = pick (is_notified s.place) (handed first p g n gs x s h is who) (line_left first p g after_end gs x h refl i)
+  where
+    pick : (b : Bool) → n ≡ cond b (slice_get (in_order unnotified_at first (update first g after_end gs) p) 0) None
+        → InLine first p (update first g after_end gs) → InLine first p (with_notice first n (update first g after_end gs))
+    pick true to left = line_notified first p n (update first g after_end gs) to left
+    pick false none left = rw none left
 
 -- how many wait once a get has given up: one unnotified less at most, or one notification handed on
 abbrev pub IsGivenUp : (u n u' n' : ℕ) → Type 0
@@ -454,14 +396,16 @@ pub given_up_counted : (first m g : ℕ) (n : Option ℕ) (gs : List (Numbered G
     → IsGivenUp (tally_gets is_unnotified gs) (tally_gets is_notified gs)
     (tally_gets is_unnotified (with_notice first n (update first g after_end gs)))
     (tally_gets is_notified (with_notice first n (update first g after_end gs)))
-given_up_counted first m g n gs x s h is who b =
-    let u : tally_gets is_unnotified (update first g after_end gs) + one (is_unnotified s.place) ≡ tally_gets is_unnotified gs = ended_counted is_unnotified first g gs x s h is in
-    let v : tally_gets is_notified (update first g after_end gs) + one (is_notified s.place) ≡ tally_gets is_notified gs = ended_counted is_notified first g gs x s h is in
-    ⊎_elim
-    (λ (t : (n ≡ None) × (is_notified s.place ≡ false)). rw t.0 (inl (omega arith, omega (arith, ap one t.1))))
-    (λ (t : (n ≡ slice_get (in_order unnotified_at first (update first g after_end gs) m) 0) × (is_notified s.place ≡ true)).
-    let counted = notify_counted first m n (update first g after_end gs) (numbered.ended_before (gets_stand is_unnotified) gs first g m refl b) t.0 in
-    let off : one (is_unnotified s.place) ≡ 0 = ap one (untold_place s.place t.1) in
-    let on : one (is_notified s.place) ≡ 1 = ap one t.1 in
-    inr (omega (arith, counted.0), omega (arith, counted.0, counted.1)))
-    (handed first m g n gs x s h is who)
+given_up_counted first m g n gs x s h is who b = pick (is_notified s.place) refl (handed first m g n gs x s h is who)
+  where
+    lost : (test : GetPlace → Bool) → tally_gets test (update first g after_end gs) + one (test s.place) ≡ tally_gets test gs
+    lost test = omega (arith, changed_tally (gets_stand test) after_end gs first g x (Some s) h is)
+
+    pick : (t : Bool) → is_notified s.place ≡ t → n ≡ cond t (slice_get (in_order unnotified_at first (update first g after_end gs) m) 0) None
+        → IsGivenUp (tally_gets is_unnotified gs) (tally_gets is_notified gs)
+        (tally_gets is_unnotified (with_notice first n (update first g after_end gs))) (tally_gets is_notified (with_notice first n (update first g after_end gs)))
+    pick false e none = rw none (inl (omega (arith, lost is_unnotified), omega (arith, lost is_notified, ap one e)))
+    pick true e to =
+        let counted = notify_counted first m n (update first g after_end gs) (numbered.ended_before (gets_stand is_unnotified) gs first g m refl b) to in
+        let off : one (is_unnotified s.place) ≡ 0 = ap one (untold_place s.place e) in
+        inr (omega (arith, counted.0, lost is_unnotified), omega (arith, counted.0, counted.1, lost is_unnotified, lost is_notified, ap one e))

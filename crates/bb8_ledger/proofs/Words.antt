@@ -3,7 +3,7 @@ pub use Rattle.std.proofs.Common.{◌*◌, ◌≡◌, ◌≢◌, ℕ, max, Bool,
 pub use Rattle.std.proofs.lemmas.List.{length-map}
 pub use Rattle.std.proofs.Math.Seq.{take-length, drop-length}
 pub use Rattle.std.specs.Option.{unwrap_or}
-pub use Rattle.std.proofs.lemmas.Bool.{false≢true, eqb-true, eqb-false, ltb-true, leb-true, leb-false}
+pub use Rattle.std.proofs.lemmas.Bool.{false≢true, eq-eqb, eqb-true, eqb-false, ltb-true, leb-true, leb-false}
 pub use Rattle.std.specs.Prelude.{⊤}
 pub use Rattle.std.proofs.lemmas.Bool.Decides.{nat_tests}
 pub use Rattle.bb8_types.specs.declared.grants.Grant.{Grant}
@@ -14,6 +14,8 @@ pub use Rattle.bb8_types.specs.Places.{holds, is_trying, first_place, stands, is
 pub use Rattle.bb8_types.specs.declared.standing.Place.{Place}
 pub use Rattle.bb8_types.specs.declared.standing.Place.TheVariants.{Unclaimed, Idle, Held, Guarded}
 pub use Rattle.bb8_types.specs.declared.standing.Standing.{Standing}
+pub use Rattle.bb8_types.specs.declared.standing.Holder.{Holder}
+pub use Rattle.bb8_types.specs.declared.standing.Holder.TheVariants.{Guard, Get}
 pub use Rattle.bb8_types.specs.Settings.{Settings, is_lawful}
 pub use Rattle.bb8_types.proofs.Places.{standing_is, unclaimed_is, claimed_is, guarded_is, idle_is, and_right, conn_from}
 pub use Rattle.bb8_types.specs.Grants.{IsGranted, IsNoGrant, numbers_left, due, lacking}

@@ -21,13 +21,13 @@ mod manager;
 mod rounds;
 mod waiting;
 
-use bb8::{Builder, Clock, MachineClock, Memory, Moment, PoolParts, SetClock};
-use manager::{NumberManager, NumberPool, Runtime, StillClock};
+use bb8::{Builder, Clock, MachineClock, Memory, Moment, PoolParts, Runtime, SetClock};
+use manager::{NumberManager, NumberPool, StillClock};
 use rounds::{blocked, polled, polled_ready, shared};
 use std::marker::Brand;
 use std::sync::ledger::Blank;
 use std::thread::Threads;
-use std::{env, io, time};
+use std::{env, io};
 use waiting::{kept_waiting, let_go, served_in_turn};
 
 /// How many threads there are where none is said.
@@ -110,7 +110,7 @@ fn alone<R: Runtime, L: PoolParts>(
 }
 
 /// Runs a mode on the machine's clock, in one thread or in more: how many gets were served.
-fn clocked<R: Runtime + Threads + time::Clock, L: PoolParts>(
+fn clocked<R: Runtime + Threads, L: PoolParts>(
     rt: R,
     blank: Blank,
     mode: Mode,
@@ -152,12 +152,7 @@ fn crowded<R: Runtime, L: PoolParts>(
 }
 
 /// Runs a mode over a pool with parts of its own.
-fn start<R: Runtime + Threads + time::Clock>(
-    rt: R,
-    mode: Mode,
-    rounds: u64,
-    size: u32,
-) -> Result<u64, Memory>
+fn start<R: Runtime + Threads>(rt: R, mode: Mode, rounds: u64, size: u32) -> Result<u64, Memory>
     requires { 0 < size }
 {
     let blank = Blank::new(size as u64);

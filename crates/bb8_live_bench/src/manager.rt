@@ -6,13 +6,6 @@ use bb8::{
 use futures::task::Poll;
 use std::error::Error;
 use std::fmt;
-use std::random::RandomSource;
-use std::sync::Wait;
-
-/// What a measured pool asks of its runtime.
-pub trait Runtime: Wait + RandomSource + AllocGlobal + Copy + Send + Sync + Drop + 'static {}
-
-impl<R: Wait + RandomSource + AllocGlobal + Copy + Send + Sync + Drop + 'static> Runtime for R {}
 
 /// A clock that stands still.
 #[derive(Drop)]

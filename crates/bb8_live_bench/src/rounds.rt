@@ -1,12 +1,12 @@
 //! The rounds.
 
-use crate::manager::{NumberPool, Runtime};
-use bb8::{Clock, Memory, PoolCalls, PoolParts};
+use crate::manager::NumberPool;
+use bb8::{Clock, Job, Memory, PoolCalls, PoolParts, Runtime, in_threads};
 use futures::executor::block_on;
 use futures::future::ready;
 use futures::task::Poll;
 use futures::test::MockTask;
-use std::thread::{Threads, map_indices};
+use std::thread::Threads;
 
 /// So many gets, each polled once by hand, with their guards dropped: how many were served.
 pub fn polled<K: Clock, R: Runtime, L: PoolParts>(
@@ -57,12 +57,6 @@ pub fn polled_ready<R: Runtime>(rt: &R, rounds: u64) -> Result<u64, Memory> {
     Ok(served)
 }
 
-/// What a thread does.
-trait Job {
-    /// Does it: how many gets were served.
-    fn run(&self) -> u64;
-}
-
 /// So many gets, each polled once by hand, with their guards dropped.
 #[derive(Drop)]
 struct Rounds<'a, K: Clock, R: Runtime, L: PoolParts> {
@@ -71,8 +65,11 @@ struct Rounds<'a, K: Clock, R: Runtime, L: PoolParts> {
     rounds: u64,
 }
 
-impl<K: Clock, R: Runtime, L: PoolParts> Job for Rounds<'_, K, R, L> {
-    fn run(&self) -> u64 {
+impl<K: Clock, R: Runtime, L: PoolParts> Job for &Rounds<'_, K, R, L> {
+    /// How many gets were served.
+    type Told = u64;
+
+    fn run(self, _thread: usize) -> u64 {
         let Ok(task) = MockTask::new(&self.rt) else {
             return 0;
         };
@@ -87,18 +84,6 @@ impl<K: Clock, R: Runtime, L: PoolParts> Job for Rounds<'_, K, R, L> {
     }
 }
 
-/// Runs a job in so many threads: what each was served.
-fn in_threads<R: Threads + AllocGlobal + Sync>(
-    rt: &R,
-    job: &(impl Job + Sync),
-    threads: usize,
-) -> Result<Vec<u64>, Memory> {
-    match map_indices(rt, rt.alloc(), threads, &|_| job.run()) {
-        Ok(served) => Ok(served),
-        Err(_) => Err(Memory),
-    }
-}
-
 /// So many threads of so many rounds each.
 pub fn shared<K: Clock, R: Runtime + Threads, L: PoolParts>(
     rt: R,
@@ -107,7 +92,7 @@ pub fn shared<K: Clock, R: Runtime + Threads, L: PoolParts>(
     threads: usize,
 ) -> Result<u64, Memory> {
     let mut served: u64 = 0;
-    for one in in_threads(&rt, &Rounds { pool, rt, rounds }, threads)?.iter() {
+    for one in in_threads(&rt, threads, &Rounds { pool, rt, rounds })?.iter() {
         served = served.saturating_add(*one);
     }
     Ok(served)

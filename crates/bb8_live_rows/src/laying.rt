@@ -8,12 +8,13 @@ use crate::play::{Play, Stage, set_board};
 use crate::preparing::Preparer;
 use crate::slots::Slots;
 use bb8::{
-    Builder, Building, Config, Driver, DriverCalls, Memory, Moment, Pool, PoolParts, SetClock,
+    Builder, Building, Config, Driver, DriverCalls, Memory, Moment, Pool, PoolParts, Runtime,
+    SetClock,
 };
 use bb8_runner::fault::Fault;
 use bb8_runner::grammar::{fields_of, number};
 use bb8_runner::lines::{NoScript, script_of};
-use bb8_trials::{Board, Errors, Handle, Number, Runtime, Server, Unbuilt, builder_on, server_on};
+use bb8_trials::{Board, Errors, Handle, Number, Server, Unbuilt, builder_on, server_on};
 use futures::task::Poll;
 use futures::test::MockTask;
 use std::alloc::Global;

@@ -3,11 +3,11 @@
 //! are. The format is in docs/SCRIPTS.md, "Live pools".
 #![tactic(auto)]
 
+use bb8::Runtime;
 use bb8_runner::fault::Fault;
 use bb8_runner::report::{Report, status_of};
 use bb8_runner::streams::{Sink, Source};
 use bb8_runner::transcripts::transcripts_of;
-use bb8_trials::Runtime;
 use std::process::ExitCode;
 use std::{io, str};
 

@@ -3,6 +3,7 @@ ghost use Rattle.std.specs.Prelude.{◌≡◌, ◌<◌, ◌==◌};
 ghost use Rattle.bb8.specs.Parts.{IsBlankOf, unchecked_of};
 ghost use Rattle.futures.specs.declared.task.Poll.TheVariants.{Pending};
 
+mod bell;
 mod calls;
 mod clocks;
 mod gates;
@@ -17,9 +18,9 @@ mod unlocked;
 
 use bb8::{
     AddError, Builder, Clock, Config, CustomizeConnection, ErrorSink, ManageConnection, Memory,
-    Moment, NopCustomizer, NopErrorSink, Pool, PoolParts, QueueStrategy, RunError, SetClock,
+    Moment, NopCustomizer, NopErrorSink, Pool, PoolParts, QueueStrategy, RunError, Runtime,
+    SetClock,
 };
-use bb8_trials::Runtime;
 use futures::task::Poll;
 use futures::test::MockTask;
 use std::error::Error;

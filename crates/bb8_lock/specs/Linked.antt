@@ -1,6 +1,6 @@
 -- What gets, guards and handles do on a pool: the tables at what a pool's lock holds, while it is held, and at the pool's own manager, error sink
 -- and clock.
-use Rattle.std.specs.Prelude.{◌≡◌, ◌≤◌, false, None, Option, Some, Result, Ok, Err, IfOk, ⊤}
+use Rattle.std.specs.Prelude.{◌≡◌, ◌≤◌, ℕ, false, None, Option, Some, Result, Ok, Err, IfOk, ⊤}
 use Rattle.std.specs.Sync.Mutex.{mutex_guard_value}
 use Rattle.std.specs.declared.sync.MutexGuard.{MutexGuard}
 use Rattle.std.specs.declared.fmt.Debug.{Ghosts as DebugOf}
@@ -23,6 +23,7 @@ use Rattle.bb8_core.specs.declared.joined.Joined.{Joined}
 use Rattle.bb8_gets.specs.declared.outside.Outside.{Ghosts as OutsideOf}
 use Rattle.bb8_gets.specs.declared.state.Settled.{Settled}
 use Rattle.bb8_gets.specs.declared.state.Stage.{Stage}
+use Rattle.bb8_gets.specs.declared.state.Stage.TheVariants.{Fresh}
 use Rattle.bb8_lock.specs.declared.section_home.Joining.{Joining}
 use Rattle.bb8_lock.specs.declared.section_home.SectionHome.{Ghosts as SectionsOf}
 use Rattle.bb8_lock.specs.declared.locked.Locked.{Locked}
@@ -33,7 +34,7 @@ use Rattle.bb8_lock.specs.declared.shared.Shared.{Shared}
 use Rattle.bb8_gets.specs.Homes.{StepsIn}
 use Rattle.bb8_gets.specs.Told.{answered, passed_told, tried_told, HandsBackHeld, HandsBackInvalid, HandsOutOf}
 use Rattle.bb8_gets.specs.Polls.{GetPolls, Cancels}
-use Rattle.bb8_lock.specs.Chains.{AddsOutside, CancelsAndLeaves, Joins, HandleLeaves, Returns, ReturnsAndLeaves, Shows}
+use Rattle.bb8_lock.specs.Chains.{AddsOutside, CancelsAndLeaves, Joins, HandleLeaves, Returns, ReturnsAndLeaves, Shows, TakesNow}
 use Rattle.bb8_lock.specs.Sections.{joining_told, returned, IsSorted, OnFit}
 
 -- The relations of what a pool's lock holds as a home: each step leads from the state that stands there to the next one. What the answer is
@@ -156,6 +157,27 @@ module _ {M S Z K R L C E N V W : Type 0} {m : ManagerOf M C E N V} {d : DebugOf
   abbrev pub LinkPolls : Stage C V (Part L) → W → Settled C V (Part L) E → Type 0
   LinkPolls stage w settled = OnLock (λ x x'. GetPolls gets (joined_calls outside) (settings_of shared.config).connection_timeout stage x settled x') w
 
+  -- What follows a poll of a get for which a thread waits. Where it was pending the lock is let go, and the clock read for how long the thread
+  -- sleeps; a get that was answered is let go.
+  abbrev AfterPoll : Poll (Result (Taken C (Part L)) (RunError E)) → Stage C V (Part L) → Linked → Linked → Type 0
+  AfterPoll Pending stage x x' = (x1 : Linked) × gets.releases x x1 × ((at : Moment) × (joined_calls outside).tells x1 at x')
+  AfterPoll (Ready r) stage x x' = Cancels gets (joined_calls outside) stage x x'
+
+  -- one poll of such a get, which has so much time, and what follows it
+  abbrev pub LinkWaitsOnce : ℕ → Stage C V (Part L) × Linked → Poll (Result (Taken C (Part L)) (RunError E)) → Stage C V (Part L) × Linked → Type 0
+  LinkWaitsOnce timeout before answer after =
+      (x : Linked) × GetPolls gets (joined_calls outside) timeout before.0 before.1 (record { answer = answer; stage = after.0 }) x
+      × AfterPoll answer after.0 x after.1
+
+  -- A thread waits for a new get: it is polled until it answers.
+  abbrev pub LinkWaits : ℕ → W → Result (Taken C (Part L)) (RunError E) → Type 0
+  LinkWaits timeout w result =
+      (x : Linked) × (x.outside ≡ w) × (x.home.held ≡ None) × Answers (LinkWaitsOnce timeout) (Fresh, x) result
+
+  -- A connection is taken at once, or none.
+  abbrev pub LinkTakesNow : W → Result (Option (Taken C (Part L))) (RunError E) → Type 0
+  LinkTakesNow w result = OnLock (λ x x'. TakesNow gets sections (joined_calls outside) (settings_of shared.config).connection_timeout x result x') w
+
   -- A get is let go by the table; one that has a handle, and then the handle.
   abbrev pub LinkCancels : Stage C V (Part L) → W → Type 0
   LinkCancels stage w = OnLock (Cancels gets (joined_calls outside) stage) w
@@ -213,6 +235,12 @@ module _ {M S Z K R L C E N V : Type 0} {m : ManagerOf M C E N V} {d : DebugOf E
   -- what the polls of such a get answer at last
   abbrev pub OwnGives : Stage C V (Part L) → Result (Taken C (Part L)) (RunError E) → Type 0
   OwnGives stage x = Answers OwnPolls stage x
+
+  abbrev pub OwnWaits : ℕ → Result (Taken C (Part L)) (RunError E) → Type 0
+  OwnWaits timeout result = Own (λ calls. LinkWaits pool_calls shared timeout calls result)
+
+  abbrev pub OwnTakesNow : Result (Option (Taken C (Part L))) (RunError E) → Type 0
+  OwnTakesNow result = Own (λ calls. LinkTakesNow pool_calls shared calls result)
 
   abbrev pub OwnCancels : Stage C V (Part L) → Type 0
   OwnCancels stage = Own (LinkCancels pool_calls shared stage)

@@ -3,6 +3,7 @@
 //! the tasks that open connections, and the turns of a driver; manager, customizer, sink and clock are called while the lock is free.
 #![tactic(auto)]
 
+mod bell;
 mod calls;
 mod gathered;
 mod gets;
@@ -16,7 +17,9 @@ mod opens;
 mod section_home;
 mod shared;
 mod turning;
+mod waits;
 
+pub use bell::Belled;
 pub use calls::{
     add, cancel_and_leave, give_back, give_back_and_leave, join, leave, state, take_now,
 };
@@ -30,3 +33,4 @@ pub use opening::Opens;
 pub use section_home::{Handle, Joining, SectionHome};
 pub use shared::Shared;
 pub use turning::Drives;
+pub use waits::Waits;

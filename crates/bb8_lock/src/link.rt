@@ -3,6 +3,7 @@ ghost use Rattle.std.specs.Prelude.{◌≡◌, None};
 ghost use Rattle.bb8_lock.specs.Linked.{LeadsHeld, StartsAt};
 ghost use Rattle.std.specs.Sync.Mutex.{mutex_guard_value};
 
+use crate::bell::{Belled, Notifies};
 use crate::locks::Locks;
 use crate::{Handle, Joining, SectionHome};
 use bb8_core::api::{Moment, State};
@@ -11,25 +12,42 @@ use bb8_core::internals::{
     Looked, PutBackAnswer, Reason,
 };
 use bb8_gets::{GetHome, Passed, Returned, Taken, Tried, Unfit};
-use std::sync::{Mutex, MutexGuard};
+use std::sync::MutexGuard;
 
-/// The lock of a home as a home: it is taken at a step where it is not held, and held until it is released.
-#[derive(Drop)]
+/// The lock of a home as a home: it is taken at a step where it is not held, and held until it is released. Where a step since then notified
+/// a get, the bell is rung once, after the release.
 pub struct LinkHome<'a, T, R> {
-    mutex: &'a Mutex<T>,
+    pub(crate) belled: &'a Belled<T>,
     rt: &'a R,
     held: Option<MutexGuard<'a, T>>,
+    rings: bool,
 }
 
 impl<'a, T, R> LinkHome<'a, T, R> {
     /// The home that takes this lock, which is not held yet.
-    pub fn new(mutex: &'a Mutex<T>, rt: &'a R) -> Self
+    pub fn new(belled: &'a Belled<T>, rt: &'a R) -> Self
         ensures { result.held ≡ None }
     {
         LinkHome {
-            mutex,
+            belled,
             rt,
             held: None,
+            rings: false,
+        }
+    }
+}
+
+impl<T, R> Drop for LinkHome<'_, T, R> {
+    fn drop(self) {
+        let LinkHome {
+            belled,
+            rt: _,
+            held,
+            rings,
+        } = self;
+        drop(held);
+        if rings {
+            belled.ring();
         }
     }
 }
@@ -51,7 +69,7 @@ impl<'a, T, R: Locks> Hold for LinkHome<'a, T, R> {
     {
         match self.held.take() {
             Some(guard) => guard,
-            None => self.rt.take(self.mutex),
+            None => self.rt.take(&self.belled.lock),
         }
     }
 }
@@ -77,6 +95,10 @@ impl<'a, C, T: GetHome<C>, R: Locks> GetHome<C> for LinkHome<'a, T, R> {
 
     fn release(&mut self) {
         self.held = None;
+        if self.rings {
+            self.rings = false;
+            self.belled.ring();
+        }
     }
 
     fn look(&mut self, at: Moment) -> Looked {
@@ -131,6 +153,7 @@ impl<'a, C, T: GetHome<C>, R: Locks> GetHome<C> for LinkHome<'a, T, R> {
         let mut guard = self.hold();
         let answer = guard.checked_err(at, get, returned);
         self.held = Some(guard);
+        self.rings |= answer.notifies();
         answer
     }
 
@@ -143,6 +166,7 @@ impl<'a, C, T: GetHome<C>, R: Locks> GetHome<C> for LinkHome<'a, T, R> {
         let mut guard = self.hold();
         let answer = guard.give_up(at, get, reason);
         self.held = Some(guard);
+        self.rings |= answer.notifies();
         answer
     }
 
@@ -159,6 +183,7 @@ impl<'a, C, T: GetHome<C>, R: Locks> GetHome<C> for LinkHome<'a, T, R> {
         let mut guard = self.hold();
         let answer = guard.give_back(at, get, reason, returned);
         self.held = Some(guard);
+        self.rings |= answer.notifies();
         answer
     }
 }
@@ -184,6 +209,7 @@ impl<'a, C, T: SectionHome<C>, R: Locks> SectionHome<C> for LinkHome<'a, T, R> {
         let mut guard = self.hold();
         let answer = guard.put_back(at, returned);
         self.held = Some(guard);
+        self.rings |= answer.notifies();
         answer
     }
 
@@ -191,6 +217,7 @@ impl<'a, C, T: SectionHome<C>, R: Locks> SectionHome<C> for LinkHome<'a, T, R> {
         let mut guard = self.hold();
         let answer = guard.add(at, conn, broken);
         self.held = Some(guard);
+        self.rings |= answer.notifies();
         answer
     }
 

@@ -1,5 +1,6 @@
 //! The lock of a pool as a home of the tasks that open connections and of the reaper, and what the pool's futures do with such tasks.
 use crate::Parts;
+use crate::bell::Notifies;
 use crate::link::{Hold, LinkHome};
 use crate::locks::Locks;
 use crate::shared::Shared;
@@ -29,7 +30,12 @@ impl<C, T: Home<C>, R: Locks> Home<C> for LinkHome<'_, T, R> {
 
     fn opened(&mut self, at: Moment, approval: Key, connection: C) -> OpenedStep<C> {
         let mut guard = self.hold();
-        guard.opened(at, approval, connection)
+        let step = guard.opened(at, approval, connection);
+        drop(guard);
+        if step.notifies() {
+            self.belled.ring();
+        }
+        step
     }
 
     fn failed(&mut self, at: Moment, approval: Key) -> FailedStep {

@@ -2,9 +2,8 @@
 ghost use Rattle.std.specs.Prelude.{◌≡◌, true};
 ghost use Rattle.bb8_types.specs.Settings.{settings_of, is_lawful};
 
-use crate::{Locked, Parts};
+use crate::{Belled, Locked, Parts};
 use bb8_core::api::{Config, ManageConnection, Moment};
-use std::sync::Mutex;
 use std::sync::ledger::Total;
 
 /// What the handles and guards of one pool share.
@@ -20,7 +19,7 @@ pub struct Shared<M: ManageConnection, S, Z, K, R, L: Parts> {
     pub made: Moment,
     /// How many parts there are, for whoever holds several of them.
     pub total: Total<L>,
-    pub locked: Mutex<Locked<M::Connection, L>>,
+    pub locked: Belled<Locked<M::Connection, L>>,
     ghost whole: { total.amount ≡ config.max_size },
     ghost settled: { settings_of config ≡ L.settings },
     ghost lawful: { is_lawful (settings_of config) ≡ true },

@@ -3,6 +3,7 @@
 mod drivers;
 mod hostile;
 mod serving;
+mod waiting;
 
 use std::fmt::Debug;
 use std::process::Abort;

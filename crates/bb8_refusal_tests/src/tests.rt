@@ -5,7 +5,6 @@
 mod bare;
 mod live;
 mod rows;
-mod script;
 mod vast;
 
 use bb8_core::api::Memory;

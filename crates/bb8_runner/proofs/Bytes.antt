@@ -1,9 +1,6 @@
 -- Texts whose bytes lie above a bound and below 128.
-use Rattle.std.proofs.Common.{◌≡◌, ℕ, zero, suc, ◌+◌, ◌/◌, ◌%◌, ◌<◌, ◌≤◌, Bool, true, false, cond, eqb, ltb, ◌&&◌, List, [], ◌∷◌, ◌++◌, refl, arith}
-use Rattle.std.specs.Fmt.{decimal, digits, digits_onto, digit_glyph}
-use Rattle.std.specs.List.{All}
-use Rattle.std.proofs.lemmas.Bool.Decides.{Decides-ltb}
-use Rattle.std.proofs.lemmas.List.Elements.{All-nil, All-cons, All-append, All-weaker}
+use Rattle.bb8_runner.proofs.Speech.{◌≡◌, ℕ, zero, suc, ◌+◌, ◌/◌, ◌%◌, ◌<◌, ◌≤◌, Bool, true, false, cond, eqb, ltb, ◌&&◌, List, [], ◌∷◌, ◌++◌, refl, arith, decimal, digits_onto, digit_glyph, All, Decides-ltb, All-nil, All-cons, All-append, All-weaker}
+use Rattle.std.specs.Fmt.{digits}
 use Rattle.bb8_runner.proofs.Choices.{both}
 
 -- the byte is above the bound, and ASCII

@@ -1,21 +1,9 @@
 -- A configuration is read from the fields that spell it, and from no others.
-use Rattle.std.proofs.Common.{◌≡◌, ◌≢◌, ℕ, ◌+◌, ◌^◌, ◌<◌, Bool, true, false, cond, not, eqb, List, [], ◌∷◌, ◌++◌, length, get_or, map, Option, Some, None, option_map, refl, sym, ap, subst, ◌∙◌, arith, codes, length-append}
-use Rattle.std.specs.Fmt.{decimal}
-use Rattle.std.specs.List.{position_or_len, before_first, after_first}
-use Rattle.std.specs.Str.{bytes_eq, IsUtf8}
+use Rattle.bb8_runner.proofs.Speech.{◌≡◌, ◌≢◌, ℕ, ◌+◌, ◌^◌, ◌<◌, Bool, true, false, cond, not, eqb, List, [], ◌∷◌, ◌++◌, length, get_or, map, Option, Some, None, option_map, refl, sym, ap, subst, ◌∙◌, arith, codes, length-append, decimal, position_or_len, before_first, after_first, bytes_eq, IsUtf8, false≢true, Decides-eqb, All-head, All-tail, bytes_eq-Decides, QueueStrategy, Fifo, Lifo, Settings, is_lawful, Overrides, ◌>>=◌, fields_of, Setting, MaxSize, MinIdle, Check, Lifetime, Idle, Timeout, Reaper, Retry, Strategy, name_of, value_of, limit_text, switch_text, strategy_text, setting_field, FitsSetting, FitsLimit, AllFit, LacksName, AreDistinct, made, all_made, SpellsSettings, ◌⊎◌, inl, inr}
 use Rattle.std.proofs.Math.Seq.{take-append_seam, drop-append-add}
-use Rattle.std.proofs.lemmas.Bool.{false≢true}
-use Rattle.std.proofs.lemmas.Bool.Decides.{Decides-eqb}
-use Rattle.std.proofs.lemmas.List.Elements.{All-head, All-tail}
 use Rattle.std.proofs.lemmas.List.Sums.{split_at_first, passes_at_first, prefix_len-le-length}
-use Rattle.std.proofs.lemmas.Slice.Eq.{bytes_eq-Decides}
-use Rattle.bb8_types.specs.declared.api.configuration.QueueStrategy.{QueueStrategy}
-use Rattle.bb8_types.specs.declared.api.configuration.QueueStrategy.TheVariants.{Fifo, Lifo}
-use Rattle.bb8_types.specs.Settings.{Settings, is_lawful}
-use Rattle.bb8_runner.specs.declared.overrides.Overrides.{Overrides}
-use Rattle.bb8_runner.specs.Grammar.{◌>>=◌, number_of, fields_of}
+use Rattle.bb8_runner.specs.Grammar.{number_of}
 use Rattle.bb8_runner.specs.Opening.{cut, on_or_off, strategy_of, limit_of, once, with_setting, overrides_from, nothing_set, settings_from, if_lawful, settings_of_fields, settings_of_line}
-use Rattle.bb8_runner.specs.Spelling.{Setting, MaxSize, MinIdle, Check, Lifetime, Idle, Timeout, Reaper, Retry, Strategy, name_of, value_of, limit_text, switch_text, strategy_text, setting_field, FitsSetting, FitsLimit, AllFit, LacksName, AreDistinct, made, all_made, SpellsSettings}
 use Rattle.bb8_runner.proofs.Bytes.{IsOver, AreOver, over, are_over, decimal_over, joined, lower}
 use Rattle.bb8_runner.proofs.Choices.{never, step}
 use Rattle.bb8_runner.proofs.Numbers.{first_is_digit, number_read, number_spelled}
@@ -103,50 +91,37 @@ AreUnset o (x ∷ xs) = IsUnset o x × AreUnset o xs
 apart : (xs ys : List ℕ) → bytes_eq xs ys ≡ false → xs ≢ ys
 apart xs ys h w = false≢true (sym h ∙ (bytes_eq-Decides xs ys).1 w)
 
--- a setting leaves those of other names as they were
+-- of two settings either the names are the same, and the other is set with the one, or the one leaves the other as it was
+both : (o : Overrides) (x y : Setting) → ((name_of x ≡ name_of y) × (IsUnset (set o x) y → ⊥))
+    ⊎ ((name_of x ≢ name_of y) × (IsUnset (set o x) y → IsUnset o y) × (IsUnset o y → IsUnset (set o x) y))
+both o (MaxSize m) (MaxSize n) = inl (refl, λ u. cc)
+both o (MinIdle m) (MinIdle n) = inl (refl, λ u. cc)
+both o (Check m) (Check n) = inl (refl, λ u. cc)
+both o (Lifetime m) (Lifetime n) = inl (refl, λ u. cc)
+both o (Idle m) (Idle n) = inl (refl, λ u. cc)
+both o (Timeout m) (Timeout n) = inl (refl, λ u. cc)
+both o (Reaper m) (Reaper n) = inl (refl, λ u. cc)
+both o (Retry m) (Retry n) = inl (refl, λ u. cc)
+both o (Strategy m) (Strategy n) = inl (refl, λ u. cc)
+both o x (MaxSize n) = inr (apart _ _ refl, λ u. u, λ u. u)
+both o x (MinIdle n) = inr (apart _ _ refl, λ u. u, λ u. u)
+both o x (Check n) = inr (apart _ _ refl, λ u. u, λ u. u)
+both o x (Lifetime n) = inr (apart _ _ refl, λ u. u, λ u. u)
+both o x (Idle n) = inr (apart _ _ refl, λ u. u, λ u. u)
+both o x (Timeout n) = inr (apart _ _ refl, λ u. u, λ u. u)
+both o x (Reaper n) = inr (apart _ _ refl, λ u. u, λ u. u)
+both o x (Retry n) = inr (apart _ _ refl, λ u. u, λ u. u)
+both o x (Strategy n) = inr (apart _ _ refl, λ u. u, λ u. u)
+
 still : (o : Overrides) (x y : Setting) → name_of x ≢ name_of y → IsUnset o y → IsUnset (set o x) y
-still o (MaxSize m) (MaxSize n) d u = absurd (d refl)
-still o (MinIdle m) (MinIdle n) d u = absurd (d refl)
-still o (Check m) (Check n) d u = absurd (d refl)
-still o (Lifetime m) (Lifetime n) d u = absurd (d refl)
-still o (Idle m) (Idle n) d u = absurd (d refl)
-still o (Timeout m) (Timeout n) d u = absurd (d refl)
-still o (Reaper m) (Reaper n) d u = absurd (d refl)
-still o (Retry m) (Retry n) d u = absurd (d refl)
-still o (Strategy m) (Strategy n) d u = absurd (d refl)
-still o x (MaxSize n) d u = u
-still o x (MinIdle n) d u = u
-still o x (Check n) d u = u
-still o x (Lifetime n) d u = u
-still o x (Idle n) d u = u
-still o x (Timeout n) d u = u
-still o x (Reaper n) d u = u
-still o x (Retry n) d u = u
-still o x (Strategy n) d u = u
+still o x y d u = elim (both o x y) [ inl s ↦ absurd (d s.0) | inr s ↦ s.2 u ]
 
 all_still : (o : Overrides) (x : Setting) (ys : List Setting) → LacksName (name_of x) ys → AreUnset o ys → AreUnset (set o x) ys
 all_still o x [] d u = tt
 all_still o x (y ∷ ys) d u = (still o x y d.0 u.0, all_still o x ys d.1 u.1)
 
 was : (o : Overrides) (x y : Setting) → IsUnset (set o x) y → (name_of x ≢ name_of y) × IsUnset o y
-was o (MaxSize m) (MaxSize n) u = absurd (cc)
-was o (MinIdle m) (MinIdle n) u = absurd (cc)
-was o (Check m) (Check n) u = absurd (cc)
-was o (Lifetime m) (Lifetime n) u = absurd (cc)
-was o (Idle m) (Idle n) u = absurd (cc)
-was o (Timeout m) (Timeout n) u = absurd (cc)
-was o (Reaper m) (Reaper n) u = absurd (cc)
-was o (Retry m) (Retry n) u = absurd (cc)
-was o (Strategy m) (Strategy n) u = absurd (cc)
-was o x (MaxSize n) u = (apart _ _ refl, u)
-was o x (MinIdle n) u = (apart _ _ refl, u)
-was o x (Check n) u = (apart _ _ refl, u)
-was o x (Lifetime n) u = (apart _ _ refl, u)
-was o x (Idle n) u = (apart _ _ refl, u)
-was o x (Timeout n) u = (apart _ _ refl, u)
-was o x (Reaper n) u = (apart _ _ refl, u)
-was o x (Retry n) u = (apart _ _ refl, u)
-was o x (Strategy n) u = (apart _ _ refl, u)
+was o x y u = elim (both o x y) [ inl s ↦ absurd (s.1 u) | inr s ↦ (s.0, s.1 u) ]
 
 all_were : (o : Overrides) (x : Setting) (ys : List Setting) → AreUnset (set o x) ys → LacksName (name_of x) ys × AreUnset o ys
 all_were o x [] u = (tt, tt)

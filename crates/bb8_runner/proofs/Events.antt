@@ -1,9 +1,5 @@
 -- The first line that is no event.
-use Rattle.std.proofs.Common.{◌≡◌, ℕ, ◌+◌, ◌<◌, List, [], length, get_or, take, map, Some, None, ap, arith, Bor, length-take}
-use Rattle.std.proofs.lemmas.List.{take-map, get_or-map, length-map}
-use Rattle.bb8_core.specs.declared.replay.events.Event.{Event}
-use Rattle.bb8_runner.specs.Grammar.{event_of}
-use Rattle.bb8_runner.specs.Script.{IsFirstNoEvent}
+use Rattle.bb8_runner.proofs.Speech.{◌≡◌, ℕ, ◌+◌, ◌<◌, List, [], length, get_or, take, map, Some, None, ap, arith, Bor, length-take, take-map, get_or-map, length-map, Event, event_of, IsFirstNoEvent}
 
 pub first_no_event : (xs : List (Bor (List ℕ))) (i number : ℕ) (events : List Event) (d : Bor (List ℕ)) → i < length xs
     → map event_of (map (λ x. x.now) (take i xs)) ≡ map Some events → number ≡ i + 2 → event_of (get_or xs i d).now ≡ None

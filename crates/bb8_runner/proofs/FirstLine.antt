@@ -1,14 +1,8 @@
 -- The settings of the first line, read one by one.
-use Rattle.std.proofs.Common.{◌≡◌, ℕ, ◌+◌, ◌<◌, ◌≤◌, eqb, List, length, get_or, drop, map, Option, Some, None, refl, sym, ap, ◌∙◌, arith, Bor}
+use Rattle.bb8_runner.proofs.Speech.{◌≡◌, ℕ, ◌+◌, ◌<◌, ◌≤◌, eqb, List, length, get_or, drop, map, Option, Some, None, refl, sym, ap, ◌∙◌, arith, Bor, position_or_len, at_drop_more, at_drop_all, Decides-eqb, lit<, Overrides, ◌>>=◌}
 use Rattle.std.specs.Option.{option_map}
-use Rattle.std.specs.List.{position_or_len}
-use Rattle.std.proofs.lemmas.List.{at_drop_more, at_drop_all}
 use Rattle.std.proofs.lemmas.Str.Pattern.{IsSplitOnceResult, split_once_first}
-use Rattle.std.proofs.lemmas.Bool.Decides.{Decides-eqb}
-use Rattle.std.proofs.Common.{lit<}
-use Rattle.bb8_runner.specs.declared.overrides.Overrides.{Overrides}
 use Rattle.bb8_runner.specs.Opening.{overrides_from, with_setting, cut}
-use Rattle.bb8_runner.specs.Grammar.{◌>>=◌}
 use Rattle.bb8_runner.proofs.Texts.{not_true}
 
 module _ (o : Overrides) (xs : List (Bor (List ℕ))) (i : ℕ) (d : Bor (List ℕ)) (h : i < length xs) where

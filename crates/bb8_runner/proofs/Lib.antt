@@ -1,3 +1,4 @@
+pub mod Speech
 pub mod Choices
 pub mod Numbers
 pub mod Texts

@@ -1,16 +1,10 @@
 -- What `parse` says of a field that begins with neither `+` nor `0`, and of one that does.
-use Rattle.std.proofs.Common.{◌≡◌, ◌≢◌, ℕ, zero, suc, ◌+◌, ◌^◌, ◌<◌, Bool, true, false, cond, eqb, ltb, ◌&&◌, List, [], ◌∷◌, length, get_or, Option, Some, None, Result, Ok, Err, refl, sym, ap, ◌∙◌, arith}
+use Rattle.bb8_runner.proofs.Speech.{◌≡◌, ◌≢◌, ℕ, zero, suc, ◌+◌, ◌^◌, ◌<◌, Bool, true, false, cond, eqb, ltb, ◌&&◌, List, [], ◌∷◌, length, get_or, Option, Some, None, Result, Ok, Err, refl, sym, ap, ◌∙◌, arith, decimal, bytes_eq, then_some, nat_tests, Decides-ltb, bytes_eq-Decides, false≢true}
 use Rattle.std.specs.Int.{IsInRange}
 use Rattle.std.specs.Result.{result_ok, OkIff}
-use Rattle.std.specs.Fmt.{decimal}
-use Rattle.std.specs.Str.{bytes_eq}
 use Rattle.std.specs.Str.Parse.{ParsesUnsigned, AllDigits, digits_value}
-use Rattle.std.specs.Bool.{then_some}
 use Rattle.std.proofs.lemmas.Fmt.{decimal_is_IsNumeral, decimal_nonempty, decimal_digit, first_decimal, parse-decimal, decimal-digits_value}
 use Rattle.std.proofs.lemmas.Str.Parse.{IsNumeralModel, numerals_by_value, tells_digits, parse_plain, digit_at}
-use Rattle.std.proofs.lemmas.Bool.Decides.{nat_tests, Decides-ltb}
-use Rattle.std.proofs.lemmas.Slice.Eq.{bytes_eq-Decides}
-use Rattle.std.proofs.lemmas.Bool.{false≢true}
 use Rattle.bb8_runner.proofs.Texts.{not_true}
 use Rattle.bb8_runner.specs.Grammar.{number_of}
 

@@ -1,13 +1,7 @@
 -- What is printed of an answer and of a state has no byte below a space, so no line feed.
-use Rattle.std.proofs.Common.{◌≡◌, ◌≢◌, ℕ, Bool, true, false, cond, eqb, List, [], ◌++◌, Option, Some, None, refl, arith, codes}
-use Rattle.std.specs.Fmt.{decimal}
-use Rattle.std.specs.List.{All}
-use Rattle.std.proofs.lemmas.List.Elements.{All-nil, All-weaker}
-use Rattle.bb8_types.specs.Figures.{Counts, Figures, figures_of}
+use Rattle.bb8_runner.proofs.Speech.{◌≡◌, ◌≢◌, ℕ, Bool, true, false, cond, eqb, List, [], ◌++◌, Option, Some, None, refl, arith, codes, decimal, All, All-nil, All-weaker, Counts, Figures, figures_of, Grant, grant_text, notifies_text, sizes_text, gets_text, opened_text, closed_text, state_text, answer_text}
 use Rattle.bb8_core.specs.declared.replay.events.Answer.{Answer}
 use Rattle.bb8_core.specs.declared.replay.events.Answer.TheVariants.{Begun, Memory, Exhausted, Served, Taken, Waiting, Kept, Closed, GaveUp, Granted, Claimed, Ended, Entered, Late, GivenBack, Added, Broken, NoCapacity, Withheld, Reaped, Shown, Joined, Left, Looked, Unfit}
-use Rattle.bb8_types.specs.declared.grants.Grant.{Grant}
-use Rattle.bb8_runner.specs.Text.{grant_text, notifies_text, sizes_text, gets_text, opened_text, closed_text, state_text, answer_text}
 use Rattle.bb8_runner.proofs.Bytes.{IsOver, AreOver, over, are_over, decimal_over, joined}
 
 abbrev AreVisible : List ℕ → Type 0

@@ -1,14 +1,6 @@
 -- An event is read from the fields that spell it, and from no others.
-use Rattle.std.proofs.Common.{◌≡◌, ℕ, ◌^◌, ◌<◌, Bool, true, false, cond, ◌&&◌, List, [], ◌∷◌, get_or, Option, Some, None, unwrap_or, option_map, refl, sym, ap, subst, ◌∙◌, arith, codes}
-use Rattle.std.specs.Fmt.{decimal}
-use Rattle.std.specs.Str.{bytes_eq}
-use Rattle.std.proofs.lemmas.Slice.Eq.{bytes_eq-Decides}
-use Rattle.bb8_core.specs.declared.replay.events.Act.{Act}
-use Rattle.bb8_core.specs.declared.replay.events.Act.TheVariants.{Begin, Try, CheckedOk, CheckedErr, GiveUp, PutBack, Fill, Claim, Opened, Failed, Add, Reap, State, Join, Leave, Look}
-use Rattle.bb8_types.specs.declared.reasons.Reason.TheVariants.{TimedOut, Cancelled}
-use Rattle.bb8_core.specs.declared.replay.events.Event.{Event}
-use Rattle.bb8_runner.specs.Grammar.{◌>>=◌, number_of, plain_act, worded_act, numbered_act, broken_act, act_of, event_of_fields}
-use Rattle.bb8_runner.specs.Spelling.{verb_of, args_of, FitsAct, SpellsEvent}
+use Rattle.bb8_runner.proofs.Speech.{◌≡◌, ℕ, ◌^◌, ◌<◌, Bool, true, false, cond, ◌&&◌, List, [], ◌∷◌, get_or, Option, Some, None, unwrap_or, option_map, refl, sym, ap, subst, ◌∙◌, arith, codes, decimal, bytes_eq, bytes_eq-Decides, Act, Begin, Try, CheckedOk, CheckedErr, GiveUp, PutBack, Fill, Claim, Opened, Failed, Add, Reap, State, Join, Leave, Look, TimedOut, Cancelled, Event, ◌>>=◌, plain_act, worded_act, numbered_act, broken_act, verb_of, args_of, FitsAct, SpellsEvent}
+use Rattle.bb8_runner.specs.Grammar.{number_of, act_of, event_of_fields}
 use Rattle.bb8_runner.proofs.Choices.{both, never, pick, step}
 use Rattle.bb8_runner.proofs.Numbers.{number_is, first_is_digit, number_read, number_spelled}
 

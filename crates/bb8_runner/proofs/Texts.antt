@@ -1,7 +1,5 @@
 -- Texts that differ.
-use Rattle.std.proofs.Common.{◌≡◌, ℕ, Bool, true, false, List, refl}
-use Rattle.std.specs.Str.{bytes_eq}
-use Rattle.std.proofs.lemmas.Slice.Eq.{bytes_eq-Decides}
+use Rattle.bb8_runner.proofs.Speech.{◌≡◌, ℕ, Bool, true, false, List, refl, bytes_eq, bytes_eq-Decides}
 
 -- a test that cannot pass
 pub not_true : (b : Bool) → (b ≡ true → ⊥) → b ≡ false

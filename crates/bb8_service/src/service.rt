@@ -1,7 +1,6 @@
 //! What the service does with its pool.
 use crate::databases::{Databases, Sums, held, write};
 use bb8::{MachineClock, NopCustomizer, NopErrorSink, Pool, PoolCalls, PoolParts, Service, State};
-use futures::executor::block_on;
 use std::random::RandomSource;
 use std::sync::Wait;
 use std::time::Clock;
@@ -24,7 +23,7 @@ type DatabasePool<R, L> = Pool<Databases, NopErrorSink, NopCustomizer, MachineCl
 /// Threads that write to the databases of one pool.
 #[derive(Drop)]
 pub struct SharedDatabases<R> {
-    /// What a thread waits by.
+    /// What the guards' list allocates by.
     pub rt: R,
 }
 
@@ -51,7 +50,7 @@ impl<R: Wait + Clock + RandomSource + AllocGlobal + Copy + Send + Sync + Drop + 
     fn run<L: PoolParts>(&self, pool: &DatabasePool<R, L>, _thread: usize) -> Option<Sums> {
         let mut sums = Sums::default();
         for round in 0..ROUNDS {
-            let mut guard = block_on(&self.rt, PoolCalls::get(pool)).ok()?.ok()?;
+            let mut guard = PoolCalls::get_blocking(pool).ok()?;
             if write(&mut guard, round % AMOUNTS).is_ok() {
                 sums.committed = sums.committed.saturating_add(1);
                 continue;
@@ -74,7 +73,7 @@ impl<R: Wait + Clock + RandomSource + AllocGlobal + Copy + Send + Sync + Drop + 
         }
         let mut guards = Vec::new(self.rt.alloc());
         for _ in 0..CONNECTIONS {
-            let mut guard = block_on(&self.rt, PoolCalls::get(pool)).ok()?.ok()?;
+            let mut guard = PoolCalls::get_blocking(pool).ok()?;
             sums = sums.plus(held(&mut guard).ok()?);
             guards.push(guard).ok()?;
         }

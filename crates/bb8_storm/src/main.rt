@@ -13,8 +13,7 @@ ghost use Rattle.bb8.specs.Settings.{default_settings};
 mod rounds;
 mod told;
 
-use bb8::{Builder, Driver, Gate, Memory, PoolParts, drive};
-use bb8_trials::Runtime;
+use bb8::{Builder, Driver, Gate, Memory, PoolParts, Runtime, drive, in_threads};
 use bb8_trials::hostile::{Harness, HostilePool};
 use rounds::{SIZE, Storm, THREADS};
 use std::alloc::Global;
@@ -64,7 +63,7 @@ fn in_phase<R: Runtime + Threads, L: PoolParts + 'static>(
     let Ok(driving) = drive(&rt, driver, Stop { asked: stop }) else {
         return Err(Memory);
     };
-    let told = rounds::in_threads(&rt, storm);
+    let told = in_threads(&rt, THREADS, storm);
     asked.store(true, Ordering::SeqCst);
     let driven = driving.join(&rt);
     let mut all = Told::new();

@@ -1,14 +1,13 @@
 //! What each thread does with the pool.
 
 use crate::told::Told;
-use bb8::{Cancel, Memory, PoolCalls, PoolParts, RunError};
-use bb8_trials::Runtime;
+use bb8::{Cancel, Job, PoolCalls, PoolParts, RunError, Runtime};
 use bb8_trials::hostile::{Counted, Harness, HostilePool, Refused, Source};
 use futures::Future;
 use futures::task::Poll;
 use futures::test::MockTask;
 use std::ops::DerefMut;
-use std::thread::{self, Threads, map_indices};
+use std::thread;
 
 /// How many connections the pool may have: so few that gets wait, as openings and checks last.
 pub const SIZE: u32 = 5;
@@ -29,11 +28,8 @@ pub struct Storm<'a, R: Runtime, L: PoolParts> {
     pub rounds: u64,
 }
 
-/// What a thread does.
-pub trait Job {
-    /// All rounds of the thread of this number.
-    fn run(&self, thread: usize) -> Told;
-
+/// What a round does.
+trait Rounds {
     /// One round.
     fn round(&self, task: &MockTask, source: &Source, told: &mut Told);
 
@@ -43,6 +39,9 @@ pub trait Job {
     /// A get with a handle of its own, of a handle that is dropped meanwhile, polled and let go in the same way.
     fn get_owned(&self, task: &MockTask, source: &Source, told: &mut Told);
 
+    /// A get that the thread waits for, with a handle of its own or without.
+    fn wait(&self, source: &Source, told: &mut Told);
+
     /// A dedicated connection, whose opening is polled a few times and let go in the same way.
     fn open_dedicated(&self, task: &MockTask, source: &Source);
 
@@ -50,7 +49,26 @@ pub trait Job {
     fn ask(&self, told: &mut Told);
 }
 
-/// Polls a get so often: whether it was answered. A connection that it is served with is held, and given back.
+/// Notes a get's answer. A connection that it is served with is held, and given back.
+fn end<G: DerefMut<Target = Counted> + Drop>(
+    harness: &Harness,
+    answer: Result<G, RunError<Refused>>,
+    told: &mut Told,
+) {
+    match answer {
+        Ok(mut guard) => {
+            told.served = told.served.saturating_add(1);
+            if !guard.hold(&harness.gauges.holdings) {
+                told.blame();
+            }
+            thread::yield_now();
+        }
+        Err(RunError::TimedOut) => told.timed_out = told.timed_out.saturating_add(1),
+        Err(_) => told.blame(),
+    }
+}
+
+/// Polls a get so often: whether it was answered.
 fn is_answered<
     G: DerefMut<Target = Counted> + Drop,
     F: Future<Output = Result<G, RunError<Refused>>>,
@@ -60,20 +78,8 @@ fn is_answered<
     for _ in 0..polls {
         match task.poll(get) {
             Poll::Pending => thread::yield_now(),
-            Poll::Ready(Ok(mut guard)) => {
-                told.served = told.served.saturating_add(1);
-                if !guard.hold(&harness.gauges.holdings) {
-                    told.blame();
-                }
-                thread::yield_now();
-                return true;
-            }
-            Poll::Ready(Err(RunError::TimedOut)) => {
-                told.timed_out = told.timed_out.saturating_add(1);
-                return true;
-            }
-            Poll::Ready(Err(_)) => {
-                told.blame();
+            Poll::Ready(answer) => {
+                end(harness, answer, told);
                 return true;
             }
         }
@@ -90,8 +96,11 @@ fn let_go<F: Cancel + Drop>(future: F, source: &Source) {
     }
 }
 
-impl<R: Runtime, L: PoolParts> Job for Storm<'_, R, L> {
-    fn run(&self, thread: usize) -> Told {
+impl<R: Runtime, L: PoolParts> Job for &Storm<'_, R, L> {
+    type Told = Told;
+
+    /// All rounds of the thread.
+    fn run(self, thread: usize) -> Told {
         let mut told = Told::new();
         let seed = self
             .phase
@@ -110,12 +119,15 @@ impl<R: Runtime, L: PoolParts> Job for Storm<'_, R, L> {
         }
         told
     }
+}
 
+impl<R: Runtime, L: PoolParts> Rounds for Storm<'_, R, L> {
     fn round(&self, task: &MockTask, source: &Source, told: &mut Told) {
-        match source.below(8) {
+        match source.below(10) {
             0..=2 => self.get(task, source, told),
             3..=5 => self.get_owned(task, source, told),
-            6 => self.open_dedicated(task, source),
+            6..=7 => self.wait(source, told),
+            8 => self.open_dedicated(task, source),
             _ => self.ask(told),
         }
         if source.below(4) == 0 {
@@ -144,6 +156,15 @@ impl<R: Runtime, L: PoolParts> Job for Storm<'_, R, L> {
         told.note(polls, answered);
     }
 
+    fn wait(&self, source: &Source, told: &mut Told) {
+        told.begun = told.begun.saturating_add(1);
+        if source.below(2) == 0 {
+            end(self.harness, PoolCalls::get_blocking(self.pool), told);
+        } else {
+            end(self.harness, PoolCalls::get_owned_blocking(self.pool), told);
+        }
+    }
+
     fn open_dedicated(&self, task: &MockTask, source: &Source) {
         let mut opening = PoolCalls::dedicated_connection(self.pool);
         for _ in 0..source.below(POLLS) {
@@ -160,16 +181,5 @@ impl<R: Runtime, L: PoolParts> Job for Storm<'_, R, L> {
         if state.idle_connections > state.connections || state.connections > SIZE {
             told.blame();
         }
-    }
-}
-
-/// Runs a job in the threads: what each was told.
-pub fn in_threads<R: Threads + AllocGlobal + Sync, J: Job + Sync>(
-    rt: &R,
-    job: &J,
-) -> Result<Vec<Told>, Memory> {
-    match map_indices(rt, rt.alloc(), THREADS, &|thread| job.run(thread)) {
-        Ok(told) => Ok(told),
-        Err(_) => Err(Memory),
     }
 }

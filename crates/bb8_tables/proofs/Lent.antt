@@ -5,9 +5,6 @@ use Rattle.bb8_tables.specs.Lent.{Lent, AddsLent, lends, searches}
 pub adds_none : (l : Lent) → AddsLent 0 0 l l
 adds_none l = (refl, omega arith, omega arith)
 
-pub adds_lent : (l : Lent) → AddsLent 1 0 l (lends l)
-adds_lent l = (refl, omega arith, omega arith)
-
 pub adds_search : (l : Lent) → AddsLent 0 1 l (searches l)
 adds_search l = (refl, omega arith, omega arith)
 

@@ -1,9 +1,11 @@
+pub mod Words
 pub mod Views
 pub mod Spelled
 pub mod Linked
 pub mod Slots
 pub mod Lines
 pub mod Numbers
+pub mod TablePlaces
 pub mod Orders
 pub mod RecordPlaces
 pub mod ReapPlaces
@@ -11,5 +13,4 @@ pub mod Reaps
 pub mod Lent
 pub mod Walks
 pub mod Approvals
-pub mod Ended
 pub mod GetPlaces

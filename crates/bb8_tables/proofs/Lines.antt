@@ -1,24 +1,13 @@
 -- Lines of keys and of places that lead to the slots of a table, by a test of what stands there.
-use Rattle.std.proofs.Common.{◌≡◌, ◌≢◌, ℕ, zero, suc, Bool, true, false, cond, not, eqb, List, [], ◌∷◌, ◌++◌, filter, drop, Option, Some, None, slice_get, get_or, refl, sym, ap, ◌∙◌, subst, eq-eqb, ne_eqb, length, ◌+◌, arith}
+use Rattle.std.proofs.Common.{◌≡◌, ◌≢◌, ℕ, zero, suc, Bool, true, false, List, [], ◌∷◌, ◌++◌, drop, Option, Some, None, slice_get, get_or, refl, sym, ap, ◌∙◌, subst, eq-eqb, length, ◌+◌, arith}
 use Rattle.bb8_tables.specs.Slots.{IsLine, ArePlaces}
 use Rattle.bb8_tables.specs.Spelled.{Absent}
 use Rattle.bb8_tables.specs.Machine as machine
-use Rattle.bb8_tables.proofs.Spelled.{without_absent}
+use Rattle.bb8_tables.proofs.Spelled.{without_cases, absent_get, absent_without_self, without_absent, without_keeps_absent}
 use Rattle.bb8_tables.proofs.Slots
 use Rattle.bb8_tables.proofs.Slots.{Updates}
 
 -- ---- lines into a table
-
-filtered_avoids : {K : Type 0} (leads : K → ℕ) (p : K → Bool) (keys : List K) (place : ℕ)
-    → ((j : ℕ) (m : K) → slice_get keys j ≡ Some m → leads m ≢ place) → (j : ℕ) (m : K) → slice_get (filter p keys) j ≡ Some m
-    → leads m ≢ place
-filtered_avoids leads p [] place away j m e = cc
-filtered_avoids {K} leads p (k ∷ keys) place away j m e = go (p k) (filtered_avoids leads p keys place (λ i n f. away (suc i) n f)) j m e
-  where
-    go : (b : Bool) → ((i : ℕ) (n : K) → slice_get (filter p keys) i ≡ Some n → leads n ≢ place) → (i : ℕ) (n : K) → slice_get (cond b (k ∷ filter p keys) (filter p keys)) i ≡ Some n → leads n ≢ place
-    go true others zero n f = away 0 n f
-    go true others (suc i) n f = others i n f
-    go false others i n f = others i n f
 
 module _ {X K : Type 0} {number : X → ℕ} {test : X → Bool} {key leads : K → ℕ} where
   -- a place that does not pass is on no line
@@ -28,7 +17,8 @@ module _ {X K : Type 0} {number : X → ℕ} {test : X → Bool} {key leads : K 
       (λ y e t. let same : x ≡ y = let b : Some x ≡ Some y = sym at_place ∙ e in cc in let clash : test y ≡ false = ap test (sym same)
       ∙ off in cc)
 
-  pub free_avoids : (old : List (Option X)) (keys : List K) (place : ℕ) → IsLine number test key leads old keys → get_or old place None ≡ None → (j : ℕ) (k : K) → slice_get keys j ≡ Some k → leads k ≢ place
+  pub free_avoids : (old : List (Option X)) (keys : List K) (place : ℕ) → IsLine number test key leads old keys → get_or old place None ≡ None → (j : ℕ) (k : K) → slice_get keys j ≡ Some k
+      → leads k ≢ place
   free_avoids old keys place l free = Slots.line_avoids _ _ _ _ old keys place l (λ y e t. let clash : None ≡ Some y = sym free ∙ e in cc)
 
   -- a place that is on no line changes
@@ -69,7 +59,7 @@ module _ {X K : Type 0} {number : X → ℕ} {test : X → Bool} {key leads : K 
       go (x ∷ ks) l e = Slots.line_kept _ _ _ _ old new ks (leads k) (Slots.line_rest _ _ _ _ old x ks l)
           (let both : Some x ≡ Some k = e in subst (λ (y : K). Slots.Avoids number test key leads ks (leads y)) (let is : x ≡ k = cc in is) (Slots.line_rest_avoids _ _ _ _ old x ks l)) u.others
 
-  -- a line without some of its keys is a line
+  -- a key comes to the front
   line_cons : (xs : List (Option X)) (k : K) (keys : List K) (x : X) → get_or xs (leads k) None ≡ Some x → number x ≡ key k → test x ≡ true
       → IsLine number test key leads xs keys → ((j : ℕ) (m : K) → slice_get keys j ≡ Some m → leads m ≢ leads k)
       → IsLine number test key leads xs (k ∷ keys)
@@ -86,31 +76,9 @@ module _ {X K : Type 0} {number : X → ℕ} {test : X → Bool} {key leads : K 
       once (suc i) zero a b e f s = absurd (away i a e (s ∙ ap leads (let both : Some k ≡ Some b = f in let is : b ≡ k = cc in is)))
       once (suc i) (suc j) a b e f s = ap suc (l.once i j a b e f s)
 
-  pub filtered_line : (p : K → Bool) (xs : List (Option X)) (keys : List K) → IsLine number test key leads xs keys → IsLine number test key leads xs (filter p keys)
-  filtered_line p xs [] l = l
-  filtered_line p xs (k ∷ keys) l =
-      let rest : IsLine number test key leads xs (filter p keys) = filtered_line p xs keys (Slots.line_rest _ _ _ _ xs k keys l) in
-      let x = l.each 0 k refl in
-      go (p k) rest (line_cons xs k (filter p keys) x.0 x.1 x.2 x.3 rest (filtered_avoids leads p keys (leads k) (Slots.line_rest_avoids _ _ _ _ xs k keys l)))
-    where
-      go : (b : Bool) → IsLine number test key leads xs (filter p keys) → IsLine number test key leads xs (k ∷ filter p keys)
-          → IsLine number test key leads xs (cond b (k ∷ filter p keys) (filter p keys))
-      go true without with_it = with_it
-      go false without with_it = without
-
   -- nothing changes at any place
   pub same_line : {old new : List (Option X)} {keys : List K} → IsLine number test key leads old keys → ((i : ℕ) → get_or new i None ≡ get_or old i None) → IsLine number test key leads new keys
   same_line l same = record { each = λ j k e. let st = l.each j k e in (st.0, same (leads k) ∙ st.1, st.2, st.3); once = l.once }
-
--- what is left of a line passes
-pub filter_passes : {K : Type 0} (p : K → Bool) (keys : List K) (j : ℕ) (k : K) → slice_get (filter p keys) j ≡ Some k → p k ≡ true
-filter_passes p [] j k e = cc
-filter_passes {K} p (x ∷ keys) j k e = go (p x) refl (λ i f. filter_passes p keys i k f) j e
-  where
-    go : (b : Bool) → p x ≡ b → ((i : ℕ) → slice_get (filter p keys) i ≡ Some k → p k ≡ true) → (i : ℕ) → slice_get (cond b (x ∷ filter p keys) (filter p keys)) i ≡ Some k → p k ≡ true
-    go true on ih zero f = let both : Some x ≡ Some k = f in let is : k ≡ x = cc in ap p is ∙ on
-    go true on ih (suc i) f = ih i f
-    go false on ih i f = ih i f
 
 -- a place that none of a line's is, is absent from it
 pub get_absent : (p : ℕ) (xs : List ℕ) → ((j k : ℕ) → slice_get xs j ≡ Some k → k ≢ p) → Absent p xs
@@ -119,16 +87,22 @@ get_absent p (x ∷ xs) h = (h 0 x refl, get_absent p xs (λ j k e. h (suc j) k 
 
 -- what is left when a place leaves is elsewhere
 pub left_away : (places : List ℕ) (place : ℕ) → (j k : ℕ) → slice_get (machine.without place places) j ≡ Some k → k ≢ place
-left_away places place j k e s =
-    let passes : not (eqb k place) ≡ true = filter_passes (λ (m : ℕ). not (eqb m place)) places j k e in
-    let clash : not (eqb k place) ≡ false = ap not (eq-eqb k place s) in
-    let no : true ≡ false = sym passes ∙ clash in
-    cc
+left_away places place j k e s = absent_get place j (machine.without place places) (absent_without_self place places) (e ∙ ap (λ (q : ℕ). Some q) s)
 
 -- a line of places, of which one leaves and changes
 module _ {X : Type 0} {test : X → Bool} where
-  pub places_without : {old new : List (Option X)} {places : List ℕ} {place : ℕ} {slot : Option X} → ArePlaces test old places → Updates old new place slot → ArePlaces test new (machine.without place places)
-  places_without {old} {new} {places} {place} l u = Slots.line_kept _ _ _ _ old new (machine.without place places) place (filtered_line (λ (m : ℕ). not (eqb m place)) old places l) (left_away places place) u.others
+  places_left : (xs : List (Option X)) (place : ℕ) (places : List ℕ) → ArePlaces test xs places → ArePlaces test xs (machine.without place places)
+  places_left xs place [] l = l
+  places_left xs place (k ∷ places) l =
+      let rest : ArePlaces test xs (machine.without place places) = places_left xs place places (Slots.line_rest _ _ _ _ xs k places l) in
+      let x = l.each 0 k refl in
+      let apart : Absent k (machine.without place places) = without_keeps_absent place k places (get_absent k places (Slots.line_rest_avoids _ _ _ _ xs k places l)) in
+      without_cases (λ (ks : List ℕ). ArePlaces test xs ks) place k places (λ s. rest)
+      (λ s. line_cons xs k (machine.without place places) x.0 x.1 x.2 x.3 rest (λ j m e f. absent_get k j (machine.without place places) apart (e ∙ ap (λ (q : ℕ). Some q) f)))
+
+  pub places_without : {old new : List (Option X)} {places : List ℕ} {place : ℕ} {slot : Option X} → ArePlaces test old places → Updates old new place slot
+      → ArePlaces test new (machine.without place places)
+  places_without {old} {new} {places} {place} l u = Slots.line_kept _ _ _ _ old new (machine.without place places) place (places_left old place places l) (left_away places place) u.others
 
   -- a place that does not pass is absent
   pub places_absent : (slots : List (Option X)) (places : List ℕ) (place : ℕ) (x : X) → ArePlaces test slots places → get_or slots place None ≡ Some x → test x ≡ false → Absent place places
@@ -148,16 +122,15 @@ module _ {X : Type 0} {test : X → Bool} where
       rw (eq-eqb p place is) (without_absent place places (subst (λ (q : ℕ). Absent q places) is rest))
 
   -- a line is shorter by one without a place of its own
-  pub one_shorter : (slots : List (Option X)) (places : List ℕ) (place j : ℕ) → ArePlaces test slots places → slice_get places j ≡ Some place → length (machine.without place places) + 1 ≡ length places
+  pub one_shorter : (slots : List (Option X)) (places : List ℕ) (place j : ℕ) → ArePlaces test slots places → slice_get places j ≡ Some place → length
+      (machine.without place places) + 1 ≡ length places
   one_shorter slots [] place j l e = absurd (cc)
-  one_shorter slots (p ∷ places) place zero l e =
-      let both : Some p ≡ Some place = e in
-      let is : p ≡ place = cc in
-      let rest : Absent p places = get_absent p places (Slots.line_rest_avoids _ _ _ _ slots p places l) in
-      let same : machine.without place places ≡ places = without_absent place places (subst (λ (q : ℕ). Absent q places) is rest) in
-      let n : length (machine.without place places) ≡ length places = ap (λ (ks : List ℕ). length ks) same in
-      rw (eq-eqb p place is) (omega arith)
-  one_shorter slots (p ∷ places) place (suc j) l e =
-      let other : p ≢ place = λ s. Slots.line_rest_avoids _ _ _ _ slots p places l j place e (sym s) in
-      let ih : length (machine.without place places) + 1 ≡ length places = one_shorter slots places place j (Slots.line_rest _ _ _ _ slots p places l) e in
-      rw (ne_eqb p place other) (omega arith)
+  one_shorter slots (p ∷ places) place j l e = without_cases (λ (ys : List ℕ). length ys + 1 ≡ length (p ∷ places)) place p places
+      (λ s. let absent : Absent place places = subst (λ (q : ℕ). Absent q places) s (get_absent p places (Slots.line_rest_avoids _ _ _ _ slots p places l)) in
+      let same : length (machine.without place places) ≡ length places = ap (λ (ks : List ℕ). length ks) (without_absent place places absent) in omega arith)
+      (λ s. let t = later j e s in
+      let ih : length (machine.without place places) + 1 ≡ length places = one_shorter slots places place t.0 (Slots.line_rest _ _ _ _ slots p places l) t.1 in omega arith)
+    where
+      later : (j : ℕ) → slice_get (p ∷ places) j ≡ Some place → p ≢ place → (i : ℕ) × (slice_get places i ≡ Some place)
+      later zero e n = absurd (n (let both : Some p ≡ Some place = e in cc))
+      later (suc i) e n = (i, e)

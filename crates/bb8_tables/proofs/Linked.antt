@@ -1,25 +1,6 @@
 -- What the steps on links and entries do to what a table shows.
-use Rattle.std.proofs.Common.{◌≡◌, ◌≢◌, get_or-set_other, get_or-set_same, Result, Ok, Err, OnOk, OnErr, cond, ℕ, zero, suc, ◌+◌, ◌-◌, ◌<◌, ◌≤◌, Bool, true, false, eqb, List, [], ◌∷◌, ◌++◌, length, set, slice_get, get_or, Option, Some, None, IsSome, refl, sym, ap, ◌∙◌, ⊎_elim, arith, subst, length-append}
-use Rattle.std.proofs.Math.Seq.{map-set_same}
-use Rattle.std.proofs.lemmas.List.{length-map, map-set}
-use Rattle.std.proofs.lemmas.Option.{slice_get_past, slice_get_read}
-use Rattle.std.proofs.lemmas.Bool.{cases_lt}
-use Rattle.std.proofs.lemmas.Bool.Decides.{eqb_tells}
-use Rattle.std.specs.declared.alloc.AllocError.{AllocError}
-use Rattle.std.specs.Vec.{with_item}
-use Rattle.bb8_types.specs.Bounds.{end_of_numbers}
-use Rattle.bb8_tables.specs.declared.table.Slot.{Slot}
-use Rattle.bb8_tables.specs.declared.links.Order.{Order}
-use Rattle.bb8_tables.specs.declared.links.Order.TheVariants.{Line, Births, Free}
-use Rattle.bb8_tables.specs.declared.links.Link.{Link}
-use Rattle.bb8_tables.specs.declared.links.Entry.{Entry}
-use Rattle.bb8_tables.specs.declared.links.Links.{Links}
-use Rattle.bb8_tables.specs.declared.links.Sizes.{Sizes}
+use Rattle.bb8_tables.proofs.Words.{◌≡◌, ◌≢◌, get_or-set_other, get_or-set_same, Result, Ok, Err, OnOk, OnErr, cond, ℕ, zero, suc, ◌+◌, ◌-◌, ◌<◌, ◌≤◌, Bool, true, false, eqb, List, [], ◌∷◌, ◌++◌, length, set, slice_get, get_or, Option, Some, None, IsSome, refl, sym, ap, ◌∙◌, ⊎_elim, arith, subst, length-append, map-set_same, length-map, map-set, slice_get_past, slice_get_read, cases_lt, eqb_tells, AllocError, with_item, end_of_numbers, Slot, Order, Line, Births, Free, Link, Entry, Links, Sizes, end, most_places, size_of, with_size, link_in, with_link, after_at, before_at, after_of, before_of, JoinsAt, SameLinks, SameOthers, slot_in, slots_of, spelled, view_of_table, IsGoodTable, Lined, is_same, places_of, with_places, without, Absent, Spells, walk, ne_eqb}
 use Rattle.bb8_tables.specs.declared.table.Table.TheInside.{Inside}
-use Rattle.bb8_tables.specs.Linked.{end, most_places, size_of, with_size, link_in, with_link, after_at, before_at, after_of, before_of, JoinsAt, SameLinks, SameOthers, slot_in, slots_of, spelled, view_of_table, IsGoodTable}
-use Rattle.bb8_tables.specs.Lined.{Lined, is_same, places_of, with_places}
-use Rattle.bb8_tables.specs.Machine.{without}
-use Rattle.bb8_tables.specs.Spelled.{Absent, Spells, walk}
 use Rattle.bb8_tables.proofs.Spelled
 
 -- ---- orders
@@ -125,10 +106,10 @@ module _ {S : Type 0} where
       go true t f = cc
       go false t f = ((let both : Some x.slot ≡ Some s = f in let is : x.slot ≡ s = cc in is), t)
 
-  links_kept : (x y : Entry S) → y.line ≡ x.line → y.births ≡ x.births → y.free ≡ x.free → (o : Order) → link_in o y ≡ link_in o x
-  links_kept x y l b f Line = l
-  links_kept x y l b f Births = b
-  links_kept x y l b f Free = f
+  links_kept : (x : Entry S) (slot : Slot S) (o : Order) → link_in o (record x { slot = slot }) ≡ link_in o x
+  links_kept x slot Line = refl
+  links_kept x slot Births = refl
+  links_kept x slot Free = refl
 
   -- ---- a table
 
@@ -148,30 +129,31 @@ module _ {S : Type 0} where
     sized o = Spelled.length-walk (after_of o entries) (size_of o a.sizes) (after_of o entries end)
 
     -- what does not lead to itself is inside
-    pub moves_inside : (o : Order) (p : ℕ) → after_of o entries p ≢ p → p < a.links.entries.len
-    moves_inside o p moves = ⊎_elim
+    leads_inside : (f : ℕ → Option (Entry S) → ℕ) → ((p : ℕ) → f p None ≡ p) → (p : ℕ) → f p (slice_get entries p) ≢ p → p < a.links.entries.len
+    leads_inside f alone p moves = ⊎_elim
         (λ (h : p < length entries). let e : a.links.entries.len ≡ length entries = a.links.entries.ok.0 in omega arith)
-        (λ (h : length entries ≤ p). absurd (moves (ap (after_at o p) (slice_get_past entries p h))))
+        (λ (h : length entries ≤ p). absurd (moves (ap (f p) (slice_get_past entries p h) ∙ alone p)))
         (cases_lt p (length entries))
 
-    pub back_inside : (o : Order) (p : ℕ) → before_of o entries p ≢ p → p < a.links.entries.len
-    back_inside o p moves = ⊎_elim
-        (λ (h : p < length entries). let e : a.links.entries.len ≡ length entries = a.links.entries.ok.0 in omega arith)
-        (λ (h : length entries ≤ p). absurd (moves (ap (before_at o p) (slice_get_past entries p h))))
-        (cases_lt p (length entries))
+    moves_inside : (o : Order) (p : ℕ) → after_of o entries p ≢ p → p < a.links.entries.len
+    moves_inside o = leads_inside (after_at o) (λ p. refl)
+
+    back_inside : (o : Order) (p : ℕ) → before_of o entries p ≢ p → p < a.links.entries.len
+    back_inside o = leads_inside (before_at o) (λ p. refl)
 
     pub size_few : (o : Order) → size_of o a.sizes ≤ a.links.entries.len
-    size_few o = let l : length (spelled o a) ≤ a.links.entries.len = Spelled.spelled_few (after_of o entries) (before_of o entries) end a.links.entries.len (spelled o a) (good.spells o) (moves_inside o) in let e : length (spelled o a) ≡ size_of o a.sizes = sized o in omega arith
+    size_few o = let l : length (spelled o a) ≤ a.links.entries.len = Spelled.spelled_few (after_of o entries) (before_of o entries) end a.links.entries.len (spelled o a) (good.spells o)
+        (moves_inside o) in let e : length (spelled o a) ≡ size_of o a.sizes = sized o in omega arith
 
-    pub oldest_is : (o : Order) → 0 < length (spelled o a) → slice_get (spelled o a) 0 ≡ Some (after_of o entries end)
-    oldest_is o some = go (spelled o a) (good.spells o) some
-      where
-        go : (xs : List ℕ) → Spells (after_of o entries) (before_of o entries) end xs → 0 < length xs → slice_get xs 0 ≡ Some (after_of o entries end)
-        go [] s h = absurd (omega arith)
-        go (x ∷ xs) s h = Spelled.first_is (after_of o entries) (before_of o entries) end x xs s
+    spelled_as : (now : Lined (Slot S)) (o : Order) (xs : List ℕ) → view_of_table a ≡ now → places_of o now ≡ xs → Spells (after_of o entries) (before_of o entries) end xs
+    spelled_as now o xs is e = subst (λ (ys : List ℕ). Spells (after_of o entries) (before_of o entries) end ys) (sym (shown o a) ∙ ap (places_of o) is ∙ e) (good.spells o)
 
-    pub newest_is : (o : Order) → 0 < length (spelled o a) → slice_get (spelled o a) (length (spelled o a) - 1) ≡ Some (before_of o entries end)
-    newest_is o some = go (spelled o a) (good.spells o) some
+    pub counted : (now : Lined (Slot S)) (o : Order) → view_of_table a ≡ now → size_of o a.sizes ≡ length (places_of o now)
+    counted now o is = sym (sized o) ∙ ap (λ (xs : List ℕ). length xs) (sym (shown o a)) ∙ ap (λ (t : Lined (Slot S)). length (places_of o t)) is
+
+    pub newest_is : (now : Lined (Slot S)) (o : Order) → view_of_table a ≡ now → 0 < length (places_of o now) → slice_get (places_of o now) (length (places_of o now) - 1) ≡ Some
+        (before_of o entries end)
+    newest_is now o is some = go (places_of o now) (spelled_as now o (places_of o now) is refl) some
       where
         go : (xs : List ℕ) → Spells (after_of o entries) (before_of o entries) end xs → 0 < length xs → slice_get xs (length xs - 1) ≡ Some (before_of o entries end)
         go [] s h = absurd (omega arith)
@@ -181,36 +163,20 @@ module _ {S : Type 0} where
     pub place_inside : (o : Order) (p j : ℕ) → slice_get (spelled o a) j ≡ Some p → p < a.links.entries.len
     place_inside o p j e = moves_inside o p (Spelled.member_at (after_of o entries) (before_of o entries) end (spelled o a) (good.spells o) p j e).moves
 
-    pub place_apart : (o : Order) (p j : ℕ) → slice_get (spelled o a) j ≡ Some p → 0 < p
-    place_apart o p j e = ⊎_elim
-        (λ (t : (eqb p 0 ≡ true) × (p ≡ 0)). absurd (Spelled.absent_get end j (spelled o a) (good.spells o).apart (e ∙ ap (λ (q : ℕ). Some q) t.1)))
-        (λ (t : (eqb p 0 ≡ false) × (p ≢ 0)). let no : p ≢ 0 = t.1 in omega arith)
-        (eqb_tells p 0)
-
     -- a place that is seen in an order is inside
     pub seen_inside : (now : Lined (Slot S)) (o : Order) (p j : ℕ) → view_of_table a ≡ now → slice_get (places_of o now) j ≡ Some p → p < a.links.entries.len
     seen_inside now o p j is e = place_inside o p j (ap (λ (xs : List ℕ). slice_get xs j) (sym (shown o a) ∙ ap (places_of o) is) ∙ e)
 
     -- the place after one in an order
-    spelled_as : (now : Lined (Slot S)) (o : Order) (xs : List ℕ) → view_of_table a ≡ now → places_of o now ≡ xs → Spells (after_of o entries) (before_of o entries) end xs
-    spelled_as now o xs is e = subst (λ (ys : List ℕ). Spells (after_of o entries) (before_of o entries) end ys) (sym (shown o a) ∙ ap (places_of o) is ∙ e) (good.spells o)
-
     pub next_none : (now : Lined (Slot S)) (o : Order) (p next : ℕ) → view_of_table a ≡ now → next ≡ after_of o entries p → next ≡ end
         → (passed rest : List ℕ) → places_of o now ≡ passed ++ p ∷ rest → None ≡ slice_get rest 0
-    next_none now o p next is next_is last passed rest e = Spelled.next_none (after_of o entries) (before_of o entries) end p passed rest (spelled_as now o (passed ++ p ∷ rest) is e) (sym next_is ∙ last)
+    next_none now o p next is next_is last passed rest e = Spelled.next_none (after_of o entries) (before_of o entries) end p passed rest (spelled_as now o (passed ++ p ∷ rest) is e)
+        (sym next_is ∙ last)
 
     pub next_some : (now : Lined (Slot S)) (o : Order) (p next : ℕ) → view_of_table a ≡ now → next ≡ after_of o entries p → next ≢ end
         → (passed rest : List ℕ) → places_of o now ≡ passed ++ p ∷ rest → Some next ≡ slice_get rest 0
     next_some now o p next is next_is moves passed rest e =
         ap (λ (q : ℕ). Some q) next_is ∙ Spelled.next_some (after_of o entries) (before_of o entries) end p passed rest (spelled_as now o (passed ++ p ∷ rest) is e) (λ s. moves (next_is ∙ s))
-
-    -- nothing stands at a free place
-    pub free_vacant : (p j : ℕ) → slice_get (spelled Free a) j ≡ Some p → get_or (slots_of entries) p None ≡ None
-    free_vacant p j e = go (get_or (slots_of entries) p None) refl
-      where
-        go : (o : Option (Slot S)) → get_or (slots_of entries) p None ≡ o → get_or (slots_of entries) p None ≡ None
-        go None h = h
-        go (Some x) h = absurd (Spelled.absent_get p j (spelled Free a) (good.vacant p (subst IsSome (sym h) refl)) e)
 
     -- where something stands is inside, and no end
     pub slot_inside : (p : ℕ) → IsSome (get_or (slots_of entries) p None) → p < a.links.entries.len
@@ -218,12 +184,11 @@ module _ {S : Type 0} where
 
     pub slot_apart : (p : ℕ) → IsSome (get_or (slots_of entries) p None) → 0 < p
     slot_apart p h = ⊎_elim
-        (λ (t : (eqb p 0 ≡ true) × (p ≡ 0)). absurd (let h0 : IsSome (get_or (slots_of entries) 0 None) = subst (λ (q : ℕ). IsSome (get_or (slots_of entries) q None)) t.1 h in let clash : IsSome {T = Slot S} None = subst IsSome good.ends h0 in cc))
+        (λ (t : (eqb p 0 ≡ true) × (p ≡ 0)). absurd
+        (let h0 : IsSome (get_or (slots_of entries) 0 None) = subst
+        (λ (q : ℕ). IsSome (get_or (slots_of entries) q None)) t.1 h in let clash : IsSome {T = Slot S} None = subst IsSome good.ends h0 in cc))
         (λ (t : (eqb p 0 ≡ false) × (p ≢ 0)). let no : p ≢ 0 = t.1 in omega arith)
         (eqb_tells p 0)
-
-    pub stood_apart : (now : Lined (Slot S)) (p : ℕ) → view_of_table a ≡ now → IsSome (get_or now.slots p None) → 0 < p
-    stood_apart now p is h = slot_apart p (subst (λ (t : Lined (Slot S)). IsSome (get_or t.slots p None)) (sym is) h)
 
     -- ---- an order whose links are the same
 
@@ -274,17 +239,21 @@ module _ {S : Type 0} where
           go true e = subst (λ (r : Order). Absent i (spelled r relinked_inside)) (sym (same_is Free o e)) (subst (λ (ys : List ℕ). Absent i ys) (sym here) (vacant e i stands))
           go false e = subst (λ (ys : List ℕ). Absent i ys) (sym (elsewhere Free e)) (good.vacant i stands)
 
-      pub relinked_good : IsGoodTable relinked_inside
-      relinked_good = record {
-        spells = spells_all;
-        ends = ap (λ (ys : List (Option (Slot S))). get_or ys end None) slots ∙ good.ends;
-        vacant = vacant_all;
-        few = subst (λ (m : ℕ). m ≤ most_places) (sym len) good.few;
-      }
+      relinked_all : IsGoodTable relinked_inside × (view_of_table relinked_inside ≡ with_places o xs (view_of_table a))
+      relinked_all = (
+        record {
+          spells = spells_all;
+          ends = ap (λ (ys : List (Option (Slot S))). get_or ys end None) slots ∙ good.ends;
+          vacant = vacant_all;
+          few = subst (λ (m : ℕ). m ≤ most_places)
+              (sym len) good.few;
+        },
+        set_places o (view_of_table a) (view_of_table relinked_inside) xs slots (shown o relinked_inside ∙ here) (λ q e. shown q relinked_inside ∙ elsewhere q e ∙ sym (shown q a)),
+      )
 
-      pub relinked_view : view_of_table relinked_inside ≡ with_places o xs (view_of_table a)
-      relinked_view = set_places o (view_of_table a) (view_of_table relinked_inside) xs slots (shown o relinked_inside ∙ here)
-          (λ q e. shown q relinked_inside ∙ elsewhere q e ∙ sym (shown q a))
+    -- what has become of a table whose order has these places now
+    abbrev Becomes : Order → List ℕ → Links S → Sizes → Type 0
+    Becomes o xs new sizes = IsGoodTable (record { links = new; sizes = sizes }) × (view_of_table (record { links = new; sizes = sizes }) ≡ with_places o xs (view_of_table a))
 
     -- ---- other entries with the same links
 
@@ -294,57 +263,61 @@ module _ {S : Type 0} where
       abbrev filled_inside : Inside S
       filled_inside = record { links = new; sizes = a.sizes }
 
-      pub filled_good : IsGoodTable filled_inside
-      filled_good = record {
-        spells = λ o. spells_kept new a.sizes o refl (same o);
-        ends = ends;
-        vacant = λ i h. subst (λ (ys : List ℕ). Absent i ys) (sym (kept new a.sizes Free refl (same Free))) (vacant i h);
-        few = few;
-      }
+      filled : IsGoodTable filled_inside × (view_of_table filled_inside ≡ record (view_of_table a) { slots = slots_of new.entries.items })
+      filled = (
+        record {
+          spells = λ o. spells_kept new a.sizes o refl (same o);
+          ends = ends;
+          vacant = λ i h. subst (λ (ys : List ℕ). Absent i ys) (sym (kept new a.sizes Free refl (same Free))) (vacant i h);
+          few = few;
+        },
+        λ i. record {
+          slots = slots_of new.entries.items;
+          line = kept new a.sizes Line refl (same Line) i;
+          births = kept new a.sizes Births refl
+              (same Births) i;
+          free = kept new a.sizes Free refl (same Free) i;
+        },
+      )
 
-      pub filled_view : view_of_table filled_inside ≡ record (view_of_table a) { slots = slots_of new.entries.items }
-      filled_view = λ i. record { slots = slots_of new.entries.items; line = kept new a.sizes Line refl (same Line) i; births = kept new a.sizes Births refl (same Births) i; free = kept new a.sizes Free refl (same Free) i }
+    -- two places were joined, and then two others
+    module _ (o : Order) (mid new : Links S) (sizes : Sizes) (p : ℕ) (o1 : SameOthers o entries mid.entries.items) (o2 : SameOthers o mid.entries.items new.entries.items)
+        (slots : slots_of new.entries.items ≡ slots_of entries) (len : new.entries.len ≡ a.links.entries.len) (apart : 0 < p) where
+      others_kept : SameOthers o entries new.entries.items
+      others_kept q e = record { after = λ i. (o2 q e).after i ∙ (o1 q e).after i; before = λ i. (o2 q e).before i ∙ (o1 q e).before i }
 
-    -- ---- a place comes to the new end of an order
+      free_absent : is_same Free o ≡ true → (i : ℕ) → IsSome (get_or (slots_of entries) i None) → Absent i (spelled o a)
+      free_absent e i h = subst (λ (q : Order). Absent i (spelled q a)) (same_is Free o e) (good.vacant i h)
 
-    module _ (o : Order) (mid new : Links S) (p : ℕ) (j1 : JoinsAt o entries mid.entries.items (before_of o entries end) p) (o1 : SameOthers o entries mid.entries.items)
-        (j2 : JoinsAt o mid.entries.items new.entries.items p end) (o2 : SameOthers o mid.entries.items new.entries.items)
-        (apart : 0 < p) (absent : Absent p (spelled o a)) where
-      pub both_others : SameOthers o entries new.entries.items
-      both_others q e = record { after = λ i. (o2 q e).after i ∙ (o1 q e).after i; before = λ i. (o2 q e).before i ∙ (o1 q e).before i }
+      -- a place comes to the new end of an order
+      pub pushed : JoinsAt o entries mid.entries.items (before_of o entries end) p → JoinsAt o mid.entries.items new.entries.items p end → sizes ≡ with_size o (size_of o a.sizes + 1) a.sizes
+          → Absent p (places_of o (view_of_table a)) → (IsSome (get_or (slots_of entries) p None) → is_same Free o ≡ false) → Becomes o (places_of o (view_of_table a) ++ p ∷ []) new sizes
+      pushed j1 j2 sizes_are absent vacant =
+          let off : Absent p (spelled o a) = subst (λ (xs : List ℕ). Absent p xs) (shown o a) absent in
+          let many : length (spelled o a) ≡ size_of o a.sizes = sized o in
+          let longer : length (spelled o a ++ p ∷ []) ≡ length (spelled o a) + 1 = length-append (spelled o a) (p ∷ []) in
+          let r = relinked_all o new (spelled o a ++ p ∷ []) (size_of o a.sizes + 1)
+          (Spelled.pushed (after_of o entries) (before_of o entries) (after_of o mid.entries.items) (before_of o mid.entries.items) (after_of o new.entries.items) (before_of o new.entries.items)
+          end p j1 j2 (λ e. omega arith) (spelled o a) (good.spells o) off)
+          (omega arith) others_kept slots len
+          (λ e i h. Spelled.push_absent i p (spelled o a) (free_absent e i h)
+          (λ s. let clash : true ≡ false = sym e ∙ vacant (subst (λ (k : ℕ). IsSome (get_or (slots_of entries) k None)) (sym s) h) in cc)) in
+          rw sizes_are (r.0, r.1 ∙ ap (λ (xs : List ℕ). with_places o (xs ++ p ∷ []) (view_of_table a)) (sym (shown o a)))
 
-      pub push_spells : Spells (after_of o new.entries.items) (before_of o new.entries.items) end (spelled o a ++ p ∷ [])
-      push_spells = Spelled.pushed (after_of o entries) (before_of o entries) (after_of o mid.entries.items) (before_of o mid.entries.items) (after_of o new.entries.items) (before_of o new.entries.items)
-          end p j1 j2 (λ e. omega arith) (spelled o a) (good.spells o) absent
-
-      pub push_size : length (spelled o a ++ p ∷ []) ≡ size_of o a.sizes + 1
-      push_size = let e : length (spelled o a) ≡ size_of o a.sizes = sized o in let f : length (spelled o a ++ p ∷ []) ≡ length (spelled o a) + 1 = length-append (spelled o a) (p ∷ []) in omega arith
-
-      pub push_vacant : (IsSome (get_or (slots_of entries) p None) → is_same Free o ≡ false) → is_same Free o ≡ true → (i : ℕ) → IsSome (get_or (slots_of entries) i None) → Absent i (spelled o a ++ p ∷ [])
-      push_vacant none e i h = Spelled.push_absent i p (spelled o a)
-          (subst (λ (q : Order). Absent i (spelled q a)) (same_is Free o e) (good.vacant i h))
-          (λ s. let clash : true ≡ false = sym e ∙ none (subst (λ (k : ℕ). IsSome (get_or (slots_of entries) k None)) (sym s) h) in cc)
-
-    -- ---- a place leaves an order
-
-    module _ (o : Order) (mid new : Links S) (p : ℕ) (j1 : JoinsAt o entries mid.entries.items (before_of o entries p) (after_of o entries p)) (o1 : SameOthers o entries mid.entries.items)
-        (j2 : JoinsAt o mid.entries.items new.entries.items p p) (o2 : SameOthers o mid.entries.items new.entries.items)
-        (apart : 0 < p) (moves : after_of o entries p ≢ p) where
-      member : Spelled.IsMember (after_of o entries) (before_of o entries) end p (spelled o a)
-      member = Spelled.is_member (after_of o entries) (before_of o entries) end (spelled o a) (good.spells o) p (λ e. omega arith) moves
-
-      pub out_others : SameOthers o entries new.entries.items
-      out_others q e = record { after = λ i. (o2 q e).after i ∙ (o1 q e).after i; before = λ i. (o2 q e).before i ∙ (o1 q e).before i }
-
-      pub out_spells : Spells (after_of o new.entries.items) (before_of o new.entries.items) end (without p (spelled o a))
-      out_spells = Spelled.removed (after_of o entries) (before_of o entries) (after_of o mid.entries.items) (before_of o mid.entries.items) (after_of o new.entries.items) (before_of o new.entries.items)
-          end p j1 j2 (λ e. omega arith) member.back member.forth (spelled o a) (good.spells o)
-
-      pub out_size : length (without p (spelled o a)) ≡ size_of o a.sizes - 1
-      out_size = let e : length (spelled o a) ≡ size_of o a.sizes = sized o in let f : length (without p (spelled o a)) + 1 ≡ length (spelled o a) = member.fewer in omega arith
-
-      pub out_vacant : is_same Free o ≡ true → (i : ℕ) → IsSome (get_or (slots_of entries) i None) → Absent i (without p (spelled o a))
-      out_vacant e i h = Spelled.without_keeps_absent p i (spelled o a) (subst (λ (q : Order). Absent i (spelled q a)) (same_is Free o e) (good.vacant i h))
+      -- a place leaves an order
+      pub unlinked : JoinsAt o entries mid.entries.items (before_of o entries p) (after_of o entries p) → JoinsAt o mid.entries.items new.entries.items p p → sizes ≡ with_size o
+          (size_of o a.sizes - 1) a.sizes
+          → after_of o entries p ≢ p → Becomes o (without p (places_of o (view_of_table a))) new sizes
+      unlinked j1 j2 sizes_are moves =
+          let m = Spelled.is_member (after_of o entries) (before_of o entries) end (spelled o a) (good.spells o) p (λ e. omega arith) moves in
+          let many : length (spelled o a) ≡ size_of o a.sizes = sized o in
+          let fewer : length (without p (spelled o a)) + 1 ≡ length (spelled o a) = m.fewer in
+          let r = relinked_all o new (without p (spelled o a)) (size_of o a.sizes - 1)
+          (Spelled.removed (after_of o entries) (before_of o entries) (after_of o mid.entries.items) (before_of o mid.entries.items) (after_of o new.entries.items) (before_of o new.entries.items)
+          end p j1 j2 (λ e. omega arith) m.back m.forth (spelled o a) (good.spells o))
+          (omega arith) others_kept slots len
+          (λ e i h. Spelled.without_keeps_absent p i (spelled o a) (free_absent e i h)) in
+          rw sizes_are (r.0, r.1 ∙ ap (λ (xs : List ℕ). with_places o (without p xs) (view_of_table a)) (sym (shown o a)))
 
     -- its neighbours are inside
     pub before_inside : (o : Order) (p : ℕ) → 0 < p → after_of o entries p ≢ p → before_of o entries p < a.links.entries.len
@@ -356,13 +329,6 @@ module _ {S : Type 0} where
     after_inside o p apart moves =
         let m = Spelled.is_member (after_of o entries) (before_of o entries) end (spelled o a) (good.spells o) p (λ e. omega arith) moves in
         back_inside o (after_of o entries p) (λ s. moves (sym s ∙ m.forth))
-
-    pub size_some : (o : Order) (p : ℕ) → 0 < p → after_of o entries p ≢ p → 0 < size_of o a.sizes
-    size_some o p apart moves =
-        let m = Spelled.is_member (after_of o entries) (before_of o entries) end (spelled o a) (good.spells o) p (λ e. omega arith) moves in
-        let e : length (spelled o a) ≡ size_of o a.sizes = sized o in
-        let f : length (without p (spelled o a)) + 1 ≡ length (spelled o a) = m.fewer in
-        omega arith
 
     -- a place that leads to itself is in no order
     pub alone : (o : Order) (p : ℕ) → 0 < p → after_of o entries p ≡ p → without p (spelled o a) ≡ spelled o a
@@ -382,17 +348,19 @@ module _ {S : Type 0} where
     abbrev with_entry : ℕ → Entry S → Inside S
     with_entry p y = record { links = record { entries = with_item a.links.entries p y }; sizes = a.sizes }
 
-    module _ (p : ℕ) (x y : Entry S) (inside : p < a.links.entries.len) (apart : 0 < p) (at_p : x ≡ get_or entries p x)
-        (line : y.line ≡ x.line) (births : y.births ≡ x.births) (free : y.free ≡ x.free)
-        (vacant : IsSome (slot_in y) → Absent p (spelled Free a)) where
-      pub read : slice_get entries p ≡ Some x
+    module _ (p : ℕ) (x : Entry S) (slot : Slot S) (inside : p < a.links.entries.len) (apart : 0 < p) (at_p : x ≡ get_or entries p x)
+        (vacant : IsSome (slot_in (record x { slot = slot })) → Absent p (spelled Free a)) where
+      abbrev y : Entry S
+      y = record x { slot = slot }
+
+      read : slice_get entries p ≡ Some x
       read = slice_get_read entries a.links.entries.len p x a.links.entries.ok.0 inside at_p
 
       set_slots : slots_of (set entries p y) ≡ set (slots_of entries) p (slot_in y)
       set_slots = map-set slot_in entries p y
 
       set_links : (o : Order) → SameLinks o entries (set entries p y)
-      set_links o = same_links o entries p x y read (links_kept x y line births free o)
+      set_links o = same_links o entries p x y read (links_kept x slot o)
 
       other_slot : (i : ℕ) → i ≢ p → get_or (slots_of (set entries p y)) i None ≡ get_or (slots_of entries) i None
       other_slot i n = ap (λ (ys : List (Option (Slot S))). get_or ys i None) set_slots ∙ get_or-set_other (slots_of entries) p i (slot_in y) None n
@@ -403,116 +371,103 @@ module _ {S : Type 0} where
 
       set_vacant : (i : ℕ) → IsSome (get_or (slots_of (set entries p y)) i None) → Absent i (spelled Free a)
       set_vacant i h = ⊎_elim
-          (λ (t : (eqb i p ≡ true) × (i ≡ p)). subst (λ (k : ℕ). Absent k (spelled Free a)) (sym t.1) (vacant (subst IsSome this_slot (subst (λ (k : ℕ). IsSome (get_or (slots_of (set entries p y)) k None)) t.1 h))))
+          (λ (t : (eqb i p ≡ true) × (i ≡ p)). subst (λ (k : ℕ). Absent k (spelled Free a)) (sym t.1)
+          (vacant (subst IsSome this_slot (subst (λ (k : ℕ). IsSome (get_or (slots_of (set entries p y)) k None)) t.1 h))))
           (λ (t : (eqb i p ≡ false) × (i ≢ p)). good.vacant i (subst IsSome (other_slot i t.1) h))
           (eqb_tells i p)
 
       set_ends : get_or (slots_of (set entries p y)) end None ≡ None
       set_ends = other_slot end (λ e. let no : 0 ≡ p = e in omega arith) ∙ good.ends
 
-      pub set_good : IsGoodTable (with_entry p y)
-      set_good = filled_good (with_entry p y).links set_links good.few set_ends set_vacant
+      set_slot : (now : Lined (Slot S)) (o : Option (Slot S)) → view_of_table a ≡ now → slot_in y ≡ o
+          → IsGoodTable (with_entry p y) × (view_of_table (with_entry p y) ≡ record now { slots = set now.slots p o })
+      set_slot now o is slot_is =
+          let h = filled (with_entry p y).links set_links good.few set_ends set_vacant in (
+            h.0,
+            h.1 ∙ ap (λ (ys : List (Option (Slot S))). record (view_of_table a) { slots = ys }) (set_slots ∙ ap (set (slots_of entries) p) slot_is)
+                ∙ ap (λ (t : Lined (Slot S)). record t { slots = set t.slots p o }) is,
+          )
 
-      pub set_view : (now : Lined (Slot S)) (o : Option (Slot S)) → view_of_table a ≡ now → slot_in y ≡ o → view_of_table (with_entry p y) ≡ record now { slots = set now.slots p o }
-      set_view now o is slot =
-          filled_view (with_entry p y).links set_links good.few set_ends set_vacant
-          ∙ ap (λ (ys : List (Option (Slot S))). record (view_of_table a) { slots = ys }) (set_slots ∙ ap (set (slots_of entries) p) slot)
-          ∙ ap (λ (t : Lined (Slot S)). record t { slots = set t.slots p o }) is
+    -- a slot comes to stand at a place that is not free
+    pub occupied : (p : ℕ) (x : Entry S) (slot : Slot S) (now : Lined (Slot S)) → view_of_table a ≡ now → p < length now.slots → 0 < p → Absent p now.free → slot.number < end_of_numbers
+        → x ≡ get_or entries p x → IsGoodTable (with_entry p (record x { slot = slot })) ×
+        (view_of_table (with_entry p (record x { slot = slot })) ≡ record now { slots = set now.slots p (Some slot) })
+    occupied p x slot now is within apart absent number at_p =
+        let l : p < length (slots_of entries) = subst (λ (t : Lined (Slot S)). p < length t.slots) (sym is) within in
+        let e : length (slots_of entries) ≡ a.links.entries.len = room in
+        set_slot p x slot (omega arith) apart at_p (λ h. subst (λ (t : Lined (Slot S)). Absent p t.free) (sym is) absent) now (Some slot) is
+        (slot_taken (record x { slot = slot }) (ne_eqb slot.number end_of_numbers (λ s. omega arith)))
 
-    -- something else stands where something stood, under the same number
-    module _ (p : ℕ) (x y : Entry S) (now : Lined (Slot S)) (is : view_of_table a ≡ now) (stands : IsSome (get_or now.slots p None)) (at_p : x ≡ get_or entries p x)
-        (line : y.line ≡ x.line) (births : y.births ≡ x.births) (free : y.free ≡ x.free) (number : y.slot.number ≡ x.slot.number) where
+    -- something else stands where something stood
+    module _ (p : ℕ) (x : Entry S) (now : Lined (Slot S)) (is : view_of_table a ≡ now) (stands : IsSome (get_or now.slots p None)) (at_p : x ≡ get_or entries p x) where
       stood : IsSome (get_or (slots_of entries) p None)
       stood = subst (λ (t : Lined (Slot S)). IsSome (get_or t.slots p None)) (sym is) stands
 
-      stood_inside : p < a.links.entries.len
-      stood_inside = slot_inside p stood
-
-      stood_read : slice_get entries p ≡ Some x
-      stood_read = slice_get_read entries a.links.entries.len p x a.links.entries.ok.0 stood_inside at_p
-
-      pub restood_good : IsGoodTable (with_entry p y)
-      restood_good = set_good p x y stood_inside (slot_apart p stood) at_p line births free (λ h. good.vacant p stood)
+      pub replaced : (slot : Slot S) (o : Option (Slot S)) → slot_in (record x { slot = slot }) ≡ o
+          → IsGoodTable (with_entry p (record x { slot = slot })) × (view_of_table (with_entry p (record x { slot = slot })) ≡ record now { slots = set now.slots p o })
+      replaced slot o same = set_slot p x slot (slot_inside p stood) (slot_apart p stood) at_p (λ h. good.vacant p stood) now o is same
 
       -- what was read is what stood there
       pub restood_was : (s : Slot S) → get_or now.slots p None ≡ Some s → (x.slot ≡ s) × (eqb x.slot.number end_of_numbers ≡ false)
-      restood_was s e = slot_is x s (sym (get_slot entries p x stood_read) ∙ ap (λ (t : Lined (Slot S)). get_or t.slots p None) is ∙ e)
+      restood_was s e = slot_is x s (sym (get_slot entries p x (slice_get_read entries a.links.entries.len p x a.links.entries.ok.0 (slot_inside p stood) at_p))
+          ∙ ap (λ (t : Lined (Slot S)). get_or t.slots p None) is ∙ e)
 
-      pub restood_view : (g : S → S) → y.slot.standing ≡ g x.slot.standing → (s : Slot S) → get_or now.slots p None ≡ Some s
-          → view_of_table (with_entry p y) ≡ record now { slots = set now.slots p (Some (record s { standing = g s.standing })) }
-      restood_view g standing s e =
+      -- it stands under the same number
+      pub restood_good : (standing : S) → IsGoodTable (with_entry p (record x { slot = record x.slot { standing = standing } }))
+      restood_good standing = (replaced (record x.slot { standing = standing }) _ refl).0
+
+      pub restood_view : (standing : S) (g : S → S) → standing ≡ g x.slot.standing → (s : Slot S) → get_or now.slots p None ≡ Some s
+          → view_of_table (with_entry p (record x { slot = record x.slot { standing = standing } })) ≡ record now { slots = set now.slots p (Some (record s { standing = g s.standing })) }
+      restood_view standing g same s e =
           let was = restood_was s e in
-          set_view p x y stood_inside (slot_apart p stood) at_p line births free (λ h. good.vacant p stood) now (Some (record s { standing = g s.standing })) is
-          (slot_taken y (ap (λ (n : ℕ). eqb n end_of_numbers) number ∙ was.1)
-          ∙ ap (λ (z : Slot S). Some z) (let slot : y.slot ≡ record x.slot { standing = g x.slot.standing } = (λ i. record { number = number i; standing = standing i }) in slot)
-          ∙ ap (λ (z : Slot S). Some (record z { standing = g z.standing })) was.0)
+          (replaced (record x.slot { standing = standing }) (Some (record s { standing = g s.standing }))
+          (slot_taken (record x { slot = record x.slot { standing = standing } }) was.1
+          ∙ ap (λ (z : S). Some (record x.slot { standing = z })) same ∙ ap (λ (z : Slot S). Some (record z { standing = g z.standing })) was.0)).1
 
     -- ---- one more entry, where nothing stands
 
-    module _ (new : Links S) (r : Result (Unit {0}) AllocError) (ok : OnOk r (slots_of new.entries.items ≡ slots_of entries ++ None ∷ []))
-        (err : OnErr r (slots_of new.entries.items ≡ slots_of entries)) (longer : OnOk r (new.entries.len ≡ a.links.entries.len + 1))
-        (as_long : OnErr r (new.entries.len ≡ a.links.entries.len)) (few : a.links.entries.len < most_places)
-        (links : (o : Order) → SameLinks o entries new.entries.items) where
-      more_slots : (i : ℕ) → get_or (slots_of new.entries.items) i None ≡ get_or (slots_of entries) i None
-      more_slots i = go r ok err
-        where
-          go : (q : Result (Unit {0}) AllocError) → OnOk q (slots_of new.entries.items ≡ slots_of entries ++ None ∷ []) → OnErr q (slots_of new.entries.items ≡ slots_of entries) → get_or (slots_of new.entries.items) i None ≡ get_or (slots_of entries) i None
-          go (Ok u) e f = ap (λ (ys : List (Option (Slot S))). get_or ys i None) e ∙ get_or_none (slots_of entries) i
-          go (Err u) e f = ap (λ (ys : List (Option (Slot S))). get_or ys i None) f
+    -- the same stands at each place
+    same_slots : (new : Links S) → new.entries.len ≤ most_places → ((i : ℕ) → get_or (slots_of new.entries.items) i None ≡ get_or (slots_of entries) i None) →
+        ((o : Order) → SameLinks o entries new.entries.items)
+        → IsGoodTable (record { links = new; sizes = a.sizes }) × (view_of_table (record { links = new; sizes = a.sizes }) ≡ record (view_of_table a) { slots = slots_of new.entries.items })
+    same_slots new few same links = filled new links few (same end ∙ good.ends) (λ i h. good.vacant i (subst IsSome (same i) h))
 
-      more_few : new.entries.len ≤ most_places
-      more_few = go r longer as_long
-        where
-          go : (q : Result (Unit {0}) AllocError) → OnOk q (new.entries.len ≡ a.links.entries.len + 1) → OnErr q (new.entries.len ≡ a.links.entries.len) → new.entries.len ≤ most_places
-          go (Ok u) e f = omega arith
-          go (Err u) e f = omega arith
+    pub more : (new : Links S) (r : Result (Unit {0}) AllocError) (now : Lined (Slot S)) → view_of_table a ≡ now → OnOk r (slots_of new.entries.items ≡ slots_of entries ++ None ∷ [])
+        → OnErr r (slots_of new.entries.items ≡ slots_of entries) → OnOk r (new.entries.len ≡ a.links.entries.len + 1) → OnErr r (new.entries.len ≡ a.links.entries.len)
+        → a.links.entries.len < most_places → ((o : Order) → SameLinks o entries new.entries.items) → IsGoodTable (record { links = new; sizes = a.sizes })
+        × OnOk r (view_of_table (record { links = new; sizes = a.sizes }) ≡ record now { slots = now.slots ++ None ∷ [] }) × OnErr r (view_of_table (record { links = new; sizes = a.sizes }) ≡ now)
+    more new (Ok u) now is ok err longer as_long few links =
+        let h = same_slots new (omega arith) (λ i. ap (λ (ys : List (Option (Slot S))). get_or ys i None) ok ∙ get_or_none (slots_of entries) i) links in
+        (h.0, h.1 ∙ ap (λ (ys : List (Option (Slot S))). record (view_of_table a) { slots = ys }) ok ∙ ap (λ (t : Lined (Slot S)). record t { slots = t.slots ++ None ∷ [] }) is, tt)
+    more new (Err u) now is ok err longer as_long few links =
+        let h = same_slots new (omega arith) (λ i. ap (λ (ys : List (Option (Slot S))). get_or ys i None) err) links in
+        (h.0, tt, h.1 ∙ ap (λ (ys : List (Option (Slot S))). record (view_of_table a) { slots = ys }) err ∙ is)
 
-      more_vacant : (i : ℕ) → IsSome (get_or (slots_of new.entries.items) i None) → Absent i (spelled Free a)
-      more_vacant i h = good.vacant i (subst IsSome (more_slots i) h)
+    -- the place after the last entry is not free
+    pub outside_absent : (now : Lined (Slot S)) → view_of_table a ≡ now → Absent (length now.slots) now.free
+    outside_absent now is = subst (λ (t : Lined (Slot S)). Absent (length t.slots) t.free) is (subst (λ (n : ℕ). Absent n (spelled Free a)) (sym room) (⊎_elim
+        (λ (t : (eqb a.links.entries.len end ≡ true) × (a.links.entries.len ≡ end)). subst (λ (p : ℕ). Absent p (spelled Free a)) (sym t.1) (good.spells Free).apart)
+        (λ (t : (eqb a.links.entries.len end ≡ false) × (a.links.entries.len ≢ end)). Spelled.is_absent (after_of Free entries) (before_of Free entries) end (spelled Free a)
+        (good.spells Free) a.links.entries.len t.1
+        (ap (after_at Free a.links.entries.len) (slice_get_past entries a.links.entries.len (let e : a.links.entries.len ≡ length entries = a.links.entries.ok.0 in omega arith))))
+        (eqb_tells a.links.entries.len end)))
 
-      pub more_good : IsGoodTable (record { links = new; sizes = a.sizes })
-      more_good = filled_good new links more_few (more_slots end ∙ good.ends) more_vacant
+    -- a free place is inside, and no end; nothing stands there, and it is free once
+    pub free_place : (now : Lined (Slot S)) (p j : ℕ) → view_of_table a ≡ now → slice_get now.free j ≡ Some p
+        → (p < length now.slots) × (0 < p) × (get_or now.slots p None ≡ None) × (length (without p now.free) + 1 ≡ length now.free)
+    free_place now p j is e = subst (λ (t : Lined (Slot S)). (p < length t.slots) × (0 < p) × (get_or t.slots p None ≡ None) × (length (without p t.free) + 1 ≡ length t.free)) is (
+      (let l : p < a.links.entries.len = place_inside Free p j there in let r : length (slots_of entries) ≡ a.links.entries.len = room in omega arith),
+      ⊎_elim
+          (λ (t : (eqb p 0 ≡ true) × (p ≡ 0)). absurd (Spelled.absent_get end j (spelled Free a) (good.spells Free).apart (there ∙ ap (λ (q : ℕ). Some q) t.1)))
+          (λ (t : (eqb p 0 ≡ false) × (p ≢ 0)). let no : p ≢ 0 = t.1 in omega arith)
+          (eqb_tells p 0),
+      vacant (get_or (slots_of entries) p None) refl,
+      (Spelled.member_at (after_of Free entries) (before_of Free entries) end (spelled Free a) (good.spells Free) p j there).fewer,
+    )
+      where
+        there : slice_get (spelled Free a) j ≡ Some p
+        there = ap (λ (t : Lined (Slot S)). slice_get t.free j) is ∙ e
 
-      more_view : view_of_table (record { links = new; sizes = a.sizes }) ≡ record (view_of_table a) { slots = slots_of new.entries.items }
-      more_view = filled_view new links more_few (more_slots end ∙ good.ends) more_vacant
-
-      pub more_ok : (now : Lined (Slot S)) → view_of_table a ≡ now → OnOk r (view_of_table (record { links = new; sizes = a.sizes }) ≡ record now { slots = now.slots ++ None ∷ [] })
-      more_ok now is = go r ok
-        where
-          go : (q : Result (Unit {0}) AllocError) → OnOk q (slots_of new.entries.items ≡ slots_of entries ++ None ∷ []) → OnOk q (view_of_table (record { links = new; sizes = a.sizes }) ≡ record now { slots = now.slots ++ None ∷ [] })
-          go (Ok u) e = more_view ∙ ap (λ (ys : List (Option (Slot S))). record (view_of_table a) { slots = ys }) e ∙ ap (λ (t : Lined (Slot S)). record t { slots = t.slots ++ None ∷ [] }) is
-          go (Err u) e = tt
-
-      pub more_err : (now : Lined (Slot S)) → view_of_table a ≡ now → OnErr r (view_of_table (record { links = new; sizes = a.sizes }) ≡ now)
-      more_err now is = go r err
-        where
-          go : (q : Result (Unit {0}) AllocError) → OnErr q (slots_of new.entries.items ≡ slots_of entries) → OnErr q (view_of_table (record { links = new; sizes = a.sizes }) ≡ now)
-          go (Ok u) e = tt
-          go (Err u) e = more_view ∙ ap (λ (ys : List (Option (Slot S))). record (view_of_table a) { slots = ys }) e ∙ is
-
-    -- the same entries in other memory
-    module _ (new : Links S) (items : new.entries.items ≡ entries) (len : new.entries.len ≡ a.links.entries.len) where
-      moved_links : (o : Order) → SameLinks o entries new.entries.items
-      moved_links o = subst (λ (ys : List (Entry S)). SameLinks o entries ys) (sym items) (record { after = λ i. refl; before = λ i. refl })
-
-      moved_vacant : (i : ℕ) → IsSome (get_or (slots_of new.entries.items) i None) → Absent i (spelled Free a)
-      moved_vacant i h = good.vacant i (subst (λ (ys : List (Entry S)). IsSome (get_or (slots_of ys) i None)) items h)
-
-      pub moved_good : IsGoodTable (record { links = new; sizes = a.sizes })
-      moved_good = filled_good new moved_links (subst (λ (m : ℕ). m ≤ most_places) (sym len) good.few) (ap (λ (ys : List (Entry S)). get_or (slots_of ys) end None) items ∙ good.ends) moved_vacant
-
-      pub moved_view : (now : Lined (Slot S)) → view_of_table a ≡ now → view_of_table (record { links = new; sizes = a.sizes }) ≡ now
-      moved_view now is = filled_view new moved_links (subst (λ (m : ℕ). m ≤ most_places) (sym len) good.few) (ap (λ (ys : List (Entry S)). get_or (slots_of ys) end None) items ∙ good.ends) moved_vacant
-          ∙ ap (λ (ys : List (Entry S)). record (view_of_table a) { slots = slots_of ys }) items ∙ is
-
-    -- the place after the last entry is in no order
-    pub outside_absent : (o : Order) → Absent a.links.entries.len (spelled o a)
-    outside_absent o = ⊎_elim
-        (λ (t : (eqb a.links.entries.len end ≡ true) × (a.links.entries.len ≡ end)). subst (λ (p : ℕ). Absent p (spelled o a)) (sym t.1) (good.spells o).apart)
-        (λ (t : (eqb a.links.entries.len end ≡ false) × (a.links.entries.len ≢ end)). Spelled.is_absent (after_of o entries) (before_of o entries) end (spelled o a) (good.spells o) a.links.entries.len t.1
-        (ap (after_at o a.links.entries.len) (slice_get_past entries a.links.entries.len (let e : a.links.entries.len ≡ length entries = a.links.entries.ok.0 in omega arith))))
-        (eqb_tells a.links.entries.len end)
-
-    -- a free place is inside, no end, and nothing stands there
-    pub vacancy_is : (p j : ℕ) → slice_get (spelled Free a) j ≡ Some p → length (without p (spelled Free a)) + 1 ≡ length (spelled Free a)
-    vacancy_is p j e = (Spelled.member_at (after_of Free entries) (before_of Free entries) end (spelled Free a) (good.spells Free) p j e).fewer
+        vacant : (o : Option (Slot S)) → get_or (slots_of entries) p None ≡ o → get_or (slots_of entries) p None ≡ None
+        vacant None h = h
+        vacant (Some x) h = absurd (Spelled.absent_get p j (spelled Free a) (good.vacant p (subst IsSome (sym h) refl)) there)

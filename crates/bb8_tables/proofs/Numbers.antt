@@ -13,7 +13,8 @@ without_told f p (k ∷ places) h =
     go (eqb k p) (without_told f p places (λ j i e. h (suc j) i e))
     ∙ ap (λ (b : Bool). cond (not b) (f k ∷ without (f p) (map f places)) (without (f p) (map f places))) (h 0 k refl)
   where
-    go : (b : Bool) → map f (without p places) ≡ without (f p) (map f places) → map f (cond (not b) (k ∷ without p places) (without p places)) ≡ cond (not b) (f k ∷ without (f p) (map f places)) (without (f p) (map f places))
+    go : (b : Bool) → map f (without p places) ≡ without (f p) (map f places) → map f (cond (not b) (k ∷ without p places) (without p places)) ≡ cond (not b)
+        (f k ∷ without (f p) (map f places)) (without (f p) (map f places))
     go true e = e
     go false e = ap (λ (xs : List ℕ). f k ∷ xs) e
 
@@ -25,37 +26,34 @@ numbers_other f q (k ∷ places) away =
     ∙ ap (λ (xs : List ℕ). f k ∷ xs) (numbers_other f q places (λ j m e. away (suc j) m e))
 
 module _ {X : Type 0} (number : X → ℕ) where
+  -- numbers at places where each number is the same
+  numbers_alike : (old new : List (Option X)) (places : List ℕ) → ((j k : ℕ) → slice_get places j ≡ Some k → number_in number (get_or new k None) ≡ number_in number (get_or old k None))
+      → numbers_at number new places ≡ numbers_at number old places
+  numbers_alike old new [] same = refl
+  numbers_alike old new (k ∷ places) same =
+      ap (λ (n : ℕ). n ∷ numbers_at number new places) (same 0 k refl) ∙ ap (λ (ns : List ℕ). number_in number (get_or old k None) ∷ ns) (numbers_alike old new places (λ j i e. same (suc j) i e))
+
   -- numbers at places where nothing changed
   pub numbers_kept : (old new : List (Option X)) (place : ℕ) (places : List ℕ) → ((j k : ℕ) → slice_get places j ≡ Some k → k ≢ place)
       → ((other : ℕ) → other ≢ place → get_or new other None ≡ get_or old other None) → numbers_at number new places ≡ numbers_at number old places
-  numbers_kept old new place [] away others = refl
-  numbers_kept old new place (k ∷ places) away others =
-      ap (λ (o : Option X). number_in number o ∷ numbers_at number new places) (others k (away 0 k refl))
-      ∙ ap (λ (ns : List ℕ). number_in number (get_or old k None) ∷ ns) (numbers_kept old new place places (λ j i e. away (suc j) i e) others)
+  numbers_kept old new place places away others = numbers_alike old new places (λ j k e. ap (number_in number) (others k (away j k e)))
 
   -- numbers where nothing changed at all
   pub numbers_all : (old new : List (Option X)) (places : List ℕ) → ((i : ℕ) → get_or new i None ≡ get_or old i None) → numbers_at number new places ≡ numbers_at number old places
-  numbers_all old new [] same = refl
-  numbers_all old new (k ∷ places) same =
-      ap (λ (o : Option X). number_in number o ∷ numbers_at number new places) (same k)
-      ∙ ap (λ (ns : List ℕ). number_in number (get_or old k None) ∷ ns) (numbers_all old new places same)
+  numbers_all old new places same = numbers_alike old new places (λ j k e. ap (number_in number) (same k))
 
   -- numbers where what changed kept its number
   pub numbers_same : (old new : List (Option X)) (place : ℕ) (x y : X) (places : List ℕ) → get_or old place None ≡ Some x → number y ≡ number x
       → Updates old new place (Some y) → numbers_at number new places ≡ numbers_at number old places
-  numbers_same old new place x y [] was same u = refl
-  numbers_same old new place x y (k ∷ places) was same u =
-      ap (λ (n : ℕ). n ∷ numbers_at number new places) here
-      ∙ ap (λ (ns : List ℕ). number_in number (get_or old k None) ∷ ns) (numbers_same old new place x y places was same u)
-    where
-      here : number_in number (get_or new k None) ≡ number_in number (get_or old k None)
-      here = ⊎_elim
-          (λ (t : (eqb k place ≡ true) × (k ≡ place)). subst (λ (i : ℕ). number_in number (get_or new i None) ≡ number_in number (get_or old i None)) (sym t.1) (ap (number_in number) u.changed ∙ same ∙ sym (ap (number_in number) was)))
-          (λ (t : (eqb k place ≡ false) × (k ≢ place)). ap (number_in number) (u.others k t.1))
-          (eqb_tells k place)
+  numbers_same old new place x y places was same u = numbers_alike old new places (λ j k e. ⊎_elim
+      (λ (t : (eqb k place ≡ true) × (k ≡ place)). subst (λ (i : ℕ). number_in number (get_or new i None) ≡ number_in number (get_or old i None)) (sym t.1)
+      (ap (number_in number) u.changed ∙ same ∙ sym (ap (number_in number) was)))
+      (λ (t : (eqb k place ≡ false) × (k ≢ place)). ap (number_in number) (u.others k t.1))
+      (eqb_tells k place))
 
   -- a place comes to the new end
-  pub numbers_push : (xs : List (Option X)) (places : List ℕ) (place : ℕ) (x : X) → get_or xs place None ≡ Some x → numbers_at number xs (places ++ place ∷ []) ≡ numbers_at number xs places ++ number x ∷ []
+  pub numbers_push : (xs : List (Option X)) (places : List ℕ) (place : ℕ) (x : X) → get_or xs place None ≡ Some x → numbers_at number xs
+      (places ++ place ∷ []) ≡ numbers_at number xs places ++ number x ∷ []
   numbers_push xs places place x e = map_push (λ i. number_in number (get_or xs i None)) places place ∙ ap (λ (o : Option X). numbers_at number xs places ++ number_in number o ∷ []) e
 
   -- a place goes, so its number does

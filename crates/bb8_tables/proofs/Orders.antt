@@ -1,15 +1,10 @@
 -- Orders of all the places at which stands what passes a test.
-use Rattle.std.proofs.Common.{◌≡◌, ◌≢◌, ◌≤◌, ℕ, zero, suc, Bool, true, false, cond, not, eqb, arith, map, List, [], ◌∷◌, ◌++◌, Option, Some, None, slice_get, get_or, option_map, refl, sym, ap, ◌∙◌, ◌⊎◌, inl, inr, ⊎_elim, subst}
-use Rattle.std.proofs.lemmas.List.{map-append}
-use Rattle.std.proofs.lemmas.Option.{slice_get-map}
-use Rattle.bb8_tables.specs.Machine.{without}
-use Rattle.bb8_tables.specs.Slots.{IsOrder, ArePlaces, IsRising, AllFrom, number_in, numbers_at}
-use Rattle.bb8_tables.specs.Spelled.{Absent}
+use Rattle.bb8_tables.proofs.Words.{◌≡◌, ◌≢◌, ◌≤◌, ℕ, zero, suc, Bool, true, false, eqb, arith, map, List, [], ◌∷◌, ◌++◌, Option, Some, None, slice_get, get_or, option_map, refl, sym, ap, ◌∙◌, ◌⊎◌, inl, inr, ⊎_elim, subst, map-append, slice_get-map, without, IsOrder, ArePlaces, IsRising, AllFrom, number_in, numbers_at, Absent}
 use Rattle.bb8_types.proofs.Numbered.{same_or_not}
 use Rattle.bb8_tables.proofs.Lines.{same_line, places_without, left_away}
 use Rattle.bb8_tables.proofs.Numbers.{numbers_all, numbers_kept, numbers_same, numbers_push}
-use Rattle.bb8_tables.proofs.Slots.{Updates, line_avoids, line_kept, line_pushed}
-use Rattle.bb8_tables.proofs.Spelled.{absent_push, absent_without}
+use Rattle.bb8_tables.proofs.Slots.{Updates, changed_cases, line_avoids, line_kept, line_pushed}
+use Rattle.bb8_tables.proofs.Spelled.{without_cases, absent_push, absent_without}
 
 -- ---- numbers that rise
 
@@ -23,19 +18,12 @@ rising_push m (n ∷ ns) r l = (from_push n m ns r.0 (l 0 n refl), rising_push m
 
 from_without : (f : ℕ → ℕ) (p n : ℕ) (places : List ℕ) → AllFrom n (map f places) → AllFrom n (map f (without p places))
 from_without f p n [] a = tt
-from_without f p n (k ∷ places) a = go (not (eqb k p)) (from_without f p n places a.1)
-  where
-    go : (b : Bool) → AllFrom n (map f (without p places)) → AllFrom n (map f (cond b (k ∷ without p places) (without p places)))
-    go true h = (a.0, h)
-    go false h = h
+from_without f p n (k ∷ places) a = without_cases (λ (ys : List ℕ). AllFrom n (map f ys)) p k places (λ s. from_without f p n places a.1) (λ s. (a.0, from_without f p n places a.1))
 
 rising_without : (f : ℕ → ℕ) (p : ℕ) (places : List ℕ) → IsRising (map f places) → IsRising (map f (without p places))
 rising_without f p [] r = tt
-rising_without f p (k ∷ places) r = go (not (eqb k p)) (rising_without f p places r.1)
-  where
-    go : (b : Bool) → IsRising (map f (without p places)) → IsRising (map f (cond b (k ∷ without p places) (without p places)))
-    go true h = (from_without f p (f k) places r.0, h)
-    go false h = h
+rising_without f p (k ∷ places) r = without_cases (λ (ys : List ℕ). IsRising (map f ys)) p k places
+    (λ s. rising_without f p places r.1) (λ s. (from_without f p (f k) places r.0, rising_without f p places r.1))
 
 -- ---- orders
 
@@ -49,7 +37,8 @@ module _ {X : Type 0} (test : X → Bool) where
   not_passing o x off e = ap (passes test) (sym e) ∙ off
 
   -- a place that does not pass is not among them
-  order_avoids : (slots : List (Option X)) (places : List ℕ) (place : ℕ) → ArePlaces test slots places → passes test (get_or slots place None) ≡ false → (j k : ℕ) → slice_get places j ≡ Some k → k ≢ place
+  order_avoids : (slots : List (Option X)) (places : List ℕ) (place : ℕ) → ArePlaces test slots places → passes test (get_or slots place None) ≡ false → (j k : ℕ)
+      → slice_get places j ≡ Some k → k ≢ place
   order_avoids slots places place are off = line_avoids _ _ _ _ slots places place are
       (λ x e on. let clash : true ≡ false = sym on ∙ not_passing (get_or slots place None) x off e in cc)
 
@@ -70,44 +59,13 @@ module _ {X : Type 0} {test : X → Bool} {moment : X → ℕ} where
   }
 
   module _ {old new : List (Option X)} {places : List ℕ} {place : ℕ} {slot : Option X} (o : IsOrder test moment old places) (u : Updates old new place slot) where
-    -- the moments of places are no later than all moments
-    moments_before : (ks : List ℕ) (y : X) → ((i : ℕ) (x : X) → get_or old i None ≡ Some x → moment x ≤ moment y)
-        → ((j k : ℕ) → slice_get ks j ≡ Some k → (x : X) × (get_or old k None ≡ Some x)) → (j n : ℕ) → slice_get (numbers_at moment old ks) j ≡ Some n → n ≤ moment y
-    moments_before [] y late stand j n e = cc
-    moments_before (k ∷ ks) y late stand zero n e =
-        let st = stand 0 k refl in
-        let same : Some (number_in moment (get_or old k None)) ≡ Some n = e in
-        let is : n ≡ moment st.0 = (let back : n ≡ number_in moment (get_or old k None) = cc in back) ∙ ap (number_in moment) st.1 in
-        let l : moment st.0 ≤ moment y = late k st.0 st.1 in
-        omega arith
-    moments_before (k ∷ ks) y late stand (suc j) n e = moments_before ks y late (λ i m f. stand (suc i) m f) j n e
-
     -- what holds of what stands after the change
-    changed : (P : ℕ → Type 0) → ((x : X) → slot ≡ Some x → P place → test x ≡ false) → ((i : ℕ) → i ≢ place → P i → Absent i places) → (i : ℕ) (x : X) → get_or new i None ≡ Some x → P i → test x ≡ false
+    changed : (P : ℕ → Type 0) → ((x : X) → slot ≡ Some x → P place → test x ≡ false) → ((i : ℕ) → i ≢ place → P i → Absent i places) → (i : ℕ) (x : X) → get_or new i None ≡ Some x → P i
+        → test x ≡ false
     changed P here there i x e p = ⊎_elim
-        (λ (t : (eqb i place ≡ true) × (i ≡ place)). here x (sym u.changed ∙ subst (λ (k : ℕ). get_or new k None ≡ Some x) t.1 e) (subst P t.1 p))
-        (λ (t : (eqb i place ≡ false) × (i ≢ place)). o.all i x (sym (u.others i t.1) ∙ e) (there i t.1 p))
-        (same_or_not i place)
-
-    -- a place changes that passes neither before nor after
-    pub other_order : passes test (get_or old place None) ≡ false → passes test slot ≡ false → IsOrder test moment new places
-    other_order off off_now = record {
-      are = line_kept _ _ _ _ old new places place o.are (order_avoids test old places place o.are off) u.others;
-      all = changed (λ (i : ℕ). Absent i places) (λ x e a. not_passing test slot x off_now e) (λ i n a. a);
-      rises = subst IsRising (sym (numbers_kept moment old new place places (order_avoids test old places place o.are off) u.others)) o.rises;
-    }
-
-    -- a place passes from now on, and comes to the new end
-    pub pushed_order : (y : X) → passes test (get_or old place None) ≡ false → slot ≡ Some y → test y ≡ true
-        → ((i : ℕ) (x : X) → get_or old i None ≡ Some x → moment x ≤ moment y) → IsOrder test moment new (places ++ place ∷ [])
-    pushed_order y off is on late = record {
-      are = (let away = order_avoids test old places place o.are off in line_pushed _ _ _ _ new places place y (line_kept _ _ _ _ old new places place o.are away u.others) away (u.changed ∙ is) refl on);
-      all = changed (λ (i : ℕ). Absent i (places ++ place ∷ [])) (λ x e a. absurd ((absent_push place place places a).1 refl)) (λ i n a. (absent_push i place places a).0);
-      rises = subst IsRising
-          (sym (numbers_push moment new places place y (u.changed ∙ is)
-          ∙ ap (λ (ns : List ℕ). ns ++ moment y ∷ []) (numbers_kept moment old new place places (order_avoids test old places place o.are off) u.others)))
-          (rising_push (moment y) (numbers_at moment old places) o.rises (moments_before places y late (λ j k e. let st = o.are.each j k e in (st.0, st.1))));
-    }
+        (λ (t : (i ≡ place) × (slot ≡ Some x)). here x t.1 (subst P t.0 p))
+        (λ (t : (i ≢ place) × (get_or old i None ≡ Some x)). o.all i x t.1 (there i t.0 p))
+        (changed_cases i x u e)
 
     -- a place passes no more, and leaves
     pub left_order : passes test slot ≡ false → IsOrder test moment new (without place places)
@@ -118,19 +76,52 @@ module _ {X : Type 0} {test : X → Bool} {moment : X → ℕ} where
           (rising_without (λ (i : ℕ). number_in moment (get_or old i None)) place places o.rises);
     }
 
-    -- a place passes before and after
-    pub stays_order : (x y : X) → get_or old place None ≡ Some x → test x ≡ true → slot ≡ Some y → test y ≡ true → moment y ≡ moment x → IsOrder test moment new places
-    stays_order x y was on is on_now same = record {
-      are = record {
-        each = λ j k e. let st = o.are.each j k e in ⊎_elim
-            (λ (t : (eqb k place ≡ true) × (k ≡ place)). (y, subst (λ (i : ℕ). get_or new i None ≡ Some y) (sym t.1) (u.changed ∙ is), refl, on_now))
-            (λ (t : (eqb k place ≡ false) × (k ≢ place)). (st.0, u.others k t.1 ∙ st.1, st.2, st.3))
-            (same_or_not k place);
-        once = o.are.once;
-      };
-      all = changed (λ (i : ℕ). Absent i places) (λ z e a. absurd (let clash : true ≡ false = sym on ∙ o.all place x was a in cc)) (λ i n a. a);
-      rises = subst IsRising (sym (numbers_same moment old new place x y places was same (record { changed = u.changed ∙ is; others = u.others }))) o.rises;
-    }
+    module _ {was : Option X} (at_place : get_or old place None ≡ was) (off : passes test was ≡ false) where
+      away : (j k : ℕ) → slice_get places j ≡ Some k → k ≢ place
+      away = order_avoids test old places place o.are (ap (passes test) at_place ∙ off)
+
+      -- a place changes that passes neither before nor after
+      pub other_order : passes test slot ≡ false → IsOrder test moment new places
+      other_order off_now = record {
+        are = line_kept _ _ _ _ old new places place o.are away u.others;
+        all = changed (λ (i : ℕ). Absent i places) (λ x e a. not_passing test slot x off_now e) (λ i n a. a);
+        rises = subst IsRising (sym (numbers_kept moment old new place places away u.others)) o.rises;
+      }
+
+      -- a place passes from now on, and comes to the new end
+      pub pushed_order : {y : X} → slot ≡ Some y → test y ≡ true → ((i : ℕ) (x : X) → get_or old i None ≡ Some x → moment x ≤ moment y) → IsOrder test moment new (places ++ place ∷ [])
+      pushed_order {y} is on late = record {
+        are = line_pushed _ _ _ _ new places place y (line_kept _ _ _ _ old new places place o.are away u.others) away (u.changed ∙ is) refl on;
+        all = changed (λ (i : ℕ). Absent i (places ++ place ∷ [])) (λ x e a. absurd ((absent_push place place places a).1 refl)) (λ i n a. (absent_push i place places a).0);
+        rises = subst IsRising
+            (sym (numbers_push moment new places place y (u.changed ∙ is) ∙ ap (λ (ns : List ℕ). ns ++ moment y ∷ []) (numbers_kept moment old new place places away u.others)))
+            (rising_push (moment y) (numbers_at moment old places) o.rises (moments_before places (λ j k e. let st = o.are.each j k e in (st.0, st.1))));
+      }
+        where
+          -- the moments of places are no later than all moments
+          moments_before : (ks : List ℕ) → ((j k : ℕ) → slice_get ks j ≡ Some k → (x : X) × (get_or old k None ≡ Some x)) → (j n : ℕ) → slice_get (numbers_at moment old ks) j ≡ Some n → n ≤ moment y
+          moments_before [] stand j n e = cc
+          moments_before (k ∷ ks) stand zero n e =
+              let st = stand 0 k refl in
+              let is : n ≡ moment st.0 = (let back : n ≡ number_in moment (get_or old k None) = cc in back) ∙ ap (number_in moment) st.1 in
+              let l : moment st.0 ≤ moment y = late k st.0 st.1 in
+              omega arith
+          moments_before (k ∷ ks) stand (suc j) n e = moments_before ks (λ i m f. stand (suc i) m f) j n e
+
+  -- a place passes before and after
+  pub stays_order : {old new : List (Option X)} {places : List ℕ} {place : ℕ} {x y : X} → IsOrder test moment old places → Updates old new place (Some y) → get_or old place None ≡ Some x
+      → test x ≡ true → test y ≡ true → moment y ≡ moment x → IsOrder test moment new places
+  stays_order {old} {new} {places} {place} {x} {y} o u was on on_now same = record {
+    are = record {
+      each = λ j k e. let st = o.are.each j k e in ⊎_elim
+          (λ (t : (eqb k place ≡ true) × (k ≡ place)). (y, subst (λ (i : ℕ). get_or new i None ≡ Some y) (sym t.1) u.changed, refl, on_now))
+          (λ (t : (eqb k place ≡ false) × (k ≢ place)). (st.0, u.others k t.1 ∙ st.1, st.2, st.3))
+          (same_or_not k place);
+      once = o.are.once;
+    };
+    all = changed o u (λ (i : ℕ). Absent i places) (λ z e a. absurd (let clash : true ≡ false = sym on ∙ o.all place x was a in cc)) (λ i n a. a);
+    rises = subst IsRising (sym (numbers_same moment old new place x y places was same u)) o.rises;
+  }
 
 -- ---- what is in an order
 
@@ -181,7 +172,8 @@ module _ {X : Type 0} (moment : X → ℕ) (slots : List (Option X)) where
           omega arith
       go (suc i) g later =
           let l : number_in moment (get_or slots p None) ≤ number_in moment (get_or slots q None) =
-          from_at _ _ i (numbers_at moment slots rest) later.0 (slice_get-map (λ (k : ℕ). number_in moment (get_or slots k None)) rest i ∙ ap (option_map (λ (k : ℕ). number_in moment (get_or slots k None))) g) in
+          from_at _ _ i (numbers_at moment slots rest) later.0
+          (slice_get-map (λ (k : ℕ). number_in moment (get_or slots k None)) rest i ∙ ap (option_map (λ (k : ℕ). number_in moment (get_or slots k None))) g) in
           let a : number_in moment (get_or slots p None) ≡ moment x = ap (number_in moment) e in
           let b : number_in moment (get_or slots q None) ≡ moment y = ap (number_in moment) f in
           omega arith

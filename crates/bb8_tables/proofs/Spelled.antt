@@ -1,5 +1,5 @@
 -- Laws of links that spell a list of places.
-use Rattle.std.proofs.Common.{◌≡◌, ◌≢◌, ◌⊎◌, ℕ, zero, suc, ◌+◌, ◌<◌, ◌≤◌, true, false, eqb, List, [], ◌∷◌, ◌++◌, length, slice_get, Some, None, refl, sym, ap, ◌∙◌, inl, inr, ⊎_elim, arith, subst, ne_eqb}
+use Rattle.std.proofs.Common.{◌≡◌, ◌≢◌, ◌⊎◌, ℕ, zero, suc, ◌+◌, ◌<◌, ◌≤◌, Bool, true, false, cond, not, eqb, List, [], ◌∷◌, ◌++◌, length, slice_get, Some, None, refl, sym, ap, ◌∙◌, inl, inr, ⊎_elim, arith, subst, ne_eqb}
 use Rattle.std.proofs.lemmas.Bool.Decides.{eqb_tells}
 use Rattle.bb8_tables.specs.Spelled.{Absent, walk, LinksLead, Spells, Joins}
 use Rattle.bb8_tables.specs.Machine.{without}
@@ -19,29 +19,26 @@ pub without_absent : (p : ℕ) (xs : List ℕ) → Absent p xs → without p xs 
 without_absent p [] a = refl
 without_absent p (x ∷ xs) a = let e : eqb x p ≡ false = ne_eqb x p a.0 in rw e (ap (λ (r : List ℕ). x ∷ r) (without_absent p xs a.1))
 
+-- what holds of a list without p, by whether its first place is p
+pub without_cases : (P : List ℕ → Type 0) (p x : ℕ) (xs : List ℕ) → (x ≡ p → P (without p xs)) → (x ≢ p → P (x ∷ without p xs)) → P (without p (x ∷ xs))
+without_cases P p x xs same other = ⊎_elim
+    (λ (t : (eqb x p ≡ true) × (x ≡ p)). subst (λ (b : Bool). P (cond (not b) (x ∷ without p xs) (without p xs))) (sym t.0) (same t.1))
+    (λ (t : (eqb x p ≡ false) × (x ≢ p)). subst (λ (b : Bool). P (cond (not b) (x ∷ without p xs) (without p xs))) (sym t.0) (other t.1))
+    (eqb_tells x p)
+
 -- what is not in the list without p is p, or wasn't there
 pub absent_without : (p q : ℕ) (xs : List ℕ) → q ≢ p → Absent q (without p xs) → Absent q xs
-absent_without p q [] n a = tt
-absent_without p q (x ∷ xs) n a =
-    ⊎_elim
-    (λ (t : (eqb x p ≡ true) × (x ≡ p)). let b : Absent q (without p xs) = rw t.0 at a in ((λ e. n (sym e ∙ t.1)), absent_without p q xs n b))
-    (λ (t : (eqb x p ≡ false) × (x ≢ p)). let b : Absent q (x ∷ without p xs) = rw t.0 at a in (b.0, absent_without p q xs n b.1))
-    (eqb_tells x p)
+absent_without p q [] n = λ a. tt
+absent_without p q (x ∷ xs) n = without_cases (λ (ys : List ℕ). Absent q ys → Absent q (x ∷ xs)) p x xs (λ s a. ((λ e. n (sym e ∙ s)), absent_without p q xs n a))
+    (λ s a. (a.0, absent_without p q xs n a.1))
 
 pub without_keeps_absent : (p q : ℕ) (xs : List ℕ) → Absent q xs → Absent q (without p xs)
 without_keeps_absent p q [] a = tt
-without_keeps_absent p q (x ∷ xs) a =
-    ⊎_elim
-    (λ (t : (eqb x p ≡ true) × (x ≡ p)). rw t.0 (without_keeps_absent p q xs a.1))
-    (λ (t : (eqb x p ≡ false) × (x ≢ p)). rw t.0 (let r : Absent q (x ∷ without p xs) = (a.0, without_keeps_absent p q xs a.1) in r))
-    (eqb_tells x p)
+without_keeps_absent p q (x ∷ xs) a = without_cases (Absent q) p x xs (λ s. without_keeps_absent p q xs a.1) (λ s. (a.0, without_keeps_absent p q xs a.1))
 
 pub absent_without_self : (p : ℕ) (xs : List ℕ) → Absent p (without p xs)
 absent_without_self p [] = tt
-absent_without_self p (x ∷ xs) = ⊎_elim
-    (λ (t : (eqb x p ≡ true) × (x ≡ p)). rw t.0 (absent_without_self p xs))
-    (λ (t : (eqb x p ≡ false) × (x ≢ p)). rw t.0 (let r : Absent p (x ∷ without p xs) = (t.1, absent_without_self p xs) in r))
-    (eqb_tells x p)
+absent_without_self p (x ∷ xs) = without_cases (Absent p) p x xs (λ s. absent_without_self p xs) (λ s. (s, absent_without_self p xs))
 
 -- what is in no part of a list is not in its later part
 pub absent_part : (p : ℕ) (xs ys : List ℕ) → Absent p (xs ++ ys) → Absent p ys
@@ -66,27 +63,17 @@ Below n (x ∷ xs) = (x < n) × Below n xs
 
 distinct_without : (p : ℕ) (xs : List ℕ) → Distinct xs → Distinct (without p xs)
 distinct_without p [] d = tt
-distinct_without p (x ∷ xs) d =
-    ⊎_elim
-    (λ (t : (eqb x p ≡ true) × (x ≡ p)). rw t.0 (distinct_without p xs d.1))
-    (λ (t : (eqb x p ≡ false) × (x ≢ p)). rw t.0 (let r : Distinct (x ∷ without p xs) = (without_keeps_absent p x xs d.0, distinct_without p xs d.1) in r))
-    (eqb_tells x p)
+distinct_without p (x ∷ xs) d = without_cases Distinct p x xs (λ s. distinct_without p xs d.1) (λ s. (without_keeps_absent p x xs d.0, distinct_without p xs d.1))
 
 below_without : (n : ℕ) (xs : List ℕ) → Below (suc n) xs → Below n (without n xs)
 below_without n [] b = tt
-below_without n (x ∷ xs) b =
-    ⊎_elim
-    (λ (t : (eqb x n ≡ true) × (x ≡ n)). rw t.0 (below_without n xs b.1))
-    (λ (t : (eqb x n ≡ false) × (x ≢ n)). rw t.0 (let r : Below n (x ∷ without n xs) = ((let l : x < suc n = b.0 in let no : x ≢ n = t.1 in omega arith), below_without n xs b.1) in r))
-    (eqb_tells x n)
+below_without n (x ∷ xs) b = without_cases (Below n) n x xs (λ s. below_without n xs b.1) (λ s. ((let l : x < suc n = b.0 in omega arith), below_without n xs b.1))
 
 one_fewer : (p : ℕ) (xs : List ℕ) → Distinct xs → length xs ≤ length (without p xs) + 1
 one_fewer p [] d = omega arith
-one_fewer p (x ∷ xs) d =
-    ⊎_elim
-    (λ (t : (eqb x p ≡ true) × (x ≡ p)). let e : without p xs ≡ xs = without_absent p xs (subst (λ (q : ℕ). Absent q xs) t.1 d.0) in rw (t.0, e) (omega arith))
-    (λ (t : (eqb x p ≡ false) × (x ≢ p)). rw t.0 (let ih : length xs ≤ length (without p xs) + 1 = one_fewer p xs d.1 in omega arith))
-    (eqb_tells x p)
+one_fewer p (x ∷ xs) d = without_cases (λ (ys : List ℕ). length (x ∷ xs) ≤ length ys + 1) p x xs
+    (λ s. let e : length (without p xs) ≡ length xs = ap (λ (ys : List ℕ). length ys) (without_absent p xs (subst (λ (q : ℕ). Absent q xs) s d.0)) in omega arith)
+    (λ s. let ih : length xs ≤ length (without p xs) + 1 = one_fewer p xs d.1 in omega arith)
 
 -- they are no more than the bound says
 pub few_below : (n : ℕ) (xs : List ℕ) → Distinct xs → Below n xs → length xs ≤ n
@@ -236,15 +223,10 @@ module _ (af be af1 be1 af2 be2 : ℕ → ℕ) (z p : ℕ) (j1 : Joins af be af1
   remove_leads c [] l a n = kept_leads c [] l n tt
   remove_leads c (x ∷ xs) l a n =
       let rest : Absent x xs = rest_absent af be z c x xs l a in
-      ⊎_elim
-      (λ (t : (eqb x p ≡ true) × (x ≡ p)).
-      let absent : Absent p xs = subst (λ (q : ℕ). Absent q xs) t.1 rest in
-      let e : without p xs ≡ xs = without_absent p xs absent in
-      rw (t.0, e) (bridged_leads c xs (subst (λ (q : ℕ). LinksLead af be q xs z) t.1 l.2) (ap be (sym t.1) ∙ l.1) n absent))
-      (λ (t : (eqb x p ≡ false) × (x ≢ p)).
-      let r : LinksLead af2 be2 c (x ∷ without p xs) z = (after_kept c n (λ e. t.1 (sym l.0 ∙ e)) ∙ l.0, before_kept x t.1 (λ e. n (sym l.1 ∙ e)) ∙ l.1, remove_leads x xs l.2 rest t.1) in
-      rw t.0 r)
-      (eqb_tells x p)
+      without_cases (λ (ys : List ℕ). LinksLead af2 be2 c ys z) p x xs
+      (λ s. let absent : Absent p xs = subst (λ (q : ℕ). Absent q xs) s rest in
+      rw (without_absent p xs absent) (bridged_leads c xs (subst (λ (q : ℕ). LinksLead af be q xs z) s l.2) (ap be (sym s) ∙ l.1) n absent))
+      (λ s. (after_kept c n (λ e. s (sym l.0 ∙ e)) ∙ l.0, before_kept x s (λ e. n (sym l.1 ∙ e)) ∙ l.1, remove_leads x xs l.2 rest s))
 
   pub removed : (xs : List ℕ) → Spells af be z xs → Spells af2 be2 z (without p xs)
   removed xs s = record {

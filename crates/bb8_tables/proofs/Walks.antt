@@ -1,40 +1,16 @@
 -- The two walks of a reap.
-use Rattle.std.proofs.Common.{◌≡◌, ◌≢◌, ◌⊎◌, inl, inr, ⊎_elim, ℕ, zero, suc, ◌+◌, ◌-◌, ◌<◌, ◌≤◌, Bool, true, false, ◌&&◌, List, [], ◌∷◌, ◌++◌, length, Option, option_map, Some, None, slice_get, refl, sym, ap, ◌∙◌, arith, subst, length-append, eq-eqb, ne_eqb}
-use Rattle.std.proofs.lemmas.List.{length-map}
-use Rattle.std.proofs.lemmas.Option.{slice_get-map}
-use Rattle.std.proofs.lemmas.Bool.{leb-false, lt-leb}
-use Rattle.std.specs.FinMap.{get}
-use Rattle.bb8_types.specs.Bounds.{most_records}
-use Rattle.bb8_types.specs.Settings.{Settings}
-use Rattle.bb8_types.specs.Numbered.{one, tally}
-use Rattle.bb8_types.specs.Places.{is_idle, is_conn, is_out, is_past, is_expired, idles_out, lives_out}
-use Rattle.bb8_types.specs.declared.standing.Place.{Place}
-use Rattle.bb8_types.specs.declared.standing.Place.TheVariants.{Unclaimed, Claimed, Idle, Held, Guarded}
-use Rattle.bb8_types.specs.declared.standing.Standing.{Standing}
-use Rattle.bb8_tables.specs.declared.table.Slot.{Slot}
+use Rattle.bb8_tables.proofs.Words.{◌≡◌, ◌⊎◌, inl, inr, ⊎_elim, ℕ, zero, suc, ◌+◌, ◌-◌, ◌<◌, ◌≤◌, Bool, true, false, ◌&&◌, List, [], ◌∷◌, ◌++◌, length, Option, Some, None, slice_get, refl, sym, ap, ◌∙◌, arith, subst, length-append, eq-eqb, ne_eqb, length-map, leb-false, lt-leb, get, most_records, Settings, one, tally, is_idle, is_conn, is_out, is_past, is_expired, idles_out, lives_out, Place, Unclaimed, Claimed, Idle, Held, Guarded, Standing, Slot, Young, Out, Aged, Buffer, Closed, offered_all, closed_in, closed_of, EndsFirst, Ends, EndsIdle, Passes, Lent, AddsLent, Lined, slot_at, without, after_reap, AreFirst, beyond, Reaps, ArePlaces, IsRising, numbers_at, Absent, view_of_records, AreGoodRecords, passes, ShownRecords}
 use Rattle.bb8_tables.specs.declared.records.Records.TheInside.{Inside}
-use Rattle.bb8_tables.specs.declared.records.reaps.Passed.TheVariants.{Young, Out, Aged}
-use Rattle.circular_buffer.specs.Buffer.{Buffer}
-use Rattle.bb8_tables.specs.declared.closed.Closed.{Closed}
-use Rattle.bb8_tables.specs.Closed.{offered_all, closed_in, closed_of}
-use Rattle.bb8_tables.specs.Dues.{EndsFirst, Ends, EndsIdle, Passes}
-use Rattle.bb8_tables.specs.Lent.{Lent, AddsLent}
 use Rattle.bb8_tables.proofs.Lent.{adds_none, adds_more, adds_within}
-use Rattle.bb8_tables.specs.Lined.{Lined, slot_at}
-use Rattle.bb8_tables.specs.Machine.{without}
-use Rattle.bb8_tables.specs.Reaps.{after_reap, AreFirst, beyond, Reaps}
-use Rattle.bb8_tables.specs.Slots.{ArePlaces, IsRising, number_in, numbers_at}
-use Rattle.bb8_tables.specs.Spelled.{Absent}
-use Rattle.bb8_tables.specs.State.{view_of_records, AreGoodRecords, passes}
-use Rattle.bb8_tables.specs.Views.{ShownRecords}
-use Rattle.bb8_types.proofs.Places.{idle_is}
+use Rattle.bb8_types.proofs.Places.{idle_from}
 use Rattle.bb8_tables.proofs.Lines.{get_absent}
 use Rattle.bb8_tables.proofs.Orders.{found_in, no_earlier}
-use Rattle.bb8_tables.proofs.RecordPlaces.{Frees, numbered}
+use Rattle.bb8_tables.proofs.TablePlaces.{Frees, number_at}
+use Rattle.bb8_tables.proofs.RecordPlaces.{idle_conn}
 use Rattle.bb8_tables.proofs.ReapPlaces.{lives_idle, freed_good, freed_births, freed_due}
 use Rattle.bb8_tables.proofs.Reaps.{listed_both, none_ended, first_more, ends_more}
-use Rattle.bb8_tables.proofs.Slots.{held_found, line_length, set_updates, inside}
-use Rattle.bb8_tables.proofs.Spelled.{without_absent}
+use Rattle.bb8_tables.proofs.Slots.{Updates, held_found, line_length, get-push, set_at, within}
+use Rattle.bb8_tables.proofs.Spelled.{absent_get, without_absent}
 
 -- ---- limits
 
@@ -56,6 +32,10 @@ head_split : (p : ℕ) (ys : List ℕ) → slice_get ys 0 ≡ Some p → (zs : L
 head_split p [] e = cc
 head_split p (y ∷ ys) e = (ys, (let both : Some y ≡ Some p = e in let is : y ≡ p = cc in ap (λ (q : ℕ). q ∷ ys) is))
 
+none_at : (xs : List ℕ) (j k : ℕ) → slice_get xs 0 ≡ None → slice_get xs j ≡ Some k → ⊥
+none_at [] j k e f = cc
+none_at (x ∷ xs) j k e f = cc
+
 get_front : (xs ys : List ℕ) (j k : ℕ) → slice_get xs j ≡ Some k → slice_get (xs ++ ys) j ≡ Some k
 get_front [] ys j k e = cc
 get_front (x ∷ xs) ys zero k e = e
@@ -65,11 +45,6 @@ get_back : (xs ys : List ℕ) (i j : ℕ) → i ≡ length xs + j → slice_get 
 get_back [] ys i j e = ap (slice_get ys) (let same : i ≡ j = omega arith in same)
 get_back (x ∷ xs) ys zero j e = absurd (omega arith)
 get_back (x ∷ xs) ys (suc i) j e = get_back xs ys i j (omega arith)
-
-get_within : (xs : List ℕ) (j k : ℕ) → slice_get xs j ≡ Some k → j < length xs
-get_within [] j k e = cc
-get_within (x ∷ xs) zero k e = omega arith
-get_within (x ∷ xs) (suc j) k e = let l : j < length xs = get_within xs j k e in omega arith
 
 get_joined : (xs ys : List ℕ) (j k : ℕ) → slice_get (xs ++ ys) j ≡ Some k → (slice_get xs j ≡ Some k) ⊎ ((i : ℕ) × (slice_get ys i ≡ Some k))
 get_joined [] ys j k e = inr (j, e)
@@ -95,14 +70,7 @@ module _ {C : Type 0} where
   out_conn Guarded c i = refl
 
   out_busy : (p : Place C) → is_out p ≡ true → is_idle p ≡ true → ⊥
-  out_busy Unclaimed o i = cc
-  out_busy Claimed o i = cc
-  out_busy (Idle x) o i = cc
-  out_busy (Held g) o i = cc
-  out_busy Guarded o i = cc
-
-  idle_conn : (p : Place C) → is_idle p ≡ true → is_conn p ≡ true
-  idle_conn p i = ap is_conn (idle_is p i).1
+  out_busy p o i = let clash : true ≡ false = sym i ∙ idle_from false p o in cc
 
   -- a connection is idle or out
   idle_or_out : (p : Place C) → one (is_idle p) + one (is_out p) ≡ one (is_conn p)
@@ -173,18 +141,12 @@ module _ {C : Type 0} where
   -- where nothing is in line, none is idle
   pub none_in_line : (config : Settings) (now : ℕ) (a : Inside C) → AreGoodRecords a → slice_get a.slots.line 0 ≡ None → (k : ℕ) → idles_out config now (get (view_of_records a).places k) ≡ false
   none_in_line config now a good empty = unless_idle (idles_out config now) refl (λ s e. and_left (is_idle s.place) _ e) a good
-      (λ i y e idle. let there = found_in good.idle i y e idle in absurd (never a.slots.line there.0 i empty there.1))
-    where
-      never : (xs : List ℕ) (j i : ℕ) → slice_get xs 0 ≡ None → slice_get xs j ≡ Some i → ⊥
-      never [] j i e f = cc
-      never (y ∷ ys) j i e f = cc
+      (λ i y e idle. let there = found_in good.idle i y e idle in absurd (none_at a.slots.line there.0 i empty there.1))
 
   -- the number of the first in line
   pub first_shown : (a : Inside C) (place : ℕ) (x : Slot (Standing C)) → slice_get a.slots.line 0 ≡ Some place → slot_at a.slots place ≡ Some x
       → slice_get (view_of_records a).idle 0 ≡ Some x.number
-  first_shown a place x first at_place = slice_get-map (λ (i : ℕ). number_in numbered (slot_at a.slots i)) a.slots.line 0
-      ∙ ap (option_map (λ (i : ℕ). number_in numbered (slot_at a.slots i))) first
-      ∙ ap (λ (o : Option (Slot (Standing C))). Some (number_in numbered o)) at_place
+  first_shown a place x first at_place = number_at a.slots.slots a.slots.line 0 first at_place
 
   -- how far the walk has come
   pub record InIdle (config : Settings) (now : ℕ) (old new : ShownRecords C) (told : ℕ) (list listed : Buffer (Closed C)) (lent lent_now : Lent) : Type 0 where
@@ -209,11 +171,11 @@ module _ {C : Type 0} where
 
   -- at each of the places stands a connection that is out
   abbrev pub AreOut : Lined (Slot (Standing C)) → List ℕ → Type 0
-  AreOut t [] = Unit {0}
-  AreOut t (k ∷ ks) = ((x : Slot (Standing C)) × (slot_at t k ≡ Some x) × (is_out x.standing.place ≡ true)) × AreOut t ks
+  AreOut t ks = (j k : ℕ) → slice_get ks j ≡ Some k → (x : Slot (Standing C)) × (slot_at t k ≡ Some x) × (is_out x.standing.place ≡ true)
 
   -- how far the walk has come: it has passed those that are out, and ended the others
-  pub record InBirths (config : Settings) (now : ℕ) (old : ShownRecords C) (list : Buffer (Closed C)) (lent : Lent) (many : ℕ) (a : Inside C) (told : ℕ) (at : Option ℕ) (listed : Buffer (Closed C)) (lent_now : Lent) (counter : ℕ) : Type 0 where
+  pub record InBirths (config : Settings) (now : ℕ) (old : ShownRecords C) (list : Buffer (Closed C)) (lent : Lent) (many : ℕ) (a : Inside C) (told : ℕ) (at : Option ℕ)
+      (listed : Buffer (Closed C)) (lent_now : Lent) (counter : ℕ) : Type 0 where
     pub good : AreGoodRecords a
     pub ks : List ℕ
     pub ends : Ends (lives_out config now) old ks (view_of_records a) told list listed
@@ -229,19 +191,10 @@ module _ {C : Type 0} where
     pub many_few : many ≤ old.conns
 
   out_push : (t : Lined (Slot (Standing C))) (ks : List ℕ) (k : ℕ) (x : Slot (Standing C)) → AreOut t ks → slot_at t k ≡ Some x → is_out x.standing.place ≡ true → AreOut t (ks ++ k ∷ [])
-  out_push t [] k x o e is = ((x, e, is), tt)
-  out_push t (j ∷ ks) k x o e is = (o.0, out_push t ks k x o.1 e is)
-
-  out_kept : (old new : Lined (Slot (Standing C))) (place : ℕ) (ks : List ℕ) → ((i : ℕ) → i ≢ place → slot_at new i ≡ slot_at old i) → AreOut old ks → Absent place ks → AreOut new ks
-  out_kept old new place [] others o a = tt
-  out_kept old new place (k ∷ ks) others o a = ((o.0.0, others k a.0 ∙ o.0.1, o.0.2), out_kept old new place ks others o.1 a.1)
-
-  out_at : (t : Lined (Slot (Standing C))) (ks : List ℕ) (j k : ℕ) → AreOut t ks → slice_get ks j ≡ Some k → (x : Slot (Standing C)) × (slot_at t k ≡ Some x) × (is_out x.standing.place ≡ true)
-  out_at t [] j k o e = cc
-  out_at t (i ∷ ks) zero k o e =
-      let both : Some i ≡ Some k = e in
-      subst (λ (q : ℕ). (x : Slot (Standing C)) × (slot_at t q ≡ Some x) × (is_out x.standing.place ≡ true)) (let is : i ≡ k = cc in is) o.0
-  out_at t (i ∷ ks) (suc j) k o e = out_at t ks j k o.1 e
+  out_push t ks k x o e is j q f = ⊎_elim
+      (λ (h : slice_get ks j ≡ Some q). o j q h)
+      (λ (h : (j ≡ length ks) × (k ≡ q)). subst (λ (r : ℕ). (y : Slot (Standing C)) × (slot_at t r ≡ Some y) × (is_out y.standing.place ≡ true)) h.1 (x, e, is))
+      (get-push ks k q j f)
 
   -- no place stands twice in a line that is cut at one
   module _ (slots : List (Option (Slot (Standing C)))) (passed rest : List ℕ) (place : ℕ) (are : ArePlaces (λ (x : Slot (Standing C)). is_conn x.standing.place) slots (passed ++ place ∷ rest)) where
@@ -250,13 +203,14 @@ module _ {C : Type 0} where
 
     absent_front : Absent place passed
     absent_front = get_absent place passed (λ j k e s.
-        let l : j < length passed = get_within passed j k e in
+        let l : j < length passed = within passed k j e in
         let same : j ≡ length passed = are.once j (length passed) k place (get_front passed (place ∷ rest) j k e) middle s in
         omega arith)
 
     absent_back : Absent place rest
     absent_back = get_absent place rest (λ j k e s.
-        let same : length passed + suc j ≡ length passed = are.once (length passed + suc j) (length passed) k place (get_back passed (place ∷ rest) (length passed + suc j) (suc j) refl ∙ e) middle s in
+        let same : length passed + suc j ≡ length passed = are.once (length passed + suc j) (length passed) k place
+        (get_back passed (place ∷ rest) (length passed + suc j) (suc j) refl ∙ e) middle s in
         omega arith)
 
   pub conns_few : (a : Inside C) (s : ShownRecords C) → AreGoodRecords a → view_of_records a ≡ s → s.conns ≤ most_records
@@ -274,7 +228,7 @@ module _ {C : Type 0} where
       rest = a.slots.births;
       births = refl;
       at_is = at_is;
-      outs = tt;
+      outs = λ j k e. cc;
       steps = omega arith;
       lendings = adds_none lent;
       left = omega arith;
@@ -347,7 +301,9 @@ module _ {C : Type 0} where
               births = freed_births a place p.0 slots i.good p.1 aged_idle gone ∙ ap (without place) cut
                   ∙ without_between place i.passed ahead.0 front (absent_back a.slots.slots i.passed ahead.0 place are);
               at_is = p.3 i.passed ahead.0 cut;
-              outs = out_kept a.slots slots place i.passed (set_updates None (inside a.slots.slots place p.0 p.1) (ap (λ (t : Lined (Slot (Standing C))). t.slots) gone)).others i.outs front;
+              outs = λ j k e. let o = i.outs j k e in
+                  let others = subst (λ (t : Lined (Slot (Standing C))). Updates a.slots.slots t.slots place None) (sym gone) (set_at a.slots.slots place p.0 None p.1) in
+                  (o.0, others.others k (λ s. absent_get place j i.passed front (e ∙ ap (λ (q : ℕ). Some q) s)) ∙ o.1, o.2);
               steps = omega (arith, i.steps);
               lendings = adds_more counter 1 lent lent_now new_lent i.lendings l;
               left = omega (arith, i.left, more_left);
@@ -368,27 +324,23 @@ module _ {C : Type 0} where
               let there = found_in i.good.births p y e (idle_conn y.standing.place idle) in
               ⊎_elim
               (λ (h : slice_get i.passed there.0 ≡ Some p).
-              let out = out_at a.slots i.passed there.0 p i.outs h in
+              let out = i.outs there.0 p h in
               let same : out.0 ≡ y = let both : Some out.0 ≡ Some y = sym out.1 ∙ e in cc in
               absurd (out_busy y.standing.place (subst (λ (x : Slot (Standing C)). is_out x.standing.place ≡ true) same out.2) idle))
               (λ (h : (j : ℕ) × (slice_get i.rest j ≡ Some p)). young h.0 p y h.1 e)
               (get_joined i.passed i.rest there.0 p (ap (λ (ks : List ℕ). slice_get ks there.0) (sym i.births) ∙ there.1))
 
       pub none_ahead : at ≡ None → (k : ℕ) → lives_out config now (get (view_of_records a).places k) ≡ false
-      none_ahead over = none_aged (λ j k y e f. absurd (never i.rest j k (sym i.at_is ∙ over) e))
-        where
-          never : (xs : List ℕ) (j k : ℕ) → slice_get xs 0 ≡ None → slice_get xs j ≡ Some k → ⊥
-          never [] j k e f = cc
-          never (x ∷ xs) j k e f = cc
+      none_ahead over = none_aged (λ j k y e f. absurd (none_at i.rest j k (sym i.at_is ∙ over) e))
 
       pub none_more : many ≤ counter → (k : ℕ) → lives_out config now (get (view_of_records a).places k) ≡ false
-      none_more over = none_aged (λ j k y e f. absurd (let l : j < length i.rest = get_within i.rest j k e in omega (arith, i.left)))
+      none_more over = none_aged (λ j k y e f. absurd (let l : j < length i.rest = within i.rest k j e in omega (arith, i.left)))
 
       -- no more were passed than are out
       few_passed : length i.passed + length old.idle ≤ old.conns
       few_passed =
           let outs : ArePlaces (λ (x : Slot (Standing C)). is_out x.standing.place) a.slots.slots i.passed = record {
-            each = λ j k e. let o = out_at a.slots i.passed j k i.outs e in (o.0, o.1, refl, o.2);
+            each = λ j k e. let o = i.outs j k e in (o.0, o.1, refl, o.2);
             once = λ j k p q e f s. i.good.births.are.once j k p q (in_births j p e) (in_births k q f) s;
           } in
           let few_out : length i.passed ≤ tally (passes is_out) a.slots.slots = line_length _ _ _ _ (passes is_out) refl (λ x h. h) i.passed a.slots.slots outs in

@@ -1,25 +1,25 @@
 -- How many entries of the tables were lent, and how often a table was searched, since the latest step began.
-use Rattle.std.specs.Prelude.{◌≡◌, ◌≤◌, ℕ, ◌+◌, min, cond, eqb, refl}
+use Rattle.std.specs.Prelude.{◌≡◌, ◌≤◌, ℕ, ◌+◌, ◌%◌, ◌^◌, min, refl}
 use Rattle.std.specs.Coded.{Coded, code_by, coded×, coded_ℕ}
 use Rattle.bb8_types.specs.Bounds.{end_of_numbers}
 
--- The number of the latest step, the entries that it was lent, and its searches.
+-- The sum of all that was counted before the latest step, the entries that it was lent, and its searches.
 pub record Lent : Type 0 where
-  pub step : ℕ
+  pub past : ℕ
   pub lent : ℕ
   pub searched : ℕ
 
 -- no step yet
 abbrev pub none_lent : Lent
-none_lent = record { step = 0; lent = 0; searched = 0 }
+none_lent = record { past = 0; lent = 0; searched = 0 }
 
--- the number of the next step: after the greatest one they begin again
-abbrev pub next_step : ℕ → ℕ
-next_step n = cond (eqb n end_of_numbers) 0 (n + 1)
+-- the sum of all that was counted so far, and one for the step that begins; it wraps
+abbrev pub counted : Lent → ℕ
+counted l = (l.past + l.lent + l.searched + 1) % 2 ^ 64
 
 -- a step begins
 abbrev pub begun : Lent → Lent
-begun l = record { step = next_step l.step; lent = 0; searched = 0 }
+begun l = record { past = counted l; lent = 0; searched = 0 }
 
 -- one entry more is lent
 abbrev pub lends : Lent → Lent
@@ -31,13 +31,13 @@ searches l = record l { searched = min (l.searched + 1) end_of_numbers }
 
 -- in one step at most so many entries more were lent, and at most so many searches more made
 abbrev pub AddsLent : ℕ → ℕ → Lent → Lent → Type 0
-AddsLent entries more old new = (new.step ≡ old.step) × (new.lent ≤ old.lent + entries) × (new.searched ≤ old.searched + more)
+AddsLent entries more old new = (new.past ≡ old.past) × (new.lent ≤ old.lent + entries) × (new.searched ≤ old.searched + more)
 
 abbrev pub lent_code : Coded Lent
 lent_code =
     code_by
     (ℕ × (ℕ × ℕ))
     (coded× coded_ℕ (coded× coded_ℕ coded_ℕ))
-    (λ l. (l.step, (l.lent, l.searched)))
-    (λ p. record { step = p.0; lent = p.1.0; searched = p.1.1 })
+    (λ l. (l.past, (l.lent, l.searched)))
+    (λ p. record { past = p.0; lent = p.1.0; searched = p.1.1 })
     (λ _. refl)

@@ -1,6 +1,5 @@
 //! The gets of a pool.
 ghost use Rattle.std.specs.Prelude.{◌⊎◌, ◌≡◌, ℕ, ◌+◌, ◌<◌, ◌≤◌, max, min, true, false, IsSome, is_some, ltb, cond, filter, not, eqb, slice_get, IfSome, IfNone, OnOk, OnErr, Some, None, []};
-ghost use Rattle.std.specs.Option.{option_map};
 ghost use Rattle.std.specs.FinMap as map;
 ghost use Rattle.bb8_types.specs.declared.standing.Getting.{Getting};
 ghost use Rattle.bb8_types.specs.Numbered as numbered;
@@ -12,7 +11,7 @@ ghost use Rattle.bb8_types.specs.Bounds.{end_of_numbers};
 ghost use Rattle.bb8_tables.specs.Lent.{AddsLent};
 
 use crate::keys::{GetKey, Key};
-use crate::table::{Lendings, Slot, Table, held};
+use crate::table::{Lendings, Slot, Table};
 use bb8_types::bounds::END_OF_NUMBERS;
 use bb8_types::standing::{GetPlace, Getting};
 use std::alloc::{AllocError, Global};
@@ -68,6 +67,34 @@ pub fn is_notified(getting: Option<Getting>) -> bool
             },
         ) => notified,
         _ => false,
+    }
+}
+
+/// Whether a get may try.
+pub fn is_trying(getting: Option<Getting>) -> bool
+    ensures { result ≡ places.gets_stand places.is_trying getting }
+{
+    match getting {
+        None => false,
+        Some(getting) => match getting.place {
+            GetPlace::Active | GetPlace::Waiting(_) => true,
+            GetPlace::Holding(_) => false,
+        },
+    }
+}
+
+/// The number of the connection that a get holds, if it holds one.
+pub fn held(getting: Option<Getting>) -> Option<u64>
+    ensures { result ≡ places.holds getting }
+{
+    match getting {
+        Some(
+            Getting {
+                place: GetPlace::Holding(number),
+                ..
+            },
+        ) => Some(number),
+        _ => None,
     }
 }
 
@@ -282,12 +309,13 @@ impl Gets {
     }
 
     /// Where the number stands, if the get is alive.
-    pub fn find(&self, number: u64) -> Option<GetKey>
+    pub fn find(&self, number: u64, lendings: &mut Lendings) -> Option<GetKey>
         ensures some { IfSome result (λ g. (g.number ≡ number)
             × IsSome (map.get self.now.places number)) }
         ensures none { IfNone result (map.get self.now.places number ≡ None) }
+        ensures examined { AddsLent 0 1 lendings.old lendings.new }
     {
-        match self.slots.place_of(number, 0) {
+        match self.slots.locate(number, 0, lendings) {
             None => None,
             Some(place) => Some(GetKey { number, place }),
         }
@@ -302,37 +330,6 @@ impl Gets {
         match self.slots.slot(g.number, g.place, lendings) {
             None => None,
             Some(slot) => Some(slot.standing),
-        }
-    }
-
-    /// Whether the get is alive.
-    pub fn is_alive(&self, g: GetKey) -> bool
-        ensures { result ≡ is_some (map.get self.now.places g.number) }
-    {
-        match self.slots.place_of(g.number, g.place) {
-            None => false,
-            Some(_) => true,
-        }
-    }
-
-    /// Whether the get may try.
-    pub fn is_trying(&self, g: GetKey) -> bool
-        ensures { result ≡ places.gets_stand places.is_trying (map.get self.now.places g.number) }
-    {
-        match self.slots.is_trying(g.number, g.place) {
-            None => false,
-            Some(answer) => answer,
-        }
-    }
-
-    /// The number of the connection that the get, if it is alive, holds, if it holds one. A question lends nothing.
-    pub fn holds(&self, g: GetKey) -> Option<Option<u64>>
-        ensures { result ≡ option_map (λ x. places.holds (Some x))
-            (map.get self.now.places g.number) }
-    {
-        match self.slots.holds(g.number, g.place) {
-            None => None,
-            Some(held) => Some(held),
         }
     }
 }

@@ -9,7 +9,7 @@ ghost use Rattle.bb8_types.specs.declared.standing.Place.TheVariants.{Unclaimed,
 ghost use Rattle.circular_buffer.specs.Buffer.{buffer};
 ghost use Rattle.bb8_types.specs.declared.standing.Standing.{Standing};
 ghost use Rattle.bb8_types.specs.Bounds.{end_of_numbers, most_records};
-ghost use Rattle.bb8_tables.specs.Lent.{none_lent, AddsLent};
+ghost use Rattle.bb8_tables.specs.Lent.{AddsLent};
 ghost use Rattle.bb8_tables.specs.Closed.{offered_all, closed_in, closed_of};
 ghost use Rattle.bb8_tables.specs.Lined.{slot_at};
 ghost use Rattle.bb8_tables.specs.declared.table.Slot.{Slot};
@@ -19,7 +19,7 @@ mod reaps;
 use crate::closed::{Closed, ClosedList};
 use crate::keys::Key;
 use crate::ring::Ring;
-use crate::table::{Lendings, Slot, Table};
+use crate::table::{Asking, Lendings, Slot, Table};
 use bb8_types::api::QueueStrategy;
 use bb8_types::bounds::END_OF_NUMBERS;
 use bb8_types::grants::Grant;
@@ -52,6 +52,24 @@ impl<C> Model for Records<C> {
     ghost view = { view_of_records };
 
     ghost invariant = { AreGoodRecords };
+}
+
+fn is_claimed<C>(place: &Place<C>) -> bool
+    ensures { result ≡ places.is_claimed place.now }
+{
+    match place {
+        Place::Claimed => true,
+        Place::Unclaimed | Place::Idle(_) | Place::Held(_) | Place::Guarded => false,
+    }
+}
+
+fn is_guarded<C>(place: &Place<C>) -> bool
+    ensures { result ≡ places.is_guarded place.now }
+{
+    match place {
+        Place::Guarded => true,
+        Place::Unclaimed | Place::Claimed | Place::Idle(_) | Place::Held(_) => false,
+    }
 }
 
 /// The connection of an idle place.
@@ -136,12 +154,11 @@ pub fn one(test: bool) -> u64
 }
 
 impl<C: Drop> Records<C> {
-    /// No records, which take no memory, and the count of what is lent, which is none yet.
-    pub fn new(alloc: Global, first: u64) -> (Self, Lendings)
-        ensures records { result.0 ≡ no_records first }
-        ensures none { result.1 ≡ none_lent }
+    /// No records, which take no memory, and the leave to ask.
+    pub fn new(alloc: Global, first: u64) -> (Self, Asking)
+        ensures { result.0 ≡ no_records first }
     {
-        let (slots, lendings) = Table::new(alloc);
+        let (slots, asking) = Table::new(alloc);
         let records = Records {
             next: first,
             slots,
@@ -150,7 +167,7 @@ impl<C: Drop> Records<C> {
             approved: 0,
             peak: 0,
         };
-        (records, lendings)
+        (records, asking)
     }
 
     /// A list with no room, which takes no memory.
@@ -546,34 +563,41 @@ impl<C: Drop> Records<C> {
     }
 
     /// Where the number stands, if it does.
-    pub fn find(&self, number: u64) -> Option<Key>
+    pub fn find(&self, number: u64, lendings: &mut Lendings) -> Option<Key>
         ensures some { IfSome result (λ key. (key.number ≡ number)
             × IsSome (map.get self.now.places number)) }
         ensures none { IfNone result (map.get self.now.places number ≡ None) }
+        ensures examined { AddsLent 0 1 lendings.old lendings.new }
     {
-        match self.slots.place_of(number, 0) {
+        match self.slots.locate(number, 0, lendings) {
             None => None,
             Some(place) => Some(Key { number, place }),
         }
     }
 
     /// Whether the number is a claimed approval.
-    pub fn is_claimed(&self, k: Key) -> bool
-        ensures { result ≡ places.stands places.is_claimed (map.get self.now.places k.number) }
+    pub fn is_claimed(&self, k: Key, lendings: &mut Lendings) -> bool
+        ensures value { result ≡ places.stands places.is_claimed
+            (map.get self.now.places k.number) }
+        ensures examined { AddsLent 1 1 lendings.old lendings.new }
+        ensures counted { min (lendings.old.lent + 1) end_of_numbers ≤ lendings.new.lent }
     {
-        match self.slots.is_claimed(k.number, k.place) {
+        match self.slots.slot(k.number, k.place, lendings) {
             None => false,
-            Some(answer) => answer,
+            Some(slot) => is_claimed(&slot.standing.place),
         }
     }
 
     /// Whether the number is a connection that a guard holds.
-    pub fn is_guarded(&self, k: Key) -> bool
-        ensures { result ≡ places.stands places.is_guarded (map.get self.now.places k.number) }
+    pub fn is_guarded(&self, k: Key, lendings: &mut Lendings) -> bool
+        ensures value { result ≡ places.stands places.is_guarded
+            (map.get self.now.places k.number) }
+        ensures examined { AddsLent 1 1 lendings.old lendings.new }
+        ensures counted { min (lendings.old.lent + 1) end_of_numbers ≤ lendings.new.lent }
     {
-        match self.slots.is_guarded(k.number, k.place) {
+        match self.slots.slot(k.number, k.place, lendings) {
             None => false,
-            Some(answer) => answer,
+            Some(slot) => is_guarded(&slot.standing.place),
         }
     }
 }

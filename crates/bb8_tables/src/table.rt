@@ -5,11 +5,11 @@ ghost use Rattle.bb8_tables.specs.declared.links.Order.TheVariants.{Line, Births
 ghost use Rattle.bb8_types.specs.declared.standing.Standing.{Standing};
 ghost use Rattle.bb8_types.specs.declared.standing.Getting.{Getting};
 ghost use Rattle.bb8_types.specs.Bounds.{end_of_numbers};
-ghost use Rattle.bb8_types.specs.Places.{get_in_wait, first_place, is_claimed, is_guarded, is_trying, holds};
+ghost use Rattle.bb8_types.specs.Places.{get_in_wait, first_place};
 ghost use Rattle.bb8_tables.specs.Machine.{without};
 ghost use Rattle.bb8_tables.specs.Lined.{slot_at, places_of, with_places, is_same};
 ghost use Rattle.bb8_tables.specs.Spelled.{Absent};
-ghost use Rattle.bb8_tables.specs.Lent.{none_lent, lends, searches, AddsLent};
+ghost use Rattle.bb8_tables.specs.Lent.{lends, searches, AddsLent};
 
 mod lendings;
 
@@ -17,7 +17,7 @@ use crate::links::{END, Links, Order, Sizes, Vacant};
 use bb8_types::api::QueueStrategy;
 use bb8_types::bounds::END_OF_NUMBERS;
 use bb8_types::standing::{GetPlace, Getting, Place, Standing};
-pub use lendings::Lendings;
+pub use lendings::{Asking, Lendings};
 use std::alloc::{AllocError, Global};
 use std::marker::Model;
 use std::mem;
@@ -50,49 +50,6 @@ impl Vacant for Getting {
     }
 }
 
-fn is_claimed_place<C>(place: &Place<C>) -> bool
-    ensures { result ≡ is_claimed place.now }
-{
-    match place {
-        Place::Claimed => true,
-        Place::Unclaimed | Place::Idle(_) | Place::Held(_) | Place::Guarded => false,
-    }
-}
-
-fn is_guarded_place<C>(place: &Place<C>) -> bool
-    ensures { result ≡ is_guarded place.now }
-{
-    match place {
-        Place::Guarded => true,
-        Place::Unclaimed | Place::Claimed | Place::Idle(_) | Place::Held(_) => false,
-    }
-}
-
-/// Whether a get that stands there may try.
-fn is_trying_place(place: GetPlace) -> bool
-    ensures { result ≡ is_trying place }
-{
-    match place {
-        GetPlace::Active | GetPlace::Waiting(_) => true,
-        GetPlace::Holding(_) => false,
-    }
-}
-
-/// The number of the connection that a get holds, if it holds one.
-pub fn held(getting: Option<Getting>) -> Option<u64>
-    ensures { result ≡ holds getting }
-{
-    match getting {
-        Some(
-            Getting {
-                place: GetPlace::Holding(number),
-                ..
-            },
-        ) => Some(number),
-        _ => None,
-    }
-}
-
 /// Places, with the line of those that stand in it, and those of connections by birth. Ended places are used again.
 #[derive(Drop)]
 pub struct Table<S> {
@@ -114,10 +71,9 @@ impl<S> Model for Table<S> {
 }
 
 impl<S: Drop> Table<S> {
-    /// An empty table, which takes no memory, and a count of what is lent, which is none yet.
-    pub fn new(alloc: Global) -> (Self, Lendings)
-        ensures table { result.0 ≡ record { slots = []; line = []; births = []; free = [] } }
-        ensures none { result.1 ≡ none_lent }
+    /// An empty table, which takes no memory, and the leave to ask.
+    pub fn new(alloc: Global) -> (Self, Asking)
+        ensures { result.0 ≡ record { slots = []; line = []; births = []; free = [] } }
     {
         let table = Table {
             links: Links {
@@ -129,7 +85,7 @@ impl<S: Drop> Table<S> {
                 free: 0,
             },
         };
-        (table, Lendings::none())
+        (table, Asking::given())
     }
 
     /// The place at the old end of an order, which has one.
@@ -239,25 +195,9 @@ impl<S: Drop> Table<S> {
         place
     }
 
-    /// Where a search finds the number.
-    #[cold]
-    fn search(&self, number: u64) -> Option<usize>
-        ensures some { IfSome result (λ i. (x : Slot S) × (slot_at self.now i ≡ Some x)
-            × (x.number ≡ number)) }
-        ensures none { IfNone result ((i : ℕ) (x : Slot S) → slot_at self.now i ≡ Some x
-            → x.number ≢ number) }
-    {
-        for i in 0..self.links.entries.len() {
-            if let Some(_) = self.links.found(number, i) {
-                return Some(i);
-            }
-        }
-        None
-    }
-
     /// Where a search finds the number, which is counted.
     #[cold]
-    fn seek(&self, number: u64, lendings: &mut Lendings) -> Option<usize>
+    fn search(&self, number: u64, lendings: &mut Lendings) -> Option<usize>
         ensures some { IfSome result (λ i. (x : Slot S) × (slot_at self.now i ≡ Some x)
             × (x.number ≡ number)) }
         ensures none { IfNone result ((i : ℕ) (x : Slot S) → slot_at self.now i ≡ Some x
@@ -265,21 +205,12 @@ impl<S: Drop> Table<S> {
         ensures counted { lendings.new ≡ searches lendings.old }
     {
         lendings.search();
-        self.search(number)
-    }
-
-    /// Where the number stands, for a question, which counts nothing: at the hint, or else where a search finds it.
-    #[inline]
-    pub fn place_of(&self, number: u64, hint: usize) -> Option<usize>
-        ensures some { IfSome result (λ i. (x : Slot S) × (slot_at self.now i ≡ Some x)
-            × (x.number ≡ number)) }
-        ensures none { IfNone result ((i : ℕ) (x : Slot S) → slot_at self.now i ≡ Some x
-            → x.number ≢ number) }
-    {
-        match self.links.found(number, hint) {
-            Some(_) => Some(hint),
-            None => self.search(number),
+        for i in 0..self.links.entries.len() {
+            if let Some(_) = self.links.found(number, i) {
+                return Some(i);
+            }
         }
+        None
     }
 
     /// Where the number stands: at the hint, or else where a search finds it, which is counted.
@@ -298,7 +229,7 @@ impl<S: Drop> Table<S> {
     {
         match self.links.found(number, hint) {
             Some(_) => Some(hint),
-            None => self.seek(number, lendings),
+            None => self.search(number, lendings),
         }
     }
 
@@ -311,26 +242,9 @@ impl<S: Drop> Table<S> {
             ((i : ℕ) (x : Slot S) → slot_at self.now i ≡ Some x → x.number ≢ number) }
         ensures counted { lendings.new ≡ searches lendings.old }
     {
-        match self.seek(number, lendings) {
+        match self.search(number, lendings) {
             None => None,
             Some(place) => self.links.found(number, place),
-        }
-    }
-
-    /// What stands under the number, for a question, which counts nothing.
-    #[inline]
-    fn seen(&self, number: u64, hint: usize) -> Option<&Slot<S>>
-        ensures some { IfSome (option_copied result)
-            (λ x. (i : ℕ) × (slot_at self.now i ≡ Some x) × (x.number ≡ number)) }
-        ensures none { IfNone (option_copied result)
-            ((i : ℕ) (x : Slot S) → slot_at self.now i ≡ Some x → x.number ≢ number) }
-    {
-        match self.links.found(number, hint) {
-            Some(slot) => Some(slot),
-            None => match self.search(number) {
-                None => None,
-                Some(place) => self.links.found(number, place),
-            },
         }
     }
 
@@ -605,34 +519,6 @@ impl<S: Drop + Vacant> Table<S> {
 }
 
 impl<C: Drop> Table<Standing<C>> {
-    /// Whether the record of that number, if it stands, is a claimed approval. A question lends nothing.
-    pub fn is_claimed(&self, number: u64, hint: usize) -> Option<bool>
-        ensures some { IfSome result (λ b. (i : ℕ) × (x : Slot (Standing C))
-            × (slot_at self.now i ≡ Some x) × (x.number ≡ number)
-            × (b ≡ is_claimed x.standing.place)) }
-        ensures none { IfNone result ((i : ℕ) (x : Slot (Standing C)) → slot_at self.now i ≡ Some x
-            → x.number ≢ number) }
-    {
-        match self.seen(number, hint) {
-            None => None,
-            Some(slot) => Some(is_claimed_place(&slot.standing.place)),
-        }
-    }
-
-    /// Whether the record of that number, if it stands, is a connection that a guard holds. A question lends nothing.
-    pub fn is_guarded(&self, number: u64, hint: usize) -> Option<bool>
-        ensures some { IfSome result (λ b. (i : ℕ) × (x : Slot (Standing C))
-            × (slot_at self.now i ≡ Some x) × (x.number ≡ number)
-            × (b ≡ is_guarded x.standing.place)) }
-        ensures none { IfNone result ((i : ℕ) (x : Slot (Standing C)) → slot_at self.now i ≡ Some x
-            → x.number ≢ number) }
-    {
-        match self.seen(number, hint) {
-            None => None,
-            Some(slot) => Some(is_guarded_place(&slot.standing.place)),
-        }
-    }
-
     /// Has the record at a place stand elsewhere, and tells its number and where it stood.
     #[inline]
     pub fn put(&mut self, at: usize, place: Place<C>, lendings: &mut Lendings) -> (u64, Place<C>)
@@ -655,34 +541,6 @@ impl<C: Drop> Table<Standing<C>> {
 }
 
 impl Table<Getting> {
-    /// Whether the get of that number, if it is alive, may try. A question lends nothing.
-    pub fn is_trying(&self, number: u64, hint: usize) -> Option<bool>
-        ensures some { IfSome result (λ b. (i : ℕ) × (x : Slot Getting)
-            × (slot_at self.now i ≡ Some x) × (x.number ≡ number)
-            × (b ≡ is_trying x.standing.place)) }
-        ensures none { IfNone result ((i : ℕ) (x : Slot Getting) → slot_at self.now i ≡ Some x
-            → x.number ≢ number) }
-    {
-        match self.seen(number, hint) {
-            None => None,
-            Some(slot) => Some(is_trying_place(slot.standing.place)),
-        }
-    }
-
-    /// The number of the connection that the get of that number, if it is alive, holds, if it holds one. A question lends nothing.
-    pub fn holds(&self, number: u64, hint: usize) -> Option<Option<u64>>
-        ensures some { IfSome result (λ k. (i : ℕ) × (x : Slot Getting)
-            × (slot_at self.now i ≡ Some x) × (x.number ≡ number)
-            × (k ≡ holds (Some x.standing))) }
-        ensures none { IfNone result ((i : ℕ) (x : Slot Getting) → slot_at self.now i ≡ Some x
-            → x.number ≢ number) }
-    {
-        match self.seen(number, hint) {
-            None => None,
-            Some(slot) => Some(held(Some(slot.standing))),
-        }
-    }
-
     /// Has the get at a place stand elsewhere, and tells its number.
     #[inline]
     pub fn turn(&mut self, at: usize, place: GetPlace, lendings: &mut Lendings) -> u64

@@ -1,12 +1,7 @@
 -- Claims, one after another.
-use Rattle.std.proofs.Common.{◌≡◌, Some, List, [], ◌∷◌, ◌++◌, refl, subst, append_assoc, map}
-use Rattle.std.proofs.lemmas.List.{map-append}
-use Rattle.bb8_types.specs.declared.api.moments.Moment.{Moment}
-use Rattle.bb8_tables.specs.declared.keys.Key.{Key}
+use Rattle.bb8_tasks.proofs.Words.{◌≡◌, Some, List, [], ◌∷◌, ◌++◌, refl, subst, append_assoc, map, map-append, Moment, Key, Replenish, fresh}
 use Rattle.bb8_core.specs.declared.answers.ClaimAnswer.TheVariants.{Claimed}
 use Rattle.bb8_tasks.specs.declared.home.ClaimHome.{Ghosts as ClaimHomeOf}
-use Rattle.bb8_tasks.specs.declared.replenish.Replenish.{Replenish}
-use Rattle.bb8_tasks.specs.Replenishing.{fresh}
 use Rattle.bb8_tasks.specs.Turns.{ClaimsEach, TakesOnEach}
 
 module _ {H : Type 0} (home : ClaimHomeOf H) (at : Moment) where

@@ -1,16 +1,6 @@
 -- How many openings a run begins, at most.
-use Rattle.std.proofs.Common.{◌≡◌, ℕ, suc, ◌+◌, ◌-◌, ◌*◌, ◌^◌, ◌<◌, ◌≤◌, min, Bool, false, Option, Some, None, List, [], ◌∷◌, length, inl, inr, subst, sym, ap, refl, arith}
-use Rattle.std.proofs.lemmas.Bool.{cases_lt, cases_Bool}
-use Rattle.bb8_types.specs.declared.api.moments.Moment.{Moment}
-use Rattle.bb8_ledger.specs.Waits.{wait, waits}
-use Rattle.bb8_tasks.specs.declared.backoff.Reply.{Reply}
+use Rattle.bb8_tasks.proofs.Words.{◌≡◌, ℕ, suc, ◌+◌, ◌-◌, ◌*◌, ◌^◌, ◌<◌, ◌≤◌, min, Bool, false, Option, Some, None, List, [], ◌∷◌, length, inl, inr, subst, sym, ap, refl, arith, cases_lt, cases_Bool, Moment, wait, waits, Reply, ReplenishAnswer, Start, Connecting, Acquiring, Sleeping, Done, Tries, IsBounded, Task, first_task, Runs, Plays, IsDue, failed_once_more}
 use Rattle.bb8_tasks.specs.declared.backoff.Reply.TheVariants as replies
-use Rattle.bb8_tasks.specs.declared.replenish.ReplenishAnswer.{ReplenishAnswer}
-use Rattle.bb8_tasks.specs.declared.replenish.Stage.TheVariants.{Start, Connecting, Acquiring, Sleeping, Done}
-use Rattle.bb8_tasks.specs.declared.replenish.Tries.{Tries}
-use Rattle.bb8_tasks.specs.Bounded.{IsBounded}
-use Rattle.bb8_tasks.specs.Played.{Task, first_task, Runs, Plays}
-use Rattle.bb8_tasks.specs.Replenishing.{IsDue, failed_once_more}
 use Rattle.bb8_tasks.proofs.Moving.{Standing, Leads, Moves, IsMoment, moved}
 use Rattle.bb8_tasks.proofs.Waiting.{waits-more, at_most, most-below, most_waits}
 
@@ -21,6 +11,23 @@ later at latest (Connecting t v) m h = omega arith
 later at latest (Acquiring t c a) m h = omega arith
 later at latest (Sleeping t due) m h = omega arith
 later at latest Done m h = let same : m.0 ≡ latest.0 = ap (λ (x : Moment). x.0) h in omega arith
+
+-- what each poll keeps a run keeps
+run-keeps : (timeout : ℕ) (retry : Bool) (Keeps : Moment → Standing → ℕ → Type 0)
+    → ((reply : Reply) (latest m : Moment) (stage : Standing) (begun : ℕ) (s : Standing) (tries : ℕ) → latest.0 ≤ m.0
+    → Keeps latest stage tries → Moves timeout retry m reply stage begun s → Keeps m s (tries + begun))
+    → (t : Task) (polls : List (Moment × Reply)) (answers : List (ReplenishAnswer (Unit {0}))) (tries : ℕ) (t' : Task) (before : ℕ)
+    → Keeps t.latest t.stage before → Runs timeout retry t polls answers tries t' → Keeps t'.latest t'.stage (before + tries)
+run-keeps timeout retry Keeps move t [] [] tries t' before k r =
+    let none : before ≡ before + tries = omega arith in
+    subst (λ (x : ℕ). Keeps t'.latest t'.stage x) none (subst (λ (x : Task). Keeps x.latest x.stage before) (sym r.1) k)
+run-keeps timeout retry Keeps move t [] (a ∷ answers) tries t' before k r = absurd r
+run-keeps timeout retry Keeps move t (p ∷ polls) [] tries t' before k r = absurd r
+run-keeps timeout retry Keeps move t (p ∷ polls) (a ∷ answers) tries t' before k r =
+    let led = moved timeout retry p t r.0 a r.1 r.3 in
+    let next : Keeps r.1.latest r.1.stage (before + r.0) = move p.1 t.latest r.1.latest t.stage r.0 r.1.stage before (later p.0 t.latest t.stage r.1.latest led.0) k led.1 in
+    let all : before + r.0 + r.2 ≡ before + tries = omega arith in
+    subst (λ (x : ℕ). Keeps t'.latest t'.stage x) all (run-keeps timeout retry Keeps move r.1 polls answers r.2 t' (before + r.0) next r.4)
 
 module _ (timeout : ℕ) (retry : Bool) (n : ℕ) (small : n < 70) (past : timeout < waits timeout (suc n)) where
   -- a try is under way: it is one more than the failures, and these took their waits
@@ -83,20 +90,6 @@ module _ (timeout : ℕ) (retry : Bool) (n : ℕ) (small : n < 70) (past : timeo
       ]
   keeps-move reply latest m Done begun s tries le k h = subst (λ (x : Standing). Keeps m x (tries + begun)) (sym h.1) (omega arith)
 
-  -- a run keeps it
-  keeps-run : (t : Task) (polls : List (Moment × Reply)) (answers : List (ReplenishAnswer (Unit {0}))) (tries : ℕ) (t' : Task) (before : ℕ)
-      → Keeps t.latest t.stage before → Runs timeout retry t polls answers tries t' → Keeps t'.latest t'.stage (before + tries)
-  keeps-run t [] [] tries t' before k r =
-      let none : before ≡ before + tries = omega arith in
-      subst (λ (x : ℕ). Keeps t'.latest t'.stage x) none (subst (λ (x : Task). Keeps x.latest x.stage before) (sym r.1) k)
-  keeps-run t [] (a ∷ answers) tries t' before k r = absurd r
-  keeps-run t (p ∷ polls) [] tries t' before k r = absurd r
-  keeps-run t (p ∷ polls) (a ∷ answers) tries t' before k r =
-      let move = moved timeout retry p t r.0 a r.1 r.3 in
-      let next : Keeps r.1.latest r.1.stage (before + r.0) = keeps-move p.1 t.latest r.1.latest t.stage r.0 r.1.stage before (later p.0 t.latest t.stage r.1.latest move.0) k move.1 in
-      let all : before + r.0 + r.2 ≡ before + tries = omega arith in
-      subst (λ (x : ℕ). Keeps t'.latest t'.stage x) all (keeps-run r.1 polls answers r.2 t' (before + r.0) next r.4)
-
   -- what is kept is bounded
   kept-bounded : (m : Moment) (s : Standing) (tries : ℕ) → Keeps m s tries → tries ≤ n + 2
   kept-bounded m Start tries k = omega arith
@@ -108,7 +101,7 @@ module _ (timeout : ℕ) (retry : Bool) (n : ℕ) (small : n < 70) (past : timeo
   -- a run from the start is bounded
   run-bounded : (polls : List (Moment × Reply)) (answers : List (ReplenishAnswer (Unit {0}))) (tries : ℕ) → Plays timeout retry polls answers tries → tries ≤ n + 2
   run-bounded polls answers tries r =
-      let most = kept-bounded r.0.latest r.0.stage (0 + tries) (keeps-run first_task polls answers tries r.0 0 refl r.1) in
+      let most = kept-bounded r.0.latest r.0.stage (0 + tries) (run-keeps timeout retry Keeps keeps-move first_task polls answers tries r.0 0 refl r.1) in
       omega arith
 
 -- the bound on the openings of every run
@@ -139,19 +132,6 @@ module _ (timeout : ℕ) (retry : Bool) (off : retry ≡ false) where
   one-move reply m (Sleeping t due) begun s tries k h = absurd k
   one-move reply m Done begun s tries k h = subst (λ (x : Standing). KeepsOne x (tries + begun)) (sym h.1) (omega arith)
 
-  -- a run keeps it
-  one-run : (t : Task) (polls : List (Moment × Reply)) (answers : List (ReplenishAnswer (Unit {0}))) (tries : ℕ) (t' : Task) (before : ℕ)
-      → KeepsOne t.stage before → Runs timeout retry t polls answers tries t' → KeepsOne t'.stage (before + tries)
-  one-run t [] [] tries t' before k r =
-      let none : before ≡ before + tries = omega arith in
-      subst (λ (x : ℕ). KeepsOne t'.stage x) none (subst (λ (x : Task). KeepsOne x.stage before) (sym r.1) k)
-  one-run t [] (a ∷ answers) tries t' before k r = absurd r
-  one-run t (p ∷ polls) [] tries t' before k r = absurd r
-  one-run t (p ∷ polls) (a ∷ answers) tries t' before k r =
-      let move = moved timeout retry p t r.0 a r.1 r.3 in
-      let all : before + r.0 + r.2 ≡ before + tries = omega arith in
-      subst (λ (x : ℕ). KeepsOne t'.stage x) all (one-run r.1 polls answers r.2 t' (before + r.0) (one-move p.1 r.1.latest t.stage r.0 r.1.stage before k move.1) r.4)
-
   -- what is kept is one at most
   kept-one : (s : Standing) (tries : ℕ) → KeepsOne s tries → tries ≤ 1
   kept-one Start tries k = omega arith
@@ -163,7 +143,8 @@ module _ (timeout : ℕ) (retry : Bool) (off : retry ≡ false) where
   -- with no retry a run begins one opening at most
   pub at_most_one : (polls : List (Moment × Reply)) (answers : List (ReplenishAnswer (Unit {0}))) (tries : ℕ) → Plays timeout retry polls answers tries → tries ≤ 1
   at_most_one polls answers tries r =
-      let most = kept-one r.0.stage (0 + tries) (one-run first_task polls answers tries r.0 0 refl r.1) in
+      let most = kept-one r.0.stage (0 + tries)
+      (run-keeps timeout retry (λ m s k. KeepsOne s k) (λ reply latest m stage begun s tries le k h. one-move reply m stage begun s tries k h) first_task polls answers tries r.0 0 refl r.1) in
       omega arith
 
 module _ (timeout : ℕ) (retry : Bool) where

@@ -1,17 +1,7 @@
 -- Lists of polls that reach the bound.
-use Rattle.std.proofs.Common.{◌≡◌, ℕ, suc, ◌+◌, ◌*◌, ◌/◌, ◌^◌, ◌<◌, ◌≤◌, min, Bool, true, Option, Some, None, List, [], ◌∷◌, inl, inr, subst, sym, ap, refl, ◌∙◌, arith}
-use Rattle.std.proofs.lemmas.Bool.{cases_lt}
-use Rattle.bb8_types.specs.declared.api.moments.Moment.{Moment}
+use Rattle.bb8_tasks.proofs.Words.{◌≡◌, ℕ, suc, ◌+◌, ◌*◌, ◌/◌, ◌^◌, ◌<◌, ◌≤◌, min, Bool, true, Option, Some, None, List, [], ◌∷◌, inl, inr, subst, sym, ap, refl, ◌∙◌, arith, cases_lt, Moment, wait, waits, Reply, ReplenishAnswer, Sleeping, Done, Tries, IsFrom, NeverFalls, EachFails, IsPolledAt, IsDriven, IsReached, Task, first_task, Polled, Runs, Plays, IsDue, failed_once_more}
 use Rattle.bb8_types.specs.Bounds.{last_moment}
-use Rattle.bb8_ledger.specs.Waits.{wait, waits}
-use Rattle.bb8_tasks.specs.declared.backoff.Reply.{Reply}
 use Rattle.bb8_tasks.specs.declared.backoff.Reply.TheVariants as replies
-use Rattle.bb8_tasks.specs.declared.replenish.ReplenishAnswer.{ReplenishAnswer}
-use Rattle.bb8_tasks.specs.declared.replenish.Stage.TheVariants.{Sleeping, Done}
-use Rattle.bb8_tasks.specs.declared.replenish.Tries.{Tries}
-use Rattle.bb8_tasks.specs.Bounded.{IsFrom, NeverFalls, EachFails, IsPolledAt, IsDriven, IsReached}
-use Rattle.bb8_tasks.specs.Played.{Task, first_task, Polled, Runs, Plays}
-use Rattle.bb8_tasks.specs.Replenishing.{IsDue, failed_once_more}
 use Rattle.bb8_tasks.proofs.Moving.{Standing, Leads, Led, moved}
 use Rattle.bb8_tasks.proofs.Waiting.{waits-more, waits-mono, waits-below, at_most, past_most, most-below}
 

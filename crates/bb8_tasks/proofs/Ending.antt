@@ -1,22 +1,9 @@
 -- A task that does not go on has ended.
-use Rattle.std.proofs.Common.{◌≡◌, ℕ, ◌-◌, ◌<◌, Bool, true, false, Option, Some, None, Result, Ok, Err, ◌⊎◌, inl, inr, refl, sym, ap, subst}
-use Rattle.std.proofs.lemmas.Bool.{cases_lt}
-use Rattle.futures.specs.declared.task.Poll.{Poll}
+use Rattle.bb8_tasks.proofs.Words.{◌≡◌, ℕ, ◌-◌, ◌<◌, Bool, true, false, Option, Some, None, Result, Ok, Err, ◌⊎◌, inl, inr, refl, sym, ap, subst, cases_lt, Poll, Moment, Key, OpenedStep, Next, Replenish, ReplenishAnswer, Pending, Retrying, Failed, Entered, Late, GivenBack, Stage, Start, Connecting, Acquiring, Sleeping, Done, Tries, TaskFails, AfterOpened, AfterTaskAcquire, AfterTaskConnect, TaskBegins, Wakes, TaskAdvances, TaskProceeds, TaskPolls}
 use Rattle.futures.specs.declared.task.Poll.TheVariants as poll
-use Rattle.bb8_types.specs.declared.api.moments.Moment.{Moment}
-use Rattle.bb8_tables.specs.declared.keys.Key.{Key}
 use Rattle.bb8_tasks.specs.declared.home.Home.{Ghosts as HomeOf}
-use Rattle.bb8_tasks.specs.declared.home.OpenedStep.{OpenedStep}
 use Rattle.bb8_tasks.specs.declared.home.OpenedStep.TheVariants as opened
 use Rattle.bb8_tasks.specs.declared.opener.Opener.{Ghosts as OpenerOf}
-use Rattle.bb8_tasks.specs.declared.replenish.Next.{Next}
-use Rattle.bb8_tasks.specs.declared.replenish.Replenish.{Replenish}
-use Rattle.bb8_tasks.specs.declared.replenish.ReplenishAnswer.{ReplenishAnswer}
-use Rattle.bb8_tasks.specs.declared.replenish.ReplenishAnswer.TheVariants.{Pending, Retrying, Failed, Entered, Late, GivenBack}
-use Rattle.bb8_tasks.specs.declared.replenish.Stage.{Stage}
-use Rattle.bb8_tasks.specs.declared.replenish.Stage.TheVariants.{Start, Connecting, Acquiring, Sleeping, Done}
-use Rattle.bb8_tasks.specs.declared.replenish.Tries.{Tries}
-use Rattle.bb8_tasks.specs.Replenishing.{TaskFails, AfterOpened, AfterTaskAcquire, AfterTaskConnect, TaskBegins, Wakes, TaskAdvances, TaskProceeds, TaskPolls}
 
 module _ {C V A E : Type 0} where
   -- where an answer leaves a task

@@ -1,23 +1,9 @@
 -- One poll of a replay in plain words: where it leaves the task, and how many openings it begins.
-use Rattle.std.proofs.Common.{◌≡◌, ℕ, ◌-◌, ◌<◌, ◌≤◌, max, Bool, true, false, Option, Some, None, Result, Ok, ◌⊎◌, subst, ap, sym, ◌∙◌, refl, inl, inr, arith}
-use Rattle.std.proofs.lemmas.Bool.{cases_lt}
-use Rattle.futures.specs.declared.task.Poll.{Poll}
+use Rattle.bb8_tasks.proofs.Words.{◌≡◌, ℕ, ◌-◌, ◌<◌, ◌≤◌, max, Bool, true, false, Option, Some, None, Result, Ok, ◌⊎◌, subst, ap, sym, ◌∙◌, refl, inl, inr, arith, cases_lt, Poll, Moment, Key, wait, Reply, OpenedStep, Next, ReplenishAnswer, Stage, Start, Connecting, Acquiring, Sleeping, Done, Tries, told, begun, scripted, steady, Task, Polled, IsDue, failed_once_more, AfterOpened, AfterTaskAcquire, AfterTaskConnect, Enters, TaskConnects, TaskBegins, TaskProceeds}
 use Rattle.futures.specs.declared.task.Poll.TheVariants.{Ready}
-use Rattle.bb8_types.specs.declared.api.moments.Moment.{Moment}
-use Rattle.bb8_tables.specs.declared.keys.Key.{Key}
-use Rattle.bb8_ledger.specs.Waits.{wait}
 use Rattle.bb8_core.specs.declared.answers.Looked.{Looked}
-use Rattle.bb8_tasks.specs.declared.backoff.Reply.{Reply}
 use Rattle.bb8_tasks.specs.declared.backoff.Reply.TheVariants as replies
 use Rattle.bb8_tasks.specs.declared.backoff.Scripted.{Scripted}
-use Rattle.bb8_tasks.specs.declared.home.OpenedStep.{OpenedStep}
-use Rattle.bb8_tasks.specs.declared.replenish.Next.{Next}
-use Rattle.bb8_tasks.specs.declared.replenish.ReplenishAnswer.{ReplenishAnswer}
-use Rattle.bb8_tasks.specs.declared.replenish.Stage.{Stage}
-use Rattle.bb8_tasks.specs.declared.replenish.Stage.TheVariants.{Start, Connecting, Acquiring, Sleeping, Done}
-use Rattle.bb8_tasks.specs.declared.replenish.Tries.{Tries}
-use Rattle.bb8_tasks.specs.Played.{told, begun, scripted, steady, Task, Polled}
-use Rattle.bb8_tasks.specs.Replenishing.{IsDue, failed_once_more, AfterOpened, AfterTaskAcquire, AfterTaskConnect, Enters, TaskConnects, TaskBegins, TaskProceeds}
 
 -- where such a task stands
 abbrev pub Standing : Type 0

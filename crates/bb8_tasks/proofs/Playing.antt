@@ -1,9 +1,5 @@
 -- Runs of polls, one after another.
-use Rattle.std.proofs.Common.{◌≡◌, ℕ, suc, ◌+◌, Bool, List, [], ◌∷◌, ◌++◌, length, subst, ap, refl, arith}
-use Rattle.bb8_types.specs.declared.api.moments.Moment.{Moment}
-use Rattle.bb8_tasks.specs.declared.backoff.Reply.{Reply}
-use Rattle.bb8_tasks.specs.declared.replenish.ReplenishAnswer.{ReplenishAnswer}
-use Rattle.bb8_tasks.specs.Played.{Task, Polled, Runs}
+use Rattle.bb8_tasks.proofs.Words.{◌≡◌, ℕ, suc, ◌+◌, Bool, List, [], ◌∷◌, ◌++◌, length, subst, ap, refl, arith, Moment, Reply, ReplenishAnswer, Task, Polled, Runs}
 
 module _ (timeout : ℕ) (retry : Bool) where
   -- a run with one more poll

@@ -1,9 +1,5 @@
 -- A round that goes on after each failure polls each task once.
-use Rattle.std.proofs.Common.{◌≡◌, Option, None, List, [], ◌∷◌, refl, subst}
-use Rattle.bb8_tasks.specs.declared.replenish.ReplenishAnswer.{ReplenishAnswer}
-use Rattle.bb8_tasks.specs.declared.replenish.ReplenishAnswer.TheVariants.{Pending, Retrying, Failed, Entered, Late, GivenBack}
-use Rattle.bb8_tasks.specs.declared.rounds.OnFailure.TheVariants.{GoOn}
-use Rattle.bb8_tasks.specs.Sweeping.{After, Rest, PollsUntil}
+use Rattle.bb8_tasks.proofs.Words.{◌≡◌, Option, None, List, [], ◌∷◌, refl, subst, ReplenishAnswer, Pending, Retrying, Failed, Entered, Late, GivenBack, GoOn, After, Rest, PollsUntil}
 use Rattle.bb8_tasks.specs.Rounds.{kept, Reports, PollsEach}
 
 module _ {T E X : Type 0} (polls : T → X → ReplenishAnswer E → T → X → Type 0) (sinks : X → E → X → Type 0) where

@@ -1,11 +1,6 @@
 -- A round over a queue, turn by turn.
-use Rattle.std.proofs.Common.{◌≡◌, ℕ, ◌+◌, ◌-◌, ◌<◌, Option, Some, None, List, [], ◌∷◌, ◌++◌, length, refl, sym, ◌∙◌, subst, arith, append_assoc}
-use Rattle.std.proofs.lemmas.List.{append-nil}
-use Rattle.bb8_tasks.specs.declared.replenish.ReplenishAnswer.{ReplenishAnswer}
-use Rattle.bb8_tasks.specs.declared.replenish.ReplenishAnswer.TheVariants.{Pending, Retrying, Failed, Entered, Late, GivenBack}
+use Rattle.bb8_tasks.proofs.Words.{◌≡◌, ℕ, ◌+◌, ◌-◌, ◌<◌, Option, Some, None, List, [], ◌∷◌, ◌++◌, length, refl, sym, ◌∙◌, subst, arith, append_assoc, append-nil, ReplenishAnswer, Pending, Retrying, Failed, Entered, Late, GivenBack, GoOn, After, Rest, PollsUntil, QueueTurns, RoundMidway}
 use Rattle.bb8_tasks.specs.declared.rounds.OnFailure.{OnFailure}
-use Rattle.bb8_tasks.specs.declared.rounds.OnFailure.TheVariants.{GoOn}
-use Rattle.bb8_tasks.specs.Sweeping.{After, Rest, PollsUntil, QueueTurns, RoundMidway}
 
 module _ {T E X : Type 0} (polls : T → X → ReplenishAnswer E → T → X → Type 0) (sinks : X → E → X → Type 0) (on : OnFailure) where
   -- what still has to be shown of the tasks behind

@@ -1,8 +1,5 @@
 -- The waits of the back-off, as plain numbers.
-use Rattle.std.proofs.Common.{◌≡◌, ℕ, zero, suc, ◌+◌, ◌-◌, ◌*◌, ◌/◌, ◌^◌, ◌<◌, ◌≤◌, inl, inr, lit<, subst, sym, ap, refl, add-one, arith}
-use Rattle.std.proofs.Math.Nat.{pow-le-pow_right, min-eq_left, one-le-pow}
-use Rattle.std.proofs.lemmas.Bool.{cases_lt}
-use Rattle.bb8_ledger.specs.Waits.{wait, waits, IsMostWaits}
+use Rattle.bb8_tasks.proofs.Words.{◌≡◌, ℕ, zero, suc, ◌+◌, ◌-◌, ◌*◌, ◌/◌, ◌^◌, ◌<◌, ◌≤◌, inl, inr, lit<, subst, sym, ap, refl, add-one, arith, pow-le-pow_right, min-eq_left, one-le-pow, cases_lt, wait, waits, IsMostWaits}
 
 -- from the 66th failure on the wait is half the timeout
 pub wait-long : (t k : ℕ) → t < 2 ^ 64 * 1_000_000_000 → 66 ≤ k → wait t k ≡ t / 2

@@ -16,7 +16,7 @@ const THREADS: usize = 4;
 fn main(rt: HostRuntime) -> io::Result<ExitCode> {
     let outcome = Builder::new()
         .max_size(2)
-        .serve(Manager, MachineClock(rt), rt, THREADS, &Asking { rt });
+        .serve(Manager, MachineClock(rt), rt, THREADS, &Asking);
     match outcome {
         Ok(answered) => {
             println!(rt; "{answered} questions answered")?;

@@ -1,7 +1,6 @@
 //! What the program does with its pool.
 use crate::manager::{Connection, Manager};
 use bb8::{MachineClock, NopCustomizer, NopErrorSink, Pool, PoolCalls, PoolParts, Service};
-use futures::executor::block_on;
 use std::random::RandomSource;
 use std::sync::Wait;
 use std::time::Clock;
@@ -14,10 +13,7 @@ type ManagedPool<R, L> = Pool<Manager, NopErrorSink, NopCustomizer, MachineClock
 
 /// Threads that ask by the connections of one pool.
 #[derive(Drop)]
-pub struct Asking<R> {
-    /// What a thread waits by.
-    pub rt: R,
-}
+pub struct Asking;
 
 impl<R: Wait + Clock + RandomSource + AllocGlobal + Copy + Send + Sync + Drop + 'static> Service<
     Manager,
@@ -25,7 +21,7 @@ impl<R: Wait + Clock + RandomSource + AllocGlobal + Copy + Send + Sync + Drop + 
     NopCustomizer,
     MachineClock<R>,
     R,
-> for Asking<R> {
+> for Asking {
     /// How many questions of a thread were answered.
     type Told = u64;
 
@@ -41,7 +37,7 @@ impl<R: Wait + Clock + RandomSource + AllocGlobal + Copy + Send + Sync + Drop + 
     fn run<L: PoolParts>(&self, pool: &ManagedPool<R, L>, _thread: usize) -> u64 {
         let mut answered: u64 = 0;
         for _ in 0..ROUNDS {
-            let Ok(Ok(mut connection)) = block_on(&self.rt, PoolCalls::get(pool)) else {
+            let Ok(mut connection) = PoolCalls::get_blocking(pool) else {
                 continue;
             };
             if connection.ask().is_ok() {

@@ -19,31 +19,19 @@ module _ {C : Type 0} where
 
   pub unclaimed_is : (p : Place C) → is_unclaimed p ≡ true → p ≡ Unclaimed
   unclaimed_is Unclaimed h = refl
-  unclaimed_is Claimed h = cc
-  unclaimed_is (Idle c) h = cc
-  unclaimed_is (Held g) h = cc
-  unclaimed_is Guarded h = cc
+  unclaimed_is _ h = cc
 
   pub claimed_is : (p : Place C) → is_claimed p ≡ true → p ≡ Claimed
-  claimed_is Unclaimed h = cc
   claimed_is Claimed h = refl
-  claimed_is (Idle c) h = cc
-  claimed_is (Held g) h = cc
-  claimed_is Guarded h = cc
+  claimed_is _ h = cc
 
   pub idle_is : (p : Place C) → is_idle p ≡ true → (c : C) × (p ≡ Idle c)
-  idle_is Unclaimed h = cc
-  idle_is Claimed h = cc
   idle_is (Idle c) h = (c, refl)
-  idle_is (Held g) h = cc
-  idle_is Guarded h = cc
+  idle_is _ h = cc
 
   pub guarded_is : (p : Place C) → is_guarded p ≡ true → p ≡ Guarded
-  guarded_is Unclaimed h = cc
-  guarded_is Claimed h = cc
-  guarded_is (Idle c) h = cc
-  guarded_is (Held g) h = cc
   guarded_is Guarded h = refl
+  guarded_is _ h = cc
 
   -- what a guard holds is out
   pub guarded_out : (p : Place C) → is_guarded p ≡ true → is_out p ≡ true
@@ -51,11 +39,9 @@ module _ {C : Type 0} where
 
   -- a connection that is out, by its tests
   out_tests : (p : Place C) → is_out p ≡ true → (is_idle p ≡ false) × (is_unclaimed p ≡ false) × (is_conn p ≡ true)
-  out_tests Unclaimed h = cc
-  out_tests Claimed h = cc
-  out_tests (Idle c) h = cc
   out_tests (Held g) h = (refl, refl, refl)
   out_tests Guarded h = (refl, refl, refl)
+  out_tests _ h = cc
 
   -- a connection that somebody holds is out
   pub held_conn : (p : Place C) (h : Holder) → p ≡ place_with h → is_conn p ≡ true

@@ -6,7 +6,7 @@ use Rattle.bb8_types.specs.declared.standing.Standing.{Standing}
 use Rattle.bb8_types.specs.declared.standing.Holder.{Holder}
 use Rattle.bb8_types.specs.declared.standing.Holder.TheVariants.{Guard, Get}
 use Rattle.bb8_types.specs.declared.standing.GetPlace.{GetPlace}
-use Rattle.bb8_types.specs.declared.standing.GetPlace.TheVariants.{Active, Waiting, Holding}
+use Rattle.bb8_types.specs.declared.standing.GetPlace.TheVariants.{Waiting, Holding}
 use Rattle.bb8_types.specs.declared.standing.Getting.{Getting}
 use Rattle.bb8_types.specs.declared.api.configuration.QueueStrategy.{QueueStrategy}
 use Rattle.bb8_types.specs.declared.api.configuration.QueueStrategy.TheVariants.{Fifo, Lifo}
@@ -18,49 +18,32 @@ use Rattle.bb8_types.specs.Settings.{Settings}
 abbrev pub is_conn : {C : Type 0} → Place C → Bool
 is_conn Unclaimed = false
 is_conn Claimed = false
-is_conn (Idle c) = true
-is_conn (Held g) = true
-is_conn Guarded = true
+is_conn _ = true
 
 -- an approval that nobody claimed
 abbrev pub is_unclaimed : {C : Type 0} → Place C → Bool
 is_unclaimed Unclaimed = true
-is_unclaimed Claimed = false
-is_unclaimed (Idle c) = false
-is_unclaimed (Held g) = false
-is_unclaimed Guarded = false
+is_unclaimed _ = false
 
 -- an approval that was claimed
 abbrev pub is_claimed : {C : Type 0} → Place C → Bool
-is_claimed Unclaimed = false
 is_claimed Claimed = true
-is_claimed (Idle c) = false
-is_claimed (Held g) = false
-is_claimed Guarded = false
+is_claimed _ = false
 
 -- a connection that nobody holds
 abbrev pub is_idle : {C : Type 0} → Place C → Bool
-is_idle Unclaimed = false
-is_idle Claimed = false
 is_idle (Idle c) = true
-is_idle (Held g) = false
-is_idle Guarded = false
+is_idle _ = false
 
 -- held by a guard
 abbrev pub is_guarded : {C : Type 0} → Place C → Bool
-is_guarded Unclaimed = false
-is_guarded Claimed = false
-is_guarded (Idle c) = false
-is_guarded (Held g) = false
 is_guarded Guarded = true
+is_guarded _ = false
 
 -- held by the get g
 abbrev pub is_held_by : {C : Type 0} → ℕ → Place C → Bool
-is_held_by g Unclaimed = false
-is_held_by g Claimed = false
-is_held_by g (Idle c) = false
 is_held_by g (Held h) = eqb g h
-is_held_by g Guarded = false
+is_held_by g _ = false
 
 -- an open approval
 abbrev pub is_approval : {C : Type 0} → Place C → Bool
@@ -68,11 +51,9 @@ is_approval p = not (is_conn p)
 
 -- a connection that a get or a guard holds
 abbrev pub is_out : {C : Type 0} → Place C → Bool
-is_out Unclaimed = false
-is_out Claimed = false
-is_out (Idle c) = false
 is_out (Held g) = true
 is_out Guarded = true
+is_out _ = false
 
 -- where a connection stands that somebody holds
 abbrev pub place_with : {C : Type 0} → Holder → Place C
@@ -92,21 +73,18 @@ stands test (Some s) = test s.place
 
 -- it waits and was not notified
 abbrev pub is_unnotified : GetPlace → Bool
-is_unnotified Active = false
 is_unnotified (Waiting notified) = not notified
-is_unnotified (Holding k) = false
+is_unnotified _ = false
 
 -- it waits and was notified
 abbrev pub is_notified : GetPlace → Bool
-is_notified Active = false
 is_notified (Waiting notified) = notified
-is_notified (Holding k) = false
+is_notified _ = false
 
 -- the connection that it holds
 abbrev pub held_in : GetPlace → Option ℕ
-held_in Active = None
-held_in (Waiting notified) = None
 held_in (Holding k) = Some k
+held_in _ = None
 
 -- whether a get stands in a place that passes a test
 abbrev pub gets_stand : (GetPlace → Bool) → Option Getting → Bool
@@ -125,9 +103,8 @@ first_wait_of (Some g) = g.first_wait
 
 -- a get that may try
 abbrev pub is_trying : GetPlace → Bool
-is_trying Active = true
-is_trying (Waiting notified) = true
 is_trying (Holding k) = false
+is_trying _ = true
 
 -- ---- time
 

@@ -4,9 +4,8 @@ mod calls;
 mod refusals;
 mod turns;
 
-use crate::trial::Count;
+use crate::trial::{Count, Tools};
 use bb8::{Moment, RunError};
-use bb8_trials::Tools;
 use slots::{Outcome, RunnerCalls};
 
 /// A turn of a runner at a moment: how many jobs ended.

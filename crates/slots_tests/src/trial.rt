@@ -4,9 +4,10 @@ ghost use Rattle.bb8.specs.Parts.{IsBlankOf};
 ghost use Rattle.bb8.specs.Settings.{is_lawful};
 
 use bb8::{
-    Builder, Config, Memory, Moment, NopCustomizer, NopErrorSink, Pool, PoolParts, SetClock,
+    Builder, Config, Memory, Moment, NopCustomizer, NopErrorSink, Pool, PoolParts, Runtime,
+    SetClock,
 };
-use bb8_trials::{Handle, Runtime, Tools};
+use bb8_trials::Handle;
 use futures::task::Poll;
 use futures::test::MockTask;
 use slots::{Job, Outcome, Runner, RunnerCalls, SlotManager};
@@ -41,6 +42,13 @@ impl Job for Count {
             Poll::Pending
         }
     }
+}
+
+/// The clock of a trial's pool, and a task that polls.
+#[derive(Drop)]
+pub struct Tools {
+    pub clock: SetClock,
+    pub task: MockTask,
 }
 
 /// The builder of a pool of slots.

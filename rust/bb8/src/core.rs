@@ -58,10 +58,13 @@ pub(crate) mod kinds {
     pub(crate) const CLOSED: u32 = 8;
     pub(crate) const CLAIMED: u32 = 10;
     pub(crate) const ENTERED: u32 = 13;
+    pub(crate) const LATE: u32 = 14;
     pub(crate) const ADDED: u32 = 16;
     pub(crate) const BROKEN: u32 = 17;
     pub(crate) const NO_CAPACITY: u32 = 18;
+    #[cfg(test)]
     pub(crate) const REAPED: u32 = 20;
+    pub(crate) const TOLD_CLOSED: u32 = 24;
 }
 
 /// What a core holds to. Spans are nanoseconds, and 0 is no limit.
@@ -153,7 +156,7 @@ mod exported {
         pub(super) fn bb8_leave(core: *mut Handle, at: u64) -> Told;
         pub(super) fn bb8_look(core: *mut Handle, at: u64) -> Looked;
         pub(super) fn bb8_state(core: *mut Handle, at: u64) -> Figures;
-        pub(super) fn bb8_knows(core: *mut Handle, number: u64) -> bool;
+        pub(super) fn bb8_closed_next(core: *mut Handle) -> Told;
     }
 }
 
@@ -226,16 +229,17 @@ impl Core {
         failed = bb8_failed(at: u64, approval: Name) -> Told;
         /// A connection is added.
         add = bb8_add(at: u64, conn: u64, broken: bool) -> Told;
-        /// Closes what is too old, or idle too long.
+        /// Closes what is too old, or idle too long; nothing where memory to list it was refused.
         reap = bb8_reap(at: u64) -> Told;
-        /// The last handle of the pool goes.
+        /// The last handle of the pool goes, and what is idle is closed; nothing changes where memory
+        /// to list it was refused.
         leave = bb8_leave(at: u64) -> Told;
         /// The moment, and whether a handle is alive.
         look = bb8_look(at: u64) -> Looked;
         /// What the pool tells of itself.
         state = bb8_state(at: u64) -> Figures;
-        /// Whether a connection of that number has not ended.
-        knows = bb8_knows(number: u64) -> bool;
+        /// Tells what a reap or the last leave closed first, of what was not told yet.
+        closed_next = bb8_closed_next() -> Told;
     }
 }
 

@@ -110,7 +110,11 @@ impl<'a, M: ManageConnection> Getting<'a, M> {
             self.stage = Stage::Begun;
             told
         } else {
-            let at = self.shared.now();
+            // Where a check follows, the moment of its end tells how long the get has waited.
+            let at = match self.shared.settings.test_on_check_out {
+                true => 0,
+                false => self.shared.now(),
+            };
             locked = self.shared.lock();
             locked.core.try_get(at, self.get)
         };
@@ -213,17 +217,7 @@ impl<'a, M: ManageConnection> Getting<'a, M> {
             locked
                 .core
                 .give_up_held(at, self.get, timed_out, place as u64, broken, key.place);
-        match conn {
-            Some(conn) if told.kind == kinds::KEPT => {
-                locked.shelf.put(place, key.number, conn);
-                self.shared.settle(locked, &told, None);
-            }
-            conn => {
-                debug_assert_eq!(told.kind, kinds::CLOSED);
-                locked.shelf.free(place);
-                self.shared.settle(locked, &told, conn);
-            }
-        }
+        self.shared.shelve(locked, &told, place, conn);
     }
 }
 

@@ -7,7 +7,9 @@ use std::sync as implementation;
 
 pub(crate) use implementation::MutexGuard;
 
-/// A lock that knows no poison: what it holds is whole after each step.
+/// A lock that knows no poison: what it holds is whole after each step. What lies beside it is read
+/// without it, and so is in no line of the processor's memory that it is in.
+#[repr(align(128))]
 pub(crate) struct Mutex<T>(implementation::Mutex<T>);
 
 impl<T> Mutex<T> {

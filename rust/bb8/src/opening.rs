@@ -88,14 +88,7 @@ impl<M: ManageConnection> Opening<M> {
         let at = self.shared.now();
         let mut locked = self.shared.lock();
         let told = locked.core.opened(at, self.approval, self.place as u64);
-        let mut late = None;
-        if told.kind == kinds::ENTERED {
-            locked.shelf.put(self.place, self.approval.number, conn);
-        } else {
-            locked.shelf.free(self.place);
-            late = Some(conn);
-        }
-        self.shared.settle(locked, &told, late);
+        self.shared.shelve(locked, &told, self.place, Some(conn));
     }
 
     fn give_back(&mut self) {

@@ -53,6 +53,18 @@ impl<C> Locked<C> {
         }
     }
 
+    /// Takes the connection off the shelf that a reap or the last leave closed first, of those that
+    /// are left.
+    fn take_closed(&mut self) -> Option<C> {
+        let told = self.core.closed_next();
+        if told.kind != kinds::TOLD_CLOSED {
+            return None;
+        }
+        let conn = self.shelf.take(told.shelved());
+        self.shelf.free(told.shelved());
+        Some(conn)
+    }
+
     /// Whether connections are to be opened after a step.
     #[inline]
     pub(crate) fn is_due(&self, told: &Told) -> bool {
@@ -129,6 +141,30 @@ impl<M: ManageConnection> Shared<M> {
         }
     }
 
+    /// The same after a step to which a connection was handed in, if it is not closed already: at its
+    /// place it is idle, or the place is free and it is dropped.
+    #[inline(always)]
+    pub(crate) fn shelve(
+        self: &Arc<Self>,
+        mut locked: MutexGuard<'_, Locked<M::Connection>>,
+        told: &Told,
+        place: usize,
+        conn: Option<M::Connection>,
+    ) {
+        let closed = match conn {
+            Some(conn) if matches!(told.kind, kinds::KEPT | kinds::ENTERED) => {
+                locked.shelf.put(place, conn);
+                None
+            }
+            conn => {
+                debug_assert!(matches!(told.kind, kinds::CLOSED | kinds::LATE));
+                locked.shelf.free(place);
+                conn
+            }
+        };
+        self.settle(locked, told, closed);
+    }
+
     /// Has connections opened for all approvals that are unclaimed, each by a task of its own.
     #[cold]
     pub(crate) fn open(self: &Arc<Self>) {
@@ -142,21 +178,10 @@ impl<M: ManageConnection> Shared<M> {
         }
     }
 
-    /// Drops so many connections of which the test says that they have ended, one by one and outside
-    /// the lock: a connection may take time to close, and its drop may call the pool.
-    fn drop_ended(&self, count: u64, has_ended: impl Fn(&mut Core, u64) -> bool) {
-        let mut from = 0;
-        for _ in 0..count {
-            let mut locked = self.lock();
-            let Locked { core, shelf, .. } = &mut *locked;
-            let ended = shelf.take_ended(from, |number| has_ended(core, number));
-            let Some((conn, next)) = ended else {
-                return;
-            };
-            drop(locked);
-            drop(conn);
-            from = next;
-        }
+    /// Drops the connections that a reap or the last leave closed, one by one and outside the lock: a
+    /// connection may take time to close, and its drop may call the pool.
+    fn drop_closed(&self) {
+        std::iter::from_fn(|| self.lock().take_closed()).for_each(drop);
     }
 }
 
@@ -166,7 +191,8 @@ pub(crate) fn nanoseconds(span: Duration) -> u64 {
 }
 
 /// The one handle that the core counts; all handles of the pool share it. Once the last of them is
-/// gone, the core is left, and the idle connections are closed.
+/// gone, the core is left, and the idle connections are closed. Where memory to list them is refused,
+/// they are closed with the last opening that is under way.
 struct Owner<M: ManageConnection> {
     shared: Arc<Shared<M>>,
 }
@@ -174,9 +200,8 @@ struct Owner<M: ManageConnection> {
 impl<M: ManageConnection> Drop for Owner<M> {
     fn drop(&mut self) {
         let at = self.shared.now();
-        let told = self.shared.lock().core.leave(at);
-        // All that was idle has ended, so none is asked for.
-        self.shared.drop_ended(told.key.number, |_, _| true);
+        self.shared.lock().core.leave(at);
+        self.shared.drop_closed();
     }
 }
 
@@ -311,17 +336,7 @@ impl<M: ManageConnection> PoolInner<M> {
         let at = shared.age_now();
         let mut locked = shared.lock();
         let told = locked.core.put_back(at, key, place as u64, broken);
-        match conn {
-            Some(conn) if told.kind == kinds::KEPT => {
-                locked.shelf.put(place, key.number, conn);
-                shared.settle(locked, &told, None);
-            }
-            conn => {
-                debug_assert_eq!(told.kind, kinds::CLOSED);
-                locked.shelf.free(place);
-                shared.settle(locked, &told, conn);
-            }
-        }
+        shared.shelve(locked, &told, place, conn);
     }
 
     pub(crate) fn add(&self, mut conn: M::Connection) -> Result<(), AddError<M::Connection>> {
@@ -337,7 +352,7 @@ impl<M: ManageConnection> PoolInner<M> {
         };
         let told = locked.core.add(at, place as u64, broken);
         if told.kind == kinds::ADDED {
-            locked.shelf.put(place, told.key.number, conn);
+            locked.shelf.put(place, conn);
             shared.settle(locked, &told, None);
             return Ok(());
         }
@@ -356,6 +371,7 @@ impl<M: ManageConnection> PoolInner<M> {
         State::from(figures)
     }
 
+    /// Where memory to list what is closed is refused, the next reap closes it.
     pub(crate) fn reap(&self) {
         let shared = self.shared();
         let at = shared.now();
@@ -363,9 +379,7 @@ impl<M: ManageConnection> PoolInner<M> {
         let told = locked.core.reap(at);
         let due = locked.is_due(&told);
         drop(locked);
-        if told.kind == kinds::REAPED {
-            shared.drop_ended(told.key.number, |core, number| !core.knows(number));
-        }
+        shared.drop_closed();
         if due {
             shared.open();
         }

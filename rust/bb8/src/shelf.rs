@@ -11,8 +11,8 @@ enum Place<C> {
     Free(Option<usize>),
     /// An opening, or a connection that is out.
     Kept,
-    /// An idle connection, and its number.
-    Idle(u64, C),
+    /// An idle connection.
+    Idle(C),
 }
 
 /// The places of the connections of one pool.
@@ -43,16 +43,16 @@ impl<C> Shelf<C> {
         Some(place)
     }
 
-    /// Puts the connection of that number at a place that was kept.
-    pub(crate) fn put(&mut self, place: usize, number: u64, conn: C) {
+    /// Puts a connection at a place that was kept.
+    pub(crate) fn put(&mut self, place: usize, conn: C) {
         debug_assert!(matches!(self.places[place], Place::Kept));
-        self.places[place] = Place::Idle(number, conn);
+        self.places[place] = Place::Idle(conn);
     }
 
     /// Takes the connection from its place, which is kept.
     pub(crate) fn take(&mut self, place: usize) -> C {
         match mem::replace(&mut self.places[place], Place::Kept) {
-            Place::Idle(_, conn) => conn,
+            Place::Idle(conn) => conn,
             _ => unreachable!("the core hands out what is idle"),
         }
     }
@@ -62,22 +62,5 @@ impl<C> Shelf<C> {
         debug_assert!(matches!(self.places[place], Place::Kept));
         self.places[place] = Place::Free(self.free);
         self.free = Some(place);
-    }
-
-    /// Takes the first connection, from a place on, of which the test says that it has ended, and
-    /// frees its place; and the place after it.
-    pub(crate) fn take_ended(
-        &mut self,
-        from: usize,
-        mut has_ended: impl FnMut(u64) -> bool,
-    ) -> Option<(C, usize)> {
-        for place in from..self.places.len() {
-            if matches!(self.places[place], Place::Idle(number, _) if has_ended(number)) {
-                let conn = self.take(place);
-                self.free(place);
-                return Some((conn, place + 1));
-            }
-        }
-        None
     }
 }

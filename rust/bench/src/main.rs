@@ -175,15 +175,26 @@ fn r2d2_four(size: u32, count: u64) -> f64 {
     start.elapsed().as_nanos() as f64 / (4 * count) as f64
 }
 
-fn line(name: &str, repetitions: usize, mut run: impl FnMut() -> f64) {
-    let mut all: Vec<f64> = (0..repetitions).map(|_| run()).collect();
+fn median(mut all: Vec<f64>) -> f64 {
     all.sort_by(f64::total_cmp);
-    println!(
-        "{name:<60} median {:>8.0} ns   least {:>8.0}   greatest {:>8.0}",
-        all[repetitions / 2],
-        all[0],
-        all[repetitions - 1]
-    );
+    all[all.len() / 2]
+}
+
+/// Runs all by turns, so that each meets the load that the others met, and prints the median of each,
+/// and that of what the first took as a part of it.
+fn rows(name: &str, repetitions: usize, runs: &[(&str, &dyn Fn() -> f64)]) {
+    let mut all = vec![Vec::new(); runs.len()];
+    for _ in 0..repetitions {
+        for (times, (_, run)) in all.iter_mut().zip(runs) {
+            times.push(run());
+        }
+    }
+    for ((whose, _), times) in runs.iter().zip(&all) {
+        let parts = all[0].iter().zip(times).map(|(first, one)| first / one);
+        let part = median(parts.collect());
+        let nanoseconds = median(times.clone());
+        println!("{name:<38} {whose:<8} {nanoseconds:>7.0} ns   ours takes {part:.2} of it");
+    }
 }
 
 fn main() {
@@ -206,31 +217,28 @@ fn main() {
     }
     let n = 200_000;
     for (name, check, limits) in [
-        ("check off, no limits", false, false),
-        ("check on, no limits", true, false),
-        ("check off, default limits", false, true),
+        ("one thread, check off, no limits", false, false),
+        ("one thread, check on, no limits", true, false),
+        ("one thread, check off, default limits", false, true),
     ] {
-        line(&format!("ours, one thread, {name}"), 9, || {
-            bb8::one(n, check, limits)
-        });
-        line(&format!("original, one thread, {name}"), 9, || {
-            original::one(n, check, limits)
-        });
+        let runs: [(&str, &dyn Fn() -> f64); 3] = [
+            ("ours", &|| bb8::one(n, check, limits)),
+            ("original", &|| original::one(n, check, limits)),
+            ("r2d2", &|| r2d2_one(n)),
+        ];
+        rows(name, 9, &runs[..if check || limits { 2 } else { 3 }]);
     }
-    line("r2d2, one thread", 9, || r2d2_one(n));
     for size in [4, 16] {
-        line(&format!("ours, 4 threads, pool of {size}"), 7, || {
-            bb8::four(size, 30_000)
-        });
-        line(&format!("original, 4 threads, pool of {size}"), 7, || {
-            original::four(size, 30_000)
-        });
-        line(&format!("r2d2, 4 threads, pool of {size}"), 7, || {
-            r2d2_four(size, 30_000)
-        });
+        let runs: [(&str, &dyn Fn() -> f64); 3] = [
+            ("ours", &|| bb8::four(size, 30_000)),
+            ("original", &|| original::four(size, 30_000)),
+            ("r2d2", &|| r2d2_four(size, 30_000)),
+        ];
+        rows(&format!("4 threads, pool of {size}"), 15, &runs);
     }
-    line("ours, 25,000 waiters on 3, each", 5, || bb8::crowd(25_000));
-    line("original, 25,000 waiters on 3, each", 5, || {
-        original::crowd(25_000)
-    });
+    let runs: [(&str, &dyn Fn() -> f64); 2] = [
+        ("ours", &|| bb8::crowd(25_000)),
+        ("original", &|| original::crowd(25_000)),
+    ];
+    rows("25,000 waiters on 3, each", 5, &runs);
 }

@@ -25,8 +25,8 @@ pub struct GetFuture<
     R: Locks,
     L: Parts,
 > {
-    shared: &'a Shared<M, S, Z, K, R, L>,
-    get: GetState<M::Connection, M::Checking, Part<L>>,
+    pub(crate) shared: &'a Shared<M, S, Z, K, R, L>,
+    pub(crate) get: GetState<M::Connection, M::Checking, Part<L>>,
 }
 
 impl<
@@ -85,35 +85,6 @@ impl<
     /// It answers `TimedOut` once `connection_timeout` has passed since the first poll, and `Memory` or `Exhausted` where the get could
     /// not begin.
     pub fn get(&self) -> GetFuture<'_, M, S, Z, K, R, L>
-        ensures new { stage_of result ≡ IsFresh }
-        ensures pool { IsOf result self.now }
-    {
-        self.start_get()
-    }
-}
-
-/// What `Pool::get` does, as a method of an impl, so that such methods can call it.
-pub(crate) trait StartGet {
-    type Get;
-
-    fn start_get(self) -> Self::Get;
-}
-
-impl<
-    'a,
-    M: ManageConnection,
-    S: ErrorSink<M::Error>,
-    Z: CustomizeConnection<M::Connection, M::Error>,
-    K: Clock,
-    R: Locks,
-    L: Parts,
-> StartGet for &'a Pool<M, S, Z, K, R, L> {
-    ghost use Rattle.bb8.specs.Pools.{stage_of, IsOf};
-    ghost use Rattle.bb8_gets.specs.declared.state.Stage.TheVariants.{Fresh as IsFresh};
-
-    type Get = GetFuture<'a, M, S, Z, K, R, L>;
-
-    fn start_get(self) -> GetFuture<'a, M, S, Z, K, R, L>
         ensures new { stage_of result ≡ IsFresh }
         ensures pool { IsOf result self.now }
     {

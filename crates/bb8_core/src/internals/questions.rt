@@ -1,11 +1,13 @@
-//! The questions that a state answers: whether an event fits, and where a number stands.
-ghost use Rattle.std.specs.Prelude.{◌≡◌, Bool, Option, is_some, IfSome, IfNone, true, false, None, Some};
+//! The questions that a state answers: whether an event fits, and where a number stands. They count in a count of their own, which is forgotten.
+ghost use Rattle.std.specs.Prelude.{◌≡◌, Bool, cond, eqb, [], length, Option, is_some, IfSome, IfNone, true, false, None, Some};
 ghost use Rattle.bb8_ledger.specs.Acts as acts;
 ghost use Rattle.bb8_ledger.specs.Ledger as ledger;
 ghost use Rattle.bb8_types.specs.Places as places;
 ghost use Rattle.bb8_core.specs.Shown.{Means, IsFitting, TellsFitting, TellsRecord, TellsGet, IsRecordIn, IsNoRecordIn, IsGetIn, IsNoGetIn};
 
 use super::{GetKey, Key, PoolInternals};
+use bb8_tables::gets::{held, is_trying};
+use bb8_types::standing::Getting;
 
 impl<C: Drop> PoolInternals<C> {
     /// Whether a get may begin: while a handle is alive.
@@ -32,21 +34,26 @@ impl<C: Drop> PoolInternals<C> {
         self.handles >= 1
     }
 
+    /// How the get stands, if it is alive.
+    fn getting(&self, get: GetKey) -> Option<Getting>
+        ensures { (l : ledger.Ledger C) → Means l self.now
+            → result ≡ ledger.get_of l get.number }
+    {
+        self.gets.getting(get, &mut self.asking.count())
+    }
+
     /// Whether the get may try.
     pub fn fits_try(&self, get: GetKey) -> bool
         ensures { TellsFitting self.now (acts.Try get.number) result }
     {
-        self.gets.is_trying(get)
+        is_trying(self.getting(get))
     }
 
     /// Whether the check of the get may be told as passed: where the get holds a connection.
     pub fn fits_checked_ok(&self, get: GetKey) -> bool
         ensures { TellsFitting self.now (acts.CheckedOk get.number) result }
     {
-        match self.gets.holds(get) {
-            None => false,
-            Some(held) => held.is_some(),
-        }
+        self.held(get).is_some()
     }
 
     /// Whether the check of the get may be told as failed, with a connection that is broken or not: where the get holds a connection.
@@ -62,10 +69,8 @@ impl<C: Drop> PoolInternals<C> {
         ensures { (why : acts.Reason) (held : Option C) (broken : Bool) → is_some held ≡ handing_in
             → TellsFitting self.now (acts.GiveUp get.number why held broken) result }
     {
-        match self.gets.holds(get) {
-            None => false,
-            Some(held) => held.is_some() == handing_in,
-        }
+        let getting = self.getting(get);
+        getting.is_some() && held(getting).is_some() == handing_in
     }
 
     /// The number of the connection that the get holds, if it holds one.
@@ -73,31 +78,28 @@ impl<C: Drop> PoolInternals<C> {
         ensures { (l : ledger.Ledger C) → Means l self.now
             → result ≡ places.holds (ledger.get_of l get.number) }
     {
-        match self.gets.holds(get) {
-            None => None,
-            Some(held) => held,
-        }
+        held(self.getting(get))
     }
 
     /// Whether the get is alive.
     pub(crate) fn is_alive(&self, get: GetKey) -> bool
         ensures { TellsGet (λ g. is_some g) self.now get.number result }
     {
-        self.gets.is_alive(get)
+        self.getting(get).is_some()
     }
 
     /// Whether the number is a connection that a guard holds.
     pub(crate) fn is_guarded(&self, k: Key) -> bool
         ensures { TellsRecord (places.stands places.is_guarded) self.now k.number result }
     {
-        self.records.is_guarded(k)
+        self.records.is_guarded(k, &mut self.asking.count())
     }
 
     /// Whether the number is a claimed approval.
     pub(crate) fn is_claimed(&self, k: Key) -> bool
         ensures { TellsRecord (places.stands places.is_claimed) self.now k.number result }
     {
-        self.records.is_claimed(k)
+        self.records.is_claimed(k, &mut self.asking.count())
     }
 
     /// Whether a guard may give back a connection of this key, whichever connection is handed in.
@@ -141,7 +143,7 @@ impl<C: Drop> PoolInternals<C> {
         ensures some { IfSome result (λ k. (k.number ≡ number) × IsRecordIn self.now number) }
         ensures none { IfNone result (IsNoRecordIn self.now number) }
     {
-        self.records.find(number)
+        self.records.find(number, &mut self.asking.count())
     }
 
     /// The key of a get that has not ended, by its number.
@@ -149,6 +151,20 @@ impl<C: Drop> PoolInternals<C> {
         ensures some { IfSome result (λ g. (g.number ≡ number) × IsGetIn self.now number) }
         ensures none { IfNone result (IsNoGetIn self.now number) }
     {
-        self.gets.find(number)
+        self.gets.find(number, &mut self.asking.count())
+    }
+
+    /// How many connections are idle. Our own.
+    pub fn idle(&self) -> u32
+        ensures { result ≡ length self.now.records.idle }
+    {
+        self.records.idle_connections()
+    }
+
+    /// How many connections the next leave closes: all that are idle, where one handle is alive and no other. Our own.
+    pub fn closed_by_leave(&self) -> u32
+        ensures { result ≡ length (cond (eqb self.now.handles 1) self.now.records.idle []) }
+    {
+        if self.handles == 1 { self.idle() } else { 0 }
     }
 }

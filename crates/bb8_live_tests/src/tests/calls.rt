@@ -6,10 +6,10 @@ ghost use Rattle.bb8.specs.Settings.{default_settings};
 
 use super::{Refused, assert_equal};
 use bb8::{
-    Builder, Clock, CustomizeConnection, Driver, DriverCalls, ErrorSink, Gate, ManageConnection,
-    Memory, Moment, Pool, PoolCalls, PoolParts,
+    Builder, Clock, CustomizeConnection, Driver, DriverCalls, ErrorSink, Gate, Job,
+    ManageConnection, Memory, Moment, Pool, PoolCalls, PoolParts, Runtime, start,
 };
-use bb8_trials::{Course, Handle, Number, OwnedHandle, Runtime, Unbuilt};
+use bb8_trials::{Course, Handle, Number, OwnedHandle, Unbuilt};
 use futures::task::Poll;
 use futures::test::MockTask;
 use std::alloc::Global;
@@ -18,7 +18,7 @@ use std::process::Abort;
 use std::sync::Arc;
 use std::sync::ledger::Blank;
 use std::test::Fail;
-use std::thread::{self, JoinHandle, Threads};
+use std::thread::{self, Threads};
 use std::time::Duration;
 
 /// The calls outside, and the drop of a connection. The place of one, from 0, is its digit in what is written down.
@@ -506,12 +506,6 @@ fn handles<R: Runtime + Abort, P: OwnedHandle<Teller>>(tools: &Tools<'_, R>, poo
     tools.made("now");
 }
 
-/// What a thread runs.
-pub(super) trait Job {
-    /// Runs it, and counts.
-    fn run(self) -> u64;
-}
-
 /// Asks the pool for its state while a call outside waits.
 #[derive(Drop)]
 struct Asker<R: Runtime + Abort, L: PoolParts> {
@@ -521,7 +515,9 @@ struct Asker<R: Runtime + Abort, L: PoolParts> {
 
 impl<R: Runtime + Abort, L: PoolParts> Job for Asker<R, L> {
     /// How often it was answered.
-    fn run(self) -> u64 {
+    type Told = u64;
+
+    fn run(self, _thread: usize) -> u64 {
         let mut answered: u64 = 0;
         for _ in 0..LOOKS {
             match self.desk.stage.get() {
@@ -537,14 +533,6 @@ impl<R: Runtime + Abort, L: PoolParts> Job for Asker<R, L> {
         }
         answered
     }
-}
-
-/// Starts a thread that asks. None where it could not be started.
-pub(super) fn start<R: Threads, J: Job + Send + Drop + 'static>(
-    rt: &R,
-    job: J,
-) -> Option<JoinHandle<u64>> {
-    thread::spawn(rt, move || job.run()).ok()
 }
 
 /// All calls of a pool and its driver, each of which waits, where that is asked for, until another thread was answered.
@@ -576,7 +564,7 @@ fn calls_of_a_pool<R: Runtime + Abort + Threads, L: PoolParts + 'static>(
             return Err(Fail::from(Memory));
         };
         let desk = share(desk)?;
-        asker = start(&rt, Asker { pool: copy, desk });
+        asker = start(&rt, 0, Asker { pool: copy, desk }).ok();
         tools.made("now");
         tools.desk.stage.set(ARMED);
     }

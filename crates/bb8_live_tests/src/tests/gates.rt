@@ -4,9 +4,8 @@ ghost use Rattle.bb8.specs.Parts.{IsBlankOf, unchecked_of};
 use super::{Refused, assert_equal};
 use bb8::{
     Builder, ManageConnection, Memory, Moment, NopCustomizer, NopErrorSink, Pool, PoolCalls,
-    PoolParts, SetClock,
+    PoolParts, Runtime, SetClock,
 };
-use bb8_trials::Runtime;
 use futures::executor::block_on;
 use futures::task::Poll;
 use std::alloc::Global;

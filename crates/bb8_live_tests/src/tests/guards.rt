@@ -1,8 +1,8 @@
 //! Lists of guards.
 
 use super::{NumberPool, Numbers, Trial, assert_equal, try_numbers};
-use bb8::{Guards, Moment, PoolParts};
-use bb8_trials::{Handle, Runtime, SECOND};
+use bb8::{Guards, Moment, PoolParts, Runtime};
+use bb8_trials::{Handle, SECOND};
 use futures::task::Poll;
 use futures::test::MockTask;
 use std::process::Abort;

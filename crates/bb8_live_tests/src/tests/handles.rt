@@ -1,8 +1,7 @@
 //! What a guard shows, and where it may go.
 
 use super::{Numbers, Trial, assert_equal, try_numbers};
-use bb8::PoolParts;
-use bb8_trials::Runtime;
+use bb8::{PoolParts, Runtime};
 use futures::task::Poll;
 use std::process::Abort;
 use std::test::Fail;

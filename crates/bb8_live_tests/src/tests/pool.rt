@@ -3,8 +3,8 @@ ghost use Rattle.std.specs.Prelude.{Some};
 ghost use Rattle.bb8.specs.Parts.{IsBlankOf, unchecked_of};
 
 use super::{NumberPool, SlowManager, assert_equal};
-use bb8::{AddError, Builder, Moment, PoolParts, SetClock};
-use bb8_trials::{Runtime, sizes};
+use bb8::{AddError, Builder, Moment, PoolParts, Runtime, SetClock};
+use bb8_trials::sizes;
 use std::marker::Brand;
 use std::process::Abort;
 use std::sync::ledger::Blank;

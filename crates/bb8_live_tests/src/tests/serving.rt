@@ -3,9 +3,9 @@ ghost use Rattle.std.specs.Prelude.{◌≡◌, Ok, IfOk, length};
 
 use super::{NumberPool, SlowManager, assert_equal};
 use bb8::{
-    Builder, Memory, Moment, NopCustomizer, NopErrorSink, PoolCalls, PoolParts, Service, SetClock,
+    Builder, Memory, Moment, NopCustomizer, NopErrorSink, PoolCalls, PoolParts, Runtime, Service,
+    SetClock,
 };
-use bb8_trials::Runtime;
 use futures::executor::block_on;
 use std::process::Abort;
 use std::sync::atomic::{AtomicU64, Ordering};

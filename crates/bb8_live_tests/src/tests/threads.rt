@@ -6,9 +6,8 @@ ghost use Rattle.bb8.specs.Settings.{default_settings};
 use super::{NumberPool, Numbers, Refused, Trial, assert_equal, try_numbers};
 use bb8::{
     Builder, ManageConnection, Moment, NopCustomizer, NopErrorSink, Pool, PoolCalls, PoolParts,
-    SetClock,
+    Runtime, SetClock,
 };
-use bb8_trials::Runtime;
 use futures::executor::block_on;
 use futures::task::Poll;
 use futures::test::MockTask;

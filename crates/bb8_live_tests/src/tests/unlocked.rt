@@ -2,15 +2,13 @@
 ghost use Rattle.bb8.specs.Parts.{IsBlankOf, unchecked_of};
 ghost use Rattle.bb8.specs.Settings.{default_settings};
 
-use super::calls::{
-    ARMED, Desk, Job, OPEN, Teller, TellerPool, WAITING, connection, outside_on, start,
-};
+use super::calls::{ARMED, Desk, OPEN, Teller, TellerPool, WAITING, connection, outside_on};
 use super::{SlowManager, assert_equal};
 use bb8::{
-    Builder, Building, Driver, DriverCalls, Guards, Memory, Moment, NopCustomizer, NopErrorSink,
-    Pool, PoolParts, SetClock,
+    Builder, Building, Driver, DriverCalls, Guards, Job, Memory, Moment, NopCustomizer,
+    NopErrorSink, Pool, PoolParts, Runtime, SetClock, start,
 };
-use bb8_trials::{Handle, Runtime, SECOND};
+use bb8_trials::{Handle, SECOND};
 use futures::test::MockTask;
 use std::alloc::Global;
 use std::marker::Brand;
@@ -28,7 +26,9 @@ struct Turner<R: Runtime + Abort, L: PoolParts> {
 
 impl<R: Runtime + Abort, L: PoolParts> Job for Turner<R, L> {
     /// How many openings it polled.
-    fn run(self) -> u64 {
+    type Told = u64;
+
+    fn run(self, _thread: usize) -> u64 {
         let Turner { mut driver } = self;
         DriverCalls::turn(&mut driver, Moment(700 * SECOND)).polled
     }
@@ -98,7 +98,7 @@ fn waits_for_nobody<R: Runtime + Abort + Threads, L: PoolParts + 'static>(
     assert!(&rt; guards.push(guard).is_ok());
     let driver = Driver::new(&pool)?;
     desk.stage.set(ARMED);
-    let Some(turner) = start(&rt, Turner { driver }) else {
+    let Ok(turner) = start(&rt, 0, Turner { driver }) else {
         panic!(&rt; "no thread");
     };
     assert!(&rt; desk.comes_to(WAITING, true));

@@ -6,8 +6,8 @@ ghost use Rattle.bb8.specs.Settings.{is_lawful};
 mod drives;
 
 use super::assert_equal;
-use bb8::{Driver, Moment, NopCustomizer, Pool, PoolParts, SetClock};
-use bb8_trials::{Board, Errors, Runtime, Server, ServerBuilder, server_on};
+use bb8::{Driver, Moment, NopCustomizer, Pool, PoolParts, Runtime, SetClock};
+use bb8_trials::{Board, Errors, Server, ServerBuilder, server_on};
 use std::alloc::Global;
 use std::marker::Brand;
 use std::sync::Arc;

@@ -4,8 +4,7 @@ mod cancelled;
 mod polls;
 
 use super::assert_equal;
-use bb8::{AddError, PoolParts};
-use bb8_trials::Runtime;
+use bb8::{AddError, PoolParts, Runtime};
 use bb8_trials::hostile::{Harness, HostilePool, Source};
 use std::process::Abort;
 use std::test::Fail;

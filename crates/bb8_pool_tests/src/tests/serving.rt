@@ -2,9 +2,10 @@
 
 use super::assert_equal;
 use bb8::{
-    MachineClock, Moment, NopCustomizer, Pool, PoolCalls, PoolParts, RunError, Service, SetClock,
+    MachineClock, Moment, NopCustomizer, Pool, PoolCalls, PoolParts, RunError, Runtime, Service,
+    SetClock,
 };
-use bb8_trials::{Board, Course, Errors, Number, Refused, Runtime, Server, builder_on, server_on};
+use bb8_trials::{Board, Course, Errors, Number, Refused, Server, builder_on, server_on};
 use futures::executor::block_on;
 use std::sync::Arc;
 use std::test::Fail;

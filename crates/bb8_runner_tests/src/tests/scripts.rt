@@ -10,6 +10,7 @@ use std::test::Fail;
 
 mod answers;
 mod judged;
+mod refusals;
 mod spelled;
 
 /// One connection is added, taken and given back.

@@ -4,13 +4,13 @@ ghost use Rattle.bb8_tables.specs.Lent.{none_lent, begun, lends, searches};
 
 use std::marker::Model;
 
-/// How many entries of the tables were lent, and how often a table was searched, since the latest step began, and the number of that step.
-/// Each beginning counts the steps on, so that one that tells of one step began its count once. It is made with a table alone, so that nobody
-/// can look on a count of his own. An entry is lent each time what stands there is read or changed, found by its place, along an order or by
+/// How many entries of the tables were lent, and how often a table was searched, since the latest step began, and the sum of all that was
+/// counted before. Each beginning adds one to that sum, so that one that tells of one step began its count once, and looked at nothing before.
+/// An `Asking` alone makes one. An entry is lent each time what stands there is read or changed, found by its place, along an order or by
 /// its number; not where it is made or given away, nor where its neighbours are joined. A search is made where a hint is stale. Our own.
 #[derive(Drop)]
 pub struct Lendings {
-    step: u64,
+    past: u64,
     lent: u64,
     searched: u64,
 }
@@ -22,32 +22,44 @@ impl Model for Lendings {
 
     ghost coded = { lent_code };
 
-    ghost view = { λ a. record { step = a.step; lent = a.lent; searched = a.searched } };
+    ghost view = { λ a. record { past = a.past; lent = a.lent; searched = a.searched } };
 }
 
-impl Lendings {
-    /// None yet, of a new table.
+/// Leave to look on a count of one's own, which is forgotten: that of who asks. It is made with a table alone, and a step, which is to count
+/// all, does not know its type. Our own.
+#[derive(Drop)]
+pub struct Asking {
+    given: (),
+}
+
+impl Asking {
+    /// The leave, with a new table.
     #[inline]
-    pub(super) fn none() -> Self
+    pub(super) fn given() -> Self {
+        Asking { given: () }
+    }
+
+    /// A count of nothing yet.
+    #[inline]
+    pub fn count(&self) -> Lendings
         ensures { result ≡ none_lent }
     {
         Lendings {
-            step: 0,
+            past: 0,
             lent: 0,
             searched: 0,
         }
     }
+}
 
-    /// A step begins, which has lent nothing. After the greatest number steps are counted from 0 again.
+impl Lendings {
+    /// A step begins, which has lent nothing. The sum of all before it wraps.
     #[inline]
     pub fn start(&mut self)
         ensures { self.new ≡ begun self.old }
     {
-        self.step = if self.step == u64::MAX {
-            0
-        } else {
-            self.step + 1
-        };
+        let counted = self.past.wrapping_add(self.lent);
+        self.past = counted.wrapping_add(self.searched).wrapping_add(1);
         self.lent = 0;
         self.searched = 0;
     }

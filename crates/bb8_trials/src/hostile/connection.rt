@@ -27,11 +27,6 @@ impl Counted {
         true
     }
 
-    /// Whether it is held.
-    pub fn is_held(&self) -> bool {
-        self.held.is_some()
-    }
-
     /// Counts it as held by nobody.
     pub fn let_go(&mut self) {
         self.held = None;

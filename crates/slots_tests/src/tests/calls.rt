@@ -1,8 +1,9 @@
 //! What a runner answers for ids: strange ones, those of jobs that have not ended, and those whose outcome was taken.
 
 use super::{came_to, submits, turn};
-use crate::trial::{Count, RunnerTrial, slots, try_runner};
-use bb8_trials::{Handle, Runtime, Tools};
+use crate::trial::{Count, RunnerTrial, Tools, slots, try_runner};
+use bb8::Runtime;
+use bb8_trials::Handle;
 use slots::{Outcome, Phase, RunnerCalls, SlotManager};
 use std::process::Abort;
 

@@ -1,8 +1,9 @@
 //! A run in which any one request for memory is refused, or all from any on, as `refusals/run` makes them. It holds with refusals and without.
 
 use super::{came_to, lacked_memory, turn};
-use crate::trial::{Count, RunnerTrial, slots, try_runner};
-use bb8_trials::{Handle, Runtime, Tools};
+use crate::trial::{Count, RunnerTrial, Tools, slots, try_runner};
+use bb8::Runtime;
+use bb8_trials::Handle;
 use slots::{Outcome, Phase, RunnerCalls, SlotManager};
 use std::process::Abort;
 

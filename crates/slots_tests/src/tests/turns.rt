@@ -1,8 +1,9 @@
 //! Turns of runners: how many jobs end and run at each, and what the pool tells.
 
 use super::{came_to, submits, timed_out, turn};
-use crate::trial::{RunnerTrial, slots, try_runner};
-use bb8_trials::{Handle, Runtime, SECOND, Tools, sizes};
+use crate::trial::{RunnerTrial, Tools, slots, try_runner};
+use bb8::Runtime;
+use bb8_trials::{Handle, SECOND, sizes};
 use slots::{Outcome, Phase, RunnerCalls, Slot, SlotManager};
 use std::process::Abort;
 use std::time::Duration;

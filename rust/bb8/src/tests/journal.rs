@@ -24,7 +24,7 @@ pub(crate) enum Step {
     leave { at: u64 },
     look { at: u64 },
     state { at: u64 },
-    knows { number: u64 },
+    closed_next {},
 }
 
 /// What a step told.
@@ -33,7 +33,6 @@ pub(crate) enum Answer {
     Told(Told),
     Looked(Looked),
     Shown(Figures),
-    Known(bool),
 }
 
 macro_rules! answers {
@@ -50,7 +49,6 @@ answers! {
     Told(Told);
     Looked(Looked);
     Shown(Figures);
-    Known(bool);
 }
 
 /// What a core was made with, and its steps.

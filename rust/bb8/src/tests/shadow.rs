@@ -77,6 +77,8 @@ struct Shadow {
     latest: u64,
     position: usize,
     alive: bool,
+    /// Those that a reap or the last leave closed, and that were not told yet: number and place.
+    closed: Vec<(u64, u64)>,
     figures: Figures,
 }
 
@@ -102,6 +104,7 @@ impl Shadow {
             latest: 0,
             position: 0,
             alive: true,
+            closed: Vec::new(),
             figures: Figures::default(),
         }
     }
@@ -119,6 +122,9 @@ impl Shadow {
                         return;
                     }
                 }
+                if let Step::closed_next {} = step {
+                    return self.tell_closed(index, &told);
+                }
                 let due = self.step(step);
                 assert_eq!(due, as_due(&due, &told), "step {index}, {step:?}: {told:?}");
             }
@@ -135,13 +141,6 @@ impl Shadow {
                 let Step::state { at } = *step else { panic!() };
                 self.latest = self.latest.max(at);
                 assert_eq!(self.shown(), figures, "step {index}");
-            }
-            Answer::Known(known) => {
-                let Step::knows { number } = *step else {
-                    panic!()
-                };
-                let stands = self.records.iter().any(|record| record.number == number);
-                assert_eq!(stands, known, "step {index}");
             }
         }
     }
@@ -293,13 +292,14 @@ impl Shadow {
             Step::leave { at } => {
                 self.latest = self.latest.max(at);
                 self.alive = false;
-                let idle = self.idle();
-                self.records.retain(|record| {
-                    !matches!(record.place, Place::Idle { .. } | Place::Unclaimed)
-                });
+                while let Some((number, _)) = self.first_idle() {
+                    self.list(number);
+                }
+                self.records
+                    .retain(|record| record.place != Place::Unclaimed);
                 Due {
                     kind: kinds::LEFT,
-                    key: Some(idle as u64),
+                    key: Some(self.closed.len() as u64),
                     ..Due::default()
                 }
             }
@@ -414,7 +414,7 @@ impl Shadow {
         self.figures.connections_closed_idle_timeout += idle.len() as u64;
         let closed = old.len() + idle.len();
         for number in old.into_iter().chain(idle.into_iter().map(|(_, n)| n)) {
-            self.remove(number);
+            self.list(number);
         }
         Due {
             kind: kinds::REAPED,
@@ -576,6 +576,27 @@ impl Shadow {
         let mut all = self.records.iter_mut();
         all.find(|record| record.number == number)
             .expect("the record stands")
+    }
+
+    /// An idle connection ends, which is to be told.
+    fn list(&mut self, number: u64) {
+        let Place::Idle { conn } = self.record(number).place else {
+            panic!("what is closed was idle");
+        };
+        self.closed.push((number, conn));
+        self.remove(number);
+    }
+
+    /// No rule says which of them is told first.
+    fn tell_closed(&mut self, index: usize, told: &Told) {
+        if told.kind == 0 {
+            assert_eq!(self.closed, [], "step {index}");
+            return;
+        }
+        let mut closed = self.closed.iter();
+        let place = closed.position(|one| *one == (told.key.number, told.conn));
+        assert_eq!((told.kind, place.is_some()), (24, true), "step {index}");
+        self.closed.remove(place.expect("it was closed"));
     }
 
     fn remove(&mut self, number: u64) {

@@ -166,6 +166,14 @@ fn what_does_not_fit_changes_nothing() {
     assert_eq!(core.state(0), before);
 }
 
+/// Number and place of each connection that was closed, and not told yet.
+fn closed(core: &mut Core) -> Vec<(u64, u64)> {
+    let next = || Some(core.closed_next()).filter(|told| told.kind == kinds::TOLD_CLOSED);
+    std::iter::from_fn(next)
+        .map(|told| (told.key.number, told.conn))
+        .collect()
+}
+
 #[test]
 fn a_reap_spares_as_many_as_are_to_be_idle() {
     let mut core = core(Settings {
@@ -175,14 +183,14 @@ fn a_reap_spares_as_many_as_are_to_be_idle() {
         ..Settings::default()
     });
     for number in 0..5 {
-        assert_eq!(core.add(0, number, false).key.number, number);
+        assert_eq!(core.add(0, 70 + number, false).key.number, number);
     }
     let told = core.add(0, 9, false);
     assert_eq!((told.kind, told.conn), (kinds::NO_CAPACITY, 9));
     let told = core.reap(SECOND);
     assert_eq!((told.kind, told.key.number), (kinds::REAPED, 3));
-    let known = [0, 1, 2, 3, 4].map(|number| core.knows(number));
-    assert_eq!(known, [false, false, false, true, true]);
+    assert_eq!(closed(&mut core), [(0, 70), (1, 71), (2, 72)]);
+    assert_eq!(closed(&mut core), []);
     let told = core.get(SECOND);
     assert_eq!((told.kind, told.key.number), (kinds::SERVED, 3));
     assert_eq!((told.granted.first, told.granted.count), (5, 1));
@@ -201,6 +209,7 @@ fn what_opens_after_the_last_handle_is_late() {
     assert!(core.look(3).alive);
     let left = core.leave(4);
     assert_eq!((left.kind, left.key.number), (22, 1));
+    assert_eq!(closed(&mut core), [(1, 1)]);
     let looked = core.look(3);
     assert_eq!((looked.moment, looked.alive), (4, false));
     let opened = core.opened(5, approval, 8);

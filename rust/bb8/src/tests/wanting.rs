@@ -61,6 +61,27 @@ async fn a_get_and_an_adding_tell_that_memory_was_refused() {
     assert_eq!(open.load(Ordering::SeqCst), 1);
 }
 
+#[tokio::test(start_paused = true)]
+async fn a_reap_for_which_memory_was_refused_is_made_up_for() {
+    let open = Arc::new(AtomicU32::new(0));
+    let pool = Pool::builder()
+        .max_size(3)
+        .min_idle(1)
+        .idle_timeout(Duration::from_secs(1))
+        .build(Counting(open.clone()))
+        .await
+        .unwrap();
+    assert!(pool.add(Counting(open.clone()).open()).is_ok());
+    assert!(pool.add(Counting(open.clone()).open()).is_ok());
+    tokio::time::advance(Duration::from_secs(1)).await;
+    granting(0, || pool.inner.reap());
+    assert_eq!(open.load(Ordering::SeqCst), 3);
+    pool.inner.reap();
+    assert_eq!(open.load(Ordering::SeqCst), 1);
+    granting(0, || drop(pool));
+    assert_eq!(open.load(Ordering::SeqCst), 0);
+}
+
 /// Three gets and an adding over a pool, each of which may be refused.
 async fn use_of(pool: &Pool<Counting>, open: &Arc<AtomicU32>) {
     let _refused = pool.add(Counting(open.clone()).open());

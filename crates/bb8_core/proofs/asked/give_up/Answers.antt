@@ -1,5 +1,4 @@
-use Rattle.std.proofs.Common.{sym, ◌∙◌}
-use Rattle.bb8_core.specs.StepAnswers.{reason_of}
+use Rattle.bb8_core.proofs.Words.{sym, ◌∙◌, reason_of}
 use Rattle.bb8_core.proofs.asked.give_up.Goals as goal
 
 pub give_up-requires : goal.give_up-requires

@@ -1,12 +1,9 @@
-use Rattle.std.proofs.Common.{ℕ, take, ◌+◌, sym, refl, subst, List, [], ◌∷◌, ◌++◌, get_or, ◌<◌, ◌≤◌, length, arith}
+use Rattle.bb8_core.proofs.Words.{ℕ, take, ◌+◌, sym, refl, subst, List, [], ◌∷◌, ◌++◌, get_or, ◌<◌, ◌≤◌, length, arith, Ledger, Later, KeepsLimits, KeepsLaws, KeepsPromises, IsRun, answer_of, opening, keeps_limits, keeps_laws, keeps_promises}
 use Rattle.std.proofs.lemmas.List.{take_all, take_more}
 use Rattle.bb8_core.specs.declared.replay.events.Act.TheVariants as acts
 use Rattle.bb8_core.specs.declared.replay.events.Answer.{Answer}
 use Rattle.bb8_core.specs.declared.replay.events.Event.{Event}
-use Rattle.bb8_ledger.specs.Ledger.{Ledger, Later}
-use Rattle.bb8_ledger.specs.Limits.{KeepsLimits, KeepsLaws, KeepsPromises}
-use Rattle.bb8_core.specs.Run.{IsRun, act_of, answer_of, opening}
-use Rattle.bb8_ledger.proofs.Laws.{keeps_limits, keeps_laws, keeps_promises}
+use Rattle.bb8_core.specs.Run.{act_of}
 use Rattle.bb8_core.proofs.Runs.{run_more, run_legal, run_after, run_length}
 use Rattle.bb8_core.proofs.replay.replay_from.Goals as goal
 
@@ -41,36 +38,20 @@ returns-clause-run c =
 
 pub returns-clause-answers : goal.returns-clause-answers
 returns-clause-answers c =
-    let first : Ledger ℕ = opening c.args.config c.args.first_number c.args.first_get in
-    let last = c.loop-event.invariant in
-    let past : length c.args.events.now ≤ c.loop-event.event-index = omega arith in
-    run_length first last.0 c.args.events.now c.loop-event.answers.items
-    (subst (λ (xs : List Event). IsRun first xs c.loop-event.answers.items last.0)
-    (take_all c.loop-event.event-index c.args.events.now past) last.1)
+    let r = returns-clause-run c in
+    run_length (opening c.args.config c.args.first_number c.args.first_get) r.0 c.args.events.now c.loop-event.answers.items r.1
 
 pub returns-clause-limits : goal.returns-clause-limits
 returns-clause-limits c =
-    let first : Ledger ℕ = opening c.args.config c.args.first_number c.args.first_get in
-    let last = c.loop-event.invariant in
-    let past : length c.args.events.now ≤ c.loop-event.event-index = omega arith in
-    run_after KeepsLimits keeps_limits first last.0 c.args.events.now c.loop-event.answers.items c.requires
-    (subst (λ (xs : List Event). IsRun first xs c.loop-event.answers.items last.0)
-    (take_all c.loop-event.event-index c.args.events.now past) last.1)
+    let r = returns-clause-run c in
+    run_after KeepsLimits keeps_limits (opening c.args.config c.args.first_number c.args.first_get) r.0 c.args.events.now c.loop-event.answers.items c.requires r.1
 
 pub returns-clause-laws : goal.returns-clause-laws
 returns-clause-laws c =
-    let first : Ledger ℕ = opening c.args.config c.args.first_number c.args.first_get in
-    let last = c.loop-event.invariant in
-    let past : length c.args.events.now ≤ c.loop-event.event-index = omega arith in
-    run_after KeepsLaws keeps_laws first last.0 c.args.events.now c.loop-event.answers.items c.requires
-    (subst (λ (xs : List Event). IsRun first xs c.loop-event.answers.items last.0)
-    (take_all c.loop-event.event-index c.args.events.now past) last.1)
+    let r = returns-clause-run c in
+    run_after KeepsLaws keeps_laws (opening c.args.config c.args.first_number c.args.first_get) r.0 c.args.events.now c.loop-event.answers.items c.requires r.1
 
 pub returns-clause-promises : goal.returns-clause-promises
 returns-clause-promises c =
-    let first : Ledger ℕ = opening c.args.config c.args.first_number c.args.first_get in
-    let last = c.loop-event.invariant in
-    let past : length c.args.events.now ≤ c.loop-event.event-index = omega arith in
-    run_after KeepsPromises keeps_promises first last.0 c.args.events.now c.loop-event.answers.items c.requires
-    (subst (λ (xs : List Event). IsRun first xs c.loop-event.answers.items last.0)
-    (take_all c.loop-event.event-index c.args.events.now past) last.1)
+    let r = returns-clause-run c in
+    run_after KeepsPromises keeps_promises (opening c.args.config c.args.first_number c.args.first_get) r.0 c.args.events.now c.loop-event.answers.items c.requires r.1

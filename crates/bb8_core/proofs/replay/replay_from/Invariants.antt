@@ -1,7 +1,4 @@
-use Rattle.std.proofs.Common.{ℕ, take}
-use Rattle.bb8_ledger.specs.Ledger.{Ledger}
-use Rattle.bb8_core.specs.Run.{IsRun, opening}
-use Rattle.bb8_core.specs.Shown.{Means}
+use Rattle.bb8_core.proofs.Words.{ℕ, take, Ledger, IsRun, opening, Means}
 use Rattle.bb8_core.proofs.replay.replay_from.Given as goal
 
 abbrev pub invariant-loop-event : goal.invariant-loop-event

@@ -6,9 +6,9 @@ ghost use Rattle.bb8.specs.Settings.{default_settings};
 use super::{Case, assert_equal, unchecked};
 use bb8::{
     Builder, Driven, Driver, Gate, ManageConnection, Moment, NopCustomizer, NopErrorSink, Pool,
-    PoolParts, SetClock, drive,
+    PoolParts, Runtime, SetClock, drive,
 };
-use bb8_trials::{Board, Refused, Runtime, builder_on, sizes};
+use bb8_trials::{Board, Refused, builder_on, sizes};
 use futures::task::Poll;
 use futures::test::MockTask;
 use std::alloc::Global;

@@ -5,8 +5,7 @@ ghost use Rattle.bb8.specs.Settings.{default_settings};
 
 use super::{assert_equal, fill, is_at_rest};
 use bb8::driver::Driver;
-use bb8::{Builder, Building, Cancel, Clock, Memory, PoolParts};
-use bb8_trials::Runtime;
+use bb8::{Builder, Building, Cancel, Clock, Memory, PoolParts, Runtime};
 use bb8_trials::hostile::{
     Harness, HostileClock, HostileCustomizer, HostileManager, HostilePool, HostileSink,
 };

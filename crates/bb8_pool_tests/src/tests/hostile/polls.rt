@@ -8,9 +8,8 @@ use bb8::get::GetFuture;
 use bb8::owned::GetOwnedFuture;
 use bb8::{
     Builder, Clock, DedicatedFuture, Driver, OwnedConnection, PoolParts, PooledConnection,
-    RunError, State,
+    RunError, Runtime, State,
 };
-use bb8_trials::Runtime;
 use bb8_trials::hostile::{
     Harness, HostileClock, HostileCustomizer, HostileManager, HostilePool, HostileSink, Refused,
     Source,

@@ -1,5 +1,4 @@
-use Rattle.std.proofs.Common.{◌≡◌, ◌+◌, map, take, Some}
-use Rattle.bb8_runner.specs.Grammar.{event_of}
+use Rattle.bb8_runner.proofs.Speech.{◌≡◌, ◌+◌, map, take, Some, event_of}
 use Rattle.bb8_runner.proofs.lines.events_of.Given as goal
 
 abbrev pub invariant-loop-line : goal.invariant-loop-line

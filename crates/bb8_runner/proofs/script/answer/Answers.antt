@@ -1,10 +1,6 @@
-use Rattle.std.proofs.Common.{ℕ, List, map, subst, ap, ◌∙◌}
-use Rattle.bb8_types.specs.Figures.{figures_of}
+use Rattle.bb8_runner.proofs.Speech.{ℕ, List, map, subst, ap, ◌∙◌, figures_of, Event, Spells, output_of}
 use Rattle.bb8_types.specs.Settings.{settings_of}
 use Rattle.bb8_core.specs.Run.{IsRun, opening}
-use Rattle.bb8_core.specs.declared.replay.events.Event.{Event}
-use Rattle.bb8_runner.specs.Script.{Spells}
-use Rattle.bb8_runner.specs.Text.{output_of}
 use Rattle.bb8_runner.proofs.script.answer.Goals as goal
 
 pub returns-in-Ok-clause-told : goal.returns-in-Ok-clause-told

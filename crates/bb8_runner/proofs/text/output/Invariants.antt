@@ -1,6 +1,5 @@
-use Rattle.std.proofs.Common.{◌≡◌, take}
+use Rattle.bb8_runner.proofs.Speech.{◌≡◌, take, answer_text, line}
 use Rattle.std.specs.Prelude.{string_bytes, flat_map}
-use Rattle.bb8_runner.specs.Text.{answer_text, line}
 use Rattle.bb8_runner.proofs.text.output.Given as goal
 
 abbrev pub invariant-loop-answer : goal.invariant-loop-answer

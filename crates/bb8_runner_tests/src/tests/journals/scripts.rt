@@ -1,6 +1,7 @@
 //! Scripts that threads run, from bytes to bytes, and the arguments that ask for it.
 
 use super::assert_equal;
+use crate::tests::FIRST_SCRIPT;
 use bb8_runner::fault::Fault;
 use bb8_runner::threads::arguments::{Mode, arguments};
 use bb8_runner::threads::script::run_threads;
@@ -10,30 +11,6 @@ use std::fmt::Write;
 use std::sync::Wait;
 use std::test::Fail;
 use std::thread::Threads;
-
-/// Three gets are served while two connections are kept idle, and all return.
-const FIRST_SCRIPT: &[u8] = b"\
-    config max_size=5 min_idle=2 check=off\n\
-    0 fill\n\
-    0 claim\n\
-    0 claim\n\
-    0 open 0\n\
-    0 open 1\n\
-    0 begin\n\
-    0 try 0\n\
-    0 claim\n\
-    0 open 2\n\
-    0 begin\n\
-    0 try 1\n\
-    0 claim\n\
-    0 open 3\n\
-    0 begin\n\
-    0 try 2\n\
-    0 claim\n\
-    0 open 4\n\
-    0 return 0\n\
-    0 return 1\n\
-    0 return 2\n";
 
 const FIRST_TOLD: &str = "\
     entries 20\n\

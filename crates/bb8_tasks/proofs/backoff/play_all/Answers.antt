@@ -1,11 +1,5 @@
-use Rattle.std.proofs.Common.{◌≡◌, ℕ, ◌+◌, ◌<◌, ◌≤◌, List, [], ◌∷◌, ◌++◌, length, get_or, take, subst, sym, arith}
-use Rattle.std.proofs.lemmas.List.{take_more, take_all}
-use Rattle.std.specs.Duration.{as_nanos}
-use Rattle.bb8_types.specs.declared.api.moments.Moment.{Moment}
-use Rattle.bb8_tasks.specs.declared.backoff.Reply.{Reply}
+use Rattle.bb8_tasks.proofs.Words.{◌≡◌, ℕ, ◌+◌, ◌<◌, ◌≤◌, List, [], ◌∷◌, ◌++◌, length, get_or, take, subst, sym, arith, take_more, take_all, as_nanos, Moment, Reply, ReplenishAnswer, Task, Runs}
 use Rattle.bb8_tasks.specs.declared.backoff.Reply.TheVariants as replies
-use Rattle.bb8_tasks.specs.declared.replenish.ReplenishAnswer.{ReplenishAnswer}
-use Rattle.bb8_tasks.specs.Played.{Task, Runs}
 use Rattle.bb8_tasks.proofs.Moving.{tried-most}
 use Rattle.bb8_tasks.proofs.Playing.{run_more}
 use Rattle.bb8_tasks.proofs.backoff.play_all.Goals as goal

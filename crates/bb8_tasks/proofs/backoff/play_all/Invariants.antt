@@ -1,6 +1,4 @@
-use Rattle.std.proofs.Common.{◌≤◌, take}
-use Rattle.std.specs.Duration.{as_nanos}
-use Rattle.bb8_tasks.specs.Played.{Runs}
+use Rattle.bb8_tasks.proofs.Words.{◌≤◌, take, as_nanos, Runs}
 use Rattle.bb8_tasks.proofs.backoff.play_all.Given as goal
 
 abbrev pub invariant-loop-at : goal.invariant-loop-at

@@ -1,8 +1,5 @@
-use Rattle.std.proofs.Common.{◌≡◌, ◌*◌, ◌^◌, ◌<◌, ◌≤◌, length, false, IfOk, subst, arith}
+use Rattle.bb8_tasks.proofs.Words.{◌≡◌, ◌*◌, ◌^◌, ◌<◌, ◌≤◌, length, false, IfOk, subst, arith, as_nanos, IsBounded, IsReached, Task, first_task, Runs, Plays}
 use Rattle.std.proofs.lemmas.Result.{IfOk-weaker}
-use Rattle.std.specs.Duration.{as_nanos}
-use Rattle.bb8_tasks.specs.Bounded.{IsBounded, IsReached}
-use Rattle.bb8_tasks.specs.Played.{Task, first_task, Runs, Plays}
 use Rattle.bb8_tasks.specs.declared.backoff.Backoff.{Backoff}
 use Rattle.bb8_tasks.proofs.Counting.{bounded, at_most_one, at_least_one}
 use Rattle.bb8_tasks.proofs.Driving.{reached}

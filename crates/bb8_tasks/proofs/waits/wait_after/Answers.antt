@@ -1,6 +1,5 @@
-use Rattle.std.proofs.Common.{◌≡◌, ◌*◌, ◌^◌, ◌%◌, lit<, arith}
+use Rattle.bb8_tasks.proofs.Words.{◌≡◌, ◌*◌, ◌^◌, ◌%◌, lit<, arith, as_nanos}
 use Rattle.std.proofs.lemmas.Nat.{shl_whole}
-use Rattle.std.specs.Duration.{as_nanos}
 use Rattle.bb8_tasks.proofs.Waiting.{wait-long}
 use Rattle.bb8_tasks.proofs.waits.wait_after.Goals as goal
 

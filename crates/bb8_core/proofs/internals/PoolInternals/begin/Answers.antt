@@ -1,28 +1,26 @@
-use Rattle.std.proofs.Common.{refl, arith}
+use Rattle.bb8_core.proofs.Words.{refl, arith, view_of}
 use Rattle.bb8_ledger.specs.Acts as acts
-use Rattle.bb8_ledger.specs.Answers as answers
-use Rattle.bb8_core.specs.Pool.{view_of}
 use Rattle.bb8_core.proofs.Fitting.{shown_fits}
 use Rattle.bb8_core.proofs.Steps.{meets_begun, meets_memory, meets_exhausted, left, used_up, led, at_view, fits_view}
 use Rattle.bb8_core.proofs.internals.PoolInternals.begin.Goals as goal
 
 pub returns-then-not-has_number-clause-step : goal.returns-then-not-has_number-clause-step
-returns-then-not-has_number-clause-step g c = at_view c.args.at.0 acts.Begin answers.Exhausted c.self.view_is
-    (meets_exhausted c.args.at.0 (fits_view acts.Begin c.self.view_is c.requires) c.max-self-inside.ensures (used_up _ c.has_number.ensures c.if-not-has_number.true))
+returns-then-not-has_number-clause-step g c = at_view c.self.view_is
+    (meets_exhausted c.max-self-inside.ensures (fits_view acts.Begin c.self.view_is c.requires) (used_up _ c.has_number.ensures c.if-not-has_number.true))
 
 pub invariant_of-self : goal.invariant_of-self
-invariant_of-self g c = led _ c.args.at.0 acts.Begin answers.Exhausted c.self.view_is c.self.invariant (returns-then-not-has_number-clause-step g c)
+invariant_of-self g c = led _ c.args.at.0 acts.Begin _ c.self.view_is c.self.invariant (returns-then-not-has_number-clause-step g c)
 
 pub begin-requires : goal.begin-requires
 begin-requires g c = left _ c.has_number.ensures c.if-not-has_number.false
 
 pub returns-in-None-clause-step : goal.returns-in-None-clause-step
-returns-in-None-clause-step g c = at_view c.args.at.0 acts.Begin answers.Memory c.self.view_is
-    (meets_memory c.args.at.0 (fits_view acts.Begin c.self.view_is c.requires) c.max-self-inside.ensures
+returns-in-None-clause-step g c = at_view c.self.view_is
+    (meets_memory c.max-self-inside.ensures (fits_view acts.Begin c.self.view_is c.requires)
     (left _ c.has_number.ensures c.if-not-has_number.false) c.in-None.ensures.none.0 c.in-None.ensures.none.1)
 
 pub invariant_of-self-in-None : goal.invariant_of-self-in-None
-invariant_of-self-in-None g c = led _ c.args.at.0 acts.Begin answers.Memory c.self.view_is c.self.invariant (returns-in-None-clause-step g c)
+invariant_of-self-in-None g c = led _ c.args.at.0 acts.Begin _ c.self.view_is c.self.invariant (returns-in-None-clause-step g c)
 
 pub overflow_add-self : goal.overflow_add-self
 overflow_add-self g c =
@@ -31,9 +29,9 @@ overflow_add-self g c =
     omega (arith, fit.started_few)
 
 pub returns-in-Some-clause-step : goal.returns-in-Some-clause-step
-returns-in-Some-clause-step g c = at_view c.args.at.0 acts.Begin (answers.Begun c.in-Some.get.number) c.self.view_is
-    (meets_begun c.args.at.0 (fits_view acts.Begin c.self.view_is c.requires) c.max-self-inside.ensures
+returns-in-Some-clause-step g c = at_view c.self.view_is
+    (meets_begun c.max-self-inside.ensures (fits_view acts.Begin c.self.view_is c.requires)
     (left _ c.has_number.ensures c.if-not-has_number.false) c.in-Some.ensures.some.1 refl c.in-Some.ensures.some.0)
 
 pub invariant_of-self-in-Some : goal.invariant_of-self-in-Some
-invariant_of-self-in-Some g c = led _ c.args.at.0 acts.Begin (answers.Begun c.in-Some.get.number) c.self.view_is c.self.invariant (returns-in-Some-clause-step g c)
+invariant_of-self-in-Some g c = led _ c.args.at.0 acts.Begin _ c.self.view_is c.self.invariant (returns-in-Some-clause-step g c)

@@ -1,11 +1,8 @@
-use Rattle.std.proofs.Common.{◌≡◌, ◌≢◌, ℕ, max, Option, Some, None, IfSome, IfNone, option_map, slice_get}
+use Rattle.bb8_core.proofs.Words.{◌≡◌, ◌≢◌, ℕ, max, Option, Some, None, IfSome, IfNone, option_map, slice_get, view_of, Shown, ShownRecords}
 use Rattle.bb8_ledger.specs.Acts as acts
 use Rattle.bb8_ledger.specs.Answers as answers
 use Rattle.bb8_tables.specs.declared.keys.Key.{Key}
 use Rattle.bb8_tables.specs.Machine as machine
-use Rattle.bb8_core.specs.Pool.{view_of}
-use Rattle.bb8_core.specs.Shown.{Shown}
-use Rattle.bb8_tables.specs.Views.{ShownRecords}
 use Rattle.bb8_core.proofs.Steps.{IsStep, meets_claim, meets_claim_none, meets_claim_ended, led, at_view}
 use Rattle.bb8_core.proofs.internals.PoolInternals.claim.Goals as goal
 
@@ -18,15 +15,15 @@ meets_claimed s at None now rs now_is alive_now some none = meets_claim_none now
 meets_claimed s at (Some key) now rs now_is alive_now some none = meets_claim now_is alive_now some.0 some.1
 
 pub returns-then-self-eq0-clause-step : goal.returns-then-self-eq0-clause-step
-returns-then-self-eq0-clause-step g c = at_view c.args.at.0 acts.Claim answers.Ended c.self.view_is
+returns-then-self-eq0-clause-step g c = at_view c.self.view_is
     (meets_claim_ended c.max-self-inside.ensures c.if-self-eq0.true)
 
 pub invariant_of-self : goal.invariant_of-self
-invariant_of-self g c = led _ c.args.at.0 acts.Claim answers.Ended c.self.view_is c.self.invariant (returns-then-self-eq0-clause-step g c)
+invariant_of-self g c = led _ c.args.at.0 acts.Claim _ c.self.view_is c.self.invariant (returns-then-self-eq0-clause-step g c)
 
 pub returns-clause-step : goal.returns-clause-step
-returns-clause-step g c = at_view c.args.at.0 acts.Claim (answers.Claimed (option_map (λ (k : Key). k.number) c.claim.result)) c.self.view_is
+returns-clause-step g c = at_view c.self.view_is
     (meets_claimed (view_of c.self.inside) c.args.at.0 c.claim.result c.max-self-inside.result c.claim.new.self c.max-self-inside.ensures c.if-self-eq0.false c.claim.ensures.some c.claim.ensures.none)
 
 pub invariant_of-self-2 : goal.invariant_of-self-2
-invariant_of-self-2 g c = led _ c.args.at.0 acts.Claim (answers.Claimed (option_map (λ (k : Key). k.number) c.claim.result)) c.self.view_is c.self.invariant (returns-clause-step g c)
+invariant_of-self-2 g c = led _ c.args.at.0 acts.Claim _ c.self.view_is c.self.invariant (returns-clause-step g c)

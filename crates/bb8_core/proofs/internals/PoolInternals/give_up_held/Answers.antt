@@ -1,106 +1,79 @@
-use Rattle.std.proofs.Common.{Some, sym, refl, ◌∙◌, arith}
+use Rattle.bb8_core.proofs.Words.{Some, sym, refl, ◌∙◌, arith, reason_of, view_of}
 use Rattle.bb8_ledger.specs.Acts as acts
-use Rattle.bb8_ledger.specs.Answers as answers
-use Rattle.bb8_core.specs.StepAnswers.{reason_of}
-use Rattle.bb8_core.specs.Pool.{view_of}
-use Rattle.bb8_tables.specs.Keys.{notified_of}
 use Rattle.bb8_core.proofs.Fitting.{shown_fits, fit_holds, give_up_holds, holds_out, holds_stands, ended_few, closed_few, none_after}
 use Rattle.bb8_core.proofs.Steps.{led, at_view, fits_view}
-use Rattle.bb8_core.proofs.GetEnds.{notices, given_up_open, meets_given_up_kept, meets_given_up_closed}
+use Rattle.bb8_core.proofs.GetEnds.{notices, given_up_is, given_up_open, meets_given_up_kept, meets_given_up_closed}
 use Rattle.bb8_core.proofs.internals.PoolInternals.give_up_held.Goals as goal
 
 pub finish-requires : goal.finish-requires
-finish-requires g c = holds_stands (view_of c.self.inside) c.args.get.number c.getting-getting.ensures.value
-    (fit_holds c.args.get.number c.self.view_is c.self.invariant
-    (λ l legal means. give_up_holds l c.args.get.number (reason_of c.args.reason) c.args.conn c.args.broken (c.requires l legal means))
-    c.getting-getting.ensures.value c.held_key-key.ensures)
+finish-requires g c = holds_stands c.args.get.number c.self.view_is c.self.invariant (give_up_holds c.args.get.number (reason_of c.args.reason) c.args.conn c.args.broken c.requires)
+    c.getting-getting.ensures.value c.held_key-key.ensures
 
-pub give_up-requires-clause-timed_out : goal.give_up-requires-clause-timed_out
-give_up-requires-clause-timed_out g c =
-    let st = holds_stands (view_of c.self.inside) c.args.get.number c.getting-getting.ensures.value
-    (fit_holds c.args.get.number c.self.view_is c.self.invariant
-    (λ l legal means. give_up_holds l c.args.get.number (reason_of c.args.reason) c.args.conn c.args.broken (c.requires l legal means))
-    c.getting-getting.ensures.value c.held_key-key.ensures) in
-    omega (arith, ended_few (view_of c.self.inside) c.args.get.number c.self.invariant (st.0, st.1) c.finish.ensures.numbers)
-
-pub give_up-requires-clause-cancelled : goal.give_up-requires-clause-cancelled
-give_up-requires-clause-cancelled g c =
-    let st = holds_stands (view_of c.self.inside) c.args.get.number c.getting-getting.ensures.value
-    (fit_holds c.args.get.number c.self.view_is c.self.invariant
-    (λ l legal means. give_up_holds l c.args.get.number (reason_of c.args.reason) c.args.conn c.args.broken (c.requires l legal means))
-    c.getting-getting.ensures.value c.held_key-key.ensures) in
-    omega (arith, ended_few (view_of c.self.inside) c.args.get.number c.self.invariant (st.0, st.1) c.finish.ensures.numbers)
+pub give_up-requires : goal.give_up-requires
+give_up-requires g c =
+    let st = holds_stands c.args.get.number c.self.view_is c.self.invariant (give_up_holds c.args.get.number (reason_of c.args.reason) c.args.conn c.args.broken c.requires)
+    c.getting-getting.ensures.value c.held_key-key.ensures in
+    let few = ended_few (view_of c.self.inside) c.args.get.number c.self.invariant (st.0, st.1) c.finish.ensures.numbers in
+    record { timed_out = omega (arith, few); cancelled = omega (arith, few) }
 
 pub end_out-grant-requires-clause-out : goal.end_out-grant-requires-clause-out
-end_out-grant-requires-clause-out g c = holds_out (view_of c.self.inside) c.args.get.number c.self.invariant c.getting-getting.ensures.value
-    (fit_holds c.args.get.number c.self.view_is c.self.invariant
-    (λ l legal means. give_up_holds l c.args.get.number (reason_of c.args.reason) c.args.conn c.args.broken (c.requires l legal means))
-    c.getting-getting.ensures.value c.held_key-key.ensures)
+end_out-grant-requires-clause-out g c = holds_out c.args.get.number c.self.view_is c.self.invariant (give_up_holds c.args.get.number (reason_of c.args.reason) c.args.conn c.args.broken c.requires)
+    c.getting-getting.ensures.value c.held_key-key.ensures
 
 pub end_out-grant-requires-clause-size : goal.end_out-grant-requires-clause-size
 end_out-grant-requires-clause-size g c = (shown_fits (view_of c.self.inside) c.self.invariant).size
 
 pub close-requires : goal.close-requires
-close-requires g c = omega (
-  arith,
-  given_up_open c.args.reason c.max-now.result c.first_wait.result c.give_up.ensures.timed_out c.give_up.ensures.cancelled,
-  closed_few c.held_key-key.result.number (view_of c.self.inside) c.self.invariant
-      (holds_out (view_of c.self.inside) c.args.get.number c.self.invariant c.getting-getting.ensures.value
-      (fit_holds c.args.get.number c.self.view_is c.self.invariant
-      (λ l legal means. give_up_holds l c.args.get.number (reason_of c.args.reason) c.args.conn c.args.broken (c.requires l legal means))
-      c.getting-getting.ensures.value c.held_key-key.ensures)) c.end_out-grant.ensures.numbers,
-)
+close-requires g c =
+    let out = holds_out c.args.get.number c.self.view_is c.self.invariant (give_up_holds c.args.get.number (reason_of c.args.reason) c.args.conn c.args.broken c.requires)
+    c.getting-getting.ensures.value c.held_key-key.ensures in
+    omega (
+      arith,
+      given_up_open c.args.reason c.max-now.result c.first_wait.result c.self.inside.counters
+          (given_up_is c.args.reason c.max-now.result c.first_wait.result c.give_up.ensures.timed_out c.give_up.ensures.cancelled),
+      closed_few c.held_key-key.result.number (view_of c.self.inside) c.self.invariant out c.end_out-grant.ensures.numbers,
+    )
 
-pub enter-requires-clause-moments : goal.enter-requires-clause-moments
-enter-requires-clause-moments g c = none_after (view_of c.self.inside) c.args.at.0 c.max-now.result c.self.invariant c.max-now.ensures
-
-pub enter-requires-clause-birth : goal.enter-requires-clause-birth
-enter-requires-clause-birth g c = c.birth-birth.ensures.value
-
-pub enter-requires-clause-out : goal.enter-requires-clause-out
-enter-requires-clause-out g c = holds_out (view_of c.self.inside) c.args.get.number c.self.invariant c.getting-getting.ensures.value
-    (fit_holds c.args.get.number c.self.view_is c.self.invariant
-    (λ l legal means. give_up_holds l c.args.get.number (reason_of c.args.reason) c.args.conn c.args.broken (c.requires l legal means))
-    c.getting-getting.ensures.value c.held_key-key.ensures)
+pub enter-requires : goal.enter-requires
+enter-requires g c = record {
+  moments = none_after (view_of c.self.inside) c.args.at.0 c.max-now.result c.self.invariant c.max-now.ensures;
+  birth = c.birth-birth.ensures.value;
+  out = holds_out c.args.get.number c.self.view_is c.self.invariant (give_up_holds c.args.get.number (reason_of c.args.reason) c.args.conn c.args.broken c.requires)
+      c.getting-getting.ensures.value c.held_key-key.ensures;
+}
 
 pub returns-then-is_closing-clause-step : goal.returns-then-is_closing-clause-step
-returns-then-is_closing-clause-step g c = at_view c.args.at.0 (acts.GiveUp c.args.get.number (reason_of c.args.reason) (Some c.args.conn) c.args.broken)
-    (answers.Closed c.held_key-key.result.number c.end_out-grant.result (notified_of c.notify.result)) c.self.view_is
-    (meets_given_up_closed c.self.inside.counters (fits_view (acts.GiveUp c.args.get.number (reason_of c.args.reason) (Some c.args.conn) c.args.broken) c.self.view_is c.requires)
+returns-then-is_closing-clause-step g c = at_view c.self.view_is
+    (meets_given_up_closed c.args.reason c.self.inside.counters (fits_view (acts.GiveUp c.args.get.number (reason_of c.args.reason) (Some c.args.conn) c.args.broken) c.self.view_is c.requires)
     (record {
       now_is = c.max-now.ensures;
       get_is = c.getting-getting.ensures.value;
-      held = (fit_holds c.args.get.number c.self.view_is c.self.invariant
-          (λ l legal means. give_up_holds l c.args.get.number (reason_of c.args.reason) c.args.conn c.args.broken (c.requires l legal means))
-          c.getting-getting.ensures.value c.held_key-key.ensures);
+      held = fit_holds c.args.get.number c.self.view_is c.self.invariant (give_up_holds c.args.get.number (reason_of c.args.reason) c.args.conn c.args.broken c.requires)
+          c.getting-getting.ensures.value c.held_key-key.ensures;
     })
     (record { now_is = c.max-now.ensures; birth_is = c.birth-birth.ensures.value; aged_is = c.is_expired-expired.ensures })
     (sym c.is_closing.ensures ∙ c.if-is_closing.true) c.end_out-grant.ensures.granted c.end_out-grant.ensures.state
-    (notices c.finish.ensures.state c.notify.ensures.value c.notify.ensures.state) refl c.first_wait.ensures c.give_up.ensures.timed_out
-    c.give_up.ensures.cancelled c.close.ensures)
+    (notices c.finish.ensures.state c.notify.ensures.value c.notify.ensures.state) refl c.first_wait.ensures
+    (given_up_is c.args.reason c.max-now.result c.first_wait.result c.give_up.ensures.timed_out c.give_up.ensures.cancelled) c.close.ensures)
 
 pub invariant_of-self : goal.invariant_of-self
-invariant_of-self g c = led _ c.args.at.0 (acts.GiveUp c.args.get.number (reason_of c.args.reason) (Some c.args.conn) c.args.broken)
-    (answers.Closed c.held_key-key.result.number c.end_out-grant.result (notified_of c.notify.result)) c.self.view_is c.self.invariant
+invariant_of-self g c = led _ c.args.at.0 (acts.GiveUp c.args.get.number (reason_of c.args.reason) (Some c.args.conn) c.args.broken) _ c.self.view_is c.self.invariant
     (returns-then-is_closing-clause-step g c)
 
 pub returns-else-is_closing-clause-step : goal.returns-else-is_closing-clause-step
-returns-else-is_closing-clause-step g c = at_view c.args.at.0 (acts.GiveUp c.args.get.number (reason_of c.args.reason) (Some c.args.conn) c.args.broken)
-    (answers.Kept c.held_key-key.result.number (notified_of c.notify-else-is_closing.result)) c.self.view_is
-    (meets_given_up_kept c.self.inside.counters (fits_view (acts.GiveUp c.args.get.number (reason_of c.args.reason) (Some c.args.conn) c.args.broken) c.self.view_is c.requires)
+returns-else-is_closing-clause-step g c = at_view c.self.view_is
+    (meets_given_up_kept c.args.reason c.self.inside.counters (fits_view (acts.GiveUp c.args.get.number (reason_of c.args.reason) (Some c.args.conn) c.args.broken) c.self.view_is c.requires)
     (record {
       now_is = c.max-now.ensures;
       get_is = c.getting-getting.ensures.value;
-      held = (fit_holds c.args.get.number c.self.view_is c.self.invariant
-          (λ l legal means. give_up_holds l c.args.get.number (reason_of c.args.reason) c.args.conn c.args.broken (c.requires l legal means))
-          c.getting-getting.ensures.value c.held_key-key.ensures);
+      held = fit_holds c.args.get.number c.self.view_is c.self.invariant (give_up_holds c.args.get.number (reason_of c.args.reason) c.args.conn c.args.broken c.requires)
+          c.getting-getting.ensures.value c.held_key-key.ensures;
     })
     (record { now_is = c.max-now.ensures; birth_is = c.birth-birth.ensures.value; aged_is = c.is_expired-expired.ensures })
     (sym c.is_closing.ensures ∙ c.if-is_closing.false) c.enter.ensures.state
-    (notices c.finish.ensures.state c.notify-else-is_closing.ensures.value c.notify-else-is_closing.ensures.state) refl
-    c.first_wait.ensures c.give_up.ensures.timed_out c.give_up.ensures.cancelled)
+    (notices c.finish.ensures.state c.notify-else-is_closing.ensures.value c.notify-else-is_closing.ensures.state) refl c.first_wait.ensures
+    (given_up_is c.args.reason c.max-now.result c.first_wait.result c.give_up.ensures.timed_out c.give_up.ensures.cancelled))
 
 pub invariant_of-self-else-is_closing : goal.invariant_of-self-else-is_closing
-invariant_of-self-else-is_closing g c = led _ c.args.at.0 (acts.GiveUp c.args.get.number (reason_of c.args.reason) (Some c.args.conn) c.args.broken)
-    (answers.Kept c.held_key-key.result.number (notified_of c.notify-else-is_closing.result)) c.self.view_is c.self.invariant
+invariant_of-self-else-is_closing g c = led _ c.args.at.0 (acts.GiveUp c.args.get.number (reason_of c.args.reason) (Some c.args.conn) c.args.broken) _ c.self.view_is c.self.invariant
     (returns-else-is_closing-clause-step g c)

@@ -1,26 +1,25 @@
 use Rattle.bb8_ledger.specs.Acts as acts
-use Rattle.bb8_ledger.specs.Answers as answers
 use Rattle.bb8_core.proofs.Closings.{left_offers, none_left}
 use Rattle.bb8_core.proofs.Fitting.{fit_leave}
 use Rattle.bb8_core.proofs.Steps.{meets_left_last, meets_left, led, at_view, fits_view}
 use Rattle.bb8_core.proofs.internals.PoolInternals.leave_into.Goals as goal
 
 pub returns-then-self-eq1-clause-step : goal.returns-then-self-eq1-clause-step
-returns-then-self-eq1-clause-step g c = at_view c.args.at.0 acts.Leave (answers.Left c.leave.result) c.self.view_is
-    (meets_left_last (fits_view acts.Leave c.self.view_is c.requires) c.max-self-inside.ensures c.if-self-eq1.true c.leave.ensures.many c.leave.ensures.state)
+returns-then-self-eq1-clause-step g c = at_view c.self.view_is
+    (meets_left_last c.max-self-inside.ensures (fits_view acts.Leave c.self.view_is c.requires) c.if-self-eq1.true c.leave.ensures.many c.leave.ensures.state)
 
 pub invariant_of-self : goal.invariant_of-self
-invariant_of-self g c = led _ c.args.at.0 acts.Leave (answers.Left c.leave.result) c.self.view_is c.self.invariant (returns-then-self-eq1-clause-step g c)
+invariant_of-self g c = led _ c.args.at.0 acts.Leave _ c.self.view_is c.self.invariant (returns-then-self-eq1-clause-step g c)
 
 pub overflow_sub-self : goal.overflow_sub-self
 overflow_sub-self g c = fit_leave c.self.view_is c.self.invariant c.requires
 
 pub returns-clause-step : goal.returns-clause-step
-returns-clause-step g c = at_view c.args.at.0 acts.Leave (answers.Left 0) c.self.view_is
-    (meets_left (fits_view acts.Leave c.self.view_is c.requires) c.max-self-inside.ensures c.if-self-eq1.false)
+returns-clause-step g c = at_view c.self.view_is
+    (meets_left c.max-self-inside.ensures (fits_view acts.Leave c.self.view_is c.requires) c.if-self-eq1.false)
 
 pub invariant_of-self-2 : goal.invariant_of-self-2
-invariant_of-self-2 g c = led _ c.args.at.0 acts.Leave (answers.Left 0) c.self.view_is c.self.invariant (returns-clause-step g c)
+invariant_of-self-2 g c = led _ c.args.at.0 acts.Leave _ c.self.view_is c.self.invariant (returns-clause-step g c)
 
 pub returns-then-self-eq1-clause-closed : goal.returns-then-self-eq1-clause-closed
 returns-then-self-eq1-clause-closed g c = left_offers c.args.closed.now c.self.view_is c.self.invariant c.if-self-eq1.true c.leave.ensures.listed

@@ -1,8 +1,5 @@
-use Rattle.std.proofs.Common.{arith, refl}
+use Rattle.bb8_core.proofs.Words.{arith, refl, view_of}
 use Rattle.bb8_ledger.specs.Acts as acts
-use Rattle.bb8_ledger.specs.Answers as answers
-use Rattle.bb8_tables.specs.Keys.{notified_of}
-use Rattle.bb8_core.specs.Pool.{view_of}
 use Rattle.bb8_core.proofs.Fitting.{fit_claimed, created_few, none_after}
 use Rattle.bb8_core.proofs.Steps.{meets_opened, meets_late, led, at_view, fits_view}
 use Rattle.bb8_core.proofs.internals.PoolInternals.opened.Goals as goal
@@ -17,20 +14,19 @@ pub enter-requires-clause-out : goal.enter-requires-clause-out
 enter-requires-clause-out g c = fit_claimed c.args.a.number c.self.view_is c.self.invariant c.requires
 
 pub returns-then-self-eq0-clause-step : goal.returns-then-self-eq0-clause-step
-returns-then-self-eq0-clause-step g c = at_view c.args.at.0 (acts.Opened c.args.a.number c.args.conn) (answers.Late c.args.a.number) c.self.view_is
-    (meets_late c.args.at.0 c.args.conn (fits_view (acts.Opened c.args.a.number c.args.conn) c.self.view_is c.requires) c.max-now.ensures c.if-self-eq0.true c.close.ensures.state)
+returns-then-self-eq0-clause-step g c = at_view c.self.view_is
+    (meets_late c.max-now.ensures c.args.conn (fits_view (acts.Opened c.args.a.number c.args.conn) c.self.view_is c.requires) c.if-self-eq0.true c.close.ensures.state)
 
 pub invariant_of-self : goal.invariant_of-self
-invariant_of-self g c = led _ c.args.at.0 (acts.Opened c.args.a.number c.args.conn) (answers.Late c.args.a.number) c.self.view_is c.self.invariant (returns-then-self-eq0-clause-step g c)
+invariant_of-self g c = led _ c.args.at.0 (acts.Opened c.args.a.number c.args.conn) _ c.self.view_is c.self.invariant (returns-then-self-eq0-clause-step g c)
 
 pub overflow_add-self : goal.overflow_add-self
 overflow_add-self g c = omega (arith, created_few c.args.a.number c.self.view_is c.self.invariant c.requires c.enter.ensures.numbers)
 
 pub returns-clause-step : goal.returns-clause-step
-returns-clause-step g c = at_view c.args.at.0 (acts.Opened c.args.a.number c.args.conn) (answers.Entered c.args.a.number (notified_of c.notify.result)) c.self.view_is
-    (meets_opened c.args.at.0 c.args.conn (fits_view (acts.Opened c.args.a.number c.args.conn) c.self.view_is c.requires) c.max-now.ensures
+returns-clause-step g c = at_view c.self.view_is
+    (meets_opened c.max-now.ensures c.args.conn (fits_view (acts.Opened c.args.a.number c.args.conn) c.self.view_is c.requires)
     c.if-self-eq0.false c.enter.ensures.state (record { who = c.notify.ensures.value; after = c.notify.ensures.state }) refl)
 
 pub invariant_of-self-2 : goal.invariant_of-self-2
-invariant_of-self-2 g c = led _ c.args.at.0 (acts.Opened c.args.a.number c.args.conn)
-    (answers.Entered c.args.a.number (notified_of c.notify.result)) c.self.view_is c.self.invariant (returns-clause-step g c)
+invariant_of-self-2 g c = led _ c.args.at.0 (acts.Opened c.args.a.number c.args.conn) _ c.self.view_is c.self.invariant (returns-clause-step g c)

@@ -1,9 +1,5 @@
-use Rattle.std.proofs.Common.{◌+◌, ◌≤◌, ap, arith, refl}
-use Rattle.bb8_tables.specs.Reaps.{after_reap}
-use Rattle.bb8_tables.specs.Views.{ShownRecords}
+use Rattle.bb8_core.proofs.Words.{◌+◌, ◌≤◌, ap, arith, refl, after_reap, ShownRecords, view_of}
 use Rattle.bb8_ledger.specs.Acts as acts
-use Rattle.bb8_ledger.specs.Answers as answers
-use Rattle.bb8_core.specs.Pool.{view_of}
 use Rattle.bb8_core.proofs.Fitting.{due_fits}
 use Rattle.bb8_core.proofs.ShownReaped.{reap_few}
 use Rattle.bb8_core.proofs.Closings.{reap_offers, no_reap_offers}
@@ -12,10 +8,10 @@ use Rattle.bb8_core.proofs.Steps.{grants, led, at_view}
 use Rattle.bb8_core.proofs.internals.PoolInternals.reap_into.Goals as goal
 
 pub returns-then-self-eq0-clause-step : goal.returns-then-self-eq0-clause-step
-returns-then-self-eq0-clause-step g c = at_view c.args.at.0 acts.Reap answers.Ended c.self.view_is (meets_reap_ended c.max-now.ensures c.if-self-eq0.true)
+returns-then-self-eq0-clause-step g c = at_view c.self.view_is (meets_reap_ended c.max-now.ensures c.if-self-eq0.true)
 
 pub invariant_of-self : goal.invariant_of-self
-invariant_of-self g c = led _ c.args.at.0 acts.Reap answers.Ended c.self.view_is c.self.invariant (returns-then-self-eq0-clause-step g c)
+invariant_of-self g c = led _ c.args.at.0 acts.Reap _ c.self.view_is c.self.invariant (returns-then-self-eq0-clause-step g c)
 
 pub grant-grant-requires : goal.grant-grant-requires
 grant-grant-requires g c =
@@ -36,13 +32,12 @@ pub reap-requires-clause-by_life : goal.reap-requires-clause-by_life
 reap-requires-clause-by_life g c = (reaped_few (view_of c.self.inside) c.self.invariant (omega (arith, c.max-now.ensures)) c.reap-reaped.ensures.ends.2 c.reap-reaped.ensures.numbers).1
 
 pub returns-clause-step : goal.returns-clause-step
-returns-clause-step g c = at_view c.args.at.0 acts.Reap (answers.Reaped c.reap-reaped.result.closed c.reap-reaped.result.by_idle c.reap-reaped.result.by_life c.grant-grant.result) c.self.view_is
+returns-clause-step g c = at_view c.self.view_is
     (meets_reaped c.self.inside.counters c.max-now.ensures c.if-self-eq0.false c.reap-reaped.ensures.ends.2
     (grants refl c.want-wanted.ensures c.grant-grant.ensures.granted c.grant-grant.ensures.state) refl c.reap.ensures)
 
 pub invariant_of-self-2 : goal.invariant_of-self-2
-invariant_of-self-2 g c = led _ c.args.at.0 acts.Reap
-    (answers.Reaped c.reap-reaped.result.closed c.reap-reaped.result.by_idle c.reap-reaped.result.by_life c.grant-grant.result) c.self.view_is c.self.invariant (returns-clause-step g c)
+invariant_of-self-2 g c = led _ c.args.at.0 acts.Reap _ c.self.view_is c.self.invariant (returns-clause-step g c)
 
 pub returns-then-self-eq0-clause-closed : goal.returns-then-self-eq0-clause-closed
 returns-then-self-eq0-clause-closed g c = no_reap_offers c.args.at.0 c.args.closed.now

@@ -1,9 +1,5 @@
-use Rattle.std.proofs.Common.{◌≡◌, ap, refl, ◌∙◌, arith, false}
-use Rattle.bb8_types.specs.declared.standing.Place.TheVariants.{Idle}
+use Rattle.bb8_core.proofs.Words.{◌≡◌, ap, refl, ◌∙◌, arith, false, Idle, view_of, Shown}
 use Rattle.bb8_ledger.specs.Acts as acts
-use Rattle.bb8_ledger.specs.Answers as answers
-use Rattle.bb8_core.specs.Pool.{view_of}
-use Rattle.bb8_core.specs.Shown.{Shown}
 use Rattle.bb8_core.proofs.Fitting.{shown_record, shown_fits, due_fits}
 use Rattle.bb8_core.proofs.Steps.{grants, led, at_view, fits_view}
 use Rattle.bb8_core.proofs.AtOnce.{between, meets_begun_between, meets_served_between}
@@ -12,11 +8,11 @@ use Rattle.bb8_core.proofs.internals.PoolInternals.serve_at_once.Goals as goal
 pub overflow_add-self : goal.overflow_add-self
 overflow_add-self g c = omega (arith, (shown_fits (view_of c.self.inside) c.self.invariant).started_few, c.has_room.ensures.number c.if-not-has_room.false)
 
-pub serve-requires-clause-direct : goal.serve-requires-clause-direct
-serve-requires-clause-direct g c = omega (arith, shown_fits (view_of c.self.inside) c.self.invariant, c.has_room.ensures.number c.if-not-has_room.false)
-
-pub serve-requires-clause-waited : goal.serve-requires-clause-waited
-serve-requires-clause-waited g c = omega (arith, shown_fits (view_of c.self.inside) c.self.invariant, c.has_room.ensures.number c.if-not-has_room.false)
+pub serve-requires : goal.serve-requires
+serve-requires g c =
+    let fit = shown_fits (view_of c.self.inside) c.self.invariant in
+    let few = c.has_room.ensures.number c.if-not-has_room.false in
+    record { direct = omega (arith, fit, few); waited = omega (arith, fit, few) }
 
 pub grant-grant-requires : goal.grant-grant-requires
 grant-grant-requires g c = omega (arith, due_fits (view_of c.self.inside) _ c.self.invariant (omega arith) c.in-Some.ensures.some.2 refl c.want-wanted.ensures)
@@ -27,10 +23,10 @@ returns-in-Some-clause-some g c =
     let off : a.config.test_on_check_out ≡ false = ap (λ (s : Shown g.row.C.Denot). s.config.test_on_check_out) c.self.view_is ∙ c.requires.unchecked in
     let was = c.in-Some.ensures.some.1 in (
       between a c.max-now.result,
-      at_view c.args.at.0 acts.Begin _ c.self.view_is
+      at_view c.self.view_is
           (meets_begun_between c.args.at.0 c.pass-get.ensures.number
           (fits_view acts.Begin c.self.view_is c.requires.begin) c.max-now.ensures (c.has_room.ensures.number c.if-not-has_room.false)),
-      at_view c.args.at.0 (acts.Try c.pass-get.result) (answers.Served c.in-Some.key.number c.grant-grant.result) refl
+      at_view refl
           (meets_served_between a c.self.inside.counters c.pass-get.ensures.number off c.max-now.ensures c.in-Some.ensures.some.0
           (grants c.in-Some.ensures.some.2 c.want-wanted.ensures c.grant-grant.ensures.granted c.grant-grant.ensures.state)
           c.pass-get.ensures.state refl c.serve.ensures),
@@ -40,5 +36,5 @@ returns-in-Some-clause-some g c =
 pub invariant_of-self-in-Some : goal.invariant_of-self-in-Some
 invariant_of-self-in-Some g c =
     let both = returns-in-Some-clause-some g c in
-    let began = led both.0 c.args.at.0 acts.Begin (answers.Begun c.pass-get.result) c.self.view_is c.self.invariant both.1 in
-    led _ c.args.at.0 (acts.Try c.pass-get.result) (answers.Served c.in-Some.key.number c.grant-grant.result) refl began both.2
+    let began = led both.0 c.args.at.0 acts.Begin _ c.self.view_is c.self.invariant both.1 in
+    led _ c.args.at.0 (acts.Try c.pass-get.result) _ refl began both.2

@@ -1,8 +1,5 @@
-use Rattle.std.proofs.Common.{◌≡◌, ℕ, ◌≤◌, sym, subst, ◌∙◌, arith}
+use Rattle.bb8_core.proofs.Words.{◌≡◌, ℕ, ◌≤◌, sym, subst, ◌∙◌, arith, Figures, Counts, view_of, Shown}
 use Rattle.bb8_ledger.specs.Acts as acts
-use Rattle.bb8_types.specs.Figures.{Figures, Counts}
-use Rattle.bb8_core.specs.Pool.{view_of}
-use Rattle.bb8_core.specs.Shown.{Shown}
 use Rattle.bb8_core.proofs.Fitting.{as_shown, shown_fits}
 use Rattle.bb8_core.proofs.Steps.{meets_state, figures_told, led, at_view}
 use Rattle.bb8_core.proofs.Parts.{idle_few}
@@ -18,7 +15,7 @@ pub returns-clause-figures : goal.returns-clause-figures
 returns-clause-figures g c = λ l means. told_is _ _ _ _ _ _ c.connections.ensures c.idle_connections.ensures c.statistics.ensures ∙ figures_told (view_of c.self.inside) l (as_shown l (sym c.self.view_is) means)
 
 pub returns-clause-step : goal.returns-clause-step
-returns-clause-step g c = at_view c.args.at.0 acts.State _ c.self.view_is (meets_state c.max-self-inside.ensures (λ l means. returns-clause-figures g c l (as_shown l c.self.view_is means)))
+returns-clause-step g c = at_view c.self.view_is (meets_state c.max-self-inside.ensures (λ l means. returns-clause-figures g c l (as_shown l c.self.view_is means)))
 
 pub invariant_of-self : goal.invariant_of-self
 invariant_of-self g c = led _ c.args.at.0 acts.State _ c.self.view_is c.self.invariant (returns-clause-step g c)

@@ -1,25 +1,20 @@
-use Rattle.std.proofs.Common.{ℕ, Bool, cond, sym, ap, refl, ◌∙◌, arith, subst}
-use Rattle.bb8_types.specs.declared.standing.Place.TheVariants.{Idle}
+use Rattle.bb8_core.proofs.Words.{ℕ, Bool, cond, sym, ap, refl, ◌∙◌, arith, subst, Idle, place_with, view_of, IsNoGrant}
 use Rattle.bb8_types.specs.declared.standing.Holder.{Holder}
 use Rattle.bb8_types.specs.declared.standing.Holder.TheVariants.{Guard, Get}
-use Rattle.bb8_types.specs.Places.{place_with}
 use Rattle.bb8_tables.specs.Machine as machine
 use Rattle.bb8_ledger.specs.Acts as acts
-use Rattle.bb8_ledger.specs.Answers as answers
-use Rattle.bb8_core.specs.Pool.{view_of}
-use Rattle.bb8_types.specs.Grants.{IsNoGrant}
 use Rattle.bb8_core.proofs.Fitting.{as_shown, shown_record, due_fits, fit_try, fit_waits, ended_few}
 use Rattle.bb8_core.proofs.Steps.{grants, tries, meets_served, meets_taken, meets_waits_on, meets_waits, due_waiting, led, at_view}
 use Rattle.bb8_core.proofs.internals.PoolInternals.try_get.Goals as goal
 
 pub returns-then-is_unnotified-clause-step : goal.returns-then-is_unnotified-clause-step
-returns-then-is_unnotified-clause-step g c = at_view c.args.at.0 (acts.Try c.args.get.number) (answers.Waiting c.of_nothing.result) c.self.view_is
-    (meets_waits_on (tries c.self.view_is c.requires c.max-now.ensures c.getting-getting.ensures.value)
+returns-then-is_unnotified-clause-step g c = at_view c.self.view_is
+    (meets_waits_on c.max-now.ensures (tries c.self.view_is c.requires c.getting-getting.ensures.value)
     (sym c.is_unnotified.ensures ∙ c.if-is_unnotified.true)
     (subst (λ (n : ℕ). IsNoGrant n c.of_nothing.result) c.next_number.ensures c.of_nothing.ensures))
 
 pub invariant_of-self : goal.invariant_of-self
-invariant_of-self g c = led _ c.args.at.0 (acts.Try c.args.get.number) (answers.Waiting c.of_nothing.result) c.self.view_is c.self.invariant (returns-then-is_unnotified-clause-step g c)
+invariant_of-self g c = led _ c.args.at.0 (acts.Try c.args.get.number) _ c.self.view_is c.self.invariant (returns-then-is_unnotified-clause-step g c)
 
 pub grant-grant-requires : goal.grant-grant-requires
 grant-grant-requires g c = omega (arith, due_fits (view_of c.self.inside) _ c.self.invariant (omega arith) c.in-None.ensures.none.1 c.used-taken.ensures c.due-due.ensures)
@@ -28,14 +23,14 @@ pub wait-requires : goal.wait-requires
 wait-requires g c = record { stands = fit_waits c.args.get.number c.self.view_is c.self.invariant c.requires c.getting-getting.ensures.value (sym c.is_unnotified.ensures ∙ c.if-is_unnotified.false) }
 
 pub returns-in-None-clause-step : goal.returns-in-None-clause-step
-returns-in-None-clause-step g c = at_view c.args.at.0 (acts.Try c.args.get.number) (answers.Waiting c.grant-grant.result) c.self.view_is
-    (meets_waits (tries c.self.view_is c.requires c.max-now.ensures c.getting-getting.ensures.value)
+returns-in-None-clause-step g c = at_view c.self.view_is
+    (meets_waits c.max-now.ensures (tries c.self.view_is c.requires c.getting-getting.ensures.value)
     (sym c.is_unnotified.ensures ∙ c.if-is_unnotified.false) c.in-None.ensures.none.0 c.in-None.ensures.none.1
     (due_waiting (view_of c.self.inside) c.in-None.ensures.none.1 c.used-taken.ensures c.approved.ensures c.alive.ensures
     c.one-asked.ensures.value c.due-due.ensures) c.grant-grant.ensures.granted c.grant-grant.ensures.state c.wait.ensures.state)
 
 pub invariant_of-self-in-None : goal.invariant_of-self-in-None
-invariant_of-self-in-None g c = led _ c.args.at.0 (acts.Try c.args.get.number) (answers.Waiting c.grant-grant.result) c.self.view_is c.self.invariant (returns-in-None-clause-step g c)
+invariant_of-self-in-None g c = led _ c.args.at.0 (acts.Try c.args.get.number) _ c.self.view_is c.self.invariant (returns-in-None-clause-step g c)
 
 pub grant-grant-requires-in-Some : goal.grant-grant-requires-in-Some
 grant-grant-requires-in-Some g c = omega (arith, due_fits (view_of c.self.inside) _ c.self.invariant (omega arith) c.in-Some.ensures.some.2 refl c.want-wanted.ensures)
@@ -44,8 +39,8 @@ pub turn-requires-clause-stands : goal.turn-requires-clause-stands
 turn-requires-clause-stands g c = fit_waits c.args.get.number c.self.view_is c.self.invariant c.requires c.getting-getting.ensures.value (sym c.is_unnotified.ensures ∙ c.if-is_unnotified.false)
 
 pub returns-then-self-clause-step : goal.returns-then-self-clause-step
-returns-then-self-clause-step g c = at_view c.args.at.0 (acts.Try c.args.get.number) (answers.Taken c.in-Some.key.number c.grant-grant-in-Some.result) c.self.view_is
-    (meets_taken (tries c.self.view_is c.requires c.max-now.ensures c.getting-getting.ensures.value)
+returns-then-self-clause-step g c = at_view c.self.view_is
+    (meets_taken c.max-now.ensures (tries c.self.view_is c.requires c.getting-getting.ensures.value)
     (sym c.is_unnotified.ensures ∙ c.if-is_unnotified.false) c.if-self.true c.in-Some.ensures.some.0
     (grants (c.in-Some.ensures.some.2
     ∙ ap (λ (h : Holder). machine.after_take (place_with h) c.in-Some.key.number c.self.inside.records)
@@ -53,8 +48,7 @@ returns-then-self-clause-step g c = at_view c.args.at.0 (acts.Try c.args.get.num
     c.want-wanted.ensures c.grant-grant-in-Some.ensures.granted c.grant-grant-in-Some.ensures.state) c.turn.ensures.state)
 
 pub invariant_of-self-then-self : goal.invariant_of-self-then-self
-invariant_of-self-then-self g c = led _ c.args.at.0 (acts.Try c.args.get.number)
-    (answers.Taken c.in-Some.key.number c.grant-grant-in-Some.result) c.self.view_is c.self.invariant (returns-then-self-clause-step g c)
+invariant_of-self-then-self g c = led _ c.args.at.0 (acts.Try c.args.get.number) _ c.self.view_is c.self.invariant (returns-then-self-clause-step g c)
 
 pub returns-then-self-clause-connection : goal.returns-then-self-clause-connection
 returns-then-self-clause-connection g c = λ l legal means.
@@ -64,23 +58,15 @@ returns-then-self-clause-connection g c = λ l legal means.
 pub finish-requires : goal.finish-requires
 finish-requires g c = fit_waits c.args.get.number c.self.view_is c.self.invariant c.requires c.getting-getting.ensures.value (sym c.is_unnotified.ensures ∙ c.if-is_unnotified.false)
 
-pub serve-requires-clause-direct : goal.serve-requires-clause-direct
-serve-requires-clause-direct g c = omega (
-  arith,
-  ended_few (view_of c.self.inside) c.args.get.number c.self.invariant
-      (fit_try c.args.get.number c.self.view_is c.self.invariant c.requires) c.finish.ensures.numbers,
-)
-
-pub serve-requires-clause-waited : goal.serve-requires-clause-waited
-serve-requires-clause-waited g c = omega (
-  arith,
-  ended_few (view_of c.self.inside) c.args.get.number c.self.invariant
-      (fit_try c.args.get.number c.self.view_is c.self.invariant c.requires) c.finish.ensures.numbers,
-)
+pub serve-requires : goal.serve-requires
+serve-requires g c =
+    let st = fit_try c.args.get.number c.self.view_is c.self.invariant c.requires in
+    let few = ended_few (view_of c.self.inside) c.args.get.number c.self.invariant st c.finish.ensures.numbers in
+    record { direct = omega (arith, few); waited = omega (arith, few) }
 
 pub returns-else-self-clause-step : goal.returns-else-self-clause-step
-returns-else-self-clause-step g c = at_view c.args.at.0 (acts.Try c.args.get.number) (answers.Served c.in-Some.key.number c.grant-grant-in-Some.result) c.self.view_is
-    (meets_served c.self.inside.counters (tries c.self.view_is c.requires c.max-now.ensures c.getting-getting.ensures.value)
+returns-else-self-clause-step g c = at_view c.self.view_is
+    (meets_served c.max-now.ensures c.self.inside.counters (tries c.self.view_is c.requires c.getting-getting.ensures.value)
     (sym c.is_unnotified.ensures ∙ c.if-is_unnotified.false) c.if-self.false c.in-Some.ensures.some.0
     (grants (c.in-Some.ensures.some.2
     ∙ ap (λ (h : Holder). machine.after_take (place_with h) c.in-Some.key.number c.self.inside.records)
@@ -89,8 +75,7 @@ returns-else-self-clause-step g c = at_view c.args.at.0 (acts.Try c.args.get.num
     c.first_wait.ensures c.serve.ensures)
 
 pub invariant_of-self-in-Some : goal.invariant_of-self-in-Some
-invariant_of-self-in-Some g c = led _ c.args.at.0 (acts.Try c.args.get.number)
-    (answers.Served c.in-Some.key.number c.grant-grant-in-Some.result) c.self.view_is c.self.invariant (returns-else-self-clause-step g c)
+invariant_of-self-in-Some g c = led _ c.args.at.0 (acts.Try c.args.get.number) _ c.self.view_is c.self.invariant (returns-else-self-clause-step g c)
 
 pub returns-else-self-clause-connection : goal.returns-else-self-clause-connection
 returns-else-self-clause-connection g c = λ l legal means.

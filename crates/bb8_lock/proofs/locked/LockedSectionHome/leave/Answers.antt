@@ -7,9 +7,9 @@ returns-then-not-fits_leave g c = (c.limits.ensures.limits, c.limits.ensures.set
 
 pub invariant_of-self-2 : goal.invariant_of-self-2
 invariant_of-self-2 g c = record {
-  parts = unmoved _ _ _ acts.Leave _ _ c.limits.ensures.limits.0 c.leave.ensures
+  parts = unmoved _ _ _ acts.Leave _ _ c.limits.ensures.limits.0 c.leave.ensures.step
       (λ m. m) c.args.self.now.parts;
   amount = c.args.self.now.amount;
   settled =
-      kept_settings _ _ _ acts.Leave _ _ c.limits.ensures.limits.0 c.leave.ensures c.args.self.now.settled;
+      kept_settings _ _ _ acts.Leave _ _ c.limits.ensures.limits.0 c.leave.ensures.step c.args.self.now.settled;
 }

@@ -1,6 +1,4 @@
-use Rattle.std.proofs.Common.{◌≡◌, ℕ, List, arith, ap, ◌∙◌, subst, length}
-use Rattle.std.specs.Bool.{Decides}
-use Rattle.bb8_types.specs.Figures.{figures_of}
+use Rattle.bb8_runner.proofs.Speech.{◌≡◌, ℕ, List, arith, ap, ◌∙◌, subst, length, Decides, figures_of}
 use Rattle.bb8_journal.specs.declared.journal.entries.Entry.{Entry}
 use Rattle.bb8_journal.specs.declared.journal.seats.Notes.{Notes}
 use Rattle.bb8_journal.specs.Audit.{IsAccount}

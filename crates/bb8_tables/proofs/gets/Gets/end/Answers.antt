@@ -1,6 +1,7 @@
-use Rattle.std.proofs.Common.{◌∙◌, ap}
+use Rattle.std.proofs.Common.{◌∙◌, ap, IsSome, None}
+use Rattle.bb8_types.specs.declared.standing.Getting.{Getting}
 use Rattle.bb8_tables.specs.Machine as machine
-use Rattle.bb8_tables.proofs.GetPlaces.{none_shown, never_absent, end_counted, end_good, end_view}
+use Rattle.bb8_tables.proofs.GetPlaces.{none_shown, end_counted, end_good, end_view}
 use Rattle.bb8_tables.proofs.gets.Gets.end.Goals as goal
 
 pub overflow_sub-self : goal.overflow_sub-self
@@ -10,7 +11,8 @@ pub invariant_of-self : goal.invariant_of-self
 invariant_of-self c = let f = c.in-Some.ensures.some in end_good c.self.inside c.in-Some.place c.args.g.number f.0 c.remove.new.self c.self.invariant f.1 f.2 c.remove.ensures.state
 
 pub returns-in-None-clause-state : goal.returns-in-None-clause-state
-returns-in-None-clause-state c = never_absent _ _ c.requires (none_shown c.self.inside c.args.g.number c.args.self.now c.self.view_is c.in-None.ensures.none)
+returns-in-None-clause-state c = absurd (let none = none_shown c.self.inside c.args.g.number c.args.self.now c.self.view_is c.in-None.ensures.none in let clash : IsSome {T = Getting}
+    None = rw none at c.requires in cc)
 
 pub returns-in-Some-clause-state : goal.returns-in-Some-clause-state
 returns-in-Some-clause-state c =

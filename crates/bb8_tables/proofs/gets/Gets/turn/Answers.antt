@@ -1,8 +1,6 @@
-use Rattle.std.proofs.Common.{◌≡◌, false, ap, ◌∙◌}
-use Rattle.bb8_types.specs.declared.standing.Getting.{Getting}
-use Rattle.bb8_types.specs.Places.{is_unnotified}
+use Rattle.std.proofs.Common.{ap, ◌∙◌}
 use Rattle.bb8_tables.specs.Machine as machine
-use Rattle.bb8_tables.proofs.GetPlaces.{none_shown, never_absent, some_is, stands_is, turn_good, turn_view}
+use Rattle.bb8_tables.proofs.GetPlaces.{never_absent, stands_is, turn_good, turn_view}
 use Rattle.bb8_tables.proofs.gets.Gets.turn.Goals as goal
 
 pub invariant_of-self : goal.invariant_of-self
@@ -12,9 +10,8 @@ invariant_of-self c =
     (stands_is c.self.inside c.args.g.number c.in-Some.at f.0 c.args.self.now c.self.invariant c.self.view_is f.1 f.2 c.requires.stands)
     c.turn.ensures.changed
 
-pub returns-in-None-clause-state : goal.returns-in-None-clause-state
-returns-in-None-clause-state c = never_absent _ _ (some_is {P = λ (x : Getting). is_unnotified x.place ≡ false} _ c.requires.stands)
-    (none_shown c.self.inside c.args.g.number c.args.self.now c.self.view_is c.in-None.ensures.none)
+pub returns-in-None : goal.returns-in-None
+returns-in-None c = never_absent c.self.inside c.args.g.number c.args.self.now c.self.view_is c.requires.stands.1 c.in-None.ensures.none
 
 pub returns-in-Some-clause-state : goal.returns-in-Some-clause-state
 returns-in-Some-clause-state c =
@@ -23,11 +20,3 @@ returns-in-Some-clause-state c =
     (stands_is c.self.inside c.args.g.number c.in-Some.at f.0 c.args.self.now c.self.invariant c.self.view_is f.1 f.2 c.requires.stands)
     c.turn.ensures.changed
     ∙ ap (machine.after_turn c.args.place c.args.g.number) c.self.view_is
-
-pub returns-in-None-clause-examined : goal.returns-in-None-clause-examined
-returns-in-None-clause-examined c = never_absent _ _ (some_is {P = λ (x : Getting). is_unnotified x.place ≡ false} _ c.requires.stands)
-    (none_shown c.self.inside c.args.g.number c.args.self.now c.self.view_is c.in-None.ensures.none)
-
-pub returns-in-None-clause-counted : goal.returns-in-None-clause-counted
-returns-in-None-clause-counted c = never_absent _ _ (some_is {P = λ (x : Getting). is_unnotified x.place ≡ false} _ c.requires.stands)
-    (none_shown c.self.inside c.args.g.number c.args.self.now c.self.view_is c.in-None.ensures.none)

@@ -3,10 +3,10 @@ use Rattle.bb8_types.specs.Places.{stands, is_guarded}
 use Rattle.bb8_tables.proofs.RecordPlaces.{none_shown, some_shown}
 use Rattle.bb8_tables.proofs.records.Records.is_guarded.Goals as goal
 
-pub returns-in-None : goal.returns-in-None
-returns-in-None g c = sym (ap (stands is_guarded) (none_shown c.self.inside c.args.k.number c.args.self.now c.self.view_is c.in-None.ensures.none))
+pub returns-in-None-clause-value : goal.returns-in-None-clause-value
+returns-in-None-clause-value g c = sym (ap (stands is_guarded) (none_shown c.self.inside c.args.k.number c.args.self.now c.self.view_is c.in-None.ensures.none))
 
-pub returns-in-Some : goal.returns-in-Some
-returns-in-Some g c =
+pub returns-in-Some-clause-value : goal.returns-in-Some-clause-value
+returns-in-Some-clause-value g c =
     let f = c.in-Some.ensures.some in
-    f.4 ∙ sym (ap (stands is_guarded) (some_shown c.self.inside c.args.k.number f.0 f.1 f.1 c.args.self.now c.self.invariant c.self.view_is f.2 f.3 (sym f.2)))
+    c.is_guarded.ensures ∙ sym (ap (stands is_guarded) (some_shown c.self.inside c.args.k.number f.0 c.in-Some.slot.now c.in-Some.slot.now c.args.self.now c.self.invariant c.self.view_is f.1 f.2 (sym f.1)))

@@ -34,7 +34,8 @@ invariant_of-self-in_err-grow g c =
     let r = c.reserve.ensures in
     let same : c.grow.new.self ≡ a.unclaimed = c.in_err-grow.ensures.err in
     let room : c.grow.new.self.capacity ≡ a.unclaimed.capacity = ap (λ (b : Buffer Key). b.capacity) same in
-    kept_good a c.reserve.new.self a.peak c.self.invariant r.kept r.line r.births c.grow.new.self (ap (λ (b : Buffer Key). b.items) same) z.peak_holds z.peak_few (omega (arith, z.room_holds, r.more)) (omega (arith, z.unclaimed_room_holds))
+    kept_good a c.reserve.new.self a.peak c.self.invariant r.kept r.line r.births c.grow.new.self (ap (λ (b : Buffer Key). b.items) same) z.peak_holds z.peak_few
+    (omega (arith, z.room_holds, r.more)) (omega (arith, z.unclaimed_room_holds))
 
 pub returns-in_err-grow-clause-err : goal.returns-in_err-grow-clause-err
 returns-in_err-grow-clause-err g c =
@@ -51,7 +52,8 @@ invariant_of-self-2 g c =
     let peak : a.peak ≡ c.args.self.now.peak = ap (λ (s : ShownRecords g.row.C.Denot). s.peak) c.self.view_is in
     let items = ap (λ (b : Buffer Key). b.items) c.in_ok-grow.ensures.ok in
     let capacity : c.grow.new.self.capacity ≡ c.args.peak = ap (λ (b : Buffer Key). b.capacity) c.in_ok-grow.ensures.ok in
-    kept_good a c.reserve.new.self c.args.peak c.self.invariant r.kept r.line r.births c.grow.new.self items (omega (arith, z.peak_holds, c.requires.higher)) c.requires.few (omega (arith, c.in_ok-reserve.ensures.room)) (omega arith)
+    kept_good a c.reserve.new.self c.args.peak c.self.invariant r.kept r.line r.births c.grow.new.self items (omega (arith, z.peak_holds, c.requires.higher)) c.requires.few
+    (omega (arith, c.in_ok-reserve.ensures.room)) (omega arith)
 
 pub returns-clause-ok : goal.returns-clause-ok
 returns-clause-ok g c =

@@ -10,4 +10,10 @@ returns-clause-ends g c =
     (aged.ends.0, idle.ends.0, both.0, both.1)
 
 pub overflow_add-result : goal.overflow_add-result
-overflow_add-result g c = omega (arith, c.reap_aged-by_life.ensures.ends.1.conns, c.reap_idle-by_idle.ensures.ends.1.ends.conns, conns_few c.self.inside c.args.self.now c.self.invariant c.self.view_is)
+overflow_add-result g c = omega (
+  arith,
+  c.reap_aged-by_life.ensures.ends.1.conns,
+  c.reap_idle-by_idle.ensures.ends.1.ends.conns,
+  conns_few c.self.inside c.args.self.now c.self.invariant
+      c.self.view_is,
+)

@@ -15,7 +15,8 @@ pass_birth-requires-clause-stands g c = births_stands (rw c.in-Some.is at c.loop
 pub loop-preserved : goal.loop-preserved
 loop-preserved g c = elim c.match-pass_birth.branch [
   | in-Out w ↦ rw (w.many-is, w.at-is, w.self-inside-is, w.closed-is) (births_out (rw c.in-Some.is at c.loop.invariant) w.in-Out.ensures.value w.in-Out.ensures.examined)
-  | in-Aged w ↦ rw (w.many-is, w.at-is, w.self-inside-is, w.closed-is) (births_aged (rw c.in-Some.is at c.loop.invariant) w.in-Aged.ensures.value w.close_at.ensures.state refl w.close_at.ensures.listed w.in-Aged.ensures.examined)
+  | in-Aged w ↦ rw (w.many-is, w.at-is, w.self-inside-is, w.closed-is)
+      (births_aged (rw c.in-Some.is at c.loop.invariant) w.in-Aged.ensures.value w.close_at.ensures.state refl w.close_at.ensures.listed w.in-Aged.ensures.examined)
 ]
 
 pub returns-after-loop-clause-none_left : goal.returns-after-loop-clause-none_left

@@ -1,64 +1,40 @@
-use Rattle.std.proofs.Common.{refl, ap, sym, ◌∙◌, arith}
+use Rattle.std.proofs.Common.{refl, ap, sym, ◌∙◌}
 use Rattle.std.specs.FinMap.{get}
 use Rattle.bb8_types.specs.Places.{first_of, place_with}
 use Rattle.bb8_tables.specs.Machine as machine
 use Rattle.bb8_tables.specs.Views.{ShownRecords}
-use Rattle.bb8_tables.proofs.Lent.{adds_lent}
-use Rattle.bb8_tables.proofs.RecordPlaces.{first_stands, put_stands, take_good, take_view, taken_first, taken_connection, never_without, idle_none}
+use Rattle.bb8_tables.proofs.RecordPlaces.{put_stands, take_good, take_view, taken_first, taken_connection, idle_none}
 use Rattle.bb8_tables.proofs.records.Records.take.Goals as goal
 use Rattle.bb8_tables.proofs.records.Records.take.Goals.{in-None-connection_of, in-Some-connection_of}
-
-pub put-number-requires : goal.put-number-requires
-put-number-requires g c = record { stands = first_stands c.self.inside _ c.in-Some.place c.self.invariant c.in-Some.ensures }
 
 pub step_out-requires : goal.step_out-requires
 step_out-requires g c = put_stands c.self.inside _ c.in-Some.place _ c.put-number.new.self c.self.invariant c.in-Some.ensures c.put-number.ensures.changed
 
 pub returns-in-None-clause-none : goal.returns-in-None-clause-none
-returns-in-None-clause-none g c = (ap (λ (s : ShownRecords g.row.C.Denot). first_of c.args.strategy s.idle) (sym c.self.view_is) ∙ idle_none c.self.inside c.args.strategy (sym c.in-None.ensures), refl, refl)
-
-pub returns-after-connection_of-clause-none : goal.returns-after-connection_of-clause-none
-returns-after-connection_of-clause-none g c = elim c.match-connection_of.branch [
-  | in-None-connection_of w ↦ never_without c.self.inside c.args.strategy c.in-Some.place c.put-number.result.0 c.args.holder c.place_of.result c.put-number.new.self c.step_out.new.self
-      c.self.invariant c.in-Some.ensures c.put-number.ensures.number c.place_of.ensures c.put-number.ensures.changed c.step_out.ensures
-      c.put-number.result.1 _ c.put-number.ensures.value w.in-None-connection_of.ensures.none
-  | in-Some-connection_of w ↦ rw w.result-is tt
-]
+returns-in-None-clause-none g c = (
+  ap (λ (s : ShownRecords g.row.C.Denot). first_of c.args.strategy s.idle) (sym c.self.view_is) ∙ idle_none c.self.inside c.args.strategy
+      (sym c.in-None.ensures),
+  refl,
+  refl,
+)
 
 pub invariant_of-self : goal.invariant_of-self
 invariant_of-self g c = take_good c.self.inside c.args.strategy c.in-Some.place c.put-number.result.0 c.args.holder c.place_of.result c.put-number.new.self c.step_out.new.self
     c.self.invariant c.in-Some.ensures c.put-number.ensures.number c.place_of.ensures c.put-number.ensures.changed c.step_out.ensures
 
 pub returns-after-connection_of-clause-some : goal.returns-after-connection_of-clause-some
-returns-after-connection_of-clause-some g c =
-    let took = taken_connection c.self.inside c.args.strategy c.in-Some.place c.put-number.result.0 c.args.holder c.place_of.result c.put-number.new.self c.step_out.new.self
-    c.self.invariant c.in-Some.ensures c.put-number.ensures.number c.place_of.ensures c.put-number.ensures.changed c.step_out.ensures in
-    elim c.match-connection_of.branch [
-      | in-None-connection_of w ↦ rw w.result-is tt
-      | in-Some-connection_of w ↦ rw w.result-is (
-        ap (λ (s : ShownRecords g.row.C.Denot). first_of c.args.strategy s.idle) (sym c.self.view_is)
-            ∙ taken_first c.self.inside c.args.strategy c.in-Some.place c.put-number.result.0 c.args.holder c.place_of.result c.put-number.new.self c.step_out.new.self
-            c.self.invariant c.in-Some.ensures c.put-number.ensures.number c.place_of.ensures c.put-number.ensures.changed c.step_out.ensures,
-        (let was = took w.in-Some-connection_of.conn c.put-number.result.1 c.put-number.ensures.value w.in-Some-connection_of.ensures.some in
-            (was.0, was.1, ap (λ (s : ShownRecords g.row.C.Denot). get s.places c.put-number.result.0) (sym c.self.view_is) ∙ was.2)),
-        take_view c.self.inside c.args.strategy c.in-Some.place c.put-number.result.0 c.args.holder c.place_of.result c.put-number.new.self c.step_out.new.self
-            c.self.invariant c.in-Some.ensures c.put-number.ensures.number c.place_of.ensures c.put-number.ensures.changed c.step_out.ensures
-            ∙ ap (machine.after_take (place_with c.args.holder) c.put-number.result.0) c.self.view_is,
-      )
-    ]
-
-pub returns-after-connection_of-clause-examined : goal.returns-after-connection_of-clause-examined
-returns-after-connection_of-clause-examined g c = elim c.match-connection_of.branch [
-  | in-None-connection_of w ↦ never_without c.self.inside c.args.strategy c.in-Some.place c.put-number.result.0 c.args.holder c.place_of.result c.put-number.new.self c.step_out.new.self
-      c.self.invariant c.in-Some.ensures c.put-number.ensures.number c.place_of.ensures c.put-number.ensures.changed c.step_out.ensures
-      c.put-number.result.1 _ c.put-number.ensures.value w.in-None-connection_of.ensures.none
-  | in-Some-connection_of w ↦ rw (w.result-is, c.put-number.ensures.examined) (adds_lent c.args.lendings.now)
-]
-
-pub returns-after-connection_of-clause-counted : goal.returns-after-connection_of-clause-counted
-returns-after-connection_of-clause-counted g c = elim c.match-connection_of.branch [
-  | in-None-connection_of w ↦ never_without c.self.inside c.args.strategy c.in-Some.place c.put-number.result.0 c.args.holder c.place_of.result c.put-number.new.self c.step_out.new.self
-      c.self.invariant c.in-Some.ensures c.put-number.ensures.number c.place_of.ensures c.put-number.ensures.changed c.step_out.ensures
-      c.put-number.result.1 _ c.put-number.ensures.value w.in-None-connection_of.ensures.none
-  | in-Some-connection_of w ↦ rw (w.result-is, c.put-number.ensures.examined) (omega arith)
+returns-after-connection_of-clause-some g c = elim c.match-connection_of.branch [
+  | in-None-connection_of w ↦ rw w.result-is tt
+  | in-Some-connection_of w ↦ rw w.result-is (
+    ap (λ (s : ShownRecords g.row.C.Denot). first_of c.args.strategy s.idle) (sym c.self.view_is)
+        ∙ taken_first c.self.inside c.args.strategy c.in-Some.place c.put-number.result.0 c.args.holder c.place_of.result c.put-number.new.self c.step_out.new.self
+        c.self.invariant c.in-Some.ensures c.put-number.ensures.number c.place_of.ensures c.put-number.ensures.changed c.step_out.ensures,
+    (let was = taken_connection c.self.inside c.args.strategy c.in-Some.place c.put-number.result.0 c.args.holder c.place_of.result c.put-number.new.self c.step_out.new.self
+        c.self.invariant c.in-Some.ensures c.put-number.ensures.number c.place_of.ensures c.put-number.ensures.changed c.step_out.ensures
+        w.in-Some-connection_of.conn c.put-number.result.1 c.put-number.ensures.value w.in-Some-connection_of.ensures.some in
+        (was.0, was.1, ap (λ (s : ShownRecords g.row.C.Denot). get s.places c.put-number.result.0) (sym c.self.view_is) ∙ was.2)),
+    take_view c.self.inside c.args.strategy c.in-Some.place c.put-number.result.0 c.args.holder c.place_of.result c.put-number.new.self c.step_out.new.self
+        c.self.invariant c.in-Some.ensures c.put-number.ensures.number c.place_of.ensures c.put-number.ensures.changed c.step_out.ensures
+        ∙ ap (machine.after_take (place_with c.args.holder) c.put-number.result.0) c.self.view_is,
+  )
 ]

@@ -10,9 +10,11 @@ same_first now None = refl
 same_first now (Some t) = refl
 
 pub invariant_of-self : goal.invariant_of-self
-invariant_of-self c = Linked.restood_good c.self.inside c.self.invariant c.args.at c.index_mut.result.now (record c.index_mut.result.now { slot = record c.index_mut.result.now.slot { standing = record { place = Waiting false; first_wait = Some c.unwrap_or.result } } }) c.args.self.now c.self.view_is c.requires.stands c.index_mut.ensures.value refl refl refl refl
+invariant_of-self c = Linked.restood_good c.self.inside c.self.invariant c.args.at c.index_mut.result.now c.args.self.now c.self.view_is c.requires.stands c.index_mut.ensures.value
+    (record { place = Waiting false; first_wait = Some c.unwrap_or.result })
 
 pub returns-clause-changed : goal.returns-clause-changed
-returns-clause-changed c = Linked.restood_view c.self.inside c.self.invariant c.args.at c.index_mut.result.now (record c.index_mut.result.now { slot = record c.index_mut.result.now.slot { standing = record { place = Waiting false; first_wait = Some c.unwrap_or.result } } }) c.args.self.now c.self.view_is c.requires.stands c.index_mut.ensures.value refl refl refl refl
-    (λ s. get_in_wait c.args.now s)
-    (ap (λ (n : ℕ). record { place = Waiting false; first_wait = Some n }) (c.unwrap_or.ensures ∙ sym (same_first c.args.now c.index_mut.result.now.slot.standing.first_wait)))
+returns-clause-changed c = Linked.restood_view c.self.inside c.self.invariant c.args.at c.index_mut.result.now c.args.self.now c.self.view_is c.requires.stands c.index_mut.ensures.value
+    (record { place = Waiting false; first_wait = Some c.unwrap_or.result })
+    (λ s. get_in_wait c.args.now s) (ap (λ (n : ℕ). record { place = Waiting false; first_wait = Some n })
+    (c.unwrap_or.ensures ∙ sym (same_first c.args.now c.index_mut.result.now.slot.standing.first_wait)))

@@ -1,9 +1,6 @@
-use Rattle.std.proofs.Common.{length, sym, ap, ◌∙◌}
 use Rattle.bb8_tables.specs.declared.links.Order.TheVariants.{Free}
-use Rattle.bb8_tables.specs.declared.table.Slot.{Slot}
-use Rattle.bb8_tables.specs.Lined.{Lined}
 use Rattle.bb8_tables.proofs.Linked
 use Rattle.bb8_tables.proofs.table.Table.room.Goals as goal
 
 pub returns : goal.returns
-returns g c = sym (Linked.sized c.self.inside c.self.invariant Free) ∙ ap (λ (t : Lined (Slot g.row.S.Denot)). length t.free) c.self.view_is
+returns g c = Linked.counted c.self.inside c.self.invariant c.args.self.now Free c.self.view_is

@@ -1,6 +1,5 @@
-use Rattle.std.proofs.Common.{◌≡◌, false, refl, sym, ◌∙◌}
+use Rattle.bb8_tasks.proofs.Words.{◌≡◌, false, refl, sym, ◌∙◌, fits}
 use Rattle.bb8_ledger.specs.Acts as acts
-use Rattle.bb8_ledger.specs.Table.{fits}
 use Rattle.bb8_tasks.proofs.plain.PoolInternalsHome.opened.Goals as goal
 
 pub returns-then-not-fits_opened : goal.returns-then-not-fits_opened

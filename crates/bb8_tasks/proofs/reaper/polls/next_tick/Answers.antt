@@ -1,5 +1,4 @@
-use Rattle.std.proofs.Common.{arith, rules}
-use Rattle.std.specs.Duration.{as_nanos}
+use Rattle.bb8_tasks.proofs.Words.{arith, rules, as_nanos}
 use Rattle.bb8_tasks.proofs.Ticks.{first_tick}
 use Rattle.bb8_tasks.proofs.reaper.polls.next_tick.Goals as goal
 

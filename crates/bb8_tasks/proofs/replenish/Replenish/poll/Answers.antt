@@ -1,5 +1,4 @@
-use Rattle.std.proofs.Common.{◌≡◌, false, refl, sym, ◌∙◌, arith}
-use Rattle.bb8_tasks.specs.Replenishing.{is_done}
+use Rattle.bb8_tasks.proofs.Words.{◌≡◌, false, refl, sym, ◌∙◌, arith, is_done}
 use Rattle.bb8_tasks.proofs.replenish.Replenish.poll.Goals as goal
 
 pub returns : goal.returns

@@ -1,6 +1,4 @@
-use Rattle.std.proofs.Common.{◌≡◌, ◌≤◌}
-use Rattle.std.specs.VecDeque.{deque_len, deque_capacity}
-use Rattle.bb8_tasks.specs.Sweeping.{AreFor}
+use Rattle.bb8_tasks.proofs.Words.{◌≡◌, ◌≤◌, deque_len, deque_capacity, AreFor}
 use Rattle.bb8_tasks.proofs.tasks.Tasks.for_approvals.Given as goal
 
 abbrev pub invariant-loop-i : goal.invariant-loop-i

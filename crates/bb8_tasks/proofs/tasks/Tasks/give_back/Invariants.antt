@@ -1,6 +1,4 @@
-use Rattle.std.specs.VecDeque.{deque_len}
-use Rattle.bb8_tasks.specs.Replenishing.{LetsGo}
-use Rattle.bb8_tasks.specs.Sweeping.{LetsGoEach}
+use Rattle.bb8_tasks.proofs.Words.{deque_len, LetsGo, LetsGoEach}
 use Rattle.bb8_tasks.proofs.tasks.Tasks.give_back.Given as goal
 
 abbrev pub invariant-loop-task : goal.invariant-loop-task

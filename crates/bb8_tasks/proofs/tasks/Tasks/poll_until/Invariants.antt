@@ -1,7 +1,4 @@
-use Rattle.std.proofs.Common.{◌-◌}
-use Rattle.std.specs.Duration.{as_nanos}
-use Rattle.bb8_tasks.specs.Replenishing.{TaskPolls}
-use Rattle.bb8_tasks.specs.Sweeping.{RoundMidway}
+use Rattle.bb8_tasks.proofs.Words.{◌-◌, as_nanos, TaskPolls, RoundMidway}
 use Rattle.bb8_tasks.proofs.tasks.Tasks.poll_until.Given as goal
 
 abbrev pub invariant-loop : goal.invariant-loop

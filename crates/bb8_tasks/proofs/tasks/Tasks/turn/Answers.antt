@@ -1,5 +1,4 @@
-use Rattle.std.proofs.Common.{inl, inr}
-use Rattle.std.specs.Duration.{as_nanos}
+use Rattle.bb8_tasks.proofs.Words.{inl, inr, as_nanos}
 use Rattle.bb8_tasks.proofs.Ending.{ended}
 use Rattle.bb8_tasks.proofs.tasks.Tasks.turn.Goals as goal
 

@@ -1,0 +1,14 @@
+use Rattle.std.proofs.Common.{refl}
+use Rattle.bb8_lock.specs.Linked.{Answers}
+use Rattle.bb8_lock.proofs.waits.SharedWaitsConnectionErrorCheckingPart.wait_for.Goals as goal
+
+pub loop-init : goal.loop-init
+loop-init g c = λ x answers. (_, refl, c.new-home.ensures, rw c.new-get.ensures at answers)
+
+pub returns-in-Ready : goal.returns-in-Ready
+returns-in-Ready g c =
+    c.loop.invariant _ (Answers.now _ _ _ (_, c.in-Ready.ensures, c.cancel_step.ensures))
+
+pub loop-preserved : goal.loop-preserved
+loop-preserved g c = λ x more.
+    c.loop.invariant x (Answers.later _ _ _ (_, c.in-Pending.ensures, (_, c.release.ensures, (c.now-now.result, c.now-now.ensures))) more)

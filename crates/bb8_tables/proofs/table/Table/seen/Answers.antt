@@ -1,7 +1,0 @@
-use Rattle.std.proofs.Common.{None, get_or, sym, ap, ◌∙◌}
-use Rattle.bb8_tables.specs.declared.table.Slot.{Slot}
-use Rattle.bb8_tables.specs.Lined.{Lined}
-use Rattle.bb8_tables.proofs.table.Table.seen.Goals as goal
-
-pub returns-in-Some-clause-some : goal.returns-in-Some-clause-some
-returns-in-Some-clause-some g c = (c.args.hint, ap (λ (t : Lined (Slot g.row.S.Denot)). get_or t.slots c.args.hint None) (sym c.self.view_is) ∙ c.in-Some.ensures.some.0, c.in-Some.ensures.some.1)
