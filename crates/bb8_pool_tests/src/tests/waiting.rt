@@ -5,8 +5,11 @@ use bb8::{
     Driver, MachineClock, Moment, NopCustomizer, Pool, PoolCalls, PoolParts, RunError, Runtime,
     Service, SetClock, State, User,
 };
-use bb8_trials::{Board, Course, Errors, Number, Server, builder_on, connection_on, server_on};
+use bb8_trials::{
+    Board, Connection, Course, Errors, Number, Server, builder_on, connection_on, server_on,
+};
 use std::alloc::Global;
+use std::ops::DerefMut;
 use std::sync::Arc;
 use std::test::Fail;
 use std::thread::{self, Threads};
@@ -163,6 +166,14 @@ struct AtOnce {
     board: Arc<Board, Global>,
 }
 
+/// The number of a connection that was had.
+fn number_of<G: DerefMut<Target = Connection>>(guard: &Option<G>) -> Option<u64> {
+    match guard {
+        Some(guard) => Some(guard.number),
+        None => None,
+    }
+}
+
 /// The counts of gets.
 fn counts(state: State) -> [u64; 4] {
     let counts = state.statistics;
@@ -183,22 +194,19 @@ impl<R: Runtime> User<Server, Errors, NopCustomizer, SetClock, R> for AtOnce {
         _driver: &mut Driver<Server, Errors, NopCustomizer, SetClock, R, L>,
     ) -> Option<[Found; 4]> {
         let before = PoolCalls::state(pool);
-        let nothing = PoolCalls::try_get(pool).ok()?.map(|guard| guard.number);
+        let nothing = number_of(&PoolCalls::try_get(pool).ok()?);
         if PoolCalls::state(pool) != before {
             return None;
         }
         let nothing = (nothing, counts(before));
         PoolCalls::add(pool, connection_on(&self.board, 7).ok()?).ok()?;
         let guard = PoolCalls::try_get(pool).ok()?;
-        let one = (
-            guard.as_ref().map(|guard| guard.number),
-            counts(PoolCalls::state(pool)),
-        );
-        let out = PoolCalls::try_get(pool).ok()?.map(|guard| guard.number);
+        let one = (number_of(&guard), counts(PoolCalls::state(pool)));
+        let out = number_of(&PoolCalls::try_get(pool).ok()?);
         let out = (out, counts(PoolCalls::state(pool)));
         drop(guard);
         self.board.check.set(Course::Lasts);
-        let checked = PoolCalls::try_get(pool).ok()?.map(|guard| guard.number);
+        let checked = number_of(&PoolCalls::try_get(pool).ok()?);
         Some([nothing, one, out, (checked, counts(PoolCalls::state(pool)))])
     }
 }
