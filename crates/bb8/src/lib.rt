@@ -24,7 +24,6 @@
 #![tactic(auto)]
 
 mod alone;
-mod blocking;
 mod builder;
 pub mod building;
 pub mod dedicated;
