@@ -10,7 +10,7 @@ use bb8::{
     Moment, NoThread, NopCustomizer, NopErrorSink, Pool, PoolParts, RunError, Runtime, SetClock,
     drive,
 };
-use bb8_trials::{OwnedHandle, Unbuilt, sizes};
+use bb8_trials::{Handle, OwnedHandle, Unbuilt, sizes};
 use futures::task::Poll;
 use futures::test::MockTask;
 use std::marker::Brand;
@@ -104,19 +104,35 @@ fn owns<P: OwnedHandle<Server>>(rt: &impl Abort, task: &MockTask, pool: &P) -> M
     met
 }
 
-/// The first poll of a building opens both first connections and answers the pool, which serves a get, or `Memory`.
-fn builds<B: Unbuilt<Server>>(rt: &impl Abort, task: &MockTask, mut building: B) -> Met {
+/// The pool that the first poll of a building answers, which opened both first connections. None where it answers `Memory`.
+fn built<B: Unbuilt<Server>>(rt: &impl Abort, task: &MockTask, mut building: B) -> Option<B::Pool> {
     match building.poll(task) {
-        Poll::Ready(Ok(pool)) => {
-            assert_equal(rt, sizes(pool.state()), (2, 2));
-            owns(rt, task, &pool)
+        Poll::Ready(Ok(pool)) => Some(pool),
+        Poll::Ready(Err(error)) => {
+            assert_equal(rt, error, RunError::Memory);
+            None
+        }
+        Poll::Pending => panic!(rt; "the building is pending"),
+    }
+}
+
+/// A get of a pool that was built with two connections is served, or told `Memory`; then the pool is as before.
+fn gets<P: Handle<Server>>(rt: &impl Abort, task: &MockTask, pool: P) -> Met {
+    assert_equal(rt, sizes(pool.state()), (2, 2));
+    let met = match pool.poll(task, &mut pool.get()) {
+        Poll::Ready(Ok(guard)) => {
+            assert_equal(rt, sizes(pool.state()), (2, 1));
+            drop(guard);
+            Met::Nothing
         }
         Poll::Ready(Err(error)) => {
             assert_equal(rt, error, RunError::Memory);
             Met::Refusal
         }
-        Poll::Pending => panic!(rt; "the building is pending"),
-    }
+        Poll::Pending => panic!(rt; "the get waits"),
+    };
+    assert_equal(rt, sizes(pool.state()), (2, 2));
+    met
 }
 
 /// A connection is added, or withheld; the pool is cloned, or the clone refused; and an owned get is served by what is left of the two.
@@ -247,7 +263,10 @@ fn run_on<R: Runtime + Abort + Threads + Eprint, L: PoolParts + 'static>(
         let building: Building<Server, NopErrorSink, NopCustomizer, SetClock, R, L> = builder.build(
             server, clock, rt, blank,
         );
-        return Ok(builds(&rt, &task, building));
+        return Ok(match built(&rt, &task, building) {
+            Some(pool) => gets(&rt, &task, &pool),
+            None => Met::Refusal,
+        });
     }
     let pool: TestPool<R, L> = builder.build_unchecked(server, clock, rt, blank)?;
     let mut driver = Driver::new(&pool)?;
