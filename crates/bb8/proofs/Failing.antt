@@ -16,12 +16,12 @@ use Rattle.bb8_tasks.specs.declared.home.Home.{Ghosts as HomeOf}
 use Rattle.bb8_tasks.specs.declared.home.OpenedStep.{OpenedStep}
 use Rattle.bb8_tasks.specs.declared.home.OpenedStep.TheVariants as opened
 use Rattle.bb8_tasks.specs.declared.opener.PoolOpener.{PoolOpener}
-use Rattle.bb8_tasks.specs.declared.replenish.Next.{Next}
+use Rattle.bb8_tasks.specs.declared.replenish.ReplenishStep.{ReplenishStep}
 use Rattle.bb8_tasks.specs.declared.replenish.Replenish.{Replenish}
 use Rattle.bb8_tasks.specs.declared.replenish.ReplenishAnswer.{ReplenishAnswer}
 use Rattle.bb8_tasks.specs.declared.replenish.ReplenishAnswer.TheVariants.{Pending, Retrying, Failed, Entered, Late, GivenBack}
-use Rattle.bb8_tasks.specs.declared.replenish.Stage.{Stage}
-use Rattle.bb8_tasks.specs.declared.replenish.Stage.TheVariants.{Start, Connecting, Acquiring, Sleeping, Done}
+use Rattle.bb8_tasks.specs.declared.replenish.ReplenishStage.{ReplenishStage}
+use Rattle.bb8_tasks.specs.declared.replenish.ReplenishStage.TheVariants.{Start, Connecting, Acquiring, Sleeping, Done}
 use Rattle.bb8_tasks.specs.declared.replenish.Tries.{Tries}
 use Rattle.bb8_tasks.specs.declared.rounds.OnFailure.TheVariants.{Stop}
 use Rattle.bb8_tasks.specs.declared.rounds.Round.{Round}
@@ -53,7 +53,7 @@ module _ {E : Type 0} (Known : E → Type 0) where
   Ended round.Complete = ⊤
   Ended (round.Going ts) = ⊤
 
-  known : {C N A : Type 0} (a : ReplenishAnswer E) (next : Next C N A E) → next.answer ≡ a → Told a → Told next.answer
+  known : {C N A : Type 0} (a : ReplenishAnswer E) (next : ReplenishStep C N A E) → next.answer ≡ a → Told a → Told next.answer
   known a next is told = subst (λ (x : ReplenishAnswer E). Told x) (sym is) told
 
 -- rounds, over tasks and a sink that leave it so that the calls outside are these
@@ -109,7 +109,7 @@ module _ {M S Z K R L C E N V A : Type 0} {manager : ManagerOf M C E N V} {d : D
   still {H} x x' same is = ap (λ (y : Joined (PoolOpener M S Z K) H). y.outside) same ∙ is
 
   module _ {H : Type 0} (home : HomeOf H C) (timeout : ℕ) (retry : Bool) (approval : Key) (at : Moment) where
-    fails : (tries : Tries) (e : E) (x x' : Joined (PoolOpener M S Z K) H) (next : Next C N A E) → IsBy x → Known e
+    fails : (tries : Tries) (e : E) (x x' : Joined (PoolOpener M S Z K) H) (next : ReplenishStep C N A E) → IsBy x → Known e
         → replenishing.TaskFails (joined_tasks home) timeout retry approval at tries e x next x' → IsBy x' × Told Known next.answer
     fails tries e x x' next is by f = by_retry retry refl
       where
@@ -124,14 +124,14 @@ module _ {M S Z K R L C E N V A : Type 0} {manager : ManagerOf M C E N V} {d : D
               | inr within ↦ (let s = f.1 (sym on) within in (still x x' s.2.2 is, known Known (Retrying e) next s.2.0 tt))
             ]
 
-    opens : (step : OpenedStep C) (x x' : Joined (PoolOpener M S Z K) H) (next : Next C N A E) → IsBy x
+    opens : (step : OpenedStep C) (x x' : Joined (PoolOpener M S Z K) H) (next : ReplenishStep C N A E) → IsBy x
         → replenishing.AfterOpened (joined_tasks home) timeout retry approval at (joined_opener (pool_opener z sinks tells shared)) step x next x'
         → IsBy x' × Told Known next.answer
     opens (opened.Entered notified) x x' next is a = (still x x' a.2 is, known Known Entered next a.0 tt)
     opens (opened.Late c) x x' next is (x1, dropped, a) = (still x1 x' a.2 (dropped.0 ∙ is), known Known Late next a.0 tt)
     opens (opened.Unfit c) x x' next is (x1, dropped, a) = (still x1 x' a.2 (dropped.0 ∙ is), known Known GivenBack next a.0 tt)
 
-    prepares : (answer : Poll (Result (Unit {0}) E)) (tries : Tries) (c0 c : C) (a0 a : A) (x x' : Joined (PoolOpener M S Z K) H) (next : Next C N A E) → IsBy x
+    prepares : (answer : Poll (Result (Unit {0}) E)) (tries : Tries) (c0 c : C) (a0 a : A) (x x' : Joined (PoolOpener M S Z K) H) (next : ReplenishStep C N A E) → IsBy x
         → z.acquire_answers calls.customizer.now c0 a0 at answer c a
         → replenishing.AfterTaskAcquire (joined_tasks home) timeout retry approval at (joined_opener (pool_opener z sinks tells shared)) answer tries c a x next x'
         → IsBy x' × Told Known next.answer
@@ -140,13 +140,13 @@ module _ {M S Z K R L C E N V A : Type 0} {manager : ManagerOf M C E N V} {d : D
     prepares (poll.Ready (Err e)) tries c0 c a0 a x x' next is said (x1, ended, (x2, dropped, p)) =
         fails tries e x2 x' next (dropped.0 ∙ ended.0 ∙ is) (inr (c0, a0, at, c, a, said)) p
 
-    acquires : (tries : Tries) (c : C) (a : A) (x x' : Joined (PoolOpener M S Z K) H) (next : Next C N A E) → IsBy x
+    acquires : (tries : Tries) (c : C) (a : A) (x x' : Joined (PoolOpener M S Z K) H) (next : ReplenishStep C N A E) → IsBy x
         → replenishing.TaskAcquires (joined_tasks home) timeout retry approval at (joined_opener (pool_opener z sinks tells shared)) tries c a x next x'
         → IsBy x' × Told Known next.answer
     acquires tries c a x x' next is (answer, c1, a1, x1, polled, p) =
         prepares answer tries c c1 a a1 x1 x' next (polled.0.1 ∙ is) (subst (λ (w : PoolOpener M S Z K). z.acquire_answers w.customizer.now c a at answer c1 a1) is polled.0.0) p
 
-    connected : (answer : Poll (Result C E)) (tries : Tries) (v0 v : N) (x x' : Joined (PoolOpener M S Z K) H) (next : Next C N A E) → IsBy x
+    connected : (answer : Poll (Result C E)) (tries : Tries) (v0 v : N) (x x' : Joined (PoolOpener M S Z K) H) (next : ReplenishStep C N A E) → IsBy x
         → manager.connect_answers calls.manager.now v0 at answer v
         → replenishing.AfterTaskConnect (joined_tasks home) timeout retry approval at (joined_opener (pool_opener z sinks tells shared)) answer tries v x next x'
         → IsBy x' × Told Known next.answer
@@ -154,18 +154,18 @@ module _ {M S Z K R L C E N V A : Type 0} {manager : ManagerOf M C E N V} {d : D
     connected (poll.Ready (Ok c)) tries v0 v x x' next is said (x1, ended, (a, c1, x2, begun, p)) = acquires tries c1 a x2 x' next (begun.0.1 ∙ ended.0 ∙ is) p
     connected (poll.Ready (Err e)) tries v0 v x x' next is said (x1, ended, p) = fails tries e x1 x' next (ended.0 ∙ is) (inl (v0, at, v, said)) p
 
-    connects : (tries : Tries) (v : N) (x x' : Joined (PoolOpener M S Z K) H) (next : Next C N A E) → IsBy x
+    connects : (tries : Tries) (v : N) (x x' : Joined (PoolOpener M S Z K) H) (next : ReplenishStep C N A E) → IsBy x
         → replenishing.TaskConnects (joined_tasks home) timeout retry approval at (joined_opener (pool_opener z sinks tells shared)) tries v x next x'
         → IsBy x' × Told Known next.answer
     connects tries v x x' next is (answer, v1, x1, polled, p) =
         connected answer tries v v1 x1 x' next (polled.0.1 ∙ is) (subst (λ (w : PoolOpener M S Z K). manager.connect_answers w.manager.now v at answer v1) is polled.0.0) p
 
-    begins : (tries : Tries) (x x' : Joined (PoolOpener M S Z K) H) (next : Next C N A E) → IsBy x
+    begins : (tries : Tries) (x x' : Joined (PoolOpener M S Z K) H) (next : ReplenishStep C N A E) → IsBy x
         → replenishing.TaskBegins (joined_tasks home) timeout retry approval at (joined_opener (pool_opener z sinks tells shared)) tries x next x'
         → IsBy x' × Told Known next.answer
     begins tries x x' next is (v, x1, begun, p) = connects tries v x1 x' next (begun.0.1 ∙ is) p
 
-    wakes : (tries : Tries) (due : Option Moment) (x x' : Joined (PoolOpener M S Z K) H) (next : Next C N A E) → IsBy x
+    wakes : (tries : Tries) (due : Option Moment) (x x' : Joined (PoolOpener M S Z K) H) (next : ReplenishStep C N A E) → IsBy x
         → replenishing.Wakes (joined_tasks home) timeout retry approval at (joined_opener (pool_opener z sinks tells shared)) tries due x next x'
         → IsBy x' × Told Known next.answer
     wakes tries None x x' next is p = (still x x' p.2 is, known Known Pending next p.0 tt)
@@ -175,7 +175,7 @@ module _ {M S Z K R L C E N V A : Type 0} {manager : ManagerOf M C E N V} {d : D
           | inr now ↦ begins tries x x' next is (p.0 now)
         ]
 
-    advances : (stage : Stage C N A) (x x' : Joined (PoolOpener M S Z K) H) (next : Next C N A E) → IsBy x
+    advances : (stage : ReplenishStage C N A) (x x' : Joined (PoolOpener M S Z K) H) (next : ReplenishStep C N A E) → IsBy x
         → replenishing.TaskAdvances (joined_tasks home) timeout retry approval at (joined_opener (pool_opener z sinks tells shared)) stage x next x'
         → IsBy x' × Told Known next.answer
     advances Start x x' next is p = begins (record { start = at; failures = 0 }) x x' next is p
@@ -184,21 +184,21 @@ module _ {M S Z K R L C E N V A : Type 0} {manager : ManagerOf M C E N V} {d : D
     advances (Sleeping tries due) x x' next is p = wakes tries due x x' next is p
     advances Done x x' next is p = (still x x' p.2 is, known Known GivenBack next p.0 tt)
 
-    drops : (stage : Stage C N A) (x x' : Joined (PoolOpener M S Z K) H) → IsBy x → replenishing.DropsTask (joined_opener (pool_opener z sinks tells shared)) stage x x' → IsBy x'
+    drops : (stage : ReplenishStage C N A) (x x' : Joined (PoolOpener M S Z K) H) → IsBy x → replenishing.DropsTask (joined_opener (pool_opener z sinks tells shared)) stage x x' → IsBy x'
     drops Start x x' is p = still x x' p is
     drops (Connecting tries v) x x' is p = p.0 ∙ is
     drops (Acquiring tries c a) x x' is (x1, ended, dropped) = dropped.0 ∙ ended.0 ∙ is
     drops (Sleeping tries due) x x' is p = still x x' p is
     drops Done x x' is p = still x x' p is
 
-    proceeds : (alive : Bool) (stage : Stage C N A) (x x' : Joined (PoolOpener M S Z K) H) (next : Next C N A E) → IsBy x
+    proceeds : (alive : Bool) (stage : ReplenishStage C N A) (x x' : Joined (PoolOpener M S Z K) H) (next : ReplenishStep C N A E) → IsBy x
         → replenishing.TaskProceeds (joined_tasks home) timeout retry approval at (joined_opener (pool_opener z sinks tells shared)) alive stage x next x'
         → IsBy x' × Told Known next.answer
     proceeds true stage x x' next is p = advances stage x x' next is p
     proceeds false stage x x' next is (x1, dropped, p) = (p.1.1 ∙ drops stage x x1 is dropped, known Known GivenBack next p.2 tt)
 
   module _ {H : Type 0} (home : HomeOf H C) (timeout : ℕ) (retry : Bool) (at : Moment) where
-    at_stage : (approval : Key) (latest : Moment) (stage : Stage C N A) (t' : Replenish C N A) (x x' : Joined (PoolOpener M S Z K) H) (r : ReplenishAnswer E) → IsBy x
+    at_stage : (approval : Key) (latest : Moment) (stage : ReplenishStage C N A) (t' : Replenish C N A) (x x' : Joined (PoolOpener M S Z K) H) (r : ReplenishAnswer E) → IsBy x
         → replenishing.TaskPolls (joined_tasks home) (joined_opener (pool_opener z sinks tells shared)) timeout retry at
         (record { approval = approval; latest = latest; stage = stage }) x r t' x'
         → IsBy x' × Told Known r

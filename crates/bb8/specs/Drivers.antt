@@ -68,6 +68,11 @@ module _ {M S Z K R L C E N V A : Type 0} {m : ManagerOf M C E N V} {d : DebugOf
   TurnsDriver at driver turn driver' =
       (arc_value driver'.shared ≡ arc_value driver.shared) × OwnTurns z sinks tells (arc_value driver.shared) at driver.turning turn driver'.turning
 
+  -- the pool's clock is read, and a turn made at that moment
+  abbrev pub TurnsDriverNow : Driver M S Z K R L C E N V A m d l → Turn → Driver M S Z K R L C E N V A m d l → Type 0
+  TurnsDriverNow driver turn driver' =
+      (at : Moment) × tells (arc_value driver.shared).clock at × TurnsDriver at driver turn driver'
+
   -- a run of turns of a driver, each at a reading of the pool's clock
   abbrev pub RunsDriver : {G : Type 0} → (G → Bool → G → Type 0) → Driver M S Z K R L C E N V A m d l → G → Driven → Type 0
   RunsDriver pauses driver gate d =

@@ -13,6 +13,7 @@ use bb8_tasks::{Opener, PoolOpener, Reports, Turning};
 use std::alloc::Global;
 use std::sync::{Arc, Wait};
 use std::thread::{JoinHandle, Threads};
+use std::time::Duration;
 
 /// Opens the connections that a pool approved, and reaps those that idled or lived too long, at its turns. Our own: upstream spawns a task
 /// for each opening, and one that reaps.
@@ -41,6 +42,12 @@ pub trait Gate {
     /// Waits as long as it sees fit, and says whether one more turn is to be made. Our own.
     fn pause(&mut self) -> bool
         ensures { pauses self.old result self.new };
+
+    /// How long the thread may then sleep, where nothing wakes it: 50 milliseconds, unless the implementer says otherwise. A pool whose clock
+    /// is not the machine's, or goes otherwise than it, may ask for less. Our own.
+    fn longest(&self) -> Duration {
+        Duration::from_millis(50)
+    }
 }
 
 /// What a run of turns came to. Our own.
@@ -72,11 +79,28 @@ impl<
     }
 }
 
+/// How long a driver's thread may sleep after a turn at a moment: until something is due, and no longer than that. Where that has passed, as it
+/// has for each task whose opening was pending, it is a millisecond.
+fn rest(due: Option<Moment>, at: Moment, longest: Duration) -> Duration {
+    match due {
+        Some(due) => Duration::from_nanos(due.0.saturating_sub(at.0))
+            .max(Duration::from_millis(1))
+            .min(longest),
+        None => longest,
+    }
+}
+
 /// The turn of a driver, as a method of an impl: code that a thread runs writes `DriverCalls::turn(driver, moment)` in place of
 /// `driver.turn(moment)`, as it does with `PoolCalls`. Our own.
 pub trait DriverCalls {
     /// As `Driver::turn`. Our own.
     fn turn(&mut self, moment: Moment) -> Turn;
+
+    /// As `Driver::turn_now`. Our own.
+    fn turn_now(&mut self) -> Turn;
+
+    /// As `Driver::next_due`. Our own.
+    fn next_due(&self) -> Option<Moment>;
 }
 
 impl<
@@ -87,7 +111,8 @@ impl<
     R: Wait + Send + Sync + Drop + 'static,
     L: Parts,
 > DriverCalls for Driver<M, S, Z, K, R, L> {
-    ghost use Rattle.bb8.specs.Drivers.{TurnsDriver};
+    ghost use Rattle.bb8_tasks.specs.Dues.{driver_due};
+    ghost use Rattle.bb8.specs.Drivers.{TurnsDriver, TurnsDriverNow};
 
     fn turn(&mut self, moment: Moment) -> Turn
         ensures table { TurnsDriver Z.CustomizeConnection S.sinks K.tells moment self.old result
@@ -105,6 +130,23 @@ impl<
         );
         pool.turn_with(calls, &mut self.turning, moment)
     }
+
+    fn turn_now(&mut self) -> Turn
+        ensures table { TurnsDriverNow Z.CustomizeConnection S.sinks K.tells self.old result
+            self.new }
+        ensures ended { result.ended ≡ has_ended self.new }
+        ensures none { result.ended ≡ true → result.polled ≡ 0 }
+        ensures stays { has_ended self.old ≡ true → result.ended ≡ true }
+    {
+        let moment = self.shared.clock.now();
+        DriverCalls::turn(self, moment)
+    }
+
+    fn next_due(&self) -> Option<Moment>
+        ensures { result ≡ driver_due self.now.turning }
+    {
+        self.turning.next_due()
+    }
 }
 
 impl<
@@ -115,7 +157,8 @@ impl<
     R: Wait + Send + Sync + Drop + 'static,
     L: Parts,
 > Driver<M, S, Z, K, R, L> {
-    ghost use Rattle.bb8.specs.Drivers.{RunsDriver, TurnsDriver};
+    ghost use Rattle.bb8_tasks.specs.Dues.{driver_due};
+    ghost use Rattle.bb8.specs.Drivers.{RunsDriver, TurnsDriver, TurnsDriverNow};
 
     /// One turn at a moment, in nanoseconds of the pool's clock; for each step it may wait for the pool's lock. Our own.
     ///
@@ -133,8 +176,29 @@ impl<
         DriverCalls::turn(self, moment)
     }
 
+    /// One turn at the moment that the pool's clock tells, which is read first. Our own.
+    pub fn turn_now(&mut self) -> Turn
+        ensures table { TurnsDriverNow Z.CustomizeConnection S.sinks K.tells self.old result
+            self.new }
+        ensures ended { result.ended ≡ has_ended self.new }
+        ensures none { result.ended ≡ true → result.polled ≡ 0 }
+        ensures stays { has_ended self.old ≡ true → result.ended ≡ true }
+    {
+        DriverCalls::turn_now(self)
+    }
+
+    /// When a turn next has something to do, by what the driver holds: at its reaper's next tick, or earlier where an opening is to be
+    /// polled, be it once it has slept after a try that failed, or at once; that is a moment that has passed. None is never. Approvals that
+    /// were granted since the last turn, and a pool without a handle, are not looked for. Our own.
+    pub fn next_due(&self) -> Option<Moment>
+        ensures { result ≡ driver_due self.now.turning }
+    {
+        DriverCalls::next_due(self)
+    }
+
     /// Makes turns, each at a reading of the pool's clock, until one has ended or the gate, which is asked after each other one, does not
-    /// pause. Then the driver is dropped. Our own.
+    /// pause. Before the next one the thread sleeps until an approval is granted, no handle is alive, or something is due, and no longer
+    /// than the gate lets it; where an opening was pending, a millisecond. Then the driver is dropped. Our own.
     pub fn run<G: Gate + Drop>(self, gate: G) -> Driven
         ensures { RunsDriver Z.CustomizeConnection S.sinks K.tells G.pauses self gate result }
     {
@@ -181,6 +245,7 @@ impl<M: ManageConnection, S, Z, K, R: Wait + Send + Sync + Drop + 'static, L: Pa
         let mut pool = Joined { outside, home };
         let mut turns: u64 = 0;
         for _ in self.rt.forever() {
+            let rings = self.locked.drivers.rings();
             let at = pool.now();
             let turn = turning.turn(at, &mut pool, &self.config);
             turns = turns.saturating_add(1);
@@ -193,6 +258,8 @@ impl<M: ManageConnection, S, Z, K, R: Wait + Send + Sync + Drop + 'static, L: Pa
                     ended: false,
                 };
             }
+            let most = rest(turning.next_due(), at, gate.longest());
+            self.locked.drivers.sleep(&self.rt, rings, most);
         }
         unreachable!()
     }

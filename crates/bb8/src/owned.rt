@@ -6,7 +6,7 @@ use crate::handles::Holding;
 use crate::pool::{Cancel, Pool, PoolCalls};
 use bb8_core::api::{Clock, CustomizeConnection, ErrorSink, ManageConnection, RunError};
 use bb8_gets::{Calls, GetState, Taken};
-use bb8_lock::{Gets, Locks, OnShared, Part, Parts};
+use bb8_lock::{GetCalls, Locks, OnShared, Part, Parts};
 use futures::Future;
 use futures::task::{Context, Poll};
 use std::fmt::{Debug, Formatter};

@@ -23,8 +23,6 @@ use std::sync::atomic::{AtomicBool, Ordering};
 use std::sync::ledger::Blank;
 use std::sync::{Arc, Wait};
 use std::thread::{JoinHandle, Threads};
-use std::time::Duration;
-use std::{thread, time};
 
 /// What a program does with its pool in threads, by whatever parts `L` the connections that are out are counted. `Builder::serve` runs
 /// it. Our own.
@@ -109,19 +107,14 @@ impl<
     }
 }
 
-/// How many milliseconds a driver's thread sleeps between two turns.
-const PAUSE: u64 = 1;
-
-/// Sleeps between the turns of a driver, for as long as its service runs.
+/// Lets a driver go on for as long as its service runs.
 #[derive(Drop)]
-struct WhileServing<R> {
-    rt: R,
+struct WhileServing {
     over: Arc<AtomicBool, Global>,
 }
 
-impl<R: time::Clock> Gate for WhileServing<R> {
+impl Gate for WhileServing {
     fn pause(&mut self) -> bool {
-        thread::sleep(&self.rt, Duration::from_millis(PAUSE));
         !self.over.load(Ordering::Relaxed)
     }
 }
@@ -184,7 +177,7 @@ fn drive_while<
     S: ErrorSink<M::Error>,
     Z: CustomizeConnection<M::Connection, M::Error>,
     K: Clock,
-    R: Threads + Wait + time::Clock + AllocGlobal + Copy + Send + Sync + Drop + 'static,
+    R: Threads + Wait + AllocGlobal + Copy + Send + Sync + Drop + 'static,
     L: PoolParts + 'static,
 >(
     pool: &Pool<M, S, Z, K, R, L>,
@@ -192,7 +185,7 @@ fn drive_while<
     over: Arc<AtomicBool, Global>,
 ) -> Result<JoinHandle<Driven>, Memory> {
     let driver = Driver::new(pool)?;
-    Ok(drive(&rt, driver, WhileServing { rt, over })?)
+    Ok(drive(&rt, driver, WhileServing { over })?)
 }
 
 /// Runs a service over a pool whose parts are named.
@@ -201,16 +194,7 @@ fn serve_with<
     S: ErrorSink<M::Error>,
     Z: CustomizeConnection<M::Connection, M::Error>,
     K: Clock,
-    R: Threads
-        + Wait
-        + time::Clock
-        + RandomSource
-        + AllocGlobal
-        + Copy
-        + Send
-        + Sync
-        + Drop
-        + 'static,
+    R: Threads + Wait + RandomSource + AllocGlobal + Copy + Send + Sync + Drop + 'static,
     L: PoolParts + 'static,
     V: Service<M, S, Z, K, R>,
 >(
@@ -251,24 +235,15 @@ impl<
 > Builder<M, S, Z> {
     /// Builds a pool as `build` does, with parts of its own, and waits until its first connections are open. Then it runs a service over
     /// the pool: the service begins, each thread runs with its number, in a thread of its own where one can be made, and once all have
-    /// ended the service ends. A driver makes the pool's turns meanwhile, in one more thread, which sleeps a millisecond between two of
-    /// them. Then the pool is dropped, and the driver with it. Our own.
+    /// ended the service ends. A driver makes the pool's turns meanwhile, in one more thread, which sleeps between two of them while
+    /// nothing is to be done (`Driver::run`). Then the pool is dropped, and the driver with it. Our own.
     ///
     /// The answer is `User` with the error of a first connection that could not be opened, and `Memory` where the pool, or a thread for its
     /// driver, could not be made: then the service did not begin. It is `Memory` too where what the threads tell found no memory: then
     /// some may have run, but the service does not end. Settings are as for `build`.
     pub fn serve<
         K: Clock,
-        R: Threads
-            + Wait
-            + time::Clock
-            + RandomSource
-            + AllocGlobal
-            + Copy
-            + Send
-            + Sync
-            + Drop
-            + 'static,
+        R: Threads + Wait + RandomSource + AllocGlobal + Copy + Send + Sync + Drop + 'static,
         V: Service<M, S, Z, K, R>,
     >(
         self,

@@ -1,6 +1,5 @@
 -- Sums over lines.
-use Rattle.std.proofs.Common.{◌≡◌, ℕ, zero, suc, ◌+◌, List, [], ◌∷◌, ◌++◌, length, Some, slice_get, refl, ap, arith, length-append}
-use Rattle.bb8_bench.specs.Lines.{upto, held}
+use Rattle.bb8_bench.proofs.Words.{◌≡◌, ℕ, zero, suc, ◌+◌, List, [], ◌∷◌, ◌++◌, length, Some, slice_get, refl, ap, arith, length-append, upto, held}
 
 -- what is first in a line
 pub head : (xs : List ℕ) (k : ℕ) → slice_get xs 0 ≡ Some k → (rest : List ℕ) × (xs ≡ k ∷ rest)

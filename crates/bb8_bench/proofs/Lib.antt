@@ -1,2 +1,3 @@
 pub mod Stepped
 pub mod Counted
+mod Words

@@ -1,31 +1,16 @@
 -- What a step that was taken says of the state behind it: its lines, and which step is taken next.
-use Rattle.std.proofs.Common.{◌≡◌, ℕ, zero, suc, ◌+◌, ◌<◌, max, Bool, true, false, ◌&&◌, cond, eqb, ltb, List, [], ◌∷◌, ◌++◌, length, drop, Option, Some, None, slice_get, refl, sym, ap, ◌∙◌, subst, MatchBool, option_and_then, arith, lt-ltb, length-append}
-use Rattle.std.specs.Option.{option_map}
-use Rattle.std.specs.FinMap.{get}
-use Rattle.bb8_types.specs.declared.grants.Grant.{Grant}
-use Rattle.bb8_types.specs.declared.standing.Place.TheVariants.{Claimed, Guarded}
-use Rattle.bb8_types.specs.declared.standing.Standing.{Standing}
-use Rattle.bb8_types.specs.declared.standing.Getting.{Getting}
+use Rattle.bb8_bench.proofs.Words.{◌≡◌, ℕ, zero, suc, ◌+◌, ◌<◌, max, Bool, true, false, ◌&&◌, cond, eqb, ltb, List, [], ◌∷◌, ◌++◌, length, drop, Option, Some, None, slice_get, refl, sym, ap, ◌∙◌, subst, MatchBool, option_and_then, arith, length-append, option_map, get, Grant, Claimed, Guarded, Standing, Getting, Act, Begin, Try, PutBack, Fill, Claim, Opened, Answer, Begun, Served, Kept, Granted, Entered, Numbered, at_number, update, numbers, in_order, Ledger, Later, start, position, latest, handles, records, gets, idle, record_of, idle_at, at_place, entry, at_entry, approval, with_approvals, new_get, first_of, stands, is_claimed, is_guarded, is_idle, is_unclaimed, gets_stand, birth_in, with_place, is_trying, Row, begins, serves, claims, fits, Allowed, Shown, shown_records, Means, IsFitting, ShownRecords, change, standing_is, guarded_out, and_right, entered_before, upto, IsServing, HasLedger, Meets}
+use Rattle.bb8_tables.specs.declared.keys.Key.{Key}
+use Rattle.bb8_bench.specs.Serving.{Takes, Opens}
+use Rattle.std.proofs.Common.{lt-ltb}
 use Rattle.bb8_types.specs.declared.api.configuration.QueueStrategy.{QueueStrategy}
-use Rattle.bb8_ledger.specs.Acts.{Act, Begin, Try, PutBack, Fill, Claim, Opened}
-use Rattle.bb8_ledger.specs.Answers.{Answer, Begun, Served, Kept, Granted, Entered}
 use Rattle.bb8_ledger.specs.Answers as answers
-use Rattle.bb8_types.specs.Numbered.{Numbered, at as at_number, update, numbers, in_order}
-use Rattle.bb8_ledger.specs.Ledger.{Ledger, Later, start, position, latest, handles, handles_after, records, gets, next_get, idle, first_idle, unclaimed, record_of, idle_at, at_place, entry, at_entry, approval, with_approvals, new_get}
-use Rattle.bb8_types.specs.Places.{first_of, stands, is_claimed, is_guarded, is_idle, is_unclaimed, gets_stand, birth_in, with_place, is_trying}
-use Rattle.bb8_ledger.specs.Table.{Row, begins, serves, claims, fits, Allowed}
-use Rattle.bb8_core.specs.Shown.{Shown, shown_records, Means, IsFitting}
-use Rattle.bb8_tables.specs.Views.{ShownRecords}
+use Rattle.bb8_ledger.specs.Ledger.{handles_after, next_get, first_idle, unclaimed}
 use Rattle.bb8_tables.specs.Machine as machine
 use Rattle.bb8_types.proofs.Numbered as numbered
-use Rattle.bb8_types.proofs.Numbered.{change}
-use Rattle.bb8_types.proofs.Places.{standing_is, guarded_out, and_right}
 use Rattle.bb8_core.proofs.ShownRecords.{shown-claimed, shown-entered}
-use Rattle.bb8_ledger.proofs.Facts.{entered_before}
 use Rattle.bb8_core.proofs.Fitting.{shown_record, shown_get}
 use Rattle.bb8_core.proofs.Runs.{shown_try}
-use Rattle.bb8_bench.specs.Lines.{upto}
-use Rattle.bb8_bench.specs.Serving.{IsServing}
 use Rattle.bb8_bench.proofs.Counted.{head}
 
 -- an event that fits is answered by a row
@@ -80,13 +65,13 @@ unclaimed-approve (suc n) =
 
 -- ---- which step is taken next
 
-pub try_fits : (s : Shown ℕ) (g : ℕ) → IsServing s → 0 < length s.records.idle → gets_stand is_trying (get s.gets.places g) ≡ true → IsFitting s (Try g)
+try_fits : (s : Shown ℕ) (g : ℕ) → IsServing s → 0 < length s.records.idle → gets_stand is_trying (get s.gets.places g) ≡ true → IsFitting s (Try g)
 try_fits s g ready some tries l legal means = shown_try l s g means ∙ tries
 
 pub put_back_fits : (s : Shown ℕ) (k c : ℕ) → stands is_guarded (get s.records.places k) ≡ true → IsFitting s (PutBack k c false)
 put_back_fits s k c out l legal means = ap (stands is_guarded) (shown_record l s means k) ∙ out
 
-pub opened_fits : (s : Shown ℕ) (k c : ℕ) → stands is_claimed (get s.records.places k) ≡ true → IsFitting s (Opened k c)
+opened_fits : (s : Shown ℕ) (k c : ℕ) → stands is_claimed (get s.records.places k) ≡ true → IsFitting s (Opened k c)
 opened_fits s k c claimed_now l legal means = ap (stands is_claimed) (shown_record l s means k) ∙ claimed_now
 
 -- ---- a state behind a step
@@ -102,7 +87,7 @@ module _ (s t : Shown ℕ) (l : Ledger ℕ) (means : Means l s) where
 
   -- ---- begin
 
-  pub begun_idle : (at g : ℕ) → Means (Later l at Begin (Begun g)) t → t.records.idle ≡ s.records.idle
+  begun_idle : (at g : ℕ) → Means (Later l at Begin (Begun g)) t → t.records.idle ≡ s.records.idle
   begun_idle at g new = sym (ap (λ (x : Shown ℕ). x.records.idle) new)
       ∙ numbered.in_order-later idle_at (records l) (start l).first (position l) (entered_before l)
       ∙ ap (λ (x : Shown ℕ). x.records.idle) means
@@ -110,7 +95,7 @@ module _ (s t : Shown ℕ) (l : Ledger ℕ) (means : Means l s) where
   given : (at g : ℕ) → Row l at Begin (Begun g) → g ≡ next_get l
   given at g (begins is few) = is
 
-  pub begun_tries : (at g : ℕ) → IsServing s → Allowed l at Begin (Begun g) → Means (Later l at Begin (Begun g)) t → gets_stand is_trying (get t.gets.places g) ≡ true
+  begun_tries : (at g : ℕ) → IsServing s → Allowed l at Begin (Begun g) → Means (Later l at Begin (Begun g)) t → gets_stand is_trying (get t.gets.places g) ≡ true
   begun_tries at g ready allowed new =
       let open_now : ltb 0 (handles l) ≡ true = lt-ltb 0 (handles l) (subst (λ (n : ℕ). 0 < n) (sym (ap (λ (x : Shown ℕ). x.handles) means)) ready.handles) in
       let is : g ≡ next_get l = given at g (by_row (fits l Begin) _ _ open_now allowed) in
@@ -130,7 +115,7 @@ module _ (s t : Shown ℕ) (l : Ledger ℕ) (means : Means l s) where
   first_out at g k grant (serves not_waiting off first want) = first
 
   -- what a served try leaves: the line without its first, which is out
-  pub served : (at g k : ℕ) (grant : Grant) → IsServing s → fits l (Try g) ≡ true → Allowed l at (Try g) (Served k grant)
+  served : (at g k : ℕ) (grant : Grant) → IsServing s → fits l (Try g) ≡ true → Allowed l at (Try g) (Served k grant)
       → Means (Later l at (Try g) (Served k grant)) t → (s.records.idle ≡ k ∷ t.records.idle)
       × (stands is_guarded (get t.records.places k) ≡ true)
   served at g k grant ready fit allowed new =
@@ -175,7 +160,7 @@ module _ (s t : Shown ℕ) (l : Ledger ℕ) (means : Means l s) where
   first_unclaimed at k (claims open_now first) = first
 
   -- what a claim leaves: the line of the unclaimed without its first, which is claimed
-  pub claimed : (at k : ℕ) → Allowed l at Claim (answers.Claimed (Some k)) → Means (Later l at Claim (answers.Claimed (Some k))) t
+  claimed : (at k : ℕ) → Allowed l at Claim (answers.Claimed (Some k)) → Means (Later l at Claim (answers.Claimed (Some k))) t
       → (s.records.unclaimed ≡ k ∷ t.records.unclaimed) × (t.records.idle ≡ s.records.idle)
       × (stands is_claimed (get t.records.places k) ≡ true)
   claimed at k allowed new =
@@ -195,7 +180,7 @@ module _ (s t : Shown ℕ) (l : Ledger ℕ) (means : Means l s) where
         ap (stands is_claimed) there ∙ claimed_place (get before.places k),
       )
 
-  pub entered : (at k c : ℕ) (n : Option ℕ) → stands is_claimed (get s.records.places k) ≡ true
+  entered : (at k c : ℕ) (n : Option ℕ) → stands is_claimed (get s.records.places k) ≡ true
       → Means (Later l at (Opened k c) (Entered k n)) t → (t.records.idle ≡ s.records.idle ++ k ∷ [])
       × (t.records.unclaimed ≡ s.records.unclaimed)
   entered at k c n claimed_now new =
@@ -226,3 +211,39 @@ module _ (s t : Shown ℕ) (l : Ledger ℕ) (means : Means l s) where
       nobody : (m n : ℕ) → in_order (idle_at {C = ℕ}) n [] m ≡ []
       nobody zero n = refl
       nobody (suc m) n = ap (λ (xs : List ℕ). xs ++ []) (nobody m n)
+
+-- ---- two steps
+
+-- a get that began and was served took the connection that is idle longest
+pub taken : {s t u : Shown ℕ} {g k : ℕ} {grant : Grant} → HasLedger s → IsServing s → 0 < length s.records.idle
+    → Meets s 0 Begin (Begun g) t → Meets t 0 (Try g) (Served k grant) u → Takes s k u
+taken {s} {t} {u} {g} {k} {grant} h ready some begins_so tries_so =
+    let begun = begins_so h.0 h.1 h.2 in
+    let l : Ledger ℕ = Later h.0 0 Begin (Begun g) in
+    let tried = tries_so l (h.1, begun.0) begun.1 in
+    let still : IsServing t = serving s t h.0 h.2 0 Begin (Begun g) refl begun.1 ready in
+    let fit = begun_fits s t h.0 h.2 0 g ready some begun.0 begun.1 l (h.1, begun.0) begun.1 in
+    let out = served t u l begun.1 0 g k grant still fit tried.0 tried.1 in
+    (serving t u l begun.1 0 (Try g) (Served k grant) refl tried.1 still, sym (begun_idle s t h.0 h.2 0 g begun.1) ∙ out.0, out.1)
+
+-- a claim that names an approval, by its number
+pub claim_named : {s t : Shown ℕ} {o : Option Key} {key : Key} → o ≡ Some key → Meets s 0 Claim (answers.Claimed (option_map (λ (a : Key). a.number) o)) t
+    → Meets s 0 Claim (answers.Claimed (Some key.number)) t
+claim_named {s} {t} is step = subst (λ (o : Option Key). Meets s 0 Claim (answers.Claimed (option_map (λ (a : Key). a.number) o)) t) is step
+
+pub claim_fits : {s t : Shown ℕ} {k : ℕ} (c : ℕ) → HasLedger s → Meets s 0 Claim (answers.Claimed (Some k)) t → IsFitting t (Opened k c)
+claim_fits {s} {t} {k} c h step = let m = step h.0 h.1 h.2 in opened_fits t k c (claimed s t h.0 h.2 0 k m.0 m.1).2
+
+-- an approval that was claimed and brought a connection was the first of the unclaimed
+pub opened : {s t u : Shown ℕ} {k c : ℕ} {n : Option ℕ} → HasLedger s → IsServing s → Meets s 0 Claim (answers.Claimed (Some k)) t
+    → Meets t 0 (Opened k c) (Entered k n) u → Opens s k u
+opened {s} {t} {u} {k} {c} {n} h ready claims_so opens_so =
+    let first = claims_so h.0 h.1 h.2 in
+    let l : Ledger ℕ = Later h.0 0 Claim (answers.Claimed (Some k)) in
+    let second = opens_so l (h.1, first.0) first.1 in
+    let out = claimed s t h.0 h.2 0 k first.0 first.1 in
+    let enter = entered t u l first.1 0 k c n out.2 second.1 in (
+      serving t u l first.1 0 (Opened k c) (Entered k n) refl second.1 (serving s t h.0 h.2 0 Claim (answers.Claimed (Some k)) refl first.1 ready),
+      out.0 ∙ ap (λ (xs : List ℕ). k ∷ xs) (sym enter.1),
+      enter.0 ∙ ap (λ (xs : List ℕ). xs ++ k ∷ []) out.1,
+    )

@@ -1,8 +1,8 @@
 //! A pool whose connections stand open.
-ghost use Rattle.std.specs.Prelude.{◌≡◌, ◌<◌, ◌∷◌, ◌++◌, [], IfSome, Some, false};
+ghost use Rattle.std.specs.Prelude.{◌≡◌, ◌<◌, [], IfSome, Some, false};
 ghost use Rattle.bb8_types.specs.Settings.{settings_of, default_settings, is_lawful};
 ghost use Rattle.bb8_bench.specs.Lines.{upto};
-ghost use Rattle.bb8_bench.specs.Serving.{IsServing};
+ghost use Rattle.bb8_bench.specs.Serving.{IsServing, Opens};
 
 use bb8_core::api::{Config, Moment};
 use bb8_core::internals::{ClaimAnswer, OpenedAnswer, PoolInternals};
@@ -33,10 +33,7 @@ pub(crate) fn full_config(size: u32) -> Config
 /// Claims the unclaimed approval of the least number, and makes its connection idle, which is its number.
 fn open_one(pool: &mut PoolInternals<u64>) -> Option<u64>
     requires { IsServing pool.old }
-    ensures serving { IfSome result (λ k. IsServing pool.new) }
-    ensures claimed { IfSome result
-        (λ k. pool.old.records.unclaimed ≡ k ∷ pool.new.records.unclaimed) }
-    ensures entered { IfSome result (λ k. pool.new.records.idle ≡ pool.old.records.idle ++ k ∷ []) }
+    ensures { IfSome result (λ k. Opens pool.old k pool.new) }
 {
     // It does nothing, and tells the proof of a ledger behind the state.
     pool.limits();
@@ -66,8 +63,8 @@ fn open_all(pool: &mut PoolInternals<u64>, count: u32) -> Option<()>
 /// The empty pool, with `size` approvals that nobody claimed.
 fn approved_pool(alloc: Global, size: u32) -> Option<PoolInternals<u64>>
     ensures serving { IfSome result (λ pool. IsServing pool) }
-    ensures idle { IfSome result (λ pool. pool.records.idle ≡ []) }
-    ensures unclaimed { IfSome result (λ pool. pool.records.unclaimed ≡ upto size) }
+    ensures lines { IfSome result (λ pool. (pool.records.idle ≡ [])
+        × (pool.records.unclaimed ≡ upto size)) }
     ensures some { IfSome result (λ pool. 0 < size) }
 {
     let config = full_config(size);

@@ -4,7 +4,7 @@ ghost use Rattle.std.specs.FinMap as map;
 ghost use Rattle.bb8_core.specs.declared.answers.TryAnswer.TheVariants.{Served};
 ghost use Rattle.bb8_types.specs.Places.{stands, is_guarded};
 ghost use Rattle.bb8_bench.specs.Lines.{turned, counted, held};
-ghost use Rattle.bb8_bench.specs.Serving.{IsServing};
+ghost use Rattle.bb8_bench.specs.Serving.{IsServing, Takes};
 
 use crate::opening::NOW;
 use bb8_core::internals::{
@@ -25,11 +25,7 @@ fn out_of(answer: TryAnswer<u64>) -> Option<(Key, u64, Grant)>
 fn serve_in_steps(pool: &mut PoolInternals<u64>) -> Option<(Key, u64)>
     requires serving { IsServing pool.old }
     requires some { 0 < length pool.old.records.idle }
-    ensures serving { IfSome result (λ r. IsServing pool.new) }
-    ensures first { IfSome result
-        (λ r. pool.old.records.idle ≡ r.0.number ∷ pool.new.records.idle) }
-    ensures out { IfSome result (λ r. stands is_guarded
-        (map.get pool.new.records.places r.0.number) ≡ true) }
+    ensures { IfSome result (λ r. Takes pool.old r.0.number pool.new) }
 {
     // It does nothing, and tells the proof of a ledger behind the state.
     pool.limits();
@@ -42,14 +38,11 @@ fn serve_in_steps(pool: &mut PoolInternals<u64>) -> Option<(Key, u64)>
 
 /// Begins a get, and has it take the connection that is idle longest, in one step where that needs no memory. None where memory was
 /// refused, or no number was left.
+#[inline(always)]
 fn serve(pool: &mut PoolInternals<u64>) -> Option<(Key, u64)>
     requires serving { IsServing pool.old }
     requires some { 0 < length pool.old.records.idle }
-    ensures serving { IfSome result (λ r. IsServing pool.new) }
-    ensures first { IfSome result
-        (λ r. pool.old.records.idle ≡ r.0.number ∷ pool.new.records.idle) }
-    ensures out { IfSome result (λ r. stands is_guarded
-        (map.get pool.new.records.places r.0.number) ≡ true) }
+    ensures { IfSome result (λ r. Takes pool.old r.0.number pool.new) }
 {
     // It does nothing, and tells the proof of a ledger behind the state.
     pool.limits();

@@ -3,6 +3,7 @@
 ghost use Rattle.std.specs.Prelude.{◌≡◌, IfSome};
 
 use crate::opening::{NOW, full_config};
+use bb8_core::asked;
 use bb8_core::internals::{
     BeginAnswer, ClaimAnswer, GetKey, GiveUpAnswer, Key, OpenedAnswer, PoolInternals,
     PutBackAnswer, Reason, TryAnswer,
@@ -16,23 +17,12 @@ pub(crate) struct Busy {
     key: Key,
 }
 
-/// Has a get try. None where it may not.
-fn try_get(pool: &mut PoolInternals<()>, get: GetKey) -> Option<TryAnswer<()>> {
-    if !pool.fits_try(get) {
-        return None;
-    }
-    Some(pool.try_get(NOW, get))
-}
-
 /// Has a get begin and wait. None where memory was refused, no number was left, or it was served.
 fn wait(pool: &mut PoolInternals<()>) -> Option<GetKey> {
-    if !pool.fits_begin() {
-        return None;
-    }
-    let BeginAnswer::Begun(get) = pool.begin(NOW) else {
+    let BeginAnswer::Begun(get) = asked::begin(pool, NOW)? else {
         return None;
     };
-    match try_get(pool, get)? {
+    match asked::try_get(pool, NOW, get)? {
         TryAnswer::Waiting(_) => Some(get),
         TryAnswer::Served(..) | TryAnswer::Taken(..) => None,
     }
@@ -40,7 +30,7 @@ fn wait(pool: &mut PoolInternals<()>) -> Option<GetKey> {
 
 /// Has a get be served, and tells with which connection. None where it waits.
 fn serve(pool: &mut PoolInternals<()>, get: GetKey) -> Option<Key> {
-    match try_get(pool, get)? {
+    match asked::try_get(pool, NOW, get)? {
         TryAnswer::Served(key, (), _) => Some(key),
         TryAnswer::Taken(..) | TryAnswer::Waiting(_) => None,
     }
@@ -51,10 +41,7 @@ fn open(pool: &mut PoolInternals<()>) -> Option<GetKey> {
     let ClaimAnswer::Claimed(Some(approval)) = pool.claim(NOW) else {
         return None;
     };
-    if !pool.fits_opened(approval) {
-        return None;
-    }
-    match pool.opened(NOW, approval, ()) {
+    match asked::opened(pool, NOW, approval, ())? {
         OpenedAnswer::Entered(notified) => notified,
         OpenedAnswer::Late(()) => None,
     }
@@ -62,10 +49,7 @@ fn open(pool: &mut PoolInternals<()>) -> Option<GetKey> {
 
 /// Gives back a connection, and tells who was notified. None where nobody was, or no guard holds it.
 fn give_back(pool: &mut PoolInternals<()>, key: Key) -> Option<GetKey> {
-    if !pool.fits_put_back(key) {
-        return None;
-    }
-    match pool.put_back(NOW, key, (), false) {
+    match asked::put_back(pool, NOW, key, (), false)? {
         PutBackAnswer::Kept(notified) => notified,
         PutBackAnswer::Closed(..) => None,
     }
@@ -73,10 +57,7 @@ fn give_back(pool: &mut PoolInternals<()>, key: Key) -> Option<GetKey> {
 
 /// Lets a get go. None where it is not alive.
 fn cancel(pool: &mut PoolInternals<()>, get: GetKey) -> Option<()> {
-    if !pool.fits_give_up(get, false) {
-        return None;
-    }
-    match pool.give_up(NOW, get, Reason::Cancelled, None, false, 0) {
+    match asked::give_up(pool, NOW, get, Reason::Cancelled, None, false, 0)? {
         GiveUpAnswer::GaveUp(_) => Some(()),
         GiveUpAnswer::Kept(..) | GiveUpAnswer::Closed(..) => None,
     }

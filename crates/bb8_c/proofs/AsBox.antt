@@ -1,10 +1,6 @@
 -- A handle that is not empty, and what its box is made of, own what a box of a core owns.
-use Rattle.std.proofs.Common.{◌≡◌, Option, Some, None, is_some, true, refl}
+use Rattle.bb8_c.proofs.Words.{◌≡◌, Option, Some, None, is_some, true, refl, [], impl, tnil, dnil, Slot, plain, Bx}
 use Rattle.std.proofs.lemmas.Bool.{false≢true}
-use mathlib.Core.List.{[]}
-use mir.Syntax.{impl, tnil, dnil}
-use denote.Signature.{Slot, plain}
-use Rattle.std_alloc.proofs.BoxSteps.Form.{Bx}
 use Rattle.std_heap.specs.contracts.Global as Heap
 use Rattle.std_heap.specs.contracts.GlobalAllocator.TheImpl.{ghosts, dict}
 use Rattle.std_heap.proofs.Global.TheLaws as heap

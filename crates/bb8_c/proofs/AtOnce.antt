@@ -1,8 +1,6 @@
 -- Why nothing is tried at once.
-use Rattle.std.proofs.Common.{◌≡◌, ℕ, Bool, true, false, inl, inr, refl, subst}
-use Rattle.bb8_ledger.specs.Acts.{Begin}
-use Rattle.bb8_core.specs.Shown.{Shown, TellsFitting}
-use Rattle.bb8_c.specs.Steps.{NotAtOnce}
+use Rattle.bb8_c.proofs.Words.{◌≡◌, ℕ, Bool, true, false, inl, inr, refl, subst, Begin, Shown, NotAtOnce}
+use Rattle.bb8_core.specs.Shown.{TellsFitting}
 
 -- connections are checked first, or else it is the begin that does not fit
 pub unfit_at_once : (s : Shown ℕ) (fits : Bool) → fits ≡ false → (s.config.test_on_check_out ≡ false → TellsFitting s Begin fits) → NotAtOnce s

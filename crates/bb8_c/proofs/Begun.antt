@@ -1,13 +1,6 @@
 -- A get that began may try.
-use Rattle.std.proofs.Common.{◌≡◌, ◌∙◌, ◌++◌, ◌∷◌, [], ℕ, Bool, true, false, cond, eqb, Some, sym, ap, MatchBool, option_and_then}
-use Rattle.bb8_types.specs.declared.standing.Getting.{Getting}
-use Rattle.bb8_types.specs.Numbered.{Numbered, at as at_number}
-use Rattle.bb8_types.specs.Places.{gets_stand, is_trying}
-use Rattle.bb8_ledger.specs.Acts.{Begin, Try}
-use Rattle.bb8_ledger.specs.Answers.{Begun, Unfit}
-use Rattle.bb8_ledger.specs.Ledger.{Ledger, Later, start, gets, next_get, new_get}
-use Rattle.bb8_ledger.specs.Table.{Row, begins, fits}
-use Rattle.bb8_core.specs.Shown.{Shown, HasLedger, Meets, IsFitting}
+use Rattle.bb8_c.proofs.Words.{◌≡◌, ◌∙◌, ◌++◌, ◌∷◌, [], ℕ, Bool, true, false, cond, eqb, Some, sym, ap, MatchBool, option_and_then, Getting, Numbered, at_number, gets_stand, is_trying, Begin, Try, Begun, Unfit, Ledger, Later, start, gets, new_get, Row, begins, fits, Shown, HasLedger, Meets, IsFitting}
+use Rattle.bb8_ledger.specs.Ledger.{next_get}
 use Rattle.bb8_types.proofs.Numbered as numbered
 use Rattle.bb8_core.proofs.Fitting.{shown_get}
 use Rattle.bb8_core.proofs.Runs.{shown_try}

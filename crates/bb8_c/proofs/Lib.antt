@@ -4,3 +4,4 @@ mod Inside
 mod Begun
 mod AtOnce
 mod Listed
+mod Words

@@ -1,25 +1,15 @@
 -- What a reap and the last leave close has room in the list, and so all of it is listed.
-use Rattle.std.proofs.Common.{◌≡◌, ◌≢◌, ⊎_elim, ℕ, suc, ◌+◌, ◌≤◌, Bool, true, false, cond, eqb, ltb, lt-ltb, List, [], ◌∷◌, ◌++◌, length, Some, refl, sym, ap, ◌∙◌, arith, subst, append-nil, length-append}
+use Rattle.bb8_c.proofs.Words.{◌≡◌, ◌≢◌, ⊎_elim, ℕ, suc, ◌+◌, ◌≤◌, Bool, true, false, cond, eqb, ltb, List, [], ◌∷◌, ◌++◌, length, Some, refl, sym, ap, ◌∙◌, arith, subst, append-nil, length-append, one, tally, same_or_not, eqb_self, Reap, Leave, Ledger, idle, IsLegal, reaped_at, reaped_sized, idle_tally, Shown, Means, Meets, HasLedger, reap_told, leave_told, Listing, Reaps, Leaves}
+use Rattle.std.proofs.Common.{lt-ltb}
 use Rattle.std.proofs.lemmas.List.{append_assoc}
 use Rattle.circular_buffer.specs.Buffer.{Buffer, buffer}
-use Rattle.bb8_types.specs.Numbered.{one, tally}
-use Rattle.bb8_types.proofs.Numbered.{same_or_not, eqb_self}
 use Rattle.bb8_tables.specs.Closed.{offered_all}
 use Rattle.bb8_tables.specs.declared.closed.Closed.{Closed}
-use Rattle.bb8_ledger.specs.Acts.{Reap, Leave}
-use Rattle.bb8_ledger.specs.Ledger.{Ledger, idle}
-use Rattle.bb8_ledger.specs.Table.{IsLegal, reaped_at}
-use Rattle.bb8_ledger.proofs.Effects.{reaped_sized}
-use Rattle.bb8_ledger.proofs.Facts.{idle_tally}
 use Rattle.bb8_core.specs.declared.answers.ReapAnswer.{ReapAnswer}
 use Rattle.bb8_core.specs.declared.answers.ReapAnswer.TheVariants as reaping
 use Rattle.bb8_core.specs.declared.answers.LeaveAnswer.{LeaveAnswer}
 use Rattle.bb8_core.specs.Closings.{AreIdleAs, Offers, OffersReaped, OffersLeft, ended_by}
-use Rattle.bb8_core.specs.Shown.{Shown, Means, Meets, HasLedger}
-use Rattle.bb8_core.specs.StepAnswers.{reap_told, leave_told}
-use Rattle.bb8_c.specs.declared.listing.Listing.{Listing}
 use Rattle.bb8_c.specs.declared.listing.Left.TheVariants as left
-use Rattle.bb8_c.specs.Steps.{Reaps, Leaves}
 
 -- where there is room for all, each is added at the back
 all_added : (xs : List (Closed ℕ)) (b : Buffer (Closed ℕ)) → length b.items + length xs ≤ b.capacity → (offered_all xs b).items ≡ b.items ++ xs

@@ -1,47 +1,23 @@
 -- What the steps tell, as it crosses to C.
-use Rattle.std.specs.Prelude.{ℕ, ◌/◌, min, true, false, Option, Some, None}
-use Rattle.std.specs.Duration.{as_nanos}
+use Rattle.bb8_c.specs.Words.{ℕ, ◌/◌, min, true, false, Option, Some, None, as_nanos, State, Grant, Closed, BeginAnswer, TryAnswer, PutBackAnswer, AtOnce, CheckedOkAnswer, CheckedErrAnswer, GiveUpAnswer, ClaimAnswer, OpenedAnswer, FailedAnswer, AddAnswer, ReapAnswer, JoinAnswer, Look, Left, Got, Name, Told, Figures, Looked}
 use Rattle.bb8_types.specs.Bounds.{most_micros}
-use Rattle.bb8_types.specs.declared.api.figures.State.{State}
-use Rattle.bb8_types.specs.declared.grants.Grant.{Grant}
-use Rattle.bb8_tables.specs.declared.closed.Closed.{Closed}
 use Rattle.bb8_tables.specs.declared.keys.Key.{Key}
 use Rattle.bb8_tables.specs.declared.keys.GetKey.{GetKey}
-use Rattle.bb8_core.specs.declared.answers.BeginAnswer.{BeginAnswer}
 use Rattle.bb8_core.specs.declared.answers.BeginAnswer.TheVariants as begun
-use Rattle.bb8_core.specs.declared.answers.TryAnswer.{TryAnswer}
 use Rattle.bb8_core.specs.declared.answers.TryAnswer.TheVariants as tried
-use Rattle.bb8_core.specs.declared.answers.PutBackAnswer.{PutBackAnswer}
 use Rattle.bb8_core.specs.declared.answers.PutBackAnswer.TheVariants as returned
-use Rattle.bb8_core.specs.declared.answers.AtOnce.{AtOnce}
-use Rattle.bb8_core.specs.declared.answers.CheckedOkAnswer.{CheckedOkAnswer}
 use Rattle.bb8_core.specs.declared.answers.CheckedOkAnswer.TheVariants as passed
-use Rattle.bb8_core.specs.declared.answers.CheckedErrAnswer.{CheckedErrAnswer}
 use Rattle.bb8_core.specs.declared.answers.CheckedErrAnswer.TheVariants as invalid
-use Rattle.bb8_core.specs.declared.answers.GiveUpAnswer.{GiveUpAnswer}
 use Rattle.bb8_core.specs.declared.answers.GiveUpAnswer.TheVariants as given_up
-use Rattle.bb8_core.specs.declared.answers.ClaimAnswer.{ClaimAnswer}
 use Rattle.bb8_core.specs.declared.answers.ClaimAnswer.TheVariants as claimed
-use Rattle.bb8_core.specs.declared.answers.OpenedAnswer.{OpenedAnswer}
 use Rattle.bb8_core.specs.declared.answers.OpenedAnswer.TheVariants as opened
-use Rattle.bb8_core.specs.declared.answers.FailedAnswer.{FailedAnswer}
 use Rattle.bb8_core.specs.declared.answers.FailedAnswer.TheVariants as failed
-use Rattle.bb8_core.specs.declared.answers.AddAnswer.{AddAnswer}
 use Rattle.bb8_core.specs.declared.answers.AddAnswer.TheVariants as adding
-use Rattle.bb8_core.specs.declared.answers.ReapAnswer.{ReapAnswer}
 use Rattle.bb8_core.specs.declared.answers.ReapAnswer.TheVariants as reaping
-use Rattle.bb8_core.specs.declared.answers.JoinAnswer.{JoinAnswer}
 use Rattle.bb8_core.specs.declared.answers.JoinAnswer.TheVariants as joined
 use Rattle.bb8_core.specs.declared.answers.LeaveAnswer.TheVariants as leaving
-use Rattle.bb8_core.specs.declared.answers.Looked.{Looked as Look}
-use Rattle.bb8_c.specs.declared.listing.Left.{Left}
 use Rattle.bb8_c.specs.declared.listing.Left.TheVariants as left
-use Rattle.bb8_c.specs.declared.steps.Got.{Got}
 use Rattle.bb8_c.specs.declared.steps.Got.TheVariants as got
-use Rattle.bb8_c.specs.declared.told.Name.{Name}
-use Rattle.bb8_c.specs.declared.told.Told.{Told}
-use Rattle.bb8_c.specs.declared.figures.Figures.{Figures}
-use Rattle.bb8_c.specs.declared.figures.Looked.{Looked}
 
 -- ---- what answers are made of
 

@@ -1,10 +1,5 @@
 -- The layout of the structs that cross to C: their sizes, and samples whose fields all differ.
-use Rattle.std.specs.Prelude.{ℕ, Bool, true, cond, [], ◌∷◌, Option, Some, None, slice_get}
-use Rattle.bb8_c.specs.declared.told.Name.{Name}
-use Rattle.bb8_c.specs.declared.told.Told.{Told}
-use Rattle.bb8_c.specs.declared.settings.Settings.{Settings}
-use Rattle.bb8_c.specs.declared.figures.Figures.{Figures}
-use Rattle.bb8_c.specs.declared.figures.Looked.{Looked}
+use Rattle.bb8_c.specs.Words.{ℕ, Bool, true, cond, [], ◌∷◌, Option, Some, None, slice_get, Name, Told, Settings, Figures, Looked}
 
 -- what a list has at a place, and 0 where it has nothing
 abbrev pub or_zero : Option ℕ → ℕ

@@ -3,3 +3,4 @@ pub mod InC
 pub mod Layout
 pub mod Openings
 pub mod Steps
+pub mod Words

@@ -1,25 +1,12 @@
--- Steps that are taken only where their events fit, what they list as closed, and steps behind a handle.
-use Rattle.std.specs.Prelude.{◌≡◌, ◌⊎◌, ℕ, Bool, true, false, cond, eqb, List, [], ◌++◌, drop, slice_get, Option, Some, None}
+-- Gets in one call, what steps list as closed, and steps behind a handle.
+use Rattle.bb8_c.specs.Words.{◌≡◌, ◌⊎◌, ℕ, Bool, true, false, cond, eqb, List, [], ◌++◌, drop, slice_get, Option, Some, None, Closed, Ledger, ReapAnswer, Shown, Means, Meets, TellsFitting, try_told, reap_told, leave_told, HandsOut, NoneAtOnce, Got, Listing, Left}
 use Rattle.bb8_types.specs.Numbered.{tally}
-use Rattle.bb8_tables.specs.declared.closed.Closed.{Closed}
 use Rattle.bb8_ledger.specs.Acts.{Act, Reason, TimedOut, Cancelled, Begin, Try, Reap, Leave}
 use Rattle.bb8_ledger.specs.Answers.{Answer, Begun, Memory, Exhausted}
-use Rattle.bb8_ledger.specs.Ledger.{Ledger}
 use Rattle.bb8_ledger.specs.Table.{IsLegal}
-use Rattle.bb8_core.specs.declared.answers.ReapAnswer.{ReapAnswer}
 use Rattle.bb8_core.specs.Closings.{AreIdleAs, ended_by}
-use Rattle.bb8_core.specs.Shown.{Shown, Means, Meets, TellsFitting}
-use Rattle.bb8_core.specs.StepAnswers.{try_told, reap_told, leave_told, HandsOut, NoneAtOnce}
-use Rattle.bb8_c.specs.declared.steps.Got.{Got}
 use Rattle.bb8_c.specs.declared.steps.Got.TheVariants as got
-use Rattle.bb8_c.specs.declared.listing.Listing.{Listing}
-use Rattle.bb8_c.specs.declared.listing.Left.{Left}
 use Rattle.bb8_c.specs.declared.listing.Left.TheVariants as left
-
--- where the event fits it is taken and answered so; otherwise nothing is told, and nothing changed
-abbrev pub Stepped : {A : Type 0} → (A → Answer) → Shown ℕ → ℕ → Act ℕ → Option A → Shown ℕ → Type 0
-Stepped told old at e None new = (new ≡ old) × TellsFitting old e false
-Stepped told old at e (Some a) new = Meets old at e (told a) new
 
 -- why no get is served at once: connections are checked first, or no get may begin, or the core has none at once
 abbrev pub NotAtOnce : Shown ℕ → Type 0

@@ -7,20 +7,6 @@ use crate::handle::Handle;
 use crate::settings::Settings;
 use crate::told::{Granted, Name, Told};
 
-const _: () = prove!(size_of::<Handle>() == 8);
-
-const _: () = prove!(size_of::<Settings>() == 32);
-
-const _: () = prove!(size_of::<Name>() == 16);
-
-const _: () = prove!(size_of::<Granted>() == 16);
-
-const _: () = prove!(size_of::<Told>() == 64);
-
-const _: () = prove!(size_of::<Looked>() == 16);
-
-const _: () = prove!(size_of::<Figures>() == 96);
-
 /// How many bytes each takes, in the order of `bb8_size`.
 const SIZES: [usize; 7] = [
     size_of::<Handle>(),

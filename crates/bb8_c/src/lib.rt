@@ -4,35 +4,15 @@
 //! with kind 0, and changes nothing. C keeps the connections, and names them by numbers of its own. Moments are in nanoseconds.
 #![tactic(auto)]
 
-ghost use Rattle.std.specs.Prelude.{◌≡◌, ℕ, Bool, true, false, Option, None, Some, IsSome, IfSome, IfNone};
+ghost use Rattle.bb8_c.specs.Words.{◌≡◌, ℕ, Bool, true, false, Option, None, Some, IsSome, IfSome, IfNone, Grant, State, BeginAnswer, AtOnce, TryAnswer, CheckedOkAnswer, CheckedErrAnswer, GiveUpAnswer, PutBackAnswer, ClaimAnswer, OpenedAnswer, FailedAnswer, AddAnswer, ReapAnswer, JoinAnswer, Look, begin_told, try_told, checked_ok_told, checked_err_told, give_up_told, put_back_told, claim_told, opened_told, failed_told, add_told, join_told, look_told, reason_of, ServesAtOnce, HandsOut, GivesBack, GivesBackInvalid, GivesBackHeld, HandsBack, Refuses, Meets, IsRecordIn, IsNoRecordIn, Closed, Left, Got};
 ghost use Rattle.bb8_ledger.specs.Acts as acts;
 ghost use Rattle.bb8_ledger.specs.Answers as answers;
-ghost use Rattle.bb8_types.specs.declared.grants.Grant.{Grant};
-ghost use Rattle.bb8_types.specs.declared.api.figures.State.{State};
 ghost use Rattle.bb8_types.specs.Figures.{figures_of};
-ghost use Rattle.bb8_core.specs.declared.answers.BeginAnswer.{BeginAnswer};
-ghost use Rattle.bb8_core.specs.declared.answers.AtOnce.{AtOnce};
-ghost use Rattle.bb8_core.specs.declared.answers.TryAnswer.{TryAnswer};
-ghost use Rattle.bb8_core.specs.declared.answers.CheckedOkAnswer.{CheckedOkAnswer};
-ghost use Rattle.bb8_core.specs.declared.answers.CheckedErrAnswer.{CheckedErrAnswer};
-ghost use Rattle.bb8_core.specs.declared.answers.GiveUpAnswer.{GiveUpAnswer};
-ghost use Rattle.bb8_core.specs.declared.answers.PutBackAnswer.{PutBackAnswer};
-ghost use Rattle.bb8_core.specs.declared.answers.ClaimAnswer.{ClaimAnswer};
-ghost use Rattle.bb8_core.specs.declared.answers.OpenedAnswer.{OpenedAnswer};
-ghost use Rattle.bb8_core.specs.declared.answers.FailedAnswer.{FailedAnswer};
-ghost use Rattle.bb8_core.specs.declared.answers.AddAnswer.{AddAnswer};
-ghost use Rattle.bb8_core.specs.declared.answers.ReapAnswer.{ReapAnswer};
-ghost use Rattle.bb8_core.specs.declared.answers.JoinAnswer.{JoinAnswer};
-ghost use Rattle.bb8_core.specs.declared.answers.Looked.{Looked as Look};
-ghost use Rattle.bb8_core.specs.StepAnswers.{begin_told, try_told, checked_ok_told, checked_err_told, give_up_told, put_back_told, claim_told, opened_told, failed_told, add_told, join_told, look_told, reason_of, ServesAtOnce, HandsOut, GivesBack, GivesBackInvalid, GivesBackHeld, HandsBack, Refuses};
-ghost use Rattle.bb8_core.specs.Shown.{Meets, IsRecordIn, IsNoRecordIn};
-ghost use Rattle.bb8_tables.specs.declared.closed.Closed.{Closed};
-ghost use Rattle.bb8_c.specs.declared.listing.Left.{Left};
-ghost use Rattle.bb8_c.specs.declared.steps.Got.{Got};
 ghost use Rattle.bb8_c.specs.InC as in_c;
 ghost use Rattle.bb8_c.specs.Layout as layout;
 ghost use Rattle.bb8_c.specs.Openings.{CoreIsMade};
-ghost use Rattle.bb8_c.specs.Steps.{Stepped, Gets, NotAtOnce, Reaps, Leaves, TellsNext, Within, Beside, why};
+ghost use Rattle.bb8_core.specs.Asked.{Stepped};
+ghost use Rattle.bb8_c.specs.Steps.{Gets, NotAtOnce, Reaps, Leaves, TellsNext, Within, Beside, why};
 
 mod figures;
 mod handle;
@@ -44,21 +24,21 @@ mod steps;
 mod told;
 
 use bb8_core::api::Moment;
+use bb8_core::asked;
 use bb8_core::internals::{PoolInternals, Reason};
 pub use figures::{Figures, Looked};
 pub use handle::Handle;
 use listing::Listing;
 pub use settings::Settings;
 use std::alloc::Global;
-use steps::Core;
 pub use told::{Granted, Name, Told};
 
-// What a step tells of the core, which is taken out of its handle for it.
+// What is told of the core, which is taken out of its handle for it.
 macro_rules! with_core {
-    ($alloc:ident, $handle:ident => $told:ident::$tell:ident($on:ident::$step:ident($($argument:expr),*))) => {{
-        let mut open = $handle.take($alloc);
-        let told = $told::$tell($on::$step(&mut open.internals, $($argument),*));
-        *$handle = Handle::of(open);
+    ($alloc:ident, $handle:ident, $open:ident => $told:expr) => {{
+        let mut $open = $handle.take($alloc);
+        let told = $told;
+        *$handle = Handle::of($open);
         told
     }};
 }
@@ -100,7 +80,7 @@ pub extern "C" fn bb8_begin(alloc: Global, core: &mut Handle, at: u64) -> Told
     ensures { Beside (λ old new. (a : Option BeginAnswer) × (result ≡ in_c.begin_in a)
         × Stepped begin_told old at acts.Begin a new) core.old.core core.new.core }
 {
-    with_core!(alloc, core => told::begun(steps::begin(at)))
+    with_core!(alloc, core, open => told::begun(asked::begin(&mut open.internals, Moment(at))))
 }
 
 /// Begins a get and lets it try once, as `bb8_begin` and then `bb8_try` do, whether it is checked or not, and whether it is served or waits. The name of the get
@@ -111,7 +91,7 @@ pub extern "C" fn bb8_get(alloc: Global, core: &mut Handle, at: u64) -> Told
     ensures { Beside (λ old new. (a : Got) × (result ≡ in_c.got_in a)
         × Gets old at a new) core.old.core core.new.core }
 {
-    with_core!(alloc, core => told::got(steps::get(at)))
+    with_core!(alloc, core, open => told::got(steps::get(&mut open.internals, Moment(at))))
 }
 
 /// Begins a get and serves it, where connections go out unchecked, one is idle, and the get needs no memory. Else the answer has kind 0, nothing
@@ -123,7 +103,7 @@ pub extern "C" fn bb8_serve_at_once(alloc: Global, core: &mut Handle, at: u64) -
         × IfSome a (λ served. ServesAtOnce old at served new)
         × IfNone a (new ≡ old) × IfNone a (NotAtOnce old)) core.old.core core.new.core }
 {
-    with_core!(alloc, core => told::at_once(steps::serve_at_once(at)))
+    with_core!(alloc, core, open => told::at_once(steps::serve_at_once(&mut open.internals, Moment(at))))
 }
 
 /// Lets a get try: kind 4 where it is served, 5 where it holds a connection that is to be checked, 6 where it waits.
@@ -134,7 +114,7 @@ pub extern "C" fn bb8_try(alloc: Global, core: &mut Handle, at: u64, get: Name) 
         × Stepped try_told old at (acts.Try get.number) a new
         × IfSome a (λ told. HandsOut old told)) core.old.core core.new.core }
 {
-    with_core!(alloc, core => told::tried(steps::try_get(at, get.get())))
+    with_core!(alloc, core, open => told::tried(asked::try_get(&mut open.internals, Moment(at), get.get())))
 }
 
 /// Tells that the check of a get was passed: kind 4. The hint is the place of the key that it holds.
@@ -151,7 +131,7 @@ pub extern "C" fn bb8_checked_ok(
         × Stepped (checked_ok_told old.records.next) old at (acts.CheckedOk get.number) a new)
         core.old.core core.new.core }
 {
-    with_core!(alloc, core => told::checked(steps::checked_ok(at, get.get(), hint)))
+    with_core!(alloc, core, open => told::checked(asked::checked_ok(&mut open.internals, Moment(at), get.get(), hint)))
 }
 
 /// Tells that the check of a get failed, which hands its connection in: kind 8. The get may try again. The hint is as of `bb8_checked_ok`.
@@ -171,7 +151,7 @@ pub extern "C" fn bb8_checked_err(
         × Stepped checked_err_told old at (acts.CheckedErr get.number broken) a new
         × IfSome a (λ told. GivesBackInvalid conn told)) core.old.core core.new.core }
 {
-    with_core!(alloc, core => told::invalid(steps::checked_err(at, get.get(), conn, broken, hint)))
+    with_core!(alloc, core, open => told::invalid(asked::checked_err(&mut open.internals, Moment(at), get.get(), conn, broken, hint)))
 }
 
 /// Gives up a get that holds nothing: kind 9.
@@ -188,7 +168,7 @@ pub extern "C" fn bb8_give_up(
         × Stepped give_up_told old at (acts.GiveUp get.number (why timed_out) None false) a new
         × IfSome a (λ told. GivesBackHeld None told)) core.old.core core.new.core }
 {
-    with_core!(alloc, core => told::gave_up(steps::give_up(at, get.get(), reason(timed_out))))
+    with_core!(alloc, core, open => told::gave_up(asked::give_up(&mut open.internals, Moment(at), get.get(), reason(timed_out), None, false, 0)))
 }
 
 /// Gives up a get that holds a connection, which is handed in: kind 7 or 8. The hint is as of `bb8_checked_ok`.
@@ -209,7 +189,7 @@ pub extern "C" fn bb8_give_up_held(
         (acts.GiveUp get.number (why timed_out) (Some conn) broken) a new
         × IfSome a (λ told. GivesBackHeld (Some conn) told)) core.old.core core.new.core }
 {
-    with_core!(alloc, core => told::gave_up(steps::give_up_held(at, get.get(), reason(timed_out), conn, broken, hint)))
+    with_core!(alloc, core, open => told::gave_up(asked::give_up(&mut open.internals, Moment(at), get.get(), reason(timed_out), Some(conn), broken, hint)))
 }
 
 /// Returns a connection that was served: kind 7 where it is idle, 8 where it is closed, and handed back.
@@ -227,7 +207,7 @@ pub extern "C" fn bb8_put_back(
         × Stepped (put_back_told key.number) old at (acts.PutBack key.number conn broken) a new
         × IfSome a (λ told. GivesBack conn told)) core.old.core core.new.core }
 {
-    with_core!(alloc, core => told::returned(steps::put_back(at, key.key(), conn, broken)))
+    with_core!(alloc, core, open => told::returned(asked::put_back(&mut open.internals, Moment(at), key.key(), conn, broken)))
 }
 
 /// Grants what is wanted for `min_idle`, claimed at once or not: kind 23.
@@ -237,7 +217,7 @@ pub extern "C" fn bb8_fill(alloc: Global, core: &mut Handle, at: u64, claimed: b
     ensures { Beside (λ old new. (a : Grant) × (result ≡ in_c.fill_in a)
         × Meets old at (acts.Fill claimed) (answers.Granted a) new) core.old.core core.new.core }
 {
-    with_core!(alloc, core => told::filled(Core::fill(Moment(at), claimed)))
+    with_core!(alloc, core, open => told::filled(open.internals.fill(Moment(at), claimed)))
 }
 
 /// Claims an approval: kind 10, or 11 where none is unclaimed, or 12 where no handle is alive.
@@ -247,7 +227,7 @@ pub extern "C" fn bb8_claim(alloc: Global, core: &mut Handle, at: u64) -> Told
     ensures { Beside (λ old new. (a : ClaimAnswer) × (result ≡ in_c.claim_in a)
         × Meets old at acts.Claim (claim_told a) new) core.old.core core.new.core }
 {
-    with_core!(alloc, core => told::claimed(Core::claim(Moment(at))))
+    with_core!(alloc, core, open => told::claimed(open.internals.claim(Moment(at))))
 }
 
 /// Hands in the connection that a claimed approval brought: kind 13, or 14 where no handle is alive and it is handed back.
@@ -264,7 +244,7 @@ pub extern "C" fn bb8_opened(
         × Stepped (opened_told approval.number) old at (acts.Opened approval.number conn) a new
         × IfSome a (λ told. HandsBack conn told)) core.old.core core.new.core }
 {
-    with_core!(alloc, core => told::entered(steps::opened(at, approval.key(), conn)))
+    with_core!(alloc, core, open => told::entered(asked::opened(&mut open.internals, Moment(at), approval.key(), conn)))
 }
 
 /// Ends a claimed approval that brought no connection: kind 15.
@@ -275,7 +255,7 @@ pub extern "C" fn bb8_failed(alloc: Global, core: &mut Handle, at: u64, approval
         × Stepped failed_told old at (acts.Failed approval.number) a new)
         core.old.core core.new.core }
 {
-    with_core!(alloc, core => told::given_back(steps::failed(at, approval.key())))
+    with_core!(alloc, core, open => told::given_back(asked::failed(&mut open.internals, Moment(at), approval.key())))
 }
 
 /// Adds a connection that no approval brought: kind 16, or 17 as it is broken, 18 as there is no room, 19 as memory or a number is lacking.
@@ -292,7 +272,7 @@ pub extern "C" fn bb8_add(
         × Stepped add_told old at (acts.Add conn broken) a new
         × IfSome a (λ told. Refuses conn told)) core.old.core core.new.core }
 {
-    with_core!(alloc, core => told::added(steps::add(at, conn, broken)))
+    with_core!(alloc, core, open => told::added(asked::add(&mut open.internals, Moment(at), conn, broken)))
 }
 
 /// Closes idle connections that are too old or idled too long: kind 20, with how many as the number of the key; `bb8_closed_next` tells which.
@@ -303,10 +283,7 @@ pub extern "C" fn bb8_reap(alloc: Global, core: &mut Handle, at: u64) -> Told
     ensures { Within (λ old new. (a : Option ReapAnswer) × (result ≡ in_c.reap_in a)
         × Reaps old at a new) core.old.core core.new.core }
 {
-    let mut open = core.take(alloc);
-    let told = told::reaped(open.reap(at));
-    *core = Handle::of(open);
-    told
+    with_core!(alloc, core, open => told::reaped(open.reap(at)))
 }
 
 /// Adds a handle of the pool: kind 21, or 3 where 4,294,967,295 are alive.
@@ -316,7 +293,7 @@ pub extern "C" fn bb8_join(alloc: Global, core: &mut Handle, at: u64) -> Told
     ensures { Beside (λ old new. (a : Option JoinAnswer) × (result ≡ in_c.join_in a)
         × Stepped join_told old at acts.Join a new) core.old.core core.new.core }
 {
-    with_core!(alloc, core => told::joined(steps::join(at)))
+    with_core!(alloc, core, open => told::joined(asked::join(&mut open.internals, Moment(at))))
 }
 
 /// Takes a handle of the pool away: kind 22. With the last one idle connections end, as many as the number of the key; `bb8_closed_next` tells
@@ -327,10 +304,7 @@ pub extern "C" fn bb8_leave(alloc: Global, core: &mut Handle, at: u64) -> Told
     ensures { Within (λ old new. (a : Left) × (result ≡ in_c.leave_in a)
         × Leaves old at a new) core.old.core core.new.core }
 {
-    let mut open = core.take(alloc);
-    let told = told::left(open.leave(at));
-    *core = Handle::of(open);
-    told
+    with_core!(alloc, core, open => told::left(open.leave(at)))
 }
 
 /// Tells the connection that a reap or the last leave closed first, of those that were not told yet: kind 24. It is 0 where all were told.
@@ -340,10 +314,7 @@ pub extern "C" fn bb8_closed_next(alloc: Global, core: &mut Handle) -> Told
     ensures { Within (λ old new. (a : Option (Closed ℕ)) × (result ≡ in_c.closed_in a)
         × TellsNext old a new) core.old.core core.new.core }
 {
-    let mut open = core.take(alloc);
-    let told = told::closed(open.next());
-    *core = Handle::of(open);
-    told
+    with_core!(alloc, core, open => told::closed(open.next()))
 }
 
 /// The effective moment, and whether a handle of the pool is alive.
@@ -353,7 +324,7 @@ pub extern "C" fn bb8_look(alloc: Global, core: &mut Handle, at: u64) -> Looked
     ensures { Beside (λ old new. (a : Look) × (result ≡ in_c.look_in a)
         × Meets old at acts.Look (look_told a) new) core.old.core core.new.core }
 {
-    with_core!(alloc, core => figures::seen(Core::look(Moment(at))))
+    with_core!(alloc, core, open => figures::seen(open.internals.look(Moment(at))))
 }
 
 /// What the core tells of itself: every figure of its state.
@@ -363,7 +334,7 @@ pub extern "C" fn bb8_state(alloc: Global, core: &mut Handle, at: u64) -> Figure
     ensures { Beside (λ old new. (a : State) × (result ≡ in_c.figures_in a)
         × Meets old at acts.State (answers.Shown (figures_of a)) new) core.old.core core.new.core }
 {
-    with_core!(alloc, core => figures::told(Core::state(Moment(at))))
+    with_core!(alloc, core, open => figures::told(open.internals.state(Moment(at))))
 }
 
 /// Whether a connection or an approval of this number has not ended.
@@ -373,10 +344,7 @@ pub extern "C" fn bb8_knows(alloc: Global, core: &mut Handle, number: u64) -> bo
     ensures { Beside (λ old new. (new ≡ old) × (result ≡ true → IsRecordIn old number)
         × (result ≡ false → IsNoRecordIn old number)) core.old.core core.new.core }
 {
-    let open = core.take(alloc);
-    let told = open.internals.find(number).is_some();
-    *core = Handle::of(open);
-    told
+    with_core!(alloc, core, open => open.internals.find(number).is_some())
 }
 
 /// How many bytes a struct takes: 0 for `Handle`, 1 `Settings`, 2 `Name`, 3 `Granted`, 4 `Told`, 5 `Looked`, 6 `Figures`. Any other: 0.

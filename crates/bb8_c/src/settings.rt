@@ -1,8 +1,6 @@
 //! What a pool holds to, as C passes it.
-ghost use Rattle.std.specs.Prelude.{◌≡◌};
+ghost use Rattle.bb8_c.specs.Words.{◌≡◌, as_nanos, settings_of};
 ghost use Rattle.std.specs.Option.{option_map};
-ghost use Rattle.std.specs.Duration.{as_nanos};
-ghost use Rattle.bb8_types.specs.Settings.{settings_of};
 ghost use Rattle.bb8_c.specs.Openings.{limit_of, held_to, order_of};
 
 use bb8_core::api::{Config, QueueStrategy};

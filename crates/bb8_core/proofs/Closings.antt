@@ -1,5 +1,5 @@
 -- The connections that a reap or the last leave closes, one by one.
-use Rattle.bb8_core.proofs.Words.{◌≡◌, ◌≢◌, ⊎_elim, ℕ, suc, ◌+◌, ◌<◌, max, Bool, true, false, cond, eqb, List, [], ◌∷◌, ◌++◌, drop, slice_get, Option, option_and_then, Some, None, refl, sym, ap, ◌∙◌, arith, subst, FinMap, get, remove, Grant, Idle, Standing, Numbered, at_number, update, numbers, in_order, tally, one, after_end, stands, is_idle, idles_out, lives_out, Told, Reaps, after_reap, after_reaped, AreReaped, AreFirst, ShownRecords, Ledger, Start, start, position, latest, records, peak, idle_at, outlived, reaped_at, outlived_at, idled_at, Shown, HasLedger, shown_records, Before, same_or_not, at-below, get_removed, and_right, standing_is, idle_is, lives_idle, idles_idle, entered_before, ended_before}
+use Rattle.bb8_core.proofs.Words.{◌≡◌, ◌≢◌, ℕ, suc, ◌+◌, ◌<◌, max, Bool, true, false, cond, eqb, List, [], ◌∷◌, ◌++◌, drop, slice_get, Option, option_and_then, Some, None, refl, sym, ap, ◌∙◌, arith, subst, FinMap, get, remove, Grant, Idle, Standing, Numbered, at_number, update, numbers, in_order, tally, one, after_end, stands, is_idle, idles_out, lives_out, Told, Reaps, after_reap, after_reaped, AreReaped, AreFirst, ShownRecords, Ledger, Start, start, position, latest, records, peak, idle_at, outlived, reaped_at, outlived_at, idled_at, Shown, HasLedger, shown_records, Before, same_or_not, at-below, get_removed, and_right, standing_is, idle_is, lives_idle, idles_idle, entered_before, ended_before, inl, inr}
 use Rattle.std.specs.Ordering.{nat_cmp}
 use Rattle.circular_buffer.specs.Buffer.{Buffer}
 use Rattle.bb8_tables.specs.declared.closed.Closed.{Closed}
@@ -15,7 +15,7 @@ use Rattle.bb8_core.proofs.ShownLeft.{shown-idle_end}
 
 tally_both : {R : Type 0} (p : R → Bool) (xs ys : List R) → tally p (xs ++ ys) ≡ tally p xs + tally p ys
 tally_both p [] ys = omega arith
-tally_both p (x ∷ xs) ys = let ih : tally p (xs ++ ys) ≡ tally p xs + tally p ys = tally_both p xs ys in omega arith
+tally_both p (x ∷ xs) ys = omega (arith, tally_both p xs ys)
 
 module _ {R : Type 0} (p : R → Bool) where
   -- one, where there is something that passes
@@ -41,17 +41,11 @@ module _ {R : Type 0} (p : R → Bool) where
   numbers_count (r ∷ rs) n k =
       let ih : tally (eqb k) (numbers p (suc n) rs) ≡ passing (at_number (suc n) rs k) = numbers_count rs (suc n) k in
       let split : tally (eqb k) (numbers p n (r ∷ rs)) ≡ cond (p r) (one (eqb k n)) 0 + tally (eqb k) (numbers p (suc n) rs) = head_count k n (numbers p (suc n) rs) (p r) in
-      ⊎_elim
-      (λ (t : (eqb k n ≡ true) × (k ≡ n)).
-      let below : passing (at_number (suc n) rs k) ≡ 0 = ap passing (at-below rs (suc n) k (omega arith)) in
-      let is : passing (cond (eqb k n) (Some r) (at_number (suc n) rs k)) ≡ one (p r) = ap (λ (b : Bool). passing (cond b (Some r) (at_number (suc n) rs k))) t.0 in
-      let here : cond (p r) (one (eqb k n)) 0 ≡ one (p r) = ap (λ (b : Bool). cond (p r) (one b) 0) t.0 ∙ ones (p r) in
-      omega arith)
-      (λ (t : (eqb k n ≡ false) × (k ≢ n)).
-      let is : passing (cond (eqb k n) (Some r) (at_number (suc n) rs k)) ≡ passing (at_number (suc n) rs k) = ap (λ (b : Bool). passing (cond b (Some r) (at_number (suc n) rs k))) t.0 in
-      let here : cond (p r) (one (eqb k n)) 0 ≡ 0 = ap (λ (b : Bool). cond (p r) (one b) 0) t.0 ∙ zeros (p r) in
-      omega arith)
-      (same_or_not k n)
+      elim (same_or_not k n) [
+        | inl t ↦ let below : passing (at_number (suc n) rs k) ≡ 0 = ap passing (at-below rs (suc n) k (omega arith)) in
+            omega (arith, ap (λ (b : Bool). passing (cond b (Some r) (at_number (suc n) rs k))) t.0, ap (λ (b : Bool). cond (p r) (one b) 0) t.0 ∙ ones (p r))
+        | inr t ↦ omega (arith, ap (λ (b : Bool). passing (cond b (Some r) (at_number (suc n) rs k))) t.0, ap (λ (b : Bool). cond (p r) (one b) 0) t.0 ∙ zeros (p r))
+      ]
 
 module _ {C : Type 0} where
   -- each is idle as its turn to end comes
@@ -103,17 +97,10 @@ module _ {C : Type 0} where
     reaped_count k (j ∷ js) s each =
         let ih : tally (eqb k) js + one (test (get (after_reap js (after_reaped j s)).places k)) ≡ one (test (get (remove s.places j) k)) = reaped_count k js (after_reaped j s) each.1 in
         let gone : one (test (get (remove s.places j) k)) ≡ one (test (cond (eqb k j) None (get s.places k))) = ap (λ (o : Option (Standing C)). one (test o)) (get_removed s.places j k) in
-        ⊎_elim
-        (λ (t : (eqb k j ≡ true) × (k ≡ j)).
-        let here : one (eqb k j) ≡ 1 = ap one t.0 in
-        let due : one (test (get s.places k)) ≡ 1 = ap one (ap (λ (q : ℕ). test (get s.places q)) t.1 ∙ each.0) in
-        let none : one (test (cond (eqb k j) None (get s.places k))) ≡ 0 = ap (λ (b : Bool). one (test (cond b None (get s.places k)))) t.0 ∙ ap one off in
-        omega arith)
-        (λ (t : (eqb k j ≡ false) × (k ≢ j)).
-        let here : one (eqb k j) ≡ 0 = ap one t.0 in
-        let same : one (test (cond (eqb k j) None (get s.places k))) ≡ one (test (get s.places k)) = ap (λ (b : Bool). one (test (cond b None (get s.places k)))) t.0 in
-        omega arith)
-        (same_or_not k j)
+        elim (same_or_not k j) [
+          | inl t ↦ omega (arith, ap one t.0, ap one (ap (λ (q : ℕ). test (get s.places q)) t.1 ∙ each.0), ap (λ (b : Bool). one (test (cond b None (get s.places k)))) t.0 ∙ ap one off)
+          | inr t ↦ omega (arith, ap one t.0, ap (λ (b : Bool). one (test (cond b None (get s.places k)))) t.0)
+        ]
 
   -- those that live too long come as often as in the ledger's list
   aged_count : (s : Start) (now p top : ℕ) (rs : List (Numbered (Standing C))) (js : List ℕ) → AreReaped (lives_out s.config now) js (shown_records s.first p top rs)
@@ -124,9 +111,7 @@ module _ {C : Type 0} where
       let over : one (lives_out s.config now (get (after_reap js (shown_records s.first p top rs)).places k)) ≡ 0 = ap one (none k) in
       let listed : tally (eqb k) (outlived s now rs) ≡ passing (λ (r : Numbered (Standing C)). lives_out s.config now r.standing) (at_number s.first rs k) =
       numbers_count (λ (r : Numbered (Standing C)). lives_out s.config now r.standing) rs s.first k in
-      let shows : one (lives_out s.config now (get (shown_records s.first p top rs).places k)) ≡ passing (λ (r : Numbered (Standing C)). lives_out s.config now r.standing) (at_number s.first rs k) =
-      ap (λ (o : Option (Standing C)). one (lives_out s.config now o)) (numbered.get-numbered (λ (r : Numbered (Standing C)). r.standing) rs s.first k) ∙ go (at_number s.first rs k) in
-      omega arith
+      omega (arith, ap (λ (o : Option (Standing C)). one (lives_out s.config now o)) (numbered.get-numbered (λ (r : Numbered (Standing C)). r.standing) rs s.first k) ∙ go (at_number s.first rs k))
     where
       go : (o : Option (Numbered (Standing C))) → one (lives_out s.config now (option_and_then (λ (r : Numbered (Standing C)). r.standing) o))
           ≡ passing (λ (r : Numbered (Standing C)). lives_out s.config now r.standing) o
@@ -140,10 +125,7 @@ module _ {C : Type 0} where
   reap_count l at js ks told r k =
       let e : Ended_at l at (position l) js ks = ended_at l at (position l) js ks told (entered_before l) refl r in
       let aged : tally (eqb k) js ≡ tally (eqb k) (outlived_at l at) = aged_count (start l) (max (latest l) at) (position l) (peak l) (records l) js r.aged r.none_aged k in
-      let idle : tally (eqb k) ks ≡ tally (eqb k) (idled_at l at) = ap (λ (xs : List ℕ). tally (eqb k) xs) e.idle in
-      let code : tally (eqb k) (js ++ ks) ≡ tally (eqb k) js + tally (eqb k) ks = tally_both (eqb k) js ks in
-      let list : tally (eqb k) (reaped_at l at) ≡ tally (eqb k) (outlived_at l at) + tally (eqb k) (idled_at l at) = tally_both (eqb k) (outlived_at l at) (idled_at l at) in
-      omega arith
+      omega (arith, ap (λ (xs : List ℕ). tally (eqb k) xs) e.idle, tally_both (eqb k) js ks, tally_both (eqb k) (outlived_at l at) (idled_at l at))
 
   pub reap_offers : {s t : Shown C} (at : ℕ) {now : ℕ} {js ks : List ℕ} {mid : ShownRecords C} {told : Told} (grant : Grant) (list : Buffer (Closed C)) {offered : Buffer (Closed C)} → s ≡ t
       → now ≡ max s.latest at → Reaps s.config now s.records js ks mid told → offered ≡ offered_all (closed_of (js ++ ks) s.records.places) list

@@ -32,7 +32,7 @@ module _ {C : Type 0} where
   none_after s at now h now_is k r e =
       let none = none_later h.0 k r (shown_record h.0 s h.2 k ∙ e) in
       let same : latest h.0 ≡ s.latest = ap (λ (t : Shown C). t.latest) h.2 in
-      (let b : r.birth ≤ latest h.0 = none.0 in omega arith, let b : r.entered ≤ latest h.0 = none.1 in omega arith)
+      (omega (arith, none.0), omega (arith, none.1))
 
   pub shown_get : (l : Ledger C) (s : Shown C) → Means l s → (g : ℕ) → get_of l g ≡ get s.gets.places g
   shown_get l s is g = sym (numbered.get-numbered (λ (r : Numbered Getting). r.standing) (gets l) (start l).first_get g) ∙ ap (λ (t : Shown C). get t.gets.places g) is
@@ -50,10 +50,7 @@ module _ {C : Type 0} where
       → was.conns + was.approved ≤ config.max_size → taken ≡ was → n ≡ due config handles (taken.conns + taken.approved) asked
       → taken.conns + taken.approved + n ≤ config.max_size
   due_within config handles {taken} {was} {n} asked few taken_is n_is =
-      let same : taken.conns + taken.approved ≡ was.conns + was.approved = ap (λ (t : ShownRecords C). t.conns + t.approved) taken_is in
-      let least : due config handles (taken.conns + taken.approved) asked ≤ config.max_size - (taken.conns + taken.approved) =
-      due_few config handles (taken.conns + taken.approved) asked in
-      omega arith
+      omega (arith, ap (λ (t : ShownRecords C). t.conns + t.approved) taken_is, due_few config handles (taken.conns + taken.approved) asked)
 
   -- It is so, too, where what is taken is no more than what a state shows.
   pub due_fits : (s : Shown C) {taken was : ShownRecords C} {used n : ℕ} (asked : ℕ) → HasLedger s
@@ -106,19 +103,16 @@ module _ {C : Type 0} where
   created_few {s} k is h fit few =
       let st = fit_claimed k is h fit in
       let some : 1 ≤ approved h.0 = claimed_counted h.0 k st.0 (shown_record h.0 s h.2 k ∙ st.1) (claimed_is st.0.place st.2) in
-      let shown_some : 1 ≤ s.records.approved = subst (λ (t : Shown C). 1 ≤ t.records.approved) h.2 some in
-      omega (arith, (shown_fits s h).created_few)
+      omega (arith, subst (λ (t : Shown C). 1 ≤ t.records.approved) h.2 some, (shown_fits s h).created_few)
 
   pub closed_few : (k : ℕ) (s : Shown C) → HasLedger s → (st : Standing C) × (get s.records.places k ≡ Some st) × (is_out st.place ≡ true)
       → s.records.next ≤ end_of_numbers → s.counts.broken + s.counts.max_lifetime < end_of_numbers
-  closed_few k s h st few = let some : 1 ≤ s.records.conns = out_some k s h st in omega (arith, (shown_fits s h).closed_few)
+  closed_few k s h st few = omega (arith, out_some k s h st, (shown_fits s h).closed_few)
 
   -- and as invalid
   pub invalid_few : (k : ℕ) (s : Shown C) → HasLedger s → (st : Standing C) × (get s.records.places k ≡ Some st) × (is_out st.place ≡ true)
       → s.records.next ≤ end_of_numbers → s.counts.invalid < end_of_numbers
-  invalid_few k s h st few =
-      let some : 1 ≤ s.records.conns = out_some k s h st in
-      omega (arith, ended_shown s h)
+  invalid_few k s h st few = omega (arith, out_some k s h st, ended_shown s h)
 
   -- where a handle leaves, one is alive
   pub fit_leave : {s t : Shown C} → s ≡ t → HasLedger s → IsFitting t Leave → 1 ≤ s.handles
@@ -146,9 +140,8 @@ module _ {C : Type 0} where
       → s.counts.direct + s.counts.waited + s.counts.timed_out + s.counts.cancelled < end_of_numbers
   ended_few s g h st few =
       let some : 1 ≤ alive h.0 = alive_is h.0 g st.0 (shown_get h.0 s h.2 g ∙ st.1) in
-      let shown_some : 1 ≤ s.gets.alive = subst (λ (t : Shown C). 1 ≤ t.gets.alive) h.2 some in
       let fit = shown_fits s h in
-      omega (arith, fit.answered, fit.started_few)
+      omega (arith, subst (λ (t : Shown C). 1 ≤ t.gets.alive) h.2 some, fit.answered, fit.started_few)
 
   -- ---- a get that holds a connection
 

@@ -44,7 +44,7 @@ module _ {C : Type 0} where
 
   -- what is out in a ledger is within the size
   out_few : (l : Ledger C) → IsLegal l → out l ≤ (start l).config.max_size
-  out_few l legal = let split : conns l ≡ idle_count l + out l = conns_split (records l) in omega (arith, (all_fit l legal).size)
+  out_few l legal = omega (arith, conns_split (records l), (all_fit l legal).size)
 
   pub counted_at : (l : Ledger C) (at : ℕ) (e : Act C) (a : Answer) (lent lent_now : Lent) → IsLegal l → Allowed l at e a
       → IsCounted (shown_beside lent l) e a (shown_beside lent_now (Later l at e a))

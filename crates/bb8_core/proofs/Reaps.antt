@@ -84,8 +84,7 @@ module _ {C : Type 0} where
       (subst (λ (t : ShownRecords C). Reaps (start h.0).config now (shown h.0).records js ks t told) r.state r) in
       let z = reaped_sized h.0 now in
       let e : Ended_at h.0 now (position h.0) js ks = ended_at h.0 now (position h.0) js ks told (entered_before h.0) refl r_at in
-      let idle_many : length ks ≡ length (idled_at h.0 now) = ap (λ (xs : List ℕ). length xs) e.idle in
-      omega (arith, r.closed, e.aged, length-append (outlived_at h.0 now) (idled_at h.0 now), z.conns_are)) later ended
+      omega (arith, ap (λ (xs : List ℕ). length xs) e.idle, r.closed, e.aged, length-append (outlived_at h.0 now) (idled_at h.0 now), z.conns_are)) later ended
     where
       greater : (a b : ℕ) → a ≤ b → max a b ≡ b
       greater a b less = omega arith

@@ -1,20 +1,8 @@
 -- Runs: what a state says of its ledger's numbers, an event that does not fit, and lists of events.
-use Rattle.std.proofs.Common.{◌≡◌, ℕ, zero, suc, true, false, option_map, ◌&&◌, is_some, List, [], ◌∷◌, ◌++◌, take, length, Option, Some, None, IsSome, IfSome, IfNone, refl, sym, ap, ◌∙◌, subst}
-use Rattle.std.specs.FinMap.{get}
-use Rattle.bb8_tables.specs.declared.keys.Key.{Key}
+use Rattle.bb8_core.proofs.Words.{◌≡◌, ℕ, zero, suc, true, false, option_map, ◌&&◌, is_some, List, [], ◌∷◌, ◌++◌, take, length, Option, Some, None, IsSome, IfSome, IfNone, refl, sym, ap, ◌∙◌, subst, get, Key, Event, Getting, Act, Try, Unfit, Ledger, Later, get_of, gets_stand, holds, is_trying, fits, agree, Allowed, IsLegal, Shown, Means, IsRecordIn, IsNoRecordIn, IsGetIn, IsNoGetIn, Named, act_with, act_of, fits_named, answer_of, IsRun, AfterEach}
 use Rattle.bb8_tables.specs.declared.keys.GetKey.{GetKey}
-use Rattle.bb8_core.specs.declared.replay.events.Event.{Event}
 use Rattle.bb8_core.specs.declared.replay.events.Answer.{Answer as Told}
-use Rattle.bb8_types.specs.declared.standing.Getting.{Getting}
-use Rattle.bb8_ledger.specs.Acts.{Act, Try}
-use Rattle.bb8_ledger.specs.Answers.{Unfit}
-use Rattle.bb8_ledger.specs.Ledger.{Ledger, Later, get_of}
-use Rattle.bb8_types.specs.Places.{gets_stand, holds, is_trying}
-use Rattle.bb8_ledger.specs.Table.{fits, agree, Allowed, IsLegal}
-use Rattle.bb8_core.specs.Shown.{Shown, Means, IsRecordIn, IsNoRecordIn, IsGetIn, IsNoGetIn}
 use Rattle.bb8_core.specs.declared.replay.events.Act.TheVariants as named
-use Rattle.bb8_core.specs.declared.replay.events.Act.{Act as Named}
-use Rattle.bb8_core.specs.Run.{act_with, act_of, fits_named, answer_of, IsRun, AfterEach}
 use Rattle.bb8_core.proofs.Fitting.{shown, bare, beside, as_shown, shown_record, shown_get}
 use Rattle.bb8_core.proofs.Steps.{unfitting, same_shown, records_kept, gets_kept}
 
@@ -51,22 +39,8 @@ module _ {C : Type 0} where
       each (Some k) = refl
 
   pub as_named : (conn : ℕ → C) (l : Ledger C) (e : Named) → fits l (act_with conn l e) ≡ fits_named l e
-  as_named conn l named.Begin = refl
-  as_named conn l (named.Try g) = refl
-  as_named conn l (named.CheckedOk g) = refl
-  as_named conn l (named.CheckedErr g broken) = refl
   as_named conn l (named.GiveUp g why broken) = hands_in conn (get_of l g)
-  as_named conn l (named.PutBack k broken) = refl
-  as_named conn l (named.Fill claimed) = refl
-  as_named conn l named.Claim = refl
-  as_named conn l (named.Opened a) = refl
-  as_named conn l (named.Failed a) = refl
-  as_named conn l (named.Add broken) = refl
-  as_named conn l named.Reap = refl
-  as_named conn l named.State = refl
-  as_named conn l named.Join = refl
-  as_named conn l named.Leave = refl
-  as_named conn l named.Look = refl
+  as_named conn l _ = refl
 
   -- ---- an event that does not fit changes nothing
 
@@ -83,24 +57,21 @@ pub run_more : (l m : Ledger ℕ) (events : List Event) (answers : List Told) (e
     → Allowed m e.at.0 (act_of m e.act) (answer_of a)
     → IsRun l (events ++ e ∷ []) (answers ++ a ∷ []) (Later m e.at.0 (act_of m e.act) (answer_of a))
 run_more l m [] [] e a r h = (subst (λ (x : Ledger ℕ). Allowed x e.at.0 (act_of x e.act) (answer_of a)) (sym r) h, ap (λ (x : Ledger ℕ). Later x e.at.0 (act_of x e.act) (answer_of a)) r)
-run_more l m [] (b ∷ answers) e a r h = absurd r
-run_more l m (x ∷ events) [] e a r h = absurd r
 run_more l m (x ∷ events) (b ∷ answers) e a r h = (r.0, run_more (Later l x.at.0 (act_of l x.act) (answer_of b)) m events answers e a r.1 h)
+run_more l m _ _ e a r h = absurd r
 
 -- a run of allowed answers leads to a legal ledger
 pub run_legal : (l last : Ledger ℕ) (events : List Event) (answers : List Told) → IsLegal l → IsRun l events answers last → IsLegal last
 run_legal l last [] [] legal r = subst (λ (x : Ledger ℕ). IsLegal x) r legal
-run_legal l last [] (b ∷ answers) legal r = absurd r
-run_legal l last (x ∷ events) [] legal r = absurd r
 run_legal l last (x ∷ events) (b ∷ answers) legal r = run_legal (Later l x.at.0 (act_of l x.act) (answer_of b)) last events answers (legal, r.0) r.1
+run_legal l last _ _ legal r = absurd r
 
 -- each beginning of a run is one
 run_take : (l last : Ledger ℕ) (events : List Event) (answers : List Told) → IsRun l events answers last → (i : ℕ) → (m : Ledger ℕ) × IsRun l (take i events) (take i answers) m
 run_take l last events answers r zero = (l, refl)
 run_take l last [] [] r (suc i) = (l, refl)
-run_take l last [] (b ∷ answers) r (suc i) = absurd r
-run_take l last (x ∷ events) [] r (suc i) = absurd r
 run_take l last (x ∷ events) (b ∷ answers) r (suc i) = let rest = run_take (Later l x.at.0 (act_of l x.act) (answer_of b)) last events answers r.1 i in (rest.0, (r.0, rest.1))
+run_take l last _ _ r (suc i) = absurd r
 
 -- so what holds of every legal ledger holds after each beginning
 pub run_after : (Holds : Ledger ℕ → Type 0) → ((m : Ledger ℕ) → IsLegal m → Holds m)
@@ -111,6 +82,5 @@ run_after Holds of_legal l last events answers legal r i = let m = run_take l la
 -- one answer an event
 pub run_length : (l last : Ledger ℕ) (events : List Event) (answers : List Told) → IsRun l events answers last → length answers ≡ length events
 run_length l last [] [] r = refl
-run_length l last [] (b ∷ answers) r = absurd r
-run_length l last (x ∷ events) [] r = absurd r
 run_length l last (x ∷ events) (b ∷ answers) r = ap suc (run_length (Later l x.at.0 (act_of l x.act) (answer_of b)) last events answers r.1)
+run_length l last _ _ r = absurd r

@@ -1,5 +1,5 @@
 -- What each change of the gets does to what is shown of them.
-use Rattle.bb8_core.proofs.Words.{◌≡◌, ℕ, suc, ◌+◌, ◌≤◌, max, Bool, true, false, eqb, ◌&&◌, List, [], ◌∷◌, ◌++◌, Option, Some, None, IfSome, is_some, option_and_then, option_map, slice_get, refl, sym, ap, ◌∙◌, arith, length-append, insert, Getting, GetPlace, Active, Holding, Numbered, update, in_order, standing_at, standings, after_end, gets_stand, is_unnotified, is_notified, get_with_place, get_in_wait, unnotified_at, alive_of, new_get, with_notice, get_at_place, at_wait, ShownGets, no_gets, shown_gets, change, Before, and_right, same_gets}
+use Rattle.bb8_core.proofs.Words.{◌≡◌, ℕ, suc, ◌+◌, ◌≤◌, max, Bool, true, false, eqb, ◌&&◌, List, [], ◌∷◌, ◌++◌, Option, Some, None, IfSome, is_some, option_and_then, option_map, slice_get, refl, sym, ap, ◌∙◌, arith, length-append, insert, Getting, GetPlace, Active, Numbered, update, in_order, standing_at, standings, after_end, gets_stand, is_unnotified, is_notified, get_with_place, get_in_wait, unnotified_at, alive_of, new_get, with_notice, get_at_place, at_wait, ShownGets, no_gets, shown_gets, change, Before, and_right, same_gets}
 use Rattle.bb8_types.specs.declared.standing.GetPlace.TheVariants.{Waiting}
 use Rattle.bb8_tables.specs.Machine as machine
 use Rattle.bb8_types.proofs.Numbered as numbered
@@ -130,10 +130,8 @@ first_waits first p gs k e =
 
 -- who was notified is in line no more
 pub notified_out : (p : GetPlace) → is_notified p ≡ true → is_unnotified p ≡ false
-notified_out Active e = cc
 notified_out (Waiting true) e = refl
-notified_out (Waiting false) e = cc
-notified_out (Holding k) e = cc
+notified_out _ e = cc
 
 -- so the line loses nothing as it goes
 pub without_other : (first p : ℕ) (gs : List (Numbered Getting)) (k : ℕ) (s : Getting) → standing_at first gs k ≡ Some s

@@ -1,5 +1,5 @@
 -- What the leave of the last handle does to what is shown: idle connections and unclaimed approvals end, one after another.
-use Rattle.bb8_core.proofs.Words.{◌≡◌, ◌≢◌, ℕ, suc, ◌+◌, ◌-◌, ◌<◌, ◌≤◌, Bool, true, false, cond, eqb, ◌&&◌, ◌||◌, List, [], ◌∷◌, map, length, drop, slice_get, Option, Some, None, refl, sym, ap, ◌∙◌, arith, ⊎_elim, Place, Unclaimed, Idle, Standing, Numbered, at, update, numbers, in_order, tally, one, after_end, after_end_where, stands, is_conn, is_approval, is_unclaimed, is_idle, is_left, idle_at, conns_of, ShownRecords, shown_records, change, Before, same_or_not, change_below, and_right, standing_is, unclaimed_is, idle_is, tested, ended_before, idle_counted, remove, standings}
+use Rattle.bb8_core.proofs.Words.{◌≡◌, ℕ, suc, ◌+◌, ◌-◌, ◌<◌, ◌≤◌, Bool, true, false, cond, eqb, ◌&&◌, ◌||◌, List, [], ◌∷◌, map, length, drop, slice_get, Option, Some, None, refl, sym, ap, ◌∙◌, arith, Place, Unclaimed, Idle, Standing, Numbered, at, update, numbers, in_order, tally, one, after_end, after_end_where, stands, is_conn, is_approval, is_unclaimed, is_idle, is_left, idle_at, conns_of, ShownRecords, shown_records, change, Before, same_or_not, change_below, and_right, standing_is, unclaimed_is, idle_is, tested, ended_before, idle_counted, remove, standings, inl, inr}
 use Rattle.bb8_tables.specs.Machine as machine
 use Rattle.bb8_types.proofs.Numbered as numbered
 use Rattle.bb8_core.proofs.ShownRecords.{shown-changed}
@@ -7,17 +7,14 @@ use Rattle.bb8_core.proofs.ShownRecords.{shown-changed}
 -- an element is changed to one that a function makes the same
 pub map-change : {R S : Type 0} (f : R → S) (rs : List R) (n k : ℕ) (new old : R) → at n rs k ≡ Some old → f new ≡ f old → map f (change n k new rs) ≡ map f rs
 map-change f [] n k new old h e = refl
-map-change f (r ∷ rs) n k new old h e =
-    ⊎_elim
-    (λ (t : (eqb k n ≡ true) × (k ≡ n)).
-    let is : Some r ≡ Some old = rw t.0 at h in
-    let same : r ≡ old = cc in
-    let rest : change (suc n) k new rs ≡ rs = change_below rs (suc n) k new (omega arith) in
-    rw (t.0, rest, e, same) refl)
-    (λ (t : (eqb k n ≡ false) × (k ≢ n)).
-    let ih : map f (change (suc n) k new rs) ≡ map f rs = map-change f rs (suc n) k new old (rw t.0 at h) e in
-    rw (t.0, ih) refl)
-    (same_or_not k n)
+map-change f (r ∷ rs) n k new old h e = elim (same_or_not k n) [
+  | inl t ↦ let is : Some r ≡ Some old = rw t.0 at h in
+      let same : r ≡ old = cc in
+      let rest : change (suc n) k new rs ≡ rs = change_below rs (suc n) k new (omega arith) in
+      rw (t.0, rest, e, same) refl
+  | inr t ↦ let ih : map f (change (suc n) k new rs) ≡ map f rs = map-change f rs (suc n) k new old (rw t.0 at h) e in
+      rw (t.0, ih) refl
+]
 
 module _ {C : Type 0} where
   -- a record stands idle since one position
@@ -151,15 +148,11 @@ module _ {C : Type 0} where
   -- no more is left than there was
   idles_few : (xs : List ℕ) (s : ShownRecords C) → (machine.after_idle_ends xs s).conns + (machine.after_idle_ends xs s).approved ≤ s.conns + s.approved
   idles_few [] s = omega arith
-  idles_few (k ∷ xs) s = let rest : (machine.after_idle_ends xs (machine.after_idle_end k s)).conns +
-      (machine.after_idle_ends xs (machine.after_idle_end k s)).approved ≤ s.conns - 1 + s.approved =
-      idles_few xs (machine.after_idle_end k s) in omega arith
+  idles_few (k ∷ xs) s = omega (arith, idles_few xs (machine.after_idle_end k s))
 
   unclaimeds_few : (xs : List ℕ) (s : ShownRecords C) → (machine.after_unclaimed_ends xs s).conns + (machine.after_unclaimed_ends xs s).approved ≤ s.conns + s.approved
   unclaimeds_few [] s = omega arith
-  unclaimeds_few (k ∷ xs) s = let rest : (machine.after_unclaimed_ends xs (machine.after_unclaimed_end k s)).conns +
-      (machine.after_unclaimed_ends xs (machine.after_unclaimed_end k s)).approved ≤ s.conns + (s.approved - 1) =
-      unclaimeds_few xs (machine.after_unclaimed_end k s) in omega arith
+  unclaimeds_few (k ∷ xs) s = omega (arith, unclaimeds_few xs (machine.after_unclaimed_end k s))
 
   pub left_few : (s : ShownRecords C) → (machine.after_leave s).conns + (machine.after_leave s).approved ≤ s.conns + s.approved
   left_few s =

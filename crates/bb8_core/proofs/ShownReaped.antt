@@ -27,7 +27,7 @@ module _ {C : Type 0} where
   -- no more is left than there was
   pub reap_few : (ks : List ℕ) (s : ShownRecords C) → (after_reap ks s).conns + (after_reap ks s).approved ≤ s.conns + s.approved
   reap_few [] s = omega arith
-  reap_few (k ∷ ks) s = let rest : (after_reap ks (after_reaped k s)).conns + (after_reap ks (after_reaped k s)).approved ≤ s.conns - 1 + s.approved = reap_few ks (after_reaped k s) in omega arith
+  reap_few (k ∷ ks) s = omega (arith, reap_few ks (after_reaped k s))
 
   -- those of a position that are idle too long are among the idle ones of that position
   numbers_among : (config : Settings) (now m : ℕ) (rs : List (Numbered (Standing C))) (n : ℕ) (f : ℕ → Bool)
@@ -112,12 +112,7 @@ module _ {C : Type 0} where
           to = next.to;
           shows = next.shows ∙ ap (after_reap ks) step;
           same = next.same ∙ map-change (after_end_where due) rs s.first k (after_end r.0) r.0 r.1 (ap (λ (b : Bool). cond b (after_end r.0) r.0) (sym r.2));
-          counted =
-              let rest : tally (λ x. due x.standing) next.to + length ks ≡ tally (λ x. due x.standing) now_rs = next.counted in
-              let changed : tally (λ x. due x.standing) now_rs + one (due r.0.standing) ≡ tally (λ x. due x.standing) rs + 0 =
-              numbered.tally-change (λ (x : Numbered (Standing C)). due x.standing) rs s.first k (after_end r.0) r.0 r.1 in
-              let here : one (due r.0.standing) ≡ 1 = ap one r.2 in
-              omega arith;
+          counted = omega (arith, next.counted, numbered.tally-change (λ (x : Numbered (Standing C)). due x.standing) rs s.first k (after_end r.0) r.0 r.1, ap one r.2);
         }
 
     -- The records that live too long are those of the ledger's list, however the code came by them.
@@ -131,9 +126,7 @@ module _ {C : Type 0} where
         let left = nothing_due due refl e.to s.first (λ k. sym (ap due (shown_standing e.to k)) ∙ ap (λ (t : ShownRecords C). due (get t.places k)) e.shows ∙ none k) in
         record {
           shows = ap show (ended_swept due s.first rs ∙ sym e.same ∙ left.0) ∙ e.shows;
-          closed = (let all : tally (λ r. due r.standing) e.to + length ks ≡ tally (λ r. due r.standing) rs = e.counted in
-              let is : length (outlived s now rs) ≡ tally (λ r. due r.standing) rs = numbered.length-numbers (λ r. due r.standing) rs s.first in
-              omega (arith, left.1));
+          closed = (omega (arith, e.counted, numbered.length-numbers (λ r. due r.standing) rs s.first, left.1));
         }
 
     -- ---- those that are idle too long

@@ -149,7 +149,7 @@ module _ {C : Type 0} where
         (numbered.in_order-append_new idle_at rs first p (entry c now now p) b (numbered.eqb_self p) (λ q below. numbered.ne_test p q (λ e. omega arith)))
         (numbered.numbers-append (λ x. stands is_unclaimed x.standing) rs (entry c now now p) first ∙ append-nil (numbers (λ x. stands is_unclaimed x.standing) first rs))
         (numbered.tally-append (λ x. stands is_conn x.standing) rs (entry c now now p))
-        (let e : approved_of (rs ++ entry c now now p ∷ []) ≡ approved_of rs + 0 = numbered.tally-append (λ x. stands is_approval x.standing) rs (entry c now now p) in omega arith)
+        (omega (arith, numbered.tally-append (λ x. stands is_approval x.standing) rs (entry c now now p)))
         refl
 
     shown-approve_one : (claimed : Bool) → shown_records first p top (rs ++ approval claimed ∷ []) ≡ machine.after_approval claimed before
@@ -159,12 +159,8 @@ module _ {C : Type 0} where
         (numbered.in_order-append idle_at rs first (approval claimed) (λ q. never_idle claimed q) p)
         (numbered.numbers-append (λ x. stands is_unclaimed x.standing) rs (approval claimed) first
         ∙ ap (λ (xs : List ℕ). numbers (λ x. stands is_unclaimed x.standing) first rs ++ xs) (unclaimed_where claimed))
-        (let e : conns_of (rs ++ approval claimed ∷ []) ≡ conns_of rs + one (is_conn {C = C} (cond claimed Claimed Unclaimed)) =
-        numbered.tally-append (λ x. stands is_conn x.standing) rs (approval claimed) in
-        let z : one (is_conn {C = C} (cond claimed Claimed Unclaimed)) ≡ 0 = no_conn claimed in omega arith)
-        (let e : approved_of (rs ++ approval claimed ∷ []) ≡ approved_of rs + one (is_approval {C = C} (cond claimed Claimed Unclaimed)) =
-        numbered.tally-append (λ x. stands is_approval x.standing) rs (approval claimed) in
-        let z : one (is_approval {C = C} (cond claimed Claimed Unclaimed)) ≡ 1 = an_approval claimed in omega arith)
+        (omega (arith, numbered.tally-append (λ x. stands is_conn x.standing) rs (approval claimed), no_conn claimed))
+        (omega (arith, numbered.tally-append (λ x. stands is_approval x.standing) rs (approval claimed), an_approval claimed))
         refl
       where
         never_idle : (b : Bool) (q : ℕ) → idle_at {C = C} q (approval b) ≡ false

@@ -1,10 +1,7 @@
 -- Each step, from what it does to what is shown to what it does on every legal ledger.
-use Rattle.bb8_core.proofs.Words.{◌≡◌, ℕ, suc, ◌+◌, ◌-◌, ◌*◌, ◌<◌, ◌≤◌, max, min, Bool, true, false, not, eqb, ◌&&◌, ◌||◌, List, length, Option, Some, None, slice_get, refl, sym, ap, ◌∙◌, arith, subst, is_some, MatchBool, ◌≢◌, IfSome, cond, ltb, get, nat_tests, Grant, Place, Claimed, Idle, Held, Guarded, Standing, Holding, Getting, Counters, counts_held, Counts, Figures, Act, Begin, Try, PutBack, Fill, Claim, Opened, Failed, Add, Join, Leave, Look, Answer, Begun, Memory, Exhausted, Served, Taken, Kept, Closed, Granted, Ended, Entered, Late, GivenBack, Broken, NoCapacity, Withheld, Added, Joined, Left, Looked, Numbered, update, one, after_end, at_entry, Ledger, Later, start, position, latest, handles, records, gets, peak, get_peak, alive, idle, record_of, get_of, idle_at, at_place, entry, with_approvals, idle_count, conns_of, approved_of, alive_of, counts, figures, wait_micros, next, with_notice, oldest_waiter, waiting, stands, first_of, first_place, first_wait_of, is_claimed, is_guarded, is_out, is_unnotified, gets_stand, birth_in, is_expired, micros_since, Allowed, IsLegal, Row, begins, begin_refused, begin_exhausted, serves, keeps, returns_closed, takes_out, fills, claims, claim_ended, opens, opens_late, fails, fits, closes, IsWant, with_record, adds, add_broken, add_full, add_exhausted, add_refused, waits_on, waits, joins, join_exhausted, leaves, looks, due, lacking, IsGranted, IsNoGrant, Shown, shown_records, shown_gets, Means, Meets, HasLedger, IsFitting, ShownRecords, ShownGets, Before, before_later, ne_test, standing_is, claimed_is, guarded_out, idle_from, unclaimed_from, conn_from, entered_before, waited_before, put_before, ended_before, peak_holds, get_peak_holds, idle_counted, idle_tally, trying_is, claimed_counted, waits_on_gets, end_of_numbers, most_handles, most_micros}
+use Rattle.bb8_core.proofs.Words.{◌≡◌, ℕ, suc, ◌+◌, ◌-◌, ◌*◌, ◌<◌, ◌≤◌, max, min, Bool, true, false, not, eqb, ◌&&◌, ◌||◌, List, length, Option, Some, None, slice_get, refl, sym, ap, ◌∙◌, arith, subst, is_some, MatchBool, ◌≢◌, IfSome, cond, ltb, get, nat_tests, Grant, Place, Claimed, Idle, Held, Guarded, Standing, Holding, Getting, Counters, counts_held, Counts, Figures, Act, Begin, Try, PutBack, Fill, Claim, Opened, Failed, Add, Join, Leave, Look, Answer, Begun, Memory, Exhausted, Served, Taken, Kept, Closed, Granted, Ended, Entered, Late, GivenBack, Broken, NoCapacity, Withheld, Added, Joined, Left, Looked, Numbered, update, one, after_end, at_entry, Ledger, Later, start, position, latest, handles, records, gets, peak, get_peak, alive, idle, record_of, get_of, idle_at, at_place, entry, with_approvals, idle_count, conns_of, approved_of, alive_of, counts, figures, wait_micros, next, with_notice, oldest_waiter, waiting, stands, first_of, first_place, first_wait_of, is_claimed, is_guarded, is_out, is_unnotified, gets_stand, birth_in, is_expired, micros_since, Allowed, IsLegal, Row, begins, begin_refused, begin_exhausted, serves, keeps, returns_closed, takes_out, fills, claims, claim_ended, opens, opens_late, fails, fits, closes, IsWant, with_record, adds, add_broken, add_full, add_exhausted, add_refused, waits_on, waits, joins, join_exhausted, leaves, looks, due, lacking, IsGranted, IsNoGrant, Shown, shown_records, shown_gets, Means, Meets, HasLedger, IsFitting, ShownRecords, ShownGets, Before, before_later, ne_test, standing_is, claimed_is, guarded_out, idle_from, unclaimed_from, conn_from, entered_before, waited_before, put_before, ended_before, peak_holds, get_peak_holds, idle_counted, idle_tally, trying_is, claimed_counted, waits_on_gets, end_of_numbers, most_handles, most_micros, State, ShownFigures, shows}
 use Rattle.std.proofs.lemmas.Bool.Decides.{leb_tells}
-use Rattle.bb8_ledger.specs.Acts.{State}
-use Rattle.bb8_ledger.specs.Answers.{Shown as ShownFigures}
 use Rattle.bb8_ledger.specs.Answers as answers
-use Rattle.bb8_ledger.specs.Table.{shows}
 use Rattle.bb8_tables.specs.Machine as machine
 use Rattle.bb8_core.specs.Decided as decided
 use Rattle.bb8_core.proofs.ShownRecords.{shown-claimed, shown-taken, shown-closed, shown-entered, shown-approve, raised_same, shown-born}
@@ -286,7 +283,7 @@ module _ {C : Type 0} where
 
   -- what the counters keep of the waits is what a ledger tells of them
   pub same_micros : (l : Ledger C) (was : Counters) → counts l ≡ counts_held was → wait_micros l ≡ was.wait_micros
-  same_micros l was were = let told : 1000 * wait_micros l ≡ 1000 * was.wait_micros = ap (λ (x : Counts). x.wait_time) were in omega arith
+  same_micros l was were = omega (arith, ap (λ (x : Counts). x.wait_time) were)
 
   pub count_served : (l : Ledger C) (at g k : ℕ) (grant : Grant) (was : Counters) → counts l ≡ counts_held was
       → counts (Later l at (Try g) (Served k grant)) ≡ counts_held

@@ -1,3 +1,4 @@
+pub mod Asked
 pub mod Shown
 pub mod Decided
 pub mod StepAnswers

@@ -1,7 +1,11 @@
 //! The steps of the bare state that may not fit: each asks whether it does, and makes it then. Where it does not, none is the answer, and
 //! nothing changes; a connection that was handed in is dropped.
 //!
-//! Who asserts what a step answers proves nothing of it. That what is asked is what the step requires is proved once, here.
+//! That what is asked is what the step requires is proved once, here.
+ghost use Rattle.std.specs.Prelude.{IfSome};
+ghost use Rattle.bb8_ledger.specs.Acts as acts;
+ghost use Rattle.bb8_core.specs.Asked.{Stepped};
+ghost use Rattle.bb8_core.specs.StepAnswers.{begin_told, try_told, checked_ok_told, checked_err_told, reason_of, give_up_told, put_back_told, opened_told, failed_told, add_told, join_told, HandsOut, GivesBack, GivesBackInvalid, GivesBackHeld, HandsBack, Refuses};
 
 use crate::api::Moment;
 use crate::internals::{
@@ -11,7 +15,9 @@ use crate::internals::{
 };
 
 /// Begins a get.
-pub fn begin<C: Drop>(pool: &mut PoolInternals<C>, at: Moment) -> Option<BeginAnswer> {
+pub fn begin<C: Drop>(pool: &mut PoolInternals<C>, at: Moment) -> Option<BeginAnswer>
+    ensures { Stepped begin_told pool.old at.0 acts.Begin result pool.new }
+{
     if !pool.fits_begin() {
         return None;
     }
@@ -34,7 +40,10 @@ pub fn try_get<C: Drop>(
     pool: &mut PoolInternals<C>,
     at: Moment,
     get: GetKey,
-) -> Option<TryAnswer<C>> {
+) -> Option<TryAnswer<C>>
+    ensures step { Stepped try_told pool.old at.0 (acts.Try get.number) result pool.new }
+    ensures connection { IfSome result (λ told. HandsOut pool.old told) }
+{
     if !pool.fits_try(get) {
         return None;
     }
@@ -47,7 +56,10 @@ pub fn checked_ok<C: Drop>(
     at: Moment,
     get: GetKey,
     hint: usize,
-) -> Option<CheckedOkAnswer> {
+) -> Option<CheckedOkAnswer>
+    ensures { Stepped (checked_ok_told pool.old.records.next) pool.old at.0
+        (acts.CheckedOk get.number) result pool.new }
+{
     if !pool.fits_checked_ok(get) {
         return None;
     }
@@ -62,7 +74,11 @@ pub fn checked_err<C: Drop>(
     conn: C,
     broken: bool,
     hint: usize,
-) -> Option<CheckedErrAnswer<C>> {
+) -> Option<CheckedErrAnswer<C>>
+    ensures step { Stepped checked_err_told pool.old at.0 (acts.CheckedErr get.number broken)
+        result pool.new }
+    ensures connection { IfSome result (λ told. GivesBackInvalid conn told) }
+{
     if !pool.fits_checked_err(get) {
         return None;
     }
@@ -78,7 +94,11 @@ pub fn give_up<C: Drop>(
     held: Option<C>,
     broken: bool,
     hint: usize,
-) -> Option<GiveUpAnswer<C>> {
+) -> Option<GiveUpAnswer<C>>
+    ensures step { Stepped give_up_told pool.old at.0
+        (acts.GiveUp get.number (reason_of reason) held broken) result pool.new }
+    ensures connection { IfSome result (λ told. GivesBackHeld held told) }
+{
     if !pool.fits_give_up(get, held.is_some()) {
         return None;
     }
@@ -92,7 +112,11 @@ pub fn put_back<C: Drop>(
     key: Key,
     conn: C,
     broken: bool,
-) -> Option<PutBackAnswer<C>> {
+) -> Option<PutBackAnswer<C>>
+    ensures step { Stepped (put_back_told key.number) pool.old at.0
+        (acts.PutBack key.number conn broken) result pool.new }
+    ensures connection { IfSome result (λ told. GivesBack conn told) }
+{
     if !pool.fits_put_back(key) {
         return None;
     }
@@ -105,7 +129,11 @@ pub fn opened<C: Drop>(
     at: Moment,
     key: Key,
     conn: C,
-) -> Option<OpenedAnswer<C>> {
+) -> Option<OpenedAnswer<C>>
+    ensures step { Stepped (opened_told key.number) pool.old at.0 (acts.Opened key.number conn)
+        result pool.new }
+    ensures connection { IfSome result (λ told. HandsBack conn told) }
+{
     if !pool.fits_opened(key) {
         return None;
     }
@@ -113,7 +141,9 @@ pub fn opened<C: Drop>(
 }
 
 /// Ends a claimed approval that brought nothing.
-pub fn failed<C: Drop>(pool: &mut PoolInternals<C>, at: Moment, key: Key) -> Option<FailedAnswer> {
+pub fn failed<C: Drop>(pool: &mut PoolInternals<C>, at: Moment, key: Key) -> Option<FailedAnswer>
+    ensures { Stepped failed_told pool.old at.0 (acts.Failed key.number) result pool.new }
+{
     if !pool.fits_failed(key) {
         return None;
     }
@@ -126,7 +156,10 @@ pub fn add<C: Drop>(
     at: Moment,
     conn: C,
     broken: bool,
-) -> Option<AddAnswer<C>> {
+) -> Option<AddAnswer<C>>
+    ensures step { Stepped add_told pool.old at.0 (acts.Add conn broken) result pool.new }
+    ensures connection { IfSome result (λ told. Refuses conn told) }
+{
     if !pool.fits_add() {
         return None;
     }
@@ -134,7 +167,9 @@ pub fn add<C: Drop>(
 }
 
 /// Adds a handle.
-pub fn join<C: Drop>(pool: &mut PoolInternals<C>, at: Moment) -> Option<JoinAnswer> {
+pub fn join<C: Drop>(pool: &mut PoolInternals<C>, at: Moment) -> Option<JoinAnswer>
+    ensures { Stepped join_told pool.old at.0 acts.Join result pool.new }
+{
     if !pool.fits_join() {
         return None;
     }

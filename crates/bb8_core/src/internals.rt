@@ -1,5 +1,5 @@
 //! The locked state of a pool.
-ghost use Rattle.std.specs.Prelude.{◌≡◌, ◌+◌, ◌≤◌, ◌||◌, min, not, cond, eqb, slice_get, IfSome, IfNone, true, false, None, Some};
+ghost use Rattle.std.specs.Prelude.{◌≡◌, ◌+◌, ◌≤◌, min, not, cond, slice_get, IfSome, IfNone, true, false, None, Some};
 ghost use Rattle.std.specs.FinMap as map;
 ghost use Rattle.bb8_ledger.specs.Acts as acts;
 ghost use Rattle.bb8_ledger.specs.Answers as answers;
@@ -109,13 +109,6 @@ fn is_expired(config: &Config, now: u64, birth: u64) -> bool
         None => false,
         Some(lifetime) => lifetime.as_nanos() <= now.saturating_sub(birth) as u128,
     }
-}
-
-/// Whether a returned connection is closed.
-fn is_closing(broken: bool, expired: bool, handles: u64) -> bool
-    ensures { result ≡ (broken || (expired || eqb handles 0)) }
-{
-    broken || expired || handles == 0
 }
 
 /// Notifies the oldest waiter that was not notified, where the test passes.
@@ -241,6 +234,7 @@ impl<C: Drop, A> PoolInternals<C, A> {
 
     /// Begins a get and serves it, as `begin` and then `try_get` do, where a connection is idle and the get could begin with no memory.
     /// Otherwise nothing changes: no connection is idle, no number is left, or as many gets are alive as ever were.
+    #[inline(always)]
     pub fn serve_at_once(&mut self, at: Moment) -> Option<AtOnce<C>>
         requires begin { IsFitting self.old acts.Begin }
         requires unchecked { self.old.config.test_on_check_out ≡ false }
@@ -456,27 +450,34 @@ impl<C: Drop, A> PoolInternals<C, A> {
         let key = held_key(getting, hint);
         self.gets.finish(get, &mut self.lendings);
         self.counters.give_up(reason, first_wait(getting), now);
-        let birth = self.records.birth(key, &mut self.lendings);
-        let expired = is_expired(&self.config, now, birth);
-        if is_closing(broken, expired, self.handles) {
-            let grant = end_out(
-                &self.config,
-                self.handles,
-                &mut self.records,
-                key,
-                &mut self.lendings,
-            );
-            self.counters.close(broken, expired);
-            GiveUpAnswer::Closed(key, conn, grant, self.gets.notify(&mut self.lendings))
-        } else {
-            self.records
-                .enter(key, conn, birth, now, false, &mut self.lendings);
-            GiveUpAnswer::Kept(key, self.gets.notify(&mut self.lendings))
+        let ended = self.handles == 0;
+        match self.records.put_back(
+            key,
+            conn,
+            broken,
+            ended,
+            &self.config,
+            now,
+            &mut self.lendings,
+        ) {
+            Ok(()) => GiveUpAnswer::Kept(key, self.gets.notify(&mut self.lendings)),
+            Err((conn, expired)) => {
+                let grant = end_out(
+                    &self.config,
+                    self.handles,
+                    &mut self.records,
+                    key,
+                    &mut self.lendings,
+                );
+                self.counters.close(broken, expired);
+                GiveUpAnswer::Closed(key, conn, grant, self.gets.notify(&mut self.lendings))
+            }
         }
     }
 
     /// Takes back a connection that a guard held. It is closed where it is broken, or else has lived too long, or else no handle is alive;
     /// otherwise it is idle again and keeps its birth.
+    #[inline(always)]
     pub fn put_back(&mut self, at: Moment, k: Key, conn: C, broken: bool) -> PutBackAnswer<C>
         requires { IsFitting self.old (acts.PutBack k.number conn broken) }
         ensures step { Meets self.old at.0 (acts.PutBack k.number conn broken)
@@ -488,22 +489,28 @@ impl<C: Drop, A> PoolInternals<C, A> {
         let now = self.latest.max(at.0);
         self.latest = now;
         self.lendings.start();
-        let birth = self.records.birth(k, &mut self.lendings);
-        let expired = is_expired(&self.config, now, birth);
-        if is_closing(broken, expired, self.handles) {
-            let grant = end_out(
-                &self.config,
-                self.handles,
-                &mut self.records,
-                k,
-                &mut self.lendings,
-            );
-            self.counters.close(broken, expired);
-            PutBackAnswer::Closed(conn, grant, self.gets.notify(&mut self.lendings))
-        } else {
-            self.records
-                .enter(k, conn, birth, now, false, &mut self.lendings);
-            PutBackAnswer::Kept(self.gets.notify(&mut self.lendings))
+        let ended = self.handles == 0;
+        match self.records.put_back(
+            k,
+            conn,
+            broken,
+            ended,
+            &self.config,
+            now,
+            &mut self.lendings,
+        ) {
+            Ok(()) => PutBackAnswer::Kept(self.gets.notify(&mut self.lendings)),
+            Err((conn, expired)) => {
+                let grant = end_out(
+                    &self.config,
+                    self.handles,
+                    &mut self.records,
+                    k,
+                    &mut self.lendings,
+                );
+                self.counters.close(broken, expired);
+                PutBackAnswer::Closed(conn, grant, self.gets.notify(&mut self.lendings))
+            }
         }
     }
 
@@ -551,8 +558,7 @@ impl<C: Drop, A> PoolInternals<C, A> {
             self.records.close(a, true, &mut self.lendings);
             return OpenedAnswer::Late(conn);
         }
-        self.records
-            .enter(a, conn, now, now, true, &mut self.lendings);
+        self.records.enter(a, conn, now, &mut self.lendings);
         self.counters.created += 1;
         OpenedAnswer::Entered(self.gets.notify(&mut self.lendings))
     }

@@ -88,6 +88,7 @@ fn fail<C, V, P, E, X: GetHome<C, Part = P> + Outside<C, E, Checking = V>>(
 }
 
 /// One poll of a check.
+#[inline(always)]
 fn check<C, V, P, E, X: GetHome<C, Part = P> + Outside<C, E, Checking = V>>(
     pool: &mut X,
     moment: Moment,
@@ -144,6 +145,7 @@ fn check<C, V, P, E, X: GetHome<C, Part = P> + Outside<C, E, Checking = V>>(
 }
 
 /// One try of a get.
+#[inline(always)]
 fn take<C, V, P, E, X: GetHome<C, Part = P> + Outside<C, E, Checking = V>>(
     pool: &mut X,
     moment: Moment,
@@ -174,6 +176,7 @@ fn take<C, V, P, E, X: GetHome<C, Part = P> + Outside<C, E, Checking = V>>(
 }
 
 /// What a get does at its first poll where it was not served at once: it begins and tries.
+#[inline(always)]
 fn start<C, V, P, E, X: GetHome<C, Part = P> + Outside<C, E, Checking = V>>(
     pool: &mut X,
     moment: Moment,
@@ -308,6 +311,7 @@ fn settle<C, V, P, E, X: GetHome<C, Part = P> + Outside<C, E, Checking = V>>(
 }
 
 /// The end of a poll: it answers, or its deadline is compared.
+#[inline(always)]
 fn end<C, V, P, E, X: GetHome<C, Part = P> + Outside<C, E, Checking = V>>(
     pool: &mut X,
     moment: Moment,
@@ -325,6 +329,7 @@ fn end<C, V, P, E, X: GetHome<C, Part = P> + Outside<C, E, Checking = V>>(
 }
 
 /// The rest of a first poll, of a get that was not served at once.
+#[inline(always)]
 pub(crate) fn begin<C, V, P, E, X: GetHome<C, Part = P> + Outside<C, E, Checking = V>>(
     pool: &mut X,
     moment: Moment,

@@ -130,10 +130,46 @@ impl<C, V, P> GetState<C, V, P> {
         }
     }
 
+    /// As `poll_step`, with a home of its own, which is dropped then. A get that is served at once keeps none of it in memory. Our own.
+    #[inline(always)]
+    pub fn poll_with<E, X: GetHome<C, Part = P> + Outside<C, E, Checking = V> + Drop>(
+        &mut self,
+        mut pool: X,
+        timeout: Duration,
+    ) -> Poll<Result<Taken<C, P>, RunError<E>>>
+        ensures { (x' : X) × GetPolls X.GetHome X.Outside (as_nanos timeout) self.old.stage pool
+            (record { answer = result; stage = self.new.stage }) x' }
+    {
+        let (seen, served) = self.serve_step(&mut pool);
+        match served {
+            Some(taken) => Poll::Ready(Ok(taken)),
+            None => {
+                let answer = self.rest_with(pool, timeout, seen);
+                answer
+            }
+        }
+    }
+
+    /// As `rest_step`, with a home of its own.
+    #[inline(never)]
+    fn rest_with<E, X: GetHome<C, Part = P> + Outside<C, E, Checking = V> + Drop>(
+        &mut self,
+        mut pool: X,
+        timeout: Duration,
+        seen: Option<Looked>,
+    ) -> Poll<Result<Taken<C, P>, RunError<E>>>
+        requires { IfSome seen (λ _. self.old.stage ≡ IsDone) }
+        ensures { (x' : X) × ((stage : _) (x : _) → Unserved X.GetHome X.Outside stage x seen
+            self.old.stage pool → GetPolls X.GetHome X.Outside (as_nanos timeout)
+            stage x (record { answer = result; stage = self.new.stage }) x') }
+    {
+        self.rest_step(&mut pool, timeout, seen)
+    }
+
     /// The begin of a poll, which most often is the whole of it: a get that was not polled yet reads the clock, and begins and is served at
     /// once, where its home can do that. Where it is not served, it answers what was seen of the home, and `rest_step` goes on from there. A
     /// get that was polled before is left to `rest_step`, and nothing is called. Our own.
-    #[inline]
+    #[inline(always)]
     pub fn serve_step<E, X: GetHome<C, Part = P> + Outside<C, E, Checking = V>>(
         &mut self,
         pool: &mut X,
@@ -182,6 +218,7 @@ impl<C, V, P> GetState<C, V, P> {
     }
 
     /// A first poll from a moment on at which its home was looked at: the get begins and tries. Our own.
+    #[inline(always)]
     pub fn start_step<E, X: GetHome<C, Part = P> + Outside<C, E, Checking = V>>(
         &mut self,
         pool: &mut X,
@@ -247,6 +284,32 @@ impl<C, V, P> GetState<C, V, P> {
             Stage::Checking(begun, held) => cancel_held(pool, begun.get, held),
         }
     }
+
+    /// As `cancel_step`, with a home of its own, which is dropped then. Our own.
+    #[inline(always)]
+    pub fn cancel_with<E, X: GetHome<C, Part = P> + Outside<C, E, Checking = V> + Drop>(
+        self,
+        pool: X,
+    )
+        ensures { (x' : X) × Cancels X.GetHome X.Outside self.stage pool x' }
+    {
+        let GetState { stage } = self;
+        match stage {
+            Stage::Fresh | Stage::Done => {}
+            stage => cancel_begun(pool, GetState { stage }),
+        }
+    }
+}
+
+/// Lets a get go that began, with a home of its own.
+#[inline(never)]
+fn cancel_begun<C, V, P, E, X: GetHome<C, Part = P> + Outside<C, E, Checking = V> + Drop>(
+    mut pool: X,
+    get: GetState<C, V, P>,
+)
+    ensures { (x' : X) × Cancels X.GetHome X.Outside get.stage pool x' }
+{
+    get.cancel_step(&mut pool);
 }
 
 /// Lets a get go that began and holds no connection.

@@ -1,16 +1,8 @@
 -- Notes and the entries that they are of.
-use Rattle.std.proofs.Common.{Bool, true, false, cond, ◌==◌, ◌≡◌, ℕ, zero, suc, ◌+◌, ◌<◌, ◌≤◌, ◌⊎◌, inl, inr, List, [], ◌∷◌, ◌++◌, map, length, take, get_or, refl, sym, ap, ◌∙◌, subst, append-nil, arith}
-use Rattle.std.specs.Prelude.{All, IsPermutation}
-use Rattle.std.specs.List.{Contains, sum_by, remove}
-use Rattle.std.proofs.lemmas.List.{take_more, length-take-le, length-map}
+use Rattle.bb8_journal.proofs.Words.{Bool, true, false, cond, ◌==◌, ◌≡◌, ℕ, zero, suc, ◌+◌, ◌<◌, ◌≤◌, ◌⊎◌, inl, inr, List, [], ◌∷◌, ◌++◌, map, length, take, get_or, refl, sym, ap, ◌∙◌, subst, append-nil, arith, All, IsPermutation, Contains, sum_by, remove, take_more, length-take-le, length-map, All-contains, All-head, All-tail, All-push, Contains-get_or, Contains-append_left, Contains-append_right, Contains-append_cases, Answer, Entry, Notes, Line, lines_from, lines_by, lines_noted, IsAccount, entries_of, steps_in}
 use Rattle.std.proofs.lemmas.List.Sums.{sum_by-cons, sum_by-append}
 use Rattle.std.proofs.lemmas.List.Concat.{flat_map-append, length-flat_map}
-use Rattle.std.proofs.lemmas.List.Elements.{All-contains, All-head, All-tail, All-push, Contains-get_or, Contains-append_left, Contains-append_right, Contains-append_cases}
 use Rattle.std.proofs.lemmas.List.Sorted.{IsPermutation-refl, IsPermutation-sym, IsPermutation-cons, IsPermutation-trans, IsPermutation-remove, Contains-permutation, length_permutation, sum_by-IsPermutation}
-use Rattle.bb8_core.specs.declared.replay.events.Answer.{Answer}
-use Rattle.bb8_journal.specs.declared.journal.entries.Entry.{Entry}
-use Rattle.bb8_journal.specs.declared.journal.seats.Notes.{Notes}
-use Rattle.bb8_journal.specs.Audit.{Line, lines_from, lines_by, lines_noted, IsAccount, entries_of, steps_in}
 
 -- ---- elements of lists
 

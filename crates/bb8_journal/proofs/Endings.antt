@@ -1,26 +1,15 @@
 -- How many ending events may still come, step by step.
-use Rattle.std.proofs.Common.{◌≡◌, ℕ, ◌+◌, ◌<◌, ◌≤◌, max, Bool, true, false, ◌&&◌, ltb, is_some, refl, sym, ap, ◌∙◌, subst, arith}
-use Rattle.std.proofs.lemmas.Bool.Decides.{nat_tests}
+use Rattle.bb8_journal.proofs.Words.{◌≡◌, ℕ, ◌+◌, ◌<◌, ◌≤◌, max, Bool, true, false, ◌&&◌, ltb, is_some, refl, sym, ap, ◌∙◌, subst, arith, nat_tests, Told, Act, Ledger, Later, start, position, latest, handles, gets, alive, get_of, new_get, Row, begins, waits_on, serves, takes_out, waits, checks, check_fails, gives_up, gives_up_kept, gives_up_closed, keeps, returns_closed, opens, adds, leaves, fits, Allowed, IsLegal, and_right, none_lent, Shown, HasLedger, act_of, answer_of, Happens, IsTaken, endings_of, unfit_now}
 use Rattle.bb8_core.specs.declared.replay.events.Act.{Act as Named}
 use Rattle.bb8_core.specs.declared.replay.events.Act.TheVariants as named
-use Rattle.bb8_core.specs.declared.replay.events.Answer.{Answer as Told}
-use Rattle.bb8_ledger.specs.Acts.{Act}
 use Rattle.bb8_ledger.specs.Answers.{Answer}
-use Rattle.bb8_ledger.specs.Ledger.{Ledger, Later, start, position, latest, handles, gets, alive, get_of, new_get}
-use Rattle.bb8_ledger.specs.Table.{Row, begins, waits_on, serves, takes_out, waits, checks, check_fails, gives_up, gives_up_kept, gives_up_closed, keeps, returns_closed, opens, adds, leaves, fits, Allowed, IsLegal}
-use Rattle.bb8_types.proofs.Places.{and_right}
 use Rattle.bb8_types.proofs.Numbered as numbered
 use Rattle.bb8_ledger.proofs.Waiters.{begins_alive, notify_alive}
 use Rattle.bb8_ledger.proofs.Effects.{by_fit}
 use Rattle.bb8_ledger.proofs.GetEffects.{given_up_sums, trier_leaves, trier_holds, holder_ends, holder_turns, left_alive, left_told_alive}
-use Rattle.bb8_tables.specs.Lent.{none_lent}
-use Rattle.bb8_core.specs.Shown.{Shown, HasLedger}
 use Rattle.bb8_core.proofs.Fitting.{shown}
 use Rattle.bb8_core.specs.Parts.{out_of, Moves}
-use Rattle.bb8_core.specs.Run.{act_of, answer_of, Happens, IsTaken}
-use Rattle.bb8_core.specs.Endings.{endings_of}
 use Rattle.bb8_core.proofs.Parts.{counted_at}
-use Rattle.bb8_core.proofs.Runs.{unfit_now}
 use Rattle.bb8_journal.specs.Endings.{is_ending, is_named_ending, CountsDown}
 
 -- a handle is alive

@@ -1,16 +1,7 @@
 -- Histories that grow, and what holds after each beginning of one.
-use Rattle.std.proofs.Common.{◌≡◌, ℕ, List, [], ◌∷◌, ◌++◌, true, refl}
-use Rattle.std.proofs.lemmas.List.{map-append}
+use Rattle.bb8_journal.proofs.Words.{◌≡◌, ℕ, List, [], ◌∷◌, ◌++◌, true, refl, map-append, Answer, Entry, Settings, is_lawful, Ledger, Later, IsLegal, Shown, Means, Applies, act_of, answer_of, run_more, run_legal, run_after, Replays, AfterEachEntry, entry, events_of, answers_of}
 use Rattle.bb8_core.specs.declared.replay.events.Event.{Event}
-use Rattle.bb8_core.specs.declared.replay.events.Answer.{Answer}
-use Rattle.bb8_journal.specs.declared.journal.entries.Entry.{Entry}
-use Rattle.bb8_types.specs.Settings.{Settings, is_lawful}
-use Rattle.bb8_ledger.specs.Ledger.{Ledger, Later, opening_with}
-use Rattle.bb8_ledger.specs.Table.{IsLegal}
-use Rattle.bb8_core.specs.Shown.{Shown, Means}
-use Rattle.bb8_core.specs.Run.{Applies, act_of, answer_of}
-use Rattle.bb8_core.proofs.Runs.{run_more, run_legal, run_after}
-use Rattle.bb8_journal.specs.History.{Replays, AfterEachEntry, entry, events_of, answers_of}
+use Rattle.bb8_ledger.specs.Ledger.{opening_with}
 
 -- no entry
 pub replays_none : (config : Settings) (state : Shown ℕ) → Means (opening_with config 0 0) state → Replays config [] state

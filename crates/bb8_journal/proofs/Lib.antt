@@ -1,3 +1,4 @@
 pub mod Endings
 pub mod Histories
 pub mod Accounts
+mod Words

@@ -1,7 +1,5 @@
 -- What one event of a legal ledger does to the records and to the gets, by the place that it moves from and the place that it moves to.
-use Rattle.bb8_ledger.proofs.Words.{ne_eqb, ◌≡◌, ◌≢◌, ◌⊎◌, ℕ, zero, suc, ◌+◌, ◌<◌, ◌≤◌, max, Bool, true, false, cond, eqb, List, [], ◌∷◌, ◌++◌, length, take, drop, ◌-◌, map, Option, Some, None, slice_get, option_map, option_and_then, refl, sym, ap, ◌∙◌, ⊎_elim, inl, inr, arith, subst, length-append, length-map, take-length, unwrap_or, Place, Unclaimed, Idle, Held, Guarded, Standing, Holder, Guard, Get, Settings, is_lawful, Act, Leave, Answer, Left, Unfit, Numbered, at_number, update, numbers, in_order, one, standing_at, after_end, after_end_where, Ledger, Opening, Later, Start, start, position, latest, handles, records, conns, approved, idle_count, out, idle, idle_at, first_idle, unclaimed, record_of, with_ended, outlived, idled, reaped, over_idle_at, tally_places, conns_of, approved_of, idle_of, at_place, entry, at_entry, approval, with_approvals, first_place, stands, is_conn, is_approval, is_idle, is_out, is_unclaimed, is_claimed, is_guarded, is_held_by, idles_out, lives_out, is_left, with_place, Row, IsLegal, Allowed, fits, with_record, reaped_at, outlived_at, idled_at, standing_is, unclaimed_is, claimed_is, guarded_is, idle_is, and_right, ◌*◌}
-use Rattle.std.proofs.Common.{MatchBool}
-use Rattle.bb8_types.specs.declared.standing.Place.TheVariants.{Claimed}
+use Rattle.bb8_ledger.proofs.Words.{ne_eqb, ◌≡◌, ◌⊎◌, ℕ, zero, suc, ◌+◌, ◌<◌, ◌≤◌, max, Bool, true, false, cond, eqb, List, [], ◌∷◌, ◌++◌, length, take, drop, ◌-◌, map, Option, Some, None, slice_get, option_map, option_and_then, refl, sym, ap, ◌∙◌, inl, inr, arith, subst, length-append, length-map, take-length, unwrap_or, Place, Unclaimed, Idle, Held, Guarded, Standing, Holder, Guard, Get, Settings, is_lawful, Act, Leave, Answer, Left, Unfit, Numbered, at_number, update, numbers, in_order, one, standing_at, after_end, after_end_where, Ledger, Opening, Later, Start, start, position, latest, handles, records, conns, approved, idle_count, out, idle, first_idle, unclaimed, record_of, with_ended, outlived, idled, reaped, over_idle_at, tally_places, conns_of, approved_of, idle_of, at_place, entry, at_entry, approval, with_approvals, stands, is_conn, is_approval, is_idle, is_out, is_claimed, is_guarded, is_held_by, idles_out, lives_out, is_left, with_place, Row, IsLegal, Allowed, fits, with_record, reaped_at, outlived_at, idled_at, standing_is, unclaimed_is, claimed_is, guarded_is, idle_is, and_right, ◌*◌, MatchBool, Claimed}
 use Rattle.bb8_types.proofs.Numbered as numbered
 use Rattle.bb8_ledger.proofs.Facts.{conns_split}
 use Rattle.bb8_ledger.proofs.Waiters.{at_update, changed_tally}
@@ -15,32 +13,19 @@ module _ {R : Type 0} where
   -- what is shown of an element, once one has changed that shows this then
   pub updated_shows : {X : Type 0} (show : Option R → X) (rs : List R) (n k q : ℕ) (f : R → R) (x : X) → show (option_map f (at_number n rs k)) ≡ x
       → show (at_number n (update n k f rs) q) ≡ cond (eqb q k) x (show (at_number n rs q))
-  updated_shows show rs n k q f x is =
-      ap show (at_update rs n k q f)
-      ∙ ⊎_elim
-      (λ (t : (eqb q k ≡ true) × (q ≡ k)). rw t.0 (ap (λ (i : ℕ). show (option_map f (at_number n rs i))) t.1 ∙ is))
-      (λ (t : (eqb q k ≡ false) × (q ≢ k)). rw t.0 refl)
-      (numbered.same_or_not q k)
+  updated_shows show rs n k q f x is = grind (arith, at_update rs n k q f, numbered.same_or_not q k)
 
   -- one has changed, and shows the same
   pub updated_same : {X : Type 0} (show : Option R → X) (rs : List R) (n k q : ℕ) (f : R → R) → show (option_map f (at_number n rs k)) ≡ show (at_number n rs k)
       → show (at_number n (update n k f rs) q) ≡ show (at_number n rs q)
-  updated_same show rs n k q f is =
-      updated_shows show rs n k q f _ is
-      ∙ ⊎_elim
-      (λ (t : (eqb q k ≡ true) × (q ≡ k)). rw t.0 (ap (λ (i : ℕ). show (at_number n rs i)) (sym t.1)))
-      (λ (t : (eqb q k ≡ false) × (q ≢ k)). rw t.0 refl)
-      (numbered.same_or_not q k)
+  updated_same show rs n k q f is = grind (arith, updated_shows show rs n k q f _ is)
 
   -- one has come that shows as much as none
   pub appended_same : {X : Type 0} (show : Option R → X) (rs : List R) (n q : ℕ) (new : R) → show (Some new) ≡ show None
       → show (at_number n (rs ++ new ∷ []) q) ≡ show (at_number n rs q)
   appended_same show rs n q new is =
       ap show (numbered.at-append rs new n q)
-      ∙ ⊎_elim
-      (λ (t : (eqb q (n + length rs) ≡ true) × (q ≡ n + length rs)). rw t.0 (is ∙ sym (ap show (numbered.at-past rs n q (omega (arith, t.1))))))
-      (λ (t : (eqb q (n + length rs) ≡ false) × (q ≢ n + length rs)). rw t.0 refl)
-      (numbered.same_or_not q (n + length rs))
+      ∙ elim (numbered.same_or_not q (n + length rs)) [ inl t ↦ rw t.0 (is ∙ sym (ap show (numbered.at-past rs n q (omega (arith, t.1))))) | inr t ↦ rw t.0 refl ]
 
 module _ {C : Type 0} where
   -- ---- one event after another
@@ -90,9 +75,7 @@ module _ {C : Type 0} where
   turns_by : (l : Ledger C) (k : ℕ) (test : Place C → Bool) (p : Place C) (q : Option (Place C))
       (f : Numbered (Standing C) → Numbered (Standing C)) → ((x : Place C) → test x ≡ true → x ≡ p) → stands test (record_of l k) ≡ true
       → ((s : Standing C) (r : Numbered (Standing C)) → r.standing ≡ Some s → place_of (f r).standing ≡ q) → Turns l k p q f
-  turns_by l k test p q f only h to =
-      let s = standing_is test (record_of l k) h in
-      record { standing = s.0; was = s.1; from = only s.0.place s.2; to = to s.0 }
+  turns_by l k test p q f only h to = grind (arith, standing_is test (record_of l k) h)
 
   held_by : (g : ℕ) (p : Place C) → is_held_by g p ≡ true → p ≡ Held g
   held_by g (Held m) h = ap (λ (n : ℕ). Held n) (sym (numbered.tested g m h))
@@ -105,23 +88,11 @@ module _ {C : Type 0} where
 
   -- the idle record that goes out
   pub idle_turns : (l : Ledger C) (k : ℕ) (p : Place C) → first_idle l ≡ Some k → (c : C) × Turns l k (Idle c) (Some p) (at_place p)
-  idle_turns l k p first =
-      let m : (r : Numbered (Standing C)) × (at_number (start l).first (records l) k ≡ Some r) × (q : ℕ) × (q < position l)
-      × (idle_at q r ≡ true) = numbered.in_order_member idle_at (records l) (start l).first (position l)
-      (first_place (start l).config.queue_strategy (length (idle l))) k first in
-      let was = standing_is is_idle m.0.standing (and_right (stands is_idle m.0.standing) _ m.4).0 in
-      let place = idle_is was.0.place was.2 in
-      (place.0, record { standing = was.0; was = ap (option_and_then (λ (r : Numbered (Standing C)). r.standing)) m.1 ∙ was.1; from = place.1; to = to_place p was.0 })
+  idle_turns l k p first = grind (arith, numbered.in_order_member, standing_is, and_right, idle_is, to_place)
 
   -- the approval that is claimed
   pub unclaimed_turns : (l : Ledger C) (k : ℕ) → slice_get (unclaimed l) 0 ≡ Some k → Turns l k Unclaimed (Some Claimed) (at_place Claimed)
-  unclaimed_turns l k first =
-      let m : (r : Numbered (Standing C)) × (at_number (start l).first (records l) k ≡ Some r)
-      × (stands is_unclaimed r.standing ≡ true) = numbered.numbers_member (λ r. stands is_unclaimed r.standing) (records l)
-      (start l).first 0 k first in
-      turns_by l k is_unclaimed Unclaimed (Some Claimed) (at_place Claimed) unclaimed_is
-      (ap (λ (o : Option (Numbered (Standing C))). stands is_unclaimed (option_and_then (λ (r : Numbered (Standing C)). r.standing) o))
-      m.1 ∙ m.2) (to_place Claimed)
+  unclaimed_turns l k first = grind (arith, numbered.numbers_member, turns_by, unclaimed_is)
 
   -- a guard gives its connection back, which is kept, or closed
   pub returns_turn : (l : Ledger C) (at k : ℕ) (c : C) → stands is_guarded (record_of l k) ≡ true → Turns l k Guarded (Some (Idle c)) (at_entry c (max (latest l) at) (position l))
@@ -156,8 +127,7 @@ module _ {C : Type 0} where
   turned_tally l k p q f test t =
       let m = numbered.standing_found (records l) (start l).first k t.standing t.was in
       let from : one (test t.standing.place) ≡ one (test p) = ap one (ap test t.from) in
-      let to : one (stands test (f m.0).standing) ≡ one (passes test q) = ap one (stands_by_place test (f m.0).standing ∙ ap (passes test) (t.to m.0 m.2)) in
-      omega (arith, changed_tally (stands test) f (records l) (start l).first k m.0 (Some t.standing) m.1 m.2)
+      omega (arith, ap one (stands_by_place test (f m.0).standing ∙ ap (passes test) (t.to m.0 m.2)), changed_tally (stands test) f (records l) (start l).first k m.0 (Some t.standing) m.1 m.2)
 
   pub turned_sized : {l : Ledger C} {k : ℕ} {p : Place C} {q : Option (Place C)} {f : Numbered (Standing C) → Numbered (Standing C)} → Turns l k p q f → Sized l (Some p) q 0 0 (with_record l k f)
   turned_sized {l} {k} {p} {q} {f} t =
@@ -258,16 +228,7 @@ module _ {C : Type 0} where
     pub holder : holder (Some new) ≡ holder (Some old)
 
   swept : (r : Numbered (Standing C)) → IsSwept r (after_end_where is_left r)
-  swept r = go r.standing
-    where
-      by_place : (p : Place C) (birth entered : ℕ) → let old : Numbered (Standing C) = record { standing = Some (record { place = p; birth = birth; entered = entered }); position = r.position } in
-          IsSwept old (after_end_where is_left old)
-      by_place Unclaimed birth entered = record { idle = refl; approval = omega arith; out = refl; holder = refl }
-      by_place _ birth entered = record { idle = refl; approval = omega arith; out = refl; holder = refl }
-
-      go : (o : Option (Standing C)) → let old : Numbered (Standing C) = record { standing = o; position = r.position } in IsSwept old (after_end_where is_left old)
-      go None = record { idle = refl; approval = omega arith; out = refl; holder = refl }
-      go (Some s) = by_place s.place s.birth s.entered
+  swept r = grind arith
 
   -- the last leave
   pub left_holder : (first j : ℕ) (rs : List (Numbered (Standing C))) → holder_at first (map (after_end_where is_left) rs) j ≡ holder_at first rs j
@@ -293,7 +254,7 @@ module _ {C : Type 0} where
       → with_ended n ks (r ∷ rs) ≡ r ∷ with_ended (suc n) ks rs
   ended_skip [] n r rs above = refl
   ended_skip (k ∷ ks) n r rs above =
-      ap (λ (b : Bool). with_ended n ks (cond b (after_end r) r ∷ update (suc n) k after_end rs)) (ne_eqb k n (λ same. let less : n < k = above 0 k refl in omega arith))
+      ap (λ (b : Bool). with_ended n ks (cond b (after_end r) r ∷ update (suc n) k after_end rs)) (ne_eqb k n (λ same. omega (arith, above 0 k refl)))
       ∙ ended_skip ks n r (update (suc n) k after_end rs) (λ j m e. above (suc j) m e)
 
   -- the ends of those that pass a test, one after another, are a sweep
@@ -305,7 +266,7 @@ module _ {C : Type 0} where
       ks = numbers (λ x. test x.standing) (suc n) rs
 
       skip : (x : Numbered (Standing C)) → with_ended n ks (x ∷ rs) ≡ x ∷ with_ended (suc n) ks rs
-      skip x = ended_skip ks n x rs (λ j k e. let least : suc n ≤ k = numbered.numbers_from (λ y. test y.standing) rs (suc n) j k e in omega arith)
+      skip x = ended_skip ks n x rs (λ j k e. omega (arith, numbered.numbers_from (λ y. test y.standing) rs (suc n) j k e))
 
       pick : (b : Bool) → with_ended (suc n) ks rs ≡ map (after_end_where test) rs
           → with_ended n (cond b (n ∷ ks) ks) (r ∷ rs) ≡ cond b (after_end r) r ∷ map (after_end_where test) rs

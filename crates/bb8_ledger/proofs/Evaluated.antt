@@ -1,8 +1,6 @@
 -- Which row of the step table an answer is, as a function that computes: so a worked row is settled by evaluation.
-use Rattle.bb8_ledger.proofs.Words.{◌≡◌, ◌≢◌, ℕ, suc, ◌+◌, ◌-◌, ◌<◌, ◌≤◌, min, max, Bool, true, false, eqb, ltb, leb, cond, List, [], ◌∷◌, Option, Some, None, is_some, option_map, slice_get, length, refl, ap, sym, subst, false≢true, eqb-true, eqb-false, ltb-true, leb-true, leb-false, Grant, Standing, Guarded, Held, Numbered, one, after_end, Act, Begin, Try, CheckedOk, CheckedErr, GiveUp, PutBack, Fill, Claim, Opened, Failed, Add, Reap, Join, Leave, Look, Answer, Begun, Memory, Exhausted, Served, Taken, Kept, Closed, GaveUp, Granted, Ended, Entered, Late, GivenBack, Added, Broken, NoCapacity, Withheld, Reaped, Joined, Left, Looked, Unfit, with_ended, Ledger, Later, start, latest, records, handles, next, next_get, conns, approved, conns_of, approved_of, idle_of, alive, first_idle, oldest_waiter, unclaimed, peak, get_peak, get_of, at_place, figures, opening_with, gets_stand, holds, is_unnotified, is_notified, Row, begins, begin_refused, begin_exhausted, waits_on, serves, takes_out, waits, checks, check_fails, gives_up, gives_up_kept, gives_up_closed, keeps, returns_closed, fills, claims, claim_ended, opens, opens_late, fails, add_broken, add_full, add_exhausted, add_refused, adds, reap_ended, reaps, joins, join_exhausted, leaves, looks, IsWant, fits, with_record, closes, reaped_at, outlived_at, idled_at, leave_count, IsGranted, IsNoGrant, numbers_left, due, lacking, Settings, is_lawful, Figures, Told, AreAllowed, IsRow, first_waits, IsBackOff, IsMostWaits, sum_of_waits, end_of_numbers, most_handles}
+use Rattle.bb8_ledger.proofs.Words.{◌≡◌, ◌≢◌, ℕ, suc, ◌+◌, ◌-◌, ◌<◌, ◌≤◌, min, max, Bool, true, false, eqb, ltb, leb, cond, List, [], ◌∷◌, Option, Some, None, is_some, option_map, slice_get, length, refl, ap, sym, subst, false≢true, eqb-true, eqb-false, ltb-true, leb-true, leb-false, Grant, Standing, Guarded, Held, Numbered, one, after_end, Act, Begin, Try, CheckedOk, CheckedErr, GiveUp, PutBack, Fill, Claim, Opened, Failed, Add, Reap, Join, Leave, Look, Answer, Begun, Memory, Exhausted, Served, Taken, Kept, Closed, GaveUp, Granted, Ended, Entered, Late, GivenBack, Added, Broken, NoCapacity, Withheld, Reaped, Joined, Left, Looked, Unfit, with_ended, Ledger, Later, start, latest, records, handles, next, next_get, conns, approved, conns_of, approved_of, idle_of, alive, first_idle, oldest_waiter, unclaimed, peak, get_peak, get_of, at_place, figures, opening_with, gets_stand, holds, is_unnotified, is_notified, Row, begins, begin_refused, begin_exhausted, waits_on, serves, takes_out, waits, checks, check_fails, gives_up, gives_up_kept, gives_up_closed, keeps, returns_closed, fills, claims, claim_ended, opens, opens_late, fails, add_broken, add_full, add_exhausted, add_refused, adds, reap_ended, reaps, joins, join_exhausted, leaves, looks, IsWant, fits, with_record, closes, reaped_at, outlived_at, idled_at, leave_count, IsGranted, IsNoGrant, numbers_left, due, lacking, Settings, is_lawful, Figures, Told, AreAllowed, IsRow, first_waits, IsBackOff, IsMostWaits, sum_of_waits, end_of_numbers, most_handles, Waiting, Claimed, after}
 use Rattle.std.specs.Bool.{MatchBool}
-use Rattle.bb8_ledger.specs.Answers.{Waiting, Claimed}
-use Rattle.bb8_ledger.specs.Rows.{after}
 
 -- ---- tests, and what follows from what each tells
 

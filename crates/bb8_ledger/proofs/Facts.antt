@@ -1,7 +1,6 @@
 -- What holds of every ledger.
-use Rattle.bb8_ledger.proofs.Words.{◌≡◌, ℕ, suc, ◌+◌, ◌≤◌, ◌<◌, max, Bool, true, false, cond, List, [], ◌∷◌, length, Option, Some, None, refl, sym, ◌∙◌, arith, option_map, ◌-◌, Place, Unclaimed, Standing, GetPlace, Active, Holding, Getting, QueueStrategy, Fifo, Lifo, Act, Begin, Try, CheckedOk, CheckedErr, GiveUp, PutBack, Opened, Add, Answer, Begun, Served, Taken, Kept, Closed, GaveUp, Entered, Added, Unfit, Numbered, update, in_order, tally, one, after_end, Ledger, Opening, Later, Start, start, position, latest, records, with_ended, gets, gets_after, conns, approved, conns_of, idle_of, alive, peak, get_peak, idle_at, unnotified_at, at_place, new_get, get_at_place, at_wait, with_notice, idle, idle_count, is_unnotified, gets_stand, stands, is_idle, is_conn, is_out, with_place, get_with_place, get_in_wait, first_of, Before, and_right, standing_is}
+use Rattle.bb8_ledger.proofs.Words.{◌≡◌, ℕ, suc, ◌+◌, ◌≤◌, max, true, false, List, [], ◌∷◌, length, Option, Some, None, refl, sym, ◌∙◌, arith, option_map, ◌-◌, Place, Unclaimed, Standing, GetPlace, Active, Holding, Getting, QueueStrategy, Fifo, Lifo, Act, Begin, Try, CheckedOk, CheckedErr, GiveUp, PutBack, Opened, Add, Answer, Begun, Served, Taken, Kept, Closed, GaveUp, Entered, Added, Unfit, Numbered, update, in_order, tally, one, after_end, Ledger, Opening, Later, Start, start, position, latest, records, with_ended, gets, gets_after, conns, approved, conns_of, idle_of, alive, peak, get_peak, idle_at, unnotified_at, at_place, new_get, get_at_place, at_wait, with_notice, idle, idle_count, is_unnotified, gets_stand, stands, is_idle, is_conn, is_out, get_with_place, first_of, Before, and_right, standing_is, Waiting}
 use Rattle.bb8_types.specs.declared.standing.GetPlace.TheVariants as get_places
-use Rattle.bb8_ledger.specs.Answers.{Waiting}
 use Rattle.bb8_types.proofs.Numbered as numbered
 use Rattle.bb8_ledger.proofs.Waiters.{none_past}
 use Rattle.bb8_ledger.proofs.Moments.{AreUpTo, up_to_latest}
@@ -13,20 +12,14 @@ off_get p (Some g) off h = let clash : false ≡ true = sym off ∙ h in cc
 
 module _ (first m : ℕ) where
   get_put_before : (k : ℕ) (p : GetPlace) (gs : List (Numbered Getting)) → is_unnotified p ≡ false → Before unnotified_at m gs → Before unnotified_at m (update first k (get_at_place p) gs)
-  get_put_before k p gs off b = numbered.before-update unnotified_at gs first k (get_at_place p) m b
-      (λ r q h. absurd (off_get p r.standing off (and_right (gets_stand is_unnotified (get_at_place p r).standing) _ h).0))
+  get_put_before k p gs off b = grind (arith, numbered.before-update, off_get, and_right)
 
   notify_before : (n : Option ℕ) (gs : List (Numbered Getting)) → Before unnotified_at m gs → Before unnotified_at m (with_notice first n gs)
   notify_before None gs b = b
   notify_before (Some g) gs b = get_put_before g (get_places.Waiting true) gs refl b
 
 waits_before : (first m now k : ℕ) (gs : List (Numbered Getting)) → Before unnotified_at (suc m) gs → Before unnotified_at (suc m) (update first k (at_wait now m) gs)
-waits_before first m now k gs b = numbered.before-update_kept unnotified_at gs first k (at_wait now m) (suc m) b (λ g was p h. pick g was p (gets_stand is_unnotified g.standing) h)
-  where
-    pick : (g : Numbered Getting) → ((p : ℕ) → unnotified_at p g ≡ true → p < suc m) → (p : ℕ) (t : Bool)
-        → unnotified_at p (cond t g (record { standing = option_map (get_in_wait now) g.standing; position = m })) ≡ true → p < suc m
-    pick g was p true h = was p h
-    pick g was p false h = let e : m ≡ p = numbered.tested m p (and_right (gets_stand is_unnotified (option_map (get_in_wait now) g.standing)) _ h).1 in omega arith
+waits_before first m now k gs b = grind (arith, numbered.before-update_kept)
 
 -- where nobody is first there is nobody
 pub none_first : (strategy : QueueStrategy) (xs : List ℕ) → first_of strategy xs ≡ None → length xs ≡ 0
@@ -37,11 +30,7 @@ module _ {C : Type 0} where
   -- ---- nobody entered, or began to wait, after now
 
   pub put_before : (m first k : ℕ) (p : Place C) (rs : List (Numbered (Standing C))) → is_idle p ≡ false → Before idle_at m rs → Before idle_at m (update first k (at_place p) rs)
-  put_before m first k p rs off b = numbered.before-update idle_at rs first k (at_place p) m b (λ r q h. absurd (no r.standing (and_right (stands is_idle (at_place p r).standing) _ h).0))
-    where
-      no : (o : Option (Standing C)) → stands is_idle (option_map (with_place p) o) ≡ true → ⊥
-      no None h = cc
-      no (Some s) h = let clash : false ≡ true = sym off ∙ h in cc
+  put_before m first k p rs off b = grind (arith, numbered.before-update)
 
   pub ended_before : (m first k : ℕ) (rs : List (Numbered (Standing C))) → Before idle_at m rs → Before idle_at m (update first k after_end rs)
   ended_before m first k rs b = numbered.ended_before (stands is_idle) rs first k m refl b
@@ -106,10 +95,7 @@ module _ {C : Type 0} where
 
   pub conns_split : (rs : List (Numbered (Standing C))) → conns_of rs ≡ idle_of rs + tally (λ r. stands is_out r.standing) rs
   conns_split [] = omega arith
-  conns_split (r ∷ rs) =
-      let ih : conns_of rs ≡ idle_of rs + tally (λ x. stands is_out x.standing) rs = conns_split rs in
-      let here : one (stands is_conn r.standing) ≡ one (stands is_idle r.standing) + one (stands is_out r.standing) = place r.standing in
-      omega arith
+  conns_split (r ∷ rs) = omega (arith, conns_split rs, place r.standing)
     where
       by_place : (p : Place C) → one (is_conn p) ≡ one (is_idle p) + one (is_out p)
       by_place Unclaimed = omega arith

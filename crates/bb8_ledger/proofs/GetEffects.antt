@@ -1,6 +1,5 @@
 -- What one event does to the gets, where a get that was not in line ends or moves to a place where it does not wait.
-use Rattle.bb8_ledger.proofs.Words.{length-append, ◌≤◌, max, ◌≡◌, ◌≢◌, ℕ, suc, ◌+◌, ◌-◌, min, Bool, true, false, cond, eqb, List, [], ◌∷◌, ◌++◌, length, Option, Some, None, is_some, slice_get, option_map, option_and_then, refl, sym, ap, ◌∙◌, ⊎_elim, arith, GetPlace, Active, Holding, Getting, Numbered, at_number, update, in_order, one, standing_at, after_end, Ledger, start, position, latest, gets, alive, notified, unnotified, unnotified_at, oldest_waiter, get_of, tally_gets, alive_of, new_get, get_at_place, at_wait, with_notice, holds, held_in, gets_stand, is_notified, is_unnotified, get_with_place, get_in_wait, is_trying, Before, and_right}
-use Rattle.bb8_types.specs.declared.standing.GetPlace.TheVariants.{Waiting}
+use Rattle.bb8_ledger.proofs.Words.{length-append, ◌≤◌, max, ◌≡◌, ℕ, suc, ◌+◌, ◌-◌, min, Bool, true, false, cond, eqb, List, [], ◌∷◌, ◌++◌, length, Option, Some, None, is_some, slice_get, option_map, option_and_then, refl, sym, ap, ◌∙◌, arith, GetPlace, Active, Holding, Getting, Numbered, at_number, update, in_order, one, standing_at, after_end, Ledger, start, position, latest, gets, alive, notified, unnotified, unnotified_at, oldest_waiter, get_of, tally_gets, alive_of, new_get, get_at_place, at_wait, with_notice, holds, held_in, gets_stand, is_notified, is_unnotified, get_with_place, is_trying, Before, and_right, Waiting, inl, inr}
 use Rattle.bb8_types.proofs.Numbered as numbered
 use Rattle.bb8_ledger.proofs.Facts.{waited_before}
 use Rattle.bb8_ledger.proofs.Waiters.{not_waiting, one_few, waits_on_same, begins_counted, waiters_few, IsGivenUp, given_up_counted, alive_counted, begins_alive, getting_is, is_waiting, changed_tally, notify_length, notify_alive, notify_counted, same_line, InLine, line_later, line_left, line_notified}
@@ -8,11 +7,7 @@ use Rattle.bb8_ledger.proofs.Effects.{updated_shows, appended_same}
 
 -- a get that moves to a place where it does not wait
 pub put_off : (p : GetPlace) → is_waiting p ≡ false → (x : Numbered Getting) → gets_stand is_waiting (get_at_place p x).standing ≡ false
-put_off p off x = go x.standing
-  where
-    go : (o : Option Getting) → gets_stand is_waiting (option_map (get_with_place p) o) ≡ false
-    go None = refl
-    go (Some s) = off
+put_off p off x = grind arith
 
 -- So many of these gets are alive, wait unnotified, and wait notified, and so many there ever were.
 pub record GetsAre (gs : List (Numbered Getting)) (living unnotified notified many : ℕ) : Type 0 where
@@ -24,9 +19,7 @@ pub record GetsAre (gs : List (Numbered Getting)) (living unnotified notified ma
 -- the first of the unnotified is notified, if there is one
 told_are : (first m : ℕ) (n : Option ℕ) (gs : List (Numbered Getting)) → Before unnotified_at m gs → n ≡ slice_get (in_order unnotified_at first gs m) 0
     → GetsAre (with_notice first n gs) (alive_of gs) (tally_gets is_unnotified gs - 1) (tally_gets is_notified gs + min 1 (tally_gets is_unnotified gs)) (length gs)
-told_are first m n gs before is =
-    let told = notify_counted first m n gs before is in
-    record { alive_are = notify_alive first n gs; unnotified_are = told.0; notified_are = told.1; many_are = notify_length first n gs }
+told_are first m n gs before is = grind (arith, notify_counted first m n gs before is, notify_alive first n gs, notify_length first n gs)
 
 -- a get that is alive
 pub alive_get : (o : Option Getting) → is_some o ≡ true → (st : Getting) × (o ≡ Some st)
@@ -57,13 +50,7 @@ module _ {C : Type 0} where
 
   -- a get that moves
   pub moved_leaves : (l : Ledger C) (g : ℕ) (p : GetPlace) (s : Getting) → get_of l g ≡ Some s → is_unnotified s.place ≡ false → is_waiting p ≡ false → Leaves l g 1 (get_at_place p)
-  moved_leaves l g p s was off still = record {
-    standing = s;
-    was = was;
-    off = off;
-    out = put_off p still;
-    lives = λ x e. ap (λ (o : Option Getting). one (is_some (option_map (get_with_place p) o))) e;
-  }
+  moved_leaves l g p s was off still = grind (arith, put_off p still)
 
   -- a get that tries and was not in line
   pub trier : (l : Ledger C) (g : ℕ) → gets_stand is_trying (get_of l g) ≡ true → gets_stand is_unnotified (get_of l g) ≡ false
@@ -101,13 +88,10 @@ module _ {C : Type 0} where
     left_tally test off = omega (arith, changed_tally (gets_stand test) f (gets l) (start l).first_get g left_at.0 (Some t.standing) left_at.1 left_at.2, ap one off)
 
     left_oldest : (n : Option ℕ) → n ≡ oldest_waiter l → n ≡ slice_get (in_order unnotified_at (start l).first_get left_gets (position l)) 0
-    left_oldest n is = is ∙ sym (ap (λ (xs : List ℕ). slice_get xs 0)
-        (same_line (start l).first_get (position l) g f (gets l) left_at.0 left_at.1 (ap (gets_stand is_unnotified) left_at.2 ∙ t.off)
-        (not_waiting (f left_at.0).standing (t.out left_at.0)).0))
+    left_oldest n is = grind (arith, same_line, not_waiting)
 
     left_before : Before unnotified_at (position l) left_gets
-    left_before = numbered.before-update unnotified_at (gets l) (start l).first_get g f (position l) (waited_before l) (λ x p h.
-        absurd (let no : false ≡ true = sym (not_waiting (f x).standing (t.out x)).0 ∙ (and_right (gets_stand is_unnotified (f x).standing) _ h).0 in cc))
+    left_before = grind (arith, numbered.before-update, waited_before l, and_right)
 
     -- and the oldest waiter is notified
     pub left_told_alive : (n : Option ℕ) → alive_of (with_notice (start l).first_get n left_gets) + 1 ≡ alive l + b
@@ -153,10 +137,7 @@ module _ {C : Type 0} where
 
   -- who was in line waits on, and the gets are the same
   pub waits_on_gets : (l : Ledger C) (at g : ℕ) → gets_stand is_unnotified (get_of l g) ≡ true → update (start l).first_get g (at_wait (max (latest l) at) (position l)) (gets l) ≡ gets l
-  waits_on_gets l at g on =
-      let st = getting_is is_unnotified (get_of l g) on in
-      let m = getting l g st.0 st.1 in
-      waits_on_same (start l).first_get (max (latest l) at) (position l) g (gets l) m.0 m.1 (ap (gets_stand is_unnotified) m.2 ∙ st.2)
+  waits_on_gets l at g on = grind (arith, getting_is is_unnotified (get_of l g) on, getting, waits_on_same)
 
   -- a get begins
   pub begun_sums : (l : Ledger C) → GetsAre (gets l ++ new_get ∷ []) (alive l + 1) (unnotified l + 0) (notified l + 0) (length (gets l) + 1)
@@ -211,14 +192,7 @@ module _ {C : Type 0} where
   pub given_up_sums : (l : Ledger C) (g : ℕ) (n : Option ℕ) → is_some (get_of l g) ≡ true → n ≡ cond (gets_stand is_notified (get_of l g)) (oldest_waiter l) None
       → let gs : List (Numbered Getting) = with_notice (start l).first_get n (update (start l).first_get g after_end (gets l)) in
       (alive_of gs + 1 ≡ alive l) × (length gs ≡ length (gets l)) × IsGivenUp (unnotified l) (notified l) (tally_gets is_unnotified gs) (tally_gets is_notified gs)
-  given_up_sums l g n some is =
-      let st = alive_get (get_of l g) some in
-      let m = getting l g st.0 st.1 in
-      let ended : List (Numbered Getting) = update (start l).first_get g after_end (gets l) in (
-        omega (arith, alive_counted (start l).first_get g (gets l) m.0 st.0 m.1 m.2, notify_alive (start l).first_get n ended),
-        notify_length (start l).first_get n ended ∙ numbered.length-update (gets l) (start l).first_get g after_end,
-        given_up_counted (start l).first_get (position l) g n (gets l) m.0 st.0 m.1 m.2 (handed_to l g n st.0 st.1 is) (waited_before l),
-      )
+  given_up_sums l g n some is = grind (arith, alive_get (get_of l g) some, getting, alive_counted, notify_alive, notify_length, numbered.length-update, given_up_counted, handed_to, waited_before l)
 
 -- ---- what the gets hold
 
@@ -232,31 +206,15 @@ behind o = holds (option_and_then (λ (x : Numbered Getting). x.standing) o)
 
 -- a place at which nothing is held
 pub put_nothing : (p : GetPlace) → held_in p ≡ None → (x : Numbered Getting) → holds (get_at_place p x).standing ≡ None
-put_nothing p none x = go x.standing
-  where
-    go : (o : Option Getting) → holds (option_map (get_with_place p) o) ≡ None
-    go None = refl
-    go (Some s) = none
+put_nothing p none x = grind arith
 
 -- a get at a place that holds nothing
 stands_quiet : (test : GetPlace → Bool) → ((k : ℕ) → test (Holding k) ≡ false) → (o : Option Getting) → gets_stand test o ≡ true → holds o ≡ None
 stands_quiet test off None e = refl
-stands_quiet test off (Some s) e = go s.place e
-  where
-    go : (p : GetPlace) → test p ≡ true → held_in p ≡ None
-    go (Holding k) e = absurd (let clash : false ≡ true = sym (off k) ∙ e in cc)
-    go _ e = refl
+stands_quiet test off (Some s) e = grind arith
 
 pub waits_nothing : (now p : ℕ) (x : Numbered Getting) → holds (at_wait now p x).standing ≡ None
-waits_nothing now p x = pick (gets_stand is_unnotified x.standing) refl
-  where
-    free : (o : Option Getting) → holds (option_map (get_in_wait now) o) ≡ None
-    free None = refl
-    free (Some s) = refl
-
-    pick : (b : Bool) → gets_stand is_unnotified x.standing ≡ b → holds (cond b x (record { standing = option_map (get_in_wait now) x.standing; position = p })).standing ≡ None
-    pick true e = stands_quiet is_unnotified (λ k. refl) x.standing e
-    pick false e = free x.standing
+waits_nothing now p x = grind arith
 
 -- a get that tries holds nothing
 pub trying_quiet : (o : Option Getting) → gets_stand is_trying o ≡ true → holds o ≡ None
@@ -264,9 +222,7 @@ trying_quiet = stands_quiet is_trying (λ k. refl)
 
 -- nor does the oldest waiter
 pub oldest_quiet : {C : Type 0} (l : Ledger C) (n : Option ℕ) → n ≡ oldest_waiter l → (g : ℕ) → n ≡ Some g → holds (get_of l g) ≡ None
-oldest_quiet l n is g e =
-    let m = numbered.in_order_member unnotified_at (gets l) (start l).first_get (position l) 0 g (sym is ∙ e) in
-    ap behind m.1 ∙ stands_quiet is_unnotified (λ k. refl) m.0.standing (and_right (gets_stand is_unnotified m.0.standing) _ m.4).0
+oldest_quiet l n is g e = grind (arith, numbered.in_order_member, stands_quiet, and_right)
 
 -- one get has changed, and holds nothing
 pub dropped_holds : (first g : ℕ) (f : Numbered Getting → Numbered Getting) (gs : List (Numbered Getting)) (q : ℕ)
@@ -291,21 +247,13 @@ pub told_holds : (first : ℕ) (n : Option ℕ) (gs : List (Numbered Getting)) (
     → held_at first (with_notice first n gs) q ≡ held_at first gs q
 told_holds first None gs q quiet = refl
 told_holds first (Some g) gs q quiet = dropped_holds first g (get_at_place (Waiting true)) gs q (put_nothing (Waiting true) refl)
-    ∙ ⊎_elim
-    (λ (t : (eqb q g ≡ true) × (q ≡ g)). rw t.0 (sym (ap (held_at first gs) t.1 ∙ quiet g refl)))
-    (λ (t : (eqb q g ≡ false) × (q ≢ g)). rw t.0 refl)
-    (numbered.same_or_not q g)
+    ∙ elim (numbered.same_or_not q g) [ inl t ↦ rw t.0 (sym (ap (held_at first gs) t.1 ∙ quiet g refl)) | inr t ↦ rw t.0 refl ]
 
 -- and so it is once a get has changed that holds nothing then
 pub told_dropped : (first g : ℕ) (f : Numbered Getting → Numbered Getting) (n : Option ℕ) (gs : List (Numbered Getting)) (q : ℕ)
     → ((x : Numbered Getting) → holds (f x).standing ≡ None) → ((m : ℕ) → n ≡ Some m → held_at first gs m ≡ None)
     → held_at first (with_notice first n (update first g f gs)) q ≡ cond (eqb q g) None (held_at first gs q)
-told_dropped first g f n gs q nothing quiet =
-    told_holds first n (update first g f gs) q (λ m e. dropped_holds first g f gs m nothing ∙ none (eqb m g) (quiet m e)) ∙ dropped_holds first g f gs q nothing
-  where
-    none : (b : Bool) {o : Option ℕ} → o ≡ None → cond b None o ≡ None
-    none true e = refl
-    none false e = e
+told_dropped first g f n gs q nothing quiet = grind (arith, told_holds, dropped_holds, dropped_holds first g f gs q nothing)
 
 -- a get begins
 pub begun_holds : (first : ℕ) (gs : List (Numbered Getting)) (q : ℕ) → held_at first (gs ++ new_get ∷ []) q ≡ held_at first gs q

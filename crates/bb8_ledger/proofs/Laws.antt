@@ -1,6 +1,5 @@
 -- What holds of every legal ledger: the limits, the laws, and the promises to those who wait.
-use Rattle.bb8_ledger.proofs.Words.{Place, stands, one, ◌≡◌, ◌⊎◌, ℕ, suc, ◌+◌, ◌-◌, ◌<◌, ◌≤◌, max, min, true, false, Option, Some, sym, ap, ◌∙◌, inl, inr, ⊎_elim, arith, subst, is_some, Standing, Getting, is_lawful, Counts, Act, Try, GiveUp, Answer, update, after_end, Ledger, Opening, Later, start, position, latest, records, gets, handles, next, next_get, conns, approved, idle_count, alive, alive_of, notified, unnotified, oldest_waiter, record_of, get_of, with_notice, counts, is_conn, is_approval, is_out, gets_stand, is_unnotified, is_trying, Row, begins, waits_on, serves, takes_out, waits, checks, check_fails, gives_up, gives_up_kept, gives_up_closed, keeps, returns_closed, opens, adds, IsLegal, fits, KeepsLimits, KeepsLaws, KeepsPromises, NeverForgets, MayLower, lost, and_right, conn_from}
-use Rattle.bb8_types.specs.declared.standing.Place.TheVariants.{Claimed}
+use Rattle.bb8_ledger.proofs.Words.{Place, stands, one, ◌≡◌, ◌⊎◌, ℕ, suc, ◌+◌, ◌-◌, ◌<◌, ◌≤◌, max, min, true, false, Option, Some, sym, ap, ◌∙◌, inl, inr, arith, subst, is_some, Standing, Getting, is_lawful, Counts, Act, Try, GiveUp, Answer, update, after_end, Ledger, Opening, Later, start, position, latest, records, gets, handles, next, next_get, conns, approved, idle_count, alive, notified, unnotified, oldest_waiter, record_of, get_of, with_notice, counts, is_conn, is_approval, is_out, gets_stand, is_unnotified, is_trying, Row, begins, waits_on, serves, takes_out, waits, checks, check_fails, gives_up, gives_up_kept, gives_up_closed, keeps, returns_closed, opens, adds, IsLegal, fits, KeepsLimits, KeepsLaws, KeepsPromises, NeverForgets, MayLower, lost, and_right, conn_from, Claimed}
 use Rattle.bb8_types.proofs.Numbered as numbered
 use Rattle.bb8_ledger.proofs.Facts.{conns_split, waited_before}
 use Rattle.bb8_ledger.proofs.Waiters.{changed_tally, getting_is, alive_counted, InLine, line_later, line_begun, line_begins, line_notified, line_given_up}
@@ -46,8 +45,7 @@ module _ {C : Type 0} where
   pub alive_is : (l : Ledger C) (g : ℕ) (st : Getting) → get_of l g ≡ Some st → 1 ≤ alive l
   alive_is l g st h =
       let m = numbered.standing_found (gets l) (start l).first_get g st h in
-      let e : alive_of (update (start l).first_get g after_end (gets l)) + 1 ≡ alive l = alive_counted (start l).first_get g (gets l) m.0 st m.1 m.2 in
-      omega arith
+      omega (arith, alive_counted (start l).first_get g (gets l) m.0 st m.1 m.2)
 
   -- ---- the sizes and the statistics
 
@@ -69,7 +67,7 @@ module _ {C : Type 0} where
     size = (all_fit l legal).size;
     each = conns_split (records l);
     held = λ g k. (all_held l legal g k, all_holding l legal g k);
-    served = ⊎_elim (λ (e : unnotified l ≡ 0). inl e) (λ (e : idle_count l - notified l ≡ 0). inr (omega arith)) (either_none (unnotified l) (idle_count l - notified l) (all_serve l legal).served);
+    served = elim (either_none (unnotified l) (idle_count l - notified l) (all_serve l legal).served) [ inl e ↦ inl e | inr e ↦ inr (omega arith) ];
   }
 
   -- ---- the laws
@@ -130,11 +128,7 @@ module _ {C : Type 0} where
 
   remembers : (l : Ledger C) (at : ℕ) (e : Act C) (a : Answer) → Sums l at e a → Remembers l at e a
   remembers l at (Try g) a s = inr tt
-  remembers l at (GiveUp g why held broken) a s =
-      ⊎_elim
-      (λ (e : notified l - notified (Later l at (GiveUp g why held broken) a) ≡ 0). inl (omega arith))
-      (λ (e : unnotified (Later l at (GiveUp g why held broken) a) ≡ 0). inr e)
-      (either_none _ _ s.remembers)
+  remembers l at (GiveUp g why held broken) a s = elim (either_none _ _ s.remembers) [ inl e ↦ inl (omega arith) | inr e ↦ inr e ]
   remembers l at _ a s = inl (omega arith)
 
   never_forgets : (l : Ledger C) → IsLegal l → NeverForgets l
@@ -147,10 +141,10 @@ module _ {C : Type 0} where
   pub keeps_promises : (l : Ledger C) → IsLegal l → KeepsPromises l
   keeps_promises l legal = record {
     promised = λ open_now.
-        ⊎_elim
-        (λ (e : unnotified l - (approved l + lost l) ≡ 0). inl (omega arith))
-        (λ (e : (start l).config.max_size - (conns l + approved l) + idle_count l - (notified l + lost l) ≡ 0). inr (omega arith))
-        (either_none (unnotified l - (approved l + lost l)) ((start l).config.max_size - (conns l + approved l) + idle_count l - (notified l + lost l)) (promised_open l open_now (all_serve l legal)));
+        elim (either_none (unnotified l - (approved l + lost l)) ((start l).config.max_size - (conns l + approved l) + idle_count l - (notified l + lost l)) (promised_open l open_now (all_serve l legal))) [
+          | inl e ↦ inl (omega arith)
+          | inr e ↦ inr (omega arith)
+        ];
     remembered = never_forgets l legal;
     in_turn = (let i = all_in_line l legal in λ g h a b e d told untold. omega (arith, (i.keeps g a e).0 told, (i.keeps h b d).1 untold));
   }

@@ -1,7 +1,5 @@
 -- No birth and no entry lies after the latest moment, and none entered after now.
-use Rattle.bb8_ledger.proofs.Words.{◌≡◌, ℕ, zero, suc, ◌≤◌, max, Bool, true, false, cond, eqb, List, [], ◌∷◌, ◌++◌, map, Option, Some, None, option_map, option_and_then, refl, arith, Place, Idle, Held, Guarded, Standing, Numbered, at, standing_at, update, after_end, after_end_where, is_left, with_place, birth_in, Act, Try, CheckedOk, CheckedErr, GiveUp, PutBack, Fill, Claim, Opened, Failed, Add, Reap, Leave, Answer, Served, Taken, Kept, Closed, Granted, Entered, Late, GivenBack, Added, Reaped, Left, Unfit, Ledger, Opening, Later, Start, start, position, latest, handles, records, record_of, records_after, moment_after, reaped, with_ended, with_approvals, approval, at_place, at_entry, entry, is_idle, sym, ◌∙◌, ◌<◌, subst, Unclaimed}
-use Rattle.bb8_types.specs.declared.standing.Place.TheVariants.{Claimed}
-use Rattle.bb8_ledger.specs.Answers.{Waiting}
+use Rattle.bb8_ledger.proofs.Words.{◌≡◌, ℕ, zero, suc, ◌≤◌, max, Bool, true, false, cond, eqb, List, [], ◌∷◌, ◌++◌, map, Option, Some, None, option_map, option_and_then, refl, arith, Place, Idle, Held, Guarded, Standing, Numbered, at, standing_at, update, after_end, after_end_where, is_left, with_place, birth_in, Act, Try, CheckedOk, CheckedErr, GiveUp, PutBack, Fill, Claim, Opened, Failed, Add, Reap, Leave, Answer, Served, Taken, Kept, Closed, Granted, Entered, Late, GivenBack, Added, Reaped, Left, Unfit, Ledger, Opening, Later, Start, start, position, latest, handles, records, record_of, records_after, moment_after, reaped, with_ended, with_approvals, approval, at_place, at_entry, entry, is_idle, sym, ◌∙◌, ◌<◌, Unclaimed, Claimed, Waiting}
 use Rattle.bb8_ledger.specs.Answers as answers
 
 module _ {C : Type 0} where
@@ -48,10 +46,7 @@ module _ {C : Type 0} where
   -- a record is given a standing that is no later
   stands_up_to : (m q : ℕ) (t : Standing C) (position : ℕ) → t.birth ≤ m → t.entered ≤ m → (is_idle t.place ≡ true → position < q)
       → IsUpTo m q (record { standing = Some t; position = position })
-  stands_up_to m q t position birth entered idle s e =
-      let both : Some t ≡ Some s = e in
-      let is : t ≡ s = cc in
-      subst (λ (x : Standing C). (x.birth ≤ m) × (x.entered ≤ m) × (is_idle x.place ≡ true → position < q)) is (birth, entered, idle)
+  stands_up_to m q t position birth entered idle s e = grind arith
 
   granted : (m q : ℕ) (claimed : Bool) (n : ℕ) (rs : List (Numbered (Standing C))) → AreUpTo m q rs → AreUpTo m q (with_approvals claimed n rs)
   granted m q claimed zero rs u = u

@@ -59,11 +59,7 @@ module _ {C : Type 0} where
 
   -- an event at which nobody entered changes nothing of it
   none_later : (s : Start) (m now : ℕ) (rs : List (Numbered (Standing C))) → Before idle_at m rs → NoneDue s m now rs → NoneDue s (suc m) now rs
-  none_later s m now rs b none = record {
-    aged = none.aged;
-    idled = ap (λ (ks : List ℕ). length (take (idle_of rs - unwrap_or s.config.min_idle 0) ks))
-        (numbered.in_order-later (over_idle_at s.config now) rs s.first m (over_idle_before s.config now m rs b)) ∙ none.idled;
-  }
+  none_later s m now rs b none = grind (arith, numbered.in_order-later (over_idle_at s.config now) rs s.first m (over_idle_before s.config now m rs b), over_idle_before s.config now m rs b)
 
   -- so a reap leaves nothing to end at its moment
   reaped_none : (s : Start) (m now n : ℕ) (rs : List (Numbered (Standing C))) → NoneDue s m now (with_approvals false n (with_ended s.first (reaped s m now rs) rs))

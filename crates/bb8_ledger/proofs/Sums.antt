@@ -1,5 +1,5 @@
 -- What each row of the step table does to the sizes, the numbers and the statistics.
-use Rattle.bb8_ledger.proofs.Words.{⊤, ◌≡◌, ◌⊎◌, ℕ, ◌+◌, ◌-◌, ◌<◌, ◌≤◌, min, Bool, true, false, cond, not, eqb, ltb, ◌&&◌, List, Option, Some, None, is_some, refl, ap, inl, inr, arith, length-append, Grant, Guarded, Held, Standing, Settings, Numbered, one, due, lacking, Act, Try, CheckedOk, GiveUp, Reason, TimedOut, Cancelled, Answer, Kept, Closed, GaveUp, Entered, Reaped, Unfit, Ledger, Later, start, handles, idle, idle_count, first_idle, unnotified, notified, conns, approved, conns_of, approved_of, idle_of, alive, expires, waited_since, started, direct, waited, timed_out, cancelled, created, broken, expired, invalid, idled_out, get_of, Row, begins, waits_on, serves, takes_out, waits, checks, check_fails, gives_up, gives_up_kept, gives_up_closed, keeps, returns_closed, fills, claims, opens, opens_late, fails, adds, reaps, joins, leaves, IsWant, IsLegal, fits, outlived_at, idled_at, GivesNext, NeverGivesAgain, numbers_given, gets_given, lost, and_right, nat_tests}
+use Rattle.bb8_ledger.proofs.Words.{⊤, ◌≡◌, ◌⊎◌, ℕ, ◌+◌, ◌-◌, ◌<◌, ◌≤◌, min, Bool, true, false, not, ltb, ◌&&◌, List, Option, Some, None, is_some, refl, ap, arith, length-append, Grant, Guarded, Held, Standing, Settings, Numbered, one, due, Act, Try, CheckedOk, GiveUp, Reason, TimedOut, Cancelled, Answer, Kept, Closed, GaveUp, Entered, Reaped, Unfit, Ledger, Later, start, handles, idle, idle_count, first_idle, unnotified, notified, conns, approved, conns_of, approved_of, alive, expires, waited_since, started, direct, waited, timed_out, cancelled, created, broken, expired, invalid, idled_out, get_of, Row, begins, waits_on, serves, takes_out, waits, checks, check_fails, gives_up, gives_up_kept, gives_up_closed, keeps, returns_closed, fills, claims, opens, opens_late, fails, adds, reaps, joins, leaves, IsWant, IsLegal, fits, outlived_at, idled_at, GivesNext, NeverGivesAgain, numbers_given, gets_given, lost, and_right, nat_tests}
 use Rattle.bb8_ledger.proofs.Effects.{each_legal, returns_turn, closes_turn, opens_turn, ends_turn, idle_turns, unclaimed_turns, stays_sized, turned_sized, adds_sized, granted_sized, reaped_sized, granted_reaped, left_sized}
 use Rattle.bb8_ledger.proofs.GetEffects.{trier_leaves, trier_holds, holder_ends, holder_turns, left_sums, left_told, begun_sums, waits_on_sums, waits_sums, told_sums, given_up_sums}
 use Rattle.bb8_ledger.proofs.Facts.{idle_tally, none_first}
@@ -20,11 +20,7 @@ entered_by (Entered k n) = 1
 entered_by _ = 0
 
 pub due_few : (config : Settings) (handles taken asked : ℕ) → due config handles taken asked ≤ config.max_size - taken
-due_few config handles taken asked = go (eqb handles 0)
-  where
-    go : (b : Bool) → cond b 0 (min asked (config.max_size - taken)) ≤ config.max_size - taken
-    go true = omega arith
-    go false = omega arith
+due_few config handles taken asked = grind arith
 
 one_of : (b x : Bool) → one b + one (not b && x) ≤ 1
 one_of true x = omega arith
@@ -38,11 +34,7 @@ either_one false = refl
 
 -- one is asked for, or there are enough
 one_or_enough : (have need : ℕ) → (one (ltb have need) ≡ 1) ⊎ (need ≤ have)
-one_or_enough have need = go (ltb have need) refl
-  where
-    go : (b : Bool) → ltb have need ≡ b → (one (ltb have need) ≡ 1) ⊎ (need ≤ have)
-    go true e = inl (ap one e)
-    go false e = inr (grind (arith, nat_tests, e))
+one_or_enough have need = grind arith
 
 -- a handle is alive
 is_open : (n : ℕ) → ltb 0 n ≡ true → 0 < n
@@ -61,11 +53,7 @@ module _ {C : Type 0} where
 
   -- what is granted is within the size
   wanted_few : (l : Ledger C) (rs : List (Numbered (Standing C))) (g : Grant) → IsWant l rs g → g.count ≤ (start l).config.max_size - (conns_of rs + approved_of rs)
-  wanted_few l rs g want =
-      let taken : ℕ = conns_of rs + approved_of rs in
-      let asked : ℕ = lacking (start l).config (idle_of rs + approved_of rs) in
-      let split : g.count + g.withheld ≡ due (start l).config (handles l) taken asked = want.split in
-      omega (arith, due_few (start l).config (handles l) taken asked)
+  wanted_few l rs g want = grind (arith, due_few)
 
   -- a get that gives up counts once
   gave_up : (l : Ledger C) (at g : ℕ) (why : Reason) (held : Option C) (broken : Bool) (a : Answer) → (a ≡ Unfit → ⊥)

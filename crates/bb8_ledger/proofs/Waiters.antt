@@ -1,6 +1,5 @@
 -- What each change of the gets does to those who wait: how many they are, and in which order they wait.
-use Rattle.bb8_ledger.proofs.Words.{◌≡◌, ne_eqb, eq-eqb, option_map, ◌≢◌, ◌⊎◌, ℕ, zero, suc, ◌+◌, ◌-◌, ◌<◌, ◌≤◌, min, Bool, true, false, cond, eqb, ◌&&◌, List, [], ◌∷◌, ◌++◌, length, Option, Some, None, is_some, slice_get, refl, sym, ap, ◌∙◌, ⊎_elim, arith, subst, inl, inr, GetPlace, Active, Holding, Getting, Numbered, at, update, numbers, in_order, tally, one, after_end, gets_stand, is_unnotified, is_notified, get_with_place, get_in_wait, unnotified_at, tally_gets, alive_of, new_get, get_at_place, at_wait, with_notice, change, Before, and_right}
-use Rattle.bb8_types.specs.declared.standing.GetPlace.TheVariants.{Waiting}
+use Rattle.bb8_ledger.proofs.Words.{◌≡◌, ne_eqb, eq-eqb, option_map, ◌≢◌, ◌⊎◌, ℕ, zero, suc, ◌+◌, ◌-◌, ◌<◌, ◌≤◌, min, Bool, true, false, cond, eqb, ◌&&◌, List, [], ◌∷◌, ◌++◌, length, Option, Some, None, is_some, slice_get, refl, sym, ap, ◌∙◌, arith, subst, inl, inr, GetPlace, Active, Holding, Getting, Numbered, at, update, numbers, in_order, tally, one, after_end, gets_stand, is_unnotified, is_notified, get_with_place, get_in_wait, unnotified_at, tally_gets, alive_of, new_get, get_at_place, at_wait, with_notice, change, Before, and_right, Waiting}
 use Rattle.bb8_types.proofs.Numbered as numbered
 
 -- ---- lists whose elements have numbers
@@ -27,7 +26,6 @@ module _ {R : Type 0} where
     where
       pick : (b : Bool) → cond b (Some x) (at (suc n) rs q) ≡ Some r → (at (suc n) rs q ≡ Some r → 0 < tally p rs) → 0 < one (p x) + tally p rs
       pick true e rest =
-          let is : Some x ≡ Some r = e in
           let same : x ≡ r = cc in
           omega (arith, ap one (ap p same ∙ on))
       pick false e rest = omega (arith, rest e)
@@ -39,11 +37,10 @@ module _ {R : Type 0} where
   -- nor is the list empty where an element stands below the last position
   pub in_order_some : (stands : ℕ → R → Bool) (rs : List R) (n m q p : ℕ) (r : R) → at n rs q ≡ Some r → stands p r ≡ true → p < m → in_order stands n rs m ≡ [] → ⊥
   in_order_some stands rs n zero q p r h on below none = absurd (omega arith)
-  in_order_some stands rs n (suc m) q p r h on below none =
-      ⊎_elim
-      (λ (t : (eqb p m ≡ true) × (p ≡ m)). numbers_some (stands m) rs n q r h (subst (λ (i : ℕ). stands i r ≡ true) t.1 on) (no_back (in_order stands n rs m) (numbers (stands m) n rs) none))
-      (λ (t : (eqb p m ≡ false) × (p ≢ m)). in_order_some stands rs n m q p r h on (omega (arith, t.1)) (no_front (in_order stands n rs m) (numbers (stands m) n rs) none))
-      (numbered.same_or_not p m)
+  in_order_some stands rs n (suc m) q p r h on below none = elim (numbered.same_or_not p m) [
+    | inl t ↦ numbers_some (stands m) rs n q r h (subst (λ (i : ℕ). stands i r ≡ true) t.1 on) (no_back (in_order stands n rs m) (numbers (stands m) n rs) none)
+    | inr t ↦ in_order_some stands rs n m q p r h on (omega (arith, t.1)) (no_front (in_order stands n rs m) (numbers (stands m) n rs) none)
+  ]
 
   -- the first in the list stands at a position below which nobody stands
   abbrev Least : (ℕ → R → Bool) → List R → (n m k : ℕ) → Type 0
@@ -61,44 +58,35 @@ module _ {R : Type 0} where
   -- an element that is changed to itself
   change_self : (rs : List R) (n k : ℕ) (r : R) → at n rs k ≡ Some r → change n k r rs ≡ rs
   change_self [] n k r h = refl
-  change_self (x ∷ rs) n k r h =
-      ⊎_elim
-      (λ (t : (eqb k n ≡ true) × (k ≡ n)).
-      let is : Some x ≡ Some r = rw t.0 at h in
-      let same : r ≡ x = cc in
-      let rest : change (suc n) k r rs ≡ rs = numbered.change_below rs (suc n) k r (omega arith) in
-      rw (t.0, rest) (ap (λ (y : R). y ∷ rs) same))
-      (λ (t : (eqb k n ≡ false) × (k ≢ n)). rw t.0 (ap (λ (ys : List R). x ∷ ys) (change_self rs (suc n) k r (rw t.0 at h))))
-      (numbered.same_or_not k n)
+  change_self (x ∷ rs) n k r h = elim (numbered.same_or_not k n) [
+    | inl t ↦ let is : Some x ≡ Some r = rw t.0 at h in
+        let same : r ≡ x = cc in
+        let rest : change (suc n) k r rs ≡ rs = numbered.change_below rs (suc n) k r (omega arith) in
+        rw (t.0, rest) (ap (λ (y : R). y ∷ rs) same)
+    | inr t ↦ rw t.0 (ap (λ (ys : List R). x ∷ ys) (change_self rs (suc n) k r (rw t.0 at h)))
+  ]
 
   -- the element q, once the element k has changed
   pub at_update : (rs : List R) (n k q : ℕ) (f : R → R) → at n (update n k f rs) q ≡ cond (eqb q k) (option_map f (at n rs q)) (at n rs q)
-  at_update [] n k q f = cond_same (eqb q k)
-    where
-      cond_same : (b : Bool) → let none : Option R = None in none ≡ cond b none none
-      cond_same true = refl
-      cond_same false = refl
-  at_update (r ∷ rs) n k q f =
-      ⊎_elim
-      (λ (t : (eqb q n ≡ true) × (q ≡ n)).
-      ⊎_elim
-      (λ (u : (eqb k n ≡ true) × (k ≡ n)). let same : eqb q k ≡ true = eq-eqb q k (t.1 ∙ sym u.1) in rw (t.0, u.0, same) refl)
-      (λ (u : (eqb k n ≡ false) × (k ≢ n)). let other : eqb q k ≡ false = ne_eqb q k (λ e. u.1 (sym e ∙ t.1)) in rw (t.0, u.0, other) refl)
-      (numbered.same_or_not k n))
-      (λ (t : (eqb q n ≡ false) × (q ≢ n)). rw t.0 (at_update rs (suc n) k q f))
-      (numbered.same_or_not q n)
+  at_update [] n k q f = grind arith
+  at_update (r ∷ rs) n k q f = elim (numbered.same_or_not q n) [
+    | inl t ↦ elim (numbered.same_or_not k n) [
+      | inl u ↦ let same : eqb q k ≡ true = eq-eqb q k (t.1 ∙ sym u.1) in rw (t.0, u.0, same) refl
+      | inr u ↦ let other : eqb q k ≡ false = ne_eqb q k (λ e. u.1 (sym e ∙ t.1)) in rw (t.0, u.0, other) refl
+    ]
+    | inr t ↦ rw t.0 (at_update rs (suc n) k q f)
+  ]
 
   -- who stands in a list of which an element has changed
   updated_at : (rs : List R) (n k q : ℕ) (f : R → R) (old r : R) → at n rs k ≡ Some old → at n (update n k f rs) q ≡ Some r → ((q ≡ k) × (r ≡ f old)) ⊎ ((q ≢ k) × (at n rs q ≡ Some r))
   updated_at rs n k q f old r h e =
       let is : cond (eqb q k) (option_map f (at n rs q)) (at n rs q) ≡ Some r = sym (at_update rs n k q f) ∙ e in
-      ⊎_elim
-      (λ (t : (eqb q k ≡ true) × (q ≡ k)).
-      let both : Some (f old) ≡ Some r = sym (ap (option_map f) (ap (at n rs) t.1 ∙ h)) ∙ rw t.0 at is in
-      let same : r ≡ f old = cc in
-      inl (t.1, same))
-      (λ (t : (eqb q k ≡ false) × (q ≢ k)). inr (t.1, rw t.0 at is))
-      (numbered.same_or_not q k)
+      elim (numbered.same_or_not q k) [
+        | inl t ↦ let both : Some (f old) ≡ Some r = sym (ap (option_map f) (ap (at n rs) t.1 ∙ h)) ∙ rw t.0 at is in
+            let same : r ≡ f old = cc in
+            inl (t.1, same)
+        | inr t ↦ inr (t.1, rw t.0 at is)
+      ]
 
   -- how many pass once an element is changed
   pub tally_update : (p : R → Bool) (rs : List R) (n k : ℕ) (f : R → R) (r : R) → at n rs k ≡ Some r → tally p (update n k f rs) + one (p r) ≡ tally p rs + one (p (f r))
@@ -107,10 +95,7 @@ module _ {R : Type 0} where
   -- as many, where no change tells
   pub tally_same : (p : R → Bool) (f : R → R) → ((r : R) → p (f r) ≡ p r) → (rs : List R) (n k : ℕ) → tally p (update n k f rs) ≡ tally p rs
   tally_same p f same [] n k = refl
-  tally_same p f same (r ∷ rs) n k =
-      let ih : tally p (update (suc n) k f rs) ≡ tally p rs = tally_same p f same rs (suc n) k in
-      let here : one (p (cond (eqb k n) (f r) r)) ≡ one (p r) = ap one (pick (eqb k n)) in
-      omega arith
+  tally_same p f same (r ∷ rs) n k = omega (arith, tally_same p f same rs (suc n) k, ap one (pick (eqb k n)))
     where
       pick : (b : Bool) → p (cond b (f r) r) ≡ p r
       pick true = same r
@@ -141,11 +126,7 @@ unnotified_place _ h = cc
 -- who does not wait is neither unnotified nor notified
 pub not_waiting : (o : Option Getting) → gets_stand is_waiting o ≡ false → (gets_stand is_unnotified o ≡ false) × (gets_stand is_notified o ≡ false)
 not_waiting None off = (refl, refl)
-not_waiting (Some s) off = go s.place off
-  where
-    go : (p : GetPlace) → is_waiting p ≡ false → (is_unnotified p ≡ false) × (is_notified p ≡ false)
-    go (Waiting b) off = cc
-    go _ off = (refl, refl)
+not_waiting (Some s) off = grind arith
 
 -- a get is counted once at most among those who wait
 one_place : (p : GetPlace) → one (is_unnotified p) + one (is_notified p) ≤ 1
@@ -159,10 +140,7 @@ untold_place _ told = cc
 -- those who wait are alive
 pub waiters_few : (gs : List (Numbered Getting)) → tally_gets is_unnotified gs + tally_gets is_notified gs ≤ alive_of gs
 waiters_few [] = omega arith
-waiters_few (g ∷ gs) =
-    let ih : tally_gets is_unnotified gs + tally_gets is_notified gs ≤ alive_of gs = waiters_few gs in
-    let here : one (gets_stand is_unnotified g.standing) + one (gets_stand is_notified g.standing) ≤ one (is_some g.standing) = each g.standing in
-    omega arith
+waiters_few (g ∷ gs) = omega (arith, waiters_few gs, each g.standing)
   where
     each : (o : Option Getting) → one (gets_stand is_unnotified o) + one (gets_stand is_notified o) ≤ one (is_some o)
     each None = omega arith
@@ -193,22 +171,14 @@ waits_on_same first now p g gs x h on =
 pub begins_counted : (test : GetPlace → Bool) (first now p g : ℕ) (gs : List (Numbered Getting)) (x : Numbered Getting) (s : Getting)
     → at first gs g ≡ Some x → x.standing ≡ Some s → gets_stand is_unnotified x.standing ≡ false
     → tally_gets test (update first g (at_wait now p) gs) + one (test s.place) ≡ tally_gets test gs + one (test (Waiting false))
-begins_counted test first now p g gs x s h is off =
-    let now_is : one (gets_stand test (at_wait now p x).standing) ≡ one (test (Waiting false)) =
-    ap (λ (y : Numbered Getting). one (gets_stand test y.standing)) (begins_now now p x off)
-    ∙ ap (λ (o : Option Getting). one (gets_stand test (option_map (get_in_wait now) o))) is in
-    omega (arith, changed_tally (gets_stand test) (at_wait now p) gs first g x (Some s) h is)
+begins_counted test first now p g gs x s h is off = grind (arith, begins_now now p x off, changed_tally (gets_stand test) (at_wait now p) gs first g x (Some s) h is)
 
 as_some : (f : Getting → Getting) (o : Option Getting) → is_some (option_map f o) ≡ is_some o
 as_some f None = refl
 as_some f (Some s) = refl
 
 pub begins_alive : (first now p g : ℕ) (gs : List (Numbered Getting)) → alive_of (update first g (at_wait now p) gs) ≡ alive_of gs
-begins_alive first now p g gs = tally_same (λ (y : Numbered Getting). is_some y.standing) (at_wait now p) (λ x. pick x (gets_stand is_unnotified x.standing)) gs first g
-  where
-    pick : (x : Numbered Getting) (b : Bool) → is_some (cond b x (waiter now p x.standing)).standing ≡ is_some x.standing
-    pick x true = refl
-    pick x false = as_some (get_in_wait now) x.standing
+begins_alive first now p g gs = grind (arith, tally_same)
 
 pub notify_length : (first : ℕ) (n : Option ℕ) (gs : List (Numbered Getting)) → length (with_notice first n gs) ≡ length gs
 notify_length first None gs = refl
@@ -223,10 +193,7 @@ pub notify_counted : (first m : ℕ) (n : Option ℕ) (gs : List (Numbered Getti
     → n ≡ slice_get (in_order unnotified_at first gs m) 0
     → (tally_gets is_unnotified (with_notice first n gs) ≡ tally_gets is_unnotified gs - 1)
     × (tally_gets is_notified (with_notice first n gs) ≡ tally_gets is_notified gs + min 1 (tally_gets is_unnotified gs))
-notify_counted first m None gs b is =
-    let counted : length (in_order unnotified_at first gs m) ≡ tally_gets is_unnotified gs = numbered.line_counted (gets_stand is_unnotified) gs first m b in
-    let none : tally_gets is_unnotified gs ≡ 0 = omega (arith, none_past (in_order unnotified_at first gs m) 0 (sym is)) in
-    (omega arith, omega arith)
+notify_counted first m None gs b is = grind (arith, numbered.line_counted (gets_stand is_unnotified) gs first m b, none_past (in_order unnotified_at first gs m) 0 (sym is))
 notify_counted first m (Some g) gs b is =
     let t : (x : Numbered Getting) × (at first gs g ≡ Some x) × (p : ℕ) × (p < m) × (unnotified_at p x ≡ true) = numbered.in_order_member unnotified_at gs first m 0 g (sym is) in
     let s = getting_is is_unnotified t.0.standing (and_right (gets_stand is_unnotified t.0.standing) _ t.4).0 in
@@ -242,9 +209,7 @@ notify_counted first m (Some g) gs b is =
 pub same_line : (first m g : ℕ) (f : Numbered Getting → Numbered Getting) (gs : List (Numbered Getting)) (x : Numbered Getting)
     → at first gs g ≡ Some x → gets_stand is_unnotified x.standing ≡ false → gets_stand is_unnotified (f x).standing ≡ false
     → in_order unnotified_at first (update first g f gs) m ≡ in_order unnotified_at first gs m
-same_line first m g f gs x h off still =
-    ap (λ (xs : List (Numbered Getting)). in_order unnotified_at first xs m) (numbered.update_is gs first g f x h)
-    ∙ numbered.in_order-change_kept unnotified_at gs first g (f x) x h m (λ p l. ap (λ (b : Bool). b && eqb (f x).position p) still ∙ sym (ap (λ (b : Bool). b && eqb x.position p) off))
+same_line first m g f gs x h off still = grind (arith, numbered.update_is gs first g f x h, numbered.in_order-change_kept)
 
 -- ---- the order of those who wait
 
@@ -294,10 +259,7 @@ line_changed first q turn g f gs x h few new others apart = record {
   turn = turn;
   turn_few = few;
   keeps = λ k a e.
-      ⊎_elim
-      (λ (t : (k ≡ g) × (a ≡ f x)). subst (Keeps turn) (sym t.1) new)
-      (λ (t : (k ≢ g) × (at first gs k ≡ Some a)). others k a t.0 e t.1)
-      (updated_at gs first g k f x a h e);
+      elim (updated_at gs first g k f x a h e) [ inl t ↦ subst (Keeps turn) (sym t.1) new | inr t ↦ others k a t.0 e t.1 ];
   apart = apart;
 }
 

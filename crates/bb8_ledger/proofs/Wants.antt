@@ -1,5 +1,5 @@
 -- What is wanted is made good.
-use Rattle.bb8_ledger.proofs.Words.{◌≡◌, ◌⊎◌, ℕ, zero, suc, ◌+◌, ◌-◌, ◌<◌, ◌≤◌, min, Bool, false, cond, List, refl, ap, ◌∙◌, inl, inr, ⊎_elim, arith, unwrap_or, Grant, Held, Guarded, Standing, Settings, Act, Answer, Numbered, after_end, with_ended, Ledger, Later, start, records, handles, conns_of, approved_of, idle_of, at_place, with_approvals, reaped_at, Row, serves, takes_out, check_fails, gives_up_closed, returns_closed, fills, reaps, IsWant, IsLegal, with_record, due, lacking, MakesGood, AlwaysMakesGood}
+use Rattle.bb8_ledger.proofs.Words.{◌≡◌, ◌⊎◌, ℕ, zero, suc, ◌+◌, ◌-◌, ◌<◌, ◌≤◌, min, Bool, false, cond, List, refl, ap, inl, inr, arith, unwrap_or, Grant, Held, Guarded, Standing, Settings, Act, Answer, Numbered, after_end, with_ended, Ledger, Later, start, records, handles, conns_of, approved_of, idle_of, at_place, with_approvals, reaped_at, Row, serves, takes_out, check_fails, gives_up_closed, returns_closed, fills, reaps, IsWant, IsLegal, with_record, due, MakesGood, AlwaysMakesGood}
 use Rattle.bb8_types.proofs.Numbered as numbered
 use Rattle.bb8_ledger.proofs.Effects.{each_legal, approves}
 
@@ -13,11 +13,7 @@ either_none (suc x) (suc y) h = absurd (omega arith)
 made_good : (least size had have took taken count withheld : ℕ) → count + withheld ≡ min (least - had) (size - took) → have ≡ had + count
     → taken ≡ took + count → (least ≤ have) ⊎ (size ≤ taken) ⊎ (0 < withheld)
 made_good least size had have took taken count (suc withheld) split more full = inr (inr (omega arith))
-made_good least size had have took taken count zero split more full =
-    ⊎_elim
-    (λ (e : least - have ≡ 0). inl (omega arith))
-    (λ (e : size - taken ≡ 0). inr (inl (omega arith)))
-    (either_none (least - have) (size - taken) (omega arith))
+made_good least size had have took taken count zero split more full = elim (either_none (least - have) (size - taken) (omega arith)) [ inl e ↦ inl (omega arith) | inr e ↦ inr (inl (omega arith)) ]
 
 -- what is due while a handle is alive
 pub due_open : (config : Settings) (handles taken asked : ℕ) → 0 < handles → due config handles taken asked ≡ min asked (config.max_size - taken)
@@ -34,13 +30,7 @@ module _ {C : Type 0} where
       → (unwrap_or (start l).config.min_idle 0 ≤ idle_of (with_approvals claimed g.count rs) + approved_of
       (with_approvals claimed g.count rs)) ⊎ ((start l).config.max_size ≤ conns_of (with_approvals claimed g.count rs) + approved_of
       (with_approvals claimed g.count rs)) ⊎ (0 < g.withheld)
-  want_made_good l rs claimed g want open_now =
-      let taken : ℕ = conns_of rs + approved_of rs in
-      let have : ℕ = idle_of rs + approved_of rs in
-      let s = approves claimed g.count rs in
-      made_good (unwrap_or (start l).config.min_idle 0) (start l).config.max_size have _ taken _ g.count g.withheld
-      (want.split ∙ due_open (start l).config (handles l) taken (lacking (start l).config have) open_now)
-      (omega (arith, s.idle_are, s.approved_are)) (omega (arith, s.conns_are, s.approved_are))
+  want_made_good l rs claimed g want open_now = grind (arith, approves claimed g.count rs, made_good, due_open)
 
   pub row_makes_good : (l : Ledger C) (at : ℕ) (e : Act C) (a : Answer) → Row l at e a → MakesGood (Later l at e a) e a
   row_makes_good l at _ _ (serves {k} {grant} not_waiting off first want) = want_made_good l (with_record l k (at_place Guarded)) false grant want

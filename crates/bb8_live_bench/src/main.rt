@@ -35,7 +35,7 @@ const THREADS: usize = 4;
 
 /// What is run.
 #[derive(Clone, Copy)]
-enum Mode {
+enum Measure {
     Hand,
     Check,
     Machine,
@@ -48,17 +48,17 @@ enum Mode {
 }
 
 /// The mode of this name, with so many threads.
-fn mode_of(name: &str, threads: usize) -> Option<Mode> {
+fn mode_of(name: &str, threads: usize) -> Option<Measure> {
     match name {
-        "hand" => Some(Mode::Hand),
-        "check" => Some(Mode::Check),
-        "machine" => Some(Mode::Machine),
-        "block" => Some(Mode::Block),
-        "task" => Some(Mode::Task),
-        "threads" => Some(Mode::Threads(threads)),
-        "crowd" => Some(Mode::Crowd),
-        "let-go" => Some(Mode::LetGo),
-        "wait" => Some(Mode::Wait),
+        "hand" => Some(Measure::Hand),
+        "check" => Some(Measure::Check),
+        "machine" => Some(Measure::Machine),
+        "block" => Some(Measure::Block),
+        "task" => Some(Measure::Task),
+        "threads" => Some(Measure::Threads(threads)),
+        "crowd" => Some(Measure::Crowd),
+        "let-go" => Some(Measure::LetGo),
+        "wait" => Some(Measure::Wait),
         _ => None,
     }
 }
@@ -90,7 +90,7 @@ fn full<K: Clock, R: Runtime, L: PoolParts>(
 fn alone<R: Runtime, L: PoolParts>(
     rt: R,
     blank: Blank,
-    mode: Mode,
+    mode: Measure,
     check: bool,
     rounds: u64,
     size: u32,
@@ -103,8 +103,8 @@ fn alone<R: Runtime, L: PoolParts>(
     let clock = SetClock::new(rt.alloc(), Moment(0))?;
     let pool: NumberPool<SetClock, R, L> = full(rt, clock, blank, check, size)?;
     match mode {
-        Mode::Block => blocked(&rt, &pool, rounds),
-        Mode::Task => polled_ready(&rt, rounds),
+        Measure::Block => blocked(&rt, &pool, rounds),
+        Measure::Task => polled_ready(&rt, rounds),
         _ => polled(&rt, &pool, rounds),
     }
 }
@@ -113,7 +113,7 @@ fn alone<R: Runtime, L: PoolParts>(
 fn clocked<R: Runtime + Threads, L: PoolParts>(
     rt: R,
     blank: Blank,
-    mode: Mode,
+    mode: Measure,
     rounds: u64,
     size: u32,
 ) -> Result<u64, Memory>
@@ -124,7 +124,7 @@ fn clocked<R: Runtime + Threads, L: PoolParts>(
 {
     let pool: NumberPool<MachineClock<R>, R, L> = full(rt, MachineClock(rt), blank, false, size)?;
     match mode {
-        Mode::Threads(threads) => shared(rt, &pool, rounds, threads),
+        Measure::Threads(threads) => shared(rt, &pool, rounds, threads),
         _ => polled(&rt, &pool, rounds),
     }
 }
@@ -134,7 +134,7 @@ fn clocked<R: Runtime + Threads, L: PoolParts>(
 fn crowded<R: Runtime, L: PoolParts>(
     rt: R,
     blank: Blank,
-    mode: Mode,
+    mode: Measure,
     gets: u64,
     size: u32,
 ) -> Result<u64, Memory>
@@ -145,24 +145,26 @@ fn crowded<R: Runtime, L: PoolParts>(
 {
     let pool: NumberPool<StillClock, R, L> = full(rt, StillClock, blank, false, size)?;
     match mode {
-        Mode::Crowd => served_in_turn(&rt, &pool, gets, size),
-        Mode::LetGo => let_go(&rt, &pool, gets, size),
+        Measure::Crowd => served_in_turn(&rt, &pool, gets, size),
+        Measure::LetGo => let_go(&rt, &pool, gets, size),
         _ => kept_waiting(&rt, &pool, gets, size),
     }
 }
 
 /// Runs a mode over a pool with parts of its own.
-fn start<R: Runtime + Threads>(rt: R, mode: Mode, rounds: u64, size: u32) -> Result<u64, Memory>
+fn start<R: Runtime + Threads>(rt: R, mode: Measure, rounds: u64, size: u32) -> Result<u64, Memory>
     requires { 0 < size }
 {
     let blank = Blank::new(size as u64);
     match mode {
-        Mode::Hand | Mode::Check | Mode::Block | Mode::Task => {
-            let check = matches!(mode, Mode::Check);
+        Measure::Hand | Measure::Check | Measure::Block | Measure::Task => {
+            let check = matches!(mode, Measure::Check);
             alone::<R, Brand>(rt, blank, mode, check, rounds, size)
         }
-        Mode::Machine | Mode::Threads(_) => clocked::<R, Brand>(rt, blank, mode, rounds, size),
-        Mode::Crowd | Mode::LetGo | Mode::Wait => {
+        Measure::Machine | Measure::Threads(_) => clocked::<R, Brand>(
+            rt, blank, mode, rounds, size,
+        ),
+        Measure::Crowd | Measure::LetGo | Measure::Wait => {
             crowded::<R, Brand>(rt, blank, mode, rounds, size)
         }
     }

@@ -17,6 +17,8 @@ pub enum Answer {
     /// With the connection of this number.
     Served(u64),
     Built,
+    /// No connection was had at once.
+    Nothing,
     TimedOut,
     Refused(u64),
     Memory,
@@ -45,6 +47,7 @@ impl fmt::Display for Answer {
             Answer::Pending => write!(f, "pending"),
             Answer::Served(number) => write!(f, "served {number}"),
             Answer::Built => write!(f, "built"),
+            Answer::Nothing => write!(f, "none"),
             Answer::TimedOut => write!(f, "timed out"),
             Answer::Refused(number) => write!(f, "refused {number}"),
             Answer::Memory => write!(f, "memory"),

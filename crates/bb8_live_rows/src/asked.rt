@@ -1,7 +1,7 @@
 //! The handles of a script's pool, and what they are asked for.
 
 use crate::slots::Slots;
-use bb8::{AddError, Memory, State};
+use bb8::{AddError, Memory, RunError, State};
 use bb8_trials::{Connection, Handle, OwnedHandle, Polled, Refused, Server, Unbuilt};
 use futures::task::Poll;
 use futures::test::MockTask;
@@ -32,6 +32,11 @@ pub trait Asked: Drop {
     fn poll(&self, task: &MockTask, get: &mut Self::Get) -> Polled<Self::Guard, Refused>;
 
     fn cancel(&self, get: Self::Get);
+
+    /// What a get is served with that waits for nothing.
+    fn try_get(&self) -> Option<Result<Option<Self::Guard>, RunError<Refused>>> {
+        None
+    }
 
     fn facts(guard: &Self::Guard) -> Facts;
 
@@ -139,6 +144,14 @@ impl<P: Handle<Server> + Drop> Asked for Lent<P> {
             Either::Lent(get) => self.first.cancel(get),
             Either::Owned(get) => self.first.cancel_owned(get),
         }
+    }
+
+    fn try_get(&self) -> Option<Result<Option<Self::Guard>, RunError<Refused>>> {
+        Some(match self.first.try_get() {
+            Ok(Some(guard)) => Ok(Some(Either::Lent(guard))),
+            Ok(None) => Ok(None),
+            Err(error) => Err(error),
+        })
     }
 
     fn facts(guard: &Self::Guard) -> Facts {

@@ -135,6 +135,7 @@ impl<A: Asked, D: DriverCalls + Drop> Play<A, D> {
             "copy" => self.stage.copy.set(Moment(n)),
             "poll" => return self.poll(n),
             "lend" => return self.lend(n),
+            "try" => return self.try_get(n),
             "drop" => drop(self.gets.take(n)?),
             "cancel" => self.asked.cancel(self.gets.take(n)?),
             "guard" => return Some(Answer::Connection(A::facts(self.guards.get(n)?))),
@@ -173,11 +174,22 @@ impl<A: Asked, D: DriverCalls + Drop> Play<A, D> {
         match self.asked.poll(&self.stage.task, get) {
             Poll::Pending => Some(Answer::Pending),
             Poll::Ready(Err(error)) => Some(error_of(error)),
-            Poll::Ready(Ok(guard)) => {
-                let (number, _, _) = A::facts(&guard);
-                self.guards.put(n, guard)?;
-                Some(Answer::Served(number))
-            }
+            Poll::Ready(Ok(guard)) => self.serve(n, guard),
+        }
+    }
+
+    fn serve(&mut self, n: u64, guard: A::Guard) -> Option<Answer> {
+        let (number, _, _) = A::facts(&guard);
+        self.guards.put(n, guard)?;
+        Some(Answer::Served(number))
+    }
+
+    /// A get that waits for nothing. Its guard goes under this number.
+    fn try_get(&mut self, n: u64) -> Option<Answer> {
+        match self.asked.try_get()? {
+            Ok(None) => Some(Answer::Nothing),
+            Ok(Some(guard)) => self.serve(n, guard),
+            Err(error) => Some(error_of(error)),
         }
     }
 

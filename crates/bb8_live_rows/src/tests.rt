@@ -1,5 +1,7 @@
 //! That a transcript of a live pool which is answered otherwise is told.
 
+mod masses;
+
 use super::run;
 use std::test::Fail;
 

@@ -1,4 +1,4 @@
-//! What the tests share; every setter and every error once, and each trait implemented once and called through its bound.
+//! What the tests share; every setter and every error once.
 ghost use Rattle.std.specs.Prelude.{◌≡◌, ◌<◌, ◌==◌};
 ghost use Rattle.bb8.specs.Parts.{IsBlankOf, unchecked_of};
 ghost use Rattle.futures.specs.declared.task.Poll.TheVariants.{Pending};
@@ -6,20 +6,15 @@ ghost use Rattle.futures.specs.declared.task.Poll.TheVariants.{Pending};
 mod bell;
 mod calls;
 mod clocks;
-mod gates;
-mod get;
 mod guards;
 mod handles;
-mod locked;
-mod pool;
 mod serving;
 mod threads;
 mod unlocked;
 
 use bb8::{
-    AddError, Builder, Clock, Config, CustomizeConnection, ErrorSink, ManageConnection, Memory,
-    Moment, NopCustomizer, NopErrorSink, Pool, PoolParts, QueueStrategy, RunError, Runtime,
-    SetClock,
+    AddError, Builder, Config, ManageConnection, Memory, Moment, NopCustomizer, NopErrorSink, Pool,
+    PoolParts, QueueStrategy, RunError, Runtime, SetClock,
 };
 use futures::task::Poll;
 use futures::test::MockTask;
@@ -144,42 +139,6 @@ impl ManageConnection for SlowManager {
     }
 }
 
-/// Adds one to each connection.
-#[derive(Clone, Copy)]
-struct AddsOne;
-
-impl CustomizeConnection<u64, Refused> for AddsOne {
-    type Acquiring = ();
-
-    fn on_acquire(&self, _connection: &mut u64) {}
-
-    fn poll_acquire(
-        &self,
-        connection: &mut u64,
-        _acquiring: &mut (),
-        _moment: Moment,
-    ) -> Poll<Result<(), Refused>> {
-        *connection = connection.saturating_add(1);
-        Poll::Ready(Ok(()))
-    }
-}
-
-#[derive(Clone, Copy)]
-struct OtherSink;
-
-impl ErrorSink<Refused> for OtherSink {
-    fn sink(&self, _error: Refused) {}
-}
-
-#[derive(Drop)]
-struct StoppedClock(Moment);
-
-impl Clock for StoppedClock {
-    fn now(&self) -> Moment {
-        self.0
-    }
-}
-
 /// A connection with neither `Display` nor `Debug`.
 #[derive(Drop)]
 struct Plain;
@@ -214,9 +173,7 @@ fn sets_all(rt: HostRuntime) {
         .connection_timeout(Duration::from_millis(1500))
         .retry_connection(false)
         .reaper_rate(Duration::from_secs(5))
-        .queue_strategy(QueueStrategy::Lifo)
-        .error_sink(OtherSink)
-        .connection_customizer(AddsOne);
+        .queue_strategy(QueueStrategy::Lifo);
     let config = Config::from(&builder);
     assert_equal(&rt, config.max_size, 3);
     assert_equal(&rt, config.min_idle, Some(2));
@@ -291,59 +248,4 @@ fn equal_errors(rt: HostRuntime) {
             assert_eq!(rt; error == other, i == j, "at {i} and {j}");
         }
     }
-}
-
-/// The connection that a manager opens at a moment and a customizer prepares, and the error that came instead, which goes to a sink.
-fn opened<M, S, Z, K>(manager: &M, sink: &S, customizer: &Z, clock: &K) -> Option<M::Connection>
-where
-    M: ManageConnection,
-    S: ErrorSink<M::Error>,
-    Z: CustomizeConnection<M::Connection, M::Error>,
-    K: Clock,
-{
-    let moment = clock.now();
-    let mut connecting = manager.connect();
-    let mut connection = match manager.poll_connect(&mut connecting, moment) {
-        Poll::Ready(Ok(connection)) => connection,
-        Poll::Ready(Err(error)) => {
-            sink.sink(error);
-            return None;
-        }
-        Poll::Pending => return None,
-    };
-    let mut acquiring = customizer.on_acquire(&mut connection);
-    match customizer.poll_acquire(&mut connection, &mut acquiring, moment) {
-        Poll::Ready(Ok(())) => {}
-        Poll::Ready(Err(error)) => {
-            sink.sink(error);
-            return None;
-        }
-        Poll::Pending => return None,
-    }
-    let mut checking = manager.is_valid(&mut connection);
-    match manager.poll_valid(&mut connection, &mut checking, moment) {
-        Poll::Ready(Ok(())) if !manager.has_broken(&mut connection) => Some(connection),
-        _ => None,
-    }
-}
-
-#[test]
-fn opens_by_hand(rt: HostRuntime) {
-    let early = StoppedClock(Moment(4));
-    let late = StoppedClock(Moment(5));
-    assert_equal(
-        &rt,
-        opened(&SlowManager, &NopErrorSink, &AddsOne, &early),
-        None,
-    );
-    assert_equal(
-        &rt,
-        opened(&SlowManager, &NopErrorSink, &AddsOne, &late),
-        Some(8),
-    );
-    assert_equal(
-        &rt,
-        opened(&SlowManager, &OtherSink, &NopCustomizer, &late),
-        None,
-    );
 }

@@ -1,1 +1,2 @@
 pub mod Sections
+mod Words

@@ -1,5 +1,6 @@
 -- What holds of the sections of a pool.
-use Rattle.std.proofs.Common.{◌≡◌, ℕ, ◌+◌, ◌^◌, ◌<◌, ◌≤◌, length, Bool, true, false, Option, Some, None, IfNone, is_some, refl, sym, ap, ◌∙◌, arith}
+use Rattle.bb8_lock.proofs.Words.{◌≡◌, ℕ, ◌+◌, ◌^◌, ◌<◌, ◌≤◌, length, Bool, true, false, Option, Some, None, refl, sym, ap, ◌∙◌, arith, Settings, settings_of, is_lawful, Ledger, Later, next, records, checked_err_told, give_up_told, put_back_told, add_told, fits, out_of, Moves}
+use Rattle.std.proofs.Common.{IfNone, is_some}
 use Rattle.bb8_core.specs.declared.answers.GiveUpAnswer.{GiveUpAnswer}
 use Rattle.bb8_core.specs.declared.answers.GiveUpAnswer.TheVariants as given_back
 use Rattle.bb8_core.specs.declared.answers.CheckedErrAnswer.{CheckedErrAnswer}
@@ -10,17 +11,13 @@ use Rattle.bb8_core.specs.declared.answers.AddAnswer.{AddAnswer}
 use Rattle.bb8_core.specs.declared.answers.AddAnswer.TheVariants as adding
 use Rattle.bb8_types.specs.declared.api.configuration.Config.{Config}
 use Rattle.bb8_types.specs.declared.grants.Grant.{Grant}
-use Rattle.bb8_types.specs.Settings.{Settings, settings_of, is_lawful}
 use Rattle.bb8_ledger.specs.Acts.{Act, CheckedErr, GiveUp, PutBack, Fill, Add, Reason}
 use Rattle.bb8_ledger.specs.Answers as answers
 use Rattle.bb8_ledger.specs.Answers.{Answer, Broken, Granted, Unfit}
-use Rattle.bb8_ledger.specs.Ledger.{Ledger, Later, next, records}
-use Rattle.bb8_core.specs.StepAnswers.{checked_err_told, give_up_told, put_back_told, add_told}
-use Rattle.bb8_ledger.specs.Table.{fits, Allowed, IsLegal, Row, fills, add_broken, add_full, add_exhausted, add_refused, adds, gives_up, gives_up_kept, gives_up_closed}
+use Rattle.bb8_ledger.specs.Table.{Allowed, IsLegal, Row, fills, add_broken, gives_up}
 use Rattle.bb8_core.specs.Shown.{Shown, Means, Meets, IsFitting, HasLedger, IsWithinLimits}
 use Rattle.bb8_core.specs.Run.{opening}
 use Rattle.bb8_lock.specs.Sections.{IsSorted}
-use Rattle.bb8_core.specs.Parts.{out_of, Moves}
 use Rattle.bb8_core.proofs.Parts.{counted}
 use Rattle.bb8_ledger.proofs.Effects.{by_fit}
 use Rattle.bb8_core.proofs.Runs.{unfit_now}
@@ -75,6 +72,12 @@ module _ {C : Type 0} where
   pub kept_settings : (old new : Shown C) (at : ℕ) (e : Act C) (a : Answer) (settings : Settings) → HasLedger old → Meets old at e a new → old.config ≡ settings → new.config ≡ settings
   kept_settings old new at e a settings h meets is = (counted old at e a new h meets).config ∙ is
 
+  -- a step that moves nothing leaves the parts and the settings as they are
+  pub all_kept : {old new : Shown C} (at : ℕ) (e : Act C) (a : Answer) (rest : ℕ) {settings : Settings} → HasLedger old → Meets old at e a new
+      → (Moves e a (out_of old) (out_of new) → out_of new ≡ out_of old) → out_of old + rest ≡ old.config.max_size → old.config ≡ settings
+      → (out_of new + rest ≡ new.config.max_size) × (new.config ≡ settings)
+  all_kept {old} {new} at e a rest {settings} h meets same parts is = (unmoved old new at e a rest h meets same parts, kept_settings old new at e a settings h meets is)
+
   -- where one more goes out there is a part for it
   pub has_part : (old new : Shown C) (at : ℕ) (e : Act C) (a : Answer) (rest : ℕ) → HasLedger old → Meets old at e a new
       → (Moves e a (out_of old) (out_of new) → out_of new ≡ out_of old + 1) → out_of old + rest ≡ old.config.max_size → 1 ≤ rest
@@ -112,16 +115,11 @@ module _ {C : Type 0} where
   -- an adding is refused as broken just where the connection is broken
   add_row : (l : Ledger C) (at : ℕ) (c : C) (b : Bool) (a : Answer) → Row l at (Add c b) a → refuses_broken a ≡ b
   add_row l at c _ _ add_broken = refl
-  add_row l at c _ _ (add_full full) = refl
-  add_row l at c _ _ (add_exhausted room many) = refl
-  add_row l at c _ _ (add_refused room few full) = refl
-  add_row l at c _ _ (adds room few is who) = refl
+  add_row l at c _ _ _ = refl
 
   sorted_as : (answer : AddAnswer C) (b : Bool) → refuses_broken (add_told answer) ≡ b → IsSorted b answer
-  sorted_as (adding.Added k n) b is = sym is
   sorted_as (adding.Broken c) b is = sym is
-  sorted_as (adding.NoCapacity c) b is = sym is
-  sorted_as (adding.Withheld c) b is = sym is
+  sorted_as _ b is = sym is
 
   pub add_sorted : (old new : Shown C) (at : ℕ) (c : C) (b : Bool) (answer : AddAnswer C) → HasLedger old → Says old (Add c b) true → Meets old at (Add c b) (add_told answer) new → IsSorted b answer
   add_sorted old new at c b answer h says meets =
@@ -149,8 +147,7 @@ module _ {C : Type 0} where
   -- a give-up brings a connection back just where one is handed in
   give_up_row : (l : Ledger C) (at g : ℕ) (why : Reason) (held : Option C) (b : Bool) (a : Answer) → Row l at (GiveUp g why held b) a → brings_back a ≡ is_some held
   give_up_row l at g why _ b _ (gives_up who) = refl
-  give_up_row l at g why _ b _ (gives_up_kept holds stays who) = refl
-  give_up_row l at g why _ b _ (gives_up_closed holds closes granted who) = refl
+  give_up_row l at g why _ b _ _ = refl
 
   pub given_up : (old new : Shown C) (at g : ℕ) (why : Reason) (held : Option C) (b : Bool) (a : Answer) → HasLedger old
       → Says old (GiveUp g why held b) true → Meets old at (GiveUp g why held b) a new → brings_back a ≡ is_some held
@@ -163,15 +160,13 @@ module _ {C : Type 0} where
   pub gave_up : (g : ℕ) (why : Reason) (held : Option C) (b : Bool) (answer : GiveUpAnswer C) (before after : ℕ) → brings_back (give_up_told answer) ≡ false
       → Moves (GiveUp g why held b) (give_up_told answer) before after → after ≡ before
   gave_up g why held b (given_back.GaveUp n) before after none moves = moves
-  gave_up g why held b (given_back.Kept k n) before after none moves = absurd (let clash : true ≡ false = none in cc)
-  gave_up g why held b (given_back.Closed k c grant n) before after none moves = absurd (let clash : true ≡ false = none in cc)
+  gave_up g why held b _ before after none moves = absurd (let clash : true ≡ false = none in cc)
 
   -- one that brings a connection back brings one
   pub gave_back : (g : ℕ) (why : Reason) (held : Option C) (b : Bool) (answer : GiveUpAnswer C) (before after : ℕ) → brings_back (give_up_told answer) ≡ true
       → Moves (GiveUp g why held b) (give_up_told answer) before after → after + 1 ≡ before
   gave_back g why held b (given_back.GaveUp n) before after some moves = absurd (let clash : false ≡ true = some in cc)
-  gave_back g why held b (given_back.Kept k n) before after some moves = moves
-  gave_back g why held b (given_back.Closed k c grant n) before after some moves = moves
+  gave_back g why held b _ before after some moves = moves
 
   -- the failing of a check brings one back
   pub failed_back : (g : ℕ) (b : Bool) (answer : CheckedErrAnswer C) (before after : ℕ) → Moves {C = C} (CheckedErr g b) (checked_err_told answer) before after → after + 1 ≡ before

@@ -1,29 +1,14 @@
 -- What guards and handles do with a pool, over the relations of any home with sections and of any calls outside. As these are free, each says
 -- which calls and steps are made, how many, and in which order.
-use Rattle.std.specs.Prelude.{◌≡◌, ℕ, ◌<◌, Bool, Option, Some, None, Result, Ok, Err}
-use Rattle.futures.specs.declared.task.Poll.{Poll}
-use Rattle.futures.specs.declared.task.Poll.TheVariants.{Ready, Pending}
-use Rattle.bb8_types.specs.declared.api.errors.AddError.{AddError}
+use Rattle.bb8_lock.specs.Words.{◌≡◌, ℕ, ◌<◌, Bool, Option, Some, None, Result, Ok, Err, Poll, Ready, Pending, AddError, RunError, State, Moment, AddAnswer, HomeOf, Taken, OutsideOf, Settled, Stage, Asks, Cancels, Starts, Joining, SectionsOf}
 use Rattle.bb8_types.specs.declared.api.errors.AddError.TheVariants.{Broken, NoCapacity, Withheld}
-use Rattle.bb8_types.specs.declared.api.errors.RunError.{RunError}
-use Rattle.bb8_types.specs.declared.api.figures.State.{State}
-use Rattle.bb8_types.specs.declared.api.moments.Moment.{Moment}
-use Rattle.bb8_core.specs.declared.answers.AddAnswer.{AddAnswer}
 use Rattle.bb8_core.specs.declared.answers.AddAnswer.TheVariants as adding
 use Rattle.bb8_core.specs.declared.answers.LeaveAnswer.{LeaveAnswer}
 use Rattle.bb8_core.specs.declared.answers.Looked.{Looked}
 use Rattle.bb8_core.specs.declared.answers.PutBackAnswer.{PutBackAnswer}
 use Rattle.bb8_core.specs.declared.answers.PutBackAnswer.TheVariants as put_back
-use Rattle.bb8_gets.specs.declared.home.GetHome.{Ghosts as HomeOf}
 use Rattle.bb8_gets.specs.declared.home.Returned.{Returned}
-use Rattle.bb8_gets.specs.declared.home.Taken.{Taken}
 use Rattle.bb8_gets.specs.declared.home.Unfit.{Unfit}
-use Rattle.bb8_gets.specs.declared.outside.Outside.{Ghosts as OutsideOf}
-use Rattle.bb8_gets.specs.declared.state.Settled.{Settled}
-use Rattle.bb8_gets.specs.declared.state.Stage.{Stage}
-use Rattle.bb8_gets.specs.Polls.{Asks, Cancels, Starts}
-use Rattle.bb8_lock.specs.declared.section_home.Joining.{Joining}
-use Rattle.bb8_lock.specs.declared.section_home.SectionHome.{Ghosts as SectionsOf}
 
 -- What the caller of an adding is told: where no handle is alive there is no capacity.
 abbrev pub IsTold : {C : Type 0} → Result (AddAnswer C) C → Result (Unit {0}) (AddError C) → Type 0

@@ -12,3 +12,4 @@ pub use Rattle.bb8_gets.specs.Told
 pub use Rattle.bb8_types.specs.Errors
 pub use Rattle.bb8_types.specs.Figures
 pub use Rattle.bb8_types.specs.Settings
+pub mod Words

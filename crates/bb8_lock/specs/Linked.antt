@@ -1,39 +1,12 @@
 -- What gets, guards and handles do on a pool: the tables at what a pool's lock holds, while it is held, and at the pool's own manager, error sink
 -- and clock.
-use Rattle.std.specs.Prelude.{◌≡◌, ◌≤◌, ℕ, false, None, Option, Some, Result, Ok, Err, IfOk, ⊤}
+use Rattle.bb8_lock.specs.Words.{◌≡◌, ◌≤◌, ℕ, false, None, Option, Some, Result, Ok, Err, IfOk, ⊤, MutexGuard, DebugOf, Poll, Ready, Pending, Moment, AddError, RunError, State, ManagerOf, settings_of, add_told, begin_told, checked_err_told, give_up_told, leave_told, look_told, put_back_told, reason_of, GivesBack, Refuses, HomeOf, Taken, Joined, OutsideOf, Settled, Stage, Joining, SectionsOf, Locked, Part, PartsOf, LinkHome, Shared, StepsIn, answered, passed_told, tried_told, HandsBackHeld, HandsBackInvalid, HandsOutOf, GetPolls, Cancels}
 use Rattle.std.specs.Sync.Mutex.{mutex_guard_value}
-use Rattle.std.specs.declared.sync.MutexGuard.{MutexGuard}
-use Rattle.std.specs.declared.fmt.Debug.{Ghosts as DebugOf}
-use Rattle.futures.specs.declared.task.Poll.{Poll}
-use Rattle.futures.specs.declared.task.Poll.TheVariants.{Ready, Pending}
-use Rattle.bb8_types.specs.declared.api.moments.Moment.{Moment}
-use Rattle.bb8_types.specs.declared.api.errors.AddError.{AddError}
-use Rattle.bb8_types.specs.declared.api.errors.RunError.{RunError}
-use Rattle.bb8_types.specs.declared.api.figures.State.{State}
-use Rattle.bb8_types.specs.declared.api.managers.ManageConnection.{Ghosts as ManagerOf}
 use Rattle.bb8_types.specs.Figures.{figures_of}
-use Rattle.bb8_types.specs.Settings.{settings_of}
 use Rattle.bb8_ledger.specs.Acts as acts
 use Rattle.bb8_ledger.specs.Answers as answers
-use Rattle.bb8_core.specs.StepAnswers.{add_told, begin_told, checked_err_told, give_up_told, leave_told, look_told, put_back_told, reason_of, GivesBack, Refuses}
 use Rattle.bb8_gets.specs.declared.calls.Calls.{Calls}
-use Rattle.bb8_gets.specs.declared.home.GetHome.{Ghosts as HomeOf}
-use Rattle.bb8_gets.specs.declared.home.Taken.{Taken}
-use Rattle.bb8_core.specs.declared.joined.Joined.{Joined}
-use Rattle.bb8_gets.specs.declared.outside.Outside.{Ghosts as OutsideOf}
-use Rattle.bb8_gets.specs.declared.state.Settled.{Settled}
-use Rattle.bb8_gets.specs.declared.state.Stage.{Stage}
 use Rattle.bb8_gets.specs.declared.state.Stage.TheVariants.{Fresh}
-use Rattle.bb8_lock.specs.declared.section_home.Joining.{Joining}
-use Rattle.bb8_lock.specs.declared.section_home.SectionHome.{Ghosts as SectionsOf}
-use Rattle.bb8_lock.specs.declared.locked.Locked.{Locked}
-use Rattle.bb8_lock.specs.declared.locked.Part.{Part}
-use Rattle.bb8_lock.specs.declared.locked.Parts.{Ghosts as PartsOf}
-use Rattle.bb8_lock.specs.declared.link.LinkHome.{LinkHome}
-use Rattle.bb8_lock.specs.declared.shared.Shared.{Shared}
-use Rattle.bb8_gets.specs.Homes.{StepsIn}
-use Rattle.bb8_gets.specs.Told.{answered, passed_told, tried_told, HandsBackHeld, HandsBackInvalid, HandsOutOf}
-use Rattle.bb8_gets.specs.Polls.{GetPolls, Cancels}
 use Rattle.bb8_lock.specs.Chains.{AddsOutside, CancelsAndLeaves, Joins, HandleLeaves, Returns, ReturnsAndLeaves, Shows, TakesNow}
 use Rattle.bb8_lock.specs.Sections.{joining_told, returned, IsSorted, OnFit}
 
@@ -270,12 +243,10 @@ module _ {M S Z K R L C E N V : Type 0} {m : ManagerOf M C E N V} {d : DebugOf E
 abbrev pub MakesGuard : {A B E : Type 0} → (A → B → Type 0) → Result A E → Result B E → Type 0
 MakesGuard Makes (Ok a) (Ok b) = Makes a b
 MakesGuard Makes (Err e) (Err f) = e ≡ f
-MakesGuard Makes (Ok a) (Err f) = ⊥
-MakesGuard Makes (Err e) (Ok b) = ⊥
+MakesGuard Makes _ _ = ⊥
 
 -- a poll's answer with a guard in place of what was served
 abbrev pub MakesPoll : {A B E : Type 0} → (A → B → Type 0) → Poll (Result A E) → Poll (Result B E) → Type 0
 MakesPoll Makes (Ready a) (Ready b) = MakesGuard Makes a b
 MakesPoll Makes Pending Pending = ⊤
-MakesPoll Makes (Ready a) Pending = ⊥
-MakesPoll Makes Pending (Ready b) = ⊥
+MakesPoll Makes _ _ = ⊥

@@ -1,32 +1,14 @@
 -- Tasks on a pool's lock, which is taken for each of their steps alone, and by the pool's own manager, customizer, error sink and clock.
-use Rattle.std.specs.Prelude.{◌≡◌, None, Option, Result, List}
-use Rattle.std.specs.Duration.{as_nanos}
-use Rattle.std.specs.declared.sync.MutexGuard.{MutexGuard}
-use Rattle.std.specs.declared.fmt.Debug.{Ghosts as DebugOf}
-use Rattle.futures.specs.declared.task.Poll.{Poll}
-use Rattle.bb8_types.specs.declared.api.moments.Moment.{Moment}
-use Rattle.bb8_types.specs.declared.api.customizers.CustomizeConnection.{Ghosts as CustomizerOf}
-use Rattle.bb8_types.specs.declared.api.managers.ManageConnection.{Ghosts as ManagerOf}
+use Rattle.bb8_lock.specs.Words.{◌≡◌, None, Option, Result, List, as_nanos, MutexGuard, DebugOf, Poll, Moment, CustomizerOf, ManagerOf, look_told, Joined, StepsIn, OpenerOf, PoolOpener, ReportsOf, joined_opener, joined_reports, joined_tasks, Locked, PartsOf, LinkHome, Shared}
 use Rattle.bb8_ledger.specs.Acts as acts
-use Rattle.bb8_core.specs.StepAnswers.{look_told}
-use Rattle.bb8_core.specs.declared.joined.Joined.{Joined}
-use Rattle.bb8_gets.specs.Homes.{StepsIn}
 use Rattle.bb8_tasks.specs.declared.dedicated.Dedicated.{Dedicated}
 use Rattle.bb8_tasks.specs.declared.home.Home.{Ghosts as HomeOf}
-use Rattle.bb8_tasks.specs.declared.opener.Opener.{Ghosts as OpenerOf}
-use Rattle.bb8_tasks.specs.declared.opener.PoolOpener.{PoolOpener}
 use Rattle.bb8_tasks.specs.declared.replenish.Replenish.{Replenish}
-use Rattle.bb8_tasks.specs.declared.rounds.Reports.{Ghosts as ReportsOf}
 use Rattle.bb8_tasks.specs.declared.rounds.Round.{Round}
 use Rattle.bb8_tasks.specs.Dedicating as dedicating
 use Rattle.bb8_tasks.specs.Homes.{failed_told, opened_told, HandsOpenedBack}
-use Rattle.bb8_tasks.specs.Joined.{joined_opener, joined_reports, joined_tasks}
 use Rattle.bb8_tasks.specs.Replenishing.{TaskPolls, LetsGo}
 use Rattle.bb8_tasks.specs.Sweeping.{Rounds, LetsGoEach}
-use Rattle.bb8_lock.specs.declared.locked.Locked.{Locked}
-use Rattle.bb8_lock.specs.declared.locked.Parts.{Ghosts as PartsOf}
-use Rattle.bb8_lock.specs.declared.link.LinkHome.{LinkHome}
-use Rattle.bb8_lock.specs.declared.shared.Shared.{Shared}
 use Rattle.bb8_lock.specs.Linked.{StartsAt}
 
 -- the relations of what a pool's lock holds as a home of tasks: each step leads from the state that stands there, which keeps the limits

@@ -1,11 +1,8 @@
 -- What the sections of a pool answer, in the words of the ledger.
-use Rattle.std.specs.Prelude.{◌≡◌, Bool, true, false, Result, Ok, Err}
-use Rattle.bb8_core.specs.declared.answers.AddAnswer.{AddAnswer}
+use Rattle.bb8_lock.specs.Words.{◌≡◌, Bool, true, false, Result, Ok, Err, AddAnswer, Joining, Answer}
 use Rattle.bb8_core.specs.declared.answers.AddAnswer.TheVariants as adding
-use Rattle.bb8_lock.specs.declared.section_home.Joining.{Joining}
 use Rattle.bb8_lock.specs.declared.section_home.Joining.TheVariants as joining
 use Rattle.bb8_ledger.specs.Answers as answers
-use Rattle.bb8_ledger.specs.Answers.{Answer}
 
 -- the answer of a section that hands back a connection where it does not fit
 abbrev pub returned : {A C : Type 0} → (A → Answer) → Result A C → Answer
@@ -26,6 +23,4 @@ OnFit Fits Back (Err c) = Back c
 -- an adding is refused as broken just where the connection was found broken
 abbrev pub IsSorted : {C : Type 0} → Bool → AddAnswer C → Type 0
 IsSorted broken (adding.Broken c) = broken ≡ true
-IsSorted broken (adding.Added k n) = broken ≡ false
-IsSorted broken (adding.NoCapacity c) = broken ≡ false
-IsSorted broken (adding.Withheld c) = broken ≡ false
+IsSorted broken _ = broken ≡ false

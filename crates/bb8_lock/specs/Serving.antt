@@ -1,17 +1,9 @@
 -- A get that begins and is served under one lock.
-use Rattle.std.specs.Prelude.{ℕ, Ok}
-use Rattle.bb8_types.specs.Settings.{Settings}
-use Rattle.bb8_types.specs.declared.grants.Grant.{Grant}
+use Rattle.bb8_lock.specs.Words.{ℕ, Ok, Settings, Grant, Taken, StepsIn, tried_told, HandsOutOf, Locked, Part, PartsOf}
 use Rattle.bb8_tables.specs.declared.keys.GetKey.{GetKey}
 use Rattle.bb8_ledger.specs.Acts as acts
 use Rattle.bb8_ledger.specs.Answers as answers
-use Rattle.bb8_gets.specs.declared.home.Taken.{Taken}
 use Rattle.bb8_gets.specs.declared.home.Tried.TheVariants.{Served}
-use Rattle.bb8_gets.specs.Homes.{StepsIn}
-use Rattle.bb8_gets.specs.Told.{tried_told, HandsOutOf}
-use Rattle.bb8_lock.specs.declared.locked.Locked.{Locked}
-use Rattle.bb8_lock.specs.declared.locked.Part.{Part}
-use Rattle.bb8_lock.specs.declared.locked.Parts.{Ghosts as PartsOf}
 
 -- what the lock holds begins a get and serves it with this connection, at the same moment
 abbrev pub ServesNow : {C L : Type 0} {l : PartsOf L} → Settings → Locked C L l → ℕ → Taken C (Part L) → Grant → Locked C L l → Type 0

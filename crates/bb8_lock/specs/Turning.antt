@@ -1,28 +1,12 @@
 -- The turns of a driver on a pool's lock, which is taken for each step alone, and by the pool's own manager, customizer, error sink and clock.
-use Rattle.std.specs.Prelude.{◌≡◌, None}
-use Rattle.std.specs.Duration.{as_nanos}
-use Rattle.std.specs.declared.fmt.Debug.{Ghosts as DebugOf}
-use Rattle.bb8_types.specs.declared.api.customizers.CustomizeConnection.{Ghosts as CustomizerOf}
-use Rattle.bb8_types.specs.declared.api.managers.ManageConnection.{Ghosts as ManagerOf}
-use Rattle.bb8_types.specs.declared.api.moments.Moment.{Moment}
+use Rattle.bb8_lock.specs.Words.{◌≡◌, None, as_nanos, DebugOf, CustomizerOf, ManagerOf, Moment, claim_told, look_told, Joined, StepsIn, OpenerOf, PoolOpener, ReportsOf, joined_claims, joined_opener, joined_reaps, joined_reports, joined_tasks, Locked, PartsOf, LinkHome, Shared}
 use Rattle.bb8_ledger.specs.Acts as acts
-use Rattle.bb8_core.specs.StepAnswers.{claim_told, look_told}
-use Rattle.bb8_core.specs.declared.joined.Joined.{Joined}
-use Rattle.bb8_gets.specs.Homes.{StepsIn}
 use Rattle.bb8_tasks.specs.declared.home.ClaimHome.{Ghosts as ClaimHomeOf}
 use Rattle.bb8_tasks.specs.declared.home.ReapHome.{Ghosts as ReapHomeOf}
-use Rattle.bb8_tasks.specs.declared.opener.Opener.{Ghosts as OpenerOf}
-use Rattle.bb8_tasks.specs.declared.opener.PoolOpener.{PoolOpener}
-use Rattle.bb8_tasks.specs.declared.rounds.Reports.{Ghosts as ReportsOf}
-use Rattle.bb8_tasks.specs.Joined.{joined_claims, joined_opener, joined_reaps, joined_reports, joined_tasks}
 use Rattle.bb8_tasks.specs.ReapHomes.{reap_told}
 use Rattle.bb8_tasks.specs.declared.turning.Turn.{Turn}
 use Rattle.bb8_tasks.specs.declared.turning.Turning.{Turning}
 use Rattle.bb8_tasks.specs.Turns.{DriverLetsGo, DriverTurns}
-use Rattle.bb8_lock.specs.declared.locked.Locked.{Locked}
-use Rattle.bb8_lock.specs.declared.locked.Parts.{Ghosts as PartsOf}
-use Rattle.bb8_lock.specs.declared.link.LinkHome.{LinkHome}
-use Rattle.bb8_lock.specs.declared.shared.Shared.{Shared}
 use Rattle.bb8_lock.specs.Opening.{AreOpenersOf, link_tasks, locked_tasks, pool_opener, pool_reports, Visits}
 
 -- the relations of what a pool's lock holds as a home of claims, and as a home of reaps

@@ -1,53 +1,115 @@
-//! A lock with a bell: a thread that waits for what another one does under the lock sleeps until the bell is rung.
+//! A lock with bells: a thread that waits for what another one does under the lock sleeps until a bell is rung.
 
-use bb8_core::internals::{AddAnswer, CheckedErrAnswer, GiveUpAnswer, PutBackAnswer};
+use bb8_core::internals::{
+    AddAnswer, CheckedErrAnswer, GiveUpAnswer, Grant, Looked, PutBackAnswer,
+};
+use bb8_gets::{Taken, Tried};
 use bb8_tasks::OpenedStep;
 use std::sync::{Condvar, Mutex, Wait};
 use std::time::Duration;
 
-/// A lock, and a bell that is rung once the lock was let go under which a waiting get was notified. Our own.
+/// A bell, until whose rings threads sleep. Our own.
+#[derive(Drop)]
+pub struct Bell {
+    rung: Condvar,
+}
+
+/// A lock, and the bells that are rung once it was let go. Our own.
 #[derive(Drop)]
 pub struct Belled<T> {
     pub(crate) lock: Mutex<T>,
-    bell: Condvar,
+    /// Rung where a waiting get was notified. Our own.
+    pub gets: Bell,
+    /// Rung where an approval was granted, or no handle is alive any more. Our own.
+    pub drivers: Bell,
 }
 
-impl<T> Belled<T> {
-    /// A lock that is free, whose bell was not rung. Our own.
-    pub fn new(value: T) -> Self {
-        Belled {
-            lock: Mutex::new(value),
-            bell: Condvar::new(),
-        }
-    }
+/// Which bells are to be rung once the lock is let go.
+#[derive(Clone, Copy)]
+pub(crate) struct Rings {
+    gets: bool,
+    pub(crate) drivers: bool,
+}
 
-    /// What the lock holds. Our own.
-    pub fn into_inner(self) -> T {
-        let Belled { lock, bell: _ } = self;
-        lock.into_inner()
+impl Bell {
+    /// A bell that was not rung. Our own.
+    pub fn new() -> Self {
+        Bell {
+            rung: Condvar::new(),
+        }
     }
 
     /// How often the bell was rung, wrapping. Who reads it before the look at what it waits for loses no ring between the look and its
     /// sleep. Our own.
     pub fn rings(&self) -> u64 {
-        self.bell.notifications()
+        self.rung.notifications()
     }
 
     /// Wakes all that sleep. Our own.
     pub fn ring(&self) {
-        self.bell.notify_all();
+        self.rung.notify_all();
     }
 
     /// Sleeps until the bell was rung more often than so often, and so long at most. It may end early. Our own.
     pub fn sleep<R: Wait>(&self, rt: &R, rings: u64, most: Duration) {
-        self.bell.sleep(rt, rings, most);
+        self.rung.sleep(rt, rings, most);
     }
 }
 
-/// An answer after which the bell is to be rung.
+impl<T> Belled<T> {
+    /// A lock that is free, whose bells were not rung. Our own.
+    pub fn new(value: T) -> Self {
+        Belled {
+            lock: Mutex::new(value),
+            gets: Bell::new(),
+            drivers: Bell::new(),
+        }
+    }
+
+    /// What the lock holds. Our own.
+    pub fn into_inner(self) -> T {
+        let Belled { lock, .. } = self;
+        lock.into_inner()
+    }
+
+    /// Rings these bells.
+    pub(crate) fn ring(&self, rings: Rings) {
+        if rings.gets {
+            self.gets.ring();
+        }
+        if rings.drivers {
+            self.drivers.ring();
+        }
+    }
+}
+
+impl Rings {
+    /// No bell.
+    pub(crate) fn none() -> Self {
+        Rings {
+            gets: false,
+            drivers: false,
+        }
+    }
+
+    /// Those of an answer besides.
+    pub(crate) fn note<A: Notifies>(&mut self, answer: &A) {
+        self.gets |= answer.notifies();
+        self.drivers |= answer.grants();
+    }
+}
+
+/// An answer after which bells are to be rung.
 pub(crate) trait Notifies {
     /// Whether a waiting get was notified, which may be served at its next poll.
-    fn notifies(&self) -> bool;
+    fn notifies(&self) -> bool {
+        false
+    }
+
+    /// Whether an approval was granted, which a driver claims at its next turn.
+    fn grants(&self) -> bool {
+        false
+    }
 }
 
 impl<A: Notifies, E> Notifies for Result<A, E> {
@@ -55,6 +117,32 @@ impl<A: Notifies, E> Notifies for Result<A, E> {
         match self {
             Ok(answer) => answer.notifies(),
             Err(_) => false,
+        }
+    }
+
+    fn grants(&self) -> bool {
+        match self {
+            Ok(answer) => answer.grants(),
+            Err(_) => false,
+        }
+    }
+}
+
+impl<C, P> Notifies for (Looked, Option<(Taken<C, P>, Grant)>) {
+    fn grants(&self) -> bool {
+        match &self.1 {
+            Some((_, grant)) => grant.count > 0,
+            None => false,
+        }
+    }
+}
+
+impl<C, P> Notifies for Tried<C, P> {
+    fn grants(&self) -> bool {
+        match self {
+            Tried::Served(_, grant) | Tried::Taken(_, grant) | Tried::Waiting(grant) => {
+                grant.count > 0
+            }
         }
     }
 }
@@ -65,6 +153,13 @@ impl<C> Notifies for PutBackAnswer<C> {
             PutBackAnswer::Kept(notified) | PutBackAnswer::Closed(_, _, notified) => {
                 notified.is_some()
             }
+        }
+    }
+
+    fn grants(&self) -> bool {
+        match self {
+            PutBackAnswer::Closed(_, grant, _) => grant.count > 0,
+            PutBackAnswer::Kept(_) => false,
         }
     }
 }
@@ -83,6 +178,11 @@ impl<C> Notifies for CheckedErrAnswer<C> {
         let CheckedErrAnswer::Closed(_, _, _, notified) = self;
         notified.is_some()
     }
+
+    fn grants(&self) -> bool {
+        let CheckedErrAnswer::Closed(_, _, grant, _) = self;
+        grant.count > 0
+    }
 }
 
 impl<C> Notifies for GiveUpAnswer<C> {
@@ -91,6 +191,13 @@ impl<C> Notifies for GiveUpAnswer<C> {
             GiveUpAnswer::GaveUp(notified)
             | GiveUpAnswer::Kept(_, notified)
             | GiveUpAnswer::Closed(_, _, _, notified) => notified.is_some(),
+        }
+    }
+
+    fn grants(&self) -> bool {
+        match self {
+            GiveUpAnswer::Closed(_, _, grant, _) => grant.count > 0,
+            GiveUpAnswer::GaveUp(_) | GiveUpAnswer::Kept(..) => false,
         }
     }
 }

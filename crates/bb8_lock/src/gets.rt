@@ -8,7 +8,7 @@ use bb8_gets::{GetState, Joined, Outside, Taken};
 use futures::task::Poll;
 
 /// What the gets of a pool do with what its handles share, as methods of an impl, so that polls and drops can call them.
-pub trait Gets<C, E, V, P> {
+pub trait GetCalls<C, E, V, P> {
     /// One poll of a get.
     fn poll_get<W: Outside<C, E, Checking = V> + Drop>(
         &self,
@@ -21,7 +21,7 @@ pub trait Gets<C, E, V, P> {
 }
 
 /// Nothing is called outside under the lock: the table releases its home before each such call.
-impl<M: ManageConnection, S, Z, K, R: Locks, L: Parts> Gets<
+impl<M: ManageConnection, S, Z, K, R: Locks, L: Parts> GetCalls<
     M::Connection,
     M::Error,
     M::Checking,
@@ -38,8 +38,7 @@ impl<M: ManageConnection, S, Z, K, R: Locks, L: Parts> Gets<
             (record { answer = result; stage = get.new.stage }) }
     {
         let home = LinkHome::new(&self.locked, &self.rt);
-        let mut pool = Joined { outside, home };
-        get.poll_step(&mut pool, self.config.connection_timeout)
+        get.poll_with(Joined { outside, home }, self.config.connection_timeout)
     }
 
     fn cancel_get<W: Outside<M::Connection, M::Error, Checking = M::Checking> + Drop>(
@@ -50,7 +49,6 @@ impl<M: ManageConnection, S, Z, K, R: Locks, L: Parts> Gets<
         ensures { LinkCancels W.Outside self.now get.stage outside }
     {
         let home = LinkHome::new(&self.locked, &self.rt);
-        let mut pool = Joined { outside, home };
-        get.cancel_step(&mut pool);
+        get.cancel_with(Joined { outside, home });
     }
 }

@@ -16,6 +16,7 @@ use bb8_gets::{GetHome, Passed, Returned, Taken, Tried, Unfit};
 
 impl<C: Drop, L: Parts> Locked<C, L> {
     /// Begins a get and serves it, where that takes no memory. Where it does not, nothing has changed.
+    #[inline(always)]
     fn serve_now(&mut self, at: Moment) -> Option<(Taken<C, Part<L>>, Grant)>
         ensures served { IfSome result (λ s. ServesNow L.settings self.old at.0 s.0 s.1 self.new) }
         ensures none { IfNone result (self.new.core ≡ self.old.core) }
@@ -77,6 +78,7 @@ impl<C: Drop, L: Parts> GetHome<C> for Locked<C, L> {
     }
 
     /// It is served at once where that takes no memory.
+    #[inline(always)]
     fn serve(&mut self, at: Moment) -> (Looked, Option<(Taken<C, Part<L>>, Grant)>) {
         let seen = self.look(at);
         (seen, self.serve_now(seen.moment))

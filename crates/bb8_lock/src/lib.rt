@@ -19,12 +19,12 @@ mod shared;
 mod turning;
 mod waits;
 
-pub use bell::Belled;
+pub use bell::{Bell, Belled};
 pub use calls::{
     add, cancel_and_leave, give_back, give_back_and_leave, join, leave, state, take_now,
 };
 pub use gathered::Gathered;
-pub use gets::Gets;
+pub use gets::GetCalls;
 pub use link::LinkHome;
 pub use locked::{Locked, NewPool, Part, Parts, PoolParts, begin_pool};
 pub use locks::Locks;

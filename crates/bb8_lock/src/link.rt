@@ -3,8 +3,9 @@ ghost use Rattle.std.specs.Prelude.{◌≡◌, None};
 ghost use Rattle.bb8_lock.specs.Linked.{LeadsHeld, StartsAt};
 ghost use Rattle.std.specs.Sync.Mutex.{mutex_guard_value};
 
-use crate::bell::{Belled, Notifies};
+use crate::bell::{Belled, Rings};
 use crate::locks::Locks;
+use crate::section_home::Ends;
 use crate::{Handle, Joining, SectionHome};
 use bb8_core::api::{Moment, State};
 use bb8_core::internals::{
@@ -14,13 +15,13 @@ use bb8_core::internals::{
 use bb8_gets::{GetHome, Passed, Returned, Taken, Tried, Unfit};
 use std::sync::MutexGuard;
 
-/// The lock of a home as a home: it is taken at a step where it is not held, and held until it is released. Where a step since then notified
-/// a get, the bell is rung once, after the release.
+/// The lock of a home as a home: it is taken at a step where it is not held, and held until it is released. After the release the bells
+/// are rung, each once, for which a step since then gave cause.
 pub struct LinkHome<'a, T, R> {
     pub(crate) belled: &'a Belled<T>,
     rt: &'a R,
     held: Option<MutexGuard<'a, T>>,
-    rings: bool,
+    rings: Rings,
 }
 
 impl<'a, T, R> LinkHome<'a, T, R> {
@@ -32,7 +33,7 @@ impl<'a, T, R> LinkHome<'a, T, R> {
             belled,
             rt,
             held: None,
-            rings: false,
+            rings: Rings::none(),
         }
     }
 }
@@ -46,9 +47,7 @@ impl<T, R> Drop for LinkHome<'_, T, R> {
             rings,
         } = self;
         drop(held);
-        if rings {
-            belled.ring();
-        }
+        belled.ring(rings);
     }
 }
 
@@ -63,6 +62,7 @@ pub trait Hold {
 impl<'a, T, R: Locks> Hold for LinkHome<'a, T, R> {
     type Guard = MutexGuard<'a, T>;
 
+    #[inline(always)]
     fn hold(&mut self) -> MutexGuard<'a, T>
         ensures start { StartsAt self.old.held (mutex_guard_value result) }
         ensures free { self.new.held ≡ None }
@@ -95,10 +95,8 @@ impl<'a, C, T: GetHome<C>, R: Locks> GetHome<C> for LinkHome<'a, T, R> {
 
     fn release(&mut self) {
         self.held = None;
-        if self.rings {
-            self.rings = false;
-            self.belled.ring();
-        }
+        self.belled.ring(self.rings);
+        self.rings = Rings::none();
     }
 
     fn look(&mut self, at: Moment) -> Looked {
@@ -108,10 +106,12 @@ impl<'a, C, T: GetHome<C>, R: Locks> GetHome<C> for LinkHome<'a, T, R> {
         seen
     }
 
+    #[inline(always)]
     fn serve(&mut self, at: Moment) -> (Looked, Option<(Taken<C, T::Part>, Grant)>) {
         let mut guard = self.hold();
         let answer = guard.serve(at);
         self.held = Some(guard);
+        self.rings.note(&answer);
         answer
     }
 
@@ -126,6 +126,7 @@ impl<'a, C, T: GetHome<C>, R: Locks> GetHome<C> for LinkHome<'a, T, R> {
         let mut guard = self.hold();
         let answer = guard.try_get(at, get);
         self.held = Some(guard);
+        self.rings.note(&answer);
         answer
     }
 
@@ -153,7 +154,7 @@ impl<'a, C, T: GetHome<C>, R: Locks> GetHome<C> for LinkHome<'a, T, R> {
         let mut guard = self.hold();
         let answer = guard.checked_err(at, get, returned);
         self.held = Some(guard);
-        self.rings |= answer.notifies();
+        self.rings.note(&answer);
         answer
     }
 
@@ -166,7 +167,7 @@ impl<'a, C, T: GetHome<C>, R: Locks> GetHome<C> for LinkHome<'a, T, R> {
         let mut guard = self.hold();
         let answer = guard.give_up(at, get, reason);
         self.held = Some(guard);
-        self.rings |= answer.notifies();
+        self.rings.note(&answer);
         answer
     }
 
@@ -183,12 +184,12 @@ impl<'a, C, T: GetHome<C>, R: Locks> GetHome<C> for LinkHome<'a, T, R> {
         let mut guard = self.hold();
         let answer = guard.give_back(at, get, reason, returned);
         self.held = Some(guard);
-        self.rings |= answer.notifies();
+        self.rings.note(&answer);
         answer
     }
 }
 
-impl<'a, C, T: SectionHome<C>, R: Locks> SectionHome<C> for LinkHome<'a, T, R> {
+impl<'a, C, T: SectionHome<C> + Ends, R: Locks> SectionHome<C> for LinkHome<'a, T, R> {
     ghost puts_back = { λ h at returned a h'. LeadsHeld (λ t t'. T.puts_back t at returned a t') h.held h'.held };
 
     ghost adds = { λ h at c broken a h'. LeadsHeld (λ t t'. T.adds t at c broken a t') h.held h'.held };
@@ -199,6 +200,7 @@ impl<'a, C, T: SectionHome<C>, R: Locks> SectionHome<C> for LinkHome<'a, T, R> {
 
     ghost leaves = { λ h at a h'. LeadsHeld (λ t t'. T.leaves t at a t') h.held h'.held };
 
+    #[inline(always)]
     fn put_back(
         &mut self,
         at: Moment,
@@ -209,7 +211,7 @@ impl<'a, C, T: SectionHome<C>, R: Locks> SectionHome<C> for LinkHome<'a, T, R> {
         let mut guard = self.hold();
         let answer = guard.put_back(at, returned);
         self.held = Some(guard);
-        self.rings |= answer.notifies();
+        self.rings.note(&answer);
         answer
     }
 
@@ -217,7 +219,7 @@ impl<'a, C, T: SectionHome<C>, R: Locks> SectionHome<C> for LinkHome<'a, T, R> {
         let mut guard = self.hold();
         let answer = guard.add(at, conn, broken);
         self.held = Some(guard);
-        self.rings |= answer.notifies();
+        self.rings.note(&answer);
         answer
     }
 
@@ -238,6 +240,7 @@ impl<'a, C, T: SectionHome<C>, R: Locks> SectionHome<C> for LinkHome<'a, T, R> {
     fn leave(&mut self, at: Moment, handle: Handle) -> Result<LeaveAnswer, Unfit> {
         let mut guard = self.hold();
         let answer = guard.leave(at, handle);
+        self.rings.drivers |= guard.is_over();
         self.held = Some(guard);
         answer
     }

@@ -10,7 +10,7 @@ ghost use Rattle.bb8_core.specs.StepAnswers.{claim_told, opened_told, HandsBack}
 ghost use Rattle.bb8_core.specs.Parts.{out_of};
 ghost use Rattle.bb8_core.specs.Shown.{IsWithinLimits};
 
-use crate::section_home::{Handle, Joining, SectionHome};
+use crate::section_home::{Ends, Handle, Joining, SectionHome};
 use bb8_core::api::{Config, Memory, Moment, State};
 use bb8_core::internals::{
     AddAnswer, ClaimAnswer, Grant, JoinAnswer, Key, LeaveAnswer, OpenedAnswer, PoolInternals,
@@ -171,6 +171,7 @@ impl<C: Drop, L: Parts> SectionHome<C> for Locked<C, L> {
 
     ghost leaves = { λ h at a h'. StepsIn L.settings h.core at.0 acts.Leave (answered leave_told a) h'.core };
 
+    #[inline(always)]
     fn put_back(&mut self, at: Moment, back: Returned<C, Part<L>>) -> Result<PutBackAnswer<C>, C>
         ensures step { StepsIn L.settings self.old.core at.0
             (acts.PutBack back.taken.key.number back.taken.connection back.broken)
@@ -236,5 +237,11 @@ impl<C: Drop, L: Parts> SectionHome<C> for Locked<C, L> {
             return Err(Unfit);
         }
         Ok(core.leave(at))
+    }
+}
+
+impl<C: Drop, L: Parts> Ends for Locked<C, L> {
+    fn is_over(&self) -> bool {
+        !self.core.fits_leave()
     }
 }

@@ -33,7 +33,7 @@ impl<C, T: Home<C>, R: Locks> Home<C> for LinkHome<'_, T, R> {
         let step = guard.opened(at, approval, connection);
         drop(guard);
         if step.notifies() {
-            self.belled.ring();
+            self.belled.gets.ring();
         }
         step
     }

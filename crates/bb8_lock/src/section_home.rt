@@ -29,6 +29,12 @@ pub enum Joining {
     Unfit,
 }
 
+/// What drivers end by.
+pub trait Ends {
+    /// Whether no handle is alive.
+    fn is_over(&self) -> bool;
+}
+
 /// The steps that guards and handles of connections `C` make, beside those of gets. Each has a relation without a default, as those of gets
 /// have. Our own.
 pub trait SectionHome<C>: GetHome<C> {

@@ -48,7 +48,7 @@ impl<M: ManageConnection, S, Z, K, R: Wait + Send + Sync + Drop + 'static, L: Pa
         let mut pool = Joined { outside, home };
         let mut get = GetState::new();
         for _ in self.rt.forever() {
-            let rings = self.locked.rings();
+            let rings = self.locked.gets.rings();
             match get.poll_step(&mut pool, timeout) {
                 Poll::Ready(answer) => {
                     get.cancel_step(&mut pool);
@@ -57,7 +57,7 @@ impl<M: ManageConnection, S, Z, K, R: Wait + Send + Sync + Drop + 'static, L: Pa
                 Poll::Pending => {
                     pool.release();
                     let now = pool.now();
-                    self.locked.sleep(&self.rt, rings, get.rest(now));
+                    self.locked.gets.sleep(&self.rt, rings, get.rest(now));
                 }
             }
         }

@@ -2,6 +2,7 @@
 
 mod drivers;
 mod hostile;
+mod resting;
 mod serving;
 mod waiting;
 

@@ -1,9 +1,8 @@
 -- A configuration is read from the fields that spell it, and from no others.
-use Rattle.bb8_runner.proofs.Speech.{◌≡◌, ◌≢◌, ℕ, ◌+◌, ◌^◌, ◌<◌, Bool, true, false, cond, not, eqb, List, [], ◌∷◌, ◌++◌, length, get_or, map, Option, Some, None, option_map, refl, sym, ap, subst, ◌∙◌, arith, codes, length-append, decimal, position_or_len, before_first, after_first, bytes_eq, IsUtf8, false≢true, Decides-eqb, All-head, All-tail, bytes_eq-Decides, QueueStrategy, Fifo, Lifo, Settings, is_lawful, Overrides, ◌>>=◌, fields_of, Setting, MaxSize, MinIdle, Check, Lifetime, Idle, Timeout, Reaper, Retry, Strategy, name_of, value_of, limit_text, switch_text, strategy_text, setting_field, FitsSetting, FitsLimit, AllFit, LacksName, AreDistinct, made, all_made, SpellsSettings, ◌⊎◌, inl, inr}
+use Rattle.bb8_runner.proofs.Speech.{◌≡◌, ◌≢◌, ℕ, ◌+◌, ◌^◌, ◌<◌, Bool, true, false, cond, not, eqb, List, [], ◌∷◌, ◌++◌, length, get_or, map, Option, Some, None, option_map, refl, sym, ap, subst, ◌∙◌, arith, codes, length-append, decimal, position_or_len, before_first, after_first, bytes_eq, IsUtf8, false≢true, Decides-eqb, All-head, All-tail, bytes_eq-Decides, QueueStrategy, Fifo, Lifo, Settings, is_lawful, Overrides, ◌>>=◌, fields_of, Setting, MaxSize, MinIdle, Check, Lifetime, Idle, Timeout, Reaper, Retry, Strategy, name_of, value_of, limit_text, switch_text, strategy_text, setting_field, FitsSetting, FitsLimit, AllFit, LacksName, AreDistinct, made, all_made, SpellsSettings, ◌⊎◌, inl, inr, number_of, on_or_off, strategy_of, once, nothing_set, settings_from, if_lawful, settings_of_line}
+use Rattle.bb8_runner.specs.Opening.{cut, limit_of, overrides_from, settings_of_fields, with_setting}
 use Rattle.std.proofs.Math.Seq.{take-append_seam, drop-append-add}
 use Rattle.std.proofs.lemmas.List.Sums.{split_at_first, passes_at_first, prefix_len-le-length}
-use Rattle.bb8_runner.specs.Grammar.{number_of}
-use Rattle.bb8_runner.specs.Opening.{cut, on_or_off, strategy_of, limit_of, once, with_setting, overrides_from, nothing_set, settings_from, if_lawful, settings_of_fields, settings_of_line}
 use Rattle.bb8_runner.proofs.Bytes.{IsOver, AreOver, over, are_over, decimal_over, joined, lower}
 use Rattle.bb8_runner.proofs.Choices.{never, step}
 use Rattle.bb8_runner.proofs.Numbers.{first_is_digit, number_read, number_spelled}
@@ -58,14 +57,7 @@ all_set o (x ∷ xs) = all_set (set o x) xs
 
 made_set : (o : Overrides) (x : Setting) → settings_from (set o x) ≡ made (settings_from o) x
 made_set o (MaxSize n) = refl
-made_set o (MinIdle n) = refl
-made_set o (Check b) = refl
-made_set o (Lifetime v) = refl
-made_set o (Idle v) = refl
-made_set o (Timeout v) = refl
-made_set o (Reaper v) = refl
-made_set o (Retry v) = refl
-made_set o (Strategy v) = refl
+made_set o _ = refl
 
 all_made_set : (o : Overrides) (xs : List Setting) → settings_from (all_set o xs) ≡ all_made (settings_from o) xs
 unfolding all_set
@@ -103,15 +95,7 @@ both o (Timeout m) (Timeout n) = inl (refl, λ u. cc)
 both o (Reaper m) (Reaper n) = inl (refl, λ u. cc)
 both o (Retry m) (Retry n) = inl (refl, λ u. cc)
 both o (Strategy m) (Strategy n) = inl (refl, λ u. cc)
-both o x (MaxSize n) = inr (apart _ _ refl, λ u. u, λ u. u)
-both o x (MinIdle n) = inr (apart _ _ refl, λ u. u, λ u. u)
-both o x (Check n) = inr (apart _ _ refl, λ u. u, λ u. u)
-both o x (Lifetime n) = inr (apart _ _ refl, λ u. u, λ u. u)
-both o x (Idle n) = inr (apart _ _ refl, λ u. u, λ u. u)
-both o x (Timeout n) = inr (apart _ _ refl, λ u. u, λ u. u)
-both o x (Reaper n) = inr (apart _ _ refl, λ u. u, λ u. u)
-both o x (Retry n) = inr (apart _ _ refl, λ u. u, λ u. u)
-both o x (Strategy n) = inr (apart _ _ refl, λ u. u, λ u. u)
+both o x y = inr (apart _ _ refl, λ u. u, λ u. u)
 
 still : (o : Overrides) (x y : Setting) → name_of x ≢ name_of y → IsUnset o y → IsUnset (set o x) y
 still o x y d u = elim (both o x y) [ inl s ↦ absurd (d s.0) | inr s ↦ s.2 u ]
@@ -137,32 +121,20 @@ no_word n h = differ (decimal n) (codes "none") (λ w. omega (arith, first_is_di
 setting_read : (o : Overrides) (x : Setting) → FitsSetting x → IsUnset o x → with_setting o (name_of x) (value_of x) ≡ Some (set o x)
 unfolding with_setting limit_of
 setting_read o (MaxSize n) h u = rw (u, number_read 32 n h (omega (arith, h))) refl
-setting_read o (MinIdle None) h u = rw u refl
 setting_read o (MinIdle (Some n)) h u = rw (u, no_word n (omega (arith, h)), number_read 32 n h (omega (arith, h))) refl
-setting_read o (Check true) h u = rw u refl
-setting_read o (Check false) h u = rw u refl
-setting_read o (Lifetime None) h u = rw u refl
 setting_read o (Lifetime (Some n)) h u = rw (u, no_word n h, number_read 64 n h h) refl
-setting_read o (Idle None) h u = rw u refl
 setting_read o (Idle (Some n)) h u = rw (u, no_word n h, number_read 64 n h h) refl
 setting_read o (Timeout n) h u = rw (u, number_read 64 n h h) refl
 setting_read o (Reaper n) h u = rw (u, number_read 64 n h h) refl
+setting_read o (Check true) h u = rw u refl
 setting_read o (Retry true) h u = rw u refl
-setting_read o (Retry false) h u = rw u refl
 setting_read o (Strategy Fifo) h u = rw u refl
-setting_read o (Strategy Lifo) h u = rw u refl
+setting_read o _ h u = rw u refl
 
 name_over : (x : Setting) → AreOver 61 (name_of x)
 unfolding over
 name_over (MaxSize n) = are_over 61 (codes "max_size") refl
-name_over (MinIdle n) = are_over 61 (codes "min_idle") refl
-name_over (Check b) = are_over 61 (codes "check") refl
-name_over (Lifetime v) = are_over 61 (codes "lifetime") refl
-name_over (Idle v) = are_over 61 (codes "idle") refl
-name_over (Timeout v) = are_over 61 (codes "timeout") refl
-name_over (Reaper v) = are_over 61 (codes "reaper") refl
-name_over (Retry v) = are_over 61 (codes "retry") refl
-name_over (Strategy v) = are_over 61 (codes "strategy") refl
+name_over x = are_over 61 (name_of x) refl
 
 field_read : (o : Overrides) (x : Setting) (rest : List (List ℕ)) → FitsSetting x → IsUnset o x → overrides_from o (setting_field x ∷ rest) ≡ overrides_from (set o x) rest
 unfolding overrides_from
@@ -176,14 +148,7 @@ all_fields_read o (x ∷ xs) h d u = field_read o x (map setting_field xs) h.0 u
 nothing_is_set : (xs : List Setting) → AreUnset nothing_set xs
 nothing_is_set [] = tt
 nothing_is_set (MaxSize n ∷ xs) = (refl, nothing_is_set xs)
-nothing_is_set (MinIdle n ∷ xs) = (refl, nothing_is_set xs)
-nothing_is_set (Check b ∷ xs) = (refl, nothing_is_set xs)
-nothing_is_set (Lifetime v ∷ xs) = (refl, nothing_is_set xs)
-nothing_is_set (Idle v ∷ xs) = (refl, nothing_is_set xs)
-nothing_is_set (Timeout v ∷ xs) = (refl, nothing_is_set xs)
-nothing_is_set (Reaper v ∷ xs) = (refl, nothing_is_set xs)
-nothing_is_set (Retry v ∷ xs) = (refl, nothing_is_set xs)
-nothing_is_set (Strategy v ∷ xs) = (refl, nothing_is_set xs)
+nothing_is_set (_ ∷ xs) = (refl, nothing_is_set xs)
 
 lawful_kept : (c s : Settings) → c ≡ s → is_lawful s ≡ true → if_lawful c ≡ Some s
 lawful_kept c s e h = subst (λ c. if_lawful c ≡ Some s) (sym e) (rw h refl)
@@ -203,9 +168,8 @@ arm {A} v word mine more a R here there e = chosen (bytes_eq v word) refl e
     chosen false t e = there e
 
 once_set : {A B : Type 0} (f : Option A → B) (old new : Option A) (q : B) → option_map f (once old new) ≡ Some q → (v : A) × (old ≡ None) × (new ≡ Some v) × (f (Some v) ≡ q)
-once_set f (Some v) new q e = cc
-once_set f None None q e = cc
 once_set f None (Some v) q e = (v, refl, refl, cc)
+once_set f _ _ q e = cc
 
 limit_pick : (o : Option ℕ) (l : Option ℕ) → option_map Some o ≡ Some l → (n : ℕ) × (o ≡ Some n) × (l ≡ Some n)
 limit_pick None l e = cc
@@ -238,43 +202,29 @@ record IsSet (o : Overrides) (name value : List ℕ) (q : Overrides) : Type 0 wh
   unset : IsUnset o setting
   then : q ≡ set o setting
 
+-- one of the settings was made, by that word
+set_by : {A : Type 0} (o : Overrides) (name value : List ℕ) (q : Overrides) (make : A → Setting) (with_it : Option A → Overrides) (old new : Option A) (word : List ℕ)
+    → ((v : A) → (name_of (make v) ≡ word) × (with_it (Some v) ≡ set o (make v)) × (old ≡ None → IsUnset o (make v)))
+    → ((v : A) → new ≡ Some v → FitsSetting (make v) × (value ≡ value_of (make v))) → name ≡ word → option_map with_it (once old new) ≡ Some q → IsSet o name value q
+set_by o name value q make with_it old new word is spelled named e =
+    let h = once_set with_it old new q e in
+    let t = is h.0 in
+    let g = spelled h.0 h.2 in
+    record { setting = make h.0; fits = g.0; named = named ∙ sym t.0; valued = g.1; unset = t.2 h.1; then = sym h.3 ∙ t.1 }
+
 setting_spelled : (o : Overrides) (name value : List ℕ) (q : Overrides) → with_setting o name value ≡ Some q → IsSet o name value q
 unfolding with_setting
 setting_spelled o name value q =
     let R : Type 0 = IsSet o name value q in
-    arm name (codes "max_size") _ _ q R (λ v e.
-    let h = once_set (λ v. record o { max_size = v }) o.max_size (number_of 32 value) q e in
-    let g = number_spelled 32 value h.0 h.2 in
-    record { setting = MaxSize h.0; fits = g.0; named = v; valued = g.1; unset = h.1; then = sym h.3 }) (
-    arm name (codes "min_idle") _ _ q R (λ v e.
-    let h = once_set (λ v. record o { min_idle = v }) o.min_idle (limit_of 32 value) q e in
-    let g = limit_spelled 32 value h.0 h.2 in
-    record { setting = MinIdle h.0; fits = g.0; named = v; valued = g.1; unset = h.1; then = sym h.3 }) (
-    arm name (codes "check") _ _ q R (λ v e.
-    let h = once_set (λ v. record o { check = v }) o.check (on_or_off value) q e in
-    record { setting = Check h.0; fits = tt; named = v; valued = switch_spelled value h.0 h.2; unset = h.1; then = sym h.3 }) (
-    arm name (codes "lifetime") _ _ q R (λ v e.
-    let h = once_set (λ v. record o { lifetime = v }) o.lifetime (limit_of 64 value) q e in
-    let g = limit_spelled 64 value h.0 h.2 in
-    record { setting = Lifetime h.0; fits = g.0; named = v; valued = g.1; unset = h.1; then = sym h.3 }) (
-    arm name (codes "idle") _ _ q R (λ v e.
-    let h = once_set (λ v. record o { idle = v }) o.idle (limit_of 64 value) q e in
-    let g = limit_spelled 64 value h.0 h.2 in
-    record { setting = Idle h.0; fits = g.0; named = v; valued = g.1; unset = h.1; then = sym h.3 }) (
-    arm name (codes "timeout") _ _ q R (λ v e.
-    let h = once_set (λ v. record o { timeout = v }) o.timeout (number_of 64 value) q e in
-    let g = number_spelled 64 value h.0 h.2 in
-    record { setting = Timeout h.0; fits = g.0; named = v; valued = g.1; unset = h.1; then = sym h.3 }) (
-    arm name (codes "reaper") _ _ q R (λ v e.
-    let h = once_set (λ v. record o { reaper = v }) o.reaper (number_of 64 value) q e in
-    let g = number_spelled 64 value h.0 h.2 in
-    record { setting = Reaper h.0; fits = g.0; named = v; valued = g.1; unset = h.1; then = sym h.3 }) (
-    arm name (codes "retry") _ _ q R (λ v e.
-    let h = once_set (λ v. record o { retry = v }) o.retry (on_or_off value) q e in
-    record { setting = Retry h.0; fits = tt; named = v; valued = switch_spelled value h.0 h.2; unset = h.1; then = sym h.3 }) (
-    arm name (codes "strategy") _ _ q R (λ v e.
-    let h = once_set (λ v. record o { strategy = v }) o.strategy (strategy_of value) q e in
-    record { setting = Strategy h.0; fits = tt; named = v; valued = strategy_spelled value h.0 h.2; unset = h.1; then = sym h.3 }) (
+    arm name (codes "max_size") _ _ q R (set_by o name value q MaxSize (λ v. record o { max_size = v }) o.max_size (number_of 32 value) _ (λ v. (refl, refl, λ u. u)) (number_spelled 32 value)) (
+    arm name (codes "min_idle") _ _ q R (set_by o name value q MinIdle (λ v. record o { min_idle = v }) o.min_idle (limit_of 32 value) _ (λ v. (refl, refl, λ u. u)) (limit_spelled 32 value)) (
+    arm name (codes "check") _ _ q R (set_by o name value q Check (λ v. record o { check = v }) o.check (on_or_off value) _ (λ v. (refl, refl, λ u. u)) (λ v e. (tt, switch_spelled value v e))) (
+    arm name (codes "lifetime") _ _ q R (set_by o name value q Lifetime (λ v. record o { lifetime = v }) o.lifetime (limit_of 64 value) _ (λ v. (refl, refl, λ u. u)) (limit_spelled 64 value)) (
+    arm name (codes "idle") _ _ q R (set_by o name value q Idle (λ v. record o { idle = v }) o.idle (limit_of 64 value) _ (λ v. (refl, refl, λ u. u)) (limit_spelled 64 value)) (
+    arm name (codes "timeout") _ _ q R (set_by o name value q Timeout (λ v. record o { timeout = v }) o.timeout (number_of 64 value) _ (λ v. (refl, refl, λ u. u)) (number_spelled 64 value)) (
+    arm name (codes "reaper") _ _ q R (set_by o name value q Reaper (λ v. record o { reaper = v }) o.reaper (number_of 64 value) _ (λ v. (refl, refl, λ u. u)) (number_spelled 64 value)) (
+    arm name (codes "retry") _ _ q R (set_by o name value q Retry (λ v. record o { retry = v }) o.retry (on_or_off value) _ (λ v. (refl, refl, λ u. u)) (λ v e. (tt, switch_spelled value v e))) (
+    arm name (codes "strategy") _ _ q R (set_by o name value q Strategy (λ v. record o { strategy = v }) o.strategy (strategy_of value) _ (λ v. (refl, refl, λ u. u)) (λ v e. (tt, strategy_spelled value v e))) (
     λ e. absurd (never q e))))))))))
 
 -- the fields are those of the settings that are made
@@ -360,19 +310,14 @@ value_word : (x : Setting) → AreOver 32 (value_of x)
 unfolding over
 value_word (MaxSize n) = decimal_over 32 n (omega arith)
 value_word (MinIdle (Some n)) = decimal_over 32 n (omega arith)
-value_word (MinIdle None) = are_over 32 (codes "none") refl
-value_word (Check true) = are_over 32 (codes "on") refl
-value_word (Check false) = are_over 32 (codes "off") refl
 value_word (Lifetime (Some n)) = decimal_over 32 n (omega arith)
-value_word (Lifetime None) = are_over 32 (codes "none") refl
 value_word (Idle (Some n)) = decimal_over 32 n (omega arith)
-value_word (Idle None) = are_over 32 (codes "none") refl
 value_word (Timeout n) = decimal_over 32 n (omega arith)
 value_word (Reaper n) = decimal_over 32 n (omega arith)
+value_word (Check true) = are_over 32 (codes "on") refl
 value_word (Retry true) = are_over 32 (codes "on") refl
-value_word (Retry false) = are_over 32 (codes "off") refl
 value_word (Strategy Fifo) = are_over 32 (codes "fifo") refl
-value_word (Strategy Lifo) = are_over 32 (codes "lifo") refl
+value_word x = are_over 32 (value_of x) refl
 
 setting_word : (x : Setting) → AreOver 32 (setting_field x)
 unfolding over

@@ -1,8 +1,8 @@
 -- The settings of the first line, read one by one.
-use Rattle.bb8_runner.proofs.Speech.{◌≡◌, ℕ, ◌+◌, ◌<◌, ◌≤◌, eqb, List, length, get_or, drop, map, Option, Some, None, refl, sym, ap, ◌∙◌, arith, Bor, position_or_len, at_drop_more, at_drop_all, Decides-eqb, lit<, Overrides, ◌>>=◌}
+use Rattle.bb8_runner.proofs.Speech.{◌≡◌, ℕ, ◌+◌, ◌<◌, ◌≤◌, eqb, List, length, get_or, drop, map, Option, Some, None, refl, sym, ap, ◌∙◌, arith, Bor, position_or_len, at_drop_more, at_drop_all, Decides-eqb, lit<, Overrides, ◌>>=◌, with_setting}
+use Rattle.bb8_runner.specs.Opening.{cut, overrides_from}
 use Rattle.std.specs.Option.{option_map}
 use Rattle.std.proofs.lemmas.Str.Pattern.{IsSplitOnceResult, split_once_first}
-use Rattle.bb8_runner.specs.Opening.{overrides_from, with_setting, cut}
 use Rattle.bb8_runner.proofs.Texts.{not_true}
 
 module _ (o : Overrides) (xs : List (Bor (List ℕ))) (i : ℕ) (d : Bor (List ℕ)) (h : i < length xs) where

@@ -1,12 +1,12 @@
 -- What `parse` says of a field that begins with neither `+` nor `0`, and of one that does.
 use Rattle.bb8_runner.proofs.Speech.{◌≡◌, ◌≢◌, ℕ, zero, suc, ◌+◌, ◌^◌, ◌<◌, Bool, true, false, cond, eqb, ltb, ◌&&◌, List, [], ◌∷◌, length, get_or, Option, Some, None, Result, Ok, Err, refl, sym, ap, ◌∙◌, arith, decimal, bytes_eq, then_some, nat_tests, Decides-ltb, bytes_eq-Decides, false≢true}
+use Rattle.bb8_runner.specs.Grammar.{number_of}
 use Rattle.std.specs.Int.{IsInRange}
 use Rattle.std.specs.Result.{result_ok, OkIff}
 use Rattle.std.specs.Str.Parse.{ParsesUnsigned, AllDigits, digits_value}
 use Rattle.std.proofs.lemmas.Fmt.{decimal_is_IsNumeral, decimal_nonempty, decimal_digit, first_decimal, parse-decimal, decimal-digits_value}
 use Rattle.std.proofs.lemmas.Str.Parse.{IsNumeralModel, numerals_by_value, tells_digits, parse_plain, digit_at}
 use Rattle.bb8_runner.proofs.Texts.{not_true}
-use Rattle.bb8_runner.specs.Grammar.{number_of}
 
 -- The field is a number below 2 ^ k, or None: it is no such number.
 abbrev pub IsNumber : ℕ → List ℕ → Option ℕ → Type 0
@@ -15,8 +15,7 @@ IsNumber k field (Some n) = (n < 2 ^ k) × (field ≡ decimal n)
 
 none_where : (a b : Bool) (v : ℕ) → (a ≡ true → b ≡ true → ⊥) → ◌≡◌ {A = Option ℕ} (cond (a && b) (Some v) None) None
 none_where true true v h = absurd (h refl refl)
-none_where true false v h = refl
-none_where false b v h = refl
+none_where _ _ v h = refl
 
 -- there is one such answer
 pub number_is : (f : List ℕ) (o : Option ℕ) → IsNumber 64 f o → o ≡ number_of 64 f
@@ -84,8 +83,7 @@ tests_some true true v n (Ok x) e h =
 tests_some true true v n (Err x) e h =
     let same : n ≡ v = cc in
     rw (not_true (ltb v (2 ^ 32)) (λ w. h (omega (arith, (Decides-ltb v (2 ^ 32)).0 w)))) refl
-tests_some true false v n r e h = cc
-tests_some false b v n r e h = cc
+tests_some _ _ v n r e h = cc
 
 pub small_some : {E : Type 0} (f : List ℕ) (n : ℕ) (r : Result ℕ E) → Some n ≡ number_of 64 f → OkIff r (n < 2 ^ 32) n → result_ok r ≡ number_of 32 f
 unfolding number_of
@@ -100,8 +98,7 @@ number_read k n h small =
 
 number_pick : (a b : Bool) (v n : ℕ) → cond (a && b) (Some v) None ≡ Some n → (a ≡ true) × (b ≡ true) × (v ≡ n)
 number_pick true true v n e = (refl, refl, cc)
-number_pick true false v n e = cc
-number_pick false b v n e = cc
+number_pick _ _ v n e = cc
 
 pub number_spelled : (k : ℕ) (f : List ℕ) (n : ℕ) → number_of k f ≡ Some n → (n < 2 ^ k) × (f ≡ decimal n)
 unfolding number_of

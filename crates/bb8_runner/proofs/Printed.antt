@@ -1,7 +1,7 @@
 -- What is printed of an answer and of a state has no byte below a space, so no line feed.
 use Rattle.bb8_runner.proofs.Speech.{◌≡◌, ◌≢◌, ℕ, Bool, true, false, cond, eqb, List, [], ◌++◌, Option, Some, None, refl, arith, codes, decimal, All, All-nil, All-weaker, Counts, Figures, figures_of, Grant, grant_text, notifies_text, sizes_text, gets_text, opened_text, closed_text, state_text, answer_text}
 use Rattle.bb8_core.specs.declared.replay.events.Answer.{Answer}
-use Rattle.bb8_core.specs.declared.replay.events.Answer.TheVariants.{Begun, Memory, Exhausted, Served, Taken, Waiting, Kept, Closed, GaveUp, Granted, Claimed, Ended, Entered, Late, GivenBack, Added, Broken, NoCapacity, Withheld, Reaped, Shown, Joined, Left, Looked, Unfit}
+use Rattle.bb8_core.specs.declared.replay.events.Answer.TheVariants.{Begun, Served, Taken, Waiting, Kept, Closed, GaveUp, Granted, Claimed, Entered, Late, Added, Reaped, Shown, Left, Looked}
 use Rattle.bb8_runner.proofs.Bytes.{IsOver, AreOver, over, are_over, decimal_over, joined}
 
 abbrev AreVisible : List ℕ → Type 0
@@ -56,8 +56,6 @@ state_visible f = joined 31 (sizes_text f) _
 answer_visible : (a : Answer) → AreVisible (answer_text a)
 unfolding over
 answer_visible (Begun g) = word (codes "begun ") _ refl (number g)
-answer_visible Memory = are_over 31 (codes "memory") refl
-answer_visible Exhausted = are_over 31 (codes "exhausted") refl
 answer_visible (Served k grant) = word (codes "served ") _ refl (after k _ (grant_visible grant))
 answer_visible (Taken k grant) = word (codes "taken ") _ refl (after k _ (grant_visible grant))
 answer_visible (Waiting grant) = word (codes "waiting") _ refl (grant_visible grant)
@@ -66,23 +64,16 @@ answer_visible (Closed k grant notified) = word (codes "closed ") _ refl (after 
 answer_visible (GaveUp notified) = word (codes "gave up") _ refl (notifies_visible notified)
 answer_visible (Granted grant) = word (codes "granted") _ refl (grant_visible grant)
 answer_visible (Claimed (Some a)) = word (codes "claimed ") _ refl (number a)
-answer_visible (Claimed None) = are_over 31 (codes "none") refl
-answer_visible Ended = are_over 31 (codes "ended") refl
 answer_visible (Entered a notified) = word (codes "entered ") _ refl (after a _ (notifies_visible notified))
 answer_visible (Late a) = word (codes "late ") _ refl (number a)
-answer_visible GivenBack = are_over 31 (codes "given back") refl
 answer_visible (Added k notified) = word (codes "added ") _ refl (after k _ (notifies_visible notified))
-answer_visible Broken = are_over 31 (codes "broken") refl
-answer_visible NoCapacity = are_over 31 (codes "full") refl
-answer_visible Withheld = are_over 31 (codes "withheld") refl
 answer_visible (Reaped closed by_idle by_life grant) = word (codes "reaped ") _ refl (after closed _
     (word (codes " idle ") _ refl (after by_idle _ (word (codes " life ") _ refl (after by_life _ (grant_visible grant))))))
 answer_visible (Shown state) = state_visible (figures_of state)
-answer_visible Joined = are_over 31 (codes "joined") refl
 answer_visible (Left n) = word (codes "left ") _ refl (number n)
 answer_visible (Looked m true) = word (codes "looked ") _ refl (after m.0 _ (are_over 31 (codes " open") refl))
 answer_visible (Looked m false) = word (codes "looked ") _ refl (after m.0 _ (are_over 31 (codes " closed") refl))
-answer_visible Unfit = are_over 31 (codes "unfit") refl
+answer_visible a = are_over 31 (answer_text a) refl
 
 one_line : (bs : List ℕ) → AreVisible bs → All (λ b. b ≢ 10) bs
 one_line bs h = All-weaker (IsOver 31) (λ b. b ≢ 10) (λ b g w. omega (arith, g.0, w)) bs h

@@ -1,6 +1,6 @@
 -- An event is read from the fields that spell it, and from no others.
-use Rattle.bb8_runner.proofs.Speech.{◌≡◌, ℕ, ◌^◌, ◌<◌, Bool, true, false, cond, ◌&&◌, List, [], ◌∷◌, get_or, Option, Some, None, unwrap_or, option_map, refl, sym, ap, subst, ◌∙◌, arith, codes, decimal, bytes_eq, bytes_eq-Decides, Act, Begin, Try, CheckedOk, CheckedErr, GiveUp, PutBack, Fill, Claim, Opened, Failed, Add, Reap, State, Join, Leave, Look, TimedOut, Cancelled, Event, ◌>>=◌, plain_act, worded_act, numbered_act, broken_act, verb_of, args_of, FitsAct, SpellsEvent}
-use Rattle.bb8_runner.specs.Grammar.{number_of, act_of, event_of_fields}
+use Rattle.bb8_runner.proofs.Speech.{◌≡◌, ℕ, ◌^◌, ◌<◌, Bool, true, false, cond, ◌&&◌, List, [], ◌∷◌, get_or, Option, Some, None, unwrap_or, option_map, refl, sym, ap, subst, ◌∙◌, arith, codes, decimal, bytes_eq, bytes_eq-Decides, Act, Begin, Try, CheckedOk, CheckedErr, GiveUp, PutBack, Fill, Claim, Opened, Failed, Add, Reap, State, Join, Leave, Look, TimedOut, Cancelled, Event, ◌>>=◌, plain_act, worded_act, numbered_act, broken_act, verb_of, args_of, FitsAct, SpellsEvent, number_of}
+use Rattle.bb8_runner.specs.Grammar.{act_of, event_of_fields}
 use Rattle.bb8_runner.proofs.Choices.{both, never, pick, step}
 use Rattle.bb8_runner.proofs.Numbers.{number_is, first_is_digit, number_read, number_spelled}
 
@@ -10,15 +10,6 @@ no_digit bs h = sym (number_is bs None (λ n small w. omega (arith, first_is_dig
 -- what is spelled so is read
 act_read : (a : Act) → FitsAct a → act_of (verb_of a) (args_of a) ≡ Some a
 unfolding act_of
-act_read Begin h = refl
-act_read (Fill false) h = refl
-act_read Claim h = refl
-act_read (Add false) h = refl
-act_read Reap h = refl
-act_read State h = refl
-act_read Join h = refl
-act_read Leave h = refl
-act_read Look h = refl
 act_read (Try n) h = ap (λ o. unwrap_or (option_map (numbered_act (codes "try")) o) (worded_act (codes "try") (decimal n))) (number_read 64 n h h)
 act_read (CheckedOk n) h = ap (λ o. unwrap_or (option_map (numbered_act (codes "ok")) o) (worded_act (codes "ok") (decimal n))) (number_read 64 n h h)
 act_read (CheckedErr n false) h = ap (λ o. unwrap_or (option_map (numbered_act (codes "err")) o) (worded_act (codes "err") (decimal n))) (number_read 64 n h h)
@@ -33,6 +24,7 @@ act_read (GiveUp n Cancelled true) h = ap (λ o. o >>= broken_act (codes "cancel
 act_read (PutBack n true) h = ap (λ o. o >>= broken_act (codes "return")) (number_read 64 n h h)
 act_read (Fill true) h = ap (λ o. unwrap_or (option_map (numbered_act (codes "fill")) o) (Some (Fill true))) (no_digit (codes "claimed") (omega arith))
 act_read (Add true) h = ap (λ o. unwrap_or (option_map (numbered_act (codes "add")) o) (Some (Add true))) (no_digit (codes "broken") (omega arith))
+act_read _ h = refl
 
 pub event_read : (fields : List (List ℕ)) (e : Event) → SpellsEvent fields e → event_of_fields fields ≡ Some e
 unfolding event_of_fields
@@ -127,6 +119,5 @@ event_step moment verb args e (Some n) (Some a) s t w =
 
 pub event_spelled : (fields : List (List ℕ)) (e : Event) → event_of_fields fields ≡ Some e → SpellsEvent fields e
 unfolding event_of_fields
-event_spelled [] e w = cc
-event_spelled (moment ∷ []) e w = cc
 event_spelled (moment ∷ verb ∷ args) e w = event_step moment verb args e (number_of 64 moment) (act_of verb args) refl refl w
+event_spelled _ e w = cc

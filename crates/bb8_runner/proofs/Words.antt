@@ -1,5 +1,5 @@
 -- The fields of good lines hold no space: a line of them is text, and is cut just between them.
-use Rattle.bb8_runner.proofs.Speech.{◌≡◌, ℕ, ◌<◌, Bool, true, false, eqb, List, [], ◌∷◌, Option, Some, None, refl, sym, ap, subst, ◌∙◌, arith, codes, decimal, All, join_with_byte, IsAscii, IsUtf8, Decides-eqb, All-weaker, Act, Begin, Try, CheckedOk, CheckedErr, GiveUp, PutBack, Fill, Claim, Opened, Failed, Add, Reap, State, Join, Leave, Look, TimedOut, Cancelled, Event, fields_of, event_of, verb_of, args_of, flag, event_fields, event_line, FitsEvent}
+use Rattle.bb8_runner.proofs.Speech.{◌≡◌, ℕ, ◌<◌, Bool, true, false, eqb, List, [], ◌∷◌, Option, Some, None, refl, sym, ap, subst, ◌∙◌, arith, codes, decimal, All, join_with_byte, IsAscii, IsUtf8, Decides-eqb, All-weaker, Act, Try, CheckedOk, CheckedErr, GiveUp, PutBack, Fill, Opened, Failed, Add, TimedOut, Event, fields_of, event_of, verb_of, args_of, flag, event_fields, event_line, FitsEvent}
 use Rattle.std.proofs.lemmas.List.Splits.{join_with_byte-slice_split, slice_split_at, slice_split_none}
 use Rattle.std.proofs.lemmas.Str.{IsUtf8-from_ascii, IsAscii-append}
 use Rattle.std.proofs.lemmas.Str.Ascii.{IsAscii-cons, IsAscii-nil, IsAscii-from_all}
@@ -35,23 +35,8 @@ words_are_text line xs h e =
 
 verb_word : (a : Act) → AreOver 32 (verb_of a)
 unfolding over
-verb_word Begin = are_over 32 (codes "begin") refl
-verb_word (Try g) = are_over 32 (codes "try") refl
-verb_word (CheckedOk g) = are_over 32 (codes "ok") refl
-verb_word (CheckedErr g b) = are_over 32 (codes "err") refl
 verb_word (GiveUp g TimedOut b) = are_over 32 (codes "timeout") refl
-verb_word (GiveUp g Cancelled b) = are_over 32 (codes "cancel") refl
-verb_word (PutBack k b) = are_over 32 (codes "return") refl
-verb_word (Fill c) = are_over 32 (codes "fill") refl
-verb_word Claim = are_over 32 (codes "claim") refl
-verb_word (Opened a) = are_over 32 (codes "open") refl
-verb_word (Failed a) = are_over 32 (codes "fail") refl
-verb_word (Add b) = are_over 32 (codes "add") refl
-verb_word Reap = are_over 32 (codes "reap") refl
-verb_word State = are_over 32 (codes "state") refl
-verb_word Join = are_over 32 (codes "join") refl
-verb_word Leave = are_over 32 (codes "leave") refl
-verb_word Look = are_over 32 (codes "look") refl
+verb_word a = are_over 32 (verb_of a) refl
 
 number_word : (n : ℕ) → AreOver 32 (decimal n)
 number_word n = decimal_over 32 n (omega arith)
@@ -71,13 +56,7 @@ args_words (Fill c) = flag_words (codes "claimed") c (are_over 32 (codes "claime
 args_words (Opened a) = (number_word a, tt)
 args_words (Failed a) = (number_word a, tt)
 args_words (Add b) = flag_words (codes "broken") b (are_over 32 (codes "broken") refl)
-args_words Begin = tt
-args_words Claim = tt
-args_words Reap = tt
-args_words State = tt
-args_words Join = tt
-args_words Leave = tt
-args_words Look = tt
+args_words _ = tt
 
 event_words : (e : Event) → AreWords (event_fields e)
 event_words e = (number_word e.at.0, (verb_word e.act, args_words e.act))

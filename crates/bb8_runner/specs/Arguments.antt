@@ -1,9 +1,7 @@
 -- What the arguments of the program ask for.
-use Rattle.std.specs.Prelude.{ℕ, List, [], ◌∷◌, Option, Some, None, nat_lt, ◌&&◌, if◌then◌else◌, codes, option_and_then}
-use Rattle.std.specs.Str.{bytes_eq}
+use Rattle.bb8_runner.specs.Words.{ℕ, List, [], ◌∷◌, Option, Some, None, nat_lt, ◌&&◌, if◌then◌else◌, codes, option_and_then, bytes_eq, Script, Threads}
 use Rattle.bb8_runner.specs.Grammar.{number_of}
 use Rattle.bb8_runner.specs.declared.threads.arguments.Mode.{Mode}
-use Rattle.bb8_runner.specs.declared.threads.arguments.Mode.TheVariants.{Script, Threads}
 
 -- so many threads, where they are from 1 to 64
 abbrev pub threads_of : ℕ → Option Mode
@@ -12,6 +10,5 @@ threads_of n = if nat_lt 0 n && nat_lt n 65 then Some (Threads n) else None
 -- no word, or `threads` and a number
 abbrev pub arguments_of : List (List ℕ) → Option Mode
 arguments_of [] = Some Script
-arguments_of (word ∷ []) = None
 arguments_of (word ∷ count ∷ []) = if bytes_eq word (codes "threads") then option_and_then threads_of (number_of 64 count) else None
-arguments_of (word ∷ count ∷ more ∷ others) = None
+arguments_of _ = None

@@ -1,12 +1,6 @@
 -- What the lines of a script are read as.
-use Rattle.std.specs.Prelude.{ℕ, ◌^◌, ◌==◌, nat_lt, List, [], ◌∷◌, true, false, ◌&&◌, if◌then◌else◌, Option, Some, None, codes, decimal, option_and_then, option_map, unwrap_or}
-use Rattle.std.specs.List.{slice_split}
-use Rattle.std.specs.Str.{bytes_eq}
+use Rattle.bb8_runner.specs.Words.{ℕ, ◌^◌, ◌==◌, nat_lt, List, [], ◌∷◌, true, false, ◌&&◌, if◌then◌else◌, Option, Some, None, codes, decimal, option_and_then, option_map, unwrap_or, slice_split, bytes_eq, Act, Begin, Try, CheckedOk, CheckedErr, GiveUp, PutBack, Fill, Claim, Opened, Failed, Add, Reap, State, Join, Leave, Look, TimedOut, Cancelled, Event}
 use Rattle.std.specs.Str.Parse.{digits_value}
-use Rattle.bb8_core.specs.declared.replay.events.Act.{Act}
-use Rattle.bb8_core.specs.declared.replay.events.Act.TheVariants.{Begin, Try, CheckedOk, CheckedErr, GiveUp, PutBack, Fill, Claim, Opened, Failed, Add, Reap, State, Join, Leave, Look}
-use Rattle.bb8_types.specs.declared.reasons.Reason.TheVariants.{TimedOut, Cancelled}
-use Rattle.bb8_core.specs.declared.replay.events.Event.{Event}
 
 -- what the second gives for the value of the first, where there is one
 infixl 10 ◌>>=◌
@@ -79,12 +73,11 @@ fields_of line = slice_split (λ b. b == 32) line
 
 -- the event that the fields are: a moment, a verb and its arguments
 unfoldable pub event_of_fields : List (List ℕ) → Option Event
-event_of_fields [] = None
-event_of_fields (moment ∷ []) = None
 event_of_fields (moment ∷ verb ∷ args) = do
   at ← number_of 64 moment
   act ← act_of verb args
   Some (record { at = record { 0 = at }; act = act })
+event_of_fields _ = None
 
 -- the event that the line is
 abbrev pub event_of : List ℕ → Option Event

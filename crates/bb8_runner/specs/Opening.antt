@@ -1,10 +1,5 @@
 -- What the first line of a script is read as.
-use Rattle.std.specs.Prelude.{ℕ, ◌==◌, List, [], ◌∷◌, length, Bool, true, false, if◌then◌else◌, Option, Some, None, codes, option_map, unwrap_or}
-use Rattle.std.specs.List.{before_first, after_first, position_or_len}
-use Rattle.std.specs.Str.{bytes_eq}
-use Rattle.bb8_types.specs.declared.api.configuration.QueueStrategy.{QueueStrategy}
-use Rattle.bb8_types.specs.declared.api.configuration.QueueStrategy.TheVariants.{Fifo, Lifo}
-use Rattle.bb8_types.specs.Settings.{Settings, default_settings, is_lawful}
+use Rattle.bb8_runner.specs.Words.{ℕ, ◌==◌, List, [], ◌∷◌, length, Bool, true, false, if◌then◌else◌, Option, Some, None, codes, option_map, unwrap_or, before_first, after_first, position_or_len, bytes_eq, QueueStrategy, Fifo, Lifo, Settings, default_settings, is_lawful}
 use Rattle.bb8_runner.specs.declared.overrides.Overrides.{Overrides}
 use Rattle.bb8_runner.specs.Grammar.{◌>>=◌, number_of, fields_of}
 
@@ -26,9 +21,8 @@ limit_of k value = if bytes_eq value (codes "none") then Some None else option_m
 
 -- the value of a setting that was not yet set
 abbrev pub once : {A : Type 0} → Option A → Option A → Option (Option A)
-once (Some old) value = None
 once None (Some new) = Some (Some new)
-once None None = None
+once _ _ = None
 
 -- what is set, with one setting more
 unfoldable pub with_setting : Overrides → List ℕ → List ℕ → Option Overrides

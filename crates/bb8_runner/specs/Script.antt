@@ -1,13 +1,5 @@
 -- A whole script, and what is written for it.
-use Rattle.std.specs.Prelude.{◌≡◌, ℕ, ◌+◌, ◌-◌, ◌<◌, ◌==◌, List, [], ◌∷◌, length, take, slice_index, slice_index_or, if◌then◌else◌, Option, Some, None, map, ◌⊎◌, ⊤, codes}
-use Rattle.std.specs.List.{slice_split}
-use Rattle.bb8_types.specs.Settings.{Settings}
-use Rattle.bb8_ledger.specs.Ledger.{Ledger, figures, opening_with}
-use Rattle.bb8_core.specs.Run.{IsRun}
-use Rattle.bb8_core.specs.declared.replay.events.Event.{Event}
-use Rattle.bb8_core.specs.declared.replay.events.Answer.{Answer}
-use Rattle.bb8_runner.specs.declared.verdict.Verdict.{Verdict}
-use Rattle.bb8_runner.specs.declared.verdict.Verdict.TheVariants.{Ran, Bad}
+use Rattle.bb8_runner.specs.Words.{◌≡◌, ℕ, ◌+◌, ◌-◌, ◌<◌, ◌==◌, List, [], ◌∷◌, length, take, slice_index, slice_index_or, if◌then◌else◌, Option, Some, None, map, ◌⊎◌, ⊤, codes, slice_split, Settings, Ledger, figures, opening_with, IsRun, Event, Answer, Verdict, Ran, Bad}
 use Rattle.bb8_runner.specs.declared.fault.Fault.{Fault}
 use Rattle.bb8_runner.specs.declared.fault.Fault.TheVariants.{Read, Write, Memory as OutOfMemory}
 use Rattle.bb8_runner.specs.declared.lines.NoScript.{NoScript}

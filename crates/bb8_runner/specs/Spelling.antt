@@ -1,13 +1,5 @@
 -- How events and configurations are spelled: each line is one of these, and no other line is good.
-use Rattle.std.specs.Prelude.{◌≡◌, ◌≢◌, ℕ, ◌^◌, ◌<◌, List, [], ◌∷◌, ◌++◌, map, ⊤, Bool, true, false, Option, Some, None, codes, decimal}
-use Rattle.std.specs.List.{join_with_byte}
-use Rattle.bb8_core.specs.declared.replay.events.Act.{Act}
-use Rattle.bb8_core.specs.declared.replay.events.Act.TheVariants.{Begin, Try, CheckedOk, CheckedErr, GiveUp, PutBack, Fill, Claim, Opened, Failed, Add, Reap, State, Join, Leave, Look}
-use Rattle.bb8_types.specs.declared.reasons.Reason.TheVariants.{TimedOut, Cancelled}
-use Rattle.bb8_core.specs.declared.replay.events.Event.{Event}
-use Rattle.bb8_types.specs.declared.api.configuration.QueueStrategy.{QueueStrategy}
-use Rattle.bb8_types.specs.declared.api.configuration.QueueStrategy.TheVariants.{Fifo, Lifo}
-use Rattle.bb8_types.specs.Settings.{Settings, default_settings, is_lawful}
+use Rattle.bb8_runner.specs.Words.{◌≡◌, ◌≢◌, ℕ, ◌^◌, ◌<◌, List, [], ◌∷◌, ◌++◌, map, ⊤, Bool, true, false, Option, Some, None, codes, decimal, join_with_byte, Act, Begin, Try, CheckedOk, CheckedErr, GiveUp, PutBack, Fill, Claim, Opened, Failed, Add, Reap, State, Join, Leave, Look, TimedOut, Cancelled, Event, QueueStrategy, Fifo, Lifo, Settings, default_settings, is_lawful}
 
 -- the verb of an event
 abbrev pub verb_of : Act → List ℕ
@@ -45,13 +37,7 @@ args_of (Fill c) = flag (codes "claimed") c
 args_of (Opened a) = decimal a ∷ []
 args_of (Failed a) = decimal a ∷ []
 args_of (Add b) = flag (codes "broken") b
-args_of Begin = []
-args_of Claim = []
-args_of Reap = []
-args_of State = []
-args_of Join = []
-args_of Leave = []
-args_of Look = []
+args_of _ = []
 
 -- the number that the act names is a u64
 abbrev pub FitsAct : Act → Type 0
@@ -62,15 +48,7 @@ FitsAct (GiveUp g why b) = g < 2 ^ 64
 FitsAct (PutBack k b) = k < 2 ^ 64
 FitsAct (Opened a) = a < 2 ^ 64
 FitsAct (Failed a) = a < 2 ^ 64
-FitsAct Begin = ⊤
-FitsAct (Fill c) = ⊤
-FitsAct Claim = ⊤
-FitsAct (Add b) = ⊤
-FitsAct Reap = ⊤
-FitsAct State = ⊤
-FitsAct Join = ⊤
-FitsAct Leave = ⊤
-FitsAct Look = ⊤
+FitsAct _ = ⊤
 
 -- the moment and the number that the act names are u64
 pub record FitsEvent (e : Event) : Type 0 where
@@ -154,13 +132,11 @@ FitsLimit k None = ⊤
 abbrev pub FitsSetting : Setting → Type 0
 FitsSetting (MaxSize n) = n < 2 ^ 32
 FitsSetting (MinIdle n) = FitsLimit 32 n
-FitsSetting (Check b) = ⊤
 FitsSetting (Lifetime n) = FitsLimit 64 n
 FitsSetting (Idle n) = FitsLimit 64 n
 FitsSetting (Timeout n) = n < 2 ^ 64
 FitsSetting (Reaper n) = n < 2 ^ 64
-FitsSetting (Retry b) = ⊤
-FitsSetting (Strategy s) = ⊤
+FitsSetting _ = ⊤
 
 -- every number that is named is in the range of its type
 abbrev pub AllFit : List Setting → Type 0

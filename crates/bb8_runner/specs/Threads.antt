@@ -1,19 +1,9 @@
 -- What is written for a script that threads ran.
-use Rattle.std.specs.Prelude.{◌≡◌, ℕ, Bool, if◌then◌else◌, List, ◌++◌, length, codes, decimal}
+use Rattle.bb8_runner.specs.Words.{◌≡◌, ℕ, Bool, if◌then◌else◌, List, ◌++◌, length, codes, decimal, sum_by, Settings, Figures, Ledger, figures, opening_with, IsRun, Event, events_of, answers_of, steps_of, notes_of, Verdict, Ran, Bad}
 use Rattle.std.specs.Bool.{Decides}
-use Rattle.std.specs.List.{sum_by}
-use Rattle.bb8_types.specs.Settings.{Settings}
-use Rattle.bb8_types.specs.Figures.{Figures}
-use Rattle.bb8_ledger.specs.Ledger.{Ledger, figures, opening_with}
-use Rattle.bb8_core.specs.Run.{IsRun}
-use Rattle.bb8_core.specs.declared.replay.events.Event.{Event}
 use Rattle.bb8_journal.specs.declared.journal.entries.Entry.{Entry}
 use Rattle.bb8_journal.specs.declared.journal.seats.Notes.{Notes}
-use Rattle.bb8_journal.specs.History.{events_of, answers_of}
-use Rattle.bb8_journal.specs.Notes.{steps_of, notes_of}
 use Rattle.bb8_journal.specs.Audit.{IsAccount}
-use Rattle.bb8_runner.specs.declared.verdict.Verdict.{Verdict}
-use Rattle.bb8_runner.specs.declared.verdict.Verdict.TheVariants.{Ran, Bad}
 use Rattle.bb8_runner.specs.Script.{Spells, IsFirstBad, lines_of}
 use Rattle.bb8_runner.specs.Text.{line, state_text, bad_line_text}
 

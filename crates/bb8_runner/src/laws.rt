@@ -1,9 +1,5 @@
 //! Laws of the language of scripts, each carried by a function that does nothing.
-ghost use Rattle.std.specs.Prelude.{◌≡◌, ◌≢◌, Some, List, ℕ, All};
-ghost use Rattle.bb8_core.specs.declared.replay.events.Answer.{Answer};
-ghost use Rattle.bb8_core.specs.declared.replay.events.Event.{Event};
-ghost use Rattle.bb8_types.specs.Figures.{Figures};
-ghost use Rattle.bb8_types.specs.Settings.{Settings};
+ghost use Rattle.bb8_runner.specs.Words.{◌≡◌, ◌≢◌, Some, List, ℕ, All, Answer, Event, Figures, Settings};
 ghost use Rattle.bb8_runner.specs.Grammar.{event_of, fields_of};
 ghost use Rattle.bb8_runner.specs.Opening.{settings_of_line};
 ghost use Rattle.bb8_runner.specs.Spelling.{SpellsEvent, SpellsSettings, FitsEvent, event_line};

@@ -1,8 +1,6 @@
 //! A script from bytes to bytes.
-ghost use Rattle.std.specs.Prelude.{◌≡◌, List, ℕ, IfOk, IfSome, IfErr, IsErrOf, string_bytes};
-ghost use Rattle.std.specs.Io.KnownBytes.{Appends};
+ghost use Rattle.bb8_runner.specs.Words.{◌≡◌, List, ℕ, IfOk, IfSome, IfErr, IsErrOf, string_bytes, Appends, Verdict};
 ghost use Rattle.bb8_runner.specs.Script.{IsAnswer};
-ghost use Rattle.bb8_runner.specs.declared.verdict.Verdict.{Verdict};
 
 use crate::fault::Fault;
 use crate::lines::{NoScript, lines_of, script_of};

@@ -48,6 +48,10 @@ impl Gate for Stop {
         thread::yield_now();
         !self.asked.load(Ordering::SeqCst)
     }
+
+    fn longest(&self) -> Duration {
+        Duration::ZERO
+    }
 }
 
 /// A phase beside a driver: what the threads were told. The driver has ended then, and has not found the pool without a handle.

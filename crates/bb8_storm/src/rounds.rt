@@ -2,7 +2,7 @@
 
 use crate::told::Told;
 use bb8::{Cancel, Job, PoolCalls, PoolParts, RunError, Runtime};
-use bb8_trials::hostile::{Counted, Harness, HostilePool, Refused, Source};
+use bb8_trials::hostile::{Counted, Harness, HostilePool, RandomSource, Refused};
 use futures::Future;
 use futures::task::Poll;
 use futures::test::MockTask;
@@ -31,19 +31,19 @@ pub struct Storm<'a, R: Runtime, L: PoolParts> {
 /// What a round does.
 trait Rounds {
     /// One round.
-    fn round(&self, task: &MockTask, source: &Source, told: &mut Told);
+    fn round(&self, task: &MockTask, source: &RandomSource, told: &mut Told);
 
     /// A get, which is polled a few times, and dropped or cancelled where it was not answered.
-    fn get(&self, task: &MockTask, source: &Source, told: &mut Told);
+    fn get(&self, task: &MockTask, source: &RandomSource, told: &mut Told);
 
     /// A get with a handle of its own, of a handle that is dropped meanwhile, polled and let go in the same way.
-    fn get_owned(&self, task: &MockTask, source: &Source, told: &mut Told);
+    fn get_owned(&self, task: &MockTask, source: &RandomSource, told: &mut Told);
 
     /// A get that the thread waits for, with a handle of its own or without.
-    fn wait(&self, source: &Source, told: &mut Told);
+    fn wait(&self, source: &RandomSource, told: &mut Told);
 
     /// A dedicated connection, whose opening is polled a few times and let go in the same way.
-    fn open_dedicated(&self, task: &MockTask, source: &Source);
+    fn open_dedicated(&self, task: &MockTask, source: &RandomSource);
 
     /// Asks for the figures, and compares them with their bounds.
     fn ask(&self, told: &mut Told);
@@ -88,7 +88,7 @@ fn is_answered<
 }
 
 /// Cancels a future, or drops it.
-fn let_go<F: Cancel + Drop>(future: F, source: &Source) {
+fn let_go<F: Cancel + Drop>(future: F, source: &RandomSource) {
     if source.below(2) == 0 {
         Cancel::cancel(future);
     } else {
@@ -106,7 +106,7 @@ impl<R: Runtime, L: PoolParts> Job for &Storm<'_, R, L> {
             .phase
             .saturating_mul(1000)
             .saturating_add(thread as u64);
-        let Ok(source) = Source::new(self.rt.alloc(), seed) else {
+        let Ok(source) = RandomSource::new(self.rt.alloc(), seed) else {
             told.blame();
             return told;
         };
@@ -122,7 +122,7 @@ impl<R: Runtime, L: PoolParts> Job for &Storm<'_, R, L> {
 }
 
 impl<R: Runtime, L: PoolParts> Rounds for Storm<'_, R, L> {
-    fn round(&self, task: &MockTask, source: &Source, told: &mut Told) {
+    fn round(&self, task: &MockTask, source: &RandomSource, told: &mut Told) {
         match source.below(10) {
             0..=2 => self.get(task, source, told),
             3..=5 => self.get_owned(task, source, told),
@@ -135,7 +135,7 @@ impl<R: Runtime, L: PoolParts> Rounds for Storm<'_, R, L> {
         }
     }
 
-    fn get(&self, task: &MockTask, source: &Source, told: &mut Told) {
+    fn get(&self, task: &MockTask, source: &RandomSource, told: &mut Told) {
         let mut get = PoolCalls::get(self.pool);
         let polls = source.below(POLLS);
         let answered = is_answered(task, self.harness, &mut get, polls, told);
@@ -143,7 +143,7 @@ impl<R: Runtime, L: PoolParts> Rounds for Storm<'_, R, L> {
         told.note(polls, answered);
     }
 
-    fn get_owned(&self, task: &MockTask, source: &Source, told: &mut Told) {
+    fn get_owned(&self, task: &MockTask, source: &RandomSource, told: &mut Told) {
         let Ok(clone) = PoolCalls::try_clone(self.pool) else {
             told.blame();
             return;
@@ -156,7 +156,7 @@ impl<R: Runtime, L: PoolParts> Rounds for Storm<'_, R, L> {
         told.note(polls, answered);
     }
 
-    fn wait(&self, source: &Source, told: &mut Told) {
+    fn wait(&self, source: &RandomSource, told: &mut Told) {
         told.begun = told.begun.saturating_add(1);
         if source.below(2) == 0 {
             end(self.harness, PoolCalls::get_blocking(self.pool), told);
@@ -165,7 +165,7 @@ impl<R: Runtime, L: PoolParts> Rounds for Storm<'_, R, L> {
         }
     }
 
-    fn open_dedicated(&self, task: &MockTask, source: &Source) {
+    fn open_dedicated(&self, task: &MockTask, source: &RandomSource) {
         let mut opening = PoolCalls::dedicated_connection(self.pool);
         for _ in 0..source.below(POLLS) {
             if let Poll::Ready(_) = task.poll(&mut opening) {

@@ -1,7 +1,6 @@
 -- What many approvals do to what is shown.
-use Rattle.std.proofs.Common.{◌≡◌, ◌+◌, ℕ, zero, suc, max, Bool, refl, ap, ◌∙◌, arith}
+use Rattle.bb8_tables.proofs.Words.{◌≡◌, ◌+◌, ℕ, zero, suc, max, Bool, refl, ap, arith, ShownRecords}
 use Rattle.bb8_tables.specs.Machine as machine
-use Rattle.bb8_tables.specs.Views.{ShownRecords}
 
 module _ {C : Type 0} where
   pub approve-sizes : (c : Bool) (n : ℕ) (s : ShownRecords C) → ((machine.after_approvals c n s).conns ≡ s.conns) × ((machine.after_approvals c n s).approved ≡ s.approved + n)
@@ -16,8 +15,4 @@ module _ {C : Type 0} where
 
   pub approve-raised : (c : Bool) (n p : ℕ) (s : ShownRecords C) → p ≡ max s.peak (s.conns + s.approved + n)
       → machine.after_approvals c n (record s { peak = p }) ≡ machine.with_peak (machine.after_approvals c n s)
-  approve-raised c n p s is =
-      approve-peak c n p s
-      ∙ ap (λ (q : ℕ). record (machine.after_approvals c n s) { peak = q })
-      (let e = approve-sizes c n s in
-      let goal : p ≡ max (machine.after_approvals c n s).peak ((machine.after_approvals c n s).conns + (machine.after_approvals c n s).approved) = omega (arith, e.0, e.1, e.3) in goal)
+  approve-raised c n p s is = grind (arith, approve-peak c n p s, approve-sizes c n s)

@@ -1,11 +1,10 @@
 -- The code's side of each change of the gets: what it does to the fields, seen in what they mean.
-use Rattle.bb8_tables.proofs.Words.{◌≡◌, ◌≢◌, ℕ, ◌+◌, ◌-◌, ◌<◌, ◌≤◌, Bool, true, false, [], ◌∷◌, ◌++◌, length, set, slice_get, arith, Option, Some, None, is_some, IsSome, refl, sym, ap, ◌∙◌, length-append, get, tally, one, Lined, slot_at, Absent, GetPlace, Active, Waiting, Getting, Slot, is_unnotified, get_in_wait, get_with_place, ShownGets, IsTable, numbers_at, view_of_gets, AreGoodGets, AreWaitingPlaces}
+use Rattle.bb8_tables.proofs.Words.{◌≡◌, ◌≢◌, ℕ, ◌+◌, ◌-◌, ◌<◌, ◌≤◌, Bool, true, false, [], ◌∷◌, ◌++◌, length, set, slice_get, arith, Option, Some, None, is_some, IsSome, refl, sym, ap, ◌∙◌, length-append, get, tally, one, Lined, slot_at, Absent, GetPlace, Active, Waiting, Getting, Slot, is_unnotified, get_in_wait, get_with_place, ShownGets, IsTable, view_of_gets, AreGoodGets, AreWaitingPlaces, removed_inserted}
 use Rattle.bb8_tables.specs.declared.gets.Gets.TheInside.{Inside}
 use Rattle.bb8_tables.specs.Machine as machine
 use Rattle.bb8_tables.proofs.Slots.{Updates, set_at, set_within, tally_set, tally_at, table_set, table_added, table_removed, table_kept}
 use Rattle.bb8_tables.proofs.Lines.{other_line, turned_line, free_line, same_line, places_without, places_absent}
 use Rattle.bb8_tables.proofs.Numbers.{numbers_all, numbers_fresh}
-use Rattle.bb8_types.proofs.Numbered.{removed_inserted}
 use Rattle.bb8_tables.proofs.Views.{same_gets}
 use Rattle.bb8_tables.proofs.Slots
 use Rattle.bb8_tables.proofs.TablePlaces
@@ -29,10 +28,7 @@ never_absent a q {g} s is shows none = absurd (let clash : Some g ≡ None = sym
 pub stands_is : (a : Inside) (q i : ℕ) (x : Slot Getting) (s : ShownGets) → AreGoodGets a → view_of_gets a ≡ s
     → slot_at a.slots i ≡ Some x → x.number ≡ q → (g : Getting) × (get s.places q ≡ Some g) × (is_unnotified g.place ≡ false)
     → is_unnotified x.standing.place ≡ false
-stands_is a q i x s good is e same shown =
-    let both : Some x.standing ≡ Some shown.0 = sym (some_shown a q i x s good is e same) ∙ shown.1 in
-    let alike : x.standing ≡ shown.0 = cc in
-    ap (λ (g : Getting). is_unnotified g.place) alike ∙ shown.2
+stands_is a q i x s good is e same shown = grind (arith, some_shown a q i x s good is e same)
 
 -- Good gets are good after one place has changed, where the line and the count are right again.
 changed_good : {a : Inside} {next alive place : ℕ} {slots : Lined (Slot Getting)} {was is : Option (Slot Getting)} (m n : Bool) → AreGoodGets a → slot_at a.slots place ≡ was
@@ -49,17 +45,10 @@ changed_good {a} {slots = slots} m n good at_place u m_is n_is alive_sum sum few
 -- the same stands at each place
 module _ (a : Inside) (slots : Lined (Slot Getting)) (peak : ℕ) (good : AreGoodGets a) (kept : (i : ℕ) → slot_at slots i ≡ slot_at a.slots i) (line_is : slots.line ≡ a.slots.line) where
   pub kept_good : a.alive ≤ peak → peak ≤ a.alive + length slots.free → AreGoodGets (record a { slots = slots; peak = peak })
-  kept_good few room = record {
-    table = table_kept good.table kept;
-    waiting = rw line_is (same_line good.waiting kept);
-    sizes = record { places_are = Slots.tally_same is_some refl a.slots.slots slots.slots kept ∙ good.sizes.places_are; peak_holds = few; alive_few = good.sizes.alive_few; room_holds = room };
-  }
+  kept_good few room = grind (arith, table_kept good.table kept, same_line good.waiting kept, Slots.tally_same is_some refl a.slots.slots slots.slots kept)
 
   pub kept_view : view_of_gets (record a { slots = slots; peak = peak }) ≡ record (view_of_gets a) { peak = peak }
-  kept_view = same_gets _ _ refl
-      (Slots.held_same numbered (λ x. x.standing) a.slots.slots slots.slots good.table.distinct kept)
-      (ap (numbers_at numbered slots.slots) line_is ∙ numbers_all numbered a.slots.slots slots.slots a.slots.line kept)
-      refl refl
+  kept_view = grind (arith, same_gets, Slots.held_same, numbers_all numbered a.slots.slots slots.slots a.slots.line kept)
 
 -- ---- begin
 
@@ -89,23 +78,13 @@ module _ (a : Inside) (place : ℕ) (slots : Lined (Slot Getting)) (good : AreGo
 -- a get that begins and ends at once leaves its number behind
 module _ (a : Inside) (good : AreGoodGets a) where
   next_absent : (i : ℕ) (x : Slot Getting) → slot_at a.slots i ≡ Some x → x.number ≢ a.next
-  next_absent i x e same = let l : x.number < a.next = good.table.below i x e in omega arith
+  next_absent i x e same = omega (arith, good.table.below i x e)
 
   pub pass_good : AreGoodGets (record a { next = a.next + 1 })
-  pass_good =
-      let z = good.sizes in
-      record {
-        table = record { distinct = good.table.distinct; below = λ i x e. let l : x.number < a.next = good.table.below i x e in omega arith };
-        waiting = good.waiting;
-        sizes = record { places_are = z.places_are; peak_holds = z.peak_holds; alive_few = omega (arith, z.alive_few); room_holds = z.room_holds };
-      }
+  pass_good = grind arith
 
   pub pass_view : a.alive < a.peak → view_of_gets (record a { next = a.next + 1 }) ≡ machine.after_get_end a.next (machine.after_begin (view_of_gets a))
-  pass_view few = same_gets _ _ refl
-      (sym (removed_inserted (view_of_gets a).places a.next _ (Slots.held_absent numbered (λ x. x.standing) a.slots.slots a.next next_absent)))
-      (sym (numbers_fresh numbered a.slots.slots a.slots.line a.next good.waiting next_absent))
-      (omega arith)
-      (omega arith)
+  pass_view few = grind (arith, same_gets, removed_inserted, Slots.held_absent, next_absent, numbers_fresh numbered a.slots.slots a.slots.line a.next good.waiting next_absent)
 
 -- ---- wait
 
@@ -188,10 +167,7 @@ none_first a none = sym (no_number_at a.slots.slots a.slots.line 0 (sym none))
 module _ (a : Inside) (place q : ℕ) (x : Slot Getting) (slots : Lined (Slot Getting)) (good : AreGoodGets a) (at_place : slot_at a.slots place ≡ Some x) (number_is : x.number ≡ q)
     (gone : Frees a.slots slots place) where
   pub end_counted : 1 ≤ a.alive
-  end_counted =
-      let l : one (is_some (slot_at a.slots place)) ≤ tally is_some a.slots.slots = tally_at is_some refl a.slots.slots place in
-      let same : one (is_some (slot_at a.slots place)) ≡ 1 = ap (λ (o : Option (Slot Getting)). one (is_some o)) at_place in
-      omega (arith, good.sizes.places_are)
+  end_counted = omega (arith, tally_at is_some refl a.slots.slots place, ap (λ (o : Option (Slot Getting)). one (is_some o)) at_place, good.sizes.places_are)
 
   pub end_good : AreGoodGets (record a { slots = slots; alive = a.alive - 1 })
   end_good =

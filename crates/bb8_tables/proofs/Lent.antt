@@ -1,6 +1,5 @@
 -- How what was lent adds up.
-use Rattle.std.proofs.Common.{ℕ, ◌+◌, ◌≤◌, refl, ◌∙◌, arith}
-use Rattle.bb8_tables.specs.Lent.{Lent, AddsLent, lends, searches}
+use Rattle.bb8_tables.proofs.Words.{ℕ, ◌+◌, ◌≤◌, refl, ◌∙◌, arith, Lent, AddsLent, lends, searches}
 
 pub adds_none : (l : Lent) → AddsLent 0 0 l l
 adds_none l = (refl, omega arith, omega arith)

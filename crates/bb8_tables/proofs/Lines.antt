@@ -1,7 +1,5 @@
 -- Lines of keys and of places that lead to the slots of a table, by a test of what stands there.
-use Rattle.std.proofs.Common.{◌≡◌, ◌≢◌, ℕ, zero, suc, Bool, true, false, List, [], ◌∷◌, ◌++◌, drop, Option, Some, None, slice_get, get_or, refl, sym, ap, ◌∙◌, subst, eq-eqb, length, ◌+◌, arith}
-use Rattle.bb8_tables.specs.Slots.{IsLine, ArePlaces}
-use Rattle.bb8_tables.specs.Spelled.{Absent}
+use Rattle.bb8_tables.proofs.Words.{◌≡◌, ◌≢◌, ℕ, zero, suc, Bool, true, false, List, [], ◌∷◌, ◌++◌, drop, Option, Some, None, slice_get, get_or, refl, sym, ap, ◌∙◌, subst, eq-eqb, length, ◌+◌, arith, IsLine, ArePlaces, Absent}
 use Rattle.bb8_tables.specs.Machine as machine
 use Rattle.bb8_tables.proofs.Spelled.{without_cases, absent_get, absent_without_self, without_absent, without_keeps_absent}
 use Rattle.bb8_tables.proofs.Slots
@@ -13,9 +11,7 @@ module _ {X K : Type 0} {number : X → ℕ} {test : X → Bool} {key leads : K 
   -- a place that does not pass is on no line
   pub avoids : (old : List (Option X)) (keys : List K) (place : ℕ) (x : X) → IsLine number test key leads old keys
       → get_or old place None ≡ Some x → test x ≡ false → (j : ℕ) (k : K) → slice_get keys j ≡ Some k → leads k ≢ place
-  avoids old keys place x l at_place off = Slots.line_avoids _ _ _ _ old keys place l
-      (λ y e t. let same : x ≡ y = let b : Some x ≡ Some y = sym at_place ∙ e in cc in let clash : test y ≡ false = ap test (sym same)
-      ∙ off in cc)
+  avoids old keys place x l at_place off = grind (arith, Slots.line_avoids)
 
   pub free_avoids : (old : List (Option X)) (keys : List K) (place : ℕ) → IsLine number test key leads old keys → get_or old place None ≡ None → (j : ℕ) (k : K) → slice_get keys j ≡ Some k
       → leads k ≢ place
@@ -63,18 +59,7 @@ module _ {X K : Type 0} {number : X → ℕ} {test : X → Bool} {key leads : K 
   line_cons : (xs : List (Option X)) (k : K) (keys : List K) (x : X) → get_or xs (leads k) None ≡ Some x → number x ≡ key k → test x ≡ true
       → IsLine number test key leads xs keys → ((j : ℕ) (m : K) → slice_get keys j ≡ Some m → leads m ≢ leads k)
       → IsLine number test key leads xs (k ∷ keys)
-  line_cons xs k keys x at_k same on l away = record { each = each; once = once }
-    where
-      each : (j : ℕ) (m : K) → slice_get (k ∷ keys) j ≡ Some m → (y : X) × (get_or xs (leads m) None ≡ Some y) × (number y ≡ key m) × (test y ≡ true)
-      each zero m e = subst (λ (n : K). (y : X) × (get_or xs (leads n) None ≡ Some y) × (number y ≡ key n) × (test y ≡ true))
-          (let both : Some k ≡ Some m = e in let is : k ≡ m = cc in is) (x, at_k, same, on)
-      each (suc j) m e = l.each j m e
-
-      once : (i j : ℕ) (a b : K) → slice_get (k ∷ keys) i ≡ Some a → slice_get (k ∷ keys) j ≡ Some b → leads a ≡ leads b → i ≡ j
-      once zero zero a b e f s = refl
-      once zero (suc j) a b e f s = absurd (away j b f (sym s ∙ ap leads (let both : Some k ≡ Some a = e in let is : a ≡ k = cc in is)))
-      once (suc i) zero a b e f s = absurd (away i a e (s ∙ ap leads (let both : Some k ≡ Some b = f in let is : b ≡ k = cc in is)))
-      once (suc i) (suc j) a b e f s = ap suc (l.once i j a b e f s)
+  line_cons xs k keys x at_k same on l away = grind arith
 
   -- nothing changes at any place
   pub same_line : {old new : List (Option X)} {keys : List K} → IsLine number test key leads old keys → ((i : ℕ) → get_or new i None ≡ get_or old i None) → IsLine number test key leads new keys
@@ -127,7 +112,7 @@ module _ {X : Type 0} {test : X → Bool} where
   one_shorter slots [] place j l e = absurd (cc)
   one_shorter slots (p ∷ places) place j l e = without_cases (λ (ys : List ℕ). length ys + 1 ≡ length (p ∷ places)) place p places
       (λ s. let absent : Absent place places = subst (λ (q : ℕ). Absent q places) s (get_absent p places (Slots.line_rest_avoids _ _ _ _ slots p places l)) in
-      let same : length (machine.without place places) ≡ length places = ap (λ (ks : List ℕ). length ks) (without_absent place places absent) in omega arith)
+      omega (arith, ap (λ (ks : List ℕ). length ks) (without_absent place places absent)))
       (λ s. let t = later j e s in
       let ih : length (machine.without place places) + 1 ≡ length places = one_shorter slots places place t.0 (Slots.line_rest _ _ _ _ slots p places l) t.1 in omega arith)
     where

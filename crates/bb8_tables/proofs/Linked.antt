@@ -1,5 +1,5 @@
 -- What the steps on links and entries do to what a table shows.
-use Rattle.bb8_tables.proofs.Words.{◌≡◌, ◌≢◌, get_or-set_other, get_or-set_same, Result, Ok, Err, OnOk, OnErr, cond, ℕ, zero, suc, ◌+◌, ◌-◌, ◌<◌, ◌≤◌, Bool, true, false, eqb, List, [], ◌∷◌, ◌++◌, length, set, slice_get, get_or, Option, Some, None, IsSome, refl, sym, ap, ◌∙◌, ⊎_elim, arith, subst, length-append, map-set_same, length-map, map-set, slice_get_past, slice_get_read, cases_lt, eqb_tells, AllocError, with_item, end_of_numbers, Slot, Order, Line, Births, Free, Link, Entry, Links, Sizes, end, most_places, size_of, with_size, link_in, with_link, after_at, before_at, after_of, before_of, JoinsAt, SameLinks, SameOthers, slot_in, slots_of, spelled, view_of_table, IsGoodTable, Lined, is_same, places_of, with_places, without, Absent, Spells, walk, ne_eqb}
+use Rattle.bb8_tables.proofs.Words.{◌≡◌, ◌≢◌, get_or-set_other, get_or-set_same, Result, Ok, Err, OnOk, OnErr, cond, ℕ, zero, suc, ◌+◌, ◌-◌, ◌<◌, ◌≤◌, Bool, true, false, eqb, List, [], ◌∷◌, ◌++◌, length, set, slice_get, get_or, Option, Some, None, IsSome, refl, sym, ap, ◌∙◌, arith, subst, length-append, map-set_same, length-map, map-set, slice_get_past, slice_get_read, eqb_tells, AllocError, with_item, end_of_numbers, Slot, Order, Line, Births, Free, Link, Entry, Links, Sizes, end, most_places, size_of, with_size, link_in, with_link, after_at, before_at, after_of, before_of, JoinsAt, SameLinks, SameOthers, slot_in, slots_of, spelled, view_of_table, IsGoodTable, Lined, is_same, places_of, with_places, without, Absent, Spells, ne_eqb, inl, inr}
 use Rattle.bb8_tables.specs.declared.table.Table.TheInside.{Inside}
 use Rattle.bb8_tables.proofs.Spelled
 
@@ -9,28 +9,17 @@ same_is : (q o : Order) → is_same q o ≡ true → q ≡ o
 same_is Line Line e = refl
 same_is Births Births e = refl
 same_is Free Free e = refl
-same_is Line Births e = cc
-same_is Line Free e = cc
-same_is Births Line e = cc
-same_is Births Free e = cc
-same_is Free Line e = cc
-same_is Free Births e = cc
+same_is _ _ e = cc
 
 size_set : (o : Order) (n : ℕ) (s : Sizes) → size_of o (with_size o n s) ≡ n
 size_set Line n s = refl
-size_set Births n s = refl
-size_set Free n s = refl
+size_set _ n s = refl
 
 size_other : (q o : Order) (n : ℕ) (s : Sizes) → is_same q o ≡ false → size_of q (with_size o n s) ≡ size_of q s
 size_other Line Line n s e = cc
 size_other Births Births n s e = cc
 size_other Free Free n s e = cc
-size_other Line Births n s e = refl
-size_other Line Free n s e = refl
-size_other Births Line n s e = refl
-size_other Births Free n s e = refl
-size_other Free Line n s e = refl
-size_other Free Births n s e = refl
+size_other _ _ n s e = refl
 
 module _ {X : Type 0} where
   -- a table with the places that it has
@@ -68,13 +57,12 @@ get_or_none (x ∷ xs) (suc i) = get_or_none xs i
 get_or_inside : {X : Type 0} (xs : List (Option X)) (i : ℕ) → IsSome (get_or xs i None) → i < length xs
 get_or_inside [] i h = cc
 get_or_inside (x ∷ xs) zero h = omega arith
-get_or_inside (x ∷ xs) (suc i) h = let ih : i < length xs = get_or_inside xs i h in omega arith
+get_or_inside (x ∷ xs) (suc i) h = omega (arith, get_or_inside xs i h)
 
 module _ {S : Type 0} where
   slot_relinked : (o : Order) (l : Link) (x : Entry S) → slot_in (with_link o l x) ≡ slot_in x
   slot_relinked Line l x = refl
-  slot_relinked Births l x = refl
-  slot_relinked Free l x = refl
+  slot_relinked _ l x = refl
 
   -- another link leaves what stands in the entries
   pub relinked : (xs : List (Entry S)) (i : ℕ) (o : Order) (l : Link) (x y : Entry S) → x ≡ get_or xs i x → y ≡ with_link o l x → slots_of (set xs i y) ≡ slots_of xs
@@ -85,10 +73,10 @@ module _ {S : Type 0} where
   same_links o xs i x y at_i same = record { after = λ j. go (after_at o) (λ k. ap (λ (l : Link). l.after) same) j; before = λ j. go (before_at o) (λ k. ap (λ (l : Link). l.before) same) j }
     where
       go : (f : ℕ → Option (Entry S) → ℕ) → ((k : ℕ) → f k (Some y) ≡ f k (Some x)) → (j : ℕ) → f j (slice_get (set xs i y) j) ≡ f j (slice_get xs j)
-      go f e j = ⊎_elim
-          (λ (t : (eqb j i ≡ true) × (j ≡ i)). subst (λ (k : ℕ). f k (slice_get (set xs i y) k) ≡ f k (slice_get xs k)) (sym t.1) (ap (f i) (get_set_same xs i x y at_i) ∙ e i ∙ ap (f i) (sym at_i)))
-          (λ (t : (eqb j i ≡ false) × (j ≢ i)). ap (f j) (get_set_other xs i j y t.1))
-          (eqb_tells j i)
+      go f e j = elim (eqb_tells j i) [
+        | inl t ↦ subst (λ (k : ℕ). f k (slice_get (set xs i y) k) ≡ f k (slice_get xs k)) (sym t.1) (ap (f i) (get_set_same xs i x y at_i) ∙ e i ∙ ap (f i) (sym at_i))
+        | inr t ↦ ap (f j) (get_set_other xs i j y t.1)
+      ]
 
   -- what stands in an entry that is read
   get_slot : (xs : List (Entry S)) (i : ℕ) (x : Entry S) → slice_get xs i ≡ Some x → get_or (slots_of xs) i None ≡ slot_in x
@@ -100,23 +88,17 @@ module _ {S : Type 0} where
   slot_taken x e = ap (λ (b : Bool). cond b None (Some x.slot)) e
 
   slot_is : (x : Entry S) (s : Slot S) → slot_in x ≡ Some s → (x.slot ≡ s) × (eqb x.slot.number end_of_numbers ≡ false)
-  slot_is x s e = go (eqb x.slot.number end_of_numbers) refl e
-    where
-      go : (b : Bool) → eqb x.slot.number end_of_numbers ≡ b → cond b None (Some x.slot) ≡ Some s → (x.slot ≡ s) × (eqb x.slot.number end_of_numbers ≡ false)
-      go true t f = cc
-      go false t f = ((let both : Some x.slot ≡ Some s = f in let is : x.slot ≡ s = cc in is), t)
+  slot_is x s e = grind arith
 
   links_kept : (x : Entry S) (slot : Slot S) (o : Order) → link_in o (record x { slot = slot }) ≡ link_in o x
   links_kept x slot Line = refl
-  links_kept x slot Births = refl
-  links_kept x slot Free = refl
+  links_kept x slot _ = refl
 
   -- ---- a table
 
   pub shown : (o : Order) (a : Inside S) → places_of o (view_of_table a) ≡ spelled o a
   shown Line a = refl
-  shown Births a = refl
-  shown Free a = refl
+  shown _ a = refl
 
   module _ (a : Inside S) (good : IsGoodTable a) where
     abbrev entries : List (Entry S)
@@ -130,10 +112,7 @@ module _ {S : Type 0} where
 
     -- what does not lead to itself is inside
     leads_inside : (f : ℕ → Option (Entry S) → ℕ) → ((p : ℕ) → f p None ≡ p) → (p : ℕ) → f p (slice_get entries p) ≢ p → p < a.links.entries.len
-    leads_inside f alone p moves = ⊎_elim
-        (λ (h : p < length entries). let e : a.links.entries.len ≡ length entries = a.links.entries.ok.0 in omega arith)
-        (λ (h : length entries ≤ p). absurd (moves (ap (f p) (slice_get_past entries p h) ∙ alone p)))
-        (cases_lt p (length entries))
+    leads_inside f alone p moves = grind (arith, slice_get_past)
 
     moves_inside : (o : Order) (p : ℕ) → after_of o entries p ≢ p → p < a.links.entries.len
     moves_inside o = leads_inside (after_at o) (λ p. refl)
@@ -142,8 +121,7 @@ module _ {S : Type 0} where
     back_inside o = leads_inside (before_at o) (λ p. refl)
 
     pub size_few : (o : Order) → size_of o a.sizes ≤ a.links.entries.len
-    size_few o = let l : length (spelled o a) ≤ a.links.entries.len = Spelled.spelled_few (after_of o entries) (before_of o entries) end a.links.entries.len (spelled o a) (good.spells o)
-        (moves_inside o) in let e : length (spelled o a) ≡ size_of o a.sizes = sized o in omega arith
+    size_few o = omega (arith, Spelled.spelled_few (after_of o entries) (before_of o entries) end a.links.entries.len (spelled o a) (good.spells o) (moves_inside o), sized o)
 
     spelled_as : (now : Lined (Slot S)) (o : Order) (xs : List ℕ) → view_of_table a ≡ now → places_of o now ≡ xs → Spells (after_of o entries) (before_of o entries) end xs
     spelled_as now o xs is e = subst (λ (ys : List ℕ). Spells (after_of o entries) (before_of o entries) end ys) (sym (shown o a) ∙ ap (places_of o) is ∙ e) (good.spells o)
@@ -170,33 +148,24 @@ module _ {S : Type 0} where
     -- the place after one in an order
     pub next_none : (now : Lined (Slot S)) (o : Order) (p next : ℕ) → view_of_table a ≡ now → next ≡ after_of o entries p → next ≡ end
         → (passed rest : List ℕ) → places_of o now ≡ passed ++ p ∷ rest → None ≡ slice_get rest 0
-    next_none now o p next is next_is last passed rest e = Spelled.next_none (after_of o entries) (before_of o entries) end p passed rest (spelled_as now o (passed ++ p ∷ rest) is e)
-        (sym next_is ∙ last)
+    next_none now o p next is next_is last passed rest e = grind (arith, Spelled.next_none)
 
     pub next_some : (now : Lined (Slot S)) (o : Order) (p next : ℕ) → view_of_table a ≡ now → next ≡ after_of o entries p → next ≢ end
         → (passed rest : List ℕ) → places_of o now ≡ passed ++ p ∷ rest → Some next ≡ slice_get rest 0
-    next_some now o p next is next_is moves passed rest e =
-        ap (λ (q : ℕ). Some q) next_is ∙ Spelled.next_some (after_of o entries) (before_of o entries) end p passed rest (spelled_as now o (passed ++ p ∷ rest) is e) (λ s. moves (next_is ∙ s))
+    next_some now o p next is next_is moves passed rest e = grind (arith, Spelled.next_some)
 
     -- where something stands is inside, and no end
     pub slot_inside : (p : ℕ) → IsSome (get_or (slots_of entries) p None) → p < a.links.entries.len
-    slot_inside p h = let l : p < length (slots_of entries) = get_or_inside (slots_of entries) p h in let e : length (slots_of entries) ≡ a.links.entries.len = room in omega arith
+    slot_inside p h = omega (arith, get_or_inside (slots_of entries) p h, room)
 
     pub slot_apart : (p : ℕ) → IsSome (get_or (slots_of entries) p None) → 0 < p
-    slot_apart p h = ⊎_elim
-        (λ (t : (eqb p 0 ≡ true) × (p ≡ 0)). absurd
-        (let h0 : IsSome (get_or (slots_of entries) 0 None) = subst
-        (λ (q : ℕ). IsSome (get_or (slots_of entries) q None)) t.1 h in let clash : IsSome {T = Slot S} None = subst IsSome good.ends h0 in cc))
-        (λ (t : (eqb p 0 ≡ false) × (p ≢ 0)). let no : p ≢ 0 = t.1 in omega arith)
-        (eqb_tells p 0)
+    slot_apart p h = grind arith
 
     -- ---- an order whose links are the same
 
     module _ (new : Links S) (sizes : Sizes) (q : Order) (size : size_of q sizes ≡ size_of q a.sizes) (same : SameLinks q entries new.entries.items) where
       kept : spelled q (record { links = new; sizes = sizes }) ≡ spelled q a
-      kept =
-          let f : after_of q new.entries.items ≡ after_of q entries = λ i p. same.after p i in
-          ap (λ (g : ℕ → ℕ). walk g (size_of q sizes) (g end)) f ∙ ap (λ (n : ℕ). walk (after_of q entries) n (after_of q entries end)) size
+      kept = grind arith
 
       spells_kept : Spells (after_of q new.entries.items) (before_of q new.entries.items) end (spelled q (record { links = new; sizes = sizes }))
       spells_kept =
@@ -336,11 +305,11 @@ module _ {S : Type 0} where
 
     -- the newest place is inside
     pub last_inside : (o : Order) → 0 < a.links.entries.len → before_of o entries end < a.links.entries.len
-    last_inside o some = ⊎_elim
-        (λ (t : (eqb (before_of o entries end) end ≡ true) × (before_of o entries end ≡ end)). let e : before_of o entries end ≡ 0 = t.1 in omega arith)
-        (λ (t : (eqb (before_of o entries end) end ≡ false) × (before_of o entries end ≢ end)). moves_inside o (before_of o entries end)
-        (λ s. t.1 (sym s ∙ Spelled.last_leads (after_of o entries) (before_of o entries) end end (spelled o a) (good.spells o).leads)))
-        (eqb_tells (before_of o entries end) end)
+    last_inside o some = elim (eqb_tells (before_of o entries end) end) [
+      | inl t ↦ omega (arith, t.1)
+      | inr t ↦ moves_inside o (before_of o entries end)
+          (λ s. t.1 (sym s ∙ Spelled.last_leads (after_of o entries) (before_of o entries) end end (spelled o a) (good.spells o).leads))
+    ]
 
     -- ---- what stands at a place changes
 
@@ -367,17 +336,17 @@ module _ {S : Type 0} where
 
       this_slot : get_or (slots_of (set entries p y)) p None ≡ slot_in y
       this_slot = ap (λ (ys : List (Option (Slot S))). get_or ys p None) set_slots
-          ∙ get_or-set_same (slots_of entries) p (slot_in y) None (let e : length (slots_of entries) ≡ a.links.entries.len = room in omega arith)
+          ∙ get_or-set_same (slots_of entries) p (slot_in y) None (omega (arith, room))
 
       set_vacant : (i : ℕ) → IsSome (get_or (slots_of (set entries p y)) i None) → Absent i (spelled Free a)
-      set_vacant i h = ⊎_elim
-          (λ (t : (eqb i p ≡ true) × (i ≡ p)). subst (λ (k : ℕ). Absent k (spelled Free a)) (sym t.1)
-          (vacant (subst IsSome this_slot (subst (λ (k : ℕ). IsSome (get_or (slots_of (set entries p y)) k None)) t.1 h))))
-          (λ (t : (eqb i p ≡ false) × (i ≢ p)). good.vacant i (subst IsSome (other_slot i t.1) h))
-          (eqb_tells i p)
+      set_vacant i h = elim (eqb_tells i p) [
+        | inl t ↦ subst (λ (k : ℕ). Absent k (spelled Free a)) (sym t.1)
+            (vacant (subst IsSome this_slot (subst (λ (k : ℕ). IsSome (get_or (slots_of (set entries p y)) k None)) t.1 h)))
+        | inr t ↦ good.vacant i (subst IsSome (other_slot i t.1) h)
+      ]
 
       set_ends : get_or (slots_of (set entries p y)) end None ≡ None
-      set_ends = other_slot end (λ e. let no : 0 ≡ p = e in omega arith) ∙ good.ends
+      set_ends = other_slot end (λ e. omega (arith, e)) ∙ good.ends
 
       set_slot : (now : Lined (Slot S)) (o : Option (Slot S)) → view_of_table a ≡ now → slot_in y ≡ o
           → IsGoodTable (with_entry p y) × (view_of_table (with_entry p y) ≡ record now { slots = set now.slots p o })
@@ -445,22 +414,19 @@ module _ {S : Type 0} where
 
     -- the place after the last entry is not free
     pub outside_absent : (now : Lined (Slot S)) → view_of_table a ≡ now → Absent (length now.slots) now.free
-    outside_absent now is = subst (λ (t : Lined (Slot S)). Absent (length t.slots) t.free) is (subst (λ (n : ℕ). Absent n (spelled Free a)) (sym room) (⊎_elim
-        (λ (t : (eqb a.links.entries.len end ≡ true) × (a.links.entries.len ≡ end)). subst (λ (p : ℕ). Absent p (spelled Free a)) (sym t.1) (good.spells Free).apart)
-        (λ (t : (eqb a.links.entries.len end ≡ false) × (a.links.entries.len ≢ end)). Spelled.is_absent (after_of Free entries) (before_of Free entries) end (spelled Free a)
-        (good.spells Free) a.links.entries.len t.1
-        (ap (after_at Free a.links.entries.len) (slice_get_past entries a.links.entries.len (let e : a.links.entries.len ≡ length entries = a.links.entries.ok.0 in omega arith))))
-        (eqb_tells a.links.entries.len end)))
+    outside_absent now is = subst (λ (t : Lined (Slot S)). Absent (length t.slots) t.free) is (subst (λ (n : ℕ). Absent n (spelled Free a)) (sym room) (elim (eqb_tells a.links.entries.len end) [
+      | inl t ↦ subst (λ (p : ℕ). Absent p (spelled Free a)) (sym t.1) (good.spells Free).apart
+      | inr t ↦ Spelled.is_absent (after_of Free entries) (before_of Free entries) end (spelled Free a)
+          (good.spells Free) a.links.entries.len t.1
+          (ap (after_at Free a.links.entries.len) (slice_get_past entries a.links.entries.len (omega (arith, a.links.entries.ok.0))))
+    ]))
 
     -- a free place is inside, and no end; nothing stands there, and it is free once
     pub free_place : (now : Lined (Slot S)) (p j : ℕ) → view_of_table a ≡ now → slice_get now.free j ≡ Some p
         → (p < length now.slots) × (0 < p) × (get_or now.slots p None ≡ None) × (length (without p now.free) + 1 ≡ length now.free)
     free_place now p j is e = subst (λ (t : Lined (Slot S)). (p < length t.slots) × (0 < p) × (get_or t.slots p None ≡ None) × (length (without p t.free) + 1 ≡ length t.free)) is (
-      (let l : p < a.links.entries.len = place_inside Free p j there in let r : length (slots_of entries) ≡ a.links.entries.len = room in omega arith),
-      ⊎_elim
-          (λ (t : (eqb p 0 ≡ true) × (p ≡ 0)). absurd (Spelled.absent_get end j (spelled Free a) (good.spells Free).apart (there ∙ ap (λ (q : ℕ). Some q) t.1)))
-          (λ (t : (eqb p 0 ≡ false) × (p ≢ 0)). let no : p ≢ 0 = t.1 in omega arith)
-          (eqb_tells p 0),
+      (omega (arith, place_inside Free p j there, room)),
+      elim (eqb_tells p 0) [ inl t ↦ absurd (Spelled.absent_get end j (spelled Free a) (good.spells Free).apart (there ∙ ap (λ (q : ℕ). Some q) t.1)) | inr t ↦ omega (arith, t.1) ],
       vacant (get_or (slots_of entries) p None) refl,
       (Spelled.member_at (after_of Free entries) (before_of Free entries) end (spelled Free a) (good.spells Free) p j there).fewer,
     )

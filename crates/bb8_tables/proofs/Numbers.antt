@@ -1,9 +1,5 @@
 -- The numbers of what stands at places in line.
-use Rattle.std.proofs.Common.{◌≡◌, ◌≢◌, ℕ, suc, Bool, true, false, cond, not, eqb, List, [], ◌∷◌, ◌++◌, map, Option, Some, None, slice_get, get_or, refl, sym, ap, ◌∙◌, ⊎_elim, subst, eq-eqb, ne_eqb}
-use Rattle.std.proofs.lemmas.List.{map_push}
-use Rattle.std.proofs.lemmas.Bool.Decides.{eqb_tells}
-use Rattle.bb8_tables.specs.Machine.{without}
-use Rattle.bb8_tables.specs.Slots.{IsDistinct, ArePlaces, number_in, numbers_at}
+use Rattle.bb8_tables.proofs.Words.{◌≡◌, ◌≢◌, ℕ, suc, Bool, true, false, cond, not, eqb, List, [], ◌∷◌, ◌++◌, map, Option, Some, None, slice_get, get_or, refl, sym, ap, ◌∙◌, subst, eq-eqb, ne_eqb, map_push, eqb_tells, without, IsDistinct, ArePlaces, number_in, numbers_at, inl, inr}
 use Rattle.bb8_tables.proofs.Slots.{Updates}
 
 -- a line without a place, told by something else that tells its places apart
@@ -45,11 +41,11 @@ module _ {X : Type 0} (number : X → ℕ) where
   -- numbers where what changed kept its number
   pub numbers_same : (old new : List (Option X)) (place : ℕ) (x y : X) (places : List ℕ) → get_or old place None ≡ Some x → number y ≡ number x
       → Updates old new place (Some y) → numbers_at number new places ≡ numbers_at number old places
-  numbers_same old new place x y places was same u = numbers_alike old new places (λ j k e. ⊎_elim
-      (λ (t : (eqb k place ≡ true) × (k ≡ place)). subst (λ (i : ℕ). number_in number (get_or new i None) ≡ number_in number (get_or old i None)) (sym t.1)
-      (ap (number_in number) u.changed ∙ same ∙ sym (ap (number_in number) was)))
-      (λ (t : (eqb k place ≡ false) × (k ≢ place)). ap (number_in number) (u.others k t.1))
-      (eqb_tells k place))
+  numbers_same old new place x y places was same u = numbers_alike old new places (λ j k e. elim (eqb_tells k place) [
+    | inl t ↦ subst (λ (i : ℕ). number_in number (get_or new i None) ≡ number_in number (get_or old i None)) (sym t.1)
+        (ap (number_in number) u.changed ∙ same ∙ sym (ap (number_in number) was))
+    | inr t ↦ ap (number_in number) (u.others k t.1)
+  ])
 
   -- a place comes to the new end
   pub numbers_push : (xs : List (Option X)) (places : List ℕ) (place : ℕ) (x : X) → get_or xs place None ≡ Some x → numbers_at number xs
@@ -66,10 +62,10 @@ module _ {X : Type 0} (number : X → ℕ) where
       told : (j k : ℕ) → slice_get places j ≡ Some k → eqb k place ≡ eqb (number_in number (get_or xs k None)) (number_in number (get_or xs place None))
       told j k f =
           let stands = are.each j k f in
-          ⊎_elim
-          (λ (t : (eqb k place ≡ true) × (k ≡ place)). t.0 ∙ sym (eq-eqb _ _ (ap (λ (i : ℕ). number_in number (get_or xs i None)) t.1)))
-          (λ (t : (eqb k place ≡ false) × (k ≢ place)). t.0 ∙ sym (ne_eqb _ _ (λ s. t.1 (distinct k place stands.0 x stands.1 e (sym (ap (number_in number) stands.1) ∙ s ∙ ap (number_in number) e)))))
-          (eqb_tells k place)
+          elim (eqb_tells k place) [
+            | inl t ↦ t.0 ∙ sym (eq-eqb _ _ (ap (λ (i : ℕ). number_in number (get_or xs i None)) t.1))
+            | inr t ↦ t.0 ∙ sym (ne_eqb _ _ (λ s. t.1 (distinct k place stands.0 x stands.1 e (sym (ap (number_in number) stands.1) ∙ s ∙ ap (number_in number) e))))
+          ]
 
   -- a number that nothing has is in no line
   pub numbers_fresh : {test : X → Bool} (xs : List (Option X)) (places : List ℕ) (q : ℕ) → ArePlaces test xs places → ((i : ℕ) (x : X) → get_or xs i None ≡ Some x → number x ≢ q)

@@ -1,6 +1,5 @@
 -- Orders of all the places at which stands what passes a test.
-use Rattle.bb8_tables.proofs.Words.{◌≡◌, ◌≢◌, ◌≤◌, ℕ, zero, suc, Bool, true, false, eqb, arith, map, List, [], ◌∷◌, ◌++◌, Option, Some, None, slice_get, get_or, option_map, refl, sym, ap, ◌∙◌, ◌⊎◌, inl, inr, ⊎_elim, subst, map-append, slice_get-map, without, IsOrder, ArePlaces, IsRising, AllFrom, number_in, numbers_at, Absent}
-use Rattle.bb8_types.proofs.Numbered.{same_or_not}
+use Rattle.bb8_tables.proofs.Words.{◌≡◌, ◌≢◌, ◌≤◌, ℕ, zero, suc, Bool, true, false, arith, map, List, [], ◌∷◌, ◌++◌, Option, Some, None, slice_get, get_or, option_map, refl, sym, ap, ◌∙◌, ◌⊎◌, inl, inr, subst, map-append, slice_get-map, without, IsOrder, ArePlaces, IsRising, AllFrom, number_in, numbers_at, Absent, same_or_not}
 use Rattle.bb8_tables.proofs.Lines.{same_line, places_without, left_away}
 use Rattle.bb8_tables.proofs.Numbers.{numbers_all, numbers_kept, numbers_same, numbers_push}
 use Rattle.bb8_tables.proofs.Slots.{Updates, changed_cases, line_avoids, line_kept, line_pushed}
@@ -39,33 +38,21 @@ module _ {X : Type 0} (test : X → Bool) where
   -- a place that does not pass is not among them
   order_avoids : (slots : List (Option X)) (places : List ℕ) (place : ℕ) → ArePlaces test slots places → passes test (get_or slots place None) ≡ false → (j k : ℕ)
       → slice_get places j ≡ Some k → k ≢ place
-  order_avoids slots places place are off = line_avoids _ _ _ _ slots places place are
-      (λ x e on. let clash : true ≡ false = sym on ∙ not_passing (get_or slots place None) x off e in cc)
+  order_avoids slots places place are off = grind (arith, line_avoids, not_passing)
 
 module _ {X : Type 0} {test : X → Bool} {moment : X → ℕ} where
   pub no_order : IsOrder test moment [] []
-  no_order = record {
-    are = record { each = λ j k e. cc; once = λ i j k m e f s. cc };
-    all = λ i x e a. cc;
-    rises = tt;
-  }
+  no_order = grind arith
 
   -- the same stands at each place
   pub same_order : {old new : List (Option X)} {places : List ℕ} → IsOrder test moment old places → ((i : ℕ) → get_or new i None ≡ get_or old i None) → IsOrder test moment new places
-  same_order {old} {new} {places} o same = record {
-    are = same_line o.are same;
-    all = λ i x e a. o.all i x (sym (same i) ∙ e) a;
-    rises = subst IsRising (sym (numbers_all moment old new places same)) o.rises;
-  }
+  same_order {old} {new} {places} o same = grind (arith, same_line o.are same, numbers_all moment old new places same)
 
   module _ {old new : List (Option X)} {places : List ℕ} {place : ℕ} {slot : Option X} (o : IsOrder test moment old places) (u : Updates old new place slot) where
     -- what holds of what stands after the change
     changed : (P : ℕ → Type 0) → ((x : X) → slot ≡ Some x → P place → test x ≡ false) → ((i : ℕ) → i ≢ place → P i → Absent i places) → (i : ℕ) (x : X) → get_or new i None ≡ Some x → P i
         → test x ≡ false
-    changed P here there i x e p = ⊎_elim
-        (λ (t : (i ≡ place) × (slot ≡ Some x)). here x t.1 (subst P t.0 p))
-        (λ (t : (i ≢ place) × (get_or old i None ≡ Some x)). o.all i x t.1 (there i t.0 p))
-        (changed_cases i x u e)
+    changed P here there i x e p = elim (changed_cases i x u e) [ inl t ↦ here x t.1 (subst P t.0 p) | inr t ↦ o.all i x t.1 (there i t.0 p) ]
 
     -- a place passes no more, and leaves
     pub left_order : passes test slot ≡ false → IsOrder test moment new (without place places)
@@ -104,8 +91,7 @@ module _ {X : Type 0} {test : X → Bool} {moment : X → ℕ} where
           moments_before (k ∷ ks) stand zero n e =
               let st = stand 0 k refl in
               let is : n ≡ moment st.0 = (let back : n ≡ number_in moment (get_or old k None) = cc in back) ∙ ap (number_in moment) st.1 in
-              let l : moment st.0 ≤ moment y = late k st.0 st.1 in
-              omega arith
+              omega (arith, late k st.0 st.1)
           moments_before (k ∷ ks) stand (suc j) n e = moments_before ks (λ i m f. stand (suc i) m f) j n e
 
   -- a place passes before and after
@@ -113,10 +99,10 @@ module _ {X : Type 0} {test : X → Bool} {moment : X → ℕ} where
       → test x ≡ true → test y ≡ true → moment y ≡ moment x → IsOrder test moment new places
   stays_order {old} {new} {places} {place} {x} {y} o u was on on_now same = record {
     are = record {
-      each = λ j k e. let st = o.are.each j k e in ⊎_elim
-          (λ (t : (eqb k place ≡ true) × (k ≡ place)). (y, subst (λ (i : ℕ). get_or new i None ≡ Some y) (sym t.1) u.changed, refl, on_now))
-          (λ (t : (eqb k place ≡ false) × (k ≢ place)). (st.0, u.others k t.1 ∙ st.1, st.2, st.3))
-          (same_or_not k place);
+      each = λ j k e. let st = o.are.each j k e in elim (same_or_not k place) [
+        | inl t ↦ (y, subst (λ (i : ℕ). get_or new i None ≡ Some y) (sym t.1) u.changed, refl, on_now)
+        | inr t ↦ (st.0, u.others k t.1 ∙ st.1, st.2, st.3)
+      ];
       once = o.are.once;
     };
     all = changed o u (λ (i : ℕ). Absent i places) (λ z e a. absurd (let clash : true ≡ false = sym on ∙ o.all place x was a in cc)) (λ i n a. a);
@@ -128,26 +114,17 @@ module _ {X : Type 0} {test : X → Bool} {moment : X → ℕ} where
 -- a place is absent, or stands at an index
 absent_or_at : (p : ℕ) (xs : List ℕ) → Absent p xs ⊎ ((j : ℕ) × (slice_get xs j ≡ Some p))
 absent_or_at p [] = inl tt
-absent_or_at p (x ∷ xs) = ⊎_elim
-    (λ (t : (eqb x p ≡ true) × (x ≡ p)). inr (0, ap (λ (q : ℕ). Some q) t.1))
-    (λ (t : (eqb x p ≡ false) × (x ≢ p)). ⊎_elim
-    (λ (a : Absent p xs). inl (t.1, a))
-    (λ (h : (j : ℕ) × (slice_get xs j ≡ Some p)). inr (suc h.0, h.1))
-    (absent_or_at p xs))
-    (same_or_not x p)
+absent_or_at p (x ∷ xs) = elim (same_or_not x p) [ inl t ↦ inr (0, ap (λ (q : ℕ). Some q) t.1) | inr t ↦ elim (absent_or_at p xs) [ inl a ↦ inl (t.1, a) | inr h ↦ inr (suc h.0, h.1) ] ]
 
 module _ {X : Type 0} {test : X → Bool} {moment : X → ℕ} where
   -- what passes stands in the order
   pub found_in : {slots : List (Option X)} {places : List ℕ} → IsOrder test moment slots places → (i : ℕ) (x : X) → get_or slots i None ≡ Some x → test x ≡ true
       → (j : ℕ) × (slice_get places j ≡ Some i)
-  found_in {slots} {places} o i x e on = ⊎_elim
-      (λ (a : Absent i places). absurd (let clash : true ≡ false = sym on ∙ o.all i x e a in cc))
-      (λ (h : (j : ℕ) × (slice_get places j ≡ Some i)). h)
-      (absent_or_at i places)
+  found_in {slots} {places} o i x e on = elim (absent_or_at i places) [ inl a ↦ absurd (let clash : true ≡ false = sym on ∙ o.all i x e a in cc) | inr h ↦ h ]
 
 from_at : (n m j : ℕ) (ns : List ℕ) → AllFrom n ns → slice_get ns j ≡ Some m → n ≤ m
 from_at n m j [] a e = cc
-from_at n m zero (x ∷ ns) a e = let both : Some x ≡ Some m = e in let is : x ≡ m = cc in let l : n ≤ x = a.0 in omega arith
+from_at n m zero (x ∷ ns) a e = let is : x ≡ m = cc in omega (arith, a.0)
 from_at n m (suc j) (x ∷ ns) a e = from_at n m j ns a.1 e
 
 rising_rest : (ns ms : List ℕ) → IsRising (ns ++ ms) → IsRising ms
@@ -165,15 +142,10 @@ module _ {X : Type 0} (moment : X → ℕ) (slots : List (Option X)) where
     where
       go : (i : ℕ) → slice_get (p ∷ rest) i ≡ Some q → IsRising (numbers_at moment slots (p ∷ rest)) → moment x ≤ moment y
       go zero g later =
-          let both : Some p ≡ Some q = g in
-          let same : Some x ≡ Some y = sym e ∙ subst (λ (k : ℕ). get_or slots k None ≡ Some y) (let is : q ≡ p = cc in is) f in
           let is : x ≡ y = cc in
-          let m : moment x ≡ moment y = ap moment is in
-          omega arith
+          omega (arith, ap moment is)
       go (suc i) g later =
           let l : number_in moment (get_or slots p None) ≤ number_in moment (get_or slots q None) =
           from_at _ _ i (numbers_at moment slots rest) later.0
           (slice_get-map (λ (k : ℕ). number_in moment (get_or slots k None)) rest i ∙ ap (option_map (λ (k : ℕ). number_in moment (get_or slots k None))) g) in
-          let a : number_in moment (get_or slots p None) ≡ moment x = ap (number_in moment) e in
-          let b : number_in moment (get_or slots q None) ≡ moment y = ap (number_in moment) f in
-          omega arith
+          omega (arith, ap (number_in moment) e, ap (number_in moment) f)

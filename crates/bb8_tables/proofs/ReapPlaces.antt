@@ -1,8 +1,6 @@
 -- Idle connections that end.
-use Rattle.bb8_tables.proofs.Words.{◌≡◌, ℕ, ◌+◌, ◌-◌, ◌≤◌, Bool, true, false, ◌&&◌, List, length, Option, Some, None, slice_get, refl, sym, ap, ◌∙◌, arith, subst, append-nil, drop-map, length-map, get, Buffer, Settings, is_idle, is_unclaimed, is_conn, is_approval, lives_out, Standing, Slot, Closed, offered_all, closed_in, EndsFirst, Lined, slot_at, without, after_reaped, number_in, numbers_at, view_of_records, AreGoodRecords, ShownRecords}
-use Rattle.bb8_tables.specs.declared.records.Records.TheInside.{Inside}
+use Rattle.bb8_tables.proofs.Words.{◌≡◌, ℕ, ◌+◌, ◌-◌, ◌≤◌, Bool, true, false, List, length, Option, Some, None, slice_get, refl, sym, ap, ◌∙◌, arith, subst, append-nil, drop-map, length-map, get, Buffer, Settings, is_idle, is_unclaimed, is_conn, is_approval, lives_out, Standing, Slot, Closed, offered_all, closed_in, EndsFirst, Lined, slot_at, without, after_reaped, number_in, numbers_at, view_of_records, AreGoodRecords, ShownRecords, Inside, idle_is}
 use Rattle.bb8_tables.specs.Machine as machine
-use Rattle.bb8_types.proofs.Places.{idle_is}
 use Rattle.bb8_tables.proofs.Lines.{other_line, without_first, one_shorter}
 use Rattle.bb8_tables.proofs.Orders.{found_in}
 use Rattle.bb8_tables.proofs.RecordPlaces.{shown_at, conn_counted, ended_good}
@@ -12,11 +10,7 @@ use Rattle.bb8_tables.proofs.Views.{same_records}
 module _ {C : Type 0} where
   -- what lives too long is idle
   pub lives_idle : (config : Settings) (now : ℕ) (s : Standing C) → lives_out config now (Some s) ≡ true → is_idle s.place ≡ true
-  lives_idle config now s h = go (is_idle s.place) _ h
-    where
-      go : (i a : Bool) → (i && a) ≡ true → i ≡ true
-      go true a e = refl
-      go false a e = cc
+  lives_idle config now s h = grind arith
 
   -- an idle connection ends, wherever it stands in line
   module _ (a : Inside C) (place : ℕ) (x : Slot (Standing C)) (slots : Lined (Slot (Standing C))) (good : AreGoodRecords a)
@@ -41,8 +35,7 @@ module _ {C : Type 0} where
 
     -- the line is shorter by one
     freed_shorter : length slots.line + 1 ≡ length a.slots.line
-    freed_shorter = let there = found_in good.idle place x at_place was in
-        ap (λ (t : Lined (Slot (Standing C))). length t.line + 1) gone ∙ one_shorter a.slots.slots a.slots.line place there.0 good.idle.are there.1
+    freed_shorter = grind (arith, found_in good.idle place x at_place was, one_shorter)
 
     -- it ends because it was due
     pub freed_due : (test : Option (Standing C) → Bool) (old : ShownRecords C) {list offered : Buffer (Closed C)} → view_of_records a ≡ old → test (Some x.standing) ≡ true
@@ -51,7 +44,7 @@ module _ {C : Type 0} where
         (λ (s : ShownRecords C). EndsFirst test s x.number (view_of_records (record a { slots = slots; conns = a.conns - 1 })) list offered) shows (record {
           is_due = ap test (shown_at a place x.number x good at_place refl) ∙ is;
           state = freed_view;
-          conns = (let some : 1 ≤ a.conns = freed_counted in omega arith);
+          conns = omega (arith, freed_counted);
           idle = ap (λ (n : ℕ). n + 1) (length-map slots.line (λ (i : ℕ). number_in numbered (slot_at slots i))) ∙ freed_shorter ∙ sym
               (length-map a.slots.line (λ (i : ℕ). number_in numbered (slot_at a.slots i)));
           listed = listed

@@ -1,13 +1,5 @@
 -- Idle connections that have ended, one after another.
-use Rattle.std.proofs.Common.{◌≡◌, ℕ, ◌+◌, Bool, true, List, [], ◌∷◌, ◌++◌, length, slice_get, Option, Some, refl, sym, ap, ◌∙◌, arith, subst, length-append, append_assoc}
-use Rattle.std.specs.FinMap.{get, remove}
-use Rattle.circular_buffer.specs.Buffer.{Buffer}
-use Rattle.bb8_types.specs.declared.standing.Standing.{Standing}
-use Rattle.bb8_tables.specs.declared.closed.Closed.{Closed}
-use Rattle.bb8_tables.specs.Closed.{offered, offered_all, closed_in, closed_of}
-use Rattle.bb8_tables.specs.Dues.{EndsFirst, Ends}
-use Rattle.bb8_tables.specs.Reaps.{after_reaped, after_reap, AreReaped, AreFirst}
-use Rattle.bb8_tables.specs.Views.{ShownRecords}
+use Rattle.bb8_tables.proofs.Words.{◌≡◌, ℕ, ◌+◌, Bool, true, List, [], ◌∷◌, ◌++◌, length, slice_get, Option, Some, refl, sym, ap, ◌∙◌, arith, subst, length-append, append_assoc, get, remove, Buffer, Standing, Closed, offered, offered_all, closed_in, closed_of, EndsFirst, Ends, after_reaped, after_reap, AreReaped, AreFirst, ShownRecords}
 
 -- a list is offered these, and then those
 pub offered_both : {X : Type 0} (xs ys : List X) (b : Buffer X) → offered_all (xs ++ ys) b ≡ offered_all ys (offered_all xs b)

@@ -1,9 +1,7 @@
 -- The code's side of each change: what it does to the fields, seen in what they mean.
-use Rattle.bb8_tables.proofs.Words.{◌≡◌, ◌≢◌, ℕ, ◌+◌, ◌-◌, ◌<◌, ◌≤◌, Bool, true, false, cond, not, [], ◌∷◌, ◌++◌, map, length, Option, Some, None, IsSome, set, slice_get, drop, refl, sym, ap, ◌∙◌, arith, length-append, append-nil, map_push, drop-map, length-map, get, Lined, slot_at, Absent, Buffer, buffer, Place, Unclaimed, Claimed, Idle, Guarded, Standing, Holder, Guard, Get, Key, Slot, QueueStrategy, is_idle, is_unclaimed, is_conn, is_approval, is_out, place_with, with_place, first_place, first_of, comes_from, birth_in, IsTable, number_in, numbers_at, view_of_records, AreGoodRecords, passes, IsLineOf, IsOrderOf, tally, one, ShownRecords, NoneAfter, most_records}
-use Rattle.bb8_tables.specs.declared.records.Records.TheInside.{Inside}
+use Rattle.bb8_tables.proofs.Words.{◌≡◌, ◌≢◌, ℕ, ◌+◌, ◌-◌, ◌<◌, ◌≤◌, Bool, true, false, cond, not, [], ◌∷◌, ◌++◌, map, length, Option, Some, None, IsSome, set, slice_get, drop, refl, sym, ap, ◌∙◌, arith, length-append, append-nil, map_push, drop-map, length-map, get, Lined, slot_at, Absent, Buffer, buffer, Place, Unclaimed, Claimed, Idle, Guarded, Standing, Holder, Guard, Get, Key, Slot, QueueStrategy, is_idle, is_unclaimed, is_conn, is_approval, is_out, place_with, with_place, first_place, first_of, comes_from, birth_in, IsTable, number_in, numbers_at, view_of_records, AreGoodRecords, passes, IsLineOf, IsOrderOf, tally, one, ShownRecords, NoneAfter, most_records, Inside, unclaimed_is, idle_is, held_conn, idle_from, unclaimed_from, conn_from, approval_from}
 use Rattle.bb8_tables.specs.Machine as machine
 use Rattle.bb8_tables.proofs.Views.{same_records}
-use Rattle.bb8_types.proofs.Places.{unclaimed_is, idle_is, held_conn, idle_from, unclaimed_from, conn_from, approval_from}
 use Rattle.bb8_tables.proofs.Lines.{other_line, free_line, added_line, shorter_line, same_line, places_absent, free_absent}
 use Rattle.bb8_tables.proofs.Numbers.{numbers_all}
 use Rattle.bb8_tables.proofs.Spelled.{without_absent}
@@ -25,10 +23,7 @@ module _ {C : Type 0} where
   idle_conn p e = ap is_conn (idle_is p e).1
 
   pub idle_fit : (a : Inside C) → AreGoodRecords a → length a.slots.line ≤ a.conns
-  idle_fit a good =
-      let l : length a.slots.line ≤ tally (passes is_conn) a.slots.slots = Slots.line_length _ _ _ _ (passes is_conn) refl
-      (λ x e. idle_conn x.standing.place e) a.slots.line a.slots.slots good.idle.are in
-      omega (arith, good.conns_are)
+  idle_fit a good = grind (arith, Slots.line_length, idle_conn)
 
   pub unclaimed_fit : (a : Inside C) → AreGoodRecords a → length a.unclaimed.items ≤ a.approved
   unclaimed_fit a good =
@@ -38,16 +33,10 @@ module _ {C : Type 0} where
 
   -- what stands somewhere is counted
   pub conn_counted : (a : Inside C) (i : ℕ) (x : Slot (Standing C)) (b : Bool) → AreGoodRecords a → slot_at a.slots i ≡ Some x → is_conn x.standing.place ≡ b → one b ≤ a.conns
-  conn_counted a i x b good e is =
-      let l : one (passes is_conn (slot_at a.slots i)) ≤ tally (passes is_conn) a.slots.slots = tally_at (passes is_conn) refl a.slots.slots i in
-      let same : one (passes is_conn (slot_at a.slots i)) ≡ one b = ap one (ap (passes is_conn) e ∙ is) in
-      omega (arith, good.conns_are)
+  conn_counted a i x b good e is = omega (arith, tally_at (passes is_conn) refl a.slots.slots i, ap one (ap (passes is_conn) e ∙ is), good.conns_are)
 
   pub approval_counted : (a : Inside C) (i : ℕ) (x : Slot (Standing C)) (b : Bool) → AreGoodRecords a → slot_at a.slots i ≡ Some x → is_approval x.standing.place ≡ b → one b ≤ a.approved
-  approval_counted a i x b good e is =
-      let l : one (passes is_approval (slot_at a.slots i)) ≤ tally (passes is_approval) a.slots.slots = tally_at (passes is_approval) refl a.slots.slots i in
-      let same : one (passes is_approval (slot_at a.slots i)) ≡ one b = ap one (ap (passes is_approval) e ∙ is) in
-      omega (arith, good.approved_are)
+  approval_counted a i x b good e is = omega (arith, tally_at (passes is_approval) refl a.slots.slots i, ap one (ap (passes is_approval) e ∙ is), good.approved_are)
 
   -- a record that enters or ends is counted, and in neither order but that of births where it is a connection
   module _ (a : Inside C) (opening : Bool) (place : ℕ) (x : Slot (Standing C)) (good : AreGoodRecords a) (at_place : slot_at a.slots place ≡ Some x)
@@ -84,9 +73,7 @@ module _ {C : Type 0} where
 
   pub some_shown : (a : Inside C) (q i : ℕ) (x y : Slot (Standing C)) (s : ShownRecords C) → AreGoodRecords a → view_of_records a ≡ s
       → slot_at a.slots i ≡ Some x → x.number ≡ q → Some y ≡ slot_at a.slots i → get s.places q ≡ Some y.standing
-  some_shown a q i x y s good is e same found =
-      let alike : x ≡ y = let both : Some x ≡ Some y = sym e ∙ sym found in cc in
-      ap (λ (t : ShownRecords C). get t.places q) (sym is) ∙ shown_at a i q x good e same ∙ ap (λ (z : Slot (Standing C)). Some z.standing) alike
+  some_shown a q i x y s good is e same found = grind (arith, shown_at a i q x good e same)
 
   pub never_absent : (a : Inside C) (q : ℕ) {r : Standing C} (s : ShownRecords C) {G : Type 0} → view_of_records a ≡ s → get s.places q ≡ Some r
       → ((i : ℕ) (x : Slot (Standing C)) → slot_at a.slots i ≡ Some x → x.number ≢ q) → G
@@ -95,9 +82,7 @@ module _ {C : Type 0} where
   -- the record that is shown of a number stands where the number was found
   pub stood : (a : Inside C) (q i : ℕ) (x : Slot (Standing C)) (test : Place C → Bool) (s : ShownRecords C) → AreGoodRecords a → view_of_records a ≡ s
       → (r : Standing C) × (get s.places q ≡ Some r) × (test r.place ≡ true) → slot_at a.slots i ≡ Some x → x.number ≡ q → test x.standing.place ≡ true
-  stood a q i x test s good is h e same =
-      let both : Some x.standing ≡ Some h.0 = sym (shown_at a i q x good e same) ∙ ap (λ (t : ShownRecords C). get t.places q) is ∙ h.1 in
-      ap (λ (r : Standing C). test r.place) (let alike : x.standing ≡ h.0 = cc in alike) ∙ h.2
+  stood a q i x test s good is h e same = grind (arith, shown_at a i q x good e same)
 
   -- ---- one place changes
 
@@ -115,8 +100,8 @@ module _ {C : Type 0} where
     idle = idle;
     births = births;
     unclaimed = line;
-    conns_are = let t : tally (passes is_conn) slots.slots + one m ≡ a.conns + one n = tally_set (passes is_conn) refl m n good.conns_are at_place u m_is n_is in omega arith;
-    approved_are = let t : tally (passes is_approval) slots.slots + one k ≡ a.approved + one l = tally_set (passes is_approval) refl k l good.approved_are at_place u k_is l_is in omega arith;
+    conns_are = omega (arith, tally_set (passes is_conn) refl m n good.conns_are at_place u m_is n_is);
+    approved_are = omega (arith, tally_set (passes is_approval) refl k l good.approved_are at_place u k_is l_is);
     sizes = let s = good.sizes in
         record { peak_holds = few; peak_few = s.peak_few; room_holds = omega (arith, s.room_holds, s.peak_holds); unclaimed_room_holds = omega (arith, s.unclaimed_room_holds) };
   }
@@ -125,15 +110,7 @@ module _ {C : Type 0} where
 
   pub new_good : (first : ℕ) (slots : Lined (Slot (Standing C))) (unclaimed : Buffer Key) → slots ≡ record { slots = []; line = []; births = []; free = [] } → unclaimed ≡ buffer [] 0
       → AreGoodRecords (record { next = first; slots = slots; unclaimed = unclaimed; conns = 0; approved = 0; peak = 0 })
-  new_good first slots unclaimed empty none = rw (empty, none) (record {
-    table = record { distinct = λ i j x y e f s. cc; below = λ i x e. cc };
-    idle = no_order;
-    births = no_order;
-    unclaimed = record { each = λ j k e. cc; once = λ i j k m e f s. cc };
-    conns_are = refl;
-    approved_are = refl;
-    sizes = record { peak_holds = omega arith; peak_few = omega arith; room_holds = omega arith; unclaimed_room_holds = omega arith };
-  })
+  new_good first slots unclaimed empty none = grind (arith, no_order)
 
   -- ---- other memory
 
@@ -154,11 +131,7 @@ module _ {C : Type 0} where
 
     pub kept_view : (unclaimed : Buffer Key) → unclaimed.items ≡ a.unclaimed.items → view_of_records (record a { slots = slots; unclaimed = unclaimed; peak = peak }) ≡ record
         (view_of_records a) { peak = peak }
-    kept_view unclaimed items = same_records _ _ refl
-        (Slots.held_same numbered (λ x. x.standing) a.slots.slots slots.slots good.table.distinct kept)
-        (ap (numbers_at numbered slots.slots) line_is ∙ numbers_all numbered a.slots.slots slots.slots a.slots.line kept)
-        (ap (map (λ (k : Key). k.number)) items)
-        refl refl refl
+    kept_view unclaimed items = grind (arith, same_records, Slots.held_same, numbers_all numbered a.slots.slots slots.slots a.slots.line kept)
 
   -- ---- claim
 
@@ -263,9 +236,9 @@ module _ {C : Type 0} where
   -- ---- enter
 
   -- a place comes into line, and into the order of births where its connection is new
-  pub lined : (new : Bool) (place : ℕ) (old mid now : Lined (Slot (Standing C))) → mid ≡ record old { line = old.line ++ place ∷ [] }
-      → now ≡ record mid { births = cond new (mid.births ++ place ∷ []) mid.births } → now ≡ record old { line = old.line ++ place ∷ []; births = cond new (old.births ++ place ∷ []) old.births }
-  lined new place old mid now line births = rw (births, line) refl
+  pub lined : (place : ℕ) (old mid now : Lined (Slot (Standing C))) → mid ≡ record old { line = old.line ++ place ∷ [] }
+      → now ≡ record mid { births = mid.births ++ place ∷ [] } → now ≡ record old { line = old.line ++ place ∷ []; births = old.births ++ place ∷ [] }
+  lined place old mid now line births = rw (births, line) refl
 
   -- a claimed approval, or a connection that was out, becomes idle
   module _ (a : Inside C) (opening : Bool) (place q : ℕ) (x : Slot (Standing C)) (s : Standing C)

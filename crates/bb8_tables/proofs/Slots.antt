@@ -1,9 +1,5 @@
 -- Laws of tables of places.
-use Rattle.std.proofs.Common.{◌≡◌, ◌≢◌, ◌⊎◌, ℕ, zero, suc, ◌+◌, ◌<◌, ◌≤◌, Bool, true, false, cond, eqb, List, [], ◌∷◌, ◌++◌, length, Option, Some, None, get_or, slice_get, refl, sym, ap, ◌∙◌, inl, inr, ⊎_elim, arith, ne_eqb, eq-eqb, subst, nat_cmp, set, get_or-set_other, get_or-set_same, option_map}
-use Rattle.std.specs.FinMap.{FinMap, insert, remove, get, get-empty}
-use Rattle.bb8_types.specs.Numbered.{tally, one}
-use Rattle.bb8_tables.specs.Slots.{values_at, IsLine, IsTable, IsDistinct}
-use Rattle.bb8_types.proofs.Numbered.{same_or_not, get_inserted, get_removed, same_gets}
+use Rattle.bb8_tables.proofs.Words.{◌≡◌, ◌≢◌, ◌⊎◌, ℕ, zero, suc, ◌+◌, ◌<◌, ◌≤◌, Bool, true, false, cond, eqb, List, [], ◌∷◌, ◌++◌, length, Option, Some, None, get_or, slice_get, refl, sym, ap, ◌∙◌, inl, inr, arith, ne_eqb, eq-eqb, subst, nat_cmp, set, get_or-set_other, get_or-set_same, option_map, FinMap, insert, remove, get, get-empty, tally, one, values_at, IsLine, IsTable, IsDistinct, same_or_not, get_inserted, get_removed, same_gets}
 
 -- another thing stands at a place, and nothing else has changed
 pub record Updates {X : Type 0} (old new : List (Option X)) (place : ℕ) (slot : Option X) : Type 0 where
@@ -14,7 +10,7 @@ pub record Updates {X : Type 0} (old new : List (Option X)) (place : ℕ) (slot 
 pub inside : {X : Type 0} (xs : List (Option X)) (i : ℕ) (x : X) → get_or xs i None ≡ Some x → i < length xs
 inside [] i x e = cc
 inside (y ∷ xs) zero x e = omega arith
-inside (y ∷ xs) (suc i) x e = let h : i < length xs = inside xs i x e in omega arith
+inside (y ∷ xs) (suc i) x e = omega (arith, inside xs i x e)
 
 -- another thing stands at a place from now on
 pub set_within : {X : Type 0} (xs : List (Option X)) (place : ℕ) (slot : Option X) → place < length xs → Updates xs (set xs place slot) place slot
@@ -27,11 +23,7 @@ set_at xs place x slot e = set_within xs place slot (inside xs place x e)
 -- what stands at an index after a change
 pub changed_cases : {X : Type 0} {old new : List (Option X)} {place : ℕ} {slot : Option X} (i : ℕ) (y : X) → Updates old new place slot → get_or new i None ≡ Some y
     → ((i ≡ place) × (slot ≡ Some y)) ⊎ ((i ≢ place) × (get_or old i None ≡ Some y))
-changed_cases {X} {old} {new} {place} {slot} i y u e =
-    ⊎_elim
-    (λ (t : (eqb i place ≡ true) × (i ≡ place)). inl (t.1, sym u.changed ∙ subst (λ (j : ℕ). get_or new j None ≡ Some y) t.1 e))
-    (λ (t : (eqb i place ≡ false) × (i ≢ place)). inr (t.1, sym (u.others i t.1) ∙ e))
-    (same_or_not i place)
+changed_cases {X} {old} {new} {place} {slot} i y u e = grind (arith, same_or_not i place)
 
 module _ {X S : Type 0} (number : X → ℕ) (value : X → S) where
   abbrev pub Absent : List (Option X) → ℕ → Type 0
@@ -46,23 +38,21 @@ module _ {X S : Type 0} (number : X → ℕ) (value : X → S) where
   held_some (None ∷ xs) zero x e = cc
   held_some (None ∷ xs) (suc i) x e = held_some xs i x e
   held_some (Some y ∷ xs) zero x e = (value y, held_cons y xs (number x) ∙ rw (eq-eqb (number x) (number y) (let is : x ≡ y = cc in ap number is)) refl)
-  held_some (Some y ∷ xs) (suc i) x e = let ih = held_some xs i x e in ⊎_elim
-      (λ (t : (eqb (number x) (number y) ≡ true) × (number x ≡ number y)). (value y, held_cons y xs (number x) ∙ rw t.0 refl))
-      (λ (t : (eqb (number x) (number y) ≡ false) × (number x ≢ number y)). (ih.0, held_cons y xs (number x) ∙ rw t.0 ih.1))
-      (same_or_not (number x) (number y))
+  held_some (Some y ∷ xs) (suc i) x e = let ih = held_some xs i x e in elim (same_or_not (number x) (number y)) [
+    | inl t ↦ (value y, held_cons y xs (number x) ∙ rw t.0 refl)
+    | inr t ↦ (ih.0, held_cons y xs (number x) ∙ rw t.0 ih.1)
+  ]
 
   -- and what is held stands somewhere
   pub held_found : (xs : List (Option X)) (q : ℕ) (s : S) → get (values_at number value xs) q ≡ Some s → (i : ℕ) × (x : X) × (get_or xs i None ≡ Some x) × (number x ≡ q) × (value x ≡ s)
   held_found [] q s e = absurd (let clash : None ≡ Some s = sym (get-empty nat_cmp q) ∙ e in cc)
   held_found (None ∷ xs) q s e = let f = held_found xs q s e in (suc f.0, f.1, f.2, f.3, f.4)
-  held_found (Some y ∷ xs) q s e = ⊎_elim
-      (λ (t : (eqb q (number y) ≡ true) × (q ≡ number y)).
-      let both : Some (value y) ≡ Some s = ap (λ (b : Bool). cond b (Some (value y)) (get (values_at number value xs) q)) (sym t.0) ∙ sym (held_cons y xs q) ∙ e in
-      (0, y, refl, sym t.1, (let is : value y ≡ s = cc in is)))
-      (λ (t : (eqb q (number y) ≡ false) × (q ≢ number y)).
-      let f = held_found xs q s (ap (λ (b : Bool). cond b (Some (value y)) (get (values_at number value xs) q)) (sym t.0) ∙ sym (held_cons y xs q) ∙ e) in
-      (suc f.0, f.1, f.2, f.3, f.4))
-      (same_or_not q (number y))
+  held_found (Some y ∷ xs) q s e = elim (same_or_not q (number y)) [
+    | inl t ↦ let both : Some (value y) ≡ Some s = ap (λ (b : Bool). cond b (Some (value y)) (get (values_at number value xs) q)) (sym t.0) ∙ sym (held_cons y xs q) ∙ e in
+        (0, y, refl, sym t.1, (let is : value y ≡ s = cc in is))
+    | inr t ↦ let f = held_found xs q s (ap (λ (b : Bool). cond b (Some (value y)) (get (values_at number value xs) q)) (sym t.0) ∙ sym (held_cons y xs q) ∙ e) in
+        (suc f.0, f.1, f.2, f.3, f.4)
+  ]
 
   pub held_absent : (xs : List (Option X)) (q : ℕ) → Absent xs q → get (values_at number value xs) q ≡ None
   held_absent xs q a = go (get (values_at number value xs) q) refl
@@ -72,12 +62,7 @@ module _ {X S : Type 0} (number : X → ℕ) (value : X → S) where
       go (Some s) h = let f = held_found xs q s h in absurd (a f.0 f.1 f.2 f.3)
 
   pub held_at : (xs : List (Option X)) (i : ℕ) (x : X) → IsDistinct number xs → get_or xs i None ≡ Some x → get (values_at number value xs) (number x) ≡ Some (value x)
-  held_at xs i x d e =
-      let h = held_some xs i x e in
-      let f = held_found xs (number x) h.0 h.1 in
-      let here : get_or xs i None ≡ Some f.1 = subst (λ (j : ℕ). get_or xs j None ≡ Some f.1) (d f.0 i f.1 x f.2 e f.3) f.2 in
-      let same : f.1 ≡ x = cc (here, e) in
-      h.1 ∙ ap (λ (r : S). Some r) (sym f.4) ∙ ap (λ (z : X). Some (value z)) same
+  held_at xs i x d e = grind (arith, held_some xs i x e, held_found)
 
   -- so a map that holds what stands there, and nothing else, is what they hold
   held_is : (xs : List (Option X)) (m : FinMap nat_cmp S) → ((i : ℕ) (x : X) → get_or xs i None ≡ Some x → get m (number x) ≡ Some (value x)) → ((q : ℕ) → Absent xs q → get m q ≡ None)
@@ -98,40 +83,28 @@ module _ {X S : Type 0} (number : X → ℕ) (value : X → S) where
   held_changed {old} {new} {place} {q} {slot} m d u is here alone = held_is new m each none
     where
       each : (i : ℕ) (y : X) → get_or new i None ≡ Some y → get m (number y) ≡ Some (value y)
-      each i y e = is (number y) ∙ ⊎_elim
-          (λ (t : (i ≡ place) × (slot ≡ Some y)). rw (eq-eqb _ _ (here y t.1)) (ap (option_map value) t.1))
-          (λ (t : (i ≢ place) × (get_or old i None ≡ Some y)). rw (ne_eqb _ _ (λ s. t.0 ((alone i y t.1).1 s))) (held_at old i y d t.1))
-          (changed_cases i y u e)
+      each i y e = is (number y) ∙ elim (changed_cases i y u e) [
+        | inl t ↦ rw (eq-eqb _ _ (here y t.1)) (ap (option_map value) t.1)
+        | inr t ↦ rw (ne_eqb _ _ (λ s. t.0 ((alone i y t.1).1 s))) (held_at old i y d t.1)
+      ]
 
       gone : (k : ℕ) (o : Option X) → slot ≡ o → Absent new k → k ≡ q → option_map value o ≡ None
       gone k None e absent s = refl
       gone k (Some x) e absent s = absurd (absent place x (u.changed ∙ e) (here x e ∙ sym s))
 
       none : (k : ℕ) → Absent new k → get m k ≡ None
-      none k absent = is k ∙ ⊎_elim
-          (λ (t : (eqb k q ≡ true) × (k ≡ q)). rw t.0 (gone k slot refl absent t.1))
-          (λ (t : (eqb k q ≡ false) × (k ≢ q)). rw t.0 (held_absent old k (λ i y e s. ⊎_elim
-          (λ (z : (eqb i place ≡ true) × (i ≡ place)). t.1 (sym s ∙ (alone i y e).0 z.1))
-          (λ (z : (eqb i place ≡ false) × (i ≢ place)). absent i y (u.others i z.1 ∙ e) s)
-          (same_or_not i place))))
-          (same_or_not k q)
+      none k absent = is k ∙ elim (same_or_not k q) [
+        | inl t ↦ rw t.0 (gone k slot refl absent t.1)
+        | inr t ↦ rw t.0 (held_absent old k (λ i y e s. elim (same_or_not i place) [
+          | inl z ↦ t.1 (sym s ∙ (alone i y e).0 z.1)
+          | inr z ↦ absent i y (u.others i z.1 ∙ e) s
+        ]))
+      ]
 
 -- a change to a number that no other place has
 distinct_changed : {X : Type 0} {number : X → ℕ} {old new : List (Option X)} {place : ℕ} {slot : Option X} → IsDistinct number old → Updates old new place slot
     → ((x y : X) (i : ℕ) → slot ≡ Some x → get_or old i None ≡ Some y → number y ≡ number x → i ≡ place) → IsDistinct number new
-distinct_changed {X} {number} {old} {new} {place} {slot} d u alone i j x y ex ey same =
-    ⊎_elim
-    (λ (p : (i ≡ place) × (slot ≡ Some x)).
-    ⊎_elim
-    (λ (q : (j ≡ place) × (slot ≡ Some y)). p.0 ∙ sym q.0)
-    (λ (q : (j ≢ place) × (get_or old j None ≡ Some y)). absurd (q.0 (alone x y j p.1 q.1 (sym same))))
-    (changed_cases j y u ey))
-    (λ (p : (i ≢ place) × (get_or old i None ≡ Some x)).
-    ⊎_elim
-    (λ (q : (j ≡ place) × (slot ≡ Some y)). absurd (p.0 (alone y x i q.1 p.1 same)))
-    (λ (q : (j ≢ place) × (get_or old j None ≡ Some y)). d i j x y p.1 q.1 same)
-    (changed_cases j y u ey))
-    (changed_cases i x u ex)
+distinct_changed {X} {number} {old} {new} {place} {slot} d u alone i j x y ex ey same = grind arith
 
 -- ---- lines of keys
 
@@ -140,13 +113,7 @@ pub get-push : {K : Type 0} (ks : List K) (k m : K) (j : ℕ) → slice_get (ks 
 get-push [] k m zero e = inr (refl, let same : Some k ≡ Some m = e in cc)
 get-push [] k m (suc j) e = cc
 get-push (x ∷ ks) k m zero e = inl e
-get-push (x ∷ ks) k m (suc j) e = ⊎_elim (λ (h : slice_get ks j ≡ Some m). inl h) (λ (h : (j ≡ length ks) × (k ≡ m)). inr (ap suc h.0, h.1)) (get-push ks k m j e)
-
--- what is at an index is inside
-pub within : {K : Type 0} (ks : List K) (m : K) (j : ℕ) → slice_get ks j ≡ Some m → j < length ks
-within [] m j e = cc
-within (x ∷ ks) m zero e = omega arith
-within (x ∷ ks) m (suc j) e = let l : j < length ks = within ks m j e in omega arith
+get-push (x ∷ ks) k m (suc j) e = elim (get-push ks k m j e) [ inl h ↦ inl h | inr h ↦ inr (ap suc h.0, h.1) ]
 
 module _ {X K : Type 0} (number : X → ℕ) (test : X → Bool) (key leads : K → ℕ) where
   -- no key of the line leads to the place
@@ -156,93 +123,63 @@ module _ {X K : Type 0} (number : X → ℕ) (test : X → Bool) (key leads : K 
   pub line_rest : (xs : List (Option X)) (k : K) (keys : List K) → IsLine number test key leads xs (k ∷ keys) → IsLine number test key leads xs keys
   line_rest xs k keys l = record {
     each = λ j m e. l.each (suc j) m e;
-    once = λ i j k m e f s. let up : suc i ≡ suc j = l.once (suc i) (suc j) k m e f s in omega arith;
+    once = λ i j k m e f s. omega (arith, l.once (suc i) (suc j) k m e f s);
   }
 
   pub line_rest_avoids : (xs : List (Option X)) (k : K) (keys : List K) → IsLine number test key leads xs (k ∷ keys) → Avoids keys (leads k)
-  line_rest_avoids xs k keys l j m e s = let clash : suc j ≡ 0 = l.once (suc j) 0 m k e refl s in omega arith
+  line_rest_avoids xs k keys l j m e s = omega (arith, l.once (suc j) 0 m k e refl s)
 
   -- a place that does not pass is on no line
   pub line_avoids : (xs : List (Option X)) (keys : List K) (place : ℕ) → IsLine number test key leads xs keys → ((x : X) → get_or xs place None ≡ Some x → test x ≡ true → ⊥) → Avoids keys place
-  line_avoids xs keys place l off j k e s =
-      let stands = l.each j k e in
-      off stands.0 (subst (λ (i : ℕ). get_or xs i None ≡ Some stands.0) s stands.1) stands.3
+  line_avoids xs keys place l off j k e s = grind arith
 
   -- what happens at a place that the line avoids
   pub line_kept : (old new : List (Option X)) (keys : List K) (place : ℕ) → IsLine number test key leads old keys → Avoids keys place
       → ((other : ℕ) → other ≢ place → get_or new other None ≡ get_or old other None) → IsLine number test key leads new keys
-  line_kept old new keys place l avoids others = record {
-    each = λ j k e. let stands = l.each j k e in (stands.0, others (leads k) (avoids j k e) ∙ stands.1, stands.2, stands.3);
-    once = l.once;
-  }
+  line_kept old new keys place l avoids others = grind arith
 
   pub line_pushed : (xs : List (Option X)) (keys : List K) (k : K) (x : X) → IsLine number test key leads xs keys → Avoids keys (leads k)
       → get_or xs (leads k) None ≡ Some x → number x ≡ key k → test x ≡ true → IsLine number test key leads xs (keys ++ k ∷ [])
-  line_pushed xs keys k x l avoids at_k same pass = record {
-    each = λ j m e. ⊎_elim
-        (λ (h : slice_get keys j ≡ Some m). l.each j m h)
-        (λ (h : (j ≡ length keys) × (k ≡ m)). subst (λ (n : K). (x : X) × (get_or xs (leads n) None ≡ Some x) × (number x ≡ key n) × (test x ≡ true)) h.1 (x, at_k, same, pass))
-        (get-push keys k m j e);
-    once = λ i j a b e f s. ⊎_elim
-        (λ (h : slice_get keys i ≡ Some a). ⊎_elim
-        (λ (g : slice_get keys j ≡ Some b). l.once i j a b h g s)
-        (λ (g : (j ≡ length keys) × (k ≡ b)). absurd (avoids i a h (s ∙ ap leads (sym g.1))))
-        (get-push keys k b j f))
-        (λ (h : (i ≡ length keys) × (k ≡ a)). ⊎_elim
-        (λ (g : slice_get keys j ≡ Some b). absurd (avoids j b g (sym s ∙ ap leads (sym h.1))))
-        (λ (g : (j ≡ length keys) × (k ≡ b)). h.0 ∙ sym g.0)
-        (get-push keys k b j f))
-        (get-push keys k a i e);
-  }
+  line_pushed xs keys k x l avoids at_k same pass = grind (arith, get-push)
 
 -- ---- tallies
 
 module _ {X : Type 0} (p : Option X → Bool) (nothing : p None ≡ false) where
   pub tally_same : (xs ys : List (Option X)) → ((i : ℕ) → get_or ys i None ≡ get_or xs i None) → tally p ys ≡ tally p xs
   tally_same [] [] h = refl
-  tally_same [] (y ∷ ys) h = let first : y ≡ None = h 0 in let rest : tally p ys ≡ 0 = tally_same [] ys (λ i. h (suc i)) in
-      let e : one (p y) ≡ 0 = ap (λ (o : Option X). one (p o)) first ∙ ap one nothing in omega arith
-  tally_same (x ∷ xs) [] h = let first : None ≡ x = h 0 in let rest : 0 ≡ tally p xs = tally_same xs [] (λ i. h (suc i)) in
-      let e : one (p x) ≡ 0 = ap (λ (o : Option X). one (p o)) (sym first) ∙ ap one nothing in omega arith
-  tally_same (x ∷ xs) (y ∷ ys) h = let first : y ≡ x = h 0 in let rest : tally p ys ≡ tally p xs = tally_same xs ys (λ i. h (suc i)) in
-      let e : one (p y) ≡ one (p x) = ap (λ (o : Option X). one (p o)) first in omega arith
+  tally_same [] (y ∷ ys) h = let first : y ≡ None = h 0 in
+      omega (arith, tally_same [] ys (λ i. h (suc i)), ap (λ (o : Option X). one (p o)) first ∙ ap one nothing)
+  tally_same (x ∷ xs) [] h = let first : None ≡ x = h 0 in
+      omega (arith, tally_same xs [] (λ i. h (suc i)), ap (λ (o : Option X). one (p o)) (sym first) ∙ ap one nothing)
+  tally_same (x ∷ xs) (y ∷ ys) h = let first : y ≡ x = h 0 in
+      omega (arith, tally_same xs ys (λ i. h (suc i)), ap (λ (o : Option X). one (p o)) first)
 
   pub tally_changed : (xs ys : List (Option X)) (key : ℕ) → ((other : ℕ) → other ≢ key → get_or ys other None ≡ get_or xs other None)
       → tally p ys + one (p (get_or xs key None)) ≡ tally p xs + one (p (get_or ys key None))
   tally_changed [] [] key h = refl
-  tally_changed [] (y ∷ ys) zero h = let rest : tally p ys ≡ 0 = tally_same [] ys (λ i. h (suc i) (λ e. omega arith)) in let e : one (p None) ≡ 0 = ap one nothing in omega arith
+  tally_changed [] (y ∷ ys) zero h = omega (arith, tally_same [] ys (λ i. h (suc i) (λ e. omega arith)), ap one nothing)
   tally_changed [] (y ∷ ys) (suc key) h =
       let first : y ≡ None = h 0 (λ e. omega arith) in
-      let e : one (p y) ≡ 0 = ap (λ (o : Option X). one (p o)) first ∙ ap one nothing in
-      let ih : tally p ys + one (p None) ≡ 0 + one (p (get_or ys key None)) = tally_changed [] ys key (λ i n. h (suc i) (λ s. n (let t : i ≡ key = omega arith in t))) in
-      omega arith
-  tally_changed (x ∷ xs) [] zero h = let rest : 0 ≡ tally p xs = tally_same xs [] (λ i. h (suc i) (λ e. omega arith)) in let e : one (p None) ≡ 0 = ap one nothing in omega arith
+      omega (arith, ap (λ (o : Option X). one (p o)) first ∙ ap one nothing, tally_changed [] ys key (λ i n. h (suc i) (λ s. n (let t : i ≡ key = omega arith in t))))
+  tally_changed (x ∷ xs) [] zero h = omega (arith, tally_same xs [] (λ i. h (suc i) (λ e. omega arith)), ap one nothing)
   tally_changed (x ∷ xs) [] (suc key) h =
       let first : None ≡ x = h 0 (λ e. omega arith) in
-      let e : one (p x) ≡ 0 = ap (λ (o : Option X). one (p o)) (sym first) ∙ ap one nothing in
-      let ih : 0 + one (p (get_or xs key None)) ≡ tally p xs + one (p None) = tally_changed xs [] key (λ i n. h (suc i) (λ s. n (let t : i ≡ key = omega arith in t))) in
-      omega arith
-  tally_changed (x ∷ xs) (y ∷ ys) zero h = let rest : tally p ys ≡ tally p xs = tally_same xs ys (λ i. h (suc i) (λ e. omega arith)) in omega arith
+      omega (arith, ap (λ (o : Option X). one (p o)) (sym first) ∙ ap one nothing, tally_changed xs [] key (λ i n. h (suc i) (λ s. n (let t : i ≡ key = omega arith in t))))
+  tally_changed (x ∷ xs) (y ∷ ys) zero h = omega (arith, tally_same xs ys (λ i. h (suc i) (λ e. omega arith)))
   tally_changed (x ∷ xs) (y ∷ ys) (suc key) h =
       let first : y ≡ x = h 0 (λ e. omega arith) in
-      let e : one (p y) ≡ one (p x) = ap (λ (o : Option X). one (p o)) first in
-      let ih : tally p ys + one (p (get_or xs key None)) ≡ tally p xs + one (p (get_or ys key None)) = tally_changed xs ys key (λ i n. h (suc i) (λ s. n (let t : i ≡ key = omega arith in t))) in
-      omega arith
+      omega (arith, ap (λ (o : Option X). one (p o)) first, tally_changed xs ys key (λ i n. h (suc i) (λ s. n (let t : i ≡ key = omega arith in t))))
 
   -- so after a change from what passes or not to what passes or not
   pub tally_set : {old new : List (Option X)} {place n : ℕ} {was is : Option X} (b c : Bool) → tally p old ≡ n → get_or old place None ≡ was → Updates old new place is
       → p was ≡ b → p is ≡ c → tally p new + one b ≡ n + one c
-  tally_set {old} {new} {place} b c are at_place u was_b is_c =
-      let t : tally p new + one (p (get_or old place None)) ≡ tally p old + one (p (get_or new place None)) = tally_changed old new place u.others in
-      let e : one (p (get_or old place None)) ≡ one b = ap one (ap p at_place ∙ was_b) in
-      let f : one (p (get_or new place None)) ≡ one c = ap one (ap p u.changed ∙ is_c) in
-      omega arith
+  tally_set {old} {new} {place} b c are at_place u was_b is_c = omega (arith, tally_changed old new place u.others, ap one (ap p at_place ∙ was_b), ap one (ap p u.changed ∙ is_c))
 
   -- what passes is counted
   pub tally_at : (xs : List (Option X)) (i : ℕ) → one (p (get_or xs i None)) ≤ tally p xs
-  tally_at [] i = let e : one (p None) ≡ 0 = ap one nothing in omega arith
+  tally_at [] i = omega (arith, ap one nothing)
   tally_at (x ∷ xs) zero = omega arith
-  tally_at (x ∷ xs) (suc i) = let ih : one (p (get_or xs i None)) ≤ tally p xs = tally_at xs i in omega arith
+  tally_at (x ∷ xs) (suc i) = omega (arith, tally_at xs i)
 
 -- a line is no longer than there are places that pass
 module _ {X K : Type 0} (number : X → ℕ) (test : X → Bool) (key leads : K → ℕ) (p : Option X → Bool) (nothing : p None ≡ false) (same : (x : X) → test x ≡ true → p (Some x) ≡ true) where
@@ -258,9 +195,7 @@ module _ {X K : Type 0} (number : X → ℕ) (test : X → Bool) (key leads : K 
       let ih : length keys ≤ tally p (set xs (leads k) None) = line_length keys (set xs (leads k) None) rest in
       let t : tally p (set xs (leads k) None) + one (p (get_or xs (leads k) None)) ≡ tally p xs + one
       (p (get_or (set xs (leads k) None) (leads k) None)) = tally_changed p nothing xs (set xs (leads k) None) (leads k) others in
-      let was : one (p (get_or xs (leads k) None)) ≡ 1 = ap (λ (o : Option X). one (p o)) x.1 ∙ ap one (same x.0 x.3) in
-      let is : one (p (get_or (set xs (leads k) None) (leads k) None)) ≡ 0 = ap (λ (o : Option X). one (p o)) (get_or-set_same xs (leads k) None None there) ∙ ap one nothing in
-      omega arith
+      omega (arith, ap (λ (o : Option X). one (p o)) x.1 ∙ ap one (same x.0 x.3), ap (λ (o : Option X). one (p o)) (get_or-set_same xs (leads k) None None there) ∙ ap one nothing)
 
 -- ---- what a change does to a table
 
@@ -271,34 +206,15 @@ table_kept t kept = record { distinct = λ i j x y e f. t.distinct i j x y (sym 
 module _ {X : Type 0} {number : X → ℕ} {old new : List (Option X)} {next place : ℕ} (t : IsTable number old next) where
   -- another value at a place, with the same number
   pub table_set : {was x : X} → get_or old place None ≡ Some was → number was ≡ number x → Updates old new place (Some x) → IsTable number new next
-  table_set {was} {x} at_place same u = record {
-    distinct = distinct_changed t.distinct u (λ a b i e f s. let is : x ≡ a = cc in t.distinct i place b was f at_place (s ∙ ap number (sym is) ∙ sym same));
-    below = λ i y e. ⊎_elim
-        (λ (h : (i ≡ place) × (Some x ≡ Some y)). let is : x ≡ y = cc in let l : number was < next = t.below place was at_place in let e1 : number was ≡ number y = same ∙ ap number is in omega arith)
-        (λ (h : (i ≢ place) × (get_or old i None ≡ Some y)). t.below i y h.1)
-        (changed_cases i y u e);
-  }
+  table_set {was} {x} at_place same u = grind (arith, distinct_changed)
 
   -- the next number at a free place
   pub table_added : {x : X} → number x ≡ next → Updates old new place (Some x) → IsTable number new (next + 1)
-  table_added {x} is_next u = record {
-    distinct = distinct_changed t.distinct u
-        (λ a b i e f s. absurd (let is : x ≡ a = cc in let l : number b < next = t.below i b f in let e1 : number b ≡ number x = s ∙ ap number (sym is) in omega arith));
-    below = λ i y e. ⊎_elim
-        (λ (h : (i ≡ place) × (Some x ≡ Some y)). let is : x ≡ y = cc in let e1 : number x ≡ number y = ap number is in omega arith)
-        (λ (h : (i ≢ place) × (get_or old i None ≡ Some y)). let l : number y < next = t.below i y h.1 in omega arith)
-        (changed_cases i y u e);
-  }
+  table_added {x} is_next u = grind (arith, distinct_changed)
 
   -- a place is freed
   pub table_removed : Updates old new place None → IsTable number new next
-  table_removed u = record {
-    distinct = distinct_changed t.distinct u (λ a b i e f s. cc);
-    below = λ i y e. ⊎_elim
-        (λ (h : (i ≡ place) × (None ≡ Some y)). cc)
-        (λ (h : (i ≢ place) × (get_or old i None ≡ Some y)). t.below i y h.1)
-        (changed_cases i y u e);
-  }
+  table_removed u = grind (arith, distinct_changed)
 
   -- what it holds then
   module _ {S : Type 0} (value : X → S) where
@@ -317,7 +233,7 @@ module _ {X : Type 0} {number : X → ℕ} {old new : List (Option X)} {next pla
     held_added {x} free is_next u = held_changed number value _ t.distinct u (λ k. get_inserted (values_at number value old) (number x) (value x) k) (λ y e. let is : x ≡ y = cc in ap number (sym is))
         (λ i y e. (
           λ s. absurd (let here : get_or old place None ≡ Some y = subst (λ (j : ℕ). get_or old j None ≡ Some y) s e in let clash : None ≡ Some y = sym free ∙ here in cc),
-          λ s. absurd (let l : number y < next = t.below i y e in omega arith),
+          λ s. absurd (omega (arith, t.below i y e)),
         ))
 
     pub held_removed : {was : X} → get_or old place None ≡ Some was → Updates old new place None → values_at number value new ≡ remove (values_at number value old) (number was)

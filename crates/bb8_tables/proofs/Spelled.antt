@@ -1,8 +1,5 @@
 -- Laws of links that spell a list of places.
-use Rattle.std.proofs.Common.{◌≡◌, ◌≢◌, ◌⊎◌, ℕ, zero, suc, ◌+◌, ◌<◌, ◌≤◌, Bool, true, false, cond, not, eqb, List, [], ◌∷◌, ◌++◌, length, slice_get, Some, None, refl, sym, ap, ◌∙◌, inl, inr, ⊎_elim, arith, subst, ne_eqb}
-use Rattle.std.proofs.lemmas.Bool.Decides.{eqb_tells}
-use Rattle.bb8_tables.specs.Spelled.{Absent, walk, LinksLead, Spells, Joins}
-use Rattle.bb8_tables.specs.Machine.{without}
+use Rattle.bb8_tables.proofs.Words.{◌≡◌, ◌≢◌, ◌⊎◌, ℕ, zero, suc, ◌+◌, ◌<◌, ◌≤◌, false, eqb, List, [], ◌∷◌, ◌++◌, length, slice_get, Some, None, refl, sym, ap, ◌∙◌, inl, inr, arith, subst, ne_eqb, eqb_tells, Absent, walk, LinksLead, Spells, Joins, without}
 
 -- ---- lists of places
 
@@ -21,10 +18,7 @@ without_absent p (x ∷ xs) a = let e : eqb x p ≡ false = ne_eqb x p a.0 in rw
 
 -- what holds of a list without p, by whether its first place is p
 pub without_cases : (P : List ℕ → Type 0) (p x : ℕ) (xs : List ℕ) → (x ≡ p → P (without p xs)) → (x ≢ p → P (x ∷ without p xs)) → P (without p (x ∷ xs))
-without_cases P p x xs same other = ⊎_elim
-    (λ (t : (eqb x p ≡ true) × (x ≡ p)). subst (λ (b : Bool). P (cond (not b) (x ∷ without p xs) (without p xs))) (sym t.0) (same t.1))
-    (λ (t : (eqb x p ≡ false) × (x ≢ p)). subst (λ (b : Bool). P (cond (not b) (x ∷ without p xs) (without p xs))) (sym t.0) (other t.1))
-    (eqb_tells x p)
+without_cases P p x xs same other = grind (arith, eqb_tells x p)
 
 -- what is not in the list without p is p, or wasn't there
 pub absent_without : (p q : ℕ) (xs : List ℕ) → q ≢ p → Absent q (without p xs) → Absent q xs
@@ -67,22 +61,19 @@ distinct_without p (x ∷ xs) d = without_cases Distinct p x xs (λ s. distinct_
 
 below_without : (n : ℕ) (xs : List ℕ) → Below (suc n) xs → Below n (without n xs)
 below_without n [] b = tt
-below_without n (x ∷ xs) b = without_cases (Below n) n x xs (λ s. below_without n xs b.1) (λ s. ((let l : x < suc n = b.0 in omega arith), below_without n xs b.1))
+below_without n (x ∷ xs) b = without_cases (Below n) n x xs (λ s. below_without n xs b.1) (λ s. (omega (arith, b.0), below_without n xs b.1))
 
 one_fewer : (p : ℕ) (xs : List ℕ) → Distinct xs → length xs ≤ length (without p xs) + 1
 one_fewer p [] d = omega arith
 one_fewer p (x ∷ xs) d = without_cases (λ (ys : List ℕ). length (x ∷ xs) ≤ length ys + 1) p x xs
-    (λ s. let e : length (without p xs) ≡ length xs = ap (λ (ys : List ℕ). length ys) (without_absent p xs (subst (λ (q : ℕ). Absent q xs) s d.0)) in omega arith)
-    (λ s. let ih : length xs ≤ length (without p xs) + 1 = one_fewer p xs d.1 in omega arith)
+    (λ s. omega (arith, ap (λ (ys : List ℕ). length ys) (without_absent p xs (subst (λ (q : ℕ). Absent q xs) s d.0))))
+    (λ s. omega (arith, one_fewer p xs d.1))
 
 -- they are no more than the bound says
 pub few_below : (n : ℕ) (xs : List ℕ) → Distinct xs → Below n xs → length xs ≤ n
 few_below zero [] d b = omega arith
-few_below zero (x ∷ xs) d b = absurd (let l : x < 0 = b.0 in omega arith)
-few_below (suc n) xs d b =
-    let ih : length (without n xs) ≤ n = few_below n (without n xs) (distinct_without n xs d) (below_without n xs b) in
-    let f : length xs ≤ length (without n xs) + 1 = one_fewer n xs d in
-    omega arith
+few_below zero (x ∷ xs) d b = absurd (omega (arith, b.0))
+few_below (suc n) xs d b = omega (arith, few_below n (without n xs) (distinct_without n xs d) (below_without n xs b), one_fewer n xs d)
 
 -- ---- the walk along the links gives the list
 
@@ -128,19 +119,18 @@ module _ (after before : ℕ → ℕ) (z : ℕ) where
   member_or_not p c [] l a n = inl tt
   member_or_not p c (x ∷ xs) l a n =
       let rest : Absent x xs = rest_absent c x xs l a in
-      ⊎_elim
-      (λ (t : (eqb x p ≡ true) × (x ≡ p)). inr (record {
-        back = (let e : after c ≡ x = l.0 in let f : before x ≡ c = l.1 in let g : x ≡ p = t.1 in cc);
-        forth = ahead xs t.1 l.2;
-        moves = moved xs t.1 l.2 rest;
-        fewer = (let e : without p xs ≡ xs = without_absent p xs (subst (λ (q : ℕ). Absent q xs) t.1 rest) in rw (t.0, e) (omega arith));
-      }))
-      (λ (t : (eqb x p ≡ false) × (x ≢ p)).
-      ⊎_elim
-      (λ (h : Absent p xs). inl (t.1, h))
-      (λ (m : IsMember p xs). inr (record { back = m.back; forth = m.forth; moves = m.moves; fewer = rw t.0 (let f : length (without p xs) + 1 ≡ length xs = m.fewer in omega arith) }))
-      (member_or_not p x xs l.2 rest n))
-      (eqb_tells x p)
+      elim (eqb_tells x p) [
+        | inl t ↦ inr (record {
+          back = (let e : after c ≡ x = l.0 in let f : before x ≡ c = l.1 in let g : x ≡ p = t.1 in cc);
+          forth = ahead xs t.1 l.2;
+          moves = moved xs t.1 l.2 rest;
+          fewer = (let e : without p xs ≡ xs = without_absent p xs (subst (λ (q : ℕ). Absent q xs) t.1 rest) in rw (t.0, e) (omega arith));
+        })
+        | inr t ↦ elim (member_or_not p x xs l.2 rest n) [
+          | inl h ↦ inl (t.1, h)
+          | inr m ↦ inr (record { back = m.back; forth = m.forth; moves = m.moves; fewer = rw t.0 (omega (arith, m.fewer)) })
+        ]
+      ]
     where
       ahead : (ys : List ℕ) → x ≡ p → LinksLead after before x ys z → before (after p) ≡ p
       ahead [] e l = let a : after x ≡ z = l.0 in let b : before z ≡ x = l.1 in cc
@@ -154,13 +144,7 @@ module _ (after before : ℕ → ℕ) (z : ℕ) where
 
 module _ (af be af1 be1 af2 be2 : ℕ → ℕ) (z p : ℕ) (j1 : Joins af be af1 be1 (be z) p) (j2 : Joins af1 be1 af2 be2 p z) (apart : p ≢ z) where
   push_leads : (c : ℕ) (xs : List ℕ) → LinksLead af be c xs z → c ≢ p → Absent p xs → Absent z xs → LinksLead af2 be2 c (xs ++ p ∷ []) z
-  push_leads c [] l n a b =
-      let e : be z ≡ c = l.1 in
-      let e1 : af2 c ≡ af1 c = j2.after_others c n in
-      let e2 : af1 (be z) ≡ p = j1.after_is in
-      let e3 : be2 p ≡ be1 p = j2.before_others p apart in
-      let e4 : be1 p ≡ be z = j1.before_is in
-      (cc, cc, (j2.after_is, j2.before_is))
+  push_leads c [] l n a b = grind arith
   push_leads c (x ∷ xs) l n a b =
       let e : af c ≡ x = l.0 in
       let last : af (be z) ≡ z = last_leads af be z c (x ∷ xs) l in
@@ -204,20 +188,8 @@ module _ (af be af1 be1 af2 be2 : ℕ → ℕ) (z p : ℕ) (j1 : Joins af be af1
   kept_leads c (x ∷ xs) l n a = (after_kept c n (λ e. a.0 (sym l.0 ∙ e)) ∙ l.0, before_kept x a.0 (λ e. n (sym l.1 ∙ e)) ∙ l.1, kept_leads x xs l.2 a.0 a.1)
 
   bridged_leads : (c : ℕ) (xs : List ℕ) → LinksLead af be p xs z → be p ≡ c → c ≢ p → Absent p xs → LinksLead af2 be2 c xs z
-  bridged_leads c [] l e n a =
-      let e1 : af2 c ≡ af1 c = j2.after_others c n in
-      let e2 : af1 (be p) ≡ af p = j1.after_is in
-      let e3 : be2 z ≡ be1 z = j2.before_others z (λ s. apart (sym s)) in
-      let e4 : be1 (af p) ≡ be p = j1.before_is in
-      let e5 : af p ≡ z = l.0 in
-      (cc, cc)
-  bridged_leads c (x ∷ xs) l e n a =
-      let e1 : af2 c ≡ af1 c = j2.after_others c n in
-      let e2 : af1 (be p) ≡ af p = j1.after_is in
-      let e3 : be2 x ≡ be1 x = j2.before_others x a.0 in
-      let e4 : be1 (af p) ≡ be p = j1.before_is in
-      let e5 : af p ≡ x = l.0 in
-      (cc, cc, kept_leads x xs l.2 a.0 a.1)
+  bridged_leads c [] l e n a = grind arith
+  bridged_leads c (x ∷ xs) l e n a = grind (arith, kept_leads x xs l.2 a.0 a.1)
 
   remove_leads : (c : ℕ) (xs : List ℕ) → LinksLead af be c xs z → Absent c xs → c ≢ p → LinksLead af2 be2 c (without p xs) z
   remove_leads c [] l a n = kept_leads c [] l n tt
@@ -233,12 +205,11 @@ module _ (af be af1 be1 af2 be2 : ℕ → ℕ) (z p : ℕ) (j1 : Joins af be af1
     leads = remove_leads z xs s.leads s.apart (λ e. apart (sym e));
     apart = without_keeps_absent p z xs s.apart;
     alone = λ q other b.
-        ⊎_elim
-        (λ (t : (eqb q p ≡ true) × (q ≡ p)). (subst (λ (i : ℕ). af2 i ≡ i) (sym t.1) j2.after_is, subst (λ (i : ℕ). be2 i ≡ i) (sym t.1) j2.before_is))
-        (λ (t : (eqb q p ≡ false) × (q ≢ p)).
-        let was = s.alone q other (absent_without p q xs t.1 b) in
-        (after_kept q t.1 (λ e. t.1 (sym was.0 ∙ e)) ∙ was.0, before_kept q t.1 (λ e. t.1 (sym was.1 ∙ e)) ∙ was.1))
-        (eqb_tells q p);
+        elim (eqb_tells q p) [
+          | inl t ↦ (subst (λ (i : ℕ). af2 i ≡ i) (sym t.1) j2.after_is, subst (λ (i : ℕ). be2 i ≡ i) (sym t.1) j2.before_is)
+          | inr t ↦ let was = s.alone q other (absent_without p q xs t.1 b) in
+              (after_kept q t.1 (λ e. t.1 (sym was.0 ∙ e)) ∙ was.0, before_kept q t.1 (λ e. t.1 (sym was.1 ∙ e)) ∙ was.1)
+        ];
   }
 
 -- ---- the ends, and who is there
@@ -261,9 +232,7 @@ module _ (af be : ℕ → ℕ) (z : ℕ) where
   -- the place after one is the end where it is the last, and else the next one
   pub next_none : (p : ℕ) (passed rest : List ℕ) → Spells af be z (passed ++ p ∷ rest) → af p ≡ z → None ≡ slice_get rest 0
   next_none p passed [] s e = refl
-  next_none p passed (r ∷ rest) s e =
-      let later : Absent z (r ∷ rest) = (absent_part z passed (p ∷ r ∷ rest) s.apart).1 in
-      absurd (later.0 (sym ((from_here z p passed (r ∷ rest) s.leads).0) ∙ e))
+  next_none p passed (r ∷ rest) s e = grind (arith, absent_part z passed (p ∷ r ∷ rest) s.apart, from_here z p passed (r ∷ rest) s.leads)
 
   pub next_some : (p : ℕ) (passed rest : List ℕ) → Spells af be z (passed ++ p ∷ rest) → af p ≢ z → Some (af p) ≡ slice_get rest 0
   next_some p passed [] s n = absurd (n (from_here z p passed [] s.leads).0)
@@ -275,22 +244,13 @@ module _ (af be : ℕ → ℕ) (z : ℕ) where
     walked len e = ap (λ (k : ℕ). walk af k (af z)) (sym e) ∙ walk_leads af be z z xs s.leads
 
     pub is_absent : (p : ℕ) → p ≢ z → af p ≡ p → Absent p xs
-    is_absent p n e = ⊎_elim
-        (λ (a : Absent p xs). a)
-        (λ (m : IsMember af be z p xs). absurd (m.moves e))
-        (member_or_not af be z p z xs s.leads s.apart (λ h. n (sym h)))
+    is_absent p n e = elim (member_or_not af be z p z xs s.leads s.apart (λ h. n (sym h))) [ inl a ↦ a | inr m ↦ absurd (m.moves e) ]
 
     pub is_member : (p : ℕ) → p ≢ z → af p ≢ p → IsMember af be z p xs
-    is_member p n e = ⊎_elim
-        (λ (a : Absent p xs). absurd (e (s.alone p n a).0))
-        (λ (m : IsMember af be z p xs). m)
-        (member_or_not af be z p z xs s.leads s.apart (λ h. n (sym h)))
+    is_member p n e = elim (member_or_not af be z p z xs s.leads s.apart (λ h. n (sym h))) [ inl a ↦ absurd (e (s.alone p n a).0) | inr m ↦ m ]
 
     pub member_at : (p j : ℕ) → slice_get xs j ≡ Some p → IsMember af be z p xs
-    member_at p j e = ⊎_elim
-        (λ (a : Absent p xs). absurd (absent_get p j xs a e))
-        (λ (m : IsMember af be z p xs). m)
-        (member_or_not af be z p z xs s.leads s.apart (λ h. absent_get z j xs s.apart (e ∙ ap (λ (q : ℕ). Some q) (sym h))))
+    member_at p j e = elim (member_or_not af be z p z xs s.leads s.apart (λ h. absent_get z j xs s.apart (e ∙ ap (λ (q : ℕ). Some q) (sym h)))) [ inl a ↦ absurd (absent_get p j xs a e) | inr m ↦ m ]
 
   -- where only places below a bound lead elsewhere, no more are in the list
   pub spelled_few : (n : ℕ) (xs : List ℕ) → Spells af be z xs → ((p : ℕ) → af p ≢ p → p < n) → length xs ≤ n

@@ -1,6 +1,5 @@
 -- Views are the same that are the same field by field.
-use Rattle.std.proofs.Common.{◌≡◌, Result, Ok, Err, OnErr}
-use Rattle.bb8_tables.specs.Views.{ShownRecords, ShownGets}
+use Rattle.bb8_tables.proofs.Words.{◌≡◌, Result, Ok, Err, OnErr, ShownRecords, ShownGets}
 
 pub same_records : {C : Type 0} (s t : ShownRecords C) → s.next ≡ t.next → s.places ≡ t.places → s.idle ≡ t.idle → s.unclaimed ≡ t.unclaimed
     → s.conns ≡ t.conns → s.approved ≡ t.approved → s.peak ≡ t.peak → s ≡ t

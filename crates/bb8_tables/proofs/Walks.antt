@@ -1,15 +1,13 @@
 -- The two walks of a reap.
-use Rattle.bb8_tables.proofs.Words.{◌≡◌, ◌⊎◌, inl, inr, ⊎_elim, ℕ, zero, suc, ◌+◌, ◌-◌, ◌<◌, ◌≤◌, Bool, true, false, ◌&&◌, List, [], ◌∷◌, ◌++◌, length, Option, Some, None, slice_get, refl, sym, ap, ◌∙◌, arith, subst, length-append, eq-eqb, ne_eqb, length-map, leb-false, lt-leb, get, most_records, Settings, one, tally, is_idle, is_conn, is_out, is_past, is_expired, idles_out, lives_out, Place, Unclaimed, Claimed, Idle, Held, Guarded, Standing, Slot, Young, Out, Aged, Buffer, Closed, offered_all, closed_in, closed_of, EndsFirst, Ends, EndsIdle, Passes, Lent, AddsLent, Lined, slot_at, without, after_reap, AreFirst, beyond, Reaps, ArePlaces, IsRising, numbers_at, Absent, view_of_records, AreGoodRecords, passes, ShownRecords}
-use Rattle.bb8_tables.specs.declared.records.Records.TheInside.{Inside}
+use Rattle.bb8_tables.proofs.Words.{slice_get_within, append_assoc, ◌≡◌, ◌⊎◌, inl, inr, ℕ, zero, suc, ◌+◌, ◌-◌, ◌<◌, ◌≤◌, Bool, true, false, ◌&&◌, List, [], ◌∷◌, ◌++◌, length, Option, Some, None, slice_get, refl, sym, ap, ◌∙◌, arith, subst, length-append, eq-eqb, ne_eqb, length-map, leb-false, lt-leb, get, most_records, Settings, one, tally, is_idle, is_conn, is_out, is_past, is_expired, idles_out, lives_out, Place, Unclaimed, Held, Guarded, Standing, Slot, Young, Out, Aged, Buffer, Closed, offered_all, closed_in, closed_of, EndsFirst, Ends, EndsIdle, Passes, Lent, AddsLent, Lined, slot_at, without, AreFirst, Reaps, ArePlaces, IsRising, numbers_at, Absent, view_of_records, AreGoodRecords, passes, ShownRecords, Inside, idle_from}
 use Rattle.bb8_tables.proofs.Lent.{adds_none, adds_more, adds_within}
-use Rattle.bb8_types.proofs.Places.{idle_from}
 use Rattle.bb8_tables.proofs.Lines.{get_absent}
 use Rattle.bb8_tables.proofs.Orders.{found_in, no_earlier}
 use Rattle.bb8_tables.proofs.TablePlaces.{Frees, number_at}
 use Rattle.bb8_tables.proofs.RecordPlaces.{idle_conn}
 use Rattle.bb8_tables.proofs.ReapPlaces.{lives_idle, freed_good, freed_births, freed_due}
 use Rattle.bb8_tables.proofs.Reaps.{listed_both, none_ended, first_more, ends_more}
-use Rattle.bb8_tables.proofs.Slots.{Updates, held_found, line_length, get-push, set_at, within}
+use Rattle.bb8_tables.proofs.Slots.{Updates, held_found, line_length, get-push, set_at}
 use Rattle.bb8_tables.proofs.Spelled.{absent_get, without_absent}
 
 -- ---- limits
@@ -55,19 +53,13 @@ without_between : (p : ℕ) (xs ys : List ℕ) → Absent p xs → Absent p ys �
 without_between p [] ys a b = rw (eq-eqb p p refl) (without_absent p ys b)
 without_between p (x ∷ xs) ys a b = rw (ne_eqb x p a.0) (ap (λ (r : List ℕ). x ∷ r) (without_between p xs ys a.1 b))
 
-append_move : (p : ℕ) (xs ys : List ℕ) → xs ++ p ∷ ys ≡ (xs ++ p ∷ []) ++ ys
-append_move p [] ys = refl
-append_move p (x ∷ xs) ys = ap (λ (r : List ℕ). x ∷ r) (append_move p xs ys)
-
 module _ {C : Type 0} where
   -- ---- places by their tests
 
   out_conn : (p : Place C) → is_conn p ≡ true → is_idle p ≡ false → is_out p ≡ true
-  out_conn Unclaimed c i = cc
-  out_conn Claimed c i = cc
-  out_conn (Idle x) c i = cc
   out_conn (Held g) c i = refl
   out_conn Guarded c i = refl
+  out_conn _ c i = cc
 
   out_busy : (p : Place C) → is_out p ≡ true → is_idle p ≡ true → ⊥
   out_busy p o i = let clash : true ≡ false = sym i ∙ idle_from false p o in cc
@@ -75,18 +67,12 @@ module _ {C : Type 0} where
   -- a connection is idle or out
   idle_or_out : (p : Place C) → one (is_idle p) + one (is_out p) ≡ one (is_conn p)
   idle_or_out Unclaimed = refl
-  idle_or_out Claimed = refl
-  idle_or_out (Idle x) = refl
-  idle_or_out (Held g) = refl
-  idle_or_out Guarded = refl
+  idle_or_out _ = refl
 
   tally_split : (xs : List (Option (Slot (Standing C)))) → tally (passes is_idle) xs + tally (passes is_out) xs ≡ tally (passes is_conn) xs
   tally_split [] = refl
-  tally_split (None ∷ xs) = let ih : tally (passes is_idle) xs + tally (passes is_out) xs ≡ tally (passes is_conn) xs = tally_split xs in omega arith
-  tally_split (Some x ∷ xs) =
-      let ih : tally (passes is_idle) xs + tally (passes is_out) xs ≡ tally (passes is_conn) xs = tally_split xs in
-      let here : one (is_idle x.standing.place) + one (is_out x.standing.place) ≡ one (is_conn x.standing.place) = idle_or_out x.standing.place in
-      omega arith
+  tally_split (None ∷ xs) = omega (arith, tally_split xs)
+  tally_split (Some x ∷ xs) = omega (arith, tally_split xs, idle_or_out x.standing.place)
 
   -- ---- the walk along the line of the idle
 
@@ -110,17 +96,14 @@ module _ {C : Type 0} where
 
   -- the first in line is idle
   pub first_idle : (a : Inside C) (place : ℕ) (x : Slot (Standing C)) → AreGoodRecords a → slice_get a.slots.line 0 ≡ Some place → slot_at a.slots place ≡ Some x → is_idle x.standing.place ≡ true
-  first_idle a place x good first at_place =
-      let st = good.idle.are.each 0 place first in
-      let same : st.0 ≡ x = let both : Some st.0 ≡ Some x = sym st.1 ∙ at_place in cc in
-      subst (λ (y : Slot (Standing C)). is_idle y.standing.place ≡ true) same st.3
+  first_idle a place x good first at_place = grind arith
 
   -- where the first in line is not idle too long, none is
   pub first_not_due : (config : Settings) (now : ℕ) (a : Inside C) (place : ℕ) (x : Slot (Standing C)) → AreGoodRecords a → slice_get a.slots.line 0 ≡ Some place → slot_at a.slots place ≡ Some x
       → idles_out config now (Some x.standing) ≡ false → (k : ℕ) → idles_out config now (get (view_of_records a).places k) ≡ false
   first_not_due config now a place x good first at_place young = unless_idle (idles_out config now) refl (λ s e. and_left (is_idle s.place) _ e) a good
       (λ i y e idle. and_right (is_idle y.standing.place) _ (shorter_span config.idle_timeout (now - x.standing.entered) (now - y.standing.entered) first_past
-      (let l : x.standing.entered ≤ y.standing.entered = entered_later i y e idle in omega arith)))
+      (omega (arith, entered_later i y e idle))))
     where
       line : (rest : List ℕ) × (a.slots.line ≡ place ∷ rest)
       line = head_split place a.slots.line first
@@ -191,10 +174,7 @@ module _ {C : Type 0} where
     pub many_few : many ≤ old.conns
 
   out_push : (t : Lined (Slot (Standing C))) (ks : List ℕ) (k : ℕ) (x : Slot (Standing C)) → AreOut t ks → slot_at t k ≡ Some x → is_out x.standing.place ≡ true → AreOut t (ks ++ k ∷ [])
-  out_push t ks k x o e is j q f = ⊎_elim
-      (λ (h : slice_get ks j ≡ Some q). o j q h)
-      (λ (h : (j ≡ length ks) × (k ≡ q)). subst (λ (r : ℕ). (y : Slot (Standing C)) × (slot_at t r ≡ Some y) × (is_out y.standing.place ≡ true)) h.1 (x, e, is))
-      (get-push ks k q j f)
+  out_push t ks k x o e is j q f = grind (arith, get-push ks k q j f)
 
   -- no place stands twice in a line that is cut at one
   module _ (slots : List (Option (Slot (Standing C)))) (passed rest : List ℕ) (place : ℕ) (are : ArePlaces (λ (x : Slot (Standing C)). is_conn x.standing.place) slots (passed ++ place ∷ rest)) where
@@ -203,18 +183,14 @@ module _ {C : Type 0} where
 
     absent_front : Absent place passed
     absent_front = get_absent place passed (λ j k e s.
-        let l : j < length passed = within passed k j e in
-        let same : j ≡ length passed = are.once j (length passed) k place (get_front passed (place ∷ rest) j k e) middle s in
-        omega arith)
+        omega (arith, slice_get_within passed j k e, are.once j (length passed) k place (get_front passed (place ∷ rest) j k e) middle s))
 
     absent_back : Absent place rest
     absent_back = get_absent place rest (λ j k e s.
-        let same : length passed + suc j ≡ length passed = are.once (length passed + suc j) (length passed) k place
-        (get_back passed (place ∷ rest) (length passed + suc j) (suc j) refl ∙ e) middle s in
-        omega arith)
+        omega (arith, are.once (length passed + suc j) (length passed) k place (get_back passed (place ∷ rest) (length passed + suc j) (suc j) refl ∙ e) middle s))
 
   pub conns_few : (a : Inside C) (s : ShownRecords C) → AreGoodRecords a → view_of_records a ≡ s → s.conns ≤ most_records
-  conns_few a s good shows = let e : a.conns ≡ s.conns = ap (λ (t : ShownRecords C). t.conns) shows in omega (arith, good.sizes.peak_holds, good.sizes.peak_few)
+  conns_few a s good shows = omega (arith, ap (λ (t : ShownRecords C). t.conns) shows, good.sizes.peak_holds, good.sizes.peak_few)
 
   module _ {config : Settings} {now : ℕ} {old : ShownRecords C} {list : Buffer (Closed C)} {lent : Lent} {many : ℕ} where
     -- it begins at the one that was born first
@@ -234,9 +210,8 @@ module _ {C : Type 0} where
       left = omega arith;
       few = conns_few a old good shows;
       many_few =
-          let e : a.conns ≡ old.conns = ap (λ (s : ShownRecords C). s.conns) shows in
           let l : length a.slots.births ≤ tally (passes is_conn) a.slots.slots = line_length _ _ _ _ (passes is_conn) refl (λ x h. h) a.slots.births a.slots.slots good.births.are in
-          omega (arith, good.conns_are);
+          omega (arith, ap (λ (s : ShownRecords C). s.conns) shows, good.conns_are);
     }
 
     module _ {a : Inside C} {told place : ℕ} {listed : Buffer (Closed C)} {lent_now : Lent} {counter : ℕ} (i : InBirths config now old list lent many a told (Some place) listed lent_now counter) where
@@ -271,7 +246,7 @@ module _ {C : Type 0} where
             ends = i.ends;
             passed = i.passed ++ place ∷ [];
             rest = ahead.0;
-            births = cut ∙ append_move place i.passed ahead.0;
+            births = cut ∙ sym (append_assoc i.passed (place ∷ []) ahead.0);
             at_is = p.3 i.passed ahead.0 cut;
             outs = out_push a.slots i.passed place p.0 i.outs p.1 (out_conn p.0.standing.place conn p.2);
             steps = omega (arith, i.steps);
@@ -322,19 +297,18 @@ module _ {C : Type 0} where
           here : (p : ℕ) (y : Slot (Standing C)) → slot_at a.slots p ≡ Some y → is_idle y.standing.place ≡ true → is_expired config.max_lifetime now y.standing.birth ≡ false
           here p y e idle =
               let there = found_in i.good.births p y e (idle_conn y.standing.place idle) in
-              ⊎_elim
-              (λ (h : slice_get i.passed there.0 ≡ Some p).
-              let out = i.outs there.0 p h in
-              let same : out.0 ≡ y = let both : Some out.0 ≡ Some y = sym out.1 ∙ e in cc in
-              absurd (out_busy y.standing.place (subst (λ (x : Slot (Standing C)). is_out x.standing.place ≡ true) same out.2) idle))
-              (λ (h : (j : ℕ) × (slice_get i.rest j ≡ Some p)). young h.0 p y h.1 e)
-              (get_joined i.passed i.rest there.0 p (ap (λ (ks : List ℕ). slice_get ks there.0) (sym i.births) ∙ there.1))
+              elim (get_joined i.passed i.rest there.0 p (ap (λ (ks : List ℕ). slice_get ks there.0) (sym i.births) ∙ there.1)) [
+                | inl h ↦ let out = i.outs there.0 p h in
+                    let same : out.0 ≡ y = let both : Some out.0 ≡ Some y = sym out.1 ∙ e in cc in
+                    absurd (out_busy y.standing.place (subst (λ (x : Slot (Standing C)). is_out x.standing.place ≡ true) same out.2) idle)
+                | inr h ↦ young h.0 p y h.1 e
+              ]
 
       pub none_ahead : at ≡ None → (k : ℕ) → lives_out config now (get (view_of_records a).places k) ≡ false
       none_ahead over = none_aged (λ j k y e f. absurd (none_at i.rest j k (sym i.at_is ∙ over) e))
 
       pub none_more : many ≤ counter → (k : ℕ) → lives_out config now (get (view_of_records a).places k) ≡ false
-      none_more over = none_aged (λ j k y e f. absurd (let l : j < length i.rest = within i.rest k j e in omega (arith, i.left)))
+      none_more over = none_aged (λ j k y e f. absurd (omega (arith, slice_get_within i.rest j k e, i.left)))
 
       -- no more were passed than are out
       few_passed : length i.passed + length old.idle ≤ old.conns
@@ -345,9 +319,8 @@ module _ {C : Type 0} where
           } in
           let few_out : length i.passed ≤ tally (passes is_out) a.slots.slots = line_length _ _ _ _ (passes is_out) refl (λ x h. h) i.passed a.slots.slots outs in
           let few_idle : length a.slots.line ≤ tally (passes is_idle) a.slots.slots = line_length _ _ _ _ (passes is_idle) refl (λ x h. h) a.slots.line a.slots.slots i.good.idle.are in
-          let both : tally (passes is_idle) a.slots.slots + tally (passes is_out) a.slots.slots ≡ tally (passes is_conn) a.slots.slots = tally_split a.slots.slots in
           let shown_idle : length (view_of_records a).idle ≡ length a.slots.line = length-map a.slots.line _ in
-          omega (arith, i.good.conns_are, i.ends.conns, i.ends.idle)
+          omega (arith, tally_split a.slots.slots, i.good.conns_are, i.ends.conns, i.ends.idle)
         where
           in_births : (j k : ℕ) → slice_get i.passed j ≡ Some k → slice_get a.slots.births j ≡ Some k
           in_births j k e = ap (λ (ks : List ℕ). slice_get ks j) i.births ∙ get_front i.passed i.rest j k e
@@ -370,23 +343,4 @@ module _ {C : Type 0} where
       → Ends (lives_out config now) old js mid aged list listed
       → ((k : ℕ) → lives_out config now (get mid.places k) ≡ false) → EndsIdle config now mid ks new idle listed offered
       → Reaps config now old js ks new (record { closed = aged + idle; by_idle = idle; by_life = aged }) × (offered ≡ offered_all (closed_of (js ++ ks) old.places) list)
-  reaps_both {config} {now} {old} {mid} {new} {js} {ks} {aged} {idle} {list} {listed} {offered} a none b = (
-    record {
-      aged = a.each;
-      none_aged = subst (λ (s : ShownRecords C). (k : ℕ) → lives_out config now (get s.places k) ≡ false) a.state none;
-      first = subst (AreFirst (idles_out config now) ks) a.state b.first;
-      few = subst (λ (s : ShownRecords C). length ks ≤ beyond config s) a.state (omega (arith, b.few, b.ends.closed));
-      all = ⊎_elim
-          (λ (t : idle ≡ beyond config mid). inl (sym b.ends.closed ∙ t ∙ ap (beyond config) a.state))
-          (λ (t : (k : ℕ) → idles_out config now (get new.places k) ≡ false). inr (subst (λ (s : ShownRecords C). (k : ℕ) → idles_out config now (get s.places k) ≡ false) (state_is a b) t))
-          b.all;
-      state = state_is a b;
-      closed = omega (arith, a.closed, b.ends.closed);
-      by_idle = b.ends.closed;
-      by_life = a.closed;
-    },
-    listed_both js ks old list a.listed (subst (λ (s : ShownRecords C). offered ≡ offered_all (closed_of ks s.places) listed) a.state b.ends.listed),
-  )
-    where
-      state_is : Ends (lives_out config now) old js mid aged list listed → EndsIdle config now mid ks new idle listed offered → new ≡ after_reap ks (after_reap js old)
-      state_is a b = b.ends.state ∙ ap (after_reap ks) a.state
+  reaps_both {config} {now} {old} {mid} {new} {js} {ks} {aged} {idle} {list} {listed} {offered} a none b = grind (arith, listed_both)

@@ -9,7 +9,8 @@ use Rattle.bb8_types.specs.declared.standing.GetPlace.TheVariants.{Active, Waiti
 use Rattle.bb8_types.specs.declared.standing.Getting.{Getting}
 use Rattle.bb8_types.specs.declared.grants.Grant.{Grant}
 use Rattle.bb8_types.specs.Numbered.{one}
-use Rattle.bb8_types.specs.Places.{get_with_place, get_in_wait, gets_stand, is_notified}
+use Rattle.bb8_types.specs.Places.{get_with_place, get_in_wait, gets_stand, is_notified, is_expired, birth_in}
+use Rattle.bb8_types.specs.Settings.{Settings}
 use Rattle.bb8_tables.specs.Views.{ShownRecords, ShownGets}
 use Rattle.bb8_types.specs.Grants.{IsGranted}
 
@@ -38,6 +39,14 @@ module _ {C : Type 0} where
   -- an approval, or a connection that was out, becomes idle
   abbrev pub after_entry : Bool → ℕ → Standing C → ShownRecords C → ShownRecords C
   after_entry opening k st s = record s { places = insert s.places k st; idle = s.idle ++ k ∷ []; conns = s.conns + one opening; approved = s.approved - one opening }
+
+  -- whether a connection has lived too long
+  abbrev pub is_old : Settings → ℕ → ℕ → ShownRecords C → Bool
+  is_old config now k s = is_expired config.max_lifetime now (birth_in (get s.places k))
+
+  -- a connection that was out is idle again, and keeps its birth
+  abbrev pub after_return : ℕ → C → ℕ → ShownRecords C → ShownRecords C
+  after_return k c now s = after_entry false k (record { place = Idle c; birth = birth_in (get s.places k); entered = now }) s
 
   -- a claimed approval, or a connection that was out, ends
   abbrev pub after_close : Bool → ℕ → ShownRecords C → ShownRecords C

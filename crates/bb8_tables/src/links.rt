@@ -1,5 +1,5 @@
 //! Entries whose places carry the links of orders.
-ghost use Rattle.std.specs.Prelude.{◌≡◌, ◌≢◌, ℕ, ◌+◌, ◌<◌, ◌++◌, ◌∷◌, IfSome, IfNone, OnOk, OnErr, Some, None, option_copied, [], get_or};
+ghost use Rattle.std.specs.Prelude.{◌≡◌, ◌≢◌, ℕ, ◌+◌, ◌<◌, ◌++◌, ◌∷◌, IfSome, IfNone, OnOk, OnErr, Some, None, option_copied, [], get_or, length};
 ghost use Rattle.std.specs.Vec.{vec_len};
 ghost use Rattle.bb8_tables.specs.declared.table.Slot.{Slot};
 ghost use Rattle.bb8_tables.specs.declared.links.Order.{Order};
@@ -110,15 +110,29 @@ impl<S: Drop> Entry<S> {
         }
     }
 
-    /// Changes the neighbours in an order.
+    /// Changes the place after in an order.
     #[inline]
-    fn set_link(&mut self, order: Order, link: Link)
-        ensures { self.new ≡ with_link order link self.old }
+    fn set_after(&mut self, order: Order, to: u32)
+        ensures { self.new ≡ with_link order
+            (record { before = (link_in order self.old).before; after = to }) self.old }
     {
         match order {
-            Order::Line => self.line = link,
-            Order::Births => self.births = link,
-            Order::Free => self.free = link,
+            Order::Line => self.line.after = to,
+            Order::Births => self.births.after = to,
+            Order::Free => self.free.after = to,
+        }
+    }
+
+    /// Changes the place before in an order.
+    #[inline]
+    fn set_before(&mut self, order: Order, to: u32)
+        ensures { self.new ≡ with_link order
+            (record { before = to; after = (link_in order self.old).after }) self.old }
+    {
+        match order {
+            Order::Line => self.line.before = to,
+            Order::Births => self.births.before = to,
+            Order::Free => self.free.before = to,
         }
     }
 }
@@ -143,52 +157,34 @@ impl<S: Drop> Links<S> {
     {
         self.entries[at as usize].link(order)
     }
+}
 
-    #[inline]
-    fn set_after(&mut self, order: Order, at: u32, to: u32)
-        requires { at < vec_len self.old.entries }
-        ensures is { after_of order self.new.entries.items at ≡ to }
-        ensures kept { (i : ℕ) → i ≢ at
-            → after_of order self.new.entries.items i ≡ after_of order self.old.entries.items i }
-        ensures before { (i : ℕ)
-            → before_of order self.new.entries.items i ≡ before_of order self.old.entries.items i }
-        ensures others { SameOthers order self.old.entries.items self.new.entries.items }
-        ensures slots { slots_of self.new.entries.items ≡ slots_of self.old.entries.items }
-        ensures len { vec_len self.new.entries ≡ vec_len self.old.entries }
-    {
-        let entry = &mut self.entries[at as usize];
-        let link = entry.link(order);
-        entry.set_link(
-            order,
-            Link {
-                before: link.before,
-                after: to,
-            },
-        );
-    }
+/// Changes the place after one in an order.
+#[inline]
+fn set_after<S: Drop>(entries: &mut [Entry<S>], order: Order, at: u32, to: u32)
+    requires { at < length entries.old }
+    ensures is { after_of order entries.new at ≡ to }
+    ensures kept { (i : ℕ) → i ≢ at → after_of order entries.new i ≡ after_of order entries.old i }
+    ensures before { (i : ℕ) → before_of order entries.new i ≡ before_of order entries.old i }
+    ensures others { SameOthers order entries.old entries.new }
+    ensures slots { slots_of entries.new ≡ slots_of entries.old }
+    ensures len { length entries.new ≡ length entries.old }
+{
+    entries[at as usize].set_after(order, to);
+}
 
-    #[inline]
-    fn set_before(&mut self, order: Order, at: u32, to: u32)
-        requires { at < vec_len self.old.entries }
-        ensures is { before_of order self.new.entries.items at ≡ to }
-        ensures kept { (i : ℕ) → i ≢ at
-            → before_of order self.new.entries.items i ≡ before_of order self.old.entries.items i }
-        ensures after { (i : ℕ)
-            → after_of order self.new.entries.items i ≡ after_of order self.old.entries.items i }
-        ensures others { SameOthers order self.old.entries.items self.new.entries.items }
-        ensures slots { slots_of self.new.entries.items ≡ slots_of self.old.entries.items }
-        ensures len { vec_len self.new.entries ≡ vec_len self.old.entries }
-    {
-        let entry = &mut self.entries[at as usize];
-        let link = entry.link(order);
-        entry.set_link(
-            order,
-            Link {
-                before: to,
-                after: link.after,
-            },
-        );
-    }
+/// Changes the place before one in an order.
+#[inline]
+fn set_before<S: Drop>(entries: &mut [Entry<S>], order: Order, at: u32, to: u32)
+    requires { at < length entries.old }
+    ensures is { before_of order entries.new at ≡ to }
+    ensures kept { (i : ℕ) → i ≢ at → before_of order entries.new i ≡ before_of order entries.old i }
+    ensures after { (i : ℕ) → after_of order entries.new i ≡ after_of order entries.old i }
+    ensures others { SameOthers order entries.old entries.new }
+    ensures slots { slots_of entries.new ≡ slots_of entries.old }
+    ensures len { length entries.new ≡ length entries.old }
+{
+    entries[at as usize].set_before(order, to);
 }
 
 impl<S: Drop> Links<S> {
@@ -202,8 +198,9 @@ impl<S: Drop> Links<S> {
         ensures slots { slots_of self.new.entries.items ≡ slots_of self.old.entries.items }
         ensures len { vec_len self.new.entries ≡ vec_len self.old.entries }
     {
-        self.set_after(order, left, right);
-        self.set_before(order, right, left);
+        let entries = self.entries.as_mut_slice();
+        set_after(entries, order, left, right);
+        set_before(entries, order, right, left);
     }
 
     /// What stands at a place, if it has that number.

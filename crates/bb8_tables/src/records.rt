@@ -1,7 +1,8 @@
 //! The connections and approvals of a pool.
-ghost use Rattle.std.specs.Prelude.{◌≡◌, ◌≢◌, ℕ, Bool, true, false, cond, ◌<◌, ◌≤◌, ◌+◌, IsSome, is_some, IfSome, IfNone, IfOk, IfErr, OnOk, OnErr, max, min, Some, None, slice_get, slice_set, length, [], ◌∷◌, ◌++◌, ltb};
+ghost use Rattle.std.specs.Prelude.{◌≡◌, ◌≢◌, ℕ, Bool, true, false, cond, ◌<◌, ◌≤◌, ◌+◌, IsSome, is_some, IfSome, IfNone, IfOk, IfErr, OnOk, OnErr, max, min, Some, None, slice_get, slice_set, length, [], ◌∷◌, ◌++◌, ◌||◌, ltb};
 ghost use Rattle.std.specs.FinMap as map;
 ghost use Rattle.bb8_types.specs.Places as places;
+ghost use Rattle.bb8_types.specs.Settings.{settings_of};
 ghost use Rattle.bb8_tables.specs.Machine as machine;
 ghost use Rattle.bb8_types.specs.Numbered as numbered;
 ghost use Rattle.bb8_tables.specs.Views.{no_records, NoneAfter};
@@ -20,11 +21,12 @@ use crate::closed::{Closed, ClosedList};
 use crate::keys::Key;
 use crate::ring::Ring;
 use crate::table::{Asking, Lendings, Slot, Table};
-use bb8_types::api::QueueStrategy;
+use bb8_types::api::{Config, QueueStrategy};
 use bb8_types::bounds::END_OF_NUMBERS;
 use bb8_types::grants::Grant;
 use bb8_types::standing::{Holder, Place, Standing};
 pub use reaps::Reaped;
+use reaps::is_past;
 use std::alloc::{AllocError, Global};
 use std::marker::Model;
 
@@ -106,6 +108,13 @@ fn close_at<C: Drop>(
         closed.offer(Closed { number, conn });
     }
     number
+}
+
+/// Whether a connection that comes back is closed.
+fn is_closing(broken: bool, expired: bool, ended: bool) -> bool
+    ensures { result ≡ (broken || (expired || ended)) }
+{
+    broken || expired || ended
 }
 
 /// Where a connection stands that somebody holds.
@@ -250,24 +259,13 @@ impl<C: Drop> Records<C> {
         }
     }
 
-    /// Makes a connection idle, which a claimed approval brought, or a guard or a get held. One that was held keeps its birth. No birth and
-    /// no entry may lie after `now`.
-    pub fn enter(
-        &mut self,
-        k: Key,
-        conn: C,
-        birth: u64,
-        now: u64,
-        opening: bool,
-        lendings: &mut Lendings,
-    )
+    /// Makes a connection idle that a claimed approval brought, and that is born now. No birth and no entry may lie after `now`.
+    pub fn enter(&mut self, k: Key, conn: C, now: u64, lendings: &mut Lendings)
         requires moments { NoneAfter now self.old }
-        requires birth { birth ≡ cond opening now
-            (places.birth_in (map.get self.old.places k.number)) }
-        requires out { (s : Standing C) × (map.get self.old.places k.number ≡ Some s)
-            × (places.comes_from opening s.place ≡ true) }
-        ensures state { self.new ≡ machine.after_entry opening k.number
-            (record { place = Idle conn; birth = birth; entered = now }) self.old }
+        requires claimed { (s : Standing C) × (map.get self.old.places k.number ≡ Some s)
+            × (places.is_claimed s.place ≡ true) }
+        ensures state { self.new ≡ machine.after_entry true k.number
+            (record { place = Idle conn; birth = now; entered = now }) self.old }
         ensures numbers { self.old.next ≤ end_of_numbers }
         ensures examined { AddsLent 1 1 lendings.old lendings.new }
         ensures counted { min (lendings.old.lent + 1) end_of_numbers ≤ lendings.new.lent }
@@ -277,15 +275,60 @@ impl<C: Drop> Records<C> {
             Some(place) => {
                 let idle = Standing {
                     place: Place::Idle(conn),
+                    birth: now,
+                    entered: now,
+                };
+                let _ = self.slots.replace(place, idle, lendings);
+                self.slots.line_up(place);
+                self.slots.add_birth(place);
+                self.conns += 1;
+                self.approved -= 1;
+            }
+        }
+    }
+
+    /// Takes back a connection that a guard or a get held, which is idle again and keeps its birth. Where it is broken, or has lived too long, or
+    /// the pool has ended, it is handed back instead with whether it has lived too long, and nothing changes. No birth and no entry may lie
+    /// after `now`. It looks for the connection once.
+    #[inline]
+    pub fn put_back(
+        &mut self,
+        k: Key,
+        conn: C,
+        broken: bool,
+        ended: bool,
+        config: &Config,
+        now: u64,
+        lendings: &mut Lendings,
+    ) -> Result<(), (C, bool)>
+        requires moments { NoneAfter now self.old }
+        requires out { (s : Standing C) × (map.get self.old.places k.number ≡ Some s)
+            × (places.is_out s.place ≡ true) }
+        ensures ok { IfOk result (λ u. ((broken || (machine.is_old (settings_of config.now) now
+            k.number self.old || ended)) ≡ false)
+            × (self.new ≡ machine.after_return k.number conn now self.old)) }
+        ensures err { IfErr result (λ r. (r.0 ≡ conn)
+            × (r.1 ≡ machine.is_old (settings_of config.now) now k.number self.old)
+            × ((broken || (r.1 || ended)) ≡ true) × (self.new ≡ self.old)) }
+        ensures examined { AddsLent 2 1 lendings.old lendings.new }
+        ensures counted { min (lendings.old.lent + 1) end_of_numbers ≤ lendings.new.lent }
+    {
+        match self.slots.locate(k.number, k.place, lendings) {
+            None => Ok(()),
+            Some(place) => {
+                let birth = self.slots.at(place, lendings).standing.birth;
+                let expired = is_past(config.max_lifetime, now - birth);
+                if is_closing(broken, expired, ended) {
+                    return Err((conn, expired));
+                }
+                let idle = Standing {
+                    place: Place::Idle(conn),
                     birth,
                     entered: now,
                 };
                 let _ = self.slots.replace(place, idle, lendings);
                 self.slots.line_up(place);
-                self.slots.add_birth(place, opening);
-                let opened = one(opening);
-                self.conns += opened;
-                self.approved -= opened;
+                Ok(())
             }
         }
     }
@@ -423,7 +466,7 @@ impl<C: Drop> Records<C> {
             },
         });
         self.slots.line_up(place);
-        self.slots.add_birth(place, true);
+        self.slots.add_birth(place);
         self.next += 1;
         self.conns += 1;
         Key { number, place }

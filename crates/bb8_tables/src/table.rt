@@ -358,19 +358,15 @@ impl<S: Drop> Table<S> {
         Some(next as usize)
     }
 
-    /// Puts a place at the new end of the order of births, where its connection is new.
+    /// Puts a place at the new end of the order of births.
     #[inline]
-    pub fn add_birth(&mut self, place: usize, new: bool)
+    pub fn add_birth(&mut self, place: usize)
         requires stands { IsSome (slot_at self.old place) }
-        requires absent { new ≡ true → Absent place self.old.births }
-        ensures { self.new ≡ record self.old {
-          births = cond new (self.old.births ++ place ∷ []) self.old.births;
-        } }
+        requires absent { Absent place self.old.births }
+        ensures { self.new ≡ record self.old { births = self.old.births ++ place ∷ [] } }
     {
         let _links = &self.links;
-        if new {
-            self.push(Order::Births, place);
-        }
+        self.push(Order::Births, place);
     }
 
     /// Takes a place out of line, wherever it stands in it.

@@ -1,4 +1,4 @@
-//! Tests of the polled tasks and of a driver's turns, by public items alone.
+//! Tests of the polled tasks, by public items alone.
 #![tactic(auto)]
 
 #[cfg(test)]

@@ -1,12 +1,8 @@
-//! Tests of the tasks of a pool and of a driver's turns, against values that were worked out by hand.
+//! Tests of the tasks of a pool, against values that were worked out by hand.
 
-mod ends;
-mod lists;
-mod plain_reaper;
 mod polls;
 mod reaper;
 mod replays;
-mod turns;
 
 use std::fmt::Debug;
 use std::process::Abort;

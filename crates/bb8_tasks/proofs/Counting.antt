@@ -6,11 +6,8 @@ use Rattle.bb8_tasks.proofs.Waiting.{waits-more, at_most, most-below, most_waits
 
 -- no poll's moment is before the one of the poll before
 later : (at latest : Moment) (stage : Standing) (m : Moment) → IsMoment at latest stage m → latest.0 ≤ m.0
-later at latest Start m h = omega arith
-later at latest (Connecting t v) m h = omega arith
-later at latest (Acquiring t c a) m h = omega arith
-later at latest (Sleeping t due) m h = omega arith
 later at latest Done m h = let same : m.0 ≡ latest.0 = ap (λ (x : Moment). x.0) h in omega arith
+later at latest _ m h = omega arith
 
 -- what each poll keeps a run keeps
 run-keeps : (timeout : ℕ) (retry : Bool) (Keeps : Moment → Standing → ℕ → Type 0)
@@ -21,13 +18,12 @@ run-keeps : (timeout : ℕ) (retry : Bool) (Keeps : Moment → Standing → ℕ 
 run-keeps timeout retry Keeps move t [] [] tries t' before k r =
     let none : before ≡ before + tries = omega arith in
     subst (λ (x : ℕ). Keeps t'.latest t'.stage x) none (subst (λ (x : Task). Keeps x.latest x.stage before) (sym r.1) k)
-run-keeps timeout retry Keeps move t [] (a ∷ answers) tries t' before k r = absurd r
-run-keeps timeout retry Keeps move t (p ∷ polls) [] tries t' before k r = absurd r
 run-keeps timeout retry Keeps move t (p ∷ polls) (a ∷ answers) tries t' before k r =
     let led = moved timeout retry p t r.0 a r.1 r.3 in
     let next : Keeps r.1.latest r.1.stage (before + r.0) = move p.1 t.latest r.1.latest t.stage r.0 r.1.stage before (later p.0 t.latest t.stage r.1.latest led.0) k led.1 in
     let all : before + r.0 + r.2 ≡ before + tries = omega arith in
     subst (λ (x : ℕ). Keeps t'.latest t'.stage x) all (run-keeps timeout retry Keeps move r.1 polls answers r.2 t' (before + r.0) next r.4)
+run-keeps timeout retry Keeps move t _ _ tries t' before k r = absurd r
 
 module _ (timeout : ℕ) (retry : Bool) (n : ℕ) (small : n < 70) (past : timeout < waits timeout (suc n)) where
   -- a try is under way: it is one more than the failures, and these took their waits
@@ -92,11 +88,8 @@ module _ (timeout : ℕ) (retry : Bool) (n : ℕ) (small : n < 70) (past : timeo
 
   -- what is kept is bounded
   kept-bounded : (m : Moment) (s : Standing) (tries : ℕ) → Keeps m s tries → tries ≤ n + 2
-  kept-bounded m Start tries k = omega arith
-  kept-bounded m (Connecting t v) tries k = omega arith
-  kept-bounded m (Acquiring t c a) tries k = omega arith
-  kept-bounded m (Sleeping t due) tries k = omega arith
   kept-bounded m Done tries k = k
+  kept-bounded m _ tries k = omega arith
 
   -- a run from the start is bounded
   run-bounded : (polls : List (Moment × Reply)) (answers : List (ReplenishAnswer (Unit {0}))) (tries : ℕ) → Plays timeout retry polls answers tries → tries ≤ n + 2
@@ -135,10 +128,8 @@ module _ (timeout : ℕ) (retry : Bool) (off : retry ≡ false) where
   -- what is kept is one at most
   kept-one : (s : Standing) (tries : ℕ) → KeepsOne s tries → tries ≤ 1
   kept-one Start tries k = omega arith
-  kept-one (Connecting t v) tries k = k
-  kept-one (Acquiring t c a) tries k = k
   kept-one (Sleeping t due) tries k = absurd k
-  kept-one Done tries k = k
+  kept-one _ tries k = k
 
   -- with no retry a run begins one opening at most
   pub at_most_one : (polls : List (Moment × Reply)) (answers : List (ReplenishAnswer (Unit {0}))) (tries : ℕ) → Plays timeout retry polls answers tries → tries ≤ 1

@@ -1,5 +1,5 @@
 -- One poll of a replay in plain words: where it leaves the task, and how many openings it begins.
-use Rattle.bb8_tasks.proofs.Words.{◌≡◌, ℕ, ◌-◌, ◌<◌, ◌≤◌, max, Bool, true, false, Option, Some, None, Result, Ok, ◌⊎◌, subst, ap, sym, ◌∙◌, refl, inl, inr, arith, cases_lt, Poll, Moment, Key, wait, Reply, OpenedStep, Next, ReplenishAnswer, Stage, Start, Connecting, Acquiring, Sleeping, Done, Tries, told, begun, scripted, steady, Task, Polled, IsDue, failed_once_more, AfterOpened, AfterTaskAcquire, AfterTaskConnect, Enters, TaskConnects, TaskBegins, TaskProceeds}
+use Rattle.bb8_tasks.proofs.Words.{◌≡◌, ℕ, ◌-◌, ◌<◌, ◌≤◌, max, Bool, true, false, Option, Some, None, Result, Ok, ◌⊎◌, subst, ap, sym, ◌∙◌, refl, inl, inr, arith, cases_lt, Poll, Moment, Key, wait, Reply, OpenedStep, ReplenishStep, ReplenishAnswer, ReplenishStage, Start, Connecting, Acquiring, Sleeping, Done, Tries, told, begun, scripted, steady, Task, Polled, IsDue, failed_once_more, AfterOpened, AfterTaskAcquire, AfterTaskConnect, Enters, TaskConnects, TaskBegins, TaskProceeds}
 use Rattle.futures.specs.declared.task.Poll.TheVariants.{Ready}
 use Rattle.bb8_core.specs.declared.answers.Looked.{Looked}
 use Rattle.bb8_tasks.specs.declared.backoff.Reply.TheVariants as replies
@@ -7,10 +7,10 @@ use Rattle.bb8_tasks.specs.declared.backoff.Scripted.{Scripted}
 
 -- where such a task stands
 abbrev pub Standing : Type 0
-Standing = Stage (Unit {0}) (Unit {0}) (Unit {0})
+Standing = ReplenishStage (Unit {0}) (Unit {0}) (Unit {0})
 
 abbrev Row : Type 0
-Row = Next (Unit {0}) (Unit {0}) (Unit {0}) (Unit {0})
+Row = ReplenishStep (Unit {0}) (Unit {0}) (Unit {0}) (Unit {0})
 
 module _ (timeout : ℕ) (retry : Bool) (m : Moment) where
   -- where a reply leaves a task that has these tries behind it
@@ -138,10 +138,6 @@ module _ (timeout : ℕ) (retry : Bool) where
   tried-most p t tried a t' r = most t.stage (moved p t tried a t' r).1
     where
       most : (stage : Standing) → Moves timeout retry t'.latest p.1 stage tried t'.stage → tried ≤ 1
-      most Start h = omega arith
-      most (Connecting tries connecting) h = omega arith
-      most (Acquiring tries c acquiring) h = omega arith
-      most (Sleeping tries None) h = omega arith
       most (Sleeping tries (Some due)) h =
           elim (cases_lt t'.latest.0 due.0) [ inl later ↦ (let b = (h.1 later).0 in omega arith) | inr now ↦ (let b = (h.0 now).0 in omega arith) ]
-      most Done h = omega arith
+      most _ h = omega arith

@@ -9,15 +9,13 @@ module _ (timeout : ℕ) (retry : Bool) where
       → Runs timeout retry t (polls ++ p ∷ []) (answers ++ a ∷ []) (tries + tried) t''
   run_more t [] [] tries t' p a tried t'' r h =
       (tried, t'', 0, subst (λ (x : Task). Polled timeout retry p x tried a t'') r.1 h, (refl, refl), omega arith)
-  run_more t [] (b ∷ answers) tries t' p a tried t'' r h = absurd r
-  run_more t (q ∷ polls) [] tries t' p a tried t'' r h = absurd r
   run_more t (q ∷ polls) (b ∷ answers) tries t' p a tried t'' r h =
       (r.0, r.1, r.2 + tried, r.3, run_more r.1 polls answers r.2 t' p a tried t'' r.4 h, omega arith)
+  run_more t _ _ tries t' p a tried t'' r h = absurd r
 
   -- a run answers each poll
   pub run_length : (t : Task) (polls : List (Moment × Reply)) (answers : List (ReplenishAnswer (Unit {0}))) (tries : ℕ) (t' : Task)
       → Runs timeout retry t polls answers tries t' → length answers ≡ length polls
   run_length t [] [] tries t' r = refl
-  run_length t [] (a ∷ answers) tries t' r = absurd r
-  run_length t (p ∷ polls) [] tries t' r = absurd r
   run_length t (p ∷ polls) (a ∷ answers) tries t' r = ap suc (run_length r.1 polls answers r.2 t' r.4)
+  run_length t _ _ tries t' r = absurd r

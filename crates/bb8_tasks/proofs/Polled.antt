@@ -1,17 +1,14 @@
 -- A round that goes on after each failure polls each task once.
-use Rattle.bb8_tasks.proofs.Words.{◌≡◌, Option, None, List, [], ◌∷◌, refl, subst, ReplenishAnswer, Pending, Retrying, Failed, Entered, Late, GivenBack, GoOn, After, Rest, PollsUntil}
+use Rattle.bb8_tasks.proofs.Words.{◌≡◌, Option, None, List, [], ◌∷◌, refl, subst, ReplenishAnswer, Retrying, Failed, GoOn, After, Rest, PollsUntil}
 use Rattle.bb8_tasks.specs.Rounds.{kept, Reports, PollsEach}
 
 module _ {T E X : Type 0} (polls : T → X → ReplenishAnswer E → T → X → Type 0) (sinks : X → E → X → Type 0) where
   -- what such a round does after a poll
   after : (r : ReplenishAnswer E) (t : T) (x : X) (ts : List T) (o : Option E) (x' : X) → After polls sinks GoOn r t x ts o x'
       → (o ≡ None) × (ts ≡ kept r t) × Reports polls sinks r x x'
-  after Pending t x ts o x' a = (a.1, a.0, a.2)
   after (Retrying e) t x ts o x' a = (a.2, a.1, a.0)
   after (Failed e) t x ts o x' a = (a.1.1, a.0, a.1.0)
-  after Entered t x ts o x' a = (a.1, a.0, a.2)
-  after Late t x ts o x' a = (a.1, a.0, a.2)
-  after GivenBack t x ts o x' a = (a.1, a.0, a.2)
+  after _ t x ts o x' a = (a.1, a.0, a.2)
 
   pub polls_each : (ts : List T) (x : X) (left : List T) (x' : X) → PollsUntil polls sinks GoOn ts x None left x' → PollsEach polls sinks ts x left x'
   polls_each [] x left x' p = (p.1, p.2)

@@ -1,5 +1,5 @@
 -- A round over a queue, turn by turn.
-use Rattle.bb8_tasks.proofs.Words.{◌≡◌, ℕ, ◌+◌, ◌-◌, ◌<◌, Option, Some, None, List, [], ◌∷◌, ◌++◌, length, refl, sym, ◌∙◌, subst, arith, append_assoc, append-nil, ReplenishAnswer, Pending, Retrying, Failed, Entered, Late, GivenBack, GoOn, After, Rest, PollsUntil, QueueTurns, RoundMidway}
+use Rattle.bb8_tasks.proofs.Words.{◌≡◌, ℕ, ◌+◌, ◌-◌, ◌<◌, Option, Some, None, List, [], ◌∷◌, ◌++◌, length, refl, sym, ◌∙◌, subst, arith, append_assoc, append-nil, ReplenishAnswer, Retrying, Failed, GoOn, After, Rest, PollsUntil, QueueTurns, RoundMidway}
 use Rattle.bb8_tasks.specs.declared.rounds.OnFailure.{OnFailure}
 
 module _ {T E X : Type 0} (polls : T → X → ReplenishAnswer E → T → X → Type 0) (sinks : X → E → X → Type 0) (on : OnFailure) where
@@ -58,12 +58,9 @@ module _ {T E X : Type 0} (polls : T → X → ReplenishAnswer E → T → X →
 module _ {T E X : Type 0} (polls : T → X → ReplenishAnswer E → T → X → Type 0) (sinks : X → E → X → Type 0) where
   -- after no poll does such a round stop
   after-never : (r : ReplenishAnswer E) (t : T) (x : X) (kept : List T) (o : Option E) (x' : X) → After polls sinks GoOn r t x kept o x' → o ≡ None
-  after-never Pending t x kept o x' a = a.1
   after-never (Retrying e) t x kept o x' a = a.2
   after-never (Failed e) t x kept o x' a = a.1.1
-  after-never Entered t x kept o x' a = a.1
-  after-never Late t x kept o x' a = a.1
-  after-never GivenBack t x kept o x' a = a.1
+  after-never _ t x kept o x' a = a.1
 
   -- a round that goes on after each failure stops at none
   pub never-stops : (ts : List T) (x : X) (o : Option E) (left : List T) (x' : X) → PollsUntil polls sinks GoOn ts x o left x' → o ≡ None

@@ -15,12 +15,12 @@ pub use Rattle.bb8_tasks.specs.Replenishing.{failed_once_more, IsDue, AfterTaskA
 pub use Rattle.bb8_tasks.specs.Sweeping.{PollsUntil, Rest, After, RoundMidway, QueueTurns, AreFor, LetsGoEach}
 pub use Rattle.bb8_tasks.specs.declared.backoff.Reply.{Reply}
 pub use Rattle.bb8_tasks.specs.declared.home.OpenedStep.{OpenedStep}
-pub use Rattle.bb8_tasks.specs.declared.replenish.Next.{Next}
+pub use Rattle.bb8_tasks.specs.declared.replenish.ReplenishStep.{ReplenishStep}
 pub use Rattle.bb8_tasks.specs.declared.replenish.Replenish.{Replenish}
 pub use Rattle.bb8_tasks.specs.declared.replenish.ReplenishAnswer.{ReplenishAnswer}
 pub use Rattle.bb8_tasks.specs.declared.replenish.ReplenishAnswer.TheVariants.{Pending, GivenBack, Late, Retrying, Failed, Entered}
-pub use Rattle.bb8_tasks.specs.declared.replenish.Stage.{Stage}
-pub use Rattle.bb8_tasks.specs.declared.replenish.Stage.TheVariants.{Done, Sleeping, Start, Acquiring, Connecting}
+pub use Rattle.bb8_tasks.specs.declared.replenish.ReplenishStage.{ReplenishStage}
+pub use Rattle.bb8_tasks.specs.declared.replenish.ReplenishStage.TheVariants.{Done, Sleeping, Start, Acquiring, Connecting}
 pub use Rattle.bb8_tasks.specs.declared.replenish.Tries.{Tries}
 pub use Rattle.bb8_tasks.specs.declared.rounds.OnFailure.TheVariants.{GoOn}
 pub use Rattle.futures.specs.declared.task.Poll.{Poll}

@@ -1,9 +1,5 @@
 -- How many openings a replay of one replenishing begins.
-use Rattle.std.specs.Prelude.{◌≡◌, ℕ, ◌+◌, ◌/◌, ◌<◌, ◌≤◌, Bool, true, List, [], ◌∷◌, ⊤, ◌⊎◌}
-use Rattle.bb8_types.specs.declared.api.moments.Moment.{Moment}
-use Rattle.bb8_types.specs.Bounds.{last_moment}
-use Rattle.bb8_ledger.specs.Waits.{waits, IsMostWaits}
-use Rattle.bb8_tasks.specs.declared.backoff.Reply.{Reply}
+use Rattle.bb8_tasks.specs.Words.{◌≡◌, ℕ, ◌+◌, ◌/◌, ◌<◌, ◌≤◌, Bool, true, List, [], ◌∷◌, ⊤, ◌⊎◌, Moment, last_moment, waits, IsMostWaits, Reply}
 use Rattle.bb8_tasks.specs.declared.backoff.Reply.TheVariants.{Err}
 
 -- Where half the timeout is not zero: at most two more than the most first waits whose sum is at most the timeout, and there is such a number.

@@ -1,13 +1,10 @@
 -- The table of the polls of a building, over whatever makes the pool and its first tasks, and whatever a round of these does.
-use Rattle.std.specs.Prelude.{◌≡◌, Result, Ok, Err}
-use Rattle.futures.specs.declared.task.Poll.{Poll}
-use Rattle.futures.specs.declared.task.Poll.TheVariants.{Ready, Pending}
+use Rattle.bb8_tasks.specs.Words.{◌≡◌, Result, Ok, Err, Poll, Ready, Pending, Round}
 use Rattle.bb8_types.specs.declared.api.errors.Memory.{Memory}
 use Rattle.bb8_types.specs.declared.api.errors.RunError.{RunError}
 use Rattle.bb8_types.specs.declared.api.errors.RunError.TheVariants as errors
 use Rattle.bb8_tasks.specs.declared.building.Site.{Site}
 use Rattle.bb8_tasks.specs.declared.building.Site.TheVariants.{Planned, Opening, Done}
-use Rattle.bb8_tasks.specs.declared.rounds.Round.{Round}
 use Rattle.bb8_tasks.specs.declared.rounds.Round.TheVariants.{Failed, Complete, Going}
 
 module _ {I P T E : Type 0} (rounds : P → T → Round T E → Type 0) where

@@ -1,14 +1,9 @@
 -- The table of the polls of a dedicated connection, over the relations of any opener and of any clock.
-use Rattle.std.specs.Prelude.{◌≡◌, max, Bool, true, false, Result, Ok, Err}
-use Rattle.std.specs.Bool.{MatchBool}
-use Rattle.futures.specs.declared.task.Poll.{Poll}
-use Rattle.futures.specs.declared.task.Poll.TheVariants.{Ready, Pending}
-use Rattle.bb8_types.specs.declared.api.moments.Moment.{Moment}
+use Rattle.bb8_tasks.specs.Words.{◌≡◌, max, Bool, true, false, Result, Ok, Err, MatchBool, Poll, Ready, Pending, Moment, OpenerOf}
 use Rattle.bb8_tasks.specs.declared.dedicated.Dedicated.{Dedicated}
 use Rattle.bb8_tasks.specs.declared.dedicated.Opened.{Opened}
 use Rattle.bb8_tasks.specs.declared.dedicated.Opening.{Opening}
 use Rattle.bb8_tasks.specs.declared.dedicated.Opening.TheVariants.{Fresh, Connecting, Acquiring, Done}
-use Rattle.bb8_tasks.specs.declared.opener.Opener.{Ghosts as OpenerOf}
 
 module _ {C V A : Type 0} where
   -- an opening that was not polled yet
@@ -17,10 +12,8 @@ module _ {C V A : Type 0} where
 
   -- whether an opening that stands so was answered
   abbrev pub is_done : Opening C V A → Bool
-  is_done Fresh = false
-  is_done (Connecting connecting) = false
-  is_done (Acquiring c acquiring) = false
   is_done Done = true
+  is_done _ = false
 
   -- a row leaves this answer and stage
   abbrev pub OpeningStandsAt : {E : Type 0} → Poll (Result C E) → Opening C V A → Opened C V A E → Type 0

@@ -1,11 +1,8 @@
 -- What the steps of a task answer, in the words of the ledger.
-use Rattle.std.specs.Prelude.{◌≡◌, ℕ, ⊤}
+use Rattle.bb8_tasks.specs.Words.{◌≡◌, ℕ, ⊤, Answer, FailedStep, OpenedStep}
 use Rattle.bb8_ledger.specs.Answers as answers
-use Rattle.bb8_ledger.specs.Answers.{Answer}
 use Rattle.bb8_tables.specs.Keys.{notified_of}
-use Rattle.bb8_tasks.specs.declared.home.FailedStep.{FailedStep}
 use Rattle.bb8_tasks.specs.declared.home.FailedStep.TheVariants as failed
-use Rattle.bb8_tasks.specs.declared.home.OpenedStep.{OpenedStep}
 use Rattle.bb8_tasks.specs.declared.home.OpenedStep.TheVariants as opened
 
 -- a failed opening's answer, by plain numbers

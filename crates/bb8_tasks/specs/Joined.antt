@@ -1,11 +1,7 @@
 -- The relations of a home of tasks and of calls outside as one value: a step of the home leaves the calls as they were, and a call leaves the
 -- home.
-use Rattle.std.specs.Prelude.{◌≡◌}
+use Rattle.bb8_tasks.specs.Words.{◌≡◌, ClaimHomeOf, HomeOf, ReapHomeOf, OpenerOf}
 use Rattle.bb8_core.specs.declared.joined.Joined.{Joined}
-use Rattle.bb8_tasks.specs.declared.home.ClaimHome.{Ghosts as ClaimHomeOf}
-use Rattle.bb8_tasks.specs.declared.home.Home.{Ghosts as HomeOf}
-use Rattle.bb8_tasks.specs.declared.home.ReapHome.{Ghosts as ReapHomeOf}
-use Rattle.bb8_tasks.specs.declared.opener.Opener.{Ghosts as OpenerOf}
 use Rattle.bb8_tasks.specs.declared.rounds.Reports.{Ghosts as ReportsOf}
 
 abbrev pub joined_tasks : {C W H : Type 0} → HomeOf H C → HomeOf (Joined W H) C

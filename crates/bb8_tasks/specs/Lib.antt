@@ -1,6 +1,7 @@
 pub mod Bounded
 pub mod Building
 pub mod Dedicating
+pub mod Dues
 pub mod Homes
 pub mod Joined
 pub mod Played
@@ -10,3 +11,4 @@ pub mod Replenishing
 pub mod Rounds
 pub mod Sweeping
 pub mod Turns
+pub mod Words

@@ -1,17 +1,9 @@
 -- Replays of one replenishing over a list of polls.
-use Rattle.std.specs.Prelude.{◌≡◌, ℕ, ◌+◌, min, Bool, true, None, Result, Ok, Err, List, [], ◌∷◌}
-use Rattle.futures.specs.declared.task.Poll.{Poll}
-use Rattle.futures.specs.declared.task.Poll.TheVariants.{Ready, Pending}
-use Rattle.bb8_types.specs.declared.api.moments.Moment.{Moment}
-use Rattle.bb8_tasks.specs.declared.backoff.Reply.{Reply}
+use Rattle.bb8_tasks.specs.Words.{◌≡◌, ℕ, ◌+◌, min, Bool, true, None, Result, Ok, Err, List, [], ◌∷◌, Poll, Ready, Pending, Moment, Reply, HomeOf, OpenerOf, Replenish, ReplenishAnswer}
 use Rattle.bb8_tasks.specs.declared.backoff.Reply.TheVariants as replies
 use Rattle.bb8_tasks.specs.declared.backoff.Scripted.{Scripted}
 use Rattle.bb8_tasks.specs.declared.home.FailedStep.TheVariants as failing
-use Rattle.bb8_tasks.specs.declared.home.Home.{Ghosts as HomeOf}
 use Rattle.bb8_tasks.specs.declared.home.OpenedStep.TheVariants as opening
-use Rattle.bb8_tasks.specs.declared.opener.Opener.{Ghosts as OpenerOf}
-use Rattle.bb8_tasks.specs.declared.replenish.Replenish.{Replenish}
-use Rattle.bb8_tasks.specs.declared.replenish.ReplenishAnswer.{ReplenishAnswer}
 use Rattle.bb8_tasks.specs.Replenishing.{fresh, TaskPolls}
 
 -- the answer of a poll of an opening that a reply stands for

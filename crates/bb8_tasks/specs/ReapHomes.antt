@@ -1,7 +1,6 @@
 -- The step of a reaper on the plain state of a pool.
 use Rattle.bb8_ledger.specs.Answers as answers
-use Rattle.bb8_ledger.specs.Answers.{Answer}
-use Rattle.bb8_tasks.specs.declared.home.ReapStep.{ReapStep}
+use Rattle.bb8_tasks.specs.Words.{Answer, ReapStep}
 use Rattle.bb8_tasks.specs.declared.home.ReapStep.TheVariants as step
 
 -- a reap's answer, by plain numbers

@@ -1,15 +1,7 @@
 -- The ticks of a reaper, and the table of its polls, over the relations of any home.
-use Rattle.std.specs.Prelude.{◌≡◌, ℕ, ◌+◌, ◌*◌, ◌<◌, ◌≤◌, leb, max, Bool, true, false, Option, Some, None}
-use Rattle.std.specs.Bool.{MatchBool}
-use Rattle.std.specs.Duration.{as_nanos}
-use Rattle.bb8_types.specs.declared.api.moments.Moment.{Moment}
-use Rattle.bb8_types.specs.Bounds.{last_moment}
-use Rattle.bb8_core.specs.declared.answers.Looked.{Looked}
+use Rattle.bb8_tasks.specs.Words.{◌≡◌, ℕ, ◌+◌, ◌*◌, ◌<◌, ◌≤◌, leb, max, Bool, true, false, Option, Some, None, MatchBool, as_nanos, Moment, last_moment, Looked, ReapStep, Reaper, ReaperAnswer}
 use Rattle.bb8_tasks.specs.declared.home.ReapHome.{Ghosts as HomeOf}
-use Rattle.bb8_tasks.specs.declared.home.ReapStep.{ReapStep}
 use Rattle.bb8_tasks.specs.declared.home.ReapStep.TheVariants as step
-use Rattle.bb8_tasks.specs.declared.reaper.Reaper.{Reaper}
-use Rattle.bb8_tasks.specs.declared.reaper.ReaperAnswer.{ReaperAnswer}
 use Rattle.bb8_tasks.specs.declared.reaper.ReaperAnswer.TheVariants.{Idle, Reaped, Ended}
 
 -- The first tick after a moment, where the ticks are the start and a multiple of the rate, from the first multiple on. There is none where each

@@ -1,24 +1,10 @@
 -- The table of a replenishing's polls, over the relations of any value that is a home and an opener: one chain of steps and calls.
-use Rattle.std.specs.Prelude.{◌≡◌, ℕ, ◌+◌, ◌-◌, ◌<◌, ◌≤◌, max, min, Bool, true, false, Option, Some, None, Result, Ok, Err, ◌⊎◌}
-use Rattle.std.specs.Bool.{MatchBool}
-use Rattle.futures.specs.declared.task.Poll.{Poll}
-use Rattle.futures.specs.declared.task.Poll.TheVariants.{Ready, Pending}
-use Rattle.bb8_types.specs.declared.api.moments.Moment.{Moment}
-use Rattle.bb8_types.specs.Bounds.{last_moment}
-use Rattle.bb8_tables.specs.declared.keys.Key.{Key}
-use Rattle.bb8_ledger.specs.Waits.{wait}
-use Rattle.bb8_core.specs.declared.answers.Looked.{Looked}
-use Rattle.bb8_tasks.specs.declared.home.FailedStep.{FailedStep}
-use Rattle.bb8_tasks.specs.declared.home.Home.{Ghosts as HomeOf}
-use Rattle.bb8_tasks.specs.declared.home.OpenedStep.{OpenedStep}
+use Rattle.bb8_tasks.specs.Words.{◌≡◌, ℕ, ◌+◌, ◌-◌, ◌<◌, ◌≤◌, max, min, Bool, true, false, Option, Some, None, Result, Ok, Err, ◌⊎◌, MatchBool, Poll, Ready, Pending, Moment, last_moment, Key, wait, Looked, FailedStep, HomeOf, OpenedStep, OpenerOf, Replenish, ReplenishAnswer}
 use Rattle.bb8_tasks.specs.declared.home.OpenedStep.TheVariants as opened
-use Rattle.bb8_tasks.specs.declared.opener.Opener.{Ghosts as OpenerOf}
-use Rattle.bb8_tasks.specs.declared.replenish.Next.{Next}
-use Rattle.bb8_tasks.specs.declared.replenish.Replenish.{Replenish}
+use Rattle.bb8_tasks.specs.declared.replenish.ReplenishStep.{ReplenishStep}
 use Rattle.bb8_tasks.specs.declared.replenish.ReplenishAnswer.TheVariants as answers
-use Rattle.bb8_tasks.specs.declared.replenish.ReplenishAnswer.{ReplenishAnswer}
-use Rattle.bb8_tasks.specs.declared.replenish.Stage.TheVariants.{Start, Connecting, Acquiring, Sleeping, Done}
-use Rattle.bb8_tasks.specs.declared.replenish.Stage.{Stage}
+use Rattle.bb8_tasks.specs.declared.replenish.ReplenishStage.TheVariants.{Start, Connecting, Acquiring, Sleeping, Done}
+use Rattle.bb8_tasks.specs.declared.replenish.ReplenishStage.{ReplenishStage}
 use Rattle.bb8_tasks.specs.declared.replenish.Tries.{Tries}
 
 -- the moment at which a task that slept from m on wakes: none, and so never, where it is past the greatest moment
@@ -36,66 +22,63 @@ module _ {C V A : Type 0} where
   fresh approval = record { approval = approval; latest = record { 0 = 0 }; stage = Start }
 
   -- whether a task that stands so has ended
-  abbrev pub is_done : Stage C V A → Bool
-  is_done Start = false
-  is_done (Connecting tries connecting) = false
-  is_done (Acquiring tries c acquiring) = false
-  is_done (Sleeping tries due) = false
+  abbrev pub is_done : ReplenishStage C V A → Bool
   is_done Done = true
+  is_done _ = false
 
 -- what a task that stands so holds is let go: what is under way ends, and the connection that was prepared is dropped then
-abbrev pub DropsTask : {C E V A X : Type 0} → OpenerOf X C E V A → Stage C V A → X → X → Type 0
+abbrev pub DropsTask : {C E V A X : Type 0} → OpenerOf X C E V A → ReplenishStage C V A → X → X → Type 0
 DropsTask opener (Connecting tries connecting) x x' = opener.ends_connect x connecting x'
 DropsTask {X = X} opener (Acquiring tries c acquiring) x x' = (x1 : X) × opener.ends_acquire x acquiring x1 × opener.lets_go x1 c x'
 DropsTask opener stage x x' = x' ≡ x
 
 module _ {C E V A X : Type 0} (home : HomeOf X C) (timeout : ℕ) (retry : Bool) (approval : Key) (m : Moment) where
   -- a row leaves this answer and stage, and makes no step and no call
-  abbrev pub TaskStandsAt : ReplenishAnswer E → Stage C V A → X → Next C V A E → X → Type 0
+  abbrev pub TaskStandsAt : ReplenishAnswer E → ReplenishStage C V A → X → ReplenishStep C V A E → X → Type 0
   TaskStandsAt answer stage x next x' = (next.answer ≡ answer) × (next.stage ≡ stage) × (x' ≡ x)
 
   -- the approval is given back and the task ends with this answer, whatever that step answers
-  abbrev pub GivesApprovalBack : ReplenishAnswer E → X → Next C V A E → X → Type 0
+  abbrev pub GivesApprovalBack : ReplenishAnswer E → X → ReplenishStep C V A E → X → Type 0
   GivesApprovalBack answer x next x' = (step : FailedStep) × home.fails x m approval step x' × (next.answer ≡ answer) × (next.stage ≡ Done)
 
   -- the task tries again later: it sleeps until its wait is over
-  abbrev pub Sleeps : Tries → E → X → Next C V A E → X → Type 0
+  abbrev pub Sleeps : Tries → E → X → ReplenishStep C V A E → X → Type 0
   Sleeps tries e x next x' =
       (due : Option Moment) × IsDue m (wait timeout tries.failures) due × TaskStandsAt (answers.Retrying e) (Sleeping tries due) x next x'
 
   -- a failure, after these tries
-  abbrev pub TaskFails : Tries → E → X → Next C V A E → X → Type 0
+  abbrev pub TaskFails : Tries → E → X → ReplenishStep C V A E → X → Type 0
   TaskFails tries e x next x' =
       ((retry ≡ false) ⊎ (timeout < m.0 - tries.start.0) → GivesApprovalBack (answers.Failed e) x next x')
       × (retry ≡ true → m.0 - tries.start.0 ≤ timeout → Sleeps (failed_once_more tries) e x next x')
 
   module _ (opener : OpenerOf X C E V A) where
     -- after the step `opened`: a connection that it hands back is dropped
-    abbrev pub AfterOpened : OpenedStep C → X → Next C V A E → X → Type 0
+    abbrev pub AfterOpened : OpenedStep C → X → ReplenishStep C V A E → X → Type 0
     AfterOpened (opened.Entered notified) x next x' = TaskStandsAt answers.Entered Done x next x'
     AfterOpened (opened.Late c) x next x' = (x1 : X) × opener.lets_go x c x1 × TaskStandsAt answers.Late Done x1 next x'
     AfterOpened (opened.Unfit c) x next x' = (x1 : X) × opener.lets_go x c x1 × TaskStandsAt answers.GivenBack Done x1 next x'
 
     -- the connection is entered
-    abbrev pub Enters : C → X → Next C V A E → X → Type 0
+    abbrev pub Enters : C → X → ReplenishStep C V A E → X → Type 0
     Enters c x next x' = (step : OpenedStep C) × (x1 : X) × home.opens x m approval c step x1 × AfterOpened step x1 next x'
 
     -- after a poll of the preparation, which left the connection and the preparation like this: one that has answered ends first, and a
     -- connection that it failed is dropped before the failure is a step of the home
-    abbrev pub AfterTaskAcquire : Poll (Result (Unit {0}) E) → Tries → C → A → X → Next C V A E → X → Type 0
+    abbrev pub AfterTaskAcquire : Poll (Result (Unit {0}) E) → Tries → C → A → X → ReplenishStep C V A E → X → Type 0
     AfterTaskAcquire Pending tries c acquiring x next x' = TaskStandsAt answers.Pending (Acquiring tries c acquiring) x next x'
     AfterTaskAcquire (Ready (Ok u)) tries c acquiring x next x' = (x1 : X) × opener.ends_acquire x acquiring x1 × Enters c x1 next x'
     AfterTaskAcquire (Ready (Err e)) tries c acquiring x next x' =
         (x1 : X) × opener.ends_acquire x acquiring x1 × ((x2 : X) × opener.lets_go x1 c x2 × TaskFails tries e x2 next x')
 
     -- the preparation is polled
-    abbrev pub TaskAcquires : Tries → C → A → X → Next C V A E → X → Type 0
+    abbrev pub TaskAcquires : Tries → C → A → X → ReplenishStep C V A E → X → Type 0
     TaskAcquires tries c acquiring x next x' =
         (answer : Poll (Result (Unit {0}) E)) × (c1 : C) × (acquiring1 : A) × (x1 : X)
         × opener.acquire_answers x c acquiring m answer c1 acquiring1 x1 × AfterTaskAcquire answer tries c1 acquiring1 x1 next x'
 
     -- after a poll of the opening, which left it like this: one that has answered ends first
-    abbrev pub AfterTaskConnect : Poll (Result C E) → Tries → V → X → Next C V A E → X → Type 0
+    abbrev pub AfterTaskConnect : Poll (Result C E) → Tries → V → X → ReplenishStep C V A E → X → Type 0
     AfterTaskConnect Pending tries connecting x next x' = TaskStandsAt answers.Pending (Connecting tries connecting) x next x'
     AfterTaskConnect (Ready (Ok c)) tries connecting x next x' =
         (x1 : X) × opener.ends_connect x connecting x1
@@ -103,24 +86,24 @@ module _ {C E V A X : Type 0} (home : HomeOf X C) (timeout : ℕ) (retry : Bool)
     AfterTaskConnect (Ready (Err e)) tries connecting x next x' = (x1 : X) × opener.ends_connect x connecting x1 × TaskFails tries e x1 next x'
 
     -- the opening is polled
-    abbrev pub TaskConnects : Tries → V → X → Next C V A E → X → Type 0
+    abbrev pub TaskConnects : Tries → V → X → ReplenishStep C V A E → X → Type 0
     TaskConnects tries connecting x next x' =
         (answer : Poll (Result C E)) × (connecting1 : V) × (x1 : X)
         × opener.connect_answers x connecting m answer connecting1 x1 × AfterTaskConnect answer tries connecting1 x1 next x'
 
     -- an opening is begun, the one of this poll
-    abbrev pub TaskBegins : Tries → X → Next C V A E → X → Type 0
+    abbrev pub TaskBegins : Tries → X → ReplenishStep C V A E → X → Type 0
     TaskBegins tries x next x' = (connecting : V) × (x1 : X) × opener.connects x connecting x1 × TaskConnects tries connecting x1 next x'
 
     -- a task that sleeps
-    abbrev pub Wakes : Tries → Option Moment → X → Next C V A E → X → Type 0
+    abbrev pub Wakes : Tries → Option Moment → X → ReplenishStep C V A E → X → Type 0
     Wakes tries None x next x' = TaskStandsAt answers.Pending (Sleeping tries None) x next x'
     Wakes tries (Some due) x next x' =
         (due.0 ≤ m.0 → TaskBegins tries x next x')
         × (m.0 < due.0 → TaskStandsAt answers.Pending (Sleeping tries (Some due)) x next x')
 
     -- the rows of each stage, where a handle is alive
-    abbrev pub TaskAdvances : Stage C V A → X → Next C V A E → X → Type 0
+    abbrev pub TaskAdvances : ReplenishStage C V A → X → ReplenishStep C V A E → X → Type 0
     TaskAdvances Start x next x' = TaskBegins (record { start = m; failures = 0 }) x next x'
     TaskAdvances (Connecting tries connecting) x next x' = TaskConnects tries connecting x next x'
     TaskAdvances (Acquiring tries c acquiring) x next x' = TaskAcquires tries c acquiring x next x'
@@ -128,7 +111,7 @@ module _ {C E V A X : Type 0} (home : HomeOf X C) (timeout : ℕ) (retry : Bool)
     TaskAdvances Done x next x' = TaskStandsAt answers.GivenBack Done x next x'
 
     -- after the look at the home: without a handle all is let go, and given back then
-    abbrev pub TaskProceeds : Bool → Stage C V A → X → Next C V A E → X → Type 0
+    abbrev pub TaskProceeds : Bool → ReplenishStage C V A → X → ReplenishStep C V A E → X → Type 0
     TaskProceeds true stage x next x' = TaskAdvances stage x next x'
     TaskProceeds false stage x next x' = (x1 : X) × DropsTask opener stage x x1 × GivesApprovalBack answers.GivenBack x1 next x'
 

@@ -1,14 +1,10 @@
 -- A list of tasks: how it grows, and how its tasks are polled, each once and in their order.
-use Rattle.std.specs.Prelude.{◌≡◌, ℕ, zero, suc, ◌+◌, Option, Some, None, List, [], ◌∷◌, ◌++◌, length}
-use Rattle.bb8_tables.specs.declared.keys.Key.{Key}
+use Rattle.bb8_tasks.specs.Words.{◌≡◌, ℕ, zero, suc, ◌+◌, Option, Some, None, List, [], ◌∷◌, ◌++◌, length, Key, Replenish, ReplenishAnswer, Retrying, Failed, Round}
 use Rattle.bb8_core.specs.declared.answers.ClaimAnswer.{ClaimAnswer}
 use Rattle.bb8_core.specs.declared.answers.ClaimAnswer.TheVariants.{Claimed, Ended}
-use Rattle.bb8_tasks.specs.declared.replenish.Replenish.{Replenish}
-use Rattle.bb8_tasks.specs.declared.replenish.ReplenishAnswer.{ReplenishAnswer}
-use Rattle.bb8_tasks.specs.declared.replenish.ReplenishAnswer.TheVariants.{Pending, Retrying, Failed}
+use Rattle.bb8_tasks.specs.declared.replenish.ReplenishAnswer.TheVariants.{Pending}
 use Rattle.bb8_tasks.specs.declared.rounds.OnFailure.{OnFailure}
 use Rattle.bb8_tasks.specs.declared.rounds.OnFailure.TheVariants.{Stop, GoOn}
-use Rattle.bb8_tasks.specs.declared.rounds.Round.{Round}
 use Rattle.bb8_tasks.specs.declared.rounds.Round.TheVariants as round
 use Rattle.bb8_tasks.specs.Replenishing.{fresh}
 

@@ -1,17 +1,7 @@
 -- A turn of a driver, over the relations of any value that is a home, an opener and a sink: one chain of steps and calls.
-use Rattle.std.specs.Prelude.{◌≡◌, ℕ, Bool, true, false, ◌||◌, is_some, Option, Some, None, List, [], ◌∷◌, ◌++◌, map, length, ◌⊎◌}
-use Rattle.std.specs.Duration.{as_nanos}
-use Rattle.bb8_types.specs.declared.api.moments.Moment.{Moment}
+use Rattle.bb8_tasks.specs.Words.{◌≡◌, ℕ, Bool, true, false, ◌||◌, is_some, Option, Some, None, List, [], ◌∷◌, ◌++◌, map, length, ◌⊎◌, as_nanos, Moment, Key, ClaimHomeOf, HomeOf, ReapHomeOf, OpenerOf, Reaper, ReaperAnswer, Replenish}
 use Rattle.bb8_types.specs.Settings.{Settings}
-use Rattle.bb8_tables.specs.declared.keys.Key.{Key}
 use Rattle.bb8_core.specs.declared.answers.ClaimAnswer.TheVariants as claim
-use Rattle.bb8_tasks.specs.declared.home.ClaimHome.{Ghosts as ClaimHomeOf}
-use Rattle.bb8_tasks.specs.declared.home.Home.{Ghosts as HomeOf}
-use Rattle.bb8_tasks.specs.declared.home.ReapHome.{Ghosts as ReapHomeOf}
-use Rattle.bb8_tasks.specs.declared.opener.Opener.{Ghosts as OpenerOf}
-use Rattle.bb8_tasks.specs.declared.reaper.Reaper.{Reaper}
-use Rattle.bb8_tasks.specs.declared.reaper.ReaperAnswer.{ReaperAnswer}
-use Rattle.bb8_tasks.specs.declared.replenish.Replenish.{Replenish}
 use Rattle.bb8_tasks.specs.Reaping as reaping
 use Rattle.bb8_tasks.specs.Reaping.{IsNextTick}
 use Rattle.bb8_tasks.specs.Replenishing.{fresh, TaskPolls, LetsGo}

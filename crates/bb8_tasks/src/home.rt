@@ -70,7 +70,7 @@ pub trait ClaimHome {
 
 /// What a reap closed and granted. Our own.
 #[derive(Clone, Copy, Debug, PartialEq, Eq)]
-pub struct Reaped {
+pub struct ReapedCounts {
     /// How many connections were closed.
     pub closed: u32,
     /// How many of them had been idle for the `idle_timeout`, and had not lived for the `max_lifetime`.
@@ -85,7 +85,7 @@ pub struct Reaped {
 #[derive(Clone, Copy, Debug, PartialEq, Eq)]
 pub enum ReapStep {
     /// This was closed and granted.
-    Reaped(Reaped),
+    Reaped(ReapedCounts),
     /// No handle is alive, and nothing changed but the latest moment.
     Ended,
 }

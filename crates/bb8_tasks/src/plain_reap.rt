@@ -6,7 +6,7 @@ ghost use Rattle.bb8_core.specs.StepAnswers.{look_told};
 ghost use Rattle.bb8_core.specs.PlainSteps.{Steps};
 ghost use Rattle.bb8_tasks.specs.ReapHomes.{reap_told};
 
-use super::home::{ReapHome, ReapStep, Reaped};
+use super::home::{ReapHome, ReapStep, ReapedCounts};
 use bb8_core::api::Moment;
 use bb8_core::internals::{Looked, PoolInternals, ReapAnswer};
 
@@ -21,7 +21,7 @@ impl From<ReapAnswer> for ReapStep {
                 by_idle,
                 by_life,
                 grant,
-            } => ReapStep::Reaped(Reaped {
+            } => ReapStep::Reaped(ReapedCounts {
                 closed,
                 by_idle,
                 by_life,

@@ -4,7 +4,7 @@ ghost use Rattle.std.specs.Duration.{as_nanos};
 
 mod polls;
 
-use super::home::Reaped;
+use super::home::ReapedCounts;
 use bb8_core::api::Moment;
 use std::time::Duration;
 
@@ -14,7 +14,7 @@ pub enum ReaperAnswer {
     /// No tick is due.
     Idle,
     /// The pool was reaped: this was closed and granted.
-    Reaped(Reaped),
+    Reaped(ReapedCounts),
     /// No handle is alive, and the reaper ended.
     Ended,
 }

@@ -1,8 +1,9 @@
 //! The task that opens the connection of one approval, and its poll.
 ghost use Rattle.std.specs.Prelude.{◌≡◌};
 ghost use Rattle.std.specs.Duration.{as_nanos};
+ghost use Rattle.bb8_tasks.specs.Dues.{poll_due};
 ghost use Rattle.bb8_tasks.specs.Replenishing.{IsDue, failed_once_more, is_done, DropsTask, TaskFails, Enters, TaskAcquires, TaskConnects, TaskBegins, TaskAdvances, TaskProceeds, TaskPolls, LetsGo, fresh};
-ghost use Rattle.bb8_tasks.specs.declared.replenish.Stage.TheVariants.{Done as IsDone};
+ghost use Rattle.bb8_tasks.specs.declared.replenish.ReplenishStage.TheVariants.{Done as IsDone};
 
 use super::home::{Home, OpenedStep};
 use super::opener::Opener;
@@ -40,7 +41,7 @@ pub struct Tries {
 }
 
 /// Where a replenishing stands between its polls. It cannot be let go but by name. Our own.
-pub enum Stage<C, V, A> {
+pub enum ReplenishStage<C, V, A> {
     /// It was not polled yet.
     Start,
     /// A connection is being opened.
@@ -54,11 +55,11 @@ pub enum Stage<C, V, A> {
 }
 
 /// What a poll answers, and where it leaves the task. Our own.
-pub struct Next<C, V, A, E> {
+pub struct ReplenishStep<C, V, A, E> {
     /// The answer.
     pub answer: ReplenishAnswer<E>,
     /// The stage then.
-    pub stage: Stage<C, V, A>,
+    pub stage: ReplenishStage<C, V, A>,
 }
 
 /// What the rows of one poll are given: two settings, the approval and the effective moment.
@@ -89,58 +90,70 @@ fn one_more(tries: Tries) -> Tries
 }
 
 /// A row's answer, and the stage in which it leaves the task.
-fn leaves<C, V, A, E>(answer: ReplenishAnswer<E>, stage: Stage<C, V, A>) -> Next<C, V, A, E>
+fn leaves<C, V, A, E>(
+    answer: ReplenishAnswer<E>,
+    stage: ReplenishStage<C, V, A>,
+) -> ReplenishStep<C, V, A, E>
     ensures answer { result.answer ≡ answer }
     ensures stage { result.stage ≡ stage }
 {
-    Next { answer, stage }
+    ReplenishStep { answer, stage }
 }
 
 /// Lets go what a task holds.
-fn let_go<C, E, X: Opener<C, E>>(pool: &mut X, stage: Stage<C, X::Connecting, X::Acquiring>)
+fn let_go<C, E, X: Opener<C, E>>(
+    pool: &mut X,
+    stage: ReplenishStage<C, X::Connecting, X::Acquiring>,
+)
     ensures { DropsTask X.Opener stage pool.old pool.new }
 {
     match stage {
-        Stage::Acquiring(_, connection, acquiring) => {
+        ReplenishStage::Acquiring(_, connection, acquiring) => {
             pool.end_acquire(acquiring);
             pool.let_go(connection);
         }
-        Stage::Connecting(_, connecting) => pool.end_connect(connecting),
-        Stage::Sleeping(_tries, _due) => {}
-        Stage::Start | Stage::Done => {}
+        ReplenishStage::Connecting(_, connecting) => pool.end_connect(connecting),
+        ReplenishStage::Sleeping(_tries, _due) => {}
+        ReplenishStage::Start | ReplenishStage::Done => {}
     }
 }
 
-impl<C, V, A> Stage<C, V, A> {
+impl<C, V, A> ReplenishStage<C, V, A> {
     /// Whether the task has ended.
     fn is_done(&self) -> bool
         ensures { result ≡ is_done self.now }
     {
         match self {
-            Stage::Done => true,
-            Stage::Start | Stage::Connecting(..) | Stage::Acquiring(..) | Stage::Sleeping(..) => {
-                false
-            }
+            ReplenishStage::Done => true,
+            ReplenishStage::Start
+            | ReplenishStage::Connecting(..)
+            | ReplenishStage::Acquiring(..)
+            | ReplenishStage::Sleeping(..) => { false }
         }
     }
 }
 
 impl Row {
     /// A failure.
-    fn fail<C, V, A, E, X: Home<C>>(self, pool: &mut X, tries: Tries, error: E) -> Next<C, V, A, E>
+    fn fail<C, V, A, E, X: Home<C>>(
+        self,
+        pool: &mut X,
+        tries: Tries,
+        error: E,
+    ) -> ReplenishStep<C, V, A, E>
         ensures { TaskFails X.Home (as_nanos self.timeout) self.retry self.approval self.moment
             tries error pool.old result pool.new }
     {
         let elapsed = u128::from(self.moment.0.saturating_sub(tries.start.0));
         if !self.retry || elapsed > self.timeout.as_nanos() {
             let _ = pool.failed(self.moment, self.approval);
-            return leaves(ReplenishAnswer::Failed(error), Stage::Done);
+            return leaves(ReplenishAnswer::Failed(error), ReplenishStage::Done);
         }
         let tries = one_more(tries);
         let due = moment_after(self.moment, wait_after(tries.failures, self.timeout));
         leaves(
             ReplenishAnswer::Retrying(error),
-            Stage::Sleeping(tries, due),
+            ReplenishStage::Sleeping(tries, due),
         )
     }
 
@@ -149,19 +162,19 @@ impl Row {
         self,
         pool: &mut X,
         connection: C,
-    ) -> Next<C, X::Connecting, X::Acquiring, E>
+    ) -> ReplenishStep<C, X::Connecting, X::Acquiring, E>
         ensures { Enters X.Home (as_nanos self.timeout) self.retry self.approval self.moment
             X.Opener connection pool.old result pool.new }
     {
         match pool.opened(self.moment, self.approval, connection) {
-            OpenedStep::Entered(_) => leaves(ReplenishAnswer::Entered, Stage::Done),
+            OpenedStep::Entered(_) => leaves(ReplenishAnswer::Entered, ReplenishStage::Done),
             OpenedStep::Late(connection) => {
                 pool.let_go(connection);
-                leaves(ReplenishAnswer::Late, Stage::Done)
+                leaves(ReplenishAnswer::Late, ReplenishStage::Done)
             }
             OpenedStep::Unfit(connection) => {
                 pool.let_go(connection);
-                leaves(ReplenishAnswer::GivenBack, Stage::Done)
+                leaves(ReplenishAnswer::GivenBack, ReplenishStage::Done)
             }
         }
     }
@@ -173,14 +186,14 @@ impl Row {
         tries: Tries,
         mut connection: C,
         mut acquiring: X::Acquiring,
-    ) -> Next<C, X::Connecting, X::Acquiring, E>
+    ) -> ReplenishStep<C, X::Connecting, X::Acquiring, E>
         ensures { TaskAcquires X.Home (as_nanos self.timeout) self.retry self.approval self.moment
             X.Opener tries connection acquiring pool.old result pool.new }
     {
         match pool.poll_acquire(&mut connection, &mut acquiring, self.moment) {
             Poll::Pending => leaves(
                 ReplenishAnswer::Pending,
-                Stage::Acquiring(tries, connection, acquiring),
+                ReplenishStage::Acquiring(tries, connection, acquiring),
             ),
             Poll::Ready(Ok(())) => {
                 pool.end_acquire(acquiring);
@@ -200,14 +213,14 @@ impl Row {
         pool: &mut X,
         tries: Tries,
         mut connecting: X::Connecting,
-    ) -> Next<C, X::Connecting, X::Acquiring, E>
+    ) -> ReplenishStep<C, X::Connecting, X::Acquiring, E>
         ensures { TaskConnects X.Home (as_nanos self.timeout) self.retry self.approval self.moment
             X.Opener tries connecting pool.old result pool.new }
     {
         match pool.poll_connect(&mut connecting, self.moment) {
             Poll::Pending => leaves(
                 ReplenishAnswer::Pending,
-                Stage::Connecting(tries, connecting),
+                ReplenishStage::Connecting(tries, connecting),
             ),
             Poll::Ready(Ok(mut connection)) => {
                 pool.end_connect(connecting);
@@ -226,7 +239,7 @@ impl Row {
         self,
         pool: &mut X,
         tries: Tries,
-    ) -> Next<C, X::Connecting, X::Acquiring, E>
+    ) -> ReplenishStep<C, X::Connecting, X::Acquiring, E>
         ensures { TaskBegins X.Home (as_nanos self.timeout) self.retry self.approval self.moment
             X.Opener tries pool.old result pool.new }
     {
@@ -238,34 +251,40 @@ impl Row {
     fn advance<C, E, X: Home<C> + Opener<C, E>>(
         self,
         pool: &mut X,
-        stage: Stage<C, X::Connecting, X::Acquiring>,
-    ) -> Next<C, X::Connecting, X::Acquiring, E>
+        stage: ReplenishStage<C, X::Connecting, X::Acquiring>,
+    ) -> ReplenishStep<C, X::Connecting, X::Acquiring, E>
         ensures { TaskAdvances X.Home (as_nanos self.timeout) self.retry self.approval self.moment
             X.Opener stage pool.old result pool.new }
     {
         match stage {
-            Stage::Start => {
+            ReplenishStage::Start => {
                 let tries = Tries {
                     start: self.moment,
                     failures: 0,
                 };
                 self.begin(pool, tries)
             }
-            Stage::Connecting(tries, connecting) => self.connect(pool, tries, connecting),
-            Stage::Acquiring(tries, connection, acquiring) => {
+            ReplenishStage::Connecting(tries, connecting) => self.connect(pool, tries, connecting),
+            ReplenishStage::Acquiring(tries, connection, acquiring) => {
                 self.acquire(pool, tries, connection, acquiring)
             }
-            Stage::Sleeping(tries, Some(due)) => {
+            ReplenishStage::Sleeping(tries, Some(due)) => {
                 if due <= self.moment {
                     self.begin(pool, tries)
                 } else {
-                    leaves(ReplenishAnswer::Pending, Stage::Sleeping(tries, Some(due)))
+                    leaves(
+                        ReplenishAnswer::Pending,
+                        ReplenishStage::Sleeping(tries, Some(due)),
+                    )
                 }
             }
-            Stage::Sleeping(tries, None) => {
-                leaves(ReplenishAnswer::Pending, Stage::Sleeping(tries, None))
+            ReplenishStage::Sleeping(tries, None) => {
+                leaves(
+                    ReplenishAnswer::Pending,
+                    ReplenishStage::Sleeping(tries, None),
+                )
             }
-            Stage::Done => leaves(ReplenishAnswer::GivenBack, Stage::Done),
+            ReplenishStage::Done => leaves(ReplenishAnswer::GivenBack, ReplenishStage::Done),
         }
     }
 
@@ -274,8 +293,8 @@ impl Row {
         self,
         pool: &mut X,
         alive: bool,
-        stage: Stage<C, X::Connecting, X::Acquiring>,
-    ) -> Next<C, X::Connecting, X::Acquiring, E>
+        stage: ReplenishStage<C, X::Connecting, X::Acquiring>,
+    ) -> ReplenishStep<C, X::Connecting, X::Acquiring, E>
         ensures { TaskProceeds X.Home (as_nanos self.timeout) self.retry self.approval self.moment
             X.Opener alive stage pool.old result pool.new }
     {
@@ -284,7 +303,7 @@ impl Row {
         }
         let_go(pool, stage);
         let _ = pool.failed(self.moment, self.approval);
-        leaves(ReplenishAnswer::GivenBack, Stage::Done)
+        leaves(ReplenishAnswer::GivenBack, ReplenishStage::Done)
     }
 }
 
@@ -295,7 +314,7 @@ impl Row {
 pub struct Replenish<C, V, A> {
     approval: Key,
     latest: Moment,
-    stage: Stage<C, V, A>,
+    stage: ReplenishStage<C, V, A>,
 }
 
 impl<C, V, A> Replenish<C, V, A> {
@@ -306,12 +325,12 @@ impl<C, V, A> Replenish<C, V, A> {
         Replenish {
             approval,
             latest: Moment(0),
-            stage: Stage::Start,
+            stage: ReplenishStage::Start,
         }
     }
 
     /// Puts another stage in the place of one that has ended.
-    fn stand(&mut self, stage: Stage<C, V, A>)
+    fn stand(&mut self, stage: ReplenishStage<C, V, A>)
         requires { self.old.stage ≡ IsDone }
         ensures { self.new ≡ record {
           approval = self.old.approval;
@@ -321,7 +340,7 @@ impl<C, V, A> Replenish<C, V, A> {
         } }
     {
         match mem::replace(&mut self.stage, stage) {
-            Stage::Done => {}
+            ReplenishStage::Done => {}
             _ => unreachable!(),
         }
     }
@@ -352,10 +371,23 @@ impl<C, V, A> Replenish<C, V, A> {
             approval: self.approval,
             moment,
         };
-        let stage = mem::replace(&mut self.stage, Stage::Done);
-        let Next { answer, stage } = row.proceed(pool, seen.alive, stage);
+        let stage = mem::replace(&mut self.stage, ReplenishStage::Done);
+        let ReplenishStep { answer, stage } = row.proceed(pool, seen.alive, stage);
         self.stand(stage);
         answer
+    }
+
+    /// When the task is to be polled: a time that has passed where that is at once, and None where it is never. Our own.
+    pub fn next_due(&self) -> Option<Moment>
+        ensures { result ≡ poll_due self.now.stage }
+    {
+        match &self.stage {
+            ReplenishStage::Start
+            | ReplenishStage::Connecting(..)
+            | ReplenishStage::Acquiring(..) => Some(Moment(0)),
+            ReplenishStage::Sleeping(_, due) => *due,
+            ReplenishStage::Done => None,
+        }
     }
 
     /// Lets a task go that has ended.
@@ -368,7 +400,7 @@ impl<C, V, A> Replenish<C, V, A> {
             stage,
         } = self;
         match stage {
-            Stage::Done => {}
+            ReplenishStage::Done => {}
             _ => unreachable!(),
         }
     }

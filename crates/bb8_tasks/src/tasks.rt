@@ -1,6 +1,7 @@
 //! The tasks of a pool, in the order in which their approvals were claimed.
 ghost use Rattle.std.specs.Prelude.{◌≡◌, ◌++◌, ◌∷◌, ◌+◌, ◌^◌, ◌<◌, ◌↔◌, true, None, [], IfOk, OnErr, length};
 ghost use Rattle.std.specs.Duration.{as_nanos};
+ghost use Rattle.bb8_tasks.specs.Dues.{earlier, earliest};
 ghost use Rattle.bb8_tasks.specs.Replenishing.{TaskPolls, LetsGo};
 ghost use Rattle.bb8_tasks.specs.Sweeping.{AreFor, TakesTaskOn, PollsUntil, QueueTurns, LetsGoEach, Rounds};
 ghost use Rattle.bb8_tasks.specs.declared.rounds.OnFailure.TheVariants.{GoOn as IsGoOn};
@@ -14,6 +15,17 @@ use bb8_core::internals::{ClaimAnswer, Grant, Key};
 use std::alloc::Global;
 use std::collections::VecDeque;
 use std::marker::Model;
+
+/// The earlier of two moments, of which None is never.
+fn earlier(one: Option<Moment>, other: Option<Moment>) -> Option<Moment>
+    ensures { result ≡ earlier one other }
+{
+    match (one, other) {
+        (Some(one), Some(other)) => Some(Moment(one.0.min(other.0))),
+        (Some(only), None) | (None, Some(only)) => Some(only),
+        (None, None) => None,
+    }
+}
 
 /// Tasks, in the order in which their approvals were claimed. Our own: upstream spawns each by itself.
 ///
@@ -74,6 +86,17 @@ impl<C, V, A> Tasks<C, V, A> {
         ensures { result ≡ true ↔ (self.now ≡ []) }
     {
         self.queue.is_empty()
+    }
+
+    /// The earliest of a moment and those at which the tasks are to be polled; None is never. Our own.
+    pub fn next_due(&self, tick: Option<Moment>) -> Option<Moment>
+        ensures { result ≡ earliest tick self.now }
+    {
+        let mut due = tick;
+        for i in 0..self.queue.len() {
+            due = earlier(due, self.queue[i].next_due());
+        }
+        due
     }
 
     /// Claims an approval at its home, and takes on its task. The place for the task is made first: where memory for it is refused, no

@@ -2,6 +2,7 @@
 ghost use Rattle.std.specs.Prelude.{◌≡◌, true, length};
 ghost use Rattle.std.specs.Duration.{as_nanos};
 ghost use Rattle.bb8_types.specs.Settings.{settings_of, is_lawful};
+ghost use Rattle.bb8_tasks.specs.Dues.{driver_due};
 ghost use Rattle.bb8_tasks.specs.Replenishing.{TaskPolls};
 ghost use Rattle.bb8_tasks.specs.Rounds.{PollsEach};
 ghost use Rattle.bb8_tasks.specs.Turns.{is_ended, DriverBegins, IsFreshReaper, PollsReaper, DriverTurns, DriverLetsGo};
@@ -118,6 +119,18 @@ impl<C, V, A> Turning<C, V, A> {
         Turn {
             polled: poll_tasks(tasks, at, pool, config),
             ended: false,
+        }
+    }
+
+    /// When the driver next has something to do, by what it holds: at its reaper's next tick, or earlier where a task is to be polled, be it
+    /// once it has slept after a try that failed, or at once. That is a moment that has passed. None is never. Our own.
+    pub fn next_due(&self) -> Option<Moment>
+        ensures { result ≡ driver_due self.now }
+    {
+        match self {
+            Turning::Going(Some(reaper), tasks) => tasks.next_due(reaper.next_due()),
+            Turning::Going(None, tasks) => tasks.next_due(None),
+            Turning::Ended => None,
         }
     }
 

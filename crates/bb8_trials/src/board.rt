@@ -8,9 +8,6 @@ use std::alloc::Global;
 use std::sync::Arc;
 use std::sync::atomic::{AtomicU64, Ordering};
 
-/// One millisecond in nanoseconds.
-pub const MILLI: u64 = 1_000_000;
-
 /// One second in nanoseconds.
 pub const SECOND: u64 = 1_000_000_000;
 

@@ -8,7 +8,7 @@ use bb8::owned::GetOwnedFuture;
 use bb8::{
     AddError, Building, Cancel, Clock, CustomizeConnection, DedicatedFuture, ErrorSink,
     ManageConnection, OwnedConnection, Pool, PoolCalls, PoolParts, PooledConnection, RunError,
-    State, Turn,
+    State,
 };
 use futures::task::Poll;
 use futures::test::MockTask;
@@ -18,24 +18,9 @@ use std::sync::Wait;
 /// What a poll of a get answers.
 pub type Polled<G, E> = Poll<Result<G, RunError<E>>>;
 
-/// Whether a get timed out.
-pub fn is_timed_out<G, E>(polled: &Polled<G, E>) -> bool {
-    matches!(polled, Poll::Ready(Err(RunError::TimedOut)))
-}
-
 /// How many connections a pool has, and how many are idle.
 pub fn sizes(state: State) -> (u32, u32) {
     (state.connections, state.idle_connections)
-}
-
-/// Whether a turn polled so many tasks, and did not end.
-pub fn is_going(turn: Turn, polled: u64) -> bool {
-    !turn.ended && turn.polled == polled
-}
-
-/// Whether a turn ended, and so polled no task.
-pub fn is_ended(turn: Turn) -> bool {
-    turn.ended && turn.polled == 0
 }
 
 /// A handle of a pool of a manager's connections, by reference.
@@ -63,6 +48,8 @@ pub trait Handle<M: ManageConnection>: Copy {
 
     /// What a get is served with at its first poll. One that would wait is let go.
     fn lend(self, task: &MockTask) -> Option<Self::Guard>;
+
+    fn try_get(self) -> Result<Option<Self::Guard>, RunError<M::Error>>;
 
     fn get_owned(self) -> Self::OwnedGet;
 
@@ -125,6 +112,10 @@ impl<
             Poll::Ready(Ok(guard)) => Some(guard),
             _ => None,
         }
+    }
+
+    fn try_get(self) -> Result<Option<Self::Guard>, RunError<M::Error>> {
+        PoolCalls::try_get(self)
     }
 
     fn get_owned(self) -> Self::OwnedGet {

@@ -1,6 +1,6 @@
 //! Parts of a pool that change their answers at every call, and connections that are counted as they are made, held and dropped.
 //!
-//! All answers come from one `Source` with a fixed seed, so a run in one thread is the same each time. A `Harness` makes the parts of a
+//! All answers come from one `RandomSource` with a fixed seed, so a run in one thread is the same each time. A `Harness` makes the parts of a
 //! pool, and its `Gauges` tell then what the pool has made of them. Nothing here starts a thread or takes a lock.
 
 mod clock;
@@ -19,4 +19,4 @@ pub use gauge::{Gauge, Token};
 pub use harness::{Gauges, Harness, HostilePool};
 pub use manager::{HostileManager, Refused};
 pub use sink::HostileSink;
-pub use source::Source;
+pub use source::RandomSource;

@@ -9,7 +9,7 @@ mod handle;
 pub mod hostile;
 
 pub use board::{
-    ALWAYS, Board, Connection, Course, Errors, MILLI, Number, Refused, SECOND, Server,
-    ServerBuilder, builder_on, connection_on, server_on,
+    ALWAYS, Board, Connection, Course, Errors, Number, Refused, SECOND, Server, ServerBuilder,
+    builder_on, connection_on, server_on,
 };
-pub use handle::{Handle, OwnedHandle, Polled, Unbuilt, is_ended, is_going, is_timed_out, sizes};
+pub use handle::{Handle, OwnedHandle, Polled, Unbuilt, sizes};

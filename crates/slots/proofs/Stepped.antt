@@ -1,39 +1,32 @@
 -- Steps of jobs in a queue, one after another.
-use Rattle.std.proofs.Common.{◌≡◌, ℕ, ◌+◌, ◌-◌, ◌<◌, List, [], ◌∷◌, ◌++◌, length, Result, refl, sym, ◌∙◌, ap, subst, arith, append_assoc}
-use Rattle.std.proofs.lemmas.List.{append-nil}
+use Rattle.slots.proofs.Words.{◌≡◌, ℕ, ◌+◌, ◌-◌, ◌<◌, List, [], ◌∷◌, ◌++◌, length, Result, refl, sym, ◌∙◌, ap, subst, arith, append_assoc, append-nil, Poll, Moment, JobEntry, JobPlace, ids, JobSteps, StepsEach, StepsFirst, TurnMidway}
 use Rattle.std.specs.declared.convert.Infallible.{Infallible}
-use Rattle.futures.specs.declared.task.Poll.{Poll}
 use Rattle.bb8_types.specs.declared.api.errors.RunError.{RunError}
-use Rattle.bb8_types.specs.declared.api.moments.Moment.{Moment}
-use Rattle.slots.specs.declared.entries.Entry.{Entry}
-use Rattle.slots.specs.declared.entries.Place.{Place}
-use Rattle.slots.specs.Entries.{ids}
-use Rattle.slots.specs.Turns.{JobSteps, StepsEach, StepsFirst, TurnMidway}
 
 module _ {J O G D : Type 0} (polls : J → Moment → Poll O → J → Type 0) (polls_get : G → Poll (Result D (RunError Infallible)) → G → Type 0) (now : Moment) where
   -- steps keep the ids
-  pub same-ids : (es es' : List (Entry J O G)) (n : ℕ) → StepsEach polls polls_get now es es' n → ids es' ≡ ids es
+  pub same-ids : (es es' : List (JobEntry J O G)) (n : ℕ) → StepsEach polls polls_get now es es' n → ids es' ≡ ids es
   same-ids [] es' n (is, none) = ap ids is
   same-ids (e ∷ es) es' n (place, one, step, (rest, more, steps, is, sum)) = ap ids is ∙ ap (λ t. e.id ∷ t) (same-ids es rest more steps)
 
-  pub Midway-first : (first : List (Entry J O G)) (k : ℕ) → k ≡ length first → TurnMidway polls polls_get now first first 0 (k - 0)
+  pub Midway-first : (first : List (JobEntry J O G)) (k : ℕ) → k ≡ length first → TurnMidway polls polls_get now first first 0 (k - 0)
   Midway-first first k is =
       (first, [], omega (arith, is), sym (append-nil first), λ last more steps. subst (λ (x : ℕ). StepsEach polls polls_get now first last x) (omega arith) steps)
 
-  abbrev moved : Entry J O G → Place J O G → Entry J O G
+  abbrev moved : JobEntry J O G → JobPlace J O G → JobEntry J O G
   moved e p = record { id = e.id; place = p }
 
   -- what still has to be shown of the jobs behind
-  abbrev Goes : List (Entry J O G) → ℕ → List (Entry J O G) → List (Entry J O G) → Type 0
-  Goes first ended ahead behind = (last : List (Entry J O G)) (more : ℕ) → StepsEach polls polls_get now ahead last more → StepsEach polls polls_get now first (behind ++ last) (ended + more)
+  abbrev Goes : List (JobEntry J O G) → ℕ → List (JobEntry J O G) → List (JobEntry J O G) → Type 0
+  Goes first ended ahead behind = (last : List (JobEntry J O G)) (more : ℕ) → StepsEach polls polls_get now ahead last more → StepsEach polls polls_get now first (behind ++ last) (ended + more)
 
-  step : (first q q' : List (Entry J O G)) (ended one k : ℕ) (ahead behind : List (Entry J O G)) → 0 < k → length ahead ≡ k → q ≡ ahead ++ behind → Goes first ended ahead behind
+  step : (first q q' : List (JobEntry J O G)) (ended one k : ℕ) (ahead behind : List (JobEntry J O G)) → 0 < k → length ahead ≡ k → q ≡ ahead ++ behind → Goes first ended ahead behind
       → StepsFirst polls polls_get now q q' one → TurnMidway polls polls_get now first q' (ended + one) (k - 1)
   step first q q' ended one k [] behind some len eq go s = absurd (omega arith)
   step first q q' ended one k (a ∷ more) behind some len eq go (e, rest, place, is, steps, after) =
       let head : e ≡ a = cc in
       let tail : rest ≡ more ++ behind = cc in
-      let here : JobSteps polls polls_get now a.place place one = subst (λ (x : Entry J O G). JobSteps polls polls_get now x.place place one) head steps in (
+      let here : JobSteps polls polls_get now a.place place one = subst (λ (x : JobEntry J O G). JobSteps polls polls_get now x.place place one) head steps in (
         more,
         behind ++ moved a place ∷ [],
         omega arith,
@@ -44,20 +37,20 @@ module _ {J O G D : Type 0} (polls : J → Moment → Poll O → J → Type 0) (
             subst (λ (x : ℕ). StepsEach polls polls_get now first ((behind ++ moved a place ∷ []) ++ last) x) sum (rw (append_assoc behind (moved a place ∷ []) last) went),
       )
 
-  pub Midway-step : (first q q' : List (Entry J O G)) (ended one n k : ℕ) → k < n → TurnMidway polls polls_get now first q ended (n - k) → StepsFirst polls polls_get now q q' one
+  pub Midway-step : (first q q' : List (JobEntry J O G)) (ended one n k : ℕ) → k < n → TurnMidway polls polls_get now first q ended (n - k) → StepsFirst polls polls_get now q q' one
       → TurnMidway polls polls_get now first q' (ended + one) (n - (k + 1))
   Midway-step first q q' ended one n k less m s =
       let some : 0 < n - k = omega arith in
       let is : n - k - 1 ≡ n - (k + 1) = omega arith in
       subst (λ (x : ℕ). TurnMidway polls polls_get now first q' (ended + one) x) is (step first q q' ended one (n - k) m.0 m.1 some m.2 m.3 m.4 s)
 
-  over : (first q : List (Entry J O G)) (ended : ℕ) (ahead behind : List (Entry J O G)) → length ahead ≡ 0 → q ≡ ahead ++ behind → Goes first ended ahead behind
+  over : (first q : List (JobEntry J O G)) (ended : ℕ) (ahead behind : List (JobEntry J O G)) → length ahead ≡ 0 → q ≡ ahead ++ behind → Goes first ended ahead behind
       → StepsEach polls polls_get now first q ended
   over first q ended [] behind len eq go =
       let all : StepsEach polls polls_get now first (behind ++ []) (ended + 0) = go [] 0 (refl, refl) in
       let none : ended + 0 ≡ ended = omega arith in
-      subst (λ (x : List (Entry J O G)). StepsEach polls polls_get now first x ended) (append-nil behind ∙ sym eq) (subst (λ (x : ℕ). StepsEach polls polls_get now first (behind ++ []) x) none all)
+      subst (λ (x : List (JobEntry J O G)). StepsEach polls polls_get now first x ended) (append-nil behind ∙ sym eq) (subst (λ (x : ℕ). StepsEach polls polls_get now first (behind ++ []) x) none all)
   over first q ended (a ∷ more) behind len eq go = absurd (omega arith)
 
-  pub Midway-over : (first q : List (Entry J O G)) (ended k : ℕ) → k ≡ 0 → TurnMidway polls polls_get now first q ended k → StepsEach polls polls_get now first q ended
+  pub Midway-over : (first q : List (JobEntry J O G)) (ended k : ℕ) → k ≡ 0 → TurnMidway polls polls_get now first q ended k → StepsEach polls polls_get now first q ended
   Midway-over first q ended k none m = over first q ended m.0 m.1 (m.2 ∙ none) m.3 m.4

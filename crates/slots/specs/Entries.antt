@@ -1,9 +1,9 @@
 -- The jobs of a runner, in the order of their ids.
 use Rattle.std.specs.Prelude.{◌≡◌, ℕ, ◌+◌, ◌≤◌, ◌==◌, cond, Bool, true, false, Option, Some, None, List, [], ◌∷◌, ◌++◌}
 use Rattle.std.specs.Coded.{×_prop, le_prop}
-use Rattle.slots.specs.declared.entries.Entry.{Entry}
-use Rattle.slots.specs.declared.entries.Place.{Place}
-use Rattle.slots.specs.declared.entries.Place.TheVariants.{Waiting, Running, Ended}
+use Rattle.slots.specs.declared.entries.JobEntry.{JobEntry}
+use Rattle.slots.specs.declared.entries.JobPlace.{JobPlace}
+use Rattle.slots.specs.declared.entries.JobPlace.TheVariants.{Waiting, Running, Ended}
 use Rattle.slots.specs.declared.job.Outcome.{Outcome}
 use Rattle.slots.specs.declared.job.Phase.{Phase}
 use Rattle.slots.specs.declared.job.Phase.TheVariants as phase
@@ -19,60 +19,56 @@ AreIds-prop low high (id ∷ more) = ×_prop le_prop (AreIds-prop (id + 1) high 
 
 module _ {J O G : Type 0} where
   -- the ids of jobs
-  abbrev pub ids : List (Entry J O G) → List ℕ
+  abbrev pub ids : List (JobEntry J O G) → List ℕ
   ids [] = []
   ids (e ∷ es) = e.id ∷ ids es
 
   -- how many guards are held for a job that stands so: one while it runs
-  abbrev pub guards_for : Place J O G → ℕ
-  guards_for (Waiting job get) = 0
+  abbrev pub guards_for : JobPlace J O G → ℕ
   guards_for (Running job) = 1
-  guards_for (Ended outcome) = 0
+  guards_for _ = 0
 
   -- how many jobs run
-  abbrev pub running : List (Entry J O G) → ℕ
+  abbrev pub running : List (JobEntry J O G) → ℕ
   running [] = 0
   running (e ∷ es) = guards_for e.place + running es
 
   -- where the job of an id stands, if there is one
-  abbrev pub place_of : ℕ → List (Entry J O G) → Option (Place J O G)
+  abbrev pub place_of : ℕ → List (JobEntry J O G) → Option (JobPlace J O G)
   place_of id [] = None
   place_of id (e ∷ es) = cond (e.id == id) (Some e.place) (place_of id es)
 
   -- the phase of a job that stands so
-  abbrev pub phase_in : Place J O G → Phase
+  abbrev pub phase_in : JobPlace J O G → Phase
   phase_in (Waiting job get) = phase.Waiting
   phase_in (Running job) = phase.Running
   phase_in (Ended outcome) = phase.Ended
 
   -- the phase of a job, if there is one
-  abbrev pub phase_of : Option (Place J O G) → Option Phase
+  abbrev pub phase_of : Option (JobPlace J O G) → Option Phase
   phase_of None = None
   phase_of (Some place) = Some (phase_in place)
 
   -- whether a job that stands so has ended
-  abbrev pub is_ended : Place J O G → Bool
-  is_ended (Waiting job get) = false
-  is_ended (Running job) = false
+  abbrev pub is_ended : JobPlace J O G → Bool
   is_ended (Ended outcome) = true
+  is_ended _ = false
 
   -- how a job has ended, if there is one and it has
-  abbrev pub outcome_of : Option (Place J O G) → Option (Outcome O)
-  outcome_of None = None
-  outcome_of (Some (Waiting job get)) = None
-  outcome_of (Some (Running job)) = None
+  abbrev pub outcome_of : Option (JobPlace J O G) → Option (Outcome O)
   outcome_of (Some (Ended outcome)) = Some outcome
+  outcome_of _ = None
 
   -- the jobs but the one of an id
-  abbrev pub without : ℕ → List (Entry J O G) → List (Entry J O G)
+  abbrev pub without : ℕ → List (JobEntry J O G) → List (JobEntry J O G)
   without id [] = []
   without id (e ∷ es) = cond (e.id == id) es (e ∷ without id es)
 
   -- the jobs that are left where the outcome of an id was asked for: without that one, where it was told
-  abbrev pub left_after : Option (Outcome O) → ℕ → List (Entry J O G) → List (Entry J O G)
+  abbrev pub left_after : Option (Outcome O) → ℕ → List (JobEntry J O G) → List (JobEntry J O G)
   left_after None id es = es
   left_after (Some outcome) id es = without id es
 
   -- a job is added behind the others, under an id of its own; it waits by a get that is `fresh`
-  abbrev pub AddsJob : (G → Type 0) → ℕ → J → List (Entry J O G) → List (Entry J O G) → Type 0
+  abbrev pub AddsJob : (G → Type 0) → ℕ → J → List (JobEntry J O G) → List (JobEntry J O G) → Type 0
   AddsJob fresh id job es es' = (get : G) × fresh get × (es' ≡ es ++ record { id = id; place = Waiting job get } ∷ [])

@@ -17,7 +17,7 @@ use Rattle.bb8.specs.Drivers.{TurnsDriver}
 use Rattle.bb8.specs.Gets.{PollsGet}
 use Rattle.bb8.specs.Pools.{settings_in, stage_of, IsOf}
 use Rattle.slots.specs.contracts.slot.SlotManagerManageConnection.TheImpl as manager
-use Rattle.slots.specs.declared.entries.Entry.{Entry}
+use Rattle.slots.specs.declared.entries.JobEntry.{JobEntry}
 use Rattle.slots.specs.declared.job.Job.{Ghosts as JobOf}
 use Rattle.slots.specs.declared.runner.Runner.{Runner}
 use Rattle.slots.specs.declared.slot.Slot.{Slot}
@@ -40,7 +40,7 @@ module _ (S Z K R L A : Type 0) (l : PartsOf L) where
 
 module _ {J S Z K R L O A : Type 0} {j : JobOf J O} {s : SinkOf S Infallible} {z : CustomizerOf Z Slot Infallible A} {k : ClockOf K} {l : PartsOf L} where
   -- the jobs of a runner whose outcomes were not taken, in the order of their ids
-  abbrev pub jobs_in : Runner J S Z K R L O A j s z k l → List (Entry J O (SlotGet S Z K R L A l))
+  abbrev pub jobs_in : Runner J S Z K R L O A j s z k l → List (JobEntry J O (SlotGet S Z K R L A l))
   jobs_in runner = runner.entries.items
 
   -- how many of them run

@@ -6,21 +6,21 @@ use Rattle.futures.specs.declared.task.Poll.TheVariants.{Ready, Pending}
 use Rattle.bb8_types.specs.declared.api.errors.RunError.{RunError}
 use Rattle.bb8_types.specs.declared.api.errors.RunError.TheVariants.{Memory}
 use Rattle.bb8_types.specs.declared.api.moments.Moment.{Moment}
-use Rattle.slots.specs.declared.entries.Entry.{Entry}
-use Rattle.slots.specs.declared.entries.Place.{Place}
-use Rattle.slots.specs.declared.entries.Place.TheVariants.{Waiting, Running, Ended}
+use Rattle.slots.specs.declared.entries.JobEntry.{JobEntry}
+use Rattle.slots.specs.declared.entries.JobPlace.{JobPlace}
+use Rattle.slots.specs.declared.entries.JobPlace.TheVariants.{Waiting, Running, Ended}
 use Rattle.slots.specs.declared.job.Outcome.TheVariants.{Done, Refused}
 
 module _ {J O G : Type 0} where
   -- after a poll of a job: it runs on, or has ended with what it came to
-  abbrev pub AfterJob : Poll O → J → Place J O G → ℕ → Type 0
+  abbrev pub AfterJob : Poll O → J → JobPlace J O G → ℕ → Type 0
   AfterJob Pending job place ended = (place ≡ Running job) × (ended ≡ 0)
   AfterJob (Ready out) job place ended = (place ≡ Ended (Done out)) × (ended ≡ 1)
 
 module _ {J O G D : Type 0} where
   -- After a poll of a job's get: it waits on; or it runs from now on, or has ended as there was no memory to keep its guard; or it has ended with
   -- the get's error.
-  abbrev pub AfterGet : Poll (Result D (RunError Infallible)) → J → G → Place J O G → ℕ → Type 0
+  abbrev pub AfterGet : Poll (Result D (RunError Infallible)) → J → G → JobPlace J O G → ℕ → Type 0
   AfterGet Pending job get place ended = (place ≡ Waiting job get) × (ended ≡ 0)
   AfterGet (Ready (Ok guard)) job get place ended =
       ((place ≡ Running job) × (ended ≡ 0)) ⊎ ((place ≡ Ended (Refused Memory)) × (ended ≡ 1))
@@ -28,36 +28,36 @@ module _ {J O G D : Type 0} where
 
 module _ {J O G : Type 0} (polls : J → Moment → Poll O → J → Type 0) (now : Moment) where
   -- a job that runs is polled, once
-  abbrev pub StepsJob : J → Place J O G → ℕ → Type 0
+  abbrev pub StepsJob : J → JobPlace J O G → ℕ → Type 0
   StepsJob job place ended = (answer : Poll O) × (job' : J) × polls job now answer job' × AfterJob answer job' place ended
 
 module _ {J O G D : Type 0} (polls_get : G → Poll (Result D (RunError Infallible)) → G → Type 0) where
   -- the get of a job that waits is polled, once, and the job is not
-  abbrev pub StepsGet : J → G → Place J O G → ℕ → Type 0
+  abbrev pub StepsGet : J → G → JobPlace J O G → ℕ → Type 0
   StepsGet job get place ended = (answer : Poll (Result D (RunError Infallible))) × (get' : G) × polls_get get answer get' × AfterGet answer job get' place ended
 
 module _ {J O G D : Type 0} (polls : J → Moment → Poll O → J → Type 0) (polls_get : G → Poll (Result D (RunError Infallible)) → G → Type 0) (now : Moment) where
   -- what a turn makes of a job that stands so, and how many jobs end by it; one that has ended is left alone
-  abbrev pub JobSteps : Place J O G → Place J O G → ℕ → Type 0
+  abbrev pub JobSteps : JobPlace J O G → JobPlace J O G → ℕ → Type 0
   JobSteps (Waiting job get) place ended = StepsGet polls_get job get place ended
   JobSteps (Running job) place ended = StepsJob polls now job place ended
   JobSteps (Ended outcome) place ended = (place ≡ Ended outcome) × (ended ≡ 0)
 
   -- what a turn makes of jobs: one step of each, under its id and in their order, and how many jobs end
-  abbrev pub StepsEach : List (Entry J O G) → List (Entry J O G) → ℕ → Type 0
+  abbrev pub StepsEach : List (JobEntry J O G) → List (JobEntry J O G) → ℕ → Type 0
   StepsEach [] es' ended = (es' ≡ []) × (ended ≡ 0)
   StepsEach (e ∷ es) es' ended =
-      (place : Place J O G) × (one : ℕ) × JobSteps e.place place one
-      × ((rest : List (Entry J O G)) × (more : ℕ) × StepsEach es rest more × (es' ≡ record { id = e.id; place = place } ∷ rest) × (ended ≡ one + more))
+      (place : JobPlace J O G) × (one : ℕ) × JobSteps e.place place one
+      × ((rest : List (JobEntry J O G)) × (more : ℕ) × StepsEach es rest more × (es' ≡ record { id = e.id; place = place } ∷ rest) × (ended ≡ one + more))
 
   -- one step of the first job of a queue, which goes to the back
-  abbrev pub StepsFirst : List (Entry J O G) → List (Entry J O G) → ℕ → Type 0
+  abbrev pub StepsFirst : List (JobEntry J O G) → List (JobEntry J O G) → ℕ → Type 0
   StepsFirst queue queue' ended =
-      (e : Entry J O G) × (rest : List (Entry J O G)) × (place : Place J O G) × (queue ≡ e ∷ rest) × JobSteps e.place place ended
+      (e : JobEntry J O G) × (rest : List (JobEntry J O G)) × (place : JobPlace J O G) × (queue ≡ e ∷ rest) × JobSteps e.place place ended
       × (queue' ≡ rest ++ record { id = e.id; place = place } ∷ [])
 
   -- so many jobs at the front of the queue still have their step, and behind them stand those that had it
-  abbrev pub TurnMidway : List (Entry J O G) → List (Entry J O G) → ℕ → ℕ → Type 0
+  abbrev pub TurnMidway : List (JobEntry J O G) → List (JobEntry J O G) → ℕ → ℕ → Type 0
   TurnMidway first queue ended count =
-      (ahead : List (Entry J O G)) × (behind : List (Entry J O G)) × (length ahead ≡ count) × (queue ≡ ahead ++ behind)
-      × ((last : List (Entry J O G)) (more : ℕ) → StepsEach ahead last more → StepsEach first (behind ++ last) (ended + more))
+      (ahead : List (JobEntry J O G)) × (behind : List (JobEntry J O G)) × (length ahead ≡ count) × (queue ≡ ahead ++ behind)
+      × ((last : List (JobEntry J O G)) (more : ℕ) → StepsEach ahead last more → StepsEach first (behind ++ last) (ended + more))

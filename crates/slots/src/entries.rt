@@ -9,7 +9,7 @@ use std::collections::VecDeque;
 
 /// Where a job stands, with what it needs there: `J` is a job, `O` what it comes to, `G` a get.
 #[derive(Drop)]
-pub(crate) enum Place<J, O, G> {
+pub(crate) enum JobPlace<J, O, G> {
     /// It waits for what its get answers.
     Waiting(J, G),
     /// It runs, and one of the guards is held for it.
@@ -20,20 +20,20 @@ pub(crate) enum Place<J, O, G> {
 
 /// A job under its id.
 #[derive(Drop)]
-pub(crate) struct Entry<J, O, G> {
+pub(crate) struct JobEntry<J, O, G> {
     pub(crate) id: u64,
-    pub(crate) place: Place<J, O, G>,
+    pub(crate) place: JobPlace<J, O, G>,
 }
 
-impl<J, O, G> Place<J, O, G> {
+impl<J, O, G> JobPlace<J, O, G> {
     /// The phase of a job that stands so.
     pub(crate) fn phase(&self) -> Phase
         ensures { result ≡ phase_in self.now }
     {
         match self {
-            Place::Waiting(_, _) => Phase::Waiting,
-            Place::Running(_) => Phase::Running,
-            Place::Ended(_) => Phase::Ended,
+            JobPlace::Waiting(_, _) => Phase::Waiting,
+            JobPlace::Running(_) => Phase::Running,
+            JobPlace::Ended(_) => Phase::Ended,
         }
     }
 
@@ -42,14 +42,14 @@ impl<J, O, G> Place<J, O, G> {
         ensures { result ≡ is_ended self.now }
     {
         match self {
-            Place::Ended(_) => true,
+            JobPlace::Ended(_) => true,
             _ => false,
         }
     }
 }
 
 /// The index of the job of an id, if there is one.
-pub(crate) fn index_of<J, O, G>(entries: &VecDeque<Entry<J, O, G>>, id: u64) -> Option<usize>
+pub(crate) fn index_of<J, O, G>(entries: &VecDeque<JobEntry<J, O, G>>, id: u64) -> Option<usize>
     ensures within { IfSome result (λ i. i < deque_len entries.now) }
     ensures place { IfSome result (λ i. (e : _) → e ≡ slice_index_or entries.now.items i e
         → place_of id entries.now.items ≡ Some e.place) }
@@ -65,7 +65,7 @@ pub(crate) fn index_of<J, O, G>(entries: &VecDeque<Entry<J, O, G>>, id: u64) -> 
 }
 
 /// The phase of the job of an id, if there is one.
-pub(crate) fn phase_at<J, O, G>(entries: &VecDeque<Entry<J, O, G>>, id: u64) -> Option<Phase>
+pub(crate) fn phase_at<J, O, G>(entries: &VecDeque<JobEntry<J, O, G>>, id: u64) -> Option<Phase>
     ensures { result ≡ phase_of (place_of id entries.now.items) }
 {
     match index_of(entries, id) {
@@ -76,7 +76,7 @@ pub(crate) fn phase_at<J, O, G>(entries: &VecDeque<Entry<J, O, G>>, id: u64) -> 
 
 /// Takes the job of an id out, where it has ended, and tells how.
 pub(crate) fn take_ended<J: Drop, O: Drop, G: Drop>(
-    entries: &mut VecDeque<Entry<J, O, G>>,
+    entries: &mut VecDeque<JobEntry<J, O, G>>,
     id: u64,
 ) -> Option<Outcome<O>>
     ensures outcome { result ≡ outcome_of (place_of id entries.old.items) }
@@ -88,9 +88,9 @@ pub(crate) fn take_ended<J: Drop, O: Drop, G: Drop>(
     }
     match entries.remove(i) {
         Some(
-            Entry {
+            JobEntry {
                 id: _,
-                place: Place::Ended(outcome),
+                place: JobPlace::Ended(outcome),
             },
         ) => Some(outcome),
         _ => unreachable!(),

@@ -4,7 +4,7 @@ ghost use Rattle.bb8.specs.GuardLists.{most_in, number_in};
 ghost use Rattle.bb8.specs.Pools.{settings_in};
 ghost use Rattle.slots.specs.Entries.{ids, left_after, outcome_of, phase_of, place_of, running, AreIds, AreIds-prop};
 
-use crate::entries::{Entry, Place, phase_at, take_ended};
+use crate::entries::{JobEntry, JobPlace, phase_at, take_ended};
 use crate::job::{Job, Outcome, Phase};
 use crate::slot::{Slot, SlotManager};
 use crate::stepping::{Get, SlotGuards};
@@ -33,7 +33,7 @@ pub struct Runner<
     R: Locks,
     L: Parts,
 > {
-    entries: VecDeque<Entry<J, J::Out, Get<'a, S, Z, K, R, L>>>,
+    entries: VecDeque<JobEntry<J, J::Out, Get<'a, S, Z, K, R, L>>>,
     guards: SlotGuards<'a, S, Z, K, R, L>,
     driver: Driver<SlotManager, S, Z, K, R, L>,
     pool: &'a Pool<SlotManager, S, Z, K, R, L>,
@@ -135,9 +135,9 @@ impl<
         }
         let id = self.next;
         let get = PoolCalls::get(self.pool);
-        self.entries.push_back_reserved(Entry {
+        self.entries.push_back_reserved(JobEntry {
             id,
-            place: Place::Waiting(job, get),
+            place: JobPlace::Waiting(job, get),
         });
         self.next += 1;
         Ok(id)

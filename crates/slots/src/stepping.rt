@@ -6,7 +6,7 @@ ghost use Rattle.bb8.specs.GuardLists.{number_in, AreOfOne};
 ghost use Rattle.slots.specs.Entries.{guards_for};
 ghost use Rattle.slots.specs.Turns.{StepsJob, StepsGet, JobSteps};
 
-use crate::entries::Place;
+use crate::entries::JobPlace;
 use crate::job::{Job, Outcome};
 use crate::slot::{Slot, SlotManager};
 use bb8::get::GetFuture;
@@ -27,7 +27,7 @@ pub(crate) type SlotGuards<'a, S, Z, K, R, L> = Guards<'a, SlotManager, S, Z, K,
 /// What a step made of a job.
 pub(crate) struct Stepped<J, O, G> {
     /// Where it stands then.
-    pub(crate) place: Place<J, O, G>,
+    pub(crate) place: JobPlace<J, O, G>,
     /// Whether it ended by it: 1 where it did, else 0.
     pub(crate) ended: u64,
 }
@@ -43,7 +43,7 @@ pub(crate) trait StepsOne<J, O, G> {
     /// One step of a job that stands so.
     fn step(
         &mut self,
-        place: Place<J, O, G>,
+        place: JobPlace<J, O, G>,
         now: Moment,
         cx: &mut Context<'_>,
     ) -> Stepped<J, O, G>;
@@ -68,13 +68,13 @@ impl<
         let mut job = job;
         match job.poll(now) {
             Poll::Pending => Stepped {
-                place: Place::Running(job),
+                place: JobPlace::Running(job),
                 ended: 0,
             },
             Poll::Ready(out) => {
                 drop(GuardsCalls::remove(self, 0));
                 Stepped {
-                    place: Place::Ended(Outcome::Done(out)),
+                    place: JobPlace::Ended(Outcome::Done(out)),
                     ended: 1,
                 }
             }
@@ -97,20 +97,20 @@ impl<
         let mut get = get;
         match get.poll(cx) {
             Poll::Pending => Stepped {
-                place: Place::Waiting(job, get),
+                place: JobPlace::Waiting(job, get),
                 ended: 0,
             },
             Poll::Ready(Err(error)) => Stepped {
-                place: Place::Ended(Outcome::Refused(error)),
+                place: JobPlace::Ended(Outcome::Refused(error)),
                 ended: 1,
             },
             Poll::Ready(Ok(guard)) => match GuardsCalls::push(self, guard) {
                 Ok(()) => Stepped {
-                    place: Place::Running(job),
+                    place: JobPlace::Running(job),
                     ended: 0,
                 },
                 Err(_guard) => Stepped {
-                    place: Place::Ended(Outcome::Refused(RunError::Memory)),
+                    place: JobPlace::Ended(Outcome::Refused(RunError::Memory)),
                     ended: 1,
                 },
             },
@@ -119,7 +119,7 @@ impl<
 
     fn step(
         &mut self,
-        place: Place<J, J::Out, Get<'a, S, Z, K, R, L>>,
+        place: JobPlace<J, J::Out, Get<'a, S, Z, K, R, L>>,
         now: Moment,
         cx: &mut Context<'_>,
     ) -> Stepped<J, J::Out, Get<'a, S, Z, K, R, L>>
@@ -133,10 +133,10 @@ impl<
         ensures kept { Keeps cx.old cx.new }
     {
         match place {
-            Place::Waiting(job, get) => self.step_get(job, get, cx),
-            Place::Running(job) => self.step_job(job, now),
-            Place::Ended(outcome) => Stepped {
-                place: Place::Ended(outcome),
+            JobPlace::Waiting(job, get) => self.step_get(job, get, cx),
+            JobPlace::Running(job) => self.step_job(job, now),
+            JobPlace::Ended(outcome) => Stepped {
+                place: JobPlace::Ended(outcome),
                 ended: 0,
             },
         }

@@ -7,7 +7,7 @@ ghost use Rattle.bb8.specs.GuardLists.{most_in, number_in, AreOfOne};
 ghost use Rattle.slots.specs.Entries.{running};
 ghost use Rattle.slots.specs.Turns.{StepsFirst, StepsEach};
 
-use crate::entries::Entry;
+use crate::entries::JobEntry;
 use crate::job::Job;
 use crate::slot::Slot;
 use crate::stepping::{Get, SlotGuards, Stepped, StepsOne};
@@ -34,11 +34,12 @@ impl<
     K: Clock,
     R: Wait + Send + Sync + Drop + 'static,
     L: Parts,
-> StepsAll<VecDeque<Entry<J, J::Out, Get<'a, S, Z, K, R, L>>>> for SlotGuards<'a, S, Z, K, R, L> {
+> StepsAll<VecDeque<JobEntry<J, J::Out, Get<'a, S, Z, K, R, L>>>>
+    for SlotGuards<'a, S, Z, K, R, L> {
     #[tactic(auto, using(crate::proofs::Listed::running_append))]
     fn step_first(
         &mut self,
-        queue: &mut VecDeque<Entry<J, J::Out, Get<'a, S, Z, K, R, L>>>,
+        queue: &mut VecDeque<JobEntry<J, J::Out, Get<'a, S, Z, K, R, L>>>,
         now: Moment,
         cx: &mut Context<'_>,
     ) -> u64
@@ -51,17 +52,17 @@ impl<
         ensures one { result ≤ 1 }
         ensures kept { Keeps cx.old cx.new }
     {
-        let Some(Entry { id, place }) = queue.pop_front() else {
+        let Some(JobEntry { id, place }) = queue.pop_front() else {
             return 0;
         };
         let Stepped { place, ended } = self.step(place, now, cx);
-        queue.push_back_reserved(Entry { id, place });
+        queue.push_back_reserved(JobEntry { id, place });
         ended
     }
 
     fn step_each(
         &mut self,
-        queue: &mut VecDeque<Entry<J, J::Out, Get<'a, S, Z, K, R, L>>>,
+        queue: &mut VecDeque<JobEntry<J, J::Out, Get<'a, S, Z, K, R, L>>>,
         now: Moment,
         cx: &mut Context<'_>,
     ) -> u64

@@ -3,9 +3,10 @@
 #[cfg(feature = "parking_lot")]
 use parking_lot as implementation;
 #[cfg(not(feature = "parking_lot"))]
-use std::sync as implementation;
+use std::sync::{self as implementation, PoisonError, TryLockError};
 
 pub(crate) use implementation::MutexGuard;
+use std::hint::spin_loop;
 
 /// A lock that knows no poison: what it holds is whole after each step. What lies beside it is read
 /// without it, and so is in no line of the processor's memory that it is in.
@@ -17,15 +18,46 @@ impl<T> Mutex<T> {
         Mutex(implementation::Mutex::new(held))
     }
 
-    #[cfg(feature = "parking_lot")]
+    #[inline]
     pub(crate) fn lock(&self) -> MutexGuard<'_, T> {
+        self.try_lock().unwrap_or_else(|| self.lock_taken())
+    }
+
+    /// Tries again after longer and longer waits, of some dozens of microseconds in all, and parks the
+    /// thread only then. A step is far shorter than a call of the system, and a thread that makes
+    /// many in a row has at hand all that the lock holds.
+    #[cold]
+    fn lock_taken(&self) -> MutexGuard<'_, T> {
+        for turns in [4, 16, 64, 256, 1024, 1024] {
+            (0..turns).for_each(|_| spin_loop());
+            if let Some(guard) = self.try_lock() {
+                return guard;
+            }
+        }
+        self.park()
+    }
+
+    #[cfg(feature = "parking_lot")]
+    fn try_lock(&self) -> Option<MutexGuard<'_, T>> {
+        self.0.try_lock()
+    }
+
+    #[cfg(feature = "parking_lot")]
+    fn park(&self) -> MutexGuard<'_, T> {
         self.0.lock()
     }
 
     #[cfg(not(feature = "parking_lot"))]
-    pub(crate) fn lock(&self) -> MutexGuard<'_, T> {
-        self.0
-            .lock()
-            .unwrap_or_else(implementation::PoisonError::into_inner)
+    fn try_lock(&self) -> Option<MutexGuard<'_, T>> {
+        match self.0.try_lock() {
+            Err(TryLockError::WouldBlock) => None,
+            Err(TryLockError::Poisoned(error)) => Some(error.into_inner()),
+            Ok(guard) => Some(guard),
+        }
+    }
+
+    #[cfg(not(feature = "parking_lot"))]
+    fn park(&self) -> MutexGuard<'_, T> {
+        self.0.lock().unwrap_or_else(PoisonError::into_inner)
     }
 }

@@ -4,7 +4,7 @@ ghost use Rattle.std.specs.Prelude.{◌≡◌};
 use crate::pool::{Cancel, Pool, PooledConnection};
 use bb8_core::api::{Clock, CustomizeConnection, ErrorSink, ManageConnection, RunError};
 use bb8_gets::{Calls, GetState};
-use bb8_lock::{Gets, Locks, Part, Parts, Shared};
+use bb8_lock::{GetCalls, Locks, Part, Parts, Shared};
 use futures::Future;
 use futures::task::{Context, Poll};
 use std::marker::PhantomData;

@@ -88,7 +88,7 @@ fn succeeds_both_ends_of_a_check(rt: HostRuntime) {
     assert_equal(&rt, fitting(&pool, 0), (true, false, false, false));
     let (key, conn, grant) = taken_by(&rt, &mut pool, get);
     // The get is looked at, the connection goes out, and the get holds it.
-    assert_equal(&rt, pool.examined(), 3);
+    assert_equal(&rt, (pool.examined(), pool.searched()), (3, 0));
     assert_equal(
         &rt,
         (key.number, &conn, grant),
@@ -99,7 +99,7 @@ fn succeeds_both_ends_of_a_check(rt: HostRuntime) {
         panic!(rt; "the get holds nothing");
     };
     // The get is looked at, and a guard has the connection.
-    assert_equal(&rt, pool.examined(), 2);
+    assert_equal(&rt, (pool.examined(), pool.searched()), (2, 0));
     assert_equal(&rt, key.number, 0);
     assert_equal(&rt, fitting(&pool, 0), (false, false, false, true));
     assert_equal(&rt, pool.state(NOW), served(1, 0, 1, 0));
@@ -114,7 +114,7 @@ fn succeeds_both_ends_of_a_check(rt: HostRuntime) {
         panic!(rt; "somebody was notified");
     };
     // The get is looked at, and the connection's birth, and the get is active again.
-    assert_equal(&rt, pool.examined(), 3);
+    assert_equal(&rt, (pool.examined(), pool.searched()), (3, 0));
     assert_equal(
         &rt,
         (closed.number, conn, grant),

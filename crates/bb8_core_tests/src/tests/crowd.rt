@@ -107,7 +107,7 @@ fn open(rt: &impl Abort, pool: &mut PoolInternals<u32>, conn: u32) -> Option<Get
     }
 }
 
-/// Lets a get go that waits and was not notified.
+/// Lets a get go that was not notified.
 fn cancel(rt: &impl Abort, pool: &mut PoolInternals<u32>, get: GetKey) {
     let answer = bb8_core::asked::give_up(pool, NOW, get, Reason::Cancelled, None, false, 0);
     assert_few(rt, pool);
@@ -154,6 +154,10 @@ fn steps_tell_what_they_lent(rt: HostRuntime) {
     assert_lent(&rt, &pool, 2);
     assert!(rt; put_back(&rt, &mut pool, key, conn).is_none());
     assert_lent(&rt, &pool, 2);
+    // A get that is given up is looked at.
+    let get = begin(&rt, &mut pool);
+    cancel(&rt, &mut pool, get);
+    assert_lent(&rt, &pool, 1);
     let _ = pool.state(NOW);
     assert_lent(&rt, &pool, 0);
 }

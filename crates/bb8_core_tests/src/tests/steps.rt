@@ -1,15 +1,13 @@
 //! Each step of the bare state, over connections that are no numbers.
 use super::{assert_equal, granted, served, unchecked};
-use bb8_core::api::{Config, Moment, QueueStrategy};
-use bb8_core::asked::{add, begin, opened, put_back, try_get};
+use bb8_core::api::Moment;
+use bb8_core::asked::{begin, failed, opened, put_back, try_get};
 use bb8_core::internals::{
-    AddAnswer, BeginAnswer, ClaimAnswer, GetKey, Grant, Key, OpenedAnswer, PoolInternals,
-    PutBackAnswer, TryAnswer,
+    BeginAnswer, ClaimAnswer, GetKey, Grant, Key, OpenedAnswer, PoolInternals, PutBackAnswer,
+    TryAnswer,
 };
-use bb8_core::replay::{Act, Event, fits};
 use std::alloc::Global;
 use std::process::Abort;
-use std::test::Fail;
 
 pub(super) const NOW: Moment = Moment(0);
 
@@ -19,8 +17,6 @@ pub(super) enum Link {
     Red,
     Green,
     Blue,
-    White,
-    Black,
 }
 
 /// Has a get be served.
@@ -67,15 +63,8 @@ fn enter(rt: &impl Abort, pool: &mut PoolInternals<Link>, number: u64, conn: Lin
 }
 
 /// A pool of three connections, opened in the order 1, 0, 2.
-fn three_idle(
-    rt: &impl Abort,
-    alloc: Global,
-    queue_strategy: QueueStrategy,
-) -> PoolInternals<Link> {
-    let config = Config {
-        queue_strategy,
-        ..unchecked(3, Some(3))
-    };
+fn three_idle(rt: &impl Abort, alloc: Global) -> PoolInternals<Link> {
+    let config = unchecked(3, Some(3));
     assert!(rt; config.is_lawful());
     let mut pool = PoolInternals::new(alloc, config);
     assert_equal(&rt, pool.fill(NOW, true), granted(0, 3));
@@ -90,34 +79,6 @@ fn assert_served(rt: &impl Abort, pool: &mut PoolInternals<Link>, number: u64, c
     let (key, served) = take(rt, pool);
     assert_equal(&rt, key.number, number);
     assert_equal(&rt, served, conn);
-}
-
-#[test]
-fn oldest_entry_is_served_first(rt: HostRuntime) {
-    let mut pool = three_idle(&rt, rt.alloc(), QueueStrategy::Fifo);
-    let (key, conn) = take(&rt, &mut pool);
-    assert_equal(&rt, (key.number, &conn), (1, &Link::Green));
-    let Some(PutBackAnswer::Kept(None)) = put_back(&mut pool, NOW, key, conn, false) else {
-        panic!(rt; "it was closed");
-    };
-    assert_served(&rt, &mut pool, 0, Link::Red);
-    assert_served(&rt, &mut pool, 2, Link::Blue);
-    assert_served(&rt, &mut pool, 1, Link::Green);
-    assert_equal(&rt, pool.state(NOW), served(3, 0, 4, 3));
-}
-
-#[test]
-fn newest_entry_is_served_first(rt: HostRuntime) {
-    let mut pool = three_idle(&rt, rt.alloc(), QueueStrategy::Lifo);
-    let (key, conn) = take(&rt, &mut pool);
-    assert_equal(&rt, (key.number, &conn), (2, &Link::Blue));
-    assert_served(&rt, &mut pool, 0, Link::Red);
-    let Some(PutBackAnswer::Kept(None)) = put_back(&mut pool, NOW, key, conn, false) else {
-        panic!(rt; "it was closed");
-    };
-    assert_served(&rt, &mut pool, 2, Link::Blue);
-    assert_served(&rt, &mut pool, 1, Link::Green);
-    assert_equal(&rt, pool.state(NOW), served(3, 0, 4, 3));
 }
 
 /// A pool whose numbers begin at 7 and whose gets begin at 40, with one approval that was claimed.
@@ -161,6 +122,7 @@ fn succeeds_each_step_once(rt: HostRuntime) {
     else {
         panic!(rt; "it was kept, or somebody was notified");
     };
+    assert_equal(&rt, pool.searched(), 0);
     assert_equal(&rt, (&closed, grant), (&Link::Blue, granted(9, 0)));
     assert!(rt; pool.find(7).is_none());
     pool.limits();
@@ -169,62 +131,12 @@ fn succeeds_each_step_once(rt: HostRuntime) {
     assert_equal(&rt, pool.state(NOW), wanted);
 }
 
-/// Whether these three fit: a try of the get 0, the opening and the return of the number 0.
-fn fitting(pool: &PoolInternals<Link>) -> (bool, bool, bool) {
-    (
-        fits(
-            pool,
-            Event {
-                at: NOW,
-                act: Act::Try(0),
-            },
-        ),
-        fits(
-            pool,
-            Event {
-                at: NOW,
-                act: Act::Opened(0),
-            },
-        ),
-        fits(
-            pool,
-            Event {
-                at: NOW,
-                act: Act::PutBack(0, true),
-            },
-        ),
-    )
-}
-
 #[test]
-fn what_fits_changes_step_by_step(rt: HostRuntime) {
-    let config = unchecked(1, Some(1));
-    assert!(rt; config.is_lawful());
-    let mut pool = PoolInternals::new(rt.alloc(), config);
-    for act in [Act::Begin, Act::Fill(true), Act::Claim, Act::State] {
-        assert!(rt; fits(&pool, Event { at: NOW, act }), "{act:?}");
-    }
-    assert_equal(&rt, fitting(&pool), (false, false, false));
-    assert_equal(&rt, pool.fill(NOW, false), granted(0, 1));
-    assert_equal(&rt, fitting(&pool), (false, false, false));
-    let ClaimAnswer::Claimed(Some(approval)) = pool.claim(NOW) else {
-        panic!(rt; "nothing was claimed");
-    };
-    assert_equal(&rt, fitting(&pool), (false, true, false));
-    let Some(OpenedAnswer::Entered(None)) = opened(&mut pool, NOW, approval, Link::Red) else {
-        panic!(rt; "it did not become idle, or notified somebody");
-    };
-    assert_equal(&rt, fitting(&pool), (false, false, false));
-    let Some(BeginAnswer::Begun(get)) = begin(&mut pool, NOW) else {
-        panic!(rt; "no get began");
-    };
-    assert_equal(&rt, fitting(&pool), (true, false, false));
-    let (key, conn, _) = served_by(&rt, &mut pool, get);
-    assert_equal(&rt, fitting(&pool), (false, false, true));
-    let Some(PutBackAnswer::Kept(None)) = put_back(&mut pool, NOW, key, conn, false) else {
-        panic!(rt; "it was closed");
-    };
-    assert_equal(&rt, fitting(&pool), (false, false, false));
+fn failed_opening_ends_its_approval(rt: HostRuntime) {
+    let (mut pool, approval) = one_claimed(&rt, rt.alloc());
+    assert!(rt; failed(&mut pool, NOW, approval).is_some());
+    assert_equal(&rt, (pool.examined(), pool.searched()), (0, 0));
+    assert!(rt; pool.find(7).is_none());
 }
 
 /// Two connections are out, of which the later one stands where an ended one stood.
@@ -259,7 +171,6 @@ fn stale_keys_name_the_right_record(rt: HostRuntime) {
     let (mut pool, ended, first, later) = place_used_again(&rt, rt.alloc());
     assert_equal(&rt, (ended.number, first.number, later.number), (0, 1, 2));
     assert_equal(&rt, later.place, ended.place);
-    assert_equal(&rt, fitting(&pool), (false, false, false));
     assert!(rt; pool.find(0).is_none());
     let stale = Key {
         number: 1,
@@ -288,7 +199,7 @@ fn stale_keys_name_the_right_record(rt: HostRuntime) {
 
 #[test]
 fn stale_keys_name_the_right_get(rt: HostRuntime) {
-    let mut pool = three_idle(&rt, rt.alloc(), QueueStrategy::Fifo);
+    let mut pool = three_idle(&rt, rt.alloc());
     let _ = take(&rt, &mut pool);
     for wanted in [1, 2] {
         let Some(BeginAnswer::Begun(get)) = begin(&mut pool, NOW) else {
@@ -308,45 +219,4 @@ fn stale_keys_name_the_right_get(rt: HostRuntime) {
     assert!(rt; pool.find_get(0).is_none());
     assert_equal(&rt, pool.find_get(1).map(|get| get.number), Some(1));
     assert!(rt; pool.find_get(2).is_none());
-}
-
-#[test]
-fn adding_is_refused_in_order(rt: HostRuntime) {
-    let config = unchecked(2, Some(0));
-    assert!(rt; config.is_lawful());
-    let mut pool = PoolInternals::new(rt.alloc(), config);
-    let Some(AddAnswer::Broken(Link::Blue)) = add(&mut pool, NOW, Link::Blue, true) else {
-        panic!(rt; "a broken connection was added, or another one was handed back");
-    };
-    let Some(AddAnswer::Added(first, None)) = add(&mut pool, NOW, Link::Red, false) else {
-        panic!(rt; "it was refused, or notified somebody");
-    };
-    let Some(AddAnswer::Added(second, None)) = add(&mut pool, NOW, Link::Green, false) else {
-        panic!(rt; "it was refused, or notified somebody");
-    };
-    let Some(AddAnswer::NoCapacity(Link::White)) = add(&mut pool, NOW, Link::White, false) else {
-        panic!(rt; "a third one was added, or another one was handed back");
-    };
-    let Some(AddAnswer::Broken(Link::Black)) = add(&mut pool, NOW, Link::Black, true) else {
-        panic!(rt; "it was not told as broken first");
-    };
-    assert_equal(&rt, (first.number, second.number), (0, 1));
-    assert_equal(&rt, pool.state(NOW), served(2, 2, 0, 0));
-    assert_served(&rt, &mut pool, 0, Link::Red);
-    assert_served(&rt, &mut pool, 1, Link::Green);
-}
-
-#[test]
-fn adding_needs_a_number(rt: HostRuntime) {
-    let config = unchecked(2, None);
-    assert!(rt; config.is_lawful());
-    let mut pool = PoolInternals::starting_at(rt.alloc(), config, u64::MAX - 1, 0);
-    let Some(AddAnswer::Added(last, None)) = add(&mut pool, NOW, Link::Red, false) else {
-        panic!(rt; "it was refused, or notified somebody");
-    };
-    assert_equal(&rt, last.number, 18_446_744_073_709_551_614);
-    let Some(AddAnswer::Withheld(Link::Green)) = add(&mut pool, NOW, Link::Green, false) else {
-        panic!(rt; "a number was given twice, or another connection was handed back");
-    };
-    assert_equal(&rt, pool.state(NOW), served(1, 1, 0, 0));
 }

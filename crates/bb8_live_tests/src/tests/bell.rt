@@ -1,17 +1,17 @@
-//! The bell of a lock.
+//! The bells of a lock.
 
-use bb8_lock::Belled;
+use bb8_lock::Bell;
 use std::test::Fail;
 use std::time::{Clock, Duration};
 
 /// A ring after the count was read ends the sleep that follows at once, which would last ten seconds.
 #[test]
 fn ring_before_the_sleep_is_not_lost(rt: HostRuntime) -> Result<(), Fail> {
-    let belled = Belled::new(());
-    let rings = belled.rings();
-    belled.ring();
+    let bell = Bell::new();
+    let rings = bell.rings();
+    bell.ring();
     let before = rt.monotonic()?;
-    belled.sleep(&rt, rings, Duration::from_secs(10));
+    bell.sleep(&rt, rings, Duration::from_secs(10));
     let slept = rt.monotonic()?.saturating_sub(before);
     assert!(&rt; slept < Duration::from_secs(5));
     Ok(())

@@ -21,9 +21,10 @@ use std::test::Fail;
 use std::thread::{self, Threads};
 use std::time::Duration;
 
-/// The calls outside, and the drop of a connection. The place of one, from 0, is its digit in what is written down.
+/// The calls outside, and the drops of a connection and of what is under way. The place of one, from 0, is its digit in what is written
+/// down.
 const CALLS: &str =
-    "- now connect poll_connect on_acquire poll_acquire is_valid poll_valid has_broken sink dropped";
+    "- now connect poll_connect on_acquire poll_acquire is_valid poll_valid has_broken sink dropped ended";
 
 /// Calls wait for nobody.
 pub(super) const OPEN: u64 = 0;
@@ -179,20 +180,46 @@ pub(super) fn connection(desk: &Arc<Desk, Global>) -> Result<Teller, Memory> {
     })
 }
 
+/// What is under way: an opening, a preparation or a check, whose end is written down.
+pub(super) struct UnderWay {
+    desk: Option<Arc<Desk, Global>>,
+}
+
+impl Drop for UnderWay {
+    fn drop(self) {
+        let UnderWay { desk } = self;
+        if let Some(desk) = desk {
+            desk.call("ended");
+        }
+    }
+}
+
+/// Writes the call down that begins it.
+fn begin(desk: &Arc<Desk, Global>, call: &str) -> UnderWay {
+    desk.call(call);
+    UnderWay {
+        desk: share(desk).ok(),
+    }
+}
+
 impl ManageConnection for Teller {
     type Connection = Teller;
 
     type Error = Refused;
 
-    type Connecting = ();
+    type Connecting = UnderWay;
 
-    type Checking = ();
+    type Checking = UnderWay;
 
-    fn connect(&self) {
-        self.desk.call("connect");
+    fn connect(&self) -> UnderWay {
+        begin(&self.desk, "connect")
     }
 
-    fn poll_connect(&self, _connecting: &mut (), moment: Moment) -> Poll<Result<Teller, Refused>> {
+    fn poll_connect(
+        &self,
+        _connecting: &mut UnderWay,
+        moment: Moment,
+    ) -> Poll<Result<Teller, Refused>> {
         self.desk.call("poll_connect");
         self.desk.polled_at.set(moment.0);
         match answer(self.desk.opening.get(), ()) {
@@ -202,14 +229,14 @@ impl ManageConnection for Teller {
         }
     }
 
-    fn is_valid(&self, _connection: &mut Teller) {
-        self.desk.call("is_valid");
+    fn is_valid(&self, _connection: &mut Teller) -> UnderWay {
+        begin(&self.desk, "is_valid")
     }
 
     fn poll_valid(
         &self,
         _connection: &mut Teller,
-        _checking: &mut (),
+        _checking: &mut UnderWay,
         _moment: Moment,
     ) -> Poll<Result<(), Refused>> {
         self.desk.call("poll_valid");
@@ -223,16 +250,16 @@ impl ManageConnection for Teller {
 }
 
 impl CustomizeConnection<Teller, Refused> for Teller {
-    type Acquiring = ();
+    type Acquiring = UnderWay;
 
-    fn on_acquire(&self, _connection: &mut Teller) {
-        self.desk.call("on_acquire");
+    fn on_acquire(&self, _connection: &mut Teller) -> UnderWay {
+        begin(&self.desk, "on_acquire")
     }
 
     fn poll_acquire(
         &self,
         _connection: &mut Teller,
-        _acquiring: &mut (),
+        _acquiring: &mut UnderWay,
         _moment: Moment,
     ) -> Poll<Result<(), Refused>> {
         self.desk.call("poll_acquire");
@@ -306,7 +333,7 @@ fn checked<R: Runtime + Abort, P: Handle<Teller>>(
     let desk = tools.desk;
     tools.add(pool)?;
     let mut get = pool.get();
-    tools.poll(pool, &mut get, "now is_valid poll_valid");
+    tools.poll(pool, &mut get, "now is_valid poll_valid ended");
     tools.poll(pool, &mut get, "");
     drop(get);
     desk.check.set(1);
@@ -314,18 +341,18 @@ fn checked<R: Runtime + Abort, P: Handle<Teller>>(
     tools.poll(pool, &mut get, "now is_valid poll_valid");
     tools.poll(pool, &mut get, "now poll_valid");
     pool.cancel(get);
-    tools.made("has_broken now");
+    tools.made("ended has_broken now");
     let mut get = pool.get();
     tools.poll(pool, &mut get, "now is_valid poll_valid");
     desk.moment.set(100);
-    tools.poll(pool, &mut get, "now poll_valid has_broken");
+    tools.poll(pool, &mut get, "now poll_valid ended has_broken");
     drop(get);
     tools.made("");
     let mut get = pool.get();
     tools.poll(pool, &mut get, "now is_valid poll_valid");
     desk.broken.set(1);
     drop(get);
-    tools.made("has_broken now dropped");
+    tools.made("ended has_broken now dropped");
     drop(pool.add(connection(desk)?));
     tools.made("has_broken now dropped");
     desk.broken.set(0);
@@ -357,7 +384,7 @@ fn waiting<R: Runtime + Abort, P: Handle<Teller>>(
     tools.poll(
         pool,
         &mut get,
-        "now is_valid poll_valid sink has_broken dropped",
+        "now is_valid poll_valid ended sink has_broken dropped",
     );
     drop(get);
     tools.made("now");
@@ -366,13 +393,13 @@ fn waiting<R: Runtime + Abort, P: Handle<Teller>>(
     tools.poll(
         pool,
         &mut get,
-        "now is_valid poll_valid sink has_broken dropped",
+        "now is_valid poll_valid ended sink has_broken dropped",
     );
     tools.poll(pool, &mut get, "now");
     desk.check.set(0);
     tools.add(pool)?;
     desk.broken.set(1);
-    tools.poll(pool, &mut get, "now is_valid poll_valid");
+    tools.poll(pool, &mut get, "now is_valid poll_valid ended");
     desk.broken.set(0);
     Ok(())
 }
@@ -387,7 +414,7 @@ fn owned<R: Runtime + Abort, P: Handle<Teller>>(
     tools.add(pool)?;
     let mut get = pool.get_owned();
     let polled = pool.poll_owned(tools.task, &mut get);
-    tools.made("now now is_valid poll_valid");
+    tools.made("now now is_valid poll_valid ended");
     drop(get);
     tools.made("");
     drop(polled);
@@ -397,7 +424,7 @@ fn owned<R: Runtime + Abort, P: Handle<Teller>>(
     drop(pool.poll_owned(tools.task, &mut get));
     tools.made("now now is_valid poll_valid");
     drop(get);
-    tools.made("has_broken now now");
+    tools.made("ended has_broken now now");
     tools.desk.check.set(0);
     Ok(())
 }
@@ -409,9 +436,9 @@ fn dedicated<R: Runtime + Abort, P: Handle<Teller>>(tools: &Tools<'_, R>, pool: 
     for (connects, prepares, calls) in &[
         (1, 0, "now connect poll_connect"),
         (1, 0, "now poll_connect"),
-        (0, 1, "now poll_connect on_acquire poll_acquire"),
+        (0, 1, "now poll_connect ended on_acquire poll_acquire"),
         (0, 1, "now poll_acquire"),
-        (0, 0, "now poll_acquire dropped"),
+        (0, 0, "now poll_acquire ended dropped"),
         (0, 0, ""),
     ] {
         desk.opening.set(*connects);
@@ -421,18 +448,18 @@ fn dedicated<R: Runtime + Abort, P: Handle<Teller>>(tools: &Tools<'_, R>, pool: 
     }
     drop(opening);
     for (connects, prepares, calls, at_the_end) in &[
-        (1, 0, "now connect poll_connect", ""),
-        (2, 0, "now connect poll_connect", ""),
+        (1, 0, "now connect poll_connect", "ended"),
+        (2, 0, "now connect poll_connect ended", ""),
         (
             0,
             1,
-            "now connect poll_connect on_acquire poll_acquire",
-            "dropped",
+            "now connect poll_connect ended on_acquire poll_acquire",
+            "ended dropped",
         ),
         (
             0,
             2,
-            "now connect poll_connect on_acquire poll_acquire dropped",
+            "now connect poll_connect ended on_acquire poll_acquire ended dropped",
             "",
         ),
     ] {
@@ -471,18 +498,23 @@ fn turns<R: Runtime + Abort, P: Handle<Teller>, D: DriverCalls + Drop>(
     for (approves, connects, prepares, calls) in &[
         (true, 1, 0, "connect poll_connect"),
         (false, 1, 0, "poll_connect"),
-        (false, 0, 1, "poll_connect on_acquire poll_acquire"),
-        (false, 0, 0, "poll_acquire"),
+        (false, 0, 1, "poll_connect ended on_acquire poll_acquire"),
+        (false, 0, 0, "poll_acquire ended"),
         (false, 0, 0, ""),
-        (true, 2, 0, "connect poll_connect sink"),
+        (true, 2, 0, "connect poll_connect ended sink"),
         (
             true,
             0,
             2,
-            "connect poll_connect on_acquire poll_acquire dropped sink",
+            "connect poll_connect ended on_acquire poll_acquire ended dropped sink",
         ),
         (false, 0, 0, ""),
-        (true, 0, 1, "connect poll_connect on_acquire poll_acquire"),
+        (
+            true,
+            0,
+            1,
+            "connect poll_connect ended on_acquire poll_acquire",
+        ),
     ] {
         if *approves {
             approve(tools, pool);
@@ -493,7 +525,7 @@ fn turns<R: Runtime + Abort, P: Handle<Teller>, D: DriverCalls + Drop>(
         tools.made(calls);
     }
     drop(driver);
-    tools.made("now dropped");
+    tools.made("now ended dropped");
 }
 
 /// A handle more, and its drop.
@@ -579,7 +611,7 @@ fn calls_of_a_pool<R: Runtime + Abort + Threads, L: PoolParts + 'static>(
     desk.moment.set(1000);
     desk.opening.set(1);
     let driven = Driver::new(&pool)?.run(outside_on(desk)?);
-    tools.made("now connect poll_connect now poll_connect now");
+    tools.made("now connect poll_connect now poll_connect now ended");
     assert_equal(&rt, driven.turns, 2);
     assert_equal(&rt, desk.polled_at.get(), 1001);
     desk.stage.set(ENDED);
@@ -608,7 +640,7 @@ fn calls_of_a_building<R: Runtime + Abort, B: Unbuilt<Teller>>(
             tools.desk.opening.set(0);
             let polled = building.poll(tools.task);
             tools.made(
-                "now poll_connect on_acquire poll_acquire poll_connect on_acquire poll_acquire",
+                "now poll_connect ended on_acquire poll_acquire ended poll_connect ended on_acquire poll_acquire ended",
             );
             if let Poll::Ready(Ok(pool)) = &polled {
                 pool.serves_at_once(tools.task);
@@ -621,12 +653,12 @@ fn calls_of_a_building<R: Runtime + Abort, B: Unbuilt<Teller>>(
         }
         Course::Lasts => {
             building.cancel();
-            tools.made("now now");
+            tools.made("now ended ended now");
         }
         Course::Fails => {
             tools.desk.opening.set(2);
             drop(building.poll(tools.task));
-            tools.made("now poll_connect now");
+            tools.made("now poll_connect ended ended now");
         }
     }
 }

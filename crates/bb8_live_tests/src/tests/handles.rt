@@ -9,12 +9,17 @@ use std::test::Fail;
 /// It may go to another thread.
 fn is_sent<T: Send>(_: &T) {}
 
-/// A guard is printed as its connection, and an owned one is read and written as it; it may go to another thread, as its get may.
+/// A pool is printed without its parts, a guard as its connection, and an owned one is read and written as it; it may go to another thread, as its get may.
 pub(super) fn derefs<R: Runtime + Abort, L: PoolParts>(
     rt: R,
     numbers: Numbers<R, L>,
 ) -> Result<(), Fail> {
     let Numbers { pool, task, .. } = numbers;
+    assert_equal(
+        &rt,
+        format!(in rt.alloc(); "{pool:?}")?.as_str(),
+        "Pool(..)",
+    );
     assert_equal(&rt, pool.add(7), Ok(()));
     let mut get = pool.get_owned();
     is_sent(&get);

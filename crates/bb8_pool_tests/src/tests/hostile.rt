@@ -5,7 +5,7 @@ mod polls;
 
 use super::assert_equal;
 use bb8::{AddError, PoolParts, Runtime};
-use bb8_trials::hostile::{Harness, HostilePool, Source};
+use bb8_trials::hostile::{Harness, HostilePool, RandomSource};
 use std::process::Abort;
 use std::test::Fail;
 
@@ -42,7 +42,7 @@ fn is_at_rest<R: Runtime + Abort, L: PoolParts>(
 /// The row of the seed 1234567 begins with these numbers, as others' programs by the same rule print it.
 #[test]
 fn numbers_of_a_seed(rt: HostRuntime) -> Result<(), Fail> {
-    let source = Source::new(rt.alloc(), 1_234_567)?;
+    let source = RandomSource::new(rt.alloc(), 1_234_567)?;
     for number in [
         6_457_827_717_110_365_317,
         3_203_168_211_198_807_973,

@@ -1,15 +1,12 @@
-//! Threads that wait asleep, and gets that do not wait.
+//! Threads that wait asleep.
 
 use super::assert_equal;
 use bb8::{
-    Driver, MachineClock, Moment, NopCustomizer, Pool, PoolCalls, PoolParts, RunError, Runtime,
-    Service, SetClock, State, User,
+    Driver, MachineClock, NopCustomizer, Pool, PoolCalls, PoolParts, RunError, Runtime, Service,
+    User,
 };
-use bb8_trials::{
-    Board, Connection, Course, Errors, Number, Server, builder_on, connection_on, server_on,
-};
+use bb8_trials::{Board, Errors, Number, Server, builder_on, connection_on, server_on};
 use std::alloc::Global;
-use std::ops::DerefMut;
 use std::sync::Arc;
 use std::test::Fail;
 use std::thread::{self, Threads};
@@ -19,7 +16,7 @@ use std::time::{Clock, CpuClock, Duration};
 type MachinePool<R, L> = Pool<Server, Errors, NopCustomizer, MachineClock<R>, R, L>;
 
 /// The nanoseconds of the machine's clock now, or of a processor.
-fn nanos(read: std::io::Result<Duration>) -> u64 {
+pub(super) fn nanos(read: std::io::Result<Duration>) -> u64 {
     match read {
         Ok(passed) => u64::try_from(passed.as_nanos()).unwrap_or(u64::MAX),
         Err(_) => 0,
@@ -151,84 +148,6 @@ fn return_wakes_who_waits(rt: HostRuntime) -> Result<(), Fail> {
         least = least.min(after);
     }
     assert!(&rt; least < 10_000_000, "{least} nanoseconds");
-    Ok(())
-}
-
-/// A pool of a server's connections by a clock that is set.
-type ServerPool<R, L> = Pool<Server, Errors, NopCustomizer, SetClock, R, L>;
-
-/// What a get at once found, by the connection's number, and how many gets began, were served directly, were cancelled and are pending then.
-type Found = (Option<u64>, [u64; 4]);
-
-/// Takes what is idle: of nothing, of one connection, while that is out, and while its check lasts.
-#[derive(Drop)]
-struct AtOnce {
-    board: Arc<Board, Global>,
-}
-
-/// The number of a connection that was had.
-fn number_of<G: DerefMut<Target = Connection>>(guard: &Option<G>) -> Option<u64> {
-    match guard {
-        Some(guard) => Some(guard.number),
-        None => None,
-    }
-}
-
-/// The counts of gets.
-fn counts(state: State) -> [u64; 4] {
-    let counts = state.statistics;
-    [
-        counts.get_started,
-        counts.get_direct,
-        counts.get_cancelled,
-        counts.pending_gets(),
-    ]
-}
-
-impl<R: Runtime> User<Server, Errors, NopCustomizer, SetClock, R> for AtOnce {
-    type Outcome = Option<[Found; 4]>;
-
-    fn run<L: PoolParts>(
-        &self,
-        pool: &ServerPool<R, L>,
-        _driver: &mut Driver<Server, Errors, NopCustomizer, SetClock, R, L>,
-    ) -> Option<[Found; 4]> {
-        let before = PoolCalls::state(pool);
-        let nothing = number_of(&PoolCalls::try_get(pool).ok()?);
-        if PoolCalls::state(pool) != before {
-            return None;
-        }
-        let nothing = (nothing, counts(before));
-        PoolCalls::add(pool, connection_on(&self.board, 7).ok()?).ok()?;
-        let guard = PoolCalls::try_get(pool).ok()?;
-        let one = (number_of(&guard), counts(PoolCalls::state(pool)));
-        let out = number_of(&PoolCalls::try_get(pool).ok()?);
-        let out = (out, counts(PoolCalls::state(pool)));
-        drop(guard);
-        self.board.check.set(Course::Lasts);
-        let checked = number_of(&PoolCalls::try_get(pool).ok()?);
-        Some([nothing, one, out, (checked, counts(PoolCalls::state(pool)))])
-    }
-}
-
-/// No get is counted where none is idle. One whose check lasts is let go, and its connection is idle again.
-#[test]
-fn try_get_waits_for_nothing(rt: HostRuntime) -> Result<(), Fail> {
-    let board = Board::new(rt.alloc())?;
-    let clock = SetClock::new(rt.alloc(), Moment(0))?;
-    let user = AtOnce {
-        board: Arc::try_clone(&board)?,
-    };
-    let found = builder_on(&board)?
-        .max_size(1)
-        .with_pool(server_on(&board)?, clock, rt, &user)?;
-    let wanted = [
-        (None, [0, 0, 0, 0]),
-        (Some(7), [1, 1, 0, 0]),
-        (None, [1, 1, 0, 0]),
-        (None, [2, 1, 1, 0]),
-    ];
-    assert_equal(&rt, found, Some(wanted));
     Ok(())
 }
 

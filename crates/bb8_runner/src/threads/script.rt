@@ -1,9 +1,6 @@
 //! A script from bytes to bytes, in threads.
-ghost use Rattle.std.specs.Prelude.{◌≡◌, ◌<◌, true, List, ℕ, IfOk, IfSome, IfErr, IsErrOf, string_bytes};
-ghost use Rattle.std.specs.Io.KnownBytes.{Appends};
-ghost use Rattle.bb8_types.specs.Settings.{settings_of, is_lawful};
+ghost use Rattle.bb8_runner.specs.Words.{◌≡◌, ◌<◌, true, List, ℕ, IfOk, IfSome, IfErr, IsErrOf, string_bytes, Appends, settings_of, is_lawful, Verdict};
 ghost use Rattle.bb8_runner.specs.Threads.{IsThreadsAnswer, IsDealtText};
-ghost use Rattle.bb8_runner.specs.declared.verdict.Verdict.{Verdict};
 
 use crate::fault::Fault;
 use crate::lines::{NoScript, Script, lines_of, script_of};

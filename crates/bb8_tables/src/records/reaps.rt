@@ -44,12 +44,17 @@ enum Passed {
 }
 
 /// Whether a limit is reached, where it is set.
-fn is_past(limit: Option<Duration>, span: u64) -> bool
+#[inline]
+pub(super) fn is_past(limit: Option<Duration>, span: u64) -> bool
     ensures { result ≡ places.is_past (option_map as_nanos limit) span }
 {
     match limit {
         None => false,
-        Some(limit) => limit.as_nanos() <= span as u128,
+        // Of a younger one the whole seconds tell it, in 64 bits.
+        Some(limit) => {
+            limit.as_secs().saturating_mul(1_000_000_000) <= span
+                && limit.as_nanos() <= span as u128
+        }
     }
 }
 

@@ -17,24 +17,22 @@ use std::time::Duration;
 /// One millisecond in nanoseconds.
 const MILLI: u64 = 1_000_000;
 
-/// A manager that numbers its openings from 1. Each is ready at its first poll, with its number as the connection or as the error.
+/// A manager that numbers its openings from 1. Each is ready at its first poll, with its number as the connection.
 #[derive(Drop)]
-pub(super) struct Counting {
-    fails: bool,
+struct Counting {
     connects: AtomicU64,
 }
 
 impl Counting {
     /// One that has begun nothing yet.
-    pub(super) fn new(fails: bool) -> Self {
+    fn new() -> Self {
         Counting {
-            fails,
             connects: AtomicU64::new(0),
         }
     }
 
     /// How many openings were begun.
-    pub(super) fn connects(&self) -> u64 {
+    fn connects(&self) -> u64 {
         self.connects.load(Ordering::SeqCst)
     }
 }
@@ -55,8 +53,7 @@ impl ManageConnection for Counting {
     }
 
     fn poll_connect(&self, connecting: &mut u64, _moment: Moment) -> Poll<Result<u64, u64>> {
-        let number = *connecting;
-        Poll::Ready(if self.fails { Err(number) } else { Ok(number) })
+        Poll::Ready(Ok(*connecting))
     }
 
     fn is_valid(&self, _connection: &mut u64) {}
@@ -105,7 +102,7 @@ impl CustomizeConnection<u64, u64> for Refusing {
 
 /// A clock that stands still at 0.
 #[derive(Drop)]
-pub(super) struct Still;
+struct Still;
 
 impl Clock for Still {
     fn now(&self) -> Moment {
@@ -137,46 +134,16 @@ fn pool_of_one(rt: &impl Abort, alloc: Global, config: Config) -> (PoolInternals
 }
 
 /// How many connections there are, and how many are idle.
-pub(super) fn sizes(pool: &mut PoolInternals<u64>) -> (u32, u32) {
+fn sizes(pool: &mut PoolInternals<u64>) -> (u32, u32) {
     let state = pool.state(Moment(0));
     (state.connections, state.idle_connections)
-}
-
-/// The five tries of five seconds, each error in one answer, and then the approval is granted again.
-#[test]
-fn opening_that_always_fails(rt: HostRuntime) {
-    let config = one_in_five_seconds();
-    let (home, approval) = pool_of_one(&rt, rt.alloc(), config);
-    let manager = Counting::new(true);
-    let outside = PoolOpener::new(&manager, &NopErrorSink, &NopCustomizer, &Still);
-    let mut pool = Joined { outside, home };
-    let mut task = Replenish::new(approval);
-    for (at, answer) in [
-        (0, ReplenishAnswer::Retrying(1)),
-        (400 * MILLI - 1, ReplenishAnswer::Pending),
-        (400 * MILLI, ReplenishAnswer::Retrying(2)),
-        (1200 * MILLI - 1, ReplenishAnswer::Pending),
-        (1200 * MILLI, ReplenishAnswer::Retrying(3)),
-        (2800 * MILLI - 1, ReplenishAnswer::Pending),
-        (2800 * MILLI, ReplenishAnswer::Retrying(4)),
-        (5300 * MILLI - 1, ReplenishAnswer::Pending),
-        (5300 * MILLI, ReplenishAnswer::Failed(5)),
-        (9000 * MILLI, ReplenishAnswer::GivenBack),
-    ] {
-        assert_equal(&rt, task.poll(Moment(at), &mut pool, &config), answer);
-    }
-    assert_equal(&rt, manager.connects(), 5);
-    // The approval was given back, and a fill grants it again.
-    assert!(&rt; pool.home.find(approval.number).is_none());
-    assert_equal(&rt, pool.home.fill(Moment(0), false).count, 1);
-    task.give_back(Moment(0), &mut pool);
 }
 
 #[test]
 fn failed_preparation_is_a_failed_try(rt: HostRuntime) {
     let config = one_in_five_seconds();
     let (home, approval) = pool_of_one(&rt, rt.alloc(), config);
-    let manager = Counting::new(false);
+    let manager = Counting::new();
     let outside = PoolOpener::new(&manager, &NopErrorSink, &Refusing, &Still);
     let mut pool = Joined { outside, home };
     let mut task = Replenish::new(approval);
@@ -199,7 +166,7 @@ fn failed_preparation_is_a_failed_try(rt: HostRuntime) {
 fn no_handle_gives_the_approval_back(rt: HostRuntime) {
     let config = one_in_five_seconds();
     let (home, approval) = pool_of_one(&rt, rt.alloc(), config);
-    let manager = Counting::new(false);
+    let manager = Counting::new();
     let outside = PoolOpener::new(&manager, &NopErrorSink, &Refusing, &Still);
     let mut pool = Joined { outside, home };
     let mut task = Replenish::new(approval);
@@ -228,7 +195,7 @@ fn no_handle_gives_the_approval_back(rt: HostRuntime) {
 fn task_that_is_let_go_gives_its_approval_back(rt: HostRuntime) {
     let config = one_in_five_seconds();
     let (home, approval) = pool_of_one(&rt, rt.alloc(), config);
-    let manager = Counting::new(false);
+    let manager = Counting::new();
     let outside = PoolOpener::new(&manager, &NopErrorSink, &NopCustomizer, &Still);
     let mut pool = Joined { outside, home };
     let task = Replenish::new(approval);
@@ -243,7 +210,7 @@ fn task_that_is_let_go_gives_its_approval_back(rt: HostRuntime) {
 fn unknown_approval_enters_nothing(rt: HostRuntime) {
     let config = one_in_five_seconds();
     let (home, approval) = pool_of_one(&rt, rt.alloc(), config);
-    let manager = Counting::new(false);
+    let manager = Counting::new();
     let outside = PoolOpener::new(&manager, &NopErrorSink, &NopCustomizer, &Still);
     let mut pool = Joined { outside, home };
     let mut task = Replenish::new(Key {

@@ -1,139 +1,125 @@
-//! A reaper that is polled by hand over a home that counts its reaps.
-ghost use Rattle.std.specs.Prelude.{⊤};
+//! A reaper that is polled by hand over the plain state.
 
 use super::assert_equal;
-use bb8_core::api::Moment;
-use bb8_core::internals::{Grant, Looked};
-use bb8_tasks::{ReapHome, ReapStep, Reaped, Reaper, ReaperAnswer};
+use bb8_core::api::{Config, Moment};
+use bb8_core::asked::{add, leave};
+use bb8_core::internals::{Grant, PoolInternals};
+use bb8_tasks::{ReapedCounts, Reaper, ReaperAnswer};
+use std::alloc::Global;
 use std::process::Abort;
 use std::time::Duration;
 
 /// Half a second in nanoseconds.
 const HALF: u64 = 500_000_000;
 
-/// A home whose reap closes as many connections as reaps came before.
-#[derive(Drop)]
-struct Counting {
-    alive: bool,
-    reaps: u32,
+/// A pool of two, of which one is to be idle, with these limits in seconds on how long its connections stay idle and how long they live. So
+/// many were added at 0.
+fn pool_with(
+    rt: &impl Abort,
+    alloc: Global,
+    (idle, lifetime): (Option<u64>, Option<u64>),
+    many: u64,
+) -> PoolInternals<u64> {
+    let config = Config {
+        max_size: 2,
+        min_idle: Some(1),
+        max_lifetime: lifetime.map(Duration::from_secs),
+        idle_timeout: idle.map(Duration::from_secs),
+        ..Config::default()
+    };
+    if !config.is_lawful() {
+        panic!(rt; "the settings are not lawful");
+    }
+    let mut pool = PoolInternals::new(alloc, config);
+    for number in 0..many {
+        assert!(rt; add(&mut pool, Moment(0), number, false).is_some());
+    }
+    pool
 }
 
-/// What a reap answers that closes so many.
-fn reaped(closed: u32) -> Reaped {
-    Reaped {
-        closed,
-        by_idle: closed,
-        by_life: 0,
+/// What a reap answers that closes so many that idled too long and so many that lived too long, and grants so many from a number on.
+fn reaped(by_idle: u32, by_life: u32, first: u64, count: u32) -> ReaperAnswer {
+    ReaperAnswer::Reaped(ReapedCounts {
+        closed: by_idle.saturating_add(by_life),
+        by_idle,
+        by_life,
         grant: Grant {
-            first: 0,
-            count: 0,
+            first,
+            count,
             withheld: 0,
         },
-    }
+    })
 }
 
-impl ReapHome for Counting {
-    ghost looks = { λ _ _ _ _. ⊤ };
-
-    ghost reaps = { λ _ _ _ _. ⊤ };
-
-    fn look(&mut self, at: Moment) -> Looked {
-        Looked {
-            moment: at,
-            alive: self.alive,
-        }
-    }
-
-    fn reap(&mut self, _at: Moment) -> ReapStep {
-        if !self.alive {
-            return ReapStep::Ended;
-        }
-        let closed = self.reaps;
-        self.reaps = self.reaps.saturating_add(1);
-        ReapStep::Reaped(reaped(closed))
-    }
-}
-
-/// A poll at so many half seconds.
-fn poll_at(reaper: &mut Reaper, halves: u64, home: &mut Counting) -> ReaperAnswer {
-    reaper.poll(Moment(halves.saturating_mul(HALF)), home)
-}
-
-/// Asserts the next tick, in half seconds.
-fn assert_due(rt: &impl Abort, reaper: &Reaper, halves: u64) {
-    assert_equal(
-        &rt,
-        reaper.next_due(),
-        Some(Moment(halves.saturating_mul(HALF))),
-    );
-}
-
-/// One reap for all missed ticks, and then the next due moment; over a home that counts its reaps.
-#[test]
-fn one_reap_for_all_missed_ticks(rt: HostRuntime) {
-    let mut home = Counting {
-        alive: true,
-        reaps: 0,
-    };
+/// Asserts what a reaper of that pool answers after half a second, after one, at the same moment once more, and after two.
+fn assert_reaps(
+    rt: &impl Abort,
+    pool: &mut PoolInternals<u64>,
+    first: ReaperAnswer,
+    second: ReaperAnswer,
+) {
     let mut reaper = Reaper::new(Moment(0), Duration::from_secs(1));
-    assert_due(&rt, &reaper, 2);
-    assert_equal(&rt, poll_at(&mut reaper, 1, &mut home), ReaperAnswer::Idle);
-    assert_equal(
-        &rt,
-        poll_at(&mut reaper, 7, &mut home),
-        ReaperAnswer::Reaped(reaped(0)),
-    );
-    assert_due(&rt, &reaper, 8);
-    assert_equal(&rt, poll_at(&mut reaper, 7, &mut home), ReaperAnswer::Idle);
-    assert_equal(
-        &rt,
-        poll_at(&mut reaper, 8, &mut home),
-        ReaperAnswer::Reaped(reaped(1)),
-    );
-    assert_due(&rt, &reaper, 10);
-    // A moment that goes back counts as the latest one, at which nothing is due.
-    assert_equal(&rt, poll_at(&mut reaper, 0, &mut home), ReaperAnswer::Idle);
-    assert_equal(&rt, home.reaps, 2);
+    for (halves, answer) in [
+        (1, ReaperAnswer::Idle),
+        (2, first),
+        (2, ReaperAnswer::Idle),
+        (4, second),
+    ] {
+        let at = Moment(HALF.saturating_mul(halves));
+        assert_equal(&rt, reaper.poll(at, pool), answer);
+    }
+}
+
+/// Two idle for a second, and the one that entered first is closed; the other one is spared, at the next tick as well.
+#[test]
+fn reaper_closes_what_idled_out(rt: HostRuntime) {
+    let mut pool = pool_with(&rt, rt.alloc(), (Some(1), None), 2);
+    assert_reaps(&rt, &mut pool, reaped(1, 0, 2, 0), reaped(0, 0, 2, 0));
+    assert!(&rt; pool.find(0).is_none());
+    assert!(&rt; pool.find(1).is_some());
+    let state = pool.state(Moment(0));
+    assert_equal(&rt, state.connections, 1);
+    assert_equal(&rt, state.statistics.connections_closed_idle_timeout, 1);
+    assert_equal(&rt, state.statistics.connections_closed_max_lifetime, 0);
+}
+
+/// One lives for a second and is closed, though one is to be idle; another one is granted, which no later tick does again.
+#[test]
+fn reaper_closes_what_lives_too_long(rt: HostRuntime) {
+    let mut pool = pool_with(&rt, rt.alloc(), (Some(1), Some(1)), 1);
+    assert_reaps(&rt, &mut pool, reaped(0, 1, 1, 1), reaped(0, 0, 2, 0));
+    let state = pool.state(Moment(0));
+    assert_equal(&rt, state.connections, 0);
+    assert_equal(&rt, state.statistics.connections_closed_idle_timeout, 0);
+    assert_equal(&rt, state.statistics.connections_closed_max_lifetime, 1);
 }
 
 #[test]
-fn reaper_ends_with_the_last_handle(rt: HostRuntime) {
-    let mut home = Counting {
-        alive: true,
-        reaps: 0,
-    };
+fn reaper_ends_after_the_last_leave(rt: HostRuntime) {
+    let mut pool = pool_with(&rt, rt.alloc(), (Some(1), None), 1);
     let mut reaper = Reaper::new(Moment(0), Duration::from_secs(1));
+    assert!(&rt; leave(&mut pool, Moment(0)).is_some());
     assert_equal(
         &rt,
-        poll_at(&mut reaper, 2, &mut home),
-        ReaperAnswer::Reaped(reaped(0)),
+        reaper.poll(Moment(HALF), &mut pool),
+        ReaperAnswer::Ended,
     );
-    home.alive = false;
-    assert_equal(&rt, poll_at(&mut reaper, 3, &mut home), ReaperAnswer::Ended);
-    assert_equal(&rt, poll_at(&mut reaper, 9, &mut home), ReaperAnswer::Ended);
-    assert_equal(&rt, home.reaps, 1);
+    assert_equal(
+        &rt,
+        reaper.poll(Moment(HALF * 9), &mut pool),
+        ReaperAnswer::Ended,
+    );
 }
 
 #[test]
 fn tick_past_the_greatest_moment_is_never(rt: HostRuntime) {
-    let mut home = Counting {
-        alive: true,
-        reaps: 0,
-    };
-    let last = 18_446_744_073_709_551_615;
-    let mut reaper = Reaper::new(Moment(last - 1), Duration::from_nanos(1));
-    assert_equal(&rt, reaper.next_due(), Some(Moment(last)));
-    assert_equal(
-        &rt,
-        reaper.poll(Moment(last), &mut home),
-        ReaperAnswer::Reaped(reaped(0)),
-    );
+    let mut pool = pool_with(&rt, rt.alloc(), (None, None), 1);
+    let last = Moment(18_446_744_073_709_551_615);
+    let mut reaper = Reaper::new(Moment(last.0 - 1), Duration::from_nanos(1));
+    assert_equal(&rt, reaper.next_due(), Some(last));
+    assert_equal(&rt, reaper.poll(last, &mut pool), reaped(0, 0, 1, 0));
     assert_equal(&rt, reaper.next_due(), None);
-    assert_equal(
-        &rt,
-        reaper.poll(Moment(last), &mut home),
-        ReaperAnswer::Idle,
-    );
-    let never = Reaper::new(Moment(1), Duration::from_nanos(last));
+    assert_equal(&rt, reaper.poll(last, &mut pool), ReaperAnswer::Idle);
+    let never = Reaper::new(Moment(1), Duration::from_nanos(last.0));
     assert_equal(&rt, never.next_due(), None);
 }

@@ -1,6 +1,6 @@
 //! A clock that goes back at every second reading.
 
-use crate::hostile::source::Source;
+use crate::hostile::source::RandomSource;
 use bb8::{Clock, Moment};
 use std::sync::atomic::{AtomicU64, Ordering};
 
@@ -8,7 +8,7 @@ use std::sync::atomic::{AtomicU64, Ordering};
 /// so on go on from where the last of these was, and each other one is earlier than the one before it, unless that was 0.
 #[derive(Drop)]
 pub struct HostileClock {
-    pub(crate) source: Source,
+    pub(crate) source: RandomSource,
     pub(crate) stride: u64,
     pub(crate) readings: AtomicU64,
     pub(crate) latest: AtomicU64,

@@ -3,14 +3,14 @@
 use crate::hostile::connection::Counted;
 use crate::hostile::gauge::{Gauge, Token};
 use crate::hostile::manager::Refused;
-use crate::hostile::source::Source;
+use crate::hostile::source::RandomSource;
 use bb8::{CustomizeConnection, Moment};
 use futures::task::Poll;
 
 /// Prepares connections as its source says: each poll is pending in half of the cases, and fails in an eighth of them.
 #[derive(Drop)]
 pub struct HostileCustomizer {
-    pub(crate) source: Source,
+    pub(crate) source: RandomSource,
     pub(crate) preparations: Gauge,
 }
 

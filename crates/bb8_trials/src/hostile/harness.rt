@@ -6,7 +6,7 @@ use crate::hostile::customizer::HostileCustomizer;
 use crate::hostile::gauge::Gauge;
 use crate::hostile::manager::HostileManager;
 use crate::hostile::sink::HostileSink;
-use crate::hostile::source::Source;
+use crate::hostile::source::RandomSource;
 use bb8::{Memory, Pool};
 use std::alloc::Global;
 use std::sync::atomic::AtomicU64;
@@ -71,7 +71,7 @@ impl Gauges {
 #[derive(Drop)]
 pub struct Harness {
     /// Where all answers come from, for a test to draw from as well.
-    pub source: Source,
+    pub source: RandomSource,
     /// What the parts count.
     pub gauges: Gauges,
     /// Of how many connections that the manager is asked about one is broken; none where it is 0.
@@ -84,7 +84,7 @@ impl Harness {
     /// A harness whose answers this seed determines. It fails where memory is refused.
     pub fn new(alloc: Global, seed: u64, one_in: u64, stride: u64) -> Result<Harness, Memory> {
         Ok(Harness {
-            source: Source::new(alloc, seed)?,
+            source: RandomSource::new(alloc, seed)?,
             gauges: Gauges::new(alloc)?,
             one_in,
             stride,

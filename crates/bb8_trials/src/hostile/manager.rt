@@ -2,7 +2,7 @@
 
 use crate::hostile::connection::Counted;
 use crate::hostile::gauge::{Gauge, Token};
-use crate::hostile::source::Source;
+use crate::hostile::source::RandomSource;
 use bb8::{ManageConnection, Moment};
 use futures::task::Poll;
 use std::error::Error;
@@ -25,7 +25,7 @@ impl Error for Refused {}
 /// depends on the connection or on the moment.
 #[derive(Drop)]
 pub struct HostileManager {
-    pub(crate) source: Source,
+    pub(crate) source: RandomSource,
     pub(crate) connections: Gauge,
     pub(crate) openings: Gauge,
     pub(crate) checks: Gauge,

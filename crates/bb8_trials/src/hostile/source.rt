@@ -12,21 +12,21 @@ const STRIDE: u64 = 0x9e37_79b9_7f4a_7c15;
 /// A row of numbers that its seed determines, by the rule `splitmix64`. Copies draw from the one row: in one thread it is the same each
 /// time, and across threads the schedule says who has which number. It is no source of secrets.
 #[derive(Drop)]
-pub struct Source {
+pub struct RandomSource {
     state: Arc<AtomicU64, Global>,
 }
 
-impl Source {
+impl RandomSource {
     /// The row of this seed, from its beginning. It fails where memory is refused.
-    pub fn new(alloc: Global, seed: u64) -> Result<Source, Memory> {
+    pub fn new(alloc: Global, seed: u64) -> Result<RandomSource, Memory> {
         let state = Arc::new(alloc, AtomicU64::new(seed))?;
-        Ok(Source { state })
+        Ok(RandomSource { state })
     }
 
     /// The same row once more. It fails where there are more copies than can be counted.
-    pub fn try_clone(&self) -> Result<Source, Memory> {
+    pub fn try_clone(&self) -> Result<RandomSource, Memory> {
         match Arc::try_clone(&self.state) {
-            Ok(state) => Ok(Source { state }),
+            Ok(state) => Ok(RandomSource { state }),
             Err(_) => Err(Memory),
         }
     }

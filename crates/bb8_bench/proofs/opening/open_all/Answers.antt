@@ -1,5 +1,4 @@
-use Rattle.std.proofs.Common.{◌≡◌, ◌+◌, ◌∙◌, ◌++◌, ℕ, List, [], ap, sym, length, length-append, append-nil, arith}
-use Rattle.bb8_bench.specs.Lines.{upto}
+use Rattle.bb8_bench.proofs.Words.{◌≡◌, ◌+◌, ◌∙◌, ◌++◌, ℕ, List, [], ap, sym, length, length-append, append-nil, arith, upto}
 use Rattle.bb8_bench.proofs.Counted.{length-upto, none_left}
 use Rattle.bb8_bench.proofs.opening.open_all.Goals as goal
 

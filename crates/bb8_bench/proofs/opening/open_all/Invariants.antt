@@ -1,6 +1,4 @@
-use Rattle.std.proofs.Common.{◌≡◌, ◌++◌, length}
-use Rattle.bb8_bench.specs.Lines.{upto}
-use Rattle.bb8_bench.specs.Serving.{IsServing}
+use Rattle.bb8_bench.proofs.Words.{◌≡◌, ◌++◌, length, upto, IsServing}
 use Rattle.bb8_bench.proofs.opening.open_all.Given as goal
 
 abbrev pub invariant-loop : goal.invariant-loop

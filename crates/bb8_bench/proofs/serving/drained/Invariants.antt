@@ -1,6 +1,4 @@
-use Rattle.std.proofs.Common.{◌≡◌, ◌+◌, ℕ, length}
-use Rattle.bb8_bench.specs.Lines.{counted, held}
-use Rattle.bb8_bench.specs.Serving.{IsServing}
+use Rattle.bb8_bench.proofs.Words.{◌≡◌, ◌+◌, ℕ, length, counted, held, IsServing}
 use Rattle.bb8_bench.proofs.serving.drained.Given as goal
 
 abbrev pub invariant-loop : goal.invariant-loop

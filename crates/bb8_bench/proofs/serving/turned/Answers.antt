@@ -1,5 +1,4 @@
-use Rattle.std.proofs.Common.{◌≡◌, ◌+◌, ◌-◌, ◌∙◌, ◌∷◌, ◌++◌, [], ℕ, suc, List, ap, sym, length, length-append, arith}
-use Rattle.bb8_bench.specs.Lines.{turned}
+use Rattle.bb8_bench.proofs.Words.{◌≡◌, ◌+◌, ◌-◌, ◌∙◌, ◌∷◌, ◌++◌, [], ℕ, suc, List, ap, sym, length, length-append, arith, turned}
 use Rattle.bb8_bench.proofs.Counted.{held_more}
 use Rattle.bb8_bench.proofs.serving.turned.Goals as goal
 
@@ -9,7 +8,7 @@ loop-preserved c =
     let before : List ℕ = c.loop.pool.records.idle in
     let rest : List ℕ = c.serve.new.pool.records.idle in
     let after : List ℕ = c.give_back.new.pool.records.idle in
-    let first : before ≡ k ∷ rest = c.in_ok-key.ensures.first in
+    let first : before ≡ k ∷ rest = c.in_ok-key.ensures.1 in
     let last : after ≡ rest ++ k ∷ [] = c.in_ok-give_back.ensures.last in
     let many : length after ≡ length rest + 1 = ap length last ∙ length-append rest (k ∷ []) in
     let s : ℕ = c.loop.invariant.2 in

@@ -1,6 +1,4 @@
-use Rattle.std.proofs.Common.{◌≡◌, ◌<◌, ◌+◌, ◌-◌, ℕ, length}
-use Rattle.bb8_bench.specs.Lines.{turned, held}
-use Rattle.bb8_bench.specs.Serving.{IsServing}
+use Rattle.bb8_bench.proofs.Words.{◌≡◌, ◌<◌, ◌+◌, ◌-◌, ℕ, length, turned, held, IsServing}
 use Rattle.bb8_bench.proofs.serving.turned.Given as goal
 
 abbrev pub invariant-loop : goal.invariant-loop

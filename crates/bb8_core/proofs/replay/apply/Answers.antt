@@ -1,6 +1,4 @@
-use Rattle.bb8_core.proofs.Words.{◌≡◌, true, sym, subst, ◌∙◌, fits, ℕ, Bool, Shown, Ledger, IsLegal, Means}
-use Rattle.bb8_core.specs.declared.replay.events.Act.{Act as Named}
-use Rattle.bb8_core.specs.Run.{act_of, fits_named}
+use Rattle.bb8_core.proofs.Words.{◌≡◌, true, sym, subst, ◌∙◌, fits, ℕ, Bool, Shown, Ledger, IsLegal, Means, Named, act_of, fits_named}
 use Rattle.bb8_core.proofs.Runs.{unfit_now, as_named}
 use Rattle.bb8_core.proofs.replay.apply.Goals as goal
 

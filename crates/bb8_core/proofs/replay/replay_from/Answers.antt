@@ -1,9 +1,7 @@
-use Rattle.bb8_core.proofs.Words.{ℕ, take, ◌+◌, sym, refl, subst, List, [], ◌∷◌, ◌++◌, get_or, ◌<◌, ◌≤◌, length, arith, Ledger, Later, KeepsLimits, KeepsLaws, KeepsPromises, IsRun, answer_of, opening, keeps_limits, keeps_laws, keeps_promises}
+use Rattle.bb8_core.proofs.Words.{ℕ, take, ◌+◌, sym, refl, subst, List, [], ◌∷◌, ◌++◌, get_or, ◌<◌, ◌≤◌, length, arith, Ledger, Later, KeepsLimits, KeepsLaws, KeepsPromises, IsRun, answer_of, opening, keeps_limits, keeps_laws, keeps_promises, Event, act_of}
 use Rattle.std.proofs.lemmas.List.{take_all, take_more}
 use Rattle.bb8_core.specs.declared.replay.events.Act.TheVariants as acts
 use Rattle.bb8_core.specs.declared.replay.events.Answer.{Answer}
-use Rattle.bb8_core.specs.declared.replay.events.Event.{Event}
-use Rattle.bb8_core.specs.Run.{act_of}
 use Rattle.bb8_core.proofs.Runs.{run_more, run_legal, run_after, run_length}
 use Rattle.bb8_core.proofs.replay.replay_from.Goals as goal
 

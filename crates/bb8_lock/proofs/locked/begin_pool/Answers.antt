@@ -1,6 +1,4 @@
-use Rattle.std.proofs.Common.{arith}
-use Rattle.bb8_types.specs.Settings.{settings_of}
-use Rattle.bb8_ledger.specs.Ledger.{opening_with}
+use Rattle.bb8_lock.proofs.Words.{arith, settings_of, opening_with}
 use Rattle.bb8_lock.proofs.Sections.{begun_settings, first_numbers, none_out}
 use Rattle.bb8_lock.proofs.locked.begin_pool.Goals as goal
 

@@ -11,8 +11,8 @@ use bb8::{
     RunError, Runtime, State,
 };
 use bb8_trials::hostile::{
-    Harness, HostileClock, HostileCustomizer, HostileManager, HostilePool, HostileSink, Refused,
-    Source,
+    Harness, HostileClock, HostileCustomizer, HostileManager, HostilePool, HostileSink,
+    RandomSource, Refused,
 };
 use futures::Future;
 use futures::task::Poll;
@@ -158,7 +158,7 @@ struct Field<'a, 'h, R: Runtime + Abort, L: PoolParts> {
 }
 
 /// One of these, which the source picks.
-fn take_one<T>(all: &mut Vec<T>, source: &Source) -> Option<T> {
+fn take_one<T>(all: &mut Vec<T>, source: &RandomSource) -> Option<T> {
     let index = source.index(all.len())?;
     Some(all.swap_remove(index))
 }
@@ -166,7 +166,7 @@ fn take_one<T>(all: &mut Vec<T>, source: &Source) -> Option<T> {
 /// Polls one of these gets, which the source picks: what it was served with.
 fn poll_one<T, F: Future<Output = Result<T, RunError<Refused>>>>(
     task: &MockTask,
-    source: &Source,
+    source: &RandomSource,
     gets: &mut Vec<Begun<F>>,
     told: &mut Told,
 ) -> Option<T>
@@ -201,7 +201,11 @@ fn poll_one<T, F: Future<Output = Result<T, RunError<Refused>>>>(
 }
 
 /// Takes one of these gets, which the source picks, to be let go.
-fn take_get<F: Drop>(gets: &mut Vec<Begun<F>>, source: &Source, told: &mut Told) -> Option<F> {
+fn take_get<F: Drop>(
+    gets: &mut Vec<Begun<F>>,
+    source: &RandomSource,
+    told: &mut Told,
+) -> Option<F> {
     let Begun { future, polled } = take_one(gets, source)?;
     if polled {
         told.cancelled = told.cancelled.saturating_add(1);

@@ -1,6 +1,4 @@
-use Rattle.bb8_runner.proofs.Speech.{ℕ, List, map, subst, ap, ◌∙◌, figures_of, Event, Spells, output_of}
-use Rattle.bb8_types.specs.Settings.{settings_of}
-use Rattle.bb8_core.specs.Run.{IsRun, opening}
+use Rattle.bb8_runner.proofs.Speech.{ℕ, List, map, subst, ap, ◌∙◌, figures_of, Event, Spells, output_of, settings_of, IsRun, opening}
 use Rattle.bb8_runner.proofs.script.answer.Goals as goal
 
 pub returns-in-Ok-clause-told : goal.returns-in-Ok-clause-told

@@ -1,5 +1,4 @@
-use Rattle.bb8_runner.proofs.Speech.{◌∙◌, ap, map, fields_of}
-use Rattle.bb8_runner.specs.Opening.{settings_of_fields}
+use Rattle.bb8_runner.proofs.Speech.{◌∙◌, ap, map, fields_of, settings_of_fields}
 use Rattle.bb8_runner.proofs.Configured.{no_settings}
 use Rattle.bb8_runner.proofs.settings.config_of.Goals as goal
 

@@ -3,15 +3,10 @@ use Rattle.bb8.proofs.building.PoolOpensFirst.sweep.Goals as goal
 
 pub returns-in-Failed : goal.returns-in-Failed
 returns-in-Failed g c =
-    let shared = c.deref-shared.ensures in
     let of = c.new-calls.ensures in (
       c.open_first.result,
       (
-        (
-          c.new-calls.result,
-          (rw shared at of.manager, rw shared at of.sink, rw shared at of.customizer, rw shared at of.clock),
-          rw shared at c.open_first.ensures,
-        ),
+        rw (← c.deref-shared.ensures) (c.new-calls.result, (of.manager, of.sink, of.customizer, of.clock), c.open_first.ensures),
         rw c.in-Failed.is c.drop-self.ensures,
       ),
       rw c.in-Failed.is (refl, refl),
@@ -19,15 +14,10 @@ returns-in-Failed g c =
 
 pub returns-in-Complete : goal.returns-in-Complete
 returns-in-Complete g c =
-    let shared = c.deref-shared.ensures in
     let of = c.new-calls.ensures in (
       c.open_first.result,
       (
-        (
-          c.new-calls.result,
-          (rw shared at of.manager, rw shared at of.sink, rw shared at of.customizer, rw shared at of.clock),
-          rw shared at c.open_first.ensures,
-        ),
+        rw (← c.deref-shared.ensures) (c.new-calls.result, (of.manager, of.sink, of.customizer, of.clock), c.open_first.ensures),
         rw c.in-Complete.is tt,
       ),
       rw c.in-Complete.is (refl, refl),
@@ -35,15 +25,10 @@ returns-in-Complete g c =
 
 pub returns-in-Going : goal.returns-in-Going
 returns-in-Going g c =
-    let shared = c.deref-shared.ensures in
     let of = c.new-calls.ensures in (
       c.open_first.result,
       (
-        (
-          c.new-calls.result,
-          (rw shared at of.manager, rw shared at of.sink, rw shared at of.customizer, rw shared at of.clock),
-          rw shared at c.open_first.ensures,
-        ),
+        rw (← c.deref-shared.ensures) (c.new-calls.result, (of.manager, of.sink, of.customizer, of.clock), c.open_first.ensures),
         rw c.in-Going.is tt,
       ),
       rw c.in-Going.is (refl, refl),

@@ -2,6 +2,5 @@ use Rattle.bb8.proofs.driver.DriverRunsTurns.run_turns.Goals as goal
 
 pub returns : goal.returns
 returns g c =
-    let shared = c.deref-pool.ensures in
     let of = c.new-calls.ensures in
-    (c.new-calls.result, (rw shared at of.manager, rw shared at of.sink, rw shared at of.customizer, rw shared at of.clock), rw shared at c.run_with.ensures)
+    rw (← c.deref-pool.ensures) (c.new-calls.result, (of.manager, of.sink, of.customizer, of.clock), c.run_with.ensures)

@@ -2,6 +2,5 @@ use Rattle.bb8.proofs.pool.RefPoolPoolCalls.add.Goals as goal
 
 pub returns : goal.returns
 returns g c =
-    let shared = c.deref-shared.ensures in
     let of = c.new-calls.ensures in
-    (c.new-calls.result, (rw shared at of.manager, rw shared at of.sink, rw shared at of.clock), c.add_with.ensures)
+    rw (← c.deref-shared.ensures) (c.new-calls.result, (of.manager, of.sink, of.clock), c.add_with.ensures)

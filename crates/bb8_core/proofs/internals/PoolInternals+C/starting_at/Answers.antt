@@ -1,5 +1,4 @@
-use Rattle.std.proofs.Common.{refl}
-use Rattle.bb8_core.specs.Run.{opening}
+use Rattle.bb8_core.proofs.Words.{refl, opening}
 use Rattle.bb8_core.proofs.ShownRecords as of_records
 use Rattle.bb8_core.proofs.ShownGets as of_gets
 use Rattle.bb8_core.proofs.Steps.{same_shown}

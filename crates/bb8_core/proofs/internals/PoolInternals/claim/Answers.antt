@@ -1,7 +1,6 @@
-use Rattle.bb8_core.proofs.Words.{◌≡◌, ◌≢◌, ℕ, max, Option, Some, None, IfSome, IfNone, option_map, slice_get, view_of, Shown, ShownRecords}
+use Rattle.bb8_core.proofs.Words.{◌≡◌, ◌≢◌, ℕ, max, Option, Some, None, IfSome, IfNone, option_map, slice_get, view_of, Shown, ShownRecords, Key}
 use Rattle.bb8_ledger.specs.Acts as acts
 use Rattle.bb8_ledger.specs.Answers as answers
-use Rattle.bb8_tables.specs.declared.keys.Key.{Key}
 use Rattle.bb8_tables.specs.Machine as machine
 use Rattle.bb8_core.proofs.Steps.{IsStep, meets_claim, meets_claim_none, meets_claim_ended, led, at_view}
 use Rattle.bb8_core.proofs.internals.PoolInternals.claim.Goals as goal

@@ -10,8 +10,8 @@ close-requires g c = fit_claimed c.args.a.number c.self.view_is c.self.invariant
 pub enter-requires-clause-moments : goal.enter-requires-clause-moments
 enter-requires-clause-moments g c = none_after (view_of c.self.inside) c.args.at.0 c.max-now.result c.self.invariant c.max-now.ensures
 
-pub enter-requires-clause-out : goal.enter-requires-clause-out
-enter-requires-clause-out g c = fit_claimed c.args.a.number c.self.view_is c.self.invariant c.requires
+pub enter-requires-clause-claimed : goal.enter-requires-clause-claimed
+enter-requires-clause-claimed g c = fit_claimed c.args.a.number c.self.view_is c.self.invariant c.requires
 
 pub returns-then-self-eq0-clause-step : goal.returns-then-self-eq0-clause-step
 returns-then-self-eq0-clause-step g c = at_view c.self.view_is

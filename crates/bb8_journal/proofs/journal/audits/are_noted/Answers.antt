@@ -1,10 +1,4 @@
-use Rattle.std.proofs.Common.{◌≡◌, true, false, refl, sym, subst, List, length, ◌≤◌, arith}
-use Rattle.std.specs.Prelude.{All}
-use Rattle.std.specs.List.{Contains}
-use Rattle.std.proofs.lemmas.List.{take_all}
-use Rattle.std.proofs.lemmas.List.Elements.{All-contains}
-use Rattle.bb8_journal.specs.declared.journal.entries.Entry.{Entry}
-use Rattle.bb8_journal.specs.Audit.{lines_from, lines_noted}
+use Rattle.bb8_journal.proofs.Words.{◌≡◌, true, false, refl, sym, subst, List, length, ◌≤◌, arith, All, Contains, take_all, All-contains, Entry, lines_from, lines_noted}
 use Rattle.bb8_journal.proofs.Accounts.{line_in, more_noted}
 use Rattle.bb8_journal.proofs.journal.audits.are_noted.Goals as goal
 

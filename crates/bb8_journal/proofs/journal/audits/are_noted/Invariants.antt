@@ -1,6 +1,4 @@
-use Rattle.std.specs.Prelude.{take, All}
-use Rattle.std.specs.List.{Contains}
-use Rattle.bb8_journal.specs.Audit.{lines_from, lines_noted}
+use Rattle.bb8_journal.proofs.Words.{take, All, Contains, lines_from, lines_noted}
 use Rattle.bb8_journal.proofs.journal.audits.are_noted.Given as goal
 
 abbrev pub invariant-loop-index : goal.invariant-loop-index

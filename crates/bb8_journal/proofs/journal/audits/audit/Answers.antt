@@ -1,5 +1,4 @@
-use Rattle.std.proofs.Common.{◌≡◌, true, false}
-use Rattle.bb8_journal.specs.Audit.{IsAccount, lines_noted}
+use Rattle.bb8_journal.proofs.Words.{◌≡◌, true, false, IsAccount, lines_noted}
 use Rattle.bb8_journal.proofs.Accounts.{accounted, account_many, all_noted, seats_counted}
 use Rattle.bb8_journal.proofs.journal.audits.audit.Goals as goal
 

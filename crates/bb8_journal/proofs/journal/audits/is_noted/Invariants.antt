@@ -1,6 +1,4 @@
-use Rattle.std.specs.Prelude.{take}
-use Rattle.std.specs.List.{Contains}
-use Rattle.bb8_journal.specs.Audit.{lines_noted}
+use Rattle.bb8_journal.proofs.Words.{take, Contains, lines_noted}
 use Rattle.bb8_journal.proofs.journal.audits.is_noted.Given as goal
 
 abbrev pub invariant-loop-note : goal.invariant-loop-note

@@ -1,6 +1,5 @@
-use Rattle.std.proofs.Common.{arith}
+use Rattle.bb8_journal.proofs.Words.{arith, fresh}
 use Rattle.std.proofs.lemmas.List.FromFn.{map-range_with_len_more}
-use Rattle.bb8_journal.specs.Notes.{fresh}
 use Rattle.bb8_journal.proofs.journal.shared.cut.Goals as goal
 
 pub loop-number-preserved : goal.loop-number-preserved

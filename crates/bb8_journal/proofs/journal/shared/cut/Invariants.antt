@@ -1,6 +1,4 @@
-use Rattle.std.specs.Prelude.{◌≡◌, ◌+◌, ◌≤◌, map, vec_len, vec_capacity}
-use Rattle.std.specs.List.{range_with_len}
-use Rattle.bb8_journal.specs.Notes.{fresh}
+use Rattle.bb8_journal.proofs.Words.{◌≡◌, ◌+◌, ◌≤◌, map, vec_len, vec_capacity, range_with_len, fresh}
 use Rattle.bb8_journal.proofs.journal.shared.cut.Given as goal
 
 abbrev pub invariant-loop-number : goal.invariant-loop-number

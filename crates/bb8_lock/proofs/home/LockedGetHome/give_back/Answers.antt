@@ -1,7 +1,5 @@
-use Rattle.std.proofs.Common.{arith, ◌+◌, ◌≡◌, Some, refl, true}
+use Rattle.bb8_lock.proofs.Words.{arith, ◌+◌, ◌≡◌, Some, refl, true, out_of, give_up_told, reason_of}
 use Rattle.bb8_ledger.specs.Acts as acts
-use Rattle.bb8_core.specs.Parts.{out_of}
-use Rattle.bb8_core.specs.StepAnswers.{give_up_told, reason_of}
 use Rattle.bb8_lock.proofs.Sections.{kept_settings, fitting, unfit_step, brings_back, come_back, gave_back, given_up}
 use Rattle.bb8_lock.proofs.home.LockedGetHome.give_back.Goals as goal
 

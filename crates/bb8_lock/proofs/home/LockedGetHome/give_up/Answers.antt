@@ -1,6 +1,5 @@
-use Rattle.std.proofs.Common.{◌≡◌, false, None, refl}
+use Rattle.bb8_lock.proofs.Words.{◌≡◌, false, None, refl, give_up_told, reason_of}
 use Rattle.bb8_ledger.specs.Acts as acts
-use Rattle.bb8_core.specs.StepAnswers.{give_up_told, reason_of}
 use Rattle.bb8_lock.proofs.Sections.{kept_settings, fitting, unfit_step, unmoved, brings_back, gave_up, given_up}
 use Rattle.bb8_lock.proofs.home.LockedGetHome.give_up.Goals as goal
 

@@ -1,5 +1,4 @@
-use Rattle.std.proofs.Common.{Some, refl, sym}
-use Rattle.std.proofs.lemmas.Option.{IfSome_then}
+use Rattle.bb8_lock.proofs.Words.{Some, refl, sym, IfSome_then}
 use Rattle.std.specs.Sync.Mutex.{mutex_guard_value, mutex_guard_with_value}
 use Rattle.bb8_lock.proofs.Sections.{on_none}
 use Rattle.bb8_lock.proofs.link.LinkHomeGetHome.serve.Goals as goal

@@ -1,7 +1,6 @@
-use Rattle.std.proofs.Common.{◌≡◌, ◌+◌, ◌≤◌, arith}
+use Rattle.bb8_lock.proofs.Words.{◌≡◌, ◌+◌, ◌≤◌, arith, out_of}
 use Rattle.bb8_ledger.specs.Acts as acts
 use Rattle.bb8_ledger.specs.Answers as answers
-use Rattle.bb8_core.specs.Parts.{out_of}
 use Rattle.bb8_lock.proofs.Sections.{kept_settings, unmoved, has_part, gone_out, follows, within}
 use Rattle.bb8_tables.specs.declared.keys.GetKey.{GetKey}
 use Rattle.bb8_lock.specs.declared.locked.Locked.{Locked}

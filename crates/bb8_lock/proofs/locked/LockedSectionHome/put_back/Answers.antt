@@ -1,6 +1,5 @@
-use Rattle.std.proofs.Common.{arith, ◌+◌, ◌≡◌}
+use Rattle.bb8_lock.proofs.Words.{arith, ◌+◌, ◌≡◌, out_of}
 use Rattle.bb8_ledger.specs.Acts as acts
-use Rattle.bb8_core.specs.Parts.{out_of}
 use Rattle.bb8_lock.proofs.Sections.{kept_settings, fitting, unfit_step, come_back, put_it_back}
 use Rattle.bb8_lock.proofs.locked.LockedSectionHome.put_back.Goals as goal
 

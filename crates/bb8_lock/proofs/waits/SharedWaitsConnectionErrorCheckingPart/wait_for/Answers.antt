@@ -1,5 +1,4 @@
-use Rattle.std.proofs.Common.{refl}
-use Rattle.bb8_lock.specs.Linked.{Answers}
+use Rattle.bb8_lock.proofs.Words.{refl, Answers}
 use Rattle.bb8_lock.proofs.waits.SharedWaitsConnectionErrorCheckingPart.wait_for.Goals as goal
 
 pub loop-init : goal.loop-init

@@ -1,5 +1,4 @@
-use Rattle.std.specs.Duration.{as_nanos}
-use Rattle.bb8_lock.specs.Linked.{Answers, LinkWaits, LinkWaitsOnce}
+use Rattle.bb8_lock.proofs.Words.{as_nanos, Answers, LinkWaits, LinkWaitsOnce}
 use Rattle.bb8_lock.proofs.waits.SharedWaitsConnectionErrorCheckingPart.wait_for.Given as goal
 
 abbrev pub invariant-loop : goal.invariant-loop

@@ -1,5 +1,4 @@
-use Rattle.std.proofs.Common.{◌∙◌, ap, IsSome, None}
-use Rattle.bb8_types.specs.declared.standing.Getting.{Getting}
+use Rattle.bb8_tables.proofs.Words.{◌∙◌, ap, IsSome, None, Getting}
 use Rattle.bb8_tables.specs.Machine as machine
 use Rattle.bb8_tables.proofs.GetPlaces.{none_shown, end_counted, end_good, end_view}
 use Rattle.bb8_tables.proofs.gets.Gets.end.Goals as goal

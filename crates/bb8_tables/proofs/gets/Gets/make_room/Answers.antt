@@ -1,5 +1,4 @@
-use Rattle.std.proofs.Common.{◌≡◌, ◌+◌, ap, ◌∙◌, arith}
-use Rattle.bb8_tables.specs.Views.{ShownGets}
+use Rattle.bb8_tables.proofs.Words.{◌≡◌, ◌+◌, ap, ◌∙◌, arith, ShownGets}
 use Rattle.bb8_tables.proofs.GetPlaces.{kept_good, kept_view}
 use Rattle.bb8_tables.proofs.Views.{on_err}
 use Rattle.bb8_tables.proofs.gets.Gets.make_room.Goals as goal

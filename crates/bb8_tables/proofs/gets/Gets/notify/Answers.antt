@@ -1,6 +1,5 @@
-use Rattle.std.proofs.Common.{Some, slice_get, ap, ◌∙◌}
+use Rattle.bb8_tables.proofs.Words.{Some, slice_get, ap, ◌∙◌, ShownGets}
 use Rattle.bb8_tables.specs.Machine as machine
-use Rattle.bb8_tables.specs.Views.{ShownGets}
 use Rattle.bb8_tables.proofs.GetPlaces.{turned_stands, notice_good, notice_view, first_number, none_first}
 use Rattle.bb8_tables.proofs.gets.Gets.notify.Goals as goal
 

@@ -1,6 +1,5 @@
-use Rattle.std.proofs.Common.{ap, ◌∙◌}
+use Rattle.bb8_tables.proofs.Words.{ap, ◌∙◌, ShownGets}
 use Rattle.bb8_tables.specs.Machine as machine
-use Rattle.bb8_tables.specs.Views.{ShownGets}
 use Rattle.bb8_tables.proofs.GetPlaces.{pass_good, pass_view}
 use Rattle.bb8_tables.proofs.gets.Gets.pass.Goals as goal
 

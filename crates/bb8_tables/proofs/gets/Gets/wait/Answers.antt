@@ -1,5 +1,4 @@
-use Rattle.std.proofs.Common.{ap, ◌∙◌}
-use Rattle.bb8_types.specs.Places.{get_in_wait}
+use Rattle.bb8_tables.proofs.Words.{ap, ◌∙◌, get_in_wait}
 use Rattle.bb8_tables.specs.Machine as machine
 use Rattle.bb8_tables.proofs.TablePlaces.{stands_then}
 use Rattle.bb8_tables.proofs.GetPlaces.{never_absent, wait_absent, wait_good, wait_view, stands_is}

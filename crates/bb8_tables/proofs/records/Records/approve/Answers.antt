@@ -1,5 +1,4 @@
-use Rattle.std.proofs.Common.{◌≡◌, ◌≤◌, ◌<◌, ◌+◌, length, set, subst, Some, ap, ◌∙◌, arith}
-use Rattle.bb8_types.specs.declared.standing.Standing.{Standing}
+use Rattle.bb8_tables.proofs.Words.{◌≡◌, set, subst, Some, ap, ◌∙◌, arith, Standing}
 use Rattle.bb8_tables.specs.Machine as machine
 use Rattle.bb8_tables.proofs.RecordPlaces.{unclaimed_fit, approve_good, approve_view}
 use Rattle.bb8_tables.proofs.records.Records.approve.Goals as goal
@@ -7,10 +6,8 @@ use Rattle.bb8_tables.proofs.records.Records.approve.Goals as goal
 pub line_up-requires : goal.line_up-requires
 line_up-requires g c =
     let a = c.self.inside in
-    let fit : length a.unclaimed.items ≤ a.approved = unclaimed_fit a c.self.invariant in
-    let free : a.conns + a.approved < a.peak = rw (← c.self.view_is) at c.requires.room in
     let s = c.self.invariant.sizes in
-    omega arith
+    omega (arith, unclaimed_fit a c.self.invariant, rw (← c.self.view_is) at c.requires.room)
 
 pub invariant_of-self : goal.invariant_of-self
 invariant_of-self g c =

@@ -1,5 +1,4 @@
-use Rattle.std.proofs.Common.{ap, sym}
-use Rattle.bb8_types.specs.Places.{birth_in}
+use Rattle.bb8_tables.proofs.Words.{ap, sym, birth_in}
 use Rattle.bb8_tables.proofs.RecordPlaces.{none_shown, some_shown}
 use Rattle.bb8_tables.proofs.records.Records.birth.Goals as goal
 

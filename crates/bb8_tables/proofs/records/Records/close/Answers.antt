@@ -1,5 +1,4 @@
-use Rattle.std.proofs.Common.{ap, ◌∙◌, ◌-◌}
-use Rattle.bb8_types.specs.Places.{comes_from}
+use Rattle.bb8_tables.proofs.Words.{ap, ◌∙◌, ◌-◌, comes_from}
 use Rattle.bb8_tables.specs.Machine as machine
 use Rattle.bb8_tables.proofs.RecordPlaces.{stood, never_absent, opened_counted, closed_counted, close_good, close_view}
 use Rattle.bb8_tables.proofs.records.Records.close.Goals as goal

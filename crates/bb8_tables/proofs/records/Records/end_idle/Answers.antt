@@ -1,8 +1,5 @@
-use Rattle.std.proofs.Common.{slice_get, refl, sym, ap, ◌∙◌}
-use Rattle.std.specs.FinMap.{get}
-use Rattle.bb8_tables.specs.Closed.{offered_all, closed_in}
+use Rattle.bb8_tables.proofs.Words.{slice_get, refl, sym, ap, ◌∙◌, get, offered_all, closed_in, ShownRecords}
 use Rattle.bb8_tables.specs.Machine as machine
-use Rattle.bb8_tables.specs.Views.{ShownRecords}
 use Rattle.bb8_tables.proofs.ReapPlaces.{end_idle_none, idle_end_counted, idle_end_good, idle_end_view, idle_end_first, idle_end_listed}
 use Rattle.bb8_tables.proofs.records.Records.end_idle.Goals as goal
 

@@ -1,5 +1,4 @@
-use Rattle.std.proofs.Common.{◌≡◌, ◌+◌, length}
-use Rattle.bb8_tables.specs.Closed.{offered_all, closed_of}
+use Rattle.bb8_tables.proofs.Words.{◌≡◌, ◌+◌, length, offered_all, closed_of}
 use Rattle.bb8_tables.specs.Machine as machine
 use Rattle.bb8_tables.proofs.records.Records.end_idles.Given as goal
 

@@ -1,8 +1,5 @@
-use Rattle.std.proofs.Common.{sym, ap, ◌∙◌, slice_get, option_map}
-use Rattle.std.proofs.lemmas.Option.{slice_get-map}
-use Rattle.bb8_tables.specs.declared.keys.Key.{Key}
+use Rattle.bb8_tables.proofs.Words.{sym, ap, ◌∙◌, slice_get, option_map, slice_get-map, Key, ShownRecords}
 use Rattle.bb8_tables.specs.Machine as machine
-use Rattle.bb8_tables.specs.Views.{ShownRecords}
 use Rattle.bb8_tables.proofs.RecordPlaces.{unclaimed_end_counted, unclaimed_end_good, unclaimed_end_view}
 use Rattle.bb8_tables.proofs.records.Records.end_unclaimed.Goals as goal
 

@@ -1,6 +1,6 @@
-use Rattle.std.proofs.Common.{◌+◌, ◌-◌, ap, ◌∙◌, refl}
+use Rattle.std.proofs.Common.{true, ap, ◌∙◌, refl}
 use Rattle.bb8_types.specs.declared.standing.Place.TheVariants.{Idle}
-use Rattle.bb8_types.specs.Places.{comes_from}
+use Rattle.bb8_types.specs.Places.{is_claimed}
 use Rattle.bb8_tables.specs.Machine as machine
 use Rattle.bb8_tables.proofs.TablePlaces.{stands_then}
 use Rattle.bb8_tables.proofs.RecordPlaces.{stood, never_absent, enter_absent, opened_absent, lined, opened_counted, enter_good, enter_view}
@@ -9,51 +9,50 @@ use Rattle.bb8_tables.proofs.records.Records.enter.Goals as goal
 pub line_up-requires-clause-stands : goal.line_up-requires-clause-stands
 line_up-requires-clause-stands g c =
     let f = c.in-Some.ensures.some in
-    stands_then c.self.inside.slots c.replace.new.self c.in-Some.place (λ _. record { place = Idle c.args.conn; birth = c.args.birth; entered = c.args.now }) f.0 f.1 c.replace.ensures.changed
+    stands_then c.self.inside.slots c.replace.new.self c.in-Some.place (λ _. record { place = Idle c.args.conn; birth = c.args.now; entered = c.args.now }) f.0 f.1 c.replace.ensures.changed
 
 pub line_up-requires-clause-absent : goal.line_up-requires-clause-absent
 line_up-requires-clause-absent g c =
     let f = c.in-Some.ensures.some in
-    let was = stood c.self.inside c.args.k.number c.in-Some.place f.0 (comes_from c.args.opening) c.args.self.now c.self.invariant c.self.view_is c.requires.out f.1 f.2 in
-    rw (c.replace.ensures.changed f.0 f.1) (enter_absent c.self.inside c.args.opening c.in-Some.place f.0 c.self.invariant f.1 was)
+    let was = stood c.self.inside c.args.k.number c.in-Some.place f.0 is_claimed c.args.self.now c.self.invariant c.self.view_is c.requires.claimed f.1 f.2 in
+    rw (c.replace.ensures.changed f.0 f.1) (enter_absent c.self.inside true c.in-Some.place f.0 c.self.invariant f.1 was)
 
 pub add_birth-requires-clause-stands : goal.add_birth-requires-clause-stands
 add_birth-requires-clause-stands g c =
     let f = c.in-Some.ensures.some in
     rw c.line_up.ensures
-    (stands_then c.self.inside.slots c.replace.new.self c.in-Some.place (λ _. record { place = Idle c.args.conn; birth = c.args.birth; entered = c.args.now }) f.0 f.1 c.replace.ensures.changed)
+    (stands_then c.self.inside.slots c.replace.new.self c.in-Some.place (λ _. record { place = Idle c.args.conn; birth = c.args.now; entered = c.args.now }) f.0 f.1 c.replace.ensures.changed)
 
 pub add_birth-requires-clause-absent : goal.add_birth-requires-clause-absent
 add_birth-requires-clause-absent g c =
     let f = c.in-Some.ensures.some in
-    let was = stood c.self.inside c.args.k.number c.in-Some.place f.0 (comes_from c.args.opening) c.args.self.now c.self.invariant c.self.view_is c.requires.out f.1 f.2 in
-    λ new. rw (c.line_up.ensures, c.replace.ensures.changed f.0 f.1) (opened_absent c.self.inside c.args.opening c.in-Some.place f.0 c.self.invariant f.1 was new)
+    let was = stood c.self.inside c.args.k.number c.in-Some.place f.0 is_claimed c.args.self.now c.self.invariant c.self.view_is c.requires.claimed f.1 f.2 in
+    rw (c.line_up.ensures, c.replace.ensures.changed f.0 f.1) (opened_absent c.self.inside true c.in-Some.place f.0 c.self.invariant f.1 was refl)
 
 pub overflow_sub-self : goal.overflow_sub-self
 overflow_sub-self g c =
     let f = c.in-Some.ensures.some in
-    let was = stood c.self.inside c.args.k.number c.in-Some.place f.0 (comes_from c.args.opening) c.args.self.now c.self.invariant c.self.view_is c.requires.out f.1 f.2 in
-    rw c.one-opened.ensures.value (opened_counted c.self.inside c.args.opening c.in-Some.place f.0 c.self.invariant f.1 was)
+    let was = stood c.self.inside c.args.k.number c.in-Some.place f.0 is_claimed c.args.self.now c.self.invariant c.self.view_is c.requires.claimed f.1 f.2 in
+    opened_counted c.self.inside true c.in-Some.place f.0 c.self.invariant f.1 was
 
 pub invariant_of-self : goal.invariant_of-self
 invariant_of-self g c =
     let f = c.in-Some.ensures.some in
-    let was = stood c.self.inside c.args.k.number c.in-Some.place f.0 (comes_from c.args.opening) c.args.self.now c.self.invariant c.self.view_is c.requires.out f.1 f.2 in
-    enter_good c.self.inside c.args.opening c.in-Some.place c.args.k.number f.0 (record { place = Idle c.args.conn; birth = c.args.birth; entered = c.args.now })
+    let was = stood c.self.inside c.args.k.number c.in-Some.place f.0 is_claimed c.args.self.now c.self.invariant c.self.view_is c.requires.claimed f.1 f.2 in
+    enter_good c.self.inside true c.in-Some.place c.args.k.number f.0 (record { place = Idle c.args.conn; birth = c.args.now; entered = c.args.now })
     c.replace.new.self c.add_birth.new.self c.self.invariant f.1 was f.2 refl c.replace.ensures.changed
-    (lined c.args.opening c.in-Some.place c.replace.new.self c.line_up.new.self c.add_birth.new.self c.line_up.ensures c.add_birth.ensures)
-    _ _ c.args.now (ap (λ n. c.self.inside.conns + n) c.one-opened.ensures.value) (ap (λ n. c.self.inside.approved - n) c.one-opened.ensures.value)
-    (rw (← c.self.view_is) at c.requires.moments) refl (rw (← c.self.view_is) at c.requires.birth)
+    (lined c.in-Some.place c.replace.new.self c.line_up.new.self c.add_birth.new.self c.line_up.ensures c.add_birth.ensures)
+    _ _ c.args.now refl refl (rw (← c.self.view_is) at c.requires.moments) refl refl
 
 pub returns-in-None : goal.returns-in-None
-returns-in-None g c = never_absent c.self.inside c.args.k.number c.args.self.now c.self.view_is c.requires.out.1 c.in-None.ensures.none
+returns-in-None g c = never_absent c.self.inside c.args.k.number c.args.self.now c.self.view_is c.requires.claimed.1 c.in-None.ensures.none
 
 pub returns-in-Some-clause-state : goal.returns-in-Some-clause-state
 returns-in-Some-clause-state g c =
     let f = c.in-Some.ensures.some in
-    let was = stood c.self.inside c.args.k.number c.in-Some.place f.0 (comes_from c.args.opening) c.args.self.now c.self.invariant c.self.view_is c.requires.out f.1 f.2 in
-    enter_view c.self.inside c.args.opening c.in-Some.place c.args.k.number f.0 (record { place = Idle c.args.conn; birth = c.args.birth; entered = c.args.now })
+    let was = stood c.self.inside c.args.k.number c.in-Some.place f.0 is_claimed c.args.self.now c.self.invariant c.self.view_is c.requires.claimed f.1 f.2 in
+    enter_view c.self.inside true c.in-Some.place c.args.k.number f.0 (record { place = Idle c.args.conn; birth = c.args.now; entered = c.args.now })
     c.replace.new.self c.add_birth.new.self c.self.invariant f.1 was f.2 refl c.replace.ensures.changed
-    (lined c.args.opening c.in-Some.place c.replace.new.self c.line_up.new.self c.add_birth.new.self c.line_up.ensures c.add_birth.ensures)
-    _ _ (ap (λ n. c.self.inside.conns + n) c.one-opened.ensures.value) (ap (λ n. c.self.inside.approved - n) c.one-opened.ensures.value)
-    ∙ ap (machine.after_entry c.args.opening c.args.k.number _) c.self.view_is
+    (lined c.in-Some.place c.replace.new.self c.line_up.new.self c.add_birth.new.self c.line_up.ensures c.add_birth.ensures)
+    _ _ refl refl
+    ∙ ap (machine.after_entry true c.args.k.number _) c.self.view_is

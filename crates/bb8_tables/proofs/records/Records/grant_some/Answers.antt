@@ -1,6 +1,5 @@
-use Rattle.std.proofs.Common.{◌≡◌, ◌+◌, ap, ◌∙◌, arith, ℕ}
+use Rattle.bb8_tables.proofs.Words.{◌≡◌, ap, ◌∙◌, arith, ℕ, ShownRecords}
 use Rattle.bb8_tables.specs.Machine as machine
-use Rattle.bb8_tables.specs.Views.{ShownRecords}
 use Rattle.bb8_tables.proofs.Approvals.{approve-sizes, approve-raised}
 use Rattle.bb8_tables.proofs.records.Records.grant_some.Goals as goal
 
@@ -9,15 +8,12 @@ approve-requires-clause-room g c =
     let start : ShownRecords g.row.C.Denot = record c.args.self.now { peak = c.if-below-possible.self.peak } in
     let e = approve-sizes c.args.claimed c.loop.counter start in
     let conns : c.loop.self.conns ≡ start.conns = ap (λ (s : ShownRecords g.row.C.Denot). s.conns) c.loop.invariant.same ∙ e.0 in
-    let approved : c.loop.self.approved ≡ start.approved + c.loop.counter = ap (λ (s : ShownRecords g.row.C.Denot). s.approved) c.loop.invariant.same ∙ e.1 in
-    let peak : c.loop.self.peak ≡ start.peak = ap (λ (s : ShownRecords g.row.C.Denot). s.peak) c.loop.invariant.same ∙ e.3 in
-    omega arith
+    omega (arith, ap (λ (s : ShownRecords g.row.C.Denot). s.approved) c.loop.invariant.same ∙ e.1, ap (λ (s : ShownRecords g.row.C.Denot). s.peak) c.loop.invariant.same ∙ e.3)
 
 pub approve-requires-clause-number : goal.approve-requires-clause-number
 approve-requires-clause-number g c =
     let start : ShownRecords g.row.C.Denot = record c.args.self.now { peak = c.if-below-possible.self.peak } in
-    let next : c.loop.self.next ≡ start.next + c.loop.counter = ap (λ (s : ShownRecords g.row.C.Denot). s.next) c.loop.invariant.same ∙ (approve-sizes c.args.claimed c.loop.counter start).2 in
-    omega arith
+    omega (arith, ap (λ (s : ShownRecords g.row.C.Denot). s.next) c.loop.invariant.same ∙ (approve-sizes c.args.claimed c.loop.counter start).2)
 
 pub returns-clause-state : goal.returns-clause-state
 returns-clause-state g c =

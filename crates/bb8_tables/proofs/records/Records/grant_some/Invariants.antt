@@ -1,7 +1,6 @@
-use Rattle.std.proofs.Common.{◌≡◌, ◌≤◌, ◌+◌, max}
+use Rattle.bb8_tables.proofs.Words.{◌≡◌, ◌≤◌, ◌+◌, max, end_of_numbers}
 use Rattle.bb8_tables.specs.Machine as machine
 use Rattle.bb8_tables.proofs.records.Records.grant_some.Given as goal
-use Rattle.bb8_types.specs.Bounds.{end_of_numbers}
 
 abbrev pub invariant-loop : goal.invariant-loop
 invariant-loop g l = record {

@@ -1,5 +1,4 @@
-use Rattle.std.proofs.Common.{ap, ◌∙◌}
-use Rattle.bb8_types.specs.Places.{is_out}
+use Rattle.bb8_tables.proofs.Words.{ap, ◌∙◌, is_out}
 use Rattle.bb8_tables.specs.Machine as machine
 use Rattle.bb8_tables.proofs.RecordPlaces.{stood, never_absent, handover_good, handover_view}
 use Rattle.bb8_tables.proofs.records.Records.hand_over.Goals as goal

@@ -1,5 +1,4 @@
-use Rattle.std.proofs.Common.{ap, sym, ◌∙◌}
-use Rattle.bb8_types.specs.Places.{stands, is_claimed}
+use Rattle.bb8_tables.proofs.Words.{ap, sym, ◌∙◌, stands, is_claimed}
 use Rattle.bb8_tables.proofs.RecordPlaces.{none_shown, some_shown}
 use Rattle.bb8_tables.proofs.records.Records.is_claimed.Goals as goal
 

@@ -1,5 +1,4 @@
-use Rattle.std.proofs.Common.{ap, sym, ◌∙◌}
-use Rattle.bb8_types.specs.Places.{stands, is_guarded}
+use Rattle.bb8_tables.proofs.Words.{ap, sym, ◌∙◌, stands, is_guarded}
 use Rattle.bb8_tables.proofs.RecordPlaces.{none_shown, some_shown}
 use Rattle.bb8_tables.proofs.records.Records.is_guarded.Goals as goal
 

@@ -1,7 +1,4 @@
-use Rattle.std.proofs.Common.{◌≡◌, ◌≤◌, length, ap, ◌∙◌, refl, arith}
-use Rattle.circular_buffer.specs.Buffer.{Buffer}
-use Rattle.bb8_tables.specs.declared.keys.Key.{Key}
-use Rattle.bb8_tables.specs.Views.{ShownRecords}
+use Rattle.bb8_tables.proofs.Words.{◌≡◌, ap, ◌∙◌, refl, arith, Buffer, Key, ShownRecords}
 use Rattle.bb8_tables.proofs.Views.{on_err}
 use Rattle.bb8_tables.proofs.RecordPlaces.{unclaimed_fit, kept_good, kept_view}
 use Rattle.bb8_tables.proofs.records.Records.make_room.Goals as goal
@@ -22,10 +19,8 @@ returns-in_err-reserve-clause-err g c =
 pub grow-requires : goal.grow-requires
 grow-requires g c =
     let a = c.self.inside in
-    let fit : length a.unclaimed.items ≤ a.approved = unclaimed_fit a c.self.invariant in
-    let peak : a.peak ≡ c.args.self.now.peak = ap (λ (s : ShownRecords g.row.C.Denot). s.peak) c.self.view_is in
     let z = c.self.invariant.sizes in
-    omega (arith, z.peak_holds)
+    omega (arith, unclaimed_fit a c.self.invariant, ap (λ (s : ShownRecords g.row.C.Denot). s.peak) c.self.view_is, z.peak_holds)
 
 pub invariant_of-self-in_err-grow : goal.invariant_of-self-in_err-grow
 invariant_of-self-in_err-grow g c =

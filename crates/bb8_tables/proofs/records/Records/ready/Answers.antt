@@ -1,9 +1,8 @@
-use Rattle.std.proofs.Common.{◌≤◌, length, arith}
+use Rattle.std.proofs.Common.{arith}
 use Rattle.bb8_tables.proofs.RecordPlaces.{idle_fit}
 use Rattle.bb8_tables.proofs.records.Records.ready.Goals as goal
 
 pub overflow_add-result : goal.overflow_add-result
 overflow_add-result g c =
     let s = c.self.invariant.sizes in
-    let fit : length c.self.inside.slots.line ≤ c.self.inside.conns = idle_fit c.self.inside c.self.invariant in
-    omega arith
+    omega (arith, idle_fit c.self.inside c.self.invariant)

@@ -1,8 +1,4 @@
-use Rattle.std.proofs.Common.{◌≡◌, ℕ, false, refl, sym, ap, ◌∙◌, subst, slice_get}
-use Rattle.std.specs.FinMap.{get}
-use Rattle.bb8_types.specs.Places.{idles_out}
-use Rattle.bb8_types.specs.Settings.{settings_of}
-use Rattle.bb8_tables.specs.Views.{ShownRecords}
+use Rattle.bb8_tables.proofs.Words.{◌≡◌, ℕ, false, refl, sym, ap, ◌∙◌, subst, slice_get, get, idles_out, settings_of, ShownRecords}
 use Rattle.bb8_tables.proofs.ReapPlaces.{freed_counted, freed_good, freed_due}
 use Rattle.bb8_tables.proofs.Walks.{first_idle, first_not_due, none_in_line, first_shown}
 use Rattle.bb8_tables.proofs.records.Records.reap_first.Goals as goal

@@ -1,8 +1,5 @@
-use Rattle.std.proofs.Common.{refl, ap, sym, ◌∙◌}
-use Rattle.std.specs.FinMap.{get}
-use Rattle.bb8_types.specs.Places.{first_of, place_with}
+use Rattle.bb8_tables.proofs.Words.{refl, ap, sym, ◌∙◌, get, first_of, place_with, ShownRecords}
 use Rattle.bb8_tables.specs.Machine as machine
-use Rattle.bb8_tables.specs.Views.{ShownRecords}
 use Rattle.bb8_tables.proofs.RecordPlaces.{put_stands, take_good, take_view, taken_first, taken_connection, idle_none}
 use Rattle.bb8_tables.proofs.records.Records.take.Goals as goal
 use Rattle.bb8_tables.proofs.records.Records.take.Goals.{in-None-connection_of, in-Some-connection_of}

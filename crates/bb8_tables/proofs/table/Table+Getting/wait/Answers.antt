@@ -1,7 +1,5 @@
-use Rattle.std.proofs.Common.{◌≡◌, ℕ, false, Option, Some, None, refl, sym, ap, ◌∙◌}
+use Rattle.bb8_tables.proofs.Words.{◌≡◌, ℕ, false, Option, Some, None, refl, sym, ap, ◌∙◌, Waiting, get_in_wait, first_or}
 use Rattle.std.specs.Option.{unwrap_or}
-use Rattle.bb8_types.specs.declared.standing.GetPlace.TheVariants.{Waiting}
-use Rattle.bb8_types.specs.Places.{get_in_wait, first_or}
 use Rattle.bb8_tables.proofs.Linked
 use Rattle.bb8_tables.proofs.table.Table+Getting.wait.Goals as goal
 

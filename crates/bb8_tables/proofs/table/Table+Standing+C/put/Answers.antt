@@ -1,7 +1,4 @@
-use Rattle.std.proofs.Common.{ap, ◌∙◌}
-use Rattle.bb8_types.specs.declared.standing.Place.{Place}
-use Rattle.bb8_types.specs.declared.standing.Standing.{Standing}
-use Rattle.bb8_tables.specs.declared.table.Slot.{Slot}
+use Rattle.bb8_tables.proofs.Words.{ap, ◌∙◌, Place, Standing, Slot}
 use Rattle.bb8_tables.proofs.Linked
 use Rattle.bb8_tables.proofs.table.Table+Standing+C.put.Goals as goal
 

@@ -1,6 +1,4 @@
-use Rattle.std.proofs.Common.{None, ap}
-use Rattle.bb8_tables.specs.declared.table.Slot.{Slot}
-use Rattle.bb8_tables.specs.Linked.{slot_in}
+use Rattle.bb8_tables.proofs.Words.{None, ap, Slot, slot_in}
 use Rattle.bb8_tables.proofs.Linked
 use Rattle.bb8_tables.proofs.table.Table.clear.Goals as goal
 

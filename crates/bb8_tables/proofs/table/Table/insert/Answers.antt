@@ -1,7 +1,4 @@
-use Rattle.std.proofs.Common.{sym, subst}
-use Rattle.bb8_tables.specs.declared.table.Slot.{Slot}
-use Rattle.bb8_tables.specs.Spelled.{Absent}
-use Rattle.bb8_tables.specs.Lined.{Lined}
+use Rattle.bb8_tables.proofs.Words.{sym, subst, Slot, Absent, Lined}
 use Rattle.bb8_tables.proofs.Spelled.{absent_without_self}
 use Rattle.bb8_tables.proofs.table.Table.insert.Goals as goal
 

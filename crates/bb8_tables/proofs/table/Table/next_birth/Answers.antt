@@ -1,13 +1,9 @@
-use Rattle.std.proofs.Common.{◌<◌, ◌≤◌, arith}
-use Rattle.bb8_tables.specs.declared.links.Order.TheVariants.{Births}
+use Rattle.bb8_tables.proofs.Words.{arith, Births}
 use Rattle.bb8_tables.proofs.Linked
 use Rattle.bb8_tables.proofs.table.Table.next_birth.Goals as goal
 
 pub overflow_cast-place : goal.overflow_cast-place
-overflow_cast-place g c =
-    let inside : c.args.place < c.self.inside.links.entries.len = Linked.seen_inside c.self.inside c.self.invariant c.args.self.now Births c.args.place c.requires.0 c.self.view_is c.requires.1 in
-    let most : c.self.inside.links.entries.len ≤ 4294967296 = c.self.invariant.few in
-    omega arith
+overflow_cast-place g c = omega (arith, Linked.seen_inside c.self.inside c.self.invariant c.args.self.now Births c.args.place c.requires.0 c.self.view_is c.requires.1, c.self.invariant.few)
 
 pub link-next-requires : goal.link-next-requires
 link-next-requires g c = Linked.seen_inside c.self.inside c.self.invariant c.args.self.now Births c.args.place c.requires.0 c.self.view_is c.requires.1

@@ -1,6 +1,4 @@
-use Rattle.std.proofs.Common.{None, get_or, sym, ap, ◌∙◌}
-use Rattle.bb8_tables.specs.declared.table.Slot.{Slot}
-use Rattle.bb8_tables.specs.Lined.{Lined}
+use Rattle.bb8_tables.proofs.Words.{None, get_or, sym, ap, ◌∙◌, Slot, Lined}
 use Rattle.bb8_tables.proofs.table.Table.search.Goals as goal
 
 pub returns-in-Some-clause-some : goal.returns-in-Some-clause-some

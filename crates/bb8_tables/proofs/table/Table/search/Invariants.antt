@@ -1,6 +1,4 @@
-use Rattle.std.proofs.Common.{◌≡◌, ◌≢◌, ℕ, ◌<◌, Some, None, get_or}
-use Rattle.bb8_tables.specs.declared.table.Slot.{Slot}
-use Rattle.bb8_tables.specs.Linked.{slots_of}
+use Rattle.bb8_tables.proofs.Words.{◌≡◌, ◌≢◌, ℕ, ◌<◌, Some, None, get_or, Slot, slots_of}
 use Rattle.bb8_tables.proofs.table.Table.search.Given as goal
 
 abbrev pub invariant-loop-i : goal.invariant-loop-i

@@ -1,8 +1,4 @@
-use Rattle.std.proofs.Common.{◌≡◌, ◌≢◌, ◌<◌, ◌-◌, ℕ, sym, ap, ◌∙◌, subst}
-use Rattle.bb8_tables.specs.declared.table.Slot.{Slot}
-use Rattle.bb8_tables.specs.Machine.{without}
-use Rattle.bb8_tables.specs.Linked.{after_of, spelled, with_size}
-use Rattle.bb8_tables.specs.Lined.{Lined, places_of, with_places}
+use Rattle.bb8_tables.proofs.Words.{◌≡◌, ◌≢◌, ◌<◌, ◌-◌, ℕ, sym, ap, ◌∙◌, subst, Slot, without, after_of, spelled, with_size, Lined, places_of, with_places}
 use Rattle.bb8_tables.proofs.Linked
 use Rattle.bb8_tables.proofs.table.Table.unlink.Goals as goal
 

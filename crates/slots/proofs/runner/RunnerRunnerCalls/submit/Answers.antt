@@ -1,6 +1,4 @@
-use Rattle.std.proofs.Common.{◌≡◌, arith}
-use Rattle.slots.specs.declared.entries.Place.TheVariants.{Waiting}
-use Rattle.slots.specs.Entries.{running}
+use Rattle.slots.proofs.Words.{◌≡◌, arith, Waiting, running}
 use Rattle.slots.proofs.Listed.{added-ids, added-running}
 use Rattle.slots.proofs.runner.RunnerRunnerCalls.submit.Goals as goal
 

@@ -1,5 +1,4 @@
-use Rattle.std.proofs.Common.{◌≡◌, ◌∙◌, sym, ap, subst, arith, OnSome, None}
-use Rattle.slots.specs.Entries.{AreIds, ids, running, place_of}
+use Rattle.slots.proofs.Words.{◌≡◌, ◌∙◌, sym, ap, subst, arith, OnSome, None, AreIds, ids, running, place_of}
 use Rattle.slots.proofs.Listed.{taken-ids, taken-running, taken-gone}
 use Rattle.slots.proofs.runner.RunnerRunnerCalls.take.Goals as goal
 

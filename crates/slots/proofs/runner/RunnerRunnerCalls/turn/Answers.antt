@@ -1,8 +1,5 @@
-use Rattle.std.proofs.Common.{◌≡◌, sym, subst, arith}
-use Rattle.bb8.specs.GuardLists.{most_in, number_in}
+use Rattle.slots.proofs.Words.{◌≡◌, sym, subst, arith, most_in, number_in, PollsGet, AreIds, running}
 use Rattle.bb8.specs.Pools.{settings_in}
-use Rattle.bb8.specs.Gets.{PollsGet}
-use Rattle.slots.specs.Entries.{AreIds, running}
 use Rattle.slots.proofs.Stepped.{same-ids}
 use Rattle.slots.proofs.runner.RunnerRunnerCalls.turn.Goals as goal
 

@@ -1,5 +1,4 @@
-use Rattle.std.proofs.Common.{◌∙◌, sym}
-use Rattle.bb8_core.specs.Pool.{view_of}
+use Rattle.bb8_core.proofs.Words.{◌∙◌, sym, view_of}
 use Rattle.bb8_core.proofs.Fitting.{as_shown, shown_get}
 use Rattle.bb8_core.proofs.internals.questions.PoolInternals+C.getting.Goals as goal
 

@@ -1,6 +1,4 @@
-use Rattle.std.proofs.Common.{ap, ◌∙◌, sym}
-use Rattle.bb8_types.specs.Places.{stands, is_claimed}
-use Rattle.bb8_core.specs.Pool.{view_of}
+use Rattle.bb8_core.proofs.Words.{ap, ◌∙◌, sym, stands, is_claimed, view_of}
 use Rattle.bb8_core.proofs.Fitting.{as_shown, shown_record}
 use Rattle.bb8_core.proofs.internals.questions.PoolInternals+C.is_claimed.Goals as goal
 

@@ -1,6 +1,4 @@
-use Rattle.std.proofs.Common.{ap, ◌∙◌, sym}
-use Rattle.bb8_types.specs.Places.{stands, is_guarded}
-use Rattle.bb8_core.specs.Pool.{view_of}
+use Rattle.bb8_core.proofs.Words.{ap, ◌∙◌, sym, stands, is_guarded, view_of}
 use Rattle.bb8_core.proofs.Fitting.{as_shown, shown_record}
 use Rattle.bb8_core.proofs.internals.questions.PoolInternals+C.is_guarded.Goals as goal
 

@@ -1,6 +1,4 @@
-use Rattle.std.proofs.Common.{List, sym, subst, arith, ◌∙◌, ap, ◌++◌, ◌∷◌, []}
-use Rattle.bb8_journal.specs.History.{Replays, entry}
-use Rattle.bb8_journal.specs.declared.journal.entries.Entry.{Entry}
+use Rattle.bb8_journal.proofs.Words.{List, sym, subst, arith, ◌∙◌, ap, ◌++◌, ◌∷◌, [], Replays, entry, Entry}
 use Rattle.bb8_journal.proofs.Histories.{replays_more}
 use Rattle.bb8_journal.proofs.journal.entries.Journal.apply.Goals as goal
 

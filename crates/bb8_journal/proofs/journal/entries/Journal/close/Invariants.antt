@@ -1,7 +1,5 @@
-use Rattle.std.specs.Prelude.{◌≡◌, ◌≤◌, ◌++◌, length, map, vec_len, vec_capacity}
-use Rattle.std.specs.List.{sum_by}
+use Rattle.bb8_journal.proofs.Words.{◌≡◌, ◌≤◌, ◌++◌, length, map, vec_len, vec_capacity, sum_by, steps_of, notes_of}
 use Rattle.std.specs.Vec.Iter.{into_iter_items, into_iter_len}
-use Rattle.bb8_journal.specs.Notes.{steps_of, notes_of}
 use Rattle.bb8_journal.proofs.journal.entries.Journal.close.Given as goal
 
 abbrev pub invariant-loop-seat : goal.invariant-loop-seat

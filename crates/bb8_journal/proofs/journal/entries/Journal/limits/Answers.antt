@@ -1,7 +1,4 @@
-use Rattle.std.proofs.Common.{subst}
-use Rattle.bb8_ledger.specs.Limits.{KeepsLimits, KeepsLaws, KeepsPromises}
-use Rattle.bb8_ledger.proofs.Laws.{keeps_limits, keeps_laws, keeps_promises}
-use Rattle.bb8_journal.specs.History.{Kept, Replays}
+use Rattle.bb8_journal.proofs.Words.{subst, KeepsLimits, KeepsLaws, KeepsPromises, keeps_limits, keeps_laws, keeps_promises, Kept, Replays}
 use Rattle.bb8_journal.proofs.Histories.{after_each}
 use Rattle.bb8_journal.proofs.journal.entries.Journal.limits.Goals as goal
 

@@ -1,8 +1,5 @@
-use Rattle.std.proofs.Common.{List, sym, subst, ap, ◌∙◌, arith}
-use Rattle.bb8_core.specs.Endings.{endings_of}
-use Rattle.bb8_journal.specs.declared.journal.entries.Entry.{Entry}
-use Rattle.bb8_types.specs.Settings.{Settings, settings_of, is_lawful}
-use Rattle.bb8_journal.specs.History.{Replays}
+use Rattle.bb8_journal.proofs.Words.{List, sym, subst, ap, ◌∙◌, arith, endings_of, Entry, Settings, is_lawful, Replays}
+use Rattle.bb8_types.specs.Settings.{settings_of}
 use Rattle.bb8_journal.proofs.Histories.{replays_none}
 use Rattle.bb8_journal.proofs.journal.entries.Journal.new.Goals as goal
 

@@ -1,8 +1,4 @@
-use Rattle.std.proofs.Common.{sym, subst, List, ℕ}
-use Rattle.bb8_journal.specs.declared.journal.entries.Entry.{Entry}
-use Rattle.bb8_core.specs.Shown.{Shown}
-use Rattle.bb8_ledger.specs.Limits.{KeepsLimits, KeepsLaws, KeepsPromises}
-use Rattle.bb8_journal.specs.History.{Replays, AfterEachEntry}
+use Rattle.bb8_journal.proofs.Words.{sym, subst, List, ℕ, Entry, Shown, KeepsLimits, KeepsLaws, KeepsPromises, Replays, AfterEachEntry}
 use Rattle.bb8_journal.proofs.journal.shared.SharedJournal.close.Goals as goal
 
 pub returns-clause-replays : goal.returns-clause-replays

@@ -1,5 +1,0 @@
-use Rattle.std.proofs.Common.{sym, ◌∙◌}
-use Rattle.bb8_bench.proofs.waiting.try_get.Goals as goal
-
-pub try_get-requires : goal.try_get-requires
-try_get-requires c = λ l legal means. sym (c.fits_try.ensures l legal means) ∙ c.if-not-fits_try.false

@@ -1,5 +1,0 @@
-use Rattle.std.proofs.Common.{sym, ◌∙◌}
-use Rattle.bb8_bench.proofs.waiting.wait.Goals as goal
-
-pub begin-requires : goal.begin-requires
-begin-requires c = λ l legal means. sym (c.fits_begin.ensures l legal means) ∙ c.if-not-fits_begin.false

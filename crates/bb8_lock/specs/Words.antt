@@ -1,0 +1,38 @@
+-- The words that the definitions speak with.
+pub use Rattle.std.specs.Prelude.{◌≡◌, ℕ, ◌<◌, Bool, Option, Some, None, Result, Ok, Err, ◌≤◌, false, IfOk, ⊤, List, true}
+pub use Rattle.futures.specs.declared.task.Poll.{Poll}
+pub use Rattle.futures.specs.declared.task.Poll.TheVariants.{Ready, Pending}
+pub use Rattle.bb8_types.specs.declared.api.errors.AddError.{AddError}
+pub use Rattle.bb8_types.specs.declared.api.errors.RunError.{RunError}
+pub use Rattle.bb8_types.specs.declared.api.figures.State.{State}
+pub use Rattle.bb8_types.specs.declared.api.moments.Moment.{Moment}
+pub use Rattle.bb8_core.specs.declared.answers.AddAnswer.{AddAnswer}
+pub use Rattle.bb8_gets.specs.declared.home.GetHome.{Ghosts as HomeOf}
+pub use Rattle.bb8_gets.specs.declared.home.Taken.{Taken}
+pub use Rattle.bb8_gets.specs.declared.outside.Outside.{Ghosts as OutsideOf}
+pub use Rattle.bb8_gets.specs.declared.state.Settled.{Settled}
+pub use Rattle.bb8_gets.specs.declared.state.Stage.{Stage}
+pub use Rattle.bb8_gets.specs.Polls.{Asks, Cancels, Starts, GetPolls}
+pub use Rattle.bb8_lock.specs.declared.section_home.Joining.{Joining}
+pub use Rattle.bb8_lock.specs.declared.section_home.SectionHome.{Ghosts as SectionsOf}
+pub use Rattle.std.specs.declared.sync.MutexGuard.{MutexGuard}
+pub use Rattle.std.specs.declared.fmt.Debug.{Ghosts as DebugOf}
+pub use Rattle.bb8_types.specs.declared.api.managers.ManageConnection.{Ghosts as ManagerOf}
+pub use Rattle.bb8_types.specs.Settings.{settings_of, Settings}
+pub use Rattle.bb8_core.specs.StepAnswers.{add_told, begin_told, checked_err_told, give_up_told, leave_told, look_told, put_back_told, reason_of, GivesBack, Refuses, claim_told}
+pub use Rattle.bb8_core.specs.declared.joined.Joined.{Joined}
+pub use Rattle.bb8_lock.specs.declared.locked.Locked.{Locked}
+pub use Rattle.bb8_lock.specs.declared.locked.Part.{Part}
+pub use Rattle.bb8_lock.specs.declared.locked.Parts.{Ghosts as PartsOf}
+pub use Rattle.bb8_lock.specs.declared.link.LinkHome.{LinkHome}
+pub use Rattle.bb8_lock.specs.declared.shared.Shared.{Shared}
+pub use Rattle.bb8_gets.specs.Homes.{StepsIn}
+pub use Rattle.bb8_gets.specs.Told.{answered, passed_told, tried_told, HandsBackHeld, HandsBackInvalid, HandsOutOf}
+pub use Rattle.std.specs.Duration.{as_nanos}
+pub use Rattle.bb8_types.specs.declared.api.customizers.CustomizeConnection.{Ghosts as CustomizerOf}
+pub use Rattle.bb8_tasks.specs.declared.opener.Opener.{Ghosts as OpenerOf}
+pub use Rattle.bb8_tasks.specs.declared.opener.PoolOpener.{PoolOpener}
+pub use Rattle.bb8_tasks.specs.declared.rounds.Reports.{Ghosts as ReportsOf}
+pub use Rattle.bb8_tasks.specs.Joined.{joined_opener, joined_reports, joined_tasks, joined_claims, joined_reaps}
+pub use Rattle.bb8_types.specs.declared.grants.Grant.{Grant}
+pub use Rattle.bb8_ledger.specs.Answers.{Answer}

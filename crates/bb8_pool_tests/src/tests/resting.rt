@@ -1,0 +1,238 @@
+//! A driver that sleeps while it has nothing to do, and what it has to do next.
+
+use super::assert_equal;
+use super::waiting::nanos;
+use bb8::{
+    Clock as PoolClock, Driver, DriverCalls, Moment, NopCustomizer, Pool, PoolCalls, PoolParts,
+    Runtime, Service, SetClock, User,
+};
+use bb8_trials::{Board, Course, Errors, MILLI, Number, SECOND, Server, builder_on, server_on};
+use futures::test::MockTask;
+use std::alloc::Global;
+use std::sync::Arc;
+use std::test::Fail;
+use std::thread::{self, Threads};
+use std::time::{Clock, CpuClock, Duration};
+
+/// What a clock has counted.
+#[derive(Drop)]
+struct Meter {
+    /// How often it was read.
+    readings: Number,
+    /// The processor time that the thread which read it last had used then, in nanoseconds.
+    used: Number,
+    /// When the service ended, by the machine's clock.
+    ended: Number,
+}
+
+/// The machine's clock, whose readings are counted.
+#[derive(Drop)]
+struct MeteredClock<R> {
+    rt: R,
+    meter: Arc<Meter, Global>,
+}
+
+impl<R: Runtime + CpuClock> PoolClock for MeteredClock<R> {
+    fn now(&self) -> Moment {
+        self.meter.readings.count();
+        self.meter.used.set(nanos(self.rt.thread_cpu_time()));
+        Moment(nanos(self.rt.monotonic()))
+    }
+}
+
+/// A pool of a server's connections by such a clock.
+type MeteredPool<R, L> = Pool<Server, Errors, NopCustomizer, MeteredClock<R>, R, L>;
+
+/// One thread gets a connection that is to be opened, and then lets the pool alone for a while.
+#[derive(Drop)]
+struct Resting<R> {
+    rt: R,
+    meter: Arc<Meter, Global>,
+    rest: Duration,
+}
+
+/// What such a thread saw.
+#[derive(Clone, Copy)]
+struct Rested {
+    /// How many nanoseconds after it began the get was served.
+    served: u64,
+    /// How many turns the driver made meanwhile.
+    turns: u64,
+    /// The processor time that they took, in nanoseconds.
+    used: u64,
+}
+
+impl<R: Runtime + CpuClock> Resting<R> {
+    /// Waits until the driver has begun a turn.
+    fn turned(&self) {
+        let before = self.meter.readings.get();
+        for _ in 0..10_000u32 {
+            if self.meter.readings.get() != before {
+                break;
+            }
+            thread::sleep(&self.rt, Duration::from_millis(1));
+        }
+    }
+}
+
+impl<R: Runtime + CpuClock> Service<Server, Errors, NopCustomizer, MeteredClock<R>, R>
+    for Resting<R> {
+    /// None where the get was not served.
+    type Told = Option<Rested>;
+
+    type Outcome = Option<Rested>;
+
+    fn begin<L: PoolParts>(&self, _pool: &MeteredPool<R, L>) -> Result<(), Option<Rested>> {
+        Ok(())
+    }
+
+    fn run<L: PoolParts>(&self, pool: &MeteredPool<R, L>, _thread: usize) -> Option<Rested> {
+        self.turned();
+        let begun = nanos(self.rt.monotonic());
+        let guard = PoolCalls::get_blocking(pool).ok()?;
+        let served = nanos(self.rt.monotonic()).saturating_sub(begun);
+        drop(guard);
+        self.turned();
+        let (turns, used) = (self.meter.readings.get(), self.meter.used.get());
+        thread::sleep(&self.rt, self.rest);
+        Some(Rested {
+            served,
+            turns: self.meter.readings.get().saturating_sub(turns),
+            used: self.meter.used.get().saturating_sub(used),
+        })
+    }
+
+    fn end<L: PoolParts>(
+        &self,
+        _pool: &MeteredPool<R, L>,
+        told: &[Option<Rested>],
+    ) -> Option<Rested> {
+        self.turned();
+        self.meter.ended.set(nanos(self.rt.monotonic()));
+        told.first().copied().flatten()
+    }
+}
+
+/// What the thread saw that rests so long, and how many nanoseconds after the service had ended `serve` answered.
+fn serve_resting<R: Runtime + CpuClock + Threads>(
+    rt: R,
+    rest: Duration,
+) -> Result<(Rested, u64), Fail> {
+    let board = Board::new(rt.alloc())?;
+    let meter = Arc::new(
+        rt.alloc(),
+        Meter {
+            readings: Number::new(0),
+            used: Number::new(0),
+            ended: Number::new(0),
+        },
+    )?;
+    let clock = MeteredClock {
+        rt,
+        meter: Arc::try_clone(&meter)?,
+    };
+    let service = Resting {
+        rt,
+        meter: Arc::try_clone(&meter)?,
+        rest,
+    };
+    let answer = builder_on(&board)?
+        .max_size(1)
+        .serve(server_on(&board)?, clock, rt, 1, &service);
+    let ended = nanos(rt.monotonic()).saturating_sub(meter.ended.get());
+    match answer {
+        Ok(Some(seen)) => Ok((seen, ended)),
+        _ => Err(Fail::new("the get was not served")),
+    }
+}
+
+/// A second with nothing to do takes the driver of a service less than 60 turns, and 10 milliseconds of a processor.
+#[test]
+fn idle_driver_sleeps(rt: HostRuntime) -> Result<(), Fail> {
+    let (Rested { turns, used, .. }, _) = serve_resting(rt, Duration::from_secs(1))?;
+    assert!(&rt; turns < 60, "{turns} turns");
+    assert!(&rt; used < 10_000_000, "{used} nanoseconds");
+    Ok(())
+}
+
+/// A driver that only made turns by itself would come some 50 milliseconds after the one before, which both have just seen: the get that is
+/// granted an approval, and the end of the pool. Of five the quickest is looked at.
+#[test]
+fn grant_and_end_wake_the_driver(rt: HostRuntime) -> Result<(), Fail> {
+    let (mut first, mut last) = (u64::MAX, u64::MAX);
+    for _ in 0..5u32 {
+        let (Rested { served, .. }, ended) = serve_resting(rt, Duration::from_millis(1))?;
+        first = first.min(served);
+        last = last.min(ended);
+    }
+    assert!(&rt; first < 15_000_000, "{first} nanoseconds");
+    assert!(&rt; last < 15_000_000, "{last} nanoseconds");
+    Ok(())
+}
+
+/// Asks a driver what it has to do next.
+#[derive(Drop)]
+struct Asking<R> {
+    rt: R,
+    clock: SetClock,
+    board: Arc<Board, Global>,
+}
+
+/// A pool of a server's connections by a clock that is set.
+type SetPool<R, L> = Pool<Server, Errors, NopCustomizer, SetClock, R, L>;
+
+impl<R: Runtime> User<Server, Errors, NopCustomizer, SetClock, R> for Asking<R> {
+    /// In milliseconds, before each turn and at last.
+    type Outcome = Option<[Option<u64>; 5]>;
+
+    fn run<L: PoolParts>(
+        &self,
+        pool: &SetPool<R, L>,
+        driver: &mut Driver<Server, Errors, NopCustomizer, SetClock, R, L>,
+    ) -> Option<[Option<u64>; 5]> {
+        let task = MockTask::new(&self.rt).ok()?;
+        let mut found = [None; 5];
+        let mut get = PoolCalls::get(pool);
+        for (turn, due) in found.iter_mut().enumerate() {
+            *due = DriverCalls::next_due(driver).map(|due| due.0 / MILLI);
+            if turn == 1 {
+                drop(task.poll(&mut get));
+                self.board.fails.set(1);
+            }
+            if turn == 2 {
+                self.board.opening.set(Course::Lasts);
+                self.clock.set(Moment(SECOND + 400 * MILLI));
+            }
+            if turn == 3 {
+                self.board.opening.set(Course::Passes);
+            }
+            let _ = DriverCalls::turn_now(driver);
+        }
+        Some(found)
+    }
+}
+
+/// The first tick, half a minute after the pool was made; the second try, 400 milliseconds after the first one failed; at once, while it is
+/// pending; and the tick again.
+#[test]
+fn next_due_is_the_earliest(rt: HostRuntime) -> Result<(), Fail> {
+    let board = Board::new(rt.alloc())?;
+    let clock = SetClock::new(rt.alloc(), Moment(SECOND))?;
+    let user = Asking {
+        rt,
+        clock: clock.try_clone()?,
+        board: Arc::try_clone(&board)?,
+    };
+    let found = builder_on(&board)?
+        .max_size(1)
+        .with_pool(server_on(&board)?, clock, rt, &user)?;
+    let wanted = [
+        Some(31_000),
+        Some(31_000),
+        Some(1400),
+        Some(0),
+        Some(31_000),
+    ];
+    assert_equal(&rt, found, Some(wanted));
+    Ok(())
+}

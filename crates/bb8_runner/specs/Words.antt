@@ -1,0 +1,21 @@
+-- The words that the definitions speak with.
+pub use Rattle.std.specs.Prelude.{ℕ, List, [], ◌∷◌, Option, Some, None, nat_lt, ◌&&◌, if◌then◌else◌, codes, option_and_then, ◌^◌, ◌==◌, true, false, decimal, option_map, unwrap_or, length, Bool, ◌≡◌, ◌+◌, ◌-◌, ◌<◌, take, slice_index, slice_index_or, map, ◌⊎◌, ⊤, ◌≢◌, ◌++◌, ◌/◌, flat_map, All, IfOk, IfSome, IfErr, IsErrOf, string_bytes, ◌≤◌}
+pub use Rattle.std.specs.Str.{bytes_eq}
+pub use Rattle.bb8_runner.specs.declared.threads.arguments.Mode.TheVariants.{Script, Threads}
+pub use Rattle.std.specs.List.{slice_split, before_first, after_first, position_or_len, join_with_byte, sum_by}
+pub use Rattle.bb8_core.specs.declared.replay.events.Act.{Act}
+pub use Rattle.bb8_core.specs.declared.replay.events.Act.TheVariants.{Begin, Try, CheckedOk, CheckedErr, GiveUp, PutBack, Fill, Claim, Opened, Failed, Add, Reap, State, Join, Leave, Look}
+pub use Rattle.bb8_types.specs.declared.reasons.Reason.TheVariants.{TimedOut, Cancelled}
+pub use Rattle.bb8_core.specs.declared.replay.events.Event.{Event}
+pub use Rattle.bb8_types.specs.declared.api.configuration.QueueStrategy.{QueueStrategy}
+pub use Rattle.bb8_types.specs.declared.api.configuration.QueueStrategy.TheVariants.{Fifo, Lifo}
+pub use Rattle.bb8_types.specs.Settings.{Settings, default_settings, is_lawful, settings_of}
+pub use Rattle.bb8_ledger.specs.Ledger.{Ledger, figures, opening_with}
+pub use Rattle.bb8_core.specs.Run.{IsRun}
+pub use Rattle.bb8_core.specs.declared.replay.events.Answer.{Answer}
+pub use Rattle.bb8_runner.specs.declared.verdict.Verdict.{Verdict}
+pub use Rattle.bb8_runner.specs.declared.verdict.Verdict.TheVariants.{Ran, Bad}
+pub use Rattle.bb8_types.specs.Figures.{Counts, Figures, figures_of}
+pub use Rattle.bb8_journal.specs.History.{events_of, answers_of, Replays}
+pub use Rattle.bb8_journal.specs.Notes.{steps_of, notes_of}
+pub use Rattle.std.specs.Io.KnownBytes.{Appends}

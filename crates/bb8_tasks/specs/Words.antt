@@ -1,0 +1,26 @@
+-- The words that the definitions speak with.
+pub use Rattle.std.specs.Prelude.{◌≡◌, ℕ, ◌+◌, ◌/◌, ◌<◌, ◌≤◌, Bool, true, List, [], ◌∷◌, ⊤, ◌⊎◌, Result, Ok, Err, max, false, min, None, ◌*◌, leb, Option, Some, ◌-◌, ◌++◌, zero, suc, length, ◌||◌, is_some, map}
+pub use Rattle.bb8_types.specs.declared.api.moments.Moment.{Moment}
+pub use Rattle.bb8_types.specs.Bounds.{last_moment}
+pub use Rattle.bb8_ledger.specs.Waits.{waits, IsMostWaits, wait}
+pub use Rattle.bb8_tasks.specs.declared.backoff.Reply.{Reply}
+pub use Rattle.futures.specs.declared.task.Poll.{Poll}
+pub use Rattle.futures.specs.declared.task.Poll.TheVariants.{Ready, Pending}
+pub use Rattle.bb8_tasks.specs.declared.rounds.Round.{Round}
+pub use Rattle.std.specs.Bool.{MatchBool}
+pub use Rattle.bb8_tasks.specs.declared.opener.Opener.{Ghosts as OpenerOf}
+pub use Rattle.bb8_ledger.specs.Answers.{Answer}
+pub use Rattle.bb8_tasks.specs.declared.home.FailedStep.{FailedStep}
+pub use Rattle.bb8_tasks.specs.declared.home.OpenedStep.{OpenedStep}
+pub use Rattle.bb8_tasks.specs.declared.home.ClaimHome.{Ghosts as ClaimHomeOf}
+pub use Rattle.bb8_tasks.specs.declared.home.Home.{Ghosts as HomeOf}
+pub use Rattle.bb8_tasks.specs.declared.home.ReapHome.{Ghosts as ReapHomeOf}
+pub use Rattle.bb8_tasks.specs.declared.replenish.Replenish.{Replenish}
+pub use Rattle.bb8_tasks.specs.declared.replenish.ReplenishAnswer.{ReplenishAnswer}
+pub use Rattle.bb8_tasks.specs.declared.home.ReapStep.{ReapStep}
+pub use Rattle.std.specs.Duration.{as_nanos}
+pub use Rattle.bb8_core.specs.declared.answers.Looked.{Looked}
+pub use Rattle.bb8_tasks.specs.declared.reaper.Reaper.{Reaper}
+pub use Rattle.bb8_tasks.specs.declared.reaper.ReaperAnswer.{ReaperAnswer}
+pub use Rattle.bb8_tables.specs.declared.keys.Key.{Key}
+pub use Rattle.bb8_tasks.specs.declared.replenish.ReplenishAnswer.TheVariants.{Retrying, Failed}

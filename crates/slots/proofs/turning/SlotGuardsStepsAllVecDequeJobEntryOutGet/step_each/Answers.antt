@@ -1,0 +1,27 @@
+use Rattle.slots.proofs.Words.{◌<◌, ◌∙◌, refl, arith, deque_len, PollsGet}
+use Rattle.slots.proofs.Stepped.{Midway-first, Midway-step, Midway-over}
+use Rattle.slots.proofs.turning.SlotGuardsStepsAllVecDequeJobEntryOutGet.step_each.Goals as goal
+
+pub loop-init : goal.loop-init
+loop-init g c = record {
+  midway = Midway-first g.J.Job.polls (PollsGet g.S.ErrorSink.sinks g.K.Clock.tells) c.args.now _ _ (omega arith);
+  len = omega arith;
+  most = omega arith;
+  held = λ h. h;
+  pool = refl;
+  kept = λ fact h. h;
+}
+
+pub loop-preserved : goal.loop-preserved
+loop-preserved g c =
+    let some : 0 < deque_len c.loop.queue = omega (arith, c.loop.invariant.len) in record {
+      midway = Midway-step g.J.Job.polls (PollsGet g.S.ErrorSink.sinks g.K.Clock.tells) c.args.now _ _ _ _ _ _ _ (omega arith) c.loop.invariant.midway (c.step_first-ended.ensures.steps some);
+      len = omega (arith, c.loop.invariant.len);
+      most = omega arith;
+      held = λ h. c.step_first-ended.ensures.held (c.loop.invariant.held h);
+      pool = c.step_first-ended.ensures.pool ∙ c.loop.invariant.pool;
+      kept = λ fact h. c.step_first-ended.ensures.kept fact (c.loop.invariant.kept fact h);
+    }
+
+pub returns-clause-steps : goal.returns-clause-steps
+returns-clause-steps g c = Midway-over g.J.Job.polls (PollsGet g.S.ErrorSink.sinks g.K.Clock.tells) c.args.now _ _ _ _ (omega arith) c.loop.invariant.midway
