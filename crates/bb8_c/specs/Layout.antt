@@ -1,5 +1,6 @@
 -- The layout of the structs that cross to C: their sizes, and samples whose fields all differ.
-use Rattle.bb8_c.specs.Words.{ℕ, Bool, true, cond, [], ◌∷◌, Option, Some, None, slice_get, Name, Told, Settings, Figures, Looked}
+use Rattle.std.specs.Prelude.{ℕ, Bool, true, cond, [], ◌∷◌, Option, Some, None, slice_get}
+use Rattle.bb8_c.specs.Words.{Name, Told, Settings, Figures, Looked}
 
 -- what a list has at a place, and 0 where it has nothing
 abbrev pub or_zero : Option ℕ → ℕ

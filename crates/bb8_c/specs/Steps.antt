@@ -1,5 +1,6 @@
 -- Gets in one call, what steps list as closed, and steps behind a handle.
-use Rattle.bb8_c.specs.Words.{◌≡◌, ◌⊎◌, ℕ, Bool, true, false, cond, eqb, List, [], ◌++◌, drop, slice_get, Option, Some, None, Closed, Ledger, ReapAnswer, Shown, Means, Meets, TellsFitting, try_told, reap_told, leave_told, HandsOut, NoneAtOnce, Got, Listing, Left}
+use Rattle.std.specs.Prelude.{◌≡◌, ◌⊎◌, ℕ, Bool, true, false, cond, eqb, List, [], ◌++◌, drop, slice_get, Option, Some, None}
+use Rattle.bb8_c.specs.Words.{Closed, Ledger, ReapAnswer, Shown, Means, Meets, TellsFitting, try_told, reap_told, leave_told, HandsOut, NoneAtOnce, Got, Listing, Left}
 use Rattle.bb8_types.specs.Numbered.{tally}
 use Rattle.bb8_ledger.specs.Acts.{Act, Reason, TimedOut, Cancelled, Begin, Try, Reap, Leave}
 use Rattle.bb8_ledger.specs.Answers.{Answer, Begun, Memory, Exhausted}

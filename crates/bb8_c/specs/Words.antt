@@ -1,5 +1,4 @@
 -- The words that the definitions speak with.
-pub use Rattle.std.specs.Prelude.{ℕ, Option, Some, None, refl, ◌/◌, min, true, false, Bool, cond, [], ◌∷◌, slice_get, ◌≡◌, zero, suc, ⊤, ◌⊎◌, eqb, List, ◌++◌, drop, IsSome, IfSome, IfNone}
 pub use Rattle.bb8_tables.specs.declared.closed.Closed.{Closed}
 pub use Rattle.bb8_core.specs.Shown.{Shown, shown_code, Means, Meets, TellsFitting, IsRecordIn, IsNoRecordIn}
 pub use Rattle.bb8_c.specs.declared.listing.Listing.{Listing}

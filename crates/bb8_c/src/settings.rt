@@ -1,5 +1,6 @@
 //! What a pool holds to, as C passes it.
-ghost use Rattle.bb8_c.specs.Words.{◌≡◌, as_nanos, settings_of};
+ghost use Rattle.std.specs.Prelude.{◌≡◌};
+ghost use Rattle.bb8_c.specs.Words.{as_nanos, settings_of};
 ghost use Rattle.std.specs.Option.{option_map};
 ghost use Rattle.bb8_c.specs.Openings.{limit_of, held_to, order_of};
 

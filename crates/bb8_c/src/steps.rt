@@ -1,6 +1,7 @@
 //! A core over numbers, and a get of one call.
 
-ghost use Rattle.bb8_c.specs.Words.{◌≡◌, IfSome, IfNone, ServesAtOnce};
+ghost use Rattle.std.specs.Prelude.{◌≡◌, IfSome, IfNone};
+ghost use Rattle.bb8_c.specs.Words.{ServesAtOnce};
 ghost use Rattle.bb8_c.specs.Steps.{Gets, NotAtOnce};
 
 use bb8_core::api::Moment;

@@ -1,6 +1,7 @@
 -- What guards and handles do with a pool, over the relations of any home with sections and of any calls outside. As these are free, each says
 -- which calls and steps are made, how many, and in which order.
-use Rattle.bb8_lock.specs.Words.{◌≡◌, ℕ, ◌<◌, Bool, Option, Some, None, Result, Ok, Err, Poll, Ready, Pending, AddError, RunError, State, Moment, AddAnswer, HomeOf, Taken, OutsideOf, Settled, Stage, Asks, Cancels, Starts, Joining, SectionsOf}
+use Rattle.std.specs.Prelude.{◌≡◌, ℕ, ◌<◌, Bool, Option, Some, None, Result, Ok, Err}
+use Rattle.bb8_lock.specs.Words.{Poll, Ready, Pending, AddError, RunError, State, Moment, AddAnswer, HomeOf, Taken, OutsideOf, Settled, Stage, Asks, Cancels, Starts, Joining, SectionsOf}
 use Rattle.bb8_types.specs.declared.api.errors.AddError.TheVariants.{Broken, NoCapacity, Withheld}
 use Rattle.bb8_core.specs.declared.answers.AddAnswer.TheVariants as adding
 use Rattle.bb8_core.specs.declared.answers.LeaveAnswer.{LeaveAnswer}

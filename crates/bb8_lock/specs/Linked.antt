@@ -1,6 +1,7 @@
 -- What gets, guards and handles do on a pool: the tables at what a pool's lock holds, while it is held, and at the pool's own manager, error sink
 -- and clock.
-use Rattle.bb8_lock.specs.Words.{◌≡◌, ◌≤◌, ℕ, false, None, Option, Some, Result, Ok, Err, IfOk, ⊤, MutexGuard, DebugOf, Poll, Ready, Pending, Moment, AddError, RunError, State, ManagerOf, settings_of, add_told, begin_told, checked_err_told, give_up_told, leave_told, look_told, put_back_told, reason_of, GivesBack, Refuses, HomeOf, Taken, Joined, OutsideOf, Settled, Stage, Joining, SectionsOf, Locked, Part, PartsOf, LinkHome, Shared, StepsIn, answered, passed_told, tried_told, HandsBackHeld, HandsBackInvalid, HandsOutOf, GetPolls, Cancels}
+use Rattle.std.specs.Prelude.{◌≡◌, ◌≤◌, ℕ, false, None, Option, Some, Result, Ok, Err, IfOk, ⊤}
+use Rattle.bb8_lock.specs.Words.{MutexGuard, DebugOf, Poll, Ready, Pending, Moment, AddError, RunError, State, ManagerOf, settings_of, add_told, begin_told, checked_err_told, give_up_told, leave_told, look_told, put_back_told, reason_of, GivesBack, Refuses, HomeOf, Taken, Joined, OutsideOf, Settled, Stage, Joining, SectionsOf, Locked, Part, PartsOf, LinkHome, Shared, StepsIn, answered, passed_told, tried_told, HandsBackHeld, HandsBackInvalid, HandsOutOf, GetPolls, Cancels}
 use Rattle.std.specs.Sync.Mutex.{mutex_guard_value}
 use Rattle.bb8_types.specs.Figures.{figures_of}
 use Rattle.bb8_ledger.specs.Acts as acts

@@ -1,5 +1,6 @@
 -- Tasks on a pool's lock, which is taken for each of their steps alone, and by the pool's own manager, customizer, error sink and clock.
-use Rattle.bb8_lock.specs.Words.{◌≡◌, None, Option, Result, List, as_nanos, MutexGuard, DebugOf, Poll, Moment, CustomizerOf, ManagerOf, look_told, Joined, StepsIn, OpenerOf, PoolOpener, ReportsOf, joined_opener, joined_reports, joined_tasks, Locked, PartsOf, LinkHome, Shared}
+use Rattle.std.specs.Prelude.{◌≡◌, None, Option, Result, List}
+use Rattle.bb8_lock.specs.Words.{as_nanos, MutexGuard, DebugOf, Poll, Moment, CustomizerOf, ManagerOf, look_told, Joined, StepsIn, OpenerOf, PoolOpener, ReportsOf, joined_opener, joined_reports, joined_tasks, Locked, PartsOf, LinkHome, Shared}
 use Rattle.bb8_ledger.specs.Acts as acts
 use Rattle.bb8_tasks.specs.declared.dedicated.Dedicated.{Dedicated}
 use Rattle.bb8_tasks.specs.declared.home.Home.{Ghosts as HomeOf}

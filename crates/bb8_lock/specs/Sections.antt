@@ -1,5 +1,6 @@
 -- What the sections of a pool answer, in the words of the ledger.
-use Rattle.bb8_lock.specs.Words.{◌≡◌, Bool, true, false, Result, Ok, Err, AddAnswer, Joining, Answer}
+use Rattle.std.specs.Prelude.{◌≡◌, Bool, true, false, Result, Ok, Err}
+use Rattle.bb8_lock.specs.Words.{AddAnswer, Joining, Answer}
 use Rattle.bb8_core.specs.declared.answers.AddAnswer.TheVariants as adding
 use Rattle.bb8_lock.specs.declared.section_home.Joining.TheVariants as joining
 use Rattle.bb8_ledger.specs.Answers as answers

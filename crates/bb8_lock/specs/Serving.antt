@@ -1,5 +1,6 @@
 -- A get that begins and is served under one lock.
-use Rattle.bb8_lock.specs.Words.{ℕ, Ok, Settings, Grant, Taken, StepsIn, tried_told, HandsOutOf, Locked, Part, PartsOf}
+use Rattle.std.specs.Prelude.{ℕ, Ok}
+use Rattle.bb8_lock.specs.Words.{Settings, Grant, Taken, StepsIn, tried_told, HandsOutOf, Locked, Part, PartsOf}
 use Rattle.bb8_tables.specs.declared.keys.GetKey.{GetKey}
 use Rattle.bb8_ledger.specs.Acts as acts
 use Rattle.bb8_ledger.specs.Answers as answers

@@ -1,5 +1,6 @@
 -- The turns of a driver on a pool's lock, which is taken for each step alone, and by the pool's own manager, customizer, error sink and clock.
-use Rattle.bb8_lock.specs.Words.{◌≡◌, None, as_nanos, DebugOf, CustomizerOf, ManagerOf, Moment, claim_told, look_told, Joined, StepsIn, OpenerOf, PoolOpener, ReportsOf, joined_claims, joined_opener, joined_reaps, joined_reports, joined_tasks, Locked, PartsOf, LinkHome, Shared}
+use Rattle.std.specs.Prelude.{◌≡◌, None}
+use Rattle.bb8_lock.specs.Words.{as_nanos, DebugOf, CustomizerOf, ManagerOf, Moment, claim_told, look_told, Joined, StepsIn, OpenerOf, PoolOpener, ReportsOf, joined_claims, joined_opener, joined_reaps, joined_reports, joined_tasks, Locked, PartsOf, LinkHome, Shared}
 use Rattle.bb8_ledger.specs.Acts as acts
 use Rattle.bb8_tasks.specs.declared.home.ClaimHome.{Ghosts as ClaimHomeOf}
 use Rattle.bb8_tasks.specs.declared.home.ReapHome.{Ghosts as ReapHomeOf}

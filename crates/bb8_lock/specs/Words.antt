@@ -1,5 +1,4 @@
 -- The words that the definitions speak with.
-pub use Rattle.std.specs.Prelude.{◌≡◌, ℕ, ◌<◌, Bool, Option, Some, None, Result, Ok, Err, ◌≤◌, false, IfOk, ⊤, List, true}
 pub use Rattle.futures.specs.declared.task.Poll.{Poll}
 pub use Rattle.futures.specs.declared.task.Poll.TheVariants.{Ready, Pending}
 pub use Rattle.bb8_types.specs.declared.api.errors.AddError.{AddError}

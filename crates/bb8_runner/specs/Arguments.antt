@@ -1,5 +1,6 @@
 -- What the arguments of the program ask for.
-use Rattle.bb8_runner.specs.Words.{ℕ, List, [], ◌∷◌, Option, Some, None, nat_lt, ◌&&◌, if◌then◌else◌, codes, option_and_then, bytes_eq, Script, Threads}
+use Rattle.std.specs.Prelude.{ℕ, List, [], ◌∷◌, Option, Some, None, nat_lt, ◌&&◌, if◌then◌else◌, codes, option_and_then}
+use Rattle.bb8_runner.specs.Words.{bytes_eq, Script, Threads}
 use Rattle.bb8_runner.specs.Grammar.{number_of}
 use Rattle.bb8_runner.specs.declared.threads.arguments.Mode.{Mode}
 

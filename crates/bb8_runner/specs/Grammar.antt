@@ -1,5 +1,6 @@
 -- What the lines of a script are read as.
-use Rattle.bb8_runner.specs.Words.{ℕ, ◌^◌, ◌==◌, nat_lt, List, [], ◌∷◌, true, false, ◌&&◌, if◌then◌else◌, Option, Some, None, codes, decimal, option_and_then, option_map, unwrap_or, slice_split, bytes_eq, Act, Begin, Try, CheckedOk, CheckedErr, GiveUp, PutBack, Fill, Claim, Opened, Failed, Add, Reap, State, Join, Leave, Look, TimedOut, Cancelled, Event}
+use Rattle.std.specs.Prelude.{ℕ, ◌^◌, ◌==◌, nat_lt, List, [], ◌∷◌, true, false, ◌&&◌, if◌then◌else◌, Option, Some, None, codes, decimal, option_and_then, option_map, unwrap_or}
+use Rattle.bb8_runner.specs.Words.{slice_split, bytes_eq, Act, Begin, Try, CheckedOk, CheckedErr, GiveUp, PutBack, Fill, Claim, Opened, Failed, Add, Reap, State, Join, Leave, Look, TimedOut, Cancelled, Event}
 use Rattle.std.specs.Str.Parse.{digits_value}
 
 -- what the second gives for the value of the first, where there is one

@@ -1,5 +1,6 @@
 -- What the first line of a script is read as.
-use Rattle.bb8_runner.specs.Words.{ℕ, ◌==◌, List, [], ◌∷◌, length, Bool, true, false, if◌then◌else◌, Option, Some, None, codes, option_map, unwrap_or, before_first, after_first, position_or_len, bytes_eq, QueueStrategy, Fifo, Lifo, Settings, default_settings, is_lawful}
+use Rattle.std.specs.Prelude.{ℕ, ◌==◌, List, [], ◌∷◌, length, Bool, true, false, if◌then◌else◌, Option, Some, None, codes, option_map, unwrap_or}
+use Rattle.bb8_runner.specs.Words.{before_first, after_first, position_or_len, bytes_eq, QueueStrategy, Fifo, Lifo, Settings, default_settings, is_lawful}
 use Rattle.bb8_runner.specs.declared.overrides.Overrides.{Overrides}
 use Rattle.bb8_runner.specs.Grammar.{◌>>=◌, number_of, fields_of}
 

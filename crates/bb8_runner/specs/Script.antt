@@ -1,5 +1,6 @@
 -- A whole script, and what is written for it.
-use Rattle.bb8_runner.specs.Words.{◌≡◌, ℕ, ◌+◌, ◌-◌, ◌<◌, ◌==◌, List, [], ◌∷◌, length, take, slice_index, slice_index_or, if◌then◌else◌, Option, Some, None, map, ◌⊎◌, ⊤, codes, slice_split, Settings, Ledger, figures, opening_with, IsRun, Event, Answer, Verdict, Ran, Bad}
+use Rattle.std.specs.Prelude.{◌≡◌, ℕ, ◌+◌, ◌-◌, ◌<◌, ◌==◌, List, [], ◌∷◌, length, take, slice_index, slice_index_or, if◌then◌else◌, Option, Some, None, map, ◌⊎◌, ⊤, codes}
+use Rattle.bb8_runner.specs.Words.{slice_split, Settings, Ledger, figures, opening_with, IsRun, Event, Answer, Verdict, Ran, Bad}
 use Rattle.bb8_runner.specs.declared.fault.Fault.{Fault}
 use Rattle.bb8_runner.specs.declared.fault.Fault.TheVariants.{Read, Write, Memory as OutOfMemory}
 use Rattle.bb8_runner.specs.declared.lines.NoScript.{NoScript}

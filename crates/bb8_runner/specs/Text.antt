@@ -1,5 +1,6 @@
 -- The bytes that a script's answers print as.
-use Rattle.bb8_runner.specs.Words.{ℕ, ◌/◌, ◌==◌, List, [], ◌∷◌, ◌++◌, true, false, Option, Some, None, codes, decimal, if◌then◌else◌, flat_map, Counts, Figures, figures_of, Answer}
+use Rattle.std.specs.Prelude.{ℕ, ◌/◌, ◌==◌, List, [], ◌∷◌, ◌++◌, true, false, Option, Some, None, codes, decimal, if◌then◌else◌, flat_map}
+use Rattle.bb8_runner.specs.Words.{Counts, Figures, figures_of, Answer}
 use Rattle.bb8_core.specs.declared.replay.events.Answer.TheVariants.{Begun, Memory, Exhausted, Served, Taken, Waiting, Kept, Closed, GaveUp, Granted, Claimed, Ended, Entered, Late, GivenBack, Added, Broken, NoCapacity, Withheld, Reaped, Shown, Joined, Left, Looked, Unfit}
 use Rattle.bb8_types.specs.declared.grants.Grant.{Grant}
 

@@ -1,5 +1,6 @@
 -- What is written for a script that threads ran.
-use Rattle.bb8_runner.specs.Words.{◌≡◌, ℕ, Bool, if◌then◌else◌, List, ◌++◌, length, codes, decimal, sum_by, Settings, Figures, Ledger, figures, opening_with, IsRun, Event, events_of, answers_of, steps_of, notes_of, Verdict, Ran, Bad}
+use Rattle.std.specs.Prelude.{◌≡◌, ℕ, Bool, if◌then◌else◌, List, ◌++◌, length, codes, decimal}
+use Rattle.bb8_runner.specs.Words.{sum_by, Settings, Figures, Ledger, figures, opening_with, IsRun, Event, events_of, answers_of, steps_of, notes_of, Verdict, Ran, Bad}
 use Rattle.std.specs.Bool.{Decides}
 use Rattle.bb8_journal.specs.declared.journal.entries.Entry.{Entry}
 use Rattle.bb8_journal.specs.declared.journal.seats.Notes.{Notes}

@@ -1,5 +1,4 @@
 -- The words that the definitions speak with.
-pub use Rattle.std.specs.Prelude.{ℕ, List, [], ◌∷◌, Option, Some, None, nat_lt, ◌&&◌, if◌then◌else◌, codes, option_and_then, ◌^◌, ◌==◌, true, false, decimal, option_map, unwrap_or, length, Bool, ◌≡◌, ◌+◌, ◌-◌, ◌<◌, take, slice_index, slice_index_or, map, ◌⊎◌, ⊤, ◌≢◌, ◌++◌, ◌/◌, flat_map, All, IfOk, IfSome, IfErr, IsErrOf, string_bytes, ◌≤◌}
 pub use Rattle.std.specs.Str.{bytes_eq}
 pub use Rattle.bb8_runner.specs.declared.threads.arguments.Mode.TheVariants.{Script, Threads}
 pub use Rattle.std.specs.List.{slice_split, before_first, after_first, position_or_len, join_with_byte, sum_by}

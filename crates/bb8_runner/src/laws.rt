@@ -1,5 +1,6 @@
 //! Laws of the language of scripts, each carried by a function that does nothing.
-ghost use Rattle.bb8_runner.specs.Words.{◌≡◌, ◌≢◌, Some, List, ℕ, All, Answer, Event, Figures, Settings};
+ghost use Rattle.std.specs.Prelude.{◌≡◌, ◌≢◌, Some, List, ℕ, All};
+ghost use Rattle.bb8_runner.specs.Words.{Answer, Event, Figures, Settings};
 ghost use Rattle.bb8_runner.specs.Grammar.{event_of, fields_of};
 ghost use Rattle.bb8_runner.specs.Opening.{settings_of_line};
 ghost use Rattle.bb8_runner.specs.Spelling.{SpellsEvent, SpellsSettings, FitsEvent, event_line};

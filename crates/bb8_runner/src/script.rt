@@ -1,5 +1,6 @@
 //! A script from bytes to bytes.
-ghost use Rattle.bb8_runner.specs.Words.{◌≡◌, List, ℕ, IfOk, IfSome, IfErr, IsErrOf, string_bytes, Appends, Verdict};
+ghost use Rattle.std.specs.Prelude.{◌≡◌, List, ℕ, IfOk, IfSome, IfErr, IsErrOf, string_bytes};
+ghost use Rattle.bb8_runner.specs.Words.{Appends, Verdict};
 ghost use Rattle.bb8_runner.specs.Script.{IsAnswer};
 
 use crate::fault::Fault;

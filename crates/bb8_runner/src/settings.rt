@@ -1,5 +1,6 @@
 //! The settings of a script's first line. The language of scripts is our own.
-ghost use Rattle.bb8_runner.specs.Words.{◌≡◌, map, IfOk, IfSome, option_map, unwrap_or, true, settings_of, is_lawful};
+ghost use Rattle.std.specs.Prelude.{◌≡◌, map, IfOk, IfSome, option_map, unwrap_or, true};
+ghost use Rattle.bb8_runner.specs.Words.{settings_of, is_lawful};
 ghost use Rattle.std.specs.Duration.{as_nanos};
 ghost use Rattle.bb8_runner.specs.Opening.{cut, on_or_off, strategy_of, limit_of, with_setting, once, overrides_from, nothing_set, settings_from, settings_of_fields, settings_of_line};
 

@@ -1,5 +1,6 @@
 -- How many openings a replay of one replenishing begins.
-use Rattle.bb8_tasks.specs.Words.{◌≡◌, ℕ, ◌+◌, ◌/◌, ◌<◌, ◌≤◌, Bool, true, List, [], ◌∷◌, ⊤, ◌⊎◌, Moment, last_moment, waits, IsMostWaits, Reply}
+use Rattle.std.specs.Prelude.{◌≡◌, ℕ, ◌+◌, ◌/◌, ◌<◌, ◌≤◌, Bool, true, List, [], ◌∷◌, ⊤, ◌⊎◌}
+use Rattle.bb8_tasks.specs.Words.{Moment, last_moment, waits, IsMostWaits, Reply}
 use Rattle.bb8_tasks.specs.declared.backoff.Reply.TheVariants.{Err}
 
 -- Where half the timeout is not zero: at most two more than the most first waits whose sum is at most the timeout, and there is such a number.

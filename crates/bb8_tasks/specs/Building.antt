@@ -1,5 +1,6 @@
 -- The table of the polls of a building, over whatever makes the pool and its first tasks, and whatever a round of these does.
-use Rattle.bb8_tasks.specs.Words.{◌≡◌, Result, Ok, Err, Poll, Ready, Pending, Round}
+use Rattle.std.specs.Prelude.{◌≡◌, Result, Ok, Err}
+use Rattle.bb8_tasks.specs.Words.{Poll, Ready, Pending, Round}
 use Rattle.bb8_types.specs.declared.api.errors.Memory.{Memory}
 use Rattle.bb8_types.specs.declared.api.errors.RunError.{RunError}
 use Rattle.bb8_types.specs.declared.api.errors.RunError.TheVariants as errors

@@ -1,5 +1,6 @@
 -- The table of the polls of a dedicated connection, over the relations of any opener and of any clock.
-use Rattle.bb8_tasks.specs.Words.{◌≡◌, max, Bool, true, false, Result, Ok, Err, MatchBool, Poll, Ready, Pending, Moment, OpenerOf}
+use Rattle.std.specs.Prelude.{◌≡◌, max, Bool, true, false, Result, Ok, Err}
+use Rattle.bb8_tasks.specs.Words.{MatchBool, Poll, Ready, Pending, Moment, OpenerOf}
 use Rattle.bb8_tasks.specs.declared.dedicated.Dedicated.{Dedicated}
 use Rattle.bb8_tasks.specs.declared.dedicated.Opened.{Opened}
 use Rattle.bb8_tasks.specs.declared.dedicated.Opening.{Opening}

@@ -1,5 +1,6 @@
 -- What the steps of a task answer, in the words of the ledger.
-use Rattle.bb8_tasks.specs.Words.{◌≡◌, ℕ, ⊤, Answer, FailedStep, OpenedStep}
+use Rattle.std.specs.Prelude.{◌≡◌, ℕ, ⊤}
+use Rattle.bb8_tasks.specs.Words.{Answer, FailedStep, OpenedStep}
 use Rattle.bb8_ledger.specs.Answers as answers
 use Rattle.bb8_tables.specs.Keys.{notified_of}
 use Rattle.bb8_tasks.specs.declared.home.FailedStep.TheVariants as failed

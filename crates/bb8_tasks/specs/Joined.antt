@@ -1,6 +1,7 @@
 -- The relations of a home of tasks and of calls outside as one value: a step of the home leaves the calls as they were, and a call leaves the
 -- home.
-use Rattle.bb8_tasks.specs.Words.{◌≡◌, ClaimHomeOf, HomeOf, ReapHomeOf, OpenerOf}
+use Rattle.std.specs.Prelude.{◌≡◌}
+use Rattle.bb8_tasks.specs.Words.{ClaimHomeOf, HomeOf, ReapHomeOf, OpenerOf}
 use Rattle.bb8_core.specs.declared.joined.Joined.{Joined}
 use Rattle.bb8_tasks.specs.declared.rounds.Reports.{Ghosts as ReportsOf}
 

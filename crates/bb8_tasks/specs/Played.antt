@@ -1,5 +1,6 @@
 -- Replays of one replenishing over a list of polls.
-use Rattle.bb8_tasks.specs.Words.{◌≡◌, ℕ, ◌+◌, min, Bool, true, None, Result, Ok, Err, List, [], ◌∷◌, Poll, Ready, Pending, Moment, Reply, HomeOf, OpenerOf, Replenish, ReplenishAnswer}
+use Rattle.std.specs.Prelude.{◌≡◌, ℕ, ◌+◌, min, Bool, true, None, Result, Ok, Err, List, [], ◌∷◌}
+use Rattle.bb8_tasks.specs.Words.{Poll, Ready, Pending, Moment, Reply, HomeOf, OpenerOf, Replenish, ReplenishAnswer}
 use Rattle.bb8_tasks.specs.declared.backoff.Reply.TheVariants as replies
 use Rattle.bb8_tasks.specs.declared.backoff.Scripted.{Scripted}
 use Rattle.bb8_tasks.specs.declared.home.FailedStep.TheVariants as failing

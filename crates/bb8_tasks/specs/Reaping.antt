@@ -1,5 +1,6 @@
 -- The ticks of a reaper, and the table of its polls, over the relations of any home.
-use Rattle.bb8_tasks.specs.Words.{◌≡◌, ℕ, ◌+◌, ◌*◌, ◌<◌, ◌≤◌, leb, max, Bool, true, false, Option, Some, None, MatchBool, as_nanos, Moment, last_moment, Looked, ReapStep, Reaper, ReaperAnswer}
+use Rattle.std.specs.Prelude.{◌≡◌, ℕ, ◌+◌, ◌*◌, ◌<◌, ◌≤◌, leb, max, Bool, true, false, Option, Some, None}
+use Rattle.bb8_tasks.specs.Words.{MatchBool, as_nanos, Moment, last_moment, Looked, ReapStep, Reaper, ReaperAnswer}
 use Rattle.bb8_tasks.specs.declared.home.ReapHome.{Ghosts as HomeOf}
 use Rattle.bb8_tasks.specs.declared.home.ReapStep.TheVariants as step
 use Rattle.bb8_tasks.specs.declared.reaper.ReaperAnswer.TheVariants.{Idle, Reaped, Ended}

@@ -1,5 +1,6 @@
 -- The table of a replenishing's polls, over the relations of any value that is a home and an opener: one chain of steps and calls.
-use Rattle.bb8_tasks.specs.Words.{◌≡◌, ℕ, ◌+◌, ◌-◌, ◌<◌, ◌≤◌, max, min, Bool, true, false, Option, Some, None, Result, Ok, Err, ◌⊎◌, MatchBool, Poll, Ready, Pending, Moment, last_moment, Key, wait, Looked, FailedStep, HomeOf, OpenedStep, OpenerOf, Replenish, ReplenishAnswer}
+use Rattle.std.specs.Prelude.{◌≡◌, ℕ, ◌+◌, ◌-◌, ◌<◌, ◌≤◌, max, min, Bool, true, false, Option, Some, None, Result, Ok, Err, ◌⊎◌}
+use Rattle.bb8_tasks.specs.Words.{MatchBool, Poll, Ready, Pending, Moment, last_moment, Key, wait, Looked, FailedStep, HomeOf, OpenedStep, OpenerOf, Replenish, ReplenishAnswer}
 use Rattle.bb8_tasks.specs.declared.home.OpenedStep.TheVariants as opened
 use Rattle.bb8_tasks.specs.declared.replenish.ReplenishStep.{ReplenishStep}
 use Rattle.bb8_tasks.specs.declared.replenish.ReplenishAnswer.TheVariants as answers

@@ -1,5 +1,6 @@
 -- A list of tasks: how it grows, and how its tasks are polled, each once and in their order.
-use Rattle.bb8_tasks.specs.Words.{◌≡◌, ℕ, zero, suc, ◌+◌, Option, Some, None, List, [], ◌∷◌, ◌++◌, length, Key, Replenish, ReplenishAnswer, Retrying, Failed, Round}
+use Rattle.std.specs.Prelude.{◌≡◌, ℕ, zero, suc, ◌+◌, Option, Some, None, List, [], ◌∷◌, ◌++◌, length}
+use Rattle.bb8_tasks.specs.Words.{Key, Replenish, ReplenishAnswer, Retrying, Failed, Round}
 use Rattle.bb8_core.specs.declared.answers.ClaimAnswer.{ClaimAnswer}
 use Rattle.bb8_core.specs.declared.answers.ClaimAnswer.TheVariants.{Claimed, Ended}
 use Rattle.bb8_tasks.specs.declared.replenish.ReplenishAnswer.TheVariants.{Pending}

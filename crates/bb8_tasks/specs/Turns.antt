@@ -1,5 +1,6 @@
 -- A turn of a driver, over the relations of any value that is a home, an opener and a sink: one chain of steps and calls.
-use Rattle.bb8_tasks.specs.Words.{◌≡◌, ℕ, Bool, true, false, ◌||◌, is_some, Option, Some, None, List, [], ◌∷◌, ◌++◌, map, length, ◌⊎◌, as_nanos, Moment, Key, ClaimHomeOf, HomeOf, ReapHomeOf, OpenerOf, Reaper, ReaperAnswer, Replenish}
+use Rattle.std.specs.Prelude.{◌≡◌, ℕ, Bool, true, false, ◌||◌, is_some, Option, Some, None, List, [], ◌∷◌, ◌++◌, map, length, ◌⊎◌}
+use Rattle.bb8_tasks.specs.Words.{as_nanos, Moment, Key, ClaimHomeOf, HomeOf, ReapHomeOf, OpenerOf, Reaper, ReaperAnswer, Replenish}
 use Rattle.bb8_types.specs.Settings.{Settings}
 use Rattle.bb8_core.specs.declared.answers.ClaimAnswer.TheVariants as claim
 use Rattle.bb8_tasks.specs.Reaping as reaping

@@ -1,5 +1,4 @@
 -- The words that the definitions speak with.
-pub use Rattle.std.specs.Prelude.{◌≡◌, ℕ, ◌+◌, ◌/◌, ◌<◌, ◌≤◌, Bool, true, List, [], ◌∷◌, ⊤, ◌⊎◌, Result, Ok, Err, max, false, min, None, ◌*◌, leb, Option, Some, ◌-◌, ◌++◌, zero, suc, length, ◌||◌, is_some, map}
 pub use Rattle.bb8_types.specs.declared.api.moments.Moment.{Moment}
 pub use Rattle.bb8_types.specs.Bounds.{last_moment}
 pub use Rattle.bb8_ledger.specs.Waits.{waits, IsMostWaits, wait}

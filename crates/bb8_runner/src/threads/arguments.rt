@@ -1,5 +1,6 @@
 //! What the arguments of the program ask for.
-ghost use Rattle.bb8_runner.specs.Words.{◌≡◌, ◌≤◌, ℕ, Some, map, string_bytes, Threads};
+ghost use Rattle.std.specs.Prelude.{◌≡◌, ◌≤◌, ℕ, Some, map, string_bytes};
+ghost use Rattle.bb8_runner.specs.Words.{Threads};
 ghost use Rattle.bb8_runner.specs.Arguments.{threads_of, arguments_of};
 
 use crate::grammar::number;

@@ -1,5 +1,6 @@
 //! A list of events, dealt to threads: event i, from 0, goes to the seat i mod n.
-ghost use Rattle.bb8_runner.specs.Words.{◌≡◌, ◌<◌, true, IfOk, length, sum_by, settings_of, is_lawful, Replays, steps_of, notes_of};
+ghost use Rattle.std.specs.Prelude.{◌≡◌, ◌<◌, true, IfOk, length};
+ghost use Rattle.bb8_runner.specs.Words.{sum_by, settings_of, is_lawful, Replays, steps_of, notes_of};
 
 use bb8_core::api::{Config, Memory};
 use bb8_core::internals::PoolInternals;

@@ -1,5 +1,6 @@
 //! A script from bytes to bytes, in threads.
-ghost use Rattle.bb8_runner.specs.Words.{◌≡◌, ◌<◌, true, List, ℕ, IfOk, IfSome, IfErr, IsErrOf, string_bytes, Appends, settings_of, is_lawful, Verdict};
+ghost use Rattle.std.specs.Prelude.{◌≡◌, ◌<◌, true, List, ℕ, IfOk, IfSome, IfErr, IsErrOf, string_bytes};
+ghost use Rattle.bb8_runner.specs.Words.{Appends, settings_of, is_lawful, Verdict};
 ghost use Rattle.bb8_runner.specs.Threads.{IsThreadsAnswer, IsDealtText};
 
 use crate::fault::Fault;

@@ -1,5 +1,6 @@
 //! What is told of a script that threads ran.
-ghost use Rattle.bb8_runner.specs.Words.{◌≡◌, IfOk, string_bytes, figures_of};
+ghost use Rattle.std.specs.Prelude.{◌≡◌, IfOk, string_bytes};
+ghost use Rattle.bb8_runner.specs.Words.{figures_of};
 ghost use Rattle.bb8_runner.specs.Threads.{dealt_text};
 
 use crate::text::output;
