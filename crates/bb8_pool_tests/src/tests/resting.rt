@@ -6,13 +6,16 @@ use bb8::{
     Clock as PoolClock, Driver, DriverCalls, Moment, NopCustomizer, Pool, PoolCalls, PoolParts,
     Runtime, Service, SetClock, User,
 };
-use bb8_trials::{Board, Course, Errors, MILLI, Number, SECOND, Server, builder_on, server_on};
+use bb8_trials::{Board, Course, Errors, Number, SECOND, Server, builder_on, server_on};
 use futures::test::MockTask;
 use std::alloc::Global;
 use std::sync::Arc;
 use std::test::Fail;
 use std::thread::{self, Threads};
 use std::time::{Clock, CpuClock, Duration};
+
+/// One millisecond in nanoseconds.
+const MILLI: u64 = 1_000_000;
 
 /// What a clock has counted.
 #[derive(Drop)]
