@@ -65,8 +65,13 @@ struct Rested {
     used: u64,
 }
 
-impl<R: Runtime + CpuClock> Resting<R> {
+/// A wait for a driver, as a method of an impl, so that those of a service can call it.
+trait AwaitsTurn {
     /// Waits until the driver has begun a turn.
+    fn turned(&self);
+}
+
+impl<R: Runtime + CpuClock> AwaitsTurn for Resting<R> {
     fn turned(&self) {
         let before = self.meter.readings.get();
         for _ in 0..10_000u32 {
