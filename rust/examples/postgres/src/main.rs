@@ -22,6 +22,8 @@ const CONNECTIONS: u32 = 8;
 const TRANSACTIONS: u64 = 10_000;
 /// How long a get may take.
 const PATIENCE: Duration = Duration::from_millis(250);
+/// How long a connection may live.
+const LIFETIME: Duration = Duration::from_millis(700);
 /// How late the machine may run a task whose time has come.
 const SLACK: Duration = Duration::from_millis(400);
 
@@ -192,6 +194,19 @@ async fn disturb(restart: String, seen: Arc<Seen>) {
     }
 }
 
+/// What else comes by chance happens once for certain: while nobody asks, ages run out; when all
+/// connections are taken, a get is let go, and one times out.
+async fn exhaust(pool: &Pool<Database>, seen: &Seen) {
+    sleep(LIFETIME + PATIENCE).await;
+    let mut taken = Vec::new();
+    while taken.len() < CONNECTIONS as usize {
+        taken.extend(get(pool, 0, seen).await);
+    }
+    for attempt in [49, 0] {
+        get(pool, attempt, seen).await;
+    }
+}
+
 #[tokio::main(worker_threads = 4)]
 async fn main() -> Result<ExitCode, Box<dyn std::error::Error>> {
     let arguments: Vec<String> = env::args().collect();
@@ -212,7 +227,7 @@ async fn main() -> Result<ExitCode, Box<dyn std::error::Error>> {
         .max_size(CONNECTIONS)
         .min_idle(2)
         .connection_timeout(PATIENCE)
-        .max_lifetime(Duration::from_millis(700))
+        .max_lifetime(LIFETIME)
         .idle_timeout(Duration::from_millis(200))
         .reaper_rate(Duration::from_millis(50))
         .error_sink(Box::new(Sink(seen.clone())))
@@ -236,6 +251,7 @@ async fn main() -> Result<ExitCode, Box<dyn std::error::Error>> {
     seen.done.store(true, SeqCst);
     watching.await?;
     ending.await?;
+    exhaust(&pool, &seen).await;
     judge(&pool, &admin, &seen, took).await
 }
 
