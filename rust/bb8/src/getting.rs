@@ -4,12 +4,13 @@ use crate::core::{kinds, Name};
 use crate::errors::RunError;
 use crate::managers::ManageConnection;
 use crate::pool::{Lent, Shared};
-use std::future::{poll_fn, Future};
-use std::pin::{pin, Pin};
+use std::future::{pending, poll_fn, Future};
+use std::pin::pin;
 use std::sync::Arc;
 use std::task::{Context, Poll};
+use std::time::Duration;
 use tokio::task::unconstrained;
-use tokio::time::{sleep_until, Instant, Sleep};
+use tokio::time::{sleep_until, Instant};
 
 /// How far a get has come.
 #[derive(Clone, Copy, PartialEq, Eq)]
@@ -30,13 +31,9 @@ pub(crate) struct Getting<'a, M: ManageConnection> {
     began: Instant,
     stage: Stage,
     get: Name,
-    /// What it was handed, and is to check.
+    /// What it was handed.
     held: Option<Lent<M::Connection>>,
 }
-
-/// What a get ends with.
-type Answer<M> =
-    Result<Lent<<M as ManageConnection>::Connection>, RunError<<M as ManageConnection>::Error>>;
 
 impl<'a, M: ManageConnection> Getting<'a, M> {
     pub(crate) fn new(shared: &'a Arc<Shared<M>>) -> Self {
@@ -49,58 +46,41 @@ impl<'a, M: ManageConnection> Getting<'a, M> {
         }
     }
 
-    /// Runs until its end or its deadline, at which it tries once more. The timer is made only
-    /// where something is to be waited for, and on the heap: it is larger than all the rest.
-    pub(crate) async fn answer(mut self) -> Answer<M> {
-        let answer = {
-            let mut timer: Option<Pin<Box<Sleep>>> = None;
-            let deadline = self.deadline();
+    /// Runs until its end or its deadline, at which it tries once more. A get has one answer.
+    pub(crate) async fn answer(&mut self) -> Result<Lent<M::Connection>, RunError<M::Error>> {
+        let limit = self.shared.settings.connection_timeout;
+        // What the check used of the task's budget is not to hold the timer up.
+        let mut timer = pin!(unconstrained(deadline(self.began, limit)));
+        let served = {
             let mut run = pin!(self.run());
-            poll_fn(|cx| {
-                if let Poll::Ready(answer) = run.as_mut().poll(cx) {
-                    return Poll::Ready(answer);
-                }
-                let Some(deadline) = deadline else {
-                    return Poll::Pending;
-                };
-                let timer = timer.get_or_insert_with(|| Box::pin(sleep_until(deadline)));
-                // What the check used of the task's budget is not to hold the timer up.
-                pin!(unconstrained(timer.as_mut()))
-                    .poll(cx)
-                    .map(|()| Err(RunError::TimedOut))
+            poll_fn(|cx| match run.as_mut().poll(cx) {
+                Poll::Pending => timer.as_mut().poll(cx).map(|()| Err(RunError::TimedOut)),
+                ready => ready,
             })
             .await
         };
-        if matches!(answer, Err(RunError::TimedOut)) {
+        if matches!(served, Err(RunError::TimedOut)) {
             self.end(true);
         }
-        answer
+        served.map(|()| self.held.take().expect("what is served holds a connection"))
     }
 
-    /// None where it lies beyond all moments.
-    fn deadline(&self) -> Option<Instant> {
-        let limit = self.shared.settings.connection_timeout;
-        self.began.checked_add(limit)
-    }
-
-    async fn run(&mut self) -> Answer<M> {
+    /// Runs until it is served what it then holds.
+    async fn run(&mut self) -> Result<(), RunError<M::Error>> {
         loop {
-            if let Some(answer) = poll_fn(|cx| self.try_get(cx)).await {
-                return answer;
+            let served = poll_fn(|cx| self.try_get(cx)).await?;
+            if served || self.check().await {
+                return Ok(());
             }
-            if let Some(lent) = self.check().await {
-                return Ok(lent);
-            }
-            let now = Instant::now();
-            if self.deadline().is_some_and(|deadline| now >= deadline) {
+            if self.began.elapsed() >= self.shared.settings.connection_timeout {
                 return Err(RunError::TimedOut);
             }
             next_poll().await;
         }
     }
 
-    /// Ready with an answer, or with none where it was handed a connection that is to be checked.
-    fn try_get(&mut self, cx: &mut Context<'_>) -> Poll<Option<Answer<M>>> {
+    /// Ready once it holds a connection: whether it is served, or is to check it first.
+    fn try_get(&mut self, cx: &mut Context<'_>) -> Poll<Result<bool, RunError<M::Error>>> {
         let mut locked;
         let told = if self.stage == Stage::New {
             let at = self.shared.moment(self.began);
@@ -121,26 +101,27 @@ impl<'a, M: ManageConnection> Getting<'a, M> {
         let polled = match told.kind {
             kinds::SERVED => {
                 self.stage = Stage::Ended;
-                Poll::Ready(Some(Ok(locked.lend(&told))))
+                self.held = Some(locked.lend(&told));
+                Poll::Ready(Ok(true))
             }
             kinds::TAKEN => {
                 self.held = Some(locked.lend(&told));
-                Poll::Ready(None)
+                Poll::Ready(Ok(false))
             }
             kinds::WAITING => {
                 self.stage = Stage::Waited;
                 match locked.waiters.keep(self.get, cx.waker()) {
                     true => Poll::Pending,
-                    false => Poll::Ready(Some(Err(RunError::Memory))),
+                    false => Poll::Ready(Err(RunError::Memory)),
                 }
             }
             kind => {
                 debug_assert!(matches!(kind, kinds::MEMORY | kinds::EXHAUSTED));
                 self.stage = Stage::Ended;
-                Poll::Ready(Some(Err(match kind {
+                Poll::Ready(Err(match kind {
                     kinds::EXHAUSTED => RunError::Exhausted,
                     _ => RunError::Memory,
-                })))
+                }))
             }
         };
         let due = locked.is_due(&told);
@@ -151,26 +132,26 @@ impl<'a, M: ManageConnection> Getting<'a, M> {
         polled
     }
 
-    /// Checks what it holds; with what the check was passed by, the get has ended.
-    async fn check(&mut self) -> Option<Lent<M::Connection>> {
-        let lent = self.held.as_mut()?;
+    /// Whether what it holds passes its check; then the get has ended.
+    async fn check(&mut self) -> bool {
+        let Some(lent) = &mut self.held else {
+            return false;
+        };
         if let Err(error) = self.shared.manager.is_valid(&mut lent.conn).await {
             self.close(error);
-            return None;
+            return false;
         }
         // The moment counts only for the time that a get has waited.
         let at = match self.stage {
             Stage::Waited => self.shared.now(),
             _ => 0,
         };
-        let mut locked = self.shared.lock();
-        let told = locked.core.checked_ok(at, self.get, lent.key.place);
-        drop(locked);
+        let hint = lent.key.place;
+        let told = self.shared.lock().core.checked_ok(at, self.get, hint);
         debug_assert_eq!(told.kind, kinds::SERVED);
         self.stage = Stage::Ended;
-        let mut lent = self.held.take()?;
         lent.key = told.key;
-        Some(lent)
+        true
     }
 
     /// Closes what it holds, whose check has failed.
@@ -195,9 +176,6 @@ impl<'a, M: ManageConnection> Getting<'a, M> {
 
     /// Ends without a connection.
     fn end(&mut self, timed_out: bool) {
-        if matches!(self.stage, Stage::New | Stage::Ended) {
-            return;
-        }
         self.stage = Stage::Ended;
         let Some(mut lent) = self.held.take() else {
             let at = self.shared.now();
@@ -223,7 +201,18 @@ impl<'a, M: ManageConnection> Getting<'a, M> {
 
 impl<M: ManageConnection> Drop for Getting<'_, M> {
     fn drop(&mut self) {
-        self.end(false);
+        if !matches!(self.stage, Stage::New | Stage::Ended) {
+            self.end(false);
+        }
+    }
+}
+
+/// Ends at the deadline, and never where that lies beyond all moments. The timer is made only once
+/// something is waited for, and on the heap: it is larger than all the rest of a get.
+async fn deadline(began: Instant, limit: Duration) {
+    match began.checked_add(limit) {
+        Some(deadline) => Box::pin(sleep_until(deadline)).await,
+        None => pending().await,
     }
 }
 
