@@ -1,9 +1,9 @@
 #!/usr/bin/env python3
 """Measures the core and the live pool beside the original, r2d2, and the Rust crate over the core, and keeps the figures.
 
-    bench/compare.py [--original FOLDER] [--built] [instructions] [bytes] [times]
+    bench/compare.py [--original FOLDER] [--built] [instructions] [bytes] [times] [wakes]
 
-Without a part it measures all three. With --built it takes what an earlier run built; else it builds what is to be had, and says in a line what is not: the core and the live pool by the kit,
+Without a part it measures all four. With --built it takes what an earlier run built; else it builds what is to be had, and says in a line what is not: the core and the live pool by the kit,
 r2d2 and the original where cargo finds them; the original's crate may also lie in FOLDER. The figures go to bench/figures.txt, and the
 pictures in docs/ are drawn of them.
 """
@@ -22,12 +22,15 @@ import measures
 import programs
 from measures import CORE_OF, CRATE_OF, LIVE_OF, ORIGINAL_CORE, ORIGINAL_OF, POOLS, R2D2_OF
 
+PARTS = ("instructions", "bytes", "times", "wakes")
 REPETITIONS = 9
 # all pairs of a run that is timed, in all its threads together
 PAIRS = 800_000
 ROUNDS = 4_000_000
 CROWDS = (10_000, 25_000, 50_000, 100_000)
 THREADS = ((1, 16), (2, 16), (4, 16), (8, 16), (4, 4))
+# rounds of each of two threads that wake each other
+WAKES = "500"
 
 
 def taken():
@@ -88,6 +91,17 @@ def times(have):
     return rows
 
 
+def wakes(have):
+    """How long after a return a get that sleeps is answered: the least median of runs that take turns, with its 95th percentile."""
+    runs = {LIVE_OF: [programs.LIVE, "wake", WAKES], R2D2_OF: [programs.BESIDE, "r2d2", "wake", WAKES, "1"]}
+    told = {whose: [] for whose in runs if whose in have}
+    for _ in range(REPETITIONS):
+        for whose, all_of in told.items():
+            all_of.append([int(word) for word in programs.ran(runs[whose]).split()])
+    rows = [["what", "whose", "median ns", "95th percentile"]]
+    return rows + [["a return to the get that sleeps", whose, *map(str, min(all_of))] for whose, all_of in told.items()]
+
+
 def measured(part, have):
     """The notes and rows of a part."""
     before, notes = load(), taken()
@@ -97,7 +111,7 @@ def measured(part, have):
         return notes, rows
     if part == "bytes":
         return notes, [["what", "whose", "bytes"], *map(list, measures.heaps(have))]
-    rows = times(have)
+    rows = times(have) if part == "times" else wakes(have)
     notes.append(f"Of {REPETITIONS} interleaved runs each. The machine's load was {before} before (1, 5 and 15 minutes) and {load()} after: where it is "
                  "not near 0, other work ran beside them.")
     return notes, rows
@@ -105,13 +119,13 @@ def measured(part, have):
 
 def main():
     asked = argparse.ArgumentParser(description="Measures the pools and keeps the figures.")
-    asked.add_argument("parts", nargs="*", metavar="PART", help="instructions, bytes or times")
+    asked.add_argument("parts", nargs="*", metavar="PART", help=", ".join(PARTS))
     asked.add_argument("--original", metavar="FOLDER", default=os.environ.get("ORIGINAL"), help="the original's crate")
     asked.add_argument("--built", action="store_true", help="builds nothing, and takes what stands built")
     asked = asked.parse_args()
-    parts = asked.parts or ["instructions", "bytes", "times"]
-    if not set(parts) <= {"instructions", "bytes", "times"}:
-        sys.exit("the parts are instructions, bytes and times")
+    parts = asked.parts or PARTS
+    if not set(parts) <= set(PARTS):
+        sys.exit(f"the parts are {', '.join(PARTS)}")
     if asked.built:
         core, live, pools = programs.standing()
     else:
@@ -120,13 +134,13 @@ def main():
     have += [whose for whose, name in POOLS.items() if name in pools]
     kept = figures.read()
     for part in parts:
-        if part != "times" and shutil.which("valgrind") is None:
+        if part in ("instructions", "bytes") and shutil.which("valgrind") is None:
             programs.lacks(f"{part} (no valgrind)")
         elif have:
             print(f"{part}: {', '.join(have)}", flush=True)
             kept[part] = measured(part, have)
     if kept:
-        figures.write({part: kept[part] for part in ("instructions", "bytes", "times") if part in kept})
+        figures.write({part: kept[part] for part in PARTS if part in kept})
         draw.write()
         with open(figures.PATH, encoding="utf-8") as told:
             print(told.read(), end="")

@@ -8,6 +8,7 @@
 //! - `threads`: so many threads, four if none is said, of so many rounds each, with the check off;
 //! - `crowd`: so many gets wait for the connections, which are all out, and are served one by one; `let-go`: they are let go; `wait`:
 //!   they wait for a while;
+//! - `wake`: two threads take turns with one connection of r2d2, and sleep in their gets; it prints two figures, as there;
 //! - `core`: rounds of the original's locked core alone; `core-free` the same without limits on ages;
 //! - `sizes`: how many bytes the future of a get has.
 //!
@@ -41,8 +42,8 @@ fn core_rounds(run: &Run) -> Option<u64> {
 }
 
 /// The answer of a run over this pool. None where there is no such pool or mode.
-fn answer(pool: &str, run: &Run) -> Option<u64> {
-    match pool {
+fn answer(pool: &str, run: &Run) -> Option<String> {
+    let number = match pool {
         #[cfg(feature = "tokio")]
         "crate" => futures::bb8::answer(run),
         #[cfg(feature = "original")]
@@ -50,9 +51,12 @@ fn answer(pool: &str, run: &Run) -> Option<u64> {
         #[cfg(feature = "original")]
         "original" => futures::original::answer(run),
         #[cfg(feature = "r2d2")]
+        "r2d2" if run.mode == "wake" => return threads::woken(run.count),
+        #[cfg(feature = "r2d2")]
         "r2d2" => threads::answer(run),
         _ => None,
-    }
+    };
+    number.map(|number| number.to_string())
 }
 
 /// The words of a run.
@@ -72,8 +76,8 @@ fn told(words: &[String]) -> Option<(&str, Run)> {
 fn main() -> ExitCode {
     let words: Vec<String> = env::args().skip(1).collect();
     match told(&words).and_then(|(pool, run)| answer(pool, &run)) {
-        Some(number) => {
-            println!("{number}");
+        Some(line) => {
+            println!("{line}");
             ExitCode::SUCCESS
         }
         None => {

@@ -4,7 +4,9 @@ use crate::numbers::{Never, Numbers};
 use crate::Run;
 use r2d2::{ManageConnection, Pool};
 use std::hint::black_box;
+use std::sync::atomic::{AtomicU64, Ordering};
 use std::thread;
+use std::time::{Duration, Instant};
 
 impl ManageConnection for Numbers {
     type Connection = u64;
@@ -52,6 +54,33 @@ fn shared(pool: &Pool<Numbers>, count: u64, threads: u32) -> u64 {
         let all: Vec<_> = (0..threads).map(|_| scope.spawn(|| rounds(pool, count))).collect();
         all.into_iter().map(|one| one.join().expect("it ends")).sum()
     })
+}
+
+/// Two threads take turns with one connection, so many rounds each, and sleep in their gets: the median and the 95th percentile of the
+/// nanoseconds from a return to the answer of the get that waits for it.
+pub fn woken(rounds: u64) -> Option<String> {
+    let pool = pool(1, false, true);
+    let start = Instant::now();
+    let returned = AtomicU64::new(0);
+    let round = |_| {
+        let now = || start.elapsed().as_nanos() as u64;
+        let asked = now();
+        let guard = pool.get().ok()?;
+        let (served, back) = (now(), returned.load(Ordering::SeqCst));
+        thread::sleep(Duration::from_millis(2));
+        returned.store(now(), Ordering::SeqCst);
+        drop(guard);
+        thread::sleep(Duration::from_millis(1));
+        (asked < back).then(|| served.saturating_sub(back))
+    };
+    let turns = || (0..rounds).filter_map(round).collect::<Vec<_>>();
+    let mut all: Vec<u64> = thread::scope(|scope| {
+        let both = [scope.spawn(turns), scope.spawn(turns)];
+        both.into_iter().flat_map(|one| one.join().expect("it ends")).collect()
+    });
+    all.sort_unstable();
+    let most = all.get(all.len().checked_sub(all.len() / 20 + 1)?)?;
+    Some(format!("{} {most}", all[all.len() / 2]))
 }
 
 /// The answer of a run.

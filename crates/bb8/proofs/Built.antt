@@ -2,24 +2,21 @@
 use Rattle.std.proofs.Common.{◌≡◌, Result, Ok, Err, refl, sym, ◌∙◌}
 use Rattle.std.specs.Prelude.{List, ⊤}
 use Rattle.std.specs.Arc.{arc_value}
-use Rattle.std.specs.declared.fmt.Debug.{Ghosts as DebugOf}
 use Rattle.std.specs.declared.sync.ledger.Ledger.{Ghosts as LedgerOf}
 use Rattle.futures.specs.declared.task.Poll.{Poll}
 use Rattle.futures.specs.declared.task.Poll.TheVariants.{Ready, Pending}
-use Rattle.bb8_types.specs.declared.api.customizers.CustomizeConnection.{Ghosts as CustomizerOf}
 use Rattle.bb8_types.specs.declared.api.errors.Memory.{Memory}
 use Rattle.bb8_types.specs.declared.api.errors.RunError.{RunError}
 use Rattle.bb8_types.specs.declared.api.errors.RunError.TheVariants as errors
-use Rattle.bb8_types.specs.declared.api.managers.ManageConnection.{Ghosts as ManagerOf}
-use Rattle.bb8_types.specs.declared.api.moments.Moment.{Moment}
 use Rattle.bb8_tasks.specs.declared.building.Site.{Site}
 use Rattle.bb8_tasks.specs.declared.building.Site.TheVariants.{Planned, Opening, Done}
 use Rattle.bb8_tasks.specs.declared.replenish.Replenish.{Replenish}
 use Rattle.bb8_tasks.specs.declared.rounds.Round.{Round}
 use Rattle.bb8_tasks.specs.declared.rounds.Round.TheVariants.{Failed, Complete, Going}
 use Rattle.bb8_tasks.specs.Building.{AfterFirstRound, BuildingPolls}
-use Rattle.bb8_lock.specs.declared.locked.Parts.{Ghosts as PartsOf}
 use Rattle.bb8_lock.specs.Linked.{Answers}
+use Rattle.bb8_lock.specs.declared.locked.Parts.{Ghosts as PartsOf}
+use Rattle.bb8_lock.specs.Words.{ManagerOf, DebugOf, SinkOf, CustomizerOf, ClockOf}
 use Rattle.bb8.specs.declared.building.Plan.{Plan}
 use Rattle.bb8.specs.declared.pool.Pool.{Pool}
 use Rattle.bb8.specs.Buildings.{IsBuildError, PoolIsMade, PlansSite, PollsSite, PoolRounds}
@@ -63,14 +60,6 @@ module _ {B I P T E : Type 0} (makes : I → Result (P × T) Memory → Type 0) 
   built _ _ (Answers.now s t x polls) is = (polled s t (Ready x) polls is).0
   built _ _ (Answers.later s t x polls more) is = built t x more (polled s t Pending polls is).1
 
--- what a pool is made of, as far as a service sees it, and what prepares its connections
-abbrev pub origin_of : {M S Z K R L C E N V A : Type 0} {m : ManagerOf M C E N V} {d : DebugOf E} {l : PartsOf L} → Pool M S Z K R L C E N V A m d l → Basis M K × Z
-origin_of pool = (basis_of pool, customizer_in pool)
-
--- what is planned of it
-abbrev origin_in : {M S Z K R L : Type 0} {l : PartsOf L} {p : LedgerOf L} → Plan M S Z K R L l p → Basis M K × Z
-origin_in plan = (basis plan.builder.settings plan.manager plan.clock, plan.builder.connection_customizer)
-
 abbrev pub planned_origin : {M S Z K : Type 0} → Choices S Z → M → K → Basis M K × Z
 planned_origin builder manager clock = (basis builder.settings manager clock, builder.connection_customizer)
 
@@ -78,30 +67,36 @@ planned_origin builder manager clock = (basis builder.settings manager clock, bu
 abbrev pub ErrorAt : {M Z K C E N V A : Type 0} → ManagerOf M C E N V → CustomizerOf Z C E A → Basis M K × Z → RunError E → Type 0
 ErrorAt m z origin = IsBuildError (m.connect_answers origin.0.manager) (z.acquire_answers origin.1)
 
-module _ {M S Z K R L C E N V A : Type 0} {m : ManagerOf M C E N V} {d : DebugOf E} {l : PartsOf L} (z : CustomizerOf Z C E A) (sinks : S → E → Type 0)
-    (tells : K → Moment → Type 0) where
-  failed : (origin : Basis M K × Z) (pool : Pool M S Z K R L C E N V A m d l) (tasks : List (Replenish C N A)) (round : Round (List (Replenish C N A)) E) → origin_of pool ≡ origin
-      → PoolRounds z sinks tells pool tasks round → Ended (λ e. ErrorAt m z origin (errors.User e)) round
-  failed origin pool tasks round is rounds = rw (sym is) (round_failed z sinks tells (arc_value pool.shared) tasks round rounds.0)
+module _ {G L M S Z K R C E N V A : Type 0} {m : ManagerOf M C E N V} {d : DebugOf E} {s : SinkOf S E} {z : CustomizerOf Z C E A} {k : ClockOf K} {l : PartsOf L} where
+  -- what a pool is made of, as far as a service sees it, and what prepares its connections
+  abbrev pub origin_of : Pool G L M S Z K R C E N V A m d s z k l → Basis M K × Z
+  origin_of pool = (basis_of pool, customizer_in pool)
 
-module _ {M S Z K R L C E N V A : Type 0} {m : ManagerOf M C E N V} {d : DebugOf E} {l : PartsOf L} {p : LedgerOf L} (z : CustomizerOf Z C E A) (sinks : S → E → Type 0)
-    (tells : K → Moment → Type 0) where
+  failed : (origin : Basis M K × Z) (pool : Pool G L M S Z K R C E N V A m d s z k l) (tasks : List (Replenish C N A)) (round : Round (List (Replenish C N A)) E) → origin_of pool ≡ origin
+      → PoolRounds pool tasks round → Ended (λ e. ErrorAt m z origin (errors.User e)) round
+  failed origin pool tasks round is rounds = rw (sym is) (round_failed (arc_value pool.shared) tasks round rounds.0)
+
+module _ {G L M S Z K R C E N V A : Type 0} {m : ManagerOf M C E N V} {d : DebugOf E} {s : SinkOf S E} {z : CustomizerOf Z C E A} {k : ClockOf K} {l : PartsOf L} {p : LedgerOf L} where
+  -- what is planned of it
+  abbrev origin_in : Plan G L M S Z K R C E N V A m d s z k l p → Basis M K × Z
+  origin_in plan = (basis plan.builder.settings plan.manager plan.clock, plan.builder.connection_customizer)
+
   -- a pool is made of its plan's settings, manager, clock and customizer
-  is_made : (plan : Plan M S Z K R L l p) (made : Pool M S Z K R L C E N V A m d l × List (Replenish C N A)) → PoolIsMade tells plan made.0 made.1
+  is_made : (plan : Plan G L M S Z K R C E N V A m d s z k l p) (made : Pool G L M S Z K R C E N V A m d s z k l × List (Replenish C N A)) → PoolIsMade plan made.0 made.1
       → origin_of made.0 ≡ origin_in plan
   is_made plan made (grant, opened, tasks) = rw (opened.settings, opened.manager, opened.clock, opened.customizer) refl
 
   -- a building that was not polled yet stands at its plan
-  planned : (builder : Choices S Z) (manager : M) (clock : K) (site : Site (Plan M S Z K R L l p) (Pool M S Z K R L C E N V A m d l) (List (Replenish C N A)))
+  planned : (builder : Choices S Z) (manager : M) (clock : K) (site : Site (Plan G L M S Z K R C E N V A m d s z k l p) (Pool G L M S Z K R C E N V A m d s z k l) (List (Replenish C N A)))
       → PlansSite builder manager clock site → Stands origin_in origin_of (planned_origin builder manager clock) site
   planned builder manager clock (Planned plan) (is, by, at) = rw (is, by, at) refl
   planned builder manager clock (Opening pool tasks) never = absurd never
   planned builder manager clock Done never = tt
 
   -- the answer of a building that was planned
-  pub answered : (builder : Choices S Z) (manager : M) (clock : K) (site : Site (Plan M S Z K R L l p) (Pool M S Z K R L C E N V A m d l) (List (Replenish C N A)))
-      → (x : Result (Pool M S Z K R L C E N V A m d l) (RunError E)) → PlansSite builder manager clock site → Answers (PollsSite z sinks tells) site x
+  pub answered : (builder : Choices S Z) (manager : M) (clock : K) (site : Site (Plan G L M S Z K R C E N V A m d s z k l p) (Pool G L M S Z K R C E N V A m d s z k l) (List (Replenish C N A)))
+      → (x : Result (Pool G L M S Z K R C E N V A m d s z k l) (RunError E)) → PlansSite builder manager clock site → Answers PollsSite site x
       → Answered origin_of (planned_origin builder manager clock) (ErrorAt m z (planned_origin builder manager clock)) x
   answered builder manager clock site x is answers =
       let origin = planned_origin builder manager clock in
-      built _ _ origin_in origin_of is_made origin (ErrorAt m z origin) tt (failed z sinks tells origin) site x answers (planned builder manager clock site is)
+      built _ _ origin_in origin_of is_made origin (ErrorAt m z origin) tt (failed origin) site x answers (planned builder manager clock site is)

@@ -3,12 +3,9 @@ use Rattle.std.proofs.Common.{◌≡◌, ℕ, ◌-◌, ◌<◌, Bool, true, fals
 use Rattle.std.proofs.lemmas.Bool.{cases_lt}
 use Rattle.std.specs.Prelude.{⊤}
 use Rattle.std.specs.Duration.{as_nanos}
-use Rattle.std.specs.declared.fmt.Debug.{Ghosts as DebugOf}
 use Rattle.futures.specs.declared.task.Poll.{Poll}
 use Rattle.futures.specs.declared.task.Poll.TheVariants as poll
-use Rattle.bb8_types.specs.declared.api.customizers.CustomizeConnection.{Ghosts as CustomizerOf}
 use Rattle.bb8_types.specs.declared.api.errors.RunError.TheVariants.{User}
-use Rattle.bb8_types.specs.declared.api.managers.ManageConnection.{Ghosts as ManagerOf}
 use Rattle.bb8_types.specs.declared.api.moments.Moment.{Moment}
 use Rattle.bb8_tables.specs.declared.keys.Key.{Key}
 use Rattle.bb8_core.specs.declared.joined.Joined.{Joined}
@@ -29,9 +26,10 @@ use Rattle.bb8_tasks.specs.declared.rounds.Round.TheVariants as round
 use Rattle.bb8_tasks.specs.Joined.{joined_opener, joined_reports, joined_tasks}
 use Rattle.bb8_tasks.specs.Replenishing as replenishing
 use Rattle.bb8_tasks.specs.Sweeping.{After, AfterRound, RoundLeaves, PollsUntil, Rest, Rounds}
-use Rattle.bb8_lock.specs.declared.locked.Parts.{Ghosts as PartsOf}
 use Rattle.bb8_lock.specs.declared.shared.Shared.{Shared}
 use Rattle.bb8_lock.specs.Opening.{link_tasks, locked_tasks, pool_opener, pool_reports, OwnRounds}
+use Rattle.bb8_lock.specs.declared.locked.Parts.{Ghosts as PartsOf}
+use Rattle.bb8_lock.specs.Words.{ManagerOf, DebugOf, SinkOf, CustomizerOf, ClockOf}
 use Rattle.bb8.specs.Buildings.{IsBuildError}
 
 -- what is known of an error, of the answer of a task, of what stopped a round, and of a round
@@ -95,8 +93,8 @@ module _ {T E X : Type 0} (polls : T → X → ReplenishAnswer E → T → X →
     ended ts x x' r is (stopped, left, x1, p, a) = over stopped left x1 x' r (until ts left x x1 stopped is p) a
 
 -- the tasks of a pool, by the calls of its manager and its customizer, which leave the calls as they are
-module _ {M S Z K R L C E N V A : Type 0} {manager : ManagerOf M C E N V} {d : DebugOf E} {l : PartsOf L} (z : CustomizerOf Z C E A) (sinks : S → E → Type 0)
-    (tells : K → Moment → Type 0) (shared : Shared M S Z K R L C E N V manager d l) (calls : PoolOpener M S Z K) where
+module _ {G L M S Z K R C E N V A : Type 0} {manager : ManagerOf M C E N V} {d : DebugOf E} {s : SinkOf S E} {z : CustomizerOf Z C E A} {k : ClockOf K} {l : PartsOf L}
+    (shared : Shared G L M S Z K R C E N V A manager d s z k l) (calls : PoolOpener M S Z K) where
   -- what may fail an opening
   abbrev Known : E → Type 0
   Known e = IsBuildError (manager.connect_answers calls.manager.now) (z.acquire_answers calls.customizer.now) (User e)
@@ -125,7 +123,7 @@ module _ {M S Z K R L C E N V A : Type 0} {manager : ManagerOf M C E N V} {d : D
             ]
 
     opens : (step : OpenedStep C) (x x' : Joined (PoolOpener M S Z K) H) (next : ReplenishStep C N A E) → IsBy x
-        → replenishing.AfterOpened (joined_tasks home) timeout retry approval at (joined_opener (pool_opener z sinks tells shared)) step x next x'
+        → replenishing.AfterOpened (joined_tasks home) timeout retry approval at (joined_opener (pool_opener shared)) step x next x'
         → IsBy x' × Told Known next.answer
     opens (opened.Entered notified) x x' next is a = (still x x' a.2 is, known Known Entered next a.0 tt)
     opens (opened.Late c) x x' next is (x1, dropped, a) = (still x1 x' a.2 (dropped.0 ∙ is), known Known Late next a.0 tt)
@@ -133,7 +131,7 @@ module _ {M S Z K R L C E N V A : Type 0} {manager : ManagerOf M C E N V} {d : D
 
     prepares : (answer : Poll (Result (Unit {0}) E)) (tries : Tries) (c0 c : C) (a0 a : A) (x x' : Joined (PoolOpener M S Z K) H) (next : ReplenishStep C N A E) → IsBy x
         → z.acquire_answers calls.customizer.now c0 a0 at answer c a
-        → replenishing.AfterTaskAcquire (joined_tasks home) timeout retry approval at (joined_opener (pool_opener z sinks tells shared)) answer tries c a x next x'
+        → replenishing.AfterTaskAcquire (joined_tasks home) timeout retry approval at (joined_opener (pool_opener shared)) answer tries c a x next x'
         → IsBy x' × Told Known next.answer
     prepares poll.Pending tries c0 c a0 a x x' next is said p = (still x x' p.2 is, known Known Pending next p.0 tt)
     prepares (poll.Ready (Ok u)) tries c0 c a0 a x x' next is said (x1, ended, (step, x2, entered, p)) = opens step x2 x' next (entered.1 ∙ ended.0 ∙ is) p
@@ -141,32 +139,32 @@ module _ {M S Z K R L C E N V A : Type 0} {manager : ManagerOf M C E N V} {d : D
         fails tries e x2 x' next (dropped.0 ∙ ended.0 ∙ is) (inr (c0, a0, at, c, a, said)) p
 
     acquires : (tries : Tries) (c : C) (a : A) (x x' : Joined (PoolOpener M S Z K) H) (next : ReplenishStep C N A E) → IsBy x
-        → replenishing.TaskAcquires (joined_tasks home) timeout retry approval at (joined_opener (pool_opener z sinks tells shared)) tries c a x next x'
+        → replenishing.TaskAcquires (joined_tasks home) timeout retry approval at (joined_opener (pool_opener shared)) tries c a x next x'
         → IsBy x' × Told Known next.answer
     acquires tries c a x x' next is (answer, c1, a1, x1, polled, p) =
         prepares answer tries c c1 a a1 x1 x' next (polled.0.1 ∙ is) (subst (λ (w : PoolOpener M S Z K). z.acquire_answers w.customizer.now c a at answer c1 a1) is polled.0.0) p
 
     connected : (answer : Poll (Result C E)) (tries : Tries) (v0 v : N) (x x' : Joined (PoolOpener M S Z K) H) (next : ReplenishStep C N A E) → IsBy x
         → manager.connect_answers calls.manager.now v0 at answer v
-        → replenishing.AfterTaskConnect (joined_tasks home) timeout retry approval at (joined_opener (pool_opener z sinks tells shared)) answer tries v x next x'
+        → replenishing.AfterTaskConnect (joined_tasks home) timeout retry approval at (joined_opener (pool_opener shared)) answer tries v x next x'
         → IsBy x' × Told Known next.answer
     connected poll.Pending tries v0 v x x' next is said p = (still x x' p.2 is, known Known Pending next p.0 tt)
     connected (poll.Ready (Ok c)) tries v0 v x x' next is said (x1, ended, (a, c1, x2, begun, p)) = acquires tries c1 a x2 x' next (begun.0.1 ∙ ended.0 ∙ is) p
     connected (poll.Ready (Err e)) tries v0 v x x' next is said (x1, ended, p) = fails tries e x1 x' next (ended.0 ∙ is) (inl (v0, at, v, said)) p
 
     connects : (tries : Tries) (v : N) (x x' : Joined (PoolOpener M S Z K) H) (next : ReplenishStep C N A E) → IsBy x
-        → replenishing.TaskConnects (joined_tasks home) timeout retry approval at (joined_opener (pool_opener z sinks tells shared)) tries v x next x'
+        → replenishing.TaskConnects (joined_tasks home) timeout retry approval at (joined_opener (pool_opener shared)) tries v x next x'
         → IsBy x' × Told Known next.answer
     connects tries v x x' next is (answer, v1, x1, polled, p) =
         connected answer tries v v1 x1 x' next (polled.0.1 ∙ is) (subst (λ (w : PoolOpener M S Z K). manager.connect_answers w.manager.now v at answer v1) is polled.0.0) p
 
     begins : (tries : Tries) (x x' : Joined (PoolOpener M S Z K) H) (next : ReplenishStep C N A E) → IsBy x
-        → replenishing.TaskBegins (joined_tasks home) timeout retry approval at (joined_opener (pool_opener z sinks tells shared)) tries x next x'
+        → replenishing.TaskBegins (joined_tasks home) timeout retry approval at (joined_opener (pool_opener shared)) tries x next x'
         → IsBy x' × Told Known next.answer
     begins tries x x' next is (v, x1, begun, p) = connects tries v x1 x' next (begun.0.1 ∙ is) p
 
     wakes : (tries : Tries) (due : Option Moment) (x x' : Joined (PoolOpener M S Z K) H) (next : ReplenishStep C N A E) → IsBy x
-        → replenishing.Wakes (joined_tasks home) timeout retry approval at (joined_opener (pool_opener z sinks tells shared)) tries due x next x'
+        → replenishing.Wakes (joined_tasks home) timeout retry approval at (joined_opener (pool_opener shared)) tries due x next x'
         → IsBy x' × Told Known next.answer
     wakes tries None x x' next is p = (still x x' p.2 is, known Known Pending next p.0 tt)
     wakes tries (Some due) x x' next is p =
@@ -176,7 +174,7 @@ module _ {M S Z K R L C E N V A : Type 0} {manager : ManagerOf M C E N V} {d : D
         ]
 
     advances : (stage : ReplenishStage C N A) (x x' : Joined (PoolOpener M S Z K) H) (next : ReplenishStep C N A E) → IsBy x
-        → replenishing.TaskAdvances (joined_tasks home) timeout retry approval at (joined_opener (pool_opener z sinks tells shared)) stage x next x'
+        → replenishing.TaskAdvances (joined_tasks home) timeout retry approval at (joined_opener (pool_opener shared)) stage x next x'
         → IsBy x' × Told Known next.answer
     advances Start x x' next is p = begins (record { start = at; failures = 0 }) x x' next is p
     advances (Connecting tries v) x x' next is p = connects tries v x x' next is p
@@ -184,7 +182,7 @@ module _ {M S Z K R L C E N V A : Type 0} {manager : ManagerOf M C E N V} {d : D
     advances (Sleeping tries due) x x' next is p = wakes tries due x x' next is p
     advances Done x x' next is p = (still x x' p.2 is, known Known GivenBack next p.0 tt)
 
-    drops : (stage : ReplenishStage C N A) (x x' : Joined (PoolOpener M S Z K) H) → IsBy x → replenishing.DropsTask (joined_opener (pool_opener z sinks tells shared)) stage x x' → IsBy x'
+    drops : (stage : ReplenishStage C N A) (x x' : Joined (PoolOpener M S Z K) H) → IsBy x → replenishing.DropsTask (joined_opener (pool_opener shared)) stage x x' → IsBy x'
     drops Start x x' is p = still x x' p is
     drops (Connecting tries v) x x' is p = p.0 ∙ is
     drops (Acquiring tries c a) x x' is (x1, ended, dropped) = dropped.0 ∙ ended.0 ∙ is
@@ -192,14 +190,14 @@ module _ {M S Z K R L C E N V A : Type 0} {manager : ManagerOf M C E N V} {d : D
     drops Done x x' is p = still x x' p is
 
     proceeds : (alive : Bool) (stage : ReplenishStage C N A) (x x' : Joined (PoolOpener M S Z K) H) (next : ReplenishStep C N A E) → IsBy x
-        → replenishing.TaskProceeds (joined_tasks home) timeout retry approval at (joined_opener (pool_opener z sinks tells shared)) alive stage x next x'
+        → replenishing.TaskProceeds (joined_tasks home) timeout retry approval at (joined_opener (pool_opener shared)) alive stage x next x'
         → IsBy x' × Told Known next.answer
     proceeds true stage x x' next is p = advances stage x x' next is p
     proceeds false stage x x' next is (x1, dropped, p) = (p.1.1 ∙ drops stage x x1 is dropped, known Known GivenBack next p.2 tt)
 
   module _ {H : Type 0} (home : HomeOf H C) (timeout : ℕ) (retry : Bool) (at : Moment) where
     at_stage : (approval : Key) (latest : Moment) (stage : ReplenishStage C N A) (t' : Replenish C N A) (x x' : Joined (PoolOpener M S Z K) H) (r : ReplenishAnswer E) → IsBy x
-        → replenishing.TaskPolls (joined_tasks home) (joined_opener (pool_opener z sinks tells shared)) timeout retry at
+        → replenishing.TaskPolls (joined_tasks home) (joined_opener (pool_opener shared)) timeout retry at
         (record { approval = approval; latest = latest; stage = stage }) x r t' x'
         → IsBy x' × Told Known r
     at_stage approval latest Start t' x x' r is p =
@@ -214,20 +212,20 @@ module _ {M S Z K R L C E N V A : Type 0} {manager : ManagerOf M C E N V} {d : D
         (still x x' p.2 is, known Known GivenBack (record { answer = r; stage = t'.stage }) p.0 tt)
 
     polled : (t t' : Replenish C N A) (x x' : Joined (PoolOpener M S Z K) H) (r : ReplenishAnswer E) → IsBy x
-        → replenishing.TaskPolls (joined_tasks home) (joined_opener (pool_opener z sinks tells shared)) timeout retry at t x r t' x' → IsBy x' × Told Known r
+        → replenishing.TaskPolls (joined_tasks home) (joined_opener (pool_opener shared)) timeout retry at t x r t' x' → IsBy x' × Told Known r
     polled t t' x x' r is p = at_stage t.approval t.latest t.stage t' x x' r is p
 
-module _ {M S Z K R L C E N V A : Type 0} {manager : ManagerOf M C E N V} {d : DebugOf E} {l : PartsOf L} (z : CustomizerOf Z C E A) (sinks : S → E → Type 0)
-    (tells : K → Moment → Type 0) (shared : Shared M S Z K R L C E N V manager d l) where
+module _ {G L M S Z K R C E N V A : Type 0} {manager : ManagerOf M C E N V} {d : DebugOf E} {s : SinkOf S E} {z : CustomizerOf Z C E A} {k : ClockOf K} {l : PartsOf L}
+    (shared : Shared G L M S Z K R C E N V A manager d s z k l) where
   -- a round of a pool's first tasks that failed had its error of the pool's manager or its customizer
-  pub round_failed : (tasks : List (Replenish C N A)) (r : Round (List (Replenish C N A)) E) → OwnRounds z sinks tells shared tasks r
+  pub round_failed : (tasks : List (Replenish C N A)) (r : Round (List (Replenish C N A)) E) → OwnRounds shared tasks r
       → Ended (λ e. IsBuildError (manager.connect_answers shared.manager) (z.acquire_answers shared.customizer) (User e)) r
   round_failed tasks r (calls, are, (x, x', of, free, (at, x1, told, rounds))) =
       rw (sym are.0, sym are.2) (ended
-      (replenishing.TaskPolls (joined_tasks (link_tasks locked_tasks)) (joined_opener (pool_opener z sinks tells shared)) (as_nanos shared.config.connection_timeout)
+      (replenishing.TaskPolls (joined_tasks (link_tasks locked_tasks)) (joined_opener (pool_opener shared)) (as_nanos shared.config.connection_timeout)
       shared.config.retry_connection at)
-      (joined_reports (pool_reports z sinks tells shared)).sinks (Known z sinks tells shared calls) (IsBy z sinks tells shared calls)
-      (polled z sinks tells shared calls (link_tasks locked_tasks) (as_nanos shared.config.connection_timeout) shared.config.retry_connection at)
+      (joined_reports (pool_reports shared)).sinks (Known shared calls) (IsBy shared calls)
+      (polled shared calls (link_tasks locked_tasks) (as_nanos shared.config.connection_timeout) shared.config.retry_connection at)
       (λ y y' e is sunk. sunk.0.1 ∙ is)
-      (replenishing.LetsGo (joined_tasks (link_tasks locked_tasks)) (joined_opener (pool_opener z sinks tells shared)) at)
+      (replenishing.LetsGo (joined_tasks (link_tasks locked_tasks)) (joined_opener (pool_opener shared)) at)
       tasks x1 x' r (told.0.1 ∙ of) rounds)

@@ -1,15 +1,13 @@
 -- What callers see of a get for which a thread waits, and of one that is served at once or not at all.
 use Rattle.std.specs.Prelude.{◌≡◌, ℕ, Option, Some, None, Result, Ok, Err, ⊤}
 use Rattle.std.specs.Arc.{arc_value}
-use Rattle.std.specs.declared.fmt.Debug.{Ghosts as DebugOf}
 use Rattle.bb8_types.specs.declared.api.errors.RunError.{RunError}
-use Rattle.bb8_types.specs.declared.api.managers.ManageConnection.{Ghosts as ManagerOf}
-use Rattle.bb8_types.specs.declared.api.moments.Moment.{Moment}
 use Rattle.bb8_types.specs.Settings.{settings_of}
 use Rattle.bb8_gets.specs.declared.home.Taken.{Taken}
 use Rattle.bb8_lock.specs.declared.locked.Part.{Part}
-use Rattle.bb8_lock.specs.declared.locked.Parts.{Ghosts as PartsOf}
 use Rattle.bb8_lock.specs.Linked.{MakesGuard, OwnLeaves, OwnTakesNow, OwnWaits}
+use Rattle.bb8_lock.specs.declared.locked.Parts.{Ghosts as PartsOf}
+use Rattle.bb8_lock.specs.Words.{ManagerOf, DebugOf, SinkOf, CustomizerOf, ClockOf}
 use Rattle.bb8.specs.declared.handles.Holding.{Holding}
 use Rattle.bb8.specs.declared.owned.OwnedConnection.{OwnedConnection}
 use Rattle.bb8.specs.declared.pool.Pool.{Pool}
@@ -24,33 +22,33 @@ MakesSome Makes None None = ⊤
 MakesSome Makes (Some a) None = ⊥
 MakesSome Makes None (Some b) = ⊥
 
-module _ {M S Z K R L C E N V A : Type 0} {m : ManagerOf M C E N V} {d : DebugOf E} {l : PartsOf L} (sinks : S → E → Type 0) (tells : K → Moment → Type 0) where
+module _ {G L M S Z K R C E N V A : Type 0} {m : ManagerOf M C E N V} {d : DebugOf E} {s : SinkOf S E} {z : CustomizerOf Z C E A} {k : ClockOf K} {l : PartsOf L} where
   -- a thread waited for a get with this time: a new get was polled until it answered
-  abbrev pub WaitsForGet : ℕ → Pool M S Z K R L C E N V A m d l → Result (PooledConnection M S Z K R L C E N V A m d l) (RunError E) → Type 0
+  abbrev pub WaitsForGet : ℕ → Pool G L M S Z K R C E N V A m d s z k l → Result (PooledConnection G L M S Z K R C E N V A m d s z k l) (RunError E) → Type 0
   WaitsForGet timeout pool out =
-      (given : Result (Taken C (Part L)) (RunError E)) × OwnWaits sinks tells (arc_value pool.shared) timeout given
+      (given : Result (Taken C (Part L)) (RunError E)) × OwnWaits (arc_value pool.shared) timeout given
       × MakesGuard (Guards (arc_value pool.shared)) given out
 
   -- a get was served at once, or there was none
-  abbrev pub GetsAtOnce : Pool M S Z K R L C E N V A m d l → Result (Option (PooledConnection M S Z K R L C E N V A m d l)) (RunError E) → Type 0
+  abbrev pub GetsAtOnce : Pool G L M S Z K R C E N V A m d s z k l → Result (Option (PooledConnection G L M S Z K R C E N V A m d s z k l)) (RunError E) → Type 0
   GetsAtOnce pool out =
-      (given : Result (Option (Taken C (Part L))) (RunError E)) × OwnTakesNow sinks tells (arc_value pool.shared) given
+      (given : Result (Option (Taken C (Part L))) (RunError E)) × OwnTakesNow (arc_value pool.shared) given
       × MakesGuard (MakesSome (Guards (arc_value pool.shared))) given out
 
   -- what was given to a get that has a handle: a guard takes the handle along, and with an error it leaves
-  abbrev pub EndsOwned : Holding M S Z K R L C E N V m d l → Result (Taken C (Part L)) (RunError E) → Result (OwnedConnection M S Z K R L C E N V A m d l) (RunError E) → Type 0
+  abbrev pub EndsOwned : Holding G L M S Z K R C E N V A m d s z k l → Result (Taken C (Part L)) (RunError E) → Result (OwnedConnection G L M S Z K R C E N V A m d s z k l) (RunError E) → Type 0
   EndsOwned holding (Ok taken) out = out ≡ Ok (record { holding = holding; taken = taken })
-  EndsOwned holding (Err e) out = (out ≡ Err e) × OwnLeaves sinks tells (arc_value holding.shared)
+  EndsOwned holding (Err e) out = (out ≡ Err e) × OwnLeaves (arc_value holding.shared)
 
   -- a thread waited for a get with a handle of its own, which was made first, or refused
-  abbrev pub WaitsHolding : Result (Holding M S Z K R L C E N V m d l) (RunError E) → Result (OwnedConnection M S Z K R L C E N V A m d l) (RunError E) → Type 0
+  abbrev pub WaitsHolding : Result (Holding G L M S Z K R C E N V A m d s z k l) (RunError E) → Result (OwnedConnection G L M S Z K R C E N V A m d s z k l) (RunError E) → Type 0
   WaitsHolding (Err e) out = out ≡ Err e
   WaitsHolding (Ok holding) out =
       (given : Result (Taken C (Part L)) (RunError E))
-      × OwnWaits sinks tells (arc_value holding.shared) (settings_of (arc_value holding.shared).config).connection_timeout given
+      × OwnWaits (arc_value holding.shared) (settings_of (arc_value holding.shared).config).connection_timeout given
       × EndsOwned holding given out
 
-  abbrev pub WaitsForOwned : Pool M S Z K R L C E N V A m d l → Result (OwnedConnection M S Z K R L C E N V A m d l) (RunError E) → Type 0
+  abbrev pub WaitsForOwned : Pool G L M S Z K R C E N V A m d s z k l → Result (OwnedConnection G L M S Z K R C E N V A m d s z k l) (RunError E) → Type 0
   WaitsForOwned pool out =
-      (joined : Result (Holding M S Z K R L C E N V m d l) (RunError E)) × IsHandleOf sinks tells (arc_value pool.shared) joined
+      (joined : Result (Holding G L M S Z K R C E N V A m d s z k l) (RunError E)) × IsHandleOf (arc_value pool.shared) joined
       × WaitsHolding joined out

@@ -1,9 +1,6 @@
 -- What callers see of a driver: what it begins with, its turns, and a run of turns.
 use Rattle.std.specs.Prelude.{◌≡◌, ℕ, ◌+◌, ◌-◌, ◌^◌, min, Bool, true, false, None}
 use Rattle.std.specs.Arc.{arc_value}
-use Rattle.std.specs.declared.fmt.Debug.{Ghosts as DebugOf}
-use Rattle.bb8_types.specs.declared.api.customizers.CustomizeConnection.{Ghosts as CustomizerOf}
-use Rattle.bb8_types.specs.declared.api.managers.ManageConnection.{Ghosts as ManagerOf}
 use Rattle.bb8_types.specs.declared.api.moments.Moment.{Moment}
 use Rattle.bb8_core.specs.declared.joined.Joined.{Joined}
 use Rattle.bb8_tasks.specs.declared.opener.Opener.{Ghosts as OpenerOf}
@@ -14,11 +11,12 @@ use Rattle.bb8_tasks.specs.declared.turning.Turn.{Turn}
 use Rattle.bb8_tasks.specs.declared.turning.Turning.{Turning}
 use Rattle.bb8_tasks.specs.Turns.{is_ended, DriverBegins}
 use Rattle.bb8_lock.specs.declared.locked.Locked.{Locked}
-use Rattle.bb8_lock.specs.declared.locked.Parts.{Ghosts as PartsOf}
 use Rattle.bb8_lock.specs.declared.link.LinkHome.{LinkHome}
 use Rattle.bb8_lock.specs.declared.shared.Shared.{Shared}
 use Rattle.bb8_lock.specs.Opening.{pool_opener, pool_reports, AreOpenersOf}
 use Rattle.bb8_lock.specs.Turning.{OwnTurns, TurnsOn}
+use Rattle.bb8_lock.specs.declared.locked.Parts.{Ghosts as PartsOf}
+use Rattle.bb8_lock.specs.Words.{ManagerOf, DebugOf, SinkOf, CustomizerOf, ClockOf}
 use Rattle.bb8.specs.declared.driver.Driver.{Driver}
 use Rattle.bb8.specs.declared.driver.Driven.{Driven}
 use Rattle.bb8.specs.declared.pool.Pool.{Pool}
@@ -30,17 +28,17 @@ one_more n = min (n + 1) (2 ^ 64 - 1)
 
 -- What is told of a run of turns after so many: a turn that ended is the last one; after any other one the gate is asked, and where it does not
 -- pause the run stops.
-pub data Runs {T G : Type 0} (step : T → Turn → T → Type 0) (pauses : G → Bool → G → Type 0) : T → G → ℕ → Driven → Type 0 where
-  ends : (t t' : T) (g : G) (n : ℕ) (turn : Turn) (d : Driven) → step t turn t' → turn.ended ≡ true → d ≡ record { turns = one_more n; ended = true }
+pub data Runs {T P : Type 0} (step : T → Turn → T → Type 0) (pauses : P → Bool → P → Type 0) : T → P → ℕ → Driven → Type 0 where
+  ends : (t t' : T) (g : P) (n : ℕ) (turn : Turn) (d : Driven) → step t turn t' → turn.ended ≡ true → d ≡ record { turns = one_more n; ended = true }
       → Runs step pauses t g n d
-  stops : (t t' : T) (g g' : G) (n : ℕ) (turn : Turn) (d : Driven) → step t turn t' → turn.ended ≡ false → pauses g false g'
+  stops : (t t' : T) (g g' : P) (n : ℕ) (turn : Turn) (d : Driven) → step t turn t' → turn.ended ≡ false → pauses g false g'
       → d ≡ record { turns = one_more n; ended = false } → Runs step pauses t g n d
-  goes_on : (t t' : T) (g g' : G) (n : ℕ) (turn : Turn) (d : Driven) → step t turn t' → turn.ended ≡ false → pauses g true g'
+  goes_on : (t t' : T) (g g' : P) (n : ℕ) (turn : Turn) (d : Driven) → step t turn t' → turn.ended ≡ false → pauses g true g'
       → Runs step pauses t' g' (one_more n) d → Runs step pauses t g n d
 
 -- What a run does on a pool, of which the handles share this, by any calls outside.
-module _ {M S Z K R L C E N V A W : Type 0} {m : ManagerOf M C E N V} {d : DebugOf E} {l : PartsOf L} (opener : OpenerOf W C E N A) (reports : ReportsOf W E)
-    (shared : Shared M S Z K R L C E N V m d l) where
+module _ {G L M S Z K R C E N V A B W : Type 0} {m : ManagerOf M C E N V} {d : DebugOf E} {s : SinkOf S E} {z : CustomizerOf Z C E B} {k : ClockOf K} {l : PartsOf L}
+    (opener : OpenerOf W C E N A) (reports : ReportsOf W E) (shared : Shared G L M S Z K R C E N V B m d s z k l) where
   -- the clock is read, and a turn made at that moment
   abbrev pub LinkTurnsNow : Turning C N A × Joined W (LinkHome (Locked C L l) R) → Turn → Turning C N A × Joined W (LinkHome (Locked C L l) R) → Type 0
   LinkTurnsNow before turn after =
@@ -48,34 +46,32 @@ module _ {M S Z K R L C E N V A W : Type 0} {m : ManagerOf M C E N V} {d : Debug
       × TurnsOn opener reports shared at before.0 x turn after.0 after.1
 
   -- a run of such turns, before which the pool's lock is free
-  abbrev pub LinkRuns : {G : Type 0} → (G → Bool → G → Type 0) → Turning C N A → W → G → Driven → Type 0
+  abbrev pub LinkRuns : {P : Type 0} → (P → Bool → P → Type 0) → Turning C N A → W → P → Driven → Type 0
   LinkRuns pauses turning w gate d =
       (x : Joined W (LinkHome (Locked C L l) R)) × (x.outside ≡ w) × (x.home.held ≡ None) × Runs LinkTurnsNow pauses (turning, x) gate 0 d
 
-module _ {M S Z K R L C E N V A : Type 0} {m : ManagerOf M C E N V} {d : DebugOf E} {l : PartsOf L} where
+module _ {G L M S Z K R C E N V A : Type 0} {m : ManagerOf M C E N V} {d : DebugOf E} {s : SinkOf S E} {z : CustomizerOf Z C E A} {k : ClockOf K} {l : PartsOf L} where
   -- whether a driver has ended
-  abbrev pub has_ended : Driver M S Z K R L C E N V A m d l → Bool
+  abbrev pub has_ended : Driver G L M S Z K R C E N V A m d s z k l → Bool
   has_ended driver = is_ended driver.turning
 
   -- the driver is of that pool, and made no turn yet; the ticks of its reaper count from the moment at which the pool was made
-  abbrev pub IsDriverOf : Driver M S Z K R L C E N V A m d l → Pool M S Z K R L C E N V A m d l → Type 0
+  abbrev pub IsDriverOf : Driver G L M S Z K R C E N V A m d s z k l → Pool G L M S Z K R C E N V A m d s z k l → Type 0
   IsDriverOf driver pool = (arc_value driver.shared ≡ arc_value pool.shared) × DriverBegins (settings_in pool) (made_in pool) driver.turning
 
-module _ {M S Z K R L C E N V A : Type 0} {m : ManagerOf M C E N V} {d : DebugOf E} {l : PartsOf L} (z : CustomizerOf Z C E A) (sinks : S → E → Type 0)
-    (tells : K → Moment → Type 0) where
   -- a turn of a driver at a moment, on its pool
-  abbrev pub TurnsDriver : Moment → Driver M S Z K R L C E N V A m d l → Turn → Driver M S Z K R L C E N V A m d l → Type 0
+  abbrev pub TurnsDriver : Moment → Driver G L M S Z K R C E N V A m d s z k l → Turn → Driver G L M S Z K R C E N V A m d s z k l → Type 0
   TurnsDriver at driver turn driver' =
-      (arc_value driver'.shared ≡ arc_value driver.shared) × OwnTurns z sinks tells (arc_value driver.shared) at driver.turning turn driver'.turning
+      (arc_value driver'.shared ≡ arc_value driver.shared) × OwnTurns (arc_value driver.shared) at driver.turning turn driver'.turning
 
   -- the pool's clock is read, and a turn made at that moment
-  abbrev pub TurnsDriverNow : Driver M S Z K R L C E N V A m d l → Turn → Driver M S Z K R L C E N V A m d l → Type 0
+  abbrev pub TurnsDriverNow : Driver G L M S Z K R C E N V A m d s z k l → Turn → Driver G L M S Z K R C E N V A m d s z k l → Type 0
   TurnsDriverNow driver turn driver' =
-      (at : Moment) × tells (arc_value driver.shared).clock at × TurnsDriver at driver turn driver'
+      (at : Moment) × k.tells (arc_value driver.shared).clock at × TurnsDriver at driver turn driver'
 
   -- a run of turns of a driver, each at a reading of the pool's clock
-  abbrev pub RunsDriver : {G : Type 0} → (G → Bool → G → Type 0) → Driver M S Z K R L C E N V A m d l → G → Driven → Type 0
+  abbrev pub RunsDriver : {P : Type 0} → (P → Bool → P → Type 0) → Driver G L M S Z K R C E N V A m d s z k l → P → Driven → Type 0
   RunsDriver pauses driver gate d =
-      (calls : PoolOpener M S Z K) × AreOpenersOf z sinks tells (arc_value driver.shared) calls
-      × LinkRuns (pool_opener z sinks tells (arc_value driver.shared)) (pool_reports z sinks tells (arc_value driver.shared)) (arc_value driver.shared)
+      (calls : PoolOpener M S Z K) × AreOpenersOf (arc_value driver.shared) calls
+      × LinkRuns (pool_opener (arc_value driver.shared)) (pool_reports (arc_value driver.shared)) (arc_value driver.shared)
       pauses driver.turning calls gate d

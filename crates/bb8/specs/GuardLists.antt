@@ -4,70 +4,61 @@ use Rattle.std.specs.Prelude.{◌≡◌, ℕ, List, vec_len}
 use Rattle.std.specs.Arc.{arc_value}
 use Rattle.std.specs.List.{AllZip}
 use Rattle.std.specs.Vec.{with_item}
-use Rattle.std.specs.declared.fmt.Debug.{Ghosts as DebugOf}
-use Rattle.bb8_types.specs.declared.api.clocks.Clock.{Ghosts as ClockOf}
-use Rattle.bb8_types.specs.declared.api.customizers.CustomizeConnection.{Ghosts as CustomizerOf}
-use Rattle.bb8_types.specs.declared.api.managers.ManageConnection.{Ghosts as ManagerOf}
-use Rattle.bb8_types.specs.declared.api.moments.Moment.{Moment}
-use Rattle.bb8_types.specs.declared.api.sinks.ErrorSink.{Ghosts as SinkOf}
 use Rattle.bb8_lock.specs.declared.locked.Part.{Part}
-use Rattle.bb8_lock.specs.declared.locked.Parts.{Ghosts as PartsOf}
 use Rattle.bb8_lock.specs.Linked.{OwnReturns}
+use Rattle.bb8_lock.specs.declared.locked.Parts.{Ghosts as PartsOf}
+use Rattle.bb8_lock.specs.Words.{ManagerOf, DebugOf, SinkOf, CustomizerOf, ClockOf}
 use Rattle.bb8.specs.declared.guards.Guards.{Guards}
 use Rattle.bb8.specs.declared.guards.Ticket.{Ticket}
 use Rattle.bb8.specs.declared.pool.Pool.{Pool}
 use Rattle.bb8.specs.declared.pool.PooledConnection.{PooledConnection}
 
-module _ {M S Z K R L C E N V A : Type 0} {m : ManagerOf M C E N V} {d : DebugOf E} {l : PartsOf L} where
+module _ {G L M S Z K R C E N V A : Type 0} {m : ManagerOf M C E N V} {d : DebugOf E} {s : SinkOf S E} {z : CustomizerOf Z C E A} {k : ClockOf K} {l : PartsOf L} where
   -- the connection of a guard
-  abbrev pub connection_of : PooledConnection M S Z K R L C E N V A m d l → C
+  abbrev pub connection_of : PooledConnection G L M S Z K R C E N V A m d s z k l → C
   connection_of guard = guard.taken.connection
 
   -- where the connection of a guard goes back to, and its key
-  abbrev pub ticket_of : PooledConnection M S Z K R L C E N V A m d l → Ticket M S Z K R L C E N V m d l
+  abbrev pub ticket_of : PooledConnection G L M S Z K R C E N V A m d s z k l → Ticket G L M S Z K R C E N V A m d s z k l
   ticket_of guard = record { shared = guard.shared; key = guard.taken.key }
 
   -- a guard with this connection in place of its own
-  abbrev pub with_connection : PooledConnection M S Z K R L C E N V A m d l → C → PooledConnection M S Z K R L C E N V A m d l
+  abbrev pub with_connection : PooledConnection G L M S Z K R C E N V A m d s z k l → C → PooledConnection G L M S Z K R C E N V A m d s z k l
   with_connection guard connection = record guard { taken = record guard.taken { connection = connection } }
 
-module _ {M S Z K R L C E N V A : Type 0} {m : ManagerOf M C E N V} {d : DebugOf E} {s : SinkOf S E} {z : CustomizerOf Z C E A} {k : ClockOf K} {l : PartsOf L} where
   -- the connections of the guards of a list
-  abbrev pub connections_in : Guards M S Z K R L C E N V A m d s z k l → List C
+  abbrev pub connections_in : Guards G L M S Z K R C E N V A m d s z k l → List C
   connections_in guards = guards.connections.items
 
   -- where they go back to, and their keys
-  abbrev pub tickets_in : Guards M S Z K R L C E N V A m d s z k l → List (Ticket M S Z K R L C E N V m d l)
+  abbrev pub tickets_in : Guards G L M S Z K R C E N V A m d s z k l → List (Ticket G L M S Z K R C E N V A m d s z k l)
   tickets_in guards = guards.tickets.items
 
   -- how many guards a list has
-  abbrev pub number_in : Guards M S Z K R L C E N V A m d s z k l → ℕ
+  abbrev pub number_in : Guards G L M S Z K R C E N V A m d s z k l → ℕ
   number_in guards = vec_len guards.connections
 
   -- how many guards a list may have: as many as its pool may have connections
-  abbrev pub most_in : Guards M S Z K R L C E N V A m d s z k l → ℕ
+  abbrev pub most_in : Guards G L M S Z K R C E N V A m d s z k l → ℕ
   most_in guards = guards.shared.now.config.max_size
 
   -- a list with this connection in place of the one of an index
-  abbrev pub with_connection_at : Guards M S Z K R L C E N V A m d s z k l → ℕ → C → Guards M S Z K R L C E N V A m d s z k l
+  abbrev pub with_connection_at : Guards G L M S Z K R C E N V A m d s z k l → ℕ → C → Guards G L M S Z K R C E N V A m d s z k l
   with_connection_at guards index connection = record guards { connections = with_item guards.connections index connection }
 
   -- the list is of guards of this pool
-  abbrev pub IsListOf : Guards M S Z K R L C E N V A m d s z k l → Pool M S Z K R L C E N V A m d l → Type 0
+  abbrev pub IsListOf : Guards G L M S Z K R C E N V A m d s z k l → Pool G L M S Z K R C E N V A m d s z k l → Type 0
   IsListOf guards pool = guards.shared.now ≡ arc_value pool.shared
 
   -- both lists are of one pool
-  abbrev pub AreOfOne : Guards M S Z K R L C E N V A m d s z k l → Guards M S Z K R L C E N V A m d s z k l → Type 0
+  abbrev pub AreOfOne : Guards G L M S Z K R C E N V A m d s z k l → Guards G L M S Z K R C E N V A m d s z k l → Type 0
   AreOfOne guards others = guards.shared.now ≡ others.shared.now
 
-module _ {M S Z K R L C E N V : Type 0} {m : ManagerOf M C E N V} {d : DebugOf E} {l : PartsOf L} (sinks : S → E → Type 0) (tells : K → Moment → Type 0) where
   -- this connection comes back where this ticket says, under its key
-  abbrev pub ReturnsBy : Ticket M S Z K R L C E N V m d l → C → Type 0
+  abbrev pub ReturnsBy : Ticket G L M S Z K R C E N V A m d s z k l → C → Type 0
   ReturnsBy ticket connection =
-      (part : Part L) × OwnReturns sinks tells ticket.shared.now (record { key = ticket.key; connection = connection; part = part })
+      (part : Part L) × OwnReturns ticket.shared.now (record { key = ticket.key; connection = connection; part = part })
 
-module _ {M S Z K R L C E N V A : Type 0} {m : ManagerOf M C E N V} {d : DebugOf E} {s : SinkOf S E} {z : CustomizerOf Z C E A} {k : ClockOf K} {l : PartsOf L}
-    (sinks : S → E → Type 0) (tells : K → Moment → Type 0) where
   -- each guard of a list gives its connection back
-  abbrev pub ReturnsEach : Guards M S Z K R L C E N V A m d s z k l → Type 0
-  ReturnsEach guards = AllZip (ReturnsBy sinks tells) (tickets_in guards) (connections_in guards)
+  abbrev pub ReturnsEach : Guards G L M S Z K R C E N V A m d s z k l → Type 0
+  ReturnsEach guards = AllZip ReturnsBy (tickets_in guards) (connections_in guards)

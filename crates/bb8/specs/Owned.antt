@@ -1,17 +1,13 @@
 -- The polls of a get that has a handle of its own.
 use Rattle.std.specs.Prelude.{◌≡◌, Option, Some, None, Result, Ok, Err, ⊤}
 use Rattle.std.specs.Arc.{arc_value}
-use Rattle.std.specs.declared.fmt.Debug.{Ghosts as DebugOf}
 use Rattle.futures.specs.declared.task.Poll.{Poll}
 use Rattle.futures.specs.declared.task.Poll.TheVariants.{Ready, Pending}
 use Rattle.bb8_types.specs.declared.api.errors.RunError.{RunError}
-use Rattle.bb8_types.specs.declared.api.managers.ManageConnection.{Ghosts as ManagerOf}
-use Rattle.bb8_types.specs.declared.api.moments.Moment.{Moment}
 use Rattle.bb8_gets.specs.declared.home.Taken.{Taken}
 use Rattle.bb8_gets.specs.declared.state.GetState.{GetState}
 use Rattle.bb8_gets.specs.declared.state.Stage.TheVariants.{Fresh}
 use Rattle.bb8_lock.specs.declared.locked.Part.{Part}
-use Rattle.bb8_lock.specs.declared.locked.Parts.{Ghosts as PartsOf}
 use Rattle.bb8.specs.declared.handles.Holding.{Holding}
 use Rattle.bb8.specs.declared.owned.OwnedConnection.{OwnedConnection}
 use Rattle.bb8.specs.declared.owned.GetOwnedFuture.{GetOwnedFuture}
@@ -20,47 +16,48 @@ use Rattle.bb8.specs.declared.owned.Owning.TheVariants.{Refused, Open}
 use Rattle.bb8.specs.declared.pool.Pool.{Pool}
 use Rattle.bb8.specs.Handles.{IsHandleOf}
 use Rattle.bb8_lock.specs.Linked.{Answers, OwnCancelsAndLeaves, OwnLeaves, OwnPolls}
+use Rattle.bb8_lock.specs.declared.locked.Parts.{Ghosts as PartsOf}
+use Rattle.bb8_lock.specs.Words.{ManagerOf, DebugOf, SinkOf, CustomizerOf, ClockOf}
 
-module _ {M S Z K R L C E N V A : Type 0} {m : ManagerOf M C E N V} {d : DebugOf E} {l : PartsOf L} where
+module _ {G L M S Z K R C E N V A : Type 0} {m : ManagerOf M C E N V} {d : DebugOf E} {s : SinkOf S E} {z : CustomizerOf Z C E A} {k : ClockOf K} {l : PartsOf L} where
   -- a guard with this connection in place of its own
-  abbrev pub with_connection : OwnedConnection M S Z K R L C E N V A m d l → C → OwnedConnection M S Z K R L C E N V A m d l
+  abbrev pub with_connection : OwnedConnection G L M S Z K R C E N V A m d s z k l → C → OwnedConnection G L M S Z K R C E N V A m d s z k l
   with_connection guard connection = record guard { taken = record guard.taken { connection = connection } }
 
--- What the steps of such a get do with its handle.
-module _ {M S Z K R L C E N V : Type 0} {m : ManagerOf M C E N V} {d : DebugOf E} {l : PartsOf L} (sinks : S → E → Type 0) (tells : K → Moment → Type 0) where
   -- a get with a handle of its own is let go: it is given up, where it began and was not answered, and then the handle leaves
-  abbrev pub CancelsOwning : Option (Owning M S Z K R L C E N V m d l) → Type 0
+  abbrev pub CancelsOwning : Option (Owning G L M S Z K R C E N V A m d s z k l) → Type 0
   CancelsOwning None = ⊤
   CancelsOwning (Some (Refused e)) = ⊤
-  CancelsOwning (Some (Open holding get)) = OwnCancelsAndLeaves sinks tells (arc_value holding.shared) get.stage
+  CancelsOwning (Some (Open holding get)) = OwnCancelsAndLeaves (arc_value holding.shared) get.stage
 
-module _ {M S Z K R L C E N V A : Type 0} {m : ManagerOf M C E N V} {d : DebugOf E} {l : PartsOf L} (sinks : S → E → Type 0) (tells : K → Moment → Type 0) where
   -- how a get with a handle of its own begins: the handle is made, or refused
-  abbrev pub BeginsOwning : Pool M S Z K R L C E N V A m d l → Option (Owning M S Z K R L C E N V m d l) → Type 0
+  abbrev pub BeginsOwning : Pool G L M S Z K R C E N V A m d s z k l → Option (Owning G L M S Z K R C E N V A m d s z k l) → Type 0
   BeginsOwning pool None = ⊥
-  BeginsOwning pool (Some (Refused e)) = IsHandleOf sinks tells (arc_value pool.shared) (Err e)
-  BeginsOwning pool (Some (Open holding get)) = IsHandleOf sinks tells (arc_value pool.shared) (Ok holding) × (get.stage ≡ Fresh)
+  BeginsOwning pool (Some (Refused e)) = IsHandleOf (arc_value pool.shared) (Err e)
+  BeginsOwning pool (Some (Open holding get)) = IsHandleOf (arc_value pool.shared) (Ok holding) × (get.stage ≡ Fresh)
 
-module _ {M S Z K R L C E N V A : Type 0} {m : ManagerOf M C E N V} {d : DebugOf E} {l : PartsOf L} (sinks : S → E → Type 0) (tells : K → Moment → Type 0) where
   -- After a poll on the pool's lock. A guard takes the handle along; with an error the handle leaves.
-  abbrev pub AfterOwned : Holding M S Z K R L C E N V m d l → GetState C V (Part L) → Poll (Result (Taken C (Part L)) (RunError E)) → Poll (Result (OwnedConnection M S Z K R L C E N V A m d l) (RunError E)) → Option (Owning M S Z K R L C E N V m d l) → Type 0
+  abbrev pub AfterOwned : Holding G L M S Z K R C E N V A m d s z k l → GetState C V (Part L) → Poll (Result (Taken C (Part L)) (RunError E))
+      → Poll (Result (OwnedConnection G L M S Z K R C E N V A m d s z k l) (RunError E)) → Option (Owning G L M S Z K R C E N V A m d s z k l) → Type 0
   AfterOwned holding get Pending r after = (r ≡ Pending) × (after ≡ Some (Open holding get))
-  AfterOwned holding get (Ready (Err e)) r after = (r ≡ Ready (Err e)) × (after ≡ None) × OwnLeaves sinks tells (arc_value holding.shared)
+  AfterOwned holding get (Ready (Err e)) r after = (r ≡ Ready (Err e)) × (after ≡ None) × OwnLeaves (arc_value holding.shared)
   AfterOwned holding get (Ready (Ok taken)) r after = (r ≡ Ready (Ok (record { holding = holding; taken = taken }))) × (after ≡ None)
 
   -- a poll of the get: what stood before its answer, what it answers, and what stands then
-  abbrev pub OwningPolls : Option (Owning M S Z K R L C E N V m d l) → Poll (Result (OwnedConnection M S Z K R L C E N V A m d l) (RunError E)) → Option (Owning M S Z K R L C E N V m d l) → Type 0
+  abbrev pub OwningPolls : Option (Owning G L M S Z K R C E N V A m d s z k l) → Poll (Result (OwnedConnection G L M S Z K R C E N V A m d s z k l) (RunError E))
+      → Option (Owning G L M S Z K R C E N V A m d s z k l) → Type 0
   OwningPolls None r after = (r ≡ Pending) × (after ≡ None)
   OwningPolls (Some (Refused e)) r after = (r ≡ Ready (Err e)) × (after ≡ None)
   OwningPolls (Some (Open holding get)) r after =
       (given : Poll (Result (Taken C (Part L)) (RunError E))) × (polled : GetState C V (Part L))
-      × OwnPolls sinks tells (arc_value holding.shared) get.stage given polled.stage
+      × OwnPolls (arc_value holding.shared) get.stage given polled.stage
       × AfterOwned holding polled given r after
 
   -- the same, of the future
-  abbrev pub PollsOwned : GetOwnedFuture M S Z K R L C E N V A m d l → Poll (Result (OwnedConnection M S Z K R L C E N V A m d l) (RunError E)) → GetOwnedFuture M S Z K R L C E N V A m d l → Type 0
+  abbrev pub PollsOwned : GetOwnedFuture G L M S Z K R C E N V A m d s z k l → Poll (Result (OwnedConnection G L M S Z K R C E N V A m d s z k l) (RunError E))
+      → GetOwnedFuture G L M S Z K R C E N V A m d s z k l → Type 0
   PollsOwned future r after = OwningPolls future.owning r after.owning
 
   -- what the get may answer at last
-  abbrev pub GivesOwned : GetOwnedFuture M S Z K R L C E N V A m d l → Result (OwnedConnection M S Z K R L C E N V A m d l) (RunError E) → Type 0
+  abbrev pub GivesOwned : GetOwnedFuture G L M S Z K R C E N V A m d s z k l → Result (OwnedConnection G L M S Z K R C E N V A m d s z k l) (RunError E) → Type 0
   GivesOwned future out = Answers OwningPolls future.owning out

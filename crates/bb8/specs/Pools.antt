@@ -1,45 +1,44 @@
 -- What callers see of a pool.
 use Rattle.std.specs.Prelude.{◌≡◌}
 use Rattle.std.specs.Arc.{arc_value}
-use Rattle.std.specs.declared.fmt.Debug.{Ghosts as DebugOf}
-use Rattle.bb8_types.specs.declared.api.managers.ManageConnection.{Ghosts as ManagerOf}
 use Rattle.bb8_types.specs.declared.api.moments.Moment.{Moment}
 use Rattle.bb8_types.specs.Settings.{Settings, settings_of}
-use Rattle.bb8_lock.specs.declared.locked.Parts.{Ghosts as PartsOf}
 use Rattle.bb8.specs.declared.pool.Pool.{Pool}
 use Rattle.bb8.specs.declared.get.future.GetFuture.{GetFuture}
 use Rattle.bb8_gets.specs.declared.state.Stage.{Stage}
 use Rattle.bb8_lock.specs.declared.locked.Part.{Part}
+use Rattle.bb8_lock.specs.declared.locked.Parts.{Ghosts as PartsOf}
+use Rattle.bb8_lock.specs.Words.{ManagerOf, DebugOf, SinkOf, CustomizerOf, ClockOf}
 
-module _ {M S Z K R L C E N V A : Type 0} {m : ManagerOf M C E N V} {d : DebugOf E} {l : PartsOf L} where
+module _ {G L M S Z K R C E N V A : Type 0} {m : ManagerOf M C E N V} {d : DebugOf E} {s : SinkOf S E} {z : CustomizerOf Z C E A} {k : ClockOf K} {l : PartsOf L} where
   -- the settings of a pool
-  abbrev pub settings_in : Pool M S Z K R L C E N V A m d l → Settings
+  abbrev pub settings_in : Pool G L M S Z K R C E N V A m d s z k l → Settings
   settings_in pool = settings_of (arc_value pool.shared).config
 
   -- the manager of a pool
-  abbrev pub manager_in : Pool M S Z K R L C E N V A m d l → M
+  abbrev pub manager_in : Pool G L M S Z K R C E N V A m d s z k l → M
   manager_in pool = (arc_value pool.shared).manager
 
   -- where a get stands between its polls
-  abbrev pub stage_of : GetFuture M S Z K R L C E N V A m d l → Stage C V (Part L)
+  abbrev pub stage_of : GetFuture G L M S Z K R C E N V A m d s z k l → Stage C V (Part L)
   stage_of future = future.get.stage
 
   -- the error sink of a pool
-  abbrev pub sink_in : Pool M S Z K R L C E N V A m d l → S
+  abbrev pub sink_in : Pool G L M S Z K R C E N V A m d s z k l → S
   sink_in pool = (arc_value pool.shared).error_sink
 
   -- the customizer of a pool
-  abbrev pub customizer_in : Pool M S Z K R L C E N V A m d l → Z
+  abbrev pub customizer_in : Pool G L M S Z K R C E N V A m d s z k l → Z
   customizer_in pool = (arc_value pool.shared).customizer
 
   -- the clock of a pool
-  abbrev pub clock_in : Pool M S Z K R L C E N V A m d l → K
+  abbrev pub clock_in : Pool G L M S Z K R C E N V A m d s z k l → K
   clock_in pool = (arc_value pool.shared).clock
 
   -- the clock's moment at which a pool was made
-  abbrev pub made_in : Pool M S Z K R L C E N V A m d l → Moment
+  abbrev pub made_in : Pool G L M S Z K R C E N V A m d s z k l → Moment
   made_in pool = (arc_value pool.shared).made
 
   -- the get is of that pool
-  abbrev pub IsOf : GetFuture M S Z K R L C E N V A m d l → Pool M S Z K R L C E N V A m d l → Type 0
+  abbrev pub IsOf : GetFuture G L M S Z K R C E N V A m d s z k l → Pool G L M S Z K R C E N V A m d s z k l → Type 0
   IsOf future pool = future.shared.now ≡ arc_value pool.shared

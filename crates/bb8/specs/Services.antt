@@ -1,9 +1,8 @@
 -- What a service is run over, and what comes of it.
 use Rattle.std.specs.Prelude.{◌≡◌, ℕ, ◌<◌, ◌⊎◌, List, length, slice_index_or, Result, Ok, Err}
-use Rattle.std.specs.declared.fmt.Debug.{Ghosts as DebugOf}
-use Rattle.bb8_lock.specs.declared.locked.Parts.{Ghosts as PartsOf}
-use Rattle.bb8_types.specs.declared.api.managers.ManageConnection.{Ghosts as ManagerOf}
 use Rattle.bb8_types.specs.Settings.{Settings}
+use Rattle.bb8_lock.specs.declared.locked.Parts.{Ghosts as PartsOf}
+use Rattle.bb8_lock.specs.Words.{ManagerOf, DebugOf, SinkOf, CustomizerOf, ClockOf}
 use Rattle.bb8.specs.declared.pool.Pool.{Pool}
 use Rattle.bb8.specs.Pools.{settings_in, manager_in, clock_in}
 
@@ -17,9 +16,9 @@ pub record Basis (M K : Type 0) : Type 0 where
 abbrev pub basis : {M K : Type 0} → Settings → M → K → Basis M K
 basis settings manager clock = record { settings = settings; manager = manager; clock = clock }
 
-module _ {M S Z K R L C E N V A : Type 0} {m : ManagerOf M C E N V} {d : DebugOf E} {l : PartsOf L} where
+module _ {G L M S Z K R C E N V A : Type 0} {m : ManagerOf M C E N V} {d : DebugOf E} {s : SinkOf S E} {z : CustomizerOf Z C E A} {k : ClockOf K} {l : PartsOf L} where
   -- what a pool was built of
-  abbrev pub basis_of : Pool M S Z K R L C E N V A m d l → Basis M K
+  abbrev pub basis_of : Pool G L M S Z K R C E N V A m d s z k l → Basis M K
   basis_of pool = basis (settings_in pool) (manager_in pool) (clock_in pool)
 
 -- so many threads told this, each of them something that the thread of its number may tell

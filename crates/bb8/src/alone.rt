@@ -5,9 +5,7 @@ ghost use Rattle.bb8_lock.specs.Parts.{IsBlankOf};
 ghost use Rattle.bb8.specs.Drivers.{IsDriverOf};
 ghost use Rattle.bb8.specs.Services.{Basis, basis, basis_of};
 
-use crate::Builder;
-use crate::driver::Driver;
-use crate::pool::Pool;
+use crate::{Builder, Driver, Pool};
 use bb8_core::api::{Clock, Config, CustomizeConnection, ErrorSink, ManageConnection, Memory};
 use bb8_lock::{Locks, PoolParts};
 use std::marker::Brand;

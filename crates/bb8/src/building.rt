@@ -7,7 +7,9 @@ use crate::Builder;
 use crate::pool::{Cancel, Pool};
 use bb8_core::api::{Clock, CustomizeConnection, ErrorSink, ManageConnection, Memory, RunError};
 use bb8_core::internals::Grant;
-use bb8_lock::{Belled, Locks, NewPool, Opens, Parts, SectionHome, Shared, begin_pool};
+use bb8_lock::{
+    Belled, Given, Locks, NewPool, Opens, Parts, SectionHome, Shared, These, begin_pool,
+};
 use bb8_tasks::PoolOpener;
 pub use bb8_tasks::{Built, Replenish, Round, Site, Tasks};
 use futures::Future;
@@ -19,11 +21,11 @@ use std::sync::{Arc, Wait};
 
 /// What a pool is to be made of.
 #[derive(Drop)]
-pub(crate) struct Plan<M, S, Z, K, R, L: Parts> {
-    pub builder: Builder<M, S, Z>,
-    pub manager: M,
-    pub clock: K,
-    pub rt: R,
+pub(crate) struct Plan<G: Given, L: Parts> {
+    pub builder: Builder<G::Manager, G::Sink, G::Customizer>,
+    pub manager: G::Manager,
+    pub clock: G::Clock,
+    pub rt: G::Runtime,
     pub blank: Blank,
     pub parts: PhantomData<L>,
     ghost lawful: { is_lawful builder.settings ≡ true },
@@ -43,29 +45,22 @@ pub(crate) trait MakesPool {
     fn make(self) -> Self::Made;
 }
 
-impl<
-    M: ManageConnection,
-    S: ErrorSink<M::Error>,
-    Z: CustomizeConnection<M::Connection, M::Error>,
-    K: Clock,
-    R: Wait + AllocGlobal + Send + Sync + Drop + 'static,
-    L: Parts,
-> MakesPool for Plan<M, S, Z, K, R, L> {
+impl<G: Given<Runtime: Wait + AllocGlobal>, L: Parts> MakesPool for Plan<G, L> {
     ghost use Rattle.std.specs.Prelude.{◌+◌, ◌^◌, ◌<◌, IfOk};
     ghost use Rattle.bb8.specs.Buildings.{PoolIsMade, IsOpened};
 
-    type Opened = Result<(Pool<M, S, Z, K, R, L>, Grant), Memory>;
+    type Opened = Result<(Pool<G, L>, Grant), Memory>;
 
     type Made = Result<
         (
-            Pool<M, S, Z, K, R, L>,
-            Tasks<M::Connection, M::Connecting, Z::Acquiring>,
+            Pool<G, L>,
+            Tasks<G::Connection, G::Connecting, G::Acquiring>,
         ),
         Memory,
     >;
 
     fn open(self, claimed: bool) -> Self::Opened
-        ensures opened { IfOk result (λ x. IsOpened K.tells self claimed x.0 x.1) }
+        ensures opened { IfOk result (λ x. IsOpened self claimed x.0 x.1) }
         ensures numbers { IfOk result (λ x. x.1.first + x.1.count < 2 ^ 64) }
     {
         let Plan {
@@ -109,7 +104,7 @@ impl<
 
     /// Where memory for the tasks is refused the pool is dropped.
     fn make(self) -> Self::Made
-        ensures { IfOk result (λ made. PoolIsMade K.tells self made.0 made.1) }
+        ensures { IfOk result (λ made. PoolIsMade self made.0 made.1) }
     {
         let alloc = self.rt.alloc();
         let (pool, grant) = self.open(true)?;
@@ -129,19 +124,8 @@ impl<
 ///
 /// One that is pending asks to be polled again at once. When it is dropped before its answer, its approvals are given back and its pool is
 /// dropped. Manager, customizer, sink and clock are called while the pool's lock is free. Our own: upstream's is an async function.
-pub struct Building<
-    M: ManageConnection,
-    S: ErrorSink<M::Error>,
-    Z: CustomizeConnection<M::Connection, M::Error>,
-    K: Clock,
-    R: Locks,
-    L: Parts,
-> {
-    site: Site<
-        Plan<M, S, Z, K, R, L>,
-        Pool<M, S, Z, K, R, L>,
-        Tasks<M::Connection, M::Connecting, Z::Acquiring>,
-    >,
+pub struct Building<G: Given, L: Parts> {
+    site: Site<Plan<G, L>, Pool<G, L>, Tasks<G::Connection, G::Connecting, G::Acquiring>>,
 }
 
 impl<
@@ -162,7 +146,7 @@ impl<
         clock: K,
         rt: R,
         blank: Blank,
-    ) -> Building<M, S, Z, K, R, L>
+    ) -> Building<These<M, S, Z, K, R>, L>
         requires lawful { is_lawful self.settings ≡ true }
         requires parts { (L.name ≡ blank.name) × (L.parts ≡ blank.parts) }
         requires size { blank.parts ≡ self.settings.max_size }
@@ -183,31 +167,20 @@ impl<
 }
 
 /// The end of a building, as a method of an impl, so that a drop and a cancelling can call it.
-trait Ends {
+trait EndsSite {
     type Site;
 
     /// Gives the approvals of its tasks back, and drops all.
     fn end(site: Self::Site);
 }
 
-impl<
-    M: ManageConnection,
-    S: ErrorSink<M::Error>,
-    Z: CustomizeConnection<M::Connection, M::Error>,
-    K: Clock,
-    R: Locks,
-    L: Parts,
-> Ends for Building<M, S, Z, K, R, L> {
+impl<G: Given, L: Parts> EndsSite for Building<G, L> {
     ghost use Rattle.bb8.specs.Buildings.{EndsAt};
 
-    type Site = Site<
-        Plan<M, S, Z, K, R, L>,
-        Pool<M, S, Z, K, R, L>,
-        Tasks<M::Connection, M::Connecting, Z::Acquiring>,
-    >;
+    type Site = Site<Plan<G, L>, Pool<G, L>, Tasks<G::Connection, G::Connecting, G::Acquiring>>;
 
     fn end(site: Self::Site)
-        ensures { EndsAt Z.CustomizeConnection S.sinks K.tells site }
+        ensures { EndsAt site }
     {
         match site {
             Site::Planned(plan) => drop(plan),
@@ -226,54 +199,33 @@ impl<
     }
 }
 
-impl<
-    M: ManageConnection,
-    S: ErrorSink<M::Error>,
-    Z: CustomizeConnection<M::Connection, M::Error>,
-    K: Clock,
-    R: Wait + Send + Sync + Drop + 'static,
-    L: Parts,
-> Building<M, S, Z, K, R, L> {
+impl<G: Given<Runtime: Wait>, L: Parts> Building<G, L> {
     ghost use Rattle.bb8.specs.Buildings.{CancelsBuilding};
 
     /// Lets the building go, as a drop does, for which it may wait for the lock: the approvals of its openings are given back, and its pool
     /// is dropped. Our own.
     pub fn cancel(self)
-        ensures { CancelsBuilding Z.CustomizeConnection S.sinks K.tells self }
+        ensures { CancelsBuilding self }
     {
         Cancel::cancel(self)
     }
 }
 
-impl<
-    M: ManageConnection,
-    S: ErrorSink<M::Error>,
-    Z: CustomizeConnection<M::Connection, M::Error>,
-    K: Clock,
-    R: Wait + Send + Sync + Drop + 'static,
-    L: Parts,
-> Cancel for Building<M, S, Z, K, R, L> {
+impl<G: Given<Runtime: Wait>, L: Parts> Cancel for Building<G, L> {
     ghost use Rattle.bb8.specs.Buildings.{CancelsBuilding};
 
     fn cancel(self)
-        ensures { CancelsBuilding Z.CustomizeConnection S.sinks K.tells self }
+        ensures { CancelsBuilding self }
     {
         drop(self);
     }
 }
 
-impl<
-    M: ManageConnection,
-    S: ErrorSink<M::Error>,
-    Z: CustomizeConnection<M::Connection, M::Error>,
-    K: Clock,
-    R: Locks,
-    L: Parts,
-> Drop for Building<M, S, Z, K, R, L> {
+impl<G: Given, L: Parts> Drop for Building<G, L> {
     ghost use Rattle.bb8.specs.Buildings.{CancelsBuilding};
 
     fn drop(self)
-        ensures { CancelsBuilding Z.CustomizeConnection S.sinks K.tells self }
+        ensures { CancelsBuilding self }
     {
         let Building { site } = self;
         Self::end(site);
@@ -290,29 +242,21 @@ trait OpensFirst {
     fn sweep(self, tasks: Self::Tasks) -> Self::Built;
 }
 
-impl<
-    M: ManageConnection,
-    S: ErrorSink<M::Error>,
-    Z: CustomizeConnection<M::Connection, M::Error>,
-    K: Clock,
-    R: Locks,
-    L: Parts,
-> OpensFirst for Pool<M, S, Z, K, R, L> {
+impl<G: Given, L: Parts> OpensFirst for Pool<G, L> {
     ghost use Rattle.bb8_tasks.specs.Building.{Sweeps};
     ghost use Rattle.bb8.specs.Buildings.{PoolRounds};
 
-    type Tasks = Tasks<M::Connection, M::Connecting, Z::Acquiring>;
+    type Tasks = Tasks<G::Connection, G::Connecting, G::Acquiring>;
 
     type Built = Built<
-        Plan<M, S, Z, K, R, L>,
-        Pool<M, S, Z, K, R, L>,
-        Tasks<M::Connection, M::Connecting, Z::Acquiring>,
-        M::Error,
+        Plan<G, L>,
+        Pool<G, L>,
+        Tasks<G::Connection, G::Connecting, G::Acquiring>,
+        G::Error,
     >;
 
     fn sweep(self, tasks: Self::Tasks) -> Self::Built
-        ensures { Sweeps (PoolRounds Z.CustomizeConnection S.sinks K.tells) self tasks
-            result.answer result.site }
+        ensures { Sweeps PoolRounds self tasks result.answer result.site }
     {
         let shared = &*self.shared;
         let calls = PoolOpener::new(
@@ -348,31 +292,20 @@ trait Builds {
     fn advance(site: Self::Site) -> Self::Built;
 }
 
-impl<
-    M: ManageConnection,
-    S: ErrorSink<M::Error>,
-    Z: CustomizeConnection<M::Connection, M::Error>,
-    K: Clock,
-    R: Wait + AllocGlobal + Send + Sync + Drop + 'static,
-    L: Parts,
-> Builds for Building<M, S, Z, K, R, L> {
+impl<G: Given<Runtime: Wait + AllocGlobal>, L: Parts> Builds for Building<G, L> {
     ghost use Rattle.bb8.specs.Buildings.{PollsSite};
 
-    type Site = Site<
-        Plan<M, S, Z, K, R, L>,
-        Pool<M, S, Z, K, R, L>,
-        Tasks<M::Connection, M::Connecting, Z::Acquiring>,
-    >;
+    type Site = Site<Plan<G, L>, Pool<G, L>, Tasks<G::Connection, G::Connecting, G::Acquiring>>;
 
     type Built = Built<
-        Plan<M, S, Z, K, R, L>,
-        Pool<M, S, Z, K, R, L>,
-        Tasks<M::Connection, M::Connecting, Z::Acquiring>,
-        M::Error,
+        Plan<G, L>,
+        Pool<G, L>,
+        Tasks<G::Connection, G::Connecting, G::Acquiring>,
+        G::Error,
     >;
 
     fn advance(site: Self::Site) -> Self::Built
-        ensures { PollsSite Z.CustomizeConnection S.sinks K.tells site result.answer result.site }
+        ensures { PollsSite site result.answer result.site }
     {
         match site {
             Site::Planned(plan) => match plan.make() {
@@ -391,33 +324,24 @@ impl<
     }
 }
 
-impl<
-    M: ManageConnection,
-    S: ErrorSink<M::Error>,
-    Z: CustomizeConnection<M::Connection, M::Error>,
-    K: Clock,
-    R: Wait + AllocGlobal + Send + Sync + Drop + 'static,
-    L: Parts,
-> Future for Building<M, S, Z, K, R, L> {
+impl<G: Given<Runtime: Wait + AllocGlobal>, L: Parts> Future for Building<G, L> {
     ghost use Rattle.std.specs.Prelude.{⊤};
     ghost use Rattle.futures.specs.Poll.{IfReady, OnPending};
     ghost use Rattle.futures.specs.Task.{Covers, Keeps};
     ghost use Rattle.bb8.specs.Buildings.{GivesBuilding, PollsBuilding};
 
-    type Output = Result<Pool<M, S, Z, K, R, L>, RunError<M::Error>>;
+    type Output = Result<Pool<G, L>, RunError<G::Error>>;
 
-    ghost gives = { λ building out. GivesBuilding Z.CustomizeConnection S.sinks K.tells building out };
+    ghost gives = { λ building out. GivesBuilding building out };
 
     /// One poll. It is pending while openings go on, and after its answer.
     fn poll(&mut self, cx: &mut Context<'_>) -> Poll<Self::Output>
-        ensures table { PollsBuilding Z.CustomizeConnection S.sinks K.tells self.old result
-            self.new }
-        ensures value { IfReady result (λ out.
-            GivesBuilding Z.CustomizeConnection S.sinks K.tells self.old out) }
+        ensures table { PollsBuilding self.old result self.new }
+        ensures value { IfReady result (λ out. GivesBuilding self.old out) }
         ensures again { OnPending result ⊤ }
         ensures same { OnPending result
-            ((x : _) → GivesBuilding Z.CustomizeConnection S.sinks K.tells self.new x
-            → GivesBuilding Z.CustomizeConnection S.sinks K.tells self.old x) }
+            ((x : _) → GivesBuilding self.new x
+            → GivesBuilding self.old x) }
         ensures registered { OnPending result (Covers cx.new (λ _. ⊥)) }
         ensures kept { Keeps cx.old cx.new }
     {

@@ -4,8 +4,8 @@ ghost use Rattle.std.specs.Arc.{arc_value};
 ghost use Rattle.bb8_tasks.specs.Dedicating.{fresh};
 
 use crate::pool::{Cancel, Pool};
-use bb8_core::api::{Clock, CustomizeConnection, ErrorSink, ManageConnection, Moment};
-use bb8_lock::{Locks, Opens, Parts, Shared};
+use bb8_core::api::Moment;
+use bb8_lock::{Given, Opens, Parts, Shared};
 use bb8_tasks::PoolOpener;
 pub use bb8_tasks::{Dedicated, Opened, Opening};
 use futures::Future;
@@ -16,35 +16,20 @@ use std::mem;
 ///
 /// Each poll reads the pool's clock, and none takes the pool's lock. One that is pending asks to be polled again at once. When it is
 /// dropped before its answer, what it holds is dropped. Our own: upstream's is an async function.
-pub struct DedicatedFuture<
-    'a,
-    M: ManageConnection,
-    S: ErrorSink<M::Error>,
-    Z: CustomizeConnection<M::Connection, M::Error>,
-    K: Clock,
-    R: Locks,
-    L: Parts,
-> {
-    pub(crate) shared: &'a Shared<M, S, Z, K, R, L>,
+pub struct DedicatedFuture<'a, G: Given, L: Parts> {
+    pub(crate) shared: &'a Shared<G, L>,
     pub(crate) latest: Moment,
-    pub(crate) stage: Opening<M::Connection, M::Connecting, Z::Acquiring>,
+    pub(crate) stage: Opening<G::Connection, G::Connecting, G::Acquiring>,
 }
 
-impl<
-    M: ManageConnection,
-    S: ErrorSink<M::Error>,
-    Z: CustomizeConnection<M::Connection, M::Error>,
-    K: Clock,
-    R: Locks,
-    L: Parts,
-> Pool<M, S, Z, K, R, L> {
+impl<G: Given, L: Parts> Pool<G, L> {
     ghost use Rattle.bb8.specs.Dedicated.{opening_of};
 
     /// Opens a connection that the pool does not count: it takes no room in the pool, which neither checks it nor takes it back. The
     /// customizer prepares it. As upstream, but for the future's name.
     ///
     /// It answers the first error of manager or customizer; it is tried once. A connection whose preparation failed is dropped.
-    pub fn dedicated_connection(&self) -> DedicatedFuture<'_, M, S, Z, K, R, L>
+    pub fn dedicated_connection(&self) -> DedicatedFuture<'_, G, L>
         ensures new { opening_of result ≡ fresh }
         ensures pool { result.shared.now ≡ arc_value self.now.shared }
     {
@@ -57,53 +42,32 @@ impl<
     }
 }
 
-impl<
-    M: ManageConnection,
-    S: ErrorSink<M::Error>,
-    Z: CustomizeConnection<M::Connection, M::Error>,
-    K: Clock,
-    R: Locks,
-    L: Parts,
-> DedicatedFuture<'_, M, S, Z, K, R, L> {
+impl<G: Given, L: Parts> DedicatedFuture<'_, G, L> {
     ghost use Rattle.bb8.specs.Dedicated.{CancelsDedicated};
 
     /// Lets the opening go, as a drop does: what it holds is dropped. Our own.
     pub fn cancel(self)
-        ensures { CancelsDedicated Z.CustomizeConnection S.sinks K.tells self.entry }
+        ensures { CancelsDedicated self.entry }
     {
         Cancel::cancel(self)
     }
 }
 
-impl<
-    M: ManageConnection,
-    S: ErrorSink<M::Error>,
-    Z: CustomizeConnection<M::Connection, M::Error>,
-    K: Clock,
-    R: Locks,
-    L: Parts,
-> Cancel for DedicatedFuture<'_, M, S, Z, K, R, L> {
+impl<G: Given, L: Parts> Cancel for DedicatedFuture<'_, G, L> {
     ghost use Rattle.bb8.specs.Dedicated.{CancelsDedicated};
 
     fn cancel(self)
-        ensures { CancelsDedicated Z.CustomizeConnection S.sinks K.tells self.entry }
+        ensures { CancelsDedicated self.entry }
     {
         drop(self);
     }
 }
 
-impl<
-    M: ManageConnection,
-    S: ErrorSink<M::Error>,
-    Z: CustomizeConnection<M::Connection, M::Error>,
-    K: Clock,
-    R: Locks,
-    L: Parts,
-> Drop for DedicatedFuture<'_, M, S, Z, K, R, L> {
+impl<G: Given, L: Parts> Drop for DedicatedFuture<'_, G, L> {
     ghost use Rattle.bb8.specs.Dedicated.{CancelsDedicated};
 
     fn drop(self)
-        ensures { CancelsDedicated Z.CustomizeConnection S.sinks K.tells self.entry }
+        ensures { CancelsDedicated self.entry }
     {
         let DedicatedFuture {
             shared,
@@ -120,35 +84,25 @@ impl<
     }
 }
 
-impl<
-    'a,
-    M: ManageConnection,
-    S: ErrorSink<M::Error>,
-    Z: CustomizeConnection<M::Connection, M::Error>,
-    K: Clock,
-    R: Locks,
-    L: Parts,
-> Future for DedicatedFuture<'a, M, S, Z, K, R, L> {
+impl<'a, G: Given, L: Parts> Future for DedicatedFuture<'a, G, L> {
     ghost use Rattle.std.specs.Prelude.{⊤};
     ghost use Rattle.futures.specs.Poll.{IfReady, OnPending};
     ghost use Rattle.futures.specs.Task.{Covers, Keeps};
     ghost use Rattle.bb8.specs.Dedicated.{GivesDedicated, PollsDedicated};
 
-    type Output = Result<M::Connection, M::Error>;
+    type Output = Result<G::Connection, G::Error>;
 
-    ghost gives = { λ future out. GivesDedicated Z.CustomizeConnection S.sinks K.tells future out };
+    ghost gives = { λ future out. GivesDedicated future out };
 
     /// One poll at the greatest reading of the clock so far. It is pending while the manager or the customizer is, and after its answer.
     fn poll(&mut self, cx: &mut Context<'_>) -> Poll<Self::Output>
-        ensures table { PollsDedicated Z.CustomizeConnection S.sinks K.tells self.old result
-            self.new }
+        ensures table { PollsDedicated self.old result self.new }
         ensures pool { self.new.shared.now ≡ self.old.shared.now }
-        ensures value { IfReady result (λ out.
-            GivesDedicated Z.CustomizeConnection S.sinks K.tells self.old out) }
+        ensures value { IfReady result (λ out. GivesDedicated self.old out) }
         ensures again { OnPending result ⊤ }
         ensures same { OnPending result
-            ((x : _) → GivesDedicated Z.CustomizeConnection S.sinks K.tells self.new x
-            → GivesDedicated Z.CustomizeConnection S.sinks K.tells self.old x) }
+            ((x : _) → GivesDedicated self.new x
+            → GivesDedicated self.old x) }
         ensures registered { OnPending result (Covers cx.new (λ _. ⊥)) }
         ensures kept { Keeps cx.old cx.new }
     {

@@ -7,7 +7,7 @@ use crate::jobs::{Job, NoThread, start};
 use crate::pool::Pool;
 use bb8_core::Joined;
 use bb8_core::api::{Clock, CustomizeConnection, ErrorSink, ManageConnection, Memory, Moment};
-use bb8_lock::{Drives, LinkHome, Locks, Parts, PoolParts, Shared};
+use bb8_lock::{Drives, Given, LinkHome, Parts, PoolParts, Shared, These};
 pub use bb8_tasks::Turn;
 use bb8_tasks::{Opener, PoolOpener, Reports, Turning};
 use std::alloc::Global;
@@ -22,16 +22,9 @@ use std::time::Duration;
 /// (`drive`). It has a reaper where `max_lifetime` or `idle_timeout` is set, whose ticks count from the moment at which the pool was made.
 ///
 /// When it is dropped it reads the pool's clock, and the approvals of its tasks are given back under the pool's lock, for which it may wait.
-pub struct Driver<
-    M: ManageConnection,
-    S: ErrorSink<M::Error>,
-    Z: CustomizeConnection<M::Connection, M::Error>,
-    K: Clock,
-    R: Locks,
-    L: Parts,
-> {
-    shared: Arc<Shared<M, S, Z, K, R, L>, Global>,
-    turning: Turning<M::Connection, M::Connecting, Z::Acquiring>,
+pub struct Driver<G: Given, L: Parts> {
+    shared: Arc<Shared<G, L>, Global>,
+    turning: Turning<G::Connection, G::Connecting, G::Acquiring>,
 }
 
 /// What a thread asks between two turns of its driver. Our own.
@@ -59,16 +52,9 @@ pub struct Driven {
     pub ended: bool,
 }
 
-impl<
-    M: ManageConnection,
-    S: ErrorSink<M::Error>,
-    Z: CustomizeConnection<M::Connection, M::Error>,
-    K: Clock,
-    R: Wait + AllocGlobal + Send + Sync + Drop + 'static,
-    L: Parts,
-> Driver<M, S, Z, K, R, L> {
+impl<G: Given<Runtime: Wait + AllocGlobal>, L: Parts> Driver<G, L> {
     /// A driver of the pool, which made no turn yet. It fails only where sharing the pool was refused memory. Our own.
-    pub fn new(pool: &Pool<M, S, Z, K, R, L>) -> Result<Self, Memory>
+    pub fn new(pool: &Pool<G, L>) -> Result<Self, Memory>
         ensures { IfOk result (λ driver. IsDriverOf driver pool.now) }
     {
         let Ok(shared) = Arc::try_clone(&pool.shared) else {
@@ -103,20 +89,12 @@ pub trait DriverCalls {
     fn next_due(&self) -> Option<Moment>;
 }
 
-impl<
-    M: ManageConnection,
-    S: ErrorSink<M::Error>,
-    Z: CustomizeConnection<M::Connection, M::Error>,
-    K: Clock,
-    R: Wait + Send + Sync + Drop + 'static,
-    L: Parts,
-> DriverCalls for Driver<M, S, Z, K, R, L> {
+impl<G: Given<Runtime: Wait>, L: Parts> DriverCalls for Driver<G, L> {
     ghost use Rattle.bb8_tasks.specs.Dues.{driver_due};
     ghost use Rattle.bb8.specs.Drivers.{TurnsDriver, TurnsDriverNow};
 
     fn turn(&mut self, moment: Moment) -> Turn
-        ensures table { TurnsDriver Z.CustomizeConnection S.sinks K.tells moment self.old result
-            self.new }
+        ensures table { TurnsDriver moment self.old result self.new }
         ensures ended { result.ended ≡ has_ended self.new }
         ensures none { result.ended ≡ true → result.polled ≡ 0 }
         ensures stays { has_ended self.old ≡ true → result.ended ≡ true }
@@ -132,8 +110,7 @@ impl<
     }
 
     fn turn_now(&mut self) -> Turn
-        ensures table { TurnsDriverNow Z.CustomizeConnection S.sinks K.tells self.old result
-            self.new }
+        ensures table { TurnsDriverNow self.old result self.new }
         ensures ended { result.ended ≡ has_ended self.new }
         ensures none { result.ended ≡ true → result.polled ≡ 0 }
         ensures stays { has_ended self.old ≡ true → result.ended ≡ true }
@@ -149,14 +126,7 @@ impl<
     }
 }
 
-impl<
-    M: ManageConnection,
-    S: ErrorSink<M::Error>,
-    Z: CustomizeConnection<M::Connection, M::Error>,
-    K: Clock,
-    R: Wait + Send + Sync + Drop + 'static,
-    L: Parts,
-> Driver<M, S, Z, K, R, L> {
+impl<G: Given<Runtime: Wait>, L: Parts> Driver<G, L> {
     ghost use Rattle.bb8_tasks.specs.Dues.{driver_due};
     ghost use Rattle.bb8.specs.Drivers.{RunsDriver, TurnsDriver, TurnsDriverNow};
 
@@ -167,8 +137,7 @@ impl<
     /// once, in the order of the claims; those that end are gone, and the error of each try that failed goes to the error sink. Where a
     /// claim finds no handle alive it polls none, drops what it opens, gives all approvals back, and has ended, as at each later turn.
     pub fn turn(&mut self, moment: Moment) -> Turn
-        ensures table { TurnsDriver Z.CustomizeConnection S.sinks K.tells moment self.old result
-            self.new }
+        ensures table { TurnsDriver moment self.old result self.new }
         ensures ended { result.ended ≡ has_ended self.new }
         ensures none { result.ended ≡ true → result.polled ≡ 0 }
         ensures stays { has_ended self.old ≡ true → result.ended ≡ true }
@@ -178,8 +147,7 @@ impl<
 
     /// One turn at the moment that the pool's clock tells, which is read first. Our own.
     pub fn turn_now(&mut self) -> Turn
-        ensures table { TurnsDriverNow Z.CustomizeConnection S.sinks K.tells self.old result
-            self.new }
+        ensures table { TurnsDriverNow self.old result self.new }
         ensures ended { result.ended ≡ has_ended self.new }
         ensures none { result.ended ≡ true → result.polled ≡ 0 }
         ensures stays { has_ended self.old ≡ true → result.ended ≡ true }
@@ -199,8 +167,8 @@ impl<
     /// Makes turns, each at a reading of the pool's clock, until one has ended or the gate, which is asked after each other one, does not
     /// pause. Before the next one the thread sleeps until an approval is granted, no handle is alive, or something is due, and no longer
     /// than the gate lets it; where an opening was pending, a millisecond. Then the driver is dropped. Our own.
-    pub fn run<G: Gate + Drop>(self, gate: G) -> Driven
-        ensures { RunsDriver Z.CustomizeConnection S.sinks K.tells G.pauses self gate result }
+    pub fn run<P: Gate + Drop>(self, gate: P) -> Driven
+        ensures { RunsDriver P.pauses self gate result }
     {
         let mut driver = self;
         let mut gate = gate;
@@ -211,34 +179,30 @@ impl<
 /// Runs of turns over any calls outside, as a method of an impl, so that a thread can make one.
 trait RunsWith<C, E, V, A> {
     /// Turns, each at a reading of the clock, until one has ended or the gate does not pause.
-    fn run_with<W: Opener<C, E, Connecting = V, Acquiring = A> + Reports<E> + Drop, G: Gate>(
+    fn run_with<W: Opener<C, E, Connecting = V, Acquiring = A> + Reports<E> + Drop, P: Gate>(
         &self,
         outside: W,
         turning: &mut Turning<C, V, A>,
-        gate: &mut G,
+        gate: &mut P,
     ) -> Driven;
 }
 
-impl<M: ManageConnection, S, Z, K, R: Wait + Send + Sync + Drop + 'static, L: Parts, A> RunsWith<
-    M::Connection,
-    M::Error,
-    M::Connecting,
-    A,
-> for Shared<M, S, Z, K, R, L> {
+impl<G: Given<Runtime: Wait>, L: Parts, A> RunsWith<G::Connection, G::Error, G::Connecting, A>
+    for Shared<G, L> {
     ghost use Rattle.bb8.specs.Drivers.{LinkRuns};
 
     fn run_with<
-        W: Opener<M::Connection, M::Error, Connecting = M::Connecting, Acquiring = A>
-            + Reports<M::Error>
+        W: Opener<G::Connection, G::Error, Connecting = G::Connecting, Acquiring = A>
+            + Reports<G::Error>
             + Drop,
-        G: Gate,
+        P: Gate,
     >(
         &self,
         outside: W,
-        turning: &mut Turning<M::Connection, M::Connecting, A>,
-        gate: &mut G,
+        turning: &mut Turning<G::Connection, G::Connecting, A>,
+        gate: &mut P,
     ) -> Driven
-        ensures { LinkRuns W.Opener W.Reports self.now G.pauses turning.old outside gate.old
+        ensures { LinkRuns W.Opener W.Reports self.now P.pauses turning.old outside gate.old
             result }
     {
         let home = LinkHome::new(&self.locked, &self.rt);
@@ -268,22 +232,14 @@ impl<M: ManageConnection, S, Z, K, R: Wait + Send + Sync + Drop + 'static, L: Pa
 /// Runs of a driver's turns, as a method of an impl, so that a thread can make one.
 trait RunsTurns {
     /// Turns until one has ended or the gate does not pause.
-    fn run_turns<G: Gate>(&mut self, gate: &mut G) -> Driven;
+    fn run_turns<P: Gate>(&mut self, gate: &mut P) -> Driven;
 }
 
-impl<
-    M: ManageConnection,
-    S: ErrorSink<M::Error>,
-    Z: CustomizeConnection<M::Connection, M::Error>,
-    K: Clock,
-    R: Wait + Send + Sync + Drop + 'static,
-    L: Parts,
-> RunsTurns for Driver<M, S, Z, K, R, L> {
+impl<G: Given<Runtime: Wait>, L: Parts> RunsTurns for Driver<G, L> {
     ghost use Rattle.bb8.specs.Drivers.{RunsDriver};
 
-    fn run_turns<G: Gate>(&mut self, gate: &mut G) -> Driven
-        ensures { RunsDriver Z.CustomizeConnection S.sinks K.tells G.pauses self.old
-            gate.old result }
+    fn run_turns<P: Gate>(&mut self, gate: &mut P) -> Driven
+        ensures { RunsDriver P.pauses self.old gate.old result }
     {
         let pool = &*self.shared;
         let calls = PoolOpener::new(
@@ -296,19 +252,11 @@ impl<
     }
 }
 
-impl<
-    M: ManageConnection,
-    S: ErrorSink<M::Error>,
-    Z: CustomizeConnection<M::Connection, M::Error>,
-    K: Clock,
-    R: Locks,
-    L: Parts,
-> Drop for Driver<M, S, Z, K, R, L> {
+impl<G: Given, L: Parts> Drop for Driver<G, L> {
     ghost use Rattle.bb8_lock.specs.Turning.{OwnDropsTurning};
 
     fn drop(self)
-        ensures { OwnDropsTurning Z.CustomizeConnection S.sinks K.tells (arc_value self.shared)
-            self.turning }
+        ensures { OwnDropsTurning (arc_value self.shared) self.turning }
     {
         let Driver { shared, turning } = self;
         let pool = &*shared;
@@ -324,20 +272,12 @@ impl<
 
 /// A driver with its gate.
 #[derive(Drop)]
-struct Gated<D, G> {
+struct Gated<D, P> {
     driver: D,
-    gate: G,
+    gate: P,
 }
 
-impl<
-    M: ManageConnection,
-    S: ErrorSink<M::Error>,
-    Z: CustomizeConnection<M::Connection, M::Error>,
-    K: Clock,
-    R: Wait + Send + Sync + Drop + 'static,
-    L: Parts,
-    G: Gate + Drop,
-> Job for Gated<Driver<M, S, Z, K, R, L>, G> {
+impl<G: Given<Runtime: Wait>, L: Parts, P: Gate + Drop> Job for Gated<Driver<G, L>, P> {
     type Told = Driven;
 
     fn run(self, _thread: usize) -> Driven {
@@ -358,11 +298,11 @@ pub fn drive<
     K: Clock,
     R: Wait + Send + Sync + Drop + 'static,
     L: PoolParts + 'static,
-    G: Gate + Send + Drop + 'static,
+    P: Gate + Send + Drop + 'static,
 >(
     threads: &impl Threads,
-    driver: Driver<M, S, Z, K, R, L>,
-    gate: G,
+    driver: Driver<These<M, S, Z, K, R>, L>,
+    gate: P,
 ) -> Result<JoinHandle<Driven>, NoThread> {
     start(threads, 0, Gated { driver, gate })
 }

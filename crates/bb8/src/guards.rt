@@ -2,34 +2,25 @@
 ghost use Rattle.std.specs.Prelude.{◌≡◌, ◌+◌, ◌<◌, ◌≤◌, ◌↔◌, true, [], ◌∷◌, ◌++◌, take, drop, slice_index_or, vec_len, OnOk, IfErr, IfSome, IfNone, IsSome};
 
 use crate::pool::{IntoParts, Pool, PooledConnection};
-use bb8_core::api::{Clock, CustomizeConnection, ErrorSink, ManageConnection};
 use bb8_core::internals::Key;
 use bb8_gets::Taken;
-use bb8_lock::{Gathered, Locks, Parts, Shared};
+use bb8_lock::{Gathered, Given, Parts, Shared};
 use std::alloc::Global;
 use std::marker::PhantomData;
 
 /// Where a connection of a list goes back to, and its key.
 #[derive(Drop)]
-struct Ticket<'a, M: ManageConnection, S, Z, K, R, L: Parts> {
-    shared: &'a Shared<M, S, Z, K, R, L>,
+struct Ticket<'a, G: Given, L: Parts> {
+    shared: &'a Shared<G, L>,
     key: Key,
 }
 
 /// A list of guards of one pool, which has at most as many as the pool's `max_size`: its guards' parts say so. When it is dropped it drops
 /// each of its guards, for which it may wait for the lock. Our own.
-pub struct Guards<
-    'a,
-    M: ManageConnection,
-    S: ErrorSink<M::Error>,
-    Z: CustomizeConnection<M::Connection, M::Error>,
-    K: Clock,
-    R: Locks,
-    L: Parts,
-> {
-    shared: &'a Shared<M, S, Z, K, R, L>,
-    tickets: Vec<Ticket<'a, M, S, Z, K, R, L>>,
-    connections: Vec<M::Connection>,
+pub struct Guards<'a, G: Given, L: Parts> {
+    shared: &'a Shared<G, L>,
+    tickets: Vec<Ticket<'a, G, L>>,
+    connections: Vec<G::Connection>,
     parts: Gathered<L>,
     ghost one_each: { vec_len tickets ≡ vec_len connections },
     ghost parts_of: { parts ≡ vec_len connections },
@@ -67,27 +58,19 @@ pub trait GuardsCalls: Sized {
     fn get_mut(&mut self, index: usize) -> Option<&mut Self::Connection>;
 }
 
-impl<
-    'a,
-    M: ManageConnection,
-    S: ErrorSink<M::Error>,
-    Z: CustomizeConnection<M::Connection, M::Error>,
-    K: Clock,
-    R: Locks,
-    L: Parts,
-> GuardsCalls for Guards<'a, M, S, Z, K, R, L> {
+impl<'a, G: Given, L: Parts> GuardsCalls for Guards<'a, G, L> {
     ghost use Rattle.std.specs.Borrow.{LendsIf, sem};
     ghost use mir.Syntax.{named};
     ghost use Rattle.bb8.specs.GuardLists.{connection_of, connections_in, most_in, number_in, ticket_of, tickets_in, with_connection_at, AreOfOne, IsListOf};
     ghost use Rattle.bb8.specs.contracts.guards.Guards.{the_row};
 
-    type Pool = &'a Pool<M, S, Z, K, R, L>;
+    type Pool = &'a Pool<G, L>;
 
-    type Guard = PooledConnection<'a, M, S, Z, K, R, L>;
+    type Guard = PooledConnection<'a, G, L>;
 
-    type Connection = M::Connection;
+    type Connection = G::Connection;
 
-    fn new(alloc: Global, pool: &'a Pool<M, S, Z, K, R, L>) -> Self
+    fn new(alloc: Global, pool: &'a Pool<G, L>) -> Self
         ensures empty { connections_in result ≡ [] }
         ensures pool { IsListOf result pool.now }
     {
@@ -113,10 +96,7 @@ impl<
         self.connections.is_empty()
     }
 
-    fn push(
-        &mut self,
-        guard: PooledConnection<'a, M, S, Z, K, R, L>,
-    ) -> Result<(), PooledConnection<'a, M, S, Z, K, R, L>>
+    fn push(&mut self, guard: PooledConnection<'a, G, L>) -> Result<(), PooledConnection<'a, G, L>>
         ensures added { OnOk result
             (connections_in self.new ≡ connections_in self.old ++ connection_of guard.entry ∷ []) }
         ensures ticket { OnOk result
@@ -165,7 +145,7 @@ impl<
         }
     }
 
-    fn remove(&mut self, index: usize) -> Option<PooledConnection<'a, M, S, Z, K, R, L>>
+    fn remove(&mut self, index: usize) -> Option<PooledConnection<'a, G, L>>
         ensures guard { IfSome result (λ guard. connection_of guard
             ≡ slice_index_or (connections_in self.old) index (connection_of guard)) }
         ensures closed { IfSome result (λ _. connections_in self.new
@@ -196,12 +176,12 @@ impl<
         })
     }
 
-    fn get_mut(&mut self, index: usize) -> Option<&mut M::Connection>
+    fn get_mut(&mut self, index: usize) -> Option<&mut G::Connection>
         ensures* writes_back { sem 𝓛 (LendsIf
-            (the_row (record { mir = named 1; lft = [] }) M.row S.row Z.row K.row R.row L.row
-            M.Connection.row M.Error.row M.Connecting.row M.Checking.row Z.Acquiring.row _ _ _ _ _ _
+            (the_row (record { mir = named 1; lft = [] }) G.row L.row G.Manager.row G.Sink.row G.Customizer.row G.Clock.row G.Runtime.row
+            G.Connection.row G.Error.row G.Connecting.row G.Checking.row G.Acquiring.row _ _ _ _ _ _
             (record { name = L.name; parts = L.parts }))
-            M.Connection.row self.entry result (with_connection_at self.old index) self.old) }
+            G.Connection.row self.entry result (with_connection_at self.old index) self.old) }
         ensures some { IsSome result ↔ (index < number_in self.old) }
         ensures connection { IfSome result (λ connection. connection.now
             ≡ slice_index_or (connections_in self.old) index connection.now) }
@@ -210,22 +190,14 @@ impl<
     }
 }
 
-impl<
-    'a,
-    M: ManageConnection,
-    S: ErrorSink<M::Error>,
-    Z: CustomizeConnection<M::Connection, M::Error>,
-    K: Clock,
-    R: Locks,
-    L: Parts,
-> Guards<'a, M, S, Z, K, R, L> {
+impl<'a, G: Given, L: Parts> Guards<'a, G, L> {
     ghost use Rattle.std.specs.Borrow.{LendsIf, sem};
     ghost use mir.Syntax.{named};
     ghost use Rattle.bb8.specs.GuardLists.{connection_of, connections_in, most_in, number_in, ticket_of, tickets_in, with_connection_at, AreOfOne, IsListOf};
     ghost use Rattle.bb8.specs.contracts.guards.Guards.{the_row};
 
     /// An empty list of guards of this pool. It takes no memory. Our own.
-    pub fn new(alloc: Global, pool: &'a Pool<M, S, Z, K, R, L>) -> Self
+    pub fn new(alloc: Global, pool: &'a Pool<G, L>) -> Self
         ensures empty { connections_in result ≡ [] }
         ensures pool { IsListOf result pool.now }
     {
@@ -250,8 +222,8 @@ impl<
     /// Adds a guard at the end. It comes back, and the list is as before, where memory for it was refused. Our own.
     pub fn push(
         &mut self,
-        guard: PooledConnection<'a, M, S, Z, K, R, L>,
-    ) -> Result<(), PooledConnection<'a, M, S, Z, K, R, L>>
+        guard: PooledConnection<'a, G, L>,
+    ) -> Result<(), PooledConnection<'a, G, L>>
         ensures added { OnOk result
             (connections_in self.new ≡ connections_in self.old ++ connection_of guard.entry ∷ []) }
         ensures ticket { OnOk result
@@ -265,7 +237,7 @@ impl<
     }
 
     /// Takes the guard of an index out; the ones behind it move up. None where there is no such index. Our own.
-    pub fn remove(&mut self, index: usize) -> Option<PooledConnection<'a, M, S, Z, K, R, L>>
+    pub fn remove(&mut self, index: usize) -> Option<PooledConnection<'a, G, L>>
         ensures guard { IfSome result (λ guard. connection_of guard
             ≡ slice_index_or (connections_in self.old) index (connection_of guard)) }
         ensures closed { IfSome result (λ _. connections_in self.new
@@ -282,12 +254,12 @@ impl<
     }
 
     /// The connection of the guard of an index. None where there is no such index. Our own.
-    pub fn get_mut(&mut self, index: usize) -> Option<&mut M::Connection>
+    pub fn get_mut(&mut self, index: usize) -> Option<&mut G::Connection>
         ensures* writes_back { sem 𝓛 (LendsIf
-            (the_row (record { mir = named 1; lft = [] }) M.row S.row Z.row K.row R.row L.row
-            M.Connection.row M.Error.row M.Connecting.row M.Checking.row Z.Acquiring.row _ _ _ _ _ _
+            (the_row (record { mir = named 1; lft = [] }) G.row L.row G.Manager.row G.Sink.row G.Customizer.row G.Clock.row G.Runtime.row
+            G.Connection.row G.Error.row G.Connecting.row G.Checking.row G.Acquiring.row _ _ _ _ _ _
             (record { name = L.name; parts = L.parts }))
-            M.Connection.row self.entry result (with_connection_at self.old index) self.old) }
+            G.Connection.row self.entry result (with_connection_at self.old index) self.old) }
         ensures some { IsSome result ↔ (index < number_in self.old) }
         ensures connection { IfSome result (λ connection. connection.now
             ≡ slice_index_or (connections_in self.old) index connection.now) }
@@ -296,18 +268,11 @@ impl<
     }
 }
 
-impl<
-    M: ManageConnection,
-    S: ErrorSink<M::Error>,
-    Z: CustomizeConnection<M::Connection, M::Error>,
-    K: Clock,
-    R: Locks,
-    L: Parts,
-> Drop for Guards<'_, M, S, Z, K, R, L> {
+impl<G: Given, L: Parts> Drop for Guards<'_, G, L> {
     ghost use Rattle.bb8.specs.GuardLists.{ReturnsEach};
 
     fn drop(self)
-        ensures { ReturnsEach S.sinks K.tells self.entry }
+        ensures { ReturnsEach self.entry }
     {
         let Guards {
             shared: _,

@@ -3,15 +3,15 @@ ghost use Rattle.std.specs.Prelude.{◌≡◌};
 ghost use Rattle.std.specs.Arc.{arc_value};
 
 use crate::pool::{Pool, PoolCalls};
-use bb8_core::api::{Clock, CustomizeConnection, ErrorSink, ManageConnection, RunError};
+use bb8_core::api::RunError;
 use bb8_gets::Calls;
-use bb8_lock::{Handle, Joining, Locks, OnShared, Parts, Shared};
+use bb8_lock::{Given, Handle, Joining, OnShared, Parts, Shared};
 use std::alloc::Global;
 use std::sync::{Arc, Wait};
 
 /// A handle beside what it shares with the others of its pool. It cannot be dropped, so whoever lets it go has to say how.
-pub(crate) struct Holding<M: ManageConnection, S, Z, K, R, L: Parts> {
-    pub shared: Arc<Shared<M, S, Z, K, R, L>, Global>,
+pub(crate) struct Holding<G: Given, L: Parts> {
+    pub shared: Arc<Shared<G, L>, Global>,
     pub handle: Handle,
 }
 
@@ -22,21 +22,13 @@ pub(crate) trait Joins {
     fn join(self) -> Self::Joined;
 }
 
-impl<
-    'a,
-    M: ManageConnection,
-    S: ErrorSink<M::Error>,
-    Z: CustomizeConnection<M::Connection, M::Error>,
-    K: Clock,
-    R: Locks,
-    L: Parts,
-> Joins for &'a Pool<M, S, Z, K, R, L> {
+impl<'a, G: Given, L: Parts> Joins for &'a Pool<G, L> {
     ghost use Rattle.bb8.specs.Handles.{IsHandleOf};
 
-    type Joined = Result<Holding<M, S, Z, K, R, L>, RunError<M::Error>>;
+    type Joined = Result<Holding<G, L>, RunError<G::Error>>;
 
-    fn join(self) -> Result<Holding<M, S, Z, K, R, L>, RunError<M::Error>>
-        ensures { IsHandleOf S.sinks K.tells (arc_value self.now.shared) result }
+    fn join(self) -> Result<Holding<G, L>, RunError<G::Error>>
+        ensures { IsHandleOf (arc_value self.now.shared) result }
     {
         let Ok(shared) = Arc::try_clone(&self.shared) else {
             return Err(RunError::Memory);
@@ -50,22 +42,15 @@ impl<
     }
 }
 
-impl<
-    M: ManageConnection,
-    S: ErrorSink<M::Error>,
-    Z: CustomizeConnection<M::Connection, M::Error>,
-    K: Clock,
-    R: Wait + Send + Sync + Drop + 'static,
-    L: Parts,
-> Pool<M, S, Z, K, R, L> {
+impl<G: Given<Runtime: Wait>, L: Parts> Pool<G, L> {
     ghost use Rattle.bb8.specs.Handles.{IsClone};
 
     /// One handle more of the same pool. The pool lives as long as one of its handles; the drop of the last one closes all that is idle.
     ///
     /// It answers `Exhausted` where 4,294,967,295 handles are alive, and `Memory` where sharing the pool was refused memory; the pool is
     /// then as before. Upstream's `Clone`, which refuses nothing.
-    pub fn try_clone(&self) -> Result<Self, RunError<M::Error>>
-        ensures { IsClone S.sinks K.tells self.now result }
+    pub fn try_clone(&self) -> Result<Self, RunError<G::Error>>
+        ensures { IsClone self.now result }
     {
         PoolCalls::try_clone(self)
     }

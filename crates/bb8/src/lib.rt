@@ -29,6 +29,7 @@ pub mod building;
 pub mod dedicated;
 pub mod driver;
 pub mod get;
+mod given;
 pub mod guards;
 mod handles;
 mod jobs;
@@ -45,18 +46,18 @@ pub use bb8_core::api::{
     NopCustomizer, NopErrorSink, QueueStrategy, RunError, SetClock, State, Statistics,
 };
 pub use bb8_core::{api, internals, replay};
-pub use bb8_lock::{Locks, Parts, PoolParts};
+pub use bb8_lock::{Given, Locks, Parts, PoolParts, These};
 pub use bb8_tasks as tasks;
 pub use builder::Builder;
-pub use building::Building;
-pub use dedicated::DedicatedFuture;
-pub use driver::{Driven, Driver, DriverCalls, Gate, Turn, drive};
-pub use get::GetFuture;
-pub use guards::{Guards, GuardsCalls};
+pub use driver::{Driven, DriverCalls, Gate, Turn, drive};
+pub use given::{
+    Building, DedicatedFuture, Driver, GetFuture, GetOwnedFuture, Guards, OwnedConnection, Pool,
+    PooledConnection,
+};
+pub use guards::GuardsCalls;
 pub use jobs::{Job, NoThread, in_threads, start};
 pub use machine::{MachineClock, Runtime};
 pub use memory::OrMemory;
-pub use owned::{GetOwnedFuture, OwnedConnection};
-pub use pool::{Cancel, Pool, PoolCalls, PooledConnection};
+pub use pool::{Cancel, PoolCalls};
 pub use printing::{ErrorLine, PrintingSink};
 pub use serving::Service;

@@ -4,9 +4,9 @@ ghost use Rattle.std.specs.Arc.{arc_value};
 
 use crate::handles::Holding;
 use crate::pool::{Cancel, Pool, PoolCalls};
-use bb8_core::api::{Clock, CustomizeConnection, ErrorSink, ManageConnection, RunError};
+use bb8_core::api::RunError;
 use bb8_gets::{Calls, GetState, Taken};
-use bb8_lock::{GetCalls, Locks, OnShared, Part, Parts};
+use bb8_lock::{GetCalls, Given, OnShared, Part, Parts};
 use futures::Future;
 use futures::task::{Context, Poll};
 use std::fmt::{Debug, Formatter};
@@ -18,24 +18,17 @@ use std::{fmt, mem};
 /// `PooledConnection<'static>`.
 ///
 /// When it is dropped it gives the connection back as `PooledConnection` does, and then its handle leaves.
-pub struct OwnedConnection<
-    M: ManageConnection,
-    S: ErrorSink<M::Error>,
-    Z: CustomizeConnection<M::Connection, M::Error>,
-    K: Clock,
-    R: Locks,
-    L: Parts,
-> {
-    pub(crate) holding: Holding<M, S, Z, K, R, L>,
-    pub(crate) taken: Taken<M::Connection, Part<L>>,
+pub struct OwnedConnection<G: Given, L: Parts> {
+    pub(crate) holding: Holding<G, L>,
+    pub(crate) taken: Taken<G::Connection, Part<L>>,
 }
 
 /// Where a get with a handle of its own stands before its answer.
-pub(crate) enum Owning<M: ManageConnection, S, Z, K, R, L: Parts> {
+pub(crate) enum Owning<G: Given, L: Parts> {
     /// The handle was refused.
-    Refused(RunError<M::Error>),
+    Refused(RunError<G::Error>),
     /// It has its handle.
-    Open(Holding<M, S, Z, K, R, L>, GetState<M::Connection, M::Checking, Part<L>>),
+    Open(Holding<G, L>, GetState<G::Connection, G::Checking, Part<L>>),
 }
 
 /// What `Pool::get_owned` answers: a get with a handle of its own, or why it has none, and nothing once it was answered.
@@ -43,15 +36,8 @@ pub(crate) enum Owning<M: ManageConnection, S, Z, K, R, L: Parts> {
 /// Each poll is as one of `GetFuture`. When it is dropped before its answer, it gives the get up as cancelled, and its handle leaves; the
 /// handle of one that was served goes with the guard, and that of one that was refused leaves at its answer. Our own: upstream's get is an
 /// async function.
-pub struct GetOwnedFuture<
-    M: ManageConnection,
-    S: ErrorSink<M::Error>,
-    Z: CustomizeConnection<M::Connection, M::Error>,
-    K: Clock,
-    R: Locks,
-    L: Parts,
-> {
-    pub(crate) owning: Option<Owning<M, S, Z, K, R, L>>,
+pub struct GetOwnedFuture<G: Given, L: Parts> {
+    pub(crate) owning: Option<Owning<G, L>>,
 }
 
 /// What a handle does, and a get or a guard that has one of its own, as methods of an impl, so that polls and drops can call them.
@@ -78,25 +64,17 @@ pub(crate) trait Owns {
     fn leave_owned(self);
 }
 
-impl<
-    M: ManageConnection,
-    S: ErrorSink<M::Error>,
-    Z: CustomizeConnection<M::Connection, M::Error>,
-    K: Clock,
-    R: Locks,
-    L: Parts,
-> Owns for Holding<M, S, Z, K, R, L> {
+impl<G: Given, L: Parts> Owns for Holding<G, L> {
     ghost use Rattle.bb8_lock.specs.Linked.{OwnCancels, OwnCancelsAndLeaves, OwnLeaves, OwnPolls, OwnReturnsAndLeaves};
 
-    type Get = GetState<M::Connection, M::Checking, Part<L>>;
+    type Get = GetState<G::Connection, G::Checking, Part<L>>;
 
-    type Polled = Poll<Result<Taken<M::Connection, Part<L>>, RunError<M::Error>>>;
+    type Polled = Poll<Result<Taken<G::Connection, Part<L>>, RunError<G::Error>>>;
 
-    type Taken = Taken<M::Connection, Part<L>>;
+    type Taken = Taken<G::Connection, Part<L>>;
 
     fn poll_owned(&self, get: &mut Self::Get) -> Self::Polled
-        ensures { OwnPolls S.sinks K.tells (arc_value self.now.shared) get.old.stage result
-            get.new.stage }
+        ensures { OwnPolls (arc_value self.now.shared) get.old.stage result get.new.stage }
     {
         let shared = &*self.shared;
         let calls = Calls::new(&shared.manager, &shared.error_sink, &shared.clock);
@@ -104,7 +82,7 @@ impl<
     }
 
     fn let_go(&self, get: Self::Get)
-        ensures { OwnCancels S.sinks K.tells (arc_value self.now.shared) get.stage }
+        ensures { OwnCancels (arc_value self.now.shared) get.stage }
     {
         let shared = &*self.shared;
         let calls = Calls::new(&shared.manager, &shared.error_sink, &shared.clock);
@@ -112,7 +90,7 @@ impl<
     }
 
     fn cancel_owned(self, get: Self::Get)
-        ensures { OwnCancelsAndLeaves S.sinks K.tells (arc_value self.shared) get.stage }
+        ensures { OwnCancelsAndLeaves (arc_value self.shared) get.stage }
     {
         let Holding { shared, handle } = self;
         let pool = &*shared;
@@ -121,7 +99,7 @@ impl<
     }
 
     fn give_back_owned(self, taken: Self::Taken)
-        ensures { OwnReturnsAndLeaves S.sinks K.tells (arc_value self.shared) taken }
+        ensures { OwnReturnsAndLeaves (arc_value self.shared) taken }
     {
         let Holding { shared, handle } = self;
         let pool = &*shared;
@@ -130,7 +108,7 @@ impl<
     }
 
     fn leave_owned(self)
-        ensures { OwnLeaves S.sinks K.tells (arc_value self.shared) }
+        ensures { OwnLeaves (arc_value self.shared) }
     {
         let Holding { shared, handle } = self;
         let pool = &*shared;
@@ -140,16 +118,9 @@ impl<
 }
 
 /// What a poll answers, and what stands then.
-pub(crate) struct Stood<
-    M: ManageConnection,
-    S: ErrorSink<M::Error>,
-    Z: CustomizeConnection<M::Connection, M::Error>,
-    K: Clock,
-    R: Locks,
-    L: Parts,
-> {
-    answer: Poll<Result<OwnedConnection<M, S, Z, K, R, L>, RunError<M::Error>>>,
-    owning: Option<Owning<M, S, Z, K, R, L>>,
+pub(crate) struct Stood<G: Given, L: Parts> {
+    answer: Poll<Result<OwnedConnection<G, L>, RunError<G::Error>>>,
+    owning: Option<Owning<G, L>>,
 }
 
 /// What the future does with what stands, as methods of an impl, so that its poll and its drop can call them.
@@ -165,22 +136,15 @@ trait OnOwning {
     fn cancel_owning(owning: Self::Owning);
 }
 
-impl<
-    M: ManageConnection,
-    S: ErrorSink<M::Error>,
-    Z: CustomizeConnection<M::Connection, M::Error>,
-    K: Clock,
-    R: Locks,
-    L: Parts,
-> OnOwning for GetOwnedFuture<M, S, Z, K, R, L> {
+impl<G: Given, L: Parts> OnOwning for GetOwnedFuture<G, L> {
     ghost use Rattle.bb8.specs.Owned.{CancelsOwning, OwningPolls};
 
-    type Owning = Option<Owning<M, S, Z, K, R, L>>;
+    type Owning = Option<Owning<G, L>>;
 
-    type Stood = Stood<M, S, Z, K, R, L>;
+    type Stood = Stood<G, L>;
 
     fn poll_owning(owning: Self::Owning) -> Self::Stood
-        ensures { OwningPolls S.sinks K.tells owning result.answer result.owning }
+        ensures { OwningPolls owning result.answer result.owning }
     {
         match owning {
             None => Stood {
@@ -218,7 +182,7 @@ impl<
     }
 
     fn cancel_owning(owning: Self::Owning)
-        ensures { CancelsOwning S.sinks K.tells owning }
+        ensures { CancelsOwning owning }
     {
         match owning {
             None => {}
@@ -228,105 +192,69 @@ impl<
     }
 }
 
-impl<
-    M: ManageConnection,
-    S: ErrorSink<M::Error>,
-    Z: CustomizeConnection<M::Connection, M::Error>,
-    K: Clock,
-    R: Wait + Send + Sync + Drop + 'static,
-    L: Parts,
-> Pool<M, S, Z, K, R, L> {
+impl<G: Given<Runtime: Wait>, L: Parts> Pool<G, L> {
     ghost use Rattle.bb8.specs.Owned.{BeginsOwning};
 
     /// Gets a connection as `get` does, with a handle of its own, so that neither the get nor its guard borrows the pool. As upstream, but
     /// that the handle is made at this call, where upstream makes it once the get is served.
     ///
     /// A handle that is refused, as by `try_clone`, is the answer of the first poll, and then no get begins.
-    pub fn get_owned(&self) -> GetOwnedFuture<M, S, Z, K, R, L>
-        ensures { BeginsOwning S.sinks K.tells self.now result.owning }
+    pub fn get_owned(&self) -> GetOwnedFuture<G, L>
+        ensures { BeginsOwning self.now result.owning }
     {
         PoolCalls::get_owned(self)
     }
 }
 
-impl<
-    M: ManageConnection,
-    S: ErrorSink<M::Error>,
-    Z: CustomizeConnection<M::Connection, M::Error>,
-    K: Clock,
-    R: Wait + Send + Sync + Drop + 'static,
-    L: Parts,
-> GetOwnedFuture<M, S, Z, K, R, L> {
+impl<G: Given<Runtime: Wait>, L: Parts> GetOwnedFuture<G, L> {
     ghost use Rattle.bb8.specs.Owned.{CancelsOwning};
 
     /// Lets the get go, as a drop does, for which it may wait for the lock: one that began and was not answered is given up as cancelled,
     /// and its handle leaves. Our own.
     pub fn cancel(self)
-        ensures { CancelsOwning S.sinks K.tells self.owning }
+        ensures { CancelsOwning self.owning }
     {
         Cancel::cancel(self)
     }
 }
 
-impl<
-    M: ManageConnection,
-    S: ErrorSink<M::Error>,
-    Z: CustomizeConnection<M::Connection, M::Error>,
-    K: Clock,
-    R: Wait + Send + Sync + Drop + 'static,
-    L: Parts,
-> Cancel for GetOwnedFuture<M, S, Z, K, R, L> {
+impl<G: Given<Runtime: Wait>, L: Parts> Cancel for GetOwnedFuture<G, L> {
     ghost use Rattle.bb8.specs.Owned.{CancelsOwning};
 
     fn cancel(self)
-        ensures { CancelsOwning S.sinks K.tells self.owning }
+        ensures { CancelsOwning self.owning }
     {
         drop(self);
     }
 }
 
-impl<
-    M: ManageConnection,
-    S: ErrorSink<M::Error>,
-    Z: CustomizeConnection<M::Connection, M::Error>,
-    K: Clock,
-    R: Locks,
-    L: Parts,
-> Drop for GetOwnedFuture<M, S, Z, K, R, L> {
+impl<G: Given, L: Parts> Drop for GetOwnedFuture<G, L> {
     ghost use Rattle.bb8.specs.Owned.{CancelsOwning};
 
     fn drop(self)
-        ensures { CancelsOwning S.sinks K.tells self.owning }
+        ensures { CancelsOwning self.owning }
     {
         let GetOwnedFuture { owning } = self;
         Self::cancel_owning(owning);
     }
 }
 
-impl<
-    M: ManageConnection,
-    S: ErrorSink<M::Error>,
-    Z: CustomizeConnection<M::Connection, M::Error>,
-    K: Clock,
-    R: Wait + Send + Sync + Drop + 'static,
-    L: Parts,
-> Future for GetOwnedFuture<M, S, Z, K, R, L> {
+impl<G: Given<Runtime: Wait>, L: Parts> Future for GetOwnedFuture<G, L> {
     ghost use Rattle.std.specs.Prelude.{⊤};
     ghost use Rattle.futures.specs.Poll.{IfReady, OnPending};
     ghost use Rattle.futures.specs.Task.{Covers, Keeps};
     ghost use Rattle.bb8.specs.Owned.{GivesOwned, PollsOwned};
 
-    type Output = Result<OwnedConnection<M, S, Z, K, R, L>, RunError<M::Error>>;
+    type Output = Result<OwnedConnection<G, L>, RunError<G::Error>>;
 
-    ghost gives = { λ future out. GivesOwned S.sinks K.tells future out };
+    ghost gives = { λ future out. GivesOwned future out };
 
     /// One poll at the clock's reading. It is pending while the get waits before its deadline, and after its answer.
     fn poll(&mut self, cx: &mut Context<'_>) -> Poll<Self::Output>
-        ensures table { PollsOwned S.sinks K.tells self.old result self.new }
-        ensures value { IfReady result (λ out. GivesOwned S.sinks K.tells self.old out) }
+        ensures table { PollsOwned self.old result self.new }
+        ensures value { IfReady result (λ out. GivesOwned self.old out) }
         ensures again { OnPending result ⊤ }
-        ensures same { OnPending result
-            ((x : _) → GivesOwned S.sinks K.tells self.new x → GivesOwned S.sinks K.tells self.old x) }
+        ensures same { OnPending result ((x : _) → GivesOwned self.new x → GivesOwned self.old x) }
         ensures registered { OnPending result (Covers cx.new (λ _. ⊥)) }
         ensures kept { Keeps cx.old cx.new }
     {
@@ -343,61 +271,39 @@ impl<
     }
 }
 
-impl<
-    M: ManageConnection,
-    S: ErrorSink<M::Error>,
-    Z: CustomizeConnection<M::Connection, M::Error>,
-    K: Clock,
-    R: Locks,
-    L: Parts,
-> Drop for OwnedConnection<M, S, Z, K, R, L> {
+impl<G: Given, L: Parts> Drop for OwnedConnection<G, L> {
     ghost use Rattle.bb8_lock.specs.Linked.{OwnReturnsAndLeaves};
 
     fn drop(self)
-        ensures { OwnReturnsAndLeaves S.sinks K.tells (arc_value self.holding.shared) self.taken }
+        ensures { OwnReturnsAndLeaves (arc_value self.holding.shared) self.taken }
     {
         let OwnedConnection { holding, taken } = self;
         holding.give_back_owned(taken);
     }
 }
 
-impl<
-    M: ManageConnection,
-    S: ErrorSink<M::Error>,
-    Z: CustomizeConnection<M::Connection, M::Error>,
-    K: Clock,
-    R: Locks,
-    L: Parts,
-> Deref for OwnedConnection<M, S, Z, K, R, L> {
-    type Target = M::Connection;
+impl<G: Given, L: Parts> Deref for OwnedConnection<G, L> {
+    type Target = G::Connection;
 
     ghost deref_gives = { λ guard connection. connection ≡ guard.taken.connection };
 
-    fn deref(&self) -> &M::Connection {
+    fn deref(&self) -> &G::Connection {
         &self.taken.connection
     }
 }
 
-impl<
-    M: ManageConnection,
-    S: ErrorSink<M::Error>,
-    Z: CustomizeConnection<M::Connection, M::Error>,
-    K: Clock,
-    R: Locks,
-    L: Parts,
-> DerefMut for OwnedConnection<M, S, Z, K, R, L> {
+impl<G: Given, L: Parts> DerefMut for OwnedConnection<G, L> {
     ghost use Rattle.std.specs.Borrow.{Lends, sem};
     ghost use Rattle.bb8.specs.Owned.{with_connection};
     ghost use Rattle.bb8.specs.contracts.owned.OwnedConnection.{the_row};
 
     ghost deref_mut_gives = { λ guard connection. connection ≡ guard.taken.connection };
 
-    fn deref_mut(&mut self) -> &mut M::Connection
+    fn deref_mut(&mut self) -> &mut G::Connection
         ensures* writes_back { sem 𝓛 (Lends
-            (the_row M.row S.row Z.row K.row R.row L.row M.Connection.row M.Error.row
-            M.Connecting.row M.Checking.row Z.Acquiring.row _ _ _
+            (the_row G.row L.row G.Manager.row G.Sink.row G.Customizer.row G.Clock.row G.Runtime.row G.Connection.row G.Error.row G.Connecting.row G.Checking.row G.Acquiring.row _ _ _ _ _ _
             (record { name = L.name; parts = L.parts }))
-            M.Connection.row self.entry result (with_connection self.old)) }
+            G.Connection.row self.entry result (with_connection self.old)) }
         ensures shows { result.now ≡ self.old.taken.connection }
     {
         let taken = &mut self.taken;
@@ -405,16 +311,9 @@ impl<
     }
 }
 
-impl<
-    M: ManageConnection,
-    S: ErrorSink<M::Error>,
-    Z: CustomizeConnection<M::Connection, M::Error>,
-    K: Clock,
-    R: Locks,
-    L: Parts,
-> Debug for OwnedConnection<M, S, Z, K, R, L>
+impl<G: Given, L: Parts> Debug for OwnedConnection<G, L>
 where
-    M::Connection: Debug,
+    G::Connection: Debug,
 {
     /// As the connection prints. As upstream.
     fn fmt<W: fmt::Write>(&self, f: &mut Formatter<W>) -> fmt::Result {

@@ -18,7 +18,7 @@ use bb8_core::api::{
     NopCustomizer, NopErrorSink, RunError, SetClock, State,
 };
 use bb8_gets::{Calls, GetState, Taken};
-use bb8_lock::{Handle, Locks, OnShared, Part, Parts, Shared, Waits};
+use bb8_lock::{Given, Handle, Locks, OnShared, Part, Parts, Shared, These, Waits};
 use std::alloc::Global;
 use std::fmt;
 use std::fmt::{Debug, Formatter};
@@ -31,21 +31,14 @@ use std::time::Duration;
 /// A handle of a pool of connections. Threads share one by reference, or have one each (`try_clone`). It lends connections out as guards,
 /// which give them back when they are dropped.
 ///
-/// As upstream, but for the type parameters: beside the manager `M` there are the error sink `S`, the customizer `Z`, the clock `K` and
-/// the runtime `R` that the pool was built with, and the parts `L`, by which the connections that are out are counted in proofs, and which
-/// say there which settings the pool has; they take no room at run time. A call of the pool's may wait for the lock.
+/// As upstream, but for the type parameters: `G` is the manager, the error sink, the customizer, the clock and the runtime that the pool was
+/// built with, which `bb8::Pool` names one by one; by the parts `L` the connections that are out are counted in proofs, and they say there
+/// which settings the pool has. They take no room at run time. A call of the pool's may wait for the lock.
 ///
 /// When a handle is dropped it reads the clock and leaves under the lock. The last one closes all idle connections, which are dropped
 /// under the lock, and ends all approvals that nobody has claimed.
-pub struct Pool<
-    M: ManageConnection,
-    S: ErrorSink<M::Error>,
-    Z: CustomizeConnection<M::Connection, M::Error>,
-    K: Clock,
-    R: Locks,
-    L: Parts,
-> {
-    pub(crate) shared: Arc<Shared<M, S, Z, K, R, L>, Global>,
+pub struct Pool<G: Given, L: Parts> {
+    pub(crate) shared: Arc<Shared<G, L>, Global>,
     pub(crate) handle: Handle,
 }
 
@@ -54,17 +47,9 @@ pub struct Pool<
 /// When it is dropped it asks the manager's `has_broken`, reads the pool's clock, and gives the connection back under the pool's lock,
 /// for which it may wait. A connection that is then closed is dropped after the lock. A guard that is forgotten keeps its connection and
 /// its part: the pool has one connection less to lend from then on.
-pub struct PooledConnection<
-    'a,
-    M: ManageConnection,
-    S: ErrorSink<M::Error>,
-    Z: CustomizeConnection<M::Connection, M::Error>,
-    K: Clock,
-    R: Locks,
-    L: Parts,
-> {
-    pub(crate) shared: &'a Shared<M, S, Z, K, R, L>,
-    pub(crate) taken: Taken<M::Connection, Part<L>>,
+pub struct PooledConnection<'a, G: Given, L: Parts> {
+    pub(crate) shared: &'a Shared<G, L>,
+    pub(crate) taken: Taken<G::Connection, Part<L>>,
     /// By it the borrow checker knows what the guard is after a lend of its connection.
     pub(crate) lends: PhantomData<&'a ()>,
 }
@@ -86,7 +71,13 @@ impl<
         K: Clock,
         R: Wait + AllocGlobal + Send + Sync + Drop + 'static,
         L: Parts,
-    >(self, manager: M, clock: K, rt: R, blank: Blank) -> Result<Pool<M, S, Z, K, R, L>, Memory>
+    >(
+        self,
+        manager: M,
+        clock: K,
+        rt: R,
+        blank: Blank,
+    ) -> Result<Pool<These<M, S, Z, K, R>, L>, Memory>
         requires lawful { is_lawful self.settings ≡ true }
         requires parts { (L.name ≡ blank.name) × (L.parts ≡ blank.parts) }
         requires size { blank.parts ≡ self.settings.max_size }
@@ -120,18 +111,10 @@ pub(crate) trait IntoParts {
     fn into_parts(self) -> Self::Parts;
 }
 
-impl<
-    'a,
-    M: ManageConnection,
-    S: ErrorSink<M::Error>,
-    Z: CustomizeConnection<M::Connection, M::Error>,
-    K: Clock,
-    R: Locks,
-    L: Parts,
-> IntoParts for PooledConnection<'a, M, S, Z, K, R, L> {
-    type Parts = (&'a Shared<M, S, Z, K, R, L>, Taken<M::Connection, Part<L>>);
+impl<'a, G: Given, L: Parts> IntoParts for PooledConnection<'a, G, L> {
+    type Parts = (&'a Shared<G, L>, Taken<G::Connection, Part<L>>);
 
-    fn into_parts(self) -> (&'a Shared<M, S, Z, K, R, L>, Taken<M::Connection, Part<L>>)
+    fn into_parts(self) -> (&'a Shared<G, L>, Taken<G::Connection, Part<L>>)
         ensures pool { result.0 ≡ self.entry.shared }
         ensures taken { result.1 ≡ self.entry.taken }
     {
@@ -211,15 +194,7 @@ pub trait Cancel {
     fn cancel(self);
 }
 
-impl<
-    'a,
-    M: ManageConnection,
-    S: ErrorSink<M::Error>,
-    Z: CustomizeConnection<M::Connection, M::Error>,
-    K: Clock,
-    R: Wait + Send + Sync + Drop + 'static,
-    L: Parts,
-> PoolCalls for &'a Pool<M, S, Z, K, R, L> {
+impl<'a, G: Given<Runtime: Wait>, L: Parts> PoolCalls for &'a Pool<G, L> {
     ghost use Rattle.bb8.specs.Blocking.{GetsAtOnce, WaitsForGet, WaitsForOwned};
     ghost use Rattle.bb8.specs.Dedicated.{opening_of};
     ghost use Rattle.bb8.specs.Handles.{IsClone};
@@ -228,23 +203,23 @@ impl<
     ghost use Rattle.bb8_tasks.specs.Dedicating.{fresh};
     ghost use Rattle.bb8_gets.specs.declared.state.Stage.TheVariants.{Fresh as IsFresh};
 
-    type Connection = M::Connection;
+    type Connection = G::Connection;
 
-    type Error = M::Error;
+    type Error = G::Error;
 
-    type Handle = Pool<M, S, Z, K, R, L>;
+    type Handle = Pool<G, L>;
 
-    type Get = GetFuture<'a, M, S, Z, K, R, L>;
+    type Get = GetFuture<'a, G, L>;
 
-    type GetOwned = GetOwnedFuture<M, S, Z, K, R, L>;
+    type GetOwned = GetOwnedFuture<G, L>;
 
-    type Dedicated = DedicatedFuture<'a, M, S, Z, K, R, L>;
+    type Dedicated = DedicatedFuture<'a, G, L>;
 
-    type Guard = PooledConnection<'a, M, S, Z, K, R, L>;
+    type Guard = PooledConnection<'a, G, L>;
 
-    type Owned = OwnedConnection<M, S, Z, K, R, L>;
+    type Owned = OwnedConnection<G, L>;
 
-    fn get(self) -> GetFuture<'a, M, S, Z, K, R, L>
+    fn get(self) -> GetFuture<'a, G, L>
         ensures new { stage_of result ≡ IsFresh }
         ensures pool { IsOf result self.now }
     {
@@ -254,8 +229,8 @@ impl<
         }
     }
 
-    fn get_owned(self) -> GetOwnedFuture<M, S, Z, K, R, L>
-        ensures { BeginsOwning S.sinks K.tells self.now result.owning }
+    fn get_owned(self) -> GetOwnedFuture<G, L>
+        ensures { BeginsOwning self.now result.owning }
     {
         let owning = match self.join() {
             Ok(holding) => Owning::Open(holding, GetState::new()),
@@ -266,8 +241,8 @@ impl<
         }
     }
 
-    fn try_get(self) -> Result<Option<PooledConnection<'a, M, S, Z, K, R, L>>, RunError<M::Error>>
-        ensures { GetsAtOnce S.sinks K.tells self.now result }
+    fn try_get(self) -> Result<Option<PooledConnection<'a, G, L>>, RunError<G::Error>>
+        ensures { GetsAtOnce self.now result }
     {
         let shared = &*self.shared;
         let calls = Calls::new(&shared.manager, &shared.error_sink, &shared.clock);
@@ -282,9 +257,8 @@ impl<
         }
     }
 
-    fn get_blocking(self) -> Result<PooledConnection<'a, M, S, Z, K, R, L>, RunError<M::Error>>
-        ensures { WaitsForGet S.sinks K.tells (settings_in self.now).connection_timeout self.now
-            result }
+    fn get_blocking(self) -> Result<PooledConnection<'a, G, L>, RunError<G::Error>>
+        ensures { WaitsForGet (settings_in self.now).connection_timeout self.now result }
     {
         PoolCalls::get_blocking_timeout(self, self.shared.config.connection_timeout)
     }
@@ -292,8 +266,8 @@ impl<
     fn get_blocking_timeout(
         self,
         timeout: Duration,
-    ) -> Result<PooledConnection<'a, M, S, Z, K, R, L>, RunError<M::Error>>
-        ensures { WaitsForGet S.sinks K.tells (as_nanos timeout) self.now result }
+    ) -> Result<PooledConnection<'a, G, L>, RunError<G::Error>>
+        ensures { WaitsForGet (as_nanos timeout) self.now result }
     {
         let shared = &*self.shared;
         let calls = Calls::new(&shared.manager, &shared.error_sink, &shared.clock);
@@ -307,8 +281,8 @@ impl<
         }
     }
 
-    fn get_owned_blocking(self) -> Result<OwnedConnection<M, S, Z, K, R, L>, RunError<M::Error>>
-        ensures { WaitsForOwned S.sinks K.tells self.now result }
+    fn get_owned_blocking(self) -> Result<OwnedConnection<G, L>, RunError<G::Error>>
+        ensures { WaitsForOwned self.now result }
     {
         let holding = match self.join() {
             Ok(holding) => holding,
@@ -325,7 +299,7 @@ impl<
         }
     }
 
-    fn dedicated_connection(self) -> DedicatedFuture<'a, M, S, Z, K, R, L>
+    fn dedicated_connection(self) -> DedicatedFuture<'a, G, L>
         ensures new { opening_of result ≡ fresh }
         ensures pool { result.shared.now ≡ arc_value self.now.shared }
     {
@@ -337,8 +311,8 @@ impl<
         }
     }
 
-    fn add(self, conn: M::Connection) -> Result<(), AddError<M::Connection>>
-        ensures { OwnAdds S.sinks K.tells (arc_value self.now.shared) conn result }
+    fn add(self, conn: G::Connection) -> Result<(), AddError<G::Connection>>
+        ensures { OwnAdds (arc_value self.now.shared) conn result }
     {
         let shared = &*self.shared;
         let calls = Calls::new(&shared.manager, &shared.error_sink, &shared.clock);
@@ -346,7 +320,7 @@ impl<
     }
 
     fn state(self) -> State
-        ensures shown { OwnShows S.sinks K.tells (arc_value self.now.shared) result }
+        ensures shown { OwnShows (arc_value self.now.shared) result }
         ensures size { result.connections ≤ (settings_in self.now).max_size }
         ensures idle { result.idle_connections ≤ result.connections }
     {
@@ -355,8 +329,8 @@ impl<
         shared.state_with(calls)
     }
 
-    fn try_clone(self) -> Result<Pool<M, S, Z, K, R, L>, RunError<M::Error>>
-        ensures { IsClone S.sinks K.tells self.now result }
+    fn try_clone(self) -> Result<Pool<G, L>, RunError<G::Error>>
+        ensures { IsClone self.now result }
     {
         match self.join() {
             Ok(Holding { shared, handle }) => Ok(Pool { shared, handle }),
@@ -365,14 +339,7 @@ impl<
     }
 }
 
-impl<
-    M: ManageConnection,
-    S: ErrorSink<M::Error>,
-    Z: CustomizeConnection<M::Connection, M::Error>,
-    K: Clock,
-    R: Wait + Send + Sync + Drop + 'static,
-    L: Parts,
-> Pool<M, S, Z, K, R, L> {
+impl<G: Given<Runtime: Wait>, L: Parts> Pool<G, L> {
     ghost use Rattle.bb8.specs.Blocking.{GetsAtOnce, WaitsForGet, WaitsForOwned};
     ghost use Rattle.bb8.specs.Pools.{settings_in};
 
@@ -381,10 +348,8 @@ impl<
     ///
     /// With the check off one that is idle is the answer. With the check on the check is polled once: where it does not pass at that poll the
     /// answer is `None`, and the get is counted as cancelled. It answers `Memory` or `Exhausted` where the get could not begin.
-    pub fn try_get(
-        &self,
-    ) -> Result<Option<PooledConnection<'_, M, S, Z, K, R, L>>, RunError<M::Error>>
-        ensures { GetsAtOnce S.sinks K.tells self.now result }
+    pub fn try_get(&self) -> Result<Option<PooledConnection<'_, G, L>>, RunError<G::Error>>
+        ensures { GetsAtOnce self.now result }
     {
         PoolCalls::try_get(self)
     }
@@ -395,9 +360,8 @@ impl<
     /// It sleeps between the polls of its get, until a connection comes back or is opened or added, or the deadline has come, and
     /// 50 milliseconds at most; while its connection is checked a millisecond at most. Each poll reads the pool's clock, and again before
     /// it sleeps. The errors are those of `get`.
-    pub fn get_blocking(&self) -> Result<PooledConnection<'_, M, S, Z, K, R, L>, RunError<M::Error>>
-        ensures { WaitsForGet S.sinks K.tells (settings_in self.now).connection_timeout self.now
-            result }
+    pub fn get_blocking(&self) -> Result<PooledConnection<'_, G, L>, RunError<G::Error>>
+        ensures { WaitsForGet (settings_in self.now).connection_timeout self.now result }
     {
         PoolCalls::get_blocking(self)
     }
@@ -406,18 +370,16 @@ impl<
     pub fn get_blocking_timeout(
         &self,
         timeout: Duration,
-    ) -> Result<PooledConnection<'_, M, S, Z, K, R, L>, RunError<M::Error>>
-        ensures { WaitsForGet S.sinks K.tells (as_nanos timeout) self.now result }
+    ) -> Result<PooledConnection<'_, G, L>, RunError<G::Error>>
+        ensures { WaitsForGet (as_nanos timeout) self.now result }
     {
         PoolCalls::get_blocking_timeout(self, timeout)
     }
 
     /// Gets a connection as `get_owned` does, and waits as `get_blocking` does. The handle is made first; one that is refused is the answer,
     /// and then no get begins. Our own.
-    pub fn get_owned_blocking(
-        &self,
-    ) -> Result<OwnedConnection<M, S, Z, K, R, L>, RunError<M::Error>>
-        ensures { WaitsForOwned S.sinks K.tells self.now result }
+    pub fn get_owned_blocking(&self) -> Result<OwnedConnection<G, L>, RunError<G::Error>>
+        ensures { WaitsForOwned self.now result }
     {
         PoolCalls::get_owned_blocking(self)
     }
@@ -431,15 +393,15 @@ impl<
     /// An approval is open until its connection was opened. A get that found nothing idle may have had one granted, which stays open where
     /// nobody turns a driver of the pool, also once that get was let go: then an adding may find no room although fewer connections than
     /// `max_size` are there.
-    pub fn add(&self, conn: M::Connection) -> Result<(), AddError<M::Connection>>
-        ensures { OwnAdds S.sinks K.tells (arc_value self.now.shared) conn result }
+    pub fn add(&self, conn: G::Connection) -> Result<(), AddError<G::Connection>>
+        ensures { OwnAdds (arc_value self.now.shared) conn result }
     {
         PoolCalls::add(self, conn)
     }
 
     /// How many connections the pool has, how many of them are idle, and what has happened to it. As upstream.
     pub fn state(&self) -> State
-        ensures shown { OwnShows S.sinks K.tells (arc_value self.now.shared) result }
+        ensures shown { OwnShows (arc_value self.now.shared) result }
         ensures size { result.connections ≤ (settings_in self.now).max_size }
         ensures idle { result.idle_connections ≤ result.connections }
     {
@@ -447,14 +409,7 @@ impl<
     }
 }
 
-impl<
-    M: ManageConnection,
-    S: ErrorSink<M::Error>,
-    Z: CustomizeConnection<M::Connection, M::Error>,
-    K: Clock,
-    R: Locks,
-    L: Parts,
-> Pool<M, S, Z, K, R, L> {
+impl<G: Given, L: Parts> Pool<G, L> {
     ghost use Rattle.bb8.specs.Pools.{settings_in};
 
     /// The settings that the pool was built with. As upstream.
@@ -465,7 +420,10 @@ impl<
     }
 }
 
-impl<M: ManageConnection, R: Locks, L: Parts> Pool<M, NopErrorSink, NopCustomizer, SetClock, R, L> {
+impl<M: ManageConnection, R: Locks, L: Parts> Pool<
+    These<M, NopErrorSink, NopCustomizer, SetClock, R>,
+    L,
+> {
     /// A builder with each setting at its default. As upstream; it is a call of the pools whose errors go nowhere, whose connections
     /// nothing prepares and whose moment is set.
     pub fn builder() -> Builder<M>
@@ -475,50 +433,29 @@ impl<M: ManageConnection, R: Locks, L: Parts> Pool<M, NopErrorSink, NopCustomize
     }
 }
 
-impl<
-    M: ManageConnection,
-    S: ErrorSink<M::Error>,
-    Z: CustomizeConnection<M::Connection, M::Error>,
-    K: Clock,
-    R: Locks,
-    L: Parts,
-> Drop for Pool<M, S, Z, K, R, L> {
+impl<G: Given, L: Parts> Drop for Pool<G, L> {
     ghost use Rattle.bb8_lock.specs.Linked.{OwnLeaves};
 
     fn drop(self)
-        ensures { OwnLeaves S.sinks K.tells (arc_value self.shared) }
+        ensures { OwnLeaves (arc_value self.shared) }
     {
         let Pool { shared, handle } = self;
         Holding { shared, handle }.leave_owned();
     }
 }
 
-impl<
-    M: ManageConnection,
-    S: ErrorSink<M::Error>,
-    Z: CustomizeConnection<M::Connection, M::Error>,
-    K: Clock,
-    R: Locks,
-    L: Parts,
-> Debug for Pool<M, S, Z, K, R, L> {
+impl<G: Given, L: Parts> Debug for Pool<G, L> {
     /// `Pool(..)`, without its parts. Our own: upstream prints an address.
     fn fmt<W: fmt::Write>(&self, f: &mut Formatter<W>) -> fmt::Result {
         f.write_str("Pool(..)")
     }
 }
 
-impl<
-    M: ManageConnection,
-    S: ErrorSink<M::Error>,
-    Z: CustomizeConnection<M::Connection, M::Error>,
-    K: Clock,
-    R: Locks,
-    L: Parts,
-> Drop for PooledConnection<'_, M, S, Z, K, R, L> {
+impl<G: Given, L: Parts> Drop for PooledConnection<'_, G, L> {
     ghost use Rattle.bb8_lock.specs.Linked.{OwnReturns};
 
     fn drop(self)
-        ensures { OwnReturns S.sinks K.tells self.entry.shared.now self.entry.taken }
+        ensures { OwnReturns self.entry.shared.now self.entry.taken }
     {
         let PooledConnection {
             shared,
@@ -530,31 +467,17 @@ impl<
     }
 }
 
-impl<
-    M: ManageConnection,
-    S: ErrorSink<M::Error>,
-    Z: CustomizeConnection<M::Connection, M::Error>,
-    K: Clock,
-    R: Locks,
-    L: Parts,
-> Deref for PooledConnection<'_, M, S, Z, K, R, L> {
-    type Target = M::Connection;
+impl<G: Given, L: Parts> Deref for PooledConnection<'_, G, L> {
+    type Target = G::Connection;
 
     ghost deref_gives = { λ guard connection. connection ≡ guard.taken.connection };
 
-    fn deref(&self) -> &M::Connection {
+    fn deref(&self) -> &G::Connection {
         &self.taken.connection
     }
 }
 
-impl<
-    M: ManageConnection,
-    S: ErrorSink<M::Error>,
-    Z: CustomizeConnection<M::Connection, M::Error>,
-    K: Clock,
-    R: Locks,
-    L: Parts,
-> DerefMut for PooledConnection<'_, M, S, Z, K, R, L> {
+impl<G: Given, L: Parts> DerefMut for PooledConnection<'_, G, L> {
     ghost use Rattle.std.specs.Prelude.{[]};
     ghost use Rattle.std.specs.Borrow.{Lends, sem};
     ghost use mir.Syntax.{named};
@@ -563,12 +486,12 @@ impl<
 
     ghost deref_mut_gives = { λ guard connection. connection ≡ guard.taken.connection };
 
-    fn deref_mut(&mut self) -> &mut M::Connection
+    fn deref_mut(&mut self) -> &mut G::Connection
         ensures* writes_back { sem 𝓛 (Lends
-            (the_row (record { mir = named 1; lft = [] }) M.row S.row Z.row K.row R.row L.row
-            M.Connection.row M.Error.row M.Connecting.row M.Checking.row Z.Acquiring.row _ _ _
+            (the_row (record { mir = named 1; lft = [] }) G.row L.row G.Manager.row G.Sink.row G.Customizer.row G.Clock.row G.Runtime.row
+            G.Connection.row G.Error.row G.Connecting.row G.Checking.row G.Acquiring.row _ _ _ _ _ _
             (record { name = L.name; parts = L.parts }))
-            M.Connection.row self.entry result (with_connection self.old)) }
+            G.Connection.row self.entry result (with_connection self.old)) }
         ensures shows { result.now ≡ self.old.taken.connection }
     {
         let taken = &mut self.taken;
@@ -576,16 +499,9 @@ impl<
     }
 }
 
-impl<
-    M: ManageConnection,
-    S: ErrorSink<M::Error>,
-    Z: CustomizeConnection<M::Connection, M::Error>,
-    K: Clock,
-    R: Locks,
-    L: Parts,
-> Debug for PooledConnection<'_, M, S, Z, K, R, L>
+impl<G: Given, L: Parts> Debug for PooledConnection<'_, G, L>
 where
-    M::Connection: Debug,
+    G::Connection: Debug,
 {
     /// As the connection prints. As upstream.
     fn fmt<W: fmt::Write>(&self, f: &mut Formatter<W>) -> fmt::Result {

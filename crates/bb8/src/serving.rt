@@ -5,16 +5,14 @@ ghost use Rattle.bb8_lock.specs.Parts.{IsBlankOf};
 ghost use Rattle.bb8.specs.Buildings.{IsBuildError};
 ghost use Rattle.bb8.specs.Services.{Basis, basis, basis_of, EachTold, IsOutcome};
 
-use crate::Builder;
-use crate::building::Building;
 use crate::driver::{Driven, Driver, Gate, drive};
 use crate::jobs::{Job, in_threads};
 use crate::memory::OrMemory;
-use crate::pool::Pool;
+use crate::{Builder, Building, Pool, pool};
 use bb8_core::api::{
     Clock, Config, CustomizeConnection, ErrorSink, ManageConnection, Memory, RunError,
 };
-use bb8_lock::{Locks, PoolParts};
+use bb8_lock::{Given, Locks, PoolParts, These};
 use futures::executor::block_on;
 use std::alloc::Global;
 use std::marker::Brand;
@@ -73,17 +71,8 @@ pub trait Service<
 
 /// A service on its pool.
 #[derive(Drop)]
-struct OnPool<
-    'a,
-    M: ManageConnection,
-    S: ErrorSink<M::Error>,
-    Z: CustomizeConnection<M::Connection, M::Error>,
-    K: Clock,
-    R: Locks,
-    L: PoolParts,
-    V,
-> {
-    pool: &'a Pool<M, S, Z, K, R, L>,
+struct OnPool<'a, G: Given, L: PoolParts, V> {
+    pool: &'a pool::Pool<G, L>,
     service: &'a V,
 }
 
@@ -95,7 +84,7 @@ impl<
     R: Locks,
     L: PoolParts,
     V: Service<M, S, Z, K, R>,
-> Job for &OnPool<'_, M, S, Z, K, R, L, V> {
+> Job for &OnPool<'_, These<M, S, Z, K, R>, L, V> {
     type Told = V::Told;
 
     ghost is_ready = { λ job. V.suits job.now.service.now (basis_of job.now.pool.now) };

@@ -6,8 +6,8 @@ use Rattle.std_heap.specs.contracts.GlobalAllocator.TheImpl.{ghosts, dict}
 use Rattle.std_heap.proofs.Global.TheLaws as heap
 use Rattle.bb8_c.specs.contracts.listing.Listing as Listing
 use Rattle.bb8_c.proofs.listing.Listing.TheLaws as listing
-use Rattle.bb8_c.specs.contracts.handle.Handle as Handle
-use Rattle.bb8_c.specs.contracts.parts.Parts as Parts
+use Rattle.bb8_c.specs.contracts.handle.CoreHandle as CoreHandle
+use Rattle.bb8_c.specs.contracts.parts.BoxParts as BoxParts
 
 -- a box of a core on the C heap
 abbrev pub core_box : Bx
@@ -19,10 +19,10 @@ core_box = record {
 
 -- parameters of the walks
 abbrev pub ByParts : Slot 0
-ByParts = plain (λ _. Parts.the_row Listing.the_row Heap.the_row ghosts)
+ByParts = plain (λ _. BoxParts.the_row Listing.the_row Heap.the_row ghosts)
 
 abbrev pub ByHandle : Slot 0
-ByHandle = plain (λ _. Handle.the_row)
+ByHandle = plain (λ _. CoreHandle.the_row)
 
 abbrev pub ByAllocator : Slot 0
 ByAllocator = plain (λ _. Heap.the_row)

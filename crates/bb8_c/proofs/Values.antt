@@ -1,7 +1,7 @@
 -- A box taken apart, as machine values: a struct of a pointer and an allocator, which owns what the box owned.
 use Rattle.bb8_c.proofs.Words.{◌≡◌, ℕ, List, [], ◌∷◌, ◌++◌, refl, subst, true, ◌&&◌, T, Ura, impl, tnil, dnil, bare, Val, vptr, vstruct, vcons, vnil, of_list, has_ty, WT, never, fst∗, Logic, sem, Item, Goal, Seq, Step, step, ‵, ◌$◌, move, drop, fsplit, fjoin, fpick, fpack, feq_i, feq_l, RattleType, Valss, RawPtr, lone, Ptr, block_ptr, null_ptr, ptr_val, in_a_block, nothing, layout, Laws, within, shape, Al, handle_tells, Good, box_owns, and_tt}
 use Rattle.std.specs.declared.alloc.Allocator.{Ghosts}
-use Rattle.bb8_c.specs.contracts.parts.Parts as parts
+use Rattle.bb8_c.specs.contracts.parts.BoxParts as parts
 
 -- the value of a struct of two fields
 abbrev pub of_two : Val → Val → Val

@@ -26,7 +26,7 @@ pub use Rattle.std.proofs.alloc.Calls.{Al, handle_tells, α, Goes-blank}
 pub use Rattle.std.proofs.cell.Inside.{Good}
 pub use Rattle.std_alloc.specs.Box.Ownership.{box_owns}
 pub use Rattle.std_alloc.proofs.ResultValues.{and_tt}
-pub use Rattle.bb8_c.specs.contracts.handle.Handle.{the_row, the_type}
+pub use Rattle.bb8_c.specs.contracts.handle.CoreHandle.{the_row, the_type}
 pub use base.Fml.{ftrue, fsep, flft}
 pub use prog.Wp.{WpFn}
 pub use contract.Monad.{fact, fact_i}

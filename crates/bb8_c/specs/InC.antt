@@ -1,6 +1,6 @@
 -- What the steps tell, as it crosses to C.
 use Rattle.std.specs.Prelude.{ℕ, ◌/◌, min, true, false, Option, Some, None}
-use Rattle.bb8_c.specs.Words.{as_nanos, State, Grant, Closed, BeginAnswer, TryAnswer, PutBackAnswer, AtOnce, CheckedOkAnswer, CheckedErrAnswer, GiveUpAnswer, ClaimAnswer, OpenedAnswer, FailedAnswer, AddAnswer, ReapAnswer, JoinAnswer, Look, Left, Got, Name, Told, Figures, Looked}
+use Rattle.bb8_c.specs.Words.{as_nanos, State, Grant, Closed, BeginAnswer, TryAnswer, PutBackAnswer, AtOnce, CheckedOkAnswer, CheckedErrAnswer, GiveUpAnswer, ClaimAnswer, OpenedAnswer, FailedAnswer, AddAnswer, ReapAnswer, JoinAnswer, Look, Left, Got, Name, Told, Figures, LookAnswer}
 use Rattle.bb8_types.specs.Bounds.{most_micros}
 use Rattle.bb8_tables.specs.declared.keys.Key.{Key}
 use Rattle.bb8_tables.specs.declared.keys.GetKey.{GetKey}
@@ -172,5 +172,5 @@ figures_in s = record {
   connections_closed_idle_timeout = s.statistics.connections_closed_idle_timeout;
 }
 
-abbrev pub look_in : Look → Looked
+abbrev pub look_in : Look → LookAnswer
 look_in l = record { moment = l.moment.0; alive = l.alive }

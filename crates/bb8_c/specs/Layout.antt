@@ -1,13 +1,13 @@
 -- The layout of the structs that cross to C: their sizes, and samples whose fields all differ.
 use Rattle.std.specs.Prelude.{ℕ, Bool, true, cond, [], ◌∷◌, Option, Some, None, slice_get}
-use Rattle.bb8_c.specs.Words.{Name, Told, Settings, Figures, Looked}
+use Rattle.bb8_c.specs.Words.{Name, Told, Settings, Figures, LookAnswer}
 
 -- what a list has at a place, and 0 where it has nothing
 abbrev pub or_zero : Option ℕ → ℕ
 or_zero None = 0
 or_zero (Some n) = n
 
--- how many bytes each takes: Handle, Settings, Name, Granted, Told, Looked, Figures
+-- how many bytes each takes: CoreHandle, Settings, Name, Granted, Told, LookAnswer, Figures
 abbrev pub size_in_c : ℕ → ℕ
 size_in_c of = or_zero (slice_get (8 ∷ 32 ∷ 16 ∷ 16 ∷ 64 ∷ 16 ∷ 96 ∷ []) of)
 
@@ -38,7 +38,7 @@ numbered_figures = record {
   connections_closed_idle_timeout = 13;
 }
 
-abbrev pub numbered_look : Looked
+abbrev pub numbered_look : LookAnswer
 numbered_look = record { moment = 1; alive = true }
 
 -- a bool as a number

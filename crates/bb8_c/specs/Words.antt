@@ -24,7 +24,7 @@ pub use Rattle.bb8_c.specs.declared.steps.Got.{Got}
 pub use Rattle.bb8_c.specs.declared.told.Name.{Name}
 pub use Rattle.bb8_c.specs.declared.told.Told.{Told}
 pub use Rattle.bb8_c.specs.declared.figures.Figures.{Figures}
-pub use Rattle.bb8_c.specs.declared.figures.Looked.{Looked}
+pub use Rattle.bb8_c.specs.declared.figures.LookAnswer.{LookAnswer}
 pub use Rattle.bb8_c.specs.declared.settings.Settings.{Settings}
 pub use Rattle.bb8_types.specs.Settings.{Settings as Held, settings_of}
 pub use Rattle.bb8_ledger.specs.Ledger.{opening_with, Ledger}

@@ -40,7 +40,7 @@ pub struct Figures {
 /// The effective moment, and whether a handle is alive.
 #[repr(C)]
 #[derive(Clone, Copy)]
-pub struct Looked {
+pub struct LookAnswer {
     /// The greatest moment so far, in nanoseconds.
     pub moment: u64,
     /// Whether a handle of the pool is alive.
@@ -70,10 +70,10 @@ pub(crate) fn told(state: State) -> Figures
 }
 
 /// A look, each part in its field.
-pub(crate) fn seen(look: Look) -> Looked
+pub(crate) fn seen(look: Look) -> LookAnswer
     ensures { result ≡ in_c.look_in look }
 {
-    Looked {
+    LookAnswer {
         moment: look.moment.0,
         alive: look.alive,
     }

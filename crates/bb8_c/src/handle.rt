@@ -5,39 +5,39 @@ ghost use Rattle.bb8_c.specs.declared.listing.Listing.{Listing};
 ghost use Rattle.bb8_c.specs.Held.{held, listing_code};
 
 use crate::listing::Listing;
-use crate::parts::Parts;
+use crate::parts::BoxParts;
 use std::alloc::Global;
 use std::marker::Model;
 
 /// A core of its own on the heap, or nothing. In C it is one pointer, null where it is empty. Its ghost field says which core lies there.
 #[repr(C)]
 #[derive(Drop)]
-pub struct Handle {
+pub struct CoreHandle {
     at: *mut u8,
     alloc: Global,
     pub ghost core: { Option Listing } by { coded_option listing_code },
 }
 
-impl Model for Handle {
+impl Model for CoreHandle {
     ghost also_owns = { λ h. held h.alloc h.at h.core };
 }
 
-impl Handle {
+impl CoreHandle {
     /// No core.
-    pub fn nothing(alloc: Global) -> Handle
+    pub fn nothing(alloc: Global) -> CoreHandle
         ensures { result.core ≡ None }
     {
-        Handle {
+        CoreHandle {
             at: std::ptr::null_mut(),
             alloc,
         }
     }
 
     /// Hands the core to the handle.
-    pub fn of(core: Box<Listing>) -> Handle
+    pub fn of(core: Box<Listing>) -> CoreHandle
         ensures { result.core ≡ Some core.value }
     {
-        Handle::of_parts(Parts::of(core))
+        CoreHandle::of_parts(BoxParts::of(core))
     }
 
     /// Takes the core out.
@@ -54,27 +54,27 @@ impl Handle {
         ensures core { self.old.core ≡ Some result.value }
         ensures nothing { self.new.core ≡ None }
     {
-        std::mem::replace(self, Handle::nothing(alloc)).into_box()
+        std::mem::replace(self, CoreHandle::nothing(alloc)).into_box()
     }
 
     /// A handle from what the box of a core is made of.
-    fn of_parts(parts: Parts<Listing, Global>) -> Handle
+    fn of_parts(parts: BoxParts<Listing, Global>) -> CoreHandle
         ensures { result.core ≡ Some parts.value }
     {
-        let Parts { at, alloc } = parts;
-        Handle {
+        let BoxParts { at, alloc } = parts;
+        CoreHandle {
             at: at as *mut u8,
             alloc,
         }
     }
 
     /// What the box of the core is made of.
-    fn into_parts(self) -> Parts<Listing, Global>
+    fn into_parts(self) -> BoxParts<Listing, Global>
         requires { IsSome self.core }
         ensures { self.core ≡ Some result.value }
     {
-        let Handle { at, alloc } = self;
-        Parts {
+        let CoreHandle { at, alloc } = self;
+        BoxParts {
             at: at as *mut Listing,
             alloc,
         }
@@ -82,4 +82,4 @@ impl Handle {
 }
 
 // The core is plain data on the heap, and the handle alone owns it.
-unsafe impl Send for Handle {}
+unsafe impl Send for CoreHandle {}

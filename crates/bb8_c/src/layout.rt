@@ -2,19 +2,19 @@
 ghost use Rattle.std.specs.Prelude.{◌≡◌, slice_get};
 ghost use Rattle.bb8_c.specs.Layout as layout;
 
-use crate::figures::{Figures, Looked};
-use crate::handle::Handle;
+use crate::figures::{Figures, LookAnswer};
+use crate::handle::CoreHandle;
 use crate::settings::Settings;
 use crate::told::{Granted, Name, Told};
 
 /// How many bytes each takes, in the order of `bb8_size`.
 const SIZES: [usize; 7] = [
-    size_of::<Handle>(),
+    size_of::<CoreHandle>(),
     size_of::<Settings>(),
     size_of::<Name>(),
     size_of::<Granted>(),
     size_of::<Told>(),
-    size_of::<Looked>(),
+    size_of::<LookAnswer>(),
     size_of::<Figures>(),
 ];
 
@@ -74,10 +74,10 @@ pub(crate) fn sample_figures() -> Figures
 }
 
 /// A look at moment 1, where a handle is alive.
-pub(crate) fn sample_look() -> Looked
+pub(crate) fn sample_look() -> LookAnswer
     ensures { result ≡ layout.numbered_look }
 {
-    Looked {
+    LookAnswer {
         moment: 1,
         alive: true,
     }

@@ -27,8 +27,8 @@ mod told;
 use bb8_core::api::Moment;
 use bb8_core::asked;
 use bb8_core::internals::{PoolInternals, Reason};
-pub use figures::{Figures, Looked};
-pub use handle::Handle;
+pub use figures::{Figures, LookAnswer};
+pub use handle::CoreHandle;
 use listing::Listing;
 pub use settings::Settings;
 use std::alloc::Global;
@@ -39,7 +39,7 @@ macro_rules! with_core {
     ($alloc:ident, $handle:ident, $open:ident => $told:expr) => {{
         let mut $open = $handle.take($alloc);
         let told = $told;
-        *$handle = Handle::of($open);
+        *$handle = CoreHandle::of($open);
         told
     }};
 }
@@ -47,7 +47,7 @@ macro_rules! with_core {
 /// Makes a core, with one handle of the pool, and puts it into an empty handle. False comes where the settings are not lawful or memory was
 /// refused; then the handle stays empty.
 #[unsafe(no_mangle)]
-pub extern "C" fn bb8_new(alloc: Global, settings: Settings, out: &mut Handle) -> bool
+pub extern "C" fn bb8_new(alloc: Global, settings: Settings, out: &mut CoreHandle) -> bool
     requires { out.old.core ≡ None }
     ensures { CoreIsMade settings result out.new.core }
 {
@@ -58,7 +58,7 @@ pub extern "C" fn bb8_new(alloc: Global, settings: Settings, out: &mut Handle) -
     let core = Listing::new(alloc, PoolInternals::new(alloc, config));
     match Box::new(alloc, core) {
         Ok(core) => {
-            *out = Handle::of(core);
+            *out = CoreHandle::of(core);
             true
         }
         Err(_) => false,
@@ -67,7 +67,7 @@ pub extern "C" fn bb8_new(alloc: Global, settings: Settings, out: &mut Handle) -
 
 /// Frees a core and all that it keeps; the handle is empty then.
 #[unsafe(no_mangle)]
-pub extern "C" fn bb8_free(alloc: Global, core: &mut Handle)
+pub extern "C" fn bb8_free(alloc: Global, core: &mut CoreHandle)
     requires { IsSome core.old.core }
     ensures { core.new.core ≡ None }
 {
@@ -76,7 +76,7 @@ pub extern "C" fn bb8_free(alloc: Global, core: &mut Handle)
 
 /// Begins a get: kind 1 with its name, 2 where memory was refused, 3 where no number is left. It does not fit where no handle is alive.
 #[unsafe(no_mangle)]
-pub extern "C" fn bb8_begin(alloc: Global, core: &mut Handle, at: u64) -> Told
+pub extern "C" fn bb8_begin(alloc: Global, core: &mut CoreHandle, at: u64) -> Told
     requires { IsSome core.old.core }
     ensures { Beside (λ old new. (a : Option BeginAnswer) × (result ≡ in_c.begin_in a)
         × Stepped begin_told old at acts.Begin a new) core.old.core core.new.core }
@@ -87,7 +87,7 @@ pub extern "C" fn bb8_begin(alloc: Global, core: &mut Handle, at: u64) -> Told
 /// Begins a get and lets it try once, as `bb8_begin` and then `bb8_try` do, whether it is checked or not, and whether it is served or waits. The name of the get
 /// comes with each answer of the try.
 #[unsafe(no_mangle)]
-pub extern "C" fn bb8_get(alloc: Global, core: &mut Handle, at: u64) -> Told
+pub extern "C" fn bb8_get(alloc: Global, core: &mut CoreHandle, at: u64) -> Told
     requires { IsSome core.old.core }
     ensures { Beside (λ old new. (a : Got) × (result ≡ in_c.got_in a)
         × Gets old at a new) core.old.core core.new.core }
@@ -98,7 +98,7 @@ pub extern "C" fn bb8_get(alloc: Global, core: &mut Handle, at: u64) -> Told
 /// Begins a get and serves it, where connections go out unchecked, one is idle, and the get needs no memory. Else the answer has kind 0, nothing
 /// changed, and `bb8_get` tells more.
 #[unsafe(no_mangle)]
-pub extern "C" fn bb8_serve_at_once(alloc: Global, core: &mut Handle, at: u64) -> Told
+pub extern "C" fn bb8_serve_at_once(alloc: Global, core: &mut CoreHandle, at: u64) -> Told
     requires { IsSome core.old.core }
     ensures { Beside (λ old new. (a : Option (AtOnce ℕ)) × (result ≡ in_c.at_once_in a)
         × IfSome a (λ served. ServesAtOnce old at served new)
@@ -109,7 +109,7 @@ pub extern "C" fn bb8_serve_at_once(alloc: Global, core: &mut Handle, at: u64) -
 
 /// Lets a get try: kind 4 where it is served, 5 where it holds a connection that is to be checked, 6 where it waits.
 #[unsafe(no_mangle)]
-pub extern "C" fn bb8_try(alloc: Global, core: &mut Handle, at: u64, get: Name) -> Told
+pub extern "C" fn bb8_try(alloc: Global, core: &mut CoreHandle, at: u64, get: Name) -> Told
     requires { IsSome core.old.core }
     ensures { Beside (λ old new. (a : Option (TryAnswer ℕ)) × (result ≡ in_c.try_in a)
         × Stepped try_told old at (acts.Try get.number) a new
@@ -122,7 +122,7 @@ pub extern "C" fn bb8_try(alloc: Global, core: &mut Handle, at: u64, get: Name) 
 #[unsafe(no_mangle)]
 pub extern "C" fn bb8_checked_ok(
     alloc: Global,
-    core: &mut Handle,
+    core: &mut CoreHandle,
     at: u64,
     get: Name,
     hint: usize,
@@ -139,7 +139,7 @@ pub extern "C" fn bb8_checked_ok(
 #[unsafe(no_mangle)]
 pub extern "C" fn bb8_checked_err(
     alloc: Global,
-    core: &mut Handle,
+    core: &mut CoreHandle,
     at: u64,
     get: Name,
     conn: u64,
@@ -159,7 +159,7 @@ pub extern "C" fn bb8_checked_err(
 #[unsafe(no_mangle)]
 pub extern "C" fn bb8_give_up(
     alloc: Global,
-    core: &mut Handle,
+    core: &mut CoreHandle,
     at: u64,
     get: Name,
     timed_out: bool,
@@ -176,7 +176,7 @@ pub extern "C" fn bb8_give_up(
 #[unsafe(no_mangle)]
 pub extern "C" fn bb8_give_up_held(
     alloc: Global,
-    core: &mut Handle,
+    core: &mut CoreHandle,
     at: u64,
     get: Name,
     timed_out: bool,
@@ -197,7 +197,7 @@ pub extern "C" fn bb8_give_up_held(
 #[unsafe(no_mangle)]
 pub extern "C" fn bb8_put_back(
     alloc: Global,
-    core: &mut Handle,
+    core: &mut CoreHandle,
     at: u64,
     key: Name,
     conn: u64,
@@ -213,7 +213,7 @@ pub extern "C" fn bb8_put_back(
 
 /// Grants what is wanted for `min_idle`, claimed at once or not: kind 23.
 #[unsafe(no_mangle)]
-pub extern "C" fn bb8_fill(alloc: Global, core: &mut Handle, at: u64, claimed: bool) -> Told
+pub extern "C" fn bb8_fill(alloc: Global, core: &mut CoreHandle, at: u64, claimed: bool) -> Told
     requires { IsSome core.old.core }
     ensures { Beside (λ old new. (a : Grant) × (result ≡ in_c.fill_in a)
         × Meets old at (acts.Fill claimed) (answers.Granted a) new) core.old.core core.new.core }
@@ -223,7 +223,7 @@ pub extern "C" fn bb8_fill(alloc: Global, core: &mut Handle, at: u64, claimed: b
 
 /// Claims an approval: kind 10, or 11 where none is unclaimed, or 12 where no handle is alive.
 #[unsafe(no_mangle)]
-pub extern "C" fn bb8_claim(alloc: Global, core: &mut Handle, at: u64) -> Told
+pub extern "C" fn bb8_claim(alloc: Global, core: &mut CoreHandle, at: u64) -> Told
     requires { IsSome core.old.core }
     ensures { Beside (λ old new. (a : ClaimAnswer) × (result ≡ in_c.claim_in a)
         × Meets old at acts.Claim (claim_told a) new) core.old.core core.new.core }
@@ -235,7 +235,7 @@ pub extern "C" fn bb8_claim(alloc: Global, core: &mut Handle, at: u64) -> Told
 #[unsafe(no_mangle)]
 pub extern "C" fn bb8_opened(
     alloc: Global,
-    core: &mut Handle,
+    core: &mut CoreHandle,
     at: u64,
     approval: Name,
     conn: u64,
@@ -250,7 +250,7 @@ pub extern "C" fn bb8_opened(
 
 /// Ends a claimed approval that brought no connection: kind 15.
 #[unsafe(no_mangle)]
-pub extern "C" fn bb8_failed(alloc: Global, core: &mut Handle, at: u64, approval: Name) -> Told
+pub extern "C" fn bb8_failed(alloc: Global, core: &mut CoreHandle, at: u64, approval: Name) -> Told
     requires { IsSome core.old.core }
     ensures { Beside (λ old new. (a : Option FailedAnswer) × (result ≡ in_c.failed_in a)
         × Stepped failed_told old at (acts.Failed approval.number) a new)
@@ -263,7 +263,7 @@ pub extern "C" fn bb8_failed(alloc: Global, core: &mut Handle, at: u64, approval
 #[unsafe(no_mangle)]
 pub extern "C" fn bb8_add(
     alloc: Global,
-    core: &mut Handle,
+    core: &mut CoreHandle,
     at: u64,
     conn: u64,
     broken: bool,
@@ -279,7 +279,7 @@ pub extern "C" fn bb8_add(
 /// Closes idle connections that are too old or idled too long: kind 20, with how many as the number of the key; `bb8_closed_next` tells which.
 /// It is 12 where no handle is alive, and 2 where memory to list them was refused; then nothing changed.
 #[unsafe(no_mangle)]
-pub extern "C" fn bb8_reap(alloc: Global, core: &mut Handle, at: u64) -> Told
+pub extern "C" fn bb8_reap(alloc: Global, core: &mut CoreHandle, at: u64) -> Told
     requires { IsSome core.old.core }
     ensures { Within (λ old new. (a : Option ReapAnswer) × (result ≡ in_c.reap_in a)
         × Reaps old at a new) core.old.core core.new.core }
@@ -289,7 +289,7 @@ pub extern "C" fn bb8_reap(alloc: Global, core: &mut Handle, at: u64) -> Told
 
 /// Adds a handle of the pool: kind 21, or 3 where 4,294,967,295 are alive.
 #[unsafe(no_mangle)]
-pub extern "C" fn bb8_join(alloc: Global, core: &mut Handle, at: u64) -> Told
+pub extern "C" fn bb8_join(alloc: Global, core: &mut CoreHandle, at: u64) -> Told
     requires { IsSome core.old.core }
     ensures { Beside (λ old new. (a : Option JoinAnswer) × (result ≡ in_c.join_in a)
         × Stepped join_told old at acts.Join a new) core.old.core core.new.core }
@@ -300,7 +300,7 @@ pub extern "C" fn bb8_join(alloc: Global, core: &mut Handle, at: u64) -> Told
 /// Takes a handle of the pool away: kind 22. With the last one idle connections end, as many as the number of the key; `bb8_closed_next` tells
 /// which. It is 2 where memory to list them was refused; then nothing changed.
 #[unsafe(no_mangle)]
-pub extern "C" fn bb8_leave(alloc: Global, core: &mut Handle, at: u64) -> Told
+pub extern "C" fn bb8_leave(alloc: Global, core: &mut CoreHandle, at: u64) -> Told
     requires { IsSome core.old.core }
     ensures { Within (λ old new. (a : Left) × (result ≡ in_c.leave_in a)
         × Leaves old at a new) core.old.core core.new.core }
@@ -310,7 +310,7 @@ pub extern "C" fn bb8_leave(alloc: Global, core: &mut Handle, at: u64) -> Told
 
 /// Tells the connection that a reap or the last leave closed first, of those that were not told yet: kind 24. It is 0 where all were told.
 #[unsafe(no_mangle)]
-pub extern "C" fn bb8_closed_next(alloc: Global, core: &mut Handle) -> Told
+pub extern "C" fn bb8_closed_next(alloc: Global, core: &mut CoreHandle) -> Told
     requires { IsSome core.old.core }
     ensures { Within (λ old new. (a : Option (Closed ℕ)) × (result ≡ in_c.closed_in a)
         × TellsNext old a new) core.old.core core.new.core }
@@ -320,7 +320,7 @@ pub extern "C" fn bb8_closed_next(alloc: Global, core: &mut Handle) -> Told
 
 /// The effective moment, and whether a handle of the pool is alive.
 #[unsafe(no_mangle)]
-pub extern "C" fn bb8_look(alloc: Global, core: &mut Handle, at: u64) -> Looked
+pub extern "C" fn bb8_look(alloc: Global, core: &mut CoreHandle, at: u64) -> LookAnswer
     requires { IsSome core.old.core }
     ensures { Beside (λ old new. (a : Look) × (result ≡ in_c.look_in a)
         × Meets old at acts.Look (look_told a) new) core.old.core core.new.core }
@@ -330,7 +330,7 @@ pub extern "C" fn bb8_look(alloc: Global, core: &mut Handle, at: u64) -> Looked
 
 /// What the core tells of itself: every figure of its state.
 #[unsafe(no_mangle)]
-pub extern "C" fn bb8_state(alloc: Global, core: &mut Handle, at: u64) -> Figures
+pub extern "C" fn bb8_state(alloc: Global, core: &mut CoreHandle, at: u64) -> Figures
     requires { IsSome core.old.core }
     ensures { Beside (λ old new. (a : State) × (result ≡ in_c.figures_in a)
         × Meets old at acts.State (answers.Shown (figures_of a)) new) core.old.core core.new.core }
@@ -340,7 +340,7 @@ pub extern "C" fn bb8_state(alloc: Global, core: &mut Handle, at: u64) -> Figure
 
 /// Whether a connection or an approval of this number has not ended.
 #[unsafe(no_mangle)]
-pub extern "C" fn bb8_knows(alloc: Global, core: &mut Handle, number: u64) -> bool
+pub extern "C" fn bb8_knows(alloc: Global, core: &mut CoreHandle, number: u64) -> bool
     requires { IsSome core.old.core }
     ensures { Beside (λ old new. (new ≡ old) × (result ≡ true → IsRecordIn old number)
         × (result ≡ false → IsNoRecordIn old number)) core.old.core core.new.core }
@@ -348,7 +348,7 @@ pub extern "C" fn bb8_knows(alloc: Global, core: &mut Handle, number: u64) -> bo
     with_core!(alloc, core, open => open.internals.find(number).is_some())
 }
 
-/// How many bytes a struct takes: 0 for `Handle`, 1 `Settings`, 2 `Name`, 3 `Granted`, 4 `Told`, 5 `Looked`, 6 `Figures`. Any other: 0.
+/// How many bytes a struct takes: 0 for `CoreHandle`, 1 `Settings`, 2 `Name`, 3 `Granted`, 4 `Told`, 5 `LookAnswer`, 6 `Figures`. Any other: 0.
 #[unsafe(no_mangle)]
 pub extern "C" fn bb8_size(of: u32) -> usize
     ensures { result ≡ layout.size_in_c of }
@@ -374,7 +374,7 @@ pub extern "C" fn bb8_sample_figures() -> Figures
 
 /// A look at moment 1, where a handle is alive.
 #[unsafe(no_mangle)]
-pub extern "C" fn bb8_sample_looked() -> Looked
+pub extern "C" fn bb8_sample_looked() -> LookAnswer
     ensures { result ≡ layout.numbered_look }
 {
     layout::sample_look()

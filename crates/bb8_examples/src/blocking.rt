@@ -36,6 +36,13 @@ pub struct Files<R> {
     pub is_down: bool,
 }
 
+impl<R> Files<R> {
+    /// Those of a server that is up.
+    pub fn up(rt: R) -> Files<R> {
+        Files { rt, is_down: false }
+    }
+}
+
 impl<R: Clock + Send + Sync + Drop + 'static> ManageConnection for Files<R> {
     type Connection = File;
 
@@ -79,8 +86,8 @@ struct Reading<R> {
     rt: R,
 }
 
-/// The pool of the files, whose errors are printed.
-type FilePool<R, L> = Pool<Files<R>, PrintingSink<R>, NopCustomizer, MachineClock<R>, R, L>;
+/// A pool of files, whose errors go to this sink.
+pub type FilePool<S, R, L> = Pool<Files<R>, S, NopCustomizer, MachineClock<R>, R, L>;
 
 impl<R: Runtime + Eprint> Service<Files<R>, PrintingSink<R>, NopCustomizer, MachineClock<R>, R>
     for Reading<R> {
@@ -88,12 +95,12 @@ impl<R: Runtime + Eprint> Service<Files<R>, PrintingSink<R>, NopCustomizer, Mach
 
     type Outcome = u64;
 
-    fn begin<L: PoolParts>(&self, _pool: &FilePool<R, L>) -> Result<(), u64> {
+    fn begin<L: PoolParts>(&self, _pool: &FilePool<PrintingSink<R>, R, L>) -> Result<(), u64> {
         Ok(())
     }
 
     /// The guard's connection is used in this thread, so a call of it may block.
-    fn run<L: PoolParts>(&self, pool: &FilePool<R, L>, _thread: usize) -> u64 {
+    fn run<L: PoolParts>(&self, pool: &FilePool<PrintingSink<R>, R, L>, _thread: usize) -> u64 {
         let Ok(mut file) = PoolCalls::get_blocking(pool) else {
             return 0;
         };
@@ -102,7 +109,7 @@ impl<R: Runtime + Eprint> Service<Files<R>, PrintingSink<R>, NopCustomizer, Mach
         file.reads.min(1)
     }
 
-    fn end<L: PoolParts>(&self, _pool: &FilePool<R, L>, told: &[u64]) -> u64 {
+    fn end<L: PoolParts>(&self, _pool: &FilePool<PrintingSink<R>, R, L>, told: &[u64]) -> u64 {
         let mut sum: u64 = 0;
         for one in told {
             sum = sum.saturating_add(*one);

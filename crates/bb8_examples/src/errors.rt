@@ -1,49 +1,11 @@
 //! The errors of a get, told apart.
+use crate::blocking::{Down, FilePool, Files};
 use bb8::{
-    Builder, MachineClock, ManageConnection, Moment, NopCustomizer, NopErrorSink, Pool, PoolCalls,
-    PoolParts, RunError, Runtime, Service,
+    Builder, MachineClock, NopCustomizer, NopErrorSink, PoolCalls, PoolParts, RunError, Runtime,
+    Service,
 };
-use futures::task::Poll;
 use std::thread::Threads;
 use std::time::Duration;
-
-/// Numbers that are always there, as connections.
-#[derive(Drop)]
-pub struct Numbers;
-
-impl ManageConnection for Numbers {
-    type Connection = u64;
-
-    type Error = ();
-
-    type Connecting = ();
-
-    type Checking = ();
-
-    fn connect(&self) {}
-
-    fn poll_connect(&self, _connecting: &mut (), _moment: Moment) -> Poll<Result<u64, ()>> {
-        Poll::Ready(Ok(1))
-    }
-
-    fn is_valid(&self, _connection: &mut u64) {}
-
-    fn poll_valid(
-        &self,
-        _connection: &mut u64,
-        _checking: &mut (),
-        _moment: Moment,
-    ) -> Poll<Result<(), ()>> {
-        Poll::Ready(Ok(()))
-    }
-
-    fn has_broken(&self, _connection: &mut u64) -> bool {
-        false
-    }
-}
-
-/// A pool of numbers.
-pub type NumberPool<R, L> = Pool<Numbers, NopErrorSink, NopCustomizer, MachineClock<R>, R, L>;
 
 /// What became of a get.
 #[derive(Clone, Copy, Debug, PartialEq, Eq)]
@@ -60,18 +22,25 @@ pub enum Ended {
 #[derive(Drop)]
 struct Twice;
 
-impl<R: Runtime> Service<Numbers, NopErrorSink, NopCustomizer, MachineClock<R>, R> for Twice {
+impl<R: Runtime> Service<Files<R>, NopErrorSink, NopCustomizer, MachineClock<R>, R> for Twice {
     type Told = ();
 
     type Outcome = (Ended, Ended);
 
-    fn begin<L: PoolParts>(&self, _pool: &NumberPool<R, L>) -> Result<(), (Ended, Ended)> {
+    fn begin<L: PoolParts>(
+        &self,
+        _pool: &FilePool<NopErrorSink, R, L>,
+    ) -> Result<(), (Ended, Ended)> {
         Ok(())
     }
 
-    fn run<L: PoolParts>(&self, _pool: &NumberPool<R, L>, _thread: usize) {}
+    fn run<L: PoolParts>(&self, _pool: &FilePool<NopErrorSink, R, L>, _thread: usize) {}
 
-    fn end<L: PoolParts>(&self, pool: &NumberPool<R, L>, _told: &[()]) -> (Ended, Ended) {
+    fn end<L: PoolParts>(
+        &self,
+        pool: &FilePool<NopErrorSink, R, L>,
+        _told: &[()],
+    ) -> (Ended, Ended) {
         let first = PoolCalls::get_blocking(pool);
         let second = match PoolCalls::get_blocking(pool) {
             Ok(_guard) => Ended::Served,
@@ -87,9 +56,9 @@ impl<R: Runtime> Service<Numbers, NopErrorSink, NopCustomizer, MachineClock<R>, 
 }
 
 /// What becomes of the two gets of a pool of one connection. No thread runs beside: all is done as the service ends.
-pub fn ends<R: Runtime + Threads>(rt: R) -> Result<(Ended, Ended), RunError<()>> {
+pub fn ends<R: Runtime + Threads>(rt: R) -> Result<(Ended, Ended), RunError<Down>> {
     Builder::new()
         .max_size(1)
-        .connection_timeout(Duration::from_millis(20))
-        .serve(Numbers, MachineClock(rt), rt, 0, &Twice)
+        .connection_timeout(Duration::from_millis(100))
+        .serve(Files::up(rt), MachineClock(rt), rt, 0, &Twice)
 }

@@ -39,7 +39,7 @@ fn main(rt: HostRuntime) -> io::Result<()> {
             None => println!(rt; "settings {size} and {idle}: not lawful")?,
         }
     }
-    match reads(rt, Files { rt, is_down: false }) {
+    match reads(rt, Files::up(rt)) {
         Ok(count) => println!(rt; "blocking: {count} read")?,
         Err(_) => println!(rt; "blocking: no pool")?,
     }

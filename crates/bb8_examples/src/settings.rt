@@ -1,5 +1,5 @@
 //! A pool whose settings are read at run time: they are asked whether a pool can hold to them before it is built.
-use crate::errors::{NumberPool, Numbers};
+use crate::blocking::{Down, FilePool, Files};
 use bb8::{
     Builder, Config, MachineClock, NopCustomizer, NopErrorSink, PoolCalls, PoolParts, RunError,
     Runtime, Service,
@@ -11,22 +11,22 @@ pub const SETTINGS: [(u32, u32); 3] = [(3, 1), (2, 5), (0, 0)];
 
 /// Threads that get once each.
 #[derive(Drop)]
-struct Once;
+struct GetsOnce;
 
-impl<R: Runtime> Service<Numbers, NopErrorSink, NopCustomizer, MachineClock<R>, R> for Once {
+impl<R: Runtime> Service<Files<R>, NopErrorSink, NopCustomizer, MachineClock<R>, R> for GetsOnce {
     type Told = bool;
 
     type Outcome = usize;
 
-    fn begin<L: PoolParts>(&self, _pool: &NumberPool<R, L>) -> Result<(), usize> {
+    fn begin<L: PoolParts>(&self, _pool: &FilePool<NopErrorSink, R, L>) -> Result<(), usize> {
         Ok(())
     }
 
-    fn run<L: PoolParts>(&self, pool: &NumberPool<R, L>, _thread: usize) -> bool {
+    fn run<L: PoolParts>(&self, pool: &FilePool<NopErrorSink, R, L>, _thread: usize) -> bool {
         PoolCalls::get_blocking(pool).is_ok()
     }
 
-    fn end<L: PoolParts>(&self, _pool: &NumberPool<R, L>, told: &[bool]) -> usize {
+    fn end<L: PoolParts>(&self, _pool: &FilePool<NopErrorSink, R, L>, told: &[bool]) -> usize {
         told.iter().filter(|served| **served).count()
     }
 }
@@ -36,7 +36,7 @@ pub fn served<R: Runtime + Threads>(
     rt: R,
     size: u32,
     idle: u32,
-) -> Option<Result<usize, RunError<()>>> {
+) -> Option<Result<usize, RunError<Down>>> {
     if size == 0 {
         return None;
     }
@@ -44,5 +44,5 @@ pub fn served<R: Runtime + Threads>(
     if !Config::from(&builder).is_lawful() {
         return None;
     }
-    Some(builder.serve(Numbers, MachineClock(rt), rt, 4, &Once))
+    Some(builder.serve(Files::up(rt), MachineClock(rt), rt, 4, &GetsOnce))
 }

@@ -19,11 +19,11 @@ fn server_that_is_down_refuses(rt: HostRuntime) -> Result<(), Fail> {
 
 /// A get that waits, until a turn of the driver has opened its connection.
 #[derive(Drop)]
-struct Waits {
+struct WaitingGet {
     task: MockTask,
 }
 
-impl<R: Runtime> User<Files<R>, NopErrorSink, NopCustomizer, SetClock, R> for Waits {
+impl<R: Runtime> User<Files<R>, NopErrorSink, NopCustomizer, SetClock, R> for WaitingGet {
     /// Whether it was so.
     type Outcome = bool;
 
@@ -44,14 +44,13 @@ impl<R: Runtime> User<Files<R>, NopErrorSink, NopCustomizer, SetClock, R> for Wa
 
 #[test]
 fn turn_opens_for_a_get(rt: HostRuntime) -> Result<(), Fail> {
-    let files = Files { rt, is_down: false };
     let clock = SetClock::new(rt.alloc(), Moment(0))?;
-    let waits = Waits {
+    let waits = WaitingGet {
         task: MockTask::new(&rt)?,
     };
     let was_served = Builder::new()
         .max_size(2)
-        .with_pool(files, clock, rt, &waits)?;
+        .with_pool(Files::up(rt), clock, rt, &waits)?;
     assert!(&rt; was_served);
     Ok(())
 }

@@ -5,7 +5,6 @@ use Rattle.std.specs.Bool.{MatchBool}
 use Rattle.futures.specs.declared.task.Poll.{Poll}
 use Rattle.futures.specs.declared.task.Poll.TheVariants.{Ready, Pending}
 use Rattle.bb8_types.specs.declared.api.moments.Moment.{Moment}
-use Rattle.bb8_types.specs.declared.api.errors.RunError.{RunError}
 use Rattle.bb8_types.specs.declared.api.errors.RunError.TheVariants as errors
 use Rattle.bb8_types.specs.declared.reasons.Reason.{Reason}
 use Rattle.bb8_types.specs.declared.reasons.Reason.TheVariants.{TimedOut, Cancelled}
@@ -33,6 +32,7 @@ use Rattle.bb8_gets.specs.declared.state.Settled.{Settled}
 use Rattle.bb8_gets.specs.declared.state.Stage.{Stage}
 use Rattle.bb8_gets.specs.declared.state.Stage.TheVariants.{Fresh, Trying, Waiting, Checking, Done}
 use Rattle.bb8_types.specs.Bounds.{last_moment}
+use Rattle.bb8_gets.specs.Steps as step
 
 -- whether a get that stands so was answered, or let go
 abbrev pub is_done : {C V P : Type 0} → Stage C V P → Bool
@@ -102,12 +102,12 @@ module _ {C E V P X : Type 0} (home : HomeOf X C P) (outside : OutsideOf X C E V
   -- a get that holds no connection is given up
   abbrev pub LeavesLine : GetKey → Reason → X → X → Type 0
   LeavesLine g why x x' =
-      (a : Result (GiveUpAnswer C) Unfit) × (x1 : X) × home.gives_up x m g why a x1 × AfterLeave home outside a x1 x'
+      (a : Result (GiveUpAnswer C) Unfit) × (x1 : X) × home.steps x m (step.GivesUp g why a) x1 × AfterLeave home outside a x1 x'
 
   -- a get that held a connection is given up
   abbrev pub TakesBack : GetKey → Reason → Returned C P → X → X → Type 0
   TakesBack g why r x x' =
-      (a : Result (GiveUpAnswer C) C) × (x1 : X) × home.gives_back x m g why r a x1 × AfterBack home outside a x1 x'
+      (a : Result (GiveUpAnswer C) C) × (x1 : X) × home.steps x m (step.GivesBack g why r a) x1 × AfterBack home outside a x1 x'
 
   -- a row leads to this and makes no call
   abbrev pub MovesTo : Next C V P E → X → Next C V P E → X → Type 0
@@ -123,7 +123,7 @@ module _ {C E V P X : Type 0} (home : HomeOf X C P) (outside : OutsideOf X C E V
   CheckFails b t e x next x' =
       (x1 : X) × outside.sinks x e x1
       × ((r : Returned C P) × (x2 : X) × Asks outside t x1 r x2
-      × ((a : Result (CheckedErrAnswer C) C) × (x3 : X) × home.fails x2 m b.get r a x3 × AfterFail a b x3 next x'))
+      × ((a : Result (CheckedErrAnswer C) C) × (x3 : X) × home.steps x2 m (step.Fails b.get r a) x3 × AfterFail a b x3 next x'))
 
   -- after the passing of a check
   abbrev pub AfterPass : Result (Passed P) Unfit → C → X → Next C V P E → X → Type 0
@@ -135,7 +135,7 @@ module _ {C E V P X : Type 0} (home : HomeOf X C P) (outside : OutsideOf X C E V
   AfterCheck Pending b held x next x' = MovesTo (Stand (Checking b held)) x next x'
   AfterCheck (Ready (Ok u)) b held x next x' =
       (x1 : X) × outside.ends_check x held.checking x1
-      × ((a : Result (Passed P) Unfit) × (x2 : X) × home.passes x1 m b.get held.taken.key held.taken.part a x2
+      × ((a : Result (Passed P) Unfit) × (x2 : X) × home.steps x1 m (step.Passes b.get held.taken.key held.taken.part a) x2
       × AfterPass a held.taken.connection x2 next x')
   AfterCheck (Ready (Err e)) b held x next x' = (x1 : X) × outside.ends_check x held.checking x1 × CheckFails b held.taken e x1 next x'
 
@@ -157,7 +157,7 @@ module _ {C E V P X : Type 0} (home : HomeOf X C P) (outside : OutsideOf X C E V
   AfterTry (Err u) b x next x' = MovesTo (Answer (Err errors.TimedOut)) x next x'
 
   abbrev pub Tries : Open → X → Next C V P E → X → Type 0
-  Tries b x next x' = (t : Result (Tried C P) Unfit) × (x1 : X) × home.tries x m b.get t x1 × AfterTry t b x1 next x'
+  Tries b x next x' = (t : Result (Tried C P) Unfit) × (x1 : X) × home.steps x m (step.Tries b.get t) x1 × AfterTry t b x1 next x'
 
   -- after the begin of a first poll
   abbrev pub AfterBegin : Result BeginAnswer Unfit → ℕ → X → Next C V P E → X → Type 0
@@ -168,7 +168,7 @@ module _ {C E V P X : Type 0} (home : HomeOf X C P) (outside : OutsideOf X C E V
   AfterBegin (Err u) timeout x next x' = MovesTo (Answer (Err errors.TimedOut)) x next x'
 
   abbrev pub GetBegins : ℕ → X → Next C V P E → X → Type 0
-  GetBegins timeout x next x' = (b : Result BeginAnswer Unfit) × (x1 : X) × home.begins x m b x1 × AfterBegin b timeout x1 next x'
+  GetBegins timeout x next x' = (b : Result BeginAnswer Unfit) × (x1 : X) × home.steps x m (step.Begins b) x1 × AfterBegin b timeout x1 next x'
 
   -- the rows of each state
   abbrev pub GetAdvances : ℕ → Stage C V P → X → Next C V P E → X → Type 0
@@ -222,7 +222,7 @@ module _ {C E V P X : Type 0} (home : HomeOf X C P) (outside : OutsideOf X C E V
   abbrev pub Goes : ℕ → Stage C V P → X → Settled C V P E → X → Type 0
   Goes timeout stage x settled x' =
       (at : Moment) × (x1 : X) × outside.tells x at x1
-      × ((seen : Looked) × (x2 : X) × home.looks x1 at seen x2
+      × ((seen : Looked) × (x2 : X) × home.steps x1 at (step.Looks seen) x2
       × ((next : Next C V P E) × (x3 : X) × GetAdvances home outside seen.moment timeout stage x2 next x3
       × EndsPoll home outside seen.moment next x3 settled x'))
 
@@ -237,8 +237,8 @@ module _ {C E V P X : Type 0} (home : HomeOf X C P) (outside : OutsideOf X C E V
   Unserved stage x (Some seen) stage' x' =
       (stage ≡ Fresh) × (stage' ≡ Done)
       × ((at : Moment) × (x1 : X) × outside.tells x at x1
-      × ((looked : X) × home.looks x1 at seen looked
-      × ((m : Moment) (b : Result BeginAnswer Unfit) (after : X) → home.begins x' m b after → home.begins looked m b after)))
+      × ((looked : X) × home.steps x1 at (step.Looks seen) looked
+      × ((m : Moment) (b : Result BeginAnswer Unfit) (after : X) → home.steps x' m (step.Begins b) after → home.steps looked m (step.Begins b) after)))
   Unserved stage x None stage' x' = (stage' ≡ stage) × (x' ≡ x)
 
   -- a get that began and holds no connection is let go

@@ -1,20 +1,13 @@
 //! What the polls of a get make their steps on.
 ghost use Rattle.std.specs.Prelude.{◌≡◌, Result, Ok, IfSome, IfNone};
 ghost use Rattle.bb8_types.specs.declared.api.moments.Moment.{Moment as MomentOf};
-ghost use Rattle.bb8_types.specs.declared.reasons.Reason.{Reason as ReasonOf};
 ghost use Rattle.bb8_tables.specs.declared.keys.GetKey.{GetKey as GetKeyOf};
-ghost use Rattle.bb8_tables.specs.declared.keys.Key.{Key as KeyOf};
 ghost use Rattle.bb8_core.specs.declared.answers.BeginAnswer.{BeginAnswer as BeginAnswerOf};
 ghost use Rattle.bb8_core.specs.declared.answers.BeginAnswer.TheVariants.{Begun};
-ghost use Rattle.bb8_core.specs.declared.answers.CheckedErrAnswer.{CheckedErrAnswer as CheckedErrAnswerOf};
 ghost use Rattle.bb8_core.specs.declared.answers.CheckedOkAnswer.TheVariants.{Served as IsServed};
-ghost use Rattle.bb8_core.specs.declared.answers.GiveUpAnswer.{GiveUpAnswer as GiveUpAnswerOf};
-ghost use Rattle.bb8_core.specs.declared.answers.Looked.{Looked as LookedOf};
-ghost use Rattle.bb8_gets.specs.declared.home.Passed.{Passed as PassedOf};
-ghost use Rattle.bb8_gets.specs.declared.home.Returned.{Returned as ReturnedOf};
-ghost use Rattle.bb8_gets.specs.declared.home.Tried.{Tried as TriedOf};
 ghost use Rattle.bb8_gets.specs.declared.home.Tried.TheVariants.{Served};
 ghost use Rattle.bb8_gets.specs.declared.home.Unfit.{Unfit as UnfitOf};
+ghost use Rattle.bb8_gets.specs.Steps.{GetStep, Looks, Begins, Tries, Passes, Fails, GivesUp, GivesBack};
 
 use bb8_core::api::Moment;
 use bb8_core::internals::{
@@ -75,8 +68,8 @@ pub struct Returned<C, P> {
 
 /// The steps that the polls of a get make, on connections `C`: the plain state of a pool is such a home, and so is a pool's lock. Our own.
 ///
-/// Each step has a ghost member, a relation between the home, what the step was given, what it answered, and the home then. It has no
-/// default: what is proved of a get's polls holds for every choice. A connection that is closed, or did not fit, is handed back, for
+/// One ghost member relates the home, each step with what it was given and answered, and the home then. It has no default: what is proved
+/// of a get's polls holds for every choice. A connection that is closed, or did not fit, is handed back, for
 /// whoever made the step to drop it.
 pub trait GetHome<C> {
     /// What goes with a connection that is handed out. Our own.
@@ -85,27 +78,9 @@ pub trait GetHome<C> {
     // Holds of a home, and of the home that is let alone then.
     ghost releases: { Self → Self → Type 0 };
 
-    // Holds of a home, a reading of the clock, what a look at it may answer, and the home then.
-    ghost looks: { Self → MomentOf → LookedOf → Self → Type 0 };
-
-    // Holds of a home, a moment, what a begin may answer, and the home then.
-    ghost begins: { Self → MomentOf → Result BeginAnswerOf UnfitOf → Self → Type 0 };
-
-    // Holds of a home, a moment, a get, what a try of it may answer, and the home then.
-    ghost tries: { Self → MomentOf → GetKeyOf → Result (TriedOf C Self.Part) UnfitOf → Self → Type 0 };
-
-    // Holds of a home, a moment, a get, the key of its connection and what goes with it, what the passing of its check may answer, and the
-    // home then.
-    ghost passes: { Self → MomentOf → GetKeyOf → KeyOf → Self.Part → Result (PassedOf Self.Part) UnfitOf → Self → Type 0 };
-
-    // Holds of a home, a moment, a get, what it returns, what the failing of its check may answer, and the home then.
-    ghost fails: { Self → MomentOf → GetKeyOf → ReturnedOf C Self.Part → Result (CheckedErrAnswerOf C) C → Self → Type 0 };
-
-    // Holds of a home, a moment, a get, why it is given up, what that may answer, and the home then.
-    ghost gives_up: { Self → MomentOf → GetKeyOf → ReasonOf → Result (GiveUpAnswerOf C) UnfitOf → Self → Type 0 };
-
-    // Holds of a home, a moment, a get, why it is given up, what it returns, what that may answer, and the home then.
-    ghost gives_back: { Self → MomentOf → GetKeyOf → ReasonOf → ReturnedOf C Self.Part → Result (GiveUpAnswerOf C) C → Self → Type 0 };
+    // Holds of a home, a moment, a step with what it was given and what it may answer, and the home then. Of a look the moment is a reading of
+    // the clock.
+    ghost steps: { Self → MomentOf → GetStep C Self.Part → Self → Type 0 };
 
     /// Lets the home alone until its next step. It is called between a step and what is then called outside: a home that takes a lock for
     /// its steps lets go of it here. Our own.
@@ -114,29 +89,29 @@ pub trait GetHome<C> {
 
     /// The effective moment at this reading of the clock, and whether a handle is alive. Our own.
     fn look(&mut self, at: Moment) -> Looked
-        ensures { looks self.old at result self.new };
+        ensures { steps self.old at (Looks result) self.new };
 
     /// Looks at the home, and begins a get and serves it, all in one step, where the home can. Where it cannot it only looks; what may
     /// begin then could begin right after the look. Our own.
     fn serve(&mut self, at: Moment) -> (Looked, Option<(Taken<C, Self::Part>, Grant)>)
-        ensures served { IfSome result.1 (λ s. (looked : Self) × looks self.old at result.0 looked
+        ensures served { IfSome result.1 (λ s. (looked : Self) × steps self.old at (Looks result.0) looked
             × ((g : GetKeyOf) × (between : Self)
-            × begins looked result.0.moment (Ok (Begun g)) between
-            × tries between result.0.moment g (Ok (Served s.0 s.1)) self.new)) }
-        ensures none { IfNone result.1 ((looked : Self) × looks self.old at result.0 looked
+            × steps looked result.0.moment (Begins (Ok (Begun g))) between
+            × steps between result.0.moment (Tries g (Ok (Served s.0 s.1))) self.new)) }
+        ensures none { IfNone result.1 ((looked : Self) × steps self.old at (Looks result.0) looked
             × ((m : MomentOf) (b : Result BeginAnswerOf UnfitOf) (after : Self)
-            → begins self.new m b after → begins looked m b after)) }
+            → steps self.new m (Begins b) after → steps looked m (Begins b) after)) }
     {
         (self.look(at), None)
     }
 
     /// Begins a get. Our own.
     fn begin(&mut self, at: Moment) -> Result<BeginAnswer, Unfit>
-        ensures { begins self.old at result self.new };
+        ensures { steps self.old at (Begins result) self.new };
 
     /// Hands an idle connection to a get, which is served with it or is to check it, or lets the get wait. Our own.
     fn try_get(&mut self, at: Moment, get: GetKey) -> Result<Tried<C, Self::Part>, Unfit>
-        ensures { tries self.old at get result self.new };
+        ensures { steps self.old at (Tries get result) self.new };
 
     /// Serves a get with the connection that it holds, as its check was passed: what goes with the connection goes through the home, and
     /// is gone where the step does not fit. Our own.
@@ -147,7 +122,7 @@ pub trait GetHome<C> {
         key: Key,
         part: Self::Part,
     ) -> Result<Passed<Self::Part>, Unfit>
-        ensures { passes self.old at get key part result self.new };
+        ensures { steps self.old at (Passes get key part result) self.new };
 
     /// Closes the connection that a get holds, as its check failed; the get is to try again. Where the step does not fit, the connection
     /// comes back as the error. Our own.
@@ -157,11 +132,11 @@ pub trait GetHome<C> {
         get: GetKey,
         returned: Returned<C, Self::Part>,
     ) -> Result<CheckedErrAnswer<C>, C>
-        ensures { fails self.old at get returned result self.new };
+        ensures { steps self.old at (Fails get returned result) self.new };
 
     /// Ends a get that is not served and holds no connection. Our own.
     fn give_up(&mut self, at: Moment, get: GetKey, reason: Reason) -> Result<GiveUpAnswer<C>, Unfit>
-        ensures { gives_up self.old at get reason result self.new };
+        ensures { steps self.old at (GivesUp get reason result) self.new };
 
     /// Ends a get that is not served and holds a connection, which is then idle or closed. Where the step does not fit, the connection
     /// comes back as the error. Our own.
@@ -172,5 +147,5 @@ pub trait GetHome<C> {
         reason: Reason,
         returned: Returned<C, Self::Part>,
     ) -> Result<GiveUpAnswer<C>, C>
-        ensures { gives_back self.old at get reason returned result self.new };
+        ensures { steps self.old at (GivesBack get reason returned result) self.new };
 }

@@ -1,5 +1,6 @@
 //! A home of gets and the calls outside as one value.
 ghost use Rattle.std.specs.Prelude.{◌≡◌};
+ghost use Rattle.bb8_gets.specs.Steps.{Fails, GivesBack};
 
 use super::home::{GetHome, Passed, Returned, Taken, Tried, Unfit};
 use super::outside::Outside;
@@ -15,19 +16,7 @@ impl<C, W, H: GetHome<C>> GetHome<C> for Joined<W, H> {
 
     ghost releases = { λ x x'. H.releases x.home x'.home × (x'.outside ≡ x.outside) };
 
-    ghost looks = { λ x at seen x'. H.looks x.home at seen x'.home × (x'.outside ≡ x.outside) };
-
-    ghost begins = { λ x at b x'. H.begins x.home at b x'.home × (x'.outside ≡ x.outside) };
-
-    ghost tries = { λ x at get a x'. H.tries x.home at get a x'.home × (x'.outside ≡ x.outside) };
-
-    ghost passes = { λ x at get key part a x'. H.passes x.home at get key part a x'.home × (x'.outside ≡ x.outside) };
-
-    ghost fails = { λ x at get r a x'. H.fails x.home at get r a x'.home × (x'.outside ≡ x.outside) };
-
-    ghost gives_up = { λ x at get reason a x'. H.gives_up x.home at get reason a x'.home × (x'.outside ≡ x.outside) };
-
-    ghost gives_back = { λ x at get reason r a x'. H.gives_back x.home at get reason r a x'.home × (x'.outside ≡ x.outside) };
+    ghost steps = { λ x at s x'. H.steps x.home at s x'.home × (x'.outside ≡ x.outside) };
 
     fn release(&mut self) {
         self.home.release();
@@ -66,7 +55,7 @@ impl<C, W, H: GetHome<C>> GetHome<C> for Joined<W, H> {
         get: GetKey,
         returned: Returned<C, H::Part>,
     ) -> Result<CheckedErrAnswer<C>, C>
-        ensures home { H.fails self.old.home at get returned result self.new.home }
+        ensures home { H.steps self.old.home at (Fails get returned result) self.new.home }
         ensures outside { self.new.outside ≡ self.old.outside }
     {
         self.home.checked_err(at, get, returned)
@@ -88,7 +77,7 @@ impl<C, W, H: GetHome<C>> GetHome<C> for Joined<W, H> {
         reason: Reason,
         returned: Returned<C, H::Part>,
     ) -> Result<GiveUpAnswer<C>, C>
-        ensures home { H.gives_back self.old.home at get reason returned result self.new.home }
+        ensures home { H.steps self.old.home at (GivesBack get reason returned result) self.new.home }
         ensures outside { self.new.outside ≡ self.old.outside }
     {
         self.home.give_back(at, get, reason, returned)

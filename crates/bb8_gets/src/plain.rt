@@ -1,9 +1,10 @@
 //! The plain state of a pool as a home of gets.
-ghost use Rattle.std.specs.Prelude.{◌≡◌, false, None, Some};
+ghost use Rattle.std.specs.Prelude.{◌≡◌, Some};
 ghost use Rattle.bb8_ledger.specs.Acts as acts;
 ghost use Rattle.bb8_core.specs.PlainSteps.{Steps};
-ghost use Rattle.bb8_core.specs.StepAnswers.{begin_told, checked_err_told, give_up_told, look_told, reason_of};
-ghost use Rattle.bb8_gets.specs.Told.{answered, passed_told, tried_told, HandsBackHeld, HandsBackInvalid, HandsOutOf};
+ghost use Rattle.bb8_core.specs.StepAnswers.{checked_err_told, give_up_told, reason_of};
+ghost use Rattle.bb8_gets.specs.Steps.{StepsBy};
+ghost use Rattle.bb8_gets.specs.Told.{answered, HandsBackHeld, HandsBackInvalid};
 
 use super::home::{GetHome, Passed, Returned, Taken, Tried, Unfit};
 use bb8_core::api::Moment;
@@ -19,19 +20,7 @@ impl<C: Drop> GetHome<C> for PoolInternals<C> {
 
     ghost releases = { λ pool after. after ≡ pool };
 
-    ghost looks = { λ pool at seen after. Steps pool at.0 acts.Look (look_told seen) after };
-
-    ghost begins = { λ pool at b after. Steps pool at.0 acts.Begin (answered begin_told b) after };
-
-    ghost tries = { λ pool at get t after. Steps pool at.0 (acts.Try get.number) (tried_told t) after × HandsOutOf pool t };
-
-    ghost passes = { λ pool at get _ _ a after. Steps pool at.0 (acts.CheckedOk get.number) (passed_told pool.records.next a) after };
-
-    ghost fails = { λ pool at get r a after. Steps pool at.0 (acts.CheckedErr get.number r.broken) (answered checked_err_told a) after × HandsBackInvalid r.taken.connection a };
-
-    ghost gives_up = { λ pool at get reason a after. Steps pool at.0 (acts.GiveUp get.number (reason_of reason) None false) (answered give_up_told a) after };
-
-    ghost gives_back = { λ pool at get reason r a after. Steps pool at.0 (acts.GiveUp get.number (reason_of reason) (Some r.taken.connection) r.broken) (answered give_up_told a) after × HandsBackHeld r.taken.connection a };
+    ghost steps = { λ pool at s after. StepsBy Steps pool at s after };
 
     /// Nothing is held.
     fn release(&mut self) {}

@@ -1,7 +1,7 @@
 //! Where a get stands, its poll, and its letting go.
 ghost use Rattle.std.specs.Prelude.{◌≡◌, ℕ, true, Ok, IfSome, IfNone};
 ghost use Rattle.std.specs.Duration.{as_nanos};
-ghost use Rattle.bb8_gets.specs.Polls.{holds_nothing, is_done, rest_of, GetPolls, Starts, Goes, Unserved, CancelsFree, CancelsHeld, Cancels};
+ghost use Rattle.bb8_gets.specs.Polls.{holds_nothing, is_done, rest_of, GetPolls, Starts, Unserved, CancelsFree, CancelsHeld, Cancels};
 ghost use Rattle.bb8_gets.specs.declared.state.Stage.TheVariants.{Done as IsDone, Fresh as IsFresh};
 ghost use Rattle.futures.specs.declared.task.Poll.TheVariants.{Ready};
 
@@ -174,8 +174,8 @@ impl<C, V, P> GetState<C, V, P> {
         &mut self,
         pool: &mut X,
     ) -> (Option<Looked>, Option<Taken<C, P>>)
-        ensures served { IfSome result.1 (λ taken. (timeout : ℕ) → GetPolls X.GetHome X.Outside timeout
-            self.old.stage pool.old (record {
+        ensures served { IfSome result.1 (λ taken. (timeout : ℕ)
+            → GetPolls X.GetHome X.Outside timeout self.old.stage pool.old (record {
               answer = Ready (Ok taken);
               stage = self.new.stage;
             }) pool.new) }

@@ -11,6 +11,8 @@
 //! `bb8_live_bench let-go GETS SIZE`: so many gets wait in the same way, and are let go.
 //! `bb8_live_bench wait GETS SIZE`: so many gets wait in the same way, for a while.
 //! It prints how many gets were served, or waited.
+//! `bb8_live_bench wake ROUNDS`: two threads take turns with one connection, so many rounds each, and sleep in their gets. It prints the
+//! median and the 95th percentile of the nanoseconds from a return to the answer of the get that waits for it.
 #![tactic(auto)]
 
 ghost use Rattle.std.specs.Prelude.{◌<◌, false};
@@ -20,6 +22,7 @@ ghost use Rattle.bb8.specs.Settings.{default_settings};
 mod manager;
 mod rounds;
 mod waiting;
+mod waking;
 
 use bb8::{Builder, Clock, MachineClock, Memory, Moment, PoolParts, Runtime, SetClock};
 use manager::{NumberManager, NumberPool, StillClock};
@@ -29,6 +32,7 @@ use std::sync::ledger::Blank;
 use std::thread::Threads;
 use std::{env, io};
 use waiting::{kept_waiting, let_go, served_in_turn};
+use waking::woken;
 
 /// How many threads there are where none is said.
 const THREADS: usize = 4;
@@ -176,6 +180,13 @@ fn main(rt: HostRuntime) -> io::Result<()> {
     let _ = args.next();
     let name = args.next();
     let rounds: Option<u64> = args.next().and_then(|text| text.as_str().parse().ok());
+    let sleeps = name.as_ref().is_some_and(|name| name.as_str() == "wake");
+    if let (true, Some(rounds)) = (sleeps, rounds) {
+        return match woken(rt, rounds) {
+            Some((median, most)) => println!(rt; "{median} {most}"),
+            None => println!(rt; "no get slept"),
+        };
+    }
     let size: Option<u32> = args.next().and_then(|text| text.as_str().parse().ok());
     let threads: Option<usize> = args.next().and_then(|text| text.as_str().parse().ok());
     let mode = name.and_then(|name| mode_of(name.as_str(), threads.unwrap_or(THREADS)));

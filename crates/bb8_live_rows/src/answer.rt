@@ -2,13 +2,13 @@
 
 use crate::asked::Facts;
 use bb8::{AddError, RunError, State, Turn};
-use bb8_trials::{Connection, Polled, Refused};
+use bb8_trials::{Polled, Refused, ServerConnection};
 use futures::task::Poll;
 use std::fmt;
 
-/// An answer.
+/// What a line is answered.
 #[derive(Clone, Copy)]
-pub enum Answer {
+pub enum LineAnswer {
     /// Nothing is written.
     Done,
     /// The line is none, or does not fit.
@@ -39,34 +39,34 @@ pub enum Answer {
     No,
 }
 
-impl fmt::Display for Answer {
+impl fmt::Display for LineAnswer {
     fn fmt<W: fmt::Write>(&self, f: &mut fmt::Formatter<W>) -> fmt::Result {
         match self {
-            Answer::Done | Answer::State(_) => Ok(()),
-            Answer::Unfit => write!(f, "unfit"),
-            Answer::Pending => write!(f, "pending"),
-            Answer::Served(number) => write!(f, "served {number}"),
-            Answer::Built => write!(f, "built"),
-            Answer::Nothing => write!(f, "none"),
-            Answer::TimedOut => write!(f, "timed out"),
-            Answer::Refused(number) => write!(f, "refused {number}"),
-            Answer::Memory => write!(f, "memory"),
-            Answer::Exhausted => write!(f, "exhausted"),
-            Answer::Connection((number, checks, field)) => {
+            LineAnswer::Done | LineAnswer::State(_) => Ok(()),
+            LineAnswer::Unfit => write!(f, "unfit"),
+            LineAnswer::Pending => write!(f, "pending"),
+            LineAnswer::Served(number) => write!(f, "served {number}"),
+            LineAnswer::Built => write!(f, "built"),
+            LineAnswer::Nothing => write!(f, "none"),
+            LineAnswer::TimedOut => write!(f, "timed out"),
+            LineAnswer::Refused(number) => write!(f, "refused {number}"),
+            LineAnswer::Memory => write!(f, "memory"),
+            LineAnswer::Exhausted => write!(f, "exhausted"),
+            LineAnswer::Connection((number, checks, field)) => {
                 write!(f, "connection {number} checks {checks} field {field}")
             }
-            Answer::Added => write!(f, "added"),
-            Answer::Broken(number) => write!(f, "broken {number}"),
-            Answer::Full(number) => write!(f, "full {number}"),
-            Answer::Withheld(number) => write!(f, "withheld {number}"),
-            Answer::Turned(turn) => {
+            LineAnswer::Added => write!(f, "added"),
+            LineAnswer::Broken(number) => write!(f, "broken {number}"),
+            LineAnswer::Full(number) => write!(f, "full {number}"),
+            LineAnswer::Withheld(number) => write!(f, "withheld {number}"),
+            LineAnswer::Turned(turn) => {
                 let word = if turn.ended { "ended, " } else { "" };
                 write!(f, "{word}polled {}", turn.polled)
             }
-            Answer::Sizes(state) => {
+            LineAnswer::Sizes(state) => {
                 write!(f, "{} idle {}", state.connections, state.idle_connections)
             }
-            Answer::Gets(State { statistics, .. }) => {
+            LineAnswer::Gets(State { statistics, .. }) => {
                 let (pending, completed) = (statistics.pending_gets(), statistics.completed_gets());
                 let waited = statistics.get_wait_time.as_nanos();
                 write!(
@@ -74,37 +74,37 @@ impl fmt::Display for Answer {
                     "pending {pending} completed {completed} waited {waited} ns"
                 )
             }
-            Answer::Number(number) => write!(f, "{number}"),
-            Answer::Yes => write!(f, "yes"),
-            Answer::No => write!(f, "no"),
+            LineAnswer::Number(number) => write!(f, "{number}"),
+            LineAnswer::Yes => write!(f, "yes"),
+            LineAnswer::No => write!(f, "no"),
         }
     }
 }
 
 /// What an error is told as.
-pub fn error_of(error: RunError<Refused>) -> Answer {
+pub fn error_of(error: RunError<Refused>) -> LineAnswer {
     match error {
-        RunError::User(Refused(number)) => Answer::Refused(number),
-        RunError::TimedOut => Answer::TimedOut,
-        RunError::Memory => Answer::Memory,
-        RunError::Exhausted => Answer::Exhausted,
+        RunError::User(Refused(number)) => LineAnswer::Refused(number),
+        RunError::TimedOut => LineAnswer::TimedOut,
+        RunError::Memory => LineAnswer::Memory,
+        RunError::Exhausted => LineAnswer::Exhausted,
     }
 }
 
 /// What a poll is told as that does not serve.
-pub fn poll_of(polled: Polled<(), Refused>) -> Answer {
+pub fn poll_of(polled: Polled<(), Refused>) -> LineAnswer {
     match polled {
-        Poll::Pending => Answer::Pending,
-        Poll::Ready(Ok(())) => Answer::Built,
+        Poll::Pending => LineAnswer::Pending,
+        Poll::Ready(Ok(())) => LineAnswer::Built,
         Poll::Ready(Err(error)) => error_of(error),
     }
 }
 
 /// Why an adding was refused, and the connection that it gives back.
-pub fn refusal_of(error: AddError<Connection>) -> (Answer, Connection) {
+pub fn refusal_of(error: AddError<ServerConnection>) -> (LineAnswer, ServerConnection) {
     match error {
-        AddError::Broken(connection) => (Answer::Broken(connection.number), connection),
-        AddError::NoCapacity(connection) => (Answer::Full(connection.number), connection),
-        AddError::Withheld(connection) => (Answer::Withheld(connection.number), connection),
+        AddError::Broken(connection) => (LineAnswer::Broken(connection.number), connection),
+        AddError::NoCapacity(connection) => (LineAnswer::Full(connection.number), connection),
+        AddError::Withheld(connection) => (LineAnswer::Withheld(connection.number), connection),
     }
 }

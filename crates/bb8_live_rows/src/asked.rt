@@ -1,8 +1,10 @@
 //! The handles of a script's pool, and what they are asked for.
 
-use crate::slots::Slots;
+use crate::shelf::Shelf;
 use bb8::{AddError, Memory, RunError, State};
-use bb8_trials::{Connection, Handle, OwnedHandle, Polled, Refused, Server, Unbuilt};
+use bb8_trials::{
+    Either, LentHandle, OwnedHandle, Polled, Refused, Server, ServerConnection, Unbuilt,
+};
 use futures::task::Poll;
 use futures::test::MockTask;
 
@@ -10,7 +12,7 @@ use futures::test::MockTask;
 pub type Facts = (u64, u64, u64);
 
 /// What a connection tells.
-pub fn facts_of(connection: &Connection) -> Facts {
+pub fn facts_of(connection: &ServerConnection) -> Facts {
     (connection.number, connection.checks, connection.field)
 }
 
@@ -46,7 +48,11 @@ pub trait Asked: Drop {
     /// Whether a get that is let go after its first poll is served at it.
     fn serves(&self, task: &MockTask, handle: u64) -> Option<bool>;
 
-    fn add(&self, handle: u64, connection: Connection) -> Option<Result<(), AddError<Connection>>>;
+    fn add(
+        &self,
+        handle: u64,
+        connection: ServerConnection,
+    ) -> Option<Result<(), AddError<ServerConnection>>>;
 
     fn state(&self, handle: u64) -> Option<State>;
 
@@ -58,7 +64,7 @@ pub trait Asked: Drop {
         &self,
         _task: &MockTask,
         _opening: &mut Self::Dedicated,
-    ) -> Poll<Result<Connection, Refused>> {
+    ) -> Poll<Result<ServerConnection, Refused>> {
         Poll::Pending
     }
 
@@ -85,21 +91,14 @@ pub trait Asked: Drop {
     }
 }
 
-/// Of two kinds of gets, or of guards: one by a handle, and one with a handle of its own.
-#[derive(Drop)]
-pub enum Either<A: Drop, B: Drop> {
-    Lent(A),
-    Owned(B),
-}
-
 /// One handle by reference, or two.
 #[derive(Drop)]
-pub struct Lent<P: Handle<Server> + Drop> {
+pub struct Lent<P: LentHandle<Server> + Drop> {
     pub first: P,
     pub second: Option<P>,
 }
 
-impl<P: Handle<Server> + Drop> Lent<P> {
+impl<P: LentHandle<Server> + Drop> Lent<P> {
     fn handle(&self, handle: u64) -> Option<P> {
         match handle {
             0 => Some(self.first),
@@ -109,7 +108,7 @@ impl<P: Handle<Server> + Drop> Lent<P> {
     }
 }
 
-impl<P: Handle<Server> + Drop> Asked for Lent<P> {
+impl<P: LentHandle<Server> + Drop> Asked for Lent<P> {
     type Get = Either<P::Get, P::OwnedGet>;
 
     type Guard = Either<P::Guard, P::OwnedGuard>;
@@ -125,25 +124,11 @@ impl<P: Handle<Server> + Drop> Asked for Lent<P> {
     }
 
     fn poll(&self, task: &MockTask, get: &mut Self::Get) -> Polled<Self::Guard, Refused> {
-        match get {
-            Either::Lent(get) => match self.first.poll(task, get) {
-                Poll::Ready(Ok(guard)) => Poll::Ready(Ok(Either::Lent(guard))),
-                Poll::Ready(Err(error)) => Poll::Ready(Err(error)),
-                Poll::Pending => Poll::Pending,
-            },
-            Either::Owned(get) => match self.first.poll_owned(task, get) {
-                Poll::Ready(Ok(guard)) => Poll::Ready(Ok(Either::Owned(guard))),
-                Poll::Ready(Err(error)) => Poll::Ready(Err(error)),
-                Poll::Pending => Poll::Pending,
-            },
-        }
+        self.first.poll_either(task, get)
     }
 
     fn cancel(&self, get: Self::Get) {
-        match get {
-            Either::Lent(get) => self.first.cancel(get),
-            Either::Owned(get) => self.first.cancel_owned(get),
-        }
+        self.first.cancel_either(get);
     }
 
     fn try_get(&self) -> Option<Result<Option<Self::Guard>, RunError<Refused>>> {
@@ -172,7 +157,11 @@ impl<P: Handle<Server> + Drop> Asked for Lent<P> {
         Some(self.handle(handle)?.lend(task).is_some())
     }
 
-    fn add(&self, handle: u64, connection: Connection) -> Option<Result<(), AddError<Connection>>> {
+    fn add(
+        &self,
+        handle: u64,
+        connection: ServerConnection,
+    ) -> Option<Result<(), AddError<ServerConnection>>> {
         Some(self.handle(handle)?.add(connection))
     }
 
@@ -188,7 +177,7 @@ impl<P: Handle<Server> + Drop> Asked for Lent<P> {
         &self,
         task: &MockTask,
         opening: &mut P::Dedicated,
-    ) -> Poll<Result<Connection, Refused>> {
+    ) -> Poll<Result<ServerConnection, Refused>> {
         self.first.poll_dedicated(task, opening)
     }
 
@@ -199,12 +188,12 @@ impl<P: Handle<Server> + Drop> Asked for Lent<P> {
 
 /// Handles that a script may make and drop, and the building of a pool that has none yet.
 #[derive(Drop)]
-pub struct Held<B: Unbuilt<Server>> {
+pub struct Handles<B: Unbuilt<Server>> {
     pub building: Option<B>,
-    pub handles: Slots<B::Pool>,
+    pub handles: Shelf<B::Pool>,
 }
 
-impl<B: Unbuilt<Server>> Asked for Held<B> {
+impl<B: Unbuilt<Server>> Asked for Handles<B> {
     type Get = <B::Pool as OwnedHandle<Server>>::OwnedGet;
 
     type Guard = <B::Pool as OwnedHandle<Server>>::OwnedGuard;
@@ -239,7 +228,11 @@ impl<B: Unbuilt<Server>> Asked for Held<B> {
         Some(self.handles.get(handle)?.serves_at_once(task))
     }
 
-    fn add(&self, handle: u64, connection: Connection) -> Option<Result<(), AddError<Connection>>> {
+    fn add(
+        &self,
+        handle: u64,
+        connection: ServerConnection,
+    ) -> Option<Result<(), AddError<ServerConnection>>> {
         Some(self.handles.get(handle)?.add(connection))
     }
 

@@ -3,18 +3,15 @@ ghost use Rattle.std.specs.Prelude.{◌≡◌, true};
 ghost use Rattle.bb8.specs.Parts.{IsBlankOf};
 ghost use Rattle.bb8.specs.Settings.{settings_of, is_lawful};
 
-use crate::asked::{Asked, Held, Lent};
-use crate::play::{Play, Stage, set_board};
+use crate::asked::{Asked, Handles, Lent};
+use crate::play::{Play, Setup, set_board};
 use crate::preparing::Preparer;
-use crate::slots::Slots;
-use bb8::{
-    Builder, Building, Config, Driver, DriverCalls, Memory, Moment, Pool, PoolParts, Runtime,
-    SetClock,
-};
+use crate::shelf::Shelf;
+use bb8::{Builder, Building, Config, Driver, Memory, Moment, Pool, PoolParts, Runtime, SetClock};
 use bb8_runner::fault::Fault;
 use bb8_runner::grammar::{fields_of, number};
 use bb8_runner::lines::{NoScript, script_of};
-use bb8_trials::{Board, Errors, Handle, Number, Server, Unbuilt, builder_on, server_on};
+use bb8_trials::{Board, Errors, LentHandle, Number, Server, Unbuilt, builder_on, server_on};
 use futures::task::Poll;
 use futures::test::MockTask;
 use std::alloc::Global;
@@ -26,7 +23,8 @@ type LivePool<R, L> = Pool<Server, Errors, Preparer, SetClock, R, L>;
 
 type LiveBuilding<R, L> = Building<Server, Errors, Preparer, SetClock, R, L>;
 
-type LiveDriver<R, L> = Driver<Server, Errors, Preparer, SetClock, R, L>;
+/// The driver of a script's pool. A name in place of a bound keeps the proofs of what calls it small.
+pub type LiveDriver<R, L> = Driver<Server, Errors, Preparer, SetClock, R, L>;
 
 type LiveBuilder = Builder<Server, Errors, Preparer>;
 
@@ -97,15 +95,15 @@ fn builder_of(
 }
 
 /// Plays the lines behind the beginning, in front of which so many stand.
-fn perform<A: Asked, D: DriverCalls + Drop>(
+fn perform<A: Asked, R: Runtime, L: PoolParts>(
     asked: A,
-    drivers: Slots<D>,
-    stage: Stage,
+    drivers: Shelf<LiveDriver<R, L>>,
+    setup: Setup,
     lines: &[&str],
     beginning: usize,
 ) -> Result<String, Fault> {
-    let mut written = String::new(stage.alloc);
-    let mut play = Play::new(asked, drivers, stage)?;
+    let mut written = String::new(setup.alloc);
+    let mut play = Play::new(asked, drivers, setup)?;
     for (before, line) in lines.iter().enumerate() {
         if before > beginning {
             play.line(line, &mut written)?;
@@ -115,27 +113,33 @@ fn perform<A: Asked, D: DriverCalls + Drop>(
 }
 
 /// Plays a script with handles by reference.
-fn lend<P: Handle<Server> + Drop, D: DriverCalls + Drop>(
+fn lend<P: LentHandle<Server> + Drop, R: Runtime, L: PoolParts>(
     lent: (P, Option<P>),
-    drivers: Slots<D>,
-    stage: Stage,
+    drivers: Shelf<LiveDriver<R, L>>,
+    setup: Setup,
     lines: &[&str],
     beginning: usize,
 ) -> Result<String, Fault> {
     let (first, second) = lent;
-    perform(Lent { first, second }, drivers, stage, lines, beginning)
+    perform(Lent { first, second }, drivers, setup, lines, beginning)
 }
 
 /// Plays a script that has its handles, or the building of its pool.
-fn hold<B: Unbuilt<Server>, D: DriverCalls + Drop>(
-    held: (Option<B>, Slots<B::Pool>),
-    drivers: Slots<D>,
-    stage: Stage,
+fn hold<B: Unbuilt<Server>, R: Runtime, L: PoolParts>(
+    held: (Option<B>, Shelf<B::Pool>),
+    drivers: Shelf<LiveDriver<R, L>>,
+    setup: Setup,
     lines: &[&str],
     beginning: usize,
 ) -> Result<String, Fault> {
     let (building, handles) = held;
-    perform(Held { building, handles }, drivers, stage, lines, beginning)
+    perform(
+        Handles { building, handles },
+        drivers,
+        setup,
+        lines,
+        beginning,
+    )
 }
 
 /// A pool of these settings. None where its first connections were not there after two polls of its building.
@@ -143,20 +147,20 @@ fn pool_of<R: Runtime, L: PoolParts>(
     rt: R,
     blank: Blank,
     builder: LiveBuilder,
-    stage: &Stage,
+    setup: &Setup,
     built: bool,
 ) -> Result<Option<LivePool<R, L>>, Memory>
     requires lawful { is_lawful builder.settings ≡ true }
     requires parts { IsBlankOf blank builder.settings L.name L.parts L.settings }
 {
-    let server = server_on(&stage.board)?;
-    let clock = stage.clock.try_clone()?;
+    let server = server_on(&setup.board)?;
+    let clock = setup.clock.try_clone()?;
     if !built {
         return Ok(Some(builder.build_unchecked(server, clock, rt, blank)?));
     }
     let mut building = builder.build(server, clock, rt, blank);
-    let polled = match stage.task.poll(&mut building) {
-        Poll::Pending => stage.task.poll(&mut building),
+    let polled = match setup.task.poll(&mut building) {
+        Poll::Pending => setup.task.poll(&mut building),
         ready => ready,
     };
     Ok(match polled {
@@ -171,19 +175,19 @@ fn play_on<R: Runtime, L: PoolParts>(
     blank: Blank,
     builder: LiveBuilder,
     beginning: Beginning,
-    stage: Stage,
+    setup: Setup,
     lines: &[&str],
 ) -> Result<String, Fault>
     requires lawful { is_lawful builder.settings ≡ true }
     requires parts { IsBlankOf blank builder.settings L.name L.parts L.settings }
 {
     let alloc = rt.alloc();
-    let mut drivers: Slots<LiveDriver<R, L>> = Slots::new(alloc)?;
-    let mut handles: Slots<LivePool<R, L>> = Slots::new(alloc)?;
+    let mut drivers: Shelf<LiveDriver<R, L>> = Shelf::new(alloc)?;
+    let mut handles: Shelf<LivePool<R, L>> = Shelf::new(alloc)?;
     if beginning.building {
-        let clock = stage.clock.try_clone()?;
+        let clock = setup.clock.try_clone()?;
         let building: LiveBuilding<R, L> = builder.build(
-            server_on(&stage.board)?,
+            server_on(&setup.board)?,
             clock,
             rt,
             blank,
@@ -191,12 +195,12 @@ fn play_on<R: Runtime, L: PoolParts>(
         return hold(
             (Some(building), handles),
             drivers,
-            stage,
+            setup,
             lines,
             beginning.lines,
         );
     }
-    let Some(pool) = pool_of::<R, L>(rt, blank, builder, &stage, beginning.built)? else {
+    let Some(pool) = pool_of::<R, L>(rt, blank, builder, &setup, beginning.built)? else {
         return Ok(format!(in alloc; "not built\n")?);
     };
     let _ = drivers.put(0, Driver::new(&pool)?);
@@ -206,14 +210,14 @@ fn play_on<R: Runtime, L: PoolParts>(
     if beginning.owned {
         let _ = handles.put(0, pool);
         let building: Option<LiveBuilding<R, L>> = None;
-        return hold((building, handles), drivers, stage, lines, beginning.lines);
+        return hold((building, handles), drivers, setup, lines, beginning.lines);
     }
     let other = match beginning.two {
         true => pool.try_clone().ok(),
         false => None,
     };
     let second = other.as_ref();
-    lend((&pool, second), drivers, stage, lines, beginning.lines)
+    lend((&pool, second), drivers, setup, lines, beginning.lines)
 }
 
 /// Sets what the lines in front of the beginning say, and answers that. None where another line stands there.
@@ -259,7 +263,7 @@ pub fn play<R: Runtime>(rt: R, script: &str) -> Result<String, Fault> {
         return Err(Fault::Memory);
     };
     let builder = builder_of(&board, config, most)?;
-    let stage = Stage {
+    let setup = Setup {
         alloc,
         copy: clock.try_clone()?,
         clock,
@@ -271,5 +275,5 @@ pub fn play<R: Runtime>(rt: R, script: &str) -> Result<String, Fault> {
         return Ok(format!(in alloc; "not a configuration\n")?);
     }
     let blank = Blank::new(settings.max_size as u64);
-    play_on::<R, Brand>(rt, blank, builder, beginning, stage, others)
+    play_on::<R, Brand>(rt, blank, builder, beginning, setup, others)
 }

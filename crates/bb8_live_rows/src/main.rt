@@ -16,7 +16,7 @@ mod asked;
 mod laying;
 mod play;
 mod preparing;
-mod slots;
+mod shelf;
 #[cfg(test)]
 mod tests;
 

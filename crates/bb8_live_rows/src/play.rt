@@ -1,13 +1,14 @@
 //! What each line of a script does.
 
-use crate::answer::{Answer, error_of, poll_of, refusal_of};
+use crate::answer::{LineAnswer, error_of, poll_of, refusal_of};
 use crate::asked::{Asked, facts_of};
-use crate::slots::Slots;
-use bb8::{DriverCalls, Moment, SetClock};
+use crate::laying::LiveDriver;
+use crate::shelf::Shelf;
+use bb8::{DriverCalls, Moment, PoolParts, Runtime, SetClock, Turn};
 use bb8_runner::fault::Fault;
 use bb8_runner::grammar::{fields_of, number};
 use bb8_runner::text::output;
-use bb8_trials::{ALWAYS, Board, Connection, Course, connection_on};
+use bb8_trials::{ALWAYS, Board, Course, ServerConnection, connection_on};
 use futures::task::Poll;
 use futures::test::MockTask;
 use std::alloc::{AllocError, Global};
@@ -16,7 +17,7 @@ use std::sync::Arc;
 
 /// What stands around a script's pool.
 #[derive(Drop)]
-pub struct Stage {
+pub struct Setup {
     pub alloc: Global,
     pub clock: SetClock,
     /// The same clock by a handle of its own.
@@ -26,7 +27,7 @@ pub struct Stage {
 }
 
 /// The lines of a script that set how the server answers. None where it is none of these.
-pub fn set_board(board: &Board, verb: &str, word: &str) -> Option<Answer> {
+pub fn set_board(board: &Board, verb: &str, word: &str) -> Option<LineAnswer> {
     let course = match word {
         "passes" => Some(Course::Passes),
         "lasts" => Some(Course::Lasts),
@@ -43,58 +44,62 @@ pub fn set_board(board: &Board, verb: &str, word: &str) -> Option<Answer> {
         "breaks" => board.breaks.set(number(word)?),
         _ => return None,
     }
-    Some(Answer::Done)
+    Some(LineAnswer::Done)
 }
 
 /// A script as it is played: all that it has, each under a number.
 #[derive(Drop)]
-pub struct Play<A: Asked, D: DriverCalls + Drop> {
+pub struct Play<A: Asked, R: Runtime, L: PoolParts> {
     asked: A,
-    drivers: Slots<D>,
-    gets: Slots<A::Get>,
-    guards: Slots<A::Guard>,
-    openings: Slots<A::Dedicated>,
-    connections: Slots<Connection>,
-    stage: Stage,
+    drivers: Shelf<LiveDriver<R, L>>,
+    gets: Shelf<A::Get>,
+    guards: Shelf<A::Guard>,
+    openings: Shelf<A::Dedicated>,
+    connections: Shelf<ServerConnection>,
+    setup: Setup,
 }
 
-impl<A: Asked, D: DriverCalls + Drop> Play<A, D> {
-    pub fn new(asked: A, drivers: Slots<D>, stage: Stage) -> Result<Play<A, D>, AllocError> {
-        let alloc = stage.alloc;
+impl<A: Asked, R: Runtime, L: PoolParts> Play<A, R, L> {
+    pub fn new(
+        asked: A,
+        drivers: Shelf<LiveDriver<R, L>>,
+        setup: Setup,
+    ) -> Result<Play<A, R, L>, AllocError> {
+        let alloc = setup.alloc;
         Ok(Play {
             asked,
             drivers,
-            gets: Slots::new(alloc)?,
-            guards: Slots::new(alloc)?,
-            openings: Slots::new(alloc)?,
-            connections: Slots::new(alloc)?,
-            stage,
+            gets: Shelf::new(alloc)?,
+            guards: Shelf::new(alloc)?,
+            openings: Shelf::new(alloc)?,
+            connections: Shelf::new(alloc)?,
+            setup,
         })
     }
 
     /// Does what a line says, and writes its answer, if it has one.
     pub fn line(&mut self, line: &str, written: &mut String) -> Result<(), Fault> {
-        let alloc = self.stage.alloc;
+        let alloc = self.setup.alloc;
         match self
             .answer(fields_of(alloc, line)?.as_slice())
-            .unwrap_or(Answer::Unfit)
+            .unwrap_or(LineAnswer::Unfit)
         {
-            Answer::Done => {}
-            Answer::State(state) => written.push_str(output(alloc, &[], state)?.as_str())?,
+            LineAnswer::Done => {}
+            LineAnswer::State(state) => written.push_str(output(alloc, &[], state)?.as_str())?,
             answer => writeln!(written, "{answer}")?,
         }
         Ok(())
     }
 
-    fn answer(&mut self, fields: &[&str]) -> Option<Answer> {
+    fn answer(&mut self, fields: &[&str]) -> Option<LineAnswer> {
         match fields {
-            ["build"] => Some(poll_of(self.asked.build(&self.stage.task)?)),
-            ["leave", "building"] => self.asked.cancel_building().map(|_| Answer::Done),
+            ["build"] => Some(poll_of(self.asked.build(&self.setup.task)?)),
+            ["leave", "building"] => self.asked.cancel_building().map(|_| LineAnswer::Done),
             [verb] => match self.counted(verb) {
                 None => self.by_handle(verb, 0),
                 told => told,
             },
-            [verb, word] => match set_board(&self.stage.board, verb, word) {
+            [verb, word] => match set_board(&self.setup.board, verb, word) {
                 None => self.numbered(verb, number(word)?),
                 set => set,
             },
@@ -104,46 +109,46 @@ impl<A: Asked, D: DriverCalls + Drop> Play<A, D> {
     }
 
     /// How many openings were begun, connections dropped, and errors taken; whether the script's task was woken.
-    fn counted(&self, verb: &str) -> Option<Answer> {
-        let board = &self.stage.board;
+    fn counted(&self, verb: &str) -> Option<LineAnswer> {
+        let board = &self.setup.board;
         match verb {
-            "begun" => Some(Answer::Number(board.begun.get())),
-            "closed" => Some(Answer::Number(board.closed.get())),
-            "errors" => Some(Answer::Number(board.errors.get())),
-            "woken" => Some(yes_or_no(self.stage.task.is_woken())),
+            "begun" => Some(LineAnswer::Number(board.begun.get())),
+            "closed" => Some(LineAnswer::Number(board.closed.get())),
+            "errors" => Some(LineAnswer::Number(board.errors.get())),
+            "woken" => Some(yes_or_no(self.setup.task.is_woken())),
             _ => None,
         }
     }
 
     /// What a handle tells.
-    fn by_handle(&mut self, verb: &str, handle: u64) -> Option<Answer> {
+    fn by_handle(&mut self, verb: &str, handle: u64) -> Option<LineAnswer> {
         match verb {
-            "state" => self.asked.state(handle).map(Answer::State),
-            "sizes" => self.asked.state(handle).map(Answer::Sizes),
-            "gets" => self.asked.state(handle).map(Answer::Gets),
-            "serves" => self.asked.serves(&self.stage.task, handle).map(yes_or_no),
-            "clone" => self.asked.clone_to(handle).map(|_| Answer::Done),
-            "leave" => self.asked.leave(handle).map(|_| Answer::Done),
+            "state" => self.asked.state(handle).map(LineAnswer::State),
+            "sizes" => self.asked.state(handle).map(LineAnswer::Sizes),
+            "gets" => self.asked.state(handle).map(LineAnswer::Gets),
+            "serves" => self.asked.serves(&self.setup.task, handle).map(yes_or_no),
+            "clone" => self.asked.clone_to(handle).map(|_| LineAnswer::Done),
+            "leave" => self.asked.leave(handle).map(|_| LineAnswer::Done),
             _ => None,
         }
     }
 
     /// The lines of one number, that of a get or its guard for most.
-    fn numbered(&mut self, verb: &str, n: u64) -> Option<Answer> {
+    fn numbered(&mut self, verb: &str, n: u64) -> Option<LineAnswer> {
         match verb {
-            "clock" => self.stage.clock.set(Moment(n)),
-            "copy" => self.stage.copy.set(Moment(n)),
+            "clock" => self.setup.clock.set(Moment(n)),
+            "copy" => self.setup.copy.set(Moment(n)),
             "poll" => return self.poll(n),
             "lend" => return self.lend(n),
             "try" => return self.try_get(n),
             "drop" => drop(self.gets.take(n)?),
             "cancel" => self.asked.cancel(self.gets.take(n)?),
-            "guard" => return Some(Answer::Connection(A::facts(self.guards.get(n)?))),
+            "guard" => return Some(LineAnswer::Connection(A::facts(self.guards.get(n)?))),
             "spoil" => A::spoil(self.guards.get_mut(n)?),
             "return" => drop(self.guards.take(n)?),
             "rest" => drop(self.drivers.take(n)?),
             "drive" => {
-                let _ = self.drivers.get_mut(0)?.turn(Moment(n));
+                let _ = self.turn(n, 0)?;
             }
             "dedicated" => self.openings.put(n, self.asked.dedicated()?)?,
             "open" => return self.open(n),
@@ -151,50 +156,50 @@ impl<A: Asked, D: DriverCalls + Drop> Play<A, D> {
             "get" | "own" | "add" | "turn" => return self.paired(verb, n, 0),
             _ => return self.by_handle(verb, n),
         }
-        Some(Answer::Done)
+        Some(LineAnswer::Done)
     }
 
     /// The lines of two numbers, of which the second is that of a handle or a driver for most.
-    fn paired(&mut self, verb: &str, n: u64, m: u64) -> Option<Answer> {
+    fn paired(&mut self, verb: &str, n: u64, m: u64) -> Option<LineAnswer> {
         match verb {
             "get" => self.gets.put(n, self.asked.get(m)?)?,
             "own" => self.gets.put(n, self.asked.get_owned(m)?)?,
             "make" => self.make(n, m, false)?,
             "spoiled" => self.make(n, m, true)?,
             "add" => return self.add(n, m),
-            "turn" => return Some(Answer::Turned(self.drivers.get_mut(m)?.turn(Moment(n)))),
+            "turn" => return Some(LineAnswer::Turned(self.turn(n, m)?)),
             _ => return None,
         }
-        Some(Answer::Done)
+        Some(LineAnswer::Done)
     }
 
     /// Polls a get. Its guard goes under the get's number.
-    fn poll(&mut self, n: u64) -> Option<Answer> {
+    fn poll(&mut self, n: u64) -> Option<LineAnswer> {
         let get = self.gets.get_mut(n)?;
-        match self.asked.poll(&self.stage.task, get) {
-            Poll::Pending => Some(Answer::Pending),
+        match self.asked.poll(&self.setup.task, get) {
+            Poll::Pending => Some(LineAnswer::Pending),
             Poll::Ready(Err(error)) => Some(error_of(error)),
             Poll::Ready(Ok(guard)) => self.serve(n, guard),
         }
     }
 
-    fn serve(&mut self, n: u64, guard: A::Guard) -> Option<Answer> {
+    fn serve(&mut self, n: u64, guard: A::Guard) -> Option<LineAnswer> {
         let (number, _, _) = A::facts(&guard);
         self.guards.put(n, guard)?;
-        Some(Answer::Served(number))
+        Some(LineAnswer::Served(number))
     }
 
     /// A get that waits for nothing. Its guard goes under this number.
-    fn try_get(&mut self, n: u64) -> Option<Answer> {
+    fn try_get(&mut self, n: u64) -> Option<LineAnswer> {
         match self.asked.try_get()? {
-            Ok(None) => Some(Answer::Nothing),
+            Ok(None) => Some(LineAnswer::Nothing),
             Ok(Some(guard)) => self.serve(n, guard),
             Err(error) => Some(error_of(error)),
         }
     }
 
     /// A get that is dropped after its first poll.
-    fn lend(&mut self, n: u64) -> Option<Answer> {
+    fn lend(&mut self, n: u64) -> Option<LineAnswer> {
         self.gets.put(n, self.asked.get(0)?)?;
         let answer = self.poll(n);
         drop(self.gets.take(n)?);
@@ -202,31 +207,36 @@ impl<A: Asked, D: DriverCalls + Drop> Play<A, D> {
     }
 
     /// Polls a dedicated opening. Its connection goes under its number.
-    fn open(&mut self, n: u64) -> Option<Answer> {
+    fn open(&mut self, n: u64) -> Option<LineAnswer> {
         let opening = self.openings.get_mut(n)?;
-        match self.asked.poll_dedicated(&self.stage.task, opening) {
-            Poll::Pending => Some(Answer::Pending),
-            Poll::Ready(Err(error)) => Some(Answer::Refused(error.0)),
+        match self.asked.poll_dedicated(&self.setup.task, opening) {
+            Poll::Pending => Some(LineAnswer::Pending),
+            Poll::Ready(Err(error)) => Some(LineAnswer::Refused(error.0)),
             Poll::Ready(Ok(connection)) => {
                 let facts = facts_of(&connection);
                 self.connections.put(n, connection)?;
-                Some(Answer::Connection(facts))
+                Some(LineAnswer::Connection(facts))
             }
         }
     }
 
+    /// A turn of a driver at this moment.
+    fn turn(&mut self, moment: u64, driver: u64) -> Option<Turn> {
+        Some(DriverCalls::turn(self.drivers.get_mut(driver)?, Moment(moment)))
+    }
+
     /// A connection that no opening brought.
     fn make(&mut self, n: u64, number: u64, is_broken: bool) -> Option<()> {
-        let mut connection = connection_on(&self.stage.board, number).ok()?;
+        let mut connection = connection_on(&self.setup.board, number).ok()?;
         connection.is_broken = is_broken;
         self.connections.put(n, connection)
     }
 
     /// Adds a connection by a handle. One that is refused is there again.
-    fn add(&mut self, n: u64, handle: u64) -> Option<Answer> {
+    fn add(&mut self, n: u64, handle: u64) -> Option<LineAnswer> {
         let connection = self.connections.take(n)?;
         match self.asked.add(handle, connection)? {
-            Ok(()) => Some(Answer::Added),
+            Ok(()) => Some(LineAnswer::Added),
             Err(error) => {
                 let (answer, connection) = refusal_of(error);
                 self.connections.put(n, connection)?;
@@ -236,6 +246,6 @@ impl<A: Asked, D: DriverCalls + Drop> Play<A, D> {
     }
 }
 
-fn yes_or_no(yes: bool) -> Answer {
-    if yes { Answer::Yes } else { Answer::No }
+fn yes_or_no(yes: bool) -> LineAnswer {
+    if yes { LineAnswer::Yes } else { LineAnswer::No }
 }

@@ -1,7 +1,7 @@
 //! A customizer that a script sets.
 
 use bb8::{CustomizeConnection, Moment};
-use bb8_trials::{Connection, Number, Refused};
+use bb8_trials::{Number, Refused, ServerConnection};
 use futures::task::Poll;
 
 /// The error of a preparation.
@@ -15,16 +15,16 @@ pub struct Preparer {
     pub prepared: Number,
 }
 
-impl CustomizeConnection<Connection, Refused> for Preparer {
+impl CustomizeConnection<ServerConnection, Refused> for Preparer {
     type Acquiring = bool;
 
-    fn on_acquire(&self, _connection: &mut Connection) -> bool {
+    fn on_acquire(&self, _connection: &mut ServerConnection) -> bool {
         self.most.is_none()
     }
 
     fn poll_acquire(
         &self,
-        connection: &mut Connection,
+        connection: &mut ServerConnection,
         acquiring: &mut bool,
         _moment: Moment,
     ) -> Poll<Result<(), Refused>> {

@@ -16,16 +16,14 @@ use bb8::{
     AddError, Builder, Config, ManageConnection, Memory, Moment, NopCustomizer, NopErrorSink, Pool,
     PoolParts, QueueStrategy, RunError, Runtime, SetClock,
 };
+use bb8_trials::Refused;
 use futures::task::Poll;
 use futures::test::MockTask;
-use std::error::Error;
-use std::fmt;
 use std::fmt::Debug;
 use std::marker::Brand;
 use std::process::Abort;
 use std::sync::ledger::Blank;
 use std::test::Fail;
-use std::thread::Threads;
 use std::time::Duration;
 
 /// Ends the test where what was found is not what is wanted, and prints both.
@@ -34,12 +32,12 @@ fn assert_equal<T: PartialEq + Debug + Drop>(rt: &impl Abort, found: T, wanted: 
 }
 
 /// A pool whose connections are numbers.
-type NumberPool<R, L> = Pool<SlowManager, NopErrorSink, NopCustomizer, SetClock, R, L>;
+type SlowPool<R, L> = Pool<SlowManager, NopErrorSink, NopCustomizer, SetClock, R, L>;
 
 /// A pool of numbers, the clock that it reads, and a task that polls.
 #[derive(Drop)]
-struct Numbers<R: Runtime, L: PoolParts> {
-    pool: NumberPool<R, L>,
+struct NumberTrial<R: Runtime, L: PoolParts> {
+    pool: SlowPool<R, L>,
     clock: SetClock,
     task: MockTask,
 }
@@ -50,11 +48,10 @@ enum Trial {
     Guards,
     ListOfGuards,
     ListOfAges,
-    TwoThreads,
 }
 
 /// A trial on a pool that checks no connection.
-fn tries<R: Runtime + Abort + Threads, L: PoolParts>(
+fn tries<R: Runtime + Abort, L: PoolParts>(
     rt: R,
     blank: Blank,
     max_size: u32,
@@ -69,17 +66,16 @@ fn tries<R: Runtime + Abort + Threads, L: PoolParts>(
         .test_on_check_out(false)
         .build_unchecked(SlowManager, clock.try_clone()?, rt, blank)?;
     let task = MockTask::new(&rt)?;
-    let numbers: Numbers<R, L> = Numbers { pool, clock, task };
+    let numbers: NumberTrial<R, L> = NumberTrial { pool, clock, task };
     match trial {
         Trial::Guards => handles::derefs(rt, numbers),
         Trial::ListOfGuards => guards::gathers(rt, numbers),
         Trial::ListOfAges => guards::keeps_the_young(rt, numbers),
-        Trial::TwoThreads => threads::shares_one(rt, numbers),
     }
 }
 
 /// The same, with parts of its own.
-fn try_numbers<R: Runtime + Abort + Threads>(rt: R, max_size: u32, trial: Trial) -> Result<(), Fail>
+fn try_numbers<R: Runtime + Abort>(rt: R, max_size: u32, trial: Trial) -> Result<(), Fail>
     requires { 0 < max_size }
 {
     tries::<R, Brand>(rt, Blank::new(max_size as u64), max_size, trial)
@@ -88,17 +84,6 @@ fn try_numbers<R: Runtime + Abort + Threads>(rt: R, max_size: u32, trial: Trial)
 /// Opens connection 7 at the moment 5, finds even connections valid, and calls 0 broken.
 #[derive(Drop)]
 struct SlowManager;
-
-#[derive(Clone, Copy, Debug, PartialEq, Eq)]
-struct Refused(u8);
-
-impl fmt::Display for Refused {
-    fn fmt<W: fmt::Write>(&self, f: &mut fmt::Formatter<W>) -> fmt::Result {
-        write!(f, "error {}", self.0)
-    }
-}
-
-impl Error for Refused {}
 
 impl ManageConnection for SlowManager {
     type Connection = u64;
@@ -111,7 +96,8 @@ impl ManageConnection for SlowManager {
 
     ghost connect_answers = { λ _ _ moment answer _. moment.0 < 5 → answer ≡ Pending };
 
-    ghost breaks = { λ _ connection answer after. (answer ≡ (connection == 0)) × (after ≡ connection) };
+    ghost breaks = { λ _ connection answer after.
+        (answer ≡ (connection == 0)) × (after ≡ connection) };
 
     fn connect(&self) {}
 
@@ -190,7 +176,7 @@ fn sets_all(rt: HostRuntime) {
 #[test]
 fn prints_errors(rt: HostRuntime) -> Result<(), Fail> {
     let run_errors = [
-        (RunError::from(Refused(3)), "error 3"),
+        (RunError::from(Refused(3)), "refused 3"),
         (RunError::TimedOut, "Timed out in bb8"),
         (RunError::Memory, "No memory in bb8"),
         (RunError::Exhausted, "Numbers used up in bb8"),

@@ -10,6 +10,8 @@ use Rattle.bb8_core.specs.declared.answers.PutBackAnswer.{PutBackAnswer}
 use Rattle.bb8_core.specs.declared.answers.PutBackAnswer.TheVariants as put_back
 use Rattle.bb8_gets.specs.declared.home.Returned.{Returned}
 use Rattle.bb8_gets.specs.declared.home.Unfit.{Unfit}
+use Rattle.bb8_gets.specs.Steps as step
+use Rattle.bb8_lock.specs.SectionSteps as section
 
 -- What the caller of an adding is told: where no handle is alive there is no capacity.
 abbrev pub IsTold : {C : Type 0} → Result (AddAnswer C) C → Result (Unit {0}) (AddError C) → Type 0
@@ -41,25 +43,25 @@ module _ {C E V P X : Type 0} (home : HomeOf X C P) (sections : SectionsOf X C P
   abbrev pub Returns : Taken C P → X → X → Type 0
   Returns taken x x' =
       (r : Returned C P) × (x1 : X) × Asks outside taken x r x1
-      × ((a : Result (PutBackAnswer C) C) × (x2 : X) × Section (λ s at s'. sections.puts_back s at r a s') x1 x2 × AfterReturn outside a x2 x')
+      × ((a : Result (PutBackAnswer C) C) × (x2 : X) × Section (λ s at s'. sections.makes s at (section.PutsBack r a) s') x1 x2 × AfterReturn outside a x2 x')
 
   -- a connection is added: it is asked whether it is broken, and the home takes or refuses what is left of it
   abbrev pub AddsOutside : C → X → Result (Unit {0}) (AddError C) → X → Type 0
   AddsOutside conn x result x' =
       (broken : Bool) × (after : C) × (x1 : X) × outside.breaks x conn broken after x1
-      × ((a : Result (AddAnswer C) C) × Section (λ s at s'. sections.adds s at after broken a s') x1 x' × IsTold a result)
+      × ((a : Result (AddAnswer C) C) × Section (λ s at s'. sections.makes s at (section.Adds after broken a) s') x1 x' × IsTold a result)
 
   -- the home tells of itself
   abbrev pub Shows : X → State → X → Type 0
-  Shows x state x' = Section (λ s at s'. sections.shows s at state s') x x'
+  Shows x state x' = Section (λ s at s'. sections.makes s at (section.Shows state) s') x x'
 
   -- one handle more is counted, or refused
   abbrev pub Joins : X → Joining → X → Type 0
-  Joins x a x' = Section (λ s at s'. sections.joins s at a s') x x'
+  Joins x a x' = Section (λ s at s'. sections.makes s at (section.Joins a) s') x x'
 
   -- a handle leaves
   abbrev pub HandleLeaves : X → X → Type 0
-  HandleLeaves x x' = (a : Result LeaveAnswer Unfit) × Section (λ s at s'. sections.leaves s at a s') x x'
+  HandleLeaves x x' = (a : Result LeaveAnswer Unfit) × Section (λ s at s'. sections.makes s at (section.Leaves a) s') x x'
 
   -- a guard's connection comes back, and then its handle leaves
   abbrev pub ReturnsAndLeaves : Taken C P → X → X → Type 0
@@ -80,7 +82,7 @@ module _ {C E V P X : Type 0} (home : HomeOf X C P) (sections : SectionsOf X C P
   abbrev pub TakesNow : ℕ → X → Result (Option (Taken C P)) (RunError E) → X → Type 0
   TakesNow timeout x result x' =
       (at : Moment) × (x1 : X) × outside.tells x at x1
-      × ((seen : Looked) × (x2 : X) × home.looks x1 at seen x2
-      × ((state : State) × (x3 : X) × sections.shows x2 seen.moment state x3
+      × ((seen : Looked) × (x2 : X) × home.steps x1 at (step.Looks seen) x2
+      × ((state : State) × (x3 : X) × sections.makes x2 seen.moment (section.Shows state) x3
       × (state.idle_connections ≡ 0 → (result ≡ Ok None) × home.releases x3 x')
       × (0 < state.idle_connections → TriesOnce seen.moment timeout x3 result x')))

@@ -4,10 +4,12 @@ pub mod Linked
 pub mod Opening
 pub mod Parts
 pub mod Sections
+pub mod SectionSteps
 pub mod Serving
 pub mod Turning
 pub use Rattle.bb8_gets.specs.Homes
 pub use Rattle.bb8_gets.specs.Polls
+pub use Rattle.bb8_gets.specs.Steps
 pub use Rattle.bb8_gets.specs.Told
 pub use Rattle.bb8_types.specs.Errors
 pub use Rattle.bb8_types.specs.Figures

@@ -1,38 +1,27 @@
 -- What gets, guards and handles do on a pool: the tables at what a pool's lock holds, while it is held, and at the pool's own manager, error sink
 -- and clock.
-use Rattle.std.specs.Prelude.{◌≡◌, ◌≤◌, ℕ, false, None, Option, Some, Result, Ok, Err, IfOk, ⊤}
-use Rattle.bb8_lock.specs.Words.{MutexGuard, DebugOf, Poll, Ready, Pending, Moment, AddError, RunError, State, ManagerOf, settings_of, add_told, begin_told, checked_err_told, give_up_told, leave_told, look_told, put_back_told, reason_of, GivesBack, Refuses, HomeOf, Taken, Joined, OutsideOf, Settled, Stage, Joining, SectionsOf, Locked, Part, PartsOf, LinkHome, Shared, StepsIn, answered, passed_told, tried_told, HandsBackHeld, HandsBackInvalid, HandsOutOf, GetPolls, Cancels}
+use Rattle.std.specs.Prelude.{◌≡◌, ℕ, None, Option, Some, Result, Ok, Err, ⊤}
+use Rattle.bb8_lock.specs.Words.{MutexGuard, DebugOf, Poll, Ready, Pending, Moment, AddError, RunError, State, ManagerOf, SinkOf, CustomizerOf, ClockOf, settings_of, HomeOf, Taken, Joined, OutsideOf, Settled, Stage, Joining, SectionsOf, Locked, Part, PartsOf, LinkHome, Shared, StepsIn, answered, GetPolls, Cancels}
 use Rattle.std.specs.Sync.Mutex.{mutex_guard_value}
-use Rattle.bb8_types.specs.Figures.{figures_of}
-use Rattle.bb8_ledger.specs.Acts as acts
 use Rattle.bb8_ledger.specs.Answers as answers
 use Rattle.bb8_gets.specs.declared.calls.Calls.{Calls}
 use Rattle.bb8_gets.specs.declared.state.Stage.TheVariants.{Fresh}
 use Rattle.bb8_lock.specs.Chains.{AddsOutside, CancelsAndLeaves, Joins, HandleLeaves, Returns, ReturnsAndLeaves, Shows, TakesNow}
-use Rattle.bb8_lock.specs.Sections.{joining_told, returned, IsSorted, OnFit}
+use Rattle.bb8_gets.specs.Steps.{StepsBy}
+use Rattle.bb8_lock.specs.Sections.{SectionsBy}
 
 -- The relations of what a pool's lock holds as a home: each step leads from the state that stands there to the next one. What the answer is
 -- follows from that very state, which keeps the limits.
 abbrev pub locked_home : {C L : Type 0} {l : PartsOf L} → HomeOf (Locked C L l) C (Part L)
 locked_home {l = l} = record {
   releases = λ h h'. h' ≡ h;
-  looks = λ h at seen h'. StepsIn l.settings h.core at.0 acts.Look (look_told seen) h'.core;
-  begins = λ h at b h'. StepsIn l.settings h.core at.0 acts.Begin (answered begin_told b) h'.core;
-  tries = λ h at get t h'. StepsIn l.settings h.core at.0 (acts.Try get.number) (tried_told t) h'.core × HandsOutOf h.core t;
-  passes = λ h at get key part a h'. StepsIn l.settings h.core at.0 (acts.CheckedOk get.number) (passed_told h.core.records.next a) h'.core;
-  fails = λ h at get r a h'. StepsIn l.settings h.core at.0 (acts.CheckedErr get.number r.broken) (answered checked_err_told a) h'.core × HandsBackInvalid r.taken.connection a;
-  gives_up = λ h at get reason a h'. StepsIn l.settings h.core at.0 (acts.GiveUp get.number (reason_of reason) None false) (answered give_up_told a) h'.core;
-  gives_back = λ h at get reason r a h'. StepsIn l.settings h.core at.0 (acts.GiveUp get.number (reason_of reason) (Some r.taken.connection) r.broken) (answered give_up_told a) h'.core × HandsBackHeld r.taken.connection a;
+  steps = λ h at s h'. StepsBy (StepsIn l.settings) h.core at s h'.core;
 }
 
 -- the same of the sections
 abbrev pub locked_sections : {C L : Type 0} {l : PartsOf L} → SectionsOf (Locked C L l) C (Part L)
 locked_sections {l = l} = record {
-  puts_back = λ h at r a h'. StepsIn l.settings h.core at.0 (acts.PutBack r.taken.key.number r.taken.connection r.broken) (returned (put_back_told r.taken.key.number) a) h'.core × OnFit (GivesBack r.taken.connection) (λ c. c ≡ r.taken.connection) a;
-  adds = λ h at conn broken a h'. StepsIn l.settings h.core at.0 (acts.Add conn broken) (returned add_told a) h'.core × OnFit (Refuses conn) (λ same. same ≡ conn) a × IfOk a (IsSorted broken);
-  shows = λ h at state h'. StepsIn l.settings h.core at.0 acts.State (answers.Shown (figures_of state)) h'.core × (state.connections ≤ l.settings.max_size) × (state.idle_connections ≤ state.connections);
-  joins = λ h at a h'. StepsIn l.settings h.core at.0 acts.Join (joining_told a) h'.core;
-  leaves = λ h at a h'. StepsIn l.settings h.core at.0 acts.Leave (answered leave_told a) h'.core;
+  makes = λ h at s h'. SectionsBy l.settings h.core at s h'.core;
 }
 
 module _ {T : Type 0} where
@@ -55,44 +44,24 @@ module _ {T : Type 0} where
 abbrev pub link_home : {C P R T : Type 0} → HomeOf T C P → HomeOf (LinkHome T R) C P
 link_home home = record {
   releases = λ h h'. h'.held ≡ None;
-  looks = λ h at seen h'. LeadsHeld (λ t t'. home.looks t at seen t') h.held h'.held;
-  begins = λ h at b h'. LeadsHeld (λ t t'. home.begins t at b t') h.held h'.held;
-  tries = λ h at get a h'. LeadsHeld (λ t t'. home.tries t at get a t') h.held h'.held;
-  passes = λ h at get key part a h'. LeadsHeld (λ t t'. home.passes t at get key part a t') h.held h'.held;
-  fails = λ h at get returned a h'. LeadsHeld (λ t t'. home.fails t at get returned a t') h.held h'.held;
-  gives_up = λ h at get reason a h'. LeadsHeld (λ t t'. home.gives_up t at get reason a t') h.held h'.held;
-  gives_back = λ h at get reason returned a h'. LeadsHeld (λ t t'. home.gives_back t at get reason returned a t') h.held h'.held;
+  steps = λ h at s h'. LeadsHeld (λ t t'. home.steps t at s t') h.held h'.held;
 }
 
 abbrev pub link_sections : {C P R T : Type 0} → SectionsOf T C P → SectionsOf (LinkHome T R) C P
 link_sections sections = record {
-  puts_back = λ h at returned a h'. LeadsHeld (λ t t'. sections.puts_back t at returned a t') h.held h'.held;
-  adds = λ h at c broken a h'. LeadsHeld (λ t t'. sections.adds t at c broken a t') h.held h'.held;
-  shows = λ h at state h'. LeadsHeld (λ t t'. sections.shows t at state t') h.held h'.held;
-  joins = λ h at a h'. LeadsHeld (λ t t'. sections.joins t at a t') h.held h'.held;
-  leaves = λ h at a h'. LeadsHeld (λ t t'. sections.leaves t at a t') h.held h'.held;
+  makes = λ h at s h'. LeadsHeld (λ t t'. sections.makes t at s t') h.held h'.held;
 }
 
 -- The relations of a home and of calls outside as one value: a step of the home leaves the calls as they were, and a call leaves the home.
 abbrev pub joined_home : {C P W H : Type 0} → HomeOf H C P → HomeOf (Joined W H) C P
 joined_home home = record {
   releases = λ x x'. home.releases x.home x'.home × (x'.outside ≡ x.outside);
-  looks = λ x at seen x'. home.looks x.home at seen x'.home × (x'.outside ≡ x.outside);
-  begins = λ x at b x'. home.begins x.home at b x'.home × (x'.outside ≡ x.outside);
-  tries = λ x at get a x'. home.tries x.home at get a x'.home × (x'.outside ≡ x.outside);
-  passes = λ x at get key part a x'. home.passes x.home at get key part a x'.home × (x'.outside ≡ x.outside);
-  fails = λ x at get r a x'. home.fails x.home at get r a x'.home × (x'.outside ≡ x.outside);
-  gives_up = λ x at get reason a x'. home.gives_up x.home at get reason a x'.home × (x'.outside ≡ x.outside);
-  gives_back = λ x at get reason r a x'. home.gives_back x.home at get reason r a x'.home × (x'.outside ≡ x.outside);
+  steps = λ x at s x'. home.steps x.home at s x'.home × (x'.outside ≡ x.outside);
 }
 
 abbrev pub joined_sections : {C P W H : Type 0} → SectionsOf H C P → SectionsOf (Joined W H) C P
 joined_sections sections = record {
-  puts_back = λ x at r a x'. sections.puts_back x.home at r a x'.home × (x'.outside ≡ x.outside);
-  adds = λ x at c broken a x'. sections.adds x.home at c broken a x'.home × (x'.outside ≡ x.outside);
-  shows = λ x at state x'. sections.shows x.home at state x'.home × (x'.outside ≡ x.outside);
-  joins = λ x at a x'. sections.joins x.home at a x'.home × (x'.outside ≡ x.outside);
-  leaves = λ x at a x'. sections.leaves x.home at a x'.home × (x'.outside ≡ x.outside);
+  makes = λ x at s x'. sections.makes x.home at s x'.home × (x'.outside ≡ x.outside);
 }
 
 abbrev pub joined_calls : {C E V W H : Type 0} → OutsideOf W C E V → OutsideOf (Joined W H) C E V
@@ -112,7 +81,8 @@ pub data Answers {S A : Type 0} (step : S → Poll A → S → Type 0) : S → A
   later : (s t : S) (x : A) → step s Pending t → Answers step t x → Answers step s x
 
 -- What the gets, guards and handles of a pool do, which share this, by any calls outside.
-module _ {M S Z K R L C E N V W : Type 0} {m : ManagerOf M C E N V} {d : DebugOf E} {l : PartsOf L} (outside : OutsideOf W C E V) (shared : Shared M S Z K R L C E N V m d l) where
+module _ {G L M S Z K R C E N V A W : Type 0} {m : ManagerOf M C E N V} {d : DebugOf E} {s : SinkOf S E} {z : CustomizerOf Z C E A} {k : ClockOf K} {l : PartsOf L}
+    (outside : OutsideOf W C E V) (shared : Shared G L M S Z K R C E N V A m d s z k l) where
   -- the calls outside and the pool's lock, as one value
   abbrev Linked : Type 0
   Linked = Joined W (LinkHome (Locked C L l) R)
@@ -182,16 +152,17 @@ module _ {M S Z K R L C E N V W : Type 0} {m : ManagerOf M C E N V} {d : DebugOf
   LinkShows state w = OnLock (λ x x'. Shows gets sections (joined_calls outside) x state x') w
 
 -- What they do by the pool's own manager, error sink and clock, whose relations these are.
-module _ {M S Z K R L C E N V : Type 0} {m : ManagerOf M C E N V} {d : DebugOf E} {l : PartsOf L} (sinks : S → E → Type 0) (tells : K → Moment → Type 0) (shared : Shared M S Z K R L C E N V m d l) where
+module _ {G L M S Z K R C E N V A : Type 0} {m : ManagerOf M C E N V} {d : DebugOf E} {s : SinkOf S E} {z : CustomizerOf Z C E A} {k : ClockOf K} {l : PartsOf L}
+    (shared : Shared G L M S Z K R C E N V A m d s z k l) where
   -- the relations of the calls of a pool's manager, error sink and clock
   abbrev pub pool_calls : OutsideOf (Calls M S K) C E V
   pool_calls = record {
-    tells = λ calls moment after. tells calls.clock.now moment × (after ≡ calls);
+    tells = λ calls moment after. k.tells calls.clock.now moment × (after ≡ calls);
     checks = λ calls c v c' after. m.checks calls.manager.now c v c' × (after ≡ calls);
     check_answers = λ calls c v moment answer c' v' after. m.check_answers calls.manager.now c v moment answer c' v' × (after ≡ calls);
     ends_check = λ calls _ after. after ≡ calls;
     breaks = λ calls c broken c' after. m.breaks calls.manager.now c broken c' × (after ≡ calls);
-    sinks = λ calls e after. sinks calls.sink.now e × (after ≡ calls);
+    sinks = λ calls e after. s.sinks calls.sink.now e × (after ≡ calls);
     lets_go = λ calls _ after. after ≡ calls;
   }
 

@@ -1,6 +1,6 @@
 -- Tasks on a pool's lock, which is taken for each of their steps alone, and by the pool's own manager, customizer, error sink and clock.
 use Rattle.std.specs.Prelude.{◌≡◌, None, Option, Result, List}
-use Rattle.bb8_lock.specs.Words.{as_nanos, MutexGuard, DebugOf, Poll, Moment, CustomizerOf, ManagerOf, look_told, Joined, StepsIn, OpenerOf, PoolOpener, ReportsOf, joined_opener, joined_reports, joined_tasks, Locked, PartsOf, LinkHome, Shared}
+use Rattle.bb8_lock.specs.Words.{as_nanos, MutexGuard, DebugOf, Poll, Moment, CustomizerOf, ManagerOf, SinkOf, ClockOf, look_told, Joined, StepsIn, OpenerOf, PoolOpener, ReportsOf, joined_opener, joined_reports, joined_tasks, Locked, PartsOf, LinkHome, Shared}
 use Rattle.bb8_ledger.specs.Acts as acts
 use Rattle.bb8_tasks.specs.declared.dedicated.Dedicated.{Dedicated}
 use Rattle.bb8_tasks.specs.declared.home.Home.{Ghosts as HomeOf}
@@ -33,8 +33,8 @@ link_tasks home = record {
 }
 
 -- What the futures of a pool do with its tasks, of which handles and guards share this, by any calls outside.
-module _ {M S Z K R L C E N V A W : Type 0} {m : ManagerOf M C E N V} {d : DebugOf E} {l : PartsOf L} (opener : OpenerOf W C E N A) (reports : ReportsOf W E)
-    (shared : Shared M S Z K R L C E N V m d l) where
+module _ {G L M S Z K R C E N V A B W : Type 0} {m : ManagerOf M C E N V} {d : DebugOf E} {s : SinkOf S E} {z : CustomizerOf Z C E B} {k : ClockOf K} {l : PartsOf L}
+    (opener : OpenerOf W C E N A) (reports : ReportsOf W E) (shared : Shared G L M S Z K R C E N V B m d s z k l) where
   -- a round of the tasks, which stops at the first failure, on the pool's lock, which is free before: the clock is read, and then the round is
   -- made
   abbrev pub LinkRounds : List (Replenish C N A) → W → Round (List (Replenish C N A)) E → Type 0
@@ -52,8 +52,8 @@ module _ {M S Z K R L C E N V A W : Type 0} {m : ManagerOf M C E N V} {d : Debug
       × LetsGoEach (LetsGo (joined_tasks (link_tasks locked_tasks)) (joined_opener opener) at) tasks x1 x')
 
 -- What they do by the pool's own manager, customizer, error sink and clock, whose relations these are.
-module _ {M S Z K R L C E N V A : Type 0} {m : ManagerOf M C E N V} {d : DebugOf E} {l : PartsOf L} (z : CustomizerOf Z C E A) (sinks : S → E → Type 0)
-    (tells : K → Moment → Type 0) (shared : Shared M S Z K R L C E N V m d l) where
+module _ {G L M S Z K R C E N V A : Type 0} {m : ManagerOf M C E N V} {d : DebugOf E} {s : SinkOf S E} {z : CustomizerOf Z C E A} {k : ClockOf K} {l : PartsOf L}
+    (shared : Shared G L M S Z K R C E N V A m d s z k l) where
   -- the relations of the calls of a pool's manager and customizer
   abbrev pub pool_opener : OpenerOf (PoolOpener M S Z K) C E N A
   pool_opener = record {
@@ -69,8 +69,8 @@ module _ {M S Z K R L C E N V A : Type 0} {m : ManagerOf M C E N V} {d : DebugOf
   -- the relations of the calls of its error sink and clock
   abbrev pub pool_reports : ReportsOf (PoolOpener M S Z K) E
   pool_reports = record {
-    tells = λ calls at after. tells calls.clock.now at × (after ≡ calls);
-    sinks = λ calls e after. sinks calls.sink.now e × (after ≡ calls);
+    tells = λ calls at after. k.tells calls.clock.now at × (after ≡ calls);
+    sinks = λ calls e after. s.sinks calls.sink.now e × (after ≡ calls);
   }
 
   -- these are the calls of the pool's manager, error sink, customizer and clock

@@ -1,9 +1,13 @@
--- What the sections of a pool answer, in the words of the ledger.
-use Rattle.std.specs.Prelude.{◌≡◌, Bool, true, false, Result, Ok, Err}
-use Rattle.bb8_lock.specs.Words.{AddAnswer, Joining, Answer}
+-- What the sections of a pool are and answer, in the words of the ledger.
+use Rattle.std.specs.Prelude.{◌≡◌, ◌≤◌, Bool, true, false, Result, Ok, Err, IfOk}
+use Rattle.bb8_lock.specs.Words.{AddAnswer, Joining, Answer, Moment, Settings, StepsIn, answered, add_told, leave_told, put_back_told, GivesBack, Refuses}
 use Rattle.bb8_core.specs.declared.answers.AddAnswer.TheVariants as adding
 use Rattle.bb8_lock.specs.declared.section_home.Joining.TheVariants as joining
+use Rattle.bb8_types.specs.Figures.{figures_of}
+use Rattle.bb8_ledger.specs.Acts as acts
 use Rattle.bb8_ledger.specs.Answers as answers
+use Rattle.bb8_core.specs.Shown.{Shown}
+use Rattle.bb8_lock.specs.SectionSteps.{SectionStep, PutsBack, Adds, Shows, Joins, Leaves}
 
 -- the answer of a section that hands back a connection where it does not fit
 abbrev pub returned : {A C : Type 0} → (A → Answer) → Result A C → Answer
@@ -25,3 +29,18 @@ OnFit Fits Back (Err c) = Back c
 abbrev pub IsSorted : {C : Type 0} → Bool → AddAnswer C → Type 0
 IsSorted broken (adding.Broken c) = broken ≡ true
 IsSorted broken _ = broken ≡ false
+
+module _ {C P : Type 0} (settings : Settings) where
+  -- a section of a pool with these settings: its event and answer, which connection comes back, and what is told
+  abbrev pub SectionsBy : Shown C → Moment → SectionStep C P → Shown C → Type 0
+  SectionsBy s at (PutsBack r a) s' =
+      StepsIn settings s at.0 (acts.PutBack r.taken.key.number r.taken.connection r.broken) (returned (put_back_told r.taken.key.number) a) s'
+      × OnFit (GivesBack r.taken.connection) (λ c. c ≡ r.taken.connection) a
+  SectionsBy s at (Adds conn broken a) s' =
+      StepsIn settings s at.0 (acts.Add conn broken) (returned add_told a) s' × OnFit (Refuses conn) (λ same. same ≡ conn) a
+      × IfOk a (IsSorted broken)
+  SectionsBy s at (Shows state) s' =
+      StepsIn settings s at.0 acts.State (answers.Shown (figures_of state)) s'
+      × (state.connections ≤ settings.max_size) × (state.idle_connections ≤ state.connections)
+  SectionsBy s at (Joins a) s' = StepsIn settings s at.0 acts.Join (joining_told a) s'
+  SectionsBy s at (Leaves a) s' = StepsIn settings s at.0 acts.Leave (answered leave_told a) s'

@@ -1,6 +1,6 @@
 -- The turns of a driver on a pool's lock, which is taken for each step alone, and by the pool's own manager, customizer, error sink and clock.
 use Rattle.std.specs.Prelude.{◌≡◌, None}
-use Rattle.bb8_lock.specs.Words.{as_nanos, DebugOf, CustomizerOf, ManagerOf, Moment, claim_told, look_told, Joined, StepsIn, OpenerOf, PoolOpener, ReportsOf, joined_claims, joined_opener, joined_reaps, joined_reports, joined_tasks, Locked, PartsOf, LinkHome, Shared}
+use Rattle.bb8_lock.specs.Words.{as_nanos, DebugOf, CustomizerOf, ManagerOf, SinkOf, ClockOf, Moment, claim_told, look_told, Joined, StepsIn, OpenerOf, PoolOpener, ReportsOf, joined_claims, joined_opener, joined_reaps, joined_reports, joined_tasks, Locked, PartsOf, LinkHome, Shared}
 use Rattle.bb8_ledger.specs.Acts as acts
 use Rattle.bb8_tasks.specs.declared.home.ClaimHome.{Ghosts as ClaimHomeOf}
 use Rattle.bb8_tasks.specs.declared.home.ReapHome.{Ghosts as ReapHomeOf}
@@ -33,8 +33,8 @@ link_reaps home = record {
 }
 
 -- What a driver of a pool does, of which the pool's handles share this, by any calls outside.
-module _ {M S Z K R L C E N V A W : Type 0} {m : ManagerOf M C E N V} {d : DebugOf E} {l : PartsOf L} (opener : OpenerOf W C E N A) (reports : ReportsOf W E)
-    (shared : Shared M S Z K R L C E N V m d l) where
+module _ {G L M S Z K R C E N V A B W : Type 0} {m : ManagerOf M C E N V} {d : DebugOf E} {s : SinkOf S E} {z : CustomizerOf Z C E B} {k : ClockOf K} {l : PartsOf L}
+    (opener : OpenerOf W C E N A) (reports : ReportsOf W E) (shared : Shared G L M S Z K R C E N V B m d s z k l) where
   -- a turn at a moment, on the pool's lock and by the calls outside, which are one value
   abbrev pub TurnsOn : Moment → Turning C N A → Joined W (LinkHome (Locked C L l) R) → Turn → Turning C N A → Joined W (LinkHome (Locked C L l) R) → Type 0
   TurnsOn at turning x turn turning' x' =
@@ -55,16 +55,16 @@ module _ {M S Z K R L C E N V A W : Type 0} {m : ManagerOf M C E N V} {d : Debug
       × DriverLetsGo (joined_tasks (link_tasks locked_tasks)) (joined_opener opener) at turning x1 x')
 
 -- What it does by the pool's own manager, customizer, error sink and clock, whose relations these are.
-module _ {M S Z K R L C E N V A : Type 0} {m : ManagerOf M C E N V} {d : DebugOf E} {l : PartsOf L} (z : CustomizerOf Z C E A) (sinks : S → E → Type 0)
-    (tells : K → Moment → Type 0) (shared : Shared M S Z K R L C E N V m d l) where
+module _ {G L M S Z K R C E N V A : Type 0} {m : ManagerOf M C E N V} {d : DebugOf E} {s : SinkOf S E} {z : CustomizerOf Z C E A} {k : ClockOf K} {l : PartsOf L}
+    (shared : Shared G L M S Z K R C E N V A m d s z k l) where
   -- a turn at a moment
   abbrev pub OwnTurns : Moment → Turning C N A → Turn → Turning C N A → Type 0
   OwnTurns at turning turn turning' =
-      (calls : PoolOpener M S Z K) × AreOpenersOf z sinks tells shared calls
-      × LinkTurns (pool_opener z sinks tells shared) (pool_reports z sinks tells shared) shared at turning calls turn turning'
+      (calls : PoolOpener M S Z K) × AreOpenersOf shared calls
+      × LinkTurns (pool_opener shared) (pool_reports shared) shared at turning calls turn turning'
 
   -- the driver is let go
   abbrev pub OwnDropsTurning : Turning C N A → Type 0
   OwnDropsTurning turning =
-      (calls : PoolOpener M S Z K) × AreOpenersOf z sinks tells shared calls
-      × LinkDropsTurning (pool_opener z sinks tells shared) (pool_reports z sinks tells shared) shared turning calls
+      (calls : PoolOpener M S Z K) × AreOpenersOf shared calls
+      × LinkDropsTurning (pool_opener shared) (pool_reports shared) shared turning calls

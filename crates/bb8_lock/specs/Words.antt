@@ -28,6 +28,8 @@ pub use Rattle.bb8_lock.specs.declared.shared.Shared.{Shared}
 pub use Rattle.bb8_gets.specs.Homes.{StepsIn}
 pub use Rattle.bb8_gets.specs.Told.{answered, passed_told, tried_told, HandsBackHeld, HandsBackInvalid, HandsOutOf}
 pub use Rattle.std.specs.Duration.{as_nanos}
+pub use Rattle.bb8_types.specs.declared.api.clocks.Clock.{Ghosts as ClockOf}
+pub use Rattle.bb8_types.specs.declared.api.sinks.ErrorSink.{Ghosts as SinkOf}
 pub use Rattle.bb8_types.specs.declared.api.customizers.CustomizeConnection.{Ghosts as CustomizerOf}
 pub use Rattle.bb8_tasks.specs.declared.opener.Opener.{Ghosts as OpenerOf}
 pub use Rattle.bb8_tasks.specs.declared.opener.PoolOpener.{PoolOpener}

@@ -46,6 +46,7 @@ impl Bell {
     }
 
     /// Wakes all that sleep. Our own.
+    #[cold]
     pub fn ring(&self) {
         self.rung.notify_all();
     }
@@ -73,6 +74,7 @@ impl<T> Belled<T> {
     }
 
     /// Rings these bells.
+    #[inline(always)]
     pub(crate) fn ring(&self, rings: Rings) {
         if rings.gets {
             self.gets.ring();

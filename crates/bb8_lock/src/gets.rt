@@ -1,9 +1,9 @@
 //! What the gets of a pool do with what its handles share.
+use crate::given::Given;
 use crate::link::LinkHome;
-use crate::locks::Locks;
 use crate::shared::Shared;
 use crate::{Part, Parts};
-use bb8_core::api::{ManageConnection, RunError};
+use bb8_core::api::RunError;
 use bb8_gets::{GetState, Joined, Outside, Taken};
 use futures::task::Poll;
 
@@ -21,19 +21,14 @@ pub trait GetCalls<C, E, V, P> {
 }
 
 /// Nothing is called outside under the lock: the table releases its home before each such call.
-impl<M: ManageConnection, S, Z, K, R: Locks, L: Parts> GetCalls<
-    M::Connection,
-    M::Error,
-    M::Checking,
-    Part<L>,
-> for Shared<M, S, Z, K, R, L> {
+impl<G: Given, L: Parts> GetCalls<G::Connection, G::Error, G::Checking, Part<L>> for Shared<G, L> {
     ghost use Rattle.bb8_lock.specs.Linked.{LinkCancels, LinkPolls};
 
-    fn poll_get<W: Outside<M::Connection, M::Error, Checking = M::Checking> + Drop>(
+    fn poll_get<W: Outside<G::Connection, G::Error, Checking = G::Checking> + Drop>(
         &self,
         outside: W,
-        get: &mut GetState<M::Connection, M::Checking, Part<L>>,
-    ) -> Poll<Result<Taken<M::Connection, Part<L>>, RunError<M::Error>>>
+        get: &mut GetState<G::Connection, G::Checking, Part<L>>,
+    ) -> Poll<Result<Taken<G::Connection, Part<L>>, RunError<G::Error>>>
         ensures { LinkPolls W.Outside self.now get.old.stage outside
             (record { answer = result; stage = get.new.stage }) }
     {
@@ -41,10 +36,10 @@ impl<M: ManageConnection, S, Z, K, R: Locks, L: Parts> GetCalls<
         get.poll_with(Joined { outside, home }, self.config.connection_timeout)
     }
 
-    fn cancel_get<W: Outside<M::Connection, M::Error, Checking = M::Checking> + Drop>(
+    fn cancel_get<W: Outside<G::Connection, G::Error, Checking = G::Checking> + Drop>(
         &self,
         outside: W,
-        get: GetState<M::Connection, M::Checking, Part<L>>,
+        get: GetState<G::Connection, G::Checking, Part<L>>,
     )
         ensures { LinkCancels W.Outside self.now get.stage outside }
     {

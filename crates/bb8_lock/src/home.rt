@@ -1,10 +1,11 @@
 //! What a pool's lock holds as a home of gets.
-ghost use Rattle.std.specs.Prelude.{◌≡◌, false, None, Some, IfSome, IfNone};
+ghost use Rattle.std.specs.Prelude.{◌≡◌, Some, IfSome, IfNone};
 ghost use Rattle.bb8_ledger.specs.Acts as acts;
-ghost use Rattle.bb8_core.specs.StepAnswers.{begin_told, checked_err_told, give_up_told, look_told, reason_of};
+ghost use Rattle.bb8_core.specs.StepAnswers.{checked_err_told, give_up_told, reason_of};
 ghost use Rattle.bb8_gets.specs.Homes.{StepsIn};
 ghost use Rattle.bb8_lock.specs.Serving.{ServesNow};
-ghost use Rattle.bb8_gets.specs.Told.{answered, passed_told, tried_told, HandsBackHeld, HandsBackInvalid, HandsOutOf};
+ghost use Rattle.bb8_gets.specs.Steps.{StepsBy};
+ghost use Rattle.bb8_gets.specs.Told.{answered, HandsBackHeld, HandsBackInvalid};
 
 use crate::locked::{Locked, Part, Parts};
 use bb8_core::api::Moment;
@@ -54,19 +55,7 @@ impl<C: Drop, L: Parts> GetHome<C> for Locked<C, L> {
 
     ghost releases = { λ h h'. h' ≡ h };
 
-    ghost looks = { λ h at seen h'. StepsIn L.settings h.core at.0 acts.Look (look_told seen) h'.core };
-
-    ghost begins = { λ h at b h'. StepsIn L.settings h.core at.0 acts.Begin (answered begin_told b) h'.core };
-
-    ghost tries = { λ h at get t h'. StepsIn L.settings h.core at.0 (acts.Try get.number) (tried_told t) h'.core × HandsOutOf h.core t };
-
-    ghost passes = { λ h at get _ _ a h'. StepsIn L.settings h.core at.0 (acts.CheckedOk get.number) (passed_told h.core.records.next a) h'.core };
-
-    ghost fails = { λ h at get r a h'. StepsIn L.settings h.core at.0 (acts.CheckedErr get.number r.broken) (answered checked_err_told a) h'.core × HandsBackInvalid r.taken.connection a };
-
-    ghost gives_up = { λ h at get reason a h'. StepsIn L.settings h.core at.0 (acts.GiveUp get.number (reason_of reason) None false) (answered give_up_told a) h'.core };
-
-    ghost gives_back = { λ h at get reason r a h'. StepsIn L.settings h.core at.0 (acts.GiveUp get.number (reason_of reason) (Some r.taken.connection) r.broken) (answered give_up_told a) h'.core × HandsBackHeld r.taken.connection a };
+    ghost steps = { λ h at s h'. StepsBy (StepsIn L.settings) h.core at s h'.core };
 
     /// Whoever has the lock lets go of it.
     fn release(&mut self) {}

@@ -7,6 +7,7 @@ mod bell;
 mod calls;
 mod gathered;
 mod gets;
+mod given;
 mod home;
 mod link;
 mod locked;
@@ -25,6 +26,7 @@ pub use calls::{
 };
 pub use gathered::Gathered;
 pub use gets::GetCalls;
+pub use given::{Given, These};
 pub use link::LinkHome;
 pub use locked::{Locked, NewPool, Part, Parts, PoolParts, begin_pool};
 pub use locks::Locks;

@@ -1,6 +1,8 @@
 //! A lock as a home of gets and of sections.
 ghost use Rattle.std.specs.Prelude.{◌≡◌, None};
+ghost use Rattle.bb8_gets.specs.Steps.{Fails, GivesBack};
 ghost use Rattle.bb8_lock.specs.Linked.{LeadsHeld, StartsAt};
+ghost use Rattle.bb8_lock.specs.SectionSteps.{PutsBack};
 ghost use Rattle.std.specs.Sync.Mutex.{mutex_guard_value};
 
 use crate::bell::{Belled, Rings};
@@ -39,6 +41,7 @@ impl<'a, T, R> LinkHome<'a, T, R> {
 }
 
 impl<T, R> Drop for LinkHome<'_, T, R> {
+    #[inline(always)]
     fn drop(self) {
         let LinkHome {
             belled,
@@ -79,20 +82,9 @@ impl<'a, C, T: GetHome<C>, R: Locks> GetHome<C> for LinkHome<'a, T, R> {
 
     ghost releases = { λ h h'. h'.held ≡ None };
 
-    ghost looks = { λ h at seen h'. LeadsHeld (λ t t'. T.looks t at seen t') h.held h'.held };
+    ghost steps = { λ h at s h'. LeadsHeld (λ t t'. T.steps t at s t') h.held h'.held };
 
-    ghost begins = { λ h at b h'. LeadsHeld (λ t t'. T.begins t at b t') h.held h'.held };
-
-    ghost tries = { λ h at get a h'. LeadsHeld (λ t t'. T.tries t at get a t') h.held h'.held };
-
-    ghost passes = { λ h at get key part a h'. LeadsHeld (λ t t'. T.passes t at get key part a t') h.held h'.held };
-
-    ghost fails = { λ h at get returned a h'. LeadsHeld (λ t t'. T.fails t at get returned a t') h.held h'.held };
-
-    ghost gives_up = { λ h at get reason a h'. LeadsHeld (λ t t'. T.gives_up t at get reason a t') h.held h'.held };
-
-    ghost gives_back = { λ h at get reason returned a h'. LeadsHeld (λ t t'. T.gives_back t at get reason returned a t') h.held h'.held };
-
+    #[inline(always)]
     fn release(&mut self) {
         self.held = None;
         self.belled.ring(self.rings);
@@ -149,7 +141,8 @@ impl<'a, C, T: GetHome<C>, R: Locks> GetHome<C> for LinkHome<'a, T, R> {
         get: GetKey,
         returned: Returned<C, T::Part>,
     ) -> Result<CheckedErrAnswer<C>, C>
-        ensures { LeadsHeld (λ t t'. T.fails t at get returned result t') self.old.held self.new.held }
+        ensures { LeadsHeld (λ t t'. T.steps t at (Fails get returned result) t')
+            self.old.held self.new.held }
     {
         let mut guard = self.hold();
         let answer = guard.checked_err(at, get, returned);
@@ -178,7 +171,7 @@ impl<'a, C, T: GetHome<C>, R: Locks> GetHome<C> for LinkHome<'a, T, R> {
         reason: Reason,
         returned: Returned<C, T::Part>,
     ) -> Result<GiveUpAnswer<C>, C>
-        ensures { LeadsHeld (λ t t'. T.gives_back t at get reason returned result t') self.old.held
+        ensures { LeadsHeld (λ t t'. T.steps t at (GivesBack get reason returned result) t') self.old.held
             self.new.held }
     {
         let mut guard = self.hold();
@@ -190,15 +183,7 @@ impl<'a, C, T: GetHome<C>, R: Locks> GetHome<C> for LinkHome<'a, T, R> {
 }
 
 impl<'a, C, T: SectionHome<C> + Ends, R: Locks> SectionHome<C> for LinkHome<'a, T, R> {
-    ghost puts_back = { λ h at returned a h'. LeadsHeld (λ t t'. T.puts_back t at returned a t') h.held h'.held };
-
-    ghost adds = { λ h at c broken a h'. LeadsHeld (λ t t'. T.adds t at c broken a t') h.held h'.held };
-
-    ghost shows = { λ h at state h'. LeadsHeld (λ t t'. T.shows t at state t') h.held h'.held };
-
-    ghost joins = { λ h at a h'. LeadsHeld (λ t t'. T.joins t at a t') h.held h'.held };
-
-    ghost leaves = { λ h at a h'. LeadsHeld (λ t t'. T.leaves t at a t') h.held h'.held };
+    ghost makes = { λ h at s h'. LeadsHeld (λ t t'. T.makes t at s t') h.held h'.held };
 
     #[inline(always)]
     fn put_back(
@@ -206,7 +191,8 @@ impl<'a, C, T: SectionHome<C> + Ends, R: Locks> SectionHome<C> for LinkHome<'a, 
         at: Moment,
         returned: Returned<C, T::Part>,
     ) -> Result<PutBackAnswer<C>, C>
-        ensures { LeadsHeld (λ t t'. T.puts_back t at returned result t') self.old.held self.new.held }
+        ensures { LeadsHeld (λ t t'. T.makes t at (PutsBack returned result) t')
+            self.old.held self.new.held }
     {
         let mut guard = self.hold();
         let answer = guard.put_back(at, returned);

@@ -2,7 +2,7 @@
 //!
 //! A section is lent the state. Where its event fits it takes one step; where it does not, as no code of this crate brings about, it
 //! answers `Unfit` and changes nothing. No manager, customizer, sink or clock is called here.
-ghost use Rattle.std.specs.Prelude.{◌≡◌, ◌+◌, ◌^◌, ◌<◌, ◌≤◌, true, IfOk};
+ghost use Rattle.std.specs.Prelude.{◌≡◌, ◌+◌, ◌^◌, ◌<◌, true, IfOk};
 ghost use Rattle.bb8_ledger.specs.Acts as acts;
 ghost use Rattle.bb8_types.specs.Settings.{Settings, default_settings, is_lawful, settings_of};
 ghost use Rattle.bb8_lock.specs.Parts.{PoolBegins, IsBlankOf};
@@ -154,22 +154,12 @@ impl<C: Drop, L: Parts> Locked<C, L> {
 
 /// Each section is one step, from the state that stands there to the next one.
 impl<C: Drop, L: Parts> SectionHome<C> for Locked<C, L> {
-    ghost use Rattle.bb8_types.specs.Figures.{figures_of};
     ghost use Rattle.bb8_ledger.specs.Answers as answers;
-    ghost use Rattle.bb8_core.specs.StepAnswers.{add_told, leave_told, put_back_told, GivesBack, Refuses};
+    ghost use Rattle.bb8_core.specs.StepAnswers.{add_told, put_back_told, GivesBack, Refuses};
     ghost use Rattle.bb8_gets.specs.Homes.{StepsIn};
-    ghost use Rattle.bb8_gets.specs.Told.{answered};
-    ghost use Rattle.bb8_lock.specs.Sections.{joining_told, returned, IsSorted, OnFit};
+    ghost use Rattle.bb8_lock.specs.Sections.{returned, IsSorted, OnFit, SectionsBy};
 
-    ghost puts_back = { λ h at r a h'. StepsIn L.settings h.core at.0 (acts.PutBack r.taken.key.number r.taken.connection r.broken) (returned (put_back_told r.taken.key.number) a) h'.core × OnFit (GivesBack r.taken.connection) (λ c. c ≡ r.taken.connection) a };
-
-    ghost adds = { λ h at conn broken a h'. StepsIn L.settings h.core at.0 (acts.Add conn broken) (returned add_told a) h'.core × OnFit (Refuses conn) (λ same. same ≡ conn) a × IfOk a (IsSorted broken) };
-
-    ghost shows = { λ h at state h'. StepsIn L.settings h.core at.0 acts.State (answers.Shown (figures_of state)) h'.core × (state.connections ≤ L.settings.max_size) × (state.idle_connections ≤ state.connections) };
-
-    ghost joins = { λ h at a h'. StepsIn L.settings h.core at.0 acts.Join (joining_told a) h'.core };
-
-    ghost leaves = { λ h at a h'. StepsIn L.settings h.core at.0 acts.Leave (answered leave_told a) h'.core };
+    ghost makes = { λ h at s h'. SectionsBy L.settings h.core at s h'.core };
 
     #[inline(always)]
     fn put_back(&mut self, at: Moment, back: Returned<C, Part<L>>) -> Result<PutBackAnswer<C>, C>

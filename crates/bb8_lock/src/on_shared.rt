@@ -2,14 +2,14 @@
 ghost use Rattle.std.specs.Prelude.{◌≤◌};
 ghost use Rattle.bb8_lock.specs.Linked.{LinkAdds, LinkCancelsAndLeaves, LinkJoins, LinkLeaves, LinkReturns, LinkReturnsAndLeaves, LinkShows};
 
+use crate::given::Given;
 use crate::link::LinkHome;
-use crate::locks::Locks;
 use crate::shared::Shared;
 use crate::{
     Handle, Joining, Part, Parts, add, cancel_and_leave, give_back, give_back_and_leave, join,
     leave, state,
 };
-use bb8_core::api::{AddError, ManageConnection, State};
+use bb8_core::api::{AddError, State};
 use bb8_gets::{GetState, Joined, Outside, Taken};
 
 /// What the guards and handles of a pool do with what they share, as methods of an impl, so that drops and such methods can call them.
@@ -51,16 +51,11 @@ pub trait OnShared<C, E, V, P> {
 }
 
 /// Nothing is called outside under the lock, and no step is made besides: each is one chain over the lock and the calls outside.
-impl<M: ManageConnection, S, Z, K, R: Locks, L: Parts> OnShared<
-    M::Connection,
-    M::Error,
-    M::Checking,
-    Part<L>,
-> for Shared<M, S, Z, K, R, L> {
-    fn give_back<W: Outside<M::Connection, M::Error, Checking = M::Checking> + Drop>(
+impl<G: Given, L: Parts> OnShared<G::Connection, G::Error, G::Checking, Part<L>> for Shared<G, L> {
+    fn give_back<W: Outside<G::Connection, G::Error, Checking = G::Checking> + Drop>(
         &self,
         outside: W,
-        taken: Taken<M::Connection, Part<L>>,
+        taken: Taken<G::Connection, Part<L>>,
     )
         ensures { LinkReturns W.Outside self.now taken outside }
     {
@@ -68,10 +63,10 @@ impl<M: ManageConnection, S, Z, K, R: Locks, L: Parts> OnShared<
         give_back(&mut Joined { outside, home }, taken);
     }
 
-    fn give_back_and_leave<W: Outside<M::Connection, M::Error, Checking = M::Checking> + Drop>(
+    fn give_back_and_leave<W: Outside<G::Connection, G::Error, Checking = G::Checking> + Drop>(
         &self,
         outside: W,
-        taken: Taken<M::Connection, Part<L>>,
+        taken: Taken<G::Connection, Part<L>>,
         handle: Handle,
     )
         ensures { LinkReturnsAndLeaves W.Outside self.now taken outside }
@@ -80,10 +75,10 @@ impl<M: ManageConnection, S, Z, K, R: Locks, L: Parts> OnShared<
         give_back_and_leave(&mut Joined { outside, home }, taken, handle);
     }
 
-    fn cancel_and_leave<W: Outside<M::Connection, M::Error, Checking = M::Checking> + Drop>(
+    fn cancel_and_leave<W: Outside<G::Connection, G::Error, Checking = G::Checking> + Drop>(
         &self,
         outside: W,
-        get: GetState<M::Connection, M::Checking, Part<L>>,
+        get: GetState<G::Connection, G::Checking, Part<L>>,
         handle: Handle,
     )
         ensures { LinkCancelsAndLeaves W.Outside self.now get.stage outside }
@@ -92,7 +87,7 @@ impl<M: ManageConnection, S, Z, K, R: Locks, L: Parts> OnShared<
         cancel_and_leave(&mut Joined { outside, home }, get, handle);
     }
 
-    fn leave<W: Outside<M::Connection, M::Error, Checking = M::Checking> + Drop>(
+    fn leave<W: Outside<G::Connection, G::Error, Checking = G::Checking> + Drop>(
         &self,
         outside: W,
         handle: Handle,
@@ -103,7 +98,7 @@ impl<M: ManageConnection, S, Z, K, R: Locks, L: Parts> OnShared<
         leave(&mut Joined { outside, home }, handle);
     }
 
-    fn count_one<W: Outside<M::Connection, M::Error, Checking = M::Checking> + Drop>(
+    fn count_one<W: Outside<G::Connection, G::Error, Checking = G::Checking> + Drop>(
         &self,
         outside: W,
     ) -> Joining
@@ -113,18 +108,18 @@ impl<M: ManageConnection, S, Z, K, R: Locks, L: Parts> OnShared<
         join(&mut Joined { outside, home })
     }
 
-    fn add_with<W: Outside<M::Connection, M::Error, Checking = M::Checking> + Drop>(
+    fn add_with<W: Outside<G::Connection, G::Error, Checking = G::Checking> + Drop>(
         &self,
         outside: W,
-        conn: M::Connection,
-    ) -> Result<(), AddError<M::Connection>>
+        conn: G::Connection,
+    ) -> Result<(), AddError<G::Connection>>
         ensures { LinkAdds W.Outside self.now conn result outside }
     {
         let home = LinkHome::new(&self.locked, &self.rt);
         add(&mut Joined { outside, home }, conn)
     }
 
-    fn state_with<W: Outside<M::Connection, M::Error, Checking = M::Checking> + Drop>(
+    fn state_with<W: Outside<G::Connection, G::Error, Checking = G::Checking> + Drop>(
         &self,
         outside: W,
     ) -> State

@@ -1,11 +1,12 @@
 //! The lock of a pool as a home of the tasks that open connections and of the reaper, and what the pool's futures do with such tasks.
 use crate::Parts;
 use crate::bell::Notifies;
+use crate::given::Given;
 use crate::link::{Hold, LinkHome};
 use crate::locks::Locks;
 use crate::shared::Shared;
 use bb8_core::Joined;
-use bb8_core::api::{ManageConnection, Moment};
+use bb8_core::api::Moment;
 use bb8_core::internals::{ClaimAnswer, Key, Looked};
 use bb8_tasks::{
     ClaimHome, Dedicated, FailedStep, Home, OpenedStep, Opener, ReapHome, ReapStep, Reports, Round,
@@ -107,24 +108,19 @@ pub trait Opens<C, E, V, A> {
 }
 
 /// Manager, customizer, sink and clock are called while the lock is free: it is taken for each step of a task alone.
-impl<M: ManageConnection, S, Z, K, R: Locks, L: Parts, A> Opens<
-    M::Connection,
-    M::Error,
-    M::Connecting,
-    A,
-> for Shared<M, S, Z, K, R, L> {
+impl<G: Given, L: Parts, A> Opens<G::Connection, G::Error, G::Connecting, A> for Shared<G, L> {
     ghost use Rattle.bb8_tasks.specs.Dedicating.{DropsOpening, OpeningPolls};
     ghost use Rattle.bb8_lock.specs.Opening.{LinkRounds, LinkDropsTasks};
 
     fn open_first<
-        W: Opener<M::Connection, M::Error, Connecting = M::Connecting, Acquiring = A>
-            + Reports<M::Error>
+        W: Opener<G::Connection, G::Error, Connecting = G::Connecting, Acquiring = A>
+            + Reports<G::Error>
             + Drop,
     >(
         &self,
         outside: W,
-        tasks: Tasks<M::Connection, M::Connecting, A>,
-    ) -> Round<Tasks<M::Connection, M::Connecting, A>, M::Error>
+        tasks: Tasks<G::Connection, G::Connecting, A>,
+    ) -> Round<Tasks<G::Connection, G::Connecting, A>, G::Error>
         ensures { LinkRounds W.Opener W.Reports self.now tasks outside result }
     {
         let home = LinkHome::new(&self.locked, &self.rt);
@@ -134,10 +130,10 @@ impl<M: ManageConnection, S, Z, K, R: Locks, L: Parts, A> Opens<
     }
 
     fn drop_tasks<
-        W: Opener<M::Connection, M::Error, Connecting = M::Connecting, Acquiring = A>
-            + Reports<M::Error>
+        W: Opener<G::Connection, G::Error, Connecting = G::Connecting, Acquiring = A>
+            + Reports<G::Error>
             + Drop,
-    >(&self, outside: W, tasks: Tasks<M::Connection, M::Connecting, A>)
+    >(&self, outside: W, tasks: Tasks<G::Connection, G::Connecting, A>)
         ensures { LinkDropsTasks W.Opener W.Reports self.now tasks outside }
     {
         let home = LinkHome::new(&self.locked, &self.rt);
@@ -147,25 +143,26 @@ impl<M: ManageConnection, S, Z, K, R: Locks, L: Parts, A> Opens<
     }
 
     fn poll_dedicated<
-        W: Opener<M::Connection, M::Error, Connecting = M::Connecting, Acquiring = A>
-            + Reports<M::Error>,
+        W: Opener<G::Connection, G::Error, Connecting = G::Connecting, Acquiring = A>
+            + Reports<G::Error>,
     >(
         &self,
         outside: &mut W,
-        mut dedicated: Dedicated<M::Connection, M::Connecting, A>,
+        mut dedicated: Dedicated<G::Connection, G::Connecting, A>,
     ) -> (
-        Poll<Result<M::Connection, M::Error>>,
-        Dedicated<M::Connection, M::Connecting, A>,
+        Poll<Result<G::Connection, G::Error>>,
+        Dedicated<G::Connection, G::Connecting, A>,
     )
-        ensures { OpeningPolls W.Opener W.tells dedicated outside.old result.0 result.1 outside.new }
+        ensures { OpeningPolls W.Opener W.tells dedicated outside.old
+            result.0 result.1 outside.new }
     {
         let answer = dedicated.poll(outside);
         (answer, dedicated)
     }
 
     fn cancel_dedicated<
-        W: Opener<M::Connection, M::Error, Connecting = M::Connecting, Acquiring = A>,
-    >(&self, outside: &mut W, dedicated: Dedicated<M::Connection, M::Connecting, A>)
+        W: Opener<G::Connection, G::Error, Connecting = G::Connecting, Acquiring = A>,
+    >(&self, outside: &mut W, dedicated: Dedicated<G::Connection, G::Connecting, A>)
         ensures { DropsOpening W.Opener dedicated.stage outside.old outside.new }
     {
         dedicated.cancel(outside);

@@ -3,11 +3,11 @@ ghost use Rattle.std.specs.Prelude.{◌≡◌, true};
 ghost use Rattle.bb8_tasks.specs.Turns.{is_ended};
 
 use crate::Parts;
+use crate::given::Given;
 use crate::link::LinkHome;
-use crate::locks::Locks;
 use crate::shared::Shared;
 use bb8_core::Joined;
-use bb8_core::api::{ManageConnection, Moment};
+use bb8_core::api::Moment;
 use bb8_tasks::{Opener, Reports, Turn, Turning};
 
 /// What a driver does, as methods of an impl, so that drops and threads can call them.
@@ -29,19 +29,14 @@ pub trait Drives<C, E, V, A> {
 }
 
 /// Manager, customizer, sink and clock are called while the lock is free: it is taken for each step alone.
-impl<M: ManageConnection, S, Z, K, R: Locks, L: Parts, A> Drives<
-    M::Connection,
-    M::Error,
-    M::Connecting,
-    A,
-> for Shared<M, S, Z, K, R, L> {
+impl<G: Given, L: Parts, A> Drives<G::Connection, G::Error, G::Connecting, A> for Shared<G, L> {
     ghost use Rattle.bb8_lock.specs.Turning.{LinkDropsTurning, LinkTurns};
 
     fn turn_with<
-        W: Opener<M::Connection, M::Error, Connecting = M::Connecting, Acquiring = A>
-            + Reports<M::Error>
+        W: Opener<G::Connection, G::Error, Connecting = G::Connecting, Acquiring = A>
+            + Reports<G::Error>
             + Drop,
-    >(&self, outside: W, turning: &mut Turning<M::Connection, M::Connecting, A>, at: Moment) -> Turn
+    >(&self, outside: W, turning: &mut Turning<G::Connection, G::Connecting, A>, at: Moment) -> Turn
         ensures table { LinkTurns W.Opener W.Reports self.now at turning.old outside result
             turning.new }
         ensures ended { result.ended ≡ is_ended turning.new }
@@ -54,10 +49,10 @@ impl<M: ManageConnection, S, Z, K, R: Locks, L: Parts, A> Drives<
     }
 
     fn drop_turning<
-        W: Opener<M::Connection, M::Error, Connecting = M::Connecting, Acquiring = A>
-            + Reports<M::Error>
+        W: Opener<G::Connection, G::Error, Connecting = G::Connecting, Acquiring = A>
+            + Reports<G::Error>
             + Drop,
-    >(&self, outside: W, turning: Turning<M::Connection, M::Connecting, A>)
+    >(&self, outside: W, turning: Turning<G::Connection, G::Connecting, A>)
         ensures { LinkDropsTurning W.Opener W.Reports self.now turning outside }
     {
         let home = LinkHome::new(&self.locked, &self.rt);

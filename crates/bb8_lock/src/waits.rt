@@ -1,11 +1,11 @@
 //! What a thread does that waits for a connection of a pool.
 ghost use Rattle.std.specs.Duration.{as_nanos};
 
+use crate::given::Given;
 use crate::link::LinkHome;
-use crate::locks::Locks;
 use crate::shared::Shared;
 use crate::{Part, Parts, take_now};
-use bb8_core::api::{ManageConnection, RunError};
+use bb8_core::api::RunError;
 use bb8_gets::{GetHome, GetState, Joined, Outside, Taken};
 use futures::task::Poll;
 use std::sync::Wait;
@@ -29,19 +29,15 @@ pub trait Waits<C, E, V, P> {
 }
 
 /// The count of the rings is read before the poll, so that no ring between the poll and the sleep is lost.
-impl<M: ManageConnection, S, Z, K, R: Wait + Send + Sync + Drop + 'static, L: Parts> Waits<
-    M::Connection,
-    M::Error,
-    M::Checking,
-    Part<L>,
-> for Shared<M, S, Z, K, R, L> {
+impl<G: Given<Runtime: Wait>, L: Parts> Waits<G::Connection, G::Error, G::Checking, Part<L>>
+    for Shared<G, L> {
     ghost use Rattle.bb8_lock.specs.Linked.{LinkTakesNow, LinkWaits};
 
-    fn wait_for<W: Outside<M::Connection, M::Error, Checking = M::Checking> + Drop>(
+    fn wait_for<W: Outside<G::Connection, G::Error, Checking = G::Checking> + Drop>(
         &self,
         outside: W,
         timeout: Duration,
-    ) -> Result<Taken<M::Connection, Part<L>>, RunError<M::Error>>
+    ) -> Result<Taken<G::Connection, Part<L>>, RunError<G::Error>>
         ensures { LinkWaits W.Outside self.now (as_nanos timeout) outside result }
     {
         let home = LinkHome::new(&self.locked, &self.rt);
@@ -64,10 +60,10 @@ impl<M: ManageConnection, S, Z, K, R: Wait + Send + Sync + Drop + 'static, L: Pa
         unreachable!()
     }
 
-    fn take_now_with<W: Outside<M::Connection, M::Error, Checking = M::Checking> + Drop>(
+    fn take_now_with<W: Outside<G::Connection, G::Error, Checking = G::Checking> + Drop>(
         &self,
         outside: W,
-    ) -> Result<Option<Taken<M::Connection, Part<L>>>, RunError<M::Error>>
+    ) -> Result<Option<Taken<G::Connection, Part<L>>>, RunError<G::Error>>
         ensures { LinkTakesNow W.Outside self.now outside result }
     {
         let home = LinkHome::new(&self.locked, &self.rt);

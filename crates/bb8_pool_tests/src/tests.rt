@@ -1,7 +1,7 @@
 //! What the tests share.
 
 mod drivers;
-mod hostile;
+mod polls;
 mod resting;
 mod serving;
 mod waiting;

@@ -20,9 +20,9 @@ const FAULT: u8 = 3;
 
 /// An answer, or that there is none.
 #[derive(Clone, Copy)]
-struct Answer<'a>(Option<&'a str>);
+struct Said<'a>(Option<&'a str>);
 
-impl fmt::Display for Answer<'_> {
+impl fmt::Display for Said<'_> {
     fn fmt<W: fmt::Write>(&self, f: &mut fmt::Formatter<W>) -> fmt::Result {
         match self.0 {
             Some(text) => write!(f, "\"{text}\""),
@@ -88,11 +88,11 @@ impl Report {
         for wanted in transcript.wanted.iter() {
             let found = lines.next();
             if !found.is_some_and(|line| line == wanted.text) {
-                return self.tell(title, wanted.line, Answer(Some(wanted.text)), Answer(found));
+                return self.tell(title, wanted.line, Said(Some(wanted.text)), Said(found));
             }
         }
         match lines.next() {
-            Some(line) => self.tell(title, transcript.last, Answer(None), Answer(Some(line))),
+            Some(line) => self.tell(title, transcript.last, Said(None), Said(Some(line))),
             None => Ok(()),
         }
     }
@@ -101,8 +101,8 @@ impl Report {
         &mut self,
         title: &str,
         line: u64,
-        wanted: Answer<'_>,
-        found: Answer<'_>,
+        wanted: Said<'_>,
+        found: Said<'_>,
     ) -> Result<(), Fault> {
         self.different = self.different.saturating_add(1);
         writeln!(

@@ -41,14 +41,17 @@ pub fn run_script<R: Source, W: Sink>(
 ) -> Result<Verdict, Fault>
     // What is written is the answer to what was read.
     ensures told { IfOk result (λ verdict. IfSome (R.remaining reader.old) (λ input.
-        (text : List ℕ) × IsAnswer input verdict text × Appends (W.contents writer.old) (W.contents writer.new) text)) }
+        (text : List ℕ) × IsAnswer input verdict text
+        × Appends (W.contents writer.old) (W.contents writer.new) text)) }
     // `Read` comes where a read failed.
     ensures read_failed { IsErrOf result Fault.Read → R.read_fails reader.old reader.new }
     // Where a read failed nothing was written.
     ensures unread { IsErrOf result Fault.Read → writer.new ≡ writer.old }
     // `Write` comes where writing the answer to what was read failed.
-    ensures write_failed { IsErrOf result Fault.Write → ((text : List ℕ) × W.write_fails writer.old text writer.new
-        × IfSome (R.remaining reader.old) (λ input. (verdict : Verdict) × IsAnswer input verdict text)) }
+    ensures write_failed { IsErrOf result Fault.Write
+        → ((text : List ℕ) × W.write_fails writer.old text writer.new
+        × IfSome (R.remaining reader.old)
+        (λ input. (verdict : Verdict) × IsAnswer input verdict text)) }
     // Where memory was refused nothing was written.
     ensures unanswered { IsErrOf result Fault.Memory → writer.new ≡ writer.old }
 {

@@ -11,10 +11,9 @@ ghost use Rattle.bb8.specs.Parts.{IsBlankOf};
 ghost use Rattle.bb8.specs.Settings.{default_settings};
 
 mod rounds;
-mod told;
 
 use bb8::{Builder, Driver, Gate, Memory, PoolParts, Runtime, drive, in_threads};
-use bb8_trials::hostile::{Harness, HostilePool};
+use bb8_trials::hostile::{GetCounts, Harness, HostilePool};
 use rounds::{SIZE, Storm, THREADS};
 use std::alloc::Global;
 use std::marker::Brand;
@@ -25,14 +24,13 @@ use std::sync::ledger::Blank;
 use std::thread::{self, Threads};
 use std::time::Duration;
 use std::{env, io};
-use told::Told;
 
 /// How many phases there are.
 const PHASES: u64 = 3;
 
 /// Whether each phase agreed, in order, and whether nothing was left once the pool was dropped.
 #[derive(Drop)]
-struct Outcome {
+struct Agreement {
     phases: Vec<bool>,
     nothing_left: bool,
 }
@@ -58,7 +56,7 @@ impl Gate for Stop {
 fn in_phase<R: Runtime + Threads, L: PoolParts + 'static>(
     rt: R,
     storm: &Storm<'_, R, L>,
-) -> Result<Told, Memory> {
+) -> Result<GetCounts, Memory> {
     let asked = Arc::new(rt.alloc(), AtomicBool::new(false))?;
     let Ok(stop) = Arc::try_clone(&asked) else {
         return Err(Memory);
@@ -70,7 +68,7 @@ fn in_phase<R: Runtime + Threads, L: PoolParts + 'static>(
     let told = in_threads(&rt, THREADS, storm);
     asked.store(true, Ordering::SeqCst);
     let driven = driving.join(&rt);
-    let mut all = Told::new();
+    let mut all = GetCounts::new();
     if driven.ended {
         all.blame();
     }
@@ -85,7 +83,7 @@ fn run<R: Runtime + Threads, L: PoolParts + 'static>(
     rt: R,
     blank: Blank,
     rounds: u64,
-) -> Result<Outcome, Memory>
+) -> Result<Agreement, Memory>
     requires { IsBlankOf blank
         (record default_settings {
           max_size = 5;
@@ -109,7 +107,7 @@ fn run<R: Runtime + Threads, L: PoolParts + 'static>(
         .connection_customizer(harness.customizer()?)
         .build_unchecked(harness.manager()?, harness.clock()?, rt, blank)?;
     let mut phases = Vec::new(rt.alloc());
-    let mut all = Told::new();
+    let mut all = GetCounts::new();
     for phase in 0..PHASES {
         let storm = Storm {
             pool: &pool,
@@ -119,10 +117,11 @@ fn run<R: Runtime + Threads, L: PoolParts + 'static>(
             rounds,
         };
         all.add(&in_phase(rt, &storm)?);
-        phases.push(all.agrees(&pool.state(), &harness.gauges))?;
+        let state = pool.state();
+        phases.push(all.agrees(&state) && harness.gauges.are_at_rest(&state))?;
     }
     drop(pool);
-    Ok(Outcome {
+    Ok(Agreement {
         phases,
         nothing_left: harness.gauges.are_empty(),
     })

@@ -1,8 +1,8 @@
 //! What each thread does with the pool.
 
-use crate::told::Told;
 use bb8::{Cancel, Job, PoolCalls, PoolParts, RunError, Runtime};
-use bb8_trials::hostile::{Counted, Harness, HostilePool, RandomSource, Refused};
+use bb8_trials::Refused;
+use bb8_trials::hostile::{Counted, GetCounts, Harness, HostilePool, RandomSource};
 use futures::Future;
 use futures::task::Poll;
 use futures::test::MockTask;
@@ -29,31 +29,41 @@ pub struct Storm<'a, R: Runtime, L: PoolParts> {
 }
 
 /// What a round does.
-trait Rounds {
+trait MakesRounds {
     /// One round.
-    fn round(&self, task: &MockTask, source: &RandomSource, told: &mut Told);
+    fn round(&self, task: &MockTask, source: &RandomSource, told: &mut GetCounts);
 
     /// A get, which is polled a few times, and dropped or cancelled where it was not answered.
-    fn get(&self, task: &MockTask, source: &RandomSource, told: &mut Told);
+    fn get(&self, task: &MockTask, source: &RandomSource, told: &mut GetCounts);
 
     /// A get with a handle of its own, of a handle that is dropped meanwhile, polled and let go in the same way.
-    fn get_owned(&self, task: &MockTask, source: &RandomSource, told: &mut Told);
+    fn get_owned(&self, task: &MockTask, source: &RandomSource, told: &mut GetCounts);
 
     /// A get that the thread waits for, with a handle of its own or without.
-    fn wait(&self, source: &RandomSource, told: &mut Told);
+    fn wait(&self, source: &RandomSource, told: &mut GetCounts);
 
     /// A dedicated connection, whose opening is polled a few times and let go in the same way.
     fn open_dedicated(&self, task: &MockTask, source: &RandomSource);
 
     /// Asks for the figures, and compares them with their bounds.
-    fn ask(&self, told: &mut Told);
+    fn ask(&self, told: &mut GetCounts);
+}
+
+/// Counts a get that was polled so often and then let go: it began with its first poll, and was cancelled where it was not answered.
+fn note(told: &mut GetCounts, polls: u64, answered: bool) {
+    if polls > 0 {
+        told.begun = told.begun.saturating_add(1);
+        if !answered {
+            told.cancelled = told.cancelled.saturating_add(1);
+        }
+    }
 }
 
 /// Notes a get's answer. A connection that it is served with is held, and given back.
 fn end<G: DerefMut<Target = Counted> + Drop>(
     harness: &Harness,
     answer: Result<G, RunError<Refused>>,
-    told: &mut Told,
+    told: &mut GetCounts,
 ) {
     match answer {
         Ok(mut guard) => {
@@ -72,7 +82,7 @@ fn end<G: DerefMut<Target = Counted> + Drop>(
 fn is_answered<
     G: DerefMut<Target = Counted> + Drop,
     F: Future<Output = Result<G, RunError<Refused>>>,
->(task: &MockTask, harness: &Harness, get: &mut F, polls: u64, told: &mut Told) -> bool
+>(task: &MockTask, harness: &Harness, get: &mut F, polls: u64, told: &mut GetCounts) -> bool
     requires { (f : F) → F.can_poll f }
 {
     for _ in 0..polls {
@@ -97,11 +107,11 @@ fn let_go<F: Cancel + Drop>(future: F, source: &RandomSource) {
 }
 
 impl<R: Runtime, L: PoolParts> Job for &Storm<'_, R, L> {
-    type Told = Told;
+    type Told = GetCounts;
 
     /// All rounds of the thread.
-    fn run(self, thread: usize) -> Told {
-        let mut told = Told::new();
+    fn run(self, thread: usize) -> GetCounts {
+        let mut told = GetCounts::new();
         let seed = self
             .phase
             .saturating_mul(1000)
@@ -121,8 +131,8 @@ impl<R: Runtime, L: PoolParts> Job for &Storm<'_, R, L> {
     }
 }
 
-impl<R: Runtime, L: PoolParts> Rounds for Storm<'_, R, L> {
-    fn round(&self, task: &MockTask, source: &RandomSource, told: &mut Told) {
+impl<R: Runtime, L: PoolParts> MakesRounds for Storm<'_, R, L> {
+    fn round(&self, task: &MockTask, source: &RandomSource, told: &mut GetCounts) {
         match source.below(10) {
             0..=2 => self.get(task, source, told),
             3..=5 => self.get_owned(task, source, told),
@@ -135,15 +145,15 @@ impl<R: Runtime, L: PoolParts> Rounds for Storm<'_, R, L> {
         }
     }
 
-    fn get(&self, task: &MockTask, source: &RandomSource, told: &mut Told) {
+    fn get(&self, task: &MockTask, source: &RandomSource, told: &mut GetCounts) {
         let mut get = PoolCalls::get(self.pool);
         let polls = source.below(POLLS);
         let answered = is_answered(task, self.harness, &mut get, polls, told);
         let_go(get, source);
-        told.note(polls, answered);
+        note(told, polls, answered);
     }
 
-    fn get_owned(&self, task: &MockTask, source: &RandomSource, told: &mut Told) {
+    fn get_owned(&self, task: &MockTask, source: &RandomSource, told: &mut GetCounts) {
         let Ok(clone) = PoolCalls::try_clone(self.pool) else {
             told.blame();
             return;
@@ -153,10 +163,10 @@ impl<R: Runtime, L: PoolParts> Rounds for Storm<'_, R, L> {
         let polls = source.below(POLLS);
         let answered = is_answered(task, self.harness, &mut get, polls, told);
         let_go(get, source);
-        told.note(polls, answered);
+        note(told, polls, answered);
     }
 
-    fn wait(&self, source: &RandomSource, told: &mut Told) {
+    fn wait(&self, source: &RandomSource, told: &mut GetCounts) {
         told.begun = told.begun.saturating_add(1);
         if source.below(2) == 0 {
             end(self.harness, PoolCalls::get_blocking(self.pool), told);
@@ -176,7 +186,7 @@ impl<R: Runtime, L: PoolParts> Rounds for Storm<'_, R, L> {
         let_go(opening, source);
     }
 
-    fn ask(&self, told: &mut Told) {
+    fn ask(&self, told: &mut GetCounts) {
         let state = PoolCalls::state(self.pool);
         if state.idle_connections > state.connections || state.connections > SIZE {
             told.blame();

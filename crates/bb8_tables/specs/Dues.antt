@@ -5,8 +5,8 @@ use Rattle.bb8_types.specs.declared.standing.Standing.{Standing}
 use Rattle.bb8_types.specs.Settings.{Settings}
 use Rattle.bb8_types.specs.Places.{is_idle, is_expired, idles_out, lives_out}
 use Rattle.bb8_tables.specs.declared.table.Slot.{Slot}
-use Rattle.bb8_tables.specs.declared.records.reaps.Passed.{Passed}
-use Rattle.bb8_tables.specs.declared.records.reaps.Passed.TheVariants.{Young, Out, Aged}
+use Rattle.bb8_tables.specs.declared.records.reaps.Age.{Age}
+use Rattle.bb8_tables.specs.declared.records.reaps.Age.TheVariants.{Young, Out, Aged}
 use Rattle.circular_buffer.specs.Buffer.{Buffer}
 use Rattle.bb8_tables.specs.declared.closed.Closed.{Closed}
 use Rattle.bb8_tables.specs.Closed.{offered_all, closed_of}
@@ -44,7 +44,7 @@ module _ {C : Type 0} where
   IsNext t place next = (passed rest : List ℕ) → t.births ≡ passed ++ place ∷ rest → next ≡ slice_get rest 0
 
   -- what was found at a place in the order of births
-  abbrev pub Passes : Settings → ℕ → Lined (Slot (Standing C)) → ℕ → Passed → Type 0
+  abbrev pub Passes : Settings → ℕ → Lined (Slot (Standing C)) → ℕ → Age → Type 0
   Passes config now t place Young = (x : Slot (Standing C)) × (slot_at t place ≡ Some x) × (is_expired config.max_lifetime now x.standing.birth ≡ false)
   Passes config now t place (Out next) = (x : Slot (Standing C)) × (slot_at t place ≡ Some x) × (is_idle x.standing.place ≡ false) × IsNext t place next
   Passes config now t place (Aged next) = (x : Slot (Standing C)) × (slot_at t place ≡ Some x) × (lives_out config now (Some x.standing) ≡ true) × IsNext t place next

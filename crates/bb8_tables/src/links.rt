@@ -178,7 +178,8 @@ fn set_after<S: Drop>(entries: &mut [Entry<S>], order: Order, at: u32, to: u32)
 fn set_before<S: Drop>(entries: &mut [Entry<S>], order: Order, at: u32, to: u32)
     requires { at < length entries.old }
     ensures is { before_of order entries.new at ≡ to }
-    ensures kept { (i : ℕ) → i ≢ at → before_of order entries.new i ≡ before_of order entries.old i }
+    ensures kept { (i : ℕ) → i ≢ at
+        → before_of order entries.new i ≡ before_of order entries.old i }
     ensures after { (i : ℕ) → after_of order entries.new i ≡ after_of order entries.old i }
     ensures others { SameOthers order entries.old entries.new }
     ensures slots { slots_of entries.new ≡ slots_of entries.old }

@@ -5,7 +5,7 @@ mod manager;
 mod service;
 
 use crate::manager::Manager;
-use crate::service::Asking;
+use crate::service::Questions;
 use bb8::{Builder, MachineClock};
 use std::io;
 use std::process::ExitCode;
@@ -16,7 +16,7 @@ const THREADS: usize = 4;
 fn main(rt: HostRuntime) -> io::Result<ExitCode> {
     let outcome = Builder::new()
         .max_size(2)
-        .serve(Manager, MachineClock(rt), rt, THREADS, &Asking);
+        .serve(Manager, MachineClock(rt), rt, THREADS, &Questions);
     match outcome {
         Ok(answered) => {
             println!(rt; "{answered} questions answered")?;

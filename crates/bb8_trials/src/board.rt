@@ -2,17 +2,31 @@
 ghost use Rattle.std.specs.Prelude.{◌≡◌, IfOk};
 ghost use Rattle.bb8.specs.Settings.{default_settings};
 
-use bb8::{Builder, ErrorSink, ManageConnection, Memory, Moment};
+use bb8::{Builder, ErrorSink, Gate, ManageConnection, Memory, Moment, NopCustomizer, Pool};
 use futures::task::Poll;
 use std::alloc::Global;
+use std::error::Error;
 use std::sync::Arc;
 use std::sync::atomic::{AtomicU64, Ordering};
+use std::{fmt, thread};
 
 /// One second in nanoseconds.
 pub const SECOND: u64 = 1_000_000_000;
 
 /// As often as is asked.
 pub const ALWAYS: u64 = u64::MAX;
+
+/// At this stage calls outside wait for nobody.
+pub const OPEN: u64 = 0;
+
+/// The next one waits.
+pub const ARMED: u64 = 1;
+
+/// One waits until the stage is another.
+pub const WAITING: u64 = 2;
+
+/// How often a thread looks before it gives up.
+pub const LOOKS: u32 = 10_000_000;
 
 /// A number that a test shares with its pool.
 #[derive(Drop)]
@@ -39,6 +53,17 @@ impl Number {
     /// One more, and what it is then.
     pub fn count(&self) -> u64 {
         self.value.fetch_add(1, Ordering::SeqCst).saturating_add(1)
+    }
+
+    /// Whether it comes to be this, or another, within so many looks.
+    pub fn comes_to(&self, value: u64, is_it: bool) -> bool {
+        for _ in 0..LOOKS {
+            if (self.get() == value) == is_it {
+                return true;
+            }
+            thread::yield_now();
+        }
+        false
     }
 
     /// Whether there is one left; then it is taken, unless they are as many as are asked for.
@@ -96,6 +121,8 @@ impl Switch {
 /// How a server answers, and what it has counted. A test and its pool share it.
 #[derive(Drop)]
 pub struct Board {
+    /// `ARMED` where the next poll of an opening is to wait. It fails where it waits too long.
+    pub stage: Number,
     /// Before this moment, in nanoseconds of the pool's clock, each opening is pending.
     pub ready: Number,
     /// What comes of openings.
@@ -110,8 +137,11 @@ pub struct Board {
     pub breaks: Number,
     /// How many openings were begun.
     pub begun: Number,
-    /// How many connections were dropped.
+    /// How many connections were made, and how many dropped.
+    pub made: Number,
     pub closed: Number,
+    /// How often each of the first fifteen was dropped: a hexadecimal digit each, the last one for the first.
+    drops: Number,
     /// How many errors the sink has taken.
     pub errors: Number,
 }
@@ -120,6 +150,7 @@ impl Board {
     /// A server all of whose openings and checks pass, and whose connections are never broken.
     pub fn new(alloc: Global) -> Result<Arc<Board, Global>, Memory> {
         let board = Board {
+            stage: Number::new(OPEN),
             ready: Number::new(0),
             opening: Switch::new(),
             opens: Number::new(ALWAYS),
@@ -127,10 +158,21 @@ impl Board {
             check: Switch::new(),
             breaks: Number::new(0),
             begun: Number::new(0),
+            made: Number::new(0),
             closed: Number::new(0),
+            drops: Number::new(0),
             errors: Number::new(0),
         };
         Ok(Arc::new(alloc, board)?)
+    }
+
+    /// Whether each connection that was made was dropped, once.
+    pub fn is_each_dropped_once(&self) -> bool {
+        let mut once: u64 = 0;
+        for _ in 0..self.made.get() {
+            once = once.wrapping_mul(16).saturating_add(1);
+        }
+        self.made.get() < 16 && self.drops.get() == once
     }
 }
 
@@ -152,6 +194,9 @@ pub fn server_on(board: &Arc<Board, Global>) -> Result<Server, Memory> {
 /// A builder of pools of a server's connections.
 pub type ServerBuilder = Builder<Server, Errors>;
 
+/// A pool of a server's connections by a clock of this type.
+pub type ServerPool<K, R, L> = Pool<Server, Errors, NopCustomizer, K, R, L>;
+
 /// A builder with the defaults, whose pools' errors are counted on the board.
 pub fn builder_on(board: &Arc<Board, Global>) -> Result<ServerBuilder, Memory>
     ensures { IfOk result (λ builder. builder.settings ≡ default_settings) }
@@ -162,18 +207,24 @@ pub fn builder_on(board: &Arc<Board, Global>) -> Result<ServerBuilder, Memory>
 }
 
 /// A connection of this number that no opening brought.
-pub fn connection_on(board: &Arc<Board, Global>, number: u64) -> Result<Connection, Memory> {
-    Ok(Connection {
+pub fn connection_on(board: &Arc<Board, Global>, number: u64) -> Result<ServerConnection, Memory> {
+    let shared = share(board)?;
+    let mut digit: u64 = 1;
+    for _ in 1..board.made.count().min(17) {
+        digit = digit.wrapping_mul(16);
+    }
+    Ok(ServerConnection {
         number,
         checks: 0,
         field: 0,
         is_broken: false,
-        board: share(board)?,
+        digit,
+        board: shared,
     })
 }
 
 /// A connection, which counts its drop.
-pub struct Connection {
+pub struct ServerConnection {
     /// Which opening brought it, from 1 on, or what a test calls it.
     pub number: u64,
     /// How many checks of it were begun.
@@ -182,25 +233,36 @@ pub struct Connection {
     pub field: u64,
     /// Whether it is found broken, besides as often as the board says.
     pub is_broken: bool,
+    digit: u64,
     board: Arc<Board, Global>,
 }
 
-impl Drop for Connection {
+impl Drop for ServerConnection {
     fn drop(self) {
-        let Connection {
+        let ServerConnection {
             number: _number,
             checks: _checks,
             field: _field,
             is_broken: _is_broken,
+            digit,
             board,
         } = self;
         board.closed.count();
+        board.drops.value.fetch_add(digit, Ordering::SeqCst);
     }
 }
 
-/// An opening of this number failed, or, of number 0, a check.
+/// The error of a server: an opening of this number failed, or, of number 0, a check.
 #[derive(Clone, Copy, Debug, PartialEq, Eq)]
 pub struct Refused(pub u64);
+
+impl fmt::Display for Refused {
+    fn fmt<W: fmt::Write>(&self, f: &mut fmt::Formatter<W>) -> fmt::Result {
+        write!(f, "refused {}", self.0)
+    }
+}
+
+impl Error for Refused {}
 
 /// Answers as its board says.
 #[derive(Drop)]
@@ -209,7 +271,7 @@ pub struct Server {
 }
 
 impl ManageConnection for Server {
-    type Connection = Connection;
+    type Connection = ServerConnection;
 
     type Error = Refused;
 
@@ -225,9 +287,15 @@ impl ManageConnection for Server {
         &self,
         connecting: &mut u64,
         moment: Moment,
-    ) -> Poll<Result<Connection, Refused>> {
+    ) -> Poll<Result<ServerConnection, Refused>> {
         let board = &*self.board;
         let number = *connecting;
+        if board.stage.get() == ARMED {
+            board.stage.set(WAITING);
+            if !board.stage.comes_to(WAITING, false) {
+                return Poll::Ready(Err(Refused(number)));
+            }
+        }
         match board.opening.get() {
             _ if moment < Moment(board.ready.get()) => Poll::Pending,
             Course::Lasts => Poll::Pending,
@@ -238,13 +306,13 @@ impl ManageConnection for Server {
         }
     }
 
-    fn is_valid(&self, connection: &mut Connection) {
+    fn is_valid(&self, connection: &mut ServerConnection) {
         connection.checks = connection.checks.saturating_add(1);
     }
 
     fn poll_valid(
         &self,
-        _connection: &mut Connection,
+        _connection: &mut ServerConnection,
         _checking: &mut (),
         _moment: Moment,
     ) -> Poll<Result<(), Refused>> {
@@ -255,7 +323,7 @@ impl ManageConnection for Server {
         }
     }
 
-    fn has_broken(&self, connection: &mut Connection) -> bool {
+    fn has_broken(&self, connection: &mut ServerConnection) -> bool {
         connection.is_broken || self.board.breaks.take_one()
     }
 }
@@ -269,5 +337,15 @@ pub struct Errors {
 impl ErrorSink<Refused> for Errors {
     fn sink(&self, _error: Refused) {
         self.board.errors.count();
+    }
+}
+
+/// A gate that does not pause: of a driver's run one turn is made.
+#[derive(Clone, Copy)]
+pub struct OneTurn;
+
+impl Gate for OneTurn {
+    fn pause(&mut self) -> bool {
+        false
     }
 }

@@ -3,13 +3,12 @@
 //! A test asserts what it finds, and proves nothing of it. So its body is generic over a handle whose calls have no clauses, and meets none
 //! of the contracts of a live pool. Those are met once, here.
 
+use bb8::building::Building;
+use bb8::dedicated::DedicatedFuture;
 use bb8::get::GetFuture;
-use bb8::owned::GetOwnedFuture;
-use bb8::{
-    AddError, Building, Cancel, Clock, CustomizeConnection, DedicatedFuture, ErrorSink,
-    ManageConnection, OwnedConnection, Pool, PoolCalls, PoolParts, PooledConnection, RunError,
-    State,
-};
+use bb8::owned::{GetOwnedFuture, OwnedConnection};
+use bb8::pool::{Pool, PooledConnection};
+use bb8::{AddError, Cancel, Given, ManageConnection, PoolCalls, PoolParts, RunError, State};
 use futures::task::Poll;
 use futures::test::MockTask;
 use std::ops::DerefMut;
@@ -23,8 +22,15 @@ pub fn sizes(state: State) -> (u32, u32) {
     (state.connections, state.idle_connections)
 }
 
+/// Of two kinds of gets, or of guards: one by a handle, and one with a handle of its own.
+#[derive(Drop)]
+pub enum Either<A: Drop, B: Drop> {
+    Lent(A),
+    Owned(B),
+}
+
 /// A handle of a pool of a manager's connections, by reference.
-pub trait Handle<M: ManageConnection>: Copy {
+pub trait LentHandle<M: ManageConnection>: Copy {
     /// A get.
     type Get: Drop;
 
@@ -61,6 +67,15 @@ pub trait Handle<M: ManageConnection>: Copy {
 
     fn cancel_owned(self, get: Self::OwnedGet);
 
+    /// A poll of a get of either kind.
+    fn poll_either(
+        self,
+        task: &MockTask,
+        get: &mut Either<Self::Get, Self::OwnedGet>,
+    ) -> Polled<Either<Self::Guard, Self::OwnedGuard>, M::Error>;
+
+    fn cancel_either(self, get: Either<Self::Get, Self::OwnedGet>);
+
     fn dedicated_connection(self) -> Self::Dedicated;
 
     fn poll_dedicated(
@@ -76,30 +91,22 @@ pub trait Handle<M: ManageConnection>: Copy {
     fn state(self) -> State;
 }
 
-impl<
-    'a,
-    M: ManageConnection,
-    S: ErrorSink<M::Error>,
-    Z: CustomizeConnection<M::Connection, M::Error>,
-    K: Clock,
-    R: Wait + Send + Sync + Drop + 'static,
-    L: PoolParts,
-> Handle<M> for &'a Pool<M, S, Z, K, R, L> {
-    type Get = GetFuture<'a, M, S, Z, K, R, L>;
+impl<'a, G: Given<Runtime: Wait>, L: PoolParts> LentHandle<G::Manager> for &'a Pool<G, L> {
+    type Get = GetFuture<'a, G, L>;
 
-    type Guard = PooledConnection<'a, M, S, Z, K, R, L>;
+    type Guard = PooledConnection<'a, G, L>;
 
-    type OwnedGet = GetOwnedFuture<M, S, Z, K, R, L>;
+    type OwnedGet = GetOwnedFuture<G, L>;
 
-    type OwnedGuard = OwnedConnection<M, S, Z, K, R, L>;
+    type OwnedGuard = OwnedConnection<G, L>;
 
-    type Dedicated = DedicatedFuture<'a, M, S, Z, K, R, L>;
+    type Dedicated = DedicatedFuture<'a, G, L>;
 
     fn get(self) -> Self::Get {
         PoolCalls::get(self)
     }
 
-    fn poll(self, task: &MockTask, get: &mut Self::Get) -> Polled<Self::Guard, M::Error> {
+    fn poll(self, task: &MockTask, get: &mut Self::Get) -> Polled<Self::Guard, G::Error> {
         task.poll(get)
     }
 
@@ -114,7 +121,7 @@ impl<
         }
     }
 
-    fn try_get(self) -> Result<Option<Self::Guard>, RunError<M::Error>> {
+    fn try_get(self) -> Result<Option<Self::Guard>, RunError<G::Error>> {
         PoolCalls::try_get(self)
     }
 
@@ -126,12 +133,38 @@ impl<
         self,
         task: &MockTask,
         get: &mut Self::OwnedGet,
-    ) -> Polled<Self::OwnedGuard, M::Error> {
+    ) -> Polled<Self::OwnedGuard, G::Error> {
         task.poll(get)
     }
 
     fn cancel_owned(self, get: Self::OwnedGet) {
         Cancel::cancel(get);
+    }
+
+    fn poll_either(
+        self,
+        task: &MockTask,
+        get: &mut Either<Self::Get, Self::OwnedGet>,
+    ) -> Polled<Either<Self::Guard, Self::OwnedGuard>, G::Error> {
+        match get {
+            Either::Lent(get) => match task.poll(get) {
+                Poll::Ready(Ok(guard)) => Poll::Ready(Ok(Either::Lent(guard))),
+                Poll::Ready(Err(error)) => Poll::Ready(Err(error)),
+                Poll::Pending => Poll::Pending,
+            },
+            Either::Owned(get) => match task.poll(get) {
+                Poll::Ready(Ok(guard)) => Poll::Ready(Ok(Either::Owned(guard))),
+                Poll::Ready(Err(error)) => Poll::Ready(Err(error)),
+                Poll::Pending => Poll::Pending,
+            },
+        }
+    }
+
+    fn cancel_either(self, get: Either<Self::Get, Self::OwnedGet>) {
+        match get {
+            Either::Lent(get) => Cancel::cancel(get),
+            Either::Owned(get) => Cancel::cancel(get),
+        }
     }
 
     fn dedicated_connection(self) -> Self::Dedicated {
@@ -142,7 +175,7 @@ impl<
         self,
         task: &MockTask,
         opening: &mut Self::Dedicated,
-    ) -> Poll<Result<M::Connection, M::Error>> {
+    ) -> Poll<Result<G::Connection, G::Error>> {
         task.poll(opening)
     }
 
@@ -150,7 +183,7 @@ impl<
         Cancel::cancel(opening);
     }
 
-    fn add(self, connection: M::Connection) -> Result<(), AddError<M::Connection>> {
+    fn add(self, connection: G::Connection) -> Result<(), AddError<G::Connection>> {
         PoolCalls::add(self, connection)
     }
 
@@ -185,23 +218,16 @@ pub trait OwnedHandle<M: ManageConnection>: Drop {
         Self: Sized;
 }
 
-impl<
-    M: ManageConnection,
-    S: ErrorSink<M::Error>,
-    Z: CustomizeConnection<M::Connection, M::Error>,
-    K: Clock,
-    R: Wait + Send + Sync + Drop + 'static,
-    L: PoolParts,
-> OwnedHandle<M> for Pool<M, S, Z, K, R, L> {
-    type OwnedGet = GetOwnedFuture<M, S, Z, K, R, L>;
+impl<G: Given<Runtime: Wait>, L: PoolParts> OwnedHandle<G::Manager> for Pool<G, L> {
+    type OwnedGet = GetOwnedFuture<G, L>;
 
-    type OwnedGuard = OwnedConnection<M, S, Z, K, R, L>;
+    type OwnedGuard = OwnedConnection<G, L>;
 
     fn get_owned(&self) -> Self::OwnedGet {
         PoolCalls::get_owned(self)
     }
 
-    fn poll_owned(task: &MockTask, get: &mut Self::OwnedGet) -> Polled<Self::OwnedGuard, M::Error> {
+    fn poll_owned(task: &MockTask, get: &mut Self::OwnedGet) -> Polled<Self::OwnedGuard, G::Error> {
         task.poll(get)
     }
 
@@ -213,7 +239,7 @@ impl<
         matches!(task.poll(&mut PoolCalls::get(self)), Poll::Ready(Ok(_)))
     }
 
-    fn add(&self, connection: M::Connection) -> Result<(), AddError<M::Connection>> {
+    fn add(&self, connection: G::Connection) -> Result<(), AddError<G::Connection>> {
         PoolCalls::add(self, connection)
     }
 
@@ -221,7 +247,7 @@ impl<
         PoolCalls::state(self)
     }
 
-    fn try_clone(&self) -> Result<Self, RunError<M::Error>> {
+    fn try_clone(&self) -> Result<Self, RunError<G::Error>> {
         PoolCalls::try_clone(self)
     }
 }
@@ -236,17 +262,10 @@ pub trait Unbuilt<M: ManageConnection>: Drop {
     fn cancel(self);
 }
 
-impl<
-    M: ManageConnection,
-    S: ErrorSink<M::Error>,
-    Z: CustomizeConnection<M::Connection, M::Error>,
-    K: Clock,
-    R: Wait + AllocGlobal + Send + Sync + Drop + 'static,
-    L: PoolParts,
-> Unbuilt<M> for Building<M, S, Z, K, R, L> {
-    type Pool = Pool<M, S, Z, K, R, L>;
+impl<G: Given<Runtime: Wait + AllocGlobal>, L: PoolParts> Unbuilt<G::Manager> for Building<G, L> {
+    type Pool = Pool<G, L>;
 
-    fn poll(&mut self, task: &MockTask) -> Polled<Self::Pool, M::Error> {
+    fn poll(&mut self, task: &MockTask) -> Polled<Self::Pool, G::Error> {
         task.poll(self)
     }
 

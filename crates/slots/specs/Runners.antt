@@ -9,6 +9,7 @@ use Rattle.bb8_types.specs.declared.api.moments.Moment.{Moment}
 use Rattle.bb8_types.specs.declared.api.sinks.ErrorSink.{Ghosts as SinkOf}
 use Rattle.bb8_gets.specs.declared.state.Stage.TheVariants.{Fresh}
 use Rattle.bb8_tasks.specs.declared.turning.Turn.{Turn}
+use Rattle.bb8.specs.declared.These.{These}
 use Rattle.bb8.specs.declared.Parts.{Ghosts as PartsOf}
 use Rattle.bb8.specs.declared.driver.Driver.{Driver}
 use Rattle.bb8.specs.declared.get.future.GetFuture.{GetFuture}
@@ -25,22 +26,22 @@ use Rattle.slots.specs.declared.slot.SlotManager.{SlotManager}
 use Rattle.slots.specs.Entries.{running, AddsJob}
 use Rattle.slots.specs.Turns.{StepsEach}
 
-module _ (S Z K R L A : Type 0) (l : PartsOf L) where
+module _ (S Z K R L A : Type 0) (s : SinkOf S Infallible) (z : CustomizerOf Z Slot Infallible A) (k : ClockOf K) (l : PartsOf L) where
   -- a pool of slots
   abbrev pub SlotPool : Type 0
-  SlotPool = Pool SlotManager S Z K R L Slot Infallible ⊤ ⊤ A manager.ghosts infallible.ghosts l
+  SlotPool = Pool (These SlotManager S Z K R) L SlotManager S Z K R Slot Infallible ⊤ ⊤ A manager.ghosts infallible.ghosts s z k l
 
   -- a driver of one
   abbrev pub SlotDriver : Type 0
-  SlotDriver = Driver SlotManager S Z K R L Slot Infallible ⊤ ⊤ A manager.ghosts infallible.ghosts l
+  SlotDriver = Driver (These SlotManager S Z K R) L SlotManager S Z K R Slot Infallible ⊤ ⊤ A manager.ghosts infallible.ghosts s z k l
 
   -- a get of a slot
   abbrev pub SlotGet : Type 0
-  SlotGet = GetFuture SlotManager S Z K R L Slot Infallible ⊤ ⊤ A manager.ghosts infallible.ghosts l
+  SlotGet = GetFuture (These SlotManager S Z K R) L SlotManager S Z K R Slot Infallible ⊤ ⊤ A manager.ghosts infallible.ghosts s z k l
 
 module _ {J S Z K R L O A : Type 0} {j : JobOf J O} {s : SinkOf S Infallible} {z : CustomizerOf Z Slot Infallible A} {k : ClockOf K} {l : PartsOf L} where
   -- the jobs of a runner whose outcomes were not taken, in the order of their ids
-  abbrev pub jobs_in : Runner J S Z K R L O A j s z k l → List (JobEntry J O (SlotGet S Z K R L A l))
+  abbrev pub jobs_in : Runner J S Z K R L O A j s z k l → List (JobEntry J O (SlotGet S Z K R L A s z k l))
   jobs_in runner = runner.entries.items
 
   -- how many of them run
@@ -52,11 +53,11 @@ module _ {J S Z K R L O A : Type 0} {j : JobOf J O} {s : SinkOf S Infallible} {z
   next_id runner = runner.next
 
   -- the pool of a runner
-  abbrev pub pool_of : Runner J S Z K R L O A j s z k l → SlotPool S Z K R L A l
+  abbrev pub pool_of : Runner J S Z K R L O A j s z k l → SlotPool S Z K R L A s z k l
   pool_of runner = runner.pool.now
 
   -- the driver of a runner
-  abbrev pub driver_of : Runner J S Z K R L O A j s z k l → SlotDriver S Z K R L A l
+  abbrev pub driver_of : Runner J S Z K R L O A j s z k l → SlotDriver S Z K R L A s z k l
   driver_of runner = runner.driver
 
   -- how many jobs may run: as many as the pool may have connections
@@ -69,13 +70,9 @@ module _ {J S Z K R L O A : Type 0} {j : JobOf J O} {s : SinkOf S Infallible} {z
       AddsJob (λ get. (stage_of get ≡ Fresh) × IsOf get (pool_of runner)) (next_id runner) job (jobs_in runner) (jobs_in runner')
 
   -- the driver makes a turn at a moment
-  abbrev pub TurnsIts : CustomizerOf Z Slot Infallible A → (S → Infallible → Type 0) → (K → Moment → Type 0) → Moment
-      → Runner J S Z K R L O A j s z k l → Runner J S Z K R L O A j s z k l → Type 0
-  TurnsIts customizer sinks tells moment runner runner' =
-      (turn : Turn) × TurnsDriver customizer sinks tells moment (driver_of runner) turn (driver_of runner')
+  abbrev pub TurnsIts : Moment → Runner J S Z K R L O A j s z k l → Runner J S Z K R L O A j s z k l → Type 0
+  TurnsIts moment runner runner' = (turn : Turn) × TurnsDriver moment (driver_of runner) turn (driver_of runner')
 
   -- each job makes a step at a moment, and so many end
-  abbrev pub StepsJobs : (J → Moment → Poll O → J → Type 0) → (S → Infallible → Type 0) → (K → Moment → Type 0) → Moment
-      → Runner J S Z K R L O A j s z k l → Runner J S Z K R L O A j s z k l → ℕ → Type 0
-  StepsJobs polls sinks tells moment runner runner' ended =
-      StepsEach polls (PollsGet sinks tells) moment (jobs_in runner) (jobs_in runner') ended
+  abbrev pub StepsJobs : (J → Moment → Poll O → J → Type 0) → Moment → Runner J S Z K R L O A j s z k l → Runner J S Z K R L O A j s z k l → ℕ → Type 0
+  StepsJobs polls moment runner runner' ended = StepsEach polls PollsGet moment (jobs_in runner) (jobs_in runner') ended

@@ -144,8 +144,8 @@ impl<
     }
 
     fn turn(&mut self, moment: Moment, cx: &mut Context<'_>) -> u64
-        ensures driver { TurnsIts Z.CustomizeConnection S.sinks K.tells moment self.old self.new }
-        ensures steps { StepsJobs J.polls S.sinks K.tells moment self.old self.new result }
+        ensures driver { TurnsIts moment self.old self.new }
+        ensures steps { StepsJobs J.polls moment self.old self.new result }
         ensures next { next_id self.new ≡ next_id self.old }
         ensures pool { pool_of self.new ≡ pool_of self.old }
         ensures kept { Keeps cx.old cx.new }

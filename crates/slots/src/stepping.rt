@@ -9,9 +9,9 @@ ghost use Rattle.slots.specs.Turns.{StepsJob, StepsGet, JobSteps};
 use crate::entries::JobPlace;
 use crate::job::{Job, Outcome};
 use crate::slot::{Slot, SlotManager};
-use bb8::get::GetFuture;
 use bb8::{
-    Clock, CustomizeConnection, ErrorSink, Guards, GuardsCalls, Locks, Moment, Parts, RunError,
+    Clock, CustomizeConnection, ErrorSink, GetFuture, Guards, GuardsCalls, Locks, Moment, Parts,
+    RunError,
 };
 use futures::Future;
 use futures::task::{Context, Poll};
@@ -87,7 +87,7 @@ impl<
         get: Get<'a, S, Z, K, R, L>,
         cx: &mut Context<'_>,
     ) -> Stepped<J, J::Out, Get<'a, S, Z, K, R, L>>
-        ensures steps { StepsGet (PollsGet S.sinks K.tells) job get.entry result.place
+        ensures steps { StepsGet PollsGet job get.entry result.place
             result.ended }
         ensures held { number_in self.new ≡ number_in self.old + guards_for result.place }
         ensures pool { AreOfOne self.new self.old }
@@ -123,7 +123,7 @@ impl<
         now: Moment,
         cx: &mut Context<'_>,
     ) -> Stepped<J, J::Out, Get<'a, S, Z, K, R, L>>
-        ensures steps { JobSteps J.polls (PollsGet S.sinks K.tells) now place.entry result.place
+        ensures steps { JobSteps J.polls PollsGet now place.entry result.place
             result.ended }
         ensures held { guards_for place.entry ≤ number_in self.old
             → number_in self.new + guards_for place.entry

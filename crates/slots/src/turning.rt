@@ -43,7 +43,7 @@ impl<
         now: Moment,
         cx: &mut Context<'_>,
     ) -> u64
-        ensures steps { 0 < deque_len queue.old → StepsFirst J.polls (PollsGet S.sinks K.tells) now
+        ensures steps { 0 < deque_len queue.old → StepsFirst J.polls PollsGet now
             queue.old.items queue.new.items result }
         ensures held { running queue.old.items ≡ number_in self.old
             → running queue.new.items ≡ number_in self.new }
@@ -66,7 +66,7 @@ impl<
         now: Moment,
         cx: &mut Context<'_>,
     ) -> u64
-        ensures steps { StepsEach J.polls (PollsGet S.sinks K.tells) now queue.old.items
+        ensures steps { StepsEach J.polls PollsGet now queue.old.items
             queue.new.items result }
         ensures held { running queue.old.items ≡ number_in self.old
             → running queue.new.items ≡ number_in self.new }

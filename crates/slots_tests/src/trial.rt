@@ -7,7 +7,7 @@ use bb8::{
     Builder, Config, Memory, Moment, NopCustomizer, NopErrorSink, Pool, PoolParts, Runtime,
     SetClock,
 };
-use bb8_trials::Handle;
+use bb8_trials::LentHandle;
 use futures::task::Poll;
 use futures::test::MockTask;
 use slots::{Job, Outcome, Runner, RunnerCalls, SlotManager};
@@ -44,12 +44,20 @@ impl Job for Count {
     }
 }
 
-/// The clock of a trial's pool, and a task that polls.
+/// A runner of counts over a pool, a handle of that, and what a test turns it with.
 #[derive(Drop)]
-pub struct Tools {
+pub struct Bench<R: Drop, P: LentHandle<SlotManager> + Drop, X: CountRunner> {
+    pub rt: R,
+    pub runner: X,
+    pub pool: P,
     pub clock: SetClock,
     pub task: MockTask,
 }
+
+/// A runner of counts.
+pub trait CountRunner: RunnerCalls<Job = Count, Outcome = Outcome<u64>> + Drop {}
+
+impl<X: RunnerCalls<Job = Count, Outcome = Outcome<u64>> + Drop> CountRunner for X {}
 
 /// The builder of a pool of slots.
 pub type SlotBuilder = Builder<SlotManager, NopErrorSink, NopCustomizer>;
@@ -61,18 +69,22 @@ pub fn slots(max_size: u32) -> SlotBuilder
     Builder::new().max_size(max_size).test_on_check_out(false)
 }
 
+impl<R: Drop, P: LentHandle<SlotManager> + Drop, X: CountRunner> Bench<R, P, X> {
+    /// A turn of the runner at a moment: how many jobs ended.
+    pub fn turn(&mut self, moment: u64) -> u64 {
+        let Bench { runner, task, .. } = self;
+        task.enter(|cx| runner.turn(Moment(moment), cx))
+    }
+
+    /// Submits a job that is ready at its poll of this number, and tells whether its id is this one.
+    pub fn submits(&mut self, ready_at: u64, id: u64) -> bool {
+        self.runner.submit(Count::to(ready_at)).ok() == Some(id)
+    }
+}
+
 /// What a test does with a runner, and with a handle of its pool.
 pub trait RunnerTrial<R: Runtime> {
-    /// What it ends with.
-    type End;
-
-    fn run<P: Handle<SlotManager>, X: RunnerCalls<Job = Count, Outcome = Outcome<u64>> + Drop>(
-        self,
-        rt: R,
-        tools: &Tools,
-        pool: P,
-        runner: X,
-    ) -> Self::End;
+    fn run<P: LentHandle<SlotManager> + Drop, X: CountRunner>(self, bench: Bench<R, P, X>);
 }
 
 /// A trial on a pool whose parts are named.
@@ -81,7 +93,7 @@ fn run_on<R: Runtime, L: PoolParts, T: RunnerTrial<R> + Drop>(
     blank: Blank,
     builder: SlotBuilder,
     trial: T,
-) -> Result<T::End, Memory>
+) -> Result<(), Memory>
     requires lawful { is_lawful builder.settings ≡ true }
     requires parts { IsBlankOf blank builder.settings L.name L.parts L.settings }
 {
@@ -92,8 +104,14 @@ fn run_on<R: Runtime, L: PoolParts, T: RunnerTrial<R> + Drop>(
     let pool: Pool<SlotManager, NopErrorSink, NopCustomizer, SetClock, R, L> =
         builder.build_unchecked(SlotManager, clock.try_clone()?, rt, blank)?;
     let runner = Runner::new(rt.alloc(), &pool)?;
-    let tools = Tools { clock, task };
-    Ok(trial.run(rt, &tools, &pool, runner))
+    trial.run(Bench {
+        rt,
+        runner,
+        pool: &pool,
+        clock,
+        task,
+    });
+    Ok(())
 }
 
 /// Runs a trial on a pool of these settings and a runner of it, at the moment 0. None where the settings are not lawful, or memory was refused.
@@ -101,7 +119,7 @@ pub fn try_runner<R: Runtime, T: RunnerTrial<R> + Drop>(
     rt: R,
     builder: SlotBuilder,
     trial: T,
-) -> Option<T::End> {
+) -> Option<()> {
     let config = Config::from(&builder);
     if !config.is_lawful() {
         return None;

@@ -2,9 +2,9 @@
 ghost use Rattle.std.specs.Prelude.{◌≡◌};
 
 use crate::pool::{Cancel, Pool, PooledConnection};
-use bb8_core::api::{Clock, CustomizeConnection, ErrorSink, ManageConnection, RunError};
+use bb8_core::api::RunError;
 use bb8_gets::{Calls, GetState};
-use bb8_lock::{GetCalls, Locks, Part, Parts, Shared};
+use bb8_lock::{GetCalls, Given, Part, Parts, Shared};
 use futures::Future;
 use futures::task::{Context, Poll};
 use std::marker::PhantomData;
@@ -16,63 +16,34 @@ use std::sync::Wait;
 /// the error sink or the clock. One that is pending asks to be polled again at once. When it is dropped before its answer, it gives the
 /// get up as cancelled; one that was not polled or was answered is dropped without a reading of the clock and without the lock. Our
 /// own: upstream's get is an async function.
-pub struct GetFuture<
-    'a,
-    M: ManageConnection,
-    S: ErrorSink<M::Error>,
-    Z: CustomizeConnection<M::Connection, M::Error>,
-    K: Clock,
-    R: Locks,
-    L: Parts,
-> {
-    pub(crate) shared: &'a Shared<M, S, Z, K, R, L>,
-    pub(crate) get: GetState<M::Connection, M::Checking, Part<L>>,
+pub struct GetFuture<'a, G: Given, L: Parts> {
+    pub(crate) shared: &'a Shared<G, L>,
+    pub(crate) get: GetState<G::Connection, G::Checking, Part<L>>,
 }
 
-impl<
-    M: ManageConnection,
-    S: ErrorSink<M::Error>,
-    Z: CustomizeConnection<M::Connection, M::Error>,
-    K: Clock,
-    R: Wait + Send + Sync + Drop + 'static,
-    L: Parts,
-> GetFuture<'_, M, S, Z, K, R, L> {
+impl<G: Given<Runtime: Wait>, L: Parts> GetFuture<'_, G, L> {
     ghost use Rattle.bb8.specs.Gets.{CancelsGet};
 
     /// Lets the get go, as a drop does, for which it may wait for the lock: one that began and was not answered is given up as cancelled.
     /// Our own.
     pub fn cancel(self)
-        ensures { CancelsGet S.sinks K.tells self.entry }
+        ensures { CancelsGet self.entry }
     {
         Cancel::cancel(self)
     }
 }
 
-impl<
-    M: ManageConnection,
-    S: ErrorSink<M::Error>,
-    Z: CustomizeConnection<M::Connection, M::Error>,
-    K: Clock,
-    R: Wait + Send + Sync + Drop + 'static,
-    L: Parts,
-> Cancel for GetFuture<'_, M, S, Z, K, R, L> {
+impl<G: Given<Runtime: Wait>, L: Parts> Cancel for GetFuture<'_, G, L> {
     ghost use Rattle.bb8.specs.Gets.{CancelsGet};
 
     fn cancel(self)
-        ensures { CancelsGet S.sinks K.tells self.entry }
+        ensures { CancelsGet self.entry }
     {
         drop(self);
     }
 }
 
-impl<
-    M: ManageConnection,
-    S: ErrorSink<M::Error>,
-    Z: CustomizeConnection<M::Connection, M::Error>,
-    K: Clock,
-    R: Locks,
-    L: Parts,
-> Pool<M, S, Z, K, R, L> {
+impl<G: Given, L: Parts> Pool<G, L> {
     ghost use Rattle.bb8.specs.Pools.{stage_of, IsOf};
     ghost use Rattle.bb8_gets.specs.declared.state.Stage.TheVariants.{Fresh as IsFresh};
 
@@ -84,7 +55,7 @@ impl<
     ///
     /// It answers `TimedOut` once `connection_timeout` has passed since the first poll, and `Memory` or `Exhausted` where the get could
     /// not begin.
-    pub fn get(&self) -> GetFuture<'_, M, S, Z, K, R, L>
+    pub fn get(&self) -> GetFuture<'_, G, L>
         ensures new { stage_of result ≡ IsFresh }
         ensures pool { IsOf result self.now }
     {
@@ -95,18 +66,11 @@ impl<
     }
 }
 
-impl<
-    M: ManageConnection,
-    S: ErrorSink<M::Error>,
-    Z: CustomizeConnection<M::Connection, M::Error>,
-    K: Clock,
-    R: Locks,
-    L: Parts,
-> Drop for GetFuture<'_, M, S, Z, K, R, L> {
+impl<G: Given, L: Parts> Drop for GetFuture<'_, G, L> {
     ghost use Rattle.bb8.specs.Gets.{CancelsGet};
 
     fn drop(self)
-        ensures { CancelsGet S.sinks K.tells self.entry }
+        ensures { CancelsGet self.entry }
     {
         let GetFuture { shared, get } = self;
         let calls = Calls::new(&shared.manager, &shared.error_sink, &shared.clock);
@@ -114,32 +78,24 @@ impl<
     }
 }
 
-impl<
-    'a,
-    M: ManageConnection,
-    S: ErrorSink<M::Error>,
-    Z: CustomizeConnection<M::Connection, M::Error>,
-    K: Clock,
-    R: Wait + Send + Sync + Drop + 'static,
-    L: Parts,
-> Future for GetFuture<'a, M, S, Z, K, R, L> {
+impl<'a, G: Given<Runtime: Wait>, L: Parts> Future for GetFuture<'a, G, L> {
     ghost use Rattle.std.specs.Prelude.{⊤};
     ghost use Rattle.futures.specs.Poll.{IfReady, OnPending};
     ghost use Rattle.futures.specs.Task.{Covers, Keeps};
     ghost use Rattle.bb8.specs.Gets.{GivesAtLast, PollsGet};
 
-    type Output = Result<PooledConnection<'a, M, S, Z, K, R, L>, RunError<M::Error>>;
+    type Output = Result<PooledConnection<'a, G, L>, RunError<G::Error>>;
 
-    ghost gives = { λ future out. GivesAtLast S.sinks K.tells future out };
+    ghost gives = { λ future out. GivesAtLast future out };
 
     /// One poll at the clock's reading. It is pending while the get waits before its deadline, and after its answer.
     fn poll(&mut self, cx: &mut Context<'_>) -> Poll<Self::Output>
-        ensures table { PollsGet S.sinks K.tells self.old result self.new }
+        ensures table { PollsGet self.old result self.new }
         ensures pool { self.new.shared.now ≡ self.old.shared.now }
-        ensures value { IfReady result (λ out. GivesAtLast S.sinks K.tells self.old out) }
+        ensures value { IfReady result (λ out. GivesAtLast self.old out) }
         ensures again { OnPending result ⊤ }
         ensures same { OnPending result
-            ((x : _) → GivesAtLast S.sinks K.tells self.new x → GivesAtLast S.sinks K.tells self.old x) }
+            ((x : _) → GivesAtLast self.new x → GivesAtLast self.old x) }
         ensures registered { OnPending result (Covers cx.new (λ _. ⊥)) }
         ensures kept { Keeps cx.old cx.new }
     {

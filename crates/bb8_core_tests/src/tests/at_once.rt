@@ -1,6 +1,6 @@
 //! A get that begins and is served in one step.
 
-use super::steps::{Link, NOW, served_by};
+use super::steps::{Colour, NOW, served_by};
 use super::{assert_equal, unchecked};
 use bb8_core::api::Config;
 use bb8_core::asked::{add, begin, put_back, serve_at_once};
@@ -13,7 +13,7 @@ fn succeeds_serving_at_once(rt: HostRuntime) {
     let config = unchecked(1, None);
     assert!(rt; config.is_lawful());
     let mut pool = PoolInternals::new(rt.alloc(), config);
-    let Some(AddAnswer::Added(_, None)) = add(&mut pool, NOW, Link::Red, false) else {
+    let Some(AddAnswer::Added(_, None)) = add(&mut pool, NOW, Colour::Red, false) else {
         panic!(rt; "nothing was added");
     };
     // The first get raises the peak, for which memory is asked, so it goes by the two steps.
@@ -30,7 +30,7 @@ fn succeeds_serving_at_once(rt: HostRuntime) {
     };
     assert_equal(&rt, served.get, 1);
     assert_equal(&rt, served.key.number, 0);
-    assert_equal(&rt, served.conn, Link::Red);
+    assert_equal(&rt, served.conn, Colour::Red);
     // Nothing is idle now, and so nothing happens.
     assert!(rt; matches!(serve_at_once(&mut pool, NOW), Some(None)));
     let state = pool.state(NOW);
@@ -44,7 +44,7 @@ fn succeeds_serving_at_once(rt: HostRuntime) {
 fn checked_gets_are_not_served_at_once(rt: HostRuntime) {
     let config = Config::default();
     assert!(rt; config.is_lawful());
-    let pool: PoolInternals<Link> = PoolInternals::new(rt.alloc(), config);
+    let pool: PoolInternals<Colour> = PoolInternals::new(rt.alloc(), config);
     assert!(rt; config.test_on_check_out);
     assert!(rt; !pool.fits_at_once());
 }

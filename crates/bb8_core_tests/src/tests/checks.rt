@@ -1,7 +1,7 @@
 //! Gets that check what they take: each end of a check, and give-ups that hand a connection in.
 ghost use Rattle.std.specs.Prelude.{◌+◌, ◌≤◌};
 
-use super::steps::{Link, NOW, taken_by};
+use super::steps::{Colour, NOW, taken_by};
 use super::{assert_equal, granted, served};
 use bb8_core::api::{Config, State, Statistics};
 use bb8_core::asked::{add, begin, checked_err, checked_ok, give_up, put_back};
@@ -24,11 +24,11 @@ fn checked(max_size: u32, min_idle: Option<u32>) -> Config {
 }
 
 /// A pool with room for one connection, which is idle.
-fn one_idle(rt: &impl Abort, alloc: Global) -> PoolInternals<Link> {
+fn one_idle(rt: &impl Abort, alloc: Global) -> PoolInternals<Colour> {
     let config = checked(1, None);
     assert!(rt; config.is_lawful());
     let mut pool = PoolInternals::new(alloc, config);
-    let Some(AddAnswer::Added(_, None)) = add(&mut pool, NOW, Link::Red, false) else {
+    let Some(AddAnswer::Added(_, None)) = add(&mut pool, NOW, Colour::Red, false) else {
         panic!(rt; "it was refused, or notified somebody");
     };
     pool
@@ -63,7 +63,7 @@ fn counted(started: u64, direct: u64, timed_out: u64, cancelled: u64) -> Statist
 }
 
 /// A get that began.
-fn begun(rt: &impl Abort, pool: &mut PoolInternals<Link>) -> GetKey {
+fn begun(rt: &impl Abort, pool: &mut PoolInternals<Colour>) -> GetKey {
     match begin(pool, NOW) {
         Some(BeginAnswer::Begun(get)) => get,
         _ => panic!(rt; "no get began"),
@@ -71,7 +71,7 @@ fn begun(rt: &impl Abort, pool: &mut PoolInternals<Link>) -> GetKey {
 }
 
 /// Whether these fit of a get: a try, both ends of a check; and the return of the connection 0.
-fn fitting(pool: &PoolInternals<Link>, get: u64) -> (bool, bool, bool, bool) {
+fn fitting(pool: &PoolInternals<Colour>, get: u64) -> (bool, bool, bool, bool) {
     let fits = |act| fits(pool, Event { at: NOW, act });
     (
         fits(Act::Try(get)),
@@ -92,7 +92,7 @@ fn succeeds_both_ends_of_a_check(rt: HostRuntime) {
     assert_equal(
         &rt,
         (key.number, &conn, grant),
-        (0, &Link::Red, granted(1, 0)),
+        (0, &Colour::Red, granted(1, 0)),
     );
     assert_equal(&rt, fitting(&pool, 0), (false, true, true, false));
     let Some(CheckedOkAnswer::Served(key)) = checked_ok(&mut pool, NOW, get, key.place) else {
@@ -118,7 +118,7 @@ fn succeeds_both_ends_of_a_check(rt: HostRuntime) {
     assert_equal(
         &rt,
         (closed.number, conn, grant),
-        (0, Link::Red, granted(1, 0)),
+        (0, Colour::Red, granted(1, 0)),
     );
     assert_equal(&rt, fitting(&pool, 1), (true, false, false, false));
     let mut wanted = counted(2, 1, 0, 0);
@@ -166,7 +166,7 @@ fn succeeds_give_ups_of_a_held_connection(rt: HostRuntime) {
     assert_equal(
         &rt,
         (closed.number, conn, grant),
-        (0, Link::Red, granted(1, 0)),
+        (0, Colour::Red, granted(1, 0)),
     );
     assert!(rt; pool.find(0).is_none());
     let mut wanted = counted(2, 0, 1, 1);
@@ -179,7 +179,7 @@ fn stale_hints_name_the_right_connection(rt: HostRuntime) {
     let config = checked(2, None);
     assert!(rt; config.is_lawful());
     let mut pool = PoolInternals::new(rt.alloc(), config);
-    for conn in [Link::Red, Link::Green] {
+    for conn in [Colour::Red, Colour::Green] {
         let Some(AddAnswer::Added(..)) = add(&mut pool, NOW, conn, false) else {
             panic!(rt; "it was refused");
         };

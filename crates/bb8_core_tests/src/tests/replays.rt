@@ -12,10 +12,10 @@ use std::test::Fail;
 const LAST: u64 = 18_446_744_073_709_551_614;
 
 /// What happens at a moment in nanoseconds, and what it is to be answered.
-type Line = (u64, Act, Answer);
+type ReplayLine = (u64, Act, Answer);
 
 /// The events of a table.
-fn events_of(alloc: Global, lines: &[Line]) -> Result<Vec<Event>, AllocError> {
+fn events_of(alloc: Global, lines: &[ReplayLine]) -> Result<Vec<Event>, AllocError> {
     let mut events = Vec::new(alloc);
     for (moment, act, _) in lines {
         events.push(Event {
@@ -27,7 +27,7 @@ fn events_of(alloc: Global, lines: &[Line]) -> Result<Vec<Event>, AllocError> {
 }
 
 /// Asserts that the answers are those of the table.
-fn assert_answers(rt: &impl Abort, lines: &[Line], answers: &[Answer]) {
+fn assert_answers(rt: &impl Abort, lines: &[ReplayLine], answers: &[Answer]) {
     assert_equal(&rt, answers.len(), lines.len());
     for ((moment, act, wanted), answer) in lines.iter().zip(answers) {
         assert_eq!(rt; answer, wanted, "{act:?} at {moment}");
@@ -41,7 +41,7 @@ fn shown_after_from(
     config: Config,
     first_number: u64,
     first_get: u64,
-    lines: &[Line],
+    lines: &[ReplayLine],
 ) -> Result<State, Fail> {
     assert!(rt; config.is_lawful());
     let events = events_of(alloc, lines)?;

@@ -13,7 +13,7 @@ pub(super) const NOW: Moment = Moment(0);
 
 /// A connection that is handed on and never copied.
 #[derive(Debug, PartialEq, Eq, Drop)]
-pub(super) enum Link {
+pub(super) enum Colour {
     Red,
     Green,
     Blue,
@@ -22,9 +22,9 @@ pub(super) enum Link {
 /// Has a get be served.
 pub(super) fn served_by(
     rt: &impl Abort,
-    pool: &mut PoolInternals<Link>,
+    pool: &mut PoolInternals<Colour>,
     get: GetKey,
-) -> (Key, Link, Grant) {
+) -> (Key, Colour, Grant) {
     match try_get(pool, NOW, get).expect(rt, "the step fits") {
         TryAnswer::Served(key, conn, grant) => (key, conn, grant),
         TryAnswer::Taken(..) => panic!(rt; "the get checks"),
@@ -35,9 +35,9 @@ pub(super) fn served_by(
 /// Has a get take a connection that it checks.
 pub(super) fn taken_by(
     rt: &impl Abort,
-    pool: &mut PoolInternals<Link>,
+    pool: &mut PoolInternals<Colour>,
     get: GetKey,
-) -> (Key, Link, Grant) {
+) -> (Key, Colour, Grant) {
     match try_get(pool, NOW, get).expect(rt, "the step fits") {
         TryAnswer::Taken(key, conn, grant) => (key, conn, grant),
         TryAnswer::Served(..) => panic!(rt; "the get was served unchecked"),
@@ -46,7 +46,7 @@ pub(super) fn taken_by(
 }
 
 /// Begins a get and serves it.
-fn take(rt: &impl Abort, pool: &mut PoolInternals<Link>) -> (Key, Link) {
+fn take(rt: &impl Abort, pool: &mut PoolInternals<Colour>) -> (Key, Colour) {
     let Some(BeginAnswer::Begun(get)) = begin(pool, NOW) else {
         panic!(rt; "no get began");
     };
@@ -55,7 +55,7 @@ fn take(rt: &impl Abort, pool: &mut PoolInternals<Link>) -> (Key, Link) {
 }
 
 /// Opens the connection of an approval, by its number.
-fn enter(rt: &impl Abort, pool: &mut PoolInternals<Link>, number: u64, conn: Link) {
+fn enter(rt: &impl Abort, pool: &mut PoolInternals<Colour>, number: u64, conn: Colour) {
     let key = pool.find(number).expect(rt, "the approval stands");
     let Some(OpenedAnswer::Entered(None)) = opened(pool, NOW, key, conn) else {
         panic!(rt; "{number} did not become idle, or notified somebody");
@@ -63,26 +63,26 @@ fn enter(rt: &impl Abort, pool: &mut PoolInternals<Link>, number: u64, conn: Lin
 }
 
 /// A pool of three connections, opened in the order 1, 0, 2.
-fn three_idle(rt: &impl Abort, alloc: Global) -> PoolInternals<Link> {
+fn three_idle(rt: &impl Abort, alloc: Global) -> PoolInternals<Colour> {
     let config = unchecked(3, Some(3));
     assert!(rt; config.is_lawful());
     let mut pool = PoolInternals::new(alloc, config);
     assert_equal(&rt, pool.fill(NOW, true), granted(0, 3));
-    enter(rt, &mut pool, 1, Link::Green);
-    enter(rt, &mut pool, 0, Link::Red);
-    enter(rt, &mut pool, 2, Link::Blue);
+    enter(rt, &mut pool, 1, Colour::Green);
+    enter(rt, &mut pool, 0, Colour::Red);
+    enter(rt, &mut pool, 2, Colour::Blue);
     pool
 }
 
 /// Asserts which connection is served next.
-fn assert_served(rt: &impl Abort, pool: &mut PoolInternals<Link>, number: u64, conn: Link) {
+fn assert_served(rt: &impl Abort, pool: &mut PoolInternals<Colour>, number: u64, conn: Colour) {
     let (key, served) = take(rt, pool);
     assert_equal(&rt, key.number, number);
     assert_equal(&rt, served, conn);
 }
 
 /// A pool whose numbers begin at 7 and whose gets begin at 40, with one approval that was claimed.
-fn one_claimed(rt: &impl Abort, alloc: Global) -> (PoolInternals<Link>, Key) {
+fn one_claimed(rt: &impl Abort, alloc: Global) -> (PoolInternals<Colour>, Key) {
     let config = unchecked(2, Some(1));
     assert!(rt; config.is_lawful());
     let mut pool = PoolInternals::starting_at(alloc, config, 7, 40);
@@ -102,7 +102,7 @@ fn one_claimed(rt: &impl Abort, alloc: Global) -> (PoolInternals<Link>, Key) {
 #[test]
 fn succeeds_each_step_once(rt: HostRuntime) {
     let (mut pool, approval) = one_claimed(&rt, rt.alloc());
-    let Some(OpenedAnswer::Entered(None)) = opened(&mut pool, NOW, approval, Link::Blue) else {
+    let Some(OpenedAnswer::Entered(None)) = opened(&mut pool, NOW, approval, Colour::Blue) else {
         panic!(rt; "it did not become idle, or notified somebody");
     };
     let Some(BeginAnswer::Begun(get)) = begin(&mut pool, NOW) else {
@@ -114,7 +114,7 @@ fn succeeds_each_step_once(rt: HostRuntime) {
     assert_equal(
         &rt,
         (key.number, &conn, grant),
-        (7, &Link::Blue, granted(8, 1)),
+        (7, &Colour::Blue, granted(8, 1)),
     );
     assert!(rt; pool.find_get(40).is_none());
     assert_equal(&rt, pool.find(7).map(|key| key.number), Some(7));
@@ -123,7 +123,7 @@ fn succeeds_each_step_once(rt: HostRuntime) {
         panic!(rt; "it was kept, or somebody was notified");
     };
     assert_equal(&rt, pool.searched(), 0);
-    assert_equal(&rt, (&closed, grant), (&Link::Blue, granted(9, 0)));
+    assert_equal(&rt, (&closed, grant), (&Colour::Blue, granted(9, 0)));
     assert!(rt; pool.find(7).is_none());
     pool.limits();
     let mut wanted = served(0, 0, 1, 1);
@@ -140,19 +140,19 @@ fn failed_opening_ends_its_approval(rt: HostRuntime) {
 }
 
 /// Two connections are out, of which the later one stands where an ended one stood.
-fn place_used_again(rt: &impl Abort, alloc: Global) -> (PoolInternals<Link>, Key, Key, Key) {
+fn place_used_again(rt: &impl Abort, alloc: Global) -> (PoolInternals<Colour>, Key, Key, Key) {
     let config = unchecked(2, Some(1));
     assert!(rt; config.is_lawful());
     let mut pool = PoolInternals::new(alloc, config);
     assert_equal(&rt, pool.fill(NOW, true), granted(0, 1));
-    enter(rt, &mut pool, 0, Link::Red);
+    enter(rt, &mut pool, 0, Colour::Red);
     let (ended, conn) = take(rt, &mut pool);
-    assert_equal(&rt, (ended.number, &conn), (0, &Link::Red));
+    assert_equal(&rt, (ended.number, &conn), (0, &Colour::Red));
     let ClaimAnswer::Claimed(Some(_)) = pool.claim(NOW) else {
         panic!(rt; "nothing was claimed");
     };
-    enter(rt, &mut pool, 1, Link::Green);
-    let Some(PutBackAnswer::Closed(Link::Red, _, None)) = put_back(
+    enter(rt, &mut pool, 1, Colour::Green);
+    let Some(PutBackAnswer::Closed(Colour::Red, _, None)) = put_back(
         &mut pool, NOW, ended, conn, true,
     ) else {
         panic!(rt; "it was kept, or another one was handed back");
@@ -161,7 +161,7 @@ fn place_used_again(rt: &impl Abort, alloc: Global) -> (PoolInternals<Link>, Key
     let ClaimAnswer::Claimed(Some(_)) = pool.claim(NOW) else {
         panic!(rt; "nothing was claimed");
     };
-    enter(rt, &mut pool, 2, Link::Blue);
+    enter(rt, &mut pool, 2, Colour::Blue);
     let (later, _) = take(rt, &mut pool);
     (pool, ended, first, later)
 }
@@ -176,19 +176,20 @@ fn stale_keys_name_the_right_record(rt: HostRuntime) {
         number: 1,
         place: ended.place,
     };
-    let Some(PutBackAnswer::Kept(None)) = put_back(&mut pool, NOW, stale, Link::Green, false) else {
+    let Some(PutBackAnswer::Kept(None)) = put_back(&mut pool, NOW, stale, Colour::Green, false)
+    else {
         panic!(rt; "it was closed");
     };
-    assert_served(&rt, &mut pool, 1, Link::Green);
+    assert_served(&rt, &mut pool, 1, Colour::Green);
     let nowhere = Key {
         number: 2,
         place: 1_000,
     };
-    let Some(PutBackAnswer::Closed(Link::Blue, _, None)) = put_back(
+    let Some(PutBackAnswer::Closed(Colour::Blue, _, None)) = put_back(
         &mut pool,
         NOW,
         nowhere,
-        Link::Blue,
+        Colour::Blue,
         true,
     ) else {
         panic!(rt; "it was kept, or another one was handed back");
@@ -215,7 +216,7 @@ fn stale_keys_name_the_right_get(rt: HostRuntime) {
     let (key, conn, _) = served_by(&rt, &mut pool, stale);
     // It is searched for as it is looked at, and as it ends.
     assert_equal(&rt, pool.searched(), 2);
-    assert_equal(&rt, (key.number, conn), (0, Link::Red));
+    assert_equal(&rt, (key.number, conn), (0, Colour::Red));
     assert!(rt; pool.find_get(0).is_none());
     assert_equal(&rt, pool.find_get(1).map(|get| get.number), Some(1));
     assert!(rt; pool.find_get(2).is_none());

@@ -1,6 +1,6 @@
 //! Transcripts made at random: each answer, and the figures then, are what the core's replay gives to the same events.
 
-use crate::answer::Answer as Told;
+use crate::answer::LineAnswer;
 use crate::run;
 use bb8::{Config, Moment, Runtime, Turn};
 use bb8_core::internals::PoolInternals;
@@ -138,15 +138,15 @@ impl Writer {
     }
 
     /// A line, its answer, and how many connections there are then.
-    fn say(&mut self, verb: &str, number: u64, answer: Told) -> Result<(), Fault> {
+    fn say(&mut self, verb: &str, number: u64, answer: LineAnswer) -> Result<(), Fault> {
         match answer {
-            Told::Done => writeln!(self.text, "{verb} {number}")?,
+            LineAnswer::Done => writeln!(self.text, "{verb} {number}")?,
             answer => writeln!(self.text, "{verb} {number} | {answer}")?,
         }
         if let Answer::Shown(state) = self.apply(Act::State) {
             let taken = (self.tasks.len() as u64).saturating_add(u64::from(state.connections));
             self.is_sound &= taken <= u64::from(self.config.max_size);
-            writeln!(self.text, "sizes | {}", Told::Sizes(state))?;
+            writeln!(self.text, "sizes | {}", LineAnswer::Sizes(state))?;
         }
         Ok(())
     }
@@ -164,7 +164,7 @@ impl Writer {
         if owned {
             self.apply(Act::Join);
         }
-        self.say(if owned { "own" } else { "get" }, n, Told::Done)?;
+        self.say(if owned { "own" } else { "get" }, n, LineAnswer::Done)?;
         Ok(Caller {
             life: Life::Fresh,
             owned,
@@ -188,7 +188,7 @@ impl Writer {
         }
     }
 
-    fn serve(&mut self, caller: &mut Caller, number: u64) -> Told {
+    fn serve(&mut self, caller: &mut Caller, number: u64) -> LineAnswer {
         let mut named = 0;
         for (known, name) in self.names.iter() {
             if *known == number {
@@ -198,18 +198,18 @@ impl Writer {
         self.is_sound &= self.callers.iter().all(|other| other.guard != Some(number));
         caller.life = Life::Ended;
         caller.guard = Some(number);
-        Told::Served(named)
+        LineAnswer::Served(named)
     }
 
-    fn poll(&mut self, caller: &mut Caller) -> Told {
+    fn poll(&mut self, caller: &mut Caller) -> LineAnswer {
         let (get, deadline, checked) = match caller.life {
-            Life::Ended => return Told::Pending,
+            Life::Ended => return LineAnswer::Pending,
             Life::Begun(get, deadline, held) => (get, deadline, held),
             Life::Fresh => {
                 let deadline = self.now().saturating_add(1000);
                 match self.apply(Act::Begin) {
                     Answer::Begun(get) => (get, deadline, None),
-                    _ => return Told::Memory,
+                    _ => return LineAnswer::Memory,
                 }
             }
         };
@@ -235,10 +235,10 @@ impl Writer {
             _ => {}
         }
         if self.now() < deadline {
-            return Told::Pending;
+            return LineAnswer::Pending;
         }
         self.give_up(caller, Reason::TimedOut);
-        Told::TimedOut
+        LineAnswer::TimedOut
     }
 
     /// A guard is dropped, or another get comes in the place of one, or a get is polled.
@@ -255,12 +255,12 @@ impl Writer {
                 if caller.owned {
                     self.apply(Act::Leave);
                 }
-                self.say("return", n, Told::Done)?;
+                self.say("return", n, LineAnswer::Done)?;
             }
             (None, 0) => {
                 self.give_up(&mut caller, Reason::Cancelled);
                 let verb = pick(&self.source, &["drop", "cancel"]);
-                self.say(verb, n, Told::Done)?;
+                self.say(verb, n, LineAnswer::Done)?;
                 caller = self.begin(n)?;
             }
             _ => {
@@ -304,7 +304,7 @@ impl Writer {
             ended: false,
         };
         let moment = self.clock;
-        self.say("turn", moment, Told::Turned(turn))
+        self.say("turn", moment, LineAnswer::Turned(turn))
     }
 
     /// A connection is made, and added. One that is refused is dropped as the next one is made.
@@ -315,12 +315,12 @@ impl Writer {
         let answer = self.apply(Act::Add(broken));
         if let Answer::Added(number, _) = answer {
             let _ = self.names.push((number, name));
-            return self.say("add", 0, Told::Added);
+            return self.say("add", 0, LineAnswer::Added);
         }
         self.closed = self.closed.saturating_add(1);
         match answer {
-            Answer::Broken => self.say("add", 0, Told::Broken(name)),
-            _ => self.say("add", 0, Told::Full(name)),
+            Answer::Broken => self.say("add", 0, LineAnswer::Broken(name)),
+            _ => self.say("add", 0, LineAnswer::Full(name)),
         }
     }
 
@@ -334,11 +334,11 @@ impl Writer {
                     _ => self.clock.saturating_add(span),
                 };
                 self.clock = clock;
-                self.say("clock", clock, Told::Done)
+                self.say("clock", clock, LineAnswer::Done)
             }
             3 => {
                 self.breaks = span % 3;
-                self.say("breaks", span % 3, Told::Done)
+                self.say("breaks", span % 3, LineAnswer::Done)
             }
             which => {
                 let (course, word) = match span % 3 {

@@ -4,12 +4,14 @@ ghost use Rattle.std.specs.Prelude.{Some, false};
 ghost use Rattle.bb8.specs.Parts.{IsBlankOf};
 ghost use Rattle.bb8.specs.Settings.{default_settings};
 
-use super::{Refused, assert_equal};
+use super::assert_equal;
 use bb8::{
     Builder, Clock, CustomizeConnection, Driver, DriverCalls, ErrorSink, Gate, Job,
     ManageConnection, Memory, Moment, Pool, PoolCalls, PoolParts, Runtime, start,
 };
-use bb8_trials::{Course, Handle, Number, OwnedHandle, Unbuilt};
+use bb8_trials::{
+    ARMED, Course, LOOKS, LentHandle, Number, OPEN, OwnedHandle, Refused, Unbuilt, WAITING,
+};
 use futures::task::Poll;
 use futures::test::MockTask;
 use std::alloc::Global;
@@ -26,17 +28,8 @@ use std::time::Duration;
 const CALLS: &str =
     "- now connect poll_connect on_acquire poll_acquire is_valid poll_valid has_broken sink dropped ended";
 
-/// Calls wait for nobody.
-pub(super) const OPEN: u64 = 0;
-/// The next call waits.
-pub(super) const ARMED: u64 = 1;
-/// A call waits until the other thread was answered, whose own reading of the clock does not wait and is not written down.
-pub(super) const WAITING: u64 = 2;
-/// The other thread is to end.
+/// At this stage the other thread is to end.
 const ENDED: u64 = 3;
-
-/// How often a thread looks before it gives up.
-const LOOKS: u32 = 10_000_000;
 
 /// What a test shares with its pool's manager, customizer, sink and clock, and with the connections.
 #[derive(Drop)]
@@ -45,6 +38,7 @@ pub(super) struct Desk {
     calls: Number,
     /// How often a test looked.
     looks: Number,
+    /// While a call waits, the other thread's own reading of the clock does not wait and is not written down.
     pub(super) stage: Number,
     /// How many calls waited, and how many in vain.
     pub(super) waited: Number,
@@ -85,24 +79,13 @@ impl Desk {
             ARMED => {
                 self.waited.count();
                 self.stage.set(WAITING);
-                if !self.comes_to(WAITING, false) {
+                if !self.stage.comes_to(WAITING, false) {
                     self.missed.count();
                 }
             }
             _ => {}
         }
         self.calls.set(after(self.calls.get(), call));
-    }
-
-    /// Whether it comes to be, or not to be, at this stage, within so many looks.
-    pub(super) fn comes_to(&self, stage: u64, is_there: bool) -> bool {
-        for _ in 0..LOOKS {
-            if (self.stage.get() == stage) == is_there {
-                return true;
-            }
-            thread::yield_now();
-        }
-        false
     }
 }
 
@@ -291,6 +274,9 @@ impl Gate for Teller {
 /// A pool all of whose calls outside are written down.
 pub(super) type TellerPool<R, L> = Pool<Teller, Teller, Teller, Teller, R, L>;
 
+/// The pool's driver.
+type TellerDriver<R, L> = Driver<Teller, Teller, Teller, Teller, R, L>;
+
 /// What a test polls with, and what it looks at.
 #[derive(Drop)]
 struct Tools<'a, R> {
@@ -304,14 +290,14 @@ impl<R: Runtime + Abort> Tools<'_, R> {
         made(&self.rt, self.desk, calls);
     }
 
-    fn add<P: Handle<Teller>>(&self, pool: P) -> Result<(), Memory> {
+    fn add<P: LentHandle<Teller>>(&self, pool: P) -> Result<(), Memory> {
         drop(pool.add(connection(self.desk)?));
         self.made("has_broken now");
         Ok(())
     }
 
     /// Polls a get, which makes these calls.
-    fn poll<P: Handle<Teller>>(&self, pool: P, get: &mut P::Get, calls: &str) {
+    fn poll<P: LentHandle<Teller>>(&self, pool: P, get: &mut P::Get, calls: &str) {
         let polled = pool.poll(self.task, get);
         self.made(calls);
         let served = matches!(&polled, Poll::Ready(Ok(_)));
@@ -326,7 +312,7 @@ impl<R: Runtime + Abort> Tools<'_, R> {
 }
 
 /// A get that is served, one that is checked for long, one that times out then, and one whose connection is found broken as it is let go.
-fn checked<R: Runtime + Abort, P: Handle<Teller>>(
+fn checked<R: Runtime + Abort, P: LentHandle<Teller>>(
     tools: &Tools<'_, R>,
     pool: P,
 ) -> Result<(), Memory> {
@@ -361,7 +347,7 @@ fn checked<R: Runtime + Abort, P: Handle<Teller>>(
 }
 
 /// Gets that wait: one is let go, one times out; and gets whose check fails: one is let go then, and one waits and is served.
-fn waiting<R: Runtime + Abort, P: Handle<Teller>>(
+fn waiting<R: Runtime + Abort, P: LentHandle<Teller>>(
     tools: &Tools<'_, R>,
     pool: P,
 ) -> Result<(), Memory> {
@@ -405,7 +391,7 @@ fn waiting<R: Runtime + Abort, P: Handle<Teller>>(
 }
 
 /// Gets with a handle of their own: one that is not polled, one that is served, and one that is let go while it is checked.
-fn owned<R: Runtime + Abort, P: Handle<Teller>>(
+fn owned<R: Runtime + Abort, P: LentHandle<Teller>>(
     tools: &Tools<'_, R>,
     pool: P,
 ) -> Result<(), Memory> {
@@ -430,7 +416,7 @@ fn owned<R: Runtime + Abort, P: Handle<Teller>>(
 }
 
 /// Connections that the pool does not count: opened and prepared slowly; failing as it is opened, or prepared; let go as it is prepared.
-fn dedicated<R: Runtime + Abort, P: Handle<Teller>>(tools: &Tools<'_, R>, pool: P) {
+fn dedicated<R: Runtime + Abort, P: LentHandle<Teller>>(tools: &Tools<'_, R>, pool: P) {
     let desk = tools.desk;
     let mut opening = pool.dedicated_connection();
     for (connects, prepares, calls) in &[
@@ -475,7 +461,7 @@ fn dedicated<R: Runtime + Abort, P: Handle<Teller>>(tools: &Tools<'_, R>, pool: 
 }
 
 /// Whatever connections are idle are closed as their checks fail, and a get waits and is let go: one approval is open.
-fn approve<R: Runtime + Abort, P: Handle<Teller>>(tools: &Tools<'_, R>, pool: P) {
+fn approve<R: Runtime + Abort, P: LentHandle<Teller>>(tools: &Tools<'_, R>, pool: P) {
     tools.desk.check.set(2);
     let mut get = pool.get();
     for _ in 0..pool.state().idle_connections.saturating_add(1) {
@@ -488,10 +474,10 @@ fn approve<R: Runtime + Abort, P: Handle<Teller>>(tools: &Tools<'_, R>, pool: P)
 
 /// Turns, which read no clock: one connection is opened and prepared slowly, one opening fails, and one preparation; and a driver that is
 /// dropped with what it prepares.
-fn turns<R: Runtime + Abort, P: Handle<Teller>, D: DriverCalls + Drop>(
+fn turns<R: Runtime + Abort, P: LentHandle<Teller>, L: PoolParts>(
     tools: &Tools<'_, R>,
     pool: P,
-    driver: D,
+    driver: TellerDriver<R, L>,
 ) {
     let desk = tools.desk;
     let mut driver = driver;
@@ -521,7 +507,7 @@ fn turns<R: Runtime + Abort, P: Handle<Teller>, D: DriverCalls + Drop>(
         }
         desk.opening.set(*connects);
         desk.preparing.set(*prepares);
-        driver.turn(Moment(300));
+        let _ = DriverCalls::turn(&mut driver, Moment(300));
         tools.made(calls);
     }
     drop(driver);

@@ -1,8 +1,8 @@
 //! Lists of guards.
 
-use super::{NumberPool, Numbers, Trial, assert_equal, try_numbers};
+use super::{NumberTrial, SlowPool, Trial, assert_equal, try_numbers};
 use bb8::{Guards, Moment, PoolParts, Runtime};
-use bb8_trials::{Handle, SECOND};
+use bb8_trials::{LentHandle, SECOND};
 use futures::task::Poll;
 use futures::test::MockTask;
 use std::process::Abort;
@@ -12,9 +12,9 @@ use std::test::Fail;
 /// what is left.
 pub(super) fn gathers<R: Runtime + Abort, L: PoolParts>(
     rt: R,
-    numbers: Numbers<R, L>,
+    numbers: NumberTrial<R, L>,
 ) -> Result<(), Fail> {
-    let Numbers { pool, task, .. } = numbers;
+    let NumberTrial { pool, task, .. } = numbers;
     let mut guards = Guards::new(rt.alloc(), &pool);
     assert!(&rt; guards.is_empty());
     for connection in 7..10u64 {
@@ -57,14 +57,14 @@ fn succeeds_to_gather_three_guards(rt: HostRuntime) -> Result<(), Fail> {
 /// middle of their list comes back as 8, and is kept; of the rest, which the list gives back, just 7 is closed.
 pub(super) fn keeps_the_young<R: Runtime + Abort, L: PoolParts>(
     rt: R,
-    numbers: Numbers<R, L>,
+    numbers: NumberTrial<R, L>,
 ) -> Result<(), Fail> {
-    let Numbers { pool, clock, task } = numbers;
+    let NumberTrial { pool, clock, task } = numbers;
     let mut guards = Guards::new(rt.alloc(), &pool);
     for (connection, birth) in [(7, 0), (8, 10 * SECOND), (9, 20 * SECOND)] {
         clock.set(Moment(birth));
         assert_equal(&rt, pool.add(connection), Ok(()));
-        let Some(guard) = Handle::lend(&pool, &task) else {
+        let Some(guard) = LentHandle::lend(&pool, &task) else {
             panic!(&rt; "not served");
         };
         assert!(&rt; guards.push(guard).is_ok());
@@ -82,9 +82,9 @@ pub(super) fn keeps_the_young<R: Runtime + Abort, L: PoolParts>(
 }
 
 /// The connections that two gets are served with.
-fn lent<R: Runtime, L: PoolParts>(pool: &NumberPool<R, L>, task: &MockTask) -> Option<(u64, u64)> {
-    let first = Handle::lend(pool, task)?;
-    let second = Handle::lend(pool, task)?;
+fn lent<R: Runtime, L: PoolParts>(pool: &SlowPool<R, L>, task: &MockTask) -> Option<(u64, u64)> {
+    let first = LentHandle::lend(pool, task)?;
+    let second = LentHandle::lend(pool, task)?;
     Some((*first, *second))
 }
 

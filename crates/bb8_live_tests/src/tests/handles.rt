@@ -1,6 +1,6 @@
 //! What a guard shows, and where it may go.
 
-use super::{Numbers, Trial, assert_equal, try_numbers};
+use super::{NumberTrial, Trial, assert_equal, try_numbers};
 use bb8::{PoolParts, Runtime};
 use futures::task::Poll;
 use std::process::Abort;
@@ -12,9 +12,9 @@ fn is_sent<T: Send>(_: &T) {}
 /// A pool is printed without its parts, a guard as its connection, and an owned one is read and written as it; it may go to another thread, as its get may.
 pub(super) fn derefs<R: Runtime + Abort, L: PoolParts>(
     rt: R,
-    numbers: Numbers<R, L>,
+    numbers: NumberTrial<R, L>,
 ) -> Result<(), Fail> {
-    let Numbers { pool, task, .. } = numbers;
+    let NumberTrial { pool, task, .. } = numbers;
     assert_equal(
         &rt,
         format!(in rt.alloc(); "{pool:?}")?.as_str(),

@@ -1,7 +1,7 @@
 //! A service over a pool: what is called, how often, and under which number.
 ghost use Rattle.std.specs.Prelude.{◌≡◌, Ok, IfOk, length};
 
-use super::{NumberPool, SlowManager, assert_equal};
+use super::{SlowManager, SlowPool, assert_equal};
 use bb8::{
     Builder, Memory, Moment, NopCustomizer, NopErrorSink, PoolCalls, PoolParts, Runtime, Service,
     SetClock,
@@ -15,7 +15,7 @@ use std::time::Clock;
 
 /// Counts its calls.
 #[derive(Drop)]
-struct Counted<R> {
+struct CallCounter<R> {
     rt: R,
     /// The connection that it adds as it begins.
     connection: u64,
@@ -24,9 +24,9 @@ struct Counted<R> {
     ended: AtomicU64,
 }
 
-impl<R: Runtime + Abort> Counted<R> {
+impl<R: Runtime + Abort> CallCounter<R> {
     fn new(rt: R, connection: u64) -> Self {
-        Counted {
+        CallCounter {
             rt,
             connection,
             begun: AtomicU64::new(0),
@@ -46,14 +46,14 @@ impl<R: Runtime + Abort> Counted<R> {
 }
 
 impl<R: Runtime + Abort> Service<SlowManager, NopErrorSink, NopCustomizer, SetClock, R>
-    for Counted<R> {
+    for CallCounter<R> {
     /// The thread's number, where its get was served.
     type Told = Option<usize>;
 
     /// Whether the threads of all numbers told, in order; none where the connection was not added.
     type Outcome = Option<bool>;
 
-    fn begin<L: PoolParts>(&self, pool: &NumberPool<R, L>) -> Result<(), Option<bool>> {
+    fn begin<L: PoolParts>(&self, pool: &SlowPool<R, L>) -> Result<(), Option<bool>> {
         self.begun.fetch_add(1, Ordering::SeqCst);
         match PoolCalls::add(pool, self.connection) {
             Ok(()) => Ok(()),
@@ -61,15 +61,18 @@ impl<R: Runtime + Abort> Service<SlowManager, NopErrorSink, NopCustomizer, SetCl
         }
     }
 
-    fn run<L: PoolParts>(&self, pool: &NumberPool<R, L>, thread: usize) -> Option<usize> {
+    /// By a handle of the thread's own.
+    fn run<L: PoolParts>(&self, pool: &SlowPool<R, L>, thread: usize) -> Option<usize> {
         self.run.fetch_add(1, Ordering::SeqCst);
-        match block_on(&self.rt, PoolCalls::get(pool)) {
+        let handle = PoolCalls::try_clone(pool).ok()?;
+        let told = match block_on(&self.rt, PoolCalls::get(&handle)) {
             Ok(Ok(guard)) if *guard == self.connection => Some(thread),
             _ => None,
-        }
+        };
+        told
     }
 
-    fn end<L: PoolParts>(&self, _pool: &NumberPool<R, L>, told: &[Option<usize>]) -> Option<bool> {
+    fn end<L: PoolParts>(&self, _pool: &SlowPool<R, L>, told: &[Option<usize>]) -> Option<bool> {
         self.ended.fetch_add(1, Ordering::SeqCst);
         let in_order = told
             .iter()
@@ -82,7 +85,7 @@ impl<R: Runtime + Abort> Service<SlowManager, NopErrorSink, NopCustomizer, SetCl
 /// Four threads over a pool of one connection, which is added, so that the pool's driver opens none.
 fn serve_four<R: Runtime + Abort + Threads + Clock>(
     rt: R,
-    service: &Counted<R>,
+    service: &CallCounter<R>,
 ) -> Result<Option<bool>, Memory> {
     let clock = SetClock::new(rt.alloc(), Moment(0))?;
     let builder = Builder::new().max_size(1).test_on_check_out(false);
@@ -94,7 +97,7 @@ fn serve_four<R: Runtime + Abort + Threads + Clock>(
 
 #[test]
 fn each_thread_runs_once_under_its_number(rt: HostRuntime) -> Result<(), Fail> {
-    let service = Counted::new(rt, 7);
+    let service = CallCounter::new(rt, 7);
     assert_equal(&rt, serve_four(rt, &service)?, Some(true));
     assert_equal(&rt, service.calls(), (1, 4, 1));
     Ok(())
@@ -102,7 +105,7 @@ fn each_thread_runs_once_under_its_number(rt: HostRuntime) -> Result<(), Fail> {
 
 #[test]
 fn no_thread_runs_where_the_service_does_not_begin(rt: HostRuntime) -> Result<(), Fail> {
-    let service = Counted::new(rt, 0);
+    let service = CallCounter::new(rt, 0);
     assert_equal(&rt, serve_four(rt, &service)?, None);
     assert_equal(&rt, service.calls(), (1, 0, 0));
     Ok(())
@@ -124,13 +127,13 @@ impl<R: Runtime + Abort> Service<SlowManager, NopErrorSink, NopCustomizer, SetCl
 
     ghost ends = { λ _ _ told outcome. outcome ≡ length told };
 
-    fn begin<L: PoolParts>(&self, _pool: &NumberPool<R, L>) -> Result<(), usize> {
+    fn begin<L: PoolParts>(&self, _pool: &SlowPool<R, L>) -> Result<(), usize> {
         Ok(())
     }
 
-    fn run<L: PoolParts>(&self, _pool: &NumberPool<R, L>, _thread: usize) {}
+    fn run<L: PoolParts>(&self, _pool: &SlowPool<R, L>, _thread: usize) {}
 
-    fn end<L: PoolParts>(&self, _pool: &NumberPool<R, L>, told: &[()]) -> usize {
+    fn end<L: PoolParts>(&self, _pool: &SlowPool<R, L>, told: &[()]) -> usize {
         told.len()
     }
 }

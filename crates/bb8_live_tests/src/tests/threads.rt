@@ -3,130 +3,88 @@ ghost use Rattle.std.specs.Prelude.{◌<◌};
 ghost use Rattle.bb8.specs.Parts.{IsBlankOf};
 ghost use Rattle.bb8.specs.Settings.{default_settings};
 
-use super::{NumberPool, Numbers, Refused, Trial, assert_equal, try_numbers};
-use bb8::{
-    Builder, ManageConnection, Moment, NopCustomizer, NopErrorSink, Pool, PoolCalls, PoolParts,
-    Runtime, SetClock,
-};
+use super::assert_equal;
+use bb8::{Memory, Moment, PoolCalls, PoolParts, Runtime, SetClock};
+use bb8_trials::{Board, ServerConnection, ServerPool, builder_on, connection_on, server_on};
 use futures::executor::block_on;
-use futures::task::Poll;
 use futures::test::MockTask;
+use std::alloc::Global;
 use std::marker::Brand;
 use std::process::Abort;
+use std::sync::Arc;
 use std::sync::ledger::Blank;
 use std::test::Fail;
-use std::thread::{Threads, join};
+use std::thread::{self, Threads, join};
 
 /// What a thread of a test does.
-trait Job {
+trait TestJob {
     /// Does it, and tells whether all went as it should.
     fn run(&self) -> bool;
 }
 
-/// A thousand gets of the connection 7, each of which is given back before the next.
-#[derive(Drop)]
-struct Rounds<'a, R: Runtime + Abort, L: PoolParts> {
-    pool: &'a NumberPool<R, L>,
-    rt: R,
+/// Runs a job on two threads.
+fn twice(rt: &impl Threads, job: &(impl TestJob + Sync)) -> (bool, bool) {
+    join(rt, || job.run(), || job.run())
 }
 
-impl<R: Runtime + Abort, L: PoolParts> Job for Rounds<'_, R, L> {
-    /// Whether each get was served.
+/// Whether who just got a connection is its one holder, who then lets it go: a held one is broken, whoever asks.
+fn is_alone(connection: &mut ServerConnection) -> bool {
+    if connection.is_broken {
+        return false;
+    }
+    connection.is_broken = true;
+    thread::yield_now();
+    connection.is_broken = false;
+    true
+}
+
+/// A thousand gets, each of which is given back before the next. With handles of their own, each is a get of another handle, which is made
+/// for it and dropped before the guard.
+#[derive(Drop)]
+struct Repeating<'a, R: Runtime + Abort, L: PoolParts> {
+    pool: &'a ServerPool<SetClock, R, L>,
+    rt: R,
+    owned: bool,
+}
+
+impl<R: Runtime + Abort, L: PoolParts> TestJob for Repeating<'_, R, L> {
+    /// Whether each get was served, and each connection had one holder at a time.
     fn run(&self) -> bool {
         for _ in 0..1000u32 {
-            match block_on(&self.rt, PoolCalls::get(self.pool)) {
-                Ok(Ok(guard)) if *guard == 7 => {}
-                _ => return false,
+            let alone = if self.owned {
+                let Ok(clone) = PoolCalls::try_clone(self.pool) else {
+                    return false;
+                };
+                let Ok(Ok(mut guard)) = block_on(&self.rt, PoolCalls::get_owned(&clone)) else {
+                    return false;
+                };
+                drop(clone);
+                is_alone(&mut guard)
+            } else {
+                let Ok(Ok(mut guard)) = block_on(&self.rt, PoolCalls::get(self.pool)) else {
+                    return false;
+                };
+                is_alone(&mut guard)
+            };
+            if !alone {
+                return false;
             }
         }
         true
     }
 }
 
-/// Runs a job on two threads.
-fn twice(rt: &impl Threads, job: &(impl Job + Sync)) -> (bool, bool) {
-    join(rt, || job.run(), || job.run())
-}
-
-/// Two threads share a pool of one connection. Each get is served in its turn, and at the end the connection is idle.
-pub(super) fn shares_one<R: Runtime + Abort + Threads, L: PoolParts>(
-    rt: R,
-    numbers: Numbers<R, L>,
-) -> Result<(), Fail> {
-    let Numbers { pool, .. } = numbers;
-    assert_equal(&rt, pool.add(7), Ok(()));
-    assert_equal(&rt, twice(&rt, &Rounds { pool: &pool, rt }), (true, true));
-    let state = pool.state();
-    assert_equal(&rt, (state.connections, state.idle_connections), (1, 1));
-    assert_equal(&rt, state.statistics.get_started, 2000);
-    assert_equal(&rt, state.statistics.completed_gets(), 2000);
-    assert_equal(&rt, state.statistics.pending_gets(), 0);
-    Ok(())
-}
-
-#[test]
-fn two_threads_share_one(rt: HostRuntime) -> Result<(), Fail> {
-    try_numbers(rt, 1, Trial::TwoThreads)
-}
-
-/// A connection that counts how many hold it.
-#[derive(Drop)]
-struct Held {
-    holders: u64,
-}
-
-/// Opens nothing, and finds a connection valid and whole where nobody holds it.
-#[derive(Drop)]
-struct HeldManager;
-
-impl ManageConnection for HeldManager {
-    type Connection = Held;
-
-    type Error = Refused;
-
-    type Connecting = ();
-
-    type Checking = ();
-
-    fn connect(&self) {}
-
-    fn poll_connect(&self, _connecting: &mut (), _moment: Moment) -> Poll<Result<Held, Refused>> {
-        Poll::Pending
-    }
-
-    fn is_valid(&self, _connection: &mut Held) {}
-
-    fn poll_valid(
-        &self,
-        connection: &mut Held,
-        _checking: &mut (),
-        _moment: Moment,
-    ) -> Poll<Result<(), Refused>> {
-        Poll::Ready(if connection.holders == 0 {
-            Ok(())
-        } else {
-            Err(Refused(3))
-        })
-    }
-
-    fn has_broken(&self, connection: &mut Held) -> bool {
-        connection.holders != 0
-    }
-}
-
-/// A pool whose connections count their holders.
-type HeldPool<R, L> = Pool<HeldManager, NopErrorSink, NopCustomizer, SetClock, R, L>;
-
 /// A thousand rounds, in each of which the clock moves, a connection is added where there is room, the state is read, a get is let go after
 /// a poll, and one is served, whose connection nobody else may hold.
 #[derive(Drop)]
 struct Mixed<'a, R: Runtime + Abort, L: PoolParts> {
-    pool: &'a HeldPool<R, L>,
+    pool: &'a ServerPool<SetClock, R, L>,
+    board: &'a Arc<Board, Global>,
     clock: &'a SetClock,
     rt: R,
 }
 
-impl<R: Runtime + Abort, L: PoolParts> Job for Mixed<'_, R, L> {
+impl<R: Runtime + Abort, L: PoolParts> TestJob for Mixed<'_, R, L> {
     /// Whether each connection had one holder at a time, and the state kept its bounds.
     fn run(&self) -> bool {
         let Ok(task) = MockTask::new(&self.rt) else {
@@ -134,7 +92,10 @@ impl<R: Runtime + Abort, L: PoolParts> Job for Mixed<'_, R, L> {
         };
         for round in 0..1000u64 {
             self.clock.set(Moment(round));
-            let _ = PoolCalls::add(self.pool, Held { holders: 0 });
+            let Ok(connection) = connection_on(self.board, round) else {
+                return false;
+            };
+            let _ = PoolCalls::add(self.pool, connection);
             let state = PoolCalls::state(self.pool);
             if state.connections > 3 || state.idle_connections > state.connections {
                 return false;
@@ -143,11 +104,9 @@ impl<R: Runtime + Abort, L: PoolParts> Job for Mixed<'_, R, L> {
             let Ok(Ok(mut guard)) = block_on(&self.rt, PoolCalls::get(self.pool)) else {
                 return false;
             };
-            guard.holders = guard.holders.saturating_add(1);
-            if guard.holders != 1 {
+            if !is_alone(&mut guard) {
                 return false;
             }
-            guard.holders = 0;
         }
         true
     }
@@ -156,91 +115,78 @@ impl<R: Runtime + Abort, L: PoolParts> Job for Mixed<'_, R, L> {
 /// Two threads share a pool of up to three connections in all that it does.
 fn shares_all<R: Runtime + Abort + Threads, L: PoolParts>(
     rt: R,
-    pool: &HeldPool<R, L>,
+    pool: &ServerPool<SetClock, R, L>,
+    board: &Arc<Board, Global>,
     clock: &SetClock,
 ) {
-    assert_equal(&rt, twice(&rt, &Mixed { pool, clock, rt }), (true, true));
-    let state = pool.state();
-    assert_equal(&rt, state.connections, state.idle_connections);
-    assert_equal(&rt, state.statistics.connections_closed_broken, 0);
-    assert_equal(&rt, state.statistics.connections_closed_invalid, 0);
-    assert_equal(&rt, state.statistics.pending_gets(), 0);
-    assert_equal(&rt, state.statistics.get_started, 4000);
+    let mixed = Mixed {
+        pool,
+        board,
+        clock,
+        rt,
+    };
+    assert_equal(&rt, twice(&rt, &mixed), (true, true));
+    assert_equal(&rt, pool.state().statistics.get_started, 4000);
 }
 
-/// A thousand rounds, in each of which a handle is made, a get of that handle's has one of its own, and the handle is dropped before the guard,
-/// whose connection nobody else may hold.
-#[derive(Drop)]
-struct Cloned<'a, R: Runtime + Abort, L: PoolParts> {
-    pool: &'a HeldPool<R, L>,
+/// Two threads share a pool of so many connections in gets alone, with handles of their own or without.
+fn shares_gets<R: Runtime + Abort + Threads, L: PoolParts>(
     rt: R,
-}
-
-impl<R: Runtime + Abort, L: PoolParts> Job for Cloned<'_, R, L> {
-    /// Whether each connection had one holder at a time.
-    fn run(&self) -> bool {
-        for _ in 0..1000u32 {
-            let Ok(clone) = PoolCalls::try_clone(self.pool) else {
-                return false;
-            };
-            let Ok(Ok(mut guard)) = block_on(&self.rt, PoolCalls::get_owned(&clone)) else {
-                return false;
-            };
-            drop(clone);
-            guard.holders = guard.holders.saturating_add(1);
-            if guard.holders != 1 {
-                return false;
-            }
-            guard.holders = 0;
-        }
-        true
+    pool: &ServerPool<SetClock, R, L>,
+    board: &Arc<Board, Global>,
+    size: u32,
+    owned: bool,
+) -> Result<(), Memory> {
+    for number in 0..size {
+        let connection = connection_on(board, u64::from(number))?;
+        assert!(&rt; pool.add(connection).is_ok());
     }
-}
-
-/// Two threads share a pool of two connections by handles and guards of their own.
-fn shares_handles<R: Runtime + Abort + Threads, L: PoolParts>(rt: R, pool: &HeldPool<R, L>) {
-    assert!(&rt; pool.add(Held { holders: 0 }).is_ok());
-    assert!(&rt; pool.add(Held { holders: 0 }).is_ok());
-    assert_equal(&rt, twice(&rt, &Cloned { pool, rt }), (true, true));
+    let repeating = Repeating { pool, rt, owned };
+    assert_equal(&rt, twice(&rt, &repeating), (true, true));
     let state = pool.state();
-    assert_equal(&rt, (state.connections, state.idle_connections), (2, 2));
-    assert_equal(&rt, state.statistics.connections_closed_broken, 0);
-    assert_equal(&rt, state.statistics.connections_closed_invalid, 0);
+    assert_equal(&rt, state.connections, size);
+    assert_equal(&rt, state.statistics.get_started, 2000);
     assert_equal(&rt, state.statistics.completed_gets(), 2000);
-    assert_equal(&rt, state.statistics.pending_gets(), 0);
+    Ok(())
 }
 
-/// What two threads share.
+/// What two threads do with a pool that they share.
 #[derive(Clone, Copy)]
-enum Shared {
-    /// A pool of three, by references.
+enum SharedBy {
+    /// All that there is to do.
     All,
-    /// A pool of two, by handles of their own.
-    Handles,
+    /// Gets, with handles of their own or without.
+    Gets { owned: bool },
 }
 
-/// Two threads share a pool. Each connection is checked before it is lent, or none.
+/// Two threads share a pool. Each connection is checked before it is lent, or none. At the end all are idle, and none was closed.
 fn shares<R: Runtime + Abort + Threads, L: PoolParts>(
     rt: R,
     blank: Blank,
     max_size: u32,
     checks: bool,
-    shared: Shared,
+    shared: SharedBy,
 ) -> Result<(), Fail>
     requires some { 0 < max_size }
     requires parts { IsBlankOf blank
         (record default_settings { max_size = max_size; test_on_check_out = checks }) L.name L.parts
         L.settings }
 {
+    let board = Board::new(rt.alloc())?;
     let clock = SetClock::new(rt.alloc(), Moment(0))?;
-    let pool: HeldPool<R, L> = Builder::new()
+    let pool: ServerPool<SetClock, R, L> = builder_on(&board)?
         .max_size(max_size)
         .test_on_check_out(checks)
-        .build_unchecked(HeldManager, clock.try_clone()?, rt, blank)?;
+        .build_unchecked(server_on(&board)?, clock.try_clone()?, rt, blank)?;
     match shared {
-        Shared::All => shares_all(rt, &pool, &clock),
-        Shared::Handles => shares_handles(rt, &pool),
+        SharedBy::All => shares_all(rt, &pool, &board, &clock),
+        SharedBy::Gets { owned } => shares_gets(rt, &pool, &board, max_size, owned)?,
     }
+    let state = pool.state();
+    assert_equal(&rt, state.connections, state.idle_connections);
+    assert_equal(&rt, state.statistics.connections_closed_broken, 0);
+    assert_equal(&rt, state.statistics.connections_closed_invalid, 0);
+    assert_equal(&rt, state.statistics.pending_gets(), 0);
     Ok(())
 }
 
@@ -249,29 +195,35 @@ fn share<R: Runtime + Abort + Threads>(
     rt: R,
     max_size: u32,
     checks: bool,
-    shared: Shared,
+    shared: SharedBy,
 ) -> Result<(), Fail>
     requires { 0 < max_size }
 {
     shares::<R, Brand>(rt, Blank::new(max_size as u64), max_size, checks, shared)
 }
 
+/// One connection: each get is served in its turn.
+#[test]
+fn two_threads_share_one(rt: HostRuntime) -> Result<(), Fail> {
+    share(rt, 1, false, SharedBy::Gets { owned: false })
+}
+
 #[test]
 fn two_threads_share_all(rt: HostRuntime) -> Result<(), Fail> {
-    share(rt, 3, false, Shared::All)
+    share(rt, 3, false, SharedBy::All)
 }
 
 #[test]
 fn two_threads_share_all_with_checks(rt: HostRuntime) -> Result<(), Fail> {
-    share(rt, 3, true, Shared::All)
+    share(rt, 3, true, SharedBy::All)
 }
 
 #[test]
 fn two_threads_share_handles(rt: HostRuntime) -> Result<(), Fail> {
-    share(rt, 2, false, Shared::Handles)
+    share(rt, 2, false, SharedBy::Gets { owned: true })
 }
 
 #[test]
 fn two_threads_share_handles_with_checks(rt: HostRuntime) -> Result<(), Fail> {
-    share(rt, 2, true, Shared::Handles)
+    share(rt, 2, true, SharedBy::Gets { owned: true })
 }

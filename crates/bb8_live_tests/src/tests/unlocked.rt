@@ -2,13 +2,13 @@
 ghost use Rattle.bb8.specs.Parts.{IsBlankOf, unchecked_of};
 ghost use Rattle.bb8.specs.Settings.{default_settings};
 
-use super::calls::{ARMED, Desk, OPEN, Teller, TellerPool, WAITING, connection, outside_on};
+use super::calls::{Desk, Teller, TellerPool, connection, outside_on};
 use super::{SlowManager, assert_equal};
 use bb8::{
     Builder, Building, Driver, DriverCalls, Guards, Job, Memory, Moment, NopCustomizer,
     NopErrorSink, Pool, PoolParts, Runtime, SetClock, start,
 };
-use bb8_trials::{Handle, SECOND};
+use bb8_trials::{ARMED, LentHandle, OPEN, SECOND, WAITING};
 use futures::test::MockTask;
 use std::alloc::Global;
 use std::marker::Brand;
@@ -61,7 +61,7 @@ fn calls<R: Runtime + Abort, L: PoolParts>(
     assert_equal(&rt, pool.config().max_size, 2);
     drop(pool.get());
     let mut opening = pool.dedicated_connection();
-    assert!(&rt; Handle::poll_dedicated(pool, task, &mut opening).is_pending());
+    assert!(&rt; LentHandle::poll_dedicated(pool, task, &mut opening).is_pending());
     drop(opening);
     plans::<R, Brand>(rt, Blank::new(10))?;
     assert_equal(&rt, (guards.len(), guards.is_empty()), (1, false));
@@ -91,7 +91,7 @@ fn waits_for_nobody<R: Runtime + Abort + Threads, L: PoolParts + 'static>(
         .build_unchecked(outside_on(desk)?, outside_on(desk)?, rt, blank)?;
     assert!(&rt; pool.add(connection(desk)?).is_ok());
     assert!(&rt; pool.add(connection(desk)?).is_ok());
-    let Some(guard) = Handle::lend(&pool, &task) else {
+    let Some(guard) = LentHandle::lend(&pool, &task) else {
         panic!(&rt; "not served");
     };
     let mut guards = Guards::new(rt.alloc(), &pool);
@@ -101,7 +101,7 @@ fn waits_for_nobody<R: Runtime + Abort + Threads, L: PoolParts + 'static>(
     let Ok(turner) = start(&rt, 0, Turner { driver }) else {
         panic!(&rt; "no thread");
     };
-    assert!(&rt; desk.comes_to(WAITING, true));
+    assert!(&rt; desk.stage.comes_to(WAITING, true));
     calls(rt, &task, &pool, &mut guards)?;
     desk.stage.set(OPEN);
     assert_equal(&rt, turner.join(&rt), 0);

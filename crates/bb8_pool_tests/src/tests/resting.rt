@@ -3,10 +3,12 @@
 use super::assert_equal;
 use super::waiting::nanos;
 use bb8::{
-    Clock as PoolClock, Driver, DriverCalls, Moment, NopCustomizer, Pool, PoolCalls, PoolParts,
-    Runtime, Service, SetClock, User,
+    Clock as PoolClock, Driver, DriverCalls, Moment, NopCustomizer, PoolCalls, PoolParts, Runtime,
+    Service, SetClock, User,
 };
-use bb8_trials::{Board, Course, Errors, Number, SECOND, Server, builder_on, server_on};
+use bb8_trials::{
+    Board, Course, Errors, Number, SECOND, Server, ServerPool, builder_on, server_on,
+};
 use futures::test::MockTask;
 use std::alloc::Global;
 use std::sync::Arc;
@@ -42,9 +44,6 @@ impl<R: Runtime + CpuClock> PoolClock for MeteredClock<R> {
         Moment(nanos(self.rt.monotonic()))
     }
 }
-
-/// A pool of a server's connections by such a clock.
-type MeteredPool<R, L> = Pool<Server, Errors, NopCustomizer, MeteredClock<R>, R, L>;
 
 /// One thread gets a connection that is to be opened, and then lets the pool alone for a while.
 #[derive(Drop)]
@@ -90,11 +89,18 @@ impl<R: Runtime + CpuClock> Service<Server, Errors, NopCustomizer, MeteredClock<
 
     type Outcome = Option<Rested>;
 
-    fn begin<L: PoolParts>(&self, _pool: &MeteredPool<R, L>) -> Result<(), Option<Rested>> {
+    fn begin<L: PoolParts>(
+        &self,
+        _pool: &ServerPool<MeteredClock<R>, R, L>,
+    ) -> Result<(), Option<Rested>> {
         Ok(())
     }
 
-    fn run<L: PoolParts>(&self, pool: &MeteredPool<R, L>, _thread: usize) -> Option<Rested> {
+    fn run<L: PoolParts>(
+        &self,
+        pool: &ServerPool<MeteredClock<R>, R, L>,
+        _thread: usize,
+    ) -> Option<Rested> {
         self.turned();
         let begun = nanos(self.rt.monotonic());
         let guard = PoolCalls::get_blocking(pool).ok()?;
@@ -112,7 +118,7 @@ impl<R: Runtime + CpuClock> Service<Server, Errors, NopCustomizer, MeteredClock<
 
     fn end<L: PoolParts>(
         &self,
-        _pool: &MeteredPool<R, L>,
+        _pool: &ServerPool<MeteredClock<R>, R, L>,
         told: &[Option<Rested>],
     ) -> Option<Rested> {
         self.turned();
@@ -180,22 +186,19 @@ fn grant_and_end_wake_the_driver(rt: HostRuntime) -> Result<(), Fail> {
 
 /// Asks a driver what it has to do next.
 #[derive(Drop)]
-struct Asking<R> {
+struct AsksDue<R> {
     rt: R,
     clock: SetClock,
     board: Arc<Board, Global>,
 }
 
-/// A pool of a server's connections by a clock that is set.
-type SetPool<R, L> = Pool<Server, Errors, NopCustomizer, SetClock, R, L>;
-
-impl<R: Runtime> User<Server, Errors, NopCustomizer, SetClock, R> for Asking<R> {
+impl<R: Runtime> User<Server, Errors, NopCustomizer, SetClock, R> for AsksDue<R> {
     /// In milliseconds, before each turn and at last.
     type Outcome = Option<[Option<u64>; 5]>;
 
     fn run<L: PoolParts>(
         &self,
-        pool: &SetPool<R, L>,
+        pool: &ServerPool<SetClock, R, L>,
         driver: &mut Driver<Server, Errors, NopCustomizer, SetClock, R, L>,
     ) -> Option<[Option<u64>; 5]> {
         let task = MockTask::new(&self.rt).ok()?;
@@ -226,7 +229,7 @@ impl<R: Runtime> User<Server, Errors, NopCustomizer, SetClock, R> for Asking<R> 
 fn next_due_is_the_earliest(rt: HostRuntime) -> Result<(), Fail> {
     let board = Board::new(rt.alloc())?;
     let clock = SetClock::new(rt.alloc(), Moment(SECOND))?;
-    let user = Asking {
+    let user = AsksDue {
         rt,
         clock: clock.try_clone()?,
         board: Arc::try_clone(&board)?,

@@ -2,37 +2,35 @@
 
 use super::assert_equal;
 use bb8::{
-    MachineClock, Moment, NopCustomizer, Pool, PoolCalls, PoolParts, RunError, Runtime, Service,
-    SetClock,
+    MachineClock, Moment, NopCustomizer, PoolCalls, PoolParts, RunError, Runtime, Service, SetClock,
 };
-use bb8_trials::{Board, Course, Errors, Number, Refused, Server, builder_on, server_on};
+use bb8_trials::{
+    Board, Course, Errors, Number, Refused, Server, ServerPool, builder_on, server_on,
+};
 use futures::executor::block_on;
 use std::sync::Arc;
 use std::test::Fail;
 use std::time::{Clock, Duration};
 
-/// A pool of a server's connections.
-type ServerPool<R, L> = Pool<Server, Errors, NopCustomizer, SetClock, R, L>;
-
 /// Counts how often it began.
 #[derive(Drop)]
-struct Begun {
+struct BeginCounter {
     count: Number,
 }
 
-impl<R: Runtime> Service<Server, Errors, NopCustomizer, SetClock, R> for Begun {
+impl<R: Runtime> Service<Server, Errors, NopCustomizer, SetClock, R> for BeginCounter {
     type Told = ();
 
     type Outcome = u64;
 
-    fn begin<L: PoolParts>(&self, _pool: &ServerPool<R, L>) -> Result<(), u64> {
+    fn begin<L: PoolParts>(&self, _pool: &ServerPool<SetClock, R, L>) -> Result<(), u64> {
         self.count.count();
         Ok(())
     }
 
-    fn run<L: PoolParts>(&self, _pool: &ServerPool<R, L>, _thread: usize) {}
+    fn run<L: PoolParts>(&self, _pool: &ServerPool<SetClock, R, L>, _thread: usize) {}
 
-    fn end<L: PoolParts>(&self, _pool: &ServerPool<R, L>, _told: &[()]) -> u64 {
+    fn end<L: PoolParts>(&self, _pool: &ServerPool<SetClock, R, L>, _told: &[()]) -> u64 {
         self.count.get()
     }
 }
@@ -43,7 +41,7 @@ fn first_connection_that_fails_ends_a_serve(rt: HostRuntime) -> Result<(), Fail>
     let board = Board::new(rt.alloc())?;
     board.opening.set(Course::Fails);
     let clock = SetClock::new(rt.alloc(), Moment(0))?;
-    let service = Begun {
+    let service = BeginCounter {
         count: Number::new(0),
     };
     let answer = builder_on(&board)?
@@ -63,20 +61,24 @@ struct TwoAtOnce<R> {
     rt: R,
 }
 
-/// A pool of a server's connections by the machine's clock.
-type MachinePool<R, L> = Pool<Server, Errors, NopCustomizer, MachineClock<R>, R, L>;
-
 impl<R: Runtime + Clock> Service<Server, Errors, NopCustomizer, MachineClock<R>, R>
     for TwoAtOnce<R> {
     type Told = Option<(u64, u64)>;
 
     type Outcome = Option<(u64, u64)>;
 
-    fn begin<L: PoolParts>(&self, _pool: &MachinePool<R, L>) -> Result<(), Option<(u64, u64)>> {
+    fn begin<L: PoolParts>(
+        &self,
+        _pool: &ServerPool<MachineClock<R>, R, L>,
+    ) -> Result<(), Option<(u64, u64)>> {
         Ok(())
     }
 
-    fn run<L: PoolParts>(&self, pool: &MachinePool<R, L>, _thread: usize) -> Option<(u64, u64)> {
+    fn run<L: PoolParts>(
+        &self,
+        pool: &ServerPool<MachineClock<R>, R, L>,
+        _thread: usize,
+    ) -> Option<(u64, u64)> {
         let first = block_on(&self.rt, PoolCalls::get(pool)).ok()?.ok()?;
         let second = block_on(&self.rt, PoolCalls::get(pool)).ok()?.ok()?;
         Some((first.number, second.number))
@@ -84,7 +86,7 @@ impl<R: Runtime + Clock> Service<Server, Errors, NopCustomizer, MachineClock<R>,
 
     fn end<L: PoolParts>(
         &self,
-        _pool: &MachinePool<R, L>,
+        _pool: &ServerPool<MachineClock<R>, R, L>,
         told: &[Option<(u64, u64)>],
     ) -> Option<(u64, u64)> {
         *told.first()?

@@ -2,18 +2,14 @@
 
 use super::assert_equal;
 use bb8::{
-    Driver, MachineClock, NopCustomizer, Pool, PoolCalls, PoolParts, RunError, Runtime, Service,
-    User,
+    Driver, MachineClock, NopCustomizer, PoolCalls, PoolParts, RunError, Runtime, Service, User,
 };
-use bb8_trials::{Board, Errors, Number, Server, builder_on, connection_on, server_on};
+use bb8_trials::{Board, Errors, Number, Server, ServerPool, builder_on, connection_on, server_on};
 use std::alloc::Global;
 use std::sync::Arc;
 use std::test::Fail;
 use std::thread::{self, Threads};
 use std::time::{Clock, CpuClock, Duration};
-
-/// A pool of a server's connections by the machine's clock.
-type MachinePool<R, L> = Pool<Server, Errors, NopCustomizer, MachineClock<R>, R, L>;
 
 /// The nanoseconds of the machine's clock now, or of a processor.
 pub(super) fn nanos(read: std::io::Result<Duration>) -> u64 {
@@ -63,11 +59,18 @@ impl<R: Runtime + CpuClock> Service<Server, Errors, NopCustomizer, MachineClock<
     /// The sum of what was used, and the least time after the return.
     type Outcome = Option<Waited>;
 
-    fn begin<L: PoolParts>(&self, _pool: &MachinePool<R, L>) -> Result<(), Option<Waited>> {
+    fn begin<L: PoolParts>(
+        &self,
+        _pool: &ServerPool<MachineClock<R>, R, L>,
+    ) -> Result<(), Option<Waited>> {
         Ok(())
     }
 
-    fn run<L: PoolParts>(&self, pool: &MachinePool<R, L>, thread: usize) -> Option<Waited> {
+    fn run<L: PoolParts>(
+        &self,
+        pool: &ServerPool<MachineClock<R>, R, L>,
+        thread: usize,
+    ) -> Option<Waited> {
         if thread == 0 {
             let guard = PoolCalls::get_blocking(pool).ok()?;
             self.held.set(1);
@@ -95,7 +98,7 @@ impl<R: Runtime + CpuClock> Service<Server, Errors, NopCustomizer, MachineClock<
 
     fn end<L: PoolParts>(
         &self,
-        _pool: &MachinePool<R, L>,
+        _pool: &ServerPool<MachineClock<R>, R, L>,
         told: &[Option<Waited>],
     ) -> Option<Waited> {
         let mut all = Waited {
@@ -164,7 +167,7 @@ impl<R: Runtime> User<Server, Errors, NopCustomizer, MachineClock<R>, R> for InV
 
     fn run<L: PoolParts>(
         &self,
-        pool: &MachinePool<R, L>,
+        pool: &ServerPool<MachineClock<R>, R, L>,
         _driver: &mut Driver<Server, Errors, NopCustomizer, MachineClock<R>, R, L>,
     ) -> Option<(u64, u64, u64)> {
         PoolCalls::add(pool, connection_on(&self.board, 7).ok()?).ok()?;

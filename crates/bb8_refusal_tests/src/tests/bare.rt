@@ -1,14 +1,17 @@
 //! A run over the bare state with checks that pass and fail, gets that are let go, addings and reaps: no connection is lost, whatever
 //! requests for memory are refused. That each answer is allowed is proved.
 
-use super::{Board, Counted, assert_equal, is_refused_afterwards};
+use super::{assert_equal, is_refused_afterwards, make};
 use bb8_core::api::{Config, Moment};
 use bb8_core::asked::{add, begin, checked_err, checked_ok, give_up, opened, put_back, try_get};
 use bb8_core::internals::{
     AddAnswer, BeginAnswer, CheckedErrAnswer, CheckedOkAnswer, ClaimAnswer, GetKey, GiveUpAnswer,
     Grant, Key, OpenedAnswer, PoolInternals, PutBackAnswer, ReapAnswer, Reason, TryAnswer,
 };
+use bb8_trials::{Board, ServerConnection};
+use std::alloc::Global;
 use std::process::Abort;
+use std::sync::Arc;
 use std::test::Fail;
 use std::time::Duration;
 
@@ -17,17 +20,17 @@ const SIZE: u32 = 4;
 
 /// A connection, where it stands, and the get that holds it.
 #[derive(Drop)]
-struct Held {
+struct TakenOut {
     get: GetKey,
     key: Key,
-    conn: Counted,
+    conn: ServerConnection,
 }
 
 /// A bare state, its connections, and what its run met.
 #[derive(Drop)]
 struct Run {
-    pool: PoolInternals<Counted>,
-    board: Board,
+    pool: PoolInternals<ServerConnection>,
+    board: Arc<Board, Global>,
     at: Moment,
     /// How many answers told of a refusal.
     refused: u64,
@@ -40,7 +43,7 @@ struct Run {
 
 /// What becomes of a connection that a get took.
 #[derive(Clone, Copy)]
-enum End {
+enum Fate {
     Passes,
     Fails,
     Breaks,
@@ -56,10 +59,18 @@ impl Run {
         }
     }
 
+    /// How many connections were made and not dropped.
+    fn alive(&self) -> u64 {
+        self.board
+            .made
+            .get()
+            .saturating_sub(self.board.closed.get())
+    }
+
     /// Asserts that the connections that were made are those of the pool and those that were dropped.
     fn assert_whole(&mut self, rt: &impl Abort) {
         let state = self.pool.state(self.at);
-        assert_equal(&rt, state.connections as u64, self.board.alive());
+        assert_equal(&rt, state.connections as u64, self.alive());
         assert_equal(&rt, state.idle_connections, state.connections);
         assert_equal(&rt, state.statistics.pending_gets(), 0);
     }
@@ -72,7 +83,7 @@ impl Run {
             let ClaimAnswer::Claimed(Some(key)) = self.pool.claim(self.at) else {
                 return Ok(());
             };
-            let conn = self.board.make()?;
+            let conn = make(&self.board)?;
             let Some(OpenedAnswer::Entered(_)) = opened(&mut self.pool, self.at, key, conn) else {
                 panic!(rt; "no handle is alive");
             };
@@ -93,11 +104,11 @@ impl Run {
     }
 
     /// What a get takes, if it does not wait.
-    fn take(&mut self, rt: &impl Abort, get: GetKey) -> Option<Held> {
+    fn take(&mut self, rt: &impl Abort, get: GetKey) -> Option<TakenOut> {
         match try_get(&mut self.pool, self.at, get) {
             Some(TryAnswer::Taken(key, conn, grant)) => {
                 self.note(grant);
-                Some(Held { get, key, conn })
+                Some(TakenOut { get, key, conn })
             }
             Some(TryAnswer::Waiting(grant)) => {
                 self.note(grant);
@@ -126,8 +137,8 @@ impl Run {
     }
 
     /// The check passes: a guard has the connection, and gives it back.
-    fn passes(&mut self, rt: &impl Abort, held: Held) {
-        let Held { get, key, conn } = held;
+    fn passes(&mut self, rt: &impl Abort, held: TakenOut) {
+        let TakenOut { get, key, conn } = held;
         let Some(CheckedOkAnswer::Served(key)) = checked_ok(&mut self.pool, self.at, get, key.place)
         else {
             panic!(rt; "{get:?} holds nothing");
@@ -140,8 +151,8 @@ impl Run {
     }
 
     /// The check fails: the connection is closed, and the get, which then holds nothing, is let go.
-    fn fails(&mut self, rt: &impl Abort, held: Held, broken: bool) {
-        let Held { get, key, conn } = held;
+    fn fails(&mut self, rt: &impl Abort, held: TakenOut, broken: bool) {
+        let TakenOut { get, key, conn } = held;
         let answer = checked_err(&mut self.pool, self.at, get, conn, broken, key.place);
         let Some(CheckedErrAnswer::Closed(_, conn, grant, _)) = answer else {
             panic!(rt; "{get:?} holds nothing");
@@ -152,8 +163,8 @@ impl Run {
     }
 
     /// The get is let go with the connection that it holds.
-    fn lets_go_held(&mut self, rt: &impl Abort, held: Held, broken: bool) {
-        let Held { get, key, conn } = held;
+    fn lets_go_held(&mut self, rt: &impl Abort, held: TakenOut, broken: bool) {
+        let TakenOut { get, key, conn } = held;
         let why = Reason::Cancelled;
         let answer = give_up(
             &mut self.pool,
@@ -176,18 +187,18 @@ impl Run {
     }
 
     /// A get begins, takes what is idle, and ends so.
-    fn plays(&mut self, rt: &impl Abort, end: End) {
+    fn plays(&mut self, rt: &impl Abort, end: Fate) {
         let Some(get) = self.begin(rt) else {
             return;
         };
         match self.take(rt, get) {
             None => self.let_go(rt, get),
             Some(held) => match end {
-                End::Passes => self.passes(rt, held),
-                End::Fails => self.fails(rt, held, false),
-                End::Breaks => self.fails(rt, held, true),
-                End::LetGo => self.lets_go_held(rt, held, false),
-                End::LetGoBroken => self.lets_go_held(rt, held, true),
+                Fate::Passes => self.passes(rt, held),
+                Fate::Fails => self.fails(rt, held, false),
+                Fate::Breaks => self.fails(rt, held, true),
+                Fate::LetGo => self.lets_go_held(rt, held, false),
+                Fate::LetGoBroken => self.lets_go_held(rt, held, true),
             },
         }
     }
@@ -195,7 +206,7 @@ impl Run {
     /// Two connections are added, where there is room and memory.
     fn adds(&mut self, rt: &impl Abort) -> Result<(), Fail> {
         for _ in 0..2 {
-            let conn = self.board.make()?;
+            let conn = make(&self.board)?;
             match add(&mut self.pool, self.at, conn, false).expect(rt, "a handle is alive") {
                 AddAnswer::Added(..) | AddAnswer::NoCapacity(_) => {}
                 AddAnswer::Withheld(conn) => {
@@ -232,11 +243,11 @@ impl Run {
             }
         }
         for end in [
-            End::Passes,
-            End::Fails,
-            End::Breaks,
-            End::LetGo,
-            End::LetGoBroken,
+            Fate::Passes,
+            Fate::Fails,
+            Fate::Breaks,
+            Fate::LetGo,
+            Fate::LetGoBroken,
         ] {
             self.open_all(rt)?;
             self.plays(rt, end);
@@ -266,7 +277,7 @@ fn no_connection_is_lost(rt: HostRuntime) -> Result<(), Fail> {
     assert!(rt; config.is_lawful());
     let mut run = Run {
         pool: PoolInternals::new(rt.alloc(), config),
-        board: board.try_clone()?,
+        board: Arc::try_clone(&board)?,
         at: Moment(0),
         refused: 0,
         reaped: 0,
@@ -277,7 +288,7 @@ fn no_connection_is_lost(rt: HostRuntime) -> Result<(), Fail> {
     run.round(&rt)?;
     let refused = run.refused;
     assert!(rt; run.reaped > 0 || refused > 1);
-    let counts = (run.served, run.waited, board.made());
+    let counts = (run.served, run.waited, board.made.get());
     let statistics = run.pool.state(run.at).statistics;
     let idled = statistics.connections_closed_idle_timeout;
     let outlived = statistics.connections_closed_max_lifetime;

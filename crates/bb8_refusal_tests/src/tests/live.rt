@@ -4,71 +4,23 @@ ghost use Rattle.std.specs.Prelude.{◌≡◌, ◌<◌, true};
 ghost use Rattle.bb8.specs.Parts.{IsBlankOf};
 ghost use Rattle.bb8.specs.Settings.{is_lawful};
 
-use super::{Board, Counted, assert_equal, is_refused, is_refused_afterwards};
+use super::{assert_equal, is_refused, is_refused_afterwards, make};
 use bb8::{
-    AddError, Builder, Building, Config, Driver, DriverCalls, Gate, ManageConnection, Memory,
-    Moment, NoThread, NopCustomizer, NopErrorSink, Pool, PoolParts, RunError, Runtime, SetClock,
-    drive,
+    AddError, Building, Config, Driver, DriverCalls, Memory, Moment, NoThread, NopCustomizer,
+    PoolParts, RunError, Runtime, SetClock, drive,
 };
-use bb8_trials::{Handle, OwnedHandle, Unbuilt, sizes};
+use bb8_trials::{
+    Board, Course, Errors, LentHandle, OneTurn, OwnedHandle, Polled, Refused, Server,
+    ServerBuilder, ServerPool, Unbuilt, builder_on, server_on, sizes,
+};
 use futures::task::Poll;
 use futures::test::MockTask;
+use std::alloc::Global;
 use std::marker::Brand;
 use std::process::Abort;
+use std::sync::Arc;
 use std::sync::ledger::Blank;
 use std::thread::Threads;
-
-/// Opens counted connections at once, or never, and finds each valid and whole.
-#[derive(Drop)]
-struct Server {
-    board: Board,
-    answers: bool,
-}
-
-impl ManageConnection for Server {
-    type Connection = Counted;
-
-    type Error = Memory;
-
-    type Connecting = ();
-
-    type Checking = ();
-
-    fn connect(&self) {}
-
-    fn poll_connect(&self, _connecting: &mut (), _moment: Moment) -> Poll<Result<Counted, Memory>> {
-        if self.answers {
-            Poll::Ready(self.board.make())
-        } else {
-            Poll::Pending
-        }
-    }
-
-    fn is_valid(&self, _connection: &mut Counted) {}
-
-    fn poll_valid(
-        &self,
-        _connection: &mut Counted,
-        _checking: &mut (),
-        _moment: Moment,
-    ) -> Poll<Result<(), Memory>> {
-        Poll::Ready(Ok(()))
-    }
-
-    fn has_broken(&self, _connection: &mut Counted) -> bool {
-        false
-    }
-}
-
-/// A builder of pools that check nothing.
-fn builder(max_size: u32, min_idle: u32) -> Builder<Server>
-    requires { 0 < max_size }
-{
-    Builder::new()
-        .max_size(max_size)
-        .min_idle(Some(min_idle))
-        .test_on_check_out(false)
-}
 
 /// What a run of a pool met.
 #[derive(Clone, Copy)]
@@ -79,26 +31,31 @@ enum Met {
 
 /// What is run.
 #[derive(Clone, Copy, PartialEq, Eq)]
-enum Run {
+enum Scenario {
     Builds,
     Clones,
     Opens,
     Hangs,
 }
 
+/// What a poll answers, which is not pending, and refused nothing but memory. None where it refused that.
+fn answered<T: Drop>(rt: &impl Abort, polled: Polled<T, Refused>) -> Option<T> {
+    match polled {
+        Poll::Ready(Ok(answer)) => Some(answer),
+        Poll::Ready(Err(error)) => {
+            assert_equal(rt, error, RunError::Memory);
+            None
+        }
+        Poll::Pending => panic!(rt; "it is pending"),
+    }
+}
+
 /// A get with a handle of its own is served, or told `Memory`; then the pool is as before.
 fn owns<P: OwnedHandle<Server>>(rt: &impl Abort, task: &MockTask, pool: &P) -> Met {
     let before = sizes(pool.state());
-    let met = match P::poll_owned(task, &mut pool.get_owned()) {
-        Poll::Ready(Ok(guard)) => {
-            drop(guard);
-            Met::Nothing
-        }
-        Poll::Ready(Err(error)) => {
-            assert_equal(rt, error, RunError::Memory);
-            Met::Refusal
-        }
-        Poll::Pending => panic!(rt; "the get waits"),
+    let met = match answered(rt, P::poll_owned(task, &mut pool.get_owned())) {
+        Some(_guard) => Met::Nothing,
+        None => Met::Refusal,
     };
     assert_equal(rt, sizes(pool.state()), before);
     met
@@ -106,30 +63,18 @@ fn owns<P: OwnedHandle<Server>>(rt: &impl Abort, task: &MockTask, pool: &P) -> M
 
 /// The pool that the first poll of a building answers, which opened both first connections. None where it answers `Memory`.
 fn built<B: Unbuilt<Server>>(rt: &impl Abort, task: &MockTask, mut building: B) -> Option<B::Pool> {
-    match building.poll(task) {
-        Poll::Ready(Ok(pool)) => Some(pool),
-        Poll::Ready(Err(error)) => {
-            assert_equal(rt, error, RunError::Memory);
-            None
-        }
-        Poll::Pending => panic!(rt; "the building is pending"),
-    }
+    answered(rt, building.poll(task))
 }
 
 /// A get of a pool that was built with two connections is served, or told `Memory`; then the pool is as before.
-fn gets<P: Handle<Server>>(rt: &impl Abort, task: &MockTask, pool: P) -> Met {
+fn gets<P: LentHandle<Server>>(rt: &impl Abort, task: &MockTask, pool: P) -> Met {
     assert_equal(rt, sizes(pool.state()), (2, 2));
-    let met = match pool.poll(task, &mut pool.get()) {
-        Poll::Ready(Ok(guard)) => {
+    let met = match answered(rt, pool.poll(task, &mut pool.get())) {
+        Some(_guard) => {
             assert_equal(rt, sizes(pool.state()), (2, 1));
-            drop(guard);
             Met::Nothing
         }
-        Poll::Ready(Err(error)) => {
-            assert_equal(rt, error, RunError::Memory);
-            Met::Refusal
-        }
-        Poll::Pending => panic!(rt; "the get waits"),
+        None => Met::Refusal,
     };
     assert_equal(rt, sizes(pool.state()), (2, 2));
     met
@@ -140,10 +85,10 @@ fn clones<P: OwnedHandle<Server>>(
     rt: &impl Abort,
     task: &MockTask,
     pool: P,
-    board: &Board,
+    board: &Arc<Board, Global>,
 ) -> Result<Met, Memory> {
     assert_equal(rt, sizes(pool.state()), (0, 0));
-    match pool.add(board.make()?) {
+    match pool.add(make(board)?) {
         Ok(()) => assert_equal(rt, sizes(pool.state()), (1, 1)),
         Err(AddError::Withheld(conn)) => {
             assert_equal(rt, sizes(pool.state()), (0, 0));
@@ -198,30 +143,18 @@ fn opens<R: Abort + AllocGlobal, P: OwnedHandle<Server>, D: DriverCalls>(
     }
 }
 
-/// Lets one turn be made.
-#[derive(Drop)]
-struct Once;
-
-impl Gate for Once {
-    fn pause(&mut self) -> bool {
-        false
-    }
-}
-
-type TestPool<R, L> = Pool<Server, NopErrorSink, NopCustomizer, SetClock, R, L>;
-
-type TestDriver<R, L> = Driver<Server, NopErrorSink, NopCustomizer, SetClock, R, L>;
+type TestDriver<R, L> = Driver<Server, Errors, NopCustomizer, SetClock, R, L>;
 
 /// A driver that holds the task of the pool's one approval is handed to a thread, or dropped where none can be made. Either way the approval
 /// is given back, so that an adding finds room.
 fn hangs<R: Runtime + Abort + Threads + Eprint, L: PoolParts + 'static>(
     rt: R,
-    board: &Board,
-    pool: TestPool<R, L>,
+    board: &Arc<Board, Global>,
+    pool: ServerPool<SetClock, R, L>,
     mut driver: TestDriver<R, L>,
 ) -> Result<Met, Memory> {
     let holds = driver.turn(Moment(0)).polled == 1;
-    let met = match drive(&rt, driver, Once) {
+    let met = match drive(&rt, driver, OneTurn) {
         Ok(thread) => {
             assert_equal(&rt, thread.join(&rt).turns, 1);
             if holds { Met::Nothing } else { Met::Refusal }
@@ -234,7 +167,7 @@ fn hangs<R: Runtime + Abort + Threads + Eprint, L: PoolParts + 'static>(
         }
     };
     if holds {
-        assert!(&rt; pool.add(board.make()?).is_ok());
+        assert!(&rt; pool.add(make(board)?).is_ok());
         assert_equal(&rt, sizes(pool.state()), (1, 1));
     }
     Ok(met)
@@ -244,9 +177,9 @@ fn hangs<R: Runtime + Abort + Threads + Eprint, L: PoolParts + 'static>(
 fn run_on<R: Runtime + Abort + Threads + Eprint, L: PoolParts + 'static>(
     rt: R,
     blank: Blank,
-    builder: Builder<Server>,
-    board: &Board,
-    run: Run,
+    builder: ServerBuilder,
+    board: &Arc<Board, Global>,
+    run: Scenario,
 ) -> Result<Met, Memory>
     requires lawful { is_lawful builder.settings ≡ true }
     requires parts { IsBlankOf blank builder.settings L.name L.parts L.settings }
@@ -255,12 +188,12 @@ fn run_on<R: Runtime + Abort + Threads + Eprint, L: PoolParts + 'static>(
     let Ok(task) = MockTask::new(&rt) else {
         return Err(Memory);
     };
-    let server = Server {
-        board: board.try_clone()?,
-        answers: run != Run::Hangs,
-    };
-    if run == Run::Builds {
-        let building: Building<Server, NopErrorSink, NopCustomizer, SetClock, R, L> = builder.build(
+    let server = server_on(board)?;
+    if run == Scenario::Hangs {
+        board.opening.set(Course::Lasts);
+    }
+    if run == Scenario::Builds {
+        let building: Building<Server, Errors, NopCustomizer, SetClock, R, L> = builder.build(
             server, clock, rt, blank,
         );
         return Ok(match built(&rt, &task, building) {
@@ -268,11 +201,11 @@ fn run_on<R: Runtime + Abort + Threads + Eprint, L: PoolParts + 'static>(
             None => Met::Refusal,
         });
     }
-    let pool: TestPool<R, L> = builder.build_unchecked(server, clock, rt, blank)?;
+    let pool: ServerPool<SetClock, R, L> = builder.build_unchecked(server, clock, rt, blank)?;
     let mut driver = Driver::new(&pool)?;
     match run {
-        Run::Opens => Ok(opens(&rt, pool, &mut driver)),
-        Run::Hangs => hangs(rt, board, pool, driver),
+        Scenario::Opens => Ok(opens(&rt, pool, &mut driver)),
+        Scenario::Hangs => hangs(rt, board, pool, driver),
         _ => clones(&rt, &task, pool, board),
     }
 }
@@ -283,14 +216,20 @@ fn runs<R: Runtime + Abort + Threads + Eprint>(
     rt: R,
     max_size: u32,
     min_idle: u32,
-    run: Run,
+    run: Scenario,
     made: u64,
 ) {
     assert!(&rt; max_size > 0);
     let Ok(board) = Board::new(rt.alloc()) else {
         return;
     };
-    let builder = builder(max_size, min_idle);
+    let Ok(builder) = builder_on(&board) else {
+        return;
+    };
+    let builder = builder
+        .max_size(max_size)
+        .min_idle(Some(min_idle))
+        .test_on_check_out(false);
     let config = Config::from(&builder);
     assert!(&rt; config.is_lawful());
     let blank = Blank::new(config.max_size as u64);
@@ -298,27 +237,27 @@ fn runs<R: Runtime + Abort + Threads + Eprint>(
     assert!(&rt; board.is_each_dropped_once());
     if is_refused_afterwards(rt.alloc()) {
         assert!(&rt; matches!(met, Ok(Met::Nothing)));
-        assert_equal(&rt, board.made(), made);
+        assert_equal(&rt, board.made.get(), made);
         let _ = rt.eprintln("no request of the run was refused");
     }
 }
 
 #[test]
 fn building_answers_its_pool_or_memory(rt: HostRuntime) {
-    runs(rt, 5, 2, Run::Builds, 2);
+    runs(rt, 5, 2, Scenario::Builds, 2);
 }
 
 #[test]
 fn clones_and_owned_gets_are_served_or_refused(rt: HostRuntime) {
-    runs(rt, 5, 2, Run::Clones, 1);
+    runs(rt, 5, 2, Scenario::Clones, 1);
 }
 
 #[test]
 fn driver_opens_three_in_two_turns(rt: HostRuntime) {
-    runs(rt, 3, 3, Run::Opens, 3);
+    runs(rt, 3, 3, Scenario::Opens, 3);
 }
 
 #[test]
 fn driver_without_a_thread_gives_back(rt: HostRuntime) {
-    runs(rt, 1, 1, Run::Hangs, 1);
+    runs(rt, 1, 1, Scenario::Hangs, 1);
 }

@@ -29,7 +29,7 @@ fn withheld(first: u64, count: u32) -> Grant {
 
 /// A bare state that checks nothing, how many requests for memory it was refused, and whether memory stays refused.
 #[derive(Drop)]
-struct Row {
+struct PlayedRow {
     pool: PoolInternals<u64>,
     known: Known,
     alloc: Global,
@@ -37,8 +37,8 @@ struct Row {
     is_for_good: bool,
 }
 
-impl Row {
-    fn new(rt: &impl Abort, alloc: Global, max_size: u32, min_idle: Option<u32>) -> Row {
+impl PlayedRow {
+    fn new(rt: &impl Abort, alloc: Global, max_size: u32, min_idle: Option<u32>) -> PlayedRow {
         let config = Config {
             max_size,
             min_idle,
@@ -46,7 +46,7 @@ impl Row {
             ..Config::default()
         };
         assert!(rt; config.is_lawful());
-        Row {
+        PlayedRow {
             pool: PoolInternals::new(alloc, config),
             known: Known::new(alloc, 0, 0),
             alloc,
@@ -109,7 +109,7 @@ impl Row {
 
 /// Tells of a row in which nothing was refused, and of one in which memory was refused where the row says so. Nothing is told of one that
 /// ended before, for want of memory.
-fn tell<R: Abort + AllocGlobal + Eprint>(rt: &R, row: &Row, is_row: Option<bool>) {
+fn tell<R: Abort + AllocGlobal + Eprint>(rt: &R, row: &PlayedRow, is_row: Option<bool>) {
     if is_row == Some(true) {
         let _ = rt.eprintln("memory was refused where the row says so");
     }
@@ -120,7 +120,7 @@ fn tell<R: Abort + AllocGlobal + Eprint>(rt: &R, row: &Row, is_row: Option<bool>
 }
 
 /// Two are added, and one of them is closed; the next is below the peak, and one more is past it. Whether memory was refused there.
-fn is_withheld_past_the_peak(rt: &impl Abort, row: &mut Row) -> Option<bool> {
+fn is_withheld_past_the_peak(rt: &impl Abort, row: &mut PlayedRow) -> Option<bool> {
     if !(row.adds(rt, 0) && row.adds(rt, 1)) {
         return None;
     }
@@ -142,7 +142,7 @@ fn is_withheld_past_the_peak(rt: &impl Abort, row: &mut Row) -> Option<bool> {
 
 /// Two are opened, and a get is served, which asks for a third place; what is not granted there is asked for by the next get. Whether memory
 /// was refused for the third place.
-fn is_third_place_withheld(rt: &impl Abort, row: &mut Row) -> Option<bool> {
+fn is_third_place_withheld(rt: &impl Abort, row: &mut PlayedRow) -> Option<bool> {
     let (two, none) = (granted(0, 2), withheld(0, 2));
     if !row.tries(
         rt,
@@ -182,7 +182,7 @@ fn is_third_place_withheld(rt: &impl Abort, row: &mut Row) -> Option<bool> {
 /// is room below the peak; a fourth is withheld where its request for memory is refused, and added at the next ask.
 #[test]
 fn adding_is_withheld_past_the_peak_alone(rt: HostRuntime) {
-    let mut row = Row::new(&rt, rt.alloc(), 3, None);
+    let mut row = PlayedRow::new(&rt, rt.alloc(), 3, None);
     let is_row = is_withheld_past_the_peak(&rt, &mut row);
     tell(&rt, &row, is_row);
 }
@@ -190,7 +190,7 @@ fn adding_is_withheld_past_the_peak_alone(rt: HostRuntime) {
 /// With the request for the third place refused, the row `third_place_refused`.
 #[test]
 fn third_place_is_granted_at_the_next_ask(rt: HostRuntime) {
-    let mut row = Row::new(&rt, rt.alloc(), 5, Some(2));
+    let mut row = PlayedRow::new(&rt, rt.alloc(), 5, Some(2));
     let is_row = is_third_place_withheld(&rt, &mut row);
     tell(&rt, &row, is_row);
 }

@@ -34,7 +34,7 @@ pub struct Reaped {
 }
 
 /// What is found at a place in the order of births, and the place after it.
-enum Passed {
+enum Age {
     /// A connection that does not live too long, and so does none after it.
     Young,
     /// One that lives too long and is out.
@@ -88,7 +88,7 @@ fn pass_birth<C: Drop>(
     config: &Config,
     now: u64,
     lendings: &mut Lendings,
-) -> Passed
+) -> Age
     requires member { (j : ℕ) × (slice_get slots.now.births j ≡ Some place) }
     requires stands { (x : Slot (Standing C)) × (slot_at slots.now place ≡ Some x) }
     ensures value { Passes (settings_of config.now) now slots.now place result }
@@ -97,12 +97,12 @@ fn pass_birth<C: Drop>(
     let next = slots.next_birth(place);
     let standing = &slots.at(place, lendings).standing;
     if !is_past(config.max_lifetime, now.saturating_sub(standing.birth)) {
-        return Passed::Young;
+        return Age::Young;
     }
     if lives_out(config, now, standing) {
-        Passed::Aged(next)
+        Age::Aged(next)
     } else {
-        Passed::Out(next)
+        Age::Out(next)
     }
 }
 
@@ -119,7 +119,8 @@ impl<C: Drop> Records<C> {
             ((k : ℕ) × (slice_get self.old.idle 0 ≡ Some k)
             × EndsFirst (places.idles_out (settings_of config.now) now) self.old k self.new
             closed.old closed.new)
-            (((k : ℕ) → places.idles_out (settings_of config.now) now (map.get self.old.places k) ≡ false)
+            (((k : ℕ)
+            → places.idles_out (settings_of config.now) now (map.get self.old.places k) ≡ false)
             × (self.new ≡ self.old) × (closed.new ≡ closed.old)) }
         ensures examined { AddsLent 1 0 lendings.old lendings.new }
     {
@@ -188,9 +189,9 @@ impl<C: Drop> Records<C> {
         for _ in 0..self.slots.births() {
             let Some(place) = at else { break };
             match pass_birth(&self.slots, place, config, now, lendings) {
-                Passed::Young => break,
-                Passed::Out(next) => at = next,
-                Passed::Aged(next) => {
+                Age::Young => break,
+                Age::Out(next) => at = next,
+                Age::Aged(next) => {
                     let _ = close_at(&mut self.slots, place, closed);
                     self.conns -= 1;
                     many += 1;

@@ -80,7 +80,8 @@ impl Reaper {
 
     /// What a poll does after its look.
     fn proceed<H: ReapHome>(&mut self, home: &mut H, moment: Moment, alive: bool) -> ReaperAnswer
-        ensures row { ReaperProceeds H.ReapHome alive moment self.old home.old result self.new home.new }
+        ensures row { ReaperProceeds H.ReapHome alive moment self.old home.old
+            result self.new home.new }
         ensures latest { self.new.latest ≡ self.old.latest }
     {
         if !alive {

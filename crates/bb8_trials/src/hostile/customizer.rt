@@ -1,8 +1,8 @@
 //! A customizer that changes its answers at every call.
 
+use crate::board::Refused;
 use crate::hostile::connection::Counted;
 use crate::hostile::gauge::{Gauge, Token};
-use crate::hostile::manager::Refused;
 use crate::hostile::source::RandomSource;
 use bb8::{CustomizeConnection, Moment};
 use futures::task::Poll;
@@ -27,10 +27,6 @@ impl CustomizeConnection<Counted, Refused> for HostileCustomizer {
         _acquiring: &mut Token,
         _moment: Moment,
     ) -> Poll<Result<(), Refused>> {
-        match self.source.below(8) {
-            0..=2 => Poll::Ready(Ok(())),
-            3 => Poll::Ready(Err(Refused(self.source.next()))),
-            _ => Poll::Pending,
-        }
+        self.source.poll()
     }
 }

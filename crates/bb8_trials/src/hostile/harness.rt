@@ -7,12 +7,22 @@ use crate::hostile::gauge::Gauge;
 use crate::hostile::manager::HostileManager;
 use crate::hostile::sink::HostileSink;
 use crate::hostile::source::RandomSource;
-use bb8::{Memory, Pool};
+use bb8::{Driver, Memory, Pool, State};
 use std::alloc::Global;
 use std::sync::atomic::AtomicU64;
 
 /// A pool whose manager, error sink, customizer and clock are hostile.
 pub type HostilePool<R, L> = Pool<
+    HostileManager,
+    HostileSink,
+    HostileCustomizer,
+    HostileClock,
+    R,
+    L,
+>;
+
+/// The driver of such a pool.
+pub type HostileDriver<R, L> = Driver<
     HostileManager,
     HostileSink,
     HostileCustomizer,
@@ -59,6 +69,14 @@ impl Gauges {
             && self.preparations.alive() == Some(0)
             && self.checks.alive() == Some(0)
             && self.holdings.alive() == Some(0)
+    }
+
+    /// Whether no get of a pool that tells this is pending, they are quiet, and all connections that were not dropped are in it, and idle.
+    pub fn are_at_rest(&self, state: &State) -> bool {
+        state.statistics.pending_gets() == 0
+            && state.connections == state.idle_connections
+            && self.connections.alive() == Some(u64::from(state.connections))
+            && self.are_quiet()
     }
 
     /// Whether they are quiet, and each connection and each manager was dropped.

@@ -1,24 +1,11 @@
 //! A manager that changes its answers at every call.
 
+use crate::board::Refused;
 use crate::hostile::connection::Counted;
 use crate::hostile::gauge::{Gauge, Token};
 use crate::hostile::source::RandomSource;
 use bb8::{ManageConnection, Moment};
 use futures::task::Poll;
-use std::error::Error;
-use std::fmt;
-
-/// The error of whatever a source says shall fail, with a number from it.
-#[derive(Clone, Copy, Debug, PartialEq, Eq)]
-pub struct Refused(pub u64);
-
-impl fmt::Display for Refused {
-    fn fmt<W: fmt::Write>(&self, f: &mut fmt::Formatter<W>) -> fmt::Result {
-        write!(f, "refused {}", self.0)
-    }
-}
-
-impl Error for Refused {}
 
 /// Opens, checks and breaks connections as its source says: of an opening and of a check each poll is pending in half of the cases, and
 /// fails in a quarter or an eighth of them, and of `one_in` connections that it is asked about one is broken. Nothing that it answers
@@ -68,11 +55,7 @@ impl ManageConnection for HostileManager {
         _checking: &mut Token,
         _moment: Moment,
     ) -> Poll<Result<(), Refused>> {
-        match self.source.below(8) {
-            0..=2 => Poll::Ready(Ok(())),
-            3 => Poll::Ready(Err(Refused(self.source.next()))),
-            _ => Poll::Pending,
-        }
+        self.source.poll()
     }
 
     /// Who asks has the connection back from whoever held it.

@@ -1,7 +1,7 @@
 //! An error sink that counts.
 
+use crate::board::Refused;
 use crate::hostile::gauge::Gauge;
-use crate::hostile::manager::Refused;
 use bb8::ErrorSink;
 
 /// Counts the errors that it takes.

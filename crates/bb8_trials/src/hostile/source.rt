@@ -1,7 +1,9 @@
 //! Numbers that look random and are the same in each run.
 ghost use Rattle.std.specs.Prelude.{◌<◌, IfSome};
 
+use crate::board::Refused;
 use bb8::Memory;
+use futures::task::Poll;
 use std::alloc::Global;
 use std::sync::Arc;
 use std::sync::atomic::{AtomicU64, Ordering};
@@ -46,6 +48,15 @@ impl RandomSource {
             return 0;
         }
         self.next() % bound
+    }
+
+    /// What a poll of a check or a preparation answers: pending in half of the cases, and an error in an eighth of them.
+    pub(crate) fn poll(&self) -> Poll<Result<(), Refused>> {
+        match self.below(8) {
+            0..=2 => Poll::Ready(Ok(())),
+            3 => Poll::Ready(Err(Refused(self.next()))),
+            _ => Poll::Pending,
+        }
     }
 
     /// An index into a row of this length. None where it is empty, and then no number is drawn.

@@ -66,8 +66,9 @@ impl Statistics {
 
     /// Gets that began and were neither served nor timed out nor cancelled. As upstream, but that cancelled ones do not count.
     pub fn pending_gets(&self) -> u64
-        ensures { result +
-            (self.now.get_direct + self.now.get_waited + self.now.get_timed_out) + self.now.get_cancelled ≡ self.now.get_started }
+        ensures { result
+            + (self.now.get_direct + self.now.get_waited + self.now.get_timed_out)
+            + self.now.get_cancelled ≡ self.now.get_started }
     {
         self.get_started - self.completed_gets() - self.get_cancelled
     }

@@ -1,39 +1,32 @@
 //! A run in which any one request for memory is refused, or all from any on, as `refusals/run` makes them. It holds with refusals and without.
 
-use super::{came_to, lacked_memory, turn};
-use crate::trial::{Count, RunnerTrial, Tools, slots, try_runner};
+use super::{came_to, lacked_memory};
+use crate::trial::{Bench, Count, CountRunner, RunnerTrial, slots, try_runner};
 use bb8::Runtime;
-use bb8_trials::Handle;
-use slots::{Outcome, Phase, RunnerCalls, SlotManager};
+use bb8_trials::LentHandle;
+use slots::{Phase, RunnerCalls, SlotManager};
 use std::process::Abort;
 
 /// Five jobs on two slots. One that was taken on ends with what it comes to, or for want of memory, or goes on; none passes the bound, and no
 /// guard is lost.
 #[derive(Drop)]
-struct Refused;
+struct RefusedMemory;
 
-impl<R: Runtime + Abort> RunnerTrial<R> for Refused {
-    type End = ();
-
-    fn run<P: Handle<SlotManager>, X: RunnerCalls<Job = Count, Outcome = Outcome<u64>> + Drop>(
-        self,
-        rt: R,
-        tools: &Tools,
-        pool: P,
-        mut runner: X,
-    ) {
+impl<R: Runtime + Abort> RunnerTrial<R> for RefusedMemory {
+    fn run<P: LentHandle<SlotManager> + Drop, X: CountRunner>(self, mut bench: Bench<R, P, X>) {
+        let rt = bench.rt;
         let mut taken_on: u64 = 0;
         for _ in 0..5 {
-            if let Ok(id) = runner.submit(Count::to(2)) {
+            if let Ok(id) = bench.runner.submit(Count::to(2)) {
                 assert_eq!(&rt; id, taken_on);
                 taken_on = taken_on.saturating_add(1);
             }
         }
         let mut ended: u64 = 0;
         for _ in 0..12 {
-            ended = ended.saturating_add(turn(&mut runner, tools, 0));
-            let state = pool.state();
-            let running = runner.running();
+            ended = ended.saturating_add(bench.turn(0));
+            let state = bench.pool.state();
+            let running = bench.runner.running();
             assert!(&rt; running <= 2);
             assert_eq!(&rt;
                 running.saturating_add(state.idle_connections as u64),
@@ -42,9 +35,9 @@ impl<R: Runtime + Abort> RunnerTrial<R> for Refused {
         }
         let mut told: u64 = 0;
         for id in 0..taken_on {
-            match runner.phase(id) {
+            match bench.runner.phase(id) {
                 Some(Phase::Ended) => {
-                    let outcome = runner.take(id);
+                    let outcome = bench.runner.take(id);
                     assert!(&rt; lacked_memory(&outcome) || came_to(outcome, 2));
                     told = told.saturating_add(1);
                 }
@@ -58,5 +51,5 @@ impl<R: Runtime + Abort> RunnerTrial<R> for Refused {
 
 #[test]
 fn no_job_is_lost(rt: HostRuntime) {
-    let _ = try_runner(rt, slots(2), Refused);
+    let _ = try_runner(rt, slots(2), RefusedMemory);
 }

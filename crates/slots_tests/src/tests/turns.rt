@@ -1,10 +1,10 @@
 //! Turns of runners: how many jobs end and run at each, and what the pool tells.
 
-use super::{came_to, submits, timed_out, turn};
-use crate::trial::{RunnerTrial, Tools, slots, try_runner};
+use super::{came_to, timed_out};
+use crate::trial::{Bench, CountRunner, RunnerTrial, slots, try_runner};
 use bb8::Runtime;
-use bb8_trials::{Handle, SECOND, sizes};
-use slots::{Outcome, Phase, RunnerCalls, Slot, SlotManager};
+use bb8_trials::{LentHandle, SECOND, sizes};
+use slots::{Phase, RunnerCalls, Slot, SlotManager};
 use std::process::Abort;
 use std::time::Duration;
 
@@ -13,14 +13,10 @@ use std::time::Duration;
 struct FiveJobs;
 
 impl<R: Runtime + Abort> RunnerTrial<R> for FiveJobs {
-    type End = ();
-
-    fn run<
-        P: Handle<SlotManager>,
-        X: RunnerCalls<Job = crate::trial::Count, Outcome = Outcome<u64>> + Drop,
-    >(self, rt: R, tools: &Tools, pool: P, mut runner: X) {
+    fn run<P: LentHandle<SlotManager> + Drop, X: CountRunner>(self, mut bench: Bench<R, P, X>) {
+        let rt = bench.rt;
         for id in 0..5u64 {
-            assert!(&rt; submits(&mut runner, 3, id));
+            assert!(&rt; bench.submits(3, id));
         }
         // how many end at each turn, and how many run after it
         for (ended, running) in [
@@ -36,13 +32,13 @@ impl<R: Runtime + Abort> RunnerTrial<R> for FiveJobs {
             (0, 1),
             (1, 0u64),
         ] {
-            assert_eq!(&rt; turn(&mut runner, tools, 0), ended);
-            assert_eq!(&rt; runner.running(), running);
+            assert_eq!(&rt; bench.turn(0), ended);
+            assert_eq!(&rt; bench.runner.running(), running);
         }
         for id in 0..5u64 {
-            assert!(&rt; came_to(runner.take(id), 3));
+            assert!(&rt; came_to(bench.runner.take(id), 3));
         }
-        let state = pool.state();
+        let state = bench.pool.state();
         assert!(&rt; sizes(state) == (2, 2));
         assert_eq!(&rt; state.statistics.get_started, 5);
         assert_eq!(&rt; state.statistics.get_direct, 0);
@@ -61,24 +57,20 @@ fn five_jobs_on_two_slots(rt: HostRuntime) {
 struct TimesOut;
 
 impl<R: Runtime + Abort> RunnerTrial<R> for TimesOut {
-    type End = ();
-
-    fn run<
-        P: Handle<SlotManager>,
-        X: RunnerCalls<Job = crate::trial::Count, Outcome = Outcome<u64>> + Drop,
-    >(self, rt: R, tools: &Tools, pool: P, mut runner: X) {
-        assert!(&rt; pool.add(Slot).is_ok());
-        let Some(_lent) = pool.lend(&tools.task) else {
+    fn run<P: LentHandle<SlotManager> + Drop, X: CountRunner>(self, mut bench: Bench<R, P, X>) {
+        let rt = bench.rt;
+        assert!(&rt; bench.pool.add(Slot).is_ok());
+        let Some(_lent) = bench.pool.lend(&bench.task) else {
             panic!(&rt; "no slot");
         };
-        assert!(&rt; submits(&mut runner, 1, 0));
-        assert_eq!(&rt; turn(&mut runner, tools, 0), 0);
-        assert!(&rt; runner.phase(0) == Some(Phase::Waiting));
-        tools.clock.set(bb8::Moment(SECOND));
-        assert_eq!(&rt; turn(&mut runner, tools, SECOND), 1);
-        assert!(&rt; runner.phase(0) == Some(Phase::Ended));
-        assert!(&rt; timed_out(runner.take(0)));
-        assert_eq!(&rt; pool.state().statistics.get_timed_out, 1);
+        assert!(&rt; bench.submits(1, 0));
+        assert_eq!(&rt; bench.turn(0), 0);
+        assert!(&rt; bench.runner.phase(0) == Some(Phase::Waiting));
+        bench.clock.set(bb8::Moment(SECOND));
+        assert_eq!(&rt; bench.turn(SECOND), 1);
+        assert!(&rt; bench.runner.phase(0) == Some(Phase::Ended));
+        assert!(&rt; timed_out(bench.runner.take(0)));
+        assert_eq!(&rt; bench.pool.state().statistics.get_timed_out, 1);
     }
 }
 
@@ -93,26 +85,22 @@ fn get_times_out(rt: HostRuntime) {
 struct Dropped;
 
 impl<R: Runtime + Abort> RunnerTrial<R> for Dropped {
-    type End = ();
-
-    fn run<
-        P: Handle<SlotManager>,
-        X: RunnerCalls<Job = crate::trial::Count, Outcome = Outcome<u64>> + Drop,
-    >(self, rt: R, tools: &Tools, pool: P, mut runner: X) {
-        assert!(&rt; submits(&mut runner, 1, 0));
+    fn run<P: LentHandle<SlotManager> + Drop, X: CountRunner>(self, mut bench: Bench<R, P, X>) {
+        let rt = bench.rt;
+        assert!(&rt; bench.submits(1, 0));
         for id in 1..4u64 {
-            assert!(&rt; submits(&mut runner, 9, id));
+            assert!(&rt; bench.submits(9, id));
         }
         for wanted in [0, 0, 1, 0u64] {
-            assert_eq!(&rt; turn(&mut runner, tools, 0), wanted);
+            assert_eq!(&rt; bench.turn(0), wanted);
         }
-        assert!(&rt; runner.phase(0) == Some(Phase::Ended));
-        assert!(&rt; runner.phase(1) == Some(Phase::Running));
-        assert!(&rt; runner.phase(2) == Some(Phase::Running));
-        assert!(&rt; runner.phase(3) == Some(Phase::Waiting));
-        assert!(&rt; sizes(pool.state()) == (2, 0));
-        drop(runner);
-        let state = pool.state();
+        assert!(&rt; bench.runner.phase(0) == Some(Phase::Ended));
+        assert!(&rt; bench.runner.phase(1) == Some(Phase::Running));
+        assert!(&rt; bench.runner.phase(2) == Some(Phase::Running));
+        assert!(&rt; bench.runner.phase(3) == Some(Phase::Waiting));
+        assert!(&rt; sizes(bench.pool.state()) == (2, 0));
+        drop(bench.runner);
+        let state = bench.pool.state();
         assert!(&rt; sizes(state) == (2, 2));
         assert_eq!(&rt; state.statistics.get_cancelled, 1);
         assert_eq!(&rt; state.statistics.pending_gets(), 0);

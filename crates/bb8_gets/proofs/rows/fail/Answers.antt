@@ -1,4 +1,4 @@
-use Rattle.std.proofs.Common.{Ok, refl}
+use Rattle.std.proofs.Common.{refl}
 use Rattle.bb8_gets.proofs.rows.fail.Goals as goal
 
 pub returns-in-Ok : goal.returns-in-Ok

@@ -4,5 +4,5 @@ use Rattle.bb8.proofs.driver.SharedRunsWithConnectionErrorConnecting.run_with.Gi
 
 abbrev pub invariant-loop : goal.invariant-loop
 invariant-loop g l =
-    (d : Driven) → Runs (LinkTurnsNow g.W.Opener g.W.Reports l.fn.self) g.G.Gate.pauses (l.turning, l.pool) l.gate l.turns d
-    → LinkRuns g.W.Opener g.W.Reports l.fn.self g.G.Gate.pauses l.fn.turning l.fn.outside l.fn.gate d
+    (d : Driven) → Runs (LinkTurnsNow g.W.Opener g.W.Reports l.fn.self) g.P.Gate.pauses (l.turning, l.pool) l.gate l.turns d
+    → LinkRuns g.W.Opener g.W.Reports l.fn.self g.P.Gate.pauses l.fn.turning l.fn.outside l.fn.gate d

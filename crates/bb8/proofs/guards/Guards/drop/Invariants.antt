@@ -6,7 +6,7 @@ use Rattle.bb8.proofs.guards.Guards.drop.Given as goal
 abbrev pub invariant-loop-connection : goal.invariant-loop-connection
 invariant-loop-connection g l =
     l.parts ≡ vec_len l.connections × (vec_len l.tickets ≡ vec_len l.connections)
-    × (AllZip (ReturnsBy g.S.ErrorSink.sinks g.K.Clock.tells) l.tickets.items l.connections.items → ReturnsEach g.S.ErrorSink.sinks g.K.Clock.tells l.fn.self)
+    × (AllZip ReturnsBy l.tickets.items l.connections.items → ReturnsEach l.fn.self)
 
 abbrev pub decreases-loop-connection : goal.decreases-loop-connection
 decreases-loop-connection g l = vec_len l.connections

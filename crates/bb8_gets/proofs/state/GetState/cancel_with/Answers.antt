@@ -1,4 +1,4 @@
-use Rattle.std.proofs.Common.{◌⊎◌, inl, inr, refl}
+use Rattle.std.proofs.Common.{inl, inr, refl}
 use Rattle.bb8_gets.proofs.state.GetState.cancel_with.Goals as goal
 
 -- src/state.rt

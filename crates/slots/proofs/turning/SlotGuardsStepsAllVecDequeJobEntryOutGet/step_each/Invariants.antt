@@ -4,7 +4,7 @@ use Rattle.slots.proofs.turning.SlotGuardsStepsAllVecDequeJobEntryOutGet.step_ea
 
 abbrev pub invariant-loop : goal.invariant-loop
 invariant-loop g l = record {
-  midway : TurnMidway g.J.Job.polls (PollsGet g.S.ErrorSink.sinks g.K.Clock.tells) l.fn.now l.fn.queue.items l.queue.items l.ended (l.count - l.counter);
+  midway : TurnMidway g.J.Job.polls PollsGet l.fn.now l.fn.queue.items l.queue.items l.ended (l.count - l.counter);
   len : deque_len l.queue ≡ l.count;
   most : l.ended ≤ l.counter;
   held : running l.fn.queue.items ≡ number_in l.fn.self → running l.queue.items ≡ number_in l.self;

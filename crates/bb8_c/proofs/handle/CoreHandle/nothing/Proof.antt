@@ -3,10 +3,10 @@ use Rattle.bb8_c.proofs.Words.{proved_at, None, refl, sym, subst, List, [], ◌�
 use Rattle.std_heap.specs.contracts.Global as Heap
 use Rattle.bb8_c.proofs.AsBox.{core_box, ByAllocator}
 use Rattle.bb8_c.proofs.Values.{of_two}
-use Rattle.bb8_c.specs.contracts.handle.Handle.nothing as F
-use Rattle.bb8_c.specs.contracts.handle.Handle.nothing.Key.{name as #self}
-use Rattle.bb8_c.proofs.handle.Handle.nothing.Statement as stated
-use Rattle.bb8_c.proofs.handle.Handle.nothing.Code as code
+use Rattle.bb8_c.specs.contracts.handle.CoreHandle.nothing as F
+use Rattle.bb8_c.specs.contracts.handle.CoreHandle.nothing.Key.{name as #self}
+use Rattle.bb8_c.proofs.handle.CoreHandle.nothing.Statement as stated
+use Rattle.bb8_c.proofs.handle.CoreHandle.nothing.Code as code
 
 pub nothing_spec : {M : Type 1} → stated.statement M
 nothing_spec 𝓤 𝓛 𝓜 𝓡 wired =

@@ -5,10 +5,10 @@ use Rattle.std_alloc.proofs.BoxSteps.Form as box
 use Rattle.std_alloc.specs.contracts.boxed.Box.into_raw_with_allocator as into_raw
 use Rattle.std_alloc.proofs.boxed.Box.into_raw_with_allocator.Met.{met}
 use Rattle.bb8_c.proofs.Values.{of_two, is_typed, into_parts}
-use Rattle.bb8_c.specs.contracts.parts.Parts.of.{ended, clauses}
-use Rattle.bb8_c.specs.contracts.parts.Parts.of.Key.{name as #self}
-use Rattle.bb8_c.proofs.parts.Parts.of.Statement.{statement}
-use Rattle.bb8_c.proofs.parts.Parts.of.Code as code
+use Rattle.bb8_c.specs.contracts.parts.BoxParts.of.{ended, clauses}
+use Rattle.bb8_c.specs.contracts.parts.BoxParts.of.Key.{name as #self}
+use Rattle.bb8_c.proofs.parts.BoxParts.of.Statement.{statement}
+use Rattle.bb8_c.proofs.parts.BoxParts.of.Code as code
 
 pub of_spec : {M : Type 1} → statement M
 of_spec 𝓤 𝓛 𝓜 𝓡 wired T A L LA g d dx dd allocator glue glued =

@@ -1,10 +1,10 @@
 -- `into_parts` shows that a handle that is not empty comes apart into what the box of its core is made of.
 use Rattle.bb8_c.proofs.Words.{proved_at, Option, is_some, true, ◌≡◌, refl, sym, subst, List, [], ◌∷◌, ◌++◌, Val, SProp, ent, id⊢, ftrue, fsep, WpFn, fact, tables, Item, ‵, raw, ◌⊛◌, ◌$◌, ◌∵◌, !, qed, by, move, drop, use1, join, split, fsplit, fjoin, suffices, rewrite, done, whole, sub, agg, stop, fld, no_more, and_then, of_opd, returns, enter, alloc_all, pass_all, free_all, look_at, get, get_in, sets, yes, type_at, nothing, heard, says, Stays, stay_dropped, walk_of, ends_at, Goes-dropped, X, D, B, word, box_typed, box_out, box_in, the_row}
 use Rattle.bb8_c.proofs.AsBox.{core_box, held_in, ByHandle}
-use Rattle.bb8_c.specs.contracts.handle.Handle.into_parts as F
-use Rattle.bb8_c.specs.contracts.handle.Handle.into_parts.Key.{name as #self}
-use Rattle.bb8_c.proofs.handle.Handle.into_parts.Statement as stated
-use Rattle.bb8_c.proofs.handle.Handle.into_parts.Code as code
+use Rattle.bb8_c.specs.contracts.handle.CoreHandle.into_parts as F
+use Rattle.bb8_c.specs.contracts.handle.CoreHandle.into_parts.Key.{name as #self}
+use Rattle.bb8_c.proofs.handle.CoreHandle.into_parts.Statement as stated
+use Rattle.bb8_c.proofs.handle.CoreHandle.into_parts.Code as code
 
 pub into_parts_spec : {M : Type 1} → stated.statement M
 into_parts_spec 𝓤 𝓛 𝓜 𝓡 wired =
@@ -15,12 +15,12 @@ into_parts_spec 𝓤 𝓛 𝓜 𝓡 wired =
     let Ends : Val → SProp 𝓤 = (walk_of 𝓛 F.ended stays clauses).post z in
     let values : List Val = z.0.4.0 in
     let handle : the_row.Denot = z.0.3.0 in
-    let Parts = type_at (F.signature).result tt in
+    let BoxParts = type_at (F.signature).result tt in
     qed 𝓛 ((‵ ftrue ⊛ ‵ (fsep (the_row.own_val handle values) ftrue)) ∷ raw (fact 𝓤 (is_some handle.core ≡ true)) ∷ []) ∵ move ! (1 ∷ []) $
     heard ! (is_some handle.core ≡ true) (λ full.
     let held = held_in handle.core full in
     let boxed : D core_box = record { ptr = handle.at; alloc = handle.alloc; value = held.0 } in
-    let made : Parts.Denot = record { at = boxed.ptr; alloc = boxed.alloc; value = boxed.value } in
+    let made : BoxParts.Denot = record { at = boxed.ptr; alloc = boxed.alloc; value = boxed.value } in
     -- the handle owns a box, and so do the parts
     split ! $ drop ! $ fsplit ! $
     rewrite ! 0 (λ (c : Option (X core_box)). ‵ (the_row.own_val (record handle { core = c }) values)) held.1 refl $
@@ -28,8 +28,8 @@ into_parts_spec 𝓤 𝓛 𝓜 𝓡 wired =
     box_out core_box ! boxed values (λ block offset allocator is_block is_word fits.
     box_in core_box ! boxed block offset boxed.value is_block refl $
     let value = word core_box allocator block offset in
-    use1 𝓛 (‵ (Parts.own_val made (value ∷ []))) (id⊢ 𝓤 _) $ move ! (1 ∷ 2 ∷ []) $ drop ! $ drop ! $
-    let owned : List (Item 𝓤) = ‵ (Parts.own_val made (value ∷ [])) ∷ [] in
+    use1 𝓛 (‵ (BoxParts.own_val made (value ∷ []))) (id⊢ 𝓤 _) $ move ! (1 ∷ 2 ∷ []) $ drop ! $ drop ! $
+    let owned : List (Item 𝓤) = ‵ (BoxParts.own_val made (value ∷ [])) ∷ [] in
     -- the walk: both fields are moved, the pointer at its new type
     by ! (subst (λ (vs : List Val). ent 𝓤 (types.Kit.⋆ 𝓛 owned) (WpFn 𝓤 𝓛.H kit.C kit.Λ code.function (vs ++ []) Ends)) (sym is_word)
     (qed 𝓛 owned ∵ enter ! kit.C kit.Λ code.function (value ∷ []) _ $ alloc_all ! (λ ls. pass_all ! refl (box_typed core_box allocator block offset fits, tt) $

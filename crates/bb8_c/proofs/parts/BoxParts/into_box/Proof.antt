@@ -7,10 +7,10 @@ use Rattle.std_alloc.proofs.BoxSteps.Form as box
 use Rattle.std_alloc.specs.contracts.boxed.Box.from_raw as from_raw
 use Rattle.std_alloc.proofs.boxed.Box.from_raw.Met.{met}
 use Rattle.bb8_c.proofs.Values.{of_two, Opened, is_typed, from_parts}
-use Rattle.bb8_c.specs.contracts.parts.Parts.into_box.{ended, clauses}
-use Rattle.bb8_c.specs.contracts.parts.Parts.into_box.Key.{name as #self}
-use Rattle.bb8_c.proofs.parts.Parts.into_box.Statement.{statement}
-use Rattle.bb8_c.proofs.parts.Parts.into_box.Code as code
+use Rattle.bb8_c.specs.contracts.parts.BoxParts.into_box.{ended, clauses}
+use Rattle.bb8_c.specs.contracts.parts.BoxParts.into_box.Key.{name as #self}
+use Rattle.bb8_c.proofs.parts.BoxParts.into_box.Statement.{statement}
+use Rattle.bb8_c.proofs.parts.BoxParts.into_box.Code as code
 
 pub into_box_spec : {M : Type 1} → statement M
 into_box_spec 𝓤 𝓛 𝓜 𝓡 wired T A L LA g d dx dd allocator glue glued =

@@ -3,22 +3,22 @@
 use std::alloc::{AllocError, Global};
 
 /// How many numbers there are, from 0 on.
-const SLOTS: u8 = 16;
+const NUMBERS: u8 = 16;
 
 /// Things that a script has, each under its number.
 #[derive(Drop)]
-pub struct Slots<T: Drop> {
+pub struct Shelf<T: Drop> {
     things: Vec<Option<T>>,
 }
 
-impl<T: Drop> Slots<T> {
+impl<T: Drop> Shelf<T> {
     /// Nothing under any number.
-    pub fn new(alloc: Global) -> Result<Slots<T>, AllocError> {
+    pub fn new(alloc: Global) -> Result<Shelf<T>, AllocError> {
         let mut things = Vec::new(alloc);
-        for _ in 0..SLOTS {
+        for _ in 0..NUMBERS {
             things.push(None)?;
         }
-        Ok(Slots { things })
+        Ok(Shelf { things })
     }
 
     /// A thing goes under this number, and what was there is dropped. None where there is no such number.

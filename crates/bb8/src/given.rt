@@ -1,0 +1,38 @@
+//! The pool's types by manager, error sink, customizer, clock, runtime and parts. In their modules the first five are one parameter.
+use crate::{building, dedicated, driver, get, guards, owned, pool};
+use bb8_lock::These;
+
+/// A handle of a pool, `pool::Pool`.
+pub type Pool<M, S, Z, K, R, L> = pool::Pool<These<M, S, Z, K, R>, L>;
+
+/// A guard, `pool::PooledConnection`.
+pub type PooledConnection<'a, M, S, Z, K, R, L> = pool::PooledConnection<
+    'a,
+    These<M, S, Z, K, R>,
+    L,
+>;
+
+/// A get, `get::GetFuture`.
+pub type GetFuture<'a, M, S, Z, K, R, L> = get::GetFuture<'a, These<M, S, Z, K, R>, L>;
+
+/// A get with a handle of its own, `owned::GetOwnedFuture`.
+pub type GetOwnedFuture<M, S, Z, K, R, L> = owned::GetOwnedFuture<These<M, S, Z, K, R>, L>;
+
+/// A guard with a handle of its own, `owned::OwnedConnection`.
+pub type OwnedConnection<M, S, Z, K, R, L> = owned::OwnedConnection<These<M, S, Z, K, R>, L>;
+
+/// The opening of a connection that the pool does not count, `dedicated::DedicatedFuture`.
+pub type DedicatedFuture<'a, M, S, Z, K, R, L> = dedicated::DedicatedFuture<
+    'a,
+    These<M, S, Z, K, R>,
+    L,
+>;
+
+/// The building of a pool, `building::Building`.
+pub type Building<M, S, Z, K, R, L> = building::Building<These<M, S, Z, K, R>, L>;
+
+/// A driver, `driver::Driver`.
+pub type Driver<M, S, Z, K, R, L> = driver::Driver<These<M, S, Z, K, R>, L>;
+
+/// A list of guards, `guards::Guards`.
+pub type Guards<'a, M, S, Z, K, R, L> = guards::Guards<'a, These<M, S, Z, K, R>, L>;

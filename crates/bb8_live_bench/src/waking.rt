@@ -1,0 +1,99 @@
+//! Threads that sleep until a connection comes back.
+
+use crate::manager::{NumberManager, NumberPool};
+use bb8::{
+    Builder, MachineClock, NopCustomizer, NopErrorSink, PoolCalls, PoolParts, Runtime, Service,
+};
+use std::sync::atomic::{AtomicU64, Ordering};
+use std::thread;
+use std::thread::Threads;
+use std::time::{Clock, Duration};
+
+/// Two threads take turns: one has the one connection for a while, and the other sleeps in its get meanwhile.
+#[derive(Drop)]
+struct Turns<R> {
+    rt: R,
+    /// How often each thread has it.
+    rounds: u64,
+    /// When the last return began, by the machine's clock.
+    returned: AtomicU64,
+}
+
+/// The nanoseconds of the machine's clock.
+fn nanos<R: Clock>(rt: &R) -> u64 {
+    match rt.monotonic() {
+        Ok(passed) => u64::try_from(passed.as_nanos()).unwrap_or(u64::MAX),
+        Err(_) => 0,
+    }
+}
+
+impl<R: Runtime> Service<NumberManager, NopErrorSink, NopCustomizer, MachineClock<R>, R>
+    for Turns<R> {
+    /// The nanoseconds from a return to the answer, of each get that waited for it.
+    type Told = Option<Vec<u64>>;
+
+    /// The median and the 95th percentile of them.
+    type Outcome = Option<(u64, u64)>;
+
+    fn begin<L: PoolParts>(
+        &self,
+        _pool: &NumberPool<MachineClock<R>, R, L>,
+    ) -> Result<(), Option<(u64, u64)>> {
+        Ok(())
+    }
+
+    fn run<L: PoolParts>(
+        &self,
+        pool: &NumberPool<MachineClock<R>, R, L>,
+        _thread: usize,
+    ) -> Option<Vec<u64>> {
+        let mut told = Vec::new(self.rt.alloc());
+        for _ in 0..self.rounds {
+            let asked = nanos(&self.rt);
+            let guard = PoolCalls::get_blocking(pool).ok()?;
+            let served = nanos(&self.rt);
+            let returned = self.returned.load(Ordering::SeqCst);
+            if asked < returned {
+                told.push(served.saturating_sub(returned)).ok()?;
+            }
+            thread::sleep(&self.rt, Duration::from_millis(2));
+            self.returned.store(nanos(&self.rt), Ordering::SeqCst);
+            drop(guard);
+            thread::sleep(&self.rt, Duration::from_millis(1));
+        }
+        Some(told)
+    }
+
+    fn end<L: PoolParts>(
+        &self,
+        _pool: &NumberPool<MachineClock<R>, R, L>,
+        told: &[Option<Vec<u64>>],
+    ) -> Option<(u64, u64)> {
+        let mut all = Vec::new(self.rt.alloc());
+        for one in told {
+            for after in one.as_ref()?.iter() {
+                all.push(*after).ok()?;
+            }
+        }
+        all.as_mut_slice().sort_unstable();
+        let median = *all.get(all.len() / 2)?;
+        let most = *all.get(all.len().saturating_sub(all.len() / 20 + 1))?;
+        Some((median, most))
+    }
+}
+
+/// Runs two threads of so many rounds each: the median and the 95th percentile of the nanoseconds from a return to the answer of the get that
+/// sleeps, or None where a get was not served or none slept.
+pub fn woken<R: Runtime + Threads>(rt: R, rounds: u64) -> Option<(u64, u64)> {
+    let turns = Turns {
+        rt,
+        rounds,
+        returned: AtomicU64::new(0),
+    };
+    Builder::new()
+        .max_size(1)
+        .min_idle(Some(1))
+        .test_on_check_out(false)
+        .serve(NumberManager, MachineClock(rt), rt, 2, &turns)
+        .ok()?
+}

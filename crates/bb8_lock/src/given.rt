@@ -1,0 +1,81 @@
+//! What stands outside a pool, in one type.
+use crate::Locks;
+use bb8_core::api::{Clock, CustomizeConnection, ErrorSink, ManageConnection};
+use std::fmt::Debug;
+use std::marker::PhantomData;
+
+/// What a pool is given from outside, and the types that come with it. `These` is the one implementer. Our own.
+pub trait Given: Drop + 'static {
+    /// The manager. Our own.
+    type Manager: ManageConnection<
+        Connection = Self::Connection,
+        Error = Self::Error,
+        Connecting = Self::Connecting,
+        Checking = Self::Checking,
+    >;
+
+    /// Where errors go that no caller waits for. Our own.
+    type Sink: ErrorSink<Self::Error>;
+
+    /// What prepares connections. Our own.
+    type Customizer: CustomizeConnection<
+        Self::Connection,
+        Self::Error,
+        Acquiring = Self::Acquiring,
+    >;
+
+    /// The clock. Our own.
+    type Clock: Clock;
+
+    /// The runtime that the lock needs. Our own.
+    type Runtime: Locks;
+
+    /// The manager's connections. Our own.
+    type Connection: Send + Drop + 'static;
+
+    /// The manager's errors. Our own.
+    type Error: Debug + Send + Drop + 'static;
+
+    /// The manager's openings. Our own.
+    type Connecting: Send + Drop + 'static;
+
+    /// The manager's checks. Our own.
+    type Checking: Send + Drop + 'static;
+
+    /// The customizer's preparations. Our own.
+    type Acquiring: Send + Drop + 'static;
+}
+
+/// A manager, an error sink, a customizer, a clock and a runtime, as one type, of which there is no value. Our own.
+#[derive(Drop)]
+pub struct These<M, S, Z, K, R> {
+    which: PhantomData<(M, S, Z, K, R)>,
+}
+
+impl<
+    M: ManageConnection,
+    S: ErrorSink<M::Error>,
+    Z: CustomizeConnection<M::Connection, M::Error>,
+    K: Clock,
+    R: Locks,
+> Given for These<M, S, Z, K, R> {
+    type Manager = M;
+
+    type Sink = S;
+
+    type Customizer = Z;
+
+    type Clock = K;
+
+    type Runtime = R;
+
+    type Connection = M::Connection;
+
+    type Error = M::Error;
+
+    type Connecting = M::Connecting;
+
+    type Checking = M::Checking;
+
+    type Acquiring = Z::Acquiring;
+}
