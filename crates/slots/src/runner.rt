@@ -23,7 +23,6 @@ use std::sync::Wait;
 ///
 /// Jobs are submitted, go on at each turn, and their outcomes are taken by their ids. When a runner is dropped, the gets of jobs that wait
 /// are cancelled and the guards of those that run are given back, for which it may wait for the pool's lock.
-#[derive(Drop)]
 pub struct Runner<
     'a,
     J: Job,
@@ -42,6 +41,28 @@ pub struct Runner<
     pub ghost held: { running entries.items ≡ number_in guards },
     pub ghost most: { most_in guards ≡ (settings_in pool.now).max_size },
     pub ghost within: { running entries.items ≤ (settings_in pool.now).max_size },
+}
+
+impl<
+    J: Job,
+    S: ErrorSink<Infallible>,
+    Z: CustomizeConnection<Slot, Infallible>,
+    K: Clock,
+    R: Locks,
+    L: Parts,
+> Drop for Runner<'_, J, S, Z, K, R, L> {
+    fn drop(self) {
+        let Runner {
+            entries,
+            guards,
+            driver,
+            pool: _,
+            next: _,
+        } = self;
+        drop(entries);
+        drop(guards);
+        drop(driver);
+    }
 }
 
 /// The calls of a runner, as methods of an impl, so that code that a thread runs can make them. Our own.
