@@ -1,24 +1,19 @@
 -- Tasks on a pool's lock, which is taken for each of their steps alone, and by the pool's own manager, customizer, error sink and clock.
 use Rattle.std.specs.Prelude.{◌≡◌, None, Option, Result, List}
-use Rattle.bb8_lock.specs.Words.{as_nanos, MutexGuard, DebugOf, Poll, Moment, CustomizerOf, ManagerOf, SinkOf, ClockOf, look_told, Joined, StepsIn, OpenerOf, PoolOpener, ReportsOf, joined_opener, joined_reports, joined_tasks, Locked, PartsOf, LinkHome, Shared}
-use Rattle.bb8_ledger.specs.Acts as acts
+use Rattle.bb8_lock.specs.Words.{as_nanos, MutexGuard, DebugOf, Poll, Moment, CustomizerOf, ManagerOf, SinkOf, ClockOf, Joined, StepsIn, OpenerOf, PoolOpener, ReportsOf, joined_opener, joined_reports, joined_tasks, Locked, PartsOf, LinkHome, Shared}
 use Rattle.bb8_tasks.specs.declared.dedicated.Dedicated.{Dedicated}
 use Rattle.bb8_tasks.specs.declared.home.Home.{Ghosts as HomeOf}
 use Rattle.bb8_tasks.specs.declared.replenish.Replenish.{Replenish}
 use Rattle.bb8_tasks.specs.declared.rounds.Round.{Round}
 use Rattle.bb8_tasks.specs.Dedicating as dedicating
-use Rattle.bb8_tasks.specs.Homes.{failed_told, opened_told, HandsOpenedBack}
+use Rattle.bb8_tasks.specs.Homes.{TaskStepsBy}
 use Rattle.bb8_tasks.specs.Replenishing.{TaskPolls, LetsGo}
 use Rattle.bb8_tasks.specs.Sweeping.{Rounds, LetsGoEach}
 use Rattle.bb8_lock.specs.Linked.{StartsAt}
 
 -- the relations of what a pool's lock holds as a home of tasks: each step leads from the state that stands there, which keeps the limits
 abbrev pub locked_tasks : {C L : Type 0} {l : PartsOf L} → HomeOf (Locked C L l) C
-locked_tasks {l = l} = record {
-  looks = λ h at seen h'. StepsIn l.settings h.core at.0 acts.Look (look_told seen) h'.core;
-  opens = λ h at a c step h'. StepsIn l.settings h.core at.0 (acts.Opened a.number c) (opened_told a.number step) h'.core × HandsOpenedBack c step;
-  fails = λ h at a step h'. StepsIn l.settings h.core at.0 (acts.Failed a.number) (failed_told step) h'.core;
-}
+locked_tasks {l = l} = record { steps = λ h at s h'. TaskStepsBy (StepsIn l.settings) h.core at s h'.core }
 
 -- A step on what is held, or else on whatever stands behind the lock, which is taken for it. Nothing is held then.
 abbrev pub Visits : {T : Type 0} → (T → T → Type 0) → Option (MutexGuard T) → Option (MutexGuard T) → Type 0
@@ -26,11 +21,7 @@ Visits {T} Step held held' = (t : T) × (t' : T) × StartsAt held t × Step t t'
 
 -- the relations of a lock as a home of tasks, by those of what it holds
 abbrev pub link_tasks : {C R T : Type 0} → HomeOf T C → HomeOf (LinkHome T R) C
-link_tasks home = record {
-  looks = λ h at seen h'. Visits (λ t t'. home.looks t at seen t') h.held h'.held;
-  opens = λ h at a c step h'. Visits (λ t t'. home.opens t at a c step t') h.held h'.held;
-  fails = λ h at a step h'. Visits (λ t t'. home.fails t at a step t') h.held h'.held;
-}
+link_tasks home = record { steps = λ h at s h'. Visits (λ t t'. home.steps t at s t') h.held h'.held }
 
 -- What the futures of a pool do with its tasks, of which handles and guards share this, by any calls outside.
 module _ {G L M S Z K R C E N V A B W : Type 0} {m : ManagerOf M C E N V} {d : DebugOf E} {s : SinkOf S E} {z : CustomizerOf Z C E B} {k : ClockOf K} {l : PartsOf L}

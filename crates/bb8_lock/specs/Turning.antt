@@ -1,36 +1,10 @@
 -- The turns of a driver on a pool's lock, which is taken for each step alone, and by the pool's own manager, customizer, error sink and clock.
 use Rattle.std.specs.Prelude.{◌≡◌, None}
-use Rattle.bb8_lock.specs.Words.{as_nanos, DebugOf, CustomizerOf, ManagerOf, SinkOf, ClockOf, Moment, claim_told, look_told, Joined, StepsIn, OpenerOf, PoolOpener, ReportsOf, joined_claims, joined_opener, joined_reaps, joined_reports, joined_tasks, Locked, PartsOf, LinkHome, Shared}
-use Rattle.bb8_ledger.specs.Acts as acts
-use Rattle.bb8_tasks.specs.declared.home.ClaimHome.{Ghosts as ClaimHomeOf}
-use Rattle.bb8_tasks.specs.declared.home.ReapHome.{Ghosts as ReapHomeOf}
-use Rattle.bb8_tasks.specs.ReapHomes.{reap_told}
+use Rattle.bb8_lock.specs.Words.{as_nanos, DebugOf, CustomizerOf, ManagerOf, SinkOf, ClockOf, Moment, Joined, OpenerOf, PoolOpener, ReportsOf, joined_opener, joined_reports, joined_tasks, Locked, PartsOf, LinkHome, Shared}
 use Rattle.bb8_tasks.specs.declared.turning.Turn.{Turn}
 use Rattle.bb8_tasks.specs.declared.turning.Turning.{Turning}
 use Rattle.bb8_tasks.specs.Turns.{DriverLetsGo, DriverTurns}
-use Rattle.bb8_lock.specs.Opening.{AreOpenersOf, link_tasks, locked_tasks, pool_opener, pool_reports, Visits}
-
--- the relations of what a pool's lock holds as a home of claims, and as a home of reaps
-abbrev pub locked_claims : {C L : Type 0} {l : PartsOf L} → ClaimHomeOf (Locked C L l)
-locked_claims {l = l} = record {
-  claims = λ h at answer h'. StepsIn l.settings h.core at.0 acts.Claim (claim_told answer) h'.core;
-}
-
-abbrev pub locked_reaps : {C L : Type 0} {l : PartsOf L} → ReapHomeOf (Locked C L l)
-locked_reaps {l = l} = record {
-  looks = λ h at seen h'. StepsIn l.settings h.core at.0 acts.Look (look_told seen) h'.core;
-  reaps = λ h at step h'. StepsIn l.settings h.core at.0 acts.Reap (reap_told step) h'.core;
-}
-
--- the relations of a lock as such homes, by those of what it holds
-abbrev pub link_claims : {R T : Type 0} → ClaimHomeOf T → ClaimHomeOf (LinkHome T R)
-link_claims home = record { claims = λ h at answer h'. Visits (λ t t'. home.claims t at answer t') h.held h'.held }
-
-abbrev pub link_reaps : {R T : Type 0} → ReapHomeOf T → ReapHomeOf (LinkHome T R)
-link_reaps home = record {
-  looks = λ h at seen h'. Visits (λ t t'. home.looks t at seen t') h.held h'.held;
-  reaps = λ h at step h'. Visits (λ t t'. home.reaps t at step t') h.held h'.held;
-}
+use Rattle.bb8_lock.specs.Opening.{AreOpenersOf, link_tasks, locked_tasks, pool_opener, pool_reports}
 
 -- What a driver of a pool does, of which the pool's handles share this, by any calls outside.
 module _ {G L M S Z K R C E N V A B W : Type 0} {m : ManagerOf M C E N V} {d : DebugOf E} {s : SinkOf S E} {z : CustomizerOf Z C E B} {k : ClockOf K} {l : PartsOf L}
@@ -38,8 +12,8 @@ module _ {G L M S Z K R C E N V A B W : Type 0} {m : ManagerOf M C E N V} {d : D
   -- a turn at a moment, on the pool's lock and by the calls outside, which are one value
   abbrev pub TurnsOn : Moment → Turning C N A → Joined W (LinkHome (Locked C L l) R) → Turn → Turning C N A → Joined W (LinkHome (Locked C L l) R) → Type 0
   TurnsOn at turning x turn turning' x' =
-      DriverTurns (joined_tasks (link_tasks locked_tasks)) (joined_claims (link_claims locked_claims)) (joined_reaps (link_reaps locked_reaps)) (joined_opener opener)
-      (joined_reports reports).sinks (as_nanos shared.config.connection_timeout) shared.config.retry_connection at turning x turn turning' x'
+      DriverTurns (joined_tasks (link_tasks locked_tasks)) (joined_opener opener) (joined_reports reports).sinks
+      (as_nanos shared.config.connection_timeout) shared.config.retry_connection at turning x turn turning' x'
 
   -- such a turn, where the lock is free before
   abbrev pub LinkTurns : Moment → Turning C N A → W → Turn → Turning C N A → Type 0

@@ -34,6 +34,6 @@ pub use Rattle.bb8_types.specs.declared.api.customizers.CustomizeConnection.{Gho
 pub use Rattle.bb8_tasks.specs.declared.opener.Opener.{Ghosts as OpenerOf}
 pub use Rattle.bb8_tasks.specs.declared.opener.PoolOpener.{PoolOpener}
 pub use Rattle.bb8_tasks.specs.declared.rounds.Reports.{Ghosts as ReportsOf}
-pub use Rattle.bb8_tasks.specs.Joined.{joined_opener, joined_reports, joined_tasks, joined_claims, joined_reaps}
+pub use Rattle.bb8_tasks.specs.Joined.{joined_opener, joined_reports, joined_tasks}
 pub use Rattle.bb8_types.specs.declared.grants.Grant.{Grant}
 pub use Rattle.bb8_ledger.specs.Answers.{Answer}

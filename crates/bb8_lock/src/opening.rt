@@ -1,4 +1,4 @@
-//! The lock of a pool as a home of the tasks that open connections and of the reaper, and what the pool's futures do with such tasks.
+//! The lock of a pool as a home of the tasks that open connections, of the driver and of the reaper, and what the pool's futures do with such tasks.
 use crate::Parts;
 use crate::bell::Notifies;
 use crate::given::Given;
@@ -8,21 +8,14 @@ use crate::shared::Shared;
 use bb8_core::Joined;
 use bb8_core::api::Moment;
 use bb8_core::internals::{ClaimAnswer, Key, Looked};
-use bb8_tasks::{
-    ClaimHome, Dedicated, FailedStep, Home, OpenedStep, Opener, ReapHome, ReapStep, Reports, Round,
-    Tasks,
-};
+use bb8_tasks::{Dedicated, FailedStep, Home, OpenedStep, Opener, ReapStep, Reports, Round, Tasks};
 use futures::task::Poll;
 
 /// The lock is taken for each step, and is free again when the step has answered.
 impl<C, T: Home<C>, R: Locks> Home<C> for LinkHome<'_, T, R> {
     ghost use Rattle.bb8_lock.specs.Opening.{Visits};
 
-    ghost looks = { λ h at seen h'. Visits (λ t t'. T.looks t at seen t') h.held h'.held };
-
-    ghost opens = { λ h at a c step h'. Visits (λ t t'. T.opens t at a c step t') h.held h'.held };
-
-    ghost fails = { λ h at a step h'. Visits (λ t t'. T.fails t at a step t') h.held h'.held };
+    ghost steps = { λ h at s h'. Visits (λ t t'. T.steps t at s t') h.held h'.held };
 
     fn look(&mut self, at: Moment) -> Looked {
         let mut guard = self.hold();
@@ -43,31 +36,10 @@ impl<C, T: Home<C>, R: Locks> Home<C> for LinkHome<'_, T, R> {
         let mut guard = self.hold();
         guard.failed(at, approval)
     }
-}
-
-/// The lock is taken for the step alone.
-impl<T: ClaimHome, R: Locks> ClaimHome for LinkHome<'_, T, R> {
-    ghost use Rattle.bb8_lock.specs.Opening.{Visits};
-
-    ghost claims = { λ h at answer h'. Visits (λ t t'. T.claims t at answer t') h.held h'.held };
 
     fn claim(&mut self, at: Moment) -> ClaimAnswer {
         let mut guard = self.hold();
         guard.claim(at)
-    }
-}
-
-/// The lock is taken for each step alone.
-impl<T: ReapHome, R: Locks> ReapHome for LinkHome<'_, T, R> {
-    ghost use Rattle.bb8_lock.specs.Opening.{Visits};
-
-    ghost looks = { λ h at seen h'. Visits (λ t t'. T.looks t at seen t') h.held h'.held };
-
-    ghost reaps = { λ h at step h'. Visits (λ t t'. T.reaps t at step t') h.held h'.held };
-
-    fn look(&mut self, at: Moment) -> Looked {
-        let mut guard = self.hold();
-        guard.look(at)
     }
 
     fn reap(&mut self, at: Moment) -> ReapStep {

@@ -1,25 +1,12 @@
 -- The relations of a home of tasks and of calls outside as one value: a step of the home leaves the calls as they were, and a call leaves the
 -- home.
 use Rattle.std.specs.Prelude.{◌≡◌}
-use Rattle.bb8_tasks.specs.Words.{ClaimHomeOf, HomeOf, ReapHomeOf, OpenerOf}
+use Rattle.bb8_tasks.specs.Words.{HomeOf, OpenerOf}
 use Rattle.bb8_core.specs.declared.joined.Joined.{Joined}
 use Rattle.bb8_tasks.specs.declared.rounds.Reports.{Ghosts as ReportsOf}
 
 abbrev pub joined_tasks : {C W H : Type 0} → HomeOf H C → HomeOf (Joined W H) C
-joined_tasks home = record {
-  looks = λ x at seen x'. home.looks x.home at seen x'.home × (x'.outside ≡ x.outside);
-  opens = λ x at a c step x'. home.opens x.home at a c step x'.home × (x'.outside ≡ x.outside);
-  fails = λ x at a step x'. home.fails x.home at a step x'.home × (x'.outside ≡ x.outside);
-}
-
-abbrev pub joined_claims : {W H : Type 0} → ClaimHomeOf H → ClaimHomeOf (Joined W H)
-joined_claims home = record { claims = λ x at answer x'. home.claims x.home at answer x'.home × (x'.outside ≡ x.outside) }
-
-abbrev pub joined_reaps : {W H : Type 0} → ReapHomeOf H → ReapHomeOf (Joined W H)
-joined_reaps home = record {
-  looks = λ x at seen x'. home.looks x.home at seen x'.home × (x'.outside ≡ x.outside);
-  reaps = λ x at step x'. home.reaps x.home at step x'.home × (x'.outside ≡ x.outside);
-}
+joined_tasks home = record { steps = λ x at s x'. home.steps x.home at s x'.home × (x'.outside ≡ x.outside) }
 
 abbrev pub joined_opener : {C E V A W H : Type 0} → OpenerOf W C E V A → OpenerOf (Joined W H) C E V A
 joined_opener opener = record {

@@ -5,10 +5,10 @@ pub mod Dues
 pub mod Homes
 pub mod Joined
 pub mod Played
-pub mod ReapHomes
 pub mod Reaping
 pub mod Replenishing
 pub mod Rounds
 pub mod Sweeping
+pub mod TaskSteps
 pub mod Turns
 pub mod Words

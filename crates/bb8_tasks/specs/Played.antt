@@ -5,7 +5,10 @@ use Rattle.bb8_tasks.specs.declared.backoff.Reply.TheVariants as replies
 use Rattle.bb8_tasks.specs.declared.backoff.Scripted.{Scripted}
 use Rattle.bb8_tasks.specs.declared.home.FailedStep.TheVariants as failing
 use Rattle.bb8_tasks.specs.declared.home.OpenedStep.TheVariants as opening
+use Rattle.bb8_tasks.specs.declared.home.ReapStep.TheVariants as reaping
+use Rattle.bb8_core.specs.declared.answers.ClaimAnswer.TheVariants as claiming
 use Rattle.bb8_tasks.specs.Replenishing.{fresh, TaskPolls}
+use Rattle.bb8_tasks.specs.TaskSteps.{TaskStep, Looks, Opens, Fails, Claims, Reaps}
 
 -- the answer of a poll of an opening that a reply stands for
 abbrev pub told : Reply → Poll (Result (Unit {0}) (Unit {0}))
@@ -29,13 +32,16 @@ scripted = record {
   lets_go = λ script _ after. after ≡ script;
 }
 
--- its relations as a home: it keeps a handle, and enters what is opened
+-- what it answers as a home: it keeps a handle, enters what is opened, and has nothing to claim and nothing to reap
+abbrev pub IsSteady : Moment → TaskStep (Unit {0}) → Type 0
+IsSteady at (Looks seen) = seen ≡ record { moment = at; alive = true }
+IsSteady at (Opens a c step) = step ≡ opening.Entered None
+IsSteady at (Fails a step) = step ≡ failing.GivenBack
+IsSteady at (Claims answer) = answer ≡ claiming.Claimed None
+IsSteady at (Reaps step) = step ≡ reaping.Ended
+
 abbrev pub steady : HomeOf Scripted (Unit {0})
-steady = record {
-  looks = λ script at seen after. (seen ≡ record { moment = at; alive = true }) × (after ≡ script);
-  opens = λ script _ _ _ step after. (step ≡ opening.Entered None) × (after ≡ script);
-  fails = λ script _ _ step after. (step ≡ failing.GivenBack) × (after ≡ script);
-}
+steady = record { steps = λ script at step after. IsSteady at step × (after ≡ script) }
 
 -- a task whose connections, openings and preparations are nothing
 abbrev pub Task : Type 0

@@ -7,6 +7,7 @@ use Rattle.bb8_tasks.specs.declared.replenish.ReplenishAnswer.TheVariants as ans
 use Rattle.bb8_tasks.specs.declared.replenish.ReplenishStage.TheVariants.{Start, Connecting, Acquiring, Sleeping, Done}
 use Rattle.bb8_tasks.specs.declared.replenish.ReplenishStage.{ReplenishStage}
 use Rattle.bb8_tasks.specs.declared.replenish.Tries.{Tries}
+use Rattle.bb8_tasks.specs.TaskSteps as task
 
 -- the moment at which a task that slept from m on wakes: none, and so never, where it is past the greatest moment
 abbrev pub IsDue : Moment → ℕ → Option Moment → Type 0
@@ -40,7 +41,7 @@ module _ {C E V A X : Type 0} (home : HomeOf X C) (timeout : ℕ) (retry : Bool)
 
   -- the approval is given back and the task ends with this answer, whatever that step answers
   abbrev pub GivesApprovalBack : ReplenishAnswer E → X → ReplenishStep C V A E → X → Type 0
-  GivesApprovalBack answer x next x' = (step : FailedStep) × home.fails x m approval step x' × (next.answer ≡ answer) × (next.stage ≡ Done)
+  GivesApprovalBack answer x next x' = (step : FailedStep) × home.steps x m (task.Fails approval step) x' × (next.answer ≡ answer) × (next.stage ≡ Done)
 
   -- the task tries again later: it sleeps until its wait is over
   abbrev pub Sleeps : Tries → E → X → ReplenishStep C V A E → X → Type 0
@@ -62,7 +63,7 @@ module _ {C E V A X : Type 0} (home : HomeOf X C) (timeout : ℕ) (retry : Bool)
 
     -- the connection is entered
     abbrev pub Enters : C → X → ReplenishStep C V A E → X → Type 0
-    Enters c x next x' = (step : OpenedStep C) × (x1 : X) × home.opens x m approval c step x1 × AfterOpened step x1 next x'
+    Enters c x next x' = (step : OpenedStep C) × (x1 : X) × home.steps x m (task.Opens approval c step) x1 × AfterOpened step x1 next x'
 
     -- after a poll of the preparation, which left the connection and the preparation like this: one that has answered ends first, and a
     -- connection that it failed is dropped before the failure is a step of the home
@@ -120,7 +121,7 @@ module _ {C E V A X : Type 0} (home : HomeOf X C) (opener : OpenerOf X C E V A) 
   -- a poll of a task that has not ended: its moment is the greater of what the look answers and the moment of the poll before
   abbrev pub TaskTurns : ℕ → Bool → Moment → Replenish C V A → X → ReplenishAnswer E → Replenish C V A → X → Type 0
   TaskTurns timeout retry at t x answer t' x' =
-      (seen : Looked) × (x1 : X) × home.looks x at seen x1
+      (seen : Looked) × (x1 : X) × home.steps x at (task.Looks seen) x1
       × (t'.latest.0 ≡ max seen.moment.0 t.latest.0) × (t'.approval ≡ t.approval)
       × TaskProceeds home timeout retry t.approval t'.latest opener seen.alive t.stage x1 (record { answer = answer; stage = t'.stage }) x'
 
@@ -134,4 +135,4 @@ module _ {C E V A X : Type 0} (home : HomeOf X C) (opener : OpenerOf X C E V A) 
   abbrev pub LetsGo : Moment → Replenish C V A → X → X → Type 0
   LetsGo at t x x' =
       MatchBool (is_done t.stage) (x' ≡ x)
-      ((x1 : X) × DropsTask opener t.stage x x1 × ((step : FailedStep) × home.fails x1 at t.approval step x'))
+      ((x1 : X) × DropsTask opener t.stage x x1 × ((step : FailedStep) × home.steps x1 at (task.Fails t.approval step) x'))

@@ -1,12 +1,13 @@
 -- A turn of a driver, over the relations of any value that is a home, an opener and a sink: one chain of steps and calls.
 use Rattle.std.specs.Prelude.{◌≡◌, ℕ, Bool, true, false, ◌||◌, is_some, Option, Some, None, List, [], ◌∷◌, ◌++◌, map, length, ◌⊎◌}
-use Rattle.bb8_tasks.specs.Words.{as_nanos, Moment, Key, ClaimHomeOf, HomeOf, ReapHomeOf, OpenerOf, Reaper, ReaperAnswer, Replenish}
+use Rattle.bb8_tasks.specs.Words.{as_nanos, Moment, Key, HomeOf, OpenerOf, Reaper, ReaperAnswer, Replenish}
 use Rattle.bb8_types.specs.Settings.{Settings}
 use Rattle.bb8_core.specs.declared.answers.ClaimAnswer.TheVariants as claim
 use Rattle.bb8_tasks.specs.Reaping as reaping
 use Rattle.bb8_tasks.specs.Reaping.{IsNextTick}
 use Rattle.bb8_tasks.specs.Replenishing.{fresh, TaskPolls, LetsGo}
 use Rattle.bb8_tasks.specs.Sweeping.{LetsGoEach}
+use Rattle.bb8_tasks.specs.TaskSteps as task
 use Rattle.bb8_tasks.specs.Rounds.{PollsEach}
 use Rattle.bb8_tasks.specs.declared.turning.Turn.{Turn}
 use Rattle.bb8_tasks.specs.declared.turning.Turning.{Turning}
@@ -34,25 +35,25 @@ module _ {C V A : Type 0} where
   is_ended (Going reaper ts) = false
   is_ended Ended = true
 
-module _ {H : Type 0} (home : ReapHomeOf H) (at : Moment) where
+module _ {C H : Type 0} (home : HomeOf H C) (at : Moment) where
   -- the reaper is polled once, where there is one
   abbrev pub PollsReaper : Option Reaper → H → Option Reaper → H → Type 0
   PollsReaper None h reaper' h' = (reaper' ≡ None) × (h' ≡ h)
   PollsReaper (Some r) h reaper' h' =
       (answer : ReaperAnswer) × (r' : Reaper) × reaping.ReaperPolls home at r h answer r' h' × (reaper' ≡ Some r')
 
-module _ {H : Type 0} (home : ClaimHomeOf H) (at : Moment) where
+module _ {C H : Type 0} (home : HomeOf H C) (at : Moment) where
   -- these approvals are claimed, one after another
   abbrev pub ClaimsEach : List Key → H → H → Type 0
   ClaimsEach [] h h' = h' ≡ h
-  ClaimsEach (key ∷ keys) h h' = (h1 : H) × home.claims h at (claim.Claimed (Some key)) h1 × ClaimsEach keys h1 h'
+  ClaimsEach (key ∷ keys) h h' = (h1 : H) × home.steps h at (task.Claims (claim.Claimed (Some key))) h1 × ClaimsEach keys h1 h'
 
   -- why no more are claimed: a claim finds no handle alive; or a claim finds none unclaimed, or there is no place for a task and no claim is made
   abbrev pub Stops : Bool → H → H → Type 0
-  Stops true h h' = home.claims h at claim.Ended h'
-  Stops false h h' = home.claims h at (claim.Claimed None) h' ⊎ (h' ≡ h)
+  Stops true h h' = home.steps h at (task.Claims claim.Ended) h'
+  Stops false h h' = home.steps h at (task.Claims (claim.Claimed None)) h' ⊎ (h' ≡ h)
 
-  module _ {C V A : Type 0} where
+  module _ {V A : Type 0} where
     -- approvals are claimed, one after another; their tasks stand behind those that there were, in the order of the claims
     abbrev pub TakesOnEach : List (Replenish C V A) → H → List (Replenish C V A) → H → Type 0
     TakesOnEach ts h ts' h' = (keys : List Key) × ClaimsEach keys h h' × (ts' ≡ ts ++ map fresh keys)
@@ -67,8 +68,7 @@ module _ {C E V A X : Type 0} (home : HomeOf X C) (opener : OpenerOf X C E V A) 
   DriverLetsGo (Going reaper ts) x x' = LetsGoEach (LetsGo home opener at) ts x x'
   DriverLetsGo Ended x x' = x' ≡ x
 
-module _ {C E V A X : Type 0} (home : HomeOf X C) (claim_home : ClaimHomeOf X) (reap_home : ReapHomeOf X) (opener : OpenerOf X C E V A)
-    (sinks : X → E → X → Type 0) (timeout : ℕ) (retry : Bool) (at : Moment) where
+module _ {C E V A X : Type 0} (home : HomeOf X C) (opener : OpenerOf X C E V A) (sinks : X → E → X → Type 0) (timeout : ℕ) (retry : Bool) (at : Moment) where
   -- after the claims: each task is polled; or, where no handle is alive, each is let go, and the driver has ended
   abbrev pub DriverProceeds : Bool → Option Reaper → List (Replenish C V A) → X → Turn → Turning C V A → X → Type 0
   DriverProceeds false reaper ts x turn t' x' =
@@ -80,7 +80,7 @@ module _ {C E V A X : Type 0} (home : HomeOf X C) (claim_home : ClaimHomeOf X) (
   -- A turn: the reaper is polled, approvals are claimed, and the tasks that there are then are polled. One that has ended makes no call.
   abbrev pub DriverTurns : Turning C V A → X → Turn → Turning C V A → X → Type 0
   DriverTurns (Going reaper ts) x turn t' x' =
-      (reaper1 : Option Reaper) × (x1 : X) × PollsReaper reap_home at reaper x reaper1 x1
-      × ((ended : Bool) × (ts1 : List (Replenish C V A)) × (x2 : X) × Claims claim_home at ts x1 ended ts1 x2
+      (reaper1 : Option Reaper) × (x1 : X) × PollsReaper home at reaper x reaper1 x1
+      × ((ended : Bool) × (ts1 : List (Replenish C V A)) × (x2 : X) × Claims home at ts x1 ended ts1 x2
       × DriverProceeds ended reaper1 ts1 x2 turn t' x')
   DriverTurns Ended x turn t' x' = (turn ≡ record { polled = 0; ended = true }) × (t' ≡ Ended) × (x' ≡ x)

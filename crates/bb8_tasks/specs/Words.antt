@@ -11,9 +11,7 @@ pub use Rattle.bb8_tasks.specs.declared.opener.Opener.{Ghosts as OpenerOf}
 pub use Rattle.bb8_ledger.specs.Answers.{Answer}
 pub use Rattle.bb8_tasks.specs.declared.home.FailedStep.{FailedStep}
 pub use Rattle.bb8_tasks.specs.declared.home.OpenedStep.{OpenedStep}
-pub use Rattle.bb8_tasks.specs.declared.home.ClaimHome.{Ghosts as ClaimHomeOf}
 pub use Rattle.bb8_tasks.specs.declared.home.Home.{Ghosts as HomeOf}
-pub use Rattle.bb8_tasks.specs.declared.home.ReapHome.{Ghosts as ReapHomeOf}
 pub use Rattle.bb8_tasks.specs.declared.replenish.Replenish.{Replenish}
 pub use Rattle.bb8_tasks.specs.declared.replenish.ReplenishAnswer.{ReplenishAnswer}
 pub use Rattle.bb8_tasks.specs.declared.home.ReapStep.{ReapStep}

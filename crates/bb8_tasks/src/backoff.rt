@@ -1,17 +1,15 @@
 //! A replay of one replenishing over a list of polls, each with what the manager answers at it.
-ghost use Rattle.std.specs.Prelude.{◌≡◌, ◌<◌, ◌≤◌, ◌+◌, IfOk, None, Ok, true, false, length, min};
+ghost use Rattle.std.specs.Prelude.{◌≡◌, ◌<◌, ◌≤◌, ◌+◌, IfOk, None, Ok, true, false, length};
 ghost use Rattle.std.specs.Duration.{as_nanos};
 ghost use Rattle.futures.specs.declared.task.Poll.TheVariants.{Ready};
 ghost use Rattle.bb8_tasks.specs.Bounded.{IsBounded, IsReached};
-ghost use Rattle.bb8_tasks.specs.Played.{told, begun, Polled, Plays, Runs};
-ghost use Rattle.bb8_tasks.specs.declared.home.FailedStep.TheVariants as failing;
-ghost use Rattle.bb8_tasks.specs.declared.home.OpenedStep.TheVariants as opening;
+ghost use Rattle.bb8_tasks.specs.Played.{told, begun, IsSteady, Polled, Plays, Runs};
 
-use super::home::{FailedStep, Home, OpenedStep};
+use super::home::{FailedStep, Home, OpenedStep, ReapStep};
 use super::opener::Opener;
 use super::replenish::{Replenish, ReplenishAnswer};
 use bb8_core::api::{Config, Memory, Moment};
-use bb8_core::internals::{Key, Looked};
+use bb8_core::internals::{ClaimAnswer, Key, Looked};
 use futures::task::Poll;
 use std::alloc::Global;
 
@@ -26,8 +24,8 @@ pub enum Reply {
     Err,
 }
 
-/// Answers each poll of an opening by this reply, counts the openings that are begun, and prepares at once. As a home it keeps a handle and
-/// enters what is opened, and its moment is each reading of the clock. Connections are nothing.
+/// Answers each poll of an opening by this reply, counts the openings that are begun, and prepares at once. As a home it keeps a handle, enters
+/// what is opened, has nothing to claim or to reap, and its moment is each reading of the clock. Connections are nothing.
 #[derive(Drop)]
 pub struct Scripted {
     reply: Reply,
@@ -84,11 +82,7 @@ impl Opener<(), ()> for Scripted {
 }
 
 impl Home<()> for Scripted {
-    ghost looks = { λ script at seen after. (seen ≡ record { moment = at; alive = true }) × (after ≡ script) };
-
-    ghost opens = { λ script _ _ _ step after. (step ≡ opening.Entered None) × (after ≡ script) };
-
-    ghost fails = { λ script _ _ step after. (step ≡ failing.GivenBack) × (after ≡ script) };
+    ghost steps = { λ script at step after. IsSteady at step × (after ≡ script) };
 
     fn look(&mut self, at: Moment) -> Looked {
         Looked {
@@ -103,6 +97,14 @@ impl Home<()> for Scripted {
 
     fn failed(&mut self, _at: Moment, _approval: Key) -> FailedStep {
         FailedStep::GivenBack
+    }
+
+    fn claim(&mut self, _at: Moment) -> ClaimAnswer {
+        ClaimAnswer::Claimed(None)
+    }
+
+    fn reap(&mut self, _at: Moment) -> ReapStep {
+        ReapStep::Ended
     }
 }
 

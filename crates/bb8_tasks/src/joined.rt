@@ -1,7 +1,7 @@
 //! A home of tasks and the calls outside as one value.
 ghost use Rattle.std.specs.Prelude.{◌≡◌};
 
-use super::home::{ClaimHome, FailedStep, Home, OpenedStep, ReapHome, ReapStep};
+use super::home::{FailedStep, Home, OpenedStep, ReapStep};
 use super::opener::Opener;
 use super::rounds::Reports;
 use bb8_core::Joined;
@@ -10,11 +10,7 @@ use bb8_core::internals::{ClaimAnswer, Key, Looked};
 use futures::task::Poll;
 
 impl<C, W, H: Home<C>> Home<C> for Joined<W, H> {
-    ghost looks = { λ x at seen x'. H.looks x.home at seen x'.home × (x'.outside ≡ x.outside) };
-
-    ghost opens = { λ x at a c step x'. H.opens x.home at a c step x'.home × (x'.outside ≡ x.outside) };
-
-    ghost fails = { λ x at a step x'. H.fails x.home at a step x'.home × (x'.outside ≡ x.outside) };
+    ghost steps = { λ x at s x'. H.steps x.home at s x'.home × (x'.outside ≡ x.outside) };
 
     fn look(&mut self, at: Moment) -> Looked {
         self.home.look(at)
@@ -27,23 +23,9 @@ impl<C, W, H: Home<C>> Home<C> for Joined<W, H> {
     fn failed(&mut self, at: Moment, approval: Key) -> FailedStep {
         self.home.failed(at, approval)
     }
-}
-
-impl<W, H: ClaimHome> ClaimHome for Joined<W, H> {
-    ghost claims = { λ x at answer x'. H.claims x.home at answer x'.home × (x'.outside ≡ x.outside) };
 
     fn claim(&mut self, at: Moment) -> ClaimAnswer {
         self.home.claim(at)
-    }
-}
-
-impl<W, H: ReapHome> ReapHome for Joined<W, H> {
-    ghost looks = { λ x at seen x'. H.looks x.home at seen x'.home × (x'.outside ≡ x.outside) };
-
-    ghost reaps = { λ x at step x'. H.reaps x.home at step x'.home × (x'.outside ≡ x.outside) };
-
-    fn look(&mut self, at: Moment) -> Looked {
-        self.home.look(at)
     }
 
     fn reap(&mut self, at: Moment) -> ReapStep {

@@ -1,21 +1,41 @@
-//! The plain state of a pool as a home of tasks.
-ghost use Rattle.bb8_ledger.specs.Acts as acts;
-ghost use Rattle.bb8_core.specs.StepAnswers.{claim_told, look_told};
+//! The plain state of a pool as a home of tasks, and of its driver and reaper.
+ghost use Rattle.std.specs.Prelude.{◌≡◌};
 ghost use Rattle.bb8_core.specs.PlainSteps.{Steps};
-ghost use Rattle.bb8_tasks.specs.Homes.{failed_told, opened_told, HandsOpenedBack};
+ghost use Rattle.bb8_core.specs.StepAnswers as plain;
+ghost use Rattle.bb8_tasks.specs.Homes.{reap_told, TaskStepsBy};
 
-use super::home::{ClaimHome, FailedStep, Home, OpenedStep};
+use super::home::{FailedStep, Home, OpenedStep, ReapStep, ReapedCounts};
 use bb8_core::api::Moment;
-use bb8_core::internals::{ClaimAnswer, FailedAnswer, Key, Looked, OpenedAnswer, PoolInternals};
+use bb8_core::internals::{
+    ClaimAnswer, FailedAnswer, Key, Looked, OpenedAnswer, PoolInternals, ReapAnswer,
+};
 
-/// Each step asks first whether it fits, and answers `Unfit` and changes nothing where it does not. A connection that comes back is the one
+impl From<ReapAnswer> for ReapStep {
+    ghost from_gives = { λ answer step. reap_told step ≡ plain.reap_told answer };
+
+    /// The same answer, at a home. Our own.
+    fn from(answer: ReapAnswer) -> Self {
+        match answer {
+            ReapAnswer::Reaped {
+                closed,
+                by_idle,
+                by_life,
+                grant,
+            } => ReapStep::Reaped(ReapedCounts {
+                closed,
+                by_idle,
+                by_life,
+                grant,
+            }),
+            ReapAnswer::Ended => ReapStep::Ended,
+        }
+    }
+}
+
+/// Each step that may not fit asks first, and answers `Unfit` and changes nothing where it does not. A connection that comes back is the one
 /// that was handed in.
 impl<C: Drop> Home<C> for PoolInternals<C> {
-    ghost looks = { λ pool at seen after. Steps pool at.0 acts.Look (look_told seen) after };
-
-    ghost opens = { λ pool at a c step after. Steps pool at.0 (acts.Opened a.number c) (opened_told a.number step) after × HandsOpenedBack c step };
-
-    ghost fails = { λ pool at a step after. Steps pool at.0 (acts.Failed a.number) (failed_told step) after };
+    ghost steps = { λ pool at s after. TaskStepsBy Steps pool at s after };
 
     fn look(&mut self, at: Moment) -> Looked {
         PoolInternals::look(self, at)
@@ -39,13 +59,12 @@ impl<C: Drop> Home<C> for PoolInternals<C> {
             FailedAnswer::GivenBack => FailedStep::GivenBack,
         }
     }
-}
-
-/// The step fits at all times.
-impl<C: Drop> ClaimHome for PoolInternals<C> {
-    ghost claims = { λ pool at answer after. Steps pool at.0 acts.Claim (claim_told answer) after };
 
     fn claim(&mut self, at: Moment) -> ClaimAnswer {
         PoolInternals::claim(self, at)
+    }
+
+    fn reap(&mut self, at: Moment) -> ReapStep {
+        ReapStep::from(PoolInternals::reap(self, at))
     }
 }

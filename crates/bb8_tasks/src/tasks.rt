@@ -1,12 +1,13 @@
 //! The tasks of a pool, in the order in which their approvals were claimed.
-ghost use Rattle.std.specs.Prelude.{◌≡◌, ◌++◌, ◌∷◌, ◌+◌, ◌^◌, ◌<◌, ◌↔◌, true, None, [], IfOk, OnErr, length};
+ghost use Rattle.std.specs.Prelude.{◌≡◌, ◌+◌, ◌^◌, ◌<◌, ◌↔◌, true, None, [], IfOk, OnErr, length};
 ghost use Rattle.std.specs.Duration.{as_nanos};
 ghost use Rattle.bb8_tasks.specs.Dues.{earlier, earliest};
 ghost use Rattle.bb8_tasks.specs.Replenishing.{TaskPolls, LetsGo};
 ghost use Rattle.bb8_tasks.specs.Sweeping.{AreFor, TakesTaskOn, PollsUntil, QueueTurns, LetsGoEach, Rounds};
+ghost use Rattle.bb8_tasks.specs.TaskSteps.{Claims};
 ghost use Rattle.bb8_tasks.specs.declared.rounds.OnFailure.TheVariants.{GoOn as IsGoOn};
 
-use super::home::{ClaimHome, Home};
+use super::home::Home;
 use super::opener::Opener;
 use super::replenish::{Replenish, ReplenishAnswer};
 use super::rounds::{OnFailure, Reports, Round};
@@ -101,8 +102,8 @@ impl<C, V, A> Tasks<C, V, A> {
 
     /// Claims an approval at its home, and takes on its task. The place for the task is made first: where memory for it is refused, no
     /// approval is claimed. Our own.
-    pub fn claim<H: ClaimHome>(&mut self, at: Moment, home: &mut H) -> Result<ClaimAnswer, Memory>
-        ensures claimed { IfOk result (λ answer. H.claims home.old at answer home.new) }
+    pub fn claim<H: Home<C>>(&mut self, at: Moment, home: &mut H) -> Result<ClaimAnswer, Memory>
+        ensures claimed { IfOk result (λ answer. H.steps home.old at (Claims answer) home.new) }
         ensures task { IfOk result (λ answer. TakesTaskOn answer self.old self.new) }
         ensures refused { OnErr result ((self.new ≡ self.old) × (home.new ≡ home.old)) }
     {

@@ -8,7 +8,7 @@ ghost use Rattle.bb8_tasks.specs.Rounds.{PollsEach};
 ghost use Rattle.bb8_tasks.specs.Turns.{is_ended, DriverBegins, IsFreshReaper, PollsReaper, DriverTurns, DriverLetsGo};
 
 use super::claims::claim_each;
-use crate::{ClaimHome, Home, Opener, ReapHome, Reaper, Reports, Tasks};
+use crate::{Home, Opener, Reaper, Reports, Tasks};
 use bb8_core::api::{Config, Moment};
 use std::alloc::Global;
 use std::mem;
@@ -45,8 +45,8 @@ fn reaper_of(config: &Config, start: Moment) -> Option<Reaper>
 }
 
 /// Polls the reaper once, where there is one.
-fn poll_reaper<H: ReapHome>(reaper: &mut Option<Reaper>, at: Moment, home: &mut H)
-    ensures { PollsReaper H.ReapHome at reaper.old home.old reaper.new home.new }
+fn poll_reaper<C, H: Home<C>>(reaper: &mut Option<Reaper>, at: Moment, home: &mut H)
+    ensures { PollsReaper H.Home at reaper.old home.old reaper.new home.new }
 {
     if let Some(reaper) = reaper {
         let _ = reaper.poll(at, home);
@@ -87,15 +87,13 @@ impl<C, V, A> Turning<C, V, A> {
     /// one is refused, no claim is made, and the approval stays unclaimed. Then it polls each task once, in the order of their claims;
     /// those that end are gone, and the error of each try that failed goes to the sink. Where a claim finds no handle alive it polls no
     /// task, lets all go, so that their approvals are given back, and has ended: each later turn calls nothing.
-    pub fn turn<
-        E: Drop,
-        X: Home<C>
-            + ClaimHome
-            + ReapHome
-            + Opener<C, E, Connecting = V, Acquiring = A>
-            + Reports<E>,
-    >(&mut self, at: Moment, pool: &mut X, config: &Config) -> Turn
-        ensures table { DriverTurns X.Home X.ClaimHome X.ReapHome X.Opener X.sinks
+    pub fn turn<E: Drop, X: Home<C> + Opener<C, E, Connecting = V, Acquiring = A> + Reports<E>>(
+        &mut self,
+        at: Moment,
+        pool: &mut X,
+        config: &Config,
+    ) -> Turn
+        ensures table { DriverTurns X.Home X.Opener X.sinks
             (as_nanos config.now.connection_timeout) config.now.retry_connection at self.old
             pool.old result self.new pool.new }
         ensures ended { result.ended ≡ is_ended self.new }

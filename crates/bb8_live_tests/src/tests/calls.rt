@@ -6,12 +6,10 @@ ghost use Rattle.bb8.specs.Settings.{default_settings};
 
 use super::assert_equal;
 use bb8::{
-    Builder, Clock, CustomizeConnection, Driver, DriverCalls, ErrorSink, Gate, Job,
+    Builder, Clock, CustomizeConnection, Driver, DriverCalls, ErrorSink, Gate, GetFuture, Job,
     ManageConnection, Memory, Moment, Pool, PoolCalls, PoolParts, Runtime, start,
 };
-use bb8_trials::{
-    ARMED, Course, LOOKS, LentHandle, Number, OPEN, OwnedHandle, Refused, Unbuilt, WAITING,
-};
+use bb8_trials::{ARMED, Course, LOOKS, Number, OPEN, OwnedHandle, Refused, Unbuilt, WAITING};
 use futures::task::Poll;
 use futures::test::MockTask;
 use std::alloc::Global;
@@ -274,6 +272,9 @@ impl Gate for Teller {
 /// A pool all of whose calls outside are written down.
 pub(super) type TellerPool<R, L> = Pool<Teller, Teller, Teller, Teller, R, L>;
 
+/// A get of it.
+type TellerGet<'a, R, L> = GetFuture<'a, Teller, Teller, Teller, Teller, R, L>;
+
 /// The pool's driver.
 type TellerDriver<R, L> = Driver<Teller, Teller, Teller, Teller, R, L>;
 
@@ -290,15 +291,15 @@ impl<R: Runtime + Abort> Tools<'_, R> {
         made(&self.rt, self.desk, calls);
     }
 
-    fn add<P: LentHandle<Teller>>(&self, pool: P) -> Result<(), Memory> {
-        drop(pool.add(connection(self.desk)?));
+    fn add<L: PoolParts>(&self, pool: &TellerPool<R, L>) -> Result<(), Memory> {
+        drop(PoolCalls::add(pool, connection(self.desk)?));
         self.made("has_broken now");
         Ok(())
     }
 
     /// Polls a get, which makes these calls.
-    fn poll<P: LentHandle<Teller>>(&self, pool: P, get: &mut P::Get, calls: &str) {
-        let polled = pool.poll(self.task, get);
+    fn poll<L: PoolParts>(&self, get: &mut TellerGet<'_, R, L>, calls: &str) {
+        let polled = self.task.poll(get);
         self.made(calls);
         let served = matches!(&polled, Poll::Ready(Ok(_)));
         drop(polled);
@@ -312,34 +313,34 @@ impl<R: Runtime + Abort> Tools<'_, R> {
 }
 
 /// A get that is served, one that is checked for long, one that times out then, and one whose connection is found broken as it is let go.
-fn checked<R: Runtime + Abort, P: LentHandle<Teller>>(
+fn checked<R: Runtime + Abort, L: PoolParts>(
     tools: &Tools<'_, R>,
-    pool: P,
+    pool: &TellerPool<R, L>,
 ) -> Result<(), Memory> {
     let desk = tools.desk;
     tools.add(pool)?;
-    let mut get = pool.get();
-    tools.poll(pool, &mut get, "now is_valid poll_valid ended");
-    tools.poll(pool, &mut get, "");
+    let mut get = PoolCalls::get(pool);
+    tools.poll(&mut get, "now is_valid poll_valid ended");
+    tools.poll(&mut get, "");
     drop(get);
     desk.check.set(1);
-    let mut get = pool.get();
-    tools.poll(pool, &mut get, "now is_valid poll_valid");
-    tools.poll(pool, &mut get, "now poll_valid");
-    pool.cancel(get);
+    let mut get = PoolCalls::get(pool);
+    tools.poll(&mut get, "now is_valid poll_valid");
+    tools.poll(&mut get, "now poll_valid");
+    get.cancel();
     tools.made("ended has_broken now");
-    let mut get = pool.get();
-    tools.poll(pool, &mut get, "now is_valid poll_valid");
+    let mut get = PoolCalls::get(pool);
+    tools.poll(&mut get, "now is_valid poll_valid");
     desk.moment.set(100);
-    tools.poll(pool, &mut get, "now poll_valid ended has_broken");
+    tools.poll(&mut get, "now poll_valid ended has_broken");
     drop(get);
     tools.made("");
-    let mut get = pool.get();
-    tools.poll(pool, &mut get, "now is_valid poll_valid");
+    let mut get = PoolCalls::get(pool);
+    tools.poll(&mut get, "now is_valid poll_valid");
     desk.broken.set(1);
     drop(get);
     tools.made("ended has_broken now dropped");
-    drop(pool.add(connection(desk)?));
+    drop(PoolCalls::add(pool, connection(desk)?));
     tools.made("has_broken now dropped");
     desk.broken.set(0);
     desk.check.set(0);
@@ -347,67 +348,65 @@ fn checked<R: Runtime + Abort, P: LentHandle<Teller>>(
 }
 
 /// Gets that wait: one is let go, one times out; and gets whose check fails: one is let go then, and one waits and is served.
-fn waiting<R: Runtime + Abort, P: LentHandle<Teller>>(
+fn waiting<R: Runtime + Abort, L: PoolParts>(
     tools: &Tools<'_, R>,
-    pool: P,
+    pool: &TellerPool<R, L>,
 ) -> Result<(), Memory> {
     let desk = tools.desk;
-    pool.cancel(pool.get());
+    PoolCalls::get(pool).cancel();
     tools.made("");
-    let mut get = pool.get();
-    tools.poll(pool, &mut get, "now");
-    tools.poll(pool, &mut get, "now");
-    pool.cancel(get);
+    let mut get = PoolCalls::get(pool);
+    tools.poll(&mut get, "now");
+    tools.poll(&mut get, "now");
+    get.cancel();
     tools.made("now");
-    let mut get = pool.get();
-    tools.poll(pool, &mut get, "now");
+    let mut get = PoolCalls::get(pool);
+    tools.poll(&mut get, "now");
     desk.moment.set(200);
-    tools.poll(pool, &mut get, "now");
+    tools.poll(&mut get, "now");
     drop(get);
     tools.add(pool)?;
     desk.check.set(2);
-    let mut get = pool.get();
+    let mut get = PoolCalls::get(pool);
     tools.poll(
-        pool,
         &mut get,
         "now is_valid poll_valid ended sink has_broken dropped",
     );
     drop(get);
     tools.made("now");
     tools.add(pool)?;
-    let mut get = pool.get();
+    let mut get = PoolCalls::get(pool);
     tools.poll(
-        pool,
         &mut get,
         "now is_valid poll_valid ended sink has_broken dropped",
     );
-    tools.poll(pool, &mut get, "now");
+    tools.poll(&mut get, "now");
     desk.check.set(0);
     tools.add(pool)?;
     desk.broken.set(1);
-    tools.poll(pool, &mut get, "now is_valid poll_valid ended");
+    tools.poll(&mut get, "now is_valid poll_valid ended");
     desk.broken.set(0);
     Ok(())
 }
 
 /// Gets with a handle of their own: one that is not polled, one that is served, and one that is let go while it is checked.
-fn owned<R: Runtime + Abort, P: LentHandle<Teller>>(
+fn owned<R: Runtime + Abort, L: PoolParts>(
     tools: &Tools<'_, R>,
-    pool: P,
+    pool: &TellerPool<R, L>,
 ) -> Result<(), Memory> {
-    pool.cancel_owned(pool.get_owned());
+    PoolCalls::get_owned(pool).cancel();
     tools.made("now now");
     tools.add(pool)?;
-    let mut get = pool.get_owned();
-    let polled = pool.poll_owned(tools.task, &mut get);
+    let mut get = PoolCalls::get_owned(pool);
+    let polled = tools.task.poll(&mut get);
     tools.made("now now is_valid poll_valid ended");
     drop(get);
     tools.made("");
     drop(polled);
     tools.made("has_broken now now");
     tools.desk.check.set(1);
-    let mut get = pool.get_owned();
-    drop(pool.poll_owned(tools.task, &mut get));
+    let mut get = PoolCalls::get_owned(pool);
+    drop(tools.task.poll(&mut get));
     tools.made("now now is_valid poll_valid");
     drop(get);
     tools.made("ended has_broken now now");
@@ -416,9 +415,9 @@ fn owned<R: Runtime + Abort, P: LentHandle<Teller>>(
 }
 
 /// Connections that the pool does not count: opened and prepared slowly; failing as it is opened, or prepared; let go as it is prepared.
-fn dedicated<R: Runtime + Abort, P: LentHandle<Teller>>(tools: &Tools<'_, R>, pool: P) {
+fn dedicated<R: Runtime + Abort, L: PoolParts>(tools: &Tools<'_, R>, pool: &TellerPool<R, L>) {
     let desk = tools.desk;
-    let mut opening = pool.dedicated_connection();
+    let mut opening = PoolCalls::dedicated_connection(pool);
     for (connects, prepares, calls) in &[
         (1, 0, "now connect poll_connect"),
         (1, 0, "now poll_connect"),
@@ -429,7 +428,7 @@ fn dedicated<R: Runtime + Abort, P: LentHandle<Teller>>(tools: &Tools<'_, R>, po
     ] {
         desk.opening.set(*connects);
         desk.preparing.set(*prepares);
-        drop(pool.poll_dedicated(tools.task, &mut opening));
+        drop(tools.task.poll(&mut opening));
         tools.made(calls);
     }
     drop(opening);
@@ -451,32 +450,32 @@ fn dedicated<R: Runtime + Abort, P: LentHandle<Teller>>(tools: &Tools<'_, R>, po
     ] {
         desk.opening.set(*connects);
         desk.preparing.set(*prepares);
-        let mut opening = pool.dedicated_connection();
-        drop(pool.poll_dedicated(tools.task, &mut opening));
+        let mut opening = PoolCalls::dedicated_connection(pool);
+        drop(tools.task.poll(&mut opening));
         tools.made(calls);
-        pool.cancel_dedicated(opening);
+        opening.cancel();
         tools.made(at_the_end);
     }
     desk.preparing.set(0);
 }
 
 /// Whatever connections are idle are closed as their checks fail, and a get waits and is let go: one approval is open.
-fn approve<R: Runtime + Abort, P: LentHandle<Teller>>(tools: &Tools<'_, R>, pool: P) {
+fn approve<R: Runtime + Abort, L: PoolParts>(tools: &Tools<'_, R>, pool: &TellerPool<R, L>) {
     tools.desk.check.set(2);
-    let mut get = pool.get();
-    for _ in 0..pool.state().idle_connections.saturating_add(1) {
-        drop(pool.poll(tools.task, &mut get));
+    let mut get = PoolCalls::get(pool);
+    for _ in 0..PoolCalls::state(pool).idle_connections.saturating_add(1) {
+        drop(tools.task.poll(&mut get));
     }
-    pool.cancel(get);
+    get.cancel();
     tools.desk.check.set(0);
     tools.desk.calls.set(0);
 }
 
 /// Turns, which read no clock: one connection is opened and prepared slowly, one opening fails, and one preparation; and a driver that is
 /// dropped with what it prepares.
-fn turns<R: Runtime + Abort, P: LentHandle<Teller>, L: PoolParts>(
+fn turns<R: Runtime + Abort, L: PoolParts>(
     tools: &Tools<'_, R>,
-    pool: P,
+    pool: &TellerPool<R, L>,
     driver: TellerDriver<R, L>,
 ) {
     let desk = tools.desk;

@@ -4,7 +4,7 @@ ghost use Rattle.std.specs.Duration.{as_nanos};
 ghost use Rattle.bb8_tasks.specs.Reaping.{IsNextTick, is_due, Reaps, ReaperProceeds, ReaperPolls};
 
 use super::{Reaper, ReaperAnswer};
-use crate::home::{ReapHome, ReapStep};
+use crate::home::{Home, ReapStep};
 use bb8_core::api::Moment;
 use std::time::Duration;
 
@@ -56,8 +56,8 @@ impl Reaper {
     ///
     /// It looks at the home first, and reaps once where a tick is due, however many were missed. Once no handle is alive each poll answers
     /// `Ended`, and calls nothing.
-    pub fn poll<H: ReapHome>(&mut self, at: Moment, home: &mut H) -> ReaperAnswer
-        ensures { ReaperPolls H.ReapHome at self.old home.old result self.new home.new }
+    pub fn poll<C, H: Home<C>>(&mut self, at: Moment, home: &mut H) -> ReaperAnswer
+        ensures { ReaperPolls H.Home at self.old home.old result self.new home.new }
     {
         if self.ended {
             return ReaperAnswer::Ended;
@@ -79,8 +79,8 @@ impl Reaper {
     }
 
     /// What a poll does after its look.
-    fn proceed<H: ReapHome>(&mut self, home: &mut H, moment: Moment, alive: bool) -> ReaperAnswer
-        ensures row { ReaperProceeds H.ReapHome alive moment self.old home.old
+    fn proceed<C, H: Home<C>>(&mut self, home: &mut H, moment: Moment, alive: bool) -> ReaperAnswer
+        ensures row { ReaperProceeds H.Home alive moment self.old home.old
             result self.new home.new }
         ensures latest { self.new.latest ≡ self.old.latest }
     {
@@ -95,8 +95,8 @@ impl Reaper {
     }
 
     /// A tick is due at this moment.
-    fn reap<H: ReapHome>(&mut self, home: &mut H, moment: Moment) -> ReaperAnswer
-        ensures row { Reaps H.ReapHome moment self.old home.old result self.new home.new }
+    fn reap<C, H: Home<C>>(&mut self, home: &mut H, moment: Moment) -> ReaperAnswer
+        ensures row { Reaps H.Home moment self.old home.old result self.new home.new }
         ensures latest { self.new.latest ≡ self.old.latest }
     {
         match home.reap(moment) {
