@@ -7,7 +7,6 @@ use bb8::{
     Builder, Config, Memory, Moment, NopCustomizer, NopErrorSink, Pool, PoolParts, Runtime,
     SetClock,
 };
-use bb8_trials::LentHandle;
 use futures::task::Poll;
 use futures::test::MockTask;
 use slots::{Job, Outcome, Runner, RunnerCalls, SlotManager};
@@ -44,12 +43,14 @@ impl Job for Count {
     }
 }
 
-/// A runner of counts over a pool, a handle of that, and what a test turns it with.
+/// A pool of slots.
+pub type SlotPool<R, L> = Pool<SlotManager, NopErrorSink, NopCustomizer, SetClock, R, L>;
+
+/// A runner of counts, and what a test turns it with.
 #[derive(Drop)]
-pub struct Bench<R: Drop, P: LentHandle<SlotManager> + Drop, X: CountRunner> {
+pub struct Bench<R: Drop, X: CountRunner> {
     pub rt: R,
     pub runner: X,
-    pub pool: P,
     pub clock: SetClock,
     pub task: MockTask,
 }
@@ -69,7 +70,7 @@ pub fn slots(max_size: u32) -> SlotBuilder
     Builder::new().max_size(max_size).test_on_check_out(false)
 }
 
-impl<R: Drop, P: LentHandle<SlotManager> + Drop, X: CountRunner> Bench<R, P, X> {
+impl<R: Drop, X: CountRunner> Bench<R, X> {
     /// A turn of the runner at a moment: how many jobs ended.
     pub fn turn(&mut self, moment: u64) -> u64 {
         let Bench { runner, task, .. } = self;
@@ -82,9 +83,9 @@ impl<R: Drop, P: LentHandle<SlotManager> + Drop, X: CountRunner> Bench<R, P, X> 
     }
 }
 
-/// What a test does with a runner, and with a handle of its pool.
+/// What a test does with a runner and its pool.
 pub trait RunnerTrial<R: Runtime> {
-    fn run<P: LentHandle<SlotManager> + Drop, X: CountRunner>(self, bench: Bench<R, P, X>);
+    fn run<L: PoolParts, X: CountRunner>(self, pool: &SlotPool<R, L>, bench: Bench<R, X>);
 }
 
 /// A trial on a pool whose parts are named.
@@ -101,16 +102,15 @@ fn run_on<R: Runtime, L: PoolParts, T: RunnerTrial<R> + Drop>(
     let Ok(task) = MockTask::new(&rt) else {
         return Err(Memory);
     };
-    let pool: Pool<SlotManager, NopErrorSink, NopCustomizer, SetClock, R, L> =
-        builder.build_unchecked(SlotManager, clock.try_clone()?, rt, blank)?;
+    let pool: SlotPool<R, L> = builder.build_unchecked(SlotManager, clock.try_clone()?, rt, blank)?;
     let runner = Runner::new(rt.alloc(), &pool)?;
-    trial.run(Bench {
+    let bench = Bench {
         rt,
         runner,
-        pool: &pool,
         clock,
         task,
-    });
+    };
+    trial.run(&pool, bench);
     Ok(())
 }
 

@@ -1,10 +1,9 @@
 //! What a runner answers for ids: strange ones, those of jobs that have not ended, and those whose outcome was taken.
 
 use super::came_to;
-use crate::trial::{Bench, CountRunner, RunnerTrial, slots, try_runner};
-use bb8::Runtime;
-use bb8_trials::LentHandle;
-use slots::{Phase, RunnerCalls, SlotManager};
+use crate::trial::{Bench, CountRunner, RunnerTrial, SlotPool, slots, try_runner};
+use bb8::{PoolParts, Runtime};
+use slots::{Phase, RunnerCalls};
 use std::process::Abort;
 
 /// Two jobs on one slot, whose outcomes are asked for too early, in time and again.
@@ -12,7 +11,7 @@ use std::process::Abort;
 struct Takes;
 
 impl<R: Runtime + Abort> RunnerTrial<R> for Takes {
-    fn run<P: LentHandle<SlotManager> + Drop, X: CountRunner>(self, mut bench: Bench<R, P, X>) {
+    fn run<L: PoolParts, X: CountRunner>(self, _pool: &SlotPool<R, L>, mut bench: Bench<R, X>) {
         let rt = bench.rt;
         assert!(&rt; bench.runner.phase(0).is_none() && bench.runner.take(0).is_none());
         assert!(&rt; bench.submits(2, 0) && bench.submits(1, 1));
@@ -45,7 +44,7 @@ fn takes_each_outcome_once(rt: HostRuntime) {
 struct AsksEarly;
 
 impl<R: Runtime + Abort> RunnerTrial<R> for AsksEarly {
-    fn run<P: LentHandle<SlotManager> + Drop, X: CountRunner>(self, mut bench: Bench<R, P, X>) {
+    fn run<L: PoolParts, X: CountRunner>(self, _pool: &SlotPool<R, L>, mut bench: Bench<R, X>) {
         let rt = bench.rt;
         assert!(&rt; bench.submits(2, 0));
         for _ in 0..3 {

@@ -1,10 +1,9 @@
 //! A run in which any one request for memory is refused, or all from any on, as `refusals/run` makes them. It holds with refusals and without.
 
 use super::{came_to, lacked_memory};
-use crate::trial::{Bench, Count, CountRunner, RunnerTrial, slots, try_runner};
-use bb8::Runtime;
-use bb8_trials::LentHandle;
-use slots::{Phase, RunnerCalls, SlotManager};
+use crate::trial::{Bench, Count, CountRunner, RunnerTrial, SlotPool, slots, try_runner};
+use bb8::{PoolCalls, PoolParts, Runtime};
+use slots::{Phase, RunnerCalls};
 use std::process::Abort;
 
 /// Five jobs on two slots. One that was taken on ends with what it comes to, or for want of memory, or goes on; none passes the bound, and no
@@ -13,7 +12,7 @@ use std::process::Abort;
 struct RefusedMemory;
 
 impl<R: Runtime + Abort> RunnerTrial<R> for RefusedMemory {
-    fn run<P: LentHandle<SlotManager> + Drop, X: CountRunner>(self, mut bench: Bench<R, P, X>) {
+    fn run<L: PoolParts, X: CountRunner>(self, pool: &SlotPool<R, L>, mut bench: Bench<R, X>) {
         let rt = bench.rt;
         let mut taken_on: u64 = 0;
         for _ in 0..5 {
@@ -25,7 +24,7 @@ impl<R: Runtime + Abort> RunnerTrial<R> for RefusedMemory {
         let mut ended: u64 = 0;
         for _ in 0..12 {
             ended = ended.saturating_add(bench.turn(0));
-            let state = bench.pool.state();
+            let state = PoolCalls::state(pool);
             let running = bench.runner.running();
             assert!(&rt; running <= 2);
             assert_eq!(&rt;

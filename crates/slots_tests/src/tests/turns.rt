@@ -1,10 +1,10 @@
 //! Turns of runners: how many jobs end and run at each, and what the pool tells.
 
 use super::{came_to, timed_out};
-use crate::trial::{Bench, CountRunner, RunnerTrial, slots, try_runner};
-use bb8::Runtime;
+use crate::trial::{Bench, CountRunner, RunnerTrial, SlotPool, slots, try_runner};
+use bb8::{PoolCalls, PoolParts, Runtime};
 use bb8_trials::{LentHandle, SECOND, sizes};
-use slots::{Phase, RunnerCalls, Slot, SlotManager};
+use slots::{Phase, RunnerCalls, Slot};
 use std::process::Abort;
 use std::time::Duration;
 
@@ -13,7 +13,7 @@ use std::time::Duration;
 struct FiveJobs;
 
 impl<R: Runtime + Abort> RunnerTrial<R> for FiveJobs {
-    fn run<P: LentHandle<SlotManager> + Drop, X: CountRunner>(self, mut bench: Bench<R, P, X>) {
+    fn run<L: PoolParts, X: CountRunner>(self, pool: &SlotPool<R, L>, mut bench: Bench<R, X>) {
         let rt = bench.rt;
         for id in 0..5u64 {
             assert!(&rt; bench.submits(3, id));
@@ -38,7 +38,7 @@ impl<R: Runtime + Abort> RunnerTrial<R> for FiveJobs {
         for id in 0..5u64 {
             assert!(&rt; came_to(bench.runner.take(id), 3));
         }
-        let state = bench.pool.state();
+        let state = PoolCalls::state(pool);
         assert!(&rt; sizes(state) == (2, 2));
         assert_eq!(&rt; state.statistics.get_started, 5);
         assert_eq!(&rt; state.statistics.get_direct, 0);
@@ -57,10 +57,10 @@ fn five_jobs_on_two_slots(rt: HostRuntime) {
 struct TimesOut;
 
 impl<R: Runtime + Abort> RunnerTrial<R> for TimesOut {
-    fn run<P: LentHandle<SlotManager> + Drop, X: CountRunner>(self, mut bench: Bench<R, P, X>) {
+    fn run<L: PoolParts, X: CountRunner>(self, pool: &SlotPool<R, L>, mut bench: Bench<R, X>) {
         let rt = bench.rt;
-        assert!(&rt; bench.pool.add(Slot).is_ok());
-        let Some(_lent) = bench.pool.lend(&bench.task) else {
+        assert!(&rt; PoolCalls::add(pool, Slot).is_ok());
+        let Some(_lent) = LentHandle::lend(pool, &bench.task) else {
             panic!(&rt; "no slot");
         };
         assert!(&rt; bench.submits(1, 0));
@@ -70,7 +70,7 @@ impl<R: Runtime + Abort> RunnerTrial<R> for TimesOut {
         assert_eq!(&rt; bench.turn(SECOND), 1);
         assert!(&rt; bench.runner.phase(0) == Some(Phase::Ended));
         assert!(&rt; timed_out(bench.runner.take(0)));
-        assert_eq!(&rt; bench.pool.state().statistics.get_timed_out, 1);
+        assert_eq!(&rt; PoolCalls::state(pool).statistics.get_timed_out, 1);
     }
 }
 
@@ -85,7 +85,7 @@ fn get_times_out(rt: HostRuntime) {
 struct Dropped;
 
 impl<R: Runtime + Abort> RunnerTrial<R> for Dropped {
-    fn run<P: LentHandle<SlotManager> + Drop, X: CountRunner>(self, mut bench: Bench<R, P, X>) {
+    fn run<L: PoolParts, X: CountRunner>(self, pool: &SlotPool<R, L>, mut bench: Bench<R, X>) {
         let rt = bench.rt;
         assert!(&rt; bench.submits(1, 0));
         for id in 1..4u64 {
@@ -98,9 +98,9 @@ impl<R: Runtime + Abort> RunnerTrial<R> for Dropped {
         assert!(&rt; bench.runner.phase(1) == Some(Phase::Running));
         assert!(&rt; bench.runner.phase(2) == Some(Phase::Running));
         assert!(&rt; bench.runner.phase(3) == Some(Phase::Waiting));
-        assert!(&rt; sizes(bench.pool.state()) == (2, 0));
+        assert!(&rt; sizes(PoolCalls::state(pool)) == (2, 0));
         drop(bench.runner);
-        let state = bench.pool.state();
+        let state = PoolCalls::state(pool);
         assert!(&rt; sizes(state) == (2, 2));
         assert_eq!(&rt; state.statistics.get_cancelled, 1);
         assert_eq!(&rt; state.statistics.pending_gets(), 0);
