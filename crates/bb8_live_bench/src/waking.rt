@@ -2,12 +2,13 @@
 
 use crate::manager::{NumberManager, NumberPool};
 use bb8::{
-    Builder, MachineClock, NopCustomizer, NopErrorSink, PoolCalls, PoolParts, Runtime, Service,
+    Builder, Clock as PoolClock, MachineClock, NopCustomizer, NopErrorSink, PoolCalls, PoolParts,
+    Runtime, Service,
 };
 use std::sync::atomic::{AtomicU64, Ordering};
 use std::thread;
 use std::thread::Threads;
-use std::time::{Clock, Duration};
+use std::time::Duration;
 
 /// Two threads take turns: one has the one connection for a while, and the other sleeps in its get meanwhile.
 #[derive(Drop)]
@@ -17,14 +18,6 @@ struct Turns<R> {
     rounds: u64,
     /// When the last return began, by the machine's clock.
     returned: AtomicU64,
-}
-
-/// The nanoseconds of the machine's clock.
-fn nanos<R: Clock>(rt: &R) -> u64 {
-    match rt.monotonic() {
-        Ok(passed) => u64::try_from(passed.as_nanos()).unwrap_or(u64::MAX),
-        Err(_) => 0,
-    }
 }
 
 impl<R: Runtime> Service<NumberManager, NopErrorSink, NopCustomizer, MachineClock<R>, R>
@@ -49,15 +42,16 @@ impl<R: Runtime> Service<NumberManager, NopErrorSink, NopCustomizer, MachineCloc
     ) -> Option<Vec<u64>> {
         let mut told = Vec::new(self.rt.alloc());
         for _ in 0..self.rounds {
-            let asked = nanos(&self.rt);
+            let asked = PoolClock::now(&MachineClock(self.rt)).0;
             let guard = PoolCalls::get_blocking(pool).ok()?;
-            let served = nanos(&self.rt);
+            let served = PoolClock::now(&MachineClock(self.rt)).0;
             let returned = self.returned.load(Ordering::SeqCst);
             if asked < returned {
                 told.push(served.saturating_sub(returned)).ok()?;
             }
             thread::sleep(&self.rt, Duration::from_millis(2));
-            self.returned.store(nanos(&self.rt), Ordering::SeqCst);
+            self.returned
+                .store(PoolClock::now(&MachineClock(self.rt)).0, Ordering::SeqCst);
             drop(guard);
             thread::sleep(&self.rt, Duration::from_millis(1));
         }
