@@ -1,5 +1,6 @@
 -- What callers see of a runner: its jobs, its next id, its pool and its driver; and what its calls do to them.
 use Rattle.std.specs.Prelude.{◌≡◌, ℕ, List, ⊤}
+use Rattle.std.specs.Arc.{arc_value}
 use Rattle.std.specs.contracts.prelude.InfallibleDebug.TheImpl as infallible
 use Rattle.std.specs.declared.convert.Infallible.{Infallible}
 use Rattle.futures.specs.declared.task.Poll.{Poll}
@@ -16,7 +17,9 @@ use Rattle.bb8.specs.declared.get.future.GetFuture.{GetFuture}
 use Rattle.bb8.specs.declared.pool.Pool.{Pool}
 use Rattle.bb8.specs.Drivers.{TurnsDriver}
 use Rattle.bb8.specs.Gets.{PollsGet}
+use Rattle.bb8.specs.GuardLists.{ReturnsEach}
 use Rattle.bb8.specs.Pools.{settings_in, stage_of, IsOf}
+use Rattle.bb8.specs.Turning.{OwnDropsTurning}
 use Rattle.slots.specs.contracts.slot.SlotManagerManageConnection.TheImpl as manager
 use Rattle.slots.specs.declared.entries.JobEntry.{JobEntry}
 use Rattle.slots.specs.declared.job.Job.{Ghosts as JobOf}
@@ -59,6 +62,10 @@ module _ {J S Z K R L O A : Type 0} {j : JobOf J O} {s : SinkOf S Infallible} {z
   -- the driver of a runner
   abbrev pub driver_of : Runner J S Z K R L O A j s z k l → SlotDriver S Z K R L A s z k l
   driver_of runner = runner.driver
+
+  -- a runner is let go: each of its guards gives its connection back, and then its driver is let go
+  abbrev pub LetsRunnerGo : Runner J S Z K R L O A j s z k l → Type 0
+  LetsRunnerGo runner = ReturnsEach runner.guards × OwnDropsTurning (arc_value runner.driver.shared) runner.driver.turning
 
   -- how many jobs may run: as many as the pool may have connections
   abbrev pub most_running : Runner J S Z K R L O A j s z k l → ℕ

@@ -51,7 +51,11 @@ impl<
     R: Locks,
     L: Parts,
 > Drop for Runner<'_, J, S, Z, K, R, L> {
-    fn drop(self) {
+    ghost use Rattle.slots.specs.Runners.{LetsRunnerGo};
+
+    fn drop(self)
+        ensures { LetsRunnerGo self.entry }
+    {
         let Runner {
             entries,
             guards,
