@@ -10,8 +10,8 @@ use Rattle.bb8_types.specs.declared.api.moments.Moment.{Moment}
 use Rattle.bb8_tables.specs.declared.keys.Key.{Key}
 use Rattle.bb8_core.specs.declared.joined.Joined.{Joined}
 use Rattle.bb8_tasks.specs.declared.home.Home.{Ghosts as HomeOf}
-use Rattle.bb8_tasks.specs.declared.home.OpenedStep.{OpenedStep}
-use Rattle.bb8_tasks.specs.declared.home.OpenedStep.TheVariants as opened
+use Rattle.bb8_core.specs.declared.answers.OpenedAnswer.{OpenedAnswer}
+use Rattle.bb8_core.specs.declared.answers.OpenedAnswer.TheVariants as opened
 use Rattle.bb8_tasks.specs.declared.opener.PoolOpener.{PoolOpener}
 use Rattle.bb8_tasks.specs.declared.replenish.ReplenishStep.{ReplenishStep}
 use Rattle.bb8_tasks.specs.declared.replenish.Replenish.{Replenish}
@@ -122,12 +122,12 @@ module _ {G L M S Z K R C E N V A : Type 0} {manager : ManagerOf M C E N V} {d :
               | inr within ↦ (let s = f.1 (sym on) within in (still x x' s.2.2 is, known Known (Retrying e) next s.2.0 tt))
             ]
 
-    opens : (step : OpenedStep C) (x x' : Joined (PoolOpener M S Z K) H) (next : ReplenishStep C N A E) → IsBy x
+    opens : (step : Result (OpenedAnswer C) C) (x x' : Joined (PoolOpener M S Z K) H) (next : ReplenishStep C N A E) → IsBy x
         → replenishing.AfterOpened (joined_tasks home) timeout retry approval at (joined_opener (pool_opener shared)) step x next x'
         → IsBy x' × Told Known next.answer
-    opens (opened.Entered notified) x x' next is a = (still x x' a.2 is, known Known Entered next a.0 tt)
-    opens (opened.Late c) x x' next is (x1, dropped, a) = (still x1 x' a.2 (dropped.0 ∙ is), known Known Late next a.0 tt)
-    opens (opened.Unfit c) x x' next is (x1, dropped, a) = (still x1 x' a.2 (dropped.0 ∙ is), known Known GivenBack next a.0 tt)
+    opens (Ok (opened.Entered notified)) x x' next is a = (still x x' a.2 is, known Known Entered next a.0 tt)
+    opens (Ok (opened.Late c)) x x' next is (x1, dropped, a) = (still x1 x' a.2 (dropped.0 ∙ is), known Known Late next a.0 tt)
+    opens (Err c) x x' next is (x1, dropped, a) = (still x1 x' a.2 (dropped.0 ∙ is), known Known GivenBack next a.0 tt)
 
     prepares : (answer : Poll (Result (Unit {0}) E)) (tries : Tries) (c0 c : C) (a0 a : A) (x x' : Joined (PoolOpener M S Z K) H) (next : ReplenishStep C N A E) → IsBy x
         → z.acquire_answers calls.customizer.now c0 a0 at answer c a

@@ -2,8 +2,8 @@
 
 mod future;
 
+pub use bb8_core::asked::Unfit;
 pub use bb8_gets::{
     Begun, GetHome, GetState, Held, Next, Outside, Passed, Returned, Settled, Stage, Taken, Tried,
-    Unfit,
 };
 pub use future::GetFuture;

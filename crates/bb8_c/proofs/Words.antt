@@ -3,7 +3,7 @@ pub use Rattle.bb8_core.proofs.Words.{◌≡◌, Option, Some, None, is_some, tr
 pub use mir.Syntax.{impl, tnil, dnil, a_type, dcons}
 pub use denote.Signature.{Slot, plain, type_at, types_at}
 pub use Rattle.std_alloc.proofs.BoxSteps.Form.{Bx, X, D, B, word, box_typed}
-pub use Rattle.bb8_c.specs.Steps.{NotAtOnce, Within, Reaps, Leaves}
+pub use Rattle.bb8_c.specs.Steps.{Within, Reaps, Leaves}
 pub use Rattle.bb8_c.specs.declared.listing.Listing.{Listing}
 pub use Rattle.bb8_core.specs.StepAnswers.{reap_told, leave_told, begin_told}
 pub use lib.Dec.{T, lit<}

@@ -1,6 +1,6 @@
 -- What the steps tell, as it crosses to C.
-use Rattle.std.specs.Prelude.{ℕ, ◌/◌, min, true, false, Option, Some, None}
-use Rattle.bb8_c.specs.Words.{as_nanos, State, Grant, Closed, BeginAnswer, TryAnswer, PutBackAnswer, AtOnce, CheckedOkAnswer, CheckedErrAnswer, GiveUpAnswer, ClaimAnswer, OpenedAnswer, FailedAnswer, AddAnswer, ReapAnswer, JoinAnswer, Look, Left, Got, Name, Told, Figures, LookAnswer}
+use Rattle.std.specs.Prelude.{ℕ, ◌/◌, min, true, false, Option, Some, None, Result, Ok, Err}
+use Rattle.bb8_c.specs.Words.{as_nanos, State, Grant, Closed, BeginAnswer, TryAnswer, PutBackAnswer, AtOnce, CheckedOkAnswer, CheckedErrAnswer, GiveUpAnswer, ClaimAnswer, OpenedAnswer, FailedAnswer, AddAnswer, ReapAnswer, JoinAnswer, Look, Left, Got, Unfit, Name, Told, Figures, LookAnswer}
 use Rattle.bb8_types.specs.Bounds.{most_micros}
 use Rattle.bb8_tables.specs.declared.keys.Key.{Key}
 use Rattle.bb8_tables.specs.declared.keys.GetKey.{GetKey}
@@ -62,70 +62,70 @@ abbrev pub notifying : Option GetKey → Told → Told
 notifying None t = t
 notifying (Some g) t = record t { notifies = true; get = get_in g }
 
--- ---- the answers; none comes where the event did not fit
+-- ---- the answers; an error comes where the event did not fit
 
-abbrev pub begin_in : Option BeginAnswer → Told
-begin_in None = plain 0
-begin_in (Some (begun.Begun g)) = record (plain 1) { get = get_in g }
-begin_in (Some begun.Memory) = plain 2
-begin_in (Some begun.Exhausted) = plain 3
+abbrev pub begin_in : {U : Type 0} → Result BeginAnswer U → Told
+begin_in (Err u) = plain 0
+begin_in (Ok (begun.Begun g)) = record (plain 1) { get = get_in g }
+begin_in (Ok begun.Memory) = plain 2
+begin_in (Ok begun.Exhausted) = plain 3
 
-abbrev pub try_in : Option (TryAnswer ℕ) → Told
-try_in None = plain 0
-try_in (Some (tried.Served k c grant)) = granting grant (with_conn c (keyed 4 k))
-try_in (Some (tried.Taken k c grant)) = granting grant (with_conn c (keyed 5 k))
-try_in (Some (tried.Waiting grant)) = granting grant (plain 6)
+abbrev pub try_in : {U : Type 0} → Result (TryAnswer ℕ) U → Told
+try_in (Err u) = plain 0
+try_in (Ok (tried.Served k c grant)) = granting grant (with_conn c (keyed 4 k))
+try_in (Ok (tried.Taken k c grant)) = granting grant (with_conn c (keyed 5 k))
+try_in (Ok (tried.Waiting grant)) = granting grant (plain 6)
 
 -- a get in one call: its name, beside what its first try tells
 abbrev pub got_in : Got → Told
 got_in got.Unfit = plain 0
 got_in got.Memory = plain 2
 got_in got.Exhausted = plain 3
-got_in (got.Tried g told) = record (try_in (Some told)) { get = get_in g }
+got_in (got.Tried g told) = record (try_in {U = Unfit} (Ok told)) { get = get_in g }
 
-abbrev pub put_back_in : Option (PutBackAnswer ℕ) → Told
-put_back_in None = plain 0
-put_back_in (Some (returned.Kept n)) = notifying n (plain 7)
-put_back_in (Some (returned.Closed c grant n)) = notifying n (granting grant (with_conn c (plain 8)))
+abbrev pub put_back_in : {U : Type 0} → Result (PutBackAnswer ℕ) U → Told
+put_back_in (Err u) = plain 0
+put_back_in (Ok (returned.Kept n)) = notifying n (plain 7)
+put_back_in (Ok (returned.Closed c grant n)) = notifying n (granting grant (with_conn c (plain 8)))
 
 abbrev pub at_once_in : Option (AtOnce ℕ) → Told
 at_once_in None = plain 0
 at_once_in (Some s) = record (granting s.grant (with_conn s.conn (keyed 4 s.key))) { get = record { number = s.get; place = 0 } }
 
-abbrev pub checked_ok_in : Option CheckedOkAnswer → Told
-checked_ok_in None = plain 0
-checked_ok_in (Some (passed.Served k)) = keyed 4 k
+abbrev pub checked_ok_in : {U : Type 0} → Result CheckedOkAnswer U → Told
+checked_ok_in (Err u) = plain 0
+checked_ok_in (Ok (passed.Served k)) = keyed 4 k
 
-abbrev pub checked_err_in : Option (CheckedErrAnswer ℕ) → Told
-checked_err_in None = plain 0
-checked_err_in (Some (invalid.Closed k c grant n)) = notifying n (granting grant (with_conn c (keyed 8 k)))
+abbrev pub checked_err_in : {U : Type 0} → Result (CheckedErrAnswer ℕ) U → Told
+checked_err_in (Err u) = plain 0
+checked_err_in (Ok (invalid.Closed k c grant n)) = notifying n (granting grant (with_conn c (keyed 8 k)))
 
-abbrev pub give_up_in : Option (GiveUpAnswer ℕ) → Told
-give_up_in None = plain 0
-give_up_in (Some (given_up.GaveUp n)) = notifying n (plain 9)
-give_up_in (Some (given_up.Kept k n)) = notifying n (keyed 7 k)
-give_up_in (Some (given_up.Closed k c grant n)) = notifying n (granting grant (with_conn c (keyed 8 k)))
+abbrev pub give_up_in : {U : Type 0} → Result (GiveUpAnswer ℕ) U → Told
+give_up_in (Err u) = plain 0
+give_up_in (Ok (given_up.GaveUp n)) = notifying n (plain 9)
+give_up_in (Ok (given_up.Kept k n)) = notifying n (keyed 7 k)
+give_up_in (Ok (given_up.Closed k c grant n)) = notifying n (granting grant (with_conn c (keyed 8 k)))
 
 abbrev pub claim_in : ClaimAnswer → Told
 claim_in (claimed.Claimed (Some k)) = keyed 10 k
 claim_in (claimed.Claimed None) = plain 11
 claim_in claimed.Ended = plain 12
 
-abbrev pub opened_in : Option (OpenedAnswer ℕ) → Told
-opened_in None = plain 0
-opened_in (Some (opened.Entered n)) = notifying n (plain 13)
-opened_in (Some (opened.Late c)) = with_conn c (plain 14)
+abbrev pub opened_in : {U : Type 0} → Result (OpenedAnswer ℕ) U → Told
+opened_in (Err u) = plain 0
+opened_in (Ok (opened.Entered n)) = notifying n (plain 13)
+opened_in (Ok (opened.Late c)) = with_conn c (plain 14)
 
-abbrev pub failed_in : Option FailedAnswer → Told
-failed_in None = plain 0
-failed_in (Some failed.GivenBack) = plain 15
+abbrev pub failed_in : {U : Type 0} → Result FailedAnswer U → Told
+failed_in (Err u) = plain 0
+failed_in (Ok failed.GivenBack) = plain 15
 
-abbrev pub add_in : Option (AddAnswer ℕ) → Told
-add_in None = plain 0
-add_in (Some (adding.Added k n)) = notifying n (keyed 16 k)
-add_in (Some (adding.Broken c)) = with_conn c (plain 17)
-add_in (Some (adding.NoCapacity c)) = with_conn c (plain 18)
-add_in (Some (adding.Withheld c)) = with_conn c (plain 19)
+abbrev pub add_in : {U : Type 0} → Result (AddAnswer ℕ) U → Told
+add_in (Err u) = plain 0
+add_in (Ok (adding.Added k n)) = notifying n (keyed 16 k)
+add_in (Ok (adding.Broken c)) = with_conn c (plain 17)
+add_in (Ok (adding.NoCapacity c)) = with_conn c (plain 18)
+add_in (Ok (adding.Withheld c)) = with_conn c (plain 19)
 
 -- how many connections ended is the number of the key; nothing is told where memory was refused
 abbrev pub reap_in : Option ReapAnswer → Told
@@ -136,10 +136,10 @@ reap_in (Some reaping.Ended) = plain 12
 abbrev pub fill_in : Grant → Told
 fill_in g = granting g (plain 23)
 
-abbrev pub join_in : Option JoinAnswer → Told
-join_in None = plain 0
-join_in (Some joined.Joined) = plain 21
-join_in (Some joined.Exhausted) = plain 3
+abbrev pub join_in : {U : Type 0} → Result JoinAnswer U → Told
+join_in (Err u) = plain 0
+join_in (Ok joined.Joined) = plain 21
+join_in (Ok joined.Exhausted) = plain 3
 
 -- how many connections ended is the number of the key
 abbrev pub leave_in : Left → Told

@@ -1,21 +1,17 @@
 -- Gets in one call, what steps list as closed, and steps behind a handle.
-use Rattle.std.specs.Prelude.{◌≡◌, ◌⊎◌, ℕ, Bool, true, false, cond, eqb, List, [], ◌++◌, drop, slice_get, Option, Some, None}
-use Rattle.bb8_c.specs.Words.{Closed, Ledger, ReapAnswer, Shown, Means, Meets, TellsFitting, try_told, reap_told, leave_told, HandsOut, NoneAtOnce, Got, Listing, Left}
+use Rattle.std.specs.Prelude.{◌≡◌, ℕ, Bool, true, false, cond, eqb, List, [], ◌++◌, drop, slice_get, Option, Some, None}
+use Rattle.bb8_c.specs.Words.{Closed, Ledger, ReapAnswer, Shown, Means, Meets, TellsFitting, try_told, reap_told, leave_told, HandsOut, Got, Listing, Left}
 use Rattle.bb8_types.specs.Numbered.{tally}
-use Rattle.bb8_ledger.specs.Acts.{Act, Reason, TimedOut, Cancelled, Begin, Try, Reap, Leave}
-use Rattle.bb8_ledger.specs.Answers.{Answer, Begun, Memory, Exhausted}
+use Rattle.bb8_ledger.specs.Acts.{Reason, TimedOut, Cancelled, Begin, Try, Reap, Leave}
+use Rattle.bb8_ledger.specs.Answers.{Begun, Memory, Exhausted, Unfit}
 use Rattle.bb8_ledger.specs.Table.{IsLegal}
 use Rattle.bb8_core.specs.Closings.{AreIdleAs, ended_by}
 use Rattle.bb8_c.specs.declared.steps.Got.TheVariants as got
 use Rattle.bb8_c.specs.declared.listing.Left.TheVariants as left
 
--- why no get is served at once: connections are checked first, or no get may begin, or the core has none at once
-abbrev pub NotAtOnce : Shown ℕ → Type 0
-NotAtOnce s = (s.config.test_on_check_out ≡ true) ⊎ (TellsFitting s Begin false) ⊎ (NoneAtOnce s)
-
 -- a get began and then tried: two steps, with a state between them; or it did not begin
 abbrev pub Gets : Shown ℕ → ℕ → Got → Shown ℕ → Type 0
-Gets old at got.Unfit new = (new ≡ old) × TellsFitting old Begin false
+Gets old at got.Unfit new = Meets old at Begin Unfit new × (new ≡ old)
 Gets old at got.Memory new = Meets old at Begin Memory new
 Gets old at got.Exhausted new = Meets old at Begin Exhausted new
 Gets old at (got.Tried g told) new = (between : Shown ℕ) × Meets old at Begin (Begun g.number) between

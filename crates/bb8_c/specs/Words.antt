@@ -1,6 +1,7 @@
 -- The words that the definitions speak with.
 pub use Rattle.bb8_tables.specs.declared.closed.Closed.{Closed}
 pub use Rattle.bb8_core.specs.Shown.{Shown, shown_code, Means, Meets, TellsFitting, IsRecordIn, IsNoRecordIn}
+pub use Rattle.bb8_core.specs.declared.asked.Unfit.{Unfit}
 pub use Rattle.bb8_c.specs.declared.listing.Listing.{Listing}
 pub use Rattle.std.specs.Duration.{as_nanos}
 pub use Rattle.bb8_types.specs.declared.api.figures.State.{State}
@@ -28,4 +29,4 @@ pub use Rattle.bb8_c.specs.declared.figures.LookAnswer.{LookAnswer}
 pub use Rattle.bb8_c.specs.declared.settings.Settings.{Settings}
 pub use Rattle.bb8_types.specs.Settings.{Settings as Held, settings_of}
 pub use Rattle.bb8_ledger.specs.Ledger.{opening_with, Ledger}
-pub use Rattle.bb8_core.specs.StepAnswers.{try_told, reap_told, leave_told, HandsOut, NoneAtOnce, begin_told, checked_ok_told, checked_err_told, give_up_told, put_back_told, claim_told, opened_told, failed_told, add_told, join_told, look_told, reason_of, ServesAtOnce, GivesBack, GivesBackInvalid, GivesBackHeld, HandsBack, Refuses}
+pub use Rattle.bb8_core.specs.StepAnswers.{try_told, reap_told, leave_told, HandsOut, NotAtOnce, begin_told, checked_ok_told, checked_err_told, give_up_told, put_back_told, claim_told, opened_told, failed_told, add_told, join_told, look_told, reason_of, ServesAtOnce, GivesBack, GivesBackInvalid, GivesBackHeld, HandsBack, Refuses}

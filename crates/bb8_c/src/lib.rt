@@ -4,16 +4,16 @@
 //! with kind 0, and changes nothing. C keeps the connections, and names them by numbers of its own. Moments are in nanoseconds.
 #![tactic(auto)]
 
-ghost use Rattle.std.specs.Prelude.{◌≡◌, ℕ, Bool, true, false, Option, None, Some, IsSome, IfSome, IfNone};
-ghost use Rattle.bb8_c.specs.Words.{Grant, State, BeginAnswer, AtOnce, TryAnswer, CheckedOkAnswer, CheckedErrAnswer, GiveUpAnswer, PutBackAnswer, ClaimAnswer, OpenedAnswer, FailedAnswer, AddAnswer, ReapAnswer, JoinAnswer, Look, begin_told, try_told, checked_ok_told, checked_err_told, give_up_told, put_back_told, claim_told, opened_told, failed_told, add_told, join_told, look_told, reason_of, ServesAtOnce, HandsOut, GivesBack, GivesBackInvalid, GivesBackHeld, HandsBack, Refuses, Meets, IsRecordIn, IsNoRecordIn, Closed, Left, Got};
+ghost use Rattle.std.specs.Prelude.{◌≡◌, ℕ, Bool, true, false, Option, None, Some, IsSome, IfSome, IfNone, Result, IfOk};
+ghost use Rattle.bb8_c.specs.Words.{Grant, State, BeginAnswer, AtOnce, TryAnswer, CheckedOkAnswer, CheckedErrAnswer, GiveUpAnswer, PutBackAnswer, ClaimAnswer, OpenedAnswer, FailedAnswer, AddAnswer, ReapAnswer, JoinAnswer, Look, begin_told, try_told, checked_ok_told, checked_err_told, give_up_told, put_back_told, claim_told, opened_told, failed_told, add_told, join_told, look_told, reason_of, ServesAtOnce, HandsOut, GivesBack, GivesBackInvalid, GivesBackHeld, HandsBack, Refuses, Meets, NotAtOnce, IsRecordIn, IsNoRecordIn, Closed, Left, Got, Unfit};
 ghost use Rattle.bb8_ledger.specs.Acts as acts;
 ghost use Rattle.bb8_ledger.specs.Answers as answers;
 ghost use Rattle.bb8_types.specs.Figures.{figures_of};
 ghost use Rattle.bb8_c.specs.InC as in_c;
 ghost use Rattle.bb8_c.specs.Layout as layout;
 ghost use Rattle.bb8_c.specs.Openings.{CoreIsMade};
-ghost use Rattle.bb8_core.specs.Asked.{Stepped};
-ghost use Rattle.bb8_c.specs.Steps.{Gets, NotAtOnce, Reaps, Leaves, TellsNext, Within, Beside, why};
+ghost use Rattle.bb8_core.specs.Asked.{OrComesBack, Stepped};
+ghost use Rattle.bb8_c.specs.Steps.{Gets, Reaps, Leaves, TellsNext, Within, Beside, why};
 
 mod figures;
 mod handle;
@@ -26,7 +26,7 @@ mod told;
 
 use bb8_core::api::Moment;
 use bb8_core::asked;
-use bb8_core::internals::{PoolInternals, Reason};
+use bb8_core::internals::{GetKey, Key, PoolInternals, Reason};
 pub use figures::{Figures, LookAnswer};
 pub use handle::CoreHandle;
 use listing::Listing;
@@ -42,6 +42,16 @@ macro_rules! with_core {
         *$handle = CoreHandle::of($open);
         told
     }};
+}
+
+// The key that a name of C stands for.
+macro_rules! named {
+    ($key:ident, $name:ident) => {
+        $key {
+            number: $name.number,
+            place: $name.place,
+        }
+    };
 }
 
 /// Makes a core, with one handle of the pool, and puts it into an empty handle. False comes where the settings are not lawful or memory was
@@ -78,8 +88,8 @@ pub extern "C" fn bb8_free(alloc: Global, core: &mut CoreHandle)
 #[unsafe(no_mangle)]
 pub extern "C" fn bb8_begin(alloc: Global, core: &mut CoreHandle, at: u64) -> Told
     requires { IsSome core.old.core }
-    ensures { Beside (λ old new. (a : Option BeginAnswer) × (result ≡ in_c.begin_in a)
-        × Stepped begin_told old at acts.Begin a new) core.old.core core.new.core }
+    ensures { Beside (λ old new. (a : Result BeginAnswer Unfit) × (result ≡ in_c.begin_in a)
+        × Stepped Meets begin_told old at acts.Begin a new) core.old.core core.new.core }
 {
     with_core!(alloc, core, open => told::begun(asked::begin(&mut open.internals, Moment(at))))
 }
@@ -104,18 +114,19 @@ pub extern "C" fn bb8_serve_at_once(alloc: Global, core: &mut CoreHandle, at: u6
         × IfSome a (λ served. ServesAtOnce old at served new)
         × IfNone a (new ≡ old) × IfNone a (NotAtOnce old)) core.old.core core.new.core }
 {
-    with_core!(alloc, core, open => told::at_once(steps::serve_at_once(&mut open.internals, Moment(at))))
+    with_core!(alloc, core, open => told::at_once(asked::serve_at_once(&mut open.internals, Moment(at))))
 }
 
 /// Lets a get try: kind 4 where it is served, 5 where it holds a connection that is to be checked, 6 where it waits.
 #[unsafe(no_mangle)]
+#[tactic(auto, using(crate::proofs::Inside::within))]
 pub extern "C" fn bb8_try(alloc: Global, core: &mut CoreHandle, at: u64, get: Name) -> Told
     requires { IsSome core.old.core }
-    ensures { Beside (λ old new. (a : Option (TryAnswer ℕ)) × (result ≡ in_c.try_in a)
-        × Stepped try_told old at (acts.Try get.number) a new
-        × IfSome a (λ told. HandsOut old told)) core.old.core core.new.core }
+    ensures { Beside (λ old new. (a : Result (TryAnswer ℕ) Unfit) × (result ≡ in_c.try_in a)
+        × Stepped Meets try_told old at (acts.Try get.number) a new
+        × IfOk a (HandsOut old)) core.old.core core.new.core }
 {
-    with_core!(alloc, core, open => told::tried(asked::try_get(&mut open.internals, Moment(at), get.get())))
+    with_core!(alloc, core, open => told::tried(asked::try_get(&mut open.internals, Moment(at), named!(GetKey, get))))
 }
 
 /// Tells that the check of a get was passed: kind 4. The hint is the place of the key that it holds.
@@ -128,11 +139,12 @@ pub extern "C" fn bb8_checked_ok(
     hint: usize,
 ) -> Told
     requires { IsSome core.old.core }
-    ensures { Beside (λ old new. (a : Option CheckedOkAnswer) × (result ≡ in_c.checked_ok_in a)
-        × Stepped (checked_ok_told old.records.next) old at (acts.CheckedOk get.number) a new)
+    ensures { Beside (λ old new. (a : Result CheckedOkAnswer Unfit)
+        × (result ≡ in_c.checked_ok_in a)
+        × Stepped Meets (checked_ok_told old.records.next) old at (acts.CheckedOk get.number) a new)
         core.old.core core.new.core }
 {
-    with_core!(alloc, core, open => told::checked(asked::checked_ok(&mut open.internals, Moment(at), get.get(), hint)))
+    with_core!(alloc, core, open => told::checked(asked::checked_ok(&mut open.internals, Moment(at), named!(GetKey, get), hint)))
 }
 
 /// Tells that the check of a get failed, which hands its connection in: kind 8. The get may try again. The hint is as of `bb8_checked_ok`.
@@ -147,12 +159,12 @@ pub extern "C" fn bb8_checked_err(
     hint: usize,
 ) -> Told
     requires { IsSome core.old.core }
-    ensures { Beside (λ old new. (a : Option (CheckedErrAnswer ℕ))
+    ensures { Beside (λ old new. (a : Result (CheckedErrAnswer ℕ) ℕ)
         × (result ≡ in_c.checked_err_in a)
-        × Stepped checked_err_told old at (acts.CheckedErr get.number broken) a new
-        × IfSome a (λ told. GivesBackInvalid conn told)) core.old.core core.new.core }
+        × Stepped Meets checked_err_told old at (acts.CheckedErr get.number broken) a new
+        × OrComesBack GivesBackInvalid conn a) core.old.core core.new.core }
 {
-    with_core!(alloc, core, open => told::invalid(asked::checked_err(&mut open.internals, Moment(at), get.get(), conn, broken, hint)))
+    with_core!(alloc, core, open => told::invalid(asked::checked_err(&mut open.internals, Moment(at), named!(GetKey, get), conn, broken, hint)))
 }
 
 /// Gives up a get that holds nothing: kind 9.
@@ -165,11 +177,11 @@ pub extern "C" fn bb8_give_up(
     timed_out: bool,
 ) -> Told
     requires { IsSome core.old.core }
-    ensures { Beside (λ old new. (a : Option (GiveUpAnswer ℕ)) × (result ≡ in_c.give_up_in a)
-        × Stepped give_up_told old at (acts.GiveUp get.number (why timed_out) None false) a new
-        × IfSome a (λ told. GivesBackHeld None told)) core.old.core core.new.core }
+    ensures { Beside (λ old new. (a : Result (GiveUpAnswer ℕ) Unfit) × (result ≡ in_c.give_up_in a)
+        × Stepped Meets give_up_told old at (acts.GiveUp get.number (why timed_out) None false) a new
+        × IfOk a (GivesBackHeld None)) core.old.core core.new.core }
 {
-    with_core!(alloc, core, open => told::gave_up(asked::give_up(&mut open.internals, Moment(at), get.get(), reason(timed_out), None, false, 0)))
+    with_core!(alloc, core, open => told::gave_up(asked::give_up(&mut open.internals, Moment(at), named!(GetKey, get), reason(timed_out), false)))
 }
 
 /// Gives up a get that holds a connection, which is handed in: kind 7 or 8. The hint is as of `bb8_checked_ok`.
@@ -185,12 +197,12 @@ pub extern "C" fn bb8_give_up_held(
     hint: usize,
 ) -> Told
     requires { IsSome core.old.core }
-    ensures { Beside (λ old new. (a : Option (GiveUpAnswer ℕ)) × (result ≡ in_c.give_up_in a)
-        × Stepped give_up_told old at
+    ensures { Beside (λ old new. (a : Result (GiveUpAnswer ℕ) ℕ) × (result ≡ in_c.give_up_in a)
+        × Stepped Meets give_up_told old at
         (acts.GiveUp get.number (why timed_out) (Some conn) broken) a new
-        × IfSome a (λ told. GivesBackHeld (Some conn) told)) core.old.core core.new.core }
+        × OrComesBack (λ c. GivesBackHeld (Some c)) conn a) core.old.core core.new.core }
 {
-    with_core!(alloc, core, open => told::gave_up(asked::give_up(&mut open.internals, Moment(at), get.get(), reason(timed_out), Some(conn), broken, hint)))
+    with_core!(alloc, core, open => told::gave_up(asked::give_back(&mut open.internals, Moment(at), named!(GetKey, get), reason(timed_out), conn, broken, hint)))
 }
 
 /// Returns a connection that was served: kind 7 where it is idle, 8 where it is closed, and handed back.
@@ -204,11 +216,11 @@ pub extern "C" fn bb8_put_back(
     broken: bool,
 ) -> Told
     requires { IsSome core.old.core }
-    ensures { Beside (λ old new. (a : Option (PutBackAnswer ℕ)) × (result ≡ in_c.put_back_in a)
-        × Stepped (put_back_told key.number) old at (acts.PutBack key.number conn broken) a new
-        × IfSome a (λ told. GivesBack conn told)) core.old.core core.new.core }
+    ensures { Beside (λ old new. (a : Result (PutBackAnswer ℕ) ℕ) × (result ≡ in_c.put_back_in a)
+        × Stepped Meets (put_back_told key.number) old at (acts.PutBack key.number conn broken) a new
+        × OrComesBack GivesBack conn a) core.old.core core.new.core }
 {
-    with_core!(alloc, core, open => told::returned(asked::put_back(&mut open.internals, Moment(at), key.key(), conn, broken)))
+    with_core!(alloc, core, open => told::returned(asked::put_back(&mut open.internals, Moment(at), named!(Key, key), conn, broken)))
 }
 
 /// Grants what is wanted for `min_idle`, claimed at once or not: kind 23.
@@ -241,22 +253,22 @@ pub extern "C" fn bb8_opened(
     conn: u64,
 ) -> Told
     requires { IsSome core.old.core }
-    ensures { Beside (λ old new. (a : Option (OpenedAnswer ℕ)) × (result ≡ in_c.opened_in a)
-        × Stepped (opened_told approval.number) old at (acts.Opened approval.number conn) a new
-        × IfSome a (λ told. HandsBack conn told)) core.old.core core.new.core }
+    ensures { Beside (λ old new. (a : Result (OpenedAnswer ℕ) ℕ) × (result ≡ in_c.opened_in a)
+        × Stepped Meets (opened_told approval.number) old at (acts.Opened approval.number conn) a new
+        × OrComesBack HandsBack conn a) core.old.core core.new.core }
 {
-    with_core!(alloc, core, open => told::entered(asked::opened(&mut open.internals, Moment(at), approval.key(), conn)))
+    with_core!(alloc, core, open => told::entered(asked::opened(&mut open.internals, Moment(at), named!(Key, approval), conn)))
 }
 
 /// Ends a claimed approval that brought no connection: kind 15.
 #[unsafe(no_mangle)]
 pub extern "C" fn bb8_failed(alloc: Global, core: &mut CoreHandle, at: u64, approval: Name) -> Told
     requires { IsSome core.old.core }
-    ensures { Beside (λ old new. (a : Option FailedAnswer) × (result ≡ in_c.failed_in a)
-        × Stepped failed_told old at (acts.Failed approval.number) a new)
+    ensures { Beside (λ old new. (a : Result FailedAnswer Unfit) × (result ≡ in_c.failed_in a)
+        × Stepped Meets failed_told old at (acts.Failed approval.number) a new)
         core.old.core core.new.core }
 {
-    with_core!(alloc, core, open => told::given_back(asked::failed(&mut open.internals, Moment(at), approval.key())))
+    with_core!(alloc, core, open => told::given_back(asked::failed(&mut open.internals, Moment(at), named!(Key, approval))))
 }
 
 /// Adds a connection that no approval brought: kind 16, or 17 as it is broken, 18 as there is no room, 19 as memory or a number is lacking.
@@ -269,9 +281,9 @@ pub extern "C" fn bb8_add(
     broken: bool,
 ) -> Told
     requires { IsSome core.old.core }
-    ensures { Beside (λ old new. (a : Option (AddAnswer ℕ)) × (result ≡ in_c.add_in a)
-        × Stepped add_told old at (acts.Add conn broken) a new
-        × IfSome a (λ told. Refuses conn told)) core.old.core core.new.core }
+    ensures { Beside (λ old new. (a : Result (AddAnswer ℕ) ℕ) × (result ≡ in_c.add_in a)
+        × Stepped Meets add_told old at (acts.Add conn broken) a new
+        × OrComesBack Refuses conn a) core.old.core core.new.core }
 {
     with_core!(alloc, core, open => told::added(asked::add(&mut open.internals, Moment(at), conn, broken)))
 }
@@ -291,8 +303,8 @@ pub extern "C" fn bb8_reap(alloc: Global, core: &mut CoreHandle, at: u64) -> Tol
 #[unsafe(no_mangle)]
 pub extern "C" fn bb8_join(alloc: Global, core: &mut CoreHandle, at: u64) -> Told
     requires { IsSome core.old.core }
-    ensures { Beside (λ old new. (a : Option JoinAnswer) × (result ≡ in_c.join_in a)
-        × Stepped join_told old at acts.Join a new) core.old.core core.new.core }
+    ensures { Beside (λ old new. (a : Result JoinAnswer Unfit) × (result ≡ in_c.join_in a)
+        × Stepped Meets join_told old at acts.Join a new) core.old.core core.new.core }
 {
     with_core!(alloc, core, open => told::joined(asked::join(&mut open.internals, Moment(at))))
 }

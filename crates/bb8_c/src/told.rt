@@ -4,6 +4,7 @@ ghost use Rattle.bb8_c.specs.InC as in_c;
 
 use crate::listing::Left;
 use crate::steps::Got;
+use bb8_core::asked::Unfit;
 use bb8_core::internals::{
     AddAnswer, AtOnce, BeginAnswer, CheckedErrAnswer, CheckedOkAnswer, ClaimAnswer, Closed,
     FailedAnswer, GetKey, GiveUpAnswer, Grant, JoinAnswer, Key, LeaveAnswer, OpenedAnswer,
@@ -70,28 +71,6 @@ pub struct Name {
     pub number: u64,
     /// Where it stood when it was named.
     pub place: usize,
-}
-
-impl Name {
-    /// As the name of a connection or an approval.
-    pub(crate) fn key(self) -> Key
-        ensures { result.number ≡ self.number }
-    {
-        Key {
-            number: self.number,
-            place: self.place,
-        }
-    }
-
-    /// As the name of a get.
-    pub(crate) fn get(self) -> GetKey
-        ensures { result.number ≡ self.number }
-    {
-        GetKey {
-            number: self.number,
-            place: self.place,
-        }
-    }
 }
 
 /// What a step tells. A field that its kind does not use is zero.
@@ -225,18 +204,18 @@ impl Told {
 }
 
 /// What a begin tells.
-pub(crate) fn begun(answer: Option<BeginAnswer>) -> Told
+pub(crate) fn begun(answer: Result<BeginAnswer, Unfit>) -> Told
     ensures { result ≡ in_c.begin_in answer }
 {
     match answer {
-        None => NOTHING,
-        Some(BeginAnswer::Begun(get)) => Told {
+        Err(Unfit) => NOTHING,
+        Ok(BeginAnswer::Begun(get)) => Told {
             kind: BEGUN,
             get: get_name(get),
             ..NOTHING
         },
-        Some(BeginAnswer::Memory) => of(MEMORY),
-        Some(BeginAnswer::Exhausted) => of(EXHAUSTED),
+        Ok(BeginAnswer::Memory) => of(MEMORY),
+        Ok(BeginAnswer::Exhausted) => of(EXHAUSTED),
     }
 }
 
@@ -273,40 +252,40 @@ pub(crate) fn got(answer: Got) -> Told
         Got::Exhausted => of(EXHAUSTED),
         Got::Tried(get, told) => Told {
             get: get_name(get),
-            ..tried(Some(told))
+            ..tried(Ok(told))
         },
     }
 }
 
 /// What a try tells.
-pub(crate) fn tried(answer: Option<TryAnswer<u64>>) -> Told
+pub(crate) fn tried(answer: Result<TryAnswer<u64>, Unfit>) -> Told
     ensures { result ≡ in_c.try_in answer }
 {
     match answer {
-        None => NOTHING,
-        Some(TryAnswer::Served(key, conn, grant)) => keyed(SERVED, key).with_conn(conn).with(grant),
-        Some(TryAnswer::Taken(key, conn, grant)) => keyed(TAKEN, key).with_conn(conn).with(grant),
-        Some(TryAnswer::Waiting(grant)) => of(WAITING).with(grant),
+        Err(Unfit) => NOTHING,
+        Ok(TryAnswer::Served(key, conn, grant)) => keyed(SERVED, key).with_conn(conn).with(grant),
+        Ok(TryAnswer::Taken(key, conn, grant)) => keyed(TAKEN, key).with_conn(conn).with(grant),
+        Ok(TryAnswer::Waiting(grant)) => of(WAITING).with(grant),
     }
 }
 
 /// What a passed check tells.
-pub(crate) fn checked(answer: Option<CheckedOkAnswer>) -> Told
+pub(crate) fn checked(answer: Result<CheckedOkAnswer, Unfit>) -> Told
     ensures { result ≡ in_c.checked_ok_in answer }
 {
     match answer {
-        None => NOTHING,
-        Some(CheckedOkAnswer::Served(key)) => keyed(SERVED, key),
+        Err(Unfit) => NOTHING,
+        Ok(CheckedOkAnswer::Served(key)) => keyed(SERVED, key),
     }
 }
 
 /// What a failed check tells.
-pub(crate) fn invalid(answer: Option<CheckedErrAnswer<u64>>) -> Told
+pub(crate) fn invalid(answer: Result<CheckedErrAnswer<u64>, u64>) -> Told
     ensures { result ≡ in_c.checked_err_in answer }
 {
     match answer {
-        None => NOTHING,
-        Some(CheckedErrAnswer::Closed(key, conn, grant, get)) => keyed(CLOSED, key)
+        Err(_) => NOTHING,
+        Ok(CheckedErrAnswer::Closed(key, conn, grant, get)) => keyed(CLOSED, key)
             .with_conn(conn)
             .with(grant)
             .to(get),
@@ -314,14 +293,14 @@ pub(crate) fn invalid(answer: Option<CheckedErrAnswer<u64>>) -> Told
 }
 
 /// What the giving up of a get tells.
-pub(crate) fn gave_up(answer: Option<GiveUpAnswer<u64>>) -> Told
+pub(crate) fn gave_up<E: Drop>(answer: Result<GiveUpAnswer<u64>, E>) -> Told
     ensures { result ≡ in_c.give_up_in answer }
 {
     match answer {
-        None => NOTHING,
-        Some(GiveUpAnswer::GaveUp(get)) => of(GAVE_UP).to(get),
-        Some(GiveUpAnswer::Kept(key, get)) => keyed(KEPT, key).to(get),
-        Some(GiveUpAnswer::Closed(key, conn, grant, get)) => keyed(CLOSED, key)
+        Err(_) => NOTHING,
+        Ok(GiveUpAnswer::GaveUp(get)) => of(GAVE_UP).to(get),
+        Ok(GiveUpAnswer::Kept(key, get)) => keyed(KEPT, key).to(get),
+        Ok(GiveUpAnswer::Closed(key, conn, grant, get)) => keyed(CLOSED, key)
             .with_conn(conn)
             .with(grant)
             .to(get),
@@ -329,13 +308,13 @@ pub(crate) fn gave_up(answer: Option<GiveUpAnswer<u64>>) -> Told
 }
 
 /// What the return of a connection tells.
-pub(crate) fn returned(answer: Option<PutBackAnswer<u64>>) -> Told
+pub(crate) fn returned(answer: Result<PutBackAnswer<u64>, u64>) -> Told
     ensures { result ≡ in_c.put_back_in answer }
 {
     match answer {
-        None => NOTHING,
-        Some(PutBackAnswer::Kept(get)) => of(KEPT).to(get),
-        Some(PutBackAnswer::Closed(conn, grant, get)) => of(CLOSED)
+        Err(_) => NOTHING,
+        Ok(PutBackAnswer::Kept(get)) => of(KEPT).to(get),
+        Ok(PutBackAnswer::Closed(conn, grant, get)) => of(CLOSED)
             .with_conn(conn)
             .with(grant)
             .to(get),
@@ -354,36 +333,36 @@ pub(crate) fn claimed(answer: ClaimAnswer) -> Told
 }
 
 /// What the opening of a connection tells.
-pub(crate) fn entered(answer: Option<OpenedAnswer<u64>>) -> Told
+pub(crate) fn entered(answer: Result<OpenedAnswer<u64>, u64>) -> Told
     ensures { result ≡ in_c.opened_in answer }
 {
     match answer {
-        None => NOTHING,
-        Some(OpenedAnswer::Entered(get)) => of(ENTERED).to(get),
-        Some(OpenedAnswer::Late(conn)) => of(LATE).with_conn(conn),
+        Err(_) => NOTHING,
+        Ok(OpenedAnswer::Entered(get)) => of(ENTERED).to(get),
+        Ok(OpenedAnswer::Late(conn)) => of(LATE).with_conn(conn),
     }
 }
 
 /// What a failed opening tells.
-pub(crate) fn given_back(answer: Option<FailedAnswer>) -> Told
+pub(crate) fn given_back(answer: Result<FailedAnswer, Unfit>) -> Told
     ensures { result ≡ in_c.failed_in answer }
 {
     match answer {
-        None => NOTHING,
-        Some(FailedAnswer::GivenBack) => of(GIVEN_BACK),
+        Err(Unfit) => NOTHING,
+        Ok(FailedAnswer::GivenBack) => of(GIVEN_BACK),
     }
 }
 
 /// What an adding tells.
-pub(crate) fn added(answer: Option<AddAnswer<u64>>) -> Told
+pub(crate) fn added(answer: Result<AddAnswer<u64>, u64>) -> Told
     ensures { result ≡ in_c.add_in answer }
 {
     match answer {
-        None => NOTHING,
-        Some(AddAnswer::Added(key, get)) => keyed(ADDED, key).to(get),
-        Some(AddAnswer::Broken(conn)) => of(BROKEN).with_conn(conn),
-        Some(AddAnswer::NoCapacity(conn)) => of(NO_CAPACITY).with_conn(conn),
-        Some(AddAnswer::Withheld(conn)) => of(WITHHELD).with_conn(conn),
+        Err(_) => NOTHING,
+        Ok(AddAnswer::Added(key, get)) => keyed(ADDED, key).to(get),
+        Ok(AddAnswer::Broken(conn)) => of(BROKEN).with_conn(conn),
+        Ok(AddAnswer::NoCapacity(conn)) => of(NO_CAPACITY).with_conn(conn),
+        Ok(AddAnswer::Withheld(conn)) => of(WITHHELD).with_conn(conn),
     }
 }
 
@@ -408,13 +387,13 @@ pub(crate) fn filled(grant: Grant) -> Told
 }
 
 /// What a join tells.
-pub(crate) fn joined(answer: Option<JoinAnswer>) -> Told
+pub(crate) fn joined(answer: Result<JoinAnswer, Unfit>) -> Told
     ensures { result ≡ in_c.join_in answer }
 {
     match answer {
-        None => NOTHING,
-        Some(JoinAnswer::Joined) => of(JOINED),
-        Some(JoinAnswer::Exhausted) => of(EXHAUSTED),
+        Err(Unfit) => NOTHING,
+        Ok(JoinAnswer::Joined) => of(JOINED),
+        Ok(JoinAnswer::Exhausted) => of(EXHAUSTED),
     }
 }
 

@@ -1,5 +1,5 @@
 -- What the condition of a step says of what is shown.
-use Rattle.bb8_core.proofs.Words.{◌≡◌, ℕ, ◌≤◌, Bool, true, false, Option, Some, None, is_some, refl, sym, ap, ◌∙◌, subst, ◌+◌, ◌-◌, ◌<◌, max, arith, ltb-true, get, Place, Unclaimed, Claimed, Idle, Held, Guarded, Standing, Getting, Try, GiveUp, Leave, Reason, Cancelled, Ledger, conns, approved, alive, get_of, start, latest, handles, records, gets, record_of, holds, stands, gets_stand, is_unnotified, is_claimed, is_guarded, is_held_by, is_out, fits, IsLegal, Shown, shown_beside, HasLedger, IsFitting, Means, standing_is, claimed_is, guarded_out, and_right, holding_is, all_held, alive_get, trying_is, alive_is, out_counted, claimed_counted, Fits, all_fit, due_few, Numbered, end_of_numbers, due, Settings, none_lent, ShownRecords, NoneAfter}
+use Rattle.bb8_core.proofs.Words.{◌≡◌, ℕ, ◌≤◌, Bool, true, false, Option, Some, None, is_some, refl, sym, ap, ◌∙◌, subst, ◌+◌, ◌<◌, max, arith, ltb-true, get, Place, Unclaimed, Claimed, Idle, Held, Guarded, Standing, Getting, Try, GiveUp, Leave, Reason, Cancelled, Ledger, conns, approved, alive, get_of, start, latest, handles, records, gets, record_of, holds, stands, gets_stand, is_unnotified, is_claimed, is_guarded, is_held_by, is_out, fits, IsLegal, Shown, shown_beside, HasLedger, IsFitting, Means, standing_is, claimed_is, guarded_out, and_right, holding_is, all_held, alive_get, trying_is, alive_is, out_counted, claimed_counted, Fits, all_fit, due_few, Numbered, end_of_numbers, due, Settings, none_lent, ShownRecords, NoneAfter}
 use Rattle.bb8_ledger.proofs.Invalid.{few_ended}
 use Rattle.bb8_ledger.proofs.Moments.{none_later}
 use Rattle.bb8_types.proofs.Numbered as numbered

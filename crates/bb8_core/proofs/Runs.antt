@@ -3,6 +3,7 @@ use Rattle.bb8_core.proofs.Words.{◌≡◌, ℕ, zero, suc, true, false, option
 use Rattle.bb8_tables.specs.declared.keys.GetKey.{GetKey}
 use Rattle.bb8_core.specs.declared.replay.events.Answer.{Answer as Told}
 use Rattle.bb8_core.specs.declared.replay.events.Act.TheVariants as named
+use Rattle.bb8_core.specs.Shown.{IsFitting, Meets, TellsFitting}
 use Rattle.bb8_core.proofs.Fitting.{shown, bare, beside, as_shown, shown_record, shown_get}
 use Rattle.bb8_core.proofs.Steps.{unfitting, same_shown, records_kept, gets_kept}
 
@@ -49,6 +50,14 @@ module _ {C : Type 0} where
 
   pub unfit_now : (l : Ledger C) (s : Shown C) (at : ℕ) (e : Act C) → fits l e ≡ false → Means l s → Allowed l at e Unfit × Means (Later l at e Unfit) s
   unfit_now l s at e misfit means = (unfitting (fits l e) _ _ misfit refl, beside (Later l at e Unfit) (unfit_shown l at e ∙ bare l means))
+
+  -- so it is a step that changes nothing
+  pub unfit_step : {s : Shown C} (at : ℕ) (e : Act C) → TellsFitting s e false → Meets s at e Unfit s × (s ≡ s)
+  unfit_step {s} at e tells = (λ l legal means. unfit_now l s at e (sym (tells l legal means)) means, refl)
+
+  -- and one that fits may be made
+  pub fitting : {s : Shown C} (e : Act C) → TellsFitting s e true → IsFitting s e
+  fitting e tells = λ l legal means. sym (tells l legal means)
 
 -- ---- lists of events
 

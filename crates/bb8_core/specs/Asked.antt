@@ -1,10 +1,20 @@
--- Steps that are taken only where their events fit.
-use Rattle.std.specs.Prelude.{◌≡◌, ℕ, false, Option, Some, None}
+-- Steps that are made only where their events fit.
+use Rattle.std.specs.Prelude.{◌≡◌, ℕ, Result, Ok, Err, IfErr}
 use Rattle.bb8_ledger.specs.Acts.{Act}
+use Rattle.bb8_ledger.specs.Answers as answers
 use Rattle.bb8_ledger.specs.Answers.{Answer}
-use Rattle.bb8_core.specs.Shown.{Shown, Meets, TellsFitting}
+use Rattle.bb8_core.specs.Shown.{Shown}
 
--- where the event fits it is taken and answered so; otherwise nothing is told, and nothing changed
-abbrev pub Stepped : {A C : Type 0} → (A → Answer) → Shown C → ℕ → Act C → Option A → Shown C → Type 0
-Stepped told old at e None new = (new ≡ old) × TellsFitting old e false
-Stepped told old at e (Some a) new = Meets old at e (told a) new
+-- the answer of such a step, by plain numbers
+abbrev pub answered : {A U : Type 0} → (A → Answer) → Result A U → Answer
+answered told (Ok a) = told a
+answered told (Err u) = answers.Unfit
+
+-- Such a step of those that make their events like this: its event and its answer. Where the event does not fit nothing changes.
+abbrev pub Stepped : {A C U : Type 0} → (Shown C → ℕ → Act C → Answer → Shown C → Type 0) → (A → Answer) → Shown C → ℕ → Act C → Result A U → Shown C → Type 0
+Stepped Makes told old at e r new = Makes old at e (answered told r) new × IfErr r (λ u. new ≡ old)
+
+-- where the event fits this holds of its answer, and otherwise the connection that was handed in comes back
+abbrev pub OrComesBack : {A C : Type 0} → (C → A → Type 0) → C → Result A C → Type 0
+OrComesBack Holds conn (Ok a) = Holds conn a
+OrComesBack Holds conn (Err c) = c ≡ conn

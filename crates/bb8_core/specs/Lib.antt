@@ -6,7 +6,6 @@ pub mod Closings
 pub mod Pool
 pub mod Run
 pub mod Parts
-pub mod PlainSteps
 pub mod Endings
 pub use Rattle.bb8_types.specs.Settings
 pub use Rattle.bb8_types.specs.Figures

@@ -1,11 +1,12 @@
-//! The steps of the bare state that may not fit: each asks whether it does, and makes it then. Where it does not, none is the answer, and
-//! nothing changes; a connection that was handed in is dropped.
+//! The steps of the bare state that may not fit: each asks whether it does, and makes it then. Where it does not nothing changes, and a
+//! connection that was handed in comes back. Homes, replays and C make their steps here.
 //!
-//! That what is asked is what the step requires is proved once, here.
-ghost use Rattle.std.specs.Prelude.{IfSome};
+//! That what is asked is what the step requires is proved once, here, and that the state keeps the limits.
+ghost use Rattle.std.specs.Prelude.{◌≡◌, None, Some, IfOk, IfSome, IfNone};
 ghost use Rattle.bb8_ledger.specs.Acts as acts;
-ghost use Rattle.bb8_core.specs.Asked.{Stepped};
-ghost use Rattle.bb8_core.specs.StepAnswers.{begin_told, try_told, checked_ok_told, checked_err_told, reason_of, give_up_told, put_back_told, opened_told, failed_told, add_told, join_told, HandsOut, GivesBack, GivesBackInvalid, GivesBackHeld, HandsBack, Refuses};
+ghost use Rattle.bb8_core.specs.Asked.{Stepped, OrComesBack};
+ghost use Rattle.bb8_core.specs.Shown.{IsWithinLimits, Meets};
+ghost use Rattle.bb8_core.specs.StepAnswers.{begin_told, try_told, checked_ok_told, checked_err_told, reason_of, give_up_told, put_back_told, opened_told, failed_told, add_told, join_told, leave_told, HandsOut, GivesBack, GivesBackInvalid, GivesBackHeld, HandsBack, Refuses, ServesAtOnce, NotAtOnce};
 
 use crate::api::Moment;
 use crate::internals::{
@@ -14,59 +15,77 @@ use crate::internals::{
     TryAnswer,
 };
 
-/// Begins a get.
-pub fn begin<C: Drop>(pool: &mut PoolInternals<C>, at: Moment) -> Option<BeginAnswer>
-    ensures { Stepped begin_told pool.old at.0 acts.Begin result pool.new }
+/// The step does not fit, as the state knows no such get or approval, or no handle is alive; nothing has changed. Our own.
+#[derive(Clone, Copy, Debug)]
+pub struct Unfit;
+
+/// Begins a get. Our own.
+#[inline(always)]
+pub fn begin<C: Drop>(pool: &mut PoolInternals<C>, at: Moment) -> Result<BeginAnswer, Unfit>
+    ensures step { Stepped Meets begin_told pool.old at.0 acts.Begin result pool.new }
+    ensures limits { IsWithinLimits pool.old }
 {
+    pool.limits();
     if !pool.fits_begin() {
-        return None;
+        return Err(Unfit);
     }
-    Some(pool.begin(at))
+    Ok(pool.begin(at))
 }
 
-/// Begins a get and serves it at once, where that is to be had with no memory.
-pub fn serve_at_once<C: Drop>(
-    pool: &mut PoolInternals<C>,
-    at: Moment,
-) -> Option<Option<AtOnce<C>>> {
+/// Begins a get and serves it, where connections go out unchecked, one is idle, and the get needs no memory. Else nothing changes. Our own.
+#[inline(always)]
+pub fn serve_at_once<C: Drop>(pool: &mut PoolInternals<C>, at: Moment) -> Option<AtOnce<C>>
+    ensures some { IfSome result (λ served. ServesAtOnce pool.old at.0 served pool.new) }
+    ensures none { IfNone result (pool.new ≡ pool.old) }
+    ensures cause { IfNone result (NotAtOnce pool.old) }
+    ensures limits { IsWithinLimits pool.old }
+{
+    pool.limits();
     if !pool.fits_at_once() {
         return None;
     }
-    Some(pool.serve_at_once(at))
+    pool.serve_at_once(at)
 }
 
-/// Has a get try.
+/// Has a get try. Our own.
+#[inline(always)]
 pub fn try_get<C: Drop>(
     pool: &mut PoolInternals<C>,
     at: Moment,
     get: GetKey,
-) -> Option<TryAnswer<C>>
-    ensures step { Stepped try_told pool.old at.0 (acts.Try get.number) result pool.new }
-    ensures connection { IfSome result (λ told. HandsOut pool.old told) }
+) -> Result<TryAnswer<C>, Unfit>
+    ensures step { Stepped Meets try_told pool.old at.0 (acts.Try get.number) result pool.new }
+    ensures connection { IfOk result (HandsOut pool.old) }
+    ensures limits { IsWithinLimits pool.old }
 {
+    pool.limits();
     if !pool.fits_try(get) {
-        return None;
+        return Err(Unfit);
     }
-    Some(pool.try_get(at, get))
+    Ok(pool.try_get(at, get))
 }
 
-/// Tells that the check of a get was passed.
+/// Tells that the check of a get was passed. Our own.
+#[inline(always)]
 pub fn checked_ok<C: Drop>(
     pool: &mut PoolInternals<C>,
     at: Moment,
     get: GetKey,
     hint: usize,
-) -> Option<CheckedOkAnswer>
-    ensures { Stepped (checked_ok_told pool.old.records.next) pool.old at.0
-        (acts.CheckedOk get.number) result pool.new }
+) -> Result<CheckedOkAnswer, Unfit>
+    ensures step { Stepped Meets (checked_ok_told pool.old.records.next)
+        pool.old at.0 (acts.CheckedOk get.number) result pool.new }
+    ensures limits { IsWithinLimits pool.old }
 {
+    pool.limits();
     if !pool.fits_checked_ok(get) {
-        return None;
+        return Err(Unfit);
     }
-    Some(pool.checked_ok(at, get, hint))
+    Ok(pool.checked_ok(at, get, hint))
 }
 
-/// Tells that the check of a get failed.
+/// Tells that the check of a get failed. Our own.
+#[inline(always)]
 pub fn checked_err<C: Drop>(
     pool: &mut PoolInternals<C>,
     at: Moment,
@@ -74,112 +93,163 @@ pub fn checked_err<C: Drop>(
     conn: C,
     broken: bool,
     hint: usize,
-) -> Option<CheckedErrAnswer<C>>
-    ensures step { Stepped checked_err_told pool.old at.0 (acts.CheckedErr get.number broken)
+) -> Result<CheckedErrAnswer<C>, C>
+    ensures step { Stepped Meets checked_err_told pool.old at.0 (acts.CheckedErr get.number broken)
         result pool.new }
-    ensures connection { IfSome result (λ told. GivesBackInvalid conn told) }
+    ensures connection { OrComesBack GivesBackInvalid conn result }
+    ensures limits { IsWithinLimits pool.old }
 {
+    pool.limits();
     if !pool.fits_checked_err(get) {
-        return None;
+        return Err(conn);
     }
-    Some(pool.checked_err(at, get, conn, broken, hint))
+    Ok(pool.checked_err(at, get, conn, broken, hint))
 }
 
-/// Gives up a get, with the connection that it holds, if it holds one.
+/// Gives up a get that holds nothing. Our own.
+#[inline(always)]
 pub fn give_up<C: Drop>(
     pool: &mut PoolInternals<C>,
     at: Moment,
     get: GetKey,
     reason: Reason,
-    held: Option<C>,
     broken: bool,
-    hint: usize,
-) -> Option<GiveUpAnswer<C>>
-    ensures step { Stepped give_up_told pool.old at.0
-        (acts.GiveUp get.number (reason_of reason) held broken) result pool.new }
-    ensures connection { IfSome result (λ told. GivesBackHeld held told) }
+) -> Result<GiveUpAnswer<C>, Unfit>
+    ensures step { Stepped Meets give_up_told
+        pool.old at.0 (acts.GiveUp get.number (reason_of reason) None broken) result pool.new }
+    ensures connection { IfOk result (GivesBackHeld None) }
+    ensures limits { IsWithinLimits pool.old }
 {
-    if !pool.fits_give_up(get, held.is_some()) {
-        return None;
+    pool.limits();
+    if !pool.fits_give_up(get, false) {
+        return Err(Unfit);
     }
-    Some(pool.give_up(at, get, reason, held, broken, hint))
+    Ok(pool.give_up(at, get, reason, None, broken, 0))
 }
 
-/// Gives back a connection that a guard holds.
+/// Gives up a get that holds this connection. Our own.
+#[inline(always)]
+pub fn give_back<C: Drop>(
+    pool: &mut PoolInternals<C>,
+    at: Moment,
+    get: GetKey,
+    reason: Reason,
+    conn: C,
+    broken: bool,
+    hint: usize,
+) -> Result<GiveUpAnswer<C>, C>
+    ensures step { Stepped Meets give_up_told pool.old at.0
+        (acts.GiveUp get.number (reason_of reason) (Some conn) broken) result pool.new }
+    ensures connection { OrComesBack (λ c. GivesBackHeld (Some c)) conn result }
+    ensures limits { IsWithinLimits pool.old }
+{
+    pool.limits();
+    if !pool.fits_give_up(get, true) {
+        return Err(conn);
+    }
+    Ok(pool.give_up(at, get, reason, Some(conn), broken, hint))
+}
+
+/// Gives back a connection that a guard holds. Our own.
+#[inline(always)]
 pub fn put_back<C: Drop>(
     pool: &mut PoolInternals<C>,
     at: Moment,
     key: Key,
     conn: C,
     broken: bool,
-) -> Option<PutBackAnswer<C>>
-    ensures step { Stepped (put_back_told key.number) pool.old at.0
-        (acts.PutBack key.number conn broken) result pool.new }
-    ensures connection { IfSome result (λ told. GivesBack conn told) }
+) -> Result<PutBackAnswer<C>, C>
+    ensures step { Stepped Meets (put_back_told key.number)
+        pool.old at.0 (acts.PutBack key.number conn broken) result pool.new }
+    ensures connection { OrComesBack GivesBack conn result }
+    ensures limits { IsWithinLimits pool.old }
 {
+    pool.limits();
     if !pool.fits_put_back(key) {
-        return None;
+        return Err(conn);
     }
-    Some(pool.put_back(at, key, conn, broken))
+    Ok(pool.put_back(at, key, conn, broken))
 }
 
-/// Hands in what a claimed approval brought.
+/// Hands in what a claimed approval brought. Our own.
+#[inline(always)]
 pub fn opened<C: Drop>(
     pool: &mut PoolInternals<C>,
     at: Moment,
     key: Key,
     conn: C,
-) -> Option<OpenedAnswer<C>>
-    ensures step { Stepped (opened_told key.number) pool.old at.0 (acts.Opened key.number conn)
-        result pool.new }
-    ensures connection { IfSome result (λ told. HandsBack conn told) }
+) -> Result<OpenedAnswer<C>, C>
+    ensures step { Stepped Meets (opened_told key.number)
+        pool.old at.0 (acts.Opened key.number conn) result pool.new }
+    ensures connection { OrComesBack HandsBack conn result }
+    ensures limits { IsWithinLimits pool.old }
 {
+    pool.limits();
     if !pool.fits_opened(key) {
-        return None;
+        return Err(conn);
     }
-    Some(pool.opened(at, key, conn))
+    Ok(pool.opened(at, key, conn))
 }
 
-/// Ends a claimed approval that brought nothing.
-pub fn failed<C: Drop>(pool: &mut PoolInternals<C>, at: Moment, key: Key) -> Option<FailedAnswer>
-    ensures { Stepped failed_told pool.old at.0 (acts.Failed key.number) result pool.new }
+/// Ends a claimed approval that brought nothing. Our own.
+#[inline(always)]
+pub fn failed<C: Drop>(
+    pool: &mut PoolInternals<C>,
+    at: Moment,
+    key: Key,
+) -> Result<FailedAnswer, Unfit>
+    ensures step { Stepped Meets failed_told pool.old at.0 (acts.Failed key.number)
+        result pool.new }
+    ensures limits { IsWithinLimits pool.old }
 {
+    pool.limits();
     if !pool.fits_failed(key) {
-        return None;
+        return Err(Unfit);
     }
-    Some(pool.failed(at, key))
+    Ok(pool.failed(at, key))
 }
 
-/// Adds a connection.
+/// Adds a connection. Our own.
+#[inline(always)]
 pub fn add<C: Drop>(
     pool: &mut PoolInternals<C>,
     at: Moment,
     conn: C,
     broken: bool,
-) -> Option<AddAnswer<C>>
-    ensures step { Stepped add_told pool.old at.0 (acts.Add conn broken) result pool.new }
-    ensures connection { IfSome result (λ told. Refuses conn told) }
+) -> Result<AddAnswer<C>, C>
+    ensures step { Stepped Meets add_told pool.old at.0 (acts.Add conn broken) result pool.new }
+    ensures connection { OrComesBack Refuses conn result }
+    ensures limits { IsWithinLimits pool.old }
 {
+    pool.limits();
     if !pool.fits_add() {
-        return None;
+        return Err(conn);
     }
-    Some(pool.add(at, conn, broken))
+    Ok(pool.add(at, conn, broken))
 }
 
-/// Adds a handle.
-pub fn join<C: Drop>(pool: &mut PoolInternals<C>, at: Moment) -> Option<JoinAnswer>
-    ensures { Stepped join_told pool.old at.0 acts.Join result pool.new }
+/// Adds a handle. Our own.
+#[inline(always)]
+pub fn join<C: Drop>(pool: &mut PoolInternals<C>, at: Moment) -> Result<JoinAnswer, Unfit>
+    ensures step { Stepped Meets join_told pool.old at.0 acts.Join result pool.new }
+    ensures limits { IsWithinLimits pool.old }
 {
+    pool.limits();
     if !pool.fits_join() {
-        return None;
+        return Err(Unfit);
     }
-    Some(pool.join(at))
+    Ok(pool.join(at))
 }
 
-/// Takes a handle away.
-pub fn leave<C: Drop>(pool: &mut PoolInternals<C>, at: Moment) -> Option<LeaveAnswer> {
+/// Takes a handle away. Our own.
+#[inline(always)]
+pub fn leave<C: Drop>(pool: &mut PoolInternals<C>, at: Moment) -> Result<LeaveAnswer, Unfit>
+    ensures step { Stepped Meets leave_told pool.old at.0 acts.Leave result pool.new }
+    ensures limits { IsWithinLimits pool.old }
+{
+    pool.limits();
     if !pool.fits_leave() {
-        return None;
+        return Err(Unfit);
     }
-    Some(pool.leave(at))
+    Ok(pool.leave(at))
 }

@@ -378,6 +378,7 @@ impl<C: Drop, A> PoolInternals<C, A> {
 
     /// Ends a get that is not served, as it timed out or was cancelled. Where it had been notified, the oldest waiter that was not is
     /// notified in its place. A connection that it holds is handed in, and returns as in `put_back`. The hint is as of `checked_ok`.
+    #[inline(always)]
     pub fn give_up(
         &mut self,
         at: Moment,

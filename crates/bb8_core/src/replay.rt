@@ -6,10 +6,11 @@ ghost use Rattle.bb8_ledger.specs.Table as table;
 ghost use Rattle.bb8_ledger.specs.Table.{IsLegal};
 ghost use Rattle.bb8_ledger.specs.Limits.{KeepsLimits, KeepsLaws, KeepsPromises};
 ghost use Rattle.bb8_tables.specs.Keys.{notified_of};
-ghost use Rattle.bb8_core.specs.Run.{act_with, fits_named, answer_of, opening, IsRun, IsTaken, Happens, Applies, AfterEach};
+ghost use Rattle.bb8_core.specs.Run.{act_with, fits_named, answer_of, opening, IsRun, Happens, Applies, AfterEach};
 ghost use Rattle.bb8_core.specs.declared.replay.events.Act.TheVariants as events;
 ghost use Rattle.bb8_types.specs.Settings.{settings_of, is_lawful};
-ghost use Rattle.bb8_core.specs.Shown.{Means, Meets, IsFitting};
+ghost use Rattle.bb8_core.specs.Shown.{Means, Meets};
+ghost use Rattle.bb8_core.specs.StepAnswers.{give_up_told};
 
 mod events;
 mod hints;
@@ -19,6 +20,7 @@ use crate::answers::{
     AddAnswer, BeginAnswer, CheckedErrAnswer, CheckedOkAnswer, ClaimAnswer, FailedAnswer,
     GiveUpAnswer, JoinAnswer, LeaveAnswer, OpenedAnswer, PutBackAnswer, ReapAnswer, TryAnswer,
 };
+use crate::asked::{self, Unfit};
 use crate::internals::PoolInternals;
 use bb8_tables::keys::{GetKey, Key};
 use bb8_types::api::{Config, Memory, Moment};
@@ -83,13 +85,14 @@ pub fn fits<C: Drop>(pool: &PoolInternals<C>, event: Event) -> bool
     ensures fits { (conn : ℕ → C) (l : Ledger C) → IsLegal l → Means l pool.now
         → result ≡ table.fits l (act_with conn l event.act) }
 {
-    fits_at(pool, event.act, 0)
+    fits_act(pool, event.act)
 }
 
-/// As `fits`, where the number that the event names may stand at the hint.
-fn fits_at<C: Drop>(pool: &PoolInternals<C>, act: Act, place: usize) -> bool
+/// As `fits`, by the event alone.
+fn fits_act<C: Drop>(pool: &PoolInternals<C>, act: Act) -> bool
     ensures { (l : Ledger C) → IsLegal l → Means l pool.now → result ≡ fits_named l act }
 {
+    let place = 0;
     match act {
         Act::Begin | Act::Add(_) => pool.fits_begin(),
         Act::Try(number) => pool.fits_try(GetKey { number, place }),
@@ -106,38 +109,37 @@ fn fits_at<C: Drop>(pool: &PoolInternals<C>, act: Act, place: usize) -> bool
 }
 
 fn begin(pool: &mut PoolInternals<u64>, known: &mut Known, at: Moment) -> Answer
-    requires { IsFitting pool.old acts.Begin }
     ensures { Meets pool.old at.0 acts.Begin (answer_of result) pool.new }
 {
-    match pool.begin(at) {
-        BeginAnswer::Begun(get) => {
+    match asked::begin(pool, at) {
+        Ok(BeginAnswer::Begun(get)) => {
             known.gets.note(get.number, get.place);
             Answer::Begun(get.number)
         }
-        BeginAnswer::Memory => Answer::Memory,
-        BeginAnswer::Exhausted => Answer::Exhausted,
+        Ok(BeginAnswer::Memory) => Answer::Memory,
+        Ok(BeginAnswer::Exhausted) => Answer::Exhausted,
+        Err(Unfit) => Answer::Unfit,
     }
 }
 
 fn try_get(pool: &mut PoolInternals<u64>, known: &mut Known, at: Moment, get: GetKey) -> Answer
-    requires { IsFitting pool.old (acts.Try get.number) }
     ensures { Meets pool.old at.0 (acts.Try get.number) (answer_of result) pool.new }
 {
-    match pool.try_get(at, get) {
-        TryAnswer::Served(key, _, grant) => {
+    match asked::try_get(pool, at, get) {
+        Ok(TryAnswer::Served(key, _, grant)) => {
             known.records.note(key.number, key.place);
             Answer::Served(key.number, grant)
         }
-        TryAnswer::Taken(key, _, grant) => {
+        Ok(TryAnswer::Taken(key, _, grant)) => {
             known.records.note(key.number, key.place);
             Answer::Taken(key.number, grant)
         }
-        TryAnswer::Waiting(grant) => Answer::Waiting(grant),
+        Ok(TryAnswer::Waiting(grant)) => Answer::Waiting(grant),
+        Err(Unfit) => Answer::Unfit,
     }
 }
 
 fn checked_ok(pool: &mut PoolInternals<u64>, known: &Known, at: Moment, get: GetKey) -> Answer
-    requires { IsFitting pool.old (acts.CheckedOk get.number) }
     ensures { Meets pool.old at.0 (acts.CheckedOk get.number) (answer_of result) pool.new }
 {
     let hint = known.hint(pool.held(get));
@@ -146,8 +148,9 @@ fn checked_ok(pool: &mut PoolInternals<u64>, known: &Known, at: Moment, get: Get
         count: 0,
         withheld: 0,
     };
-    match pool.checked_ok(at, get, hint) {
-        CheckedOkAnswer::Served(key) => Answer::Served(key.number, grant),
+    match asked::checked_ok(pool, at, get, hint) {
+        Ok(CheckedOkAnswer::Served(key)) => Answer::Served(key.number, grant),
+        Err(Unfit) => Answer::Unfit,
     }
 }
 
@@ -158,12 +161,24 @@ fn checked_err(
     get: GetKey,
     broken: bool,
 ) -> Answer
-    requires { IsFitting pool.old (acts.CheckedErr get.number broken) }
     ensures { Meets pool.old at.0 (acts.CheckedErr get.number broken) (answer_of result) pool.new }
 {
     let held = pool.held(get);
-    match pool.checked_err(at, get, held.unwrap_or(0), broken, known.hint(held)) {
-        CheckedErrAnswer::Closed(key, _, grant, notified) => {
+    match asked::checked_err(pool, at, get, held.unwrap_or(0), broken, known.hint(held)) {
+        Ok(CheckedErrAnswer::Closed(key, _, grant, notified)) => {
+            Answer::Closed(key.number, grant, number_of(notified))
+        }
+        Err(_) => Answer::Unfit,
+    }
+}
+
+fn gave_up(answer: GiveUpAnswer<u64>) -> Answer
+    ensures { answer_of result ≡ give_up_told answer }
+{
+    match answer {
+        GiveUpAnswer::GaveUp(notified) => Answer::GaveUp(number_of(notified)),
+        GiveUpAnswer::Kept(key, notified) => Answer::Kept(key.number, number_of(notified)),
+        GiveUpAnswer::Closed(key, _, grant, notified) => {
             Answer::Closed(key.number, grant, number_of(notified))
         }
     }
@@ -178,29 +193,33 @@ fn give_up(
     reason: Reason,
     broken: bool,
 ) -> Answer
-    requires { IsTaken pool.old (events.GiveUp get.number reason broken) }
     ensures { Happens pool.old at.0 (events.GiveUp get.number reason broken) result pool.new }
 {
-    let held = pool.held(get);
-    match pool.give_up(at, get, reason, held, broken, known.hint(held)) {
-        GiveUpAnswer::GaveUp(notified) => Answer::GaveUp(number_of(notified)),
-        GiveUpAnswer::Kept(key, notified) => Answer::Kept(key.number, number_of(notified)),
-        GiveUpAnswer::Closed(key, _, grant, notified) => {
-            Answer::Closed(key.number, grant, number_of(notified))
+    match pool.held(get) {
+        None => match asked::give_up(pool, at, get, reason, broken) {
+            Ok(answer) => gave_up(answer),
+            Err(Unfit) => Answer::Unfit,
+        },
+        Some(held) => {
+            let hint = known.records.place(held);
+            match asked::give_back(pool, at, get, reason, held, broken, hint) {
+                Ok(answer) => gave_up(answer),
+                Err(_) => Answer::Unfit,
+            }
         }
     }
 }
 
 fn put_back(pool: &mut PoolInternals<u64>, at: Moment, key: Key, broken: bool) -> Answer
-    requires { IsFitting pool.old (acts.PutBack key.number key.number broken) }
     ensures { Meets pool.old at.0 (acts.PutBack key.number key.number broken)
         (answer_of result) pool.new }
 {
-    match pool.put_back(at, key, key.number, broken) {
-        PutBackAnswer::Kept(notified) => Answer::Kept(key.number, number_of(notified)),
-        PutBackAnswer::Closed(_, grant, notified) => {
+    match asked::put_back(pool, at, key, key.number, broken) {
+        Ok(PutBackAnswer::Kept(notified)) => Answer::Kept(key.number, number_of(notified)),
+        Ok(PutBackAnswer::Closed(_, grant, notified)) => {
             Answer::Closed(key.number, grant, number_of(notified))
         }
+        Err(_) => Answer::Unfit,
     }
 }
 
@@ -218,38 +237,38 @@ fn claim(pool: &mut PoolInternals<u64>, known: &mut Known, at: Moment) -> Answer
 }
 
 fn opened(pool: &mut PoolInternals<u64>, at: Moment, key: Key) -> Answer
-    requires { IsFitting pool.old (acts.Opened key.number key.number) }
     ensures { Meets pool.old at.0 (acts.Opened key.number key.number) (answer_of result) pool.new }
 {
-    match pool.opened(at, key, key.number) {
-        OpenedAnswer::Entered(notified) => Answer::Entered(key.number, number_of(notified)),
-        OpenedAnswer::Late(_) => Answer::Late(key.number),
+    match asked::opened(pool, at, key, key.number) {
+        Ok(OpenedAnswer::Entered(notified)) => Answer::Entered(key.number, number_of(notified)),
+        Ok(OpenedAnswer::Late(_)) => Answer::Late(key.number),
+        Err(_) => Answer::Unfit,
     }
 }
 
 fn failed(pool: &mut PoolInternals<u64>, at: Moment, key: Key) -> Answer
-    requires { IsFitting pool.old (acts.Failed key.number) }
     ensures { Meets pool.old at.0 (acts.Failed key.number) (answer_of result) pool.new }
 {
-    match pool.failed(at, key) {
-        FailedAnswer::GivenBack => Answer::GivenBack,
+    match asked::failed(pool, at, key) {
+        Ok(FailedAnswer::GivenBack) => Answer::GivenBack,
+        Err(Unfit) => Answer::Unfit,
     }
 }
 
 fn add(pool: &mut PoolInternals<u64>, known: &mut Known, at: Moment, broken: bool) -> Answer
-    requires { IsFitting pool.old (acts.Add pool.old.records.next broken) }
     ensures { Meets pool.old at.0 (acts.Add pool.old.records.next broken)
         (answer_of result) pool.new }
 {
     let number = pool.next_number();
-    match pool.add(at, number, broken) {
-        AddAnswer::Added(key, notified) => {
+    match asked::add(pool, at, number, broken) {
+        Ok(AddAnswer::Added(key, notified)) => {
             known.records.note(key.number, key.place);
             Answer::Added(key.number, number_of(notified))
         }
-        AddAnswer::Broken(_) => Answer::Broken,
-        AddAnswer::NoCapacity(_) => Answer::NoCapacity,
-        AddAnswer::Withheld(_) => Answer::Withheld,
+        Ok(AddAnswer::Broken(_)) => Answer::Broken,
+        Ok(AddAnswer::NoCapacity(_)) => Answer::NoCapacity,
+        Ok(AddAnswer::Withheld(_)) => Answer::Withheld,
+        Err(_) => Answer::Unfit,
     }
 }
 
@@ -273,21 +292,21 @@ fn reap(pool: &mut PoolInternals<u64>, at: Moment) -> Answer
 }
 
 fn join(pool: &mut PoolInternals<u64>, at: Moment) -> Answer
-    requires { IsFitting pool.old acts.Join }
     ensures { Meets pool.old at.0 acts.Join (answer_of result) pool.new }
 {
-    match pool.join(at) {
-        JoinAnswer::Joined => Answer::Joined,
-        JoinAnswer::Exhausted => Answer::Exhausted,
+    match asked::join(pool, at) {
+        Ok(JoinAnswer::Joined) => Answer::Joined,
+        Ok(JoinAnswer::Exhausted) => Answer::Exhausted,
+        Err(Unfit) => Answer::Unfit,
     }
 }
 
 fn leave(pool: &mut PoolInternals<u64>, at: Moment) -> Answer
-    requires { IsFitting pool.old acts.Leave }
     ensures { Meets pool.old at.0 acts.Leave (answer_of result) pool.new }
 {
-    match pool.leave(at) {
-        LeaveAnswer::Left(closed) => Answer::Left(closed),
+    match asked::leave(pool, at) {
+        Ok(LeaveAnswer::Left(closed)) => Answer::Left(closed),
+        Err(Unfit) => Answer::Unfit,
     }
 }
 
@@ -304,9 +323,6 @@ pub fn apply(pool: &mut PoolInternals<u64>, known: &mut Known, event: Event) -> 
     ensures { Applies pool.old event result pool.new }
 {
     let place = known.place(event.act);
-    if !fits_at(pool, event.act, place) {
-        return Answer::Unfit;
-    }
     match event.act {
         Act::Begin => begin(pool, known, event.at),
         Act::Try(number) => try_get(pool, known, event.at, GetKey { number, place }),

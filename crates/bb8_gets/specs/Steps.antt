@@ -1,5 +1,5 @@
 -- The steps of a get on its home, each with what it was given and what it answered, and what each is in the words of the ledger.
-use Rattle.std.specs.Prelude.{ℕ, false, Some, None, Result}
+use Rattle.std.specs.Prelude.{ℕ, false, Some, None, Result, IfOk}
 use Rattle.bb8_types.specs.declared.api.moments.Moment.{Moment}
 use Rattle.bb8_types.specs.declared.reasons.Reason.{Reason}
 use Rattle.bb8_tables.specs.declared.keys.GetKey.{GetKey}
@@ -11,13 +11,14 @@ use Rattle.bb8_core.specs.declared.answers.BeginAnswer.{BeginAnswer}
 use Rattle.bb8_core.specs.declared.answers.CheckedErrAnswer.{CheckedErrAnswer}
 use Rattle.bb8_core.specs.declared.answers.GiveUpAnswer.{GiveUpAnswer}
 use Rattle.bb8_core.specs.declared.answers.Looked.{Looked}
-use Rattle.bb8_core.specs.StepAnswers.{begin_told, checked_err_told, give_up_told, look_told, reason_of}
+use Rattle.bb8_core.specs.StepAnswers.{begin_told, checked_err_told, give_up_told, look_told, reason_of, GivesBackHeld, GivesBackInvalid, HandsOut}
+use Rattle.bb8_core.specs.Asked.{OrComesBack, Stepped}
 use Rattle.bb8_core.specs.Shown.{Shown}
 use Rattle.bb8_gets.specs.declared.home.Passed.{Passed}
 use Rattle.bb8_gets.specs.declared.home.Returned.{Returned}
 use Rattle.bb8_gets.specs.declared.home.Tried.{Tried}
-use Rattle.bb8_gets.specs.declared.home.Unfit.{Unfit}
-use Rattle.bb8_gets.specs.Told.{answered, passed_told, tried_told, HandsBackHeld, HandsBackInvalid, HandsOutOf}
+use Rattle.bb8_core.specs.declared.asked.Unfit.{Unfit}
+use Rattle.bb8_gets.specs.Told.{in_core, passed_told, tried_told}
 
 -- Each step, by which get, with what is handed in, and its answer.
 pub data GetStep (C P : Type 0) : Type 0 where
@@ -30,15 +31,16 @@ pub data GetStep (C P : Type 0) : Type 0 where
   GivesBack : GetKey → Reason → Returned C P → Result (GiveUpAnswer C) C → GetStep C P
 
 module _ {C P : Type 0} (Makes : Shown C → ℕ → Act C → Answer → Shown C → Type 0) where
-  -- a step of a home that makes its events like this: the event and its answer, and which connection goes out or comes back
+  -- a step of a home that makes its events like this: the event and its answer, and which connection goes out or comes back; a step that does
+  -- not fit changes nothing
   abbrev pub StepsBy : Shown C → Moment → GetStep C P → Shown C → Type 0
   StepsBy s at (Looks seen) s' = Makes s at.0 acts.Look (look_told seen) s'
-  StepsBy s at (Begins b) s' = Makes s at.0 acts.Begin (answered begin_told b) s'
-  StepsBy s at (Tries get t) s' = Makes s at.0 (acts.Try get.number) (tried_told t) s' × HandsOutOf s t
-  StepsBy s at (Passes get key part a) s' = Makes s at.0 (acts.CheckedOk get.number) (passed_told s.records.next a) s'
+  StepsBy s at (Begins b) s' = Stepped Makes begin_told s at.0 acts.Begin b s'
+  StepsBy s at (Tries get t) s' = Stepped Makes tried_told s at.0 (acts.Try get.number) t s' × IfOk t (λ a. HandsOut s (in_core a))
+  StepsBy s at (Passes get key part a) s' = Stepped Makes (passed_told s.records.next) s at.0 (acts.CheckedOk get.number) a s'
   StepsBy s at (Fails get r a) s' =
-      Makes s at.0 (acts.CheckedErr get.number r.broken) (answered checked_err_told a) s' × HandsBackInvalid r.taken.connection a
-  StepsBy s at (GivesUp get why a) s' = Makes s at.0 (acts.GiveUp get.number (reason_of why) None false) (answered give_up_told a) s'
+      Stepped Makes checked_err_told s at.0 (acts.CheckedErr get.number r.broken) a s' × OrComesBack GivesBackInvalid r.taken.connection a
+  StepsBy s at (GivesUp get why a) s' = Stepped Makes give_up_told s at.0 (acts.GiveUp get.number (reason_of why) None false) a s'
   StepsBy s at (GivesBack get why r a) s' =
-      Makes s at.0 (acts.GiveUp get.number (reason_of why) (Some r.taken.connection) r.broken) (answered give_up_told a) s'
-      × HandsBackHeld r.taken.connection a
+      Stepped Makes give_up_told s at.0 (acts.GiveUp get.number (reason_of why) (Some r.taken.connection) r.broken) a s'
+      × OrComesBack (λ c. GivesBackHeld (Some c)) r.taken.connection a

@@ -6,18 +6,15 @@ ghost use Rattle.bb8_core.specs.declared.answers.BeginAnswer.{BeginAnswer as Beg
 ghost use Rattle.bb8_core.specs.declared.answers.BeginAnswer.TheVariants.{Begun};
 ghost use Rattle.bb8_core.specs.declared.answers.CheckedOkAnswer.TheVariants.{Served as IsServed};
 ghost use Rattle.bb8_gets.specs.declared.home.Tried.TheVariants.{Served};
-ghost use Rattle.bb8_gets.specs.declared.home.Unfit.{Unfit as UnfitOf};
+ghost use Rattle.bb8_core.specs.declared.asked.Unfit.{Unfit as UnfitOf};
 ghost use Rattle.bb8_gets.specs.Steps.{GetStep, Looks, Begins, Tries, Passes, Fails, GivesUp, GivesBack};
 
 use bb8_core::api::Moment;
+use bb8_core::asked::Unfit;
 use bb8_core::internals::{
     BeginAnswer, CheckedErrAnswer, CheckedOkAnswer, GetKey, GiveUpAnswer, Grant, Key, Looked,
     Reason,
 };
-
-/// The step does not fit, as the home knows no such get, or no handle is alive; nothing has changed. Our own.
-#[derive(Clone, Copy, Debug)]
-pub struct Unfit;
 
 /// A connection that is out, with what goes with it. It cannot be let go but by name. Our own.
 pub struct Taken<C, P> {
@@ -94,7 +91,8 @@ pub trait GetHome<C> {
     /// Looks at the home, and begins a get and serves it, all in one step, where the home can. Where it cannot it only looks; what may
     /// begin then could begin right after the look. Our own.
     fn serve(&mut self, at: Moment) -> (Looked, Option<(Taken<C, Self::Part>, Grant)>)
-        ensures served { IfSome result.1 (λ s. (looked : Self) × steps self.old at (Looks result.0) looked
+        ensures served { IfSome result.1 (λ s. (looked : Self)
+            × steps self.old at (Looks result.0) looked
             × ((g : GetKeyOf) × (between : Self)
             × steps looked result.0.moment (Begins (Ok (Begun g))) between
             × steps between result.0.moment (Tries g (Ok (Served s.0 s.1))) self.new)) }

@@ -2,10 +2,11 @@
 ghost use Rattle.std.specs.Prelude.{◌≡◌};
 ghost use Rattle.bb8_gets.specs.Steps.{Fails, GivesBack};
 
-use super::home::{GetHome, Passed, Returned, Taken, Tried, Unfit};
+use super::home::{GetHome, Passed, Returned, Taken, Tried};
 use super::outside::Outside;
 use bb8_core::Joined;
 use bb8_core::api::Moment;
+use bb8_core::asked::Unfit;
 use bb8_core::internals::{
     BeginAnswer, CheckedErrAnswer, GetKey, GiveUpAnswer, Grant, Key, Looked, Reason,
 };
@@ -77,7 +78,8 @@ impl<C, W, H: GetHome<C>> GetHome<C> for Joined<W, H> {
         reason: Reason,
         returned: Returned<C, H::Part>,
     ) -> Result<GiveUpAnswer<C>, C>
-        ensures home { H.steps self.old.home at (GivesBack get reason returned result) self.new.home }
+        ensures home { H.steps self.old.home at (GivesBack get reason returned result)
+            self.new.home }
         ensures outside { self.new.outside ≡ self.old.outside }
     {
         self.home.give_back(at, get, reason, returned)

@@ -11,7 +11,7 @@ mod state;
 
 pub use bb8_core::Joined;
 pub use calls::Calls;
-pub use home::{GetHome, Passed, Returned, Taken, Tried, Unfit};
+pub use home::{GetHome, Passed, Returned, Taken, Tried};
 pub use outside::Outside;
 pub use rows::ask;
 pub use state::{Begun, GetState, Held, Next, Settled, Stage};

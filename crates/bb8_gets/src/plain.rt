@@ -1,20 +1,20 @@
 //! The plain state of a pool as a home of gets.
 ghost use Rattle.std.specs.Prelude.{◌≡◌, Some};
 ghost use Rattle.bb8_ledger.specs.Acts as acts;
-ghost use Rattle.bb8_core.specs.PlainSteps.{Steps};
-ghost use Rattle.bb8_core.specs.StepAnswers.{checked_err_told, give_up_told, reason_of};
+ghost use Rattle.bb8_core.specs.Asked.{OrComesBack, Stepped};
+ghost use Rattle.bb8_core.specs.Shown.{Steps};
+ghost use Rattle.bb8_core.specs.StepAnswers.{checked_err_told, give_up_told, reason_of, GivesBackHeld, GivesBackInvalid};
 ghost use Rattle.bb8_gets.specs.Steps.{StepsBy};
-ghost use Rattle.bb8_gets.specs.Told.{answered, HandsBackHeld, HandsBackInvalid};
 
-use super::home::{GetHome, Passed, Returned, Taken, Tried, Unfit};
+use super::home::{GetHome, Passed, Returned, Taken, Tried};
 use bb8_core::api::Moment;
+use bb8_core::asked::{self, Unfit};
 use bb8_core::internals::{
     BeginAnswer, CheckedErrAnswer, GetKey, GiveUpAnswer, Key, Looked, PoolInternals, Reason,
     TryAnswer,
 };
 
-/// Each step asks first whether it fits, and answers `Unfit`, or hands the connection back, and changes nothing where it does not. A
-/// connection comes with nothing.
+/// A connection comes with nothing.
 impl<C: Drop> GetHome<C> for PoolInternals<C> {
     type Part = ();
 
@@ -26,22 +26,17 @@ impl<C: Drop> GetHome<C> for PoolInternals<C> {
     fn release(&mut self) {}
 
     fn look(&mut self, at: Moment) -> Looked {
+        self.limits();
         PoolInternals::look(self, at)
     }
 
     fn begin(&mut self, at: Moment) -> Result<BeginAnswer, Unfit> {
-        if !self.fits_begin() {
-            return Err(Unfit);
-        }
-        Ok(PoolInternals::begin(self, at))
+        asked::begin(self, at)
     }
 
     fn try_get(&mut self, at: Moment, get: GetKey) -> Result<Tried<C, ()>, Unfit> {
-        if !self.fits_try(get) {
-            return Err(Unfit);
-        }
         let part = ();
-        match PoolInternals::try_get(self, at, get) {
+        match asked::try_get(self, at, get)? {
             TryAnswer::Served(key, connection, grant) => Ok(Tried::Served(
                 Taken {
                     key,
@@ -69,10 +64,7 @@ impl<C: Drop> GetHome<C> for PoolInternals<C> {
         key: Key,
         part: (),
     ) -> Result<Passed<()>, Unfit> {
-        if !self.fits_checked_ok(get) {
-            return Err(Unfit);
-        }
-        Ok(Passed::of(PoolInternals::checked_ok(self, at, get, key.place), part))
+        Ok(Passed::of(asked::checked_ok(self, at, get, key.place)?, part))
     }
 
     fn checked_err(
@@ -81,9 +73,9 @@ impl<C: Drop> GetHome<C> for PoolInternals<C> {
         get: GetKey,
         returned: Returned<C, ()>,
     ) -> Result<CheckedErrAnswer<C>, C>
-        ensures step { Steps self.old at.0 (acts.CheckedErr get.number returned.broken)
-            (answered checked_err_told result) self.new }
-        ensures connection { HandsBackInvalid returned.taken.connection result }
+        ensures step { Stepped Steps checked_err_told self.old at.0
+            (acts.CheckedErr get.number returned.broken) result self.new }
+        ensures connection { OrComesBack GivesBackInvalid returned.taken.connection result }
     {
         let Returned { taken, broken } = returned;
         let Taken {
@@ -91,10 +83,7 @@ impl<C: Drop> GetHome<C> for PoolInternals<C> {
             connection,
             part: (),
         } = taken;
-        if !self.fits_checked_err(get) {
-            return Err(connection);
-        }
-        Ok(PoolInternals::checked_err(self, at, get, connection, broken, key.place))
+        asked::checked_err(self, at, get, connection, broken, key.place)
     }
 
     fn give_up(
@@ -103,10 +92,7 @@ impl<C: Drop> GetHome<C> for PoolInternals<C> {
         get: GetKey,
         reason: Reason,
     ) -> Result<GiveUpAnswer<C>, Unfit> {
-        if !self.fits_give_up(get, false) {
-            return Err(Unfit);
-        }
-        Ok(PoolInternals::give_up(self, at, get, reason, None, false, 0))
+        asked::give_up(self, at, get, reason, false)
     }
 
     fn give_back(
@@ -116,10 +102,11 @@ impl<C: Drop> GetHome<C> for PoolInternals<C> {
         reason: Reason,
         returned: Returned<C, ()>,
     ) -> Result<GiveUpAnswer<C>, C>
-        ensures step { Steps self.old at.0
+        ensures step { Stepped Steps give_up_told self.old at.0
             (acts.GiveUp get.number (reason_of reason) (Some returned.taken.connection)
-            returned.broken) (answered give_up_told result) self.new }
-        ensures connection { HandsBackHeld returned.taken.connection result }
+            returned.broken) result self.new }
+        ensures connection { OrComesBack (λ c. GivesBackHeld (Some c))
+            returned.taken.connection result }
     {
         let Returned { taken, broken } = returned;
         let Taken {
@@ -127,9 +114,6 @@ impl<C: Drop> GetHome<C> for PoolInternals<C> {
             connection,
             part: (),
         } = taken;
-        if !self.fits_give_up(get, true) {
-            return Err(connection);
-        }
-        Ok(PoolInternals::give_up(self, at, get, reason, Some(connection), broken, key.place))
+        asked::give_back(self, at, get, reason, connection, broken, key.place)
     }
 }

@@ -5,10 +5,11 @@ ghost use Rattle.std.specs.Prelude.{◌≡◌};
 ghost use Rattle.std.specs.Duration.{as_nanos};
 ghost use Rattle.bb8_gets.specs.Polls.{IsDeadline, closed_in, AfterGiveUp, Asks, CheckFails, Checks, Tries, GetBegins, GetAdvances, DropsAfterStep, LeavesLine, TakesBack, TimesOut, Settles, EndsPoll, Starts, Goes};
 
-use super::home::{GetHome, Passed, Returned, Taken, Tried, Unfit};
+use super::home::{GetHome, Passed, Returned, Taken, Tried};
 use super::outside::Outside;
 use super::state::{Begun, Held, Next, Settled, Stage};
 use bb8_core::api::{Moment, RunError};
+use bb8_core::asked::Unfit;
 use bb8_core::internals::{BeginAnswer, CheckedErrAnswer, GetKey, GiveUpAnswer, Reason};
 use futures::task::Poll;
 use std::time::Duration;

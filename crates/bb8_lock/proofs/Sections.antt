@@ -1,6 +1,6 @@
 -- What holds of the sections of a pool.
-use Rattle.bb8_lock.proofs.Words.{◌≡◌, ℕ, ◌+◌, ◌^◌, ◌<◌, ◌≤◌, length, Bool, true, false, Option, Some, None, refl, sym, ap, ◌∙◌, arith, Settings, settings_of, is_lawful, Ledger, Later, next, records, checked_err_told, give_up_told, put_back_told, add_told, fits, out_of, Moves}
-use Rattle.std.proofs.Common.{IfNone, is_some}
+use Rattle.bb8_lock.proofs.Words.{◌≡◌, subst, ℕ, ◌+◌, ◌^◌, ◌<◌, ◌≤◌, length, Bool, true, false, Option, Some, None, refl, sym, ap, ◌∙◌, arith, Settings, settings_of, is_lawful, Ledger, Later, next, records, checked_err_told, give_up_told, put_back_told, add_told, fits, out_of, Moves}
+use Rattle.std.proofs.Common.{IfNone, IfOk, Result, Ok, Err, is_some}
 use Rattle.bb8_core.specs.declared.answers.GiveUpAnswer.{GiveUpAnswer}
 use Rattle.bb8_core.specs.declared.answers.GiveUpAnswer.TheVariants as given_back
 use Rattle.bb8_core.specs.declared.answers.CheckedErrAnswer.{CheckedErrAnswer}
@@ -14,13 +14,13 @@ use Rattle.bb8_types.specs.declared.grants.Grant.{Grant}
 use Rattle.bb8_ledger.specs.Acts.{Act, CheckedErr, GiveUp, PutBack, Fill, Add, Reason}
 use Rattle.bb8_ledger.specs.Answers as answers
 use Rattle.bb8_ledger.specs.Answers.{Answer, Broken, Granted, Unfit}
-use Rattle.bb8_ledger.specs.Table.{Allowed, IsLegal, Row, fills, add_broken, gives_up}
-use Rattle.bb8_core.specs.Shown.{Shown, Means, Meets, IsFitting, HasLedger, IsWithinLimits}
+use Rattle.bb8_ledger.specs.Table.{Allowed, Row, fills, add_broken, gives_up}
+use Rattle.bb8_core.specs.Shown.{Shown, Means, Meets, HasLedger, IsWithinLimits, Steps}
+use Rattle.bb8_core.specs.Asked.{answered, Stepped}
 use Rattle.bb8_core.specs.Run.{opening}
 use Rattle.bb8_lock.specs.Sections.{IsSorted}
 use Rattle.bb8_core.proofs.Parts.{counted}
 use Rattle.bb8_ledger.proofs.Effects.{by_fit}
-use Rattle.bb8_core.proofs.Runs.{unfit_now}
 use Rattle.bb8_ledger.proofs.Laws.{keeps_limits, keeps_laws, keeps_promises}
 
 -- where there is none, this follows from that
@@ -40,15 +40,10 @@ refuses_broken Broken = true
 refuses_broken _ = false
 
 module _ {C : Type 0} where
-  -- Such an event fits each legal ledger that the state means, or none.
-  abbrev pub Says : Shown C → Act C → Bool → Type 0
-  Says s e b = (l : Ledger C) → IsLegal l → Means l s → b ≡ fits l e
-
-  pub fitting : (s : Shown C) (e : Act C) → Says s e true → IsFitting s e
-  fitting s e says = λ l legal means. sym (says l legal means)
-
-  pub unfit_step : (s : Shown C) (at : ℕ) (e : Act C) → Says s e false → Meets s at e Unfit s
-  unfit_step s at e says = λ l legal means. unfit_now l s at e (sym (says l legal means)) means
+  -- a step that is answered so is made
+  pub met : {A U : Type 0} (told : A → Answer) {old new : Shown C} (at : ℕ) (e : Act C) {r : Result A U} {x : A} → r ≡ Ok x
+      → IsWithinLimits old → Stepped Meets told old at e r new → Steps old at e (told x) new
+  met {U = U} told {old} {new} at e is within step = (within, subst (λ q. Meets old at e (answered {U = U} told q) new) is step.0)
 
   -- a step leads to a state that has a ledger
   pub follows : (s new : Shown C) (at : ℕ) (e : Act C) (a : Answer) → HasLedger s → Meets s at e a new → HasLedger new
@@ -59,50 +54,50 @@ module _ {C : Type 0} where
   within s h = (h, λ l legal means. (keeps_limits l legal, keeps_laws l legal, keeps_promises l legal))
 
   -- a step that moves nothing leaves the parts as they are
-  pub unmoved : (old new : Shown C) (at : ℕ) (e : Act C) (a : Answer) (rest : ℕ) → HasLedger old → Meets old at e a new
+  pub unmoved : (old new : Shown C) (at : ℕ) (e : Act C) (a : Answer) (rest : ℕ) → Steps old at e a new
       → (Moves e a (out_of old) (out_of new) → out_of new ≡ out_of old) → out_of old + rest ≡ old.config.max_size
       → out_of new + rest ≡ new.config.max_size
-  unmoved old new at e a rest h meets same parts =
-      let k = counted old at e a new h meets in
+  unmoved old new at e a rest s same parts =
+      let k = counted old at e a new s.0.0 s.1 in
       let size : new.config.max_size ≡ old.config.max_size = ap (λ (c : Settings). c.max_size) k.config in
       let moved : out_of new ≡ out_of old = same k.moves in
       omega (arith, moved, size, parts)
 
   -- no step changes the settings
-  pub kept_settings : (old new : Shown C) (at : ℕ) (e : Act C) (a : Answer) (settings : Settings) → HasLedger old → Meets old at e a new → old.config ≡ settings → new.config ≡ settings
-  kept_settings old new at e a settings h meets is = (counted old at e a new h meets).config ∙ is
+  pub kept_settings : (old new : Shown C) (at : ℕ) (e : Act C) (a : Answer) (settings : Settings) → Steps old at e a new → old.config ≡ settings → new.config ≡ settings
+  kept_settings old new at e a settings s is = (counted old at e a new s.0.0 s.1).config ∙ is
 
   -- a step that moves nothing leaves the parts and the settings as they are
-  pub all_kept : {old new : Shown C} (at : ℕ) (e : Act C) (a : Answer) (rest : ℕ) {settings : Settings} → HasLedger old → Meets old at e a new
+  pub all_kept : {old new : Shown C} (at : ℕ) (e : Act C) (a : Answer) (rest : ℕ) {settings : Settings} → Steps old at e a new
       → (Moves e a (out_of old) (out_of new) → out_of new ≡ out_of old) → out_of old + rest ≡ old.config.max_size → old.config ≡ settings
       → (out_of new + rest ≡ new.config.max_size) × (new.config ≡ settings)
-  all_kept {old} {new} at e a rest {settings} h meets same parts is = (unmoved old new at e a rest h meets same parts, kept_settings old new at e a settings h meets is)
+  all_kept {old} {new} at e a rest {settings} s same parts is = (unmoved old new at e a rest s same parts, kept_settings old new at e a settings s is)
 
   -- where one more goes out there is a part for it
-  pub has_part : (old new : Shown C) (at : ℕ) (e : Act C) (a : Answer) (rest : ℕ) → HasLedger old → Meets old at e a new
+  pub has_part : (old new : Shown C) (at : ℕ) (e : Act C) (a : Answer) (rest : ℕ) → Steps old at e a new
       → (Moves e a (out_of old) (out_of new) → out_of new ≡ out_of old + 1) → out_of old + rest ≡ old.config.max_size → 1 ≤ rest
-  has_part old new at e a rest h meets more parts =
-      let k = counted old at e a new h meets in
+  has_part old new at e a rest s more parts =
+      let k = counted old at e a new s.0.0 s.1 in
       let size : new.config.max_size ≡ old.config.max_size = ap (λ (c : Settings). c.max_size) k.config in
       let moved : out_of new ≡ out_of old + 1 = more k.moves in
       omega (arith, moved, size, parts, k.few)
 
   -- one more goes out with a part
-  pub gone_out : (old new : Shown C) (at : ℕ) (e : Act C) (a : Answer) (rest less : ℕ) → HasLedger old → Meets old at e a new
+  pub gone_out : (old new : Shown C) (at : ℕ) (e : Act C) (a : Answer) (rest less : ℕ) → Steps old at e a new
       → (Moves e a (out_of old) (out_of new) → out_of new ≡ out_of old + 1) → out_of old + rest ≡ old.config.max_size → less + 1 ≡ rest
       → out_of new + less ≡ new.config.max_size
-  gone_out old new at e a rest less h meets more parts split =
-      let k = counted old at e a new h meets in
+  gone_out old new at e a rest less s more parts split =
+      let k = counted old at e a new s.0.0 s.1 in
       let size : new.config.max_size ≡ old.config.max_size = ap (λ (c : Settings). c.max_size) k.config in
       let moved : out_of new ≡ out_of old + 1 = more k.moves in
       omega (arith, moved, size, parts, split)
 
   -- one comes back with its part
-  pub come_back : (old new : Shown C) (at : ℕ) (e : Act C) (a : Answer) (rest : ℕ) → HasLedger old → Meets old at e a new
+  pub come_back : (old new : Shown C) (at : ℕ) (e : Act C) (a : Answer) (rest : ℕ) → Steps old at e a new
       → (Moves e a (out_of old) (out_of new) → out_of new + 1 ≡ out_of old) → out_of old + rest ≡ old.config.max_size
       → out_of new + (rest + 1) ≡ new.config.max_size
-  come_back old new at e a rest h meets less parts =
-      let k = counted old at e a new h meets in
+  come_back old new at e a rest s less parts =
+      let k = counted old at e a new s.0.0 s.1 in
       let size : new.config.max_size ≡ old.config.max_size = ap (λ (c : Settings). c.max_size) k.config in
       let moved : out_of new + 1 ≡ out_of old = less k.moves in
       omega (arith, moved, size, parts)
@@ -121,19 +116,27 @@ module _ {C : Type 0} where
   sorted_as (adding.Broken c) b is = sym is
   sorted_as _ b is = sym is
 
-  pub add_sorted : (old new : Shown C) (at : ℕ) (c : C) (b : Bool) (answer : AddAnswer C) → HasLedger old → Says old (Add c b) true → Meets old at (Add c b) (add_told answer) new → IsSorted b answer
-  add_sorted old new at c b answer h says meets =
+  adds_fit : (answer : AddAnswer C) (P : Type 0) → add_told answer ≡ Unfit → P
+  adds_fit (adding.Added k n) P is = cc
+  adds_fit (adding.Broken c) P is = cc
+  adds_fit (adding.NoCapacity c) P is = cc
+  adds_fit (adding.Withheld c) P is = cc
+
+  pub add_sorted : {old new : Shown C} (at : ℕ) (c : C) (b : Bool) (r : Result (AddAnswer C) C)
+      → Steps old at (Add c b) (answered add_told r) new → IfOk r (IsSorted b)
+  add_sorted at c b (Err same) s = tt
+  add_sorted at c b (Ok answer) s =
       sorted_as answer b
-      (by_fit (fits h.0 (Add c b)) _ _ (refuses_broken (add_told answer) ≡ b) (meets h.0 h.1 h.2).0
+      (let h = s.0.0 in by_fit (fits h.0 (Add c b)) _ _ (refuses_broken (add_told answer) ≡ b) (s.1 h.0 h.1 h.2).0
       (λ f row. add_row h.0 at c b (add_told answer) row)
-      (λ f is. absurd (let clash : true ≡ false = says h.0 h.1 h.2 ∙ f in cc)))
+      (λ f is. adds_fit answer (refuses_broken (add_told answer) ≡ b) is))
 
   -- a new state keeps its settings as its first approvals are granted
   pub begun_settings : (config : Config) (first first_get : ℕ) (old new : Shown C) (at : ℕ) (claimed : Bool) (grant : Grant)
       → is_lawful (settings_of config) ≡ true → Means (opening config first first_get) old → Meets old at (Fill claimed) (Granted grant) new
       → new.config ≡ settings_of config
   begun_settings config first first_get old new at claimed grant lawful means meets =
-      kept_settings old new at (Fill claimed) (Granted grant) (settings_of config) (opening config first first_get, lawful, means) meets
+      kept_settings old new at (Fill claimed) (Granted grant) (settings_of config) (within old (opening config first first_get, lawful, means), meets)
       (ap (λ (s : Shown C). s.config) (sym means))
 
   -- a new state has nothing out, also once its first approvals are granted
@@ -149,24 +152,32 @@ module _ {C : Type 0} where
   give_up_row l at g why _ b _ (gives_up who) = refl
   give_up_row l at g why _ b _ _ = refl
 
-  pub given_up : (old new : Shown C) (at g : ℕ) (why : Reason) (held : Option C) (b : Bool) (a : Answer) → HasLedger old
-      → Says old (GiveUp g why held b) true → Meets old at (GiveUp g why held b) a new → brings_back a ≡ is_some held
-  given_up old new at g why held b a h says meets =
-      by_fit (fits h.0 (GiveUp g why held b)) _ _ (brings_back a ≡ is_some held) (meets h.0 h.1 h.2).0
-      (λ f row. give_up_row h.0 at g why held b a row)
-      (λ f is. absurd (let clash : true ≡ false = says h.0 h.1 h.2 ∙ f in cc))
+  given_up : {old new : Shown C} (at g : ℕ) (why : Reason) (held : Option C) (b : Bool) (a : Answer)
+      → Steps old at (GiveUp g why held b) a new → (a ≡ Unfit → brings_back a ≡ is_some held) → brings_back a ≡ is_some held
+  given_up at g why held b a s unfit =
+      let h = s.0.0 in
+      by_fit (fits h.0 (GiveUp g why held b)) _ _ (brings_back a ≡ is_some held) (s.1 h.0 h.1 h.2).0
+      (λ f row. give_up_row h.0 at g why held b a row) (λ f is. unfit is)
 
-  -- a give-up that brings none back moves nothing
-  pub gave_up : (g : ℕ) (why : Reason) (held : Option C) (b : Bool) (answer : GiveUpAnswer C) (before after : ℕ) → brings_back (give_up_told answer) ≡ false
-      → Moves (GiveUp g why held b) (give_up_told answer) before after → after ≡ before
-  gave_up g why held b (given_back.GaveUp n) before after none moves = moves
-  gave_up g why held b _ before after none moves = absurd (let clash : true ≡ false = none in cc)
+  -- so one into which none is handed in moves nothing
+  pub gave_up : {old new : Shown C} (at g : ℕ) (why : Reason) (b : Bool) {U : Type 0} (r : Result (GiveUpAnswer C) U) (before after : ℕ)
+      → Steps old at (GiveUp g why None b) (answered give_up_told r) new → Moves {C = C} (GiveUp g why None b) (answered give_up_told r) before after
+      → after ≡ before
+  gave_up at g why b (Err u) before after s moves = moves
+  gave_up at g why b (Ok (given_back.GaveUp n)) before after s moves = moves
+  gave_up at g why b (Ok (given_back.Kept k n)) before after s moves =
+      let none : true ≡ false = given_up at g why None b _ s (λ is. cc) in absurd cc
+  gave_up at g why b (Ok (given_back.Closed k c grant n)) before after s moves =
+      let none : true ≡ false = given_up at g why None b _ s (λ is. cc) in absurd cc
 
-  -- one that brings a connection back brings one
-  pub gave_back : (g : ℕ) (why : Reason) (held : Option C) (b : Bool) (answer : GiveUpAnswer C) (before after : ℕ) → brings_back (give_up_told answer) ≡ true
-      → Moves (GiveUp g why held b) (give_up_told answer) before after → after + 1 ≡ before
-  gave_back g why held b (given_back.GaveUp n) before after some moves = absurd (let clash : false ≡ true = some in cc)
-  gave_back g why held b _ before after some moves = moves
+  -- and one into which a connection is handed in brings it back
+  pub gave_back : {old new : Shown C} (at g : ℕ) (why : Reason) (c : C) (b : Bool) (answer : GiveUpAnswer C) (before after : ℕ)
+      → Steps old at (GiveUp g why (Some c) b) (give_up_told answer) new → Moves (GiveUp g why (Some c) b) (give_up_told answer) before after
+      → after + 1 ≡ before
+  gave_back at g why c b (given_back.GaveUp n) before after s moves =
+      let some : false ≡ true = given_up at g why (Some c) b _ s (λ is. cc) in absurd cc
+  gave_back at g why c b (given_back.Kept k n) before after s moves = moves
+  gave_back at g why c b (given_back.Closed k d grant n) before after s moves = moves
 
   -- the failing of a check brings one back
   pub failed_back : (g : ℕ) (b : Bool) (answer : CheckedErrAnswer C) (before after : ℕ) → Moves {C = C} (CheckedErr g b) (checked_err_told answer) before after → after + 1 ≡ before

@@ -1,5 +1,5 @@
 -- The words that the proofs speak with.
-pub use Rattle.bb8_tasks.proofs.Words.{◌≡◌, ℕ, ◌+◌, ◌^◌, ◌<◌, ◌≤◌, length, Bool, true, false, Option, Some, None, refl, sym, ap, ◌∙◌, arith, fits, as_nanos}
+pub use Rattle.bb8_tasks.proofs.Words.{subst, ◌≡◌, ℕ, ◌+◌, ◌^◌, ◌<◌, ◌≤◌, length, Bool, true, false, Option, Some, None, refl, sym, ap, ◌∙◌, arith, fits, as_nanos}
 pub use Rattle.bb8_types.specs.Settings.{Settings, settings_of, is_lawful}
 pub use Rattle.bb8_ledger.specs.Ledger.{Ledger, Later, next, records, opening_with}
 pub use Rattle.bb8_core.specs.StepAnswers.{checked_err_told, give_up_told, put_back_told, add_told, reason_of}

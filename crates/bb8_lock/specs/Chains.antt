@@ -9,7 +9,7 @@ use Rattle.bb8_core.specs.declared.answers.Looked.{Looked}
 use Rattle.bb8_core.specs.declared.answers.PutBackAnswer.{PutBackAnswer}
 use Rattle.bb8_core.specs.declared.answers.PutBackAnswer.TheVariants as put_back
 use Rattle.bb8_gets.specs.declared.home.Returned.{Returned}
-use Rattle.bb8_gets.specs.declared.home.Unfit.{Unfit}
+use Rattle.bb8_core.specs.declared.asked.Unfit.{Unfit}
 use Rattle.bb8_gets.specs.Steps as step
 use Rattle.bb8_lock.specs.SectionSteps as section
 

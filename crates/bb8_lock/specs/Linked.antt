@@ -1,9 +1,8 @@
 -- What gets, guards and handles do on a pool: the tables at what a pool's lock holds, while it is held, and at the pool's own manager, error sink
 -- and clock.
 use Rattle.std.specs.Prelude.{◌≡◌, ℕ, None, Option, Some, Result, Ok, Err, ⊤}
-use Rattle.bb8_lock.specs.Words.{MutexGuard, DebugOf, Poll, Ready, Pending, Moment, AddError, RunError, State, ManagerOf, SinkOf, CustomizerOf, ClockOf, settings_of, HomeOf, Taken, Joined, OutsideOf, Settled, Stage, Joining, SectionsOf, Locked, Part, PartsOf, LinkHome, Shared, StepsIn, answered, GetPolls, Cancels}
+use Rattle.bb8_lock.specs.Words.{MutexGuard, DebugOf, Poll, Ready, Pending, Moment, AddError, RunError, State, ManagerOf, SinkOf, CustomizerOf, ClockOf, settings_of, HomeOf, Taken, Joined, OutsideOf, Settled, Stage, Joining, SectionsOf, Locked, Part, PartsOf, LinkHome, Shared, StepsIn, GetPolls, Cancels}
 use Rattle.std.specs.Sync.Mutex.{mutex_guard_value}
-use Rattle.bb8_ledger.specs.Answers as answers
 use Rattle.bb8_gets.specs.declared.calls.Calls.{Calls}
 use Rattle.bb8_gets.specs.declared.state.Stage.TheVariants.{Fresh}
 use Rattle.bb8_lock.specs.Chains.{AddsOutside, CancelsAndLeaves, Joins, HandleLeaves, Returns, ReturnsAndLeaves, Shows, TakesNow}

@@ -1,29 +1,20 @@
 -- What the sections of a pool are and answer, in the words of the ledger.
-use Rattle.std.specs.Prelude.{◌≡◌, ◌≤◌, Bool, true, false, Result, Ok, Err, IfOk}
-use Rattle.bb8_lock.specs.Words.{AddAnswer, Joining, Answer, Moment, Settings, StepsIn, answered, add_told, leave_told, put_back_told, GivesBack, Refuses}
+use Rattle.std.specs.Prelude.{◌≡◌, ◌≤◌, Bool, true, false, IfOk}
+use Rattle.bb8_lock.specs.Words.{AddAnswer, Joining, Answer, Moment, Settings, StepsIn, add_told, leave_told, put_back_told, GivesBack, Refuses}
 use Rattle.bb8_core.specs.declared.answers.AddAnswer.TheVariants as adding
 use Rattle.bb8_lock.specs.declared.section_home.Joining.TheVariants as joining
 use Rattle.bb8_types.specs.Figures.{figures_of}
 use Rattle.bb8_ledger.specs.Acts as acts
 use Rattle.bb8_ledger.specs.Answers as answers
+use Rattle.bb8_core.specs.Asked.{OrComesBack, Stepped}
 use Rattle.bb8_core.specs.Shown.{Shown}
 use Rattle.bb8_lock.specs.SectionSteps.{SectionStep, PutsBack, Adds, Shows, Joins, Leaves}
-
--- the answer of a section that hands back a connection where it does not fit
-abbrev pub returned : {A C : Type 0} → (A → Answer) → Result A C → Answer
-returned told (Ok a) = told a
-returned told (Err c) = answers.Unfit
 
 -- the answer to the making of a handle
 abbrev pub joining_told : Joining → Answer
 joining_told (joining.Joined handle) = answers.Joined
 joining_told joining.Exhausted = answers.Exhausted
 joining_told joining.Unfit = answers.Unfit
-
--- what holds of the answer where the section fits, and of the connection where it does not
-abbrev pub OnFit : {A C : Type 0} → (A → Type 0) → (C → Type 0) → Result A C → Type 0
-OnFit Fits Back (Ok a) = Fits a
-OnFit Fits Back (Err c) = Back c
 
 -- an adding is refused as broken just where the connection was found broken
 abbrev pub IsSorted : {C : Type 0} → Bool → AddAnswer C → Type 0
@@ -34,13 +25,12 @@ module _ {C P : Type 0} (settings : Settings) where
   -- a section of a pool with these settings: its event and answer, which connection comes back, and what is told
   abbrev pub SectionsBy : Shown C → Moment → SectionStep C P → Shown C → Type 0
   SectionsBy s at (PutsBack r a) s' =
-      StepsIn settings s at.0 (acts.PutBack r.taken.key.number r.taken.connection r.broken) (returned (put_back_told r.taken.key.number) a) s'
-      × OnFit (GivesBack r.taken.connection) (λ c. c ≡ r.taken.connection) a
+      Stepped (StepsIn settings) (put_back_told r.taken.key.number) s at.0 (acts.PutBack r.taken.key.number r.taken.connection r.broken) a s'
+      × OrComesBack GivesBack r.taken.connection a
   SectionsBy s at (Adds conn broken a) s' =
-      StepsIn settings s at.0 (acts.Add conn broken) (returned add_told a) s' × OnFit (Refuses conn) (λ same. same ≡ conn) a
-      × IfOk a (IsSorted broken)
+      Stepped (StepsIn settings) add_told s at.0 (acts.Add conn broken) a s' × OrComesBack Refuses conn a × IfOk a (IsSorted broken)
   SectionsBy s at (Shows state) s' =
       StepsIn settings s at.0 acts.State (answers.Shown (figures_of state)) s'
       × (state.connections ≤ settings.max_size) × (state.idle_connections ≤ state.connections)
   SectionsBy s at (Joins a) s' = StepsIn settings s at.0 acts.Join (joining_told a) s'
-  SectionsBy s at (Leaves a) s' = StepsIn settings s at.0 acts.Leave (answered leave_told a) s'
+  SectionsBy s at (Leaves a) s' = Stepped (StepsIn settings) leave_told s at.0 acts.Leave a s'

@@ -26,7 +26,7 @@ pub use Rattle.bb8_lock.specs.declared.locked.Parts.{Ghosts as PartsOf}
 pub use Rattle.bb8_lock.specs.declared.link.LinkHome.{LinkHome}
 pub use Rattle.bb8_lock.specs.declared.shared.Shared.{Shared}
 pub use Rattle.bb8_gets.specs.Homes.{StepsIn}
-pub use Rattle.bb8_gets.specs.Told.{answered, passed_told, tried_told, HandsBackHeld, HandsBackInvalid, HandsOutOf}
+pub use Rattle.bb8_gets.specs.Told.{in_core, tried_told}
 pub use Rattle.std.specs.Duration.{as_nanos}
 pub use Rattle.bb8_types.specs.declared.api.clocks.Clock.{Ghosts as ClockOf}
 pub use Rattle.bb8_types.specs.declared.api.sinks.ErrorSink.{Ghosts as SinkOf}

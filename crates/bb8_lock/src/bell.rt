@@ -1,10 +1,9 @@
 //! A lock with bells: a thread that waits for what another one does under the lock sleeps until a bell is rung.
 
 use bb8_core::internals::{
-    AddAnswer, CheckedErrAnswer, GiveUpAnswer, Grant, Looked, PutBackAnswer,
+    AddAnswer, CheckedErrAnswer, GiveUpAnswer, Grant, Looked, OpenedAnswer, PutBackAnswer,
 };
 use bb8_gets::{Taken, Tried};
-use bb8_tasks::OpenedStep;
 use std::sync::{Condvar, Mutex, Wait};
 use std::time::Duration;
 
@@ -204,11 +203,11 @@ impl<C> Notifies for GiveUpAnswer<C> {
     }
 }
 
-impl<C> Notifies for OpenedStep<C> {
+impl<C> Notifies for OpenedAnswer<C> {
     fn notifies(&self) -> bool {
         match self {
-            OpenedStep::Entered(notified) => notified.is_some(),
-            OpenedStep::Late(_) | OpenedStep::Unfit(_) => false,
+            OpenedAnswer::Entered(notified) => notified.is_some(),
+            OpenedAnswer::Late(_) => false,
         }
     }
 }

@@ -1,33 +1,30 @@
 //! What a pool's lock holds as a home of gets.
 ghost use Rattle.std.specs.Prelude.{◌≡◌, Some, IfSome, IfNone};
 ghost use Rattle.bb8_ledger.specs.Acts as acts;
-ghost use Rattle.bb8_core.specs.StepAnswers.{checked_err_told, give_up_told, reason_of};
+ghost use Rattle.bb8_core.specs.Asked.{OrComesBack, Stepped};
+ghost use Rattle.bb8_core.specs.StepAnswers.{checked_err_told, give_up_told, reason_of, GivesBackHeld, GivesBackInvalid};
 ghost use Rattle.bb8_gets.specs.Homes.{StepsIn};
 ghost use Rattle.bb8_lock.specs.Serving.{ServesNow};
 ghost use Rattle.bb8_gets.specs.Steps.{StepsBy};
-ghost use Rattle.bb8_gets.specs.Told.{answered, HandsBackHeld, HandsBackInvalid};
 
 use crate::locked::{Locked, Part, Parts};
 use bb8_core::api::Moment;
+use bb8_core::asked::{self, Unfit};
 use bb8_core::internals::{
     AtOnce, BeginAnswer, CheckedErrAnswer, GetKey, GiveUpAnswer, Grant, Key, Looked, Reason,
     TryAnswer,
 };
-use bb8_gets::{GetHome, Passed, Returned, Taken, Tried, Unfit};
+use bb8_gets::{GetHome, Passed, Returned, Taken, Tried};
 
 impl<C: Drop, L: Parts> Locked<C, L> {
     /// Begins a get and serves it, where that takes no memory. Where it does not, nothing has changed.
     #[inline(always)]
     fn serve_now(&mut self, at: Moment) -> Option<(Taken<C, Part<L>>, Grant)>
-        ensures served { IfSome result (λ s. ServesNow L.settings self.old at.0 s.0 s.1 self.new) }
+        ensures served { IfSome result (λ s. ServesNow L.settings self.old at s.0 s.1 self.new) }
         ensures none { IfNone result (self.new.core ≡ self.old.core) }
     {
-        self.limits();
         let Locked { core, rest, .. } = self;
-        if !core.fits_at_once() {
-            return None;
-        }
-        match core.serve_at_once(at) {
+        match asked::serve_at_once(core, at) {
             None => None,
             Some(
                 AtOnce {
@@ -74,23 +71,16 @@ impl<C: Drop, L: Parts> GetHome<C> for Locked<C, L> {
     }
 
     fn begin(&mut self, at: Moment) -> Result<BeginAnswer, Unfit> {
-        self.limits();
         let Locked { core, .. } = self;
-        if !core.fits_begin() {
-            return Err(Unfit);
-        }
-        Ok(core.begin(at))
+        asked::begin(core, at)
     }
 
     fn try_get(&mut self, at: Moment, get: GetKey) -> Result<Tried<C, Part<L>>, Unfit> {
-        self.limits();
         let Locked { core, rest, .. } = self;
-        if !core.fits_try(get) {
-            return Err(Unfit);
-        }
-        match core.try_get(at, get) {
-            TryAnswer::Waiting(grant) => Ok(Tried::Waiting(grant)),
-            TryAnswer::Served(key, connection, grant) => {
+        match asked::try_get(core, at, get) {
+            Err(Unfit) => Err(Unfit),
+            Ok(TryAnswer::Waiting(grant)) => Ok(Tried::Waiting(grant)),
+            Ok(TryAnswer::Served(key, connection, grant)) => {
                 let share = rest.split_off(1, 1);
                 let taken = Taken {
                     key,
@@ -99,7 +89,7 @@ impl<C: Drop, L: Parts> GetHome<C> for Locked<C, L> {
                 };
                 Ok(Tried::Served(taken, grant))
             }
-            TryAnswer::Taken(key, connection, grant) => {
+            Ok(TryAnswer::Taken(key, connection, grant)) => {
                 let share = rest.split_off(1, 1);
                 let taken = Taken {
                     key,
@@ -118,14 +108,15 @@ impl<C: Drop, L: Parts> GetHome<C> for Locked<C, L> {
         key: Key,
         part: Part<L>,
     ) -> Result<Passed<Part<L>>, Unfit> {
-        self.limits();
         let Locked { core, .. } = self;
-        if !core.fits_checked_ok(get) {
-            let Part { share } = part;
-            drop(share);
-            return Err(Unfit);
+        match asked::checked_ok(core, at, get, key.place) {
+            Ok(answer) => Ok(Passed::of(answer, part)),
+            Err(Unfit) => {
+                let Part { share } = part;
+                drop(share);
+                Err(Unfit)
+            }
         }
-        Ok(Passed::of(core.checked_ok(at, get, key.place), part))
     }
 
     fn checked_err(
@@ -134,12 +125,10 @@ impl<C: Drop, L: Parts> GetHome<C> for Locked<C, L> {
         get: GetKey,
         returned: Returned<C, Part<L>>,
     ) -> Result<CheckedErrAnswer<C>, C>
-        ensures step { StepsIn L.settings self.old.core at.0
-            (acts.CheckedErr get.number returned.broken) (answered checked_err_told result)
-            self.new.core }
-        ensures connection { HandsBackInvalid returned.taken.connection result }
+        ensures step { Stepped (StepsIn L.settings) checked_err_told self.old.core at.0
+            (acts.CheckedErr get.number returned.broken) result self.new.core }
+        ensures connection { OrComesBack GivesBackInvalid returned.taken.connection result }
     {
-        self.limits();
         let Locked { core, rest, .. } = self;
         let Returned { taken, broken } = returned;
         let Taken {
@@ -148,27 +137,27 @@ impl<C: Drop, L: Parts> GetHome<C> for Locked<C, L> {
             part,
         } = taken;
         let Part { share } = part;
-        if !core.fits_checked_err(get) {
-            drop(share);
-            return Err(connection);
+        match asked::checked_err(core, at, get, connection, broken, key.place) {
+            Ok(answer) => {
+                rest.merge(share);
+                Ok(answer)
+            }
+            Err(connection) => {
+                drop(share);
+                Err(connection)
+            }
         }
-        let answer = core.checked_err(at, get, connection, broken, key.place);
-        rest.merge(share);
-        Ok(answer)
     }
 
+    #[inline(always)]
     fn give_up(
         &mut self,
         at: Moment,
         get: GetKey,
         reason: Reason,
     ) -> Result<GiveUpAnswer<C>, Unfit> {
-        self.limits();
         let Locked { core, .. } = self;
-        if !core.fits_give_up(get, false) {
-            return Err(Unfit);
-        }
-        Ok(core.give_up(at, get, reason, None, false, 0))
+        asked::give_up(core, at, get, reason, false)
     }
 
     fn give_back(
@@ -178,12 +167,12 @@ impl<C: Drop, L: Parts> GetHome<C> for Locked<C, L> {
         reason: Reason,
         returned: Returned<C, Part<L>>,
     ) -> Result<GiveUpAnswer<C>, C>
-        ensures step { StepsIn L.settings self.old.core at.0
+        ensures step { Stepped (StepsIn L.settings) give_up_told self.old.core at.0
             (acts.GiveUp get.number (reason_of reason) (Some returned.taken.connection)
-            returned.broken) (answered give_up_told result) self.new.core }
-        ensures connection { HandsBackHeld returned.taken.connection result }
+            returned.broken) result self.new.core }
+        ensures connection { OrComesBack (λ c. GivesBackHeld (Some c))
+            returned.taken.connection result }
     {
-        self.limits();
         let Locked { core, rest, .. } = self;
         let Returned { taken, broken } = returned;
         let Taken {
@@ -192,12 +181,15 @@ impl<C: Drop, L: Parts> GetHome<C> for Locked<C, L> {
             part,
         } = taken;
         let Part { share } = part;
-        if !core.fits_give_up(get, true) {
-            drop(share);
-            return Err(connection);
+        match asked::give_back(core, at, get, reason, connection, broken, key.place) {
+            Ok(answer) => {
+                rest.merge(share);
+                Ok(answer)
+            }
+            Err(connection) => {
+                drop(share);
+                Err(connection)
+            }
         }
-        let answer = core.give_up(at, get, reason, Some(connection), broken, key.place);
-        rest.merge(share);
-        Ok(answer)
     }
 }

@@ -10,11 +10,12 @@ use crate::locks::Locks;
 use crate::section_home::Ends;
 use crate::{Handle, Joining, SectionHome};
 use bb8_core::api::{Moment, State};
+use bb8_core::asked::Unfit;
 use bb8_core::internals::{
     AddAnswer, BeginAnswer, CheckedErrAnswer, GetKey, GiveUpAnswer, Grant, Key, LeaveAnswer,
     Looked, PutBackAnswer, Reason,
 };
-use bb8_gets::{GetHome, Passed, Returned, Taken, Tried, Unfit};
+use bb8_gets::{GetHome, Passed, Returned, Taken, Tried};
 use std::sync::MutexGuard;
 
 /// The lock of a home as a home: it is taken at a step where it is not held, and held until it is released. After the release the bells
@@ -171,8 +172,8 @@ impl<'a, C, T: GetHome<C>, R: Locks> GetHome<C> for LinkHome<'a, T, R> {
         reason: Reason,
         returned: Returned<C, T::Part>,
     ) -> Result<GiveUpAnswer<C>, C>
-        ensures { LeadsHeld (λ t t'. T.steps t at (GivesBack get reason returned result) t') self.old.held
-            self.new.held }
+        ensures { LeadsHeld (λ t t'. T.steps t at (GivesBack get reason returned result) t')
+            self.old.held self.new.held }
     {
         let mut guard = self.hold();
         let answer = guard.give_back(at, get, reason, returned);

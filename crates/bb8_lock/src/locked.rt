@@ -1,22 +1,20 @@
 //! What the lock of a pool holds, and the sections: what is done to it under one taking of the lock.
 //!
-//! A section is lent the state. Where its event fits it takes one step; where it does not, as no code of this crate brings about, it
-//! answers `Unfit` and changes nothing. No manager, customizer, sink or clock is called here.
+//! A section is lent the state, and asks for one step. No manager, customizer, sink or clock is called here.
 ghost use Rattle.std.specs.Prelude.{◌≡◌, ◌+◌, ◌^◌, ◌<◌, true, IfOk};
 ghost use Rattle.bb8_ledger.specs.Acts as acts;
 ghost use Rattle.bb8_types.specs.Settings.{Settings, default_settings, is_lawful, settings_of};
 ghost use Rattle.bb8_lock.specs.Parts.{PoolBegins, IsBlankOf};
-ghost use Rattle.bb8_core.specs.StepAnswers.{claim_told, opened_told, HandsBack};
 ghost use Rattle.bb8_core.specs.Parts.{out_of};
 ghost use Rattle.bb8_core.specs.Shown.{IsWithinLimits};
 
 use crate::section_home::{Ends, Handle, Joining, SectionHome};
 use bb8_core::api::{Config, Memory, Moment, State};
+use bb8_core::asked::{self, Unfit};
 use bb8_core::internals::{
-    AddAnswer, ClaimAnswer, Grant, JoinAnswer, Key, LeaveAnswer, OpenedAnswer, PoolInternals,
-    PutBackAnswer,
+    AddAnswer, Grant, JoinAnswer, LeaveAnswer, PoolInternals, PutBackAnswer,
 };
-use bb8_gets::{Returned, Taken, Unfit};
+use bb8_gets::{Returned, Taken};
 use std::alloc::Global;
 use std::marker::Brand;
 use std::sync::ledger::{Blank, Ledger, Share, Total};
@@ -116,9 +114,6 @@ pub fn begin_pool<C: Drop, L: Parts>(
 }
 
 impl<C: Drop, L: Parts> Locked<C, L> {
-    ghost use Rattle.bb8_gets.specs.Homes.{StepsIn};
-    ghost use Rattle.bb8_lock.specs.Sections.{returned, OnFit};
-
     /// What holds of the state, whoever holds the lock. It does nothing.
     pub(crate) fn limits(&self)
         ensures limits { IsWithinLimits self.now.core }
@@ -126,50 +121,25 @@ impl<C: Drop, L: Parts> Locked<C, L> {
     {
         self.core.limits();
     }
-
-    /// Claims the unclaimed approval of the least number, for whoever opens its connection.
-    pub fn claim(&mut self, at: Moment) -> ClaimAnswer
-        ensures { StepsIn L.settings self.old.core at.0 acts.Claim
-            (claim_told result) self.new.core }
-    {
-        self.limits();
-        let Locked { core, .. } = self;
-        core.claim(at)
-    }
-
-    /// Makes idle the connection that a claimed approval brought. Where that does not fit, the connection comes back as the error.
-    pub fn opened(&mut self, at: Moment, approval: Key, conn: C) -> Result<OpenedAnswer<C>, C>
-        ensures step { StepsIn L.settings self.old.core at.0 (acts.Opened approval.number conn)
-            (returned (opened_told approval.number) result) self.new.core }
-        ensures connection { OnFit (HandsBack conn) (λ same. same ≡ conn) result }
-    {
-        self.limits();
-        let Locked { core, .. } = self;
-        if !core.fits_opened(approval) {
-            return Err(conn);
-        }
-        Ok(core.opened(at, approval, conn))
-    }
 }
 
 /// Each section is one step, from the state that stands there to the next one.
 impl<C: Drop, L: Parts> SectionHome<C> for Locked<C, L> {
-    ghost use Rattle.bb8_ledger.specs.Answers as answers;
+    ghost use Rattle.bb8_core.specs.Asked.{OrComesBack, Stepped};
     ghost use Rattle.bb8_core.specs.StepAnswers.{add_told, put_back_told, GivesBack, Refuses};
     ghost use Rattle.bb8_gets.specs.Homes.{StepsIn};
-    ghost use Rattle.bb8_lock.specs.Sections.{returned, IsSorted, OnFit, SectionsBy};
+    ghost use Rattle.bb8_lock.specs.Sections.{IsSorted, SectionsBy};
 
     ghost makes = { λ h at s h'. SectionsBy L.settings h.core at s h'.core };
 
     #[inline(always)]
     fn put_back(&mut self, at: Moment, back: Returned<C, Part<L>>) -> Result<PutBackAnswer<C>, C>
-        ensures step { StepsIn L.settings self.old.core at.0
+        ensures step { Stepped (StepsIn L.settings) (put_back_told back.taken.key.number)
+            self.old.core at.0
             (acts.PutBack back.taken.key.number back.taken.connection back.broken)
-            (returned (put_back_told back.taken.key.number) result) self.new.core }
-        ensures connection { OnFit (GivesBack back.taken.connection)
-            (λ c. c ≡ back.taken.connection) result }
+            result self.new.core }
+        ensures connection { OrComesBack GivesBack back.taken.connection result }
     {
-        self.limits();
         let Locked { core, rest, .. } = self;
         let Returned { taken, broken } = back;
         let Taken {
@@ -178,27 +148,26 @@ impl<C: Drop, L: Parts> SectionHome<C> for Locked<C, L> {
             part,
         } = taken;
         let Part { share } = part;
-        if !core.fits_put_back(key) {
-            drop(share);
-            return Err(connection);
+        match asked::put_back(core, at, key, connection, broken) {
+            Ok(answer) => {
+                rest.merge(share);
+                Ok(answer)
+            }
+            Err(connection) => {
+                drop(share);
+                Err(connection)
+            }
         }
-        let answer = core.put_back(at, key, connection, broken);
-        rest.merge(share);
-        Ok(answer)
     }
 
     fn add(&mut self, at: Moment, conn: C, broken: bool) -> Result<AddAnswer<C>, C>
-        ensures step { StepsIn L.settings self.old.core at.0 (acts.Add conn broken)
-            (returned add_told result) self.new.core }
-        ensures connection { OnFit (Refuses conn) (λ same. same ≡ conn) result }
+        ensures step { Stepped (StepsIn L.settings) add_told self.old.core at.0
+            (acts.Add conn broken) result self.new.core }
+        ensures connection { OrComesBack Refuses conn result }
         ensures sorted { IfOk result (IsSorted broken) }
     {
-        self.limits();
         let Locked { core, .. } = self;
-        if !core.fits_add() {
-            return Err(conn);
-        }
-        Ok(core.add(at, conn, broken))
+        asked::add(core, at, conn, broken)
     }
 
     fn state(&mut self, at: Moment) -> State {
@@ -208,25 +177,18 @@ impl<C: Drop, L: Parts> SectionHome<C> for Locked<C, L> {
     }
 
     fn join(&mut self, at: Moment) -> Joining {
-        self.limits();
         let Locked { core, .. } = self;
-        if !core.fits_join() {
-            return Joining::Unfit;
-        }
-        match core.join(at) {
-            JoinAnswer::Joined => Joining::Joined(Handle { _alive: () }),
-            JoinAnswer::Exhausted => Joining::Exhausted,
+        match asked::join(core, at) {
+            Ok(JoinAnswer::Joined) => Joining::Joined(Handle { _alive: () }),
+            Ok(JoinAnswer::Exhausted) => Joining::Exhausted,
+            Err(Unfit) => Joining::Unfit,
         }
     }
 
     fn leave(&mut self, at: Moment, handle: Handle) -> Result<LeaveAnswer, Unfit> {
-        self.limits();
         let Locked { core, .. } = self;
         let Handle { _alive: () } = handle;
-        if !core.fits_leave() {
-            return Err(Unfit);
-        }
-        Ok(core.leave(at))
+        asked::leave(core, at)
     }
 }
 

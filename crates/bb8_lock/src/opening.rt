@@ -7,8 +7,9 @@ use crate::locks::Locks;
 use crate::shared::Shared;
 use bb8_core::Joined;
 use bb8_core::api::Moment;
-use bb8_core::internals::{ClaimAnswer, Key, Looked};
-use bb8_tasks::{Dedicated, FailedStep, Home, OpenedStep, Opener, ReapStep, Reports, Round, Tasks};
+use bb8_core::asked::Unfit;
+use bb8_core::internals::{ClaimAnswer, FailedAnswer, Key, Looked, OpenedAnswer};
+use bb8_tasks::{Dedicated, Home, Opener, ReapStep, Reports, Round, Tasks};
 use futures::task::Poll;
 
 /// The lock is taken for each step, and is free again when the step has answered.
@@ -22,17 +23,17 @@ impl<C, T: Home<C>, R: Locks> Home<C> for LinkHome<'_, T, R> {
         guard.look(at)
     }
 
-    fn opened(&mut self, at: Moment, approval: Key, connection: C) -> OpenedStep<C> {
+    fn opened(&mut self, at: Moment, approval: Key, connection: C) -> Result<OpenedAnswer<C>, C> {
         let mut guard = self.hold();
-        let step = guard.opened(at, approval, connection);
+        let answer = guard.opened(at, approval, connection);
         drop(guard);
-        if step.notifies() {
+        if answer.notifies() {
             self.belled.gets.ring();
         }
-        step
+        answer
     }
 
-    fn failed(&mut self, at: Moment, approval: Key) -> FailedStep {
+    fn failed(&mut self, at: Moment, approval: Key) -> Result<FailedAnswer, Unfit> {
         let mut guard = self.hold();
         guard.failed(at, approval)
     }

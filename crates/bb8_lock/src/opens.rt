@@ -4,11 +4,12 @@ ghost use Rattle.bb8_tasks.specs.Homes.{TaskStepsBy};
 
 use crate::locked::{Locked, Parts};
 use bb8_core::api::Moment;
+use bb8_core::asked::{self, Unfit};
 use bb8_core::internals::{ClaimAnswer, FailedAnswer, Key, Looked, OpenedAnswer};
 use bb8_gets::GetHome;
-use bb8_tasks::{FailedStep, Home, OpenedStep, ReapStep};
+use bb8_tasks::{Home, ReapStep};
 
-/// Each step leads from the state that stands there to the next one. A connection that comes back is the one that was handed in.
+/// Each step leads from the state that stands there to the next one.
 impl<C: Drop, L: Parts> Home<C> for Locked<C, L> {
     ghost steps = { λ h at s h'. TaskStepsBy (StepsIn L.settings) h.core at s h'.core };
 
@@ -16,27 +17,20 @@ impl<C: Drop, L: Parts> Home<C> for Locked<C, L> {
         GetHome::<C>::look(self, at)
     }
 
-    fn opened(&mut self, at: Moment, approval: Key, connection: C) -> OpenedStep<C> {
-        match Locked::opened(self, at, approval, connection) {
-            Ok(OpenedAnswer::Entered(notified)) => OpenedStep::Entered(notified),
-            Ok(OpenedAnswer::Late(connection)) => OpenedStep::Late(connection),
-            Err(connection) => OpenedStep::Unfit(connection),
-        }
+    fn opened(&mut self, at: Moment, approval: Key, connection: C) -> Result<OpenedAnswer<C>, C> {
+        let Locked { core, .. } = self;
+        asked::opened(core, at, approval, connection)
     }
 
-    fn failed(&mut self, at: Moment, approval: Key) -> FailedStep {
-        self.limits();
+    fn failed(&mut self, at: Moment, approval: Key) -> Result<FailedAnswer, Unfit> {
         let Locked { core, .. } = self;
-        if !core.fits_failed(approval) {
-            return FailedStep::Unfit;
-        }
-        match core.failed(at, approval) {
-            FailedAnswer::GivenBack => FailedStep::GivenBack,
-        }
+        asked::failed(core, at, approval)
     }
 
     fn claim(&mut self, at: Moment) -> ClaimAnswer {
-        Locked::claim(self, at)
+        self.limits();
+        let Locked { core, .. } = self;
+        core.claim(at)
     }
 
     /// The connections that it closes are dropped under the lock.

@@ -1,8 +1,8 @@
 -- A task that does not go on has ended.
-use Rattle.bb8_tasks.proofs.Words.{◌≡◌, ℕ, ◌-◌, ◌<◌, Bool, true, false, Option, Some, None, Result, Ok, Err, ◌⊎◌, inl, inr, refl, sym, ap, subst, cases_lt, Poll, Moment, Key, OpenedStep, ReplenishStep, Replenish, ReplenishAnswer, Pending, Retrying, Failed, Entered, Late, GivenBack, ReplenishStage, Start, Connecting, Acquiring, Sleeping, Done, Tries, TaskFails, AfterOpened, AfterTaskAcquire, AfterTaskConnect, TaskBegins, Wakes, TaskAdvances, TaskProceeds, TaskPolls}
+use Rattle.bb8_tasks.proofs.Words.{◌≡◌, ℕ, ◌-◌, ◌<◌, Bool, true, false, Option, Some, None, Result, Ok, Err, ◌⊎◌, inl, inr, refl, sym, ap, subst, cases_lt, Poll, Moment, Key, OpenedAnswer, ReplenishStep, Replenish, ReplenishAnswer, Pending, Retrying, Failed, Entered, Late, GivenBack, ReplenishStage, Start, Connecting, Acquiring, Sleeping, Done, Tries, TaskFails, AfterOpened, AfterTaskAcquire, AfterTaskConnect, TaskBegins, Wakes, TaskAdvances, TaskProceeds, TaskPolls}
 use Rattle.futures.specs.declared.task.Poll.TheVariants as poll
 use Rattle.bb8_tasks.specs.declared.home.Home.{Ghosts as HomeOf}
-use Rattle.bb8_tasks.specs.declared.home.OpenedStep.TheVariants as opened
+use Rattle.bb8_core.specs.declared.answers.OpenedAnswer.TheVariants as opened
 use Rattle.bb8_tasks.specs.declared.opener.Opener.{Ghosts as OpenerOf}
 
 module _ {C V A E : Type 0} where
@@ -31,10 +31,10 @@ module _ {C E V A X : Type 0} (home : HomeOf X C) (timeout : ℕ) (retry : Bool)
             | inr within ↦ (let s = f.1 (sym is) within in left (Retrying e) next s.2.0 tt)
           ]
 
-  opens : (step : OpenedStep C) (x x' : X) (next : ReplenishStep C V A E) → AfterOpened home timeout retry approval m opener step x next x' → Ends next.answer next.stage
-  opens (opened.Entered notified) x x' next a = left Entered next a.0 a.1
-  opens (opened.Late c) x x' next a = left Late next a.2.0 a.2.1
-  opens (opened.Unfit c) x x' next a = left GivenBack next a.2.0 a.2.1
+  opens : (step : Result (OpenedAnswer C) C) (x x' : X) (next : ReplenishStep C V A E) → AfterOpened home timeout retry approval m opener step x next x' → Ends next.answer next.stage
+  opens (Ok (opened.Entered notified)) x x' next a = left Entered next a.0 a.1
+  opens (Ok (opened.Late c)) x x' next a = left Late next a.2.0 a.2.1
+  opens (Err c) x x' next a = left GivenBack next a.2.0 a.2.1
 
   prepares : (answer : Poll (Result (Unit {0}) E)) (tries : Tries) (c : C) (acquiring : A) (x x' : X) (next : ReplenishStep C V A E)
       → AfterTaskAcquire home timeout retry approval m opener answer tries c acquiring x next x' → Ends next.answer next.stage

@@ -1,5 +1,5 @@
 -- One poll of a replay in plain words: where it leaves the task, and how many openings it begins.
-use Rattle.bb8_tasks.proofs.Words.{◌≡◌, ℕ, ◌-◌, ◌<◌, ◌≤◌, max, Bool, true, false, Option, Some, None, Result, Ok, ◌⊎◌, subst, ap, sym, ◌∙◌, refl, inl, inr, arith, cases_lt, Poll, Moment, Key, wait, Reply, OpenedStep, ReplenishStep, ReplenishAnswer, ReplenishStage, Start, Connecting, Acquiring, Sleeping, Done, Tries, told, begun, scripted, steady, Task, Polled, IsDue, failed_once_more, AfterOpened, AfterTaskAcquire, AfterTaskConnect, Enters, TaskConnects, TaskBegins, TaskProceeds}
+use Rattle.bb8_tasks.proofs.Words.{◌≡◌, ℕ, ◌-◌, ◌<◌, ◌≤◌, max, Bool, true, false, Option, Some, None, Result, Ok, ◌⊎◌, subst, ap, sym, ◌∙◌, refl, inl, inr, arith, cases_lt, Poll, Moment, Key, wait, Reply, OpenedAnswer, ReplenishStep, ReplenishAnswer, ReplenishStage, Start, Connecting, Acquiring, Sleeping, Done, Tries, told, begun, scripted, steady, Task, Polled, IsDue, failed_once_more, AfterOpened, AfterTaskAcquire, AfterTaskConnect, Enters, TaskConnects, TaskBegins, TaskProceeds}
 use Rattle.futures.specs.declared.task.Poll.TheVariants.{Ready}
 use Rattle.bb8_core.specs.declared.answers.Looked.{Looked}
 use Rattle.bb8_tasks.specs.declared.backoff.Reply.TheVariants as replies
@@ -35,7 +35,7 @@ module _ (timeout : ℕ) (retry : Bool) (m : Moment) where
     -- what is opened is entered
     entered : (x x' : Scripted) (next : Row) → Enters steady timeout retry approval m scripted tt x next x' → (next.stage ≡ Done) × (x' ≡ x)
     entered x x' next (step, x1, (is, same), r) =
-        let at = subst (λ (s : OpenedStep (Unit {0})). AfterOpened steady timeout retry approval m scripted s x1 next x') is r in
+        let at = subst (λ (s : Result (OpenedAnswer (Unit {0})) (Unit {0})). AfterOpened steady timeout retry approval m scripted s x1 next x') is r in
         (at.1, at.2 ∙ same)
 
     -- a poll of the preparation, which is ready

@@ -14,7 +14,7 @@ pub use Rattle.bb8_tasks.specs.Played.{Task, Runs, Plays, first_task, Polled, be
 pub use Rattle.bb8_tasks.specs.Replenishing.{failed_once_more, IsDue, AfterTaskAcquire, TaskProceeds, TaskPolls, TaskBegins, AfterTaskConnect, AfterOpened, fresh, TaskAdvances, Wakes, TaskFails, TaskConnects, Enters, is_done, LetsGo}
 pub use Rattle.bb8_tasks.specs.Sweeping.{PollsUntil, Rest, After, RoundMidway, QueueTurns, AreFor, LetsGoEach}
 pub use Rattle.bb8_tasks.specs.declared.backoff.Reply.{Reply}
-pub use Rattle.bb8_tasks.specs.declared.home.OpenedStep.{OpenedStep}
+pub use Rattle.bb8_core.specs.declared.answers.OpenedAnswer.{OpenedAnswer}
 pub use Rattle.bb8_tasks.specs.declared.replenish.ReplenishStep.{ReplenishStep}
 pub use Rattle.bb8_tasks.specs.declared.replenish.Replenish.{Replenish}
 pub use Rattle.bb8_tasks.specs.declared.replenish.ReplenishAnswer.{ReplenishAnswer}

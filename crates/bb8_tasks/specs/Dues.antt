@@ -1,5 +1,5 @@
 -- When a driver next has something to do.
-use Rattle.std.specs.Prelude.{ℕ, min, fold, Option, Some, None, List}
+use Rattle.std.specs.Prelude.{min, fold, Option, Some, None, List}
 use Rattle.bb8_types.specs.declared.api.moments.Moment.{Moment}
 use Rattle.bb8_tasks.specs.declared.reaper.Reaper.{Reaper}
 use Rattle.bb8_tasks.specs.declared.replenish.Replenish.{Replenish}

@@ -3,8 +3,8 @@ use Rattle.std.specs.Prelude.{◌≡◌, ℕ, ◌+◌, min, Bool, true, None, Re
 use Rattle.bb8_tasks.specs.Words.{Poll, Ready, Pending, Moment, Reply, HomeOf, OpenerOf, Replenish, ReplenishAnswer}
 use Rattle.bb8_tasks.specs.declared.backoff.Reply.TheVariants as replies
 use Rattle.bb8_tasks.specs.declared.backoff.Scripted.{Scripted}
-use Rattle.bb8_tasks.specs.declared.home.FailedStep.TheVariants as failing
-use Rattle.bb8_tasks.specs.declared.home.OpenedStep.TheVariants as opening
+use Rattle.bb8_core.specs.declared.answers.FailedAnswer.TheVariants as failing
+use Rattle.bb8_core.specs.declared.answers.OpenedAnswer.TheVariants as opening
 use Rattle.bb8_tasks.specs.declared.home.ReapStep.TheVariants as reaping
 use Rattle.bb8_core.specs.declared.answers.ClaimAnswer.TheVariants as claiming
 use Rattle.bb8_tasks.specs.Replenishing.{fresh, TaskPolls}
@@ -35,8 +35,8 @@ scripted = record {
 -- what it answers as a home: it keeps a handle, enters what is opened, and has nothing to claim and nothing to reap
 abbrev pub IsSteady : Moment → TaskStep (Unit {0}) → Type 0
 IsSteady at (Looks seen) = seen ≡ record { moment = at; alive = true }
-IsSteady at (Opens a c step) = step ≡ opening.Entered None
-IsSteady at (Fails a step) = step ≡ failing.GivenBack
+IsSteady at (Opens a c step) = step ≡ Ok (opening.Entered None)
+IsSteady at (Fails a step) = step ≡ Ok failing.GivenBack
 IsSteady at (Claims answer) = answer ≡ claiming.Claimed None
 IsSteady at (Reaps step) = step ≡ reaping.Ended
 

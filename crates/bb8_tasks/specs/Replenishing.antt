@@ -1,7 +1,7 @@
 -- The table of a replenishing's polls, over the relations of any value that is a home and an opener: one chain of steps and calls.
 use Rattle.std.specs.Prelude.{◌≡◌, ℕ, ◌+◌, ◌-◌, ◌<◌, ◌≤◌, max, min, Bool, true, false, Option, Some, None, Result, Ok, Err, ◌⊎◌}
-use Rattle.bb8_tasks.specs.Words.{MatchBool, Poll, Ready, Pending, Moment, last_moment, Key, wait, Looked, FailedStep, HomeOf, OpenedStep, OpenerOf, Replenish, ReplenishAnswer}
-use Rattle.bb8_tasks.specs.declared.home.OpenedStep.TheVariants as opened
+use Rattle.bb8_tasks.specs.Words.{MatchBool, Poll, Ready, Pending, Moment, last_moment, Key, wait, Looked, FailedAnswer, HomeOf, OpenedAnswer, OpenerOf, Unfit, Replenish, ReplenishAnswer}
+use Rattle.bb8_core.specs.declared.answers.OpenedAnswer.TheVariants as opened
 use Rattle.bb8_tasks.specs.declared.replenish.ReplenishStep.{ReplenishStep}
 use Rattle.bb8_tasks.specs.declared.replenish.ReplenishAnswer.TheVariants as answers
 use Rattle.bb8_tasks.specs.declared.replenish.ReplenishStage.TheVariants.{Start, Connecting, Acquiring, Sleeping, Done}
@@ -41,7 +41,7 @@ module _ {C E V A X : Type 0} (home : HomeOf X C) (timeout : ℕ) (retry : Bool)
 
   -- the approval is given back and the task ends with this answer, whatever that step answers
   abbrev pub GivesApprovalBack : ReplenishAnswer E → X → ReplenishStep C V A E → X → Type 0
-  GivesApprovalBack answer x next x' = (step : FailedStep) × home.steps x m (task.Fails approval step) x' × (next.answer ≡ answer) × (next.stage ≡ Done)
+  GivesApprovalBack answer x next x' = (step : Result FailedAnswer Unfit) × home.steps x m (task.Fails approval step) x' × (next.answer ≡ answer) × (next.stage ≡ Done)
 
   -- the task tries again later: it sleeps until its wait is over
   abbrev pub Sleeps : Tries → E → X → ReplenishStep C V A E → X → Type 0
@@ -56,14 +56,14 @@ module _ {C E V A X : Type 0} (home : HomeOf X C) (timeout : ℕ) (retry : Bool)
 
   module _ (opener : OpenerOf X C E V A) where
     -- after the step `opened`: a connection that it hands back is dropped
-    abbrev pub AfterOpened : OpenedStep C → X → ReplenishStep C V A E → X → Type 0
-    AfterOpened (opened.Entered notified) x next x' = TaskStandsAt answers.Entered Done x next x'
-    AfterOpened (opened.Late c) x next x' = (x1 : X) × opener.lets_go x c x1 × TaskStandsAt answers.Late Done x1 next x'
-    AfterOpened (opened.Unfit c) x next x' = (x1 : X) × opener.lets_go x c x1 × TaskStandsAt answers.GivenBack Done x1 next x'
+    abbrev pub AfterOpened : Result (OpenedAnswer C) C → X → ReplenishStep C V A E → X → Type 0
+    AfterOpened (Ok (opened.Entered notified)) x next x' = TaskStandsAt answers.Entered Done x next x'
+    AfterOpened (Ok (opened.Late c)) x next x' = (x1 : X) × opener.lets_go x c x1 × TaskStandsAt answers.Late Done x1 next x'
+    AfterOpened (Err c) x next x' = (x1 : X) × opener.lets_go x c x1 × TaskStandsAt answers.GivenBack Done x1 next x'
 
     -- the connection is entered
     abbrev pub Enters : C → X → ReplenishStep C V A E → X → Type 0
-    Enters c x next x' = (step : OpenedStep C) × (x1 : X) × home.steps x m (task.Opens approval c step) x1 × AfterOpened step x1 next x'
+    Enters c x next x' = (step : Result (OpenedAnswer C) C) × (x1 : X) × home.steps x m (task.Opens approval c step) x1 × AfterOpened step x1 next x'
 
     -- after a poll of the preparation, which left the connection and the preparation like this: one that has answered ends first, and a
     -- connection that it failed is dropped before the failure is a step of the home
@@ -135,4 +135,4 @@ module _ {C E V A X : Type 0} (home : HomeOf X C) (opener : OpenerOf X C E V A) 
   abbrev pub LetsGo : Moment → Replenish C V A → X → X → Type 0
   LetsGo at t x x' =
       MatchBool (is_done t.stage) (x' ≡ x)
-      ((x1 : X) × DropsTask opener t.stage x x1 × ((step : FailedStep) × home.steps x1 at (task.Fails t.approval step) x'))
+      ((x1 : X) × DropsTask opener t.stage x x1 × ((step : Result FailedAnswer Unfit) × home.steps x1 at (task.Fails t.approval step) x'))

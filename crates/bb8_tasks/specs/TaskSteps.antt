@@ -2,14 +2,16 @@
 use Rattle.bb8_tables.specs.declared.keys.Key.{Key}
 use Rattle.bb8_core.specs.declared.answers.ClaimAnswer.{ClaimAnswer}
 use Rattle.bb8_core.specs.declared.answers.Looked.{Looked}
-use Rattle.bb8_tasks.specs.declared.home.FailedStep.{FailedStep}
-use Rattle.bb8_tasks.specs.declared.home.OpenedStep.{OpenedStep}
+use Rattle.std.specs.Prelude.{Result}
+use Rattle.bb8_core.specs.declared.asked.Unfit.{Unfit}
+use Rattle.bb8_core.specs.declared.answers.FailedAnswer.{FailedAnswer}
+use Rattle.bb8_core.specs.declared.answers.OpenedAnswer.{OpenedAnswer}
 use Rattle.bb8_tasks.specs.declared.home.ReapStep.{ReapStep}
 
 -- Each step, of which approval, with what is handed in, and its answer.
 pub data TaskStep (C : Type 0) : Type 0 where
   Looks : Looked → TaskStep C
-  Opens : Key → C → OpenedStep C → TaskStep C
-  Fails : Key → FailedStep → TaskStep C
+  Opens : Key → C → Result (OpenedAnswer C) C → TaskStep C
+  Fails : Key → Result FailedAnswer Unfit → TaskStep C
   Claims : ClaimAnswer → TaskStep C
   Reaps : ReapStep → TaskStep C

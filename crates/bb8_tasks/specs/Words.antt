@@ -9,8 +9,9 @@ pub use Rattle.bb8_tasks.specs.declared.rounds.Round.{Round}
 pub use Rattle.std.specs.Bool.{MatchBool}
 pub use Rattle.bb8_tasks.specs.declared.opener.Opener.{Ghosts as OpenerOf}
 pub use Rattle.bb8_ledger.specs.Answers.{Answer}
-pub use Rattle.bb8_tasks.specs.declared.home.FailedStep.{FailedStep}
-pub use Rattle.bb8_tasks.specs.declared.home.OpenedStep.{OpenedStep}
+pub use Rattle.bb8_core.specs.declared.answers.FailedAnswer.{FailedAnswer}
+pub use Rattle.bb8_core.specs.declared.answers.OpenedAnswer.{OpenedAnswer}
+pub use Rattle.bb8_core.specs.declared.asked.Unfit.{Unfit}
 pub use Rattle.bb8_tasks.specs.declared.home.Home.{Ghosts as HomeOf}
 pub use Rattle.bb8_tasks.specs.declared.replenish.Replenish.{Replenish}
 pub use Rattle.bb8_tasks.specs.declared.replenish.ReplenishAnswer.{ReplenishAnswer}

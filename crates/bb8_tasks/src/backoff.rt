@@ -5,11 +5,12 @@ ghost use Rattle.futures.specs.declared.task.Poll.TheVariants.{Ready};
 ghost use Rattle.bb8_tasks.specs.Bounded.{IsBounded, IsReached};
 ghost use Rattle.bb8_tasks.specs.Played.{told, begun, IsSteady, Polled, Plays, Runs};
 
-use super::home::{FailedStep, Home, OpenedStep, ReapStep};
+use super::home::{Home, ReapStep};
 use super::opener::Opener;
 use super::replenish::{Replenish, ReplenishAnswer};
 use bb8_core::api::{Config, Memory, Moment};
-use bb8_core::internals::{ClaimAnswer, Key, Looked};
+use bb8_core::asked::Unfit;
+use bb8_core::internals::{ClaimAnswer, FailedAnswer, Key, Looked, OpenedAnswer};
 use futures::task::Poll;
 use std::alloc::Global;
 
@@ -91,12 +92,17 @@ impl Home<()> for Scripted {
         }
     }
 
-    fn opened(&mut self, _at: Moment, _approval: Key, _connection: ()) -> OpenedStep<()> {
-        OpenedStep::Entered(None)
+    fn opened(
+        &mut self,
+        _at: Moment,
+        _approval: Key,
+        _connection: (),
+    ) -> Result<OpenedAnswer<()>, ()> {
+        Ok(OpenedAnswer::Entered(None))
     }
 
-    fn failed(&mut self, _at: Moment, _approval: Key) -> FailedStep {
-        FailedStep::GivenBack
+    fn failed(&mut self, _at: Moment, _approval: Key) -> Result<FailedAnswer, Unfit> {
+        Ok(FailedAnswer::GivenBack)
     }
 
     fn claim(&mut self, _at: Moment) -> ClaimAnswer {

@@ -3,26 +3,8 @@ ghost use Rattle.bb8_types.specs.declared.api.moments.Moment.{Moment as MomentOf
 ghost use Rattle.bb8_tasks.specs.TaskSteps.{TaskStep, Looks, Opens, Fails, Claims, Reaps};
 
 use bb8_core::api::Moment;
-use bb8_core::internals::{ClaimAnswer, GetKey, Grant, Key, Looked};
-
-/// What the opening of a connection answers at a home. A connection that it hands back cannot be let go but by name. Our own.
-pub enum OpenedStep<C> {
-    /// The connection is idle; the get that was notified.
-    Entered(Option<GetKey>),
-    /// No handle is alive: the approval ended, and the connection is handed back.
-    Late(C),
-    /// The step does not fit, as no such approval is claimed: nothing changed, and the connection is handed back.
-    Unfit(C),
-}
-
-/// What the giving back of an approval answers at a home. Our own.
-#[derive(Clone, Copy, Debug, PartialEq, Eq)]
-pub enum FailedStep {
-    /// The approval ended.
-    GivenBack,
-    /// The step does not fit, as no such approval is claimed, and nothing changed.
-    Unfit,
-}
+use bb8_core::asked::Unfit;
+use bb8_core::internals::{ClaimAnswer, FailedAnswer, Grant, Key, Looked, OpenedAnswer};
 
 /// What a reap closed and granted. Our own.
 #[derive(Clone, Copy, Debug, PartialEq, Eq)]
@@ -59,12 +41,13 @@ pub trait Home<C> {
     fn look(&mut self, at: Moment) -> Looked
         ensures { steps self.old at (Looks result) self.new };
 
-    /// Enters the connection that was opened for an approval. Our own.
-    fn opened(&mut self, at: Moment, approval: Key, connection: C) -> OpenedStep<C>
+    /// Enters the connection that was opened for an approval. Where no such approval is claimed, the connection comes back as the error. Our
+    /// own.
+    fn opened(&mut self, at: Moment, approval: Key, connection: C) -> Result<OpenedAnswer<C>, C>
         ensures { steps self.old at (Opens approval connection result) self.new };
 
     /// Gives back an approval for which no connection was opened. Our own.
-    fn failed(&mut self, at: Moment, approval: Key) -> FailedStep
+    fn failed(&mut self, at: Moment, approval: Key) -> Result<FailedAnswer, Unfit>
         ensures { steps self.old at (Fails approval result) self.new };
 
     /// Claims the unclaimed approval of the least number. Our own.

@@ -1,12 +1,13 @@
 //! A home of tasks and the calls outside as one value.
 ghost use Rattle.std.specs.Prelude.{◌≡◌};
 
-use super::home::{FailedStep, Home, OpenedStep, ReapStep};
+use super::home::{Home, ReapStep};
 use super::opener::Opener;
 use super::rounds::Reports;
 use bb8_core::Joined;
 use bb8_core::api::Moment;
-use bb8_core::internals::{ClaimAnswer, Key, Looked};
+use bb8_core::asked::Unfit;
+use bb8_core::internals::{ClaimAnswer, FailedAnswer, Key, Looked, OpenedAnswer};
 use futures::task::Poll;
 
 impl<C, W, H: Home<C>> Home<C> for Joined<W, H> {
@@ -16,11 +17,11 @@ impl<C, W, H: Home<C>> Home<C> for Joined<W, H> {
         self.home.look(at)
     }
 
-    fn opened(&mut self, at: Moment, approval: Key, connection: C) -> OpenedStep<C> {
+    fn opened(&mut self, at: Moment, approval: Key, connection: C) -> Result<OpenedAnswer<C>, C> {
         self.home.opened(at, approval, connection)
     }
 
-    fn failed(&mut self, at: Moment, approval: Key) -> FailedStep {
+    fn failed(&mut self, at: Moment, approval: Key) -> Result<FailedAnswer, Unfit> {
         self.home.failed(at, approval)
     }
 

@@ -20,7 +20,7 @@ mod waits;
 pub use backoff::{Backoff, Reply, replay_backoff};
 pub use building::{Built, Site};
 pub use dedicated::{Dedicated, Opened, Opening};
-pub use home::{FailedStep, Home, OpenedStep, ReapStep, ReapedCounts};
+pub use home::{Home, ReapStep, ReapedCounts};
 pub use opener::{Opener, PoolOpener};
 pub use reaper::{Reaper, ReaperAnswer};
 pub use replenish::{Replenish, ReplenishAnswer, ReplenishStage, ReplenishStep, Tries};

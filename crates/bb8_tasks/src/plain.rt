@@ -1,11 +1,12 @@
 //! The plain state of a pool as a home of tasks, and of its driver and reaper.
 ghost use Rattle.std.specs.Prelude.{◌≡◌};
-ghost use Rattle.bb8_core.specs.PlainSteps.{Steps};
+ghost use Rattle.bb8_core.specs.Shown.{Steps};
 ghost use Rattle.bb8_core.specs.StepAnswers as plain;
 ghost use Rattle.bb8_tasks.specs.Homes.{reap_told, TaskStepsBy};
 
-use super::home::{FailedStep, Home, OpenedStep, ReapStep, ReapedCounts};
+use super::home::{Home, ReapStep, ReapedCounts};
 use bb8_core::api::Moment;
+use bb8_core::asked::{self, Unfit};
 use bb8_core::internals::{
     ClaimAnswer, FailedAnswer, Key, Looked, OpenedAnswer, PoolInternals, ReapAnswer,
 };
@@ -32,39 +33,30 @@ impl From<ReapAnswer> for ReapStep {
     }
 }
 
-/// Each step that may not fit asks first, and answers `Unfit` and changes nothing where it does not. A connection that comes back is the one
-/// that was handed in.
+/// Each step that may not fit asks first.
 impl<C: Drop> Home<C> for PoolInternals<C> {
     ghost steps = { λ pool at s after. TaskStepsBy Steps pool at s after };
 
     fn look(&mut self, at: Moment) -> Looked {
+        self.limits();
         PoolInternals::look(self, at)
     }
 
-    fn opened(&mut self, at: Moment, approval: Key, connection: C) -> OpenedStep<C> {
-        if !self.fits_opened(approval) {
-            return OpenedStep::Unfit(connection);
-        }
-        match PoolInternals::opened(self, at, approval, connection) {
-            OpenedAnswer::Entered(notified) => OpenedStep::Entered(notified),
-            OpenedAnswer::Late(connection) => OpenedStep::Late(connection),
-        }
+    fn opened(&mut self, at: Moment, approval: Key, connection: C) -> Result<OpenedAnswer<C>, C> {
+        asked::opened(self, at, approval, connection)
     }
 
-    fn failed(&mut self, at: Moment, approval: Key) -> FailedStep {
-        if !self.fits_failed(approval) {
-            return FailedStep::Unfit;
-        }
-        match PoolInternals::failed(self, at, approval) {
-            FailedAnswer::GivenBack => FailedStep::GivenBack,
-        }
+    fn failed(&mut self, at: Moment, approval: Key) -> Result<FailedAnswer, Unfit> {
+        asked::failed(self, at, approval)
     }
 
     fn claim(&mut self, at: Moment) -> ClaimAnswer {
+        self.limits();
         PoolInternals::claim(self, at)
     }
 
     fn reap(&mut self, at: Moment) -> ReapStep {
+        self.limits();
         ReapStep::from(PoolInternals::reap(self, at))
     }
 }

@@ -5,11 +5,11 @@ ghost use Rattle.bb8_tasks.specs.Dues.{poll_due};
 ghost use Rattle.bb8_tasks.specs.Replenishing.{IsDue, failed_once_more, is_done, DropsTask, TaskFails, Enters, TaskAcquires, TaskConnects, TaskBegins, TaskAdvances, TaskProceeds, TaskPolls, LetsGo, fresh};
 ghost use Rattle.bb8_tasks.specs.declared.replenish.ReplenishStage.TheVariants.{Done as IsDone};
 
-use super::home::{Home, OpenedStep};
+use super::home::Home;
 use super::opener::Opener;
 use super::waits::wait_after;
 use bb8_core::api::{Config, Moment};
-use bb8_core::internals::Key;
+use bb8_core::internals::{Key, OpenedAnswer};
 use futures::task::Poll;
 use std::mem;
 use std::time::Duration;
@@ -167,12 +167,12 @@ impl Row {
             X.Opener connection pool.old result pool.new }
     {
         match pool.opened(self.moment, self.approval, connection) {
-            OpenedStep::Entered(_) => leaves(ReplenishAnswer::Entered, ReplenishStage::Done),
-            OpenedStep::Late(connection) => {
+            Ok(OpenedAnswer::Entered(_)) => leaves(ReplenishAnswer::Entered, ReplenishStage::Done),
+            Ok(OpenedAnswer::Late(connection)) => {
                 pool.let_go(connection);
                 leaves(ReplenishAnswer::Late, ReplenishStage::Done)
             }
-            OpenedStep::Unfit(connection) => {
+            Err(connection) => {
                 pool.let_go(connection);
                 leaves(ReplenishAnswer::GivenBack, ReplenishStage::Done)
             }

@@ -13,26 +13,26 @@ fn succeeds_serving_at_once(rt: HostRuntime) {
     let config = unchecked(1, None);
     assert!(rt; config.is_lawful());
     let mut pool = PoolInternals::new(rt.alloc(), config);
-    let Some(AddAnswer::Added(_, None)) = add(&mut pool, NOW, Colour::Red, false) else {
+    let Ok(AddAnswer::Added(_, None)) = add(&mut pool, NOW, Colour::Red, false) else {
         panic!(rt; "nothing was added");
     };
     // The first get raises the peak, for which memory is asked, so it goes by the two steps.
-    assert!(rt; matches!(serve_at_once(&mut pool, NOW), Some(None)));
-    let Some(BeginAnswer::Begun(get)) = begin(&mut pool, NOW) else {
+    assert!(rt; serve_at_once(&mut pool, NOW).is_none());
+    let Ok(BeginAnswer::Begun(get)) = begin(&mut pool, NOW) else {
         panic!(rt; "no get began");
     };
     let (key, conn, _) = served_by(&rt, &mut pool, get);
-    let Some(PutBackAnswer::Kept(None)) = put_back(&mut pool, NOW, key, conn, false) else {
+    let Ok(PutBackAnswer::Kept(None)) = put_back(&mut pool, NOW, key, conn, false) else {
         panic!(rt; "the connection was not kept");
     };
-    let Some(Some(served)) = serve_at_once(&mut pool, NOW) else {
+    let Some(served) = serve_at_once(&mut pool, NOW) else {
         panic!(rt; "the second get was not served at once");
     };
     assert_equal(&rt, served.get, 1);
     assert_equal(&rt, served.key.number, 0);
     assert_equal(&rt, served.conn, Colour::Red);
     // Nothing is idle now, and so nothing happens.
-    assert!(rt; matches!(serve_at_once(&mut pool, NOW), Some(None)));
+    assert!(rt; serve_at_once(&mut pool, NOW).is_none());
     let state = pool.state(NOW);
     assert_equal(&rt, state.connections, 1);
     assert_equal(&rt, state.idle_connections, 0);

@@ -4,7 +4,7 @@ ghost use Rattle.std.specs.Prelude.{◌+◌, ◌≤◌};
 use super::steps::{Colour, NOW, taken_by};
 use super::{assert_equal, granted, served};
 use bb8_core::api::{Config, State, Statistics};
-use bb8_core::asked::{add, begin, checked_err, checked_ok, give_up, put_back};
+use bb8_core::asked::{add, begin, checked_err, checked_ok, give_back, put_back};
 use bb8_core::internals::{
     AddAnswer, BeginAnswer, CheckedErrAnswer, CheckedOkAnswer, GetKey, GiveUpAnswer, PoolInternals,
     PutBackAnswer,
@@ -28,7 +28,7 @@ fn one_idle(rt: &impl Abort, alloc: Global) -> PoolInternals<Colour> {
     let config = checked(1, None);
     assert!(rt; config.is_lawful());
     let mut pool = PoolInternals::new(alloc, config);
-    let Some(AddAnswer::Added(_, None)) = add(&mut pool, NOW, Colour::Red, false) else {
+    let Ok(AddAnswer::Added(_, None)) = add(&mut pool, NOW, Colour::Red, false) else {
         panic!(rt; "it was refused, or notified somebody");
     };
     pool
@@ -65,7 +65,7 @@ fn counted(started: u64, direct: u64, timed_out: u64, cancelled: u64) -> Statist
 /// A get that began.
 fn begun(rt: &impl Abort, pool: &mut PoolInternals<Colour>) -> GetKey {
     match begin(pool, NOW) {
-        Some(BeginAnswer::Begun(get)) => get,
+        Ok(BeginAnswer::Begun(get)) => get,
         _ => panic!(rt; "no get began"),
     }
 }
@@ -95,7 +95,7 @@ fn succeeds_both_ends_of_a_check(rt: HostRuntime) {
         (0, &Colour::Red, granted(1, 0)),
     );
     assert_equal(&rt, fitting(&pool, 0), (false, true, true, false));
-    let Some(CheckedOkAnswer::Served(key)) = checked_ok(&mut pool, NOW, get, key.place) else {
+    let Ok(CheckedOkAnswer::Served(key)) = checked_ok(&mut pool, NOW, get, key.place) else {
         panic!(rt; "the get holds nothing");
     };
     // The get is looked at, and a guard has the connection.
@@ -103,12 +103,12 @@ fn succeeds_both_ends_of_a_check(rt: HostRuntime) {
     assert_equal(&rt, key.number, 0);
     assert_equal(&rt, fitting(&pool, 0), (false, false, false, true));
     assert_equal(&rt, pool.state(NOW), served(1, 0, 1, 0));
-    let Some(PutBackAnswer::Kept(None)) = put_back(&mut pool, NOW, key, conn, false) else {
+    let Ok(PutBackAnswer::Kept(None)) = put_back(&mut pool, NOW, key, conn, false) else {
         panic!(rt; "it was closed, or notified somebody");
     };
     let get = begun(&rt, &mut pool);
     let (key, conn, _) = taken_by(&rt, &mut pool, get);
-    let Some(CheckedErrAnswer::Closed(closed, conn, grant, None)) = checked_err(
+    let Ok(CheckedErrAnswer::Closed(closed, conn, grant, None)) = checked_err(
         &mut pool, NOW, get, conn, false, key.place,
     ) else {
         panic!(rt; "somebody was notified");
@@ -133,12 +133,12 @@ fn succeeds_give_ups_of_a_held_connection(rt: HostRuntime) {
     let get = begun(&rt, &mut pool);
     let (key, conn, _) = taken_by(&rt, &mut pool, get);
     assert!(rt; !pool.fits_give_up(get, false));
-    let Some(GiveUpAnswer::Kept(kept, None)) = give_up(
+    let Ok(GiveUpAnswer::Kept(kept, None)) = give_back(
         &mut pool,
         NOW,
         get,
         Reason::TimedOut,
-        Some(conn),
+        conn,
         false,
         key.place,
     ) else {
@@ -150,12 +150,12 @@ fn succeeds_give_ups_of_a_held_connection(rt: HostRuntime) {
     assert!(rt; !pool.fits_give_up(get, true));
     let get = begun(&rt, &mut pool);
     let (_, conn, _) = taken_by(&rt, &mut pool, get);
-    let Some(GiveUpAnswer::Closed(closed, conn, grant, None)) = give_up(
+    let Ok(GiveUpAnswer::Closed(closed, conn, grant, None)) = give_back(
         &mut pool,
         NOW,
         get,
         Reason::Cancelled,
-        Some(conn),
+        conn,
         true,
         1_000,
     ) else {
@@ -180,7 +180,7 @@ fn stale_hints_name_the_right_connection(rt: HostRuntime) {
     assert!(rt; config.is_lawful());
     let mut pool = PoolInternals::new(rt.alloc(), config);
     for conn in [Colour::Red, Colour::Green] {
-        let Some(AddAnswer::Added(..)) = add(&mut pool, NOW, conn, false) else {
+        let Ok(AddAnswer::Added(..)) = add(&mut pool, NOW, conn, false) else {
             panic!(rt; "it was refused");
         };
     }
@@ -188,11 +188,11 @@ fn stale_hints_name_the_right_connection(rt: HostRuntime) {
     let (red, _, _) = taken_by(&rt, &mut pool, first);
     let second = begun(&rt, &mut pool);
     let (green, _, _) = taken_by(&rt, &mut pool, second);
-    let Some(CheckedOkAnswer::Served(key)) = checked_ok(&mut pool, NOW, first, green.place) else {
+    let Ok(CheckedOkAnswer::Served(key)) = checked_ok(&mut pool, NOW, first, green.place) else {
         panic!(rt; "the get holds nothing");
     };
     assert_equal(&rt, (key.number, key.place), (0, red.place));
-    let Some(CheckedOkAnswer::Served(key)) = checked_ok(&mut pool, NOW, second, 1_000) else {
+    let Ok(CheckedOkAnswer::Served(key)) = checked_ok(&mut pool, NOW, second, 1_000) else {
         panic!(rt; "the get holds nothing");
     };
     assert_equal(&rt, (key.number, key.place), (1, green.place));

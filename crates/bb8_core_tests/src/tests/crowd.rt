@@ -53,7 +53,7 @@ fn begin(rt: &impl Abort, pool: &mut PoolInternals<u32>) -> GetKey {
     let answer = bb8_core::asked::begin(pool, NOW);
     assert_few(rt, pool);
     match answer {
-        Some(BeginAnswer::Begun(get)) => get,
+        Ok(BeginAnswer::Begun(get)) => get,
         _ => panic!(rt; "no get began"),
     }
 }
@@ -87,7 +87,7 @@ fn put_back(rt: &impl Abort, pool: &mut PoolInternals<u32>, key: Key, conn: u32)
     let answer = bb8_core::asked::put_back(pool, NOW, key, conn, false);
     assert_few(rt, pool);
     match answer {
-        Some(PutBackAnswer::Kept(notified)) => notified,
+        Ok(PutBackAnswer::Kept(notified)) => notified,
         _ => panic!(rt; "no guard holds {key:?}, or it was closed"),
     }
 }
@@ -102,16 +102,16 @@ fn open(rt: &impl Abort, pool: &mut PoolInternals<u32>, conn: u32) -> Option<Get
     let answer = bb8_core::asked::opened(pool, NOW, approval, conn);
     assert_few(rt, pool);
     match answer {
-        Some(OpenedAnswer::Entered(notified)) => notified,
+        Ok(OpenedAnswer::Entered(notified)) => notified,
         _ => panic!(rt; "{approval:?} is not claimed, or no handle is alive"),
     }
 }
 
 /// Lets a get go that was not notified.
 fn cancel(rt: &impl Abort, pool: &mut PoolInternals<u32>, get: GetKey) {
-    let answer = bb8_core::asked::give_up(pool, NOW, get, Reason::Cancelled, None, false, 0);
+    let answer = bb8_core::asked::give_up(pool, NOW, get, Reason::Cancelled, false);
     assert_few(rt, pool);
-    let Some(GiveUpAnswer::GaveUp(None)) = answer else {
+    let Ok(GiveUpAnswer::GaveUp(None)) = answer else {
         panic!(rt; "{get:?} is not alive, or handed a notification on");
     };
 }

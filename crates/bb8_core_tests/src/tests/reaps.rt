@@ -11,16 +11,16 @@ use std::time::Duration;
 /// Adds so many connections at a moment.
 fn add_all(rt: &impl Abort, pool: &mut PoolInternals<u64>, at: Moment, many: u64) {
     for number in 0..many {
-        assert!(rt; add(pool, at, number, false).is_some());
+        assert!(rt; add(pool, at, number, false).is_ok());
     }
 }
 
 /// Has a get be served, and answers what with.
 fn serve(rt: &impl Abort, pool: &mut PoolInternals<u64>, at: Moment) -> (Key, u64) {
-    let Some(BeginAnswer::Begun(get)) = begin(pool, at) else {
+    let Ok(BeginAnswer::Begun(get)) = begin(pool, at) else {
         panic!(rt; "no get began");
     };
-    let Some(TryAnswer::Served(key, conn, _)) = try_get(pool, at, get) else {
+    let Ok(TryAnswer::Served(key, conn, _)) = try_get(pool, at, get) else {
         panic!(rt; "the get was not served");
     };
     (key, conn)
@@ -93,7 +93,7 @@ fn many_idle(rt: &impl Abort, alloc: Global, queue_strategy: QueueStrategy) -> P
     add_all(rt, &mut pool, Moment(0), 1000);
     let (key, conn) = serve(rt, &mut pool, Moment(0));
     let kept = put_back(&mut pool, Moment(SECOND / 2), key, conn, false);
-    assert!(rt; matches!(kept, Some(PutBackAnswer::Kept(None))));
+    assert!(rt; matches!(kept, Ok(PutBackAnswer::Kept(None))));
     pool
 }
 

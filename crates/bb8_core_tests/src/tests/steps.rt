@@ -47,7 +47,7 @@ pub(super) fn taken_by(
 
 /// Begins a get and serves it.
 fn take(rt: &impl Abort, pool: &mut PoolInternals<Colour>) -> (Key, Colour) {
-    let Some(BeginAnswer::Begun(get)) = begin(pool, NOW) else {
+    let Ok(BeginAnswer::Begun(get)) = begin(pool, NOW) else {
         panic!(rt; "no get began");
     };
     let (key, conn, _) = served_by(rt, pool, get);
@@ -57,7 +57,7 @@ fn take(rt: &impl Abort, pool: &mut PoolInternals<Colour>) -> (Key, Colour) {
 /// Opens the connection of an approval, by its number.
 fn enter(rt: &impl Abort, pool: &mut PoolInternals<Colour>, number: u64, conn: Colour) {
     let key = pool.find(number).expect(rt, "the approval stands");
-    let Some(OpenedAnswer::Entered(None)) = opened(pool, NOW, key, conn) else {
+    let Ok(OpenedAnswer::Entered(None)) = opened(pool, NOW, key, conn) else {
         panic!(rt; "{number} did not become idle, or notified somebody");
     };
 }
@@ -102,10 +102,10 @@ fn one_claimed(rt: &impl Abort, alloc: Global) -> (PoolInternals<Colour>, Key) {
 #[test]
 fn succeeds_each_step_once(rt: HostRuntime) {
     let (mut pool, approval) = one_claimed(&rt, rt.alloc());
-    let Some(OpenedAnswer::Entered(None)) = opened(&mut pool, NOW, approval, Colour::Blue) else {
+    let Ok(OpenedAnswer::Entered(None)) = opened(&mut pool, NOW, approval, Colour::Blue) else {
         panic!(rt; "it did not become idle, or notified somebody");
     };
-    let Some(BeginAnswer::Begun(get)) = begin(&mut pool, NOW) else {
+    let Ok(BeginAnswer::Begun(get)) = begin(&mut pool, NOW) else {
         panic!(rt; "no get began");
     };
     assert_equal(&rt, get.number, 40);
@@ -118,7 +118,7 @@ fn succeeds_each_step_once(rt: HostRuntime) {
     );
     assert!(rt; pool.find_get(40).is_none());
     assert_equal(&rt, pool.find(7).map(|key| key.number), Some(7));
-    let Some(PutBackAnswer::Closed(closed, grant, None)) = put_back(&mut pool, NOW, key, conn, true)
+    let Ok(PutBackAnswer::Closed(closed, grant, None)) = put_back(&mut pool, NOW, key, conn, true)
     else {
         panic!(rt; "it was kept, or somebody was notified");
     };
@@ -134,7 +134,7 @@ fn succeeds_each_step_once(rt: HostRuntime) {
 #[test]
 fn failed_opening_ends_its_approval(rt: HostRuntime) {
     let (mut pool, approval) = one_claimed(&rt, rt.alloc());
-    assert!(rt; failed(&mut pool, NOW, approval).is_some());
+    assert!(rt; failed(&mut pool, NOW, approval).is_ok());
     assert_equal(&rt, (pool.examined(), pool.searched()), (0, 0));
     assert!(rt; pool.find(7).is_none());
 }
@@ -152,7 +152,7 @@ fn place_used_again(rt: &impl Abort, alloc: Global) -> (PoolInternals<Colour>, K
         panic!(rt; "nothing was claimed");
     };
     enter(rt, &mut pool, 1, Colour::Green);
-    let Some(PutBackAnswer::Closed(Colour::Red, _, None)) = put_back(
+    let Ok(PutBackAnswer::Closed(Colour::Red, _, None)) = put_back(
         &mut pool, NOW, ended, conn, true,
     ) else {
         panic!(rt; "it was kept, or another one was handed back");
@@ -176,8 +176,7 @@ fn stale_keys_name_the_right_record(rt: HostRuntime) {
         number: 1,
         place: ended.place,
     };
-    let Some(PutBackAnswer::Kept(None)) = put_back(&mut pool, NOW, stale, Colour::Green, false)
-    else {
+    let Ok(PutBackAnswer::Kept(None)) = put_back(&mut pool, NOW, stale, Colour::Green, false) else {
         panic!(rt; "it was closed");
     };
     assert_served(&rt, &mut pool, 1, Colour::Green);
@@ -185,7 +184,7 @@ fn stale_keys_name_the_right_record(rt: HostRuntime) {
         number: 2,
         place: 1_000,
     };
-    let Some(PutBackAnswer::Closed(Colour::Blue, _, None)) = put_back(
+    let Ok(PutBackAnswer::Closed(Colour::Blue, _, None)) = put_back(
         &mut pool,
         NOW,
         nowhere,
@@ -203,7 +202,7 @@ fn stale_keys_name_the_right_get(rt: HostRuntime) {
     let mut pool = three_idle(&rt, rt.alloc());
     let _ = take(&rt, &mut pool);
     for wanted in [1, 2] {
-        let Some(BeginAnswer::Begun(get)) = begin(&mut pool, NOW) else {
+        let Ok(BeginAnswer::Begun(get)) = begin(&mut pool, NOW) else {
             panic!(rt; "no get began");
         };
         assert_equal(&rt, get.number, wanted);

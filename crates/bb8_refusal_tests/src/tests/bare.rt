@@ -3,7 +3,9 @@
 
 use super::{assert_equal, is_refused_afterwards, make};
 use bb8_core::api::{Config, Moment};
-use bb8_core::asked::{add, begin, checked_err, checked_ok, give_up, opened, put_back, try_get};
+use bb8_core::asked::{
+    add, begin, checked_err, checked_ok, give_back, give_up, opened, put_back, try_get,
+};
 use bb8_core::internals::{
     AddAnswer, BeginAnswer, CheckedErrAnswer, CheckedOkAnswer, ClaimAnswer, GetKey, GiveUpAnswer,
     Grant, Key, OpenedAnswer, PoolInternals, PutBackAnswer, ReapAnswer, Reason, TryAnswer,
@@ -84,7 +86,7 @@ impl Run {
                 return Ok(());
             };
             let conn = make(&self.board)?;
-            let Some(OpenedAnswer::Entered(_)) = opened(&mut self.pool, self.at, key, conn) else {
+            let Ok(OpenedAnswer::Entered(_)) = opened(&mut self.pool, self.at, key, conn) else {
                 panic!(rt; "no handle is alive");
             };
         }
@@ -94,8 +96,8 @@ impl Run {
     /// Begins a get, where there is memory for it.
     fn begin(&mut self, rt: &impl Abort) -> Option<GetKey> {
         match begin(&mut self.pool, self.at) {
-            Some(BeginAnswer::Begun(get)) => Some(get),
-            Some(BeginAnswer::Memory) => {
+            Ok(BeginAnswer::Begun(get)) => Some(get),
+            Ok(BeginAnswer::Memory) => {
                 self.refused = self.refused.saturating_add(1);
                 None
             }
@@ -106,11 +108,11 @@ impl Run {
     /// What a get takes, if it does not wait.
     fn take(&mut self, rt: &impl Abort, get: GetKey) -> Option<TakenOut> {
         match try_get(&mut self.pool, self.at, get) {
-            Some(TryAnswer::Taken(key, conn, grant)) => {
+            Ok(TryAnswer::Taken(key, conn, grant)) => {
                 self.note(grant);
                 Some(TakenOut { get, key, conn })
             }
-            Some(TryAnswer::Waiting(grant)) => {
+            Ok(TryAnswer::Waiting(grant)) => {
                 self.note(grant);
                 self.waited = self.waited.saturating_add(1);
                 None
@@ -121,17 +123,9 @@ impl Run {
 
     /// Lets a get go that holds nothing.
     fn let_go(&mut self, rt: &impl Abort, get: GetKey) {
-        let gone = give_up(
-            &mut self.pool,
-            self.at,
-            get,
-            Reason::TimedOut,
-            None,
-            false,
-            0,
-        );
+        let gone = give_up(&mut self.pool, self.at, get, Reason::TimedOut, false);
         assert!(rt;
-            matches!(gone, Some(GiveUpAnswer::GaveUp(_))),
+            matches!(gone, Ok(GiveUpAnswer::GaveUp(_))),
             "{get:?} held something"
         );
     }
@@ -139,13 +133,12 @@ impl Run {
     /// The check passes: a guard has the connection, and gives it back.
     fn passes(&mut self, rt: &impl Abort, held: TakenOut) {
         let TakenOut { get, key, conn } = held;
-        let Some(CheckedOkAnswer::Served(key)) = checked_ok(&mut self.pool, self.at, get, key.place)
+        let Ok(CheckedOkAnswer::Served(key)) = checked_ok(&mut self.pool, self.at, get, key.place)
         else {
             panic!(rt; "{get:?} holds nothing");
         };
         self.served = self.served.saturating_add(1);
-        let Some(PutBackAnswer::Kept(_)) = put_back(&mut self.pool, self.at, key, conn, false)
-        else {
+        let Ok(PutBackAnswer::Kept(_)) = put_back(&mut self.pool, self.at, key, conn, false) else {
             panic!(rt; "{key:?} was closed");
         };
     }
@@ -154,7 +147,7 @@ impl Run {
     fn fails(&mut self, rt: &impl Abort, held: TakenOut, broken: bool) {
         let TakenOut { get, key, conn } = held;
         let answer = checked_err(&mut self.pool, self.at, get, conn, broken, key.place);
-        let Some(CheckedErrAnswer::Closed(_, conn, grant, _)) = answer else {
+        let Ok(CheckedErrAnswer::Closed(_, conn, grant, _)) = answer else {
             panic!(rt; "{get:?} holds nothing");
         };
         drop(conn);
@@ -166,18 +159,10 @@ impl Run {
     fn lets_go_held(&mut self, rt: &impl Abort, held: TakenOut, broken: bool) {
         let TakenOut { get, key, conn } = held;
         let why = Reason::Cancelled;
-        let answer = give_up(
-            &mut self.pool,
-            self.at,
-            get,
-            why,
-            Some(conn),
-            broken,
-            key.place,
-        );
+        let answer = give_back(&mut self.pool, self.at, get, why, conn, broken, key.place);
         match answer {
-            Some(GiveUpAnswer::Kept(key, _)) => assert!(rt; !broken, "{key:?} was kept"),
-            Some(GiveUpAnswer::Closed(key, conn, grant, _)) => {
+            Ok(GiveUpAnswer::Kept(key, _)) => assert!(rt; !broken, "{key:?} was kept"),
+            Ok(GiveUpAnswer::Closed(key, conn, grant, _)) => {
                 assert!(rt; broken, "{key:?} was closed");
                 drop(conn);
                 self.note(grant);
@@ -207,7 +192,10 @@ impl Run {
     fn adds(&mut self, rt: &impl Abort) -> Result<(), Fail> {
         for _ in 0..2 {
             let conn = make(&self.board)?;
-            match add(&mut self.pool, self.at, conn, false).expect(rt, "a handle is alive") {
+            let Ok(answer) = add(&mut self.pool, self.at, conn, false) else {
+                panic!(rt; "no handle is alive");
+            };
+            match answer {
                 AddAnswer::Added(..) | AddAnswer::NoCapacity(_) => {}
                 AddAnswer::Withheld(conn) => {
                     drop(conn);

@@ -1,29 +1,32 @@
 //! Connections so large that no machine has memory for all that a pool wants at once: refusals that come about in each run of the tests.
-//! A pool of 4,294,967,295 of them would take more than the addresses that there are.
+//! A pool of 4,294,967,295 of them would take 35 terabytes.
 
 use super::assert_equal;
 use bb8_core::api::{Config, Moment};
-use bb8_core::asked::{add, begin, opened, put_back, try_get};
+use bb8_core::asked::{add, begin, try_get};
 use bb8_core::internals::{
-    AddAnswer, BeginAnswer, ClaimAnswer, GetKey, Grant, OpenedAnswer, PoolInternals, PutBackAnswer,
-    TryAnswer,
+    AddAnswer, BeginAnswer, ClaimAnswer, GetKey, Grant, PoolInternals, ReapAnswer, TryAnswer,
 };
 use std::process::Abort;
+use std::time::Duration;
 
 const NOW: Moment = Moment(0);
+
+/// When a connection of the first moment has lived too long.
+const LATER: Moment = Moment(1_000_000_000);
 
 /// How many connections the pool may have, and how many are to be idle.
 const MANY: u32 = 4_294_967_295;
 
-/// A connection of 64 KiB.
+/// A connection of 8 KiB. Of 64 KiB the compiler takes minutes.
 #[derive(Drop)]
 struct Vast {
-    words: [u64; 8192],
+    words: [u64; 1024],
 }
 
 impl Vast {
     fn new(first: u64) -> Vast {
-        let mut words = [0; 8192];
+        let mut words = [0; 1024];
         words[0] = first;
         Vast { words }
     }
@@ -42,11 +45,11 @@ fn part(first: u64, count: u32, withheld: u32) -> Grant {
 fn adds(rt: &impl Abort, pool: &mut PoolInternals<Vast>, number: u64) {
     for _ in 0..2 {
         match add(pool, NOW, Vast::new(number), false) {
-            Some(AddAnswer::Added(key, None)) => {
+            Ok(AddAnswer::Added(key, None)) => {
                 assert_equal(&rt, key.number, number);
                 return;
             }
-            Some(AddAnswer::Withheld(_)) => {}
+            Ok(AddAnswer::Withheld(_)) => {}
             _ => panic!(rt; "there is room, and nobody waits"),
         }
     }
@@ -56,7 +59,7 @@ fn adds(rt: &impl Abort, pool: &mut PoolInternals<Vast>, number: u64) {
 /// A get begins; where memory is refused, it does at the next ask.
 fn begins(rt: &impl Abort, pool: &mut PoolInternals<Vast>) -> GetKey {
     for _ in 0..2 {
-        if let Some(BeginAnswer::Begun(get)) = begin(pool, NOW) {
+        if let Ok(BeginAnswer::Begun(get)) = begin(pool, NOW) {
             return get;
         }
     }
@@ -70,6 +73,8 @@ fn vast_grants_are_withheld_past_the_peak(rt: HostRuntime) {
     let config = Config {
         max_size: MANY,
         min_idle: Some(MANY),
+        max_lifetime: Some(Duration::from_secs(1)),
+        idle_timeout: None,
         test_on_check_out: false,
         ..Config::default()
     };
@@ -80,22 +85,25 @@ fn vast_grants_are_withheld_past_the_peak(rt: HostRuntime) {
     adds(&rt, &mut pool, 1);
     assert_equal(&rt, pool.fill(NOW, true), part(2, 0, MANY - 2));
     let get = begins(&rt, &mut pool);
-    let Some(TryAnswer::Served(key, conn, grant)) = try_get(&mut pool, NOW, get) else {
+    let Ok(TryAnswer::Served(_, conn, grant)) = try_get(&mut pool, NOW, get) else {
         panic!(&rt; "it was not served");
     };
     assert_equal(&rt, (conn.words[0], grant), (0, part(2, 0, MANY - 2)));
-    // One place is free below the peak: for that one no memory is needed.
-    let Some(PutBackAnswer::Closed(conn, grant, None)) = put_back(&mut pool, NOW, key, conn, true)
+    // The idle one has lived too long. Then one place is free below the peak: for that one no memory is needed.
+    let ReapAnswer::Reaped {
+        closed,
+        by_life,
+        grant,
+        ..
+    } = pool.reap(LATER)
     else {
-        panic!(&rt; "a broken connection was kept, or somebody was notified");
+        panic!(&rt; "no handle is alive");
     };
-    assert_equal(&rt, (conn.words[0], grant), (0, part(2, 1, MANY - 2)));
-    let ClaimAnswer::Claimed(Some(key)) = pool.claim(NOW) else {
+    assert_equal(&rt, (closed, by_life, grant), (1, 1, part(2, 1, MANY - 2)));
+    let ClaimAnswer::Claimed(Some(key)) = pool.claim(LATER) else {
         panic!(&rt; "nothing was claimed");
     };
-    let Some(OpenedAnswer::Entered(None)) = opened(&mut pool, NOW, key, Vast::new(2)) else {
-        panic!(&rt; "somebody was notified");
-    };
-    let state = pool.state(NOW);
-    assert_equal(&rt, (state.connections, state.idle_connections), (2, 2));
+    assert_equal(&rt, key.number, 2);
+    let state = pool.state(LATER);
+    assert_equal(&rt, (state.connections, state.idle_connections), (1, 0));
 }

@@ -180,7 +180,7 @@ fn no_handle_gives_the_approval_back(rt: HostRuntime) {
         task.poll(Moment(400 * MILLI), &mut pool, &config),
         ReplenishAnswer::Pending,
     );
-    assert!(&rt; leave(&mut pool.home, Moment(0)).is_some());
+    assert!(&rt; leave(&mut pool.home, Moment(0)).is_ok());
     assert!(&rt; pool.home.find(approval.number).is_some());
     assert_equal(
         &rt,

@@ -32,7 +32,7 @@ fn pool_with(
     }
     let mut pool = PoolInternals::new(alloc, config);
     for number in 0..many {
-        assert!(rt; add(&mut pool, Moment(0), number, false).is_some());
+        assert!(rt; add(&mut pool, Moment(0), number, false).is_ok());
     }
     pool
 }
@@ -98,7 +98,7 @@ fn reaper_closes_what_lives_too_long(rt: HostRuntime) {
 fn reaper_ends_after_the_last_leave(rt: HostRuntime) {
     let mut pool = pool_with(&rt, rt.alloc(), (Some(1), None), 1);
     let mut reaper = Reaper::new(Moment(0), Duration::from_secs(1));
-    assert!(&rt; leave(&mut pool, Moment(0)).is_some());
+    assert!(&rt; leave(&mut pool, Moment(0)).is_ok());
     assert_equal(
         &rt,
         reaper.poll(Moment(HALF), &mut pool),

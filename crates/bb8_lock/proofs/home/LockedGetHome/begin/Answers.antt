@@ -1,11 +1,8 @@
 use Rattle.bb8_ledger.specs.Acts as acts
-use Rattle.bb8_lock.proofs.Sections.{unfit_step, all_kept}
+use Rattle.bb8_lock.proofs.Sections.{all_kept}
 use Rattle.bb8_lock.proofs.home.LockedGetHome.begin.Goals as goal
 
-pub returns-then-not-fits_begin : goal.returns-then-not-fits_begin
-returns-then-not-fits_begin g c = (c.limits.ensures.limits, c.limits.ensures.settings, unfit_step c.args.self.now.core c.args.at.0 acts.Begin c.if-not-fits_begin.ensures)
-
-pub invariant_of-self-2 : goal.invariant_of-self-2
-invariant_of-self-2 g c =
-    let kept = all_kept _ acts.Begin _ _ c.limits.ensures.limits.0 c.begin.ensures.step (λ m. m) c.args.self.now.parts c.args.self.now.settled in
+pub invariant_of-self : goal.invariant_of-self
+invariant_of-self g c =
+    let kept = all_kept _ acts.Begin _ _ (c.begin.ensures.limits, c.begin.ensures.step.0) (λ m. m) c.args.self.now.parts c.args.self.now.settled in
     record { parts = kept.0; amount = c.args.self.now.amount; settled = kept.1 }

@@ -1,19 +1,8 @@
 use Rattle.bb8_ledger.specs.Acts as acts
-use Rattle.bb8_lock.proofs.Sections.{kept_settings, unfit_step, unmoved}
+use Rattle.bb8_lock.proofs.Sections.{all_kept}
 use Rattle.bb8_lock.proofs.home.LockedGetHome.checked_ok.Goals as goal
 
-pub returns-then-not-fits_checked_ok : goal.returns-then-not-fits_checked_ok
-returns-then-not-fits_checked_ok g c = (
-  c.limits.ensures.limits,
-  c.limits.ensures.settings,
-  unfit_step c.args.self.now.core c.args.at.0 (acts.CheckedOk c.args.get.number) c.if-not-fits_checked_ok.ensures,
-)
-
-pub invariant_of-self-2 : goal.invariant_of-self-2
-invariant_of-self-2 g c = record {
-  parts =
-      unmoved _ _ _ (acts.CheckedOk c.args.get.number) _ _ c.limits.ensures.limits.0 c.checked_ok.ensures.step (λ m. m) c.args.self.now.parts;
-  amount = c.args.self.now.amount;
-  settled = kept_settings _ _ _
-      (acts.CheckedOk c.args.get.number) _ _ c.limits.ensures.limits.0 c.checked_ok.ensures.step c.args.self.now.settled;
-}
+pub invariant_of-self : goal.invariant_of-self
+invariant_of-self g c =
+    let kept = all_kept _ (acts.CheckedOk c.args.get.number) _ _ (c.checked_ok.ensures.limits, c.checked_ok.ensures.step.0) (λ m. m) c.args.self.now.parts c.args.self.now.settled in
+    record { parts = kept.0; amount = c.args.self.now.amount; settled = kept.1 }

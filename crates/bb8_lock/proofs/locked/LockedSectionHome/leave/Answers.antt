@@ -1,11 +1,8 @@
 use Rattle.bb8_ledger.specs.Acts as acts
-use Rattle.bb8_lock.proofs.Sections.{unfit_step, all_kept}
+use Rattle.bb8_lock.proofs.Sections.{all_kept}
 use Rattle.bb8_lock.proofs.locked.LockedSectionHome.leave.Goals as goal
 
-pub returns-then-not-fits_leave : goal.returns-then-not-fits_leave
-returns-then-not-fits_leave g c = (c.limits.ensures.limits, c.limits.ensures.settings, unfit_step c.args.self.now.core c.args.at.0 acts.Leave c.if-not-fits_leave.ensures)
-
-pub invariant_of-self-2 : goal.invariant_of-self-2
-invariant_of-self-2 g c =
-    let kept = all_kept _ acts.Leave _ _ c.limits.ensures.limits.0 c.leave.ensures.step (λ m. m) c.args.self.now.parts c.args.self.now.settled in
+pub invariant_of-self : goal.invariant_of-self
+invariant_of-self g c =
+    let kept = all_kept _ acts.Leave _ _ (c.leave.ensures.limits, c.leave.ensures.step.0) (λ m. m) c.args.self.now.parts c.args.self.now.settled in
     record { parts = kept.0; amount = c.args.self.now.amount; settled = kept.1 }

@@ -1,7 +1,7 @@
 use Rattle.bb8_c.proofs.Words.{refl}
 use Rattle.bb8_c.proofs.Inside.{within}
-use Rattle.bb8_c.proofs.bb8_try.Goals as goal
+use Rattle.bb8_c.proofs.bb8_opened.Goals as goal
 
 pub returns : goal.returns
 returns c = within _ c.take-open.ensures.core c.deref_mut.ensures.value c.of.ensures
-    ((c.try_get.result, c.tried-told.ensures, rw (← c.get.ensures) c.try_get.ensures.step, c.try_get.ensures.connection), refl)
+    ((c.opened.result, c.entered-told.ensures, c.opened.ensures.step, c.opened.ensures.connection), refl)
