@@ -14,7 +14,7 @@ use Rattle.bb8_tasks.specs.declared.replenish.Replenish.{Replenish}
 use Rattle.bb8_tasks.specs.declared.rounds.Round.{Round}
 use Rattle.bb8_tasks.specs.declared.rounds.Round.TheVariants.{Failed, Complete, Going}
 use Rattle.bb8_tasks.specs.Building.{AfterFirstRound, BuildingPolls}
-use Rattle.bb8_lock.specs.Linked.{Answers}
+use Rattle.bb8_lock.specs.Chains.{Answers}
 use Rattle.bb8_lock.specs.declared.locked.Parts.{Ghosts as PartsOf}
 use Rattle.bb8_lock.specs.Words.{ManagerOf, DebugOf, SinkOf, CustomizerOf, ClockOf}
 use Rattle.bb8.specs.declared.building.Plan.{Plan}

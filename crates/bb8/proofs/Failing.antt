@@ -12,7 +12,7 @@ use Rattle.bb8_core.specs.declared.joined.Joined.{Joined}
 use Rattle.bb8_tasks.specs.declared.home.Home.{Ghosts as HomeOf}
 use Rattle.bb8_core.specs.declared.answers.OpenedAnswer.{OpenedAnswer}
 use Rattle.bb8_core.specs.declared.answers.OpenedAnswer.TheVariants as opened
-use Rattle.bb8_tasks.specs.declared.opener.PoolOpener.{PoolOpener}
+use Rattle.bb8_core.specs.declared.joined.Calls.{Calls}
 use Rattle.bb8_tasks.specs.declared.replenish.ReplenishStep.{ReplenishStep}
 use Rattle.bb8_tasks.specs.declared.replenish.Replenish.{Replenish}
 use Rattle.bb8_tasks.specs.declared.replenish.ReplenishAnswer.{ReplenishAnswer}
@@ -94,20 +94,20 @@ module _ {T E X : Type 0} (polls : T → X → ReplenishAnswer E → T → X →
 
 -- the tasks of a pool, by the calls of its manager and its customizer, which leave the calls as they are
 module _ {G L M S Z K R C E N V A : Type 0} {manager : ManagerOf M C E N V} {d : DebugOf E} {s : SinkOf S E} {z : CustomizerOf Z C E A} {k : ClockOf K} {l : PartsOf L}
-    (shared : Shared G L M S Z K R C E N V A manager d s z k l) (calls : PoolOpener M S Z K) where
+    (shared : Shared G L M S Z K R C E N V A manager d s z k l) (calls : Calls M S Z K) where
   -- what may fail an opening
   abbrev Known : E → Type 0
   Known e = IsBuildError (manager.connect_answers calls.manager.now) (z.acquire_answers calls.customizer.now) (User e)
 
   -- these are the calls outside
-  abbrev IsBy : {H : Type 0} → Joined (PoolOpener M S Z K) H → Type 0
+  abbrev IsBy : {H : Type 0} → Joined (Calls M S Z K) H → Type 0
   IsBy x = x.outside ≡ calls
 
-  still : {H : Type 0} (x x' : Joined (PoolOpener M S Z K) H) → x' ≡ x → IsBy x → IsBy x'
-  still {H} x x' same is = ap (λ (y : Joined (PoolOpener M S Z K) H). y.outside) same ∙ is
+  still : {H : Type 0} (x x' : Joined (Calls M S Z K) H) → x' ≡ x → IsBy x → IsBy x'
+  still {H} x x' same is = ap (λ (y : Joined (Calls M S Z K) H). y.outside) same ∙ is
 
   module _ {H : Type 0} (home : HomeOf H C) (timeout : ℕ) (retry : Bool) (approval : Key) (at : Moment) where
-    fails : (tries : Tries) (e : E) (x x' : Joined (PoolOpener M S Z K) H) (next : ReplenishStep C N A E) → IsBy x → Known e
+    fails : (tries : Tries) (e : E) (x x' : Joined (Calls M S Z K) H) (next : ReplenishStep C N A E) → IsBy x → Known e
         → replenishing.TaskFails (joined_tasks home) timeout retry approval at tries e x next x' → IsBy x' × Told Known next.answer
     fails tries e x x' next is by f = by_retry retry refl
       where
@@ -122,14 +122,14 @@ module _ {G L M S Z K R C E N V A : Type 0} {manager : ManagerOf M C E N V} {d :
               | inr within ↦ (let s = f.1 (sym on) within in (still x x' s.2.2 is, known Known (Retrying e) next s.2.0 tt))
             ]
 
-    opens : (step : Result (OpenedAnswer C) C) (x x' : Joined (PoolOpener M S Z K) H) (next : ReplenishStep C N A E) → IsBy x
+    opens : (step : Result (OpenedAnswer C) C) (x x' : Joined (Calls M S Z K) H) (next : ReplenishStep C N A E) → IsBy x
         → replenishing.AfterOpened (joined_tasks home) timeout retry approval at (joined_opener (pool_opener shared)) step x next x'
         → IsBy x' × Told Known next.answer
     opens (Ok (opened.Entered notified)) x x' next is a = (still x x' a.2 is, known Known Entered next a.0 tt)
     opens (Ok (opened.Late c)) x x' next is (x1, dropped, a) = (still x1 x' a.2 (dropped.0 ∙ is), known Known Late next a.0 tt)
     opens (Err c) x x' next is (x1, dropped, a) = (still x1 x' a.2 (dropped.0 ∙ is), known Known GivenBack next a.0 tt)
 
-    prepares : (answer : Poll (Result (Unit {0}) E)) (tries : Tries) (c0 c : C) (a0 a : A) (x x' : Joined (PoolOpener M S Z K) H) (next : ReplenishStep C N A E) → IsBy x
+    prepares : (answer : Poll (Result (Unit {0}) E)) (tries : Tries) (c0 c : C) (a0 a : A) (x x' : Joined (Calls M S Z K) H) (next : ReplenishStep C N A E) → IsBy x
         → z.acquire_answers calls.customizer.now c0 a0 at answer c a
         → replenishing.AfterTaskAcquire (joined_tasks home) timeout retry approval at (joined_opener (pool_opener shared)) answer tries c a x next x'
         → IsBy x' × Told Known next.answer
@@ -138,13 +138,13 @@ module _ {G L M S Z K R C E N V A : Type 0} {manager : ManagerOf M C E N V} {d :
     prepares (poll.Ready (Err e)) tries c0 c a0 a x x' next is said (x1, ended, (x2, dropped, p)) =
         fails tries e x2 x' next (dropped.0 ∙ ended.0 ∙ is) (inr (c0, a0, at, c, a, said)) p
 
-    acquires : (tries : Tries) (c : C) (a : A) (x x' : Joined (PoolOpener M S Z K) H) (next : ReplenishStep C N A E) → IsBy x
+    acquires : (tries : Tries) (c : C) (a : A) (x x' : Joined (Calls M S Z K) H) (next : ReplenishStep C N A E) → IsBy x
         → replenishing.TaskAcquires (joined_tasks home) timeout retry approval at (joined_opener (pool_opener shared)) tries c a x next x'
         → IsBy x' × Told Known next.answer
     acquires tries c a x x' next is (answer, c1, a1, x1, polled, p) =
-        prepares answer tries c c1 a a1 x1 x' next (polled.0.1 ∙ is) (subst (λ (w : PoolOpener M S Z K). z.acquire_answers w.customizer.now c a at answer c1 a1) is polled.0.0) p
+        prepares answer tries c c1 a a1 x1 x' next (polled.0.1 ∙ is) (subst (λ (w : Calls M S Z K). z.acquire_answers w.customizer.now c a at answer c1 a1) is polled.0.0) p
 
-    connected : (answer : Poll (Result C E)) (tries : Tries) (v0 v : N) (x x' : Joined (PoolOpener M S Z K) H) (next : ReplenishStep C N A E) → IsBy x
+    connected : (answer : Poll (Result C E)) (tries : Tries) (v0 v : N) (x x' : Joined (Calls M S Z K) H) (next : ReplenishStep C N A E) → IsBy x
         → manager.connect_answers calls.manager.now v0 at answer v
         → replenishing.AfterTaskConnect (joined_tasks home) timeout retry approval at (joined_opener (pool_opener shared)) answer tries v x next x'
         → IsBy x' × Told Known next.answer
@@ -152,18 +152,18 @@ module _ {G L M S Z K R C E N V A : Type 0} {manager : ManagerOf M C E N V} {d :
     connected (poll.Ready (Ok c)) tries v0 v x x' next is said (x1, ended, (a, c1, x2, begun, p)) = acquires tries c1 a x2 x' next (begun.0.1 ∙ ended.0 ∙ is) p
     connected (poll.Ready (Err e)) tries v0 v x x' next is said (x1, ended, p) = fails tries e x1 x' next (ended.0 ∙ is) (inl (v0, at, v, said)) p
 
-    connects : (tries : Tries) (v : N) (x x' : Joined (PoolOpener M S Z K) H) (next : ReplenishStep C N A E) → IsBy x
+    connects : (tries : Tries) (v : N) (x x' : Joined (Calls M S Z K) H) (next : ReplenishStep C N A E) → IsBy x
         → replenishing.TaskConnects (joined_tasks home) timeout retry approval at (joined_opener (pool_opener shared)) tries v x next x'
         → IsBy x' × Told Known next.answer
     connects tries v x x' next is (answer, v1, x1, polled, p) =
-        connected answer tries v v1 x1 x' next (polled.0.1 ∙ is) (subst (λ (w : PoolOpener M S Z K). manager.connect_answers w.manager.now v at answer v1) is polled.0.0) p
+        connected answer tries v v1 x1 x' next (polled.0.1 ∙ is) (subst (λ (w : Calls M S Z K). manager.connect_answers w.manager.now v at answer v1) is polled.0.0) p
 
-    begins : (tries : Tries) (x x' : Joined (PoolOpener M S Z K) H) (next : ReplenishStep C N A E) → IsBy x
+    begins : (tries : Tries) (x x' : Joined (Calls M S Z K) H) (next : ReplenishStep C N A E) → IsBy x
         → replenishing.TaskBegins (joined_tasks home) timeout retry approval at (joined_opener (pool_opener shared)) tries x next x'
         → IsBy x' × Told Known next.answer
     begins tries x x' next is (v, x1, begun, p) = connects tries v x1 x' next (begun.0.1 ∙ is) p
 
-    wakes : (tries : Tries) (due : Option Moment) (x x' : Joined (PoolOpener M S Z K) H) (next : ReplenishStep C N A E) → IsBy x
+    wakes : (tries : Tries) (due : Option Moment) (x x' : Joined (Calls M S Z K) H) (next : ReplenishStep C N A E) → IsBy x
         → replenishing.Wakes (joined_tasks home) timeout retry approval at (joined_opener (pool_opener shared)) tries due x next x'
         → IsBy x' × Told Known next.answer
     wakes tries None x x' next is p = (still x x' p.2 is, known Known Pending next p.0 tt)
@@ -173,7 +173,7 @@ module _ {G L M S Z K R C E N V A : Type 0} {manager : ManagerOf M C E N V} {d :
           | inr now ↦ begins tries x x' next is (p.0 now)
         ]
 
-    advances : (stage : ReplenishStage C N A) (x x' : Joined (PoolOpener M S Z K) H) (next : ReplenishStep C N A E) → IsBy x
+    advances : (stage : ReplenishStage C N A) (x x' : Joined (Calls M S Z K) H) (next : ReplenishStep C N A E) → IsBy x
         → replenishing.TaskAdvances (joined_tasks home) timeout retry approval at (joined_opener (pool_opener shared)) stage x next x'
         → IsBy x' × Told Known next.answer
     advances Start x x' next is p = begins (record { start = at; failures = 0 }) x x' next is p
@@ -182,21 +182,21 @@ module _ {G L M S Z K R C E N V A : Type 0} {manager : ManagerOf M C E N V} {d :
     advances (Sleeping tries due) x x' next is p = wakes tries due x x' next is p
     advances Done x x' next is p = (still x x' p.2 is, known Known GivenBack next p.0 tt)
 
-    drops : (stage : ReplenishStage C N A) (x x' : Joined (PoolOpener M S Z K) H) → IsBy x → replenishing.DropsTask (joined_opener (pool_opener shared)) stage x x' → IsBy x'
+    drops : (stage : ReplenishStage C N A) (x x' : Joined (Calls M S Z K) H) → IsBy x → replenishing.DropsTask (joined_opener (pool_opener shared)) stage x x' → IsBy x'
     drops Start x x' is p = still x x' p is
     drops (Connecting tries v) x x' is p = p.0 ∙ is
     drops (Acquiring tries c a) x x' is (x1, ended, dropped) = dropped.0 ∙ ended.0 ∙ is
     drops (Sleeping tries due) x x' is p = still x x' p is
     drops Done x x' is p = still x x' p is
 
-    proceeds : (alive : Bool) (stage : ReplenishStage C N A) (x x' : Joined (PoolOpener M S Z K) H) (next : ReplenishStep C N A E) → IsBy x
+    proceeds : (alive : Bool) (stage : ReplenishStage C N A) (x x' : Joined (Calls M S Z K) H) (next : ReplenishStep C N A E) → IsBy x
         → replenishing.TaskProceeds (joined_tasks home) timeout retry approval at (joined_opener (pool_opener shared)) alive stage x next x'
         → IsBy x' × Told Known next.answer
     proceeds true stage x x' next is p = advances stage x x' next is p
     proceeds false stage x x' next is (x1, dropped, p) = (p.1.1 ∙ drops stage x x1 is dropped, known Known GivenBack next p.2 tt)
 
   module _ {H : Type 0} (home : HomeOf H C) (timeout : ℕ) (retry : Bool) (at : Moment) where
-    at_stage : (approval : Key) (latest : Moment) (stage : ReplenishStage C N A) (t' : Replenish C N A) (x x' : Joined (PoolOpener M S Z K) H) (r : ReplenishAnswer E) → IsBy x
+    at_stage : (approval : Key) (latest : Moment) (stage : ReplenishStage C N A) (t' : Replenish C N A) (x x' : Joined (Calls M S Z K) H) (r : ReplenishAnswer E) → IsBy x
         → replenishing.TaskPolls (joined_tasks home) (joined_opener (pool_opener shared)) timeout retry at
         (record { approval = approval; latest = latest; stage = stage }) x r t' x'
         → IsBy x' × Told Known r
@@ -211,7 +211,7 @@ module _ {G L M S Z K R C E N V A : Type 0} {manager : ManagerOf M C E N V} {d :
     at_stage approval latest Done t' x x' r is p =
         (still x x' p.2 is, known Known GivenBack (record { answer = r; stage = t'.stage }) p.0 tt)
 
-    polled : (t t' : Replenish C N A) (x x' : Joined (PoolOpener M S Z K) H) (r : ReplenishAnswer E) → IsBy x
+    polled : (t t' : Replenish C N A) (x x' : Joined (Calls M S Z K) H) (r : ReplenishAnswer E) → IsBy x
         → replenishing.TaskPolls (joined_tasks home) (joined_opener (pool_opener shared)) timeout retry at t x r t' x' → IsBy x' × Told Known r
     polled t t' x x' r is p = at_stage t.approval t.latest t.stage t' x x' r is p
 
@@ -220,7 +220,8 @@ module _ {G L M S Z K R C E N V A : Type 0} {manager : ManagerOf M C E N V} {d :
   -- a round of a pool's first tasks that failed had its error of the pool's manager or its customizer
   pub round_failed : (tasks : List (Replenish C N A)) (r : Round (List (Replenish C N A)) E) → OwnRounds shared tasks r
       → Ended (λ e. IsBuildError (manager.connect_answers shared.manager) (z.acquire_answers shared.customizer) (User e)) r
-  round_failed tasks r (calls, are, (x, x', of, free, (at, x1, told, rounds))) =
+  round_failed tasks r (x, x', (are, free), (at, x1, told, rounds)) =
+      let calls = x.outside in
       rw (sym are.0, sym are.2) (ended
       (replenishing.TaskPolls (joined_tasks (link_tasks locked_tasks)) (joined_opener (pool_opener shared)) (as_nanos shared.config.connection_timeout)
       shared.config.retry_connection at)
@@ -228,4 +229,4 @@ module _ {G L M S Z K R C E N V A : Type 0} {manager : ManagerOf M C E N V} {d :
       (polled shared calls (link_tasks locked_tasks) (as_nanos shared.config.connection_timeout) shared.config.retry_connection at)
       (λ y y' e is sunk. sunk.0.1 ∙ is)
       (replenishing.LetsGo (joined_tasks (link_tasks locked_tasks)) (joined_opener (pool_opener shared)) at)
-      tasks x1 x' r (told.0.1 ∙ of) rounds)
+      tasks x1 x' r told.0.1 rounds)

@@ -3,7 +3,7 @@ use Rattle.std.specs.Prelude.{Result}
 use Rattle.futures.specs.declared.task.Poll.{Poll}
 use Rattle.bb8_tasks.specs.declared.dedicated.Dedicated.{Dedicated}
 use Rattle.bb8.specs.declared.dedicated.DedicatedFuture.{DedicatedFuture}
-use Rattle.bb8_lock.specs.Linked.{Answers}
+use Rattle.bb8_lock.specs.Chains.{Answers}
 use Rattle.bb8_lock.specs.Opening.{OwnDedicates, OwnDropsOpening}
 use Rattle.bb8_lock.specs.declared.locked.Parts.{Ghosts as PartsOf}
 use Rattle.bb8_lock.specs.Words.{ManagerOf, DebugOf, SinkOf, CustomizerOf, ClockOf}

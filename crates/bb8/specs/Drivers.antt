@@ -2,21 +2,17 @@
 use Rattle.std.specs.Prelude.{◌≡◌, ℕ, ◌+◌, ◌-◌, ◌^◌, min, Bool, true, false, None}
 use Rattle.std.specs.Arc.{arc_value}
 use Rattle.bb8_types.specs.declared.api.moments.Moment.{Moment}
-use Rattle.bb8_core.specs.declared.joined.Joined.{Joined}
-use Rattle.bb8_tasks.specs.declared.opener.Opener.{Ghosts as OpenerOf}
-use Rattle.bb8_tasks.specs.declared.opener.PoolOpener.{PoolOpener}
-use Rattle.bb8_tasks.specs.declared.rounds.Reports.{Ghosts as ReportsOf}
-use Rattle.bb8_tasks.specs.Joined.{joined_reports}
 use Rattle.bb8_tasks.specs.declared.turning.Turn.{Turn}
 use Rattle.bb8_tasks.specs.declared.turning.Turning.{Turning}
-use Rattle.bb8_tasks.specs.Turns.{is_ended, DriverBegins}
-use Rattle.bb8_lock.specs.declared.locked.Locked.{Locked}
-use Rattle.bb8_lock.specs.declared.link.LinkHome.{LinkHome}
+use Rattle.bb8_tasks.specs.Sweeping.{AtReading}
+use Rattle.bb8_tasks.specs.Turns.{is_ended, DriverBegins, DriverTurns}
 use Rattle.bb8_lock.specs.declared.shared.Shared.{Shared}
-use Rattle.bb8_lock.specs.Opening.{pool_opener, pool_reports, AreOpenersOf}
-use Rattle.bb8_lock.specs.Turning.{OwnTurns, TurnsOn}
+use Rattle.bb8_lock.specs.Linked.{IsLinked, Linked}
+use Rattle.bb8_lock.specs.Opening.{opener, reports, tasks_home}
+use Rattle.bb8_lock.specs.Turning.{OwnTurns}
 use Rattle.bb8_lock.specs.declared.locked.Parts.{Ghosts as PartsOf}
-use Rattle.bb8_lock.specs.Words.{ManagerOf, DebugOf, SinkOf, CustomizerOf, ClockOf}
+use Rattle.bb8_lock.specs.Words.{as_nanos, ManagerOf, DebugOf, SinkOf, CustomizerOf, ClockOf, OpenerOf, ReportsOf}
+use Rattle.bb8_tasks.specs.declared.home.Home.{Ghosts as HomeOf}
 use Rattle.bb8.specs.declared.driver.Driver.{Driver}
 use Rattle.bb8.specs.declared.driver.Driven.{Driven}
 use Rattle.bb8.specs.declared.pool.Pool.{Pool}
@@ -36,19 +32,19 @@ pub data Runs {T P : Type 0} (step : T → Turn → T → Type 0) (pauses : P �
   goes_on : (t t' : T) (g g' : P) (n : ℕ) (turn : Turn) (d : Driven) → step t turn t' → turn.ended ≡ false → pauses g true g'
       → Runs step pauses t' g' (one_more n) d → Runs step pauses t g n d
 
--- What a run does on a pool, of which the handles share this, by any calls outside.
-module _ {G L M S Z K R C E N V A B W : Type 0} {m : ManagerOf M C E N V} {d : DebugOf E} {s : SinkOf S E} {z : CustomizerOf Z C E B} {k : ClockOf K} {l : PartsOf L}
-    (opener : OpenerOf W C E N A) (reports : ReportsOf W E) (shared : Shared G L M S Z K R C E N V B m d s z k l) where
-  -- the clock is read, and a turn made at that moment
-  abbrev pub LinkTurnsNow : Turning C N A × Joined W (LinkHome (Locked C L l) R) → Turn → Turning C N A × Joined W (LinkHome (Locked C L l) R) → Type 0
-  LinkTurnsNow before turn after =
-      (at : Moment) × (x : Joined W (LinkHome (Locked C L l) R)) × (joined_reports reports).tells before.1 at x
-      × TurnsOn opener reports shared at before.0 x turn after.0 after.1
+-- the clock is read, and a turn made at that moment
+abbrev pub TurnsNow : {C E V A X : Type 0} → HomeOf X C → OpenerOf X C E V A → ReportsOf X E → ℕ → Bool → Turning C V A × X → Turn → Turning C V A × X → Type 0
+TurnsNow home opener reports timeout retry before turn after =
+    AtReading reports.tells (λ at x x'. DriverTurns home opener reports.sinks timeout retry at before.0 x turn after.0 x') before.1 after.1
 
-  -- a run of such turns, before which the pool's lock is free
-  abbrev pub LinkRuns : {P : Type 0} → (P → Bool → P → Type 0) → Turning C N A → W → P → Driven → Type 0
-  LinkRuns pauses turning w gate d =
-      (x : Joined W (LinkHome (Locked C L l) R)) × (x.outside ≡ w) × (x.home.held ≡ None) × Runs LinkTurnsNow pauses (turning, x) gate 0 d
+-- a run of such turns on a pool, which the handles share
+module _ {G L M S Z K R C E N V A : Type 0} {m : ManagerOf M C E N V} {d : DebugOf E} {s : SinkOf S E} {z : CustomizerOf Z C E A} {k : ClockOf K} {l : PartsOf L}
+    (shared : Shared G L M S Z K R C E N V A m d s z k l) where
+  abbrev pub OwnRuns : {P : Type 0} → (P → Bool → P → Type 0) → Turning C N A → P → Driven → Type 0
+  OwnRuns pauses turning gate d =
+      (x : Linked shared) × IsLinked shared x
+      × Runs (TurnsNow (tasks_home shared) (opener shared) (reports shared) (as_nanos shared.config.connection_timeout) shared.config.retry_connection)
+      pauses (turning, x) gate 0 d
 
 module _ {G L M S Z K R C E N V A : Type 0} {m : ManagerOf M C E N V} {d : DebugOf E} {s : SinkOf S E} {z : CustomizerOf Z C E A} {k : ClockOf K} {l : PartsOf L} where
   -- whether a driver has ended
@@ -71,7 +67,4 @@ module _ {G L M S Z K R C E N V A : Type 0} {m : ManagerOf M C E N V} {d : Debug
 
   -- a run of turns of a driver, each at a reading of the pool's clock
   abbrev pub RunsDriver : {P : Type 0} → (P → Bool → P → Type 0) → Driver G L M S Z K R C E N V A m d s z k l → P → Driven → Type 0
-  RunsDriver pauses driver gate d =
-      (calls : PoolOpener M S Z K) × AreOpenersOf (arc_value driver.shared) calls
-      × LinkRuns (pool_opener (arc_value driver.shared)) (pool_reports (arc_value driver.shared)) (arc_value driver.shared)
-      pauses driver.turning calls gate d
+  RunsDriver pauses driver gate d = OwnRuns (arc_value driver.shared) pauses driver.turning gate d

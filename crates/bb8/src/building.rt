@@ -8,9 +8,8 @@ use crate::pool::{Cancel, Pool};
 use bb8_core::api::{Clock, CustomizeConnection, ErrorSink, ManageConnection, Memory, RunError};
 use bb8_core::internals::Grant;
 use bb8_lock::{
-    Belled, Given, Locks, NewPool, Opens, Parts, SectionHome, Shared, These, begin_pool,
+    Belled, Given, Links, Locks, NewPool, Parts, SectionHome, Shared, These, begin_pool,
 };
-use bb8_tasks::PoolOpener;
 pub use bb8_tasks::{Built, Replenish, Round, Site, Tasks};
 use futures::Future;
 use futures::task::{Context, Poll};
@@ -186,13 +185,7 @@ impl<G: Given, L: Parts> EndsSite for Building<G, L> {
             Site::Planned(plan) => drop(plan),
             Site::Opening(pool, tasks) => {
                 let shared = &*pool.shared;
-                let calls = PoolOpener::new(
-                    &shared.manager,
-                    &shared.error_sink,
-                    &shared.customizer,
-                    &shared.clock,
-                );
-                shared.drop_tasks(calls, tasks);
+                tasks.let_go(&mut shared.linked());
             }
             Site::Done => {}
         }
@@ -259,13 +252,8 @@ impl<G: Given, L: Parts> OpensFirst for Pool<G, L> {
         ensures { Sweeps PoolRounds self tasks result.answer result.site }
     {
         let shared = &*self.shared;
-        let calls = PoolOpener::new(
-            &shared.manager,
-            &shared.error_sink,
-            &shared.customizer,
-            &shared.clock,
-        );
-        match shared.open_first(calls, tasks) {
+        let round = tasks.round(&mut shared.linked(), &shared.config);
+        match round {
             Round::Failed(error) => Built {
                 answer: Poll::Ready(Err(RunError::User(error))),
                 site: Site::Done,

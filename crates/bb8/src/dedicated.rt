@@ -5,8 +5,7 @@ ghost use Rattle.bb8_tasks.specs.Dedicating.{fresh};
 
 use crate::pool::{Cancel, Pool};
 use bb8_core::api::Moment;
-use bb8_lock::{Given, Opens, Parts, Shared};
-use bb8_tasks::PoolOpener;
+use bb8_lock::{Given, Links, Parts, Shared};
 pub use bb8_tasks::{Dedicated, Opened, Opening};
 use futures::Future;
 use futures::task::{Context, Poll};
@@ -74,13 +73,7 @@ impl<G: Given, L: Parts> Drop for DedicatedFuture<'_, G, L> {
             latest,
             stage,
         } = self;
-        let mut calls = PoolOpener::new(
-            &shared.manager,
-            &shared.error_sink,
-            &shared.customizer,
-            &shared.clock,
-        );
-        shared.cancel_dedicated(&mut calls, Dedicated { latest, stage });
+        Dedicated { latest, stage }.cancel(&mut shared.calls());
     }
 }
 
@@ -107,18 +100,12 @@ impl<'a, G: Given, L: Parts> Future for DedicatedFuture<'a, G, L> {
         ensures kept { Keeps cx.old cx.new }
     {
         let shared = self.shared;
-        let mut calls = PoolOpener::new(
-            &shared.manager,
-            &shared.error_sink,
-            &shared.customizer,
-            &shared.clock,
-        );
         let stage = mem::replace(&mut self.stage, Opening::Done);
-        let opening = Dedicated {
+        let mut opening = Dedicated {
             latest: self.latest,
             stage,
         };
-        let (answer, opening) = shared.poll_dedicated(&mut calls, opening);
+        let answer = opening.poll(&mut shared.calls());
         let Dedicated { latest, stage } = opening;
         self.latest = latest;
         match mem::replace(&mut self.stage, stage) {

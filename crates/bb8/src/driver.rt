@@ -1,15 +1,17 @@
 //! A driver of a pool, and a thread that makes its turns.
 ghost use Rattle.std.specs.Prelude.{◌≡◌, ℕ, ⊤, Bool, true, IfOk};
 ghost use Rattle.std.specs.Arc.{arc_value};
-ghost use Rattle.bb8.specs.Drivers.{has_ended, IsDriverOf};
+ghost use Rattle.std.specs.Duration.{as_nanos};
+ghost use Rattle.bb8.specs.Drivers.{has_ended, IsDriverOf, Runs, TurnsNow};
 
 use crate::jobs::{Job, NoThread, start};
 use crate::pool::Pool;
-use bb8_core::Joined;
-use bb8_core::api::{Clock, CustomizeConnection, ErrorSink, ManageConnection, Memory, Moment};
-use bb8_lock::{Drives, Given, LinkHome, Parts, PoolParts, Shared, These};
+use bb8_core::api::{
+    Clock, Config, CustomizeConnection, ErrorSink, ManageConnection, Memory, Moment,
+};
+use bb8_lock::{Bell, Given, Links, Parts, PoolParts, Shared, These};
 pub use bb8_tasks::Turn;
-use bb8_tasks::{Opener, PoolOpener, Reports, Turning};
+use bb8_tasks::{Home, Opener, Reports, Turning};
 use std::alloc::Global;
 use std::sync::{Arc, Wait};
 use std::thread::{JoinHandle, Threads};
@@ -100,13 +102,7 @@ impl<G: Given<Runtime: Wait>, L: Parts> DriverCalls for Driver<G, L> {
         ensures stays { has_ended self.old ≡ true → result.ended ≡ true }
     {
         let pool = &*self.shared;
-        let calls = PoolOpener::new(
-            &pool.manager,
-            &pool.error_sink,
-            &pool.customizer,
-            &pool.clock,
-        );
-        pool.turn_with(calls, &mut self.turning, moment)
+        self.turning.turn(moment, &mut pool.linked(), &pool.config)
     }
 
     fn turn_now(&mut self) -> Turn
@@ -176,57 +172,46 @@ impl<G: Given<Runtime: Wait>, L: Parts> Driver<G, L> {
     }
 }
 
-/// Runs of turns over any calls outside, as a method of an impl, so that a thread can make one.
-trait RunsWith<C, E, V, A> {
-    /// Turns, each at a reading of the clock, until one has ended or the gate does not pause.
-    fn run_with<W: Opener<C, E, Connecting = V, Acquiring = A> + Reports<E> + Drop, P: Gate>(
-        &self,
-        outside: W,
-        turning: &mut Turning<C, V, A>,
-        gate: &mut P,
-    ) -> Driven;
-}
-
-impl<G: Given<Runtime: Wait>, L: Parts, A> RunsWith<G::Connection, G::Error, G::Connecting, A>
-    for Shared<G, L> {
-    ghost use Rattle.bb8.specs.Drivers.{LinkRuns};
-
-    fn run_with<
-        W: Opener<G::Connection, G::Error, Connecting = G::Connecting, Acquiring = A>
-            + Reports<G::Error>
-            + Drop,
-        P: Gate,
-    >(
-        &self,
-        outside: W,
-        turning: &mut Turning<G::Connection, G::Connecting, A>,
-        gate: &mut P,
-    ) -> Driven
-        ensures { LinkRuns W.Opener W.Reports self.now P.pauses turning.old outside gate.old
-            result }
-    {
-        let home = LinkHome::new(&self.locked, &self.rt);
-        let mut pool = Joined { outside, home };
-        let mut turns: u64 = 0;
-        for _ in self.rt.forever() {
-            let rings = self.locked.drivers.rings();
-            let at = pool.now();
-            let turn = turning.turn(at, &mut pool, &self.config);
-            turns = turns.saturating_add(1);
-            if turn.ended {
-                return Driven { turns, ended: true };
-            }
-            if !gate.pause() {
-                return Driven {
-                    turns,
-                    ended: false,
-                };
-            }
-            let most = rest(turning.next_due(), at, gate.longest());
-            self.locked.drivers.sleep(&self.rt, rings, most);
+/// Turns, each at a reading of the clock, until one has ended or the gate does not pause. Between two turns the thread sleeps until the bell is
+/// rung, or something is due.
+fn run<
+    C,
+    V,
+    A,
+    E: Drop,
+    X: Home<C> + Opener<C, E, Connecting = V, Acquiring = A> + Reports<E>,
+    R: Wait,
+    P: Gate,
+>(
+    pool: &mut X,
+    bell: &Bell,
+    rt: &R,
+    config: &Config,
+    turning: &mut Turning<C, V, A>,
+    gate: &mut P,
+) -> Driven
+    ensures { Runs (TurnsNow X.Home X.Opener X.Reports (as_nanos config.now.connection_timeout)
+        config.now.retry_connection) P.pauses (turning.old, pool.old) gate.old 0 result }
+{
+    let mut turns: u64 = 0;
+    for _ in rt.forever() {
+        let rings = bell.rings();
+        let at = pool.now();
+        let turn = turning.turn(at, pool, config);
+        turns = turns.saturating_add(1);
+        if turn.ended {
+            return Driven { turns, ended: true };
         }
-        unreachable!()
+        if !gate.pause() {
+            return Driven {
+                turns,
+                ended: false,
+            };
+        }
+        let most = rest(turning.next_due(), at, gate.longest());
+        bell.sleep(rt, rings, most);
     }
+    unreachable!()
 }
 
 /// Runs of a driver's turns, as a method of an impl, so that a thread can make one.
@@ -242,13 +227,14 @@ impl<G: Given<Runtime: Wait>, L: Parts> RunsTurns for Driver<G, L> {
         ensures { RunsDriver P.pauses self.old gate.old result }
     {
         let pool = &*self.shared;
-        let calls = PoolOpener::new(
-            &pool.manager,
-            &pool.error_sink,
-            &pool.customizer,
-            &pool.clock,
-        );
-        pool.run_with(calls, &mut self.turning, gate)
+        run(
+            &mut pool.linked(),
+            &pool.locked.drivers,
+            &pool.rt,
+            &pool.config,
+            &mut self.turning,
+            gate,
+        )
     }
 }
 
@@ -260,13 +246,7 @@ impl<G: Given, L: Parts> Drop for Driver<G, L> {
     {
         let Driver { shared, turning } = self;
         let pool = &*shared;
-        let calls = PoolOpener::new(
-            &pool.manager,
-            &pool.error_sink,
-            &pool.customizer,
-            &pool.clock,
-        );
-        pool.drop_turning(calls, turning);
+        turning.let_go(&mut pool.linked());
     }
 }
 

@@ -4,8 +4,7 @@ ghost use Rattle.std.specs.Arc.{arc_value};
 
 use crate::pool::{Pool, PoolCalls};
 use bb8_core::api::RunError;
-use bb8_gets::Calls;
-use bb8_lock::{Given, Handle, Joining, OnShared, Parts, Shared};
+use bb8_lock::{Given, Handle, Joining, Links, Parts, Shared, join};
 use std::alloc::Global;
 use std::sync::{Arc, Wait};
 
@@ -34,8 +33,7 @@ impl<'a, G: Given, L: Parts> Joins for &'a Pool<G, L> {
             return Err(RunError::Memory);
         };
         let pool = &*self.shared;
-        let calls = Calls::new(&pool.manager, &pool.error_sink, &pool.clock);
-        match pool.count_one(calls) {
+        match join(&mut pool.linked()) {
             Joining::Joined(handle) => Ok(Holding { shared, handle }),
             Joining::Exhausted | Joining::Unfit => Err(RunError::Exhausted),
         }

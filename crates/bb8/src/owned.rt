@@ -5,8 +5,8 @@ ghost use Rattle.std.specs.Arc.{arc_value};
 use crate::handles::Holding;
 use crate::pool::{Cancel, Pool, PoolCalls};
 use bb8_core::api::RunError;
-use bb8_gets::{Calls, GetState, Taken};
-use bb8_lock::{GetCalls, Given, OnShared, Part, Parts};
+use bb8_gets::{GetState, Taken};
+use bb8_lock::{Given, Links, Part, Parts, cancel_and_leave, give_back_and_leave, leave};
 use futures::Future;
 use futures::task::{Context, Poll};
 use std::fmt::{Debug, Formatter};
@@ -77,16 +77,14 @@ impl<G: Given, L: Parts> Owns for Holding<G, L> {
         ensures { OwnPolls (arc_value self.now.shared) get.old.stage result get.new.stage }
     {
         let shared = &*self.shared;
-        let calls = Calls::new(&shared.manager, &shared.error_sink, &shared.clock);
-        shared.poll_get(calls, get)
+        get.poll_with(shared.linked(), shared.config.connection_timeout)
     }
 
     fn let_go(&self, get: Self::Get)
         ensures { OwnCancels (arc_value self.now.shared) get.stage }
     {
         let shared = &*self.shared;
-        let calls = Calls::new(&shared.manager, &shared.error_sink, &shared.clock);
-        shared.cancel_get(calls, get);
+        get.cancel_with(shared.linked());
     }
 
     fn cancel_owned(self, get: Self::Get)
@@ -94,8 +92,7 @@ impl<G: Given, L: Parts> Owns for Holding<G, L> {
     {
         let Holding { shared, handle } = self;
         let pool = &*shared;
-        let calls = Calls::new(&pool.manager, &pool.error_sink, &pool.clock);
-        pool.cancel_and_leave(calls, get, handle);
+        cancel_and_leave(&mut pool.linked(), get, handle);
     }
 
     fn give_back_owned(self, taken: Self::Taken)
@@ -103,8 +100,7 @@ impl<G: Given, L: Parts> Owns for Holding<G, L> {
     {
         let Holding { shared, handle } = self;
         let pool = &*shared;
-        let calls = Calls::new(&pool.manager, &pool.error_sink, &pool.clock);
-        pool.give_back_and_leave(calls, taken, handle);
+        give_back_and_leave(&mut pool.linked(), taken, handle);
     }
 
     fn leave_owned(self)
@@ -112,8 +108,7 @@ impl<G: Given, L: Parts> Owns for Holding<G, L> {
     {
         let Holding { shared, handle } = self;
         let pool = &*shared;
-        let calls = Calls::new(&pool.manager, &pool.error_sink, &pool.clock);
-        pool.leave(calls, handle);
+        leave(&mut pool.linked(), handle);
     }
 }
 

@@ -17,8 +17,10 @@ use bb8_core::api::{
     AddError, Clock, Config, CustomizeConnection, ErrorSink, ManageConnection, Memory,
     NopCustomizer, NopErrorSink, RunError, SetClock, State,
 };
-use bb8_gets::{Calls, GetState, Taken};
-use bb8_lock::{Given, Handle, Locks, OnShared, Part, Parts, Shared, These, Waits};
+use bb8_gets::{GetState, Taken};
+use bb8_lock::{
+    Given, Handle, Links, Locks, Part, Parts, Shared, These, add, give_back, state, take_now, wait,
+};
 use std::alloc::Global;
 use std::fmt;
 use std::fmt::{Debug, Formatter};
@@ -245,8 +247,8 @@ impl<'a, G: Given<Runtime: Wait>, L: Parts> PoolCalls for &'a Pool<G, L> {
         ensures { GetsAtOnce self.now result }
     {
         let shared = &*self.shared;
-        let calls = Calls::new(&shared.manager, &shared.error_sink, &shared.clock);
-        match shared.take_now_with(calls) {
+        let answer = take_now(&mut shared.linked(), shared.config.connection_timeout);
+        match answer {
             Ok(Some(taken)) => Ok(Some(PooledConnection {
                 shared,
                 taken,
@@ -270,8 +272,13 @@ impl<'a, G: Given<Runtime: Wait>, L: Parts> PoolCalls for &'a Pool<G, L> {
         ensures { WaitsForGet (as_nanos timeout) self.now result }
     {
         let shared = &*self.shared;
-        let calls = Calls::new(&shared.manager, &shared.error_sink, &shared.clock);
-        match shared.wait_for(calls, timeout) {
+        let answer = wait(
+            &mut shared.linked(),
+            &shared.locked.gets,
+            &shared.rt,
+            timeout,
+        );
+        match answer {
             Ok(taken) => Ok(PooledConnection {
                 shared,
                 taken,
@@ -289,8 +296,13 @@ impl<'a, G: Given<Runtime: Wait>, L: Parts> PoolCalls for &'a Pool<G, L> {
             Err(error) => return Err(error),
         };
         let shared = &*holding.shared;
-        let calls = Calls::new(&shared.manager, &shared.error_sink, &shared.clock);
-        match shared.wait_for(calls, shared.config.connection_timeout) {
+        let answer = wait(
+            &mut shared.linked(),
+            &shared.locked.gets,
+            &shared.rt,
+            shared.config.connection_timeout,
+        );
+        match answer {
             Ok(taken) => Ok(OwnedConnection { holding, taken }),
             Err(error) => {
                 holding.leave_owned();
@@ -315,8 +327,7 @@ impl<'a, G: Given<Runtime: Wait>, L: Parts> PoolCalls for &'a Pool<G, L> {
         ensures { OwnAdds (arc_value self.now.shared) conn result }
     {
         let shared = &*self.shared;
-        let calls = Calls::new(&shared.manager, &shared.error_sink, &shared.clock);
-        shared.add_with(calls, conn)
+        add(&mut shared.linked(), conn)
     }
 
     fn state(self) -> State
@@ -325,8 +336,7 @@ impl<'a, G: Given<Runtime: Wait>, L: Parts> PoolCalls for &'a Pool<G, L> {
         ensures idle { result.idle_connections ≤ result.connections }
     {
         let shared = &*self.shared;
-        let calls = Calls::new(&shared.manager, &shared.error_sink, &shared.clock);
-        shared.state_with(calls)
+        state(&mut shared.linked())
     }
 
     fn try_clone(self) -> Result<Pool<G, L>, RunError<G::Error>>
@@ -462,8 +472,7 @@ impl<G: Given, L: Parts> Drop for PooledConnection<'_, G, L> {
             taken,
             lends: _,
         } = self;
-        let calls = Calls::new(&shared.manager, &shared.error_sink, &shared.clock);
-        shared.give_back(calls, taken);
+        give_back(&mut shared.linked(), taken);
     }
 }
 

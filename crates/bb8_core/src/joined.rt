@@ -8,3 +8,16 @@ pub struct Joined<W, H> {
     /// The home.
     pub home: H,
 }
+
+/// The manager, the error sink, the customizer and the clock of a pool: what its gets, guards, tasks and driver call. Our own.
+#[derive(Drop)]
+pub struct Calls<'a, M, S, Z, K> {
+    /// The manager.
+    pub manager: &'a M,
+    /// The error sink.
+    pub sink: &'a S,
+    /// The customizer.
+    pub customizer: &'a Z,
+    /// The clock.
+    pub clock: &'a K,
+}

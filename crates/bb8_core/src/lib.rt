@@ -9,4 +9,4 @@ pub mod internals;
 mod joined;
 pub mod replay;
 
-pub use joined::Joined;
+pub use joined::{Calls, Joined};

@@ -1,36 +1,14 @@
-//! The manager, the error sink and the clock of a pool as what gets and guards call.
+//! A pool's manager, error sink and clock as what gets and guards call.
 ghost use Rattle.std.specs.Prelude.{◌≡◌};
 
 use super::outside::Outside;
+use bb8_core::Calls;
 use bb8_core::api::{Clock, ErrorSink, ManageConnection, Moment};
 use futures::task::Poll;
 
-/// The manager, the error sink and the clock of a pool, which its gets and guards call.
-#[derive(Drop)]
-pub struct Calls<'a, M, S, K> {
-    manager: &'a M,
-    sink: &'a S,
-    clock: &'a K,
-}
-
-impl<'a, M, S, K> Calls<'a, M, S, K> {
-    /// The calls of these three.
-    pub fn new(manager: &'a M, sink: &'a S, clock: &'a K) -> Self
-        ensures manager { result.manager.now ≡ manager.now }
-        ensures sink { result.sink.now ≡ sink.now }
-        ensures clock { result.clock.now ≡ clock.now }
-    {
-        Calls {
-            manager,
-            sink,
-            clock,
-        }
-    }
-}
-
 /// Each relation is the user's own, and no call changes which manager, sink and clock these are.
-impl<M: ManageConnection, S: ErrorSink<M::Error>, K: Clock> Outside<M::Connection, M::Error>
-    for Calls<'_, M, S, K> {
+impl<M: ManageConnection, S: ErrorSink<M::Error>, Z, K: Clock> Outside<M::Connection, M::Error>
+    for Calls<'_, M, S, Z, K> {
     type Checking = M::Checking;
 
     ghost tells = { λ calls moment after. K.tells calls.clock.now moment × (after ≡ calls) };

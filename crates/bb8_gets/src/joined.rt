@@ -27,6 +27,7 @@ impl<C, W, H: GetHome<C>> GetHome<C> for Joined<W, H> {
         self.home.look(at)
     }
 
+    #[inline(always)]
     fn serve(&mut self, at: Moment) -> (Looked, Option<(Taken<C, H::Part>, Grant)>) {
         let answer = self.home.serve(at);
         answer

@@ -10,7 +10,6 @@ mod rows;
 mod state;
 
 pub use bb8_core::Joined;
-pub use calls::Calls;
 pub use home::{GetHome, Passed, Returned, Taken, Tried};
 pub use outside::Outside;
 pub use rows::ask;

@@ -1,7 +1,8 @@
 -- What guards and handles do with a pool, over the relations of any home with sections and of any calls outside. As these are free, each says
 -- which calls and steps are made, how many, and in which order.
 use Rattle.std.specs.Prelude.{◌≡◌, ℕ, ◌<◌, Bool, Option, Some, None, Result, Ok, Err}
-use Rattle.bb8_lock.specs.Words.{Poll, Ready, Pending, AddError, RunError, State, Moment, AddAnswer, HomeOf, Taken, OutsideOf, Settled, Stage, Asks, Cancels, Starts, Joining, SectionsOf}
+use Rattle.bb8_lock.specs.Words.{Poll, Ready, Pending, AddError, RunError, State, Moment, AddAnswer, HomeOf, Taken, OutsideOf, Settled, Stage, Asks, Cancels, Starts, GetPolls, Joining, SectionsOf}
+use Rattle.bb8_gets.specs.declared.state.Stage.TheVariants.{Fresh}
 use Rattle.bb8_types.specs.declared.api.errors.AddError.TheVariants.{Broken, NoCapacity, Withheld}
 use Rattle.bb8_core.specs.declared.answers.AddAnswer.TheVariants as adding
 use Rattle.bb8_core.specs.declared.answers.LeaveAnswer.{LeaveAnswer}
@@ -26,6 +27,11 @@ abbrev pub served_in : {A E : Type 0} → Poll (Result A E) → Result (Option A
 served_in (Ready (Ok a)) = Ok (Some a)
 served_in (Ready (Err e)) = Err e
 served_in Pending = Ok None
+
+-- x is the answer of this poll, or of a later one, where each poll is a step
+pub data Answers {S A : Type 0} (step : S → Poll A → S → Type 0) : S → A → Type 0 where
+  now : (s t : S) (x : A) → step s (Ready x) t → Answers step s x
+  later : (s t : S) (x : A) → step s Pending t → Answers step t x → Answers step s x
 
 module _ {C E V X : Type 0} (outside : OutsideOf X C E V) where
   -- a connection that is not idle now is dropped
@@ -86,3 +92,20 @@ module _ {C E V P X : Type 0} (home : HomeOf X C P) (sections : SectionsOf X C P
       × ((state : State) × (x3 : X) × sections.makes x2 seen.moment (section.Shows state) x3
       × (state.idle_connections ≡ 0 → (result ≡ Ok None) × home.releases x3 x')
       × (0 < state.idle_connections → TriesOnce seen.moment timeout x3 result x')))
+
+-- a get for which a thread waits, over any home and any calls outside
+module _ {C E V P X : Type 0} (home : HomeOf X C P) (outside : OutsideOf X C E V) where
+  -- What follows a poll: where it was pending the home is released, and the clock read for how long the thread sleeps; a get that was answered
+  -- is let go.
+  abbrev AfterPoll : Poll (Result (Taken C P) (RunError E)) → Stage C V P → X → X → Type 0
+  AfterPoll Pending stage x x' = (x1 : X) × home.releases x x1 × ((at : Moment) × outside.tells x1 at x')
+  AfterPoll (Ready r) stage x x' = Cancels home outside stage x x'
+
+  -- one poll of such a get, which has so much time, and what follows it
+  abbrev pub WaitsOnce : ℕ → Stage C V P × X → Poll (Result (Taken C P) (RunError E)) → Stage C V P × X → Type 0
+  WaitsOnce timeout before answer after =
+      (x : X) × GetPolls home outside timeout before.0 before.1 (record { answer = answer; stage = after.0 }) x × AfterPoll answer after.0 x after.1
+
+  -- a new get is polled until it answers
+  abbrev pub Waits : ℕ → X → Result (Taken C P) (RunError E) → Type 0
+  Waits timeout x result = Answers (WaitsOnce timeout) (Fresh, x) result

@@ -32,7 +32,6 @@ pub use Rattle.bb8_types.specs.declared.api.clocks.Clock.{Ghosts as ClockOf}
 pub use Rattle.bb8_types.specs.declared.api.sinks.ErrorSink.{Ghosts as SinkOf}
 pub use Rattle.bb8_types.specs.declared.api.customizers.CustomizeConnection.{Ghosts as CustomizerOf}
 pub use Rattle.bb8_tasks.specs.declared.opener.Opener.{Ghosts as OpenerOf}
-pub use Rattle.bb8_tasks.specs.declared.opener.PoolOpener.{PoolOpener}
 pub use Rattle.bb8_tasks.specs.declared.rounds.Reports.{Ghosts as ReportsOf}
 pub use Rattle.bb8_tasks.specs.Joined.{joined_opener, joined_reports, joined_tasks}
 pub use Rattle.bb8_types.specs.declared.grants.Grant.{Grant}

@@ -6,18 +6,15 @@
 mod bell;
 mod calls;
 mod gathered;
-mod gets;
 mod given;
 mod home;
 mod link;
+mod linked;
 mod locked;
 mod locks;
-mod on_shared;
-mod opening;
 mod opens;
 mod section_home;
 mod shared;
-mod turning;
 mod waits;
 
 pub use bell::{Bell, Belled};
@@ -25,14 +22,11 @@ pub use calls::{
     add, cancel_and_leave, give_back, give_back_and_leave, join, leave, state, take_now,
 };
 pub use gathered::Gathered;
-pub use gets::GetCalls;
 pub use given::{Given, These};
 pub use link::LinkHome;
+pub use linked::Links;
 pub use locked::{Locked, NewPool, Part, Parts, PoolParts, begin_pool};
 pub use locks::Locks;
-pub use on_shared::OnShared;
-pub use opening::Opens;
 pub use section_home::{Handle, Joining, SectionHome};
 pub use shared::Shared;
-pub use turning::Drives;
-pub use waits::Waits;
+pub use waits::wait;

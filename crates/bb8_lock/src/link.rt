@@ -1,21 +1,22 @@
-//! A lock as a home of gets and of sections.
+//! A lock as a home of gets, of sections, and of the tasks that open connections, of the driver and of the reaper.
 ghost use Rattle.std.specs.Prelude.{◌≡◌, None};
 ghost use Rattle.bb8_gets.specs.Steps.{Fails, GivesBack};
 ghost use Rattle.bb8_lock.specs.Linked.{LeadsHeld, StartsAt};
 ghost use Rattle.bb8_lock.specs.SectionSteps.{PutsBack};
 ghost use Rattle.std.specs.Sync.Mutex.{mutex_guard_value};
 
-use crate::bell::{Belled, Rings};
+use crate::bell::{Belled, Notifies, Rings};
 use crate::locks::Locks;
 use crate::section_home::Ends;
 use crate::{Handle, Joining, SectionHome};
 use bb8_core::api::{Moment, State};
 use bb8_core::asked::Unfit;
 use bb8_core::internals::{
-    AddAnswer, BeginAnswer, CheckedErrAnswer, GetKey, GiveUpAnswer, Grant, Key, LeaveAnswer,
-    Looked, PutBackAnswer, Reason,
+    AddAnswer, BeginAnswer, CheckedErrAnswer, ClaimAnswer, FailedAnswer, GetKey, GiveUpAnswer,
+    Grant, Key, LeaveAnswer, Looked, OpenedAnswer, PutBackAnswer, ReapAnswer, Reason,
 };
 use bb8_gets::{GetHome, Passed, Returned, Taken, Tried};
+use bb8_tasks::Home;
 use std::sync::MutexGuard;
 
 /// The lock of a home as a home: it is taken at a step where it is not held, and held until it is released. After the release the bells
@@ -230,5 +231,42 @@ impl<'a, C, T: SectionHome<C> + Ends, R: Locks> SectionHome<C> for LinkHome<'a, 
         self.rings.drivers |= guard.is_over();
         self.held = Some(guard);
         answer
+    }
+}
+
+/// The lock is taken for each step, and is free again when the step has answered.
+impl<C, T: Home<C>, R: Locks> Home<C> for LinkHome<'_, T, R> {
+    ghost use Rattle.bb8_lock.specs.Opening.{Visits};
+
+    ghost steps = { λ h at s h'. Visits (λ t t'. T.steps t at s t') h.held h'.held };
+
+    fn look(&mut self, at: Moment) -> Looked {
+        let mut guard = self.hold();
+        guard.look(at)
+    }
+
+    fn opened(&mut self, at: Moment, approval: Key, connection: C) -> Result<OpenedAnswer<C>, C> {
+        let mut guard = self.hold();
+        let answer = guard.opened(at, approval, connection);
+        drop(guard);
+        if answer.notifies() {
+            self.belled.gets.ring();
+        }
+        answer
+    }
+
+    fn failed(&mut self, at: Moment, approval: Key) -> Result<FailedAnswer, Unfit> {
+        let mut guard = self.hold();
+        guard.failed(at, approval)
+    }
+
+    fn claim(&mut self, at: Moment) -> ClaimAnswer {
+        let mut guard = self.hold();
+        guard.claim(at)
+    }
+
+    fn reap(&mut self, at: Moment) -> ReapAnswer {
+        let mut guard = self.hold();
+        guard.reap(at)
     }
 }

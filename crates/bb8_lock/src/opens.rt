@@ -5,9 +5,9 @@ ghost use Rattle.bb8_tasks.specs.Homes.{TaskStepsBy};
 use crate::locked::{Locked, Parts};
 use bb8_core::api::Moment;
 use bb8_core::asked::{self, Unfit};
-use bb8_core::internals::{ClaimAnswer, FailedAnswer, Key, Looked, OpenedAnswer};
+use bb8_core::internals::{ClaimAnswer, FailedAnswer, Key, Looked, OpenedAnswer, ReapAnswer};
 use bb8_gets::GetHome;
-use bb8_tasks::{Home, ReapStep};
+use bb8_tasks::Home;
 
 /// Each step leads from the state that stands there to the next one.
 impl<C: Drop, L: Parts> Home<C> for Locked<C, L> {
@@ -34,9 +34,9 @@ impl<C: Drop, L: Parts> Home<C> for Locked<C, L> {
     }
 
     /// The connections that it closes are dropped under the lock.
-    fn reap(&mut self, at: Moment) -> ReapStep {
+    fn reap(&mut self, at: Moment) -> ReapAnswer {
         self.limits();
         let Locked { core, .. } = self;
-        ReapStep::from(core.reap(at))
+        core.reap(at)
     }
 }

@@ -1,19 +1,12 @@
 -- What the steps of tasks and of a reaper are and answer, in the words of the ledger.
 use Rattle.std.specs.Prelude.{ℕ}
-use Rattle.bb8_tasks.specs.Words.{Answer, Moment, ReapStep}
+use Rattle.bb8_tasks.specs.Words.{Answer, Moment}
 use Rattle.bb8_ledger.specs.Acts as acts
 use Rattle.bb8_ledger.specs.Acts.{Act}
-use Rattle.bb8_ledger.specs.Answers as answers
 use Rattle.bb8_core.specs.Asked.{OrComesBack, Stepped}
 use Rattle.bb8_core.specs.Shown.{Shown}
-use Rattle.bb8_core.specs.StepAnswers.{claim_told, failed_told, look_told, opened_told, HandsBack}
-use Rattle.bb8_tasks.specs.declared.home.ReapStep.TheVariants as reaped
+use Rattle.bb8_core.specs.StepAnswers.{claim_told, failed_told, look_told, opened_told, reap_told, HandsBack}
 use Rattle.bb8_tasks.specs.TaskSteps.{TaskStep, Looks, Opens, Fails, Claims, Reaps}
-
--- a reap's answer, by plain numbers
-abbrev pub reap_told : ReapStep → Answer
-reap_told (reaped.Reaped r) = answers.Reaped r.closed r.by_idle r.by_life r.grant
-reap_told reaped.Ended = answers.Ended
 
 module _ {C : Type 0} (Makes : Shown C → ℕ → Act C → Answer → Shown C → Type 0) where
   -- a step of a home that makes its events like this: the event and its answer, and which connection comes back; a step that does not fit

@@ -5,7 +5,7 @@ use Rattle.bb8_tasks.specs.declared.backoff.Reply.TheVariants as replies
 use Rattle.bb8_tasks.specs.declared.backoff.Scripted.{Scripted}
 use Rattle.bb8_core.specs.declared.answers.FailedAnswer.TheVariants as failing
 use Rattle.bb8_core.specs.declared.answers.OpenedAnswer.TheVariants as opening
-use Rattle.bb8_tasks.specs.declared.home.ReapStep.TheVariants as reaping
+use Rattle.bb8_core.specs.declared.answers.ReapAnswer.TheVariants as reaping
 use Rattle.bb8_core.specs.declared.answers.ClaimAnswer.TheVariants as claiming
 use Rattle.bb8_tasks.specs.Replenishing.{fresh, TaskPolls}
 use Rattle.bb8_tasks.specs.TaskSteps.{TaskStep, Looks, Opens, Fails, Claims, Reaps}

@@ -1,7 +1,7 @@
 -- The ticks of a reaper, and the table of its polls, over the relations of any home.
 use Rattle.std.specs.Prelude.{◌≡◌, ℕ, ◌+◌, ◌*◌, ◌<◌, ◌≤◌, leb, max, Bool, true, false, Option, Some, None}
-use Rattle.bb8_tasks.specs.Words.{MatchBool, as_nanos, HomeOf, Moment, last_moment, Looked, ReapStep, Reaper, ReaperAnswer}
-use Rattle.bb8_tasks.specs.declared.home.ReapStep.TheVariants as reap
+use Rattle.bb8_tasks.specs.Words.{MatchBool, as_nanos, HomeOf, Moment, last_moment, Looked, ReapAnswer, Reaper, ReaperAnswer}
+use Rattle.bb8_core.specs.declared.answers.ReapAnswer.TheVariants as reap
 use Rattle.bb8_tasks.specs.declared.reaper.ReaperAnswer.TheVariants.{Idle, Reaped, Ended}
 use Rattle.bb8_tasks.specs.TaskSteps as task
 
@@ -23,13 +23,14 @@ Stands t due ended t' = (t'.start ≡ t.start) × (t'.rate ≡ t.rate) × (t'.du
 
 module _ {C H : Type 0} (home : HomeOf H C) where
   -- after the step `reap` at a moment
-  abbrev pub AfterReap : ReapStep → Moment → Reaper → ReaperAnswer → Reaper → Type 0
-  AfterReap (reap.Reaped reaped) m t r t' = IsNextTick t.start (as_nanos t.rate) m t'.due × Stands t t'.due t.ended t' × (r ≡ Reaped reaped)
+  abbrev pub AfterReap : ReapAnswer → Moment → Reaper → ReaperAnswer → Reaper → Type 0
+  AfterReap (reap.Reaped closed by_idle by_life grant) m t r t' =
+      IsNextTick t.start (as_nanos t.rate) m t'.due × Stands t t'.due t.ended t' × (r ≡ Reaped closed by_idle by_life grant)
   AfterReap reap.Ended m t r t' = Stands t t.due true t' × (r ≡ Ended)
 
   -- a tick is due: the pool is reaped, once
   abbrev pub Reaps : Moment → Reaper → H → ReaperAnswer → Reaper → H → Type 0
-  Reaps m t h r t' h' = (s : ReapStep) × home.steps h m (task.Reaps s) h' × AfterReap s m t r t'
+  Reaps m t h r t' h' = (s : ReapAnswer) × home.steps h m (task.Reaps s) h' × AfterReap s m t r t'
 
   -- the rows after the look: no handle is alive, a tick is due, none is due
   abbrev pub ReaperProceeds : Bool → Moment → Reaper → H → ReaperAnswer → Reaper → H → Type 0

@@ -1,6 +1,6 @@
 -- A list of tasks: how it grows, and how its tasks are polled, each once and in their order.
 use Rattle.std.specs.Prelude.{◌≡◌, ℕ, zero, suc, ◌+◌, Option, Some, None, List, [], ◌∷◌, ◌++◌, length}
-use Rattle.bb8_tasks.specs.Words.{Key, Replenish, ReplenishAnswer, Retrying, Failed, Round}
+use Rattle.bb8_tasks.specs.Words.{Key, Moment, Replenish, ReplenishAnswer, Retrying, Failed, Round}
 use Rattle.bb8_core.specs.declared.answers.ClaimAnswer.{ClaimAnswer}
 use Rattle.bb8_core.specs.declared.answers.ClaimAnswer.TheVariants.{Claimed, Ended}
 use Rattle.bb8_tasks.specs.declared.replenish.ReplenishAnswer.TheVariants.{Pending}
@@ -86,3 +86,7 @@ module _ {T E X : Type 0} (polls : T → X → ReplenishAnswer E → T → X →
   Rounds ts x r x' =
       (stopped : Option E) × (left : List T) × (x1 : X) × PollsUntil polls sinks Stop ts x stopped left x1
       × AfterRound stopped left x1 r x'
+
+-- the clock is read, and then this is done at its moment
+abbrev pub AtReading : {X : Type 0} → (X → Moment → X → Type 0) → (Moment → X → X → Type 0) → X → X → Type 0
+AtReading {X} tells Does x x' = (at : Moment) × (x1 : X) × tells x at x1 × Does at x1 x'

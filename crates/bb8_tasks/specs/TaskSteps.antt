@@ -6,7 +6,7 @@ use Rattle.std.specs.Prelude.{Result}
 use Rattle.bb8_core.specs.declared.asked.Unfit.{Unfit}
 use Rattle.bb8_core.specs.declared.answers.FailedAnswer.{FailedAnswer}
 use Rattle.bb8_core.specs.declared.answers.OpenedAnswer.{OpenedAnswer}
-use Rattle.bb8_tasks.specs.declared.home.ReapStep.{ReapStep}
+use Rattle.bb8_core.specs.declared.answers.ReapAnswer.{ReapAnswer}
 
 -- Each step, of which approval, with what is handed in, and its answer.
 pub data TaskStep (C : Type 0) : Type 0 where
@@ -14,4 +14,4 @@ pub data TaskStep (C : Type 0) : Type 0 where
   Opens : Key → C → Result (OpenedAnswer C) C → TaskStep C
   Fails : Key → Result FailedAnswer Unfit → TaskStep C
   Claims : ClaimAnswer → TaskStep C
-  Reaps : ReapStep → TaskStep C
+  Reaps : ReapAnswer → TaskStep C

@@ -15,7 +15,7 @@ pub use Rattle.bb8_core.specs.declared.asked.Unfit.{Unfit}
 pub use Rattle.bb8_tasks.specs.declared.home.Home.{Ghosts as HomeOf}
 pub use Rattle.bb8_tasks.specs.declared.replenish.Replenish.{Replenish}
 pub use Rattle.bb8_tasks.specs.declared.replenish.ReplenishAnswer.{ReplenishAnswer}
-pub use Rattle.bb8_tasks.specs.declared.home.ReapStep.{ReapStep}
+pub use Rattle.bb8_core.specs.declared.answers.ReapAnswer.{ReapAnswer}
 pub use Rattle.std.specs.Duration.{as_nanos}
 pub use Rattle.bb8_core.specs.declared.answers.Looked.{Looked}
 pub use Rattle.bb8_tasks.specs.declared.reaper.Reaper.{Reaper}

@@ -5,12 +5,12 @@ ghost use Rattle.futures.specs.declared.task.Poll.TheVariants.{Ready};
 ghost use Rattle.bb8_tasks.specs.Bounded.{IsBounded, IsReached};
 ghost use Rattle.bb8_tasks.specs.Played.{told, begun, IsSteady, Polled, Plays, Runs};
 
-use super::home::{Home, ReapStep};
+use super::home::Home;
 use super::opener::Opener;
 use super::replenish::{Replenish, ReplenishAnswer};
 use bb8_core::api::{Config, Memory, Moment};
 use bb8_core::asked::Unfit;
-use bb8_core::internals::{ClaimAnswer, FailedAnswer, Key, Looked, OpenedAnswer};
+use bb8_core::internals::{ClaimAnswer, FailedAnswer, Key, Looked, OpenedAnswer, ReapAnswer};
 use futures::task::Poll;
 use std::alloc::Global;
 
@@ -109,8 +109,8 @@ impl Home<()> for Scripted {
         ClaimAnswer::Claimed(None)
     }
 
-    fn reap(&mut self, _at: Moment) -> ReapStep {
-        ReapStep::Ended
+    fn reap(&mut self, _at: Moment) -> ReapAnswer {
+        ReapAnswer::Ended
     }
 }
 

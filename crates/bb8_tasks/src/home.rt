@@ -4,29 +4,7 @@ ghost use Rattle.bb8_tasks.specs.TaskSteps.{TaskStep, Looks, Opens, Fails, Claim
 
 use bb8_core::api::Moment;
 use bb8_core::asked::Unfit;
-use bb8_core::internals::{ClaimAnswer, FailedAnswer, Grant, Key, Looked, OpenedAnswer};
-
-/// What a reap closed and granted. Our own.
-#[derive(Clone, Copy, Debug, PartialEq, Eq)]
-pub struct ReapedCounts {
-    /// How many connections were closed.
-    pub closed: u32,
-    /// How many of them had been idle for the `idle_timeout`, and had not lived for the `max_lifetime`.
-    pub by_idle: u32,
-    /// How many of them had lived for the `max_lifetime`.
-    pub by_life: u32,
-    /// What was granted in their place.
-    pub grant: Grant,
-}
-
-/// What a reap answers at a home. Our own.
-#[derive(Clone, Copy, Debug, PartialEq, Eq)]
-pub enum ReapStep {
-    /// This was closed and granted.
-    Reaped(ReapedCounts),
-    /// No handle is alive, and nothing changed but the latest moment.
-    Ended,
-}
+use bb8_core::internals::{ClaimAnswer, FailedAnswer, Key, Looked, OpenedAnswer, ReapAnswer};
 
 /// The steps that the tasks, the driver and the reaper of a pool make, on connections `C`: the plain state of a pool is such a home. Our own.
 ///
@@ -55,6 +33,6 @@ pub trait Home<C> {
         ensures { steps self.old at (Claims result) self.new };
 
     /// Closes the idle connections that live too long, and those that are idle too long beyond `min_idle`. Our own.
-    fn reap(&mut self, at: Moment) -> ReapStep
+    fn reap(&mut self, at: Moment) -> ReapAnswer
         ensures { steps self.old at (Reaps result) self.new };
 }

@@ -1,13 +1,13 @@
 //! A home of tasks and the calls outside as one value.
 ghost use Rattle.std.specs.Prelude.{◌≡◌};
 
-use super::home::{Home, ReapStep};
+use super::home::Home;
 use super::opener::Opener;
 use super::rounds::Reports;
 use bb8_core::Joined;
 use bb8_core::api::Moment;
 use bb8_core::asked::Unfit;
-use bb8_core::internals::{ClaimAnswer, FailedAnswer, Key, Looked, OpenedAnswer};
+use bb8_core::internals::{ClaimAnswer, FailedAnswer, Key, Looked, OpenedAnswer, ReapAnswer};
 use futures::task::Poll;
 
 impl<C, W, H: Home<C>> Home<C> for Joined<W, H> {
@@ -29,7 +29,7 @@ impl<C, W, H: Home<C>> Home<C> for Joined<W, H> {
         self.home.claim(at)
     }
 
-    fn reap(&mut self, at: Moment) -> ReapStep {
+    fn reap(&mut self, at: Moment) -> ReapAnswer {
         self.home.reap(at)
     }
 }

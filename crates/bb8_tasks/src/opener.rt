@@ -4,6 +4,7 @@ ghost use Rattle.futures.specs.declared.task.Poll.{Poll as PollOf};
 ghost use Rattle.bb8_types.specs.declared.api.moments.Moment.{Moment as MomentOf};
 
 use super::rounds::Reports;
+use bb8_core::Calls;
 use bb8_core::api::{Clock, CustomizeConnection, ErrorSink, ManageConnection, Moment};
 use futures::task::Poll;
 
@@ -80,37 +81,11 @@ pub trait Opener<C, E> {
         ensures { lets_go self.old connection self.new };
 }
 
-/// The manager, the error sink, the customizer and the clock of a pool: by these its connections are opened. Our own.
-#[derive(Drop)]
-pub struct PoolOpener<'a, M, S, Z, K> {
-    manager: &'a M,
-    sink: &'a S,
-    customizer: &'a Z,
-    clock: &'a K,
-}
-
-impl<'a, M, S, Z, K> PoolOpener<'a, M, S, Z, K> {
-    /// The calls of these four. Our own.
-    pub fn new(manager: &'a M, sink: &'a S, customizer: &'a Z, clock: &'a K) -> Self
-        ensures manager { result.manager.now ≡ manager.now }
-        ensures sink { result.sink.now ≡ sink.now }
-        ensures customizer { result.customizer.now ≡ customizer.now }
-        ensures clock { result.clock.now ≡ clock.now }
-    {
-        PoolOpener {
-            manager,
-            sink,
-            customizer,
-            clock,
-        }
-    }
-}
-
 /// Each relation is the user's own, and no call changes which manager and customizer these are.
 impl<M: ManageConnection, S, Z: CustomizeConnection<M::Connection, M::Error>, K> Opener<
     M::Connection,
     M::Error,
-> for PoolOpener<'_, M, S, Z, K> {
+> for Calls<'_, M, S, Z, K> {
     type Connecting = M::Connecting;
 
     type Acquiring = Z::Acquiring;
@@ -168,7 +143,7 @@ impl<M: ManageConnection, S, Z: CustomizeConnection<M::Connection, M::Error>, K>
 }
 
 /// Each relation is the user's own, and no call changes which sink and clock these are.
-impl<M, E, S: ErrorSink<E>, Z, K: Clock> Reports<E> for PoolOpener<'_, M, S, Z, K> {
+impl<M, E, S: ErrorSink<E>, Z, K: Clock> Reports<E> for Calls<'_, M, S, Z, K> {
     ghost tells = { λ opener moment after. K.tells opener.clock.now moment × (after ≡ opener) };
 
     ghost sinks = { λ opener e after. S.sinks opener.sink.now e × (after ≡ opener) };

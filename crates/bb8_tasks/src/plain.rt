@@ -1,37 +1,13 @@
 //! The plain state of a pool as a home of tasks, and of its driver and reaper.
-ghost use Rattle.std.specs.Prelude.{◌≡◌};
 ghost use Rattle.bb8_core.specs.Shown.{Steps};
-ghost use Rattle.bb8_core.specs.StepAnswers as plain;
-ghost use Rattle.bb8_tasks.specs.Homes.{reap_told, TaskStepsBy};
+ghost use Rattle.bb8_tasks.specs.Homes.{TaskStepsBy};
 
-use super::home::{Home, ReapStep, ReapedCounts};
+use super::home::Home;
 use bb8_core::api::Moment;
 use bb8_core::asked::{self, Unfit};
 use bb8_core::internals::{
     ClaimAnswer, FailedAnswer, Key, Looked, OpenedAnswer, PoolInternals, ReapAnswer,
 };
-
-impl From<ReapAnswer> for ReapStep {
-    ghost from_gives = { λ answer step. reap_told step ≡ plain.reap_told answer };
-
-    /// The same answer, at a home. Our own.
-    fn from(answer: ReapAnswer) -> Self {
-        match answer {
-            ReapAnswer::Reaped {
-                closed,
-                by_idle,
-                by_life,
-                grant,
-            } => ReapStep::Reaped(ReapedCounts {
-                closed,
-                by_idle,
-                by_life,
-                grant,
-            }),
-            ReapAnswer::Ended => ReapStep::Ended,
-        }
-    }
-}
 
 /// Each step that may not fit asks first.
 impl<C: Drop> Home<C> for PoolInternals<C> {
@@ -55,8 +31,8 @@ impl<C: Drop> Home<C> for PoolInternals<C> {
         PoolInternals::claim(self, at)
     }
 
-    fn reap(&mut self, at: Moment) -> ReapStep {
+    fn reap(&mut self, at: Moment) -> ReapAnswer {
         self.limits();
-        ReapStep::from(PoolInternals::reap(self, at))
+        PoolInternals::reap(self, at)
     }
 }

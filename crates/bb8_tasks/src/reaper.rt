@@ -4,8 +4,8 @@ ghost use Rattle.std.specs.Duration.{as_nanos};
 
 mod polls;
 
-use super::home::ReapedCounts;
 use bb8_core::api::Moment;
+use bb8_core::internals::Grant;
 use std::time::Duration;
 
 /// What a poll of a reaper answers. Our own.
@@ -14,7 +14,16 @@ pub enum ReaperAnswer {
     /// No tick is due.
     Idle,
     /// The pool was reaped: this was closed and granted.
-    Reaped(ReapedCounts),
+    Reaped {
+        /// How many connections were closed.
+        closed: u32,
+        /// How many of them had been idle for the `idle_timeout`, and had not lived for the `max_lifetime`.
+        by_idle: u32,
+        /// How many of them had lived for the `max_lifetime`.
+        by_life: u32,
+        /// What was granted in their place.
+        grant: Grant,
+    },
     /// No handle is alive, and the reaper ended.
     Ended,
 }

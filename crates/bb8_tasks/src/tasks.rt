@@ -3,7 +3,7 @@ ghost use Rattle.std.specs.Prelude.{◌≡◌, ◌+◌, ◌^◌, ◌<◌, ◌↔
 ghost use Rattle.std.specs.Duration.{as_nanos};
 ghost use Rattle.bb8_tasks.specs.Dues.{earlier, earliest};
 ghost use Rattle.bb8_tasks.specs.Replenishing.{TaskPolls, LetsGo};
-ghost use Rattle.bb8_tasks.specs.Sweeping.{AreFor, TakesTaskOn, PollsUntil, QueueTurns, LetsGoEach, Rounds};
+ghost use Rattle.bb8_tasks.specs.Sweeping.{AreFor, AtReading, TakesTaskOn, PollsUntil, QueueTurns, LetsGoEach, Rounds};
 ghost use Rattle.bb8_tasks.specs.TaskSteps.{Claims};
 ghost use Rattle.bb8_tasks.specs.declared.rounds.OnFailure.TheVariants.{GoOn as IsGoOn};
 
@@ -206,17 +206,29 @@ impl<C, V, A> Tasks<C, V, A> {
         queue.destroy_empty();
     }
 
-    /// A round of polls that stops at the first failure of a last try, and then lets all other tasks go. Our own.
+    /// As `give_back`, at a reading of the clock. Our own.
+    pub fn let_go<E, X: Home<C> + Opener<C, E, Connecting = V, Acquiring = A> + Reports<E>>(
+        self,
+        pool: &mut X,
+    )
+        ensures { AtReading X.tells (λ at. LetsGoEach (LetsGo X.Home X.Opener at) self)
+            pool.old pool.new }
+    {
+        let at = pool.now();
+        self.give_back(at, pool);
+    }
+
+    /// A round of polls at a reading of the clock, which stops at the first failure of a last try, and then lets all other tasks go. Our own.
     pub fn round<E, X: Home<C> + Opener<C, E, Connecting = V, Acquiring = A> + Reports<E>>(
         mut self,
-        at: Moment,
         pool: &mut X,
         config: &Config,
     ) -> Round<Self, E>
-        ensures { Rounds (TaskPolls X.Home X.Opener (as_nanos config.now.connection_timeout)
-            config.now.retry_connection at) X.sinks (LetsGo X.Home X.Opener at) self pool.old
-            result pool.new }
+        ensures { AtReading X.tells (λ at x x'. Rounds (TaskPolls X.Home X.Opener
+            (as_nanos config.now.connection_timeout) config.now.retry_connection at) X.sinks
+            (LetsGo X.Home X.Opener at) self x result x') pool.old pool.new }
     {
+        let at = pool.now();
         match self.poll_until(at, pool, config, OnFailure::Stop) {
             Some(error) => {
                 self.give_back(at, pool);

@@ -6,6 +6,7 @@ ghost use Rattle.bb8_tasks.specs.Dues.{driver_due};
 ghost use Rattle.bb8_tasks.specs.Replenishing.{TaskPolls};
 ghost use Rattle.bb8_tasks.specs.Rounds.{PollsEach};
 ghost use Rattle.bb8_tasks.specs.Turns.{is_ended, DriverBegins, IsFreshReaper, PollsReaper, DriverTurns, DriverLetsGo};
+ghost use Rattle.bb8_tasks.specs.Sweeping.{AtReading};
 
 use super::claims::claim_each;
 use crate::{Home, Opener, Reaper, Reports, Tasks};
@@ -145,5 +146,16 @@ impl<C, V, A> Turning<C, V, A> {
             Turning::Going(_reaper, tasks) => tasks.give_back(at, pool),
             Turning::Ended => {}
         }
+    }
+
+    /// As `give_back`, at a reading of the clock. Our own.
+    pub fn let_go<E, X: Home<C> + Opener<C, E, Connecting = V, Acquiring = A> + Reports<E>>(
+        self,
+        pool: &mut X,
+    )
+        ensures { AtReading X.tells (λ at. DriverLetsGo X.Home X.Opener at self) pool.old pool.new }
+    {
+        let at = pool.now();
+        self.give_back(at, pool);
     }
 }

@@ -3,8 +3,8 @@ ghost use Rattle.std.specs.Prelude.{◌≡◌};
 
 use crate::pool::{Cancel, Pool, PooledConnection};
 use bb8_core::api::RunError;
-use bb8_gets::{Calls, GetState};
-use bb8_lock::{GetCalls, Given, Part, Parts, Shared};
+use bb8_gets::GetState;
+use bb8_lock::{Given, Links, Part, Parts, Shared};
 use futures::Future;
 use futures::task::{Context, Poll};
 use std::marker::PhantomData;
@@ -73,8 +73,7 @@ impl<G: Given, L: Parts> Drop for GetFuture<'_, G, L> {
         ensures { CancelsGet self.entry }
     {
         let GetFuture { shared, get } = self;
-        let calls = Calls::new(&shared.manager, &shared.error_sink, &shared.clock);
-        shared.cancel_get(calls, get);
+        get.cancel_with(shared.linked());
     }
 }
 
@@ -100,8 +99,8 @@ impl<'a, G: Given<Runtime: Wait>, L: Parts> Future for GetFuture<'a, G, L> {
         ensures kept { Keeps cx.old cx.new }
     {
         let shared = self.shared;
-        let calls = Calls::new(&shared.manager, &shared.error_sink, &shared.clock);
-        let answer = match shared.poll_get(calls, &mut self.get) {
+        let timeout = shared.config.connection_timeout;
+        let answer = match self.get.poll_with(shared.linked(), timeout) {
             Poll::Ready(answer) => answer,
             Poll::Pending => return cx.yield_now(),
         };

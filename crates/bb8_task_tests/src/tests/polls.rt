@@ -1,13 +1,13 @@
 //! Replenishings that are polled by hand over the plain state, with a manager that counts.
 
 use super::assert_equal;
-use bb8_core::Joined;
 use bb8_core::api::{
     Clock, Config, CustomizeConnection, ManageConnection, Moment, NopCustomizer, NopErrorSink,
 };
 use bb8_core::asked::leave;
 use bb8_core::internals::{ClaimAnswer, Key, PoolInternals};
-use bb8_tasks::{PoolOpener, Replenish, ReplenishAnswer};
+use bb8_core::{Calls, Joined};
+use bb8_tasks::{Replenish, ReplenishAnswer};
 use futures::task::Poll;
 use std::alloc::Global;
 use std::process::Abort;
@@ -139,12 +139,25 @@ fn sizes(pool: &mut PoolInternals<u64>) -> (u32, u32) {
     (state.connections, state.idle_connections)
 }
 
+/// The calls of an opening by these.
+fn calls<'a, Z>(
+    manager: &'a Counting,
+    customizer: &'a Z,
+) -> Calls<'a, Counting, NopErrorSink, Z, Still> {
+    Calls {
+        manager,
+        sink: &NopErrorSink,
+        customizer,
+        clock: &Still,
+    }
+}
+
 #[test]
 fn failed_preparation_is_a_failed_try(rt: HostRuntime) {
     let config = one_in_five_seconds();
     let (home, approval) = pool_of_one(&rt, rt.alloc(), config);
     let manager = Counting::new();
-    let outside = PoolOpener::new(&manager, &NopErrorSink, &Refusing, &Still);
+    let outside = calls(&manager, &Refusing);
     let mut pool = Joined { outside, home };
     let mut task = Replenish::new(approval);
     let first = task.poll(Moment(0), &mut pool, &config);
@@ -167,7 +180,7 @@ fn no_handle_gives_the_approval_back(rt: HostRuntime) {
     let config = one_in_five_seconds();
     let (home, approval) = pool_of_one(&rt, rt.alloc(), config);
     let manager = Counting::new();
-    let outside = PoolOpener::new(&manager, &NopErrorSink, &Refusing, &Still);
+    let outside = calls(&manager, &Refusing);
     let mut pool = Joined { outside, home };
     let mut task = Replenish::new(approval);
     assert_equal(
@@ -196,7 +209,7 @@ fn task_that_is_let_go_gives_its_approval_back(rt: HostRuntime) {
     let config = one_in_five_seconds();
     let (home, approval) = pool_of_one(&rt, rt.alloc(), config);
     let manager = Counting::new();
-    let outside = PoolOpener::new(&manager, &NopErrorSink, &NopCustomizer, &Still);
+    let outside = calls(&manager, &NopCustomizer);
     let mut pool = Joined { outside, home };
     let task = Replenish::new(approval);
     task.give_back(Moment(0), &mut pool);
@@ -211,7 +224,7 @@ fn unknown_approval_enters_nothing(rt: HostRuntime) {
     let config = one_in_five_seconds();
     let (home, approval) = pool_of_one(&rt, rt.alloc(), config);
     let manager = Counting::new();
-    let outside = PoolOpener::new(&manager, &NopErrorSink, &NopCustomizer, &Still);
+    let outside = calls(&manager, &NopCustomizer);
     let mut pool = Joined { outside, home };
     let mut task = Replenish::new(Key {
         number: 7,

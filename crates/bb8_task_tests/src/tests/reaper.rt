@@ -4,7 +4,7 @@ use super::assert_equal;
 use bb8_core::api::{Config, Moment};
 use bb8_core::asked::{add, leave};
 use bb8_core::internals::{Grant, PoolInternals};
-use bb8_tasks::{ReapedCounts, Reaper, ReaperAnswer};
+use bb8_tasks::{Reaper, ReaperAnswer};
 use std::alloc::Global;
 use std::process::Abort;
 use std::time::Duration;
@@ -39,7 +39,7 @@ fn pool_with(
 
 /// What a reap answers that closes so many that idled too long and so many that lived too long, and grants so many from a number on.
 fn reaped(by_idle: u32, by_life: u32, first: u64, count: u32) -> ReaperAnswer {
-    ReaperAnswer::Reaped(ReapedCounts {
+    ReaperAnswer::Reaped {
         closed: by_idle.saturating_add(by_life),
         by_idle,
         by_life,
@@ -48,7 +48,7 @@ fn reaped(by_idle: u32, by_life: u32, first: u64, count: u32) -> ReaperAnswer {
             count,
             withheld: 0,
         },
-    })
+    }
 }
 
 /// Asserts what a reaper of that pool answers after half a second, after one, at the same moment once more, and after two.

@@ -4,8 +4,9 @@ ghost use Rattle.std.specs.Duration.{as_nanos};
 ghost use Rattle.bb8_tasks.specs.Reaping.{IsNextTick, is_due, Reaps, ReaperProceeds, ReaperPolls};
 
 use super::{Reaper, ReaperAnswer};
-use crate::home::{Home, ReapStep};
+use crate::home::Home;
 use bb8_core::api::Moment;
+use bb8_core::internals::ReapAnswer;
 use std::time::Duration;
 
 /// The first tick after a moment. None where that is past the greatest moment.
@@ -100,11 +101,21 @@ impl Reaper {
         ensures latest { self.new.latest ≡ self.old.latest }
     {
         match home.reap(moment) {
-            ReapStep::Reaped(reaped) => {
+            ReapAnswer::Reaped {
+                closed,
+                by_idle,
+                by_life,
+                grant,
+            } => {
                 self.due = next_tick(self.start, self.rate, moment);
-                ReaperAnswer::Reaped(reaped)
+                ReaperAnswer::Reaped {
+                    closed,
+                    by_idle,
+                    by_life,
+                    grant,
+                }
             }
-            ReapStep::Ended => {
+            ReapAnswer::Ended => {
                 self.ended = true;
                 ReaperAnswer::Ended
             }

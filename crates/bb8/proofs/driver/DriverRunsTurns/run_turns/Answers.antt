@@ -1,6 +1,4 @@
 use Rattle.bb8.proofs.driver.DriverRunsTurns.run_turns.Goals as goal
 
 pub returns : goal.returns
-returns g c =
-    let of = c.new-calls.ensures in
-    rw (← c.deref-pool.ensures) (c.new-calls.result, (of.manager, of.sink, of.customizer, of.clock), c.run_with.ensures)
+returns g c = rw (← c.deref-pool.ensures) (c.linked.result, c.linked.ensures, c.run.ensures)

@@ -1,6 +1,4 @@
 use Rattle.bb8.proofs.owned.HoldingOwns.give_back_owned.Goals as goal
 
 pub returns : goal.returns
-returns g c =
-    let of = c.new-calls.ensures in
-    rw (← c.deref-pool.ensures) (c.new-calls.result, (of.manager, of.sink, of.clock), c.give_back_and_leave.ensures)
+returns g c = rw (← c.deref-pool.ensures) (c.linked.result, c.give_back_and_leave.new.pool, c.linked.ensures, c.give_back_and_leave.ensures)

@@ -1,6 +1,4 @@
 use Rattle.bb8.proofs.owned.HoldingOwns.leave_owned.Goals as goal
 
 pub returns : goal.returns
-returns g c =
-    let of = c.new-calls.ensures in
-    rw (← c.deref-pool.ensures) (c.new-calls.result, (of.manager, of.sink, of.clock), c.leave.ensures)
+returns g c = rw (← c.deref-pool.ensures) (c.linked.result, c.leave.new.pool, c.linked.ensures, c.leave.ensures)

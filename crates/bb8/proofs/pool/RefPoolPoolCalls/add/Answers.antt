@@ -1,6 +1,4 @@
 use Rattle.bb8.proofs.pool.RefPoolPoolCalls.add.Goals as goal
 
 pub returns : goal.returns
-returns g c =
-    let of = c.new-calls.ensures in
-    rw (← c.deref-shared.ensures) (c.new-calls.result, (of.manager, of.sink, of.clock), c.add_with.ensures)
+returns g c = rw (← c.deref-shared.ensures) (c.linked.result, c.add.new.pool, c.linked.ensures, c.add.ensures)

@@ -1,9 +1,9 @@
 use Rattle.std.proofs.Common.{refl}
 use Rattle.bb8.specs.Drivers.{Runs}
-use Rattle.bb8.proofs.driver.SharedRunsWithConnectionErrorConnecting.run_with.Goals as goal
+use Rattle.bb8.proofs.driver.run.Goals as goal
 
 pub loop-init : goal.loop-init
-loop-init g c = λ d run. (_, refl, c.new-home.ensures, run)
+loop-init g c = λ d run. run
 
 pub returns-then-turn : goal.returns-then-turn
 returns-then-turn g c =

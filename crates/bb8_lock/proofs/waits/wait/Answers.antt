@@ -1,8 +1,8 @@
-use Rattle.bb8_lock.proofs.Words.{refl, Answers}
-use Rattle.bb8_lock.proofs.waits.SharedWaitsConnectionErrorCheckingPart.wait_for.Goals as goal
+use Rattle.bb8_lock.proofs.Words.{Answers}
+use Rattle.bb8_lock.proofs.waits.wait.Goals as goal
 
 pub loop-init : goal.loop-init
-loop-init g c = λ x answers. (_, refl, c.new-home.ensures, rw c.new-get.ensures at answers)
+loop-init g c = λ x answers. rw c.new-get.ensures at answers
 
 pub returns-in-Ready : goal.returns-in-Ready
 returns-in-Ready g c =
