@@ -8,11 +8,8 @@ use Rattle.futures.specs.declared.task.Poll.TheVariants as poll
 use Rattle.bb8_types.specs.declared.api.errors.RunError.TheVariants.{User}
 use Rattle.bb8_types.specs.declared.api.moments.Moment.{Moment}
 use Rattle.bb8_tables.specs.declared.keys.Key.{Key}
-use Rattle.bb8_core.specs.declared.joined.Joined.{Joined}
-use Rattle.bb8_tasks.specs.declared.home.Home.{Ghosts as HomeOf}
 use Rattle.bb8_core.specs.declared.answers.OpenedAnswer.{OpenedAnswer}
 use Rattle.bb8_core.specs.declared.answers.OpenedAnswer.TheVariants as opened
-use Rattle.bb8_core.specs.declared.joined.Calls.{Calls}
 use Rattle.bb8_tasks.specs.declared.replenish.ReplenishStep.{ReplenishStep}
 use Rattle.bb8_tasks.specs.declared.replenish.Replenish.{Replenish}
 use Rattle.bb8_tasks.specs.declared.replenish.ReplenishAnswer.{ReplenishAnswer}
@@ -23,11 +20,11 @@ use Rattle.bb8_tasks.specs.declared.replenish.Tries.{Tries}
 use Rattle.bb8_tasks.specs.declared.rounds.OnFailure.TheVariants.{Stop}
 use Rattle.bb8_tasks.specs.declared.rounds.Round.{Round}
 use Rattle.bb8_tasks.specs.declared.rounds.Round.TheVariants as round
-use Rattle.bb8_tasks.specs.Joined.{joined_opener, joined_reports, joined_tasks}
 use Rattle.bb8_tasks.specs.Replenishing as replenishing
 use Rattle.bb8_tasks.specs.Sweeping.{After, AfterRound, RoundLeaves, PollsUntil, Rest, Rounds}
 use Rattle.bb8_lock.specs.declared.shared.Shared.{Shared}
-use Rattle.bb8_lock.specs.Opening.{link_tasks, locked_tasks, pool_opener, pool_reports, OwnRounds}
+use Rattle.bb8_lock.specs.Linked.{Linked}
+use Rattle.bb8_lock.specs.Opening.{opener, reports, tasks_home, OwnRounds}
 use Rattle.bb8_lock.specs.declared.locked.Parts.{Ghosts as PartsOf}
 use Rattle.bb8_lock.specs.Words.{ManagerOf, DebugOf, SinkOf, CustomizerOf, ClockOf}
 use Rattle.bb8.specs.Buildings.{IsBuildError}
@@ -94,25 +91,25 @@ module _ {T E X : Type 0} (polls : T → X → ReplenishAnswer E → T → X →
 
 -- the tasks of a pool, by the calls of its manager and its customizer, which leave the calls as they are
 module _ {G L M S Z K R C E N V A : Type 0} {manager : ManagerOf M C E N V} {d : DebugOf E} {s : SinkOf S E} {z : CustomizerOf Z C E A} {k : ClockOf K} {l : PartsOf L}
-    (shared : Shared G L M S Z K R C E N V A manager d s z k l) (calls : Calls M S Z K) where
+    (shared : Shared G L M S Z K R C E N V A manager d s z k l) where
   -- what may fail an opening
   abbrev Known : E → Type 0
-  Known e = IsBuildError (manager.connect_answers calls.manager.now) (z.acquire_answers calls.customizer.now) (User e)
+  Known e = IsBuildError (manager.connect_answers shared.manager) (z.acquire_answers shared.customizer) (User e)
 
-  -- these are the calls outside
-  abbrev IsBy : {H : Type 0} → Joined (Calls M S Z K) H → Type 0
-  IsBy x = x.outside ≡ calls
+  -- this is what the calls are made of
+  abbrev IsBy : Linked shared → Type 0
+  IsBy x = x.shared.now ≡ shared
 
-  still : {H : Type 0} (x x' : Joined (Calls M S Z K) H) → x' ≡ x → IsBy x → IsBy x'
-  still {H} x x' same is = ap (λ (y : Joined (Calls M S Z K) H). y.outside) same ∙ is
+  still : (x x' : Linked shared) → x' ≡ x → IsBy x → IsBy x'
+  still x x' same is = ap (λ (y : Linked shared). y.shared.now) same ∙ is
 
-  module _ {H : Type 0} (home : HomeOf H C) (timeout : ℕ) (retry : Bool) (approval : Key) (at : Moment) where
-    fails : (tries : Tries) (e : E) (x x' : Joined (Calls M S Z K) H) (next : ReplenishStep C N A E) → IsBy x → Known e
-        → replenishing.TaskFails (joined_tasks home) timeout retry approval at tries e x next x' → IsBy x' × Told Known next.answer
+  module _ (timeout : ℕ) (retry : Bool) (approval : Key) (at : Moment) where
+    fails : (tries : Tries) (e : E) (x x' : Linked shared) (next : ReplenishStep C N A E) → IsBy x → Known e
+        → replenishing.TaskFails (tasks_home shared) timeout retry approval at tries e x next x' → IsBy x' × Told Known next.answer
     fails tries e x x' next is by f = by_retry retry refl
       where
         last : (retry ≡ false) ⊎ (timeout < at.0 - tries.start.0) → IsBy x' × Told Known next.answer
-        last why = let g = f.0 why in (g.1.1 ∙ is, known Known (Failed e) next g.2 by)
+        last why = let g = f.0 why in (ap (λ r. r.now) g.1.1.1 ∙ is, known Known (Failed e) next g.2 by)
 
         by_retry : (r : Bool) → r ≡ retry → IsBy x' × Told Known next.answer
         by_retry false off = last (inl (sym off))
@@ -122,49 +119,49 @@ module _ {G L M S Z K R C E N V A : Type 0} {manager : ManagerOf M C E N V} {d :
               | inr within ↦ (let s = f.1 (sym on) within in (still x x' s.2.2 is, known Known (Retrying e) next s.2.0 tt))
             ]
 
-    opens : (step : Result (OpenedAnswer C) C) (x x' : Joined (Calls M S Z K) H) (next : ReplenishStep C N A E) → IsBy x
-        → replenishing.AfterOpened (joined_tasks home) timeout retry approval at (joined_opener (pool_opener shared)) step x next x'
+    opens : (step : Result (OpenedAnswer C) C) (x x' : Linked shared) (next : ReplenishStep C N A E) → IsBy x
+        → replenishing.AfterOpened (tasks_home shared) timeout retry approval at (opener shared) step x next x'
         → IsBy x' × Told Known next.answer
     opens (Ok (opened.Entered notified)) x x' next is a = (still x x' a.2 is, known Known Entered next a.0 tt)
-    opens (Ok (opened.Late c)) x x' next is (x1, dropped, a) = (still x1 x' a.2 (dropped.0 ∙ is), known Known Late next a.0 tt)
-    opens (Err c) x x' next is (x1, dropped, a) = (still x1 x' a.2 (dropped.0 ∙ is), known Known GivenBack next a.0 tt)
+    opens (Ok (opened.Late c)) x x' next is (x1, dropped, a) = (still x1 x' a.2 (still x x1 dropped is), known Known Late next a.0 tt)
+    opens (Err c) x x' next is (x1, dropped, a) = (still x1 x' a.2 (still x x1 dropped is), known Known GivenBack next a.0 tt)
 
-    prepares : (answer : Poll (Result (Unit {0}) E)) (tries : Tries) (c0 c : C) (a0 a : A) (x x' : Joined (Calls M S Z K) H) (next : ReplenishStep C N A E) → IsBy x
-        → z.acquire_answers calls.customizer.now c0 a0 at answer c a
-        → replenishing.AfterTaskAcquire (joined_tasks home) timeout retry approval at (joined_opener (pool_opener shared)) answer tries c a x next x'
+    prepares : (answer : Poll (Result (Unit {0}) E)) (tries : Tries) (c0 c : C) (a0 a : A) (x x' : Linked shared) (next : ReplenishStep C N A E) → IsBy x
+        → z.acquire_answers shared.customizer c0 a0 at answer c a
+        → replenishing.AfterTaskAcquire (tasks_home shared) timeout retry approval at (opener shared) answer tries c a x next x'
         → IsBy x' × Told Known next.answer
     prepares poll.Pending tries c0 c a0 a x x' next is said p = (still x x' p.2 is, known Known Pending next p.0 tt)
-    prepares (poll.Ready (Ok u)) tries c0 c a0 a x x' next is said (x1, ended, (step, x2, entered, p)) = opens step x2 x' next (entered.1 ∙ ended.0 ∙ is) p
+    prepares (poll.Ready (Ok u)) tries c0 c a0 a x x' next is said (x1, ended, (step, x2, entered, p)) = opens step x2 x' next (ap (λ r. r.now) entered.1.1 ∙ still x x1 ended is) p
     prepares (poll.Ready (Err e)) tries c0 c a0 a x x' next is said (x1, ended, (x2, dropped, p)) =
-        fails tries e x2 x' next (dropped.0 ∙ ended.0 ∙ is) (inr (c0, a0, at, c, a, said)) p
+        fails tries e x2 x' next (still x1 x2 dropped (still x x1 ended is)) (inr (c0, a0, at, c, a, said)) p
 
-    acquires : (tries : Tries) (c : C) (a : A) (x x' : Joined (Calls M S Z K) H) (next : ReplenishStep C N A E) → IsBy x
-        → replenishing.TaskAcquires (joined_tasks home) timeout retry approval at (joined_opener (pool_opener shared)) tries c a x next x'
+    acquires : (tries : Tries) (c : C) (a : A) (x x' : Linked shared) (next : ReplenishStep C N A E) → IsBy x
+        → replenishing.TaskAcquires (tasks_home shared) timeout retry approval at (opener shared) tries c a x next x'
         → IsBy x' × Told Known next.answer
     acquires tries c a x x' next is (answer, c1, a1, x1, polled, p) =
-        prepares answer tries c c1 a a1 x1 x' next (polled.0.1 ∙ is) (subst (λ (w : Calls M S Z K). z.acquire_answers w.customizer.now c a at answer c1 a1) is polled.0.0) p
+        prepares answer tries c c1 a a1 x1 x' next (still x x1 polled.1 is) (subst (λ (w : Shared G L M S Z K R C E N V A manager d s z k l). z.acquire_answers w.customizer c a at answer c1 a1) is polled.0) p
 
-    connected : (answer : Poll (Result C E)) (tries : Tries) (v0 v : N) (x x' : Joined (Calls M S Z K) H) (next : ReplenishStep C N A E) → IsBy x
-        → manager.connect_answers calls.manager.now v0 at answer v
-        → replenishing.AfterTaskConnect (joined_tasks home) timeout retry approval at (joined_opener (pool_opener shared)) answer tries v x next x'
+    connected : (answer : Poll (Result C E)) (tries : Tries) (v0 v : N) (x x' : Linked shared) (next : ReplenishStep C N A E) → IsBy x
+        → manager.connect_answers shared.manager v0 at answer v
+        → replenishing.AfterTaskConnect (tasks_home shared) timeout retry approval at (opener shared) answer tries v x next x'
         → IsBy x' × Told Known next.answer
     connected poll.Pending tries v0 v x x' next is said p = (still x x' p.2 is, known Known Pending next p.0 tt)
-    connected (poll.Ready (Ok c)) tries v0 v x x' next is said (x1, ended, (a, c1, x2, begun, p)) = acquires tries c1 a x2 x' next (begun.0.1 ∙ ended.0 ∙ is) p
-    connected (poll.Ready (Err e)) tries v0 v x x' next is said (x1, ended, p) = fails tries e x1 x' next (ended.0 ∙ is) (inl (v0, at, v, said)) p
+    connected (poll.Ready (Ok c)) tries v0 v x x' next is said (x1, ended, (a, c1, x2, begun, p)) = acquires tries c1 a x2 x' next (still x1 x2 begun.1 (still x x1 ended is)) p
+    connected (poll.Ready (Err e)) tries v0 v x x' next is said (x1, ended, p) = fails tries e x1 x' next (still x x1 ended is) (inl (v0, at, v, said)) p
 
-    connects : (tries : Tries) (v : N) (x x' : Joined (Calls M S Z K) H) (next : ReplenishStep C N A E) → IsBy x
-        → replenishing.TaskConnects (joined_tasks home) timeout retry approval at (joined_opener (pool_opener shared)) tries v x next x'
+    connects : (tries : Tries) (v : N) (x x' : Linked shared) (next : ReplenishStep C N A E) → IsBy x
+        → replenishing.TaskConnects (tasks_home shared) timeout retry approval at (opener shared) tries v x next x'
         → IsBy x' × Told Known next.answer
     connects tries v x x' next is (answer, v1, x1, polled, p) =
-        connected answer tries v v1 x1 x' next (polled.0.1 ∙ is) (subst (λ (w : Calls M S Z K). manager.connect_answers w.manager.now v at answer v1) is polled.0.0) p
+        connected answer tries v v1 x1 x' next (still x x1 polled.1 is) (subst (λ (w : Shared G L M S Z K R C E N V A manager d s z k l). manager.connect_answers w.manager v at answer v1) is polled.0) p
 
-    begins : (tries : Tries) (x x' : Joined (Calls M S Z K) H) (next : ReplenishStep C N A E) → IsBy x
-        → replenishing.TaskBegins (joined_tasks home) timeout retry approval at (joined_opener (pool_opener shared)) tries x next x'
+    begins : (tries : Tries) (x x' : Linked shared) (next : ReplenishStep C N A E) → IsBy x
+        → replenishing.TaskBegins (tasks_home shared) timeout retry approval at (opener shared) tries x next x'
         → IsBy x' × Told Known next.answer
-    begins tries x x' next is (v, x1, begun, p) = connects tries v x1 x' next (begun.0.1 ∙ is) p
+    begins tries x x' next is (v, x1, begun, p) = connects tries v x1 x' next (still x x1 begun.1 is) p
 
-    wakes : (tries : Tries) (due : Option Moment) (x x' : Joined (Calls M S Z K) H) (next : ReplenishStep C N A E) → IsBy x
-        → replenishing.Wakes (joined_tasks home) timeout retry approval at (joined_opener (pool_opener shared)) tries due x next x'
+    wakes : (tries : Tries) (due : Option Moment) (x x' : Linked shared) (next : ReplenishStep C N A E) → IsBy x
+        → replenishing.Wakes (tasks_home shared) timeout retry approval at (opener shared) tries due x next x'
         → IsBy x' × Told Known next.answer
     wakes tries None x x' next is p = (still x x' p.2 is, known Known Pending next p.0 tt)
     wakes tries (Some due) x x' next is p =
@@ -173,8 +170,8 @@ module _ {G L M S Z K R C E N V A : Type 0} {manager : ManagerOf M C E N V} {d :
           | inr now ↦ begins tries x x' next is (p.0 now)
         ]
 
-    advances : (stage : ReplenishStage C N A) (x x' : Joined (Calls M S Z K) H) (next : ReplenishStep C N A E) → IsBy x
-        → replenishing.TaskAdvances (joined_tasks home) timeout retry approval at (joined_opener (pool_opener shared)) stage x next x'
+    advances : (stage : ReplenishStage C N A) (x x' : Linked shared) (next : ReplenishStep C N A E) → IsBy x
+        → replenishing.TaskAdvances (tasks_home shared) timeout retry approval at (opener shared) stage x next x'
         → IsBy x' × Told Known next.answer
     advances Start x x' next is p = begins (record { start = at; failures = 0 }) x x' next is p
     advances (Connecting tries v) x x' next is p = connects tries v x x' next is p
@@ -182,37 +179,37 @@ module _ {G L M S Z K R C E N V A : Type 0} {manager : ManagerOf M C E N V} {d :
     advances (Sleeping tries due) x x' next is p = wakes tries due x x' next is p
     advances Done x x' next is p = (still x x' p.2 is, known Known GivenBack next p.0 tt)
 
-    drops : (stage : ReplenishStage C N A) (x x' : Joined (Calls M S Z K) H) → IsBy x → replenishing.DropsTask (joined_opener (pool_opener shared)) stage x x' → IsBy x'
+    drops : (stage : ReplenishStage C N A) (x x' : Linked shared) → IsBy x → replenishing.DropsTask (opener shared) stage x x' → IsBy x'
     drops Start x x' is p = still x x' p is
-    drops (Connecting tries v) x x' is p = p.0 ∙ is
-    drops (Acquiring tries c a) x x' is (x1, ended, dropped) = dropped.0 ∙ ended.0 ∙ is
+    drops (Connecting tries v) x x' is p = still x x' p is
+    drops (Acquiring tries c a) x x' is (x1, ended, dropped) = still x1 x' dropped (still x x1 ended is)
     drops (Sleeping tries due) x x' is p = still x x' p is
     drops Done x x' is p = still x x' p is
 
-    proceeds : (alive : Bool) (stage : ReplenishStage C N A) (x x' : Joined (Calls M S Z K) H) (next : ReplenishStep C N A E) → IsBy x
-        → replenishing.TaskProceeds (joined_tasks home) timeout retry approval at (joined_opener (pool_opener shared)) alive stage x next x'
+    proceeds : (alive : Bool) (stage : ReplenishStage C N A) (x x' : Linked shared) (next : ReplenishStep C N A E) → IsBy x
+        → replenishing.TaskProceeds (tasks_home shared) timeout retry approval at (opener shared) alive stage x next x'
         → IsBy x' × Told Known next.answer
     proceeds true stage x x' next is p = advances stage x x' next is p
-    proceeds false stage x x' next is (x1, dropped, p) = (p.1.1 ∙ drops stage x x1 is dropped, known Known GivenBack next p.2 tt)
+    proceeds false stage x x' next is (x1, dropped, p) = (ap (λ r. r.now) p.1.1.1 ∙ drops stage x x1 is dropped, known Known GivenBack next p.2 tt)
 
-  module _ {H : Type 0} (home : HomeOf H C) (timeout : ℕ) (retry : Bool) (at : Moment) where
-    at_stage : (approval : Key) (latest : Moment) (stage : ReplenishStage C N A) (t' : Replenish C N A) (x x' : Joined (Calls M S Z K) H) (r : ReplenishAnswer E) → IsBy x
-        → replenishing.TaskPolls (joined_tasks home) (joined_opener (pool_opener shared)) timeout retry at
+  module _ (timeout : ℕ) (retry : Bool) (at : Moment) where
+    at_stage : (approval : Key) (latest : Moment) (stage : ReplenishStage C N A) (t' : Replenish C N A) (x x' : Linked shared) (r : ReplenishAnswer E) → IsBy x
+        → replenishing.TaskPolls (tasks_home shared) (opener shared) timeout retry at
         (record { approval = approval; latest = latest; stage = stage }) x r t' x'
         → IsBy x' × Told Known r
     at_stage approval latest Start t' x x' r is p =
-        proceeds home timeout retry approval t'.latest p.0.alive Start p.1 x' (record { answer = r; stage = t'.stage }) (p.2.1 ∙ is) p.5
+        proceeds timeout retry approval t'.latest p.0.alive Start p.1 x' (record { answer = r; stage = t'.stage }) (ap (λ r. r.now) p.2.1.1 ∙ is) p.5
     at_stage approval latest (Connecting tries v) t' x x' r is p =
-        proceeds home timeout retry approval t'.latest p.0.alive (Connecting tries v) p.1 x' (record { answer = r; stage = t'.stage }) (p.2.1 ∙ is) p.5
+        proceeds timeout retry approval t'.latest p.0.alive (Connecting tries v) p.1 x' (record { answer = r; stage = t'.stage }) (ap (λ r. r.now) p.2.1.1 ∙ is) p.5
     at_stage approval latest (Acquiring tries c a) t' x x' r is p =
-        proceeds home timeout retry approval t'.latest p.0.alive (Acquiring tries c a) p.1 x' (record { answer = r; stage = t'.stage }) (p.2.1 ∙ is) p.5
+        proceeds timeout retry approval t'.latest p.0.alive (Acquiring tries c a) p.1 x' (record { answer = r; stage = t'.stage }) (ap (λ r. r.now) p.2.1.1 ∙ is) p.5
     at_stage approval latest (Sleeping tries due) t' x x' r is p =
-        proceeds home timeout retry approval t'.latest p.0.alive (Sleeping tries due) p.1 x' (record { answer = r; stage = t'.stage }) (p.2.1 ∙ is) p.5
+        proceeds timeout retry approval t'.latest p.0.alive (Sleeping tries due) p.1 x' (record { answer = r; stage = t'.stage }) (ap (λ r. r.now) p.2.1.1 ∙ is) p.5
     at_stage approval latest Done t' x x' r is p =
         (still x x' p.2 is, known Known GivenBack (record { answer = r; stage = t'.stage }) p.0 tt)
 
-    polled : (t t' : Replenish C N A) (x x' : Joined (Calls M S Z K) H) (r : ReplenishAnswer E) → IsBy x
-        → replenishing.TaskPolls (joined_tasks home) (joined_opener (pool_opener shared)) timeout retry at t x r t' x' → IsBy x' × Told Known r
+    polled : (t t' : Replenish C N A) (x x' : Linked shared) (r : ReplenishAnswer E) → IsBy x
+        → replenishing.TaskPolls (tasks_home shared) (opener shared) timeout retry at t x r t' x' → IsBy x' × Told Known r
     polled t t' x x' r is p = at_stage t.approval t.latest t.stage t' x x' r is p
 
 module _ {G L M S Z K R C E N V A : Type 0} {manager : ManagerOf M C E N V} {d : DebugOf E} {s : SinkOf S E} {z : CustomizerOf Z C E A} {k : ClockOf K} {l : PartsOf L}
@@ -220,13 +217,11 @@ module _ {G L M S Z K R C E N V A : Type 0} {manager : ManagerOf M C E N V} {d :
   -- a round of a pool's first tasks that failed had its error of the pool's manager or its customizer
   pub round_failed : (tasks : List (Replenish C N A)) (r : Round (List (Replenish C N A)) E) → OwnRounds shared tasks r
       → Ended (λ e. IsBuildError (manager.connect_answers shared.manager) (z.acquire_answers shared.customizer) (User e)) r
-  round_failed tasks r (x, x', (are, free), (at, x1, told, rounds)) =
-      let calls = x.outside in
-      rw (sym are.0, sym are.2) (ended
-      (replenishing.TaskPolls (joined_tasks (link_tasks locked_tasks)) (joined_opener (pool_opener shared)) (as_nanos shared.config.connection_timeout)
-      shared.config.retry_connection at)
-      (joined_reports (pool_reports shared)).sinks (Known shared calls) (IsBy shared calls)
-      (polled shared calls (link_tasks locked_tasks) (as_nanos shared.config.connection_timeout) shared.config.retry_connection at)
-      (λ y y' e is sunk. sunk.0.1 ∙ is)
-      (replenishing.LetsGo (joined_tasks (link_tasks locked_tasks)) (joined_opener (pool_opener shared)) at)
-      tasks x1 x' r told.0.1 rounds)
+  round_failed tasks r (x, x', (is, free), (at, x1, told, rounds)) =
+      ended
+      (replenishing.TaskPolls (tasks_home shared) (opener shared) (as_nanos shared.config.connection_timeout) shared.config.retry_connection at)
+      (reports shared).sinks (Known shared) (IsBy shared)
+      (polled shared (as_nanos shared.config.connection_timeout) shared.config.retry_connection at)
+      (λ y y' e is sunk. still shared y y' sunk.1 is)
+      (replenishing.LetsGo (tasks_home shared) (opener shared) at)
+      tasks x1 x' r (still shared x x1 told.1 is) rounds

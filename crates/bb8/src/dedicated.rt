@@ -73,7 +73,7 @@ impl<G: Given, L: Parts> Drop for DedicatedFuture<'_, G, L> {
             latest,
             stage,
         } = self;
-        Dedicated { latest, stage }.cancel(&mut shared.calls());
+        Dedicated { latest, stage }.cancel(&mut shared.linked());
     }
 }
 
@@ -105,7 +105,7 @@ impl<'a, G: Given, L: Parts> Future for DedicatedFuture<'a, G, L> {
             latest: self.latest,
             stage,
         };
-        let answer = opening.poll(&mut shared.calls());
+        let answer = opening.poll(&mut shared.linked());
         let Dedicated { latest, stage } = opening;
         self.latest = latest;
         match mem::replace(&mut self.stage, stage) {

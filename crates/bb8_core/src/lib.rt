@@ -6,7 +6,4 @@ pub use bb8_types::api;
 mod answers;
 pub mod asked;
 pub mod internals;
-mod joined;
 pub mod replay;
-
-pub use joined::{Calls, Joined};

@@ -1,9 +1,10 @@
 //! What the polls of a get make their steps on.
-ghost use Rattle.std.specs.Prelude.{◌≡◌, Result, Ok, IfSome, IfNone};
+ghost use Rattle.std.specs.Prelude.{◌≡◌, Result, Ok, IfOk, IfErr};
 ghost use Rattle.bb8_types.specs.declared.api.moments.Moment.{Moment as MomentOf};
 ghost use Rattle.bb8_tables.specs.declared.keys.GetKey.{GetKey as GetKeyOf};
 ghost use Rattle.bb8_core.specs.declared.answers.BeginAnswer.{BeginAnswer as BeginAnswerOf};
 ghost use Rattle.bb8_core.specs.declared.answers.BeginAnswer.TheVariants.{Begun};
+ghost use Rattle.bb8_core.specs.declared.answers.Looked.{Looked as LookedOf};
 ghost use Rattle.bb8_core.specs.declared.answers.CheckedOkAnswer.TheVariants.{Served as IsServed};
 ghost use Rattle.bb8_gets.specs.declared.home.Tried.TheVariants.{Served};
 ghost use Rattle.bb8_core.specs.declared.asked.Unfit.{Unfit as UnfitOf};
@@ -88,19 +89,19 @@ pub trait GetHome<C> {
     fn look(&mut self, at: Moment) -> Looked
         ensures { steps self.old at (Looks result) self.new };
 
-    /// Looks at the home, and begins a get and serves it, all in one step, where the home can. Where it cannot it only looks; what may
-    /// begin then could begin right after the look. Our own.
-    fn serve(&mut self, at: Moment) -> (Looked, Option<(Taken<C, Self::Part>, Grant)>)
-        ensures served { IfSome result.1 (λ s. (looked : Self)
-            × steps self.old at (Looks result.0) looked
+    /// Looks at the home, and begins a get and serves it, all in one step, where the home can. Where it cannot it only looks, and answers what
+    /// it saw; what may begin then could begin right after the look. Our own.
+    fn serve(&mut self, at: Moment) -> Result<(Taken<C, Self::Part>, Grant), Looked>
+        ensures served { IfOk result (λ s. (seen : LookedOf) × (looked : Self)
+            × steps self.old at (Looks seen) looked
             × ((g : GetKeyOf) × (between : Self)
-            × steps looked result.0.moment (Begins (Ok (Begun g))) between
-            × steps between result.0.moment (Tries g (Ok (Served s.0 s.1))) self.new)) }
-        ensures none { IfNone result.1 ((looked : Self) × steps self.old at (Looks result.0) looked
+            × steps looked seen.moment (Begins (Ok (Begun g))) between
+            × steps between seen.moment (Tries g (Ok (Served s.0 s.1))) self.new)) }
+        ensures seen { IfErr result (λ seen. (looked : Self) × steps self.old at (Looks seen) looked
             × ((m : MomentOf) (b : Result BeginAnswerOf UnfitOf) (after : Self)
             → steps self.new m (Begins b) after → steps looked m (Begins b) after)) }
     {
-        (self.look(at), None)
+        Err(self.look(at))
     }
 
     /// Begins a get. Our own.

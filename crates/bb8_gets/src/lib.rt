@@ -1,15 +1,12 @@
 //! A get that is polled: its states, and its polls over any home and any calls outside.
 #![tactic(auto)]
 
-mod calls;
 mod home;
-mod joined;
 mod outside;
 mod plain;
 mod rows;
 mod state;
 
-pub use bb8_core::Joined;
 pub use home::{GetHome, Passed, Returned, Taken, Tried};
 pub use outside::Outside;
 pub use rows::ask;

@@ -1,5 +1,5 @@
 //! Where a get stands, its poll, and its letting go.
-ghost use Rattle.std.specs.Prelude.{◌≡◌, ℕ, true, Ok, IfSome, IfNone};
+ghost use Rattle.std.specs.Prelude.{◌≡◌, ℕ, true, Ok, IfSome, IfOk, IfErr};
 ghost use Rattle.std.specs.Duration.{as_nanos};
 ghost use Rattle.bb8_gets.specs.Polls.{holds_nothing, is_done, rest_of, GetPolls, Starts, Unserved, CancelsFree, CancelsHeld, Cancels};
 ghost use Rattle.bb8_gets.specs.declared.state.Stage.TheVariants.{Done as IsDone, Fresh as IsFresh};
@@ -123,10 +123,9 @@ impl<C, V, P> GetState<C, V, P> {
         ensures { GetPolls X.GetHome X.Outside (as_nanos timeout) self.old.stage pool.old
             (record { answer = result; stage = self.new.stage }) pool.new }
     {
-        let (seen, served) = self.serve_step(pool);
-        match served {
-            Some(taken) => Poll::Ready(Ok(taken)),
-            None => self.rest_step(pool, timeout, seen),
+        match self.serve_step(pool) {
+            Ok(taken) => Poll::Ready(Ok(taken)),
+            Err(seen) => self.rest_step(pool, timeout, seen),
         }
     }
 
@@ -140,10 +139,10 @@ impl<C, V, P> GetState<C, V, P> {
         ensures { (x' : X) × GetPolls X.GetHome X.Outside (as_nanos timeout) self.old.stage pool
             (record { answer = result; stage = self.new.stage }) x' }
     {
-        let (seen, served) = self.serve_step(&mut pool);
+        let served = self.serve_step(&mut pool);
         match served {
-            Some(taken) => Poll::Ready(Ok(taken)),
-            None => {
+            Ok(taken) => Poll::Ready(Ok(taken)),
+            Err(seen) => {
                 let answer = self.rest_with(pool, timeout, seen);
                 answer
             }
@@ -173,28 +172,25 @@ impl<C, V, P> GetState<C, V, P> {
     pub fn serve_step<E, X: GetHome<C, Part = P> + Outside<C, E, Checking = V>>(
         &mut self,
         pool: &mut X,
-    ) -> (Option<Looked>, Option<Taken<C, P>>)
-        ensures served { IfSome result.1 (λ taken. (timeout : ℕ)
+    ) -> Result<Taken<C, P>, Option<Looked>>
+        ensures served { IfOk result (λ taken. (timeout : ℕ)
             → GetPolls X.GetHome X.Outside timeout self.old.stage pool.old (record {
               answer = Ready (Ok taken);
               stage = self.new.stage;
             }) pool.new) }
-        ensures unserved { IfNone result.1 (Unserved X.GetHome X.Outside self.old.stage pool.old
-            result.0 self.new.stage pool.new) }
+        ensures unserved { IfErr result (λ seen. Unserved X.GetHome X.Outside self.old.stage
+            pool.old seen self.new.stage pool.new) }
     {
         match &self.stage {
             Stage::Fresh => {
                 self.stand(Stage::Done);
                 let at = pool.now();
-                let (seen, served) = pool.serve(at);
-                match served {
-                    Some((taken, _)) => (Some(seen), Some(taken)),
-                    None => (Some(seen), None),
+                match pool.serve(at) {
+                    Ok((taken, _)) => Ok(taken),
+                    Err(seen) => Err(Some(seen)),
                 }
             }
-            Stage::Trying(_) | Stage::Waiting(_) | Stage::Checking(..) | Stage::Done => (
-                None, None,
-            ),
+            Stage::Trying(_) | Stage::Waiting(_) | Stage::Checking(..) | Stage::Done => Err(None),
         }
     }
 

@@ -1,5 +1,5 @@
 -- What one event of a legal ledger does to the records and to the gets, by the place that it moves from and the place that it moves to.
-use Rattle.bb8_ledger.proofs.Words.{ne_eqb, ◌≡◌, ◌⊎◌, ℕ, zero, suc, ◌+◌, ◌<◌, ◌≤◌, max, Bool, true, false, cond, eqb, List, [], ◌∷◌, ◌++◌, length, take, drop, ◌-◌, map, Option, Some, None, slice_get, option_map, option_and_then, refl, sym, ap, ◌∙◌, inl, inr, arith, subst, length-append, length-map, take-length, unwrap_or, Place, Unclaimed, Idle, Held, Guarded, Standing, Holder, Guard, Get, Settings, is_lawful, Act, Leave, Answer, Left, Unfit, Numbered, at_number, update, numbers, in_order, one, standing_at, after_end, after_end_where, Ledger, Opening, Later, Start, start, position, latest, handles, records, conns, approved, idle_count, out, idle, first_idle, unclaimed, record_of, with_ended, outlived, idled, reaped, over_idle_at, tally_places, conns_of, approved_of, idle_of, at_place, entry, at_entry, approval, with_approvals, stands, is_conn, is_approval, is_idle, is_out, is_claimed, is_guarded, is_held_by, idles_out, lives_out, is_left, with_place, Row, IsLegal, Allowed, fits, with_record, reaped_at, outlived_at, idled_at, standing_is, unclaimed_is, claimed_is, guarded_is, idle_is, and_right, ◌*◌, MatchBool, Claimed}
+use Rattle.bb8_ledger.proofs.Words.{ne_eqb, ◌≡◌, ◌⊎◌, ℕ, zero, suc, ◌+◌, ◌<◌, ◌≤◌, max, Bool, true, false, cond, eqb, List, [], ◌∷◌, ◌++◌, length, take, drop, ◌-◌, map, Option, Some, None, slice_get, option_map, option_and_then, refl, sym, ap, ◌∙◌, inl, inr, arith, subst, length-append, length-map, take-length, unwrap_or, Place, Unclaimed, Idle, Held, Guarded, Standing, Holder, Guard, Get, Settings, is_lawful, Act, Leave, Answer, Left, Unfit, Numbered, at_number, update, numbers, in_order, one, standing_at, after_end, after_end_where, Ledger, Opening, Later, Start, start, position, latest, handles, records, conns, approved, idle_count, out, first_idle, unclaimed, record_of, with_ended, outlived, idled, reaped, over_idle_at, tally_places, conns_of, approved_of, idle_of, at_place, entry, at_entry, approval, with_approvals, stands, is_conn, is_approval, is_idle, is_out, is_claimed, is_guarded, is_held_by, idles_out, lives_out, is_left, with_place, Row, IsLegal, Allowed, fits, with_record, reaped_at, outlived_at, idled_at, standing_is, unclaimed_is, claimed_is, guarded_is, idle_is, and_right, ◌*◌, MatchBool, Claimed}
 use Rattle.bb8_types.proofs.Numbered as numbered
 use Rattle.bb8_ledger.proofs.Facts.{conns_split}
 use Rattle.bb8_ledger.proofs.Waiters.{at_update, changed_tally}

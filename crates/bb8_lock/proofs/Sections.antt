@@ -1,6 +1,6 @@
 -- What holds of the sections of a pool.
 use Rattle.bb8_lock.proofs.Words.{◌≡◌, subst, ℕ, ◌+◌, ◌^◌, ◌<◌, ◌≤◌, length, Bool, true, false, Option, Some, None, refl, sym, ap, ◌∙◌, arith, Settings, settings_of, is_lawful, Ledger, Later, next, records, checked_err_told, give_up_told, put_back_told, add_told, fits, out_of, Moves}
-use Rattle.std.proofs.Common.{IfNone, IfOk, Result, Ok, Err, is_some}
+use Rattle.std.proofs.Common.{IfOk, Result, Ok, Err, is_some}
 use Rattle.bb8_core.specs.declared.answers.GiveUpAnswer.{GiveUpAnswer}
 use Rattle.bb8_core.specs.declared.answers.GiveUpAnswer.TheVariants as given_back
 use Rattle.bb8_core.specs.declared.answers.CheckedErrAnswer.{CheckedErrAnswer}
@@ -18,15 +18,11 @@ use Rattle.bb8_ledger.specs.Table.{Allowed, Row, fills, add_broken, gives_up}
 use Rattle.bb8_core.specs.Shown.{Shown, Means, Meets, HasLedger, IsWithinLimits, Steps}
 use Rattle.bb8_core.specs.Asked.{answered, Stepped}
 use Rattle.bb8_core.specs.Run.{opening}
+use Rattle.bb8_lock.specs.Parts.{parts_back}
 use Rattle.bb8_lock.specs.Sections.{IsSorted}
 use Rattle.bb8_core.proofs.Parts.{counted}
 use Rattle.bb8_ledger.proofs.Effects.{by_fit}
 use Rattle.bb8_ledger.proofs.Laws.{keeps_limits, keeps_laws, keeps_promises}
-
--- where there is none, this follows from that
-pub on_none : {X P Q : Type 0} (r : Option X) → IfNone r P → (P → Q) → IfNone r Q
-on_none None p f = f p
-on_none (Some x) p f = tt
 
 -- an answer that a connection came back
 abbrev pub brings_back : Answer → Bool
@@ -101,6 +97,16 @@ module _ {C : Type 0} where
       let size : new.config.max_size ≡ old.config.max_size = ap (λ (c : Settings). c.max_size) k.config in
       let moved : out_of new + 1 ≡ out_of old = less k.moves in
       omega (arith, moved, size, parts)
+
+  -- where a return fits, one comes back with its part; else nothing moves
+  pub taken_in : {A U : Type 0} (told : A → Answer) {old new : Shown C} (at : ℕ) (e : Act C) (r : Result A U) (rest : ℕ) {settings : Settings}
+      → Steps old at e (answered told r) new → ((a : A) → Steps old at e (told a) new → Moves e (told a) (out_of old) (out_of new) → out_of new + 1 ≡ out_of old)
+      → (Moves e Unfit (out_of old) (out_of new) → out_of new ≡ out_of old)
+      → out_of old + rest ≡ old.config.max_size → old.config ≡ settings
+      → (out_of new + (rest + parts_back r) ≡ new.config.max_size) × (new.config ≡ settings)
+  taken_in told {old} {new} at e (Ok a) rest {settings} s less same parts is =
+      (come_back old new at e (told a) rest s (less a s) parts, kept_settings old new at e (told a) settings s is)
+  taken_in told at e (Err u) rest s less same parts is = let kept = all_kept at e Unfit rest s same parts is in (omega (arith, kept.0), kept.1)
 
   -- a return brings one back
   pub put_it_back : (k : ℕ) (c : C) (b : Bool) (answer : PutBackAnswer C) (before after : ℕ) → Moves (PutBack k c b) (put_back_told k answer) before after → after + 1 ≡ before

@@ -1,27 +1,11 @@
 -- What gets, guards and handles do on a pool: the tables at what a pool's lock holds, while it is held, and at the pool's own manager, error sink
 -- and clock.
 use Rattle.std.specs.Prelude.{◌≡◌, ℕ, None, Option, Some, Result, Ok, Err, ⊤}
-use Rattle.bb8_lock.specs.Words.{MutexGuard, DebugOf, Poll, Ready, Pending, Moment, AddError, RunError, State, ManagerOf, SinkOf, CustomizerOf, ClockOf, settings_of, HomeOf, Taken, Joined, OutsideOf, Settled, Stage, Joining, SectionsOf, Locked, Part, PartsOf, LinkHome, Shared, StepsIn, GetPolls, Cancels}
+use Rattle.bb8_lock.specs.Words.{MutexGuard, DebugOf, Poll, Ready, Pending, AddError, RunError, State, ManagerOf, SinkOf, CustomizerOf, ClockOf, settings_of, HomeOf, Taken, OutsideOf, Stage, Joining, SectionsOf, Locked, Part, PartsOf, LinkHome, Shared, StepsIn, GetPolls, Cancels}
 use Rattle.std.specs.Sync.Mutex.{mutex_guard_value}
-use Rattle.bb8_core.specs.declared.joined.Calls.{Calls}
-use Rattle.bb8_gets.specs.declared.state.Stage.TheVariants.{Fresh}
 use Rattle.bb8_lock.specs.Chains.{AddsOutside, Answers, CancelsAndLeaves, Joins, HandleLeaves, Returns, ReturnsAndLeaves, Shows, TakesNow, Waits}
 use Rattle.bb8_gets.specs.Steps.{StepsBy}
 use Rattle.bb8_lock.specs.Sections.{SectionsBy}
-
--- The relations of what a pool's lock holds as a home: each step leads from the state that stands there to the next one. What the answer is
--- follows from that very state, which keeps the limits.
-abbrev pub locked_home : {C L : Type 0} {l : PartsOf L} → HomeOf (Locked C L l) C (Part L)
-locked_home {l = l} = record {
-  releases = λ h h'. h' ≡ h;
-  steps = λ h at s h'. StepsBy (StepsIn l.settings) h.core at s h'.core;
-}
-
--- the same of the sections
-abbrev pub locked_sections : {C L : Type 0} {l : PartsOf L} → SectionsOf (Locked C L l) C (Part L)
-locked_sections {l = l} = record {
-  makes = λ h at s h'. SectionsBy l.settings h.core at s h'.core;
-}
 
 module _ {T : Type 0} where
   -- a step starts at this: at what is held, or, where nothing is, at whatever stands behind the lock
@@ -38,82 +22,53 @@ module _ {T : Type 0} where
   abbrev pub LeadsHeld : (T → T → Type 0) → Option (MutexGuard T) → Option (MutexGuard T) → Type 0
   LeadsHeld Step held held' = (t : T) × (t' : T) × StartsAt held t × Holds held' t' × Step t t'
 
--- The relations of a lock as a home, by those of what it holds. While the lock is held each step starts where the one before ended; once it was
--- let go, the next one starts at whatever stands behind it.
-abbrev pub link_home : {C P R T : Type 0} → HomeOf T C P → HomeOf (LinkHome T R) C P
-link_home home = record {
-  releases = λ h h'. h'.held ≡ None;
-  steps = λ h at s h'. LeadsHeld (λ t t'. home.steps t at s t') h.held h'.held;
-}
+-- A lock with what is called outside of it, as one value.
+module _ {S T : Type 0} where
+  -- these are shared, and the lock is free
+  abbrev pub IsLinked : S → LinkHome S T → Type 0
+  IsLinked shared x = (x.shared.now ≡ shared) × (x.held ≡ None)
 
-abbrev pub link_sections : {C P R T : Type 0} → SectionsOf T C P → SectionsOf (LinkHome T R) C P
-link_sections sections = record {
-  makes = λ h at s h'. LeadsHeld (λ t t'. sections.makes t at s t') h.held h'.held;
-}
+  -- a step leads from what is held, or else stands behind the lock, to what is held then
+  abbrev pub Leads : (T → T → Type 0) → LinkHome S T → LinkHome S T → Type 0
+  Leads Step x x' = LeadsHeld Step x.held x'.held × (x'.shared ≡ x.shared)
 
--- The relations of a home and of calls outside as one value: a step of the home leaves the calls as they were, and a call leaves the home.
-abbrev pub joined_home : {C P W H : Type 0} → HomeOf H C P → HomeOf (Joined W H) C P
-joined_home home = record {
-  releases = λ x x'. home.releases x.home x'.home × (x'.outside ≡ x.outside);
-  steps = λ x at s x'. home.steps x.home at s x'.home × (x'.outside ≡ x.outside);
-}
-
-abbrev pub joined_sections : {C P W H : Type 0} → SectionsOf H C P → SectionsOf (Joined W H) C P
-joined_sections sections = record {
-  makes = λ x at s x'. sections.makes x.home at s x'.home × (x'.outside ≡ x.outside);
-}
-
-abbrev pub joined_calls : {C E V W H : Type 0} → OutsideOf W C E V → OutsideOf (Joined W H) C E V
-joined_calls outside = record {
-  tells = λ x at x'. outside.tells x.outside at x'.outside × (x'.home ≡ x.home);
-  checks = λ x c v c' x'. outside.checks x.outside c v c' x'.outside × (x'.home ≡ x.home);
-  check_answers = λ x c v at a c' v' x'. outside.check_answers x.outside c v at a c' v' x'.outside × (x'.home ≡ x.home);
-  ends_check = λ x v x'. outside.ends_check x.outside v x'.outside × (x'.home ≡ x.home);
-  breaks = λ x c broken c' x'. outside.breaks x.outside c broken c' x'.outside × (x'.home ≡ x.home);
-  sinks = λ x e x'. outside.sinks x.outside e x'.outside × (x'.home ≡ x.home);
-  lets_go = λ x c x'. outside.lets_go x.outside c x'.outside × (x'.home ≡ x.home);
-}
+  -- nothing is held then
+  abbrev pub Frees : LinkHome S T → LinkHome S T → Type 0
+  Frees x x' = (x'.held ≡ None) × (x'.shared ≡ x.shared)
 
 -- What the gets, guards and handles of a pool do, which share this: on the pool's lock, and by its own manager, error sink and clock.
 module _ {G L M S Z K R C E N V A : Type 0} {m : ManagerOf M C E N V} {d : DebugOf E} {s : SinkOf S E} {z : CustomizerOf Z C E A} {k : ClockOf K} {l : PartsOf L}
     (shared : Shared G L M S Z K R C E N V A m d s z k l) where
-  -- the relations of the calls of a pool's manager, error sink and clock
-  abbrev pub pool_calls : OutsideOf (Calls M S Z K) C E V
-  pool_calls = record {
-    tells = λ calls moment after. k.tells calls.clock.now moment × (after ≡ calls);
-    checks = λ calls c v c' after. m.checks calls.manager.now c v c' × (after ≡ calls);
-    check_answers = λ calls c v moment answer c' v' after. m.check_answers calls.manager.now c v moment answer c' v' × (after ≡ calls);
-    ends_check = λ calls _ after. after ≡ calls;
-    breaks = λ calls c broken c' after. m.breaks calls.manager.now c broken c' × (after ≡ calls);
-    sinks = λ calls e after. s.sinks calls.sink.now e × (after ≡ calls);
-    lets_go = λ calls _ after. after ≡ calls;
+  -- the pool's lock with what the pool calls outside
+  abbrev pub Linked : Type 0
+  Linked = LinkHome (Shared G L M S Z K R C E N V A m d s z k l) (Locked C L l)
+
+  -- this is done by it
+  abbrev pub Own : (Linked → Linked → Type 0) → Type 0
+  Own Does = (x : Linked) × (x' : Linked) × IsLinked shared x × Does x x'
+
+  -- The relations of the lock as a home. While it is held each step starts where the one before ended; once it was let go, the next one starts at
+  -- whatever stands behind it. What a step answers follows from that very state, which keeps the limits.
+  abbrev pub gets : HomeOf Linked C (Part L)
+  gets = record {
+    releases = λ x x'. Frees x x';
+    steps = λ x at s x'. Leads (λ t t'. StepsBy (StepsIn l.settings) t.core at s t'.core) x x';
   }
 
-  -- the calls outside and the pool's lock, as one value
-  abbrev pub Linked : Type 0
-  Linked = Joined (Calls M S Z K) (LinkHome (Locked C L l) R)
+  abbrev pub sections : SectionsOf Linked C (Part L)
+  sections = record { makes = λ x at s x'. Leads (λ t t'. SectionsBy l.settings t.core at s t'.core) x x' }
 
-  -- these are the pool's manager, error sink, customizer and clock
-  abbrev pub AreOf : Calls M S Z K → Type 0
-  AreOf calls =
-      (calls.manager.now ≡ shared.manager) × (calls.sink.now ≡ shared.error_sink) × (calls.customizer.now ≡ shared.customizer) × (calls.clock.now ≡ shared.clock)
-
-  -- these are the same, beside the pool's lock, which is free
-  abbrev pub IsLinked : Linked → Type 0
-  IsLinked x = AreOf x.outside × (x.home.held ≡ None)
-
-  -- this is done by them
-  abbrev pub Own : (Linked → Linked → Type 0) → Type 0
-  Own Does = (x : Linked) × (x' : Linked) × IsLinked x × Does x x'
-
-  abbrev gets : HomeOf Linked C (Part L)
-  gets = joined_home (link_home locked_home)
-
-  abbrev sections : SectionsOf Linked C (Part L)
-  sections = joined_sections (link_sections locked_sections)
-
-  abbrev calls : OutsideOf Linked C E V
-  calls = joined_calls pool_calls
+  -- the relations of the calls of its manager, error sink and clock
+  abbrev pub calls : OutsideOf Linked C E V
+  calls = record {
+    tells = λ x moment x'. k.tells x.shared.now.clock moment × (x' ≡ x);
+    checks = λ x c v c' x'. m.checks x.shared.now.manager c v c' × (x' ≡ x);
+    check_answers = λ x c v moment a c' v' x'. m.check_answers x.shared.now.manager c v moment a c' v' × (x' ≡ x);
+    ends_check = λ x _ x'. x' ≡ x;
+    breaks = λ x c broken c' x'. m.breaks x.shared.now.manager c broken c' × (x' ≡ x);
+    sinks = λ x e x'. s.sinks x.shared.now.error_sink e × (x' ≡ x);
+    lets_go = λ x _ x'. x' ≡ x;
+  }
 
   -- A poll of a get goes by the table.
   abbrev pub OwnPolls : Stage C V (Part L) → Poll (Result (Taken C (Part L)) (RunError E)) → Stage C V (Part L) → Type 0
@@ -125,7 +80,7 @@ module _ {G L M S Z K R C E N V A : Type 0} {m : ManagerOf M C E N V} {d : Debug
 
   -- A thread waits for a new get.
   abbrev pub OwnWaits : ℕ → Result (Taken C (Part L)) (RunError E) → Type 0
-  OwnWaits timeout result = (x : Linked) × IsLinked x × Waits gets calls timeout x result
+  OwnWaits timeout result = (x : Linked) × IsLinked shared x × Waits gets calls timeout x result
 
   -- A connection is taken at once, or none.
   abbrev pub OwnTakesNow : Result (Option (Taken C (Part L))) (RunError E) → Type 0

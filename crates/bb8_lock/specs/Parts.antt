@@ -1,5 +1,5 @@
 -- The parts by which a pool's connections are counted, and how a pool begins.
-use Rattle.std.specs.Prelude.{◌≡◌, ℕ, Bool, false}
+use Rattle.std.specs.Prelude.{◌≡◌, ℕ, Bool, false, Result, Ok, Err}
 use Rattle.std.specs.declared.sync.ledger.Blank.{Blank}
 use Rattle.bb8_types.specs.declared.api.moments.Moment.{Moment}
 use Rattle.bb8_types.specs.declared.grants.Grant.{Grant}
@@ -16,6 +16,11 @@ pub record IsBlankOf (blank : Blank) (settings : Settings) (name parts : ℕ) (o
   pub cut : blank.parts ≡ parts
   pub sized : blank.parts ≡ settings.max_size
   pub settled : of ≡ settings
+
+-- how many parts come back with this answer to a return
+abbrev pub parts_back : {A U : Type 0} → Result A U → ℕ
+parts_back (Ok a) = 1
+parts_back (Err u) = 0
 
 -- the default settings, but for the size, and with no check of what is handed out
 abbrev pub unchecked_of : ℕ → Settings

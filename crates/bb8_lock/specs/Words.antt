@@ -19,7 +19,6 @@ pub use Rattle.std.specs.declared.fmt.Debug.{Ghosts as DebugOf}
 pub use Rattle.bb8_types.specs.declared.api.managers.ManageConnection.{Ghosts as ManagerOf}
 pub use Rattle.bb8_types.specs.Settings.{settings_of, Settings}
 pub use Rattle.bb8_core.specs.StepAnswers.{add_told, begin_told, checked_err_told, give_up_told, leave_told, look_told, put_back_told, reason_of, GivesBack, Refuses, claim_told}
-pub use Rattle.bb8_core.specs.declared.joined.Joined.{Joined}
 pub use Rattle.bb8_lock.specs.declared.locked.Locked.{Locked}
 pub use Rattle.bb8_lock.specs.declared.locked.Part.{Part}
 pub use Rattle.bb8_lock.specs.declared.locked.Parts.{Ghosts as PartsOf}
@@ -33,6 +32,5 @@ pub use Rattle.bb8_types.specs.declared.api.sinks.ErrorSink.{Ghosts as SinkOf}
 pub use Rattle.bb8_types.specs.declared.api.customizers.CustomizeConnection.{Ghosts as CustomizerOf}
 pub use Rattle.bb8_tasks.specs.declared.opener.Opener.{Ghosts as OpenerOf}
 pub use Rattle.bb8_tasks.specs.declared.rounds.Reports.{Ghosts as ReportsOf}
-pub use Rattle.bb8_tasks.specs.Joined.{joined_opener, joined_reports, joined_tasks}
 pub use Rattle.bb8_types.specs.declared.grants.Grant.{Grant}
 pub use Rattle.bb8_ledger.specs.Answers.{Answer}

@@ -1,7 +1,7 @@
 //! A lock with bells: a thread that waits for what another one does under the lock sleeps until a bell is rung.
 
 use bb8_core::internals::{
-    AddAnswer, CheckedErrAnswer, GiveUpAnswer, Grant, Looked, OpenedAnswer, PutBackAnswer,
+    AddAnswer, CheckedErrAnswer, GiveUpAnswer, Grant, OpenedAnswer, PutBackAnswer,
 };
 use bb8_gets::{Taken, Tried};
 use std::sync::{Condvar, Mutex, Wait};
@@ -129,12 +129,9 @@ impl<A: Notifies, E> Notifies for Result<A, E> {
     }
 }
 
-impl<C, P> Notifies for (Looked, Option<(Taken<C, P>, Grant)>) {
+impl<C, P> Notifies for (Taken<C, P>, Grant) {
     fn grants(&self) -> bool {
-        match &self.1 {
-            Some((_, grant)) => grant.count > 0,
-            None => false,
-        }
+        self.1.count > 0
     }
 }
 

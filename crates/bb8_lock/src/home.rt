@@ -65,9 +65,12 @@ impl<C: Drop, L: Parts> GetHome<C> for Locked<C, L> {
 
     /// It is served at once where that takes no memory.
     #[inline(always)]
-    fn serve(&mut self, at: Moment) -> (Looked, Option<(Taken<C, Part<L>>, Grant)>) {
+    fn serve(&mut self, at: Moment) -> Result<(Taken<C, Part<L>>, Grant), Looked> {
         let seen = self.look(at);
-        (seen, self.serve_now(seen.moment))
+        match self.serve_now(seen.moment) {
+            Some(served) => Ok(served),
+            None => Err(seen),
+        }
     }
 
     fn begin(&mut self, at: Moment) -> Result<BeginAnswer, Unfit> {
@@ -136,17 +139,9 @@ impl<C: Drop, L: Parts> GetHome<C> for Locked<C, L> {
             connection,
             part,
         } = taken;
-        let Part { share } = part;
-        match asked::checked_err(core, at, get, connection, broken, key.place) {
-            Ok(answer) => {
-                rest.merge(share);
-                Ok(answer)
-            }
-            Err(connection) => {
-                drop(share);
-                Err(connection)
-            }
-        }
+        let answer = asked::checked_err(core, at, get, connection, broken, key.place);
+        part.settle(rest, &answer);
+        answer
     }
 
     #[inline(always)]
@@ -180,16 +175,8 @@ impl<C: Drop, L: Parts> GetHome<C> for Locked<C, L> {
             connection,
             part,
         } = taken;
-        let Part { share } = part;
-        match asked::give_back(core, at, get, reason, connection, broken, key.place) {
-            Ok(answer) => {
-                rest.merge(share);
-                Ok(answer)
-            }
-            Err(connection) => {
-                drop(share);
-                Err(connection)
-            }
-        }
+        let answer = asked::give_back(core, at, get, reason, connection, broken, key.place);
+        part.settle(rest, &answer);
+        answer
     }
 }

@@ -1,14 +1,14 @@
-//! A lock as a home of gets, of sections, and of the tasks that open connections, of the driver and of the reaper.
+//! A pool's lock as a home of gets, of sections, and of the tasks that open connections, of the driver and of the reaper.
 ghost use Rattle.std.specs.Prelude.{◌≡◌, None};
 ghost use Rattle.bb8_gets.specs.Steps.{Fails, GivesBack};
-ghost use Rattle.bb8_lock.specs.Linked.{LeadsHeld, StartsAt};
+ghost use Rattle.bb8_lock.specs.Linked.{IsLinked, Leads, Frees, StartsAt};
 ghost use Rattle.bb8_lock.specs.SectionSteps.{PutsBack};
 ghost use Rattle.std.specs.Sync.Mutex.{mutex_guard_value};
 
 use crate::bell::{Belled, Notifies, Rings};
 use crate::locks::Locks;
 use crate::section_home::Ends;
-use crate::{Handle, Joining, SectionHome};
+use crate::{Given, Handle, Joining, Locked, Parts, SectionHome, Shared};
 use bb8_core::api::{Moment, State};
 use bb8_core::asked::Unfit;
 use bb8_core::internals::{
@@ -19,40 +19,64 @@ use bb8_gets::{GetHome, Passed, Returned, Taken, Tried};
 use bb8_tasks::Home;
 use std::sync::MutexGuard;
 
-/// The lock of a home as a home: it is taken at a step where it is not held, and held until it is released. After the release the bells
-/// are rung, each once, for which a step since then gave cause.
-pub struct LinkHome<'a, T, R> {
-    pub(crate) belled: &'a Belled<T>,
-    rt: &'a R,
+/// What a lock is reached by, as methods of an impl, so that polls and drops can call them.
+pub trait Locking<T> {
+    /// The lock and its bells.
+    fn belled(&self) -> &Belled<T>;
+
+    /// Waits for the lock and takes it.
+    fn take(&self) -> MutexGuard<'_, T>;
+}
+
+/// A lock with what is called outside of it. It is taken at a step where it is not held, and held until it is released. After the release the
+/// bells are rung, each once, for which a step since then gave cause.
+pub struct LinkHome<'a, S: Locking<T>, T> {
+    pub(crate) shared: &'a S,
     held: Option<MutexGuard<'a, T>>,
     rings: Rings,
 }
 
-impl<'a, T, R> LinkHome<'a, T, R> {
-    /// The home that takes this lock, which is not held yet.
-    pub fn new(belled: &'a Belled<T>, rt: &'a R) -> Self
-        ensures { result.held ≡ None }
+/// The making of such a value, as a method of an impl, too.
+pub trait Links<S: Locking<T>, T> {
+    /// What the handles share, as such a value. The lock is not held.
+    fn linked(&self) -> LinkHome<'_, S, T>;
+}
+
+impl<G: Given, L: Parts> Locking<Locked<G::Connection, L>> for Shared<G, L> {
+    #[inline(always)]
+    fn belled(&self) -> &Belled<Locked<G::Connection, L>> {
+        &self.locked
+    }
+
+    #[inline(always)]
+    fn take(&self) -> MutexGuard<'_, Locked<G::Connection, L>> {
+        self.rt.take(&self.locked.lock)
+    }
+}
+
+impl<S: Locking<T>, T> Links<S, T> for S {
+    #[inline(always)]
+    fn linked(&self) -> LinkHome<'_, S, T>
+        ensures { IsLinked self.now result }
     {
         LinkHome {
-            belled,
-            rt,
+            shared: self,
             held: None,
             rings: Rings::none(),
         }
     }
 }
 
-impl<T, R> Drop for LinkHome<'_, T, R> {
+impl<S: Locking<T>, T> Drop for LinkHome<'_, S, T> {
     #[inline(always)]
     fn drop(self) {
         let LinkHome {
-            belled,
-            rt: _,
+            shared,
             held,
             rings,
         } = self;
         drop(held);
-        belled.ring(rings);
+        shared.belled().ring(rings);
     }
 }
 
@@ -64,32 +88,33 @@ pub trait Hold {
     fn hold(&mut self) -> Self::Guard;
 }
 
-impl<'a, T, R: Locks> Hold for LinkHome<'a, T, R> {
+impl<'a, S: Locking<T>, T> Hold for LinkHome<'a, S, T> {
     type Guard = MutexGuard<'a, T>;
 
     #[inline(always)]
     fn hold(&mut self) -> MutexGuard<'a, T>
         ensures start { StartsAt self.old.held (mutex_guard_value result) }
         ensures free { self.new.held ≡ None }
+        ensures same { self.new.shared ≡ self.old.shared }
     {
         match self.held.take() {
             Some(guard) => guard,
-            None => self.rt.take(&self.belled.lock),
+            None => self.shared.take(),
         }
     }
 }
 
-impl<'a, C, T: GetHome<C>, R: Locks> GetHome<C> for LinkHome<'a, T, R> {
+impl<C, S: Locking<T>, T: GetHome<C>> GetHome<C> for LinkHome<'_, S, T> {
     type Part = T::Part;
 
-    ghost releases = { λ h h'. h'.held ≡ None };
+    ghost releases = { λ x x'. Frees x x' };
 
-    ghost steps = { λ h at s h'. LeadsHeld (λ t t'. T.steps t at s t') h.held h'.held };
+    ghost steps = { λ x at s x'. Leads (λ t t'. T.steps t at s t') x x' };
 
     #[inline(always)]
     fn release(&mut self) {
         self.held = None;
-        self.belled.ring(self.rings);
+        self.shared.belled().ring(self.rings);
         self.rings = Rings::none();
     }
 
@@ -101,7 +126,7 @@ impl<'a, C, T: GetHome<C>, R: Locks> GetHome<C> for LinkHome<'a, T, R> {
     }
 
     #[inline(always)]
-    fn serve(&mut self, at: Moment) -> (Looked, Option<(Taken<C, T::Part>, Grant)>) {
+    fn serve(&mut self, at: Moment) -> Result<(Taken<C, T::Part>, Grant), Looked> {
         let mut guard = self.hold();
         let answer = guard.serve(at);
         self.held = Some(guard);
@@ -109,6 +134,7 @@ impl<'a, C, T: GetHome<C>, R: Locks> GetHome<C> for LinkHome<'a, T, R> {
         answer
     }
 
+    #[inline(always)]
     fn begin(&mut self, at: Moment) -> Result<BeginAnswer, Unfit> {
         let mut guard = self.hold();
         let answer = guard.begin(at);
@@ -116,6 +142,7 @@ impl<'a, C, T: GetHome<C>, R: Locks> GetHome<C> for LinkHome<'a, T, R> {
         answer
     }
 
+    #[inline(always)]
     fn try_get(&mut self, at: Moment, get: GetKey) -> Result<Tried<C, T::Part>, Unfit> {
         let mut guard = self.hold();
         let answer = guard.try_get(at, get);
@@ -124,6 +151,7 @@ impl<'a, C, T: GetHome<C>, R: Locks> GetHome<C> for LinkHome<'a, T, R> {
         answer
     }
 
+    #[inline(always)]
     fn checked_ok(
         &mut self,
         at: Moment,
@@ -143,8 +171,7 @@ impl<'a, C, T: GetHome<C>, R: Locks> GetHome<C> for LinkHome<'a, T, R> {
         get: GetKey,
         returned: Returned<C, T::Part>,
     ) -> Result<CheckedErrAnswer<C>, C>
-        ensures { LeadsHeld (λ t t'. T.steps t at (Fails get returned result) t')
-            self.old.held self.new.held }
+        ensures { Leads (λ t t'. T.steps t at (Fails get returned result) t') self.old self.new }
     {
         let mut guard = self.hold();
         let answer = guard.checked_err(at, get, returned);
@@ -173,8 +200,8 @@ impl<'a, C, T: GetHome<C>, R: Locks> GetHome<C> for LinkHome<'a, T, R> {
         reason: Reason,
         returned: Returned<C, T::Part>,
     ) -> Result<GiveUpAnswer<C>, C>
-        ensures { LeadsHeld (λ t t'. T.steps t at (GivesBack get reason returned result) t')
-            self.old.held self.new.held }
+        ensures { Leads (λ t t'. T.steps t at (GivesBack get reason returned result) t')
+            self.old self.new }
     {
         let mut guard = self.hold();
         let answer = guard.give_back(at, get, reason, returned);
@@ -184,8 +211,8 @@ impl<'a, C, T: GetHome<C>, R: Locks> GetHome<C> for LinkHome<'a, T, R> {
     }
 }
 
-impl<'a, C, T: SectionHome<C> + Ends, R: Locks> SectionHome<C> for LinkHome<'a, T, R> {
-    ghost makes = { λ h at s h'. LeadsHeld (λ t t'. T.makes t at s t') h.held h'.held };
+impl<C, S: Locking<T>, T: SectionHome<C> + Ends> SectionHome<C> for LinkHome<'_, S, T> {
+    ghost makes = { λ x at s x'. Leads (λ t t'. T.makes t at s t') x x' };
 
     #[inline(always)]
     fn put_back(
@@ -193,8 +220,7 @@ impl<'a, C, T: SectionHome<C> + Ends, R: Locks> SectionHome<C> for LinkHome<'a, 
         at: Moment,
         returned: Returned<C, T::Part>,
     ) -> Result<PutBackAnswer<C>, C>
-        ensures { LeadsHeld (λ t t'. T.makes t at (PutsBack returned result) t')
-            self.old.held self.new.held }
+        ensures { Leads (λ t t'. T.makes t at (PutsBack returned result) t') self.old self.new }
     {
         let mut guard = self.hold();
         let answer = guard.put_back(at, returned);
@@ -235,10 +261,10 @@ impl<'a, C, T: SectionHome<C> + Ends, R: Locks> SectionHome<C> for LinkHome<'a, 
 }
 
 /// The lock is taken for each step, and is free again when the step has answered.
-impl<C, T: Home<C>, R: Locks> Home<C> for LinkHome<'_, T, R> {
+impl<C, S: Locking<T>, T: Home<C>> Home<C> for LinkHome<'_, S, T> {
     ghost use Rattle.bb8_lock.specs.Opening.{Visits};
 
-    ghost steps = { λ h at s h'. Visits (λ t t'. T.steps t at s t') h.held h'.held };
+    ghost steps = { λ x at s x'. Visits (λ t t'. T.steps t at s t') x x' };
 
     fn look(&mut self, at: Moment) -> Looked {
         let mut guard = self.hold();
@@ -250,7 +276,7 @@ impl<C, T: Home<C>, R: Locks> Home<C> for LinkHome<'_, T, R> {
         let answer = guard.opened(at, approval, connection);
         drop(guard);
         if answer.notifies() {
-            self.belled.gets.ring();
+            self.shared.belled().gets.ring();
         }
         answer
     }

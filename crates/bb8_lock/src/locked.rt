@@ -4,7 +4,7 @@
 ghost use Rattle.std.specs.Prelude.{◌≡◌, ◌+◌, ◌^◌, ◌<◌, true, IfOk};
 ghost use Rattle.bb8_ledger.specs.Acts as acts;
 ghost use Rattle.bb8_types.specs.Settings.{Settings, default_settings, is_lawful, settings_of};
-ghost use Rattle.bb8_lock.specs.Parts.{PoolBegins, IsBlankOf};
+ghost use Rattle.bb8_lock.specs.Parts.{parts_back, PoolBegins, IsBlankOf};
 ghost use Rattle.bb8_core.specs.Parts.{out_of};
 ghost use Rattle.bb8_core.specs.Shown.{IsWithinLimits};
 
@@ -51,6 +51,21 @@ pub struct Part<L: Ledger> {
     pub share: Share<L>,
     ghost one: { share.parts ≡ 1 },
     ghost counts: { share.amount ≡ 1 },
+}
+
+impl<L: Parts> Part<L> {
+    /// The part joins the rest where its connection was taken back, and is let go where that did not fit.
+    #[inline(always)]
+    pub(crate) fn settle<C, A>(self, rest: &mut Share<L>, answer: &Result<A, C>)
+        ensures parts { rest.new.parts ≡ rest.old.parts + parts_back answer.now }
+        ensures amount { rest.new.amount ≡ rest.old.amount + parts_back answer.now }
+    {
+        let Part { share } = self;
+        match answer {
+            Ok(_) => rest.merge(share),
+            Err(_) => drop(share),
+        }
+    }
 }
 
 /// What a new pool is made of. Our own.
@@ -147,17 +162,9 @@ impl<C: Drop, L: Parts> SectionHome<C> for Locked<C, L> {
             connection,
             part,
         } = taken;
-        let Part { share } = part;
-        match asked::put_back(core, at, key, connection, broken) {
-            Ok(answer) => {
-                rest.merge(share);
-                Ok(answer)
-            }
-            Err(connection) => {
-                drop(share);
-                Err(connection)
-            }
-        }
+        let answer = asked::put_back(core, at, key, connection, broken);
+        part.settle(rest, &answer);
+        answer
     }
 
     fn add(&mut self, at: Moment, conn: C, broken: bool) -> Result<AddAnswer<C>, C>

@@ -1,12 +1,11 @@
 //! The handles of a pool, and the sections that guards and handles make: each is done under one taking of a pool's lock.
-ghost use Rattle.std.specs.Prelude.{◌≡◌};
 ghost use Rattle.bb8_types.specs.declared.api.moments.Moment.{Moment as MomentOf};
 ghost use Rattle.bb8_lock.specs.SectionSteps.{SectionStep, PutsBack, Adds, Shows, Joins, Leaves};
 
 use bb8_core::api::{Moment, State};
 use bb8_core::asked::Unfit;
 use bb8_core::internals::{AddAnswer, LeaveAnswer, PutBackAnswer};
-use bb8_gets::{GetHome, Joined, Returned};
+use bb8_gets::{GetHome, Returned};
 
 /// A handle that is alive. The opening of a pool and `SectionHome::join` make one, and `SectionHome::leave` alone takes one: it cannot be
 /// dropped. Our own.
@@ -60,35 +59,4 @@ pub trait SectionHome<C>: GetHome<C> {
     /// Takes a handle away. With the last one all idle connections end, and are dropped here, and all unclaimed approvals. Our own.
     fn leave(&mut self, at: Moment, handle: Handle) -> Result<LeaveAnswer, Unfit>
         ensures { makes self.old at (Leaves result) self.new };
-}
-
-impl<C, W, H: SectionHome<C>> SectionHome<C> for Joined<W, H> {
-    ghost makes = { λ x at s x'. H.makes x.home at s x'.home × (x'.outside ≡ x.outside) };
-
-    fn put_back(
-        &mut self,
-        at: Moment,
-        returned: Returned<C, H::Part>,
-    ) -> Result<PutBackAnswer<C>, C>
-        ensures home { H.makes self.old.home at (PutsBack returned result) self.new.home }
-        ensures outside { self.new.outside ≡ self.old.outside }
-    {
-        self.home.put_back(at, returned)
-    }
-
-    fn add(&mut self, at: Moment, conn: C, broken: bool) -> Result<AddAnswer<C>, C> {
-        self.home.add(at, conn, broken)
-    }
-
-    fn state(&mut self, at: Moment) -> State {
-        self.home.state(at)
-    }
-
-    fn join(&mut self, at: Moment) -> Joining {
-        self.home.join(at)
-    }
-
-    fn leave(&mut self, at: Moment, handle: Handle) -> Result<LeaveAnswer, Unfit> {
-        self.home.leave(at, handle)
-    }
 }

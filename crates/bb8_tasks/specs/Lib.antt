@@ -3,7 +3,6 @@ pub mod Building
 pub mod Dedicating
 pub mod Dues
 pub mod Homes
-pub mod Joined
 pub mod Played
 pub mod Reaping
 pub mod Replenishing

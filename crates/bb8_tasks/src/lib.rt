@@ -7,7 +7,6 @@ mod building;
 mod claims;
 mod dedicated;
 mod home;
-mod joined;
 mod opener;
 mod plain;
 mod reaper;

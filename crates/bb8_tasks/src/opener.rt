@@ -1,11 +1,9 @@
 //! What the opening of connections calls outside of the pool's state.
-ghost use Rattle.std.specs.Prelude.{◌≡◌, Result};
+ghost use Rattle.std.specs.Prelude.{Result};
 ghost use Rattle.futures.specs.declared.task.Poll.{Poll as PollOf};
 ghost use Rattle.bb8_types.specs.declared.api.moments.Moment.{Moment as MomentOf};
 
-use super::rounds::Reports;
-use bb8_core::Calls;
-use bb8_core::api::{Clock, CustomizeConnection, ErrorSink, ManageConnection, Moment};
+use bb8_core::api::Moment;
 use futures::task::Poll;
 
 /// The calls by which connections `C` are opened and prepared, which may fail with an `E`, and where they are let go. Our own.
@@ -79,80 +77,4 @@ pub trait Opener<C, E> {
     /// Drops a connection. Our own.
     fn let_go(&mut self, connection: C)
         ensures { lets_go self.old connection self.new };
-}
-
-/// Each relation is the user's own, and no call changes which manager and customizer these are.
-impl<M: ManageConnection, S, Z: CustomizeConnection<M::Connection, M::Error>, K> Opener<
-    M::Connection,
-    M::Error,
-> for Calls<'_, M, S, Z, K> {
-    type Connecting = M::Connecting;
-
-    type Acquiring = Z::Acquiring;
-
-    ghost connects = { λ opener v after. M.connects opener.manager.now v × (after ≡ opener) };
-
-    ghost connect_answers = { λ opener v m answer v' after. M.connect_answers opener.manager.now v m answer v' × (after ≡ opener) };
-
-    ghost ends_connect = { λ opener _ after. after ≡ opener };
-
-    ghost acquires = { λ opener c a c' after. Z.acquires opener.customizer.now c a c' × (after ≡ opener) };
-
-    ghost acquire_answers = { λ opener c a m answer c' a' after. Z.acquire_answers opener.customizer.now c a m answer c' a' × (after ≡ opener) };
-
-    ghost ends_acquire = { λ opener _ after. after ≡ opener };
-
-    ghost lets_go = { λ opener _ after. after ≡ opener };
-
-    fn connect(&mut self) -> M::Connecting {
-        self.manager.connect()
-    }
-
-    fn poll_connect(
-        &mut self,
-        connecting: &mut M::Connecting,
-        moment: Moment,
-    ) -> Poll<Result<M::Connection, M::Error>> {
-        self.manager.poll_connect(connecting, moment)
-    }
-
-    fn end_connect(&mut self, connecting: M::Connecting) {
-        drop(connecting)
-    }
-
-    fn on_acquire(&mut self, connection: &mut M::Connection) -> Z::Acquiring {
-        self.customizer.on_acquire(connection)
-    }
-
-    fn poll_acquire(
-        &mut self,
-        connection: &mut M::Connection,
-        acquiring: &mut Z::Acquiring,
-        moment: Moment,
-    ) -> Poll<Result<(), M::Error>> {
-        self.customizer.poll_acquire(connection, acquiring, moment)
-    }
-
-    fn end_acquire(&mut self, acquiring: Z::Acquiring) {
-        drop(acquiring)
-    }
-
-    fn let_go(&mut self, connection: M::Connection) {
-        drop(connection)
-    }
-}
-
-/// Each relation is the user's own, and no call changes which sink and clock these are.
-impl<M, E, S: ErrorSink<E>, Z, K: Clock> Reports<E> for Calls<'_, M, S, Z, K> {
-    ghost tells = { λ opener moment after. K.tells opener.clock.now moment × (after ≡ opener) };
-
-    ghost sinks = { λ opener e after. S.sinks opener.sink.now e × (after ≡ opener) };
-
-    fn now(&mut self) -> Moment {
-        self.clock.now()
-    }
-
-    fn sink(&mut self, error: E) {
-        self.sink.sink(error)
-    }
 }

@@ -1,113 +1,114 @@
-//! Replenishings that are polled by hand over the plain state, with a manager that counts.
+//! Replenishings that are polled by hand over the plain state, with a server that counts.
+ghost use Rattle.std.specs.Prelude.{⊤};
+ghost use Rattle.bb8_core.specs.Shown.{Steps};
+ghost use Rattle.bb8_tasks.specs.Homes.{TaskStepsBy};
 
 use super::assert_equal;
-use bb8_core::api::{
-    Clock, Config, CustomizeConnection, ManageConnection, Moment, NopCustomizer, NopErrorSink,
+use bb8_core::api::{Config, Moment};
+use bb8_core::asked::{Unfit, leave};
+use bb8_core::internals::{
+    ClaimAnswer, FailedAnswer, Key, Looked, OpenedAnswer, PoolInternals, ReapAnswer,
 };
-use bb8_core::asked::leave;
-use bb8_core::internals::{ClaimAnswer, Key, PoolInternals};
-use bb8_core::{Calls, Joined};
-use bb8_tasks::{Replenish, ReplenishAnswer};
+use bb8_tasks::{Home, Opener, Replenish, ReplenishAnswer};
 use futures::task::Poll;
 use std::alloc::Global;
 use std::process::Abort;
-use std::sync::atomic::{AtomicU64, Ordering};
 use std::time::Duration;
 
 /// One millisecond in nanoseconds.
 const MILLI: u64 = 1_000_000;
 
-/// A manager that numbers its openings from 1. Each is ready at its first poll, with its number as the connection.
+/// The plain state of a pool, and a server that numbers its openings from 1. Each is ready at its first poll, with its number as the
+/// connection. Where the preparation of one fails, that of each other one is pending once.
 #[derive(Drop)]
-struct Counting {
-    connects: AtomicU64,
+struct Served {
+    state: PoolInternals<u64>,
+    connects: u64,
+    refused: Option<u64>,
 }
 
-impl Counting {
-    /// One that has begun nothing yet.
-    fn new() -> Self {
-        Counting {
-            connects: AtomicU64::new(0),
-        }
+impl Home<u64> for Served {
+    ghost steps = { λ h at s h'. TaskStepsBy Steps h.state at s h'.state };
+
+    fn look(&mut self, at: Moment) -> Looked {
+        Home::look(&mut self.state, at)
     }
 
-    /// How many openings were begun.
-    fn connects(&self) -> u64 {
-        self.connects.load(Ordering::SeqCst)
+    fn opened(
+        &mut self,
+        at: Moment,
+        approval: Key,
+        connection: u64,
+    ) -> Result<OpenedAnswer<u64>, u64> {
+        Home::opened(&mut self.state, at, approval, connection)
+    }
+
+    fn failed(&mut self, at: Moment, approval: Key) -> Result<FailedAnswer, Unfit> {
+        Home::<u64>::failed(&mut self.state, at, approval)
+    }
+
+    fn claim(&mut self, at: Moment) -> ClaimAnswer {
+        Home::<u64>::claim(&mut self.state, at)
+    }
+
+    fn reap(&mut self, at: Moment) -> ReapAnswer {
+        Home::<u64>::reap(&mut self.state, at)
     }
 }
 
-impl ManageConnection for Counting {
-    type Connection = u64;
-
-    type Error = u64;
-
+impl Opener<u64, u64> for Served {
     type Connecting = u64;
 
-    type Checking = ();
+    type Acquiring = bool;
 
-    fn connect(&self) -> u64 {
+    ghost connects = { λ _ _ _. ⊤ };
+
+    ghost connect_answers = { λ _ _ _ _ _ _. ⊤ };
+
+    ghost ends_connect = { λ _ _ _. ⊤ };
+
+    ghost acquires = { λ _ _ _ _ _. ⊤ };
+
+    ghost acquire_answers = { λ _ _ _ _ _ _ _ _. ⊤ };
+
+    ghost ends_acquire = { λ _ _ _. ⊤ };
+
+    ghost lets_go = { λ _ _ _. ⊤ };
+
+    fn connect(&mut self) -> u64 {
+        self.connects = self.connects.saturating_add(1);
         self.connects
-            .fetch_add(1, Ordering::SeqCst)
-            .saturating_add(1)
     }
 
-    fn poll_connect(&self, connecting: &mut u64, _moment: Moment) -> Poll<Result<u64, u64>> {
+    fn poll_connect(&mut self, connecting: &mut u64, _moment: Moment) -> Poll<Result<u64, u64>> {
         Poll::Ready(Ok(*connecting))
     }
 
-    fn is_valid(&self, _connection: &mut u64) {}
+    fn end_connect(&mut self, _connecting: u64) {}
 
-    fn poll_valid(
-        &self,
-        _connection: &mut u64,
-        _checking: &mut (),
-        _moment: Moment,
-    ) -> Poll<Result<(), u64>> {
-        Poll::Ready(Ok(()))
-    }
-
-    fn has_broken(&self, _connection: &mut u64) -> bool {
-        false
-    }
-}
-
-/// A customizer whose preparation of connection 1 fails, and of each other one is pending once.
-#[derive(Drop)]
-struct Refusing;
-
-impl CustomizeConnection<u64, u64> for Refusing {
-    type Acquiring = bool;
-
-    fn on_acquire(&self, _connection: &mut u64) -> bool {
-        false
+    fn on_acquire(&mut self, _connection: &mut u64) -> bool {
+        self.refused.is_none()
     }
 
     fn poll_acquire(
-        &self,
+        &mut self,
         connection: &mut u64,
-        acquiring: &mut bool,
+        is_ready: &mut bool,
         _moment: Moment,
     ) -> Poll<Result<(), u64>> {
-        if *connection == 1 {
+        if self.refused == Some(*connection) {
             return Poll::Ready(Err(*connection));
         }
-        if *acquiring {
+        if *is_ready {
             return Poll::Ready(Ok(()));
         }
-        *acquiring = true;
+        *is_ready = true;
         Poll::Pending
     }
-}
 
-/// A clock that stands still at 0.
-#[derive(Drop)]
-struct Still;
+    fn end_acquire(&mut self, _is_ready: bool) {}
 
-impl Clock for Still {
-    fn now(&self) -> Moment {
-        Moment(0)
-    }
+    fn let_go(&mut self, _connection: u64) {}
 }
 
 /// The settings of a pool of one connection, which is to be idle, with five seconds.
@@ -120,15 +121,25 @@ fn one_in_five_seconds() -> Config {
     }
 }
 
-/// A pool of one connection, whose approval is claimed.
-fn pool_of_one(rt: &impl Abort, alloc: Global, config: Config) -> (PoolInternals<u64>, Key) {
+/// A pool of one connection, whose approval is claimed, and which connection's preparation fails.
+fn pool_of_one(
+    rt: &impl Abort,
+    alloc: Global,
+    config: Config,
+    refused: Option<u64>,
+) -> (Served, Key) {
     if !config.is_lawful() {
         panic!(rt; "the settings are not lawful");
     }
-    let mut pool = PoolInternals::new(alloc, config);
-    let _ = pool.fill(Moment(0), false);
-    let ClaimAnswer::Claimed(Some(approval)) = pool.claim(Moment(0)) else {
+    let mut state = PoolInternals::new(alloc, config);
+    let _ = state.fill(Moment(0), false);
+    let ClaimAnswer::Claimed(Some(approval)) = state.claim(Moment(0)) else {
         panic!(rt; "there is no approval");
+    };
+    let pool = Served {
+        state,
+        connects: 0,
+        refused,
     };
     (pool, approval)
 }
@@ -139,49 +150,30 @@ fn sizes(pool: &mut PoolInternals<u64>) -> (u32, u32) {
     (state.connections, state.idle_connections)
 }
 
-/// The calls of an opening by these.
-fn calls<'a, Z>(
-    manager: &'a Counting,
-    customizer: &'a Z,
-) -> Calls<'a, Counting, NopErrorSink, Z, Still> {
-    Calls {
-        manager,
-        sink: &NopErrorSink,
-        customizer,
-        clock: &Still,
-    }
-}
-
 #[test]
 fn failed_preparation_is_a_failed_try(rt: HostRuntime) {
     let config = one_in_five_seconds();
-    let (home, approval) = pool_of_one(&rt, rt.alloc(), config);
-    let manager = Counting::new();
-    let outside = calls(&manager, &Refusing);
-    let mut pool = Joined { outside, home };
+    let (mut pool, approval) = pool_of_one(&rt, rt.alloc(), config, Some(1));
     let mut task = Replenish::new(approval);
     let first = task.poll(Moment(0), &mut pool, &config);
     assert_equal(&rt, first, ReplenishAnswer::Retrying(1));
     let second = task.poll(Moment(400 * MILLI), &mut pool, &config);
     assert_equal(&rt, second, ReplenishAnswer::Pending);
-    assert_equal(&rt, sizes(&mut pool.home), (0, 0));
+    assert_equal(&rt, sizes(&mut pool.state), (0, 0));
     let third = task.poll(Moment(0), &mut pool, &config);
     assert_equal(&rt, third, ReplenishAnswer::Entered);
-    assert_equal(&rt, sizes(&mut pool.home), (1, 1));
+    assert_equal(&rt, sizes(&mut pool.state), (1, 1));
     let fourth = task.poll(Moment(0), &mut pool, &config);
     assert_equal(&rt, fourth, ReplenishAnswer::GivenBack);
-    assert_equal(&rt, manager.connects(), 2);
+    assert_equal(&rt, pool.connects, 2);
     task.give_back(Moment(0), &mut pool);
-    assert_equal(&rt, sizes(&mut pool.home), (1, 1));
+    assert_equal(&rt, sizes(&mut pool.state), (1, 1));
 }
 
 #[test]
 fn no_handle_gives_the_approval_back(rt: HostRuntime) {
     let config = one_in_five_seconds();
-    let (home, approval) = pool_of_one(&rt, rt.alloc(), config);
-    let manager = Counting::new();
-    let outside = calls(&manager, &Refusing);
-    let mut pool = Joined { outside, home };
+    let (mut pool, approval) = pool_of_one(&rt, rt.alloc(), config, Some(1));
     let mut task = Replenish::new(approval);
     assert_equal(
         &rt,
@@ -193,39 +185,33 @@ fn no_handle_gives_the_approval_back(rt: HostRuntime) {
         task.poll(Moment(400 * MILLI), &mut pool, &config),
         ReplenishAnswer::Pending,
     );
-    assert!(&rt; leave(&mut pool.home, Moment(0)).is_ok());
-    assert!(&rt; pool.home.find(approval.number).is_some());
+    assert!(&rt; leave(&mut pool.state, Moment(0)).is_ok());
+    assert!(&rt; pool.state.find(approval.number).is_some());
     assert_equal(
         &rt,
         task.poll(Moment(0), &mut pool, &config),
         ReplenishAnswer::GivenBack,
     );
-    assert!(&rt; pool.home.find(approval.number).is_none());
+    assert!(&rt; pool.state.find(approval.number).is_none());
     task.give_back(Moment(0), &mut pool);
 }
 
 #[test]
 fn task_that_is_let_go_gives_its_approval_back(rt: HostRuntime) {
     let config = one_in_five_seconds();
-    let (home, approval) = pool_of_one(&rt, rt.alloc(), config);
-    let manager = Counting::new();
-    let outside = calls(&manager, &NopCustomizer);
-    let mut pool = Joined { outside, home };
+    let (mut pool, approval) = pool_of_one(&rt, rt.alloc(), config, None);
     let task = Replenish::new(approval);
     task.give_back(Moment(0), &mut pool);
-    assert!(&rt; pool.home.find(approval.number).is_none());
-    assert_equal(&rt, pool.home.fill(Moment(0), false).count, 1);
-    assert!(&rt; !pool.home.fits_failed(approval));
-    assert_equal(&rt, manager.connects(), 0);
+    assert!(&rt; pool.state.find(approval.number).is_none());
+    assert_equal(&rt, pool.state.fill(Moment(0), false).count, 1);
+    assert!(&rt; !pool.state.fits_failed(approval));
+    assert_equal(&rt, pool.connects, 0);
 }
 
 #[test]
 fn unknown_approval_enters_nothing(rt: HostRuntime) {
     let config = one_in_five_seconds();
-    let (home, approval) = pool_of_one(&rt, rt.alloc(), config);
-    let manager = Counting::new();
-    let outside = calls(&manager, &NopCustomizer);
-    let mut pool = Joined { outside, home };
+    let (mut pool, approval) = pool_of_one(&rt, rt.alloc(), config, None);
     let mut task = Replenish::new(Key {
         number: 7,
         place: 0,
@@ -235,7 +221,7 @@ fn unknown_approval_enters_nothing(rt: HostRuntime) {
         task.poll(Moment(0), &mut pool, &config),
         ReplenishAnswer::GivenBack,
     );
-    assert_equal(&rt, sizes(&mut pool.home), (0, 0));
-    assert!(&rt; pool.home.find(approval.number).is_some());
+    assert_equal(&rt, sizes(&mut pool.state), (0, 0));
+    assert!(&rt; pool.state.find(approval.number).is_some());
     task.give_back(Moment(0), &mut pool);
 }

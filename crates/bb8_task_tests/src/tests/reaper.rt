@@ -70,6 +70,16 @@ fn assert_reaps(
     }
 }
 
+/// How many connections there are, and how many were closed as they idled too long, and lived too long.
+fn figures(pool: &mut PoolInternals<u64>) -> (u32, u64, u64) {
+    let state = pool.state(Moment(0));
+    (
+        state.connections,
+        state.statistics.connections_closed_idle_timeout,
+        state.statistics.connections_closed_max_lifetime,
+    )
+}
+
 /// Two idle for a second, and the one that entered first is closed; the other one is spared, at the next tick as well.
 #[test]
 fn reaper_closes_what_idled_out(rt: HostRuntime) {
@@ -77,10 +87,7 @@ fn reaper_closes_what_idled_out(rt: HostRuntime) {
     assert_reaps(&rt, &mut pool, reaped(1, 0, 2, 0), reaped(0, 0, 2, 0));
     assert!(&rt; pool.find(0).is_none());
     assert!(&rt; pool.find(1).is_some());
-    let state = pool.state(Moment(0));
-    assert_equal(&rt, state.connections, 1);
-    assert_equal(&rt, state.statistics.connections_closed_idle_timeout, 1);
-    assert_equal(&rt, state.statistics.connections_closed_max_lifetime, 0);
+    assert_equal(&rt, figures(&mut pool), (1, 1, 0));
 }
 
 /// One lives for a second and is closed, though one is to be idle; another one is granted, which no later tick does again.
@@ -88,10 +95,7 @@ fn reaper_closes_what_idled_out(rt: HostRuntime) {
 fn reaper_closes_what_lives_too_long(rt: HostRuntime) {
     let mut pool = pool_with(&rt, rt.alloc(), (Some(1), Some(1)), 1);
     assert_reaps(&rt, &mut pool, reaped(0, 1, 1, 1), reaped(0, 0, 2, 0));
-    let state = pool.state(Moment(0));
-    assert_equal(&rt, state.connections, 0);
-    assert_equal(&rt, state.statistics.connections_closed_idle_timeout, 0);
-    assert_equal(&rt, state.statistics.connections_closed_max_lifetime, 1);
+    assert_equal(&rt, figures(&mut pool), (0, 0, 1));
 }
 
 #[test]

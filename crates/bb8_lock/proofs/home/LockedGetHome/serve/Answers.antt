@@ -1,12 +1,12 @@
-use Rattle.std.proofs.lemmas.Option.{IfSome_then}
-use Rattle.bb8_lock.proofs.Sections.{on_none}
 use Rattle.bb8_lock.proofs.home.LockedGetHome.serve.Goals as goal
 
-pub returns-clause-served : goal.returns-clause-served
-returns-clause-served g c =
-    IfSome_then c.serve_now.result c.serve_now.ensures.served (λ s w. (c.look-seen.new.self, c.look-seen.ensures, w))
+pub returns-in-Some : goal.returns-in-Some
+returns-in-Some g c = record {
+  served = (c.look-seen.result, c.look-seen.new.self, c.look-seen.ensures, rw c.in-Some.is at c.serve_now.ensures.served);
+  seen = tt;
+}
 
-pub returns-clause-none : goal.returns-clause-none
-returns-clause-none g c =
-    on_none c.serve_now.result c.serve_now.ensures.none
-    (λ same. (c.look-seen.new.self, c.look-seen.ensures, λ m b after begins. rw same at begins))
+pub returns-in-None : goal.returns-in-None
+returns-in-None g c =
+    let same = rw c.in-None.is at c.serve_now.ensures.none in
+    record { served = tt; seen = (c.look-seen.new.self, c.look-seen.ensures, λ m b after begins. rw same at begins) }

@@ -1,19 +1,14 @@
-use Rattle.bb8_lock.proofs.Words.{arith}
+use Rattle.bb8_lock.proofs.Words.{arith, put_back_told}
 use Rattle.bb8_ledger.specs.Acts as acts
-use Rattle.bb8_lock.proofs.Sections.{all_kept, come_back, kept_settings, put_it_back}
+use Rattle.bb8_lock.proofs.Sections.{put_it_back, taken_in}
 use Rattle.bb8_lock.proofs.locked.LockedSectionHome.put_back.Goals as goal
-
-pub invariant_of-self-in-Err-1 : goal.invariant_of-self-in-Err-1
-invariant_of-self-in-Err-1 g c =
-    let kept = all_kept _ (acts.PutBack c.args.back.taken.key.number c.args.back.taken.connection c.args.back.broken) _ _ (c.in-Err.ensures.limits, c.in-Err.ensures.step.0) (λ m. m) c.args.self.now.parts c.args.self.now.settled in
-    record { parts = kept.0; amount = c.args.self.now.amount; settled = kept.1 }
 
 pub invariant_of-self : goal.invariant_of-self
 invariant_of-self g c =
-    let back = come_back _ _ _ (acts.PutBack c.args.back.taken.key.number c.args.back.taken.connection c.args.back.broken) _ _ (c.in-Ok.ensures.limits, c.in-Ok.ensures.step.0)
-    (put_it_back c.args.back.taken.key.number c.args.back.taken.connection c.args.back.broken c.in-Ok.answer _ _) c.args.self.now.parts in
+    let kept = taken_in (put_back_told c.args.back.taken.key.number) c.args.at.0 (acts.PutBack c.args.back.taken.key.number c.args.back.taken.connection c.args.back.broken) c.put_back-answer.result _ (c.put_back-answer.ensures.limits, c.put_back-answer.ensures.step.0)
+    (λ a s m. put_it_back c.args.back.taken.key.number c.args.back.taken.connection c.args.back.broken a _ _ m) (λ m. m) c.args.self.now.parts c.args.self.now.settled in
     record {
-      parts = omega (arith, back, c.merge.ensures.parts, c.args.back.taken.part.one);
-      amount = omega (arith, c.merge.ensures.parts, c.merge.ensures.amount, c.args.back.taken.part.one, c.args.back.taken.part.counts, c.args.self.now.amount);
-      settled = kept_settings _ _ _ (acts.PutBack c.args.back.taken.key.number c.args.back.taken.connection c.args.back.broken) _ _ (c.in-Ok.ensures.limits, c.in-Ok.ensures.step.0) c.args.self.now.settled;
+      parts = omega (arith, kept.0, c.settle.ensures.parts);
+      amount = omega (arith, c.settle.ensures.parts, c.settle.ensures.amount, c.args.self.now.amount);
+      settled = kept.1;
     }
