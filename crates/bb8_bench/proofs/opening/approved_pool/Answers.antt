@@ -1,4 +1,4 @@
-use Rattle.bb8_bench.proofs.Words.{ℕ, ◌≡◌, ◌∙◌, true, false, ltb, refl, ap, sym, arith, nat_tests, Ledger, opening, is_lawful, and_right, upto}
+use Rattle.bb8_bench.proofs.Words.{ℕ, ◌≡◌, ◌∙◌, true, ltb, refl, ap, sym, arith, nat_tests, Ledger, opening, is_lawful, and_right, upto}
 use Rattle.bb8_bench.proofs.Stepped.{filled}
 use Rattle.bb8_bench.proofs.opening.approved_pool.Goals as goal
 
