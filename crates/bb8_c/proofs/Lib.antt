@@ -1,6 +1,5 @@
 mod Values
 mod AsBox
 mod Inside
-mod Begun
 mod Listed
 mod Words

@@ -4,7 +4,7 @@ ghost use Rattle.bb8_c.specs.Steps.{Gets};
 
 use bb8_core::api::Moment;
 use bb8_core::asked::{self, Unfit};
-use bb8_core::internals::{BeginAnswer, GetKey, PoolInternals, TryAnswer};
+use bb8_core::internals::{GetKey, PoolInternals, Started, TryAnswer};
 
 /// A core over connections that the caller keeps, and names by numbers of its own.
 pub(crate) type Core = PoolInternals<u64>;
@@ -25,10 +25,10 @@ pub(crate) enum Got {
 pub(crate) fn get(core: &mut Core, at: Moment) -> Got
     ensures { Gets core.old at.0 result core.new }
 {
-    match asked::begin(core, at) {
+    match asked::start(core, at) {
         Err(Unfit) => Got::Unfit,
-        Ok(BeginAnswer::Memory) => Got::Memory,
-        Ok(BeginAnswer::Exhausted) => Got::Exhausted,
-        Ok(BeginAnswer::Begun(get)) => Got::Tried(get, core.try_get(at, get)),
+        Ok(Started::Memory) => Got::Memory,
+        Ok(Started::Exhausted) => Got::Exhausted,
+        Ok(Started::Tried(get, told)) => Got::Tried(get, told),
     }
 }

@@ -1,5 +1,6 @@
 -- What the condition of a step says of what is shown.
-use Rattle.bb8_core.proofs.Words.{◌≡◌, ℕ, ◌≤◌, Bool, true, false, Option, Some, None, is_some, refl, sym, ap, ◌∙◌, subst, ◌+◌, ◌<◌, max, arith, ltb-true, get, Place, Unclaimed, Claimed, Idle, Held, Guarded, Standing, Getting, Try, GiveUp, Leave, Reason, Cancelled, Ledger, conns, approved, alive, get_of, start, latest, handles, records, gets, record_of, holds, stands, gets_stand, is_unnotified, is_claimed, is_guarded, is_held_by, is_out, fits, IsLegal, Shown, shown_beside, HasLedger, IsFitting, Means, standing_is, claimed_is, guarded_out, and_right, holding_is, all_held, alive_get, trying_is, alive_is, out_counted, claimed_counted, Fits, all_fit, due_few, Numbered, end_of_numbers, due, Settings, none_lent, ShownRecords, NoneAfter}
+use Rattle.bb8_core.proofs.Words.{◌≡◌, ℕ, ◌≤◌, Bool, true, false, Option, Some, None, is_some, refl, sym, ap, ◌∙◌, subst, ◌+◌, ◌<◌, max, arith, ltb-true, get, Place, Unclaimed, Claimed, Idle, Held, Guarded, Standing, Getting, Try, CheckedOk, PutBack, GiveUp, Leave, Reason, Cancelled, Ledger, conns, approved, alive, get_of, start, latest, handles, records, gets, record_of, holds, stands, gets_stand, is_unnotified, is_claimed, is_guarded, is_held_by, is_out, fits, IsLegal, Shown, shown_beside, HasLedger, IsFitting, Means, standing_is, claimed_is, guarded_out, and_right, holding_is, all_held, alive_get, trying_is, alive_is, out_counted, claimed_counted, Fits, all_fit, due_few, Numbered, end_of_numbers, due, Settings, none_lent, ShownRecords, NoneAfter}
+use Rattle.bb8_core.specs.Shown.{TellsFitting}
 use Rattle.bb8_ledger.proofs.Invalid.{few_ended}
 use Rattle.bb8_ledger.proofs.Moments.{none_later}
 use Rattle.bb8_types.proofs.Numbered as numbered
@@ -175,3 +176,22 @@ module _ {C : Type 0} where
       → ((l : Ledger C) → IsLegal l → Means l t → is_some (holds (get_of l g)) ≡ true) → o ≡ get s.gets.places g
       → ((k : ℕ) → holds o ≡ Some k → n ≡ k) → (st : Getting) × (get s.gets.places g ≡ Some st) × (is_unnotified st.place ≡ false)
   holds_stands {o = o} {n = n} g is h fit get_is names = let st = holding_is o n (fit_holds g is h fit get_is names) in (st.0, sym get_is ∙ st.1, ap is_unnotified st.2)
+
+  -- ---- a get that was found to hold a connection, or none
+
+  pub fits_held : (s : Shown C) (g k : ℕ) → holds (get s.gets.places g) ≡ Some k → IsFitting s (CheckedOk g)
+  fits_held s g k held l legal means = ap is_some (ap (λ (x : Option Getting). holds x) (shown_get l s means g) ∙ held)
+
+  pub unfit_held : (s : Shown C) (g : ℕ) → holds (get s.gets.places g) ≡ None → TellsFitting s (CheckedOk g) false
+  unfit_held s g none l legal means = sym (ap is_some (ap (λ (x : Option Getting). holds x) (shown_get l s means g) ∙ none))
+
+  pub held_out : (s : Shown C) (g k : ℕ) → HasLedger s → holds (get s.gets.places g) ≡ Some k → (st : Standing C) × (get s.records.places k ≡ Some st) × (is_out st.place ≡ true)
+  held_out s g k h held =
+      let st = held_record h.0 g k h.1 (ap (λ (x : Option Getting). holds x) (shown_get h.0 s h.2 g) ∙ held) in
+      (st.0, sym (shown_record h.0 s h.2 k) ∙ st.1, st.2)
+
+  pub fits_guarded : (s : Shown C) (k : ℕ) (c : C) (broken : Bool) → stands is_guarded (get s.records.places k) ≡ true → IsFitting s (PutBack k c broken)
+  fits_guarded s k c broken on l legal means = ap (stands is_guarded) (shown_record l s means k) ∙ on
+
+  pub unfit_guarded : (s : Shown C) (k : ℕ) (c : C) (broken : Bool) → stands is_guarded (get s.records.places k) ≡ false → TellsFitting s (PutBack k c broken) false
+  unfit_guarded s k c broken off l legal means = sym (ap (stands is_guarded) (shown_record l s means k) ∙ off)

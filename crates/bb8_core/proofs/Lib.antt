@@ -10,4 +10,5 @@ pub mod Reaps
 pub mod Closings
 pub mod Runs
 pub mod AtOnce
+pub mod HandedOver
 pub mod Parts

@@ -2,6 +2,7 @@ pub mod Asked
 pub mod Shown
 pub mod Decided
 pub mod StepAnswers
+pub mod HandedOver
 pub mod Closings
 pub mod Pool
 pub mod Run

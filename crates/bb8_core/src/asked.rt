@@ -2,17 +2,18 @@
 //! connection that was handed in comes back. Homes, replays and C make their steps here.
 //!
 //! That what is asked is what the step requires is proved once, here, and that the state keeps the limits.
-ghost use Rattle.std.specs.Prelude.{◌≡◌, None, Some, IfOk, IfSome, IfNone};
+ghost use Rattle.std.specs.Prelude.{◌≡◌, None, Some, IfOk, IfErr, IfSome, IfNone};
 ghost use Rattle.bb8_ledger.specs.Acts as acts;
+ghost use Rattle.bb8_ledger.specs.Answers as answers;
 ghost use Rattle.bb8_core.specs.Asked.{Stepped, OrComesBack};
 ghost use Rattle.bb8_core.specs.Shown.{IsWithinLimits, Meets};
-ghost use Rattle.bb8_core.specs.StepAnswers.{begin_told, try_told, checked_ok_told, checked_err_told, reason_of, give_up_told, put_back_told, opened_told, failed_told, add_told, join_told, leave_told, HandsOut, GivesBack, GivesBackInvalid, GivesBackHeld, HandsBack, Refuses, ServesAtOnce, NotAtOnce};
+ghost use Rattle.bb8_core.specs.StepAnswers.{begin_told, try_told, checked_ok_told, checked_err_told, reason_of, give_up_told, put_back_told, opened_told, failed_told, add_told, join_told, leave_told, HandsOut, GivesBack, GivesBackInvalid, GivesBackHeld, HandsBack, Refuses, ServesAtOnce, NotAtOnce, Starts};
 
 use crate::api::Moment;
 use crate::internals::{
     AddAnswer, AtOnce, BeginAnswer, CheckedErrAnswer, CheckedOkAnswer, FailedAnswer, GetKey,
     GiveUpAnswer, JoinAnswer, Key, LeaveAnswer, OpenedAnswer, PoolInternals, PutBackAnswer, Reason,
-    TryAnswer,
+    Started, TryAnswer,
 };
 
 /// The step does not fit, as the state knows no such get or approval, or no handle is alive; nothing has changed. Our own.
@@ -30,6 +31,21 @@ pub fn begin<C: Drop>(pool: &mut PoolInternals<C>, at: Moment) -> Result<BeginAn
         return Err(Unfit);
     }
     Ok(pool.begin(at))
+}
+
+/// Begins a get and lets it try, in one step. Our own.
+#[inline(always)]
+pub fn start<C: Drop>(pool: &mut PoolInternals<C>, at: Moment) -> Result<Started<C>, Unfit>
+    ensures ok { IfOk result (λ told. Starts pool.old at.0 told pool.new) }
+    ensures err { IfErr result (λ u. Meets pool.old at.0 acts.Begin answers.Unfit pool.new
+        × (pool.new ≡ pool.old)) }
+    ensures limits { IsWithinLimits pool.old }
+{
+    pool.limits();
+    if !pool.fits_begin() {
+        return Err(Unfit);
+    }
+    Ok(pool.start(at))
 }
 
 /// Begins a get and serves it, where connections go out unchecked, one is idle, and the get needs no memory. Else nothing changes. Our own.
@@ -78,10 +94,7 @@ pub fn checked_ok<C: Drop>(
     ensures limits { IsWithinLimits pool.old }
 {
     pool.limits();
-    if !pool.fits_checked_ok(get) {
-        return Err(Unfit);
-    }
-    Ok(pool.checked_ok(at, get, hint))
+    pool.checked_ok(at, get, hint)
 }
 
 /// Tells that the check of a get failed. Our own.
@@ -165,10 +178,7 @@ pub fn put_back<C: Drop>(
     ensures limits { IsWithinLimits pool.old }
 {
     pool.limits();
-    if !pool.fits_put_back(key) {
-        return Err(conn);
-    }
-    Ok(pool.put_back(at, key, conn, broken))
+    pool.put_back(at, key, conn, broken)
 }
 
 /// Hands in what a claimed approval brought. Our own.

@@ -1,5 +1,5 @@
 //! The locked state of a pool.
-ghost use Rattle.std.specs.Prelude.{◌≡◌, ◌+◌, ◌≤◌, min, not, cond, slice_get, IfSome, IfNone, true, false, None, Some};
+ghost use Rattle.std.specs.Prelude.{◌≡◌, ◌+◌, ◌≤◌, min, not, cond, slice_get, IfSome, IfNone, IfOk, true, false, None, Some};
 ghost use Rattle.std.specs.FinMap as map;
 ghost use Rattle.bb8_ledger.specs.Acts as acts;
 ghost use Rattle.bb8_ledger.specs.Answers as answers;
@@ -14,8 +14,9 @@ ghost use Rattle.bb8_core.specs.Endings.{endings_of};
 ghost use Rattle.bb8_core.specs.Run.{opening};
 ghost use Rattle.bb8_core.specs.Parts.{out_of};
 ghost use Rattle.bb8_core.specs.Shown.{Means, Meets, Lends, Searches, examined, searched, IsFitting, IsWithinLimits};
+ghost use Rattle.bb8_core.specs.Asked.{Stepped, OrComesBack};
 ghost use Rattle.bb8_core.specs.Closings.{OffersReaped, OffersLeft};
-ghost use Rattle.bb8_core.specs.StepAnswers.{begin_told, try_told, checked_ok_told, checked_err_told, reason_of, give_up_told, put_back_told, claim_told, opened_told, failed_told, add_told, reap_told, join_told, leave_told, look_told, HandsOut, ServesAtOnce, NoneAtOnce, GivesBack, GivesBackInvalid, GivesBackHeld, HandsBack, Refuses, closed_in};
+ghost use Rattle.bb8_core.specs.StepAnswers.{begin_told, try_told, checked_ok_told, checked_err_told, reason_of, give_up_told, put_back_told, claim_told, opened_told, failed_told, add_told, reap_told, join_told, leave_told, look_told, HandsOut, ServesAtOnce, NoneAtOnce, Starts, GivesBack, GivesBackInvalid, GivesBackHeld, HandsBack, Refuses, closed_in};
 ghost use Rattle.bb8_types.specs.declared.standing.Holder.TheVariants.{Guard, Get};
 ghost use Rattle.bb8_types.specs.declared.standing.Standing.{Standing};
 ghost use Rattle.bb8_types.specs.Bounds.{end_of_numbers, most_records};
@@ -27,8 +28,9 @@ mod questions;
 pub use crate::answers::{
     AddAnswer, AtOnce, BeginAnswer, CheckedErrAnswer, CheckedOkAnswer, ClaimAnswer, FailedAnswer,
     GiveUpAnswer, JoinAnswer, LeaveAnswer, Looked, OpenedAnswer, PutBackAnswer, ReapAnswer,
-    TryAnswer,
+    Started, TryAnswer,
 };
+use crate::asked::Unfit;
 pub use bb8_tables::closed::{Closed, ClosedList};
 use bb8_tables::counters::Counters;
 use bb8_tables::gets::{Gets, first_wait, held_key, is_notified, is_unnotified};
@@ -275,6 +277,91 @@ impl<C: Drop, A> PoolInternals<C, A> {
         }
     }
 
+    /// Begins a get and lets it try, as `begin` and then `try_get` do, in one step. A get that is served leaves no entry; another is born where
+    /// it stands then, and is looked up nowhere. Our own.
+    #[inline(always)]
+    pub fn start(&mut self, at: Moment) -> Started<C>
+        requires { IsFitting self.old acts.Begin }
+        ensures step { Starts self.old at.0 result self.new }
+        ensures examined { Lends 4 self.old self.new }
+        ensures searched { Searches 0 self.new }
+    {
+        if self.config.test_on_check_out {
+            return self.start_on(at);
+        }
+        match self.serve_at_once(at) {
+            None => self.start_on(at),
+            Some(
+                AtOnce {
+                    get,
+                    key,
+                    conn,
+                    grant,
+                },
+            ) => Started::Tried(
+                GetKey {
+                    number: get,
+                    place: 0,
+                },
+                TryAnswer::Served(key, conn, grant),
+            ),
+        }
+    }
+
+    /// Starts a get that is checked, or waits, or needs memory.
+    #[inline(always)]
+    fn start_on(&mut self, at: Moment) -> Started<C>
+        requires { IsFitting self.old acts.Begin }
+        ensures step { Starts self.old at.0 result self.new }
+        ensures examined { Lends 4 self.old self.new }
+        ensures searched { Searches 0 self.new }
+    {
+        let now = self.latest.max(at.0);
+        self.latest = now;
+        if !self.gets.has_number() {
+            self.lendings.start();
+            return Started::Exhausted;
+        }
+        if !self.gets.make_room_for_one() {
+            self.lendings.start();
+            return Started::Memory;
+        }
+        let mut lendings = self.lendings.begun();
+        self.counters.started += 1;
+        let next = GetKey {
+            number: self.gets.next_number(),
+            place: 0,
+        };
+        let holder = holder(&self.config, next);
+        match self
+            .records
+            .take(self.config.queue_strategy, holder, &mut lendings)
+        {
+            None => {
+                let get = self.gets.bear_waiting(now, &mut lendings);
+                self.lendings = lendings;
+                let asked = one(self.records.approved() < self.gets.alive());
+                let taken = self.records.used();
+                let due = due(&self.config, self.handles, taken, asked);
+                let grant = self.records.grant(due, false);
+                Started::Tried(get, TryAnswer::Waiting(grant))
+            }
+            Some((key, conn)) => {
+                let wanted = want(&self.config, self.handles, &self.records);
+                let grant = self.records.grant(wanted, false);
+                if self.config.test_on_check_out {
+                    let get = self.gets.bear_holding(key.number, &mut lendings);
+                    self.lendings = lendings;
+                    return Started::Tried(get, TryAnswer::Taken(key, conn, grant));
+                }
+                self.lendings = lendings;
+                let _ = self.gets.pass();
+                self.counters.serve(None, now);
+                Started::Tried(next, TryAnswer::Served(key, conn, grant))
+            }
+        }
+    }
+
     /// Takes out the idle connection that is first by the queue strategy, and grants what is wanted then. Where connections are checked, the
     /// get holds it until its check is told; otherwise the get is served with it, and it goes to a guard. Where none is idle the get waits from now on, and one approval is granted where gets outnumber open approvals. A get that waits
     /// and was not notified waits on, and nothing changes but the latest moment. No memory is asked for, but for approvals.
@@ -321,23 +408,34 @@ impl<C: Drop, A> PoolInternals<C, A> {
     }
 
     /// Serves a get with the connection that it holds, as its check was passed. The connection goes to a guard. It may stand at the hint,
-    /// the place of its key, which may be stale and changes no answer.
-    pub fn checked_ok(&mut self, at: Moment, get: GetKey, hint: usize) -> CheckedOkAnswer
-        requires { IsFitting self.old (acts.CheckedOk get.number) }
-        ensures step { Meets self.old at.0 (acts.CheckedOk get.number)
-            (checked_ok_told self.old.records.next result) self.new }
-        ensures examined { Lends 4 self.old self.new }
-        ensures searched { Searches 3 self.new }
+    /// the place of its key, which may be stale and changes no answer. Where the get holds none nothing changes. The get is looked for once.
+    pub fn checked_ok(
+        &mut self,
+        at: Moment,
+        get: GetKey,
+        hint: usize,
+    ) -> Result<CheckedOkAnswer, Unfit>
+        ensures step { Stepped Meets (checked_ok_told self.old.records.next)
+            self.old at.0 (acts.CheckedOk get.number) result self.new }
+        ensures examined { IfOk result (λ told. Lends 4 self.old self.new) }
+        ensures searched { IfOk result (λ told. Searches 3 self.new) }
     {
-        let now = self.latest.max(at.0);
-        self.latest = now;
-        self.lendings.start();
-        let getting = self.gets.getting(get, &mut self.lendings);
-        let out = held_key(getting, hint);
-        let key = self.records.hand_over(out, &mut self.lendings);
-        self.gets.finish(get, &mut self.lendings);
-        self.counters.serve(first_wait(getting), now);
-        CheckedOkAnswer::Served(key)
+        let mut lendings = self.lendings.begun();
+        match self.gets.finish_holding(get, &mut lendings) {
+            None => Err(Unfit),
+            Some((held, first_wait)) => {
+                let now = self.latest.max(at.0);
+                self.latest = now;
+                let out = Key {
+                    number: held,
+                    place: hint,
+                };
+                let key = self.records.hand_over(out, &mut lendings);
+                self.lendings = lendings;
+                self.counters.serve(first_wait, now);
+                Ok(CheckedOkAnswer::Served(key))
+            }
+        }
     }
 
     /// Closes the connection that a get holds, as its check failed; the get may try again. It counts as invalid, and as broken too where it
@@ -477,31 +575,38 @@ impl<C: Drop, A> PoolInternals<C, A> {
     }
 
     /// Takes back a connection that a guard held. It is closed where it is broken, or else has lived too long, or else no handle is alive;
-    /// otherwise it is idle again and keeps its birth.
+    /// otherwise it is idle again and keeps its birth. Where no guard holds it, it comes back, and nothing changes. It is looked for once.
     #[inline(always)]
-    pub fn put_back(&mut self, at: Moment, k: Key, conn: C, broken: bool) -> PutBackAnswer<C>
-        requires { IsFitting self.old (acts.PutBack k.number conn broken) }
-        ensures step { Meets self.old at.0 (acts.PutBack k.number conn broken)
-            (put_back_told k.number result) self.new }
-        ensures connection { GivesBack conn result }
-        ensures examined { Lends 4 self.old self.new }
-        ensures searched { Searches 2 self.new }
+    pub fn put_back(
+        &mut self,
+        at: Moment,
+        k: Key,
+        conn: C,
+        broken: bool,
+    ) -> Result<PutBackAnswer<C>, C>
+        ensures step { Stepped Meets (put_back_told k.number)
+            self.old at.0 (acts.PutBack k.number conn broken) result self.new }
+        ensures connection { OrComesBack GivesBack conn result }
+        ensures examined { IfOk result (λ told. Lends 4 self.old self.new) }
+        ensures searched { IfOk result (λ told. Searches 2 self.new) }
     {
         let now = self.latest.max(at.0);
-        self.latest = now;
-        self.lendings.start();
+        let mut lendings = self.lendings.begun();
         let ended = self.handles == 0;
-        match self.records.put_back(
-            k,
-            conn,
-            broken,
-            ended,
-            &self.config,
-            now,
-            &mut self.lendings,
-        ) {
-            Ok(()) => PutBackAnswer::Kept(self.gets.notify(&mut self.lendings)),
-            Err((conn, expired)) => {
+        match self
+            .records
+            .take_back(k, conn, broken, ended, &self.config, now, &mut lendings)
+        {
+            Err(conn) => Err(conn),
+            Ok(Ok(())) => {
+                self.latest = now;
+                let notified = self.gets.notify(&mut lendings);
+                self.lendings = lendings;
+                Ok(PutBackAnswer::Kept(notified))
+            }
+            Ok(Err((conn, expired))) => {
+                self.latest = now;
+                self.lendings = lendings;
                 let grant = end_out(
                     &self.config,
                     self.handles,
@@ -510,7 +615,7 @@ impl<C: Drop, A> PoolInternals<C, A> {
                     &mut self.lendings,
                 );
                 self.counters.close(broken, expired);
-                PutBackAnswer::Closed(conn, grant, self.gets.notify(&mut self.lendings))
+                Ok(PutBackAnswer::Closed(conn, grant, self.gets.notify(&mut self.lendings)))
             }
         }
     }

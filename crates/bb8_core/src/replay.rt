@@ -5,6 +5,7 @@ ghost use Rattle.bb8_ledger.specs.Ledger.{Ledger};
 ghost use Rattle.bb8_ledger.specs.Table as table;
 ghost use Rattle.bb8_ledger.specs.Table.{IsLegal};
 ghost use Rattle.bb8_ledger.specs.Limits.{KeepsLimits, KeepsLaws, KeepsPromises};
+ghost use Rattle.bb8_ledger.specs.Handed.{IsOrderly};
 ghost use Rattle.bb8_tables.specs.Keys.{notified_of};
 ghost use Rattle.bb8_core.specs.Run.{act_with, fits_named, answer_of, opening, IsRun, Happens, Applies, AfterEach};
 ghost use Rattle.bb8_core.specs.declared.replay.events.Act.TheVariants as events;
@@ -372,6 +373,8 @@ pub fn replay(
         (opening config 0 0) events.now r.0.items) }
     ensures promises { IfOk result (λ r. AfterEach KeepsPromises
         (opening config 0 0) events.now r.0.items) }
+    ensures order { IfOk result (λ r. AfterEach IsOrderly
+        (opening config 0 0) events.now r.0.items) }
 {
     replay_from(alloc, config, 0, 0, events)
 }
@@ -394,6 +397,8 @@ pub fn replay_from(
     ensures laws { IfOk result (λ r. AfterEach KeepsLaws
         (opening config first_number first_get) events.now r.0.items) }
     ensures promises { IfOk result (λ r. AfterEach KeepsPromises
+        (opening config first_number first_get) events.now r.0.items) }
+    ensures order { IfOk result (λ r. AfterEach IsOrderly
         (opening config first_number first_get) events.now r.0.items) }
 {
     let mut pool = PoolInternals::starting_at(alloc, config, first_number, first_get);

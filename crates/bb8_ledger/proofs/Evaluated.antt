@@ -136,7 +136,7 @@ module _ {C : Type 0} where
   row_of l at _ _ = None
 
 -- that the whole table allows each answer of a row
-abbrev all_allowed : (l : Ledger ℕ) (told : List Told) → Option (AreAllowed l told)
+abbrev pub all_allowed : (l : Ledger ℕ) (told : List Told) → Option (AreAllowed l told)
 all_allowed l [] = Some tt
 all_allowed l (t ∷ told) = pair (matched (fits l t.act) (row_of l t.at t.act t.answer) (unfit t.answer)) (all_allowed (Later l t.at t.act t.answer) told)
 

@@ -74,7 +74,7 @@ module _ {C : Type 0} where
 
   module _ {l : Ledger C} {g b : ℕ} {f : Numbered Getting → Numbered Getting} (t : Leaves l g b f) where
     -- the gets once it has changed
-    abbrev left_gets : List (Numbered Getting)
+    abbrev pub left_gets : List (Numbered Getting)
     left_gets = update (start l).first_get g f (gets l)
 
     -- it, in its row
@@ -87,7 +87,7 @@ module _ {C : Type 0} where
     left_tally : (test : GetPlace → Bool) → gets_stand test (f left_at.0).standing ≡ false → tally_gets test left_gets + one (test t.standing.place) ≡ tally_gets test (gets l)
     left_tally test off = omega (arith, changed_tally (gets_stand test) f (gets l) (start l).first_get g left_at.0 (Some t.standing) left_at.1 left_at.2, ap one off)
 
-    left_oldest : (n : Option ℕ) → n ≡ oldest_waiter l → n ≡ slice_get (in_order unnotified_at (start l).first_get left_gets (position l)) 0
+    pub left_oldest : (n : Option ℕ) → n ≡ oldest_waiter l → n ≡ slice_get (in_order unnotified_at (start l).first_get left_gets (position l)) 0
     left_oldest n is = grind (arith, same_line, not_waiting)
 
     left_before : Before unnotified_at (position l) left_gets

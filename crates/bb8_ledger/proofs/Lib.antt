@@ -11,4 +11,6 @@ pub mod Invalid
 pub mod Wants
 pub mod Reaps
 pub mod Laws
+pub mod Handed
+pub mod HandedRows
 pub mod Evaluated

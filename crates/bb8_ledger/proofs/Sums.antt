@@ -48,7 +48,7 @@ Lowers _ less unnotified = less ≡ 0
 
 module _ {C : Type 0} where
   -- nobody is idle where nobody is first
-  none_idle : (l : Ledger C) → first_idle l ≡ None → idle_count l ≡ 0
+  pub none_idle : (l : Ledger C) → first_idle l ≡ None → idle_count l ≡ 0
   none_idle l none = omega (arith, idle_tally l, none_first (start l).config.queue_strategy (idle l) none)
 
   -- what is granted is within the size

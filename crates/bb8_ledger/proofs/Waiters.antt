@@ -20,7 +20,7 @@ no_back (x ∷ xs) ys h = cc
 
 module _ {R : Type 0} where
   -- an element that passes is counted
-  some_tally : (p : R → Bool) (rs : List R) (n q : ℕ) (r : R) → at n rs q ≡ Some r → p r ≡ true → 0 < tally p rs
+  pub some_tally : (p : R → Bool) (rs : List R) (n q : ℕ) (r : R) → at n rs q ≡ Some r → p r ≡ true → 0 < tally p rs
   some_tally p [] n q r h on = cc
   some_tally p (x ∷ rs) n q r h on = pick (eqb q n) h (λ e. some_tally p rs (suc n) q r e on)
     where
@@ -119,7 +119,7 @@ is_waiting Active = false
 is_waiting (Waiting notified) = true
 is_waiting (Holding k) = false
 
-unnotified_place : (p : GetPlace) → is_unnotified p ≡ true → p ≡ Waiting false
+pub unnotified_place : (p : GetPlace) → is_unnotified p ≡ true → p ≡ Waiting false
 unnotified_place (Waiting false) h = refl
 unnotified_place _ h = cc
 
@@ -328,7 +328,7 @@ line_notified first p (Some g) gs is i =
     (λ r. omega (arith, i.apart r, less r))
 
 -- a get that ends hands its notification on, where it was notified
-handed : (first m g : ℕ) (n : Option ℕ) (gs : List (Numbered Getting)) (x : Numbered Getting) (s : Getting) → at first gs g ≡ Some x
+pub handed : (first m g : ℕ) (n : Option ℕ) (gs : List (Numbered Getting)) (x : Numbered Getting) (s : Getting) → at first gs g ≡ Some x
     → x.standing ≡ Some s → n ≡ cond (is_notified s.place) (slice_get (in_order unnotified_at first gs m) 0) None
     → n ≡ cond (is_notified s.place) (slice_get (in_order unnotified_at first (update first g after_end gs) m) 0) None
 handed first m g n gs x s h is who = who ∙ pick (is_notified s.place) refl

@@ -3,6 +3,7 @@ pub mod Answers
 pub mod Ledger
 pub mod Table
 pub mod Limits
+pub mod Handed
 pub mod Waits
 pub mod Rows
 pub mod WorkedRows

@@ -1,11 +1,13 @@
 -- The code's side of each change of the gets: what it does to the fields, seen in what they mean.
-use Rattle.bb8_tables.proofs.Words.{◌≡◌, ◌≢◌, ℕ, ◌+◌, ◌-◌, ◌<◌, ◌≤◌, Bool, true, false, [], ◌∷◌, ◌++◌, length, set, slice_get, arith, Option, Some, None, is_some, IsSome, refl, sym, ap, ◌∙◌, length-append, get, tally, one, Lined, slot_at, Absent, GetPlace, Active, Waiting, Getting, Slot, is_unnotified, get_in_wait, get_with_place, ShownGets, IsTable, view_of_gets, AreGoodGets, AreWaitingPlaces, removed_inserted}
+use Rattle.bb8_tables.proofs.Words.{◌≡◌, ◌≢◌, ℕ, List, ◌+◌, ◌-◌, ◌<◌, ◌≤◌, Bool, true, false, [], ◌∷◌, ◌++◌, length, set, slice_get, arith, Option, Some, None, is_some, IsSome, refl, sym, ap, ◌∙◌, length-append, get, tally, one, Lined, slot_at, Absent, GetPlace, Active, Waiting, Getting, Slot, is_unnotified, get_in_wait, get_with_place, ShownGets, IsTable, view_of_gets, AreGoodGets, AreWaitingPlaces, removed_inserted}
 use Rattle.bb8_tables.specs.declared.gets.Gets.TheInside.{Inside}
 use Rattle.bb8_tables.specs.Machine as machine
 use Rattle.bb8_tables.proofs.Slots.{Updates, set_at, set_within, tally_set, tally_at, table_set, table_added, table_removed, table_kept}
 use Rattle.bb8_tables.proofs.Lines.{other_line, turned_line, free_line, same_line, places_without, places_absent}
 use Rattle.bb8_tables.proofs.Numbers.{numbers_all, numbers_fresh}
 use Rattle.bb8_tables.proofs.Views.{same_gets}
+use Rattle.bb8_tables.proofs.Spelled.{without_absent}
+use Rattle.bb8_types.specs.declared.standing.GetPlace.TheVariants.{Holding}
 use Rattle.bb8_tables.proofs.Slots
 use Rattle.bb8_tables.proofs.TablePlaces
 use Rattle.bb8_tables.proofs.TablePlaces.{numbered, Restands, Frees, stands_then, number_at, no_number_at, set_shown, set_line, set_pushed, line_without, cleared_shown, cleared_line, added_shown}
@@ -183,3 +185,52 @@ module _ (a : Inside) (place q : ℕ) (x : Slot Getting) (slots : Lined (Slot Ge
       (cleared_shown q place good.table at_place number_is)
       (cleared_line q place good.table at_place number_is a.slots.line ∙ line_without q place good.table at_place number_is a.slots.line good.waiting)
       refl refl)
+
+-- ---- born elsewhere
+
+-- a new get that stands elsewhere at once
+module _ (a : Inside) (place : ℕ) (mid : Lined (Slot Getting)) (good : AreGoodGets a) (free : slot_at a.slots place ≡ None) (within : place < length a.slots.slots)
+    (takes : mid ≡ record a.slots {
+      slots = set a.slots.slots place (Some (record { number = a.next; standing = record { place = Active; first_wait = None } }));
+      free = machine.without place a.slots.free;
+    }) (room : length mid.free + 1 ≡ length a.slots.free) (few : a.alive < a.peak) where
+  abbrev begun : Inside
+  begun = record a { next = a.next + 1; slots = mid; alive = a.alive + 1 }
+
+  abbrev newborn : Slot Getting
+  newborn = record { number = a.next; standing = record { place = Active; first_wait = None } }
+
+  pub stands_newborn : slot_at mid place ≡ Some newborn
+  stands_newborn = rw takes (set_within a.slots.slots place (Some newborn) within).changed
+
+  begun_good : AreGoodGets begun
+  begun_good = begin_good a place mid good free within takes room few
+
+  begun_view : view_of_gets begun ≡ machine.after_begin (view_of_gets a)
+  begun_view = begin_view a place mid good free within takes room few
+
+  pub turned_good : (p : GetPlace) (slots : Lined (Slot Getting)) → Restands mid slots place (get_with_place p) → AreGoodGets (record begun { slots = slots })
+  turned_good p slots sets = turn_good begun place a.next p newborn slots begun_good stands_newborn refl refl sets
+
+  pub turned_view : (p : GetPlace) (slots : Lined (Slot Getting)) → Restands mid slots place (get_with_place p)
+      → view_of_gets (record begun { slots = slots }) ≡ machine.after_turn p a.next (machine.after_begin (view_of_gets a))
+  turned_view p slots sets = turn_view begun place a.next p newborn slots begun_good stands_newborn refl refl sets ∙ ap (machine.after_turn p a.next) begun_view
+
+  pub newborn_absent : Absent place mid.line
+  newborn_absent = wait_absent begun place newborn begun_good stands_newborn refl
+
+  pub waiting_good : (now : ℕ) (next slots : Lined (Slot Getting)) → Restands mid next place (get_in_wait now) → slots ≡ record next { line = next.line ++ place ∷ [] }
+      → AreGoodGets (record begun { slots = slots })
+  waiting_good now next slots sets in_line = wait_good begun now place a.next newborn next slots begun_good stands_newborn refl refl sets in_line
+
+  pub waiting_view : (now : ℕ) (next slots : Lined (Slot Getting)) → Restands mid next place (get_in_wait now) → slots ≡ record next { line = next.line ++ place ∷ [] }
+      → view_of_gets (record begun { slots = slots }) ≡ machine.after_wait now a.next (machine.after_begin (view_of_gets a))
+  waiting_view now next slots sets in_line = wait_view begun now place a.next newborn next slots begun_good stands_newborn refl refl sets in_line ∙ ap (machine.after_wait now a.next) begun_view
+
+-- a get that holds a connection is in no line, so its place goes as any other
+pub released : (a : Inside) (place k : ℕ) (x : Slot Getting) (slots : Lined (Slot Getting)) → AreGoodGets a → slot_at a.slots place ≡ Some x → x.standing.place ≡ Holding k
+    → slots ≡ record { slots = set a.slots.slots place None; line = a.slots.line; births = machine.without place a.slots.births; free = a.slots.free ++ place ∷ [] }
+    → Frees a.slots slots place
+released a place k x slots good at_place holding gone =
+    gone ∙ ap (λ (l : List ℕ). record { slots = set a.slots.slots place None; line = l; births = machine.without place a.slots.births; free = a.slots.free ++ place ∷ [] })
+    (sym (without_absent place a.slots.line (wait_absent a place x good at_place (ap is_unnotified holding))))

@@ -2,6 +2,7 @@
 ghost use Rattle.std.specs.Prelude.{◌⊎◌, ◌≡◌, ℕ, ◌+◌, ◌<◌, ◌≤◌, max, min, true, false, IsSome, is_some, ltb, cond, filter, not, eqb, slice_get, IfSome, IfNone, OnOk, OnErr, Some, None, []};
 ghost use Rattle.std.specs.FinMap as map;
 ghost use Rattle.bb8_types.specs.declared.standing.Getting.{Getting};
+ghost use Rattle.bb8_types.specs.declared.standing.GetPlace.TheVariants.{Holding};
 ghost use Rattle.bb8_types.specs.Numbered as numbered;
 ghost use Rattle.bb8_types.specs.Places as places;
 ghost use Rattle.bb8_tables.specs.Machine as machine;
@@ -160,7 +161,8 @@ impl Gets {
     }
 
     /// Makes room for one more get, where there is none yet.
-    fn make_room_for_one(&mut self) -> bool
+    #[inline]
+    pub fn make_room_for_one(&mut self) -> bool
         requires { self.old.next < end_of_numbers }
         ensures made { result ≡ true → self.new ≡ record
             self.old { peak = max self.old.peak (self.old.alive + 1) } }
@@ -185,6 +187,63 @@ impl Gets {
                 first_wait: None,
             },
         });
+        self.next += 1;
+        self.alive += 1;
+        GetKey { number, place }
+    }
+
+    /// The number that the next get will have.
+    #[inline]
+    pub fn next_number(&self) -> u64
+        ensures { result ≡ self.now.next }
+    {
+        self.next
+    }
+
+    /// Begins a get of the next number that holds this connection at once, for which there is room.
+    #[inline]
+    pub fn bear_holding(&mut self, held: u64, lendings: &mut Lendings) -> GetKey
+        requires room { self.old.alive < self.old.peak }
+        requires number { self.old.next < end_of_numbers }
+        ensures key { result.number ≡ self.old.next }
+        ensures state { self.new ≡ machine.after_turn (Holding held) self.old.next
+            (machine.after_begin self.old) }
+        ensures examined { AddsLent 1 0 lendings.old lendings.new }
+    {
+        let number = self.next;
+        let place = self.slots.insert(Slot {
+            number,
+            standing: Getting {
+                place: GetPlace::Active,
+                first_wait: None,
+            },
+        });
+        let _ = self.slots.turn(place, GetPlace::Holding(held), lendings);
+        self.next += 1;
+        self.alive += 1;
+        GetKey { number, place }
+    }
+
+    /// Begins a get of the next number that waits at once, since this moment, for which there is room.
+    #[inline]
+    pub fn bear_waiting(&mut self, now: u64, lendings: &mut Lendings) -> GetKey
+        requires room { self.old.alive < self.old.peak }
+        requires number { self.old.next < end_of_numbers }
+        ensures key { result.number ≡ self.old.next }
+        ensures state { self.new ≡ machine.after_wait now self.old.next
+            (machine.after_begin self.old) }
+        ensures examined { AddsLent 1 0 lendings.old lendings.new }
+    {
+        let number = self.next;
+        let place = self.slots.insert(Slot {
+            number,
+            standing: Getting {
+                place: GetPlace::Active,
+                first_wait: None,
+            },
+        });
+        self.slots.wait(place, now, lendings);
+        self.slots.line_up(place);
         self.next += 1;
         self.alive += 1;
         GetKey { number, place }
@@ -306,6 +365,37 @@ impl Gets {
         ensures examined { AddsLent 0 1 lendings.old lendings.new }
     {
         self.end(g, lendings);
+    }
+
+    /// Ends a get that holds a connection, and tells which, and when it first waited. Where it holds none nothing changes. It looks for it once.
+    #[inline]
+    pub fn finish_holding(
+        &mut self,
+        g: GetKey,
+        lendings: &mut Lendings,
+    ) -> Option<(u64, Option<u64>)>
+        ensures some { IfSome result (λ r. (places.holds (map.get self.old.places g.number) ≡ Some r.0)
+            × (r.1 ≡ places.first_wait_of (map.get self.old.places g.number))
+            × (self.new ≡ machine.after_get_end g.number self.old)) }
+        ensures none { IfNone result ((places.holds (map.get self.old.places g.number) ≡ None)
+            × (self.new ≡ self.old)) }
+        ensures numbers { self.old.next ≤ end_of_numbers }
+        ensures examined { AddsLent 1 1 lendings.old lendings.new }
+    {
+        match self.slots.locate(g.number, g.place, lendings) {
+            None => None,
+            Some(place) => {
+                let getting = self.slots.at(place, lendings).standing;
+                match getting.place {
+                    GetPlace::Active | GetPlace::Waiting(_) => None,
+                    GetPlace::Holding(held) => {
+                        self.slots.release(place);
+                        self.alive -= 1;
+                        Some((held, getting.first_wait))
+                    }
+                }
+            }
+        }
     }
 
     /// Where the number stands, if the get is alive.

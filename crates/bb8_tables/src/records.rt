@@ -333,6 +333,56 @@ impl<C: Drop> Records<C> {
         }
     }
 
+    /// Takes back a connection that a guard held, as `put_back` does. Where no guard holds it, it comes back, and nothing changes. It looks for
+    /// the connection once.
+    #[inline]
+    pub fn take_back(
+        &mut self,
+        k: Key,
+        conn: C,
+        broken: bool,
+        ended: bool,
+        config: &Config,
+        now: u64,
+        lendings: &mut Lendings,
+    ) -> Result<Result<(), (C, bool)>, C>
+        requires { NoneAfter now self.old }
+        ensures guarded { IfOk result (λ r. places.stands places.is_guarded
+            (map.get self.old.places k.number) ≡ true) }
+        ensures ok { IfOk result (λ r. IfOk r (λ u. ((broken || (machine.is_old
+            (settings_of config.now) now k.number self.old || ended)) ≡ false)
+            × (self.new ≡ machine.after_return k.number conn now self.old))) }
+        ensures err { IfOk result (λ r. IfErr r (λ x. (x.0 ≡ conn)
+            × (x.1 ≡ machine.is_old (settings_of config.now) now k.number self.old)
+            × ((broken || (x.1 || ended)) ≡ true) × (self.new ≡ self.old))) }
+        ensures unfit { IfErr result (λ c. (c ≡ conn) × (self.new ≡ self.old)
+            × (places.stands places.is_guarded (map.get self.old.places k.number) ≡ false)) }
+        ensures examined { AddsLent 2 1 lendings.old lendings.new }
+    {
+        match self.slots.locate(k.number, k.place, lendings) {
+            None => Err(conn),
+            Some(place) => {
+                let standing = &self.slots.at(place, lendings).standing;
+                if !is_guarded(&standing.place) {
+                    return Err(conn);
+                }
+                let birth = standing.birth;
+                let expired = is_past(config.max_lifetime, now - birth);
+                if is_closing(broken, expired, ended) {
+                    return Ok(Err((conn, expired)));
+                }
+                let idle = Standing {
+                    place: Place::Idle(conn),
+                    birth,
+                    entered: now,
+                };
+                let _ = self.slots.replace(place, idle, lendings);
+                self.slots.line_up(place);
+                Ok(Ok(()))
+            }
+        }
+    }
+
     /// Ends a claimed approval, or a connection that a guard or a get held.
     pub fn close(&mut self, k: Key, opening: bool, lendings: &mut Lendings)
         requires { (s : Standing C) × (map.get self.old.places k.number ≡ Some s)

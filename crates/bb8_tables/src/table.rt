@@ -431,6 +431,24 @@ impl<S: Drop + Vacant> Table<S> {
         slot
     }
 
+    /// Frees a place that is not in line.
+    #[inline]
+    pub fn release(&mut self, place: usize)
+        requires stands { IsSome (slot_at self.old place) }
+        requires absent { Absent place self.old.line }
+        ensures state { self.new ≡ record {
+          slots = slice_set self.old.slots place None;
+          line = self.old.line;
+          births = without place self.old.births;
+          free = self.old.free ++ place ∷ [];
+        } }
+    {
+        let _links = &self.links;
+        self.unlink(Order::Births, place);
+        let _ = self.clear(place);
+        self.push(Order::Free, place);
+    }
+
     /// Frees a place, and tells which number ended there.
     pub fn remove(&mut self, place: usize) -> u64
         requires { IsSome (slot_at self.old place) }

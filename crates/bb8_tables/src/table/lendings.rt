@@ -64,6 +64,19 @@ impl Lendings {
         self.searched = 0;
     }
 
+    /// What a step that begins now counts in, before it is known that it is made.
+    #[inline]
+    pub fn begun(&self) -> Lendings
+        ensures { result ≡ begun self.now }
+    {
+        let counted = self.past.wrapping_add(self.lent);
+        Lendings {
+            past: counted.wrapping_add(self.searched).wrapping_add(1),
+            lent: 0,
+            searched: 0,
+        }
+    }
+
     /// How many entries were lent since the latest step began.
     #[inline]
     pub fn lent(&self) -> u64

@@ -1,4 +1,6 @@
 use Rattle.bb8_core.proofs.Words.{ℕ, take, ◌+◌, sym, refl, subst, List, [], ◌∷◌, ◌++◌, get_or, ◌<◌, ◌≤◌, length, arith, Ledger, Later, KeepsLimits, KeepsLaws, KeepsPromises, IsRun, answer_of, opening, keeps_limits, keeps_laws, keeps_promises, Event, act_of}
+use Rattle.bb8_ledger.specs.Handed.{IsOrderly}
+use Rattle.bb8_ledger.proofs.Handed.{keeps_order}
 use Rattle.std.proofs.lemmas.List.{take_all, take_more}
 use Rattle.bb8_core.specs.declared.replay.events.Act.TheVariants as acts
 use Rattle.bb8_core.specs.declared.replay.events.Answer.{Answer}
@@ -53,3 +55,8 @@ pub returns-clause-promises : goal.returns-clause-promises
 returns-clause-promises c =
     let r = returns-clause-run c in
     run_after KeepsPromises keeps_promises (opening c.args.config c.args.first_number c.args.first_get) r.0 c.args.events.now c.loop-event.answers.items c.requires r.1
+
+pub returns-clause-order : goal.returns-clause-order
+returns-clause-order c =
+    let r = returns-clause-run c in
+    run_after IsOrderly keeps_order (opening c.args.config c.args.first_number c.args.first_get) r.0 c.args.events.now c.loop-event.answers.items c.requires r.1

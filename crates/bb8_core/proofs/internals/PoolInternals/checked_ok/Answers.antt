@@ -1,33 +1,42 @@
-use Rattle.bb8_core.proofs.Words.{sym, ap, refl, ◌∙◌, arith, Shown, view_of}
+use Rattle.bb8_core.proofs.Words.{◌≡◌, ℕ, false, Some, sym, ap, refl, subst, ◌∙◌, arith, Act, Unfit, Meets, Shown, ShownGets, view_of, get, holding_is}
+use Rattle.bb8_core.specs.Shown.{TellsFitting}
 use Rattle.bb8_ledger.specs.Acts as acts
 use Rattle.bb8_tables.specs.Machine as machine
-use Rattle.bb8_core.proofs.Fitting.{fit_holds, holds_out, holds_stands, ended_few}
-use Rattle.bb8_core.proofs.Steps.{led, at_view, fits_view}
+use Rattle.bb8_core.proofs.Fitting.{fits_held, unfit_held, held_out, ended_few}
+use Rattle.bb8_core.proofs.Runs.{unfit_step}
+use Rattle.bb8_core.proofs.Steps.{led, at_view}
 use Rattle.bb8_core.proofs.GetEnds.{meets_passed}
 use Rattle.bb8_core.proofs.internals.PoolInternals.checked_ok.Goals as goal
 
 pub hand_over-key-requires : goal.hand_over-key-requires
-hand_over-key-requires g c = record { out = holds_out c.args.get.number c.self.view_is c.self.invariant c.requires c.getting-getting.ensures.value c.held_key-out.ensures }
-
-pub finish-requires : goal.finish-requires
-finish-requires g c = holds_stands c.args.get.number c.self.view_is c.self.invariant c.requires c.getting-getting.ensures.value c.held_key-out.ensures
+hand_over-key-requires g c = record { out = held_out (view_of c.self.inside) c.args.get.number c.in-Some.held c.self.invariant c.in-Some.ensures.some.0 }
 
 pub serve-requires : goal.serve-requires
 serve-requires g c =
-    let st = holds_stands c.args.get.number c.self.view_is c.self.invariant c.requires c.getting-getting.ensures.value c.held_key-out.ensures in
-    let few = ended_few (view_of c.self.inside) c.args.get.number c.self.invariant (st.0, st.1) c.finish.ensures.numbers in
+    let st = holding_is (get c.self.inside.gets.places c.args.get.number) c.in-Some.held c.in-Some.ensures.some.0 in
+    let few = ended_few (view_of c.self.inside) c.args.get.number c.self.invariant (st.0, st.1) c.finish_holding.ensures.numbers in
     record { direct = omega (arith, few); waited = omega (arith, few) }
 
-pub returns-clause-step : goal.returns-clause-step
-returns-clause-step g c =
-    let held = fit_holds c.args.get.number c.self.view_is c.self.invariant c.requires c.getting-getting.ensures.value
-    (λ k e. c.hand_over-key.ensures.key ∙ c.held_key-out.ensures k e) in
-    at_view c.self.view_is
-    (meets_passed c.self.inside.counters (fits_view (acts.CheckedOk c.args.get.number) c.self.view_is c.requires)
-    (record { now_is = c.max-now.ensures; get_is = c.getting-getting.ensures.value; held = held })
-    (ap (λ (s : Shown g.row.C.Denot). s.records.next) (sym c.self.view_is))
-    (c.hand_over-key.ensures.state ∙ ap (λ k. machine.after_handover k c.self.inside.records) (sym c.hand_over-key.ensures.key))
-    c.finish.ensures.state refl c.first_wait.ensures c.serve.ensures)
+pub returns-in-Some-clause-step : goal.returns-in-Some-clause-step
+returns-in-Some-clause-step g c =
+    let a = view_of c.self.inside in (
+      at_view c.self.view_is
+          (meets_passed c.self.inside.counters (fits_held a c.args.get.number c.in-Some.held c.in-Some.ensures.some.0)
+          (record { now_is = c.max-now.ensures; get_is = refl; held = c.in-Some.ensures.some.0 ∙ ap (λ (k : ℕ). Some k) (sym c.hand_over-key.ensures.key) })
+          (ap (λ (s : Shown g.row.C.Denot). s.records.next) (sym c.self.view_is))
+          (c.hand_over-key.ensures.state ∙ ap (λ k. machine.after_handover k c.self.inside.records) (sym c.hand_over-key.ensures.key))
+          c.in-Some.ensures.some.2 refl c.in-Some.ensures.some.1 c.serve.ensures),
+      tt,
+    )
 
-pub invariant_of-self : goal.invariant_of-self
-invariant_of-self g c = led _ c.args.at.0 (acts.CheckedOk c.args.get.number) _ c.self.view_is c.self.invariant (returns-clause-step g c)
+pub invariant_of-self-in-Some : goal.invariant_of-self-in-Some
+invariant_of-self-in-Some g c = led _ c.args.at.0 (acts.CheckedOk c.args.get.number) _ c.self.view_is c.self.invariant (returns-in-Some-clause-step g c).0
+
+pub returns-in-None-clause-step : goal.returns-in-None-clause-step
+returns-in-None-clause-step g c =
+    let a = view_of c.self.inside in
+    let e : Act g.row.C.Denot = acts.CheckedOk c.args.get.number in
+    let tells = subst (λ (s : Shown g.row.C.Denot). TellsFitting s e false) c.self.view_is (unfit_held a c.args.get.number c.in-None.ensures.none.0) in
+    subst (λ (x : Shown g.row.C.Denot). Meets c.args.self.now c.args.at.0 e Unfit x × (x ≡ c.args.self.now))
+    (sym (ap (λ (gs : ShownGets). record a { gets = gs }) c.in-None.ensures.none.1 ∙ c.self.view_is))
+    (unfit_step c.args.at.0 e tells)

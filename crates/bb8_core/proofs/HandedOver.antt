@@ -1,0 +1,40 @@
+-- A get that a return notified may try, and what its try comes to.
+use Rattle.bb8_core.proofs.Words.{◌≡◌, ◌∙◌, ℕ, Bool, true, false, None, Some, refl, sym, ap, subst, MatchBool, Try, Unfit, Answer, Act, Ledger, Later, Row, fits, IsLegal, Shown, HasLedger, IsFitting}
+use Rattle.bb8_tables.specs.declared.keys.GetKey.{GetKey}
+use Rattle.bb8_core.specs.declared.answers.TryAnswer.{TryAnswer}
+use Rattle.bb8_core.specs.StepAnswers.{try_told, HandsOut}
+use Rattle.bb8_core.specs.Shown.{Meets, Means}
+use Rattle.bb8_core.specs.HandedOver.{HandsOn, TriesAtOnce}
+use Rattle.bb8_ledger.specs.Handed.{told_by}
+use Rattle.bb8_ledger.proofs.Handed.{told_tries, handed_over}
+use Rattle.bb8_core.proofs.Runs.{shown_try}
+
+-- an answer that notifies, of an event that is allowed, is a row of the table
+told_row : (b : Bool) (P : Type 0) (a : Answer) (g : ℕ) → MatchBool b P (a ≡ Unfit) → told_by a ≡ Some g → P × (b ≡ true)
+told_row true P a g p told = (p, refl)
+told_row false P a g p told = absurd (let clash : None ≡ Some g = sym (ap told_by p) ∙ told in cc)
+
+module _ {C : Type 0} where
+  -- on a legal ledger that the state means, the get may try
+  tries_on : {s t : Shown C} (at g : ℕ) (e : Act C) (a : Answer) (l : Ledger C) → IsLegal l → Means l s → Meets s at e a t → told_by a ≡ Some g
+      → Row l at e a × (fits l e ≡ true) × (fits (Later l at e a) (Try g) ≡ true)
+  tries_on at g e a l legal means step told =
+      let row = told_row (fits l e) _ a g (step l legal means).0 told in
+      (row.0, row.1, told_tries l at e a g row.1 row.0 told)
+
+  pub may_try : {s t : Shown C} (at g : ℕ) (e : Act C) (a : Answer) → HasLedger s → Meets s at e a t → told_by a ≡ Some g → IsFitting t (Try g)
+  may_try {s} {t} at g e a h step told later legal means =
+      shown_try later t g means ∙ sym (shown_try (Later h.0 at e a) t g (step h.0 h.1 h.2).1) ∙ (tries_on at g e a h.0 h.1 h.2 step told).2
+
+  hands_on : {s t u : Shown C} (at g : ℕ) (e : Act C) (a b : Answer) → Meets s at e a t → told_by a ≡ Some g → Meets t at (Try g) b u → HandsOn s at e a g b
+  hands_on {s} {t} {u} at g e a b step told next l legal means none =
+      let now = step l legal means in
+      let row = tries_on at g e a l legal means step told in
+      let later : IsLegal (Later l at e a) = (legal, now.0) in
+      let tries : Row (Later l at e a) at (Try g) b =
+      subst (λ (x : Bool). MatchBool x (Row (Later l at e a) at (Try g) b) (b ≡ Unfit)) row.2 (next (Later l at e a) later now.1).0 in
+      handed_over l at at g e a b later row.1 row.0 told tries none
+
+  pub tries_at_once : {s t u : Shown C} (at : ℕ) (e : Act C) (a : Answer) (g : GetKey) (tried : TryAnswer C) → Meets s at e a t → told_by a ≡ Some g.number
+      → Meets t at (Try g.number) (try_told tried) u → HandsOut t tried → TriesAtOnce s at e a g tried u
+  tries_at_once {t = t} at e a g tried step told next out = (t, step, told, next, out, hands_on at g.number e a (try_told tried) step told next)

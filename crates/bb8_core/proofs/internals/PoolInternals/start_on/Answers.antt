@@ -1,0 +1,111 @@
+use Rattle.bb8_core.proofs.Words.{◌≡◌, ℕ, Bool, cond, sym, ap, refl, ◌∙◌, ◌+◌, arith, Idle, Holding, place_with, view_of, ShownGets, true, false}
+use Rattle.bb8_types.specs.declared.standing.Holder.{Holder}
+use Rattle.bb8_types.specs.declared.standing.Holder.TheVariants.{Guard, Get}
+use Rattle.bb8_tables.specs.Machine as machine
+use Rattle.bb8_ledger.specs.Acts as acts
+use Rattle.bb8_core.proofs.Fitting.{shown_record, shown_fits, due_fits}
+use Rattle.bb8_core.proofs.Steps.{grants, meets_memory, meets_exhausted, due_waiting, left, used_up, led, at_view, fits_view}
+use Rattle.bb8_core.proofs.AtOnce.{between, begun_at, meets_begun_between, meets_served_between, meets_taken_between, meets_waits_between}
+use Rattle.bb8_core.proofs.internals.PoolInternals.start_on.Goals as goal
+
+pub returns-then-not-has_number-clause-step : goal.returns-then-not-has_number-clause-step
+returns-then-not-has_number-clause-step g c = at_view c.self.view_is
+    (meets_exhausted c.max-now.ensures (fits_view acts.Begin c.self.view_is c.requires) (used_up _ c.has_number.ensures c.if-not-has_number.true))
+
+pub invariant_of-self : goal.invariant_of-self
+invariant_of-self g c = led _ c.args.at.0 acts.Begin _ c.self.view_is c.self.invariant (returns-then-not-has_number-clause-step g c)
+
+pub returns-then-not-make_room_for_one-clause-step : goal.returns-then-not-make_room_for_one-clause-step
+returns-then-not-make_room_for_one-clause-step g c =
+    let refused = c.make_room_for_one.ensures.refused c.if-not-make_room_for_one.true in
+    at_view c.self.view_is
+    (meets_memory c.max-now.ensures (fits_view acts.Begin c.self.view_is c.requires) (left _ c.has_number.ensures c.if-not-has_number.false) refused.0 refused.1)
+
+pub invariant_of-self-then-not-make_room_for_one : goal.invariant_of-self-then-not-make_room_for_one
+invariant_of-self-then-not-make_room_for_one g c = led _ c.args.at.0 acts.Begin _ c.self.view_is c.self.invariant (returns-then-not-make_room_for_one-clause-step g c)
+
+pub overflow_add-self : goal.overflow_add-self
+overflow_add-self g c = omega (arith, (shown_fits (view_of c.self.inside) c.self.invariant).started_few, left c.self.inside.gets.next c.has_number.ensures c.if-not-has_number.false)
+
+pub grant-grant-requires : goal.grant-grant-requires
+grant-grant-requires g c = omega (arith, due_fits (view_of c.self.inside) _ c.self.invariant (omega arith) c.in-None.ensures.none.1 c.used-taken.ensures c.due-due.ensures)
+
+pub returns-in-None-clause-step : goal.returns-in-None-clause-step
+returns-in-None-clause-step g c =
+    let a = view_of c.self.inside in
+    let now_is = c.max-now.ensures in
+    let made = c.make_room_for_one.ensures.made c.if-not-make_room_for_one.false in
+    let n_is = c.bear_waiting-get.ensures.key ∙ ap (λ (x : ShownGets). x.next) made in
+    let alive_is = c.alive.ensures ∙ ap (λ (x : ShownGets). x.alive) c.bear_waiting-get.ensures.state ∙ ap (λ (x : ShownGets). x.alive + 1) made in (
+      between a c.max-now.result,
+      at_view c.self.view_is (meets_begun_between c.args.at.0 n_is (fits_view acts.Begin c.self.view_is c.requires) now_is (left _ c.has_number.ensures c.if-not-has_number.false)),
+      at_view refl (meets_waits_between a n_is now_is c.in-None.ensures.none.0 c.in-None.ensures.none.1
+          (due_waiting (between a c.max-now.result) c.in-None.ensures.none.1 c.used-taken.ensures c.approved.ensures alive_is c.one-asked.ensures.value c.due-due.ensures)
+          c.grant-grant.ensures.granted c.grant-grant.ensures.state
+          (begun_at a.gets (machine.after_wait c.max-now.result) made c.bear_waiting-get.ensures.state)),
+      tt,
+    )
+
+pub invariant_of-self-in-None : goal.invariant_of-self-in-None
+invariant_of-self-in-None g c =
+    let both = returns-in-None-clause-step g c in
+    let began = led both.0 c.args.at.0 acts.Begin _ c.self.view_is c.self.invariant both.1 in
+    led _ c.args.at.0 (acts.Try c.bear_waiting-get.result.number) _ refl began both.2
+
+pub grant-grant-requires-in-Some : goal.grant-grant-requires-in-Some
+grant-grant-requires-in-Some g c = omega (arith, due_fits (view_of c.self.inside) _ c.self.invariant (omega arith) c.in-Some.ensures.some.2 refl c.want-wanted.ensures)
+
+pub returns-then-self-clause-step : goal.returns-then-self-clause-step
+returns-then-self-clause-step g c =
+    let a = view_of c.self.inside in
+    let now_is = c.max-now.ensures in
+    let made = c.make_room_for_one.ensures.made c.if-not-make_room_for_one.false in
+    let n_is = c.bear_holding-get.ensures.key ∙ ap (λ (x : ShownGets). x.next) made in
+    let was = c.in-Some.ensures.some.1 in (
+      between a c.max-now.result,
+      at_view c.self.view_is (meets_begun_between c.args.at.0 n_is (fits_view acts.Begin c.self.view_is c.requires) now_is (left _ c.has_number.ensures c.if-not-has_number.false)),
+      at_view refl (meets_taken_between a n_is c.if-self.true now_is c.in-Some.ensures.some.0
+          (grants (c.in-Some.ensures.some.2
+          ∙ ap (λ (h : Holder). machine.after_take (place_with h) c.in-Some.key.number c.self.inside.records)
+          (c.holder-holder.ensures ∙ ap (λ (b : Bool). cond b (Get c.next_number.result) Guard) c.if-self.true
+          ∙ ap (λ (m : ℕ). Get m) (c.next_number.ensures ∙ sym c.bear_holding-get.ensures.key)))
+          c.want-wanted.ensures c.grant-grant-in-Some.ensures.granted c.grant-grant-in-Some.ensures.state)
+          (begun_at a.gets (machine.after_turn (Holding c.in-Some.key.number)) made c.bear_holding-get.ensures.state)),
+      λ l legal means. (record { place = Idle c.in-Some.conn; birth = was.0; entered = was.1 }, shown_record l (between a c.max-now.result) means c.in-Some.key.number ∙ was.2, refl),
+    )
+
+pub invariant_of-self-then-self : goal.invariant_of-self-then-self
+invariant_of-self-then-self g c =
+    let both = returns-then-self-clause-step g c in
+    let began = led both.0 c.args.at.0 acts.Begin _ c.self.view_is c.self.invariant both.1 in
+    led _ c.args.at.0 (acts.Try c.bear_holding-get.result.number) _ refl began both.2
+
+pub serve-requires : goal.serve-requires
+serve-requires g c =
+    let fit = shown_fits (view_of c.self.inside) c.self.invariant in
+    let few = left c.self.inside.gets.next c.has_number.ensures c.if-not-has_number.false in
+    record { direct = omega (arith, fit, few); waited = omega (arith, fit, few) }
+
+pub returns-else-self-clause-step : goal.returns-else-self-clause-step
+returns-else-self-clause-step g c =
+    let a = view_of c.self.inside in
+    let now_is = c.max-now.ensures in
+    let made = c.make_room_for_one.ensures.made c.if-not-make_room_for_one.false in
+    let n_is = c.next_number.ensures ∙ ap (λ (x : ShownGets). x.next) made in
+    let was = c.in-Some.ensures.some.1 in (
+      between a c.max-now.result,
+      at_view c.self.view_is (meets_begun_between c.args.at.0 n_is (fits_view acts.Begin c.self.view_is c.requires) now_is (left _ c.has_number.ensures c.if-not-has_number.false)),
+      at_view refl (meets_served_between a c.self.inside.counters n_is c.if-self.false now_is c.in-Some.ensures.some.0
+          (grants (c.in-Some.ensures.some.2
+          ∙ ap (λ (h : Holder). machine.after_take (place_with h) c.in-Some.key.number c.self.inside.records)
+          (c.holder-holder.ensures ∙ ap (λ (b : Bool). cond b (Get c.next_number.result) Guard) c.if-self.false))
+          c.want-wanted.ensures c.grant-grant-in-Some.ensures.granted c.grant-grant-in-Some.ensures.state)
+          (begun_at a.gets machine.after_get_end made c.pass.ensures.state) refl c.serve.ensures),
+      λ l legal means. (record { place = Idle c.in-Some.conn; birth = was.0; entered = was.1 }, shown_record l (between a c.max-now.result) means c.in-Some.key.number ∙ was.2, refl),
+    )
+
+pub invariant_of-self-in-Some : goal.invariant_of-self-in-Some
+invariant_of-self-in-Some g c =
+    let both = returns-else-self-clause-step g c in
+    let began = led both.0 c.args.at.0 acts.Begin _ c.self.view_is c.self.invariant both.1 in
+    led _ c.args.at.0 (acts.Try c.next_number.result) _ refl began both.2
