@@ -70,14 +70,12 @@ def costs_of(seen, before):
     for crate, kind, seconds in seen.values():
         minutes[crate, kind] += seconds / 60
         checks[crate, kind] += 1
-    is_whole = any(kind == "proof" for _, kind in minutes)
     for crate in lines_of("crates.txt"):
-        _, proof, tests, edits, number = before.get(crate, f"{crate} 0.0 0.0 0.0 0").split()
-        if is_whole:
-            proof, tests = (f"{minutes[crate, kind]:.1f}" for kind in ("proof", "tests"))
-        if checks[crate, "edits"]:
-            edits, number = f"{minutes[crate, 'edits']:.1f}", checks[crate, "edits"]
-        yield f"{crate} {proof} {tests} {edits} {number}"
+        *figures, number = before.get(crate, f"{crate} 0.0 0.0 0.0 0").split()[1:]
+        for at, kind in enumerate(("proof", "tests", "edits")):
+            if checks[crate, kind]:
+                figures[at] = f"{minutes[crate, kind]:.1f}"
+        yield " ".join([crate, *figures, str(checks[crate, "edits"] or number)])
 
 
 def write(lines):
