@@ -3,7 +3,7 @@ use Rattle.bb8_ledger.specs.Acts as acts
 use Rattle.bb8_core.proofs.Fitting.{fit_give_up, ended_few}
 use Rattle.bb8_core.proofs.Steps.{led, at_view, fits_view}
 use Rattle.bb8_core.proofs.GetEnds.{given_up_is, meets_given_up}
-use Rattle.bb8_core.proofs.internals.PoolInternals.give_up_free.Goals as goal
+use Rattle.bb8_core.proofs.internals.PoolInternals.give_up.Goals as goal
 
 pub end-requires : goal.end-requires
 end-requires g c = let st = fit_give_up c.args.get.number None c.self.view_is c.self.invariant c.requires in subst IsSome (sym st.1) refl
