@@ -78,16 +78,22 @@ fn rest(due: Option<Moment>, at: Moment, longest: Duration) -> Duration {
     }
 }
 
-/// The turn of a driver, as a method of an impl: code that a thread runs writes `DriverCalls::turn(driver, moment)` in place of
-/// `driver.turn(moment)`, as it does with `PoolCalls`. Our own.
+/// The turns of a driver. Our own.
 pub trait DriverCalls {
-    /// As `Driver::turn`. Our own.
+    /// One turn at a moment, in nanoseconds of the pool's clock; for each step it may wait for the pool's lock. Our own.
+    ///
+    /// It polls the reaper first. Then it claims the pool's approvals, in the order of their numbers, until none is unclaimed or there is no
+    /// memory for the task of one more, whose approval then stays unclaimed. Then it polls the opening of each approval that it holds
+    /// once, in the order of the claims; those that end are gone, and the error of each try that failed goes to the error sink. Where a
+    /// claim finds no handle alive it polls none, drops what it opens, gives all approvals back, and has ended, as at each later turn.
     fn turn(&mut self, moment: Moment) -> Turn;
 
-    /// As `Driver::turn_now`. Our own.
+    /// One turn at the moment that the pool's clock tells, which is read first. Our own.
     fn turn_now(&mut self) -> Turn;
 
-    /// As `Driver::next_due`. Our own.
+    /// When a turn next has something to do, by what the driver holds: at its reaper's next tick, or earlier where an opening is to be
+    /// polled, be it once it has slept after a try that failed, or at once; that is a moment that has passed. None is never. Approvals that
+    /// were granted since the last turn, and a pool without a handle, are not looked for. Our own.
     fn next_due(&self) -> Option<Moment>;
 }
 
@@ -112,7 +118,7 @@ impl<G: Given<Runtime: Wait>, L: Parts> DriverCalls for Driver<G, L> {
         ensures stays { has_ended self.old ≡ true → result.ended ≡ true }
     {
         let moment = self.shared.clock.now();
-        DriverCalls::turn(self, moment)
+        self.turn(moment)
     }
 
     fn next_due(&self) -> Option<Moment>
@@ -123,42 +129,7 @@ impl<G: Given<Runtime: Wait>, L: Parts> DriverCalls for Driver<G, L> {
 }
 
 impl<G: Given<Runtime: Wait>, L: Parts> Driver<G, L> {
-    ghost use Rattle.bb8_tasks.specs.Dues.{driver_due};
-    ghost use Rattle.bb8.specs.Drivers.{RunsDriver, TurnsDriver, TurnsDriverNow};
-
-    /// One turn at a moment, in nanoseconds of the pool's clock; for each step it may wait for the pool's lock. Our own.
-    ///
-    /// It polls the reaper first. Then it claims the pool's approvals, in the order of their numbers, until none is unclaimed or there is no
-    /// memory for the task of one more, whose approval then stays unclaimed. Then it polls the opening of each approval that it holds
-    /// once, in the order of the claims; those that end are gone, and the error of each try that failed goes to the error sink. Where a
-    /// claim finds no handle alive it polls none, drops what it opens, gives all approvals back, and has ended, as at each later turn.
-    pub fn turn(&mut self, moment: Moment) -> Turn
-        ensures table { TurnsDriver moment self.old result self.new }
-        ensures ended { result.ended ≡ has_ended self.new }
-        ensures none { result.ended ≡ true → result.polled ≡ 0 }
-        ensures stays { has_ended self.old ≡ true → result.ended ≡ true }
-    {
-        DriverCalls::turn(self, moment)
-    }
-
-    /// One turn at the moment that the pool's clock tells, which is read first. Our own.
-    pub fn turn_now(&mut self) -> Turn
-        ensures table { TurnsDriverNow self.old result self.new }
-        ensures ended { result.ended ≡ has_ended self.new }
-        ensures none { result.ended ≡ true → result.polled ≡ 0 }
-        ensures stays { has_ended self.old ≡ true → result.ended ≡ true }
-    {
-        DriverCalls::turn_now(self)
-    }
-
-    /// When a turn next has something to do, by what the driver holds: at its reaper's next tick, or earlier where an opening is to be
-    /// polled, be it once it has slept after a try that failed, or at once; that is a moment that has passed. None is never. Approvals that
-    /// were granted since the last turn, and a pool without a handle, are not looked for. Our own.
-    pub fn next_due(&self) -> Option<Moment>
-        ensures { result ≡ driver_due self.now.turning }
-    {
-        DriverCalls::next_due(self)
-    }
+    ghost use Rattle.bb8.specs.Drivers.{RunsDriver};
 
     /// Makes turns, each at a reading of the pool's clock, until one has ended or the gate, which is asked after each other one, does not
     /// pause. Before the next one the thread sleeps until an approval is granted, no handle is alive, or something is due, and no longer

@@ -2,7 +2,8 @@
 
 use super::assert_equal;
 use bb8::{
-    MachineClock, Moment, NopCustomizer, PoolCalls, PoolParts, RunError, Runtime, Service, SetClock,
+    Gets, MachineClock, Moment, NopCustomizer, PoolCalls, PoolParts, RunError, Runtime, Service,
+    SetClock,
 };
 use bb8_trials::{
     Board, Course, Errors, Number, Refused, Server, ServerPool, builder_on, server_on,
@@ -79,8 +80,8 @@ impl<R: Runtime + Clock> Service<Server, Errors, NopCustomizer, MachineClock<R>,
         pool: &ServerPool<MachineClock<R>, R, L>,
         _thread: usize,
     ) -> Option<(u64, u64)> {
-        let first = block_on(&self.rt, PoolCalls::get(pool)).ok()?.ok()?;
-        let second = block_on(&self.rt, PoolCalls::get(pool)).ok()?.ok()?;
+        let first = block_on(&self.rt, pool.get()).ok()?.ok()?;
+        let second = block_on(&self.rt, pool.get()).ok()?.ok()?;
         Some((first.number, second.number))
     }
 

@@ -72,7 +72,7 @@ impl<R: Runtime + CpuClock> Service<Server, Errors, NopCustomizer, MachineClock<
         thread: usize,
     ) -> Option<Waited> {
         if thread == 0 {
-            let guard = PoolCalls::get_blocking(pool).ok()?;
+            let guard = pool.get_blocking().ok()?;
             self.held.set(1);
             thread::sleep(&self.rt, self.hold);
             self.returned.set(nanos(self.rt.monotonic()));
@@ -89,7 +89,7 @@ impl<R: Runtime + CpuClock> Service<Server, Errors, NopCustomizer, MachineClock<
             thread::sleep(&self.rt, Duration::from_millis(1));
         }
         let before = nanos(self.rt.thread_cpu_time());
-        let guard = PoolCalls::get_blocking(pool).ok()?;
+        let guard = pool.get_blocking().ok()?;
         let used = nanos(self.rt.thread_cpu_time()).saturating_sub(before);
         let after = nanos(self.rt.monotonic()).saturating_sub(self.returned.get());
         drop(guard);
@@ -170,15 +170,15 @@ impl<R: Runtime> User<Server, Errors, NopCustomizer, MachineClock<R>, R> for InV
         pool: &ServerPool<MachineClock<R>, R, L>,
         _driver: &mut Driver<Server, Errors, NopCustomizer, MachineClock<R>, R, L>,
     ) -> Option<(u64, u64, u64)> {
-        PoolCalls::add(pool, connection_on(&self.board, 7).ok()?).ok()?;
-        let first = PoolCalls::get_owned_blocking(pool).ok()?;
+        pool.add(connection_on(&self.board, 7).ok()?).ok()?;
+        let first = pool.get_owned_blocking().ok()?;
         let begun = nanos(self.rt.monotonic());
-        let RunError::TimedOut = PoolCalls::get_blocking(pool).err()? else {
+        let RunError::TimedOut = pool.get_blocking().err()? else {
             return None;
         };
         let between = nanos(self.rt.monotonic());
         let timeout = Duration::from_millis(120);
-        let RunError::TimedOut = PoolCalls::get_blocking_timeout(pool, timeout).err()? else {
+        let RunError::TimedOut = pool.get_blocking_timeout(timeout).err()? else {
             return None;
         };
         let ended = nanos(self.rt.monotonic());
