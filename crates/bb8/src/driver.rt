@@ -2,14 +2,14 @@
 ghost use Rattle.std.specs.Prelude.{◌≡◌, ℕ, ⊤, Bool, true, IfOk};
 ghost use Rattle.std.specs.Arc.{arc_value};
 ghost use Rattle.std.specs.Duration.{as_nanos};
-ghost use Rattle.bb8.specs.Drivers.{has_ended, IsDriverOf, Runs, TurnsNow};
+ghost use Rattle.bb8.specs.Drivers.{driver_rest, has_ended, IsDriverOf, Runs, SleepsOnce, TurnsOnce};
 
 use crate::jobs::{Job, NoThread, start};
 use crate::pool::Pool;
 use bb8_core::api::{
     Clock, Config, CustomizeConnection, ErrorSink, ManageConnection, Memory, Moment,
 };
-use bb8_lock::{Bell, Given, Links, Parts, PoolParts, Shared, These};
+use bb8_lock::{Given, Links, Parts, PoolParts, Rests, Shared, Sleeper, These};
 pub use bb8_tasks::Turn;
 use bb8_tasks::{Home, Opener, Reports, Turning};
 use std::alloc::Global;
@@ -34,13 +34,18 @@ pub trait Gate {
     // Holds of a gate, what a pause may answer, and the gate then.
     ghost pauses: { Self → Bool → Self → Type 0 } = { λ _ _ _. ⊤ };
 
+    // Holds of a gate, and of the nanoseconds for which it may let a thread sleep.
+    ghost lasts: { Self → ℕ → Type 0 } = { λ _ _. ⊤ };
+
     /// Waits as long as it sees fit, and says whether one more turn is to be made. Our own.
     fn pause(&mut self) -> bool
         ensures { pauses self.old result self.new };
 
     /// How long the thread may then sleep, where nothing wakes it: 50 milliseconds, unless the implementer says otherwise. A pool whose clock
     /// is not the machine's, or goes otherwise than it, may ask for less. Our own.
-    fn longest(&self) -> Duration {
+    fn longest(&self) -> Duration
+        ensures { lasts self.now (as_nanos result) }
+    {
         Duration::from_millis(50)
     }
 }
@@ -67,14 +72,22 @@ impl<G: Given<Runtime: Wait + AllocGlobal>, L: Parts> Driver<G, L> {
     }
 }
 
+/// How long a driver's thread sleeps at least, in nanoseconds, unless its gate asks for less.
+const SHORTEST_REST: u64 = 1_000_000;
+
 /// How long a driver's thread may sleep after a turn at a moment: until something is due, and no longer than that. Where that has passed, as it
 /// has for each task whose opening was pending, it is a millisecond.
-fn rest(due: Option<Moment>, at: Moment, longest: Duration) -> Duration {
-    match due {
-        Some(due) => Duration::from_nanos(due.0.saturating_sub(at.0))
-            .max(Duration::from_millis(1))
-            .min(longest),
-        None => longest,
+fn rest(due: Option<Moment>, at: Moment, longest: Duration) -> Duration
+    ensures { as_nanos result ≡ driver_rest due at.0 (as_nanos longest) }
+{
+    let Some(due) = due else {
+        return longest;
+    };
+    let left = due.0.saturating_sub(at.0).max(SHORTEST_REST);
+    if (left as u128) < longest.as_nanos() {
+        Duration::from_nanos(left)
+    } else {
+        longest
     }
 }
 
@@ -135,7 +148,7 @@ impl<G: Given<Runtime: Wait>, L: Parts> Driver<G, L> {
     /// pause. Before the next one the thread sleeps until an approval is granted, no handle is alive, or something is due, and no longer
     /// than the gate lets it; where an opening was pending, a millisecond. Then the driver is dropped. Our own.
     pub fn run<P: Gate + Drop>(self, gate: P) -> Driven
-        ensures { RunsDriver P.pauses self gate result }
+        ensures { RunsDriver P.Gate self gate result }
     {
         let mut driver = self;
         let mut gate = gate;
@@ -150,23 +163,18 @@ fn run<
     V,
     A,
     E: Drop,
-    X: Home<C> + Opener<C, E, Connecting = V, Acquiring = A> + Reports<E>,
+    X: Home<C> + Opener<C, E, Connecting = V, Acquiring = A> + Reports<E> + Rests,
     R: Wait,
     P: Gate,
->(
-    pool: &mut X,
-    bell: &Bell,
-    rt: &R,
-    config: &Config,
-    turning: &mut Turning<C, V, A>,
-    gate: &mut P,
-) -> Driven
-    ensures { Runs (TurnsNow X.Home X.Opener X.Reports (as_nanos config.now.connection_timeout)
-        config.now.retry_connection) P.pauses (turning.old, pool.old) gate.old 0 result }
+>(pool: &mut X, rt: &R, config: &Config, turning: &mut Turning<C, V, A>, gate: &mut P) -> Driven
+    ensures { Runs (TurnsOnce X.Home X.Opener X.Reports X.Rests
+        (as_nanos config.now.connection_timeout) config.now.retry_connection)
+        P.pauses (SleepsOnce X.Rests P.lasts) (turning.old, pool.old) gate.old 0 result
+        (turning.new, pool.new) }
 {
     let mut turns: u64 = 0;
     for _ in rt.forever() {
-        let rings = bell.rings();
+        let rings = pool.rings(Sleeper::Driver);
         let at = pool.now();
         let turn = turning.turn(at, pool, config);
         turns = turns.saturating_add(1);
@@ -180,7 +188,7 @@ fn run<
             };
         }
         let most = rest(turning.next_due(), at, gate.longest());
-        bell.sleep(rt, rings, most);
+        pool.sleep(Sleeper::Driver, rings, most);
     }
     unreachable!()
 }
@@ -195,12 +203,11 @@ impl<G: Given<Runtime: Wait>, L: Parts> RunsTurns for Driver<G, L> {
     ghost use Rattle.bb8.specs.Drivers.{RunsDriver};
 
     fn run_turns<P: Gate>(&mut self, gate: &mut P) -> Driven
-        ensures { RunsDriver P.pauses self.old gate.old result }
+        ensures { RunsDriver P.Gate self.old gate.old result }
     {
         let pool = &*self.shared;
         run(
             &mut pool.linked(),
-            &pool.locked.drivers,
             &pool.rt,
             &pool.config,
             &mut self.turning,

@@ -321,12 +321,7 @@ impl<'a, G: Given<Runtime: Wait>, L: Parts> PoolCalls for &'a Pool<G, L> {
         ensures { WaitsForGet (as_nanos timeout) self.now result }
     {
         let shared = &*self.shared;
-        let answer = wait(
-            &mut shared.linked(),
-            &shared.locked.gets,
-            &shared.rt,
-            timeout,
-        );
+        let answer = wait(&mut shared.linked(), &shared.rt, timeout);
         match answer {
             Ok(taken) => Ok(PooledConnection {
                 shared,
@@ -347,7 +342,6 @@ impl<'a, G: Given<Runtime: Wait>, L: Parts> PoolCalls for &'a Pool<G, L> {
         let shared = &*holding.shared;
         let answer = wait(
             &mut shared.linked(),
-            &shared.locked.gets,
             &shared.rt,
             shared.config.connection_timeout,
         );
