@@ -69,7 +69,7 @@ impl<G: Given<Runtime: Wait + AllocGlobal>, L: Parts> Driver<G, L> {
 
 /// How long a driver's thread may sleep after a turn at a moment: until something is due, and no longer than that. Where that has passed, as it
 /// has for each task whose opening was pending, it is a millisecond.
-fn rest(due: Option<Moment>, at: Moment, longest: Duration) -> Duration {
+pub(crate) fn rest(due: Option<Moment>, at: Moment, longest: Duration) -> Duration {
     match due {
         Some(due) => Duration::from_nanos(due.0.saturating_sub(at.0))
             .max(Duration::from_millis(1))
