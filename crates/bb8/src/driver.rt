@@ -77,7 +77,7 @@ const SHORTEST_REST: u64 = 1_000_000;
 
 /// How long a driver's thread may sleep after a turn at a moment: until something is due, and no longer than that. Where that has passed, as it
 /// has for each task whose opening was pending, it is a millisecond.
-fn rest(due: Option<Moment>, at: Moment, longest: Duration) -> Duration
+pub(crate) fn rest(due: Option<Moment>, at: Moment, longest: Duration) -> Duration
     ensures { as_nanos result ≡ driver_rest due at.0 (as_nanos longest) }
 {
     let Some(due) = due else {

@@ -48,6 +48,7 @@ pub use bb8_core::{api, internals, replay};
 pub use bb8_lock::{Given, Locks, Parts, PoolParts, These};
 pub use bb8_tasks as tasks;
 pub use builder::Builder;
+pub use building::BuildingCalls;
 pub use driver::{Driven, DriverCalls, Gate, Turn, drive};
 pub use given::{
     Building, DedicatedFuture, Driver, GetFuture, GetOwnedFuture, Guards, OwnedConnection, Pool,

@@ -5,6 +5,7 @@ ghost use Rattle.bb8_lock.specs.Parts.{IsBlankOf};
 ghost use Rattle.bb8.specs.Buildings.{IsBuildError};
 ghost use Rattle.bb8.specs.Services.{Basis, basis, basis_of, EachTold, IsOutcome};
 
+use crate::building::BuildingCalls;
 use crate::driver::{Driven, Driver, Gate, drive};
 use crate::jobs::{Job, in_threads};
 use crate::memory::OrMemory;
@@ -13,10 +14,8 @@ use bb8_core::api::{
     Clock, Config, CustomizeConnection, ErrorSink, ManageConnection, Memory, RunError,
 };
 use bb8_lock::{Given, Locks, PoolParts, These};
-use futures::executor::block_on;
 use std::alloc::Global;
 use std::marker::Brand;
-use std::random::RandomSource;
 use std::sync::atomic::{AtomicBool, Ordering};
 use std::sync::ledger::Blank;
 use std::sync::{Arc, Wait};
@@ -108,13 +107,13 @@ impl Gate for WhileServing {
     }
 }
 
-/// Builds a pool whose parts are named, and waits until its first connections are open.
+/// Builds a pool whose parts are named, and waits asleep until its first connections are open.
 fn built<
     M: ManageConnection,
     S: ErrorSink<M::Error>,
     Z: CustomizeConnection<M::Connection, M::Error>,
     K: Clock,
-    R: Wait + RandomSource + AllocGlobal + Copy + Send + Sync + Drop + 'static,
+    R: Wait + AllocGlobal + Copy + Send + Sync + Drop + 'static,
     L: PoolParts,
 >(
     builder: Builder<M, S, Z>,
@@ -130,11 +129,7 @@ fn built<
         (M.connect_answers manager) (Z.acquire_answers builder.connection_customizer)) }
 {
     let building: Building<M, S, Z, K, R, L> = builder.build(manager, clock, rt, blank);
-    match block_on(&rt, building) {
-        Ok(Ok(pool)) => Ok(pool),
-        Ok(Err(error)) => Err(error),
-        Err(_) => Err(RunError::Memory),
-    }
+    building.wait(&rt)
 }
 
 /// Runs a service over its pool, in as many threads.
@@ -183,7 +178,7 @@ fn serve_with<
     S: ErrorSink<M::Error>,
     Z: CustomizeConnection<M::Connection, M::Error>,
     K: Clock,
-    R: Threads + Wait + RandomSource + AllocGlobal + Copy + Send + Sync + Drop + 'static,
+    R: Threads + Wait + AllocGlobal + Copy + Send + Sync + Drop + 'static,
     L: PoolParts + 'static,
     V: Service<M, S, Z, K, R>,
 >(
@@ -222,7 +217,7 @@ impl<
     S: ErrorSink<M::Error>,
     Z: CustomizeConnection<M::Connection, M::Error>,
 > Builder<M, S, Z> {
-    /// Builds a pool as `build` does, with parts of its own, and waits until its first connections are open. Then it runs a service over
+    /// Builds a pool as `build` does, with parts of its own, and waits asleep until its first connections are open. Then it runs a service over
     /// the pool: the service begins, each thread runs with its number, in a thread of its own where one can be made, and once all have
     /// ended the service ends. A driver makes the pool's turns meanwhile, in one more thread, which sleeps between two of them while
     /// nothing is to be done (`Driver::run`). Then the pool is dropped, and the driver with it. Our own.
@@ -232,7 +227,7 @@ impl<
     /// some may have run, but the service does not end. Settings are as for `build`.
     pub fn serve<
         K: Clock,
-        R: Threads + Wait + RandomSource + AllocGlobal + Copy + Send + Sync + Drop + 'static,
+        R: Threads + Wait + AllocGlobal + Copy + Send + Sync + Drop + 'static,
         V: Service<M, S, Z, K, R>,
     >(
         self,

@@ -3,8 +3,8 @@ ghost use Rattle.std.specs.Prelude.{◌≡◌, Ok, IfOk, length};
 
 use super::{SlowManager, SlowPool, assert_equal};
 use bb8::{
-    Builder, Gets, Memory, Moment, NopCustomizer, NopErrorSink, PoolCalls, PoolParts, Runtime,
-    Service, SetClock,
+    Builder, Gets, Job, Memory, Moment, NopCustomizer, NopErrorSink, PoolCalls, PoolParts, Runtime,
+    Service, SetClock, start,
 };
 use futures::executor::block_on;
 use std::process::Abort;
@@ -154,5 +154,26 @@ fn how_many<R: Runtime + Abort + Threads + Clock>(rt: R, threads: usize) -> Resu
 fn as_many_threads_run_as_are_asked_for(rt: HostRuntime) -> Result<(), Fail> {
     assert_equal(&rt, how_many(rt, 0)?, 0);
     assert_equal(&rt, how_many(rt, 5)?, 5);
+    Ok(())
+}
+
+/// Tells the number of its thread.
+#[derive(Drop)]
+struct OwnNumber;
+
+impl Job for OwnNumber {
+    type Told = usize;
+
+    fn run(self, thread: usize) -> usize {
+        thread
+    }
+}
+
+#[test]
+fn job_gets_the_number_of_its_thread(rt: HostRuntime) -> Result<(), Fail> {
+    match start(&rt, 7, OwnNumber) {
+        Ok(thread) => assert_equal(&rt, thread.join(&rt), 7),
+        Err(_) => return Err(Fail::new("no thread")),
+    }
     Ok(())
 }
