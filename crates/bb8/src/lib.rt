@@ -18,8 +18,8 @@
 //! let mut guard = pool.get_blocking().ok()?;
 //! ```
 //!
-//! The calls are in scope by `use bb8::{Cancel, Gets, PoolCalls}`. A program for one thread, or a test, is a `User` of `Builder::with_pool`. Each call, and a pool whose threads and parts are in one's own hands:
-//! `docs/CALLING.md`.
+//! The calls are in scope by `use bb8::{Cancel, Gets, PoolCalls}`. A program for one thread, or a test, is a `User` of `Builder::with_pool`.
+//! Each call, and a pool whose threads and parts are in one's own hands: `docs/CALLING.md`.
 #![tactic(auto)]
 
 mod alone;
