@@ -16,7 +16,6 @@ use Rattle.bb8_lock.specs.declared.locked.Parts.{Ghosts as PartsOf}
 use Rattle.bb8_lock.specs.Words.{as_nanos, ManagerOf, DebugOf, SinkOf, CustomizerOf, ClockOf, OpenerOf, ReportsOf}
 use Rattle.bb8_tasks.specs.declared.home.Home.{Ghosts as HomeOf}
 use Rattle.bb8.specs.declared.driver.Driver.{Driver}
-use Rattle.bb8.specs.declared.driver.Gate.{Ghosts as GateOf}
 use Rattle.bb8.specs.declared.driver.Driven.{Driven}
 use Rattle.bb8.specs.declared.pool.Pool.{Pool}
 use Rattle.bb8.specs.Pools.{made_in, settings_in}
@@ -34,13 +33,13 @@ driver_rest None now longest = longest
 -- What is told of a run of turns after so many: a turn that ended is the last one; after any other one the gate is asked, and where it does not
 -- pause the run stops. Else the thread sleeps, unless the bell has rung since it was counted, and the next turn follows.
 pub data Runs {T P : Type 0} (turns : T → ℕ → Moment → Turn → T → Type 0) (pauses : P → Bool → P → Type 0)
-    (sleeps : P → ℕ → Moment → T → T → Type 0) : T → P → ℕ → Driven → T → Type 0 where
+    (sleeps : ℕ → Moment → T → T → Type 0) : T → P → ℕ → Driven → T → Type 0 where
   ends : (t t' : T) (rings : ℕ) (at : Moment) (g : P) (n : ℕ) (turn : Turn) (d : Driven) → turns t rings at turn t' → turn.ended ≡ true
       → d ≡ record { turns = one_more n; ended = true } → Runs turns pauses sleeps t g n d t'
   stops : (t t' : T) (rings : ℕ) (at : Moment) (g g' : P) (n : ℕ) (turn : Turn) (d : Driven) → turns t rings at turn t' → turn.ended ≡ false
       → pauses g false g' → d ≡ record { turns = one_more n; ended = false } → Runs turns pauses sleeps t g n d t'
   goes_on : (t t' t'' last : T) (rings : ℕ) (at : Moment) (g g' : P) (n : ℕ) (turn : Turn) (d : Driven) → turns t rings at turn t'
-      → turn.ended ≡ false → pauses g true g' → sleeps g' rings at t' t'' → Runs turns pauses sleeps t'' g' (one_more n) d last
+      → turn.ended ≡ false → pauses g true g' → sleeps rings at t' t'' → Runs turns pauses sleeps t'' g' (one_more n) d last
       → Runs turns pauses sleeps t g n d last
 
 -- the rings of the drivers' bell are counted, the clock is read, and a turn made at that moment
@@ -50,20 +49,20 @@ TurnsOnce {X = X} home opener reports rests timeout retry before rings at turn a
     (x1 : X) × (x2 : X) × rests.counts before.1 Sleeping rings x1 × reports.tells x1 at x2
     × DriverTurns home opener reports.sinks timeout retry at before.0 x2 turn after.0 after.1
 
--- the thread sleeps by that bell, as long as the driver and its gate let it
-abbrev pub SleepsOnce : {C V A X P : Type 0} → RestsOf X → (P → ℕ → Type 0) → P → ℕ → Moment → Turning C V A × X → Turning C V A × X → Type 0
-SleepsOnce rests lasts gate rings at before after =
-    (longest : ℕ) × lasts gate longest × rests.sleeps before.1 Sleeping rings (driver_rest (driver_due before.0) at.0 longest) after.1
+-- the thread sleeps by that bell until something is due, and no longer than the gate lets it, which tells how long that is
+abbrev pub SleepsOnce : {C V A X : Type 0} → RestsOf X → ℕ → Moment → Turning C V A × X → Turning C V A × X → Type 0
+SleepsOnce rests rings at before after =
+    (longest : ℕ) × rests.sleeps before.1 Sleeping rings (driver_rest (driver_due before.0) at.0 longest) after.1
     × (after.0 ≡ before.0)
 
 -- a run of such turns on a pool, which the handles share
 module _ {G L M S Z K R C E N V A : Type 0} {m : ManagerOf M C E N V} {d : DebugOf E} {s : SinkOf S E} {z : CustomizerOf Z C E A} {k : ClockOf K} {l : PartsOf L}
     (shared : Shared G L M S Z K R C E N V A m d s z k l) where
-  abbrev pub OwnRuns : {P : Type 0} → GateOf P → Turning C N A → P → Driven → Type 0
-  OwnRuns gates turning gate d =
+  abbrev pub OwnRuns : {P : Type 0} → (P → Bool → P → Type 0) → Turning C N A → P → Driven → Type 0
+  OwnRuns pauses turning gate d =
       (x : Linked shared) × (last : Turning C N A × Linked shared) × IsLinked shared x
       × Runs (TurnsOnce (tasks_home shared) (opener shared) (reports shared) (rests shared) (as_nanos shared.config.connection_timeout)
-      shared.config.retry_connection) gates.pauses (SleepsOnce (rests shared) gates.lasts) (turning, x) gate 0 d last
+      shared.config.retry_connection) pauses (SleepsOnce (rests shared)) (turning, x) gate 0 d last
 
 module _ {G L M S Z K R C E N V A : Type 0} {m : ManagerOf M C E N V} {d : DebugOf E} {s : SinkOf S E} {z : CustomizerOf Z C E A} {k : ClockOf K} {l : PartsOf L} where
   -- whether a driver has ended
@@ -85,5 +84,5 @@ module _ {G L M S Z K R C E N V A : Type 0} {m : ManagerOf M C E N V} {d : Debug
       (at : Moment) × k.tells (arc_value driver.shared).clock at × TurnsDriver at driver turn driver'
 
   -- a run of turns of a driver, each at a reading of the pool's clock
-  abbrev pub RunsDriver : {P : Type 0} → GateOf P → Driver G L M S Z K R C E N V A m d s z k l → P → Driven → Type 0
-  RunsDriver gates driver gate d = OwnRuns (arc_value driver.shared) gates driver.turning gate d
+  abbrev pub RunsDriver : {P : Type 0} → (P → Bool → P → Type 0) → Driver G L M S Z K R C E N V A m d s z k l → P → Driven → Type 0
+  RunsDriver pauses driver gate d = OwnRuns (arc_value driver.shared) pauses driver.turning gate d

@@ -34,18 +34,13 @@ pub trait Gate {
     // Holds of a gate, what a pause may answer, and the gate then.
     ghost pauses: { Self → Bool → Self → Type 0 } = { λ _ _ _. ⊤ };
 
-    // Holds of a gate, and of the nanoseconds for which it may let a thread sleep.
-    ghost lasts: { Self → ℕ → Type 0 } = { λ _ _. ⊤ };
-
     /// Waits as long as it sees fit, and says whether one more turn is to be made. Our own.
     fn pause(&mut self) -> bool
         ensures { pauses self.old result self.new };
 
     /// How long the thread may then sleep, where nothing wakes it: 50 milliseconds, unless the implementer says otherwise. A pool whose clock
     /// is not the machine's, or goes otherwise than it, may ask for less. Our own.
-    fn longest(&self) -> Duration
-        ensures { lasts self.now (as_nanos result) }
-    {
+    fn longest(&self) -> Duration {
         Duration::from_millis(50)
     }
 }
@@ -148,7 +143,7 @@ impl<G: Given<Runtime: Wait>, L: Parts> Driver<G, L> {
     /// pause. Before the next one the thread sleeps until an approval is granted, no handle is alive, or something is due, and no longer
     /// than the gate lets it; where an opening was pending, a millisecond. Then the driver is dropped. Our own.
     pub fn run<P: Gate + Drop>(self, gate: P) -> Driven
-        ensures { RunsDriver P.Gate self gate result }
+        ensures { RunsDriver P.pauses self gate result }
     {
         let mut driver = self;
         let mut gate = gate;
@@ -169,7 +164,7 @@ fn run<
 >(pool: &mut X, rt: &R, config: &Config, turning: &mut Turning<C, V, A>, gate: &mut P) -> Driven
     ensures { Runs (TurnsOnce X.Home X.Opener X.Reports X.Rests
         (as_nanos config.now.connection_timeout) config.now.retry_connection)
-        P.pauses (SleepsOnce X.Rests P.lasts) (turning.old, pool.old) gate.old 0 result
+        P.pauses (SleepsOnce X.Rests) (turning.old, pool.old) gate.old 0 result
         (turning.new, pool.new) }
 {
     let mut turns: u64 = 0;
@@ -203,7 +198,7 @@ impl<G: Given<Runtime: Wait>, L: Parts> RunsTurns for Driver<G, L> {
     ghost use Rattle.bb8.specs.Drivers.{RunsDriver};
 
     fn run_turns<P: Gate>(&mut self, gate: &mut P) -> Driven
-        ensures { RunsDriver P.Gate self.old gate.old result }
+        ensures { RunsDriver P.pauses self.old gate.old result }
     {
         let pool = &*self.shared;
         run(

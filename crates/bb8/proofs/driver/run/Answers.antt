@@ -19,5 +19,5 @@ pub loop-preserved : goal.loop-preserved
 loop-preserved g c = λ d last run.
     c.loop.invariant d last
     (Runs.goes_on _ _ _ _ _ _ _ _ _ _ _ (_, _, c.rings-rings.ensures, c.now-at.ensures, c.turn-turn.ensures.table) c.if-turn.false c.if-not-pause.ensures
-    (_, c.longest.ensures, rw c.next_due.ensures c.rest-most.ensures at c.sleep.ensures, refl)
+    (_, rw (c.rest-most.ensures, c.next_due.ensures) at c.sleep.ensures, refl)
     (rw (← c.saturating_add-turns.ensures) run))
