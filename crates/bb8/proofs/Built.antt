@@ -1,5 +1,5 @@
 -- The pool that a building answers is made of what was planned, and its error is one that may end it.
-use Rattle.std.proofs.Common.{◌≡◌, Result, Ok, Err, refl, sym, ◌∙◌}
+use Rattle.std.proofs.Common.{◌≡◌, Result, Ok, Err, IfOk, IfErr, refl, sym, ap, ◌∙◌}
 use Rattle.std.specs.Prelude.{List, ⊤}
 use Rattle.std.specs.Arc.{arc_value}
 use Rattle.std.specs.declared.sync.ledger.Ledger.{Ghosts as LedgerOf}
@@ -93,10 +93,15 @@ module _ {G L M S Z K R C E N V A : Type 0} {m : ManagerOf M C E N V} {d : Debug
   planned builder manager clock (Opening pool tasks) never = absurd never
   planned builder manager clock Done never = tt
 
-  -- the answer of a building that was planned
+  told : (origin : Basis M K × Z) (x : Result (Pool G L M S Z K R C E N V A m d s z k l) (RunError E)) → Answered origin_of origin (ErrorAt m z origin) x
+      → IfOk x (λ pool. basis_of pool ≡ origin.0) × IfErr x (ErrorAt m z origin)
+  told origin (Ok pool) is = (ap (λ o. o.0) is, tt)
+  told origin (Err e) is = (tt, is)
+
+  -- the answer of a building that was planned: a pool of its basis, or an error that may end it
   pub answered : (builder : Choices S Z) (manager : M) (clock : K) (site : Site (Plan G L M S Z K R C E N V A m d s z k l p) (Pool G L M S Z K R C E N V A m d s z k l) (List (Replenish C N A)))
       → (x : Result (Pool G L M S Z K R C E N V A m d s z k l) (RunError E)) → PlansSite builder manager clock site → Answers PollsSite site x
-      → Answered origin_of (planned_origin builder manager clock) (ErrorAt m z (planned_origin builder manager clock)) x
+      → IfOk x (λ pool. basis_of pool ≡ basis builder.settings manager clock) × IfErr x (IsBuildError (m.connect_answers manager) (z.acquire_answers builder.connection_customizer))
   answered builder manager clock site x is answers =
       let origin = planned_origin builder manager clock in
-      built _ _ origin_in origin_of is_made origin (ErrorAt m z origin) tt (failed origin) site x answers (planned builder manager clock site is)
+      told origin x (built _ _ origin_in origin_of is_made origin (ErrorAt m z origin) tt (failed origin) site x answers (planned builder manager clock site is))
