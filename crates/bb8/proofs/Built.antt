@@ -1,6 +1,6 @@
 -- The pool that a building answers is made of what was planned, and its error is one that may end it.
-use Rattle.std.proofs.Common.{◌≡◌, Result, Ok, Err, refl, sym, ◌∙◌}
-use Rattle.std.specs.Prelude.{List, ⊤, IfOk, IfErr}
+use Rattle.std.proofs.Common.{◌≡◌, Result, Ok, Err, IfOk, IfErr, refl, sym, ◌∙◌}
+use Rattle.std.specs.Prelude.{List, ⊤}
 use Rattle.std.specs.Arc.{arc_value}
 use Rattle.std.specs.declared.sync.ledger.Ledger.{Ghosts as LedgerOf}
 use Rattle.futures.specs.declared.task.Poll.{Poll}
@@ -34,14 +34,6 @@ Stands of has b Done = ⊤
 abbrev pub Answered : {B P E : Type 0} → (P → B) → B → (RunError E → Type 0) → Result P (RunError E) → Type 0
 Answered has b Error (Ok p) = has p ≡ b
 Answered has b Error (Err e) = Error e
-
-pub pool_of : {B P E : Type 0} (has : P → B) (b : B) (Error : RunError E → Type 0) (x : Result P (RunError E)) → Answered has b Error x → IfOk x (λ p. has p ≡ b)
-pool_of has b Error (Ok p) is = is
-pool_of has b Error (Err e) is = tt
-
-pub error_of : {B P E : Type 0} (has : P → B) (b : B) (Error : RunError E → Type 0) (x : Result P (RunError E)) → Answered has b Error x → IfErr x Error
-error_of has b Error (Ok p) is = tt
-error_of has b Error (Err e) is = is
 
 abbrev Tells : {B P E : Type 0} → (P → B) → B → (RunError E → Type 0) → Poll (Result P (RunError E)) → Type 0
 Tells has b Error (Ready x) = Answered has b Error x
@@ -93,10 +85,15 @@ module _ {G L M S Z K R C E N V A : Type 0} {m : ManagerOf M C E N V} {d : Debug
   planned builder manager clock (Opening pool tasks) never = absurd never
   planned builder manager clock Done never = tt
 
-  -- the answer of a building that was planned
+  told : (of : Basis M S Z K) (x : Result (Pool G L M S Z K R C E N V A m d s z k l) (RunError E)) → Answered basis_of of (ErrorAt m z of) x
+      → IfOk x (λ pool. basis_of pool ≡ of) × IfErr x (ErrorAt m z of)
+  told of (Ok pool) is = (is, tt)
+  told of (Err e) is = (tt, is)
+
+  -- the answer of a building that was planned: a pool of its basis, or an error that may end it
   pub answered : (builder : Choices S Z) (manager : M) (clock : K) (site : Site (Plan G L M S Z K R C E N V A m d s z k l p) (Pool G L M S Z K R C E N V A m d s z k l) (List (Replenish C N A)))
       → (x : Result (Pool G L M S Z K R C E N V A m d s z k l) (RunError E)) → PlansSite builder manager clock site → Answers PollsSite site x
-      → Answered basis_of (basis builder manager clock) (ErrorAt m z (basis builder manager clock)) x
+      → IfOk x (λ pool. basis_of pool ≡ basis builder manager clock) × IfErr x (IsBuildError (m.connect_answers manager) (z.acquire_answers builder.connection_customizer))
   answered builder manager clock site x is answers =
       let of = basis builder manager clock in
-      built _ _ basis_in basis_of is_made of (ErrorAt m z of) tt (failed of) site x answers (planned builder manager clock site is)
+      told of x (built _ _ basis_in basis_of is_made of (ErrorAt m z of) tt (failed of) site x answers (planned builder manager clock site is))

@@ -52,6 +52,26 @@ fn five_jobs_on_two_slots(rt: HostRuntime) {
     assert!(&rt; try_runner(rt, slots(2), FiveJobs).is_some());
 }
 
+/// A job on a pool that is to have a connection idle.
+#[derive(Drop)]
+struct OpensFirst;
+
+impl<R: Runtime + Abort> RunnerTrial<R> for OpensFirst {
+    fn run<L: PoolParts, X: CountRunner>(self, pool: &SlotPool<R, L>, mut bench: Bench<R, X>) {
+        let rt = bench.rt;
+        assert!(&rt; bench.submits(1, 0));
+        assert_eq!(&rt; bench.turn(0), 0);
+        assert_eq!(&rt; bench.runner.running(), 1);
+        assert_eq!(&rt; pool.state().statistics.get_direct, 1);
+    }
+}
+
+/// The job's get finds idle what the driver has opened in the same turn: the driver's turn comes first.
+#[test]
+fn driver_turns_before_the_jobs(rt: HostRuntime) {
+    assert!(&rt; try_runner(rt, slots(1).min_idle(Some(1)), OpensFirst).is_some());
+}
+
 /// A job whose get finds the one slot lent for longer than it may wait.
 #[derive(Drop)]
 struct TimesOut;

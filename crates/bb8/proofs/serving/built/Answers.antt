@@ -1,10 +1,10 @@
-use Rattle.bb8.proofs.Built.{answered, error_of, pool_of}
+use Rattle.bb8.proofs.Built.{answered}
 use Rattle.bb8.proofs.serving.built.Goals as goal
 
 pub returns-clause-made : goal.returns-clause-made
 returns-clause-made g c =
-    pool_of _ _ _ _ (answered c.args.builder c.args.manager c.args.clock c.build-building.result.site _ c.build-building.ensures c.wait.ensures)
+    (answered c.args.builder c.args.manager c.args.clock c.build-building.result.site _ c.build-building.ensures c.wait.ensures).0
 
 pub returns-clause-failed : goal.returns-clause-failed
 returns-clause-failed g c =
-    error_of _ _ _ _ (answered c.args.builder c.args.manager c.args.clock c.build-building.result.site _ c.build-building.ensures c.wait.ensures)
+    (answered c.args.builder c.args.manager c.args.clock c.build-building.result.site _ c.build-building.ensures c.wait.ensures).1
