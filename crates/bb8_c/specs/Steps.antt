@@ -5,7 +5,7 @@ use Rattle.bb8_ledger.specs.Acts.{Act, Reason, TimedOut, Cancelled, Reap, Leave}
 use Rattle.bb8_ledger.specs.Answers.{Answer}
 use Rattle.bb8_core.specs.Asked.{Stepped}
 use Rattle.bb8_core.specs.HandedOver.{HandsOver}
-use Rattle.bb8_core.specs.Closings.{AreIdleAs, AreReaped}
+use Rattle.bb8_core.specs.Closings.{AreIdleAs, ReapEnds}
 use Rattle.bb8_c.specs.InC.{handed_in}
 use Rattle.bb8_c.specs.declared.listing.Left.TheVariants as left
 
@@ -18,7 +18,7 @@ Lists ks old new = (xs : List (Closed ℕ)) × AreIdleAs old.internals ks xs × 
 abbrev pub Reaps : Listing → ℕ → Option ReapAnswer → Listing → Type 0
 Reaps old at None new = (new ≡ old) × (0 < length old.internals.records.idle)
 Reaps old at (Some a) new = Meets old.internals at Reap (reap_told a) new.internals × (ks : List ℕ) × Lists ks old new
-    × AreReaped old.internals at a ks
+    × ReapEnds old.internals at a ks
 
 -- The last leave lists all that is idle, in line; another one nothing. Memory may be refused where something is to be listed.
 abbrev pub Leaves : Listing → ℕ → Left → Listing → Type 0

@@ -26,7 +26,7 @@ pub struct HandedOver<R, C> {
 }
 
 /// Lets the get try that was notified, if one was.
-#[inline]
+#[inline(always)]
 fn try_of<C: Drop>(
     pool: &mut PoolInternals<C>,
     at: Moment,
@@ -61,6 +61,7 @@ macro_rules! hand_over {
 }
 
 /// Tells that the check of a get failed, and hands over. Our own.
+#[inline(always)]
 pub fn checked_err<C: Drop>(
     pool: &mut PoolInternals<C>,
     at: Moment,
@@ -82,6 +83,7 @@ pub fn checked_err<C: Drop>(
 }
 
 /// Gives up a get that holds nothing, and hands over. Our own.
+#[inline(always)]
 pub fn give_up<C: Drop>(
     pool: &mut PoolInternals<C>,
     at: Moment,
@@ -98,6 +100,7 @@ pub fn give_up<C: Drop>(
 }
 
 /// Gives up a get that holds this connection, and hands over. Our own.
+#[inline(always)]
 pub fn give_back<C: Drop>(
     pool: &mut PoolInternals<C>,
     at: Moment,
@@ -120,6 +123,7 @@ pub fn give_back<C: Drop>(
 }
 
 /// Gives back a connection that a guard holds, and hands over. Our own.
+#[inline(always)]
 pub fn put_back<C: Drop>(
     pool: &mut PoolInternals<C>,
     at: Moment,
@@ -136,6 +140,7 @@ pub fn put_back<C: Drop>(
 }
 
 /// Hands in what a claimed approval brought, and hands over. Our own.
+#[inline(always)]
 pub fn opened<C: Drop>(
     pool: &mut PoolInternals<C>,
     at: Moment,
@@ -151,6 +156,7 @@ pub fn opened<C: Drop>(
 }
 
 /// Adds a connection, and hands over. Our own.
+#[inline(always)]
 pub fn add<C: Drop>(
     pool: &mut PoolInternals<C>,
     at: Moment,

@@ -393,6 +393,7 @@ impl<C: Drop, A> PoolInternals<C, A> {
 
     /// Ends a get that is not served, as it timed out or was cancelled, and that holds nothing. Where it had been notified, the oldest waiter that
     /// was not is notified in its place.
+    #[inline(always)]
     pub fn give_up(
         &mut self,
         at: Moment,
@@ -418,6 +419,7 @@ impl<C: Drop, A> PoolInternals<C, A> {
 
     /// Ends a get that is not served and holds a connection, which is handed in and returns as in `put_back`. The hint is as of `checked_ok`.
     /// Where the get holds none nothing changes, and the connection comes back.
+    #[inline(always)]
     pub fn give_back(
         &mut self,
         at: Moment,
