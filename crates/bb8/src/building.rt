@@ -196,18 +196,6 @@ impl<G: Given, L: Parts> EndsSite for Building<G, L> {
     }
 }
 
-impl<G: Given<Runtime: Wait>, L: Parts> Building<G, L> {
-    ghost use Rattle.bb8.specs.Buildings.{CancelsBuilding};
-
-    /// Lets the building go, as a drop does, for which it may wait for the lock: the approvals of its openings are given back, and its pool
-    /// is dropped. Our own.
-    pub fn cancel(self)
-        ensures { CancelsBuilding self }
-    {
-        Cancel::cancel(self)
-    }
-}
-
 impl<G: Given<Runtime: Wait>, L: Parts> Cancel for Building<G, L> {
     ghost use Rattle.bb8.specs.Buildings.{CancelsBuilding};
 

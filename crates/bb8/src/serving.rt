@@ -40,17 +40,17 @@ pub trait Service<
     /// What comes of it all. Our own.
     type Outcome;
 
-    // Holds of a service and the settings, the manager and the clock of each pool that it may be run over.
-    ghost suits: { Self → Basis M K → Type 0 } = { λ _ _. ⊤ };
+    // Holds of a service, and what each pool was built of that it may be run over.
+    ghost suits: { Self → Basis M S Z K → Type 0 } = { λ _ _. ⊤ };
 
     // Holds of a service, what its pool was built of, and each answer that its beginning may give.
-    ghost begins: { Self → Basis M K → Result (Unit {0}) Self.Outcome → Type 0 } = { λ _ _ _. ⊤ };
+    ghost begins: { Self → Basis M S Z K → Result (Unit {0}) Self.Outcome → Type 0 } = { λ _ _ _. ⊤ };
 
     // Holds of a service, what its pool was built of, the number of a thread, and each thing that the thread may tell.
-    ghost tells: { Self → Basis M K → ℕ → Self.Told → Type 0 } = { λ _ _ _ _. ⊤ };
+    ghost tells: { Self → Basis M S Z K → ℕ → Self.Told → Type 0 } = { λ _ _ _ _. ⊤ };
 
     // Holds of a service, what its pool was built of, what the threads told in their order, and each outcome that it may end with.
-    ghost ends: { Self → Basis M K → List Self.Told → Self.Outcome → Type 0 } = { λ _ _ _ _. ⊤ };
+    ghost ends: { Self → Basis M S Z K → List Self.Told → Self.Outcome → Type 0 } = { λ _ _ _ _. ⊤ };
 
     /// What is done before the threads start. Where it answers an error, none is started, and that is what comes of it all. Our own.
     fn begin<L: PoolParts>(&self, pool: &Pool<M, S, Z, K, R, L>) -> Result<(), Self::Outcome>
@@ -124,7 +124,7 @@ fn built<
 ) -> Result<Pool<M, S, Z, K, R, L>, RunError<M::Error>>
     requires lawful { is_lawful builder.settings ≡ true }
     requires parts { IsBlankOf blank builder.settings L.name L.parts L.settings }
-    ensures made { IfOk result (λ pool. basis_of pool ≡ basis builder.settings manager clock) }
+    ensures made { IfOk result (λ pool. basis_of pool ≡ basis builder manager clock) }
     ensures failed { IfErr result (IsBuildError
         (M.connect_answers manager) (Z.acquire_answers builder.connection_customizer)) }
 {
@@ -192,10 +192,10 @@ fn serve_with<
 ) -> Result<V::Outcome, RunError<M::Error>>
     requires lawful { is_lawful builder.settings ≡ true }
     requires parts { IsBlankOf blank builder.settings L.name L.parts L.settings }
-    requires suits { V.suits service.now (basis builder.settings manager clock) }
+    requires suits { V.suits service.now (basis builder manager clock) }
     ensures outcome { IfOk result (IsOutcome
         (V.begins service.now) (V.tells service.now) (V.ends service.now)
-        (basis builder.settings manager clock) threads) }
+        (basis builder manager clock) threads) }
     ensures failed { IfErr result (IsBuildError
         (M.connect_answers manager) (Z.acquire_answers builder.connection_customizer)) }
 {
@@ -238,10 +238,10 @@ impl<
         service: &V,
     ) -> Result<V::Outcome, RunError<M::Error>>
         requires lawful { is_lawful self.settings ≡ true }
-        requires suits { V.suits service.now (basis self.settings manager clock) }
+        requires suits { V.suits service.now (basis self manager clock) }
         ensures outcome { IfOk result (IsOutcome
             (V.begins service.now) (V.tells service.now) (V.ends service.now)
-            (basis self.settings manager clock) threads) }
+            (basis self manager clock) threads) }
         ensures failed { IfErr result (IsBuildError
             (M.connect_answers manager) (Z.acquire_answers self.connection_customizer)) }
     {

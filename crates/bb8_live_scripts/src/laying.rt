@@ -7,7 +7,10 @@ use crate::asked::{Asked, Handles, Lent};
 use crate::play::{Play, Setup, set_board};
 use crate::preparing::Preparer;
 use crate::shelf::Shelf;
-use bb8::{Builder, Building, Config, Driver, Memory, Moment, Pool, PoolParts, Runtime, SetClock};
+use bb8::{
+    Builder, Building, Config, Driver, Memory, Moment, Pool, PoolCalls, PoolParts, Runtime,
+    SetClock,
+};
 use bb8_runner::fault::Fault;
 use bb8_runner::grammar::{fields_of, number};
 use bb8_runner::lines::{NoScript, script_of};

@@ -222,7 +222,7 @@ impl<A: Asked, R: Runtime, L: PoolParts> Play<A, R, L> {
 
     /// A turn of a driver at this moment.
     fn turn(&mut self, moment: u64, driver: u64) -> Option<Turn> {
-        Some(DriverCalls::turn(self.drivers.get_mut(driver)?, Moment(moment)))
+        Some(self.drivers.get_mut(driver)?.turn(Moment(moment)))
     }
 
     /// A connection that no opening brought.

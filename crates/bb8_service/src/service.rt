@@ -50,7 +50,7 @@ impl<R: Wait + Clock + RandomSource + AllocGlobal + Copy + Send + Sync + Drop + 
     fn run<L: PoolParts>(&self, pool: &DatabasePool<R, L>, _thread: usize) -> Option<Sums> {
         let mut sums = Sums::default();
         for round in 0..ROUNDS {
-            let mut guard = PoolCalls::get_blocking(pool).ok()?;
+            let mut guard = pool.get_blocking().ok()?;
             if write(&mut guard, round % AMOUNTS).is_ok() {
                 sums.committed = sums.committed.saturating_add(1);
                 continue;
@@ -73,10 +73,10 @@ impl<R: Wait + Clock + RandomSource + AllocGlobal + Copy + Send + Sync + Drop + 
         }
         let mut guards = Vec::new(self.rt.alloc());
         for _ in 0..CONNECTIONS {
-            let mut guard = PoolCalls::get_blocking(pool).ok()?;
+            let mut guard = pool.get_blocking().ok()?;
             sums = sums.plus(held(&mut guard).ok()?);
             guards.push(guard).ok()?;
         }
-        Some((sums, PoolCalls::state(pool)))
+        Some((sums, pool.state()))
     }
 }

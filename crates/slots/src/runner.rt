@@ -12,8 +12,8 @@ use crate::slot::{Slot, SlotManager};
 use crate::stepping::{Get, SlotGuards};
 use crate::turning::StepsAll;
 use bb8::{
-    Clock, CustomizeConnection, Driver, DriverCalls, ErrorSink, GuardsCalls, Locks, Memory, Moment,
-    Parts, Pool, PoolCalls,
+    Clock, CustomizeConnection, Driver, DriverCalls, ErrorSink, Gets, Guards, GuardsCalls, Locks,
+    Memory, Moment, Parts, Pool,
 };
 use futures::task::Context;
 use std::alloc::Global;
@@ -114,7 +114,7 @@ impl<
     ghost steps = { λ runner moment after ended. StepsJobs J.polls moment runner after ended };
 
     fn drive(&mut self, moment: Moment) {
-        let _ = DriverCalls::turn(&mut self.driver, moment);
+        let _ = self.driver.turn(moment);
     }
 
     fn step_jobs(&mut self, moment: Moment, cx: &mut Context<'_>) -> u64 {
@@ -175,7 +175,7 @@ impl<
         let driver = Driver::new(pool)?;
         Ok(Runner {
             entries: VecDeque::new(alloc),
-            guards: GuardsCalls::new(alloc, pool),
+            guards: Guards::new(alloc, pool),
             driver,
             pool,
             next: 0,
@@ -211,7 +211,7 @@ impl<
             return Err(job);
         }
         let id = self.next;
-        let get = PoolCalls::get(self.pool);
+        let get = self.pool.get();
         self.entries.push_back_reserved(JobEntry {
             id,
             place: JobPlace::Waiting(job, get),
@@ -239,7 +239,7 @@ impl<
         ensures number { result ≡ running_in self.now }
         ensures within { result ≤ most_running self.now }
     {
-        GuardsCalls::len(&self.guards) as u64
+        self.guards.len() as u64
     }
 
     fn take(&mut self, id: u64) -> Option<Outcome<J::Out>>

@@ -91,7 +91,7 @@ impl<
                 ended: 0,
             },
             Poll::Ready(out) => {
-                if let Some(guard) = GuardsCalls::remove(self, 0) {
+                if let Some(guard) = self.remove(0) {
                     drop(guard);
                 }
                 Stepped {
@@ -125,7 +125,7 @@ impl<
                 place: JobPlace::Ended(Outcome::Refused(error)),
                 ended: 1,
             },
-            Poll::Ready(Ok(guard)) => match GuardsCalls::push(self, guard) {
+            Poll::Ready(Ok(guard)) => match self.push(guard) {
                 Ok(()) => Stepped {
                     place: JobPlace::Running(job),
                     ended: 0,

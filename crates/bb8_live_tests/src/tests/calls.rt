@@ -8,10 +8,10 @@ mod blocking;
 
 use super::assert_equal;
 use bb8::{
-    Builder, Clock, CustomizeConnection, Driver, DriverCalls, ErrorSink, Gate, GetFuture, Job,
-    ManageConnection, Memory, Moment, Pool, PoolCalls, PoolParts, Runtime, start,
+    Builder, Cancel, Clock, CustomizeConnection, Driver, DriverCalls, ErrorSink, Gate, GetFuture,
+    Gets, Job, ManageConnection, Memory, Moment, Pool, PoolCalls, PoolParts, Runtime, start,
 };
-use bb8_trials::{ARMED, Course, LOOKS, Number, OPEN, OwnedHandle, Refused, Unbuilt, WAITING};
+use bb8_trials::{ARMED, Course, LOOKS, Number, OPEN, Refused, Unbuilt, WAITING};
 use futures::task::Poll;
 use futures::test::MockTask;
 use std::alloc::Global;
@@ -309,7 +309,7 @@ impl<R: Runtime + Abort> Tools<'_, R> {
     }
 
     fn add<L: PoolParts>(&self, pool: &TellerPool<R, L>) -> Result<(), Memory> {
-        drop(PoolCalls::add(pool, connection(self.desk)?));
+        drop(pool.add(connection(self.desk)?));
         self.made("has_broken now");
         Ok(())
     }
@@ -336,28 +336,28 @@ fn checked<R: Runtime + Abort, L: PoolParts>(
 ) -> Result<(), Memory> {
     let desk = tools.desk;
     tools.add(pool)?;
-    let mut get = PoolCalls::get(pool);
+    let mut get = pool.get();
     tools.poll(&mut get, "now is_valid poll_valid ended");
     tools.poll(&mut get, "");
     drop(get);
     desk.check.set(1);
-    let mut get = PoolCalls::get(pool);
+    let mut get = pool.get();
     tools.poll(&mut get, "now is_valid poll_valid");
     tools.poll(&mut get, "now poll_valid");
     get.cancel();
     tools.made("ended has_broken now");
-    let mut get = PoolCalls::get(pool);
+    let mut get = pool.get();
     tools.poll(&mut get, "now is_valid poll_valid");
     desk.moment.set(100);
     tools.poll(&mut get, "now poll_valid ended has_broken");
     drop(get);
     tools.made("");
-    let mut get = PoolCalls::get(pool);
+    let mut get = pool.get();
     tools.poll(&mut get, "now is_valid poll_valid");
     desk.broken.set(1);
     drop(get);
     tools.made("ended has_broken now dropped");
-    drop(PoolCalls::add(pool, connection(desk)?));
+    drop(pool.add(connection(desk)?));
     tools.made("has_broken now dropped");
     desk.broken.set(0);
     desk.check.set(0);
@@ -370,21 +370,21 @@ fn waiting<R: Runtime + Abort, L: PoolParts>(
     pool: &TellerPool<R, L>,
 ) -> Result<(), Memory> {
     let desk = tools.desk;
-    PoolCalls::get(pool).cancel();
+    pool.get().cancel();
     tools.made("");
-    let mut get = PoolCalls::get(pool);
+    let mut get = pool.get();
     tools.poll(&mut get, "now");
     tools.poll(&mut get, "now");
     get.cancel();
     tools.made("now");
-    let mut get = PoolCalls::get(pool);
+    let mut get = pool.get();
     tools.poll(&mut get, "now");
     desk.moment.set(200);
     tools.poll(&mut get, "now");
     drop(get);
     tools.add(pool)?;
     desk.check.set(2);
-    let mut get = PoolCalls::get(pool);
+    let mut get = pool.get();
     tools.poll(
         &mut get,
         "now is_valid poll_valid ended sink has_broken dropped",
@@ -392,7 +392,7 @@ fn waiting<R: Runtime + Abort, L: PoolParts>(
     drop(get);
     tools.made("now");
     tools.add(pool)?;
-    let mut get = PoolCalls::get(pool);
+    let mut get = pool.get();
     tools.poll(
         &mut get,
         "now is_valid poll_valid ended sink has_broken dropped",
@@ -411,10 +411,10 @@ fn owned<R: Runtime + Abort, L: PoolParts>(
     tools: &Tools<'_, R>,
     pool: &TellerPool<R, L>,
 ) -> Result<(), Memory> {
-    PoolCalls::get_owned(pool).cancel();
+    pool.get_owned().cancel();
     tools.made("now now");
     tools.add(pool)?;
-    let mut get = PoolCalls::get_owned(pool);
+    let mut get = pool.get_owned();
     let polled = tools.task.poll(&mut get);
     tools.made("now now is_valid poll_valid ended");
     drop(get);
@@ -422,7 +422,7 @@ fn owned<R: Runtime + Abort, L: PoolParts>(
     drop(polled);
     tools.made("has_broken now now");
     tools.desk.check.set(1);
-    let mut get = PoolCalls::get_owned(pool);
+    let mut get = pool.get_owned();
     drop(tools.task.poll(&mut get));
     tools.made("now now is_valid poll_valid");
     drop(get);
@@ -434,7 +434,7 @@ fn owned<R: Runtime + Abort, L: PoolParts>(
 /// Connections that the pool does not count: opened and prepared slowly; failing as it is opened, or prepared; let go as it is prepared.
 fn dedicated<R: Runtime + Abort, L: PoolParts>(tools: &Tools<'_, R>, pool: &TellerPool<R, L>) {
     let desk = tools.desk;
-    let mut opening = PoolCalls::dedicated_connection(pool);
+    let mut opening = pool.dedicated_connection();
     for (connects, prepares, calls) in &[
         (1, 0, "now connect poll_connect"),
         (1, 0, "now poll_connect"),
@@ -467,7 +467,7 @@ fn dedicated<R: Runtime + Abort, L: PoolParts>(tools: &Tools<'_, R>, pool: &Tell
     ] {
         desk.opening.set(*connects);
         desk.preparing.set(*prepares);
-        let mut opening = PoolCalls::dedicated_connection(pool);
+        let mut opening = pool.dedicated_connection();
         drop(tools.task.poll(&mut opening));
         tools.made(calls);
         opening.cancel();
@@ -479,8 +479,8 @@ fn dedicated<R: Runtime + Abort, L: PoolParts>(tools: &Tools<'_, R>, pool: &Tell
 /// Whatever connections are idle are closed as their checks fail, and a get waits and is let go: one approval is open.
 fn approve<R: Runtime + Abort, L: PoolParts>(tools: &Tools<'_, R>, pool: &TellerPool<R, L>) {
     tools.desk.check.set(2);
-    let mut get = PoolCalls::get(pool);
-    for _ in 0..PoolCalls::state(pool).idle_connections.saturating_add(1) {
+    let mut get = pool.get();
+    for _ in 0..pool.state().idle_connections.saturating_add(1) {
         drop(tools.task.poll(&mut get));
     }
     get.cancel();
@@ -523,7 +523,7 @@ fn turns<R: Runtime + Abort, L: PoolParts>(
         }
         desk.opening.set(*connects);
         desk.preparing.set(*prepares);
-        let _ = DriverCalls::turn(&mut driver, Moment(300));
+        let _ = driver.turn(Moment(300));
         tools.made(calls);
     }
     drop(driver);
@@ -531,7 +531,7 @@ fn turns<R: Runtime + Abort, L: PoolParts>(
 }
 
 /// A handle more, and its drop.
-fn handles<R: Runtime + Abort, P: OwnedHandle<Teller>>(tools: &Tools<'_, R>, pool: &P) {
+fn handles<R: Runtime + Abort, P: bb8_trials::OwnedHandle<Teller>>(tools: &Tools<'_, R>, pool: &P) {
     let copy = pool.try_clone();
     tools.made("now");
     drop(copy);
@@ -556,7 +556,7 @@ impl<R: Runtime + Abort, L: PoolParts> Job for Asker<R, L> {
         for _ in 0..LOOKS {
             match self.desk.stage.get() {
                 WAITING => {
-                    if PoolCalls::state(&self.pool).connections <= 2 {
+                    if self.pool.state().connections <= 2 {
                         answered = answered.saturating_add(1);
                     }
                     self.desk.stage.set(ARMED);
@@ -671,7 +671,7 @@ fn calls_of_a_building<R: Runtime + Abort, B: Unbuilt<Teller>>(
             );
             for _ in 0..2u32 {
                 if let Poll::Ready(Ok(pool)) = &polled {
-                    pool.serves_at_once(tools.task);
+                    bb8_trials::OwnedHandle::serves_at_once(pool, tools.task);
                 }
                 tools.made("now has_broken now");
             }

@@ -3,7 +3,7 @@ ghost use Rattle.std.specs.Prelude.{◌≡◌, Ok, IfOk, length};
 
 use super::{SlowManager, SlowPool, assert_equal};
 use bb8::{
-    Builder, Job, Memory, Moment, NopCustomizer, NopErrorSink, PoolCalls, PoolParts, Runtime,
+    Builder, Gets, Job, Memory, Moment, NopCustomizer, NopErrorSink, PoolCalls, PoolParts, Runtime,
     Service, SetClock, start,
 };
 use futures::executor::block_on;
@@ -55,7 +55,7 @@ impl<R: Runtime + Abort> Service<SlowManager, NopErrorSink, NopCustomizer, SetCl
 
     fn begin<L: PoolParts>(&self, pool: &SlowPool<R, L>) -> Result<(), Option<bool>> {
         self.begun.fetch_add(1, Ordering::SeqCst);
-        match PoolCalls::add(pool, self.connection) {
+        match pool.add(self.connection) {
             Ok(()) => Ok(()),
             Err(_) => Err(None),
         }
@@ -64,8 +64,8 @@ impl<R: Runtime + Abort> Service<SlowManager, NopErrorSink, NopCustomizer, SetCl
     /// By a handle of the thread's own.
     fn run<L: PoolParts>(&self, pool: &SlowPool<R, L>, thread: usize) -> Option<usize> {
         self.run.fetch_add(1, Ordering::SeqCst);
-        let handle = PoolCalls::try_clone(pool).ok()?;
-        let told = match block_on(&self.rt, PoolCalls::get(&handle)) {
+        let handle = pool.try_clone().ok()?;
+        let told = match block_on(&self.rt, handle.get()) {
             Ok(Ok(guard)) if *guard == self.connection => Some(thread),
             _ => None,
         };

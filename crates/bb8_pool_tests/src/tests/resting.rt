@@ -3,8 +3,8 @@
 use super::assert_equal;
 use super::waiting::nanos;
 use bb8::{
-    Clock as PoolClock, Driver, DriverCalls, Moment, NopCustomizer, PoolCalls, PoolParts, Runtime,
-    Service, SetClock, User,
+    Clock as PoolClock, Driver, DriverCalls, Gets, Moment, NopCustomizer, PoolCalls, PoolParts,
+    Runtime, Service, SetClock, User,
 };
 use bb8_trials::{
     Board, Course, Errors, Number, SECOND, Server, ServerPool, builder_on, server_on,
@@ -90,10 +90,10 @@ impl<R: Runtime + CpuClock> AwaitsTurn<R> for Resting<R> {
 
     fn opens<L: PoolParts>(&self, pool: &ServerPool<MeteredClock<R>, R, L>) -> Option<()> {
         if !self.check_fails {
-            drop(PoolCalls::get_blocking(pool).ok()?);
+            drop(pool.get_blocking().ok()?);
             return Some(());
         }
-        let mut get = PoolCalls::get(pool);
+        let mut get = pool.get();
         self.board.check.set(Course::Fails);
         drop(MockTask::new(&self.rt).ok()?.poll(&mut get));
         self.board.check.set(Course::Passes);
@@ -228,9 +228,9 @@ impl<R: Runtime> User<Server, Errors, NopCustomizer, SetClock, R> for AsksDue<R>
     ) -> Option<[Option<u64>; 5]> {
         let task = MockTask::new(&self.rt).ok()?;
         let mut found = [None; 5];
-        let mut get = PoolCalls::get(pool);
+        let mut get = pool.get();
         for (turn, due) in found.iter_mut().enumerate() {
-            *due = DriverCalls::next_due(driver).map(|due| due.0 / MILLI);
+            *due = driver.next_due().map(|due| due.0 / MILLI);
             if turn == 1 {
                 drop(task.poll(&mut get));
                 self.board.fails.set(1);
@@ -242,7 +242,7 @@ impl<R: Runtime> User<Server, Errors, NopCustomizer, SetClock, R> for AsksDue<R>
             if turn == 3 {
                 self.board.opening.set(Course::Passes);
             }
-            let _ = DriverCalls::turn_now(driver);
+            let _ = driver.turn_now();
         }
         Some(found)
     }

@@ -107,8 +107,8 @@ impl<R: Runtime> Service<Server, Errors, NopCustomizer, LastingClock<R>, R> for 
         pool: &ServerPool<LastingClock<R>, R, L>,
         _thread: usize,
     ) -> Option<(u64, u64)> {
-        let first = block_on(&self.rt, PoolCalls::get_owned(pool)).ok()?.ok()?;
-        let second = block_on(&self.rt, PoolCalls::get_owned(pool)).ok()?.ok()?;
+        let first = block_on(&self.rt, pool.get_owned()).ok()?.ok()?;
+        let second = block_on(&self.rt, pool.get_owned()).ok()?.ok()?;
         let numbers = (first.number, second.number);
         if self.keeps {
             mem::forget(first);

@@ -2,7 +2,8 @@
 
 use super::assert_equal;
 use bb8::{
-    Driver, MachineClock, NopCustomizer, PoolCalls, PoolParts, RunError, Runtime, Service, User,
+    Driver, Gets, MachineClock, NopCustomizer, PoolCalls, PoolParts, RunError, Runtime, Service,
+    User,
 };
 use bb8_trials::{
     Board, Course, Errors, Number, Server, ServerPool, builder_on, connection_on, server_on,
@@ -114,8 +115,8 @@ trait Waits<R: Runtime> {
 
 impl<R: Runtime + CpuClock> Waits<R> for Waiting<R> {
     fn hold<L: PoolParts>(&self, pool: &ServerPool<MachineClock<R>, R, L>) -> Option<Waited> {
-        let guard = PoolCalls::get_blocking(pool).ok()?;
-        let mut first = PoolCalls::get(pool);
+        let guard = pool.get_blocking().ok()?;
+        let mut first = pool.get();
         if let Cause::HandOn = self.trial.cause {
             drop(MockTask::new(&self.rt).ok()?.poll(&mut first));
         }
@@ -125,7 +126,7 @@ impl<R: Runtime + CpuClock> Waits<R> for Waiting<R> {
             Cause::Return => self.cause(),
             Cause::Adding => {
                 self.cause();
-                PoolCalls::add(pool, connection_on(&self.board, 2).ok()?).ok()?;
+                pool.add(connection_on(&self.board, 2).ok()?).ok()?;
                 self.sleep(self.trial.hold);
             }
             Cause::HandOn => {
@@ -164,12 +165,12 @@ impl<R: Runtime + CpuClock> Waits<R> for Waiting<R> {
         }
         let before = nanos(self.rt.thread_cpu_time());
         if self.trial.owned {
-            let guard = PoolCalls::get_owned_blocking(pool).ok()?;
+            let guard = pool.get_owned_blocking().ok()?;
             let waited = self.served(before);
             drop(guard);
             return Some(waited);
         }
-        let guard = PoolCalls::get_blocking(pool).ok()?;
+        let guard = pool.get_blocking().ok()?;
         let waited = self.served(before);
         drop(guard);
         Some(waited)
@@ -343,15 +344,15 @@ impl<R: Runtime> User<Server, Errors, NopCustomizer, MachineClock<R>, R> for InV
         pool: &ServerPool<MachineClock<R>, R, L>,
         _driver: &mut Driver<Server, Errors, NopCustomizer, MachineClock<R>, R, L>,
     ) -> Option<(u64, u64, u64)> {
-        PoolCalls::add(pool, connection_on(&self.board, 7).ok()?).ok()?;
-        let first = PoolCalls::get_owned_blocking(pool).ok()?;
+        pool.add(connection_on(&self.board, 7).ok()?).ok()?;
+        let first = pool.get_owned_blocking().ok()?;
         let begun = nanos(self.rt.monotonic());
-        let RunError::TimedOut = PoolCalls::get_blocking(pool).err()? else {
+        let RunError::TimedOut = pool.get_blocking().err()? else {
             return None;
         };
         let between = nanos(self.rt.monotonic());
         let timeout = Duration::from_millis(120);
-        let RunError::TimedOut = PoolCalls::get_blocking_timeout(pool, timeout).err()? else {
+        let RunError::TimedOut = pool.get_blocking_timeout(timeout).err()? else {
             return None;
         };
         let ended = nanos(self.rt.monotonic());

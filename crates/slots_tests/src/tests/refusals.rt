@@ -24,7 +24,7 @@ impl<R: Runtime + Abort> RunnerTrial<R> for RefusedMemory {
         let mut ended: u64 = 0;
         for _ in 0..12 {
             ended = ended.saturating_add(bench.turn(0));
-            let state = PoolCalls::state(pool);
+            let state = pool.state();
             let running = bench.runner.running();
             assert!(&rt; running <= 2);
             assert_eq!(&rt;

@@ -1,7 +1,7 @@
 //! The gets that answer in one call, and those that are served at their first poll, with the check and without.
 
 use super::{TellerPool, Tools};
-use bb8::{Memory, PoolCalls, PoolParts, Runtime};
+use bb8::{Gets, Memory, PoolCalls, PoolParts, Runtime};
 use std::process::Abort;
 use std::time::Duration;
 
@@ -39,26 +39,23 @@ pub(super) fn served<R: Runtime + Abort, L: PoolParts>(
     pool: &TellerPool<R, L>,
 ) -> Result<(), Memory> {
     let (desk, timeout) = (tools.desk, Duration::from_nanos(200));
-    tools.lent_none(PoolCalls::try_get(pool), "now");
+    tools.lent_none(pool.try_get(), "now");
     tools.add(pool)?;
     for _ in 0..2u32 {
-        tools.lent(PoolCalls::try_get(pool), false);
-        tools.lent(tools.task.poll(&mut PoolCalls::get(pool)), false);
-        tools.lent(tools.task.poll(&mut PoolCalls::get_owned(pool)), true);
-        tools.lent(PoolCalls::get_blocking(pool), false);
-        tools.lent(PoolCalls::get_blocking_timeout(pool, timeout), false);
-        tools.lent(PoolCalls::get_owned_blocking(pool), true);
+        tools.lent(pool.try_get(), false);
+        tools.lent(tools.task.poll(&mut pool.get()), false);
+        tools.lent(tools.task.poll(&mut pool.get_owned()), true);
+        tools.lent(pool.get_blocking(), false);
+        tools.lent(pool.get_blocking_timeout(timeout), false);
+        tools.lent(pool.get_owned_blocking(), true);
     }
     desk.broken.set(1);
-    let held = PoolCalls::try_get(pool);
+    let held = pool.try_get();
     desk.calls.set(0);
     desk.step.set(60);
-    tools.lent_none(PoolCalls::get_blocking(pool), "now now now");
-    tools.lent_none(
-        PoolCalls::get_blocking_timeout(pool, timeout),
-        "now now now now now",
-    );
-    tools.lent_none(PoolCalls::get_owned_blocking(pool), "now now now now now");
+    tools.lent_none(pool.get_blocking(), "now now now");
+    tools.lent_none(pool.get_blocking_timeout(timeout), "now now now now now");
+    tools.lent_none(pool.get_owned_blocking(), "now now now now now");
     desk.step.set(0);
     drop(held);
     tools.made("has_broken now dropped");
@@ -75,24 +72,24 @@ pub(super) fn unserved<R: Runtime + Abort, L: PoolParts>(
     let desk = tools.desk;
     tools.add(pool)?;
     desk.check.set(3);
-    let guard = PoolCalls::get_blocking(pool);
+    let guard = pool.get_blocking();
     tools.made("now is_valid poll_valid now now poll_valid ended");
     drop(guard);
     tools.made("has_broken now");
     desk.check.set(3);
-    let guard = PoolCalls::get_owned_blocking(pool);
+    let guard = pool.get_owned_blocking();
     tools.made("now now is_valid poll_valid now now poll_valid ended");
     drop(guard);
     tools.made("has_broken now now");
     desk.check.set(1);
     tools.lent_none(
-        PoolCalls::try_get(pool),
+        pool.try_get(),
         "now is_valid poll_valid ended has_broken now",
     );
     desk.check.set(2);
     desk.step.set(60);
     tools.lent_none(
-        PoolCalls::get_blocking(pool),
+        pool.get_blocking(),
         "now is_valid poll_valid ended sink has_broken dropped now now",
     );
     desk.step.set(0);
