@@ -6,7 +6,7 @@ ghost use Rattle.bb8.specs.GuardLists.{most_in, number_in};
 ghost use Rattle.bb8.specs.Pools.{settings_in};
 ghost use Rattle.slots.specs.Entries.{ids, left_after, outcome_of, phase_of, place_of, running, AreIds, AreIds-prop};
 
-use crate::entries::{JobEntry, JobPlace, phase_at, take_ended};
+use crate::entries::{JobEntry, JobPlace, let_all_go, phase_at, take_ended};
 use crate::job::{Job, Outcome, Phase};
 use crate::slot::{Slot, SlotManager};
 use crate::stepping::{Get, SlotGuards};
@@ -59,18 +59,13 @@ impl<
         ensures { LetsRunnerGo self.entry }
     {
         let Runner {
-            mut entries,
+            entries,
             guards,
             driver,
             pool: _,
             next: _,
         } = self;
-        while let Some(JobEntry { id: _, place }) = entries.pop_front() {
-            if let JobPlace::Waiting(job, get) = place {
-                drop(get);
-                drop(job);
-            }
-        }
+        let_all_go(entries);
         drop(guards);
         drop(driver);
     }

@@ -5,9 +5,10 @@ ghost use Rattle.bb8.specs.Gets.{PollsGet};
 ghost use Rattle.bb8.specs.GuardLists.{number_in, AreOfOne};
 ghost use Rattle.slots.specs.Entries.{guards_for};
 ghost use Rattle.slots.specs.Guards.{GivesBack};
-ghost use Rattle.slots.specs.Turns.{StepsJob, StepsGet, JobSteps};
+ghost use Rattle.slots.specs.Turns.{StepsGet, JobSteps};
+ghost use Rattle.slots.specs.declared.entries.JobPlace.TheVariants.{Running};
 
-use crate::entries::JobPlace;
+use crate::entries::{JobPlace, LetGo};
 use crate::job::{Job, Outcome};
 use crate::slot::{Slot, SlotManager};
 use bb8::{
@@ -31,6 +32,22 @@ pub(crate) struct Stepped<J, O, G> {
     pub(crate) place: JobPlace<J, O, G>,
     /// Whether it ended by it: 1 where it did, else 0.
     pub(crate) ended: u64,
+}
+
+impl<
+    S: ErrorSink<Infallible>,
+    Z: CustomizeConnection<Slot, Infallible>,
+    K: Clock,
+    R: Locks,
+    L: Parts,
+> LetGo for Get<'_, S, Z, K, R, L> {
+    ghost use Rattle.bb8.specs.Gets.{CancelsGet};
+
+    ghost goes = { λ get. CancelsGet get };
+
+    fn let_go(self) {
+        drop(self);
+    }
 }
 
 /// The steps of a job beside the guards of all that run, as methods of an impl, so that methods of others can call them.
@@ -61,7 +78,7 @@ impl<
 > StepsOne<J, J::Out, Get<'a, S, Z, K, R, L>> for SlotGuards<'a, S, Z, K, R, L> {
     fn step_job(&mut self, job: J, now: Moment) -> Stepped<J, J::Out, Get<'a, S, Z, K, R, L>>
         ensures steps { 0 < number_in self.old
-            → StepsJob GivesBack J.polls now job result.place result.ended }
+            → JobSteps GivesBack J.polls PollsGet now (Running job) result.place result.ended }
         ensures held { 0 < number_in self.old
             → number_in self.new + 1 ≡ number_in self.old + guards_for result.place }
         ensures pool { AreOfOne self.new self.old }
@@ -113,8 +130,8 @@ impl<
                     place: JobPlace::Running(job),
                     ended: 0,
                 },
-                Err(guard) => {
-                    drop(guard);
+                Err(unkept) => {
+                    drop(unkept);
                     Stepped {
                         place: JobPlace::Ended(Outcome::Refused(RunError::Memory)),
                         ended: 1,

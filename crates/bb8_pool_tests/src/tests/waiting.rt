@@ -312,19 +312,18 @@ fn adding_and_a_turn_handed_on_wake_who_waits(rt: HostRuntime) -> Result<(), Fai
     Ok(())
 }
 
-/// Eight threads wait, and each return is to reach the one whose turn it is, which gives the connection back at once. They begin 6 milliseconds
-/// apart, so those who slept longest are others than those who wait longest. A ring that woke one of them would miss it more often than not,
-/// and so most of the eight would come at their next poll, up to 50 milliseconds later.
+/// Two threads wait, and the second begins 25 milliseconds after the first, so it has slept longer where the connection comes back after 62: the
+/// first one has polled in between. That one's turn it is. A ring that woke but the other would have it come at its next poll, at 100.
 #[test]
 fn return_wakes_the_one_whose_turn_it_is(rt: HostRuntime) -> Result<(), Fail> {
     let trial = Trial {
-        threads: 9,
-        hold: 120,
-        apart: 6,
+        threads: 3,
+        hold: 62,
+        apart: 25,
         ..ONE
     };
     let least = quickest(rt, trial)?;
-    assert!(&rt; least < 40_000_000, "{least} nanoseconds");
+    assert!(&rt; least < 15_000_000, "{least} nanoseconds");
     Ok(())
 }
 

@@ -9,7 +9,7 @@ invariant_of-self g c =
     let held : running c.step_each.new.queue.items ≡ number_in c.step_each.new.self = c.step_each.ensures.held before.held in
     let most : most_in c.step_each.new.self ≡ (settings_in before.pool.now).max_size = cc (c.step_each.ensures.pool, before.most) in record {
       ordered = subst (λ x. AreIds 0 before.next x)
-          (sym (same-ids GivesBack g.J.Job.polls PollsGet c.args.moment _ _ _ c.step_each.ensures.steps)) before.ordered;
+          (sym (same-ids GivesBack g.J.Job.polls PollsGet c.args.moment _ _ _ (c.step_each.ensures.steps before.held))) before.ordered;
       held = held;
       most = most;
       within = omega (arith, held, most, c.step_each.ensures.within);

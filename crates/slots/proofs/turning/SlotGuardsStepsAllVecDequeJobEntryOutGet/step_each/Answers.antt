@@ -4,7 +4,7 @@ use Rattle.slots.proofs.turning.SlotGuardsStepsAllVecDequeJobEntryOutGet.step_ea
 
 pub loop-init : goal.loop-init
 loop-init g c = record {
-  midway = Midway-first GivesBack g.J.Job.polls PollsGet c.args.now _ _ (omega arith);
+  midway = λ h. Midway-first GivesBack g.J.Job.polls PollsGet c.args.now _ _ (omega arith);
   len = omega arith;
   most = omega arith;
   held = λ h. h;
@@ -15,7 +15,8 @@ loop-init g c = record {
 pub loop-preserved : goal.loop-preserved
 loop-preserved g c =
     let some : 0 < deque_len c.loop.queue = omega (arith, c.loop.invariant.len) in record {
-      midway = Midway-step GivesBack g.J.Job.polls PollsGet c.args.now _ _ _ _ _ _ _ (omega arith) c.loop.invariant.midway (c.step_first-ended.ensures.steps some);
+      midway = λ h. Midway-step GivesBack g.J.Job.polls PollsGet c.args.now _ _ _ _ _ _ _ (omega arith) (c.loop.invariant.midway h)
+          (c.step_first-ended.ensures.steps (c.loop.invariant.held h) some);
       len = omega (arith, c.loop.invariant.len);
       most = omega arith;
       held = λ h. c.step_first-ended.ensures.held (c.loop.invariant.held h);
@@ -24,4 +25,4 @@ loop-preserved g c =
     }
 
 pub returns-clause-steps : goal.returns-clause-steps
-returns-clause-steps g c = Midway-over GivesBack g.J.Job.polls PollsGet c.args.now _ _ _ _ (omega arith) c.loop.invariant.midway
+returns-clause-steps g c = λ h. Midway-over GivesBack g.J.Job.polls PollsGet c.args.now _ _ _ _ (omega arith) (c.loop.invariant.midway h)

@@ -5,7 +5,7 @@ use Rattle.slots.proofs.turning.SlotGuardsStepsAllVecDequeJobEntryOutGet.step_ea
 
 abbrev pub invariant-loop : goal.invariant-loop
 invariant-loop g l = record {
-  midway : TurnMidway GivesBack g.J.Job.polls PollsGet l.fn.now l.fn.queue.items l.queue.items l.ended (l.count - l.counter);
+  midway : running l.fn.queue.items ≡ number_in l.fn.self → TurnMidway GivesBack g.J.Job.polls PollsGet l.fn.now l.fn.queue.items l.queue.items l.ended (l.count - l.counter);
   len : deque_len l.queue ≡ l.count;
   most : l.ended ≤ l.counter;
   held : running l.fn.queue.items ≡ number_in l.fn.self → running l.queue.items ≡ number_in l.self;

@@ -1,10 +1,9 @@
 //! Transcripts made at random: each answer, and the figures then, are what the core's replay gives to the same events.
 
-use crate::answer::LineAnswer;
-use crate::run;
 use bb8::{Config, Moment, Runtime, Turn};
 use bb8_core::internals::PoolInternals;
 use bb8_core::replay::{Act, Answer, Event, Known, Reason, apply};
+use bb8_live_scripts::{LineAnswer, run};
 use bb8_runner::fault::Fault;
 use bb8_runner::lines::script_of;
 use bb8_runner::text::output;

@@ -2,7 +2,7 @@
 
 mod masses;
 
-use super::run;
+use bb8_live_scripts::run;
 use std::test::Fail;
 
 /// A get that is served otherwise than it says, a line that does not fit, and beginnings that are none.

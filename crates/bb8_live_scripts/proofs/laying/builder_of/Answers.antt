@@ -2,7 +2,7 @@ use Rattle.std.proofs.Common.{◌≡◌, true, ltb, arith}
 use Rattle.std.proofs.lemmas.Bool.Decides.{nat_tests}
 use Rattle.bb8_types.specs.Settings.{Settings, settings_of, is_unset_or_above_zero, is_unset_or_at_most}
 use Rattle.bb8_types.proofs.Places.{and_right}
-use Rattle.bb8_live_rows.proofs.laying.builder_of.Goals as goal
+use Rattle.bb8_live_scripts.proofs.laying.builder_of.Goals as goal
 
 pub connection_timeout-requires-after_bounds : goal.connection_timeout-requires-after_bounds
 connection_timeout-requires-after_bounds c κs =
