@@ -68,6 +68,11 @@ module _ {G L M S Z K R C E N V A : Type 0} {m : ManagerOf M C E N V} {d : Debug
       → PoolRounds pool tasks round → Ended (λ e. ErrorAt m z of (errors.User e)) round
   failed of pool tasks round is rounds = rw (sym is) (round_failed (arc_value pool.shared) tasks round rounds.0)
 
+  told : (of : Basis M S Z K) (x : Result (Pool G L M S Z K R C E N V A m d s z k l) (RunError E)) → Answered basis_of of (ErrorAt m z of) x
+      → IfOk x (λ pool. basis_of pool ≡ of) × IfErr x (ErrorAt m z of)
+  told of (Ok pool) is = (is, tt)
+  told of (Err e) is = (tt, is)
+
 module _ {G L M S Z K R C E N V A : Type 0} {m : ManagerOf M C E N V} {d : DebugOf E} {s : SinkOf S E} {z : CustomizerOf Z C E A} {k : ClockOf K} {l : PartsOf L} {p : LedgerOf L} where
   -- what is planned of it
   abbrev basis_in : Plan G L M S Z K R C E N V A m d s z k l p → Basis M S Z K
@@ -84,11 +89,6 @@ module _ {G L M S Z K R C E N V A : Type 0} {m : ManagerOf M C E N V} {d : Debug
   planned builder manager clock (Planned plan) (is, by, at) = rw (is, by, at) refl
   planned builder manager clock (Opening pool tasks) never = absurd never
   planned builder manager clock Done never = tt
-
-  told : (of : Basis M S Z K) (x : Result (Pool G L M S Z K R C E N V A m d s z k l) (RunError E)) → Answered basis_of of (ErrorAt m z of) x
-      → IfOk x (λ pool. basis_of pool ≡ of) × IfErr x (ErrorAt m z of)
-  told of (Ok pool) is = (is, tt)
-  told of (Err e) is = (tt, is)
 
   -- the answer of a building that was planned: a pool of its basis, or an error that may end it
   pub answered : (builder : Choices S Z) (manager : M) (clock : K) (site : Site (Plan G L M S Z K R C E N V A m d s z k l p) (Pool G L M S Z K R C E N V A m d s z k l) (List (Replenish C N A)))
