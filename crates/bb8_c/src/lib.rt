@@ -4,8 +4,8 @@
 //! with kind 0, and changes nothing. C keeps the connections, and names them by numbers of its own. Moments are in nanoseconds.
 #![tactic(auto)]
 
-ghost use Rattle.std.specs.Prelude.{◌≡◌, ℕ, Bool, true, false, Option, None, Some, IsSome, IfSome, IfNone, Result, IfOk, IfErr, ⊤};
-ghost use Rattle.bb8_c.specs.Words.{Grant, State, BeginAnswer, AtOnce, Started, TryAnswer, CheckedOkAnswer, CheckedErrAnswer, GiveUpAnswer, PutBackAnswer, ClaimAnswer, OpenedAnswer, FailedAnswer, AddAnswer, ReapAnswer, JoinAnswer, Look, begin_told, try_told, checked_ok_told, checked_err_told, give_up_told, put_back_told, claim_told, opened_told, failed_told, add_told, join_told, look_told, reason_of, ServesAtOnce, Starts, HandsOut, GivesBack, GivesBackInvalid, GivesBackHeld, HandsBack, Refuses, Meets, NotAtOnce, IsRecordIn, IsNoRecordIn, Closed, Left, Unfit};
+ghost use Rattle.std.specs.Prelude.{◌≡◌, ℕ, true, false, Option, None, Some, IsSome, IfSome, IfNone, Result, IfOk, IfErr, ⊤};
+ghost use Rattle.bb8_c.specs.Words.{Grant, State, AtOnce, Started, TryAnswer, ClaimAnswer, ReapAnswer, Look, begin_told, try_told, checked_ok_told, checked_err_told, give_up_told, put_back_told, claim_told, opened_told, failed_told, add_told, join_told, look_told, reason_of, ServesAtOnce, Starts, HandsOut, GivesBack, GivesBackInvalid, GivesBackHeld, HandsBack, Refuses, Meets, NotAtOnce, IsRecordIn, IsNoRecordIn, Closed, Left, Unfit};
 ghost use Rattle.bb8_ledger.specs.Acts as acts;
 ghost use Rattle.bb8_ledger.specs.Answers as answers;
 ghost use Rattle.bb8_types.specs.Figures.{figures_of};
