@@ -5,7 +5,6 @@ pub use Rattle.slots.specs.declared.entries.JobEntry.{JobEntry}
 pub use Rattle.slots.specs.declared.entries.JobPlace.{JobPlace}
 pub use Rattle.slots.specs.declared.entries.JobPlace.TheVariants.{Waiting, Ended}
 pub use Rattle.slots.specs.Entries.{AreIds, ids, guards_for, running, place_of, outcome_of, left_after, without}
-pub use Rattle.slots.specs.Turns.{JobSteps, StepsEach, StepsFirst}
+pub use Rattle.slots.specs.Turns.{JobSteps, StepsEach, StepsFirst, TurnMidway}
 pub use Rattle.bb8.specs.GuardLists.{most_in, number_in, AreOfOne}
 pub use Rattle.bb8.specs.Gets.{PollsGet}
-pub use Rattle.slots.specs.Guards.{GivesBack}

@@ -1,4 +1,3 @@
 pub mod Entries
-pub mod Guards
 pub mod Runners
 pub mod Turns

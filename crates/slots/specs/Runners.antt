@@ -16,7 +16,7 @@ use Rattle.bb8.specs.declared.driver.Driver.{Driver}
 use Rattle.bb8.specs.declared.get.future.GetFuture.{GetFuture}
 use Rattle.bb8.specs.declared.pool.Pool.{Pool}
 use Rattle.bb8.specs.Drivers.{TurnsDriver}
-use Rattle.bb8.specs.Gets.{CancelsGet, PollsGet}
+use Rattle.bb8.specs.Gets.{PollsGet}
 use Rattle.bb8.specs.GuardLists.{ReturnsEach}
 use Rattle.bb8.specs.Pools.{settings_in, stage_of, IsOf}
 use Rattle.bb8.specs.Turning.{OwnDropsTurning}
@@ -27,8 +27,7 @@ use Rattle.slots.specs.declared.runner.Runner.{Runner}
 use Rattle.slots.specs.declared.slot.Slot.{Slot}
 use Rattle.slots.specs.declared.slot.SlotManager.{SlotManager}
 use Rattle.slots.specs.Entries.{running, AddsJob}
-use Rattle.slots.specs.Guards.{GivesBack}
-use Rattle.slots.specs.Turns.{CancelsEach, StepsEach}
+use Rattle.slots.specs.Turns.{StepsEach}
 
 module _ (S Z K R L A : Type 0) (s : SinkOf S Infallible) (z : CustomizerOf Z Slot Infallible A) (k : ClockOf K) (l : PartsOf L) where
   -- a pool of slots
@@ -64,9 +63,9 @@ module _ {J S Z K R L O A : Type 0} {j : JobOf J O} {s : SinkOf S Infallible} {z
   abbrev pub driver_of : Runner J S Z K R L O A j s z k l → SlotDriver S Z K R L A s z k l
   driver_of runner = runner.driver
 
-  -- a runner is let go: the gets of jobs that wait are, each of its guards gives its connection back, and then its driver is let go
+  -- a runner is let go: each of its guards gives its connection back, and then its driver is let go
   abbrev pub LetsRunnerGo : Runner J S Z K R L O A j s z k l → Type 0
-  LetsRunnerGo runner = CancelsEach CancelsGet (jobs_in runner) × ReturnsEach runner.guards × OwnDropsTurning (arc_value runner.driver.shared) runner.driver.turning
+  LetsRunnerGo runner = ReturnsEach runner.guards × OwnDropsTurning (arc_value runner.driver.shared) runner.driver.turning
 
   -- how many jobs may run: as many as the pool may have connections
   abbrev pub most_running : Runner J S Z K R L O A j s z k l → ℕ
@@ -77,20 +76,10 @@ module _ {J S Z K R L O A : Type 0} {j : JobOf J O} {s : SinkOf S Infallible} {z
   TakesJobOn runner job runner' =
       AddsJob (λ get. (stage_of get ≡ Fresh) × IsOf get (pool_of runner)) (next_id runner) job (jobs_in runner) (jobs_in runner')
 
-  -- the driver makes a turn at a moment; the jobs, the next id and the pool stay
+  -- the driver makes a turn at a moment
   abbrev pub TurnsIts : Moment → Runner J S Z K R L O A j s z k l → Runner J S Z K R L O A j s z k l → Type 0
-  TurnsIts moment runner runner' =
-      ((turn : Turn) × TurnsDriver moment (driver_of runner) turn (driver_of runner'))
-      × (jobs_in runner' ≡ jobs_in runner) × (next_id runner' ≡ next_id runner) × (pool_of runner' ≡ pool_of runner)
+  TurnsIts moment runner runner' = (turn : Turn) × TurnsDriver moment (driver_of runner) turn (driver_of runner')
 
-  -- Each job makes a step at a moment, and so many end; a guard gives its connection back for each that had one. The driver, the next id and
-  -- the pool stay.
+  -- each job makes a step at a moment, and so many end
   abbrev pub StepsJobs : (J → Moment → Poll O → J → Type 0) → Moment → Runner J S Z K R L O A j s z k l → Runner J S Z K R L O A j s z k l → ℕ → Type 0
-  StepsJobs polls moment runner runner' ended =
-      StepsEach GivesBack polls PollsGet moment (jobs_in runner) (jobs_in runner') ended
-      × (driver_of runner' ≡ driver_of runner) × (next_id runner' ≡ next_id runner) × (pool_of runner' ≡ pool_of runner)
-
-  -- a turn of a runner: its driver's, and then a step of each job
-  abbrev pub TurnsRunner : (J → Moment → Poll O → J → Type 0) → Moment → Runner J S Z K R L O A j s z k l → Runner J S Z K R L O A j s z k l → ℕ → Type 0
-  TurnsRunner polls moment runner runner' ended =
-      (driven : Runner J S Z K R L O A j s z k l) × TurnsIts moment runner driven × StepsJobs polls moment driven runner' ended
+  StepsJobs polls moment runner runner' ended = StepsEach polls PollsGet moment (jobs_in runner) (jobs_in runner') ended

@@ -2,7 +2,6 @@
 ghost use Rattle.std.specs.Prelude.{◌≡◌, ◌<◌, ℕ, true, Some, None, IfSome, IfNone, OnSome};
 ghost use Rattle.std.specs.List.{slice_index_or, remove};
 ghost use Rattle.std.specs.VecDeque.{deque_len};
-ghost use Rattle.slots.specs.Turns.{CancelsEach};
 ghost use Rattle.slots.specs.Entries.{is_ended, phase_in, phase_of, place_of, outcome_of, left_after, running, without};
 
 use crate::job::{Outcome, Phase};
@@ -95,32 +94,5 @@ pub(crate) fn take_ended<J: Drop, O: Drop, G: Drop>(
             },
         ) => Some(outcome),
         _ => unreachable!(),
-    }
-}
-
-/// A get that can be let go.
-pub(crate) trait LetGo {
-    // Holds of a get that was let go.
-    ghost goes: { Self → Type 0 };
-
-    /// Lets it go.
-    fn let_go(self)
-        ensures { goes self };
-}
-
-/// Lets jobs go, in their order, and the gets of those that wait.
-pub(crate) fn let_all_go<J: Drop, O: Drop, G: LetGo + Drop>(entries: VecDeque<JobEntry<J, O, G>>)
-    ensures { CancelsEach G.goes entries.items }
-{
-    let mut entries = entries;
-    while let Some(JobEntry { id: _, place }) = entries.pop_front() {
-        match place {
-            JobPlace::Waiting(job, get) => {
-                get.let_go();
-                drop(job);
-            }
-            JobPlace::Running(job) => drop(job),
-            JobPlace::Ended(outcome) => drop(outcome),
-        }
     }
 }

@@ -1,19 +1,17 @@
 //! A runner of jobs over a pool of slots.
-ghost use Rattle.std.specs.Prelude.{◌≡◌, ◌≤◌, ◌+◌, ℕ, [], None, IfOk, OnOk, IfErr, OnErr, OnSome};
-ghost use Rattle.futures.specs.Task.{Keeps};
-ghost use Rattle.bb8_types.specs.declared.api.moments.Moment.{Moment as MomentOf};
+ghost use Rattle.std.specs.Prelude.{◌≡◌, ◌≤◌, ◌+◌, [], None, IfOk, OnOk, IfErr, OnErr, OnSome};
 ghost use Rattle.bb8.specs.GuardLists.{most_in, number_in};
 ghost use Rattle.bb8.specs.Pools.{settings_in};
 ghost use Rattle.slots.specs.Entries.{ids, left_after, outcome_of, phase_of, place_of, running, AreIds, AreIds-prop};
 
-use crate::entries::{JobEntry, JobPlace, let_all_go, phase_at, take_ended};
+use crate::entries::{JobEntry, JobPlace, phase_at, take_ended};
 use crate::job::{Job, Outcome, Phase};
 use crate::slot::{Slot, SlotManager};
 use crate::stepping::{Get, SlotGuards};
 use crate::turning::StepsAll;
 use bb8::{
     Clock, CustomizeConnection, Driver, DriverCalls, ErrorSink, Gets, Guards, GuardsCalls, Locks,
-    Memory, Moment, Parts, Pool,
+    Memory, Moment, Parts, Pool, PoolCalls,
 };
 use futures::task::Context;
 use std::alloc::Global;
@@ -65,60 +63,9 @@ impl<
             pool: _,
             next: _,
         } = self;
-        let_all_go(entries);
+        drop(entries);
         drop(guards);
         drop(driver);
-    }
-}
-
-/// What a turn is made of, as methods of an impl, so that others can call them.
-trait Turned {
-    // Holds of a runner, the moment of a turn of its driver, and the runner then.
-    ghost drives: { Self → MomentOf → Self → Type 0 };
-
-    // Holds of a runner, the moment of a step of each job, the runner then, and how many jobs ended.
-    ghost steps: { Self → MomentOf → Self → ℕ → Type 0 };
-
-    /// The driver's turn.
-    fn drive(&mut self, moment: Moment)
-        ensures { drives self.old moment self.new };
-
-    /// One step of each job. How many ended.
-    fn step_jobs(&mut self, moment: Moment, cx: &mut Context<'_>) -> u64
-        ensures steps { steps self.old moment self.new result }
-        ensures kept { Keeps cx.old cx.new };
-}
-
-/// The driver's turn, and then one step of each job. How many ended.
-fn turn<X: Turned>(runner: &mut X, moment: Moment, cx: &mut Context<'_>) -> u64
-    ensures chain { (x : X) × X.drives runner.old moment x × X.steps x moment runner.new result }
-    ensures kept { Keeps cx.old cx.new }
-{
-    runner.drive(moment);
-    runner.step_jobs(moment, cx)
-}
-
-impl<
-    'a,
-    J: Job,
-    S: ErrorSink<Infallible>,
-    Z: CustomizeConnection<Slot, Infallible>,
-    K: Clock,
-    R: Wait + Send + Sync + Drop + 'static,
-    L: Parts,
-> Turned for Runner<'a, J, S, Z, K, R, L> {
-    ghost use Rattle.slots.specs.Runners.{StepsJobs, TurnsIts};
-
-    ghost drives = { λ runner moment after. TurnsIts moment runner after };
-
-    ghost steps = { λ runner moment after ended. StepsJobs J.polls moment runner after ended };
-
-    fn drive(&mut self, moment: Moment) {
-        let _ = self.driver.turn(moment);
-    }
-
-    fn step_jobs(&mut self, moment: Moment, cx: &mut Context<'_>) -> u64 {
-        self.guards.step_each(&mut self.entries, moment, cx)
     }
 }
 
@@ -192,7 +139,8 @@ impl<
     R: Wait + Send + Sync + Drop + 'static,
     L: Parts,
 > RunnerCalls for Runner<'a, J, S, Z, K, R, L> {
-    ghost use Rattle.slots.specs.Runners.{jobs_in, most_running, next_id, pool_of, running_in, TakesJobOn, TurnsRunner};
+    ghost use Rattle.futures.specs.Task.{Keeps};
+    ghost use Rattle.slots.specs.Runners.{jobs_in, most_running, next_id, pool_of, running_in, StepsJobs, TakesJobOn, TurnsIts};
 
     type Job = J;
 
@@ -221,12 +169,14 @@ impl<
     }
 
     fn turn(&mut self, moment: Moment, cx: &mut Context<'_>) -> u64
-        ensures chain { TurnsRunner J.polls moment self.old self.new result }
+        ensures driver { TurnsIts moment self.old self.new }
+        ensures steps { StepsJobs J.polls moment self.old self.new result }
         ensures next { next_id self.new ≡ next_id self.old }
         ensures pool { pool_of self.new ≡ pool_of self.old }
         ensures kept { Keeps cx.old cx.new }
     {
-        turn(self, moment, cx)
+        let _ = self.driver.turn(moment);
+        self.guards.step_each(&mut self.entries, moment, cx)
     }
 
     fn phase(&self, id: u64) -> Option<Phase>

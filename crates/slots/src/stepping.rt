@@ -4,11 +4,9 @@ ghost use Rattle.futures.specs.Task.{Keeps};
 ghost use Rattle.bb8.specs.Gets.{PollsGet};
 ghost use Rattle.bb8.specs.GuardLists.{number_in, AreOfOne};
 ghost use Rattle.slots.specs.Entries.{guards_for};
-ghost use Rattle.slots.specs.Guards.{GivesBack};
-ghost use Rattle.slots.specs.Turns.{StepsGet, JobSteps};
-ghost use Rattle.slots.specs.declared.entries.JobPlace.TheVariants.{Running};
+ghost use Rattle.slots.specs.Turns.{StepsJob, StepsGet, JobSteps};
 
-use crate::entries::{JobPlace, LetGo};
+use crate::entries::JobPlace;
 use crate::job::{Job, Outcome};
 use crate::slot::{Slot, SlotManager};
 use bb8::{
@@ -32,22 +30,6 @@ pub(crate) struct Stepped<J, O, G> {
     pub(crate) place: JobPlace<J, O, G>,
     /// Whether it ended by it: 1 where it did, else 0.
     pub(crate) ended: u64,
-}
-
-impl<
-    S: ErrorSink<Infallible>,
-    Z: CustomizeConnection<Slot, Infallible>,
-    K: Clock,
-    R: Locks,
-    L: Parts,
-> LetGo for Get<'_, S, Z, K, R, L> {
-    ghost use Rattle.bb8.specs.Gets.{CancelsGet};
-
-    ghost goes = { λ get. CancelsGet get };
-
-    fn let_go(self) {
-        drop(self);
-    }
 }
 
 /// The steps of a job beside the guards of all that run, as methods of an impl, so that methods of others can call them.
@@ -77,8 +59,7 @@ impl<
     L: Parts,
 > StepsOne<J, J::Out, Get<'a, S, Z, K, R, L>> for SlotGuards<'a, S, Z, K, R, L> {
     fn step_job(&mut self, job: J, now: Moment) -> Stepped<J, J::Out, Get<'a, S, Z, K, R, L>>
-        ensures steps { 0 < number_in self.old
-            → JobSteps GivesBack J.polls PollsGet now (Running job) result.place result.ended }
+        ensures steps { StepsJob J.polls now job result.place result.ended }
         ensures held { 0 < number_in self.old
             → number_in self.new + 1 ≡ number_in self.old + guards_for result.place }
         ensures pool { AreOfOne self.new self.old }
@@ -91,9 +72,7 @@ impl<
                 ended: 0,
             },
             Poll::Ready(out) => {
-                if let Some(guard) = self.remove(0) {
-                    drop(guard);
-                }
+                drop(self.remove(0));
                 Stepped {
                     place: JobPlace::Ended(Outcome::Done(out)),
                     ended: 1,
@@ -108,7 +87,7 @@ impl<
         get: Get<'a, S, Z, K, R, L>,
         cx: &mut Context<'_>,
     ) -> Stepped<J, J::Out, Get<'a, S, Z, K, R, L>>
-        ensures steps { StepsGet GivesBack PollsGet job get.entry result.place
+        ensures steps { StepsGet PollsGet job get.entry result.place
             result.ended }
         ensures held { number_in self.new ≡ number_in self.old + guards_for result.place }
         ensures pool { AreOfOne self.new self.old }
@@ -130,13 +109,10 @@ impl<
                     place: JobPlace::Running(job),
                     ended: 0,
                 },
-                Err(unkept) => {
-                    drop(unkept);
-                    Stepped {
-                        place: JobPlace::Ended(Outcome::Refused(RunError::Memory)),
-                        ended: 1,
-                    }
-                }
+                Err(_guard) => Stepped {
+                    place: JobPlace::Ended(Outcome::Refused(RunError::Memory)),
+                    ended: 1,
+                },
             },
         }
     }
@@ -147,8 +123,8 @@ impl<
         now: Moment,
         cx: &mut Context<'_>,
     ) -> Stepped<J, J::Out, Get<'a, S, Z, K, R, L>>
-        ensures steps { guards_for place.entry ≤ number_in self.old
-            → JobSteps GivesBack J.polls PollsGet now place.entry result.place result.ended }
+        ensures steps { JobSteps J.polls PollsGet now place.entry result.place
+            result.ended }
         ensures held { guards_for place.entry ≤ number_in self.old
             → number_in self.new + guards_for place.entry
             ≡ number_in self.old + guards_for result.place }

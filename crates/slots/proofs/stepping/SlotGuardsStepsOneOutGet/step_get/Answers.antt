@@ -11,4 +11,4 @@ returns-in-Ok-clause-steps g c =
 
 pub returns-clause-steps : goal.returns-clause-steps
 returns-clause-steps g c =
-    (c.poll.result, c.poll.new.self, c.poll.ensures.table, rw (c.in-Ready-Ok.is, c.in-Ready-Ok.field-0-is) (inr (refl, refl, rw c.in-Err.ensures.refused at c.drop.ensures)))
+    (c.poll.result, c.poll.new.self, c.poll.ensures.table, rw (c.in-Ready-Ok.is, c.in-Ready-Ok.field-0-is) (inr (refl, refl)))
