@@ -88,7 +88,7 @@ def beside(folder):
     if fetched("tokio", [("futures-util", "0.3"), ("tokio", "1")], environment):
         pools.append("crate")
         lines.append('tokio = { version = "1", features = ["rt", "rt-multi-thread", "time"], optional = true }')
-        lines.append(f'bb8 = {{ path = "{TOP}/rust/bb8", package = "bb8-proved", optional = true }}')
+        lines.append(f'bb8 = {{ path = "{TOP}/rust/bb8", optional = true }}')
         folder = folder or fetched("original", [("bb8", f"={VERSION}")], environment)
         if folder and original(os.path.abspath(folder)):
             pools.append("original")
