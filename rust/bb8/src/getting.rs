@@ -2,8 +2,10 @@
 
 use crate::core::{kinds, Name};
 use crate::errors::RunError;
+use crate::lock::MutexGuard;
 use crate::managers::ManageConnection;
-use crate::pool::{Lent, Shared};
+use crate::pool::{Finally, Lent, Locked, Shared};
+use crate::waiters::Handed;
 use std::future::{pending, poll_fn, Future};
 use std::pin::pin;
 use std::sync::Arc;
@@ -31,6 +33,8 @@ pub(crate) struct Getting<'a, M: ManageConnection> {
     began: Instant,
     stage: Stage,
     get: Name,
+    /// Its seat, while it waits.
+    seat: Option<usize>,
     /// What it was handed.
     held: Option<Lent<M::Connection>>,
 }
@@ -42,6 +46,7 @@ impl<'a, M: ManageConnection> Getting<'a, M> {
             began: Instant::now(),
             stage: Stage::New,
             get: Name::default(),
+            seat: None,
             held: None,
         }
     }
@@ -61,6 +66,8 @@ impl<'a, M: ManageConnection> Getting<'a, M> {
         };
         if matches!(served, Err(RunError::TimedOut)) {
             self.end(true);
+            // It may have been served since its last try.
+            return self.held.take().ok_or(RunError::TimedOut);
         }
         served.map(|()| self.held.take().expect("what is served holds a connection"))
     }
@@ -90,14 +97,21 @@ impl<'a, M: ManageConnection> Getting<'a, M> {
             self.stage = Stage::Begun;
             told
         } else {
-            // Where a check follows, the moment of its end tells how long the get has waited.
-            let at = match self.shared.settings.test_on_check_out {
-                true => 0,
-                false => self.shared.now(),
-            };
+            let at = self.shared.try_now();
             locked = self.shared.lock();
+            if let Some(seat) = self.seat.filter(|seat| locked.waiters.is_handed(*seat)) {
+                self.seat = None;
+                let (handed, _) = locked.waiters.rise(seat);
+                return Poll::Ready(Ok(self.hold(locked, handed)));
+            }
             locked.core.try_get(at, self.get)
         };
+        // A waker that is dropped may call the pool, so it is dropped after the lock.
+        let mut old = None;
+        if let (Some(seat), false) = (self.seat, told.kind == kinds::WAITING) {
+            old = locked.waiters.rise(seat).1;
+            self.seat = None;
+        }
         let polled = match told.kind {
             kinds::SERVED => {
                 self.stage = Stage::Ended;
@@ -110,9 +124,16 @@ impl<'a, M: ManageConnection> Getting<'a, M> {
             }
             kinds::WAITING => {
                 self.stage = Stage::Waited;
-                match locked.waiters.keep(self.get, cx.waker()) {
-                    true => Poll::Pending,
-                    false => Poll::Ready(Err(RunError::Memory)),
+                match self.seat {
+                    Some(seat) => old = locked.waiters.stay(seat, cx.waker()),
+                    None => {
+                        let since = self.shared.moment(self.began);
+                        self.seat = locked.waiters.sit(self.get, cx.waker(), since);
+                    }
+                }
+                match self.seat {
+                    Some(_) => Poll::Pending,
+                    None => Poll::Ready(Err(RunError::Memory)),
                 }
             }
             kind => {
@@ -126,10 +147,27 @@ impl<'a, M: ManageConnection> Getting<'a, M> {
         };
         let due = locked.is_due(&told);
         drop(locked);
+        drop(old);
         if due {
             self.shared.open();
         }
         polled
+    }
+
+    /// Holds what it was handed; whether it was served by it.
+    fn hold(
+        &mut self,
+        mut locked: MutexGuard<'_, Locked<M::Connection>>,
+        handed: Option<Handed>,
+    ) -> bool {
+        let Some(handed) = handed else {
+            return false;
+        };
+        self.held = Some(locked.lend_from(handed.key, handed.place));
+        if handed.served {
+            self.stage = Stage::Ended;
+        }
+        handed.served
     }
 
     /// Whether what it holds passes its check; then the get has ended.
@@ -161,41 +199,65 @@ impl<'a, M: ManageConnection> Getting<'a, M> {
         };
         let broken = self.shared.manager.has_broken(&mut lent.conn);
         let Lent { conn, key, place } = lent;
-        // It is closed before the core gives its room away.
+        let (shared, get) = (self.shared, self.get);
+        // It is closed before the core gives its room away, and that is told the core also where its
+        // drop panics.
+        let told = Finally(Some(|| {
+            let at = shared.now();
+            let mut locked = shared.lock();
+            let told = locked
+                .core
+                .checked_err(at, get, place as u64, broken, key.place);
+            debug_assert_eq!(told.kind, kinds::CLOSED);
+            locked.shelf.free(place);
+            shared.settle(locked, at, &told, None);
+        }));
         drop(conn);
-        let at = self.shared.now();
-        let mut locked = self.shared.lock();
-        let told = locked
-            .core
-            .checked_err(at, self.get, place as u64, broken, key.place);
-        debug_assert_eq!(told.kind, kinds::CLOSED);
-        locked.shelf.free(place);
-        self.shared.settle(locked, &told, None);
+        drop(told);
         self.shared.forward(error);
     }
 
-    /// Ends without a connection.
+    /// Ends without a connection, unless it was served since its last try: then it holds that.
     fn end(&mut self, timed_out: bool) {
-        self.stage = Stage::Ended;
-        let Some(mut lent) = self.held.take() else {
+        if self.held.is_none() {
             let at = self.shared.now();
             let mut locked = self.shared.lock();
-            let waker = locked.waiters.take(self.get);
-            let told = locked.core.give_up(at, self.get, timed_out);
-            self.shared.settle(locked, &told, None);
-            drop(waker);
+            let seat = self.seat.take();
+            let (handed, waker) = seat.map_or((None, None), |seat| locked.waiters.rise(seat));
+            if handed.is_none() {
+                self.stage = Stage::Ended;
+                let told = locked.core.give_up(at, self.get, timed_out);
+                self.shared.settle(locked, at, &told, None);
+                drop(waker);
+                return;
+            }
+            if self.hold(locked, handed) {
+                return;
+            }
+        }
+        self.stage = Stage::Ended;
+        let Some(mut lent) = self.held.take() else {
             return;
         };
         let broken = self.shared.manager.has_broken(&mut lent.conn);
         let Lent { conn, key, place } = lent;
-        let conn = (!broken).then_some(conn);
-        let at = self.shared.now();
-        let mut locked = self.shared.lock();
-        let told =
-            locked
-                .core
-                .give_up_held(at, self.get, timed_out, place as u64, broken, key.place);
-        self.shared.shelve(locked, &told, place, conn);
+        let (shared, get) = (self.shared, self.get);
+        let hand_in = |conn| {
+            let at = shared.now();
+            let mut locked = shared.lock();
+            let told =
+                locked
+                    .core
+                    .give_up_held(at, get, timed_out, place as u64, broken, key.place);
+            shared.shelve(locked, at, &told, place, conn);
+        };
+        if broken {
+            // As in `close`.
+            let _last = Finally(Some(|| hand_in(None)));
+            drop(conn);
+            return;
+        }
+        hand_in(Some(conn));
     }
 }
 
@@ -203,6 +265,10 @@ impl<M: ManageConnection> Drop for Getting<'_, M> {
     fn drop(&mut self) {
         if !matches!(self.stage, Stage::New | Stage::Ended) {
             self.end(false);
+        }
+        // It was served, and nobody comes for that.
+        if let Some(lent) = self.held.take() {
+            self.shared.put_back(lent);
         }
     }
 }

@@ -88,7 +88,8 @@ impl<M: ManageConnection> Opening<M> {
         let at = self.shared.now();
         let mut locked = self.shared.lock();
         let told = locked.core.opened(at, self.approval, self.place as u64);
-        self.shared.shelve(locked, &told, self.place, Some(conn));
+        self.shared
+            .shelve(locked, at, &told, self.place, Some(conn));
     }
 
     fn give_back(&mut self) {

@@ -10,7 +10,7 @@ use crate::lock::{Mutex, MutexGuard};
 use crate::managers::ManageConnection;
 use crate::opening::Opening;
 use crate::shelf::Shelf;
-use crate::waiters::Waiters;
+use crate::waiters::{Handed, Waiters};
 use futures_util::stream::{FuturesUnordered, StreamExt};
 use std::fmt;
 use std::sync::{Arc, Weak};
@@ -18,6 +18,17 @@ use std::task::Waker;
 use std::time::Duration;
 use tokio::runtime::Handle;
 use tokio::time::{interval_at, Instant, Interval, MissedTickBehavior};
+
+/// Does something at the end of a scope, also of one that a panic leaves.
+pub(crate) struct Finally<F: FnOnce()>(pub(crate) Option<F>);
+
+impl<F: FnOnce()> Drop for Finally<F> {
+    fn drop(&mut self) {
+        if let Some(last) = self.0.take() {
+            last();
+        }
+    }
+}
 
 /// A connection that is lent, its name in the core, and its place on the shelf.
 pub(crate) struct Lent<C> {
@@ -36,19 +47,39 @@ pub(crate) struct Locked<C> {
 }
 
 impl<C> Locked<C> {
-    /// The waker of the get that a step notified.
-    #[inline]
-    pub(crate) fn waker(&mut self, told: &Told) -> Option<Waker> {
-        self.waiters.take(told.notified()?)
+    /// Has a get that was notified try at once, under the lock of the step that notified it, so that
+    /// no other comes between. The answer is its waker, where it was handed a connection, and whether
+    /// connections are to be opened. Where none is idle it waits on, and is not woken.
+    fn hand_over(&mut self, at: u64, get: Name, seat: usize) -> (Option<Waker>, bool) {
+        let told = self.core.try_get(at, get);
+        let waker = match told.kind {
+            kinds::SERVED | kinds::TAKEN => self.waiters.hand(
+                seat,
+                Handed {
+                    key: told.key,
+                    place: told.shelved(),
+                    served: told.kind == kinds::SERVED,
+                },
+            ),
+            kind => {
+                debug_assert_eq!(kind, kinds::WAITING);
+                None
+            }
+        };
+        (waker, told.granted.count > 0)
     }
 
     /// Takes the connection that a step handed out.
     #[inline]
     pub(crate) fn lend(&mut self, told: &Told) -> Lent<C> {
-        let place = told.shelved();
+        self.lend_from(told.key, told.shelved())
+    }
+
+    #[inline]
+    pub(crate) fn lend_from(&mut self, key: Name, place: usize) -> Lent<C> {
         Lent {
             conn: self.shelf.take(place),
-            key: told.key,
+            key,
             place,
         }
     }
@@ -78,8 +109,11 @@ pub(crate) struct Shared<M: ManageConnection> {
     pub(crate) manager: M,
     /// The moment from which the core's moments count.
     started: Instant,
-    /// Whether an age is limited, so that the core needs to know when something becomes idle.
-    has_limits: bool,
+    /// Whether what comes back needs the moment: an age is limited, so that the core needs to know
+    /// when something becomes idle, or it is to be told how long a get has waited.
+    needs_moment: bool,
+    /// After which wait a get is handed a connection.
+    fair_after: Option<u64>,
     locked: Mutex<Locked<M::Connection>>,
 }
 
@@ -98,10 +132,10 @@ impl<M: ManageConnection> Shared<M> {
         self.moment(Instant::now())
     }
 
-    /// The moment of a step that needs one only where an age is limited.
+    /// The moment at which a connection comes back.
     #[inline]
-    fn age_now(&self) -> u64 {
-        if self.has_limits {
+    fn back_now(&self) -> u64 {
+        if self.needs_moment {
             self.now()
         } else {
             0
@@ -120,25 +154,61 @@ impl<M: ManageConnection> Shared<M> {
         Ok(conn)
     }
 
-    /// Unlocks after a step, drops what it closed, has opened what it granted, and wakes whom it
-    /// notified.
+    /// The moment of a try: where a check follows, that of its end tells how long the get has waited.
+    pub(crate) fn try_now(&self) -> u64 {
+        match self.settings.test_on_check_out {
+            true => 0,
+            false => self.now(),
+        }
+    }
+
+    /// What follows for a get that was notified: whom to wake, and whether connections are to be opened.
+    #[cold]
+    fn notify(
+        &self,
+        locked: &mut Locked<M::Connection>,
+        at: u64,
+        get: Name,
+    ) -> (Option<Waker>, bool) {
+        // Where memory for a seat was refused it gives up, and its notification goes to another.
+        let Some(seat) = locked.waiters.seat(get) else {
+            return (None, false);
+        };
+        match self.fair_after {
+            Some(wait) if at.saturating_sub(locked.waiters.since(seat)) >= wait => {
+                locked.hand_over(at, get, seat)
+            }
+            _ => (locked.waiters.waker(seat), false),
+        }
+    }
+
+    /// Unlocks after a step at this moment, drops what it closed, has opened what it granted, and wakes whom it
+    /// notified, or hands it a connection first.
     #[inline]
     pub(crate) fn settle(
         self: &Arc<Self>,
         mut locked: MutexGuard<'_, Locked<M::Connection>>,
+        at: u64,
         told: &Told,
         closed: Option<M::Connection>,
     ) {
-        let waker = locked.waker(told);
-        let due = locked.is_due(told);
+        let mut due = locked.is_due(told);
+        let mut waker = None;
+        if let Some(get) = told.notified() {
+            let (woken, more) = self.notify(&mut locked, at, get);
+            waker = woken;
+            due |= more;
+        }
         drop(locked);
+        let _last = Finally(Some(|| {
+            if due {
+                self.open();
+            }
+            if let Some(waker) = waker {
+                waker.wake();
+            }
+        }));
         drop(closed);
-        if due {
-            self.open();
-        }
-        if let Some(waker) = waker {
-            waker.wake();
-        }
     }
 
     /// The same after a step to which a connection was handed in, if it is not closed already: at its
@@ -147,6 +217,7 @@ impl<M: ManageConnection> Shared<M> {
     pub(crate) fn shelve(
         self: &Arc<Self>,
         mut locked: MutexGuard<'_, Locked<M::Connection>>,
+        at: u64,
         told: &Told,
         place: usize,
         conn: Option<M::Connection>,
@@ -162,7 +233,40 @@ impl<M: ManageConnection> Shared<M> {
                 conn
             }
         };
-        self.settle(locked, told, closed);
+        self.settle(locked, at, told, closed);
+    }
+
+    /// Takes a connection back that was lent.
+    #[inline]
+    pub(crate) fn put_back(self: &Arc<Self>, lent: Lent<M::Connection>) {
+        let Lent {
+            mut conn,
+            key,
+            place,
+        } = lent;
+        let broken = self.manager.has_broken(&mut conn);
+        if broken {
+            // It is closed before the core gives its room away, and that is told the core also where
+            // its drop panics.
+            let _last = Finally(Some(|| self.take_back(key, place, true, None)));
+            drop(conn);
+            return;
+        }
+        self.take_back(key, place, false, Some(conn));
+    }
+
+    #[inline(always)]
+    fn take_back(
+        self: &Arc<Self>,
+        key: Name,
+        place: usize,
+        broken: bool,
+        conn: Option<M::Connection>,
+    ) {
+        let at = self.back_now();
+        let mut locked = self.lock();
+        let told = locked.core.put_back(at, key, place as u64, broken);
+        self.shelve(locked, at, &told, place, conn);
     }
 
     /// Has connections opened for all approvals that are unclaimed, each by a task of its own.
@@ -239,10 +343,11 @@ impl<M: ManageConnection> PoolInner<M> {
         let has_limits = settings.max_lifetime.is_some() || settings.idle_timeout.is_some();
         let rate = settings.reaper_rate;
         let shared = Arc::new(Shared {
+            needs_moment: has_limits || settings.fair_after.is_some(),
+            fair_after: settings.fair_after.map(nanoseconds),
             settings,
             manager,
             started,
-            has_limits,
             locked: Mutex::new(Locked {
                 core: core.expect("there is memory for a pool"),
                 shelf: Shelf::new(),
@@ -323,20 +428,9 @@ impl<M: ManageConnection> PoolInner<M> {
     }
 
     /// Takes a connection back that was lent.
+    #[inline]
     pub(crate) fn put_back(&self, lent: Lent<M::Connection>) {
-        let shared = self.shared();
-        let Lent {
-            mut conn,
-            key,
-            place,
-        } = lent;
-        let broken = shared.manager.has_broken(&mut conn);
-        // A broken connection is closed before the core gives its room away.
-        let conn = (!broken).then_some(conn);
-        let at = shared.age_now();
-        let mut locked = shared.lock();
-        let told = locked.core.put_back(at, key, place as u64, broken);
-        shared.shelve(locked, &told, place, conn);
+        self.shared().put_back(lent);
     }
 
     pub(crate) fn add(&self, mut conn: M::Connection) -> Result<(), AddError<M::Connection>> {
@@ -353,7 +447,7 @@ impl<M: ManageConnection> PoolInner<M> {
         let told = locked.core.add(at, place as u64, broken);
         if told.kind == kinds::ADDED {
             locked.shelf.put(place, conn);
-            shared.settle(locked, &told, None);
+            shared.settle(locked, at, &told, None);
             return Ok(());
         }
         locked.shelf.free(place);
