@@ -1,11 +1,10 @@
 //! One get: it begins, tries, waits, checks what it was handed, and ends.
 
-use crate::core::{kinds, Name};
+use crate::core::{Core, Kind, Name};
 use crate::errors::RunError;
-use crate::lock::MutexGuard;
 use crate::managers::ManageConnection;
-use crate::pool::{Finally, Lent, Locked, Shared};
-use crate::waiters::Handed;
+use crate::pool::{Lent, Locked, Shared};
+use crate::waiters::{Handed, Waiter};
 use std::future::{pending, poll_fn, Future};
 use std::pin::pin;
 use std::sync::Arc;
@@ -33,8 +32,6 @@ pub(crate) struct Getting<'a, M: ManageConnection> {
     began: Instant,
     stage: Stage,
     get: Name,
-    /// Its seat, while it waits.
-    seat: Option<usize>,
     /// What it was handed.
     held: Option<Lent<M::Connection>>,
 }
@@ -46,7 +43,6 @@ impl<'a, M: ManageConnection> Getting<'a, M> {
             began: Instant::now(),
             stage: Stage::New,
             get: Name::default(),
-            seat: None,
             held: None,
         }
     }
@@ -88,66 +84,51 @@ impl<'a, M: ManageConnection> Getting<'a, M> {
 
     /// Ready once it holds a connection: whether it is served, or is to check it first.
     fn try_get(&mut self, cx: &mut Context<'_>) -> Poll<Result<bool, RunError<M::Error>>> {
+        // A waker is cloned and dropped outside the lock: that runs code of others.
+        let mut waker = Some(cx.waker().clone());
+        let _had;
         let mut locked;
         let told = if self.stage == Stage::New {
             let at = self.shared.moment(self.began);
             locked = self.shared.lock();
-            let told = locked.core.get(at);
-            self.get = told.get;
-            self.stage = Stage::Begun;
-            told
+            locked.core.get(at)
         } else {
-            let at = self.shared.try_now();
+            // Where a check follows, the moment of its end tells how long the get has waited.
+            let checks = self.shared.settings.test_on_check_out;
+            let at = if checks { 0 } else { self.shared.now() };
             locked = self.shared.lock();
-            if let Some(seat) = self.seat.filter(|seat| locked.waiters.is_handed(*seat)) {
-                self.seat = None;
-                let (handed, _) = locked.waiters.rise(seat);
-                return Poll::Ready(Ok(self.hold(locked, handed)));
+            let had = locked.waiters.take(self.get);
+            if let Some(Waiter::Handed(handed)) = had {
+                return Poll::Ready(Ok(self.hold(&mut locked, &handed)));
             }
+            _had = had;
             locked.core.try_get(at, self.get)
         };
-        // A waker that is dropped may call the pool, so it is dropped after the lock.
-        let mut old = None;
-        if let (Some(seat), false) = (self.seat, told.kind == kinds::WAITING) {
-            old = locked.waiters.rise(seat).1;
-            self.seat = None;
+        let kind = told.kind();
+        if self.stage == Stage::New {
+            self.get = told.get;
+            self.stage = Stage::Begun;
         }
-        let polled = match told.kind {
-            kinds::SERVED => {
-                self.stage = Stage::Ended;
-                self.held = Some(locked.lend(&told));
-                Poll::Ready(Ok(true))
+        let polled = match kind {
+            Kind::Served | Kind::Taken => {
+                let handed = Handed::of(&told);
+                Poll::Ready(Ok(self.hold(&mut locked, &handed)))
             }
-            kinds::TAKEN => {
-                self.held = Some(locked.lend(&told));
-                Poll::Ready(Ok(false))
-            }
-            kinds::WAITING => {
+            Kind::Waiting => {
                 self.stage = Stage::Waited;
-                match self.seat {
-                    Some(seat) => old = locked.waiters.stay(seat, cx.waker()),
-                    None => {
-                        let since = self.shared.moment(self.began);
-                        self.seat = locked.waiters.sit(self.get, cx.waker(), since);
-                    }
-                }
-                match self.seat {
-                    Some(_) => Poll::Pending,
-                    None => Poll::Ready(Err(RunError::Memory)),
+                let since = self.shared.moment(self.began);
+                if locked.waiters.wait(self.get, since, &mut waker) {
+                    Poll::Pending
+                } else {
+                    Poll::Ready(Err(RunError::Memory))
                 }
             }
-            kind => {
-                debug_assert!(matches!(kind, kinds::MEMORY | kinds::EXHAUSTED));
-                self.stage = Stage::Ended;
-                Poll::Ready(Err(match kind {
-                    kinds::EXHAUSTED => RunError::Exhausted,
-                    _ => RunError::Memory,
-                }))
-            }
+            Kind::Memory => self.refuse(RunError::Memory),
+            Kind::Exhausted => self.refuse(RunError::Exhausted),
+            kind => unreachable!("{kind:?} is no answer to a get"),
         };
         let due = locked.is_due(&told);
         drop(locked);
-        drop(old);
         if due {
             self.shared.open();
         }
@@ -155,19 +136,19 @@ impl<'a, M: ManageConnection> Getting<'a, M> {
     }
 
     /// Holds what it was handed; whether it was served by it.
-    fn hold(
-        &mut self,
-        mut locked: MutexGuard<'_, Locked<M::Connection>>,
-        handed: Option<Handed>,
-    ) -> bool {
-        let Some(handed) = handed else {
-            return false;
-        };
-        self.held = Some(locked.lend_from(handed.key, handed.place));
+    #[inline]
+    fn hold(&mut self, locked: &mut Locked<M::Connection>, handed: &Handed) -> bool {
+        self.held = Some(locked.lend(handed));
         if handed.served {
             self.stage = Stage::Ended;
         }
         handed.served
+    }
+
+    /// Ends, as it could not begin.
+    fn refuse<T>(&mut self, error: RunError<M::Error>) -> Poll<Result<T, RunError<M::Error>>> {
+        self.stage = Stage::Ended;
+        Poll::Ready(Err(error))
     }
 
     /// Whether what it holds passes its check; then the get has ended.
@@ -180,13 +161,11 @@ impl<'a, M: ManageConnection> Getting<'a, M> {
             return false;
         }
         // The moment counts only for the time that a get has waited.
-        let at = match self.stage {
-            Stage::Waited => self.shared.now(),
-            _ => 0,
-        };
+        let waited = self.stage == Stage::Waited;
+        let at = if waited { self.shared.now() } else { 0 };
         let hint = lent.key.place;
         let told = self.shared.lock().core.checked_ok(at, self.get, hint);
-        debug_assert_eq!(told.kind, kinds::SERVED);
+        told.assert(Kind::Served);
         self.stage = Stage::Ended;
         lent.key = told.key;
         true
@@ -194,26 +173,14 @@ impl<'a, M: ManageConnection> Getting<'a, M> {
 
     /// Closes what it holds, whose check has failed.
     fn close(&mut self, error: M::Error) {
-        let Some(mut lent) = self.held.take() else {
+        let Some(lent) = self.held.take() else {
             return;
         };
-        let broken = self.shared.manager.has_broken(&mut lent.conn);
-        let Lent { conn, key, place } = lent;
-        let (shared, get) = (self.shared, self.get);
-        // It is closed before the core gives its room away, and that is told the core also where its
-        // drop panics.
-        let told = Finally(Some(|| {
-            let at = shared.now();
-            let mut locked = shared.lock();
-            let told = locked
-                .core
-                .checked_err(at, get, place as u64, broken, key.place);
-            debug_assert_eq!(told.kind, kinds::CLOSED);
-            locked.shelf.free(place);
-            shared.settle(locked, at, &told, None);
-        }));
-        drop(conn);
-        drop(told);
+        let get = self.get;
+        let step = |core: &mut Core, at, key: Name, conn, broken| {
+            core.checked_err(at, get, conn, broken, key.place)
+        };
+        self.shared.take_back(lent, false, Shared::now, step);
         self.shared.forward(error);
     }
 
@@ -221,43 +188,28 @@ impl<'a, M: ManageConnection> Getting<'a, M> {
     fn end(&mut self, timed_out: bool) {
         if self.held.is_none() {
             let at = self.shared.now();
+            let had;
             let mut locked = self.shared.lock();
-            let seat = self.seat.take();
-            let (handed, waker) = seat.map_or((None, None), |seat| locked.waiters.rise(seat));
-            if handed.is_none() {
+            had = locked.waiters.take(self.get);
+            let Some(Waiter::Handed(handed)) = had else {
                 self.stage = Stage::Ended;
                 let told = locked.core.give_up(at, self.get, timed_out);
+                told.assert(Kind::GaveUp);
                 self.shared.settle(locked, at, &told, None);
-                drop(waker);
                 return;
-            }
-            if self.hold(locked, handed) {
+            };
+            if self.hold(&mut locked, &handed) {
                 return;
             }
         }
         self.stage = Stage::Ended;
-        let Some(mut lent) = self.held.take() else {
-            return;
-        };
-        let broken = self.shared.manager.has_broken(&mut lent.conn);
-        let Lent { conn, key, place } = lent;
-        let (shared, get) = (self.shared, self.get);
-        let hand_in = |conn| {
-            let at = shared.now();
-            let mut locked = shared.lock();
-            let told =
-                locked
-                    .core
-                    .give_up_held(at, get, timed_out, place as u64, broken, key.place);
-            shared.shelve(locked, at, &told, place, conn);
-        };
-        if broken {
-            // As in `close`.
-            let _last = Finally(Some(|| hand_in(None)));
-            drop(conn);
-            return;
+        if let Some(lent) = self.held.take() {
+            let get = self.get;
+            let step = |core: &mut Core, at, key: Name, conn, broken| {
+                core.give_up_held(at, get, timed_out, conn, broken, key.place)
+            };
+            self.shared.take_back(lent, true, Shared::now, step);
         }
-        hand_in(Some(conn));
     }
 }
 

@@ -1,129 +1,131 @@
-//! The seats of the gets that wait: in each its waker, or what it was handed.
+//! The gets that wait: of each its waker, or the connection that it was handed.
 //!
-//! A get has its seat until it comes for what it was handed, or ends. The core may know nothing of it
-//! any more by then, and keep its place for another get, so a seat is no place of the core.
+//! A get stands here under its number, which no other get ever has, until it tries again, comes for
+//! what it was handed, or ends. The core may know nothing of it any more by then.
 
-use crate::core::Name;
+use crate::core::{Kind, Name, Told};
+use std::collections::HashMap;
+use std::hash::{BuildHasherDefault, Hasher};
 use std::mem;
 use std::task::Waker;
 
 /// A connection that was handed to a get. It stands on the shelf until the get comes for it.
 pub(crate) struct Handed {
-    /// Its name in the core, and its place on the shelf.
+    /// Its name in the core.
     pub(crate) key: Name,
+    /// Its place on the shelf.
     pub(crate) place: usize,
     /// Whether the get was served by it; else it is to be checked first.
     pub(crate) served: bool,
 }
 
-enum Seat {
-    /// The next free seat, or none.
-    Free(Option<usize>),
-    /// A get that waits: its waker, if it was not woken yet, and the moment since which it waits.
-    Waits(Option<Waker>, u64),
+impl Handed {
+    /// What a step handed out.
+    #[inline]
+    pub(crate) fn of(told: &Told) -> Self {
+        Handed {
+            key: told.key,
+            place: told.shelved(),
+            served: told.is(Kind::Served),
+        }
+    }
+}
+
+/// What stands here for a get.
+pub(crate) enum Waiter {
+    /// The moment since which it waits, and its waker, until it is woken.
+    Waits(u64, Option<Waker>),
+    /// What it was handed.
     Handed(Handed),
 }
 
-/// No get has this number.
-const NOBODY: (u64, usize) = (u64::MAX, 0);
+/// Spreads the numbers of gets. They are given in turn, so nobody can choose them to meet.
+#[derive(Default)]
+pub(crate) struct Spread(u64);
 
-/// The seats of one pool.
+impl Hasher for Spread {
+    fn write(&mut self, _: &[u8]) {
+        unreachable!("only numbers are spread");
+    }
+
+    fn write_u64(&mut self, number: u64) {
+        self.0 = number.wrapping_mul(0x9E37_79B9_7F4A_7C15);
+    }
+
+    fn finish(&self) -> u64 {
+        self.0
+    }
+}
+
+/// The gets of one pool that wait.
 pub(crate) struct Waiters {
-    seats: Vec<Seat>,
-    free: Option<usize>,
-    /// The number and the seat of each get that waits, at the place that the core keeps for it.
-    places: Vec<(u64, usize)>,
+    gets: HashMap<u64, Waiter, BuildHasherDefault<Spread>>,
 }
 
 impl Waiters {
-    pub(crate) const fn new() -> Self {
+    /// For so many gets memory is kept when none is left.
+    const KEPT: usize = 64;
+
+    pub(crate) fn new() -> Self {
         Waiters {
-            seats: Vec::new(),
-            free: None,
-            places: Vec::new(),
+            gets: HashMap::default(),
         }
     }
 
-    /// Gives a seat to a get that waits since then; none where memory is refused.
-    pub(crate) fn sit(&mut self, get: Name, waker: &Waker, since: u64) -> Option<usize> {
-        if get.place >= self.places.len() {
-            let more = get.place + 1 - self.places.len();
-            self.places.try_reserve(more).ok()?;
-            self.places.resize(get.place + 1, NOBODY);
+    /// A get begins to wait, or waits on, and its waker is taken; false where memory is refused.
+    pub(crate) fn wait(&mut self, get: Name, since: u64, waker: &mut Option<Waker>) -> bool {
+        if self.gets.try_reserve(1).is_err() {
+            return false;
         }
-        // Where memory is refused now, it has no seat, and not the one that it may have had before.
-        self.places[get.place] = NOBODY;
-        let waits = Seat::Waits(Some(waker.clone()), since);
-        let seat = match self.free {
-            None => {
-                self.seats.try_reserve(1).ok()?;
-                self.seats.push(waits);
-                self.seats.len() - 1
-            }
-            Some(seat) => {
-                let Seat::Free(next) = mem::replace(&mut self.seats[seat], waits) else {
-                    unreachable!("the free seats are free");
-                };
-                self.free = next;
-                seat
-            }
-        };
-        self.places[get.place] = (get.number, seat);
-        Some(seat)
+        let waits = Waiter::Waits(since, waker.take());
+        self.gets.insert(get.number, waits);
+        true
     }
 
-    /// A get waits on. The waker that it had, if that is another one, is to be dropped outside the lock.
-    pub(crate) fn stay(&mut self, seat: usize, waker: &Waker) -> Option<Waker> {
-        match &mut self.seats[seat] {
-            Seat::Waits(Some(kept), _) if kept.will_wake(waker) => None,
-            Seat::Waits(kept, _) => kept.replace(waker.clone()),
-            _ => unreachable!("it was handed nothing"),
+    /// Takes what stands here for a get. A waker is to be dropped outside the lock: it may own a
+    /// task, and that a connection.
+    pub(crate) fn take(&mut self, get: Name) -> Option<Waiter> {
+        let taken = self.gets.remove(&get.number);
+        if self.gets.is_empty() && self.gets.capacity() > Self::KEPT {
+            self.gets = HashMap::default();
+        }
+        taken
+    }
+
+    /// Takes the waker of a get that was notified, which is to try again.
+    pub(crate) fn notify(&mut self, get: Name) -> Option<Waker> {
+        match self.take(get)? {
+            Waiter::Waits(_, waker) => waker,
+            Waiter::Handed(_) => unreachable!("who was handed something waits no more"),
         }
     }
 
-    /// Frees a seat. What it had is to be dropped outside the lock.
-    pub(crate) fn rise(&mut self, seat: usize) -> (Option<Handed>, Option<Waker>) {
-        let had = mem::replace(&mut self.seats[seat], Seat::Free(self.free));
-        self.free = Some(seat);
-        match had {
-            Seat::Handed(handed) => (Some(handed), None),
-            Seat::Waits(waker, _) => (None, waker),
-            Seat::Free(_) => unreachable!("a get has this seat"),
+    /// Since when a get waits.
+    pub(crate) fn since(&self, get: Name) -> Option<u64> {
+        match self.gets.get(&get.number)? {
+            Waiter::Waits(since, _) => Some(*since),
+            Waiter::Handed(_) => None,
         }
     }
 
-    /// Whether the get that has this seat was handed something.
-    pub(crate) fn is_handed(&self, seat: usize) -> bool {
-        matches!(self.seats[seat], Seat::Handed(_))
-    }
-
-    /// Since when the get that has this seat waits.
-    pub(crate) fn since(&self, seat: usize) -> u64 {
-        match self.seats[seat] {
-            Seat::Waits(_, since) => since,
-            _ => unreachable!("it was handed nothing"),
+    /// Hands a connection to a get that waits, and takes its waker. No memory is asked for.
+    pub(crate) fn hand(&mut self, get: Name, handed: Handed) -> Option<Waker> {
+        let waiter = self.gets.get_mut(&get.number)?;
+        match mem::replace(waiter, Waiter::Handed(handed)) {
+            Waiter::Waits(_, waker) => waker,
+            Waiter::Handed(_) => unreachable!("nobody is handed two"),
         }
     }
 
-    /// The seat of a get that waits, if it has one.
-    pub(crate) fn seat(&self, get: Name) -> Option<usize> {
-        let (number, seat) = *self.places.get(get.place)?;
-        (number == get.number).then_some(seat)
-    }
-
-    /// Hands a connection to a get that waits, and takes its waker.
-    pub(crate) fn hand(&mut self, seat: usize, handed: Handed) -> Option<Waker> {
-        match mem::replace(&mut self.seats[seat], Seat::Handed(handed)) {
-            Seat::Waits(waker, _) => waker,
-            _ => unreachable!("it was handed nothing"),
+    /// Takes the wakers of all gets that wait; none where memory for them is refused.
+    pub(crate) fn wakers(&mut self) -> Vec<Waker> {
+        let mut wakers = Vec::new();
+        if wakers.try_reserve(self.gets.len()).is_ok() {
+            wakers.extend(self.gets.values_mut().filter_map(|waiter| match waiter {
+                Waiter::Waits(_, waker) => waker.take(),
+                Waiter::Handed(_) => None,
+            }));
         }
-    }
-
-    /// Takes the waker of a get that waits.
-    pub(crate) fn waker(&mut self, seat: usize) -> Option<Waker> {
-        match &mut self.seats[seat] {
-            Seat::Waits(waker, _) => waker.take(),
-            _ => unreachable!("it was handed nothing"),
-        }
+        wakers
     }
 }
