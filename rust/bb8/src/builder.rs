@@ -69,6 +69,7 @@ pub struct Builder<M: ManageConnection> {
     pub(crate) error_sink: Box<dyn ErrorSink<M::Error>>,
     pub(crate) reaper_rate: Duration,
     pub(crate) queue_strategy: QueueStrategy,
+    pub(crate) fair_after: Option<Duration>,
     pub(crate) connection_customizer: Option<Box<dyn CustomizeConnection<M::Connection, M::Error>>>,
     _p: PhantomData<M>,
 }
@@ -87,6 +88,7 @@ impl<M: ManageConnection> Default for Builder<M> {
             error_sink: Box::new(NopErrorSink),
             reaper_rate: MINUTE / 2,
             queue_strategy: QueueStrategy::default(),
+            fair_after: None,
             connection_customizer: None,
             _p: PhantomData,
         }
@@ -205,6 +207,27 @@ impl<M: ManageConnection> Builder<M> {
     #[must_use]
     pub fn queue_strategy(mut self, queue_strategy: QueueStrategy) -> Self {
         self.queue_strategy = queue_strategy;
+        self
+    }
+
+    /// Sets after which wait a get is served in its turn: never by default.
+    ///
+    /// A connection that comes free while gets wait is promised to the one whose turn it is, which is
+    /// woken; but whoever asks before it comes takes the connection, and it waits anew, behind the
+    /// others. So a get may wait until it times out while others are served again and again. One that
+    /// has waited for so long is handed the connection at once, and nobody can take it from there.
+    ///
+    /// At zero each get is, so that gets are served in the order in which they began to wait; only one
+    /// for which a connection is to be opened in the place of one that was closed goes to the end of
+    /// the line. Then each connection that comes free while gets wait lies idle until a task was woken,
+    /// and fewer gets are served in all where connections are held but briefly. A millisecond leaves
+    /// that as it is, and bounds the wait.
+    ///
+    /// A future that was handed a connection has it: it is to be polled or dropped. One that is kept
+    /// without being polled keeps the connection, also from a get of the same task.
+    #[must_use]
+    pub fn fair_after(mut self, wait: impl Into<Option<Duration>>) -> Self {
+        self.fair_after = wait.into();
         self
     }
 

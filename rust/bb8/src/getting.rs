@@ -1,9 +1,10 @@
 //! One get: it begins, tries, waits, checks what it was handed, and ends.
 
-use crate::core::{kinds, Name};
+use crate::core::{Core, Kind, Name};
 use crate::errors::RunError;
 use crate::managers::ManageConnection;
-use crate::pool::{Lent, Shared};
+use crate::pool::{Lent, Locked, Shared};
+use crate::waiters::{Handed, Waiter};
 use std::future::{pending, poll_fn, Future};
 use std::pin::pin;
 use std::sync::Arc;
@@ -61,6 +62,8 @@ impl<'a, M: ManageConnection> Getting<'a, M> {
         };
         if matches!(served, Err(RunError::TimedOut)) {
             self.end(true);
+            // It may have been served since its last try.
+            return self.held.take().ok_or(RunError::TimedOut);
         }
         served.map(|()| self.held.take().expect("what is served holds a connection"))
     }
@@ -81,48 +84,48 @@ impl<'a, M: ManageConnection> Getting<'a, M> {
 
     /// Ready once it holds a connection: whether it is served, or is to check it first.
     fn try_get(&mut self, cx: &mut Context<'_>) -> Poll<Result<bool, RunError<M::Error>>> {
+        // A waker is cloned and dropped outside the lock: that runs code of others.
+        let mut waker = Some(cx.waker().clone());
+        let _had;
         let mut locked;
         let told = if self.stage == Stage::New {
             let at = self.shared.moment(self.began);
             locked = self.shared.lock();
-            let told = locked.core.get(at);
-            self.get = told.get;
-            self.stage = Stage::Begun;
-            told
+            locked.core.get(at)
         } else {
             // Where a check follows, the moment of its end tells how long the get has waited.
-            let at = match self.shared.settings.test_on_check_out {
-                true => 0,
-                false => self.shared.now(),
-            };
+            let checks = self.shared.settings.test_on_check_out;
+            let at = if checks { 0 } else { self.shared.now() };
             locked = self.shared.lock();
+            let had = locked.waiters.take(self.get);
+            if let Some(Waiter::Handed(handed)) = had {
+                return Poll::Ready(Ok(self.hold(&mut locked, &handed)));
+            }
+            _had = had;
             locked.core.try_get(at, self.get)
         };
-        let polled = match told.kind {
-            kinds::SERVED => {
-                self.stage = Stage::Ended;
-                self.held = Some(locked.lend(&told));
-                Poll::Ready(Ok(true))
+        let kind = told.kind();
+        if self.stage == Stage::New {
+            self.get = told.get;
+            self.stage = Stage::Begun;
+        }
+        let polled = match kind {
+            Kind::Served | Kind::Taken => {
+                let handed = Handed::of(&told);
+                Poll::Ready(Ok(self.hold(&mut locked, &handed)))
             }
-            kinds::TAKEN => {
-                self.held = Some(locked.lend(&told));
-                Poll::Ready(Ok(false))
-            }
-            kinds::WAITING => {
+            Kind::Waiting => {
                 self.stage = Stage::Waited;
-                match locked.waiters.keep(self.get, cx.waker()) {
-                    true => Poll::Pending,
-                    false => Poll::Ready(Err(RunError::Memory)),
+                let since = self.shared.moment(self.began);
+                if locked.waiters.wait(self.get, since, &mut waker) {
+                    Poll::Pending
+                } else {
+                    Poll::Ready(Err(RunError::Memory))
                 }
             }
-            kind => {
-                debug_assert!(matches!(kind, kinds::MEMORY | kinds::EXHAUSTED));
-                self.stage = Stage::Ended;
-                Poll::Ready(Err(match kind {
-                    kinds::EXHAUSTED => RunError::Exhausted,
-                    _ => RunError::Memory,
-                }))
-            }
+            Kind::Memory => self.refuse(RunError::Memory),
+            Kind::Exhausted => self.refuse(RunError::Exhausted),
+            kind => unreachable!("{kind:?} is no answer to a get"),
         };
         let due = locked.is_due(&told);
         drop(locked);
@@ -130,6 +133,22 @@ impl<'a, M: ManageConnection> Getting<'a, M> {
             self.shared.open();
         }
         polled
+    }
+
+    /// Holds what it was handed; whether it was served by it.
+    #[inline]
+    fn hold(&mut self, locked: &mut Locked<M::Connection>, handed: &Handed) -> bool {
+        self.held = Some(locked.lend(handed));
+        if handed.served {
+            self.stage = Stage::Ended;
+        }
+        handed.served
+    }
+
+    /// Ends, as it could not begin.
+    fn refuse<T>(&mut self, error: RunError<M::Error>) -> Poll<Result<T, RunError<M::Error>>> {
+        self.stage = Stage::Ended;
+        Poll::Ready(Err(error))
     }
 
     /// Whether what it holds passes its check; then the get has ended.
@@ -142,13 +161,11 @@ impl<'a, M: ManageConnection> Getting<'a, M> {
             return false;
         }
         // The moment counts only for the time that a get has waited.
-        let at = match self.stage {
-            Stage::Waited => self.shared.now(),
-            _ => 0,
-        };
+        let waited = self.stage == Stage::Waited;
+        let at = if waited { self.shared.now() } else { 0 };
         let hint = lent.key.place;
         let told = self.shared.lock().core.checked_ok(at, self.get, hint);
-        debug_assert_eq!(told.kind, kinds::SERVED);
+        told.assert(Kind::Served);
         self.stage = Stage::Ended;
         lent.key = told.key;
         true
@@ -156,46 +173,43 @@ impl<'a, M: ManageConnection> Getting<'a, M> {
 
     /// Closes what it holds, whose check has failed.
     fn close(&mut self, error: M::Error) {
-        let Some(mut lent) = self.held.take() else {
+        let Some(lent) = self.held.take() else {
             return;
         };
-        let broken = self.shared.manager.has_broken(&mut lent.conn);
-        let Lent { conn, key, place } = lent;
-        // It is closed before the core gives its room away.
-        drop(conn);
-        let at = self.shared.now();
-        let mut locked = self.shared.lock();
-        let told = locked
-            .core
-            .checked_err(at, self.get, place as u64, broken, key.place);
-        debug_assert_eq!(told.kind, kinds::CLOSED);
-        locked.shelf.free(place);
-        self.shared.settle(locked, &told, None);
+        let get = self.get;
+        let step = |core: &mut Core, at, key: Name, conn, broken| {
+            core.checked_err(at, get, conn, broken, key.place)
+        };
+        self.shared.take_back(lent, false, Shared::now, step);
         self.shared.forward(error);
     }
 
-    /// Ends without a connection.
+    /// Ends without a connection, unless it was served since its last try: then it holds that.
     fn end(&mut self, timed_out: bool) {
-        self.stage = Stage::Ended;
-        let Some(mut lent) = self.held.take() else {
+        if self.held.is_none() {
             let at = self.shared.now();
+            let had;
             let mut locked = self.shared.lock();
-            let waker = locked.waiters.take(self.get);
-            let told = locked.core.give_up(at, self.get, timed_out);
-            self.shared.settle(locked, &told, None);
-            drop(waker);
-            return;
-        };
-        let broken = self.shared.manager.has_broken(&mut lent.conn);
-        let Lent { conn, key, place } = lent;
-        let conn = (!broken).then_some(conn);
-        let at = self.shared.now();
-        let mut locked = self.shared.lock();
-        let told =
-            locked
-                .core
-                .give_up_held(at, self.get, timed_out, place as u64, broken, key.place);
-        self.shared.shelve(locked, &told, place, conn);
+            had = locked.waiters.take(self.get);
+            let Some(Waiter::Handed(handed)) = had else {
+                self.stage = Stage::Ended;
+                let told = locked.core.give_up(at, self.get, timed_out);
+                told.assert(Kind::GaveUp);
+                self.shared.settle(locked, at, &told, None);
+                return;
+            };
+            if self.hold(&mut locked, &handed) {
+                return;
+            }
+        }
+        self.stage = Stage::Ended;
+        if let Some(lent) = self.held.take() {
+            let get = self.get;
+            let step = |core: &mut Core, at, key: Name, conn, broken| {
+                core.give_up_held(at, get, timed_out, conn, broken, key.place)
+            };
+            self.shared.take_back(lent, true, Shared::now, step);
+        }
     }
 }
 
@@ -203,6 +217,10 @@ impl<M: ManageConnection> Drop for Getting<'_, M> {
     fn drop(&mut self) {
         if !matches!(self.stage, Stage::New | Stage::Ended) {
             self.end(false);
+        }
+        // It was served, and nobody comes for that.
+        if let Some(lent) = self.held.take() {
+            self.shared.put_back(lent);
         }
     }
 }

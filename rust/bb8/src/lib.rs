@@ -54,6 +54,7 @@ mod lock;
 mod managers;
 mod opening;
 mod pool;
+mod returning;
 mod shelf;
 #[cfg(test)]
 mod tests;

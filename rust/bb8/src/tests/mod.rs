@@ -4,6 +4,7 @@
 pub(crate) mod journal;
 mod layout;
 pub(crate) mod memory;
+mod order;
 mod shadow;
 mod steps;
 mod storm;
