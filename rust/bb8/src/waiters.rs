@@ -116,4 +116,10 @@ impl Waiters {
         }
         wakers
     }
+
+    /// For how many gets there is memory, for a test.
+    #[cfg(test)]
+    pub(crate) fn capacity(&self) -> usize {
+        self.gets.capacity()
+    }
 }
