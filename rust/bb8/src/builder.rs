@@ -28,6 +28,8 @@ pub struct Config {
     pub reaper_rate: Duration,
     /// Which idle connection is lent first.
     pub queue_strategy: QueueStrategy,
+    /// After which wait a get is handed its connection.
+    pub fair_after: Option<Duration>,
 }
 
 impl<M: ManageConnection> From<&Builder<M>> for Config {
@@ -42,6 +44,7 @@ impl<M: ManageConnection> From<&Builder<M>> for Config {
             retry_connection: builder.retry_connection,
             reaper_rate: builder.reaper_rate,
             queue_strategy: builder.queue_strategy,
+            fair_after: builder.fair_after,
         }
     }
 }
@@ -210,21 +213,62 @@ impl<M: ManageConnection> Builder<M> {
         self
     }
 
-    /// Sets after which wait a get is served in its turn: never by default.
+    /// Sets after which wait a get is handed its connection: never by default. A millisecond is what
+    /// to take where gets wait.
     ///
-    /// A connection that comes free while gets wait is promised to the one whose turn it is, which is
-    /// woken; but whoever asks before it comes takes the connection, and it waits anew, behind the
-    /// others. So a get may wait until it times out while others are served again and again. One that
-    /// has waited for so long is handed the connection at once, and nobody can take it from there.
+    /// By default a connection that comes free is promised to the get whose turn it is, which is woken;
+    /// but whoever asks before it comes takes the connection, and it waits anew, behind all others. So
+    /// a get may time out while a few tasks are served again and again. A get that has waited for so
+    /// long is handed the connection as it comes free, and nobody can take it from there.
     ///
-    /// At zero each get is, so that gets are served in the order in which they began to wait; only one
-    /// for which a connection is to be opened in the place of one that was closed goes to the end of
-    /// the line. Then each connection that comes free while gets wait lies idle until a task was woken,
-    /// and fewer gets are served in all where connections are held but briefly. A millisecond leaves
-    /// that as it is, and bounds the wait.
+    /// At zero gets are served in the order in which they began to wait, as long as none of their
+    /// connections is closed: a get for which one is opened in its place goes to the end of the line.
+    /// But each connection that comes free lies idle until a task was woken, which costs up to a third
+    /// of all rounds where connections are held for microseconds. A millisecond leaves those rounds as
+    /// they are, and lets nobody wait for much longer than the line before it takes.
     ///
-    /// A future that was handed a connection has it: it is to be polled or dropped. One that is kept
-    /// without being polled keeps the connection, also from a get of the same task.
+    /// A future that was handed a connection has it, and is to be polled or dropped. One that is kept
+    /// without being polled keeps the connection, also from the task that keeps it:
+    ///
+    /// ```
+    /// # use bb8::{ManageConnection, Pool, RunError};
+    /// # use std::convert::Infallible;
+    /// # use std::time::Duration;
+    /// # struct Numbers;
+    /// # impl ManageConnection for Numbers {
+    /// #     type Connection = u64;
+    /// #     type Error = Infallible;
+    /// #     async fn connect(&self) -> Result<u64, Infallible> {
+    /// #         Ok(7)
+    /// #     }
+    /// #     async fn is_valid(&self, _conn: &mut u64) -> Result<(), Infallible> {
+    /// #         Ok(())
+    /// #     }
+    /// #     fn has_broken(&self, _conn: &mut u64) -> bool {
+    /// #         false
+    /// #     }
+    /// # }
+    /// # #[tokio::main(flavor = "current_thread")]
+    /// # async fn main() {
+    /// let pool = Pool::builder()
+    ///     .max_size(1)
+    ///     .fair_after(Duration::ZERO)
+    ///     .connection_timeout(Duration::from_millis(50))
+    ///     .build(Numbers)
+    ///     .await
+    ///     .unwrap();
+    /// let conn = pool.get().await.unwrap();
+    /// let mut kept = Box::pin(pool.get());
+    /// tokio::select! {
+    ///     biased;
+    ///     _ = &mut kept => unreachable!("the connection is out"),
+    ///     () = async {} => {}
+    /// }
+    /// drop(conn); // it is handed to `kept`
+    /// assert_eq!(pool.get().await.unwrap_err(), RunError::TimedOut);
+    /// assert!(kept.await.is_ok());
+    /// # }
+    /// ```
     #[must_use]
     pub fn fair_after(mut self, wait: impl Into<Option<Duration>>) -> Self {
         self.fair_after = wait.into();

@@ -1,14 +1,15 @@
 //! One get: it begins, tries, waits, checks what it was handed, and ends.
 
-use crate::core::{Core, Kind, Name};
+use crate::core::{Core, Kind, Name, Told};
 use crate::errors::RunError;
+use crate::lock::MutexGuard;
 use crate::managers::ManageConnection;
 use crate::pool::{Lent, Locked, Shared};
 use crate::waiters::{Handed, Waiter};
 use std::future::{pending, poll_fn, Future};
 use std::pin::pin;
-use std::sync::Arc;
-use std::task::{Context, Poll};
+use std::sync::{Arc, OnceLock};
+use std::task::{Context, Poll, Waker};
 use std::time::Duration;
 use tokio::task::unconstrained;
 use tokio::time::{sleep_until, Instant};
@@ -29,7 +30,8 @@ enum Stage {
 /// A get. Where it is dropped before it ended, it is given up as cancelled.
 pub(crate) struct Getting<'a, M: ManageConnection> {
     shared: &'a Arc<Shared<M>>,
-    began: Instant,
+    /// When it began, if that was asked for: where it is served at once nobody does.
+    began: &'a OnceLock<Instant>,
     stage: Stage,
     get: Name,
     /// What it was handed.
@@ -37,10 +39,10 @@ pub(crate) struct Getting<'a, M: ManageConnection> {
 }
 
 impl<'a, M: ManageConnection> Getting<'a, M> {
-    pub(crate) fn new(shared: &'a Arc<Shared<M>>) -> Self {
+    pub(crate) fn new(shared: &'a Arc<Shared<M>>, began: &'a OnceLock<Instant>) -> Self {
         Getting {
             shared,
-            began: Instant::now(),
+            began,
             stage: Stage::New,
             get: Name::default(),
             held: None,
@@ -75,34 +77,67 @@ impl<'a, M: ManageConnection> Getting<'a, M> {
             if served || self.check().await {
                 return Ok(());
             }
-            if self.began.elapsed() >= self.shared.settings.connection_timeout {
+            if self.is_late() {
                 return Err(RunError::TimedOut);
             }
             next_poll().await;
         }
     }
 
+    /// Whether its time is over; it runs from the first time that it is asked for.
+    fn is_late(&self) -> bool {
+        let limit = self.shared.settings.connection_timeout;
+        let began = self.began.get();
+        began.is_some_and(|began| began.elapsed() >= limit)
+    }
+
+    /// The moment at which it began.
+    fn moment(&self) -> u64 {
+        let began = self.began.get_or_init(Instant::now);
+        self.shared.moment(*began)
+    }
+
+    /// Begins, and tries. Where something is idle it does not wait, and its moment and its waker count
+    /// for nothing. Else they are asked for outside the lock: the clock takes long, and wakers are
+    /// cloned and dropped by code of others.
+    fn begin(
+        &self,
+        cx: &mut Context<'_>,
+        waker: &mut Option<Waker>,
+    ) -> (MutexGuard<'a, Locked<M::Connection>>, Told) {
+        if self.shared.settings.test_on_check_out {
+            let mut locked = self.shared.lock();
+            if locked.shelf.idle() > 0 {
+                let told = locked.core.get(0);
+                return (locked, told);
+            }
+        }
+        let at = self.moment();
+        *waker = Some(cx.waker().clone());
+        let mut locked = self.shared.lock();
+        let told = locked.core.get(at);
+        (locked, told)
+    }
+
     /// Ready once it holds a connection: whether it is served, or is to check it first.
     fn try_get(&mut self, cx: &mut Context<'_>) -> Poll<Result<bool, RunError<M::Error>>> {
-        // A waker is cloned and dropped outside the lock: that runs code of others.
-        let mut waker = Some(cx.waker().clone());
-        let _had;
-        let mut locked;
-        let told = if self.stage == Stage::New {
-            let at = self.shared.moment(self.began);
-            locked = self.shared.lock();
-            locked.core.get(at)
+        // They are dropped after the lock.
+        let (had, mut waker);
+        let (mut locked, told) = if self.stage == Stage::New {
+            waker = None;
+            self.begin(cx, &mut waker)
         } else {
             // Where a check follows, the moment of its end tells how long the get has waited.
             let checks = self.shared.settings.test_on_check_out;
             let at = if checks { 0 } else { self.shared.now() };
-            locked = self.shared.lock();
-            let had = locked.waiters.take(self.get);
-            if let Some(Waiter::Handed(handed)) = had {
-                return Poll::Ready(Ok(self.hold(&mut locked, &handed)));
+            waker = Some(cx.waker().clone());
+            let mut locked = self.shared.lock();
+            had = locked.waiters.take(self.get);
+            if let Some(Waiter::Handed(handed)) = &had {
+                return Poll::Ready(Ok(self.hold(&mut locked, handed)));
             }
-            _had = had;
-            locked.core.try_get(at, self.get)
+            let told = locked.core.try_get(at, self.get);
+            (locked, told)
         };
         let kind = told.kind();
         if self.stage == Stage::New {
@@ -111,13 +146,13 @@ impl<'a, M: ManageConnection> Getting<'a, M> {
         }
         let polled = match kind {
             Kind::Served | Kind::Taken => {
-                let handed = Handed::of(&told);
+                let handed = locked.handed(&told);
                 Poll::Ready(Ok(self.hold(&mut locked, &handed)))
             }
             Kind::Waiting => {
                 self.stage = Stage::Waited;
-                let since = self.shared.moment(self.began);
-                if locked.waiters.wait(self.get, since, &mut waker) {
+                waker.get_or_insert_with(|| cx.waker().clone());
+                if locked.waiters.wait(self.get, self.moment(), &mut waker) {
                     Poll::Pending
                 } else {
                     Poll::Ready(Err(RunError::Memory))
@@ -227,8 +262,8 @@ impl<M: ManageConnection> Drop for Getting<'_, M> {
 
 /// Ends at the deadline, and never where that lies beyond all moments. The timer is made only once
 /// something is waited for, and on the heap: it is larger than all the rest of a get.
-async fn deadline(began: Instant, limit: Duration) {
-    match began.checked_add(limit) {
+async fn deadline(began: &OnceLock<Instant>, limit: Duration) {
+    match began.get_or_init(Instant::now).checked_add(limit) {
         Some(deadline) => Box::pin(sleep_until(deadline)).await,
         None => pending().await,
     }

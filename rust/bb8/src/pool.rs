@@ -13,7 +13,7 @@ use crate::shelf::Shelf;
 use crate::waiters::{Handed, Waiters};
 use futures_util::stream::{FuturesUnordered, StreamExt};
 use std::panic::resume_unwind;
-use std::sync::{Arc, Weak};
+use std::sync::{Arc, OnceLock, Weak};
 use std::task::Waker;
 use std::time::Duration;
 use std::{fmt, iter, mem, thread};
@@ -45,11 +45,25 @@ impl<C> Locked<C> {
     pub(crate) fn hand_over(&mut self, at: u64, get: Name) -> (Option<Waker>, bool) {
         let told = self.core.try_get(at, get);
         let waker = match told.kind() {
-            Kind::Served | Kind::Taken => self.waiters.hand(get, Handed::of(&told)),
+            Kind::Served | Kind::Taken => {
+                let handed = self.handed(&told);
+                self.waiters.hand(get, handed)
+            }
             Kind::Waiting => None,
             kind => unreachable!("{kind:?} is no answer to a try"),
         };
         (waker, told.granted.count > 0)
+    }
+
+    /// What a step handed out.
+    #[inline]
+    pub(crate) fn handed(&mut self, told: &Told) -> Handed {
+        self.shelf.promise(1);
+        Handed {
+            key: told.key,
+            place: told.shelved(),
+            served: told.is(Kind::Served),
+        }
     }
 
     /// Takes a connection that was handed out.
@@ -286,7 +300,8 @@ impl<M: ManageConnection> PoolInner<M> {
         if !told.is(Kind::Served) {
             return None;
         }
-        let lent = locked.lend(&Handed::of(&told));
+        let handed = locked.handed(&told);
+        let lent = locked.lend(&handed);
         let due = locked.is_due(&told);
         drop(locked);
         if due {
@@ -296,7 +311,9 @@ impl<M: ManageConnection> PoolInner<M> {
     }
 
     pub(crate) async fn get(&self) -> Result<Lent<M::Connection>, RunError<M::Error>> {
-        Getting::new(self.shared()).answer().await
+        let began = OnceLock::new();
+        let mut getting = Getting::new(self.shared(), &began);
+        getting.answer().await
     }
 
     #[inline]
@@ -335,7 +352,9 @@ impl<M: ManageConnection> PoolInner<M> {
     pub(crate) fn state(&self) -> State {
         let shared = self.shared();
         let at = shared.now();
-        let figures = shared.lock().core.state(at);
+        let mut locked = shared.lock();
+        let figures = locked.core.state(at);
+        debug_assert_eq!(figures.idle_connections as usize, locked.shelf.idle());
         State::from(figures)
     }
 
@@ -345,7 +364,10 @@ impl<M: ManageConnection> PoolInner<M> {
         let at = shared.now();
         let mut locked = shared.lock();
         let told = locked.core.reap(at);
-        assert!(matches!(told.kind(), Kind::Reaped | Kind::Memory));
+        match told.kind() {
+            Kind::Reaped => locked.shelf.promise(told.key.number as usize),
+            kind => assert_eq!(kind, Kind::Memory),
+        }
         let due = locked.is_due(&told);
         drop(locked);
         // What panics there was told by the panic hook, and is not to end the reaper.

@@ -3,7 +3,7 @@
 //! A get stands here under its number, which no other get ever has, until it tries again, comes for
 //! what it was handed, or ends. The core may know nothing of it any more by then.
 
-use crate::core::{Kind, Name, Told};
+use crate::core::Name;
 use std::collections::HashMap;
 use std::hash::{BuildHasherDefault, Hasher};
 use std::mem;
@@ -17,18 +17,6 @@ pub(crate) struct Handed {
     pub(crate) place: usize,
     /// Whether the get was served by it; else it is to be checked first.
     pub(crate) served: bool,
-}
-
-impl Handed {
-    /// What a step handed out.
-    #[inline]
-    pub(crate) fn of(told: &Told) -> Self {
-        Handed {
-            key: told.key,
-            place: told.shelved(),
-            served: told.is(Kind::Served),
-        }
-    }
 }
 
 /// What stands here for a get.
@@ -127,5 +115,11 @@ impl Waiters {
             }));
         }
         wakers
+    }
+
+    /// For how many gets there is memory, for a test.
+    #[cfg(test)]
+    pub(crate) fn capacity(&self) -> usize {
+        self.gets.capacity()
     }
 }

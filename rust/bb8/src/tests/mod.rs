@@ -8,4 +8,5 @@ mod order;
 mod shadow;
 mod steps;
 mod storm;
+mod waiting;
 mod wanting;

@@ -142,14 +142,12 @@ async fn gets_are_served_in_their_order() {
         let mut conn = Some(pool.get_owned().await);
         let mut waiting: Vec<Hand> = (0..5).map(|_| Hand::waiting(&pool)).collect();
         for turn in 0..5 {
-            conn = None;
+            drop(conn.take());
             // What came free was handed to the oldest, and no other gets it, old or new.
             for (place, hand) in waiting.iter_mut().enumerate().rev() {
                 assert_eq!(hand.woken(), u32::from(place == 0), "turn {turn}");
-                assert_eq!(place > 0, {
-                    conn = hand.poll();
-                    conn.is_none()
-                });
+                conn = hand.poll();
+                assert_eq!(conn.is_some(), place == 0, "turn {turn}");
             }
             waiting.remove(0);
             waiting.push(Hand::waiting(&pool));
