@@ -5,6 +5,11 @@
 //! has all `unsafe` of the crate.
 #![allow(unsafe_code)]
 
+#[macro_use]
+mod text;
+
+pub(crate) use text::IS_THERE;
+
 use std::mem::size_of;
 use std::ptr;
 
@@ -165,7 +170,7 @@ struct Handle {
 mod exported {
     use super::{Figures, Handle, Looked, Name, Settings, Told};
 
-    extern "C" {
+    proved! {
         pub(super) fn bb8_size(of: u32) -> usize;
         pub(super) fn bb8_new(settings: Settings, out: *mut Handle) -> bool;
         pub(super) fn bb8_free(core: *mut Handle);
@@ -318,6 +323,7 @@ impl Drop for Core {
     }
 }
 
+#[cfg_attr(not(target_os = "linux"), allow(dead_code))]
 mod heap {
     //! The heap of the core. The C library gives memory that any type may lie in, and wants no size
     //! back, which the core does not keep.
@@ -365,8 +371,7 @@ mod heap {
 
     /// Memory for so many bytes. Where no byte is asked for, one unit of the alignment is taken, so
     /// that the pointer is its own.
-    #[no_mangle]
-    extern "C" fn rattle_alloc(size: usize, alignment: usize) -> Tried {
+    pub(super) extern "C" fn rattle_alloc(size: usize, alignment: usize) -> Tried {
         if refuses(alignment) {
             return Tried::of(ptr::null_mut());
         }
@@ -381,8 +386,7 @@ mod heap {
     /// # Safety
     ///
     /// `at` was given by `rattle_alloc` or by this, and not taken back since.
-    #[no_mangle]
-    unsafe extern "C" fn rattle_realloc(
+    pub(super) unsafe extern "C" fn rattle_realloc(
         at: *mut u8,
         _kept: usize,
         size: usize,
@@ -401,8 +405,7 @@ mod heap {
     /// # Safety
     ///
     /// `at` was given by one of the others, and nothing uses it any more.
-    #[no_mangle]
-    unsafe extern "C" fn rattle_dealloc(at: *mut u8) {
+    pub(super) unsafe extern "C" fn rattle_dealloc(at: *mut u8) {
         // SAFETY: the caller owes that `at` came from `malloc` or `realloc` and is not freed.
         unsafe { free(at.cast()) }
     }
@@ -416,7 +419,7 @@ pub(crate) mod layout {
     mod exported {
         use super::{Figures, Looked, Name, Settings, Told};
 
-        extern "C" {
+        proved! {
             pub(super) fn bb8_sample_told() -> Told;
             pub(super) fn bb8_sample_figures() -> Figures;
             pub(super) fn bb8_sample_looked() -> Looked;

@@ -2,7 +2,7 @@
 //! it but the gets and the openings.
 
 use crate::builder::{Builder, QueueStrategy};
-use crate::core::{Core, Kind, Name, Settings, Told};
+use crate::core::{self, Core, Kind, Name, Settings, Told};
 use crate::errors::{AddError, RunError};
 use crate::figures::State;
 use crate::getting::Getting;
@@ -212,8 +212,15 @@ impl<M: ManageConnection> fmt::Debug for PoolInner<M> {
 }
 
 impl<M: ManageConnection> PoolInner<M> {
+    /// Ends the build of a program for another target in a sentence; a check and the docs go on.
+    const HAS_CORE: () = assert!(
+        core::IS_THERE,
+        "bb8 has its proved core for x86-64 and aarch64 Linux alone"
+    );
+
     /// A pool of settings that the builder has tested. It reaps, where an age is limited.
     pub(crate) fn new(settings: Builder<M>, manager: M) -> Self {
+        let () = Self::HAS_CORE;
         let limit = |limit: Option<Duration>| limit.map_or(0, nanoseconds);
         let core = Core::new(Settings {
             max_size: settings.max_size,
