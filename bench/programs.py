@@ -64,7 +64,7 @@ def original(folder):
     """Makes of the original's crate in this folder one that is measured, with rounds of its core as a module of its own."""
     out = ORIGINAL
     shutil.rmtree(out, ignore_errors=True)
-    if ran([os.path.join(TOP, "rust", "bench", "original"), folder, out]) is None:
+    if ran([os.path.join(TOP, "rust", "original"), folder, out]) is None:
         return False
     inner = os.path.join(out, "src", "internals")
     os.makedirs(inner)
