@@ -192,6 +192,30 @@ impl<M: ManageConnection> Builder<M> {
     }
 
     /// Sets who is told of errors that no caller sees: nobody by default.
+    ///
+    /// # Examples
+    ///
+    /// ```
+    /// use bb8::{Builder, ErrorSink, ManageConnection, Pool};
+    /// use std::fmt::Debug;
+    ///
+    /// #[derive(Clone, Debug)]
+    /// struct Log;
+    ///
+    /// impl<E: Debug + 'static> ErrorSink<E> for Log {
+    ///     fn sink(&self, error: E) {
+    ///         eprintln!("the pool: {error:?}");
+    ///     }
+    ///
+    ///     fn boxed_clone(&self) -> Box<dyn ErrorSink<E>> {
+    ///         Box::new(self.clone())
+    ///     }
+    /// }
+    ///
+    /// fn logged<M: ManageConnection>() -> Builder<M> {
+    ///     Pool::builder().error_sink(Box::new(Log))
+    /// }
+    /// ```
     #[must_use]
     pub fn error_sink(mut self, error_sink: Box<dyn ErrorSink<M::Error>>) -> Self {
         self.error_sink = error_sink;
@@ -276,6 +300,33 @@ impl<M: ManageConnection> Builder<M> {
     }
 
     /// Sets who prepares each connection that is opened: nobody by default.
+    ///
+    /// # Examples
+    ///
+    /// ```
+    /// use bb8::{Builder, CustomizeConnection, ManageConnection, Pool};
+    /// use std::future::Future;
+    /// use std::pin::Pin;
+    /// # #[derive(Debug)] struct Client;
+    /// # impl Client { async fn ask<E>(&mut self, _: &str) -> Result<(), E> { Ok(()) } }
+    ///
+    /// /// Has each connection of a server speak one time zone.
+    /// #[derive(Debug)]
+    /// struct InUtc;
+    ///
+    /// impl<E: Send + 'static> CustomizeConnection<Client, E> for InUtc {
+    ///     fn on_acquire<'a>(
+    ///         &'a self,
+    ///         conn: &'a mut Client,
+    ///     ) -> Pin<Box<dyn Future<Output = Result<(), E>> + Send + 'a>> {
+    ///         Box::pin(async move { conn.ask("SET TIME ZONE 'UTC'").await })
+    ///     }
+    /// }
+    ///
+    /// fn prepared<M: ManageConnection<Connection = Client>>() -> Builder<M> {
+    ///     Pool::builder().connection_customizer(Box::new(InUtc))
+    /// }
+    /// ```
     #[must_use]
     pub fn connection_customizer(
         mut self,
