@@ -1,13 +1,15 @@
 //! One get: it begins, tries, waits, checks what it was handed, and ends.
 
-use crate::core::{kinds, Name};
+use crate::core::{Core, Kind, Name, Told};
 use crate::errors::RunError;
+use crate::lock::MutexGuard;
 use crate::managers::ManageConnection;
-use crate::pool::{Lent, Shared};
+use crate::pool::{Lent, Locked, Shared};
+use crate::waiters::{Handed, Waiter};
 use std::future::{pending, poll_fn, Future};
 use std::pin::pin;
-use std::sync::Arc;
-use std::task::{Context, Poll};
+use std::sync::{Arc, OnceLock};
+use std::task::{Context, Poll, Waker};
 use std::time::Duration;
 use tokio::task::unconstrained;
 use tokio::time::{sleep_until, Instant};
@@ -28,7 +30,8 @@ enum Stage {
 /// A get. Where it is dropped before it ended, it is given up as cancelled.
 pub(crate) struct Getting<'a, M: ManageConnection> {
     shared: &'a Arc<Shared<M>>,
-    began: Instant,
+    /// When it began, if that was asked for: where it is served at once nobody does.
+    began: &'a OnceLock<Instant>,
     stage: Stage,
     get: Name,
     /// What it was handed.
@@ -36,10 +39,10 @@ pub(crate) struct Getting<'a, M: ManageConnection> {
 }
 
 impl<'a, M: ManageConnection> Getting<'a, M> {
-    pub(crate) fn new(shared: &'a Arc<Shared<M>>) -> Self {
+    pub(crate) fn new(shared: &'a Arc<Shared<M>>, began: &'a OnceLock<Instant>) -> Self {
         Getting {
             shared,
-            began: Instant::now(),
+            began,
             stage: Stage::New,
             get: Name::default(),
             held: None,
@@ -61,6 +64,8 @@ impl<'a, M: ManageConnection> Getting<'a, M> {
         };
         if matches!(served, Err(RunError::TimedOut)) {
             self.end(true);
+            // It may have been served since its last try.
+            return self.held.take().ok_or(RunError::TimedOut);
         }
         served.map(|()| self.held.take().expect("what is served holds a connection"))
     }
@@ -72,57 +77,90 @@ impl<'a, M: ManageConnection> Getting<'a, M> {
             if served || self.check().await {
                 return Ok(());
             }
-            if self.began.elapsed() >= self.shared.settings.connection_timeout {
+            if self.is_late() {
                 return Err(RunError::TimedOut);
             }
             next_poll().await;
         }
     }
 
+    /// Whether its time is over; it runs from the first time that it is asked for.
+    fn is_late(&self) -> bool {
+        let limit = self.shared.settings.connection_timeout;
+        let began = self.began.get();
+        began.is_some_and(|began| began.elapsed() >= limit)
+    }
+
+    /// The moment at which it began.
+    fn moment(&self) -> u64 {
+        let began = self.began.get_or_init(Instant::now);
+        self.shared.moment(*began)
+    }
+
+    /// Begins, and tries. Where something is idle it does not wait, and its moment and its waker count
+    /// for nothing. Else they are asked for outside the lock: the clock takes long, and wakers are
+    /// cloned and dropped by code of others.
+    fn begin(
+        &self,
+        cx: &mut Context<'_>,
+        waker: &mut Option<Waker>,
+    ) -> (MutexGuard<'a, Locked<M::Connection>>, Told) {
+        if self.shared.settings.test_on_check_out {
+            let mut locked = self.shared.lock();
+            if locked.shelf.idle() > 0 {
+                let told = locked.core.get(0);
+                return (locked, told);
+            }
+        }
+        let at = self.moment();
+        *waker = Some(cx.waker().clone());
+        let mut locked = self.shared.lock();
+        let told = locked.core.get(at);
+        (locked, told)
+    }
+
     /// Ready once it holds a connection: whether it is served, or is to check it first.
     fn try_get(&mut self, cx: &mut Context<'_>) -> Poll<Result<bool, RunError<M::Error>>> {
-        let mut locked;
-        let told = if self.stage == Stage::New {
-            let at = self.shared.moment(self.began);
-            locked = self.shared.lock();
-            let told = locked.core.get(at);
-            self.get = told.get;
-            self.stage = Stage::Begun;
-            told
+        // They are dropped after the lock.
+        let (had, mut waker);
+        let (mut locked, told) = if self.stage == Stage::New {
+            waker = None;
+            self.begin(cx, &mut waker)
         } else {
             // Where a check follows, the moment of its end tells how long the get has waited.
-            let at = match self.shared.settings.test_on_check_out {
-                true => 0,
-                false => self.shared.now(),
-            };
-            locked = self.shared.lock();
-            locked.core.try_get(at, self.get)
+            let checks = self.shared.settings.test_on_check_out;
+            let at = if checks { 0 } else { self.shared.now() };
+            waker = Some(cx.waker().clone());
+            let mut locked = self.shared.lock();
+            had = locked.waiters.take(self.get);
+            if let Some(Waiter::Handed(handed)) = &had {
+                return Poll::Ready(Ok(self.hold(&mut locked, handed)));
+            }
+            let told = locked.core.try_get(at, self.get);
+            (locked, told)
         };
-        let polled = match told.kind {
-            kinds::SERVED => {
-                self.stage = Stage::Ended;
-                self.held = Some(locked.lend(&told));
-                Poll::Ready(Ok(true))
+        let kind = told.kind();
+        if self.stage == Stage::New {
+            self.get = told.get;
+            self.stage = Stage::Begun;
+        }
+        let polled = match kind {
+            Kind::Served | Kind::Taken => {
+                let handed = locked.handed(&told);
+                Poll::Ready(Ok(self.hold(&mut locked, &handed)))
             }
-            kinds::TAKEN => {
-                self.held = Some(locked.lend(&told));
-                Poll::Ready(Ok(false))
-            }
-            kinds::WAITING => {
+            Kind::Waiting => {
                 self.stage = Stage::Waited;
-                match locked.waiters.keep(self.get, cx.waker()) {
-                    true => Poll::Pending,
-                    false => Poll::Ready(Err(RunError::Memory)),
+                waker.get_or_insert_with(|| cx.waker().clone());
+                if locked.waiters.wait(self.get, self.moment(), &mut waker) {
+                    Poll::Pending
+                } else {
+                    Poll::Ready(Err(RunError::Memory))
                 }
             }
-            kind => {
-                debug_assert!(matches!(kind, kinds::MEMORY | kinds::EXHAUSTED));
-                self.stage = Stage::Ended;
-                Poll::Ready(Err(match kind {
-                    kinds::EXHAUSTED => RunError::Exhausted,
-                    _ => RunError::Memory,
-                }))
-            }
+            Kind::Memory => self.refuse(RunError::Memory),
+            Kind::Exhausted => self.refuse(RunError::Exhausted),
+            kind => unreachable!("{kind:?} is no answer to a get"),
         };
         let due = locked.is_due(&told);
         drop(locked);
@@ -130,6 +168,22 @@ impl<'a, M: ManageConnection> Getting<'a, M> {
             self.shared.open();
         }
         polled
+    }
+
+    /// Holds what it was handed; whether it was served by it.
+    #[inline]
+    fn hold(&mut self, locked: &mut Locked<M::Connection>, handed: &Handed) -> bool {
+        self.held = Some(locked.lend(handed));
+        if handed.served {
+            self.stage = Stage::Ended;
+        }
+        handed.served
+    }
+
+    /// Ends, as it could not begin.
+    fn refuse<T>(&mut self, error: RunError<M::Error>) -> Poll<Result<T, RunError<M::Error>>> {
+        self.stage = Stage::Ended;
+        Poll::Ready(Err(error))
     }
 
     /// Whether what it holds passes its check; then the get has ended.
@@ -142,13 +196,11 @@ impl<'a, M: ManageConnection> Getting<'a, M> {
             return false;
         }
         // The moment counts only for the time that a get has waited.
-        let at = match self.stage {
-            Stage::Waited => self.shared.now(),
-            _ => 0,
-        };
+        let waited = self.stage == Stage::Waited;
+        let at = if waited { self.shared.now() } else { 0 };
         let hint = lent.key.place;
         let told = self.shared.lock().core.checked_ok(at, self.get, hint);
-        debug_assert_eq!(told.kind, kinds::SERVED);
+        told.assert(Kind::Served);
         self.stage = Stage::Ended;
         lent.key = told.key;
         true
@@ -156,46 +208,43 @@ impl<'a, M: ManageConnection> Getting<'a, M> {
 
     /// Closes what it holds, whose check has failed.
     fn close(&mut self, error: M::Error) {
-        let Some(mut lent) = self.held.take() else {
+        let Some(lent) = self.held.take() else {
             return;
         };
-        let broken = self.shared.manager.has_broken(&mut lent.conn);
-        let Lent { conn, key, place } = lent;
-        // It is closed before the core gives its room away.
-        drop(conn);
-        let at = self.shared.now();
-        let mut locked = self.shared.lock();
-        let told = locked
-            .core
-            .checked_err(at, self.get, place as u64, broken, key.place);
-        debug_assert_eq!(told.kind, kinds::CLOSED);
-        locked.shelf.free(place);
-        self.shared.settle(locked, &told, None);
+        let get = self.get;
+        let step = |core: &mut Core, at, key: Name, conn, broken| {
+            core.checked_err(at, get, conn, broken, key.place)
+        };
+        self.shared.take_back(lent, false, Shared::now, step);
         self.shared.forward(error);
     }
 
-    /// Ends without a connection.
+    /// Ends without a connection, unless it was served since its last try: then it holds that.
     fn end(&mut self, timed_out: bool) {
-        self.stage = Stage::Ended;
-        let Some(mut lent) = self.held.take() else {
+        if self.held.is_none() {
             let at = self.shared.now();
+            let had;
             let mut locked = self.shared.lock();
-            let waker = locked.waiters.take(self.get);
-            let told = locked.core.give_up(at, self.get, timed_out);
-            self.shared.settle(locked, &told, None);
-            drop(waker);
-            return;
-        };
-        let broken = self.shared.manager.has_broken(&mut lent.conn);
-        let Lent { conn, key, place } = lent;
-        let conn = (!broken).then_some(conn);
-        let at = self.shared.now();
-        let mut locked = self.shared.lock();
-        let told =
-            locked
-                .core
-                .give_up_held(at, self.get, timed_out, place as u64, broken, key.place);
-        self.shared.shelve(locked, &told, place, conn);
+            had = locked.waiters.take(self.get);
+            let Some(Waiter::Handed(handed)) = had else {
+                self.stage = Stage::Ended;
+                let told = locked.core.give_up(at, self.get, timed_out);
+                told.assert(Kind::GaveUp);
+                self.shared.settle(locked, at, &told, None);
+                return;
+            };
+            if self.hold(&mut locked, &handed) {
+                return;
+            }
+        }
+        self.stage = Stage::Ended;
+        if let Some(lent) = self.held.take() {
+            let get = self.get;
+            let step = |core: &mut Core, at, key: Name, conn, broken| {
+                core.give_up_held(at, get, timed_out, conn, broken, key.place)
+            };
+            self.shared.take_back(lent, true, Shared::now, step);
+        }
     }
 }
 
@@ -204,13 +253,17 @@ impl<M: ManageConnection> Drop for Getting<'_, M> {
         if !matches!(self.stage, Stage::New | Stage::Ended) {
             self.end(false);
         }
+        // It was served, and nobody comes for that.
+        if let Some(lent) = self.held.take() {
+            self.shared.put_back(lent);
+        }
     }
 }
 
 /// Ends at the deadline, and never where that lies beyond all moments. The timer is made only once
 /// something is waited for, and on the heap: it is larger than all the rest of a get.
-async fn deadline(began: Instant, limit: Duration) {
-    match began.checked_add(limit) {
+async fn deadline(began: &OnceLock<Instant>, limit: Duration) {
+    match began.get_or_init(Instant::now).checked_add(limit) {
         Some(deadline) => Box::pin(sleep_until(deadline)).await,
         None => pending().await,
     }

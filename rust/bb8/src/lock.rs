@@ -8,8 +8,13 @@ use std::sync::{self as implementation, PoisonError, TryLockError};
 pub(crate) use implementation::MutexGuard;
 use std::hint::spin_loop;
 
-/// A lock that knows no poison: what it holds is whole after each step. What lies beside it is read
-/// without it, and so is in no line of the processor's memory that it is in.
+/// A lock that knows no poison. Nothing of the user's runs under it: no manager, no drop of a
+/// connection, no waker. So a panic there is a fault of this crate that an assertion has found, before
+/// anything was lent or freed on the strength of it: a connection may be lost by it, none is lent
+/// twice.
+///
+/// What lies beside it is read without it, and so is in no line of the processor's memory that it is
+/// in.
 #[repr(align(128))]
 pub(crate) struct Mutex<T>(implementation::Mutex<T>);
 
