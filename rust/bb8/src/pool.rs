@@ -13,7 +13,7 @@ use crate::shelf::Shelf;
 use crate::waiters::{Handed, Waiters};
 use futures_util::stream::{FuturesUnordered, StreamExt};
 use std::panic::resume_unwind;
-use std::sync::{Arc, OnceLock, Weak};
+use std::sync::{Arc, Weak};
 use std::task::Waker;
 use std::time::Duration;
 use std::{fmt, iter, mem, thread};
@@ -311,9 +311,7 @@ impl<M: ManageConnection> PoolInner<M> {
     }
 
     pub(crate) async fn get(&self) -> Result<Lent<M::Connection>, RunError<M::Error>> {
-        let began = OnceLock::new();
-        let mut getting = Getting::new(self.shared(), &began);
-        getting.answer().await
+        Getting::new(self.shared()).answer().await
     }
 
     #[inline]

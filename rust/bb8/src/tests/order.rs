@@ -201,6 +201,22 @@ async fn what_was_handed_in_time_is_served_after_it() {
 }
 
 #[tokio::test(start_paused = true)]
+async fn a_wait_counts_from_where_it_began() {
+    for check in [false, true] {
+        let pool = pool(check, None).await;
+        let conn = pool.get().await.unwrap();
+        tokio::time::advance(Duration::from_secs(5)).await;
+        let mut first = Hand::waiting(&pool);
+        tokio::time::advance(Duration::from_millis(100)).await;
+        drop(conn);
+        assert!(matches!(first.poll(), Some(Ok(_))));
+        let waited = pool.state().statistics.get_wait_time;
+        assert_eq!(waited, Duration::from_millis(100));
+        assert_calm(&pool);
+    }
+}
+
+#[tokio::test(start_paused = true)]
 async fn only_who_has_waited_so_long_is_handed_it() {
     let pool = pool(false, Some(Duration::from_millis(1))).await;
     let conn = pool.get().await.unwrap();
