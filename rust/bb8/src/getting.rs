@@ -45,8 +45,9 @@ impl Time {
         self.began().elapsed() >= self.limit
     }
 
-    /// Ready where it is over, and never where its end lies beyond all moments. The timer is made only
-    /// here, once something is waited for, and on the heap: it is larger than all the rest of a get.
+    /// Ready where it is over, and never where its end lies beyond all moments. The timer is made
+    /// only here, once something is waited for, and on the heap: it is larger than all the rest of
+    /// a get.
     fn poll(&mut self, cx: &mut Context<'_>) -> Poll<()> {
         if self.timer.is_none() {
             let end = self.began().checked_add(self.limit);
@@ -113,9 +114,9 @@ impl<'a, M: ManageConnection> Getting<'a, M> {
         }
     }
 
-    /// Begins, and tries. Where something is idle it does not wait, and its moment and its waker count
-    /// for nothing. Else they are asked for outside the lock: the clock takes long, and wakers are
-    /// cloned and dropped by code of others.
+    /// Begins, and tries. Where something is idle it does not wait, and its moment and its waker
+    /// count for nothing. Else they are asked for outside the lock: the clock takes long, and
+    /// wakers are cloned and dropped by code of others.
     fn begin(
         &mut self,
         cx: &mut Context<'_>,

@@ -1,4 +1,5 @@
-//! Who is served, where gets wait: whoever asks first, or, by `fair_after`, the one whose turn it is.
+//! Who is served, where gets wait: whoever asks first, or, by `fair_after`, the one whose turn it
+//! is.
 
 use super::shadow;
 use crate::{ManageConnection, Pool, PooledConnection, RunError};
