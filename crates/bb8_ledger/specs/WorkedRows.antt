@@ -1,5 +1,5 @@
 -- The worked rows: what happens to a pool, line by line, with the answers that were worked out by hand, or that the original gave.
--- Written by crates/bb8_rows/ledger_rows from crates/bb8_rows/stdin.
+-- Written by gate/ledger_rows from crates/bb8_rows/stdin.
 use Rattle.std.specs.Prelude.{true, false, List, [], ◌∷◌, Some, None}
 use Rattle.bb8_ledger.specs.Acts.{Begin, Try, CheckedOk, CheckedErr, GiveUp, PutBack, Fill, Claim, Add, Reap, Join, Leave, TimedOut, Cancelled}
 use Rattle.bb8_ledger.specs.Answers.{Begun, Exhausted, Served, Taken, Waiting, Kept, Closed, GaveUp, Granted, Claimed, Ended, Entered, Late, Added, Broken, NoCapacity, Withheld, Reaped, Joined, Left, Unfit}

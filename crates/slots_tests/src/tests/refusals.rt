@@ -1,4 +1,4 @@
-//! A run in which any one request for memory is refused, or all from any on, as `refusals/run` makes them. It holds with refusals and without.
+//! A run in which any one request for memory is refused, or all from any on, as `gate/refusals/run` makes them. It holds with refusals and without.
 
 use super::{came_to, lacked_memory};
 use crate::trial::{Bench, Count, CountRunner, RunnerTrial, SlotPool, slots, try_runner};
