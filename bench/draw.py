@@ -8,6 +8,8 @@ import math
 import os
 import sys
 
+sys.dont_write_bytecode = True
+
 import figures
 import tables
 from measures import CORE_OF, CRATE_OF, LIVE_OF, ORIGINAL_OF, R2D2_OF
@@ -113,7 +115,8 @@ def drawn_of(table, whats, whom, by=lambda one: one):
 def pair(parts):
     counts = figures.table(parts, "instructions")
     groups = [(words, [(whose, float(counts[(what, whose)][0])) for whose in POOLS if (what, whose) in counts])
-              for what, words in (("a pair, check off", "Connections go out unchecked"), ("a pair, check on", "Default settings: each is checked first, by a check that is ready at once (of r2d2 a plain call)"))]
+              for what, words in (("a pair, check off", "Connections go out unchecked"),
+                                  ("a pair, check on", "Default settings: each is checked first, by a check that is ready at once (of r2d2 a plain call)"))]
     groups = [group for group in groups if group[1]]
     return groups and bars("A get and its return, in instructions", "One thread, counted by callgrind; less is better", groups)
 
