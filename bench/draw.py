@@ -177,7 +177,7 @@ def main():
     if sys.argv[1:] == ["--check"]:
         others = list(stale())
         for path in others:
-            print(f"{path} is not the picture of bench/figures.txt; bench/draw.py draws it")
+            print(f"{path} is not of bench/figures.txt; bench/draw.py writes it")
         sys.exit(1 if others else 0)
     write()
 
