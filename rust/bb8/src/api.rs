@@ -25,8 +25,8 @@ impl<M: ManageConnection> Pool<M> {
     /// Waits for a connection, which comes back to the pool when the guard is dropped.
     ///
     /// Gets that wait are woken in their order, but whoever asks before a woken one comes takes the
-    /// connection: see [`Builder::fair_after`]. One whose future is dropped is let go, and what it was
-    /// promised or handed goes to the next one.
+    /// connection: see [`Builder::fair_after`]. One whose future is dropped is let go, and what it
+    /// was promised or handed goes to the next one.
     ///
     /// # Errors
     ///

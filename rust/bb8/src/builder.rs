@@ -237,22 +237,24 @@ impl<M: ManageConnection> Builder<M> {
         self
     }
 
-    /// Sets after which wait a get is handed its connection: never by default. A millisecond is what
-    /// to take where gets wait.
+    /// Sets after which wait a get is handed its connection: never by default. A millisecond is
+    /// what to take where gets wait.
     ///
-    /// By default a connection that comes free is promised to the get whose turn it is, which is woken;
-    /// but whoever asks before it comes takes the connection, and it waits anew, behind all others. So
-    /// a get may time out while a few tasks are served again and again. A get that has waited for so
-    /// long is handed the connection as it comes free, and nobody can take it from there.
+    /// By default a connection that comes free is promised to the get whose turn it is, which is
+    /// woken; but whoever asks before it comes takes the connection, and it waits anew, behind all
+    /// others. So a get may time out while a few tasks are served again and again. A get that has
+    /// waited for so long is handed the connection as it comes free, and nobody can take it from
+    /// there.
     ///
     /// At zero gets are served in the order in which they began to wait, as long as none of their
-    /// connections is closed: a get for which one is opened in its place goes to the end of the line.
-    /// But each connection that comes free lies idle until a task was woken, which costs up to a third
-    /// of all rounds where connections are held for microseconds. A millisecond leaves those rounds as
-    /// they are, and lets nobody wait for much longer than the line before it takes.
+    /// connections is closed: a get for which one is opened in its place goes to the end of the
+    /// line. But each connection that comes free lies idle until a task was woken, which costs a
+    /// third of all rounds, and more, where connections are held for microseconds. A millisecond
+    /// leaves those rounds as they are, and lets nobody wait for much longer than the line before
+    /// it takes.
     ///
-    /// A future that was handed a connection has it, and is to be polled or dropped. One that is kept
-    /// without being polled keeps the connection, also from the task that keeps it:
+    /// A future that was handed a connection has it, and is to be polled or dropped. One that is
+    /// kept without being polled keeps the connection, also from the task that keeps it:
     ///
     /// ```
     /// # use bb8::{ManageConnection, Pool, RunError};

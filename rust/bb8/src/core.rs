@@ -43,8 +43,9 @@ pub(crate) struct Told {
 }
 
 impl Told {
-    /// What was told. A step that does not fit what the core holds changes nothing and tells 0: that
-    /// comes from a fault of this crate, and nothing may be lent or freed on the strength of it.
+    /// What was told. A step that does not fit what the core holds changes nothing and tells 0:
+    /// that comes from a fault of this crate, and nothing may be lent or freed on the strength of
+    /// it.
     #[inline]
     pub(crate) fn kind(&self) -> Kind {
         Kind::of(self.kind).expect("the step fits what the core holds")
@@ -359,8 +360,8 @@ mod heap {
         }
     }
 
-    /// Whether a request is refused before `malloc` is asked: it aligns to 16, which is more than the
-    /// core has wanted so far.
+    /// Whether a request is refused before `malloc` is asked: it aligns to 16, which is more than
+    /// the core has wanted so far.
     fn refuses(alignment: usize) -> bool {
         #[cfg(test)]
         if crate::tests::memory::refuses() {

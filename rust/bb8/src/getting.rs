@@ -6,13 +6,13 @@ use crate::lock::MutexGuard;
 use crate::managers::ManageConnection;
 use crate::pool::{Lent, Locked, Shared};
 use crate::waiters::{Handed, Waiter};
-use std::future::{pending, poll_fn, Future};
-use std::pin::pin;
-use std::sync::{Arc, OnceLock};
+use std::future::{poll_fn, Future};
+use std::pin::{pin, Pin};
+use std::sync::Arc;
 use std::task::{Context, Poll, Waker};
 use std::time::Duration;
 use tokio::task::unconstrained;
-use tokio::time::{sleep_until, Instant};
+use tokio::time::{sleep_until, Instant, Sleep};
 
 /// How far a get has come.
 #[derive(Clone, Copy, PartialEq, Eq)]
@@ -27,11 +27,44 @@ enum Stage {
     Ended,
 }
 
+/// The time that a get has. It runs from where it is first asked for, so that a get which is served
+/// at once reads no clock.
+struct Time {
+    limit: Duration,
+    began: Option<Instant>,
+    timer: Option<Pin<Box<Sleep>>>,
+}
+
+impl Time {
+    fn began(&mut self) -> Instant {
+        *self.began.get_or_insert_with(Instant::now)
+    }
+
+    /// Whether it is over.
+    fn is_over(&mut self) -> bool {
+        self.began().elapsed() >= self.limit
+    }
+
+    /// Ready where it is over, and never where its end lies beyond all moments. The timer is made
+    /// only here, once something is waited for, and on the heap: it is larger than all the rest of
+    /// a get.
+    fn poll(&mut self, cx: &mut Context<'_>) -> Poll<()> {
+        if self.timer.is_none() {
+            let end = self.began().checked_add(self.limit);
+            self.timer = end.map(|end| Box::pin(sleep_until(end)));
+        }
+        match &mut self.timer {
+            // What a check used of the task's budget is not to hold the timer up.
+            Some(timer) => pin!(unconstrained(timer.as_mut())).poll(cx),
+            None => Poll::Pending,
+        }
+    }
+}
+
 /// A get. Where it is dropped before it ended, it is given up as cancelled.
 pub(crate) struct Getting<'a, M: ManageConnection> {
     shared: &'a Arc<Shared<M>>,
-    /// When it began, if that was asked for: where it is served at once nobody does.
-    began: &'a OnceLock<Instant>,
+    time: Time,
     stage: Stage,
     get: Name,
     /// What it was handed.
@@ -39,29 +72,23 @@ pub(crate) struct Getting<'a, M: ManageConnection> {
 }
 
 impl<'a, M: ManageConnection> Getting<'a, M> {
-    pub(crate) fn new(shared: &'a Arc<Shared<M>>, began: &'a OnceLock<Instant>) -> Self {
+    pub(crate) fn new(shared: &'a Arc<Shared<M>>) -> Self {
         Getting {
             shared,
-            began,
+            time: Time {
+                limit: shared.settings.connection_timeout,
+                began: None,
+                timer: None,
+            },
             stage: Stage::New,
             get: Name::default(),
             held: None,
         }
     }
 
-    /// Runs until its end or its deadline, at which it tries once more. A get has one answer.
+    /// Runs until its end or its deadline. A get has one answer.
     pub(crate) async fn answer(&mut self) -> Result<Lent<M::Connection>, RunError<M::Error>> {
-        let limit = self.shared.settings.connection_timeout;
-        // What the check used of the task's budget is not to hold the timer up.
-        let mut timer = pin!(unconstrained(deadline(self.began, limit)));
-        let served = {
-            let mut run = pin!(self.run());
-            poll_fn(|cx| match run.as_mut().poll(cx) {
-                Poll::Pending => timer.as_mut().poll(cx).map(|()| Err(RunError::TimedOut)),
-                ready => ready,
-            })
-            .await
-        };
+        let served = self.run().await;
         if matches!(served, Err(RunError::TimedOut)) {
             self.end(true);
             // It may have been served since its last try.
@@ -70,38 +97,28 @@ impl<'a, M: ManageConnection> Getting<'a, M> {
         served.map(|()| self.held.take().expect("what is served holds a connection"))
     }
 
-    /// Runs until it is served what it then holds.
+    /// Runs until it is served what it then holds, or its time is over.
     async fn run(&mut self) -> Result<(), RunError<M::Error>> {
         loop {
-            let served = poll_fn(|cx| self.try_get(cx)).await?;
-            if served || self.check().await {
+            let tried = poll_fn(|cx| match self.try_get(cx) {
+                Poll::Pending => self.time.poll(cx).map(|()| Err(RunError::TimedOut)),
+                ready => ready,
+            });
+            if tried.await? || self.check().await? {
                 return Ok(());
             }
-            if self.is_late() {
+            if self.time.is_over() {
                 return Err(RunError::TimedOut);
             }
             next_poll().await;
         }
     }
 
-    /// Whether its time is over; it runs from the first time that it is asked for.
-    fn is_late(&self) -> bool {
-        let limit = self.shared.settings.connection_timeout;
-        let began = self.began.get();
-        began.is_some_and(|began| began.elapsed() >= limit)
-    }
-
-    /// The moment at which it began.
-    fn moment(&self) -> u64 {
-        let began = self.began.get_or_init(Instant::now);
-        self.shared.moment(*began)
-    }
-
-    /// Begins, and tries. Where something is idle it does not wait, and its moment and its waker count
-    /// for nothing. Else they are asked for outside the lock: the clock takes long, and wakers are
-    /// cloned and dropped by code of others.
+    /// Begins, and tries. Where something is idle it does not wait, and its moment and its waker
+    /// count for nothing. Else they are asked for outside the lock: the clock takes long, and
+    /// wakers are cloned and dropped by code of others.
     fn begin(
-        &self,
+        &mut self,
         cx: &mut Context<'_>,
         waker: &mut Option<Waker>,
     ) -> (MutexGuard<'a, Locked<M::Connection>>, Told) {
@@ -112,7 +129,7 @@ impl<'a, M: ManageConnection> Getting<'a, M> {
                 return (locked, told);
             }
         }
-        let at = self.moment();
+        let at = self.shared.moment(self.time.began());
         *waker = Some(cx.waker().clone());
         let mut locked = self.shared.lock();
         let told = locked.core.get(at);
@@ -152,7 +169,8 @@ impl<'a, M: ManageConnection> Getting<'a, M> {
             Kind::Waiting => {
                 self.stage = Stage::Waited;
                 waker.get_or_insert_with(|| cx.waker().clone());
-                if locked.waiters.wait(self.get, self.moment(), &mut waker) {
+                let since = self.shared.moment(self.time.began());
+                if locked.waiters.wait(self.get, since, &mut waker) {
                     Poll::Pending
                 } else {
                     Poll::Ready(Err(RunError::Memory))
@@ -186,14 +204,27 @@ impl<'a, M: ManageConnection> Getting<'a, M> {
         Poll::Ready(Err(error))
     }
 
-    /// Whether what it holds passes its check; then the get has ended.
-    async fn check(&mut self) -> bool {
+    /// Whether what it holds passes its check in time; then the get has ended.
+    async fn check(&mut self) -> Result<bool, RunError<M::Error>> {
         let Some(lent) = &mut self.held else {
-            return false;
+            return Ok(false);
         };
-        if let Err(error) = self.shared.manager.is_valid(&mut lent.conn).await {
-            self.close(error);
-            return false;
+        let checked = {
+            let mut check = pin!(self.shared.manager.is_valid(&mut lent.conn));
+            let time = &mut self.time;
+            poll_fn(move |cx| match check.as_mut().poll(cx) {
+                Poll::Pending => time.poll(cx).map(|()| None),
+                Poll::Ready(checked) => Poll::Ready(Some(checked)),
+            })
+            .await
+        };
+        match checked {
+            Some(Ok(())) => {}
+            Some(Err(error)) => {
+                self.close(error);
+                return Ok(false);
+            }
+            None => return Err(RunError::TimedOut),
         }
         // The moment counts only for the time that a get has waited.
         let waited = self.stage == Stage::Waited;
@@ -203,7 +234,7 @@ impl<'a, M: ManageConnection> Getting<'a, M> {
         told.assert(Kind::Served);
         self.stage = Stage::Ended;
         lent.key = told.key;
-        true
+        Ok(true)
     }
 
     /// Closes what it holds, whose check has failed.
@@ -257,15 +288,6 @@ impl<M: ManageConnection> Drop for Getting<'_, M> {
         if let Some(lent) = self.held.take() {
             self.shared.put_back(lent);
         }
-    }
-}
-
-/// Ends at the deadline, and never where that lies beyond all moments. The timer is made only once
-/// something is waited for, and on the heap: it is larger than all the rest of a get.
-async fn deadline(began: &OnceLock<Instant>, limit: Duration) {
-    match began.get_or_init(Instant::now).checked_add(limit) {
-        Some(deadline) => Box::pin(sleep_until(deadline)).await,
-        None => pending().await,
     }
 }
 

@@ -48,7 +48,8 @@ pub trait CustomizeConnection<C: Send + 'static, E: 'static>:
     }
 }
 
-/// Is told of errors that no caller sees: of checks that failed, and of openings by the pool itself.
+/// Is told of errors that no caller sees: of checks that failed, and of openings by the pool
+/// itself.
 pub trait ErrorSink<E>: fmt::Debug + Send + Sync + 'static {
     /// Takes an error.
     fn sink(&self, error: E);

@@ -15,8 +15,8 @@ pub(crate) struct Claimed {
     place: usize,
 }
 
-/// An approval that is claimed, until its connection is open or it is given back. It is no handle of
-/// the pool. Where it is dropped before, as its runtime ends, another one opens the connection.
+/// An approval that is claimed, until its connection is open or it is given back. It is no handle
+/// of the pool. Where it is dropped before, as its runtime ends, another one opens the connection.
 pub(crate) struct Opening<M: ManageConnection> {
     shared: Arc<Shared<M>>,
     claimed: Option<Claimed>,

@@ -13,7 +13,7 @@ use crate::shelf::Shelf;
 use crate::waiters::{Handed, Waiters};
 use futures_util::stream::{FuturesUnordered, StreamExt};
 use std::panic::resume_unwind;
-use std::sync::{Arc, OnceLock, Weak};
+use std::sync::{Arc, Weak};
 use std::task::Waker;
 use std::time::Duration;
 use std::{fmt, iter, mem, thread};
@@ -39,9 +39,9 @@ pub(crate) struct Locked<C> {
 }
 
 impl<C> Locked<C> {
-    /// Has a get that was notified try at once, under the lock of the step that notified it, so that
-    /// no other comes between. The answer is its waker, where it was handed a connection, and whether
-    /// something is to be opened. Where nothing is idle it waits on, and is not woken.
+    /// Has a get that was notified try at once, under the lock of the step that notified it, so
+    /// that no other comes between. The answer is its waker, where it was handed a connection, and
+    /// whether something is to be opened. Where nothing is idle it waits on, and is not woken.
     pub(crate) fn hand_over(&mut self, at: u64, get: Name) -> (Option<Waker>, bool) {
         let told = self.core.try_get(at, get);
         let waker = match told.kind() {
@@ -147,8 +147,8 @@ impl<M: ManageConnection> Shared<M> {
     }
 
     /// Opens connections for all approvals whose openings were cut off, and for all that are
-    /// unclaimed, each by a task of its own. A runtime that ends drops such a task at once, which cuts
-    /// its opening off anew: so those that were cut off before are taken in one piece.
+    /// unclaimed, each by a task of its own. A runtime that ends drops such a task at once, which
+    /// cuts its opening off anew: so those that were cut off before are taken in one piece.
     #[cold]
     pub(crate) fn open(self: &Arc<Self>) {
         let Ok(runtime) = Handle::try_current() else {
@@ -174,8 +174,8 @@ pub(crate) fn nanoseconds(span: Duration) -> u64 {
 }
 
 /// The one handle that the core counts; all handles of the pool share it. Once the last of them is
-/// gone, the core is left, and the idle connections are closed. Where memory to list them is refused,
-/// they are closed with the last opening that is under way.
+/// gone, the core is left, and the idle connections are closed. Where memory to list them is
+/// refused, they are closed with the last opening that is under way.
 struct Owner<M: ManageConnection> {
     shared: Arc<Shared<M>>,
 }
@@ -318,9 +318,7 @@ impl<M: ManageConnection> PoolInner<M> {
     }
 
     pub(crate) async fn get(&self) -> Result<Lent<M::Connection>, RunError<M::Error>> {
-        let began = OnceLock::new();
-        let mut getting = Getting::new(self.shared(), &began);
-        getting.answer().await
+        Getting::new(self.shared()).answer().await
     }
 
     #[inline]

@@ -29,8 +29,8 @@ pub(crate) trait HandsIn: FnOnce(&mut Core, u64, Name, u64, bool) -> Told {}
 impl<F: FnOnce(&mut Core, u64, Name, u64, bool) -> Told> HandsIn for F {}
 
 /// A connection that is out, and the step that is to tell the core that it came back. Where that is
-/// not made otherwise, it is made at the end, as of a broken one that is gone: else its room would be
-/// lost for ever.
+/// not made otherwise, it is made at the end, as of a broken one that is gone: else its room would
+/// be lost for ever.
 struct Owed<'a, M: ManageConnection, S: HandsIn> {
     shared: &'a Arc<Shared<M>>,
     key: Name,
@@ -69,8 +69,8 @@ impl<M: ManageConnection> Shared<M> {
         self.take_back(lent, true, Shared::back_now, Core::put_back);
     }
 
-    /// Takes a connection back by a step, at the moment that the clock tells. One that is broken, or
-    /// is not to be kept, is dropped before the core gives its room away.
+    /// Takes a connection back by a step, at the moment that the clock tells. One that is broken,
+    /// or is not to be kept, is dropped before the core gives its room away.
     #[inline]
     pub(crate) fn take_back(
         self: &Arc<Self>,
@@ -95,8 +95,8 @@ impl<M: ManageConnection> Shared<M> {
         }
     }
 
-    /// Goes on after a step to which a connection was handed in, if it is not dropped already: at its
-    /// place it is idle, or the place is free and it is dropped.
+    /// Goes on after a step to which a connection was handed in, if it is not dropped already: at
+    /// its place it is idle, or the place is free and it is dropped.
     #[inline(always)]
     pub(crate) fn shelve(
         self: &Arc<Self>,
@@ -149,8 +149,9 @@ impl<M: ManageConnection> Shared<M> {
         drop(closed);
     }
 
-    /// What follows for a get that was notified: whom to wake, and whether something is to be opened.
-    /// Where memory to note that it waits was refused it gives up, and its notification goes on.
+    /// What follows for a get that was notified: whom to wake, and whether something is to be
+    /// opened. Where memory to note that it waits was refused it gives up, and its notification
+    /// goes on.
     #[cold]
     fn notify(
         &self,
@@ -169,9 +170,9 @@ impl<M: ManageConnection> Shared<M> {
         }
     }
 
-    /// Drops the connections that a reap or the last leave closed, one by one and outside the lock: a
-    /// connection may take time to close, and its drop may call the pool. Where some of these drops
-    /// panic, the others are made all the same; the answer is the first panic.
+    /// Drops the connections that a reap or the last leave closed, one by one and outside the lock:
+    /// a connection may take time to close, and its drop may call the pool. Where some of these
+    /// drops panic, the others are made all the same; the answer is the first panic.
     pub(crate) fn drop_closed(&self) -> Result<(), Box<dyn Any + Send>> {
         let next = || self.lock().take_closed();
         let mut result = Ok(());

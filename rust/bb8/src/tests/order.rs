@@ -1,4 +1,5 @@
-//! Who is served, where gets wait: whoever asks first, or, by `fair_after`, the one whose turn it is.
+//! Who is served, where gets wait: whoever asks first, or, by `fair_after`, the one whose turn it
+//! is.
 
 use super::shadow;
 use crate::{ManageConnection, Pool, PooledConnection, RunError};
@@ -196,6 +197,22 @@ async fn what_was_handed_in_time_is_served_after_it() {
         // The wait ends with the hand-over, or with the check that it leads to.
         let due = [waited, after].map(|span| span.as_millis());
         assert_eq!(due, if check { [0, 1800] } else { [900, 900] });
+        assert_calm(&pool);
+    }
+}
+
+#[tokio::test(start_paused = true)]
+async fn a_wait_counts_from_where_it_began() {
+    for check in [false, true] {
+        let pool = pool(check, None).await;
+        let conn = pool.get().await.unwrap();
+        tokio::time::advance(Duration::from_secs(5)).await;
+        let mut first = Hand::waiting(&pool);
+        tokio::time::advance(Duration::from_millis(100)).await;
+        drop(conn);
+        assert!(matches!(first.poll(), Some(Ok(_))));
+        let waited = pool.state().statistics.get_wait_time;
+        assert_eq!(waited, Duration::from_millis(100));
         assert_calm(&pool);
     }
 }

@@ -1,5 +1,5 @@
-//! Storms: many tasks get, cancel, time out, break, fail checks, add and reap. Afterwards nothing is
-//! lost, and every step told what the shadow says.
+//! Storms: many tasks get, cancel, time out, break, fail checks, add and reap. Afterwards nothing
+//! is lost, and every step told what the shadow says.
 
 use super::shadow;
 use crate::{ManageConnection, Pool, QueueStrategy, State};
