@@ -2,15 +2,16 @@
 """Measures what each crate costs a run of the gate: measure.py [--write] COMMAND.. at the top of the repository, as measure.py rt ci.
 
 It looks each half second at the checks that the command started, and adds up the processor time of each crate's proof, tests and edits. At the
-end it prints, and with --write writes to gate/costs.txt, a line for each crate: minutes of one processor for its proof, its tests and all its
-edits, and how many edits those were; and before them the sum, the minutes of the wall, and the processors. The command's own output goes
-through, and its status is the answer.
+end it prints the sum, the minutes of the wall, the processors, and a line for each crate: minutes of one processor for its proof, its tests and
+the checks of its edits, and how many checks those were. With --write the lines go to gate/costs.txt, where what the command did not measure stays
+as it was: `rt ci` knows no edits, gate/edits/run no whole proofs. The command's own output goes through, and its status is the answer.
 """
 import os
 import re
 import subprocess
 import sys
 import time
+from collections import Counter
 
 TICK = os.sysconf("SC_CLK_TCK")
 
@@ -57,23 +58,32 @@ def checks(command):
         yield (number, fields[19]), crate, kind, sum(map(int, fields[11:15])) / TICK
 
 
-def edits_of(crate):
-    folder = f"crates/{crate}/must-fail"
-    return sum(it.endswith(".edit") for it in os.listdir(folder)) if os.path.isdir(folder) else 0
+def lines_of(file):
+    """The lines of a list of crates, by the crate's name."""
+    with open(file, encoding="utf-8") as it:
+        return {found[1]: line.rstrip("\n") for line in it if (found := re.match(r"(\w+)", line))}
 
 
-def told(seen, minutes_of_wall):
-    """The lines of gate/costs.txt."""
-    with open("crates.txt", encoding="utf-8") as it:
-        crates = re.findall(r"^(\w+)", it.read(), re.M)
-    costs = {}
+def costs_of(seen, before):
+    """Each crate's line of gate/costs.txt, by what was seen, and by the line before where it was not."""
+    minutes, checks = Counter(), Counter()
     for crate, kind, seconds in seen.values():
-        costs[crate, kind] = costs.get((crate, kind), 0) + seconds / 60
-    yield f"# {sum(costs.values()):.0f} minutes of one processor, {minutes_of_wall:.0f} of the wall, {os.cpu_count()} processors"
-    yield "# crate, minutes of its proof, of its tests, of its edits, and how many edits"
-    for crate in crates:
-        proof, tests, edits = (costs.get((crate, kind), 0) for kind in ("proof", "tests", "edits"))
-        yield f"{crate} {proof:.1f} {tests:.1f} {edits:.1f} {edits_of(crate)}"
+        minutes[crate, kind] += seconds / 60
+        checks[crate, kind] += 1
+    for crate in lines_of("crates.txt"):
+        *figures, number = before.get(crate, f"{crate} 0.0 0.0 0.0 0").split()[1:]
+        for at, kind in enumerate(("proof", "tests", "edits")):
+            if checks[crate, kind]:
+                figures[at] = f"{minutes[crate, kind]:.1f}"
+        yield " ".join([crate, *figures, str(checks[crate, "edits"] or number)])
+
+
+def write(lines):
+    """Writes the lines to gate/costs.txt, behind its remarks."""
+    with open("gate/costs.txt", encoding="utf-8") as it:
+        remarks = [line for line in it if line.startswith("#")]
+    with open("gate/costs.txt", "w", encoding="utf-8") as it:
+        it.writelines([*remarks, *(f"{line}\n" for line in lines)])
 
 
 def main():
@@ -84,11 +94,12 @@ def main():
         for process, crate, kind, seconds in checks(running.pid):
             seen[process] = crate, kind, seconds
         time.sleep(0.5)
-    lines = "".join(f"{line}\n" for line in told(seen, (time.time() - begun) / 60))
-    print(lines, end="", flush=True)
+    minutes = sum(seconds for _, _, seconds in seen.values()) / 60
+    print(f"{minutes:.0f} minutes of one processor, {(time.time() - begun) / 60:.0f} of the wall, {os.cpu_count()} processors")
+    print("crate, minutes of its proof, of its tests, of the checks of its edits, and how many checks")
+    print(*costs_of(seen, {}), sep="\n", flush=True)
     if is_written:
-        with open("gate/costs.txt", "w", encoding="utf-8") as it:
-            it.write(lines)
+        write(list(costs_of(seen, lines_of("gate/costs.txt"))))
     return running.returncode
 
 

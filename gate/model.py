@@ -1,11 +1,12 @@
 #!/usr/bin/env python3
-"""How long `rt ci` takes, by what gate/costs.txt says that each crate costs: model.py [--tasks] [PROCESSORS..], at the top of the repository.
+"""How long `rt ci` takes, and the edits of a landing behind it, by what gate/costs.txt says that each crate costs:
+model.py [--tasks] [PROCESSORS..], at the top of the repository.
 
-Each crate has a task of proof, of tests and of edits. A proof waits for the proofs below, tests wait for the proofs that their crate stands
-on, edits for the proof and the tests of their crate. Tasks are started as the gate starts them: one a processor, first those with the longest
-chain of others behind them, by lines. A proof or tests get a second processor only where nothing else waits. The crates, what they stand on,
-their lines and how many edits they have are read from the tree; the first of a crate's edits proves the crate again. A crate without a line in
-gate/costs.txt is an error: add it, with minutes that were measured (gate/measure.py), before it lands.
+Each crate has a task of proof and of tests. A proof waits for the proofs below, tests wait for the proofs that their crate stands on. Tasks
+are started as the gate starts them: one a processor, first those with the longest chain of others behind them, by lines. Each gets a second
+processor only where nothing else waits. A landing tries the edits that gate/edits/named lists and a tenth of the others, each by a check, after
+one of the crate as it is; crates share the processors, at most four. The crates, what they stand on, their lines and their edits are read from
+the tree. A crate without a line in gate/costs.txt is told and reckoned as the template: gate/measure.py measures it.
 """
 import os
 import re
@@ -13,6 +14,8 @@ import sys
 
 # What more jobs leave of a task's time.
 SHARE = {1: 1, 2: 0.62, 3: 0.5, 4: 0.45}
+# The crate that others are made of.
+LIKE = "bb8_template"
 
 
 def lines_of(crate):
@@ -25,18 +28,22 @@ def lines_of(crate):
     return count
 
 
-def edits_of(crate):
-    folder = f"crates/{crate}/must-fail"
-    return sum(it.endswith(".edit") for it in os.listdir(folder)) if os.path.isdir(folder) else 0
+def checks_of(crate, named):
+    """How many checks a landing makes of a crate's edits."""
+    folder = f"gate/edits/{crate}"
+    edits = [it.removesuffix(".edit") for it in os.listdir(folder)] if os.path.isdir(folder) else []
+    each = sum(f"{crate}/{it}" in named for it in edits)
+    return each + (len(edits) - each) / 10 + 1 if edits else 0
 
 
-def cost_of_edits(proof, minutes, measured, count):
-    """Minutes of so many edits, where those of `measured` edits took `minutes`."""
-    if count == 0:
-        return 0
-    first = 1.1 * proof
-    further = (minutes - first) / (measured - 1) if measured > 1 and minutes > first else 0.6
-    return first + further * (count - 1)
+def minutes_of_edits(made):
+    """Minutes of one processor that a landing's edits take. Where no check of a crate's edits was measured, one takes the mean of all."""
+    with open("gate/edits/named", encoding="utf-8") as it:
+        named = set(it.read().split("\n"))
+    minutes, number = (sum(costs[at] for _, _, costs in made.values()) for at in (2, 3))
+    mean = minutes / number if number else 0
+    one = {crate: costs[2] / costs[3] if costs[3] else mean for crate, (_, _, costs) in made.items()}
+    return sum(checks_of(crate, named) * one[crate] for crate in made)
 
 
 def crates():
@@ -46,8 +53,8 @@ def crates():
         costs = {line.split()[0]: [float(word) for word in line.split()[1:]] for line in it if not line.startswith("#")}
     lacking = sorted(set(named) - set(costs))
     if lacking:
-        sys.exit(f"gate/costs.txt has no line of {', '.join(lacking)}")
-    return {crate: ([it for it in below.split() if it in named], lines_of(crate), costs[crate]) for crate, below in named.items()}
+        print(f"gate/costs.txt has no line of {', '.join(lacking)}, which is reckoned as {LIKE}")
+    return {crate: ([it for it in below.split() if it in named], lines_of(crate), costs.get(crate, costs[LIKE])) for crate, below in named.items()}
 
 
 def below(made, crate):
@@ -65,11 +72,10 @@ def tasks_of(made):
     """What each task waits for, its lines, and its minutes; those that wait stand behind."""
     tasks = {}
     for crate in sorted(made, key=lambda it: len(below(made, it))):
-        _, lines, (proof, tests, minutes, measured) = made[crate]
-        waits, count = [(it, "proof") for it in below(made, crate)], edits_of(crate)
+        _, lines, (proof, tests, _, _) = made[crate]
+        waits = [(it, "proof") for it in below(made, crate)]
         tasks[crate, "proof"] = waits, lines, proof
         tasks[crate, "tests"] = waits, lines * (tests > 0), tests
-        tasks[crate, "edits"] = [(crate, "proof"), (crate, "tests")], lines * (count > 0), cost_of_edits(proof, minutes, measured, count)
     return tasks
 
 
@@ -92,7 +98,7 @@ def run(tasks, processors):
             idle = processors - sum(jobs for _, jobs in running.values())
             if idle > 0:
                 left.remove(key)
-                jobs = 1 if key[1] == "edits" else max(1, min(4, idle // (len(ready) - at)))
+                jobs = max(1, min(4, idle // (len(ready) - at)))
                 end = now + tasks[key][2] * SHARE[jobs]
                 running[key] = end, jobs
                 told.append((now, end, *key, jobs))
@@ -105,12 +111,13 @@ def run(tasks, processors):
 
 def main():
     words = sys.argv[1:]
-    tasks = tasks_of(crates())
-    sums = {kind: sum(minutes for (_, it), (_, _, minutes) in tasks.items() if it == kind) for kind in ("proof", "tests", "edits")}
-    print(f"of one processor {sum(sums.values()):.0f} minutes:", ", ".join(f"{kind} {minutes:.0f}" for kind, minutes in sums.items()))
+    made = crates()
+    tasks, edits = tasks_of(made), minutes_of_edits(made)
+    proof, tests = (sum(minutes for (_, it), (_, _, minutes) in tasks.items() if it == kind) for kind in ("proof", "tests"))
+    print(f"of one processor {proof + tests + edits:.0f} minutes: proof {proof:.0f}, tests {tests:.0f}, edits {edits:.0f}")
     for processors in [int(it) for it in words if it.isdigit()] or [2, 4]:
         wall, told = run(tasks, processors)
-        print(f"{processors} processors: {wall:.0f} minutes")
+        print(f"{processors} processors: {wall:.0f} minutes, and {edits / min(4, processors):.0f} of edits")
         for begun, ended, crate, kind, jobs in told if "--tasks" in words else []:
             if ended > begun + 0.5:
                 print(f"   {begun:6.1f} {ended:6.1f} {crate} {kind}{f', {jobs} jobs' if jobs > 1 else ''}")

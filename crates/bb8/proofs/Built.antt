@@ -1,5 +1,5 @@
 -- The pool that a building answers is made of what was planned, and its error is one that may end it.
-use Rattle.std.proofs.Common.{◌≡◌, Result, Ok, Err, refl, sym, ◌∙◌}
+use Rattle.std.proofs.Common.{◌≡◌, Result, Ok, Err, IfOk, IfErr, refl, sym, ◌∙◌}
 use Rattle.std.specs.Prelude.{List, ⊤}
 use Rattle.std.specs.Arc.{arc_value}
 use Rattle.std.specs.declared.sync.ledger.Ledger.{Ghosts as LedgerOf}
@@ -21,7 +21,6 @@ use Rattle.bb8.specs.declared.building.Plan.{Plan}
 use Rattle.bb8.specs.declared.pool.Pool.{Pool}
 use Rattle.bb8.specs.Buildings.{IsBuildError, PoolIsMade, PlansSite, PollsSite, PoolRounds}
 use Rattle.bb8.specs.Choices.{Choices}
-use Rattle.bb8.specs.Pools.{customizer_in}
 use Rattle.bb8.specs.Services.{basis, basis_of, Basis}
 use Rattle.bb8.proofs.Failing.{round_failed, Ended}
 
@@ -60,43 +59,41 @@ module _ {B I P T E : Type 0} (makes : I → Result (P × T) Memory → Type 0) 
   built _ _ (Answers.now s t x polls) is = (polled s t (Ready x) polls is).0
   built _ _ (Answers.later s t x polls more) is = built t x more (polled s t Pending polls is).1
 
-abbrev pub planned_origin : {M S Z K : Type 0} → Choices S Z → M → K → Basis M K × Z
-planned_origin builder manager clock = (basis builder.settings manager clock, builder.connection_customizer)
-
--- what may end a building of this origin
-abbrev pub ErrorAt : {M Z K C E N V A : Type 0} → ManagerOf M C E N V → CustomizerOf Z C E A → Basis M K × Z → RunError E → Type 0
-ErrorAt m z origin = IsBuildError (m.connect_answers origin.0.manager) (z.acquire_answers origin.1)
+-- what may end a building of this basis
+abbrev pub ErrorAt : {M S Z K C E N V A : Type 0} → ManagerOf M C E N V → CustomizerOf Z C E A → Basis M S Z K → RunError E → Type 0
+ErrorAt m z of = IsBuildError (m.connect_answers of.manager) (z.acquire_answers of.customizer)
 
 module _ {G L M S Z K R C E N V A : Type 0} {m : ManagerOf M C E N V} {d : DebugOf E} {s : SinkOf S E} {z : CustomizerOf Z C E A} {k : ClockOf K} {l : PartsOf L} where
-  -- what a pool is made of, as far as a service sees it, and what prepares its connections
-  abbrev pub origin_of : Pool G L M S Z K R C E N V A m d s z k l → Basis M K × Z
-  origin_of pool = (basis_of pool, customizer_in pool)
+  failed : (of : Basis M S Z K) (pool : Pool G L M S Z K R C E N V A m d s z k l) (tasks : List (Replenish C N A)) (round : Round (List (Replenish C N A)) E) → basis_of pool ≡ of
+      → PoolRounds pool tasks round → Ended (λ e. ErrorAt m z of (errors.User e)) round
+  failed of pool tasks round is rounds = rw (sym is) (round_failed (arc_value pool.shared) tasks round rounds.0)
 
-  failed : (origin : Basis M K × Z) (pool : Pool G L M S Z K R C E N V A m d s z k l) (tasks : List (Replenish C N A)) (round : Round (List (Replenish C N A)) E) → origin_of pool ≡ origin
-      → PoolRounds pool tasks round → Ended (λ e. ErrorAt m z origin (errors.User e)) round
-  failed origin pool tasks round is rounds = rw (sym is) (round_failed (arc_value pool.shared) tasks round rounds.0)
+  told : (of : Basis M S Z K) (x : Result (Pool G L M S Z K R C E N V A m d s z k l) (RunError E)) → Answered basis_of of (ErrorAt m z of) x
+      → IfOk x (λ pool. basis_of pool ≡ of) × IfErr x (ErrorAt m z of)
+  told of (Ok pool) is = (is, tt)
+  told of (Err e) is = (tt, is)
 
 module _ {G L M S Z K R C E N V A : Type 0} {m : ManagerOf M C E N V} {d : DebugOf E} {s : SinkOf S E} {z : CustomizerOf Z C E A} {k : ClockOf K} {l : PartsOf L} {p : LedgerOf L} where
   -- what is planned of it
-  abbrev origin_in : Plan G L M S Z K R C E N V A m d s z k l p → Basis M K × Z
-  origin_in plan = (basis plan.builder.settings plan.manager plan.clock, plan.builder.connection_customizer)
+  abbrev basis_in : Plan G L M S Z K R C E N V A m d s z k l p → Basis M S Z K
+  basis_in plan = basis plan.builder plan.manager plan.clock
 
-  -- a pool is made of its plan's settings, manager, clock and customizer
+  -- a pool is made of what its plan has
   is_made : (plan : Plan G L M S Z K R C E N V A m d s z k l p) (made : Pool G L M S Z K R C E N V A m d s z k l × List (Replenish C N A)) → PoolIsMade plan made.0 made.1
-      → origin_of made.0 ≡ origin_in plan
-  is_made plan made (grant, opened, tasks) = rw (opened.settings, opened.manager, opened.clock, opened.customizer) refl
+      → basis_of made.0 ≡ basis_in plan
+  is_made plan made (grant, opened, tasks) = rw (opened.settings, opened.manager, opened.clock, opened.sink, opened.customizer) refl
 
   -- a building that was not polled yet stands at its plan
   planned : (builder : Choices S Z) (manager : M) (clock : K) (site : Site (Plan G L M S Z K R C E N V A m d s z k l p) (Pool G L M S Z K R C E N V A m d s z k l) (List (Replenish C N A)))
-      → PlansSite builder manager clock site → Stands origin_in origin_of (planned_origin builder manager clock) site
+      → PlansSite builder manager clock site → Stands basis_in basis_of (basis builder manager clock) site
   planned builder manager clock (Planned plan) (is, by, at) = rw (is, by, at) refl
   planned builder manager clock (Opening pool tasks) never = absurd never
   planned builder manager clock Done never = tt
 
-  -- the answer of a building that was planned
+  -- the answer of a building that was planned: a pool of its basis, or an error that may end it
   pub answered : (builder : Choices S Z) (manager : M) (clock : K) (site : Site (Plan G L M S Z K R C E N V A m d s z k l p) (Pool G L M S Z K R C E N V A m d s z k l) (List (Replenish C N A)))
       → (x : Result (Pool G L M S Z K R C E N V A m d s z k l) (RunError E)) → PlansSite builder manager clock site → Answers PollsSite site x
-      → Answered origin_of (planned_origin builder manager clock) (ErrorAt m z (planned_origin builder manager clock)) x
+      → IfOk x (λ pool. basis_of pool ≡ basis builder manager clock) × IfErr x (IsBuildError (m.connect_answers manager) (z.acquire_answers builder.connection_customizer))
   answered builder manager clock site x is answers =
-      let origin = planned_origin builder manager clock in
-      built _ _ origin_in origin_of is_made origin (ErrorAt m z origin) tt (failed origin) site x answers (planned builder manager clock site is)
+      let of = basis builder manager clock in
+      told of x (built _ _ basis_in basis_of is_made of (ErrorAt m z of) tt (failed of) site x answers (planned builder manager clock site is))

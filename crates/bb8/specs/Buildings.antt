@@ -1,5 +1,5 @@
 -- What callers see of the building of a pool: its polls, and what it answers at last.
-use Rattle.std.specs.Prelude.{◌≡◌, Bool, true, Result, Err, IfOk, List, ⊤, ◌⊎◌}
+use Rattle.std.specs.Prelude.{◌≡◌, Bool, true, Option, Some, None, Result, Err, IfOk, List, ⊤, ◌⊎◌}
 use Rattle.std.specs.Arc.{arc_value}
 use Rattle.std.specs.declared.sync.ledger.Ledger.{Ghosts as LedgerOf}
 use Rattle.futures.specs.declared.task.Poll.{Poll}
@@ -15,6 +15,7 @@ use Rattle.bb8_tasks.specs.declared.replenish.Replenish.{Replenish}
 use Rattle.bb8_tasks.specs.declared.rounds.Round.{Round}
 use Rattle.bb8_tasks.specs.declared.rounds.Round.TheVariants.{Failed, Complete, Going}
 use Rattle.bb8_tasks.specs.Building.{BuildingPolls}
+use Rattle.bb8_tasks.specs.Dues.{earliest}
 use Rattle.bb8_tasks.specs.Sweeping.{AreFor}
 use Rattle.bb8_lock.specs.Parts.{HasBegun}
 use Rattle.bb8.specs.declared.building.Building.{Building}
@@ -75,6 +76,15 @@ module _ {G L M S Z K R C E N V A : Type 0} {m : ManagerOf M C E N V} {d : Debug
   -- what the building may answer at last
   abbrev pub GivesBuilding : Building G L M S Z K R C E N V A m d s z k l p → Result (Pool G L M S Z K R C E N V A m d s z k l) (RunError E) → Type 0
   GivesBuilding building out = Answers PollsSite building.site out
+
+  -- when a building that stands here is to be polled: at once before its first poll, and then as soon as one of its tasks is
+  abbrev pub due_at : Site (Plan G L M S Z K R C E N V A m d s z k l p) (Pool G L M S Z K R C E N V A m d s z k l) (List (Replenish C N A)) → Option Moment
+  due_at (Planned plan) = Some (record { 0 = 0 })
+  due_at (Opening pool tasks) = earliest None tasks
+  due_at Done = None
+
+  abbrev pub building_due : Building G L M S Z K R C E N V A m d s z k l p → Option Moment
+  building_due building = due_at building.site
 
   -- a building that stands here is let go: its tasks are, and its pool is dropped
   abbrev pub EndsAt : Site (Plan G L M S Z K R C E N V A m d s z k l p) (Pool G L M S Z K R C E N V A m d s z k l) (List (Replenish C N A)) → Type 0

@@ -1,13 +1,15 @@
 -- What callers see of a driver: what it begins with, its turns, and a run of turns.
-use Rattle.std.specs.Prelude.{◌≡◌, ℕ, ◌+◌, ◌-◌, ◌^◌, min, Bool, true, false}
+use Rattle.std.specs.Prelude.{◌≡◌, ℕ, ◌+◌, ◌-◌, ◌^◌, max, min, Bool, true, false, Option, Some, None}
 use Rattle.std.specs.Arc.{arc_value}
 use Rattle.bb8_types.specs.declared.api.moments.Moment.{Moment}
 use Rattle.bb8_tasks.specs.declared.turning.Turn.{Turn}
 use Rattle.bb8_tasks.specs.declared.turning.Turning.{Turning}
-use Rattle.bb8_tasks.specs.Sweeping.{AtReading}
+use Rattle.bb8_tasks.specs.Dues.{driver_due}
 use Rattle.bb8_tasks.specs.Turns.{is_ended, DriverBegins, DriverTurns}
 use Rattle.bb8_lock.specs.declared.shared.Shared.{Shared}
-use Rattle.bb8_lock.specs.Linked.{IsLinked, Linked}
+use Rattle.bb8_lock.specs.declared.bell.Rests.{Ghosts as RestsOf}
+use Rattle.bb8_lock.specs.declared.bell.Sleeper.TheVariants.{Driver as Sleeping}
+use Rattle.bb8_lock.specs.Linked.{rests, IsLinked, Linked}
 use Rattle.bb8_lock.specs.Opening.{opener, reports, tasks_home}
 use Rattle.bb8_lock.specs.Turning.{OwnTurns}
 use Rattle.bb8_lock.specs.declared.locked.Parts.{Ghosts as PartsOf}
@@ -22,29 +24,45 @@ use Rattle.bb8.specs.Pools.{made_in, settings_in}
 abbrev pub one_more : ℕ → ℕ
 one_more n = min (n + 1) (2 ^ 64 - 1)
 
--- What is told of a run of turns after so many: a turn that ended is the last one; after any other one the gate is asked, and where it does not
--- pause the run stops.
-pub data Runs {T P : Type 0} (step : T → Turn → T → Type 0) (pauses : P → Bool → P → Type 0) : T → P → ℕ → Driven → Type 0 where
-  ends : (t t' : T) (g : P) (n : ℕ) (turn : Turn) (d : Driven) → step t turn t' → turn.ended ≡ true → d ≡ record { turns = one_more n; ended = true }
-      → Runs step pauses t g n d
-  stops : (t t' : T) (g g' : P) (n : ℕ) (turn : Turn) (d : Driven) → step t turn t' → turn.ended ≡ false → pauses g false g'
-      → d ≡ record { turns = one_more n; ended = false } → Runs step pauses t g n d
-  goes_on : (t t' : T) (g g' : P) (n : ℕ) (turn : Turn) (d : Driven) → step t turn t' → turn.ended ≡ false → pauses g true g'
-      → Runs step pauses t' g' (one_more n) d → Runs step pauses t g n d
+-- How long a driver's thread sleeps after a turn at a moment, in nanoseconds: until something is due, a millisecond at least, and no longer than so
+-- long.
+abbrev pub driver_rest : Option Moment → ℕ → ℕ → ℕ
+driver_rest (Some due) now longest = min (max (due.0 - now) 1000000) longest
+driver_rest None now longest = longest
 
--- the clock is read, and a turn made at that moment
-abbrev pub TurnsNow : {C E V A X : Type 0} → HomeOf X C → OpenerOf X C E V A → ReportsOf X E → ℕ → Bool → Turning C V A × X → Turn → Turning C V A × X → Type 0
-TurnsNow home opener reports timeout retry before turn after =
-    AtReading reports.tells (λ at x x'. DriverTurns home opener reports.sinks timeout retry at before.0 x turn after.0 x') before.1 after.1
+-- What is told of a run of turns after so many: a turn that ended is the last one; after any other one the gate is asked, and where it does not
+-- pause the run stops. Else the thread sleeps, unless the bell has rung since it was counted, and the next turn follows.
+pub data Runs {T P : Type 0} (turns : T → ℕ → Moment → Turn → T → Type 0) (pauses : P → Bool → P → Type 0)
+    (sleeps : ℕ → Moment → T → T → Type 0) : T → P → ℕ → Driven → T → Type 0 where
+  ends : (t t' : T) (rings : ℕ) (at : Moment) (g : P) (n : ℕ) (turn : Turn) (d : Driven) → turns t rings at turn t' → turn.ended ≡ true
+      → d ≡ record { turns = one_more n; ended = true } → Runs turns pauses sleeps t g n d t'
+  stops : (t t' : T) (rings : ℕ) (at : Moment) (g g' : P) (n : ℕ) (turn : Turn) (d : Driven) → turns t rings at turn t' → turn.ended ≡ false
+      → pauses g false g' → d ≡ record { turns = one_more n; ended = false } → Runs turns pauses sleeps t g n d t'
+  goes_on : (t t' t'' last : T) (rings : ℕ) (at : Moment) (g g' : P) (n : ℕ) (turn : Turn) (d : Driven) → turns t rings at turn t'
+      → turn.ended ≡ false → pauses g true g' → sleeps rings at t' t'' → Runs turns pauses sleeps t'' g' (one_more n) d last
+      → Runs turns pauses sleeps t g n d last
+
+-- the rings of the drivers' bell are counted, the clock is read, and a turn made at that moment
+abbrev pub TurnsOnce : {C E V A X : Type 0} → HomeOf X C → OpenerOf X C E V A → ReportsOf X E → RestsOf X → ℕ → Bool → Turning C V A × X → ℕ → Moment → Turn
+    → Turning C V A × X → Type 0
+TurnsOnce {X = X} home opener reports rests timeout retry before rings at turn after =
+    (x1 : X) × (x2 : X) × rests.counts before.1 Sleeping rings x1 × reports.tells x1 at x2
+    × DriverTurns home opener reports.sinks timeout retry at before.0 x2 turn after.0 after.1
+
+-- the thread sleeps by that bell until something is due, and no longer than the gate lets it, which tells how long that is
+abbrev pub SleepsOnce : {C V A X : Type 0} → RestsOf X → ℕ → Moment → Turning C V A × X → Turning C V A × X → Type 0
+SleepsOnce rests rings at before after =
+    (longest : ℕ) × rests.sleeps before.1 Sleeping rings (driver_rest (driver_due before.0) at.0 longest) after.1
+    × (after.0 ≡ before.0)
 
 -- a run of such turns on a pool, which the handles share
 module _ {G L M S Z K R C E N V A : Type 0} {m : ManagerOf M C E N V} {d : DebugOf E} {s : SinkOf S E} {z : CustomizerOf Z C E A} {k : ClockOf K} {l : PartsOf L}
     (shared : Shared G L M S Z K R C E N V A m d s z k l) where
   abbrev pub OwnRuns : {P : Type 0} → (P → Bool → P → Type 0) → Turning C N A → P → Driven → Type 0
   OwnRuns pauses turning gate d =
-      (x : Linked shared) × IsLinked shared x
-      × Runs (TurnsNow (tasks_home shared) (opener shared) (reports shared) (as_nanos shared.config.connection_timeout) shared.config.retry_connection)
-      pauses (turning, x) gate 0 d
+      (x : Linked shared) × (last : Turning C N A × Linked shared) × IsLinked shared x
+      × Runs (TurnsOnce (tasks_home shared) (opener shared) (reports shared) (rests shared) (as_nanos shared.config.connection_timeout)
+      shared.config.retry_connection) pauses (SleepsOnce (rests shared)) (turning, x) gate 0 d last
 
 module _ {G L M S Z K R C E N V A : Type 0} {m : ManagerOf M C E N V} {d : DebugOf E} {s : SinkOf S E} {z : CustomizerOf Z C E A} {k : ClockOf K} {l : PartsOf L} where
   -- whether a driver has ended

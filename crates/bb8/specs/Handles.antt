@@ -21,7 +21,7 @@ module _ {G L M S Z K R C E N V A : Type 0} {m : ManagerOf M C E N V} {d : Debug
   IsToldHandle shared _ _ = ⊥
 
   -- The making of one more handle: some state of the pool's settings counts it or refuses it, at a reading of the clock, and the caller is told
-  -- so. For want of memory it is refused before the pool is asked.
+  -- so. Of one that is refused for want of memory nothing is said here.
   abbrev pub IsHandleOf : Shared G L M S Z K R C E N V A m d s z k l → Result (Holding G L M S Z K R C E N V A m d s z k l) (RunError E) → Type 0
   IsHandleOf shared (Err errors.Memory) = ⊤
   IsHandleOf shared result =

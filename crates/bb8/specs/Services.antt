@@ -4,22 +4,27 @@ use Rattle.bb8_types.specs.Settings.{Settings}
 use Rattle.bb8_lock.specs.declared.locked.Parts.{Ghosts as PartsOf}
 use Rattle.bb8_lock.specs.Words.{ManagerOf, DebugOf, SinkOf, CustomizerOf, ClockOf}
 use Rattle.bb8.specs.declared.pool.Pool.{Pool}
-use Rattle.bb8.specs.Pools.{settings_in, manager_in, clock_in}
+use Rattle.bb8.specs.Choices.{Choices}
+use Rattle.bb8.specs.Pools.{clock_in, customizer_in, manager_in, settings_in, sink_in}
 
--- what a pool is built of, as far as a service sees it
-pub record Basis (M K : Type 0) : Type 0 where
+-- what a pool is built of
+pub record Basis (M S Z K : Type 0) : Type 0 where
   pub settings : Settings
   pub manager : M
+  pub sink : S
+  pub customizer : Z
   pub clock : K
 
--- settings, a manager and a clock as such
-abbrev pub basis : {M K : Type 0} → Settings → M → K → Basis M K
-basis settings manager clock = record { settings = settings; manager = manager; clock = clock }
+-- a builder, a manager and a clock as such
+abbrev pub basis : {M S Z K : Type 0} → Choices S Z → M → K → Basis M S Z K
+basis builder manager clock =
+    record { settings = builder.settings; manager = manager; sink = builder.error_sink; customizer = builder.connection_customizer; clock = clock }
 
 module _ {G L M S Z K R C E N V A : Type 0} {m : ManagerOf M C E N V} {d : DebugOf E} {s : SinkOf S E} {z : CustomizerOf Z C E A} {k : ClockOf K} {l : PartsOf L} where
   -- what a pool was built of
-  abbrev pub basis_of : Pool G L M S Z K R C E N V A m d s z k l → Basis M K
-  basis_of pool = basis (settings_in pool) (manager_in pool) (clock_in pool)
+  abbrev pub basis_of : Pool G L M S Z K R C E N V A m d s z k l → Basis M S Z K
+  basis_of pool =
+      record { settings = settings_in pool; manager = manager_in pool; sink = sink_in pool; customizer = customizer_in pool; clock = clock_in pool }
 
 -- so many threads told this, each of them something that the thread of its number may tell
 pub record EachTold {T : Type 0} (Tells : ℕ → T → Type 0) (threads : ℕ) (told : List T) : Type 0 where

@@ -16,7 +16,7 @@ use std::sync::ledger::Blank;
 /// `Builder::with_pool` runs it. Our own.
 ///
 /// As in a `Service`, its method calls the pool by `PoolCalls` and the driver by `DriverCalls`. Its ghost members are relations between
-/// what it was given and what it answers, with the pool's settings, manager and clock; one that is left out allows everything.
+/// what it was given and what it answers, with what the pool was built of; one that is left out allows everything.
 pub trait User<
     M: ManageConnection,
     S: ErrorSink<M::Error>,
@@ -27,11 +27,11 @@ pub trait User<
     /// What comes of it. Our own.
     type Outcome;
 
-    // Holds of a user and the settings, the manager and the clock of each pool that it may be run over.
-    ghost suits: { Self → Basis M K → Type 0 } = { λ _ _. ⊤ };
+    // Holds of a user, and what each pool was built of that it may be run over.
+    ghost suits: { Self → Basis M S Z K → Type 0 } = { λ _ _. ⊤ };
 
     // Holds of a user, what its pool was built of, and each outcome that it may have.
-    ghost comes_to: { Self → Basis M K → Self.Outcome → Type 0 } = { λ _ _ _. ⊤ };
+    ghost comes_to: { Self → Basis M S Z K → Self.Outcome → Type 0 } = { λ _ _ _. ⊤ };
 
     /// What is done with the pool, which has no connection yet, and its driver, which made no turn. Our own.
     fn run<L: PoolParts>(
@@ -63,8 +63,8 @@ fn run_with<
 ) -> Result<V::Outcome, Memory>
     requires lawful { is_lawful builder.settings ≡ true }
     requires parts { IsBlankOf blank builder.settings L.name L.parts L.settings }
-    requires suits { V.suits user.now (basis builder.settings manager clock) }
-    ensures { IfOk result (V.comes_to user.now (basis builder.settings manager clock)) }
+    requires suits { V.suits user.now (basis builder manager clock) }
+    ensures { IfOk result (V.comes_to user.now (basis builder manager clock)) }
 {
     let pool: Pool<M, S, Z, K, R, L> = builder.build_unchecked(manager, clock, rt, blank)?;
     let mut driver = Driver::new(&pool)?;
@@ -87,8 +87,8 @@ impl<
         V: User<M, S, Z, K, R>,
     >(self, manager: M, clock: K, rt: R, user: &V) -> Result<V::Outcome, Memory>
         requires lawful { is_lawful self.settings ≡ true }
-        requires suits { V.suits user.now (basis self.settings manager clock) }
-        ensures { IfOk result (V.comes_to user.now (basis self.settings manager clock)) }
+        requires suits { V.suits user.now (basis self manager clock) }
+        ensures { IfOk result (V.comes_to user.now (basis self manager clock)) }
     {
         let config = Config::from(&self);
         let blank = Blank::new(config.max_size as u64);

@@ -4,8 +4,11 @@ ghost use Rattle.bb8_types.specs.Settings.{is_lawful};
 ghost use Rattle.bb8_lock.specs.Parts.{IsBlankOf};
 
 use crate::Builder;
+use crate::driver::rest;
 use crate::pool::{Cancel, Pool};
-use bb8_core::api::{Clock, CustomizeConnection, ErrorSink, ManageConnection, Memory, RunError};
+use bb8_core::api::{
+    Clock, CustomizeConnection, ErrorSink, ManageConnection, Memory, Moment, RunError,
+};
 use bb8_core::internals::Grant;
 use bb8_lock::{
     Belled, Given, Links, Locks, NewPool, Parts, SectionHome, Shared, These, begin_pool,
@@ -17,6 +20,7 @@ use std::marker::PhantomData;
 use std::mem;
 use std::sync::ledger::Blank;
 use std::sync::{Arc, Wait};
+use std::time::Duration;
 
 /// What a pool is to be made of.
 #[derive(Drop)]
@@ -121,7 +125,7 @@ impl<G: Given<Runtime: Wait + AllocGlobal>, L: Parts> MakesPool for Plan<G, L> {
 /// that failed is tried again where `retry_connection` is set, as long as `connection_timeout` allows; the error of each such try goes to
 /// the error sink. The first failure of a last try ends the building.
 ///
-/// One that is pending asks to be polled again at once. When it is dropped before its answer, its approvals are given back and its pool is
+/// One that is pending asks to be polled again at once; `BuildingCalls::wait` sleeps between its polls. When it is dropped before its answer, its approvals are given back and its pool is
 /// dropped. Manager, customizer, sink and clock are called while the pool's lock is free. Our own: upstream's is an async function.
 pub struct Building<G: Given, L: Parts> {
     site: Site<Plan<G, L>, Pool<G, L>, Tasks<G::Connection, G::Connecting, G::Acquiring>>,
@@ -189,18 +193,6 @@ impl<G: Given, L: Parts> EndsSite for Building<G, L> {
             }
             Site::Done => {}
         }
-    }
-}
-
-impl<G: Given<Runtime: Wait>, L: Parts> Building<G, L> {
-    ghost use Rattle.bb8.specs.Buildings.{CancelsBuilding};
-
-    /// Lets the building go, as a drop does, for which it may wait for the lock: the approvals of its openings are given back, and its pool
-    /// is dropped. Our own.
-    pub fn cancel(self)
-        ensures { CancelsBuilding self }
-    {
-        Cancel::cancel(self)
     }
 }
 
@@ -276,12 +268,21 @@ trait Builds {
 
     type Built;
 
-    /// One poll.
+    /// What the building answers at last.
+    type Answer;
+
+    /// One poll of a building that stands here.
     fn advance(site: Self::Site) -> Self::Built;
+
+    /// One poll.
+    fn step(&mut self) -> Poll<Self::Answer>;
+
+    /// Sleeps until an opening is to be polled, and 50 milliseconds at most; a millisecond where one was pending.
+    fn rest(&self);
 }
 
 impl<G: Given<Runtime: Wait + AllocGlobal>, L: Parts> Builds for Building<G, L> {
-    ghost use Rattle.bb8.specs.Buildings.{PollsSite};
+    ghost use Rattle.bb8.specs.Buildings.{PollsBuilding, PollsSite};
 
     type Site = Site<Plan<G, L>, Pool<G, L>, Tasks<G::Connection, G::Connecting, G::Acquiring>>;
 
@@ -291,6 +292,8 @@ impl<G: Given<Runtime: Wait + AllocGlobal>, L: Parts> Builds for Building<G, L> 
         Tasks<G::Connection, G::Connecting, G::Acquiring>,
         G::Error,
     >;
+
+    type Answer = Result<Pool<G, L>, RunError<G::Error>>;
 
     fn advance(site: Self::Site) -> Self::Built
         ensures { PollsSite site result.answer result.site }
@@ -309,6 +312,67 @@ impl<G: Given<Runtime: Wait + AllocGlobal>, L: Parts> Builds for Building<G, L> 
                 site: Site::Done,
             },
         }
+    }
+
+    fn step(&mut self) -> Poll<Self::Answer>
+        ensures { PollsBuilding self.old result self.new }
+    {
+        let Built { answer, site } = Self::advance(mem::replace(&mut self.site, Site::Done));
+        Self::end(mem::replace(&mut self.site, site));
+        answer
+    }
+
+    fn rest(&self) {
+        if let Site::Opening(pool, tasks) = &self.site {
+            let shared = &*pool.shared;
+            let bell = &shared.locked.drivers;
+            let due = tasks.next_due(None);
+            let most = rest(due, shared.clock.now(), Duration::from_millis(50));
+            bell.sleep(&shared.rt, bell.rings(), most);
+        }
+    }
+}
+
+/// The calls of a building beside its polls, as methods of an impl, so that code that a thread runs can make them. Our own.
+pub trait BuildingCalls {
+    /// What it answers at last. Our own.
+    type Answer;
+
+    /// When a poll next has something to do: once an opening has slept after a try that failed; or at once, which is a moment that has
+    /// passed, before the first poll and while an opening is pending. None is never. Our own.
+    fn next_due(&self) -> Option<Moment>;
+
+    /// Polls it until it answers. Between two polls the pool's clock is read once more, and the thread sleeps until something is due, and
+    /// 50 milliseconds at most; where an opening was pending, a millisecond. Our own.
+    fn wait(self, rt: &impl Wait) -> Self::Answer;
+}
+
+impl<G: Given<Runtime: Wait + AllocGlobal>, L: Parts> BuildingCalls for Building<G, L> {
+    ghost use Rattle.bb8.specs.Buildings.{building_due, GivesBuilding};
+
+    type Answer = Result<Pool<G, L>, RunError<G::Error>>;
+
+    fn next_due(&self) -> Option<Moment>
+        ensures { result ≡ building_due self.now }
+    {
+        match &self.site {
+            Site::Planned(_) => Some(Moment(0)),
+            Site::Opening(_, tasks) => tasks.next_due(None),
+            Site::Done => None,
+        }
+    }
+
+    fn wait(self, rt: &impl Wait) -> Self::Answer
+        ensures { GivesBuilding self result }
+    {
+        let mut building = self;
+        for _ in rt.forever() {
+            match building.step() {
+                Poll::Ready(answer) => return answer,
+                Poll::Pending => building.rest(),
+            }
+        }
+        unreachable!()
     }
 }
 
@@ -333,9 +397,7 @@ impl<G: Given<Runtime: Wait + AllocGlobal>, L: Parts> Future for Building<G, L> 
         ensures registered { OnPending result (Covers cx.new (λ _. ⊥)) }
         ensures kept { Keeps cx.old cx.new }
     {
-        let Built { answer, site } = Self::advance(mem::replace(&mut self.site, Site::Done));
-        Self::end(mem::replace(&mut self.site, site));
-        match answer {
+        match self.step() {
             Poll::Ready(answer) => Poll::Ready(answer),
             Poll::Pending => cx.yield_now(),
         }

@@ -1,9 +1,7 @@
 //! A connection that the pool opens and does not count.
 ghost use Rattle.std.specs.Prelude.{◌≡◌};
-ghost use Rattle.std.specs.Arc.{arc_value};
-ghost use Rattle.bb8_tasks.specs.Dedicating.{fresh};
 
-use crate::pool::{Cancel, Pool};
+use crate::pool::Cancel;
 use bb8_core::api::Moment;
 use bb8_lock::{Given, Links, Parts, Shared};
 pub use bb8_tasks::{Dedicated, Opened, Opening};
@@ -19,37 +17,6 @@ pub struct DedicatedFuture<'a, G: Given, L: Parts> {
     pub(crate) shared: &'a Shared<G, L>,
     pub(crate) latest: Moment,
     pub(crate) stage: Opening<G::Connection, G::Connecting, G::Acquiring>,
-}
-
-impl<G: Given, L: Parts> Pool<G, L> {
-    ghost use Rattle.bb8.specs.Dedicated.{opening_of};
-
-    /// Opens a connection that the pool does not count: it takes no room in the pool, which neither checks it nor takes it back. The
-    /// customizer prepares it. As upstream, but for the future's name.
-    ///
-    /// It answers the first error of manager or customizer; it is tried once. A connection whose preparation failed is dropped.
-    pub fn dedicated_connection(&self) -> DedicatedFuture<'_, G, L>
-        ensures new { opening_of result ≡ fresh }
-        ensures pool { result.shared.now ≡ arc_value self.now.shared }
-    {
-        let Dedicated { latest, stage } = Dedicated::new();
-        DedicatedFuture {
-            shared: &*self.shared,
-            latest,
-            stage,
-        }
-    }
-}
-
-impl<G: Given, L: Parts> DedicatedFuture<'_, G, L> {
-    ghost use Rattle.bb8.specs.Dedicated.{CancelsDedicated};
-
-    /// Lets the opening go, as a drop does: what it holds is dropped. Our own.
-    pub fn cancel(self)
-        ensures { CancelsDedicated self.entry }
-    {
-        Cancel::cancel(self)
-    }
 }
 
 impl<G: Given, L: Parts> Cancel for DedicatedFuture<'_, G, L> {

@@ -2,14 +2,14 @@
 ghost use Rattle.std.specs.Prelude.{◌≡◌, ℕ, ⊤, Bool, true, IfOk};
 ghost use Rattle.std.specs.Arc.{arc_value};
 ghost use Rattle.std.specs.Duration.{as_nanos};
-ghost use Rattle.bb8.specs.Drivers.{has_ended, IsDriverOf, Runs, TurnsNow};
+ghost use Rattle.bb8.specs.Drivers.{driver_rest, has_ended, IsDriverOf, Runs, SleepsOnce, TurnsOnce};
 
 use crate::jobs::{Job, NoThread, start};
 use crate::pool::Pool;
 use bb8_core::api::{
     Clock, Config, CustomizeConnection, ErrorSink, ManageConnection, Memory, Moment,
 };
-use bb8_lock::{Bell, Given, Links, Parts, PoolParts, Shared, These};
+use bb8_lock::{Given, Links, Parts, PoolParts, Rests, Shared, Sleeper, These};
 pub use bb8_tasks::Turn;
 use bb8_tasks::{Home, Opener, Reports, Turning};
 use std::alloc::Global;
@@ -67,27 +67,41 @@ impl<G: Given<Runtime: Wait + AllocGlobal>, L: Parts> Driver<G, L> {
     }
 }
 
+/// How long a driver's thread sleeps at least, in nanoseconds, unless its gate asks for less.
+const SHORTEST_REST: u64 = 1_000_000;
+
 /// How long a driver's thread may sleep after a turn at a moment: until something is due, and no longer than that. Where that has passed, as it
 /// has for each task whose opening was pending, it is a millisecond.
-fn rest(due: Option<Moment>, at: Moment, longest: Duration) -> Duration {
-    match due {
-        Some(due) => Duration::from_nanos(due.0.saturating_sub(at.0))
-            .max(Duration::from_millis(1))
-            .min(longest),
-        None => longest,
+pub(crate) fn rest(due: Option<Moment>, at: Moment, longest: Duration) -> Duration
+    ensures { as_nanos result ≡ driver_rest due at.0 (as_nanos longest) }
+{
+    let Some(due) = due else {
+        return longest;
+    };
+    let left = due.0.saturating_sub(at.0).max(SHORTEST_REST);
+    if (left as u128) < longest.as_nanos() {
+        Duration::from_nanos(left)
+    } else {
+        longest
     }
 }
 
-/// The turn of a driver, as a method of an impl: code that a thread runs writes `DriverCalls::turn(driver, moment)` in place of
-/// `driver.turn(moment)`, as it does with `PoolCalls`. Our own.
+/// The turns of a driver. Our own.
 pub trait DriverCalls {
-    /// As `Driver::turn`. Our own.
+    /// One turn at a moment, in nanoseconds of the pool's clock; for each step it may wait for the pool's lock. Our own.
+    ///
+    /// It polls the reaper first. Then it claims the pool's approvals, in the order of their numbers, until none is unclaimed or there is no
+    /// memory for the task of one more, whose approval then stays unclaimed. Then it polls the opening of each approval that it holds
+    /// once, in the order of the claims; those that end are gone, and the error of each try that failed goes to the error sink. Where a
+    /// claim finds no handle alive it polls none, drops what it opens, gives all approvals back, and has ended, as at each later turn.
     fn turn(&mut self, moment: Moment) -> Turn;
 
-    /// As `Driver::turn_now`. Our own.
+    /// One turn at the moment that the pool's clock tells, which is read first. Our own.
     fn turn_now(&mut self) -> Turn;
 
-    /// As `Driver::next_due`. Our own.
+    /// When a turn next has something to do, by what the driver holds: at its reaper's next tick, or earlier where an opening is to be
+    /// polled, be it once it has slept after a try that failed, or at once; that is a moment that has passed. None is never. Approvals that
+    /// were granted since the last turn, and a pool without a handle, are not looked for. Our own.
     fn next_due(&self) -> Option<Moment>;
 }
 
@@ -112,7 +126,7 @@ impl<G: Given<Runtime: Wait>, L: Parts> DriverCalls for Driver<G, L> {
         ensures stays { has_ended self.old ≡ true → result.ended ≡ true }
     {
         let moment = self.shared.clock.now();
-        DriverCalls::turn(self, moment)
+        self.turn(moment)
     }
 
     fn next_due(&self) -> Option<Moment>
@@ -123,42 +137,7 @@ impl<G: Given<Runtime: Wait>, L: Parts> DriverCalls for Driver<G, L> {
 }
 
 impl<G: Given<Runtime: Wait>, L: Parts> Driver<G, L> {
-    ghost use Rattle.bb8_tasks.specs.Dues.{driver_due};
-    ghost use Rattle.bb8.specs.Drivers.{RunsDriver, TurnsDriver, TurnsDriverNow};
-
-    /// One turn at a moment, in nanoseconds of the pool's clock; for each step it may wait for the pool's lock. Our own.
-    ///
-    /// It polls the reaper first. Then it claims the pool's approvals, in the order of their numbers, until none is unclaimed or there is no
-    /// memory for the task of one more, whose approval then stays unclaimed. Then it polls the opening of each approval that it holds
-    /// once, in the order of the claims; those that end are gone, and the error of each try that failed goes to the error sink. Where a
-    /// claim finds no handle alive it polls none, drops what it opens, gives all approvals back, and has ended, as at each later turn.
-    pub fn turn(&mut self, moment: Moment) -> Turn
-        ensures table { TurnsDriver moment self.old result self.new }
-        ensures ended { result.ended ≡ has_ended self.new }
-        ensures none { result.ended ≡ true → result.polled ≡ 0 }
-        ensures stays { has_ended self.old ≡ true → result.ended ≡ true }
-    {
-        DriverCalls::turn(self, moment)
-    }
-
-    /// One turn at the moment that the pool's clock tells, which is read first. Our own.
-    pub fn turn_now(&mut self) -> Turn
-        ensures table { TurnsDriverNow self.old result self.new }
-        ensures ended { result.ended ≡ has_ended self.new }
-        ensures none { result.ended ≡ true → result.polled ≡ 0 }
-        ensures stays { has_ended self.old ≡ true → result.ended ≡ true }
-    {
-        DriverCalls::turn_now(self)
-    }
-
-    /// When a turn next has something to do, by what the driver holds: at its reaper's next tick, or earlier where an opening is to be
-    /// polled, be it once it has slept after a try that failed, or at once; that is a moment that has passed. None is never. Approvals that
-    /// were granted since the last turn, and a pool without a handle, are not looked for. Our own.
-    pub fn next_due(&self) -> Option<Moment>
-        ensures { result ≡ driver_due self.now.turning }
-    {
-        DriverCalls::next_due(self)
-    }
+    ghost use Rattle.bb8.specs.Drivers.{RunsDriver};
 
     /// Makes turns, each at a reading of the pool's clock, until one has ended or the gate, which is asked after each other one, does not
     /// pause. Before the next one the thread sleeps until an approval is granted, no handle is alive, or something is due, and no longer
@@ -179,23 +158,18 @@ fn run<
     V,
     A,
     E: Drop,
-    X: Home<C> + Opener<C, E, Connecting = V, Acquiring = A> + Reports<E>,
+    X: Home<C> + Opener<C, E, Connecting = V, Acquiring = A> + Reports<E> + Rests,
     R: Wait,
     P: Gate,
->(
-    pool: &mut X,
-    bell: &Bell,
-    rt: &R,
-    config: &Config,
-    turning: &mut Turning<C, V, A>,
-    gate: &mut P,
-) -> Driven
-    ensures { Runs (TurnsNow X.Home X.Opener X.Reports (as_nanos config.now.connection_timeout)
-        config.now.retry_connection) P.pauses (turning.old, pool.old) gate.old 0 result }
+>(pool: &mut X, rt: &R, config: &Config, turning: &mut Turning<C, V, A>, gate: &mut P) -> Driven
+    ensures { Runs (TurnsOnce X.Home X.Opener X.Reports X.Rests
+        (as_nanos config.now.connection_timeout) config.now.retry_connection)
+        P.pauses (SleepsOnce X.Rests) (turning.old, pool.old) gate.old 0 result
+        (turning.new, pool.new) }
 {
     let mut turns: u64 = 0;
     for _ in rt.forever() {
-        let rings = bell.rings();
+        let rings = pool.rings(Sleeper::Driver);
         let at = pool.now();
         let turn = turning.turn(at, pool, config);
         turns = turns.saturating_add(1);
@@ -209,7 +183,7 @@ fn run<
             };
         }
         let most = rest(turning.next_due(), at, gate.longest());
-        bell.sleep(rt, rings, most);
+        pool.sleep(Sleeper::Driver, rings, most);
     }
     unreachable!()
 }
@@ -229,7 +203,6 @@ impl<G: Given<Runtime: Wait>, L: Parts> RunsTurns for Driver<G, L> {
         let pool = &*self.shared;
         run(
             &mut pool.linked(),
-            &pool.locked.drivers,
             &pool.rt,
             &pool.config,
             &mut self.turning,

@@ -27,8 +27,7 @@ pub struct Guards<'a, G: Given, L: Parts> {
     ghost within: { vec_len connections ≤ shared.now.config.max_size },
 }
 
-/// The calls of a list of guards, as methods of an impl: code that a thread runs writes `GuardsCalls::push(list, guard)` in place of
-/// `list.push(guard)`, as it does with `PoolCalls`. Our own.
+/// The calls of a list of guards. Our own.
 pub trait GuardsCalls: Sized {
     /// A handle of the pool, by reference. Our own.
     type Pool;
@@ -39,22 +38,22 @@ pub trait GuardsCalls: Sized {
     /// What a guard holds. Our own.
     type Connection;
 
-    /// As `Guards::new`. Our own.
+    /// An empty list of guards of this pool. It takes no memory. Our own.
     fn new(alloc: Global, pool: Self::Pool) -> Self;
 
-    /// As `Guards::len`. Our own.
+    /// How many guards there are. Our own.
     fn len(&self) -> usize;
 
-    /// As `Guards::is_empty`. Our own.
+    /// Whether there is no guard. Our own.
     fn is_empty(&self) -> bool;
 
-    /// As `Guards::push`. Our own.
+    /// Adds a guard at the end. It comes back, and the list is as before, where memory for it was refused. Our own.
     fn push(&mut self, guard: Self::Guard) -> Result<(), Self::Guard>;
 
-    /// As `Guards::remove`. Our own.
+    /// Takes the guard of an index out; the ones behind it move up. None where there is no such index. Our own.
     fn remove(&mut self, index: usize) -> Option<Self::Guard>;
 
-    /// As `Guards::get_mut`. Our own.
+    /// The connection of the guard of an index. None where there is no such index. Our own.
     fn get_mut(&mut self, index: usize) -> Option<&mut Self::Connection>;
 }
 
@@ -187,84 +186,6 @@ impl<'a, G: Given, L: Parts> GuardsCalls for Guards<'a, G, L> {
             ≡ slice_index_or (connections_in self.old) index connection.now) }
     {
         self.connections.get_mut(index)
-    }
-}
-
-impl<'a, G: Given, L: Parts> Guards<'a, G, L> {
-    ghost use Rattle.std.specs.Borrow.{LendsIf, sem};
-    ghost use mir.Syntax.{named};
-    ghost use Rattle.bb8.specs.GuardLists.{connection_of, connections_in, most_in, number_in, ticket_of, tickets_in, with_connection_at, AreOfOne, IsListOf};
-    ghost use Rattle.bb8.specs.contracts.guards.Guards.{the_row};
-
-    /// An empty list of guards of this pool. It takes no memory. Our own.
-    pub fn new(alloc: Global, pool: &'a Pool<G, L>) -> Self
-        ensures empty { connections_in result ≡ [] }
-        ensures pool { IsListOf result pool.now }
-    {
-        GuardsCalls::new(alloc, pool)
-    }
-
-    /// How many guards there are. Our own.
-    pub fn len(&self) -> usize
-        ensures number { result ≡ number_in self.now }
-        ensures within { result ≤ most_in self.now }
-    {
-        GuardsCalls::len(self)
-    }
-
-    /// Whether there is no guard. Our own.
-    pub fn is_empty(&self) -> bool
-        ensures { result ≡ true ↔ number_in self.now ≡ 0 }
-    {
-        GuardsCalls::is_empty(self)
-    }
-
-    /// Adds a guard at the end. It comes back, and the list is as before, where memory for it was refused. Our own.
-    pub fn push(
-        &mut self,
-        guard: PooledConnection<'a, G, L>,
-    ) -> Result<(), PooledConnection<'a, G, L>>
-        ensures added { OnOk result
-            (connections_in self.new ≡ connections_in self.old ++ connection_of guard.entry ∷ []) }
-        ensures ticket { OnOk result
-            (tickets_in self.new ≡ tickets_in self.old ++ ticket_of guard.entry ∷ []) }
-        ensures refused { IfErr result (λ back. back ≡ guard.entry) }
-        ensures same { IfErr result (λ _. connections_in self.new ≡ connections_in self.old) }
-        ensures kept { IfErr result (λ _. tickets_in self.new ≡ tickets_in self.old) }
-        ensures pool { AreOfOne self.new self.old }
-    {
-        GuardsCalls::push(self, guard)
-    }
-
-    /// Takes the guard of an index out; the ones behind it move up. None where there is no such index. Our own.
-    pub fn remove(&mut self, index: usize) -> Option<PooledConnection<'a, G, L>>
-        ensures guard { IfSome result (λ guard. connection_of guard
-            ≡ slice_index_or (connections_in self.old) index (connection_of guard)) }
-        ensures closed { IfSome result (λ _. connections_in self.new
-            ≡ take index (connections_in self.old) ++ drop (index + 1) (connections_in self.old)) }
-        ensures ticket { IfSome result (λ guard. ticket_of guard
-            ≡ slice_index_or (tickets_in self.old) index (ticket_of guard)) }
-        ensures moved { IfSome result (λ _. tickets_in self.new
-            ≡ take index (tickets_in self.old) ++ drop (index + 1) (tickets_in self.old)) }
-        ensures some { IsSome result ↔ (index < number_in self.old) }
-        ensures none { IfNone result (self.new ≡ self.old) }
-        ensures pool { AreOfOne self.new self.old }
-    {
-        GuardsCalls::remove(self, index)
-    }
-
-    /// The connection of the guard of an index. None where there is no such index. Our own.
-    pub fn get_mut(&mut self, index: usize) -> Option<&mut G::Connection>
-        ensures* writes_back { sem 𝓛 (LendsIf
-            (the_row (record { mir = named 1; lft = [] }) G.row L.row G.Manager.row G.Sink.row G.Customizer.row G.Clock.row G.Runtime.row
-            G.Connection.row G.Error.row G.Connecting.row G.Checking.row G.Acquiring.row _ _ _ _ _ _
-            (record { name = L.name; parts = L.parts }))
-            G.Connection.row self.entry result (with_connection_at self.old index) self.old) }
-        ensures some { IsSome result ↔ (index < number_in self.old) }
-        ensures connection { IfSome result (λ connection. connection.now
-            ≡ slice_index_or (connections_in self.old) index connection.now) }
-    {
-        GuardsCalls::get_mut(self, index)
     }
 }
 

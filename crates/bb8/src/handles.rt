@@ -2,11 +2,11 @@
 ghost use Rattle.std.specs.Prelude.{◌≡◌};
 ghost use Rattle.std.specs.Arc.{arc_value};
 
-use crate::pool::{Pool, PoolCalls};
+use crate::pool::Pool;
 use bb8_core::api::RunError;
 use bb8_lock::{Given, Handle, Joining, Links, Parts, Shared, join};
 use std::alloc::Global;
-use std::sync::{Arc, Wait};
+use std::sync::Arc;
 
 /// A handle beside what it shares with the others of its pool. It cannot be dropped, so whoever lets it go has to say how.
 pub(crate) struct Holding<G: Given, L: Parts> {
@@ -37,19 +37,5 @@ impl<'a, G: Given, L: Parts> Joins for &'a Pool<G, L> {
             Joining::Joined(handle) => Ok(Holding { shared, handle }),
             Joining::Exhausted | Joining::Unfit => Err(RunError::Exhausted),
         }
-    }
-}
-
-impl<G: Given<Runtime: Wait>, L: Parts> Pool<G, L> {
-    ghost use Rattle.bb8.specs.Handles.{IsClone};
-
-    /// One handle more of the same pool. The pool lives as long as one of its handles; the drop of the last one closes all that is idle.
-    ///
-    /// It answers `Exhausted` where 4,294,967,295 handles are alive, and `Memory` where sharing the pool was refused memory; the pool is
-    /// then as before. Upstream's `Clone`, which refuses nothing.
-    pub fn try_clone(&self) -> Result<Self, RunError<G::Error>>
-        ensures { IsClone self.now result }
-    {
-        PoolCalls::try_clone(self)
     }
 }

@@ -15,12 +15,11 @@
 //! and each of its threads
 //!
 //! ```text
-//! let mut guard = PoolCalls::get_blocking(pool).ok()?;
+//! let mut guard = pool.get_blocking().ok()?;
 //! ```
 //!
-//! The methods of an impl call the pool by `PoolCalls`, and cancel by `Cancel`; elsewhere it is `pool.get()` and `get.cancel()`. A program for
-//! one thread, or a test, is a `User` of `Builder::with_pool`. Each call, and a pool whose threads and parts are in one's own hands:
-//! `docs/CALLING.md`.
+//! The calls are in scope by `use bb8::{Cancel, Gets, PoolCalls}`. A program for one thread, or a test, is a `User` of `Builder::with_pool`.
+//! Each call, and a pool whose threads and parts are in one's own hands: `docs/CALLING.md`.
 #![tactic(auto)]
 
 mod alone;
@@ -49,6 +48,7 @@ pub use bb8_core::{api, internals, replay};
 pub use bb8_lock::{Given, Locks, Parts, PoolParts, These};
 pub use bb8_tasks as tasks;
 pub use builder::Builder;
+pub use building::BuildingCalls;
 pub use driver::{Driven, DriverCalls, Gate, Turn, drive};
 pub use given::{
     Building, DedicatedFuture, Driver, GetFuture, GetOwnedFuture, Guards, OwnedConnection, Pool,
@@ -58,6 +58,6 @@ pub use guards::GuardsCalls;
 pub use jobs::{Job, NoThread, in_threads, start};
 pub use machine::{MachineClock, Runtime};
 pub use memory::OrMemory;
-pub use pool::{Cancel, PoolCalls};
+pub use pool::{Cancel, Gets, PoolCalls};
 pub use printing::{ErrorLine, PrintingSink};
 pub use serving::Service;

@@ -3,7 +3,7 @@ ghost use Rattle.std.specs.Prelude.{◌≡◌};
 ghost use Rattle.std.specs.Arc.{arc_value};
 
 use crate::handles::Holding;
-use crate::pool::{Cancel, Pool, PoolCalls};
+use crate::pool::Cancel;
 use bb8_core::api::RunError;
 use bb8_gets::{GetState, Taken};
 use bb8_lock::{Given, Links, Part, Parts, cancel_and_leave, give_back_and_leave, leave};
@@ -184,32 +184,6 @@ impl<G: Given, L: Parts> OnOwning for GetOwnedFuture<G, L> {
             Some(Owning::Refused(error)) => drop(error),
             Some(Owning::Open(holding, get)) => holding.cancel_owned(get),
         }
-    }
-}
-
-impl<G: Given<Runtime: Wait>, L: Parts> Pool<G, L> {
-    ghost use Rattle.bb8.specs.Owned.{BeginsOwning};
-
-    /// Gets a connection as `get` does, with a handle of its own, so that neither the get nor its guard borrows the pool. As upstream, but
-    /// that the handle is made at this call, where upstream makes it once the get is served.
-    ///
-    /// A handle that is refused, as by `try_clone`, is the answer of the first poll, and then no get begins.
-    pub fn get_owned(&self) -> GetOwnedFuture<G, L>
-        ensures { BeginsOwning self.now result.owning }
-    {
-        PoolCalls::get_owned(self)
-    }
-}
-
-impl<G: Given<Runtime: Wait>, L: Parts> GetOwnedFuture<G, L> {
-    ghost use Rattle.bb8.specs.Owned.{CancelsOwning};
-
-    /// Lets the get go, as a drop does, for which it may wait for the lock: one that began and was not answered is given up as cancelled,
-    /// and its handle leaves. Our own.
-    pub fn cancel(self)
-        ensures { CancelsOwning self.owning }
-    {
-        Cancel::cancel(self)
     }
 }
 

@@ -129,97 +129,40 @@ impl<'a, G: Given, L: Parts> IntoParts for PooledConnection<'a, G, L> {
     }
 }
 
-/// The calls of a pool, as methods of an impl for a shared pool.
-///
-/// Code that a thread runs is a method of a trait's impl, and there the toolchain proves no call of `Pool::get` and its like: such code
-/// writes `PoolCalls::get(pool)` in place of `pool.get()`. Our own.
-pub trait PoolCalls {
-    /// What the pool lends. Our own.
-    type Connection;
-
-    /// What the manager answers where something fails. Our own.
-    type Error;
-
-    /// A handle of the pool. Our own.
-    type Handle;
-
+/// The calls of a pool that take no lock, so that they cannot wait. Our own.
+pub trait Gets {
     /// The future of a get. Our own.
     type Get;
-
-    /// The future of a get with a handle of its own. Our own.
-    type GetOwned;
 
     /// The future of a dedicated connection. Our own.
     type Dedicated;
 
-    /// A guard. Our own.
-    type Guard;
-
-    /// A guard that has a handle of its own. Our own.
-    type Owned;
-
-    /// As `Pool::get`. Our own.
+    /// Gets a connection: an idle one, or the first that comes in the get's turn. As upstream, but for the future's name.
+    ///
+    /// A get that finds nothing idle waits, and may have an approval granted to open a connection. Without a driver of the pool nobody opens
+    /// it, so the get waits for a connection that comes back or is added, and the approval stays open, which may leave no room for an
+    /// adding. A poll that is pending asks to be polled again at once, so an executor does not sleep while a get waits.
+    ///
+    /// It answers `TimedOut` once `connection_timeout` has passed since the first poll, and `Memory` or `Exhausted` where the get could
+    /// not begin.
     fn get(self) -> Self::Get;
 
-    /// As `Pool::get_owned`. Our own.
-    fn get_owned(self) -> Self::GetOwned;
-
-    /// As `Pool::try_get`. Our own.
-    fn try_get(self) -> Result<Option<Self::Guard>, RunError<Self::Error>>;
-
-    /// As `Pool::get_blocking`. Our own.
-    fn get_blocking(self) -> Result<Self::Guard, RunError<Self::Error>>;
-
-    /// As `Pool::get_blocking_timeout`. Our own.
-    fn get_blocking_timeout(self, timeout: Duration) -> Result<Self::Guard, RunError<Self::Error>>;
-
-    /// As `Pool::get_owned_blocking`. Our own.
-    fn get_owned_blocking(self) -> Result<Self::Owned, RunError<Self::Error>>;
-
-    /// As `Pool::dedicated_connection`. Our own.
+    /// Opens a connection that the pool does not count: it takes no room in the pool, which neither checks it nor takes it back. The
+    /// customizer prepares it. As upstream, but for the future's name.
+    ///
+    /// It answers the first error of manager or customizer; it is tried once. A connection whose preparation failed is dropped.
     fn dedicated_connection(self) -> Self::Dedicated;
-
-    /// As `Pool::add`. Our own.
-    fn add(self, conn: Self::Connection) -> Result<(), AddError<Self::Connection>>;
-
-    /// As `Pool::state`. Our own.
-    fn state(self) -> State;
-
-    /// As `Pool::try_clone`. Our own.
-    fn try_clone(self) -> Result<Self::Handle, RunError<Self::Error>>;
 }
 
-/// The cancelling of a future, as a method of an impl: such code writes `Cancel::cancel(get)` in place of `get.cancel()`, as it does
-/// with `PoolCalls`. Our own.
-pub trait Cancel {
-    /// As the future's own `cancel`. Our own.
-    fn cancel(self);
-}
-
-impl<'a, G: Given<Runtime: Wait>, L: Parts> PoolCalls for &'a Pool<G, L> {
-    ghost use Rattle.bb8.specs.Blocking.{GetsAtOnce, WaitsForGet, WaitsForOwned};
+impl<'a, G: Given, L: Parts> Gets for &'a Pool<G, L> {
     ghost use Rattle.bb8.specs.Dedicated.{opening_of};
-    ghost use Rattle.bb8.specs.Handles.{IsClone};
-    ghost use Rattle.bb8.specs.Owned.{BeginsOwning};
-    ghost use Rattle.bb8.specs.Pools.{clock_in, manager_in, settings_in, stage_of, IsOf};
+    ghost use Rattle.bb8.specs.Pools.{stage_of, IsOf};
     ghost use Rattle.bb8_tasks.specs.Dedicating.{fresh};
     ghost use Rattle.bb8_gets.specs.declared.state.Stage.TheVariants.{Fresh as IsFresh};
 
-    type Connection = G::Connection;
-
-    type Error = G::Error;
-
-    type Handle = Pool<G, L>;
-
     type Get = GetFuture<'a, G, L>;
 
-    type GetOwned = GetOwnedFuture<G, L>;
-
     type Dedicated = DedicatedFuture<'a, G, L>;
-
-    type Guard = PooledConnection<'a, G, L>;
-
-    type Owned = OwnedConnection<G, L>;
 
     fn get(self) -> GetFuture<'a, G, L>
         ensures new { stage_of result ≡ IsFresh }
@@ -230,6 +173,112 @@ impl<'a, G: Given<Runtime: Wait>, L: Parts> PoolCalls for &'a Pool<G, L> {
             get: GetState::new(),
         }
     }
+
+    fn dedicated_connection(self) -> DedicatedFuture<'a, G, L>
+        ensures new { opening_of result ≡ fresh }
+        ensures pool { result.shared.now ≡ arc_value self.now.shared }
+    {
+        let Dedicated { latest, stage } = Dedicated::new();
+        DedicatedFuture {
+            shared: &*self.shared,
+            latest,
+            stage,
+        }
+    }
+}
+
+/// The calls of a pool that may wait for its lock. They stand in a trait, as a thread's code can call methods of traits alone. Our own.
+pub trait PoolCalls {
+    /// What the pool lends. Our own.
+    type Connection;
+
+    /// What the manager answers where something fails. Our own.
+    type Error;
+
+    /// A handle of the pool. Our own.
+    type Handle;
+
+    /// The future of a get with a handle of its own. Our own.
+    type GetOwned;
+
+    /// A guard. Our own.
+    type Guard;
+
+    /// A guard that has a handle of its own. Our own.
+    type Owned;
+
+    /// Gets a connection as `get` does, with a handle of its own, so that neither the get nor its guard borrows the pool. As upstream, but
+    /// that the handle is made at this call, where upstream makes it once the get is served.
+    ///
+    /// A handle that is refused, as by `try_clone`, is the answer of the first poll, and then no get begins.
+    fn get_owned(self) -> Self::GetOwned;
+
+    /// Gets a connection if one is idle, and waits for none. It asks under one taking of the lock whether one is, and where none is it answers
+    /// `None`: no get began and none is counted. Our own.
+    ///
+    /// With the check off one that is idle is the answer. With the check on the check is polled once: where it does not pass at that poll the
+    /// answer is `None`, and the get is counted as cancelled. It answers `Memory` or `Exhausted` where the get could not begin.
+    fn try_get(self) -> Result<Option<Self::Guard>, RunError<Self::Error>>;
+
+    /// Gets a connection as `get` does, in one call: the thread waits until the get answers, `connection_timeout` at most. Our own: upstream
+    /// awaits.
+    ///
+    /// It sleeps between the polls of its get, until a connection comes back or is opened or added, or the deadline has come, and
+    /// 50 milliseconds at most; while its connection is checked a millisecond at most. Each poll reads the pool's clock, and again before
+    /// it sleeps. The errors are those of `get`.
+    fn get_blocking(self) -> Result<Self::Guard, RunError<Self::Error>>;
+
+    /// As `get_blocking`, with a time of its own in place of `connection_timeout`. Our own: upstream's caller sets a timer.
+    fn get_blocking_timeout(self, timeout: Duration) -> Result<Self::Guard, RunError<Self::Error>>;
+
+    /// Gets a connection as `get_owned` does, and waits as `get_blocking` does. The handle is made first; one that is refused is the answer,
+    /// and then no get begins. Our own.
+    fn get_owned_blocking(self) -> Result<Self::Owned, RunError<Self::Error>>;
+
+    /// Adds a connection that the pool did not open. It is asked whether it is broken first, and is otherwise idle at once, and born
+    /// now. It does not count as created, and no customizer prepares it. As upstream.
+    ///
+    /// A refusal hands the connection back, as `has_broken` left it: `Broken` where that found it broken, else `NoCapacity` where
+    /// connections and open approvals are `max_size` already, else `Withheld` where no memory or no number was left for it.
+    ///
+    /// An approval is open until its connection was opened. A get that found nothing idle may have had one granted, which stays open where
+    /// nobody turns a driver of the pool, also once that get was let go: then an adding may find no room although fewer connections than
+    /// `max_size` are there.
+    fn add(self, conn: Self::Connection) -> Result<(), AddError<Self::Connection>>;
+
+    /// How many connections the pool has, how many of them are idle, and what has happened to it. As upstream.
+    fn state(self) -> State;
+
+    /// One handle more of the same pool. The pool lives as long as one of its handles; the drop of the last one closes all that is idle.
+    ///
+    /// It answers `Exhausted` where 4,294,967,295 handles are alive, and `Memory` where sharing the pool was refused memory; the pool is
+    /// then as before. Upstream's `Clone`, which refuses nothing.
+    fn try_clone(self) -> Result<Self::Handle, RunError<Self::Error>>;
+}
+
+/// The cancelling of a future. Our own.
+pub trait Cancel {
+    /// Lets the get, the opening or the building go, as a drop does. Our own.
+    fn cancel(self);
+}
+
+impl<'a, G: Given<Runtime: Wait>, L: Parts> PoolCalls for &'a Pool<G, L> {
+    ghost use Rattle.bb8.specs.Blocking.{GetsAtOnce, WaitsForGet, WaitsForOwned};
+    ghost use Rattle.bb8.specs.Handles.{IsClone};
+    ghost use Rattle.bb8.specs.Owned.{BeginsOwning};
+    ghost use Rattle.bb8.specs.Pools.{settings_in};
+
+    type Connection = G::Connection;
+
+    type Error = G::Error;
+
+    type Handle = Pool<G, L>;
+
+    type GetOwned = GetOwnedFuture<G, L>;
+
+    type Guard = PooledConnection<'a, G, L>;
+
+    type Owned = OwnedConnection<G, L>;
 
     fn get_owned(self) -> GetOwnedFuture<G, L>
         ensures { BeginsOwning self.now result.owning }
@@ -262,7 +311,7 @@ impl<'a, G: Given<Runtime: Wait>, L: Parts> PoolCalls for &'a Pool<G, L> {
     fn get_blocking(self) -> Result<PooledConnection<'a, G, L>, RunError<G::Error>>
         ensures { WaitsForGet (settings_in self.now).connection_timeout self.now result }
     {
-        PoolCalls::get_blocking_timeout(self, self.shared.config.connection_timeout)
+        self.get_blocking_timeout(self.shared.config.connection_timeout)
     }
 
     fn get_blocking_timeout(
@@ -272,12 +321,7 @@ impl<'a, G: Given<Runtime: Wait>, L: Parts> PoolCalls for &'a Pool<G, L> {
         ensures { WaitsForGet (as_nanos timeout) self.now result }
     {
         let shared = &*self.shared;
-        let answer = wait(
-            &mut shared.linked(),
-            &shared.locked.gets,
-            &shared.rt,
-            timeout,
-        );
+        let answer = wait(&mut shared.linked(), &shared.rt, timeout);
         match answer {
             Ok(taken) => Ok(PooledConnection {
                 shared,
@@ -298,7 +342,6 @@ impl<'a, G: Given<Runtime: Wait>, L: Parts> PoolCalls for &'a Pool<G, L> {
         let shared = &*holding.shared;
         let answer = wait(
             &mut shared.linked(),
-            &shared.locked.gets,
             &shared.rt,
             shared.config.connection_timeout,
         );
@@ -308,18 +351,6 @@ impl<'a, G: Given<Runtime: Wait>, L: Parts> PoolCalls for &'a Pool<G, L> {
                 holding.leave_owned();
                 Err(error)
             }
-        }
-    }
-
-    fn dedicated_connection(self) -> DedicatedFuture<'a, G, L>
-        ensures new { opening_of result ≡ fresh }
-        ensures pool { result.shared.now ≡ arc_value self.now.shared }
-    {
-        let Dedicated { latest, stage } = Dedicated::new();
-        DedicatedFuture {
-            shared: &*self.shared,
-            latest,
-            stage,
         }
     }
 
@@ -346,76 +377,6 @@ impl<'a, G: Given<Runtime: Wait>, L: Parts> PoolCalls for &'a Pool<G, L> {
             Ok(Holding { shared, handle }) => Ok(Pool { shared, handle }),
             Err(error) => Err(error),
         }
-    }
-}
-
-impl<G: Given<Runtime: Wait>, L: Parts> Pool<G, L> {
-    ghost use Rattle.bb8.specs.Blocking.{GetsAtOnce, WaitsForGet, WaitsForOwned};
-    ghost use Rattle.bb8.specs.Pools.{settings_in};
-
-    /// Gets a connection if one is idle, and waits for none. It asks under one taking of the lock whether one is, and where none is it answers
-    /// `None`: no get began and none is counted. Our own.
-    ///
-    /// With the check off one that is idle is the answer. With the check on the check is polled once: where it does not pass at that poll the
-    /// answer is `None`, and the get is counted as cancelled. It answers `Memory` or `Exhausted` where the get could not begin.
-    pub fn try_get(&self) -> Result<Option<PooledConnection<'_, G, L>>, RunError<G::Error>>
-        ensures { GetsAtOnce self.now result }
-    {
-        PoolCalls::try_get(self)
-    }
-
-    /// Gets a connection as `get` does, in one call: the thread waits until the get answers, `connection_timeout` at most. Our own: upstream
-    /// awaits.
-    ///
-    /// It sleeps between the polls of its get, until a connection comes back or is opened or added, or the deadline has come, and
-    /// 50 milliseconds at most; while its connection is checked a millisecond at most. Each poll reads the pool's clock, and again before
-    /// it sleeps. The errors are those of `get`.
-    pub fn get_blocking(&self) -> Result<PooledConnection<'_, G, L>, RunError<G::Error>>
-        ensures { WaitsForGet (settings_in self.now).connection_timeout self.now result }
-    {
-        PoolCalls::get_blocking(self)
-    }
-
-    /// As `get_blocking`, with a time of its own in place of `connection_timeout`. Our own: upstream's caller sets a timer.
-    pub fn get_blocking_timeout(
-        &self,
-        timeout: Duration,
-    ) -> Result<PooledConnection<'_, G, L>, RunError<G::Error>>
-        ensures { WaitsForGet (as_nanos timeout) self.now result }
-    {
-        PoolCalls::get_blocking_timeout(self, timeout)
-    }
-
-    /// Gets a connection as `get_owned` does, and waits as `get_blocking` does. The handle is made first; one that is refused is the answer,
-    /// and then no get begins. Our own.
-    pub fn get_owned_blocking(&self) -> Result<OwnedConnection<G, L>, RunError<G::Error>>
-        ensures { WaitsForOwned self.now result }
-    {
-        PoolCalls::get_owned_blocking(self)
-    }
-
-    /// Adds a connection that the pool did not open. It is asked whether it is broken first, and is otherwise idle at once, and born
-    /// now. It does not count as created, and no customizer prepares it. As upstream.
-    ///
-    /// A refusal hands the connection back, as `has_broken` left it: `Broken` where that found it broken, else `NoCapacity` where
-    /// connections and open approvals are `max_size` already, else `Withheld` where no memory or no number was left for it.
-    ///
-    /// An approval is open until its connection was opened. A get that found nothing idle may have had one granted, which stays open where
-    /// nobody turns a driver of the pool, also once that get was let go: then an adding may find no room although fewer connections than
-    /// `max_size` are there.
-    pub fn add(&self, conn: G::Connection) -> Result<(), AddError<G::Connection>>
-        ensures { OwnAdds (arc_value self.now.shared) conn result }
-    {
-        PoolCalls::add(self, conn)
-    }
-
-    /// How many connections the pool has, how many of them are idle, and what has happened to it. As upstream.
-    pub fn state(&self) -> State
-        ensures shown { OwnShows (arc_value self.now.shared) result }
-        ensures size { result.connections ≤ (settings_in self.now).max_size }
-        ensures idle { result.idle_connections ≤ result.connections }
-    {
-        PoolCalls::state(self)
     }
 }
 

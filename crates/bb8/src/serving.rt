@@ -5,6 +5,7 @@ ghost use Rattle.bb8_lock.specs.Parts.{IsBlankOf};
 ghost use Rattle.bb8.specs.Buildings.{IsBuildError};
 ghost use Rattle.bb8.specs.Services.{Basis, basis, basis_of, EachTold, IsOutcome};
 
+use crate::building::BuildingCalls;
 use crate::driver::{Driven, Driver, Gate, drive};
 use crate::jobs::{Job, in_threads};
 use crate::memory::OrMemory;
@@ -13,10 +14,8 @@ use bb8_core::api::{
     Clock, Config, CustomizeConnection, ErrorSink, ManageConnection, Memory, RunError,
 };
 use bb8_lock::{Given, Locks, PoolParts, These};
-use futures::executor::block_on;
 use std::alloc::Global;
 use std::marker::Brand;
-use std::random::RandomSource;
 use std::sync::atomic::{AtomicBool, Ordering};
 use std::sync::ledger::Blank;
 use std::sync::{Arc, Wait};
@@ -41,17 +40,17 @@ pub trait Service<
     /// What comes of it all. Our own.
     type Outcome;
 
-    // Holds of a service and the settings, the manager and the clock of each pool that it may be run over.
-    ghost suits: { Self → Basis M K → Type 0 } = { λ _ _. ⊤ };
+    // Holds of a service, and what each pool was built of that it may be run over.
+    ghost suits: { Self → Basis M S Z K → Type 0 } = { λ _ _. ⊤ };
 
     // Holds of a service, what its pool was built of, and each answer that its beginning may give.
-    ghost begins: { Self → Basis M K → Result (Unit {0}) Self.Outcome → Type 0 } = { λ _ _ _. ⊤ };
+    ghost begins: { Self → Basis M S Z K → Result (Unit {0}) Self.Outcome → Type 0 } = { λ _ _ _. ⊤ };
 
     // Holds of a service, what its pool was built of, the number of a thread, and each thing that the thread may tell.
-    ghost tells: { Self → Basis M K → ℕ → Self.Told → Type 0 } = { λ _ _ _ _. ⊤ };
+    ghost tells: { Self → Basis M S Z K → ℕ → Self.Told → Type 0 } = { λ _ _ _ _. ⊤ };
 
     // Holds of a service, what its pool was built of, what the threads told in their order, and each outcome that it may end with.
-    ghost ends: { Self → Basis M K → List Self.Told → Self.Outcome → Type 0 } = { λ _ _ _ _. ⊤ };
+    ghost ends: { Self → Basis M S Z K → List Self.Told → Self.Outcome → Type 0 } = { λ _ _ _ _. ⊤ };
 
     /// What is done before the threads start. Where it answers an error, none is started, and that is what comes of it all. Our own.
     fn begin<L: PoolParts>(&self, pool: &Pool<M, S, Z, K, R, L>) -> Result<(), Self::Outcome>
@@ -108,13 +107,13 @@ impl Gate for WhileServing {
     }
 }
 
-/// Builds a pool whose parts are named, and waits until its first connections are open.
+/// Builds a pool whose parts are named, and waits asleep until its first connections are open.
 fn built<
     M: ManageConnection,
     S: ErrorSink<M::Error>,
     Z: CustomizeConnection<M::Connection, M::Error>,
     K: Clock,
-    R: Wait + RandomSource + AllocGlobal + Copy + Send + Sync + Drop + 'static,
+    R: Wait + AllocGlobal + Copy + Send + Sync + Drop + 'static,
     L: PoolParts,
 >(
     builder: Builder<M, S, Z>,
@@ -125,16 +124,12 @@ fn built<
 ) -> Result<Pool<M, S, Z, K, R, L>, RunError<M::Error>>
     requires lawful { is_lawful builder.settings ≡ true }
     requires parts { IsBlankOf blank builder.settings L.name L.parts L.settings }
-    ensures made { IfOk result (λ pool. basis_of pool ≡ basis builder.settings manager clock) }
+    ensures made { IfOk result (λ pool. basis_of pool ≡ basis builder manager clock) }
     ensures failed { IfErr result (IsBuildError
         (M.connect_answers manager) (Z.acquire_answers builder.connection_customizer)) }
 {
     let building: Building<M, S, Z, K, R, L> = builder.build(manager, clock, rt, blank);
-    match block_on(&rt, building) {
-        Ok(Ok(pool)) => Ok(pool),
-        Ok(Err(error)) => Err(error),
-        Err(_) => Err(RunError::Memory),
-    }
+    building.wait(&rt)
 }
 
 /// Runs a service over its pool, in as many threads.
@@ -183,7 +178,7 @@ fn serve_with<
     S: ErrorSink<M::Error>,
     Z: CustomizeConnection<M::Connection, M::Error>,
     K: Clock,
-    R: Threads + Wait + RandomSource + AllocGlobal + Copy + Send + Sync + Drop + 'static,
+    R: Threads + Wait + AllocGlobal + Copy + Send + Sync + Drop + 'static,
     L: PoolParts + 'static,
     V: Service<M, S, Z, K, R>,
 >(
@@ -197,10 +192,10 @@ fn serve_with<
 ) -> Result<V::Outcome, RunError<M::Error>>
     requires lawful { is_lawful builder.settings ≡ true }
     requires parts { IsBlankOf blank builder.settings L.name L.parts L.settings }
-    requires suits { V.suits service.now (basis builder.settings manager clock) }
+    requires suits { V.suits service.now (basis builder manager clock) }
     ensures outcome { IfOk result (IsOutcome
         (V.begins service.now) (V.tells service.now) (V.ends service.now)
-        (basis builder.settings manager clock) threads) }
+        (basis builder manager clock) threads) }
     ensures failed { IfErr result (IsBuildError
         (M.connect_answers manager) (Z.acquire_answers builder.connection_customizer)) }
 {
@@ -222,7 +217,7 @@ impl<
     S: ErrorSink<M::Error>,
     Z: CustomizeConnection<M::Connection, M::Error>,
 > Builder<M, S, Z> {
-    /// Builds a pool as `build` does, with parts of its own, and waits until its first connections are open. Then it runs a service over
+    /// Builds a pool as `build` does, with parts of its own, and waits asleep until its first connections are open. Then it runs a service over
     /// the pool: the service begins, each thread runs with its number, in a thread of its own where one can be made, and once all have
     /// ended the service ends. A driver makes the pool's turns meanwhile, in one more thread, which sleeps between two of them while
     /// nothing is to be done (`Driver::run`). Then the pool is dropped, and the driver with it. Our own.
@@ -232,7 +227,7 @@ impl<
     /// some may have run, but the service does not end. Settings are as for `build`.
     pub fn serve<
         K: Clock,
-        R: Threads + Wait + RandomSource + AllocGlobal + Copy + Send + Sync + Drop + 'static,
+        R: Threads + Wait + AllocGlobal + Copy + Send + Sync + Drop + 'static,
         V: Service<M, S, Z, K, R>,
     >(
         self,
@@ -243,10 +238,10 @@ impl<
         service: &V,
     ) -> Result<V::Outcome, RunError<M::Error>>
         requires lawful { is_lawful self.settings ≡ true }
-        requires suits { V.suits service.now (basis self.settings manager clock) }
+        requires suits { V.suits service.now (basis self manager clock) }
         ensures outcome { IfOk result (IsOutcome
             (V.begins service.now) (V.tells service.now) (V.ends service.now)
-            (basis self.settings manager clock) threads) }
+            (basis self manager clock) threads) }
         ensures failed { IfErr result (IsBuildError
             (M.connect_answers manager) (Z.acquire_answers self.connection_customizer)) }
     {

@@ -68,9 +68,6 @@ unclaimed-approve (suc n) =
 try_fits : (s : Shown ℕ) (g : ℕ) → IsServing s → 0 < length s.records.idle → gets_stand is_trying (get s.gets.places g) ≡ true → IsFitting s (Try g)
 try_fits s g ready some tries l legal means = shown_try l s g means ∙ tries
 
-pub put_back_fits : (s : Shown ℕ) (k c : ℕ) → stands is_guarded (get s.records.places k) ≡ true → IsFitting s (PutBack k c false)
-put_back_fits s k c out l legal means = ap (stands is_guarded) (shown_record l s means k) ∙ out
-
 opened_fits : (s : Shown ℕ) (k c : ℕ) → stands is_claimed (get s.records.places k) ≡ true → IsFitting s (Opened k c)
 opened_fits s k c claimed_now l legal means = ap (stands is_claimed) (shown_record l s means k) ∙ claimed_now
 

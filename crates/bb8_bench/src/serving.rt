@@ -62,7 +62,10 @@ fn give_back(pool: &mut PoolInternals<u64>, key: Key, conn: u64) -> Option<()>
 {
     // It does nothing, and tells the proof of a ledger behind the state.
     pool.limits();
-    match pool.put_back(NOW, key, conn, false) {
+    let Ok(told) = pool.put_back(NOW, key, conn, false) else {
+        return None;
+    };
+    match told {
         PutBackAnswer::Kept(_) => Some(()),
         PutBackAnswer::Closed(..) => None,
     }

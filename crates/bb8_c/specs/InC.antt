@@ -1,10 +1,11 @@
 -- What the steps tell, as it crosses to C.
 use Rattle.std.specs.Prelude.{ℕ, ◌/◌, min, true, false, Option, Some, None, Result, Ok, Err}
-use Rattle.bb8_c.specs.Words.{as_nanos, State, Grant, Closed, BeginAnswer, TryAnswer, PutBackAnswer, AtOnce, CheckedOkAnswer, CheckedErrAnswer, GiveUpAnswer, ClaimAnswer, OpenedAnswer, FailedAnswer, AddAnswer, ReapAnswer, JoinAnswer, Look, Left, Got, Unfit, Name, Told, Figures, LookAnswer}
+use Rattle.bb8_c.specs.Words.{as_nanos, State, Grant, Closed, BeginAnswer, TryAnswer, PutBackAnswer, AtOnce, CheckedOkAnswer, CheckedErrAnswer, GiveUpAnswer, ClaimAnswer, OpenedAnswer, FailedAnswer, AddAnswer, ReapAnswer, JoinAnswer, Look, Left, Started, Unfit, Name, Told, Handed, Figures, LookAnswer}
 use Rattle.bb8_types.specs.Bounds.{most_micros}
 use Rattle.bb8_tables.specs.declared.keys.Key.{Key}
 use Rattle.bb8_tables.specs.declared.keys.GetKey.{GetKey}
 use Rattle.bb8_core.specs.declared.answers.BeginAnswer.TheVariants as begun
+use Rattle.bb8_core.specs.declared.answers.Started.TheVariants as starting
 use Rattle.bb8_core.specs.declared.answers.TryAnswer.TheVariants as tried
 use Rattle.bb8_core.specs.declared.answers.PutBackAnswer.TheVariants as returned
 use Rattle.bb8_core.specs.declared.answers.CheckedOkAnswer.TheVariants as passed
@@ -18,7 +19,6 @@ use Rattle.bb8_core.specs.declared.answers.ReapAnswer.TheVariants as reaping
 use Rattle.bb8_core.specs.declared.answers.JoinAnswer.TheVariants as joined
 use Rattle.bb8_core.specs.declared.answers.LeaveAnswer.TheVariants as leaving
 use Rattle.bb8_c.specs.declared.listing.Left.TheVariants as left
-use Rattle.bb8_c.specs.declared.steps.Got.TheVariants as got
 
 -- ---- what answers are made of
 
@@ -77,11 +77,11 @@ try_in (Ok (tried.Taken k c grant)) = granting grant (with_conn c (keyed 5 k))
 try_in (Ok (tried.Waiting grant)) = granting grant (plain 6)
 
 -- a get in one call: its name, beside what its first try tells
-abbrev pub got_in : Got → Told
-got_in got.Unfit = plain 0
-got_in got.Memory = plain 2
-got_in got.Exhausted = plain 3
-got_in (got.Tried g told) = record (try_in {U = Unfit} (Ok told)) { get = get_in g }
+abbrev pub got_in : {U : Type 0} → Result (Started ℕ) U → Told
+got_in (Err u) = plain 0
+got_in (Ok starting.Memory) = plain 2
+got_in (Ok starting.Exhausted) = plain 3
+got_in (Ok (starting.Tried g told)) = record (try_in {U = Unfit} (Ok told)) { get = get_in g }
 
 abbrev pub put_back_in : {U : Type 0} → Result (PutBackAnswer ℕ) U → Told
 put_back_in (Err u) = plain 0
@@ -91,6 +91,11 @@ put_back_in (Ok (returned.Closed c grant n)) = notifying n (granting grant (with
 abbrev pub at_once_in : Option (AtOnce ℕ) → Told
 at_once_in None = plain 0
 at_once_in (Some s) = record (granting s.grant (with_conn s.conn (keyed 4 s.key))) { get = record { number = s.get; place = 0 } }
+
+-- what a step told that hands over, and the try that came directly after it, if one did
+abbrev pub handed_in : Told → Option (TryAnswer ℕ) → Handed
+handed_in told None = record { told = told; tried = plain 0 }
+handed_in told (Some a) = record { told = told; tried = try_in {U = Unfit} (Ok a) }
 
 abbrev pub checked_ok_in : {U : Type 0} → Result CheckedOkAnswer U → Told
 checked_ok_in (Err u) = plain 0

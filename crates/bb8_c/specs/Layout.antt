@@ -7,9 +7,9 @@ abbrev pub or_zero : Option ℕ → ℕ
 or_zero None = 0
 or_zero (Some n) = n
 
--- how many bytes each takes: CoreHandle, Settings, Name, Granted, Told, LookAnswer, Figures
+-- how many bytes each takes: CoreHandle, Settings, Name, Granted, Told, LookAnswer, Figures, Handed
 abbrev pub size_in_c : ℕ → ℕ
-size_in_c of = or_zero (slice_get (8 ∷ 32 ∷ 16 ∷ 16 ∷ 64 ∷ 16 ∷ 96 ∷ []) of)
+size_in_c of = or_zero (slice_get (8 ∷ 32 ∷ 16 ∷ 16 ∷ 64 ∷ 16 ∷ 96 ∷ 128 ∷ []) of)
 
 abbrev pub numbered_told : Told
 numbered_told = record {

@@ -5,10 +5,10 @@ ghost use Rattle.bb8_c.specs.Layout as layout;
 use crate::figures::{Figures, LookAnswer};
 use crate::handle::CoreHandle;
 use crate::settings::Settings;
-use crate::told::{Granted, Name, Told};
+use crate::told::{Granted, Handed, Name, Told};
 
 /// How many bytes each takes, in the order of `bb8_size`.
-const SIZES: [usize; 7] = [
+const SIZES: [usize; 8] = [
     size_of::<CoreHandle>(),
     size_of::<Settings>(),
     size_of::<Name>(),
@@ -16,6 +16,7 @@ const SIZES: [usize; 7] = [
     size_of::<Told>(),
     size_of::<LookAnswer>(),
     size_of::<Figures>(),
+    size_of::<Handed>(),
 ];
 
 /// How many bytes the struct of this number takes; none for another number.

@@ -4,8 +4,8 @@
 //! with kind 0, and changes nothing. C keeps the connections, and names them by numbers of its own. Moments are in nanoseconds.
 #![tactic(auto)]
 
-ghost use Rattle.std.specs.Prelude.{◌≡◌, ℕ, Bool, true, false, Option, None, Some, IsSome, IfSome, IfNone, Result, IfOk};
-ghost use Rattle.bb8_c.specs.Words.{Grant, State, BeginAnswer, AtOnce, TryAnswer, CheckedOkAnswer, CheckedErrAnswer, GiveUpAnswer, PutBackAnswer, ClaimAnswer, OpenedAnswer, FailedAnswer, AddAnswer, ReapAnswer, JoinAnswer, Look, begin_told, try_told, checked_ok_told, checked_err_told, give_up_told, put_back_told, claim_told, opened_told, failed_told, add_told, join_told, look_told, reason_of, ServesAtOnce, HandsOut, GivesBack, GivesBackInvalid, GivesBackHeld, HandsBack, Refuses, Meets, NotAtOnce, IsRecordIn, IsNoRecordIn, Closed, Left, Got, Unfit};
+ghost use Rattle.std.specs.Prelude.{◌≡◌, ℕ, true, false, Option, None, Some, IsSome, IfSome, IfNone, Result, IfOk, IfErr, ⊤};
+ghost use Rattle.bb8_c.specs.Words.{Grant, State, AtOnce, Started, TryAnswer, ClaimAnswer, ReapAnswer, Look, begin_told, try_told, checked_ok_told, checked_err_told, give_up_told, put_back_told, claim_told, opened_told, failed_told, add_told, join_told, look_told, reason_of, ServesAtOnce, Starts, HandsOut, GivesBack, GivesBackInvalid, GivesBackHeld, HandsBack, Refuses, Meets, NotAtOnce, IsRecordIn, IsNoRecordIn, Closed, Left, Unfit};
 ghost use Rattle.bb8_ledger.specs.Acts as acts;
 ghost use Rattle.bb8_ledger.specs.Answers as answers;
 ghost use Rattle.bb8_types.specs.Figures.{figures_of};
@@ -13,7 +13,7 @@ ghost use Rattle.bb8_c.specs.InC as in_c;
 ghost use Rattle.bb8_c.specs.Layout as layout;
 ghost use Rattle.bb8_c.specs.Openings.{CoreIsMade};
 ghost use Rattle.bb8_core.specs.Asked.{OrComesBack, Stepped};
-ghost use Rattle.bb8_c.specs.Steps.{Gets, Reaps, Leaves, TellsNext, Within, Beside, why};
+ghost use Rattle.bb8_c.specs.Steps.{Crosses, CrossesOver, Reaps, Leaves, TellsNext, Within, Beside, why};
 
 mod figures;
 mod handle;
@@ -21,18 +21,17 @@ mod layout;
 mod listing;
 mod parts;
 mod settings;
-mod steps;
 mod told;
 
 use bb8_core::api::Moment;
-use bb8_core::asked;
 use bb8_core::internals::{GetKey, Key, PoolInternals, Reason};
+use bb8_core::{asked, handing};
 pub use figures::{Figures, LookAnswer};
 pub use handle::CoreHandle;
 use listing::Listing;
 pub use settings::Settings;
 use std::alloc::Global;
-pub use told::{Granted, Name, Told};
+pub use told::{Granted, Handed, Name, Told};
 
 // What is told of the core, which is taken out of its handle for it.
 macro_rules! with_core {
@@ -42,6 +41,16 @@ macro_rules! with_core {
         *$handle = CoreHandle::of($open);
         told
     }};
+}
+
+// What a step tells that hands over, in such words, and what its try tells.
+macro_rules! with_try {
+    ($alloc:ident, $handle:ident, $open:ident => $tell:ident, $over:expr) => {
+        with_core!($alloc, $handle, $open => {
+            let over = $over;
+            told::both(told::$tell(over.told), over.tried)
+        })
+    };
 }
 
 // The key that a name of C stands for.
@@ -88,8 +97,8 @@ pub extern "C" fn bb8_free(alloc: Global, core: &mut CoreHandle)
 #[unsafe(no_mangle)]
 pub extern "C" fn bb8_begin(alloc: Global, core: &mut CoreHandle, at: u64) -> Told
     requires { IsSome core.old.core }
-    ensures { Beside (λ old new. (a : Result BeginAnswer Unfit) × (result ≡ in_c.begin_in a)
-        × Stepped Meets begin_told old at acts.Begin a new) core.old.core core.new.core }
+    ensures { Beside (Crosses (in_c.begin_in {U = Unfit}) begin_told (λ a. ⊤)
+        acts.Begin at result) core.old.core core.new.core }
 {
     with_core!(alloc, core, open => told::begun(asked::begin(&mut open.internals, Moment(at))))
 }
@@ -99,10 +108,12 @@ pub extern "C" fn bb8_begin(alloc: Global, core: &mut CoreHandle, at: u64) -> To
 #[unsafe(no_mangle)]
 pub extern "C" fn bb8_get(alloc: Global, core: &mut CoreHandle, at: u64) -> Told
     requires { IsSome core.old.core }
-    ensures { Beside (λ old new. (a : Got) × (result ≡ in_c.got_in a)
-        × Gets old at a new) core.old.core core.new.core }
+    ensures { Beside (λ old new. (a : Result (Started ℕ) Unfit) × (result ≡ in_c.got_in a)
+        × IfOk a (λ told. Starts old at told new)
+        × IfErr a (λ u. Meets old at acts.Begin answers.Unfit new × (new ≡ old)))
+        core.old.core core.new.core }
 {
-    with_core!(alloc, core, open => told::got(steps::get(&mut open.internals, Moment(at))))
+    with_core!(alloc, core, open => told::got(asked::start(&mut open.internals, Moment(at))))
 }
 
 /// Begins a get and serves it, where connections go out unchecked, one is idle, and the get needs no memory. Else the answer has kind 0, nothing
@@ -139,9 +150,8 @@ pub extern "C" fn bb8_checked_ok(
     hint: usize,
 ) -> Told
     requires { IsSome core.old.core }
-    ensures { Beside (λ old new. (a : Result CheckedOkAnswer Unfit)
-        × (result ≡ in_c.checked_ok_in a)
-        × Stepped Meets (checked_ok_told old.records.next) old at (acts.CheckedOk get.number) a new)
+    ensures { Beside (λ old new. Crosses (in_c.checked_ok_in {U = Unfit})
+        (checked_ok_told old.records.next) (λ a. ⊤) (acts.CheckedOk get.number) at result old new)
         core.old.core core.new.core }
 {
     with_core!(alloc, core, open => told::checked(asked::checked_ok(&mut open.internals, Moment(at), named!(GetKey, get), hint)))
@@ -159,10 +169,9 @@ pub extern "C" fn bb8_checked_err(
     hint: usize,
 ) -> Told
     requires { IsSome core.old.core }
-    ensures { Beside (λ old new. (a : Result (CheckedErrAnswer ℕ) ℕ)
-        × (result ≡ in_c.checked_err_in a)
-        × Stepped Meets checked_err_told old at (acts.CheckedErr get.number broken) a new
-        × OrComesBack GivesBackInvalid conn a) core.old.core core.new.core }
+    ensures { Beside (Crosses in_c.checked_err_in checked_err_told
+        (OrComesBack GivesBackInvalid conn)
+        (acts.CheckedErr get.number broken) at result) core.old.core core.new.core }
 {
     with_core!(alloc, core, open => told::invalid(asked::checked_err(&mut open.internals, Moment(at), named!(GetKey, get), conn, broken, hint)))
 }
@@ -177,9 +186,9 @@ pub extern "C" fn bb8_give_up(
     timed_out: bool,
 ) -> Told
     requires { IsSome core.old.core }
-    ensures { Beside (λ old new. (a : Result (GiveUpAnswer ℕ) Unfit) × (result ≡ in_c.give_up_in a)
-        × Stepped Meets give_up_told old at (acts.GiveUp get.number (why timed_out) None false) a new
-        × IfOk a (GivesBackHeld None)) core.old.core core.new.core }
+    ensures { Beside (Crosses (in_c.give_up_in {U = Unfit}) give_up_told
+        (λ a. IfOk a (GivesBackHeld None))
+        (acts.GiveUp get.number (why timed_out) None false) at result) core.old.core core.new.core }
 {
     with_core!(alloc, core, open => told::gave_up(asked::give_up(&mut open.internals, Moment(at), named!(GetKey, get), reason(timed_out), false)))
 }
@@ -197,10 +206,10 @@ pub extern "C" fn bb8_give_up_held(
     hint: usize,
 ) -> Told
     requires { IsSome core.old.core }
-    ensures { Beside (λ old new. (a : Result (GiveUpAnswer ℕ) ℕ) × (result ≡ in_c.give_up_in a)
-        × Stepped Meets give_up_told old at
-        (acts.GiveUp get.number (why timed_out) (Some conn) broken) a new
-        × OrComesBack (λ c. GivesBackHeld (Some c)) conn a) core.old.core core.new.core }
+    ensures { Beside (Crosses in_c.give_up_in give_up_told
+        (OrComesBack (λ c. GivesBackHeld (Some c)) conn)
+        (acts.GiveUp get.number (why timed_out) (Some conn) broken) at result)
+        core.old.core core.new.core }
 {
     with_core!(alloc, core, open => told::gave_up(asked::give_back(&mut open.internals, Moment(at), named!(GetKey, get), reason(timed_out), conn, broken, hint)))
 }
@@ -216,9 +225,9 @@ pub extern "C" fn bb8_put_back(
     broken: bool,
 ) -> Told
     requires { IsSome core.old.core }
-    ensures { Beside (λ old new. (a : Result (PutBackAnswer ℕ) ℕ) × (result ≡ in_c.put_back_in a)
-        × Stepped Meets (put_back_told key.number) old at (acts.PutBack key.number conn broken) a new
-        × OrComesBack GivesBack conn a) core.old.core core.new.core }
+    ensures { Beside (Crosses in_c.put_back_in (put_back_told key.number)
+        (OrComesBack GivesBack conn)
+        (acts.PutBack key.number conn broken) at result) core.old.core core.new.core }
 {
     with_core!(alloc, core, open => told::returned(asked::put_back(&mut open.internals, Moment(at), named!(Key, key), conn, broken)))
 }
@@ -253,9 +262,9 @@ pub extern "C" fn bb8_opened(
     conn: u64,
 ) -> Told
     requires { IsSome core.old.core }
-    ensures { Beside (λ old new. (a : Result (OpenedAnswer ℕ) ℕ) × (result ≡ in_c.opened_in a)
-        × Stepped Meets (opened_told approval.number) old at (acts.Opened approval.number conn) a new
-        × OrComesBack HandsBack conn a) core.old.core core.new.core }
+    ensures { Beside (Crosses in_c.opened_in (opened_told approval.number)
+        (OrComesBack HandsBack conn)
+        (acts.Opened approval.number conn) at result) core.old.core core.new.core }
 {
     with_core!(alloc, core, open => told::entered(asked::opened(&mut open.internals, Moment(at), named!(Key, approval), conn)))
 }
@@ -264,9 +273,8 @@ pub extern "C" fn bb8_opened(
 #[unsafe(no_mangle)]
 pub extern "C" fn bb8_failed(alloc: Global, core: &mut CoreHandle, at: u64, approval: Name) -> Told
     requires { IsSome core.old.core }
-    ensures { Beside (λ old new. (a : Result FailedAnswer Unfit) × (result ≡ in_c.failed_in a)
-        × Stepped Meets failed_told old at (acts.Failed approval.number) a new)
-        core.old.core core.new.core }
+    ensures { Beside (Crosses (in_c.failed_in {U = Unfit}) failed_told (λ a. ⊤)
+        (acts.Failed approval.number) at result) core.old.core core.new.core }
 {
     with_core!(alloc, core, open => told::given_back(asked::failed(&mut open.internals, Moment(at), named!(Key, approval))))
 }
@@ -281,11 +289,118 @@ pub extern "C" fn bb8_add(
     broken: bool,
 ) -> Told
     requires { IsSome core.old.core }
-    ensures { Beside (λ old new. (a : Result (AddAnswer ℕ) ℕ) × (result ≡ in_c.add_in a)
-        × Stepped Meets add_told old at (acts.Add conn broken) a new
-        × OrComesBack Refuses conn a) core.old.core core.new.core }
+    ensures { Beside (Crosses in_c.add_in add_told (OrComesBack Refuses conn)
+        (acts.Add conn broken) at result) core.old.core core.new.core }
 {
     with_core!(alloc, core, open => told::added(asked::add(&mut open.internals, Moment(at), conn, broken)))
+}
+
+/// As `bb8_checked_err`, and then `bb8_try` of the get that was notified.
+#[unsafe(no_mangle)]
+pub extern "C" fn bb8_checked_err_and_hand_over(
+    alloc: Global,
+    core: &mut CoreHandle,
+    at: u64,
+    get: Name,
+    conn: u64,
+    broken: bool,
+    hint: usize,
+) -> Handed
+    requires { IsSome core.old.core }
+    ensures { Beside (CrossesOver in_c.checked_err_in checked_err_told
+        (OrComesBack GivesBackInvalid conn)
+        (acts.CheckedErr get.number broken) at result) core.old.core core.new.core }
+{
+    with_try!(alloc, core, open => invalid, handing::checked_err(&mut open.internals, Moment(at), named!(GetKey, get), conn, broken, hint))
+}
+
+/// As `bb8_give_up`, and then `bb8_try` of the get that was notified.
+#[unsafe(no_mangle)]
+pub extern "C" fn bb8_give_up_and_hand_over(
+    alloc: Global,
+    core: &mut CoreHandle,
+    at: u64,
+    get: Name,
+    timed_out: bool,
+) -> Handed
+    requires { IsSome core.old.core }
+    ensures { Beside (CrossesOver (in_c.give_up_in {U = Unfit}) give_up_told
+        (λ a. IfOk a (GivesBackHeld None))
+        (acts.GiveUp get.number (why timed_out) None false) at result) core.old.core core.new.core }
+{
+    with_try!(alloc, core, open => gave_up, handing::give_up(&mut open.internals, Moment(at), named!(GetKey, get), reason(timed_out), false))
+}
+
+/// As `bb8_give_up_held`, and then `bb8_try` of the get that was notified.
+#[unsafe(no_mangle)]
+pub extern "C" fn bb8_give_up_held_and_hand_over(
+    alloc: Global,
+    core: &mut CoreHandle,
+    at: u64,
+    get: Name,
+    timed_out: bool,
+    conn: u64,
+    broken: bool,
+    hint: usize,
+) -> Handed
+    requires { IsSome core.old.core }
+    ensures { Beside (CrossesOver in_c.give_up_in give_up_told
+        (OrComesBack (λ c. GivesBackHeld (Some c)) conn)
+        (acts.GiveUp get.number (why timed_out) (Some conn) broken) at result)
+        core.old.core core.new.core }
+{
+    with_try!(alloc, core, open => gave_up, handing::give_back(&mut open.internals, Moment(at), named!(GetKey, get), reason(timed_out), conn, broken, hint))
+}
+
+/// As `bb8_put_back`, and then `bb8_try` of the get that was notified.
+#[unsafe(no_mangle)]
+pub extern "C" fn bb8_put_back_and_hand_over(
+    alloc: Global,
+    core: &mut CoreHandle,
+    at: u64,
+    key: Name,
+    conn: u64,
+    broken: bool,
+) -> Handed
+    requires { IsSome core.old.core }
+    ensures { Beside (CrossesOver in_c.put_back_in (put_back_told key.number)
+        (OrComesBack GivesBack conn)
+        (acts.PutBack key.number conn broken) at result) core.old.core core.new.core }
+{
+    with_try!(alloc, core, open => returned, handing::put_back(&mut open.internals, Moment(at), named!(Key, key), conn, broken))
+}
+
+/// As `bb8_opened`, and then `bb8_try` of the get that was notified.
+#[unsafe(no_mangle)]
+pub extern "C" fn bb8_opened_and_hand_over(
+    alloc: Global,
+    core: &mut CoreHandle,
+    at: u64,
+    approval: Name,
+    conn: u64,
+) -> Handed
+    requires { IsSome core.old.core }
+    ensures { Beside (CrossesOver in_c.opened_in (opened_told approval.number)
+        (OrComesBack HandsBack conn)
+        (acts.Opened approval.number conn) at result) core.old.core core.new.core }
+{
+    with_try!(alloc, core, open => entered, handing::opened(&mut open.internals, Moment(at), named!(Key, approval), conn))
+}
+
+/// As `bb8_add`, and then `bb8_try` of the get that was notified.
+#[unsafe(no_mangle)]
+pub extern "C" fn bb8_add_and_hand_over(
+    alloc: Global,
+    core: &mut CoreHandle,
+    at: u64,
+    conn: u64,
+    broken: bool,
+) -> Handed
+    requires { IsSome core.old.core }
+    ensures { Beside (CrossesOver in_c.add_in add_told (OrComesBack Refuses conn)
+        (acts.Add conn broken) at result) core.old.core core.new.core }
+{
+    with_try!(alloc, core, open => added, handing::add(&mut open.internals, Moment(at), conn, broken))
 }
 
 /// Closes idle connections that are too old or idled too long: kind 20, with how many as the number of the key; `bb8_closed_next` tells which.
@@ -303,8 +418,8 @@ pub extern "C" fn bb8_reap(alloc: Global, core: &mut CoreHandle, at: u64) -> Tol
 #[unsafe(no_mangle)]
 pub extern "C" fn bb8_join(alloc: Global, core: &mut CoreHandle, at: u64) -> Told
     requires { IsSome core.old.core }
-    ensures { Beside (λ old new. (a : Result JoinAnswer Unfit) × (result ≡ in_c.join_in a)
-        × Stepped Meets join_told old at acts.Join a new) core.old.core core.new.core }
+    ensures { Beside (Crosses (in_c.join_in {U = Unfit}) join_told (λ a. ⊤)
+        acts.Join at result) core.old.core core.new.core }
 {
     with_core!(alloc, core, open => told::joined(asked::join(&mut open.internals, Moment(at))))
 }
@@ -360,7 +475,8 @@ pub extern "C" fn bb8_knows(alloc: Global, core: &mut CoreHandle, number: u64) -
     with_core!(alloc, core, open => open.internals.find(number).is_some())
 }
 
-/// How many bytes a struct takes: 0 for `CoreHandle`, 1 `Settings`, 2 `Name`, 3 `Granted`, 4 `Told`, 5 `LookAnswer`, 6 `Figures`. Any other: 0.
+/// How many bytes a struct takes: 0 for `CoreHandle`, 1 `Settings`, 2 `Name`, 3 `Granted`, 4 `Told`, 5 `LookAnswer`, 6 `Figures`,
+/// 7 `Handed`. Any other: 0.
 #[unsafe(no_mangle)]
 pub extern "C" fn bb8_size(of: u32) -> usize
     ensures { result ≡ layout.size_in_c of }

@@ -1,17 +1,16 @@
 //! A core with what its reaps and its last leave closed, which is told one by one.
-ghost use Rattle.std.specs.Prelude.{◌≡◌, ◌+◌, ◌≤◌, [], length, MatchBool};
+ghost use Rattle.std.specs.Prelude.{◌≡◌, ◌+◌, ◌<◌, ◌≤◌, [], length, MatchBool};
 ghost use Rattle.bb8_c.specs.Steps.{Reaps, Leaves, TellsNext};
 
-use crate::steps::Core;
 use bb8_core::api::Moment;
-use bb8_core::internals::{Closed, ClosedList, LeaveAnswer, ReapAnswer};
+use bb8_core::internals::{Closed, ClosedList, LeaveAnswer, PoolInternals, ReapAnswer};
 use std::alloc::Global;
 
 /// A core, and the connections that it closed and that were not told yet.
 #[derive(Drop)]
 pub struct Listing {
     /// The core.
-    pub internals: Core,
+    pub internals: PoolInternals<u64>,
     /// What it closed, in the order in which it was closed.
     pub closed: ClosedList<u64>,
 }
@@ -28,7 +27,7 @@ pub enum Left {
 
 impl Listing {
     /// A core that closed nothing yet.
-    pub(crate) fn new(alloc: Global, internals: Core) -> Listing
+    pub(crate) fn new(alloc: Global, internals: PoolInternals<u64>) -> Listing
         ensures core { result.internals ≡ internals }
         ensures none { result.closed.items ≡ [] }
     {
@@ -42,7 +41,7 @@ impl Listing {
             ((self.new.internals ≡ self.old.internals)
             × (self.new.closed.items ≡ self.old.closed.items)
             × (length self.old.closed.items + more ≤ self.new.closed.capacity))
-            (self.new ≡ self.old) }
+            ((self.new ≡ self.old) × (0 < more)) }
     {
         let many = self.closed.len();
         if more == 0 {

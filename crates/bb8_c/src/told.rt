@@ -3,12 +3,11 @@ ghost use Rattle.std.specs.Prelude.{◌≡◌};
 ghost use Rattle.bb8_c.specs.InC as in_c;
 
 use crate::listing::Left;
-use crate::steps::Got;
 use bb8_core::asked::Unfit;
 use bb8_core::internals::{
     AddAnswer, AtOnce, BeginAnswer, CheckedErrAnswer, CheckedOkAnswer, ClaimAnswer, Closed,
     FailedAnswer, GetKey, GiveUpAnswer, Grant, JoinAnswer, Key, LeaveAnswer, OpenedAnswer,
-    PutBackAnswer, ReapAnswer, TryAnswer,
+    PutBackAnswer, ReapAnswer, Started, TryAnswer,
 };
 
 // The kinds of answers. They are part of what C relies on, and never change.
@@ -101,6 +100,16 @@ pub struct Granted {
     pub count: u32,
     /// How many more were due, for which memory or a number was lacking.
     pub withheld: u32,
+}
+
+/// What a step that hands over tells.
+#[repr(C)]
+#[derive(Clone, Copy)]
+pub struct Handed {
+    /// As the step tells that hands over nothing.
+    pub told: Told,
+    /// As the try tells of the get that the step notified; kind 0 where it notified none.
+    pub tried: Told,
 }
 
 /// Names nothing.
@@ -243,14 +252,14 @@ pub(crate) fn at_once(answer: Option<AtOnce<u64>>) -> Told
 }
 
 /// What a get in one call tells: the get's name beside what its first try told.
-pub(crate) fn got(answer: Got) -> Told
+pub(crate) fn got(answer: Result<Started<u64>, Unfit>) -> Told
     ensures { result ≡ in_c.got_in answer }
 {
     match answer {
-        Got::Unfit => NOTHING,
-        Got::Memory => of(MEMORY),
-        Got::Exhausted => of(EXHAUSTED),
-        Got::Tried(get, told) => Told {
+        Err(Unfit) => NOTHING,
+        Ok(Started::Memory) => of(MEMORY),
+        Ok(Started::Exhausted) => of(EXHAUSTED),
+        Ok(Started::Tried(get, told)) => Told {
             get: get_name(get),
             ..tried(Ok(told))
         },
@@ -267,6 +276,17 @@ pub(crate) fn tried(answer: Result<TryAnswer<u64>, Unfit>) -> Told
         Ok(TryAnswer::Taken(key, conn, grant)) => keyed(TAKEN, key).with_conn(conn).with(grant),
         Ok(TryAnswer::Waiting(grant)) => of(WAITING).with(grant),
     }
+}
+
+/// What a step that hands over tells, beside what its try answered, where one was made.
+pub(crate) fn both(told: Told, answer: Option<TryAnswer<u64>>) -> Handed
+    ensures { result ≡ in_c.handed_in told answer }
+{
+    let tried = match answer {
+        None => NOTHING,
+        Some(answer) => tried(Ok(answer)),
+    };
+    Handed { told, tried }
 }
 
 /// What a passed check tells.

@@ -1,9 +1,18 @@
 -- What the condition of a step says of what is shown.
-use Rattle.bb8_core.proofs.Words.{◌≡◌, ℕ, ◌≤◌, Bool, true, false, Option, Some, None, is_some, refl, sym, ap, ◌∙◌, subst, ◌+◌, ◌<◌, max, arith, ltb-true, get, Place, Unclaimed, Claimed, Idle, Held, Guarded, Standing, Getting, Try, CheckedOk, PutBack, GiveUp, Leave, Reason, Cancelled, Ledger, conns, approved, alive, get_of, start, latest, handles, records, gets, record_of, holds, stands, gets_stand, is_unnotified, is_claimed, is_guarded, is_held_by, is_out, fits, IsLegal, Shown, shown_beside, HasLedger, IsFitting, Means, standing_is, claimed_is, guarded_out, and_right, holding_is, all_held, alive_get, trying_is, alive_is, out_counted, claimed_counted, Fits, all_fit, due_few, Numbered, end_of_numbers, due, Settings, none_lent, ShownRecords, NoneAfter}
+use Rattle.bb8_core.proofs.Words.{◌≡◌, ℕ, ◌≤◌, Bool, true, false, Option, Some, None, is_some, refl, sym, ap, ◌∙◌, subst, ◌+◌, ◌<◌, max, arith, ltb-true, get, Place, Unclaimed, Claimed, Idle, Held, Guarded, Standing, Getting, Try, CheckedOk, PutBack, GiveUp, Leave, Reason, Cancelled, Ledger, agree, ◌&&◌, conns, approved, alive, get_of, start, latest, handles, records, gets, record_of, holds, stands, gets_stand, is_unnotified, is_claimed, is_guarded, is_held_by, is_out, fits, IsLegal, Shown, shown_beside, HasLedger, IsFitting, Means, standing_is, claimed_is, guarded_out, and_right, holding_is, all_held, alive_get, trying_is, alive_is, out_counted, claimed_counted, Fits, all_fit, due_few, Numbered, end_of_numbers, due, Settings, none_lent, ShownRecords, NoneAfter}
 use Rattle.bb8_core.specs.Shown.{TellsFitting}
 use Rattle.bb8_ledger.proofs.Invalid.{few_ended}
 use Rattle.bb8_ledger.proofs.Moments.{none_later}
 use Rattle.bb8_types.proofs.Numbered as numbered
+
+-- a get that holds a connection may hand it in, and another get none
+handing_in : (o : Option Getting) (k : ℕ) → holds o ≡ Some k → (is_some o && agree true (is_some (holds o))) ≡ true
+handing_in None k held = absurd (let clash : None ≡ Some k = held in cc)
+handing_in (Some x) k held = ap is_some held
+
+handing_none : (o : Option Getting) → holds o ≡ None → (is_some o && agree true (is_some (holds o))) ≡ false
+handing_none None none = refl
+handing_none (Some x) none = ap is_some none
 
 module _ {C : Type 0} where
   -- what a ledger shows, where nothing was lent
@@ -158,11 +167,6 @@ module _ {C : Type 0} where
       some_held None e = cc
       some_held (Some k) e = (k, refl)
 
-  -- a give-up hands a connection in where the get holds one
-  pub give_up_holds : {t : Shown C} (g : ℕ) (why : Reason) (c : C) (broken : Bool) → IsFitting t (GiveUp g why (Some c) broken)
-      → (l : Ledger C) → IsLegal l → Means l t → is_some (holds (get_of l g)) ≡ true
-  give_up_holds g why c broken fit l legal means = (and_right (is_some (get_of l g)) _ (fit l legal means)).1
-
   -- what it holds is out
   pub holds_out : {s t : Shown C} {o : Option Getting} {n : ℕ} (g : ℕ) → s ≡ t → HasLedger s
       → ((l : Ledger C) → IsLegal l → Means l t → is_some (holds (get_of l g)) ≡ true) → o ≡ get s.gets.places g
@@ -189,6 +193,17 @@ module _ {C : Type 0} where
   held_out s g k h held =
       let st = held_record h.0 g k h.1 (ap (λ (x : Option Getting). holds x) (shown_get h.0 s h.2 g) ∙ held) in
       (st.0, sym (shown_record h.0 s h.2 k) ∙ st.1, st.2)
+
+  -- it may hand that connection in, and another get none
+  pub fits_give_back : (s : Shown C) (g k : ℕ) (why : Reason) (c : C) (broken : Bool) → holds (get s.gets.places g) ≡ Some k → IsFitting s (GiveUp g why (Some c) broken)
+  fits_give_back s g k why c broken held l legal means = handing_in (get_of l g) k (ap (λ (x : Option Getting). holds x) (shown_get l s means g) ∙ held)
+
+  pub unfit_give_back : (s : Shown C) (g : ℕ) (why : Reason) (c : C) (broken : Bool) → holds (get s.gets.places g) ≡ None → TellsFitting s (GiveUp g why (Some c) broken) false
+  unfit_give_back s g why c broken none l legal means = sym (handing_none (get_of l g) (ap (λ (x : Option Getting). holds x) (shown_get l s means g) ∙ none))
+
+  -- and it is out with this get
+  pub held_with : (s : Shown C) (g k : ℕ) → HasLedger s → holds (get s.gets.places g) ≡ Some k → stands (is_held_by g) (get s.records.places k) ≡ true
+  held_with s g k h held = ap (stands (is_held_by g)) (sym (shown_record h.0 s h.2 k)) ∙ all_held h.0 h.1 g k (ap (λ (x : Option Getting). holds x) (shown_get h.0 s h.2 g) ∙ held)
 
   pub fits_guarded : (s : Shown C) (k : ℕ) (c : C) (broken : Bool) → stands is_guarded (get s.records.places k) ≡ true → IsFitting s (PutBack k c broken)
   fits_guarded s k c broken on l legal means = ap (stands is_guarded) (shown_record l s means k) ∙ on

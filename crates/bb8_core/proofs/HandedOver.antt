@@ -1,10 +1,11 @@
--- A get that a return notified may try, and what its try comes to.
-use Rattle.bb8_core.proofs.Words.{◌≡◌, ◌∙◌, ℕ, Bool, true, false, None, Some, refl, sym, ap, subst, MatchBool, Try, Unfit, Answer, Act, Ledger, Later, Row, fits, IsLegal, Shown, HasLedger, IsFitting}
+-- A get that was notified may try, and what its try comes to.
+use Rattle.bb8_core.proofs.Words.{◌≡◌, ◌∙◌, ℕ, Bool, true, false, Option, None, Some, IfSome, refl, sym, ap, subst, MatchBool, Try, Unfit, Answer, Act, Ledger, Later, Row, fits, IsLegal, Shown, HasLedger, IsFitting}
 use Rattle.bb8_tables.specs.declared.keys.GetKey.{GetKey}
 use Rattle.bb8_core.specs.declared.answers.TryAnswer.{TryAnswer}
-use Rattle.bb8_core.specs.StepAnswers.{try_told, HandsOut}
+use Rattle.bb8_core.specs.StepAnswers.{try_told}
 use Rattle.bb8_core.specs.Shown.{Meets, Means}
-use Rattle.bb8_core.specs.HandedOver.{HandsOn, TriesAtOnce}
+use Rattle.bb8_tables.specs.Keys.{notified_of}
+use Rattle.bb8_core.specs.HandedOver.{Follows, HandsOn, HandsOver}
 use Rattle.bb8_ledger.specs.Handed.{told_by}
 use Rattle.bb8_ledger.proofs.Handed.{told_tries, handed_over}
 use Rattle.bb8_core.proofs.Runs.{shown_try}
@@ -22,7 +23,7 @@ module _ {C : Type 0} where
       let row = told_row (fits l e) _ a g (step l legal means).0 told in
       (row.0, row.1, told_tries l at e a g row.1 row.0 told)
 
-  pub may_try : {s t : Shown C} (at g : ℕ) (e : Act C) (a : Answer) → HasLedger s → Meets s at e a t → told_by a ≡ Some g → IsFitting t (Try g)
+  may_try : {s t : Shown C} (at g : ℕ) (e : Act C) (a : Answer) → HasLedger s → Meets s at e a t → told_by a ≡ Some g → IsFitting t (Try g)
   may_try {s} {t} at g e a h step told later legal means =
       shown_try later t g means ∙ sym (shown_try (Later h.0 at e a) t g (step h.0 h.1 h.2).1) ∙ (tries_on at g e a h.0 h.1 h.2 step told).2
 
@@ -35,6 +36,15 @@ module _ {C : Type 0} where
       subst (λ (x : Bool). MatchBool x (Row (Later l at e a) at (Try g) b) (b ≡ Unfit)) row.2 (next (Later l at e a) later now.1).0 in
       handed_over l at at g e a b later row.1 row.0 told tries none
 
-  pub tries_at_once : {s t u : Shown C} (at : ℕ) (e : Act C) (a : Answer) (g : GetKey) (tried : TryAnswer C) → Meets s at e a t → told_by a ≡ Some g.number
-      → Meets t at (Try g.number) (try_told tried) u → HandsOut t tried → TriesAtOnce s at e a g tried u
-  tries_at_once {t = t} at e a g tried step told next out = (t, step, told, next, out, hands_on at g.number e a (try_told tried) step told next)
+  -- so where a step notified a get, it may
+  pub fits_told : {s t : Shown C} (at : ℕ) (e : Act C) (a : Answer) (n : Option GetKey) → HasLedger s → Meets s at e a t → told_by a ≡ notified_of n → IfSome n (λ g. IsFitting t (Try g.number))
+  fits_told at e a None h step told = tt
+  fits_told at e a (Some g) h step told = may_try at g.number e a h step told
+
+  -- and a step and this try hand over
+  pub hands_over : {s t : Shown C} (u : Shown C) (at : ℕ) (e : Act C) (a : Answer) (n : Option GetKey) (o : Option (TryAnswer C))
+      → Meets s at e a t → told_by a ≡ notified_of n → Follows t at n o u → HandsOver o s at e a u
+  hands_over {s} {t} u at e a None None step is same = (subst (λ (x : Shown C). Meets s at e a x) (sym same) step, is)
+  hands_over {s} {t} u at e a (Some g) (Some tried) step is next = (g.number, is, t, step, next.0, next.1, hands_on at g.number e a (try_told tried) step is next.0)
+  hands_over {s} {t} u at e a None (Some tried) step is next = absurd next
+  hands_over {s} {t} u at e a (Some g) None step is next = absurd next

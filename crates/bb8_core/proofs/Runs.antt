@@ -1,8 +1,7 @@
 -- Runs: what a state says of its ledger's numbers, an event that does not fit, and lists of events.
-use Rattle.bb8_core.proofs.Words.{◌≡◌, ℕ, zero, suc, true, false, option_map, ◌&&◌, is_some, List, [], ◌∷◌, ◌++◌, take, length, Option, Some, None, IsSome, IfSome, IfNone, refl, sym, ap, ◌∙◌, subst, get, Key, Event, Getting, Act, Try, Unfit, Ledger, Later, get_of, gets_stand, holds, is_trying, fits, agree, Allowed, IsLegal, Shown, Means, IsRecordIn, IsNoRecordIn, IsGetIn, IsNoGetIn, Named, act_with, act_of, fits_named, answer_of, IsRun, AfterEach}
+use Rattle.bb8_core.proofs.Words.{◌≡◌, ℕ, zero, suc, true, false, List, [], ◌∷◌, ◌++◌, take, length, Option, Some, None, IsSome, IfSome, IfNone, refl, sym, ap, ◌∙◌, subst, get, Key, Event, Act, Try, Unfit, Ledger, Later, gets_stand, is_trying, fits, Allowed, IsLegal, Shown, Means, IsRecordIn, IsNoRecordIn, IsGetIn, IsNoGetIn, act_of, answer_of, IsRun, AfterEach}
 use Rattle.bb8_tables.specs.declared.keys.GetKey.{GetKey}
 use Rattle.bb8_core.specs.declared.replay.events.Answer.{Answer as Told}
-use Rattle.bb8_core.specs.declared.replay.events.Act.TheVariants as named
 use Rattle.bb8_core.specs.Shown.{IsFitting, Meets, TellsFitting}
 use Rattle.bb8_core.proofs.Fitting.{shown, bare, beside, as_shown, shown_record, shown_get}
 use Rattle.bb8_core.proofs.Steps.{unfitting, same_shown, records_kept, gets_kept}
@@ -29,19 +28,6 @@ module _ {C : Type 0} where
   -- which tries fit, by what is shown
   pub shown_try : (l : Ledger C) (s : Shown C) (g : ℕ) → Means l s → fits l (Try g) ≡ gets_stand is_trying (get s.gets.places g)
   shown_try l s g means = ap (gets_stand is_trying) (shown_get l s means g)
-
-  -- whether an event fits does not depend on the connection that it hands in
-  hands_in : (conn : ℕ → C) (o : Option Getting) → (is_some o && agree (is_some (option_map conn (holds o))) (is_some (holds o))) ≡ is_some o
-  hands_in conn None = refl
-  hands_in conn (Some x) = each (holds (Some x))
-    where
-      each : (k : Option ℕ) → agree (is_some (option_map conn k)) (is_some k) ≡ true
-      each None = refl
-      each (Some k) = refl
-
-  pub as_named : (conn : ℕ → C) (l : Ledger C) (e : Named) → fits l (act_with conn l e) ≡ fits_named l e
-  as_named conn l (named.GiveUp g why broken) = hands_in conn (get_of l g)
-  as_named conn l _ = refl
 
   -- ---- an event that does not fit changes nothing
 

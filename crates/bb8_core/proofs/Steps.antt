@@ -330,16 +330,12 @@ module _ {C : Type 0} where
       (want_is l rs grant _ (put_before (position l) (start l).first k out (records l) off (entered_before l)) is granted, changed false l grant.count rs _ later)
 
   -- what is due to a get that waits
-  pub due_waiting : (s : Shown C) {taken : ShownRecords C} {used asked open_now alive_now d : ℕ} → taken ≡ s.records
-      → used ≡ taken.conns + taken.approved → open_now ≡ taken.approved → alive_now ≡ s.gets.alive → asked ≡ one (ltb open_now alive_now)
-      → d ≡ due s.config s.handles used asked → d ≡ due s.config s.handles (s.records.conns + s.records.approved)
-      (one (ltb s.records.approved s.gets.alive))
-  due_waiting s {taken} {used} {asked} {open_now} {alive_now} taken_is used_is open_is alive_is asked_is d_is =
-      d_is
-      ∙ ap (λ (n : ℕ). due s.config s.handles n asked) (used_is ∙ ap (λ (t : ShownRecords C). t.conns + t.approved) taken_is)
-      ∙ ap (due s.config s.handles (s.records.conns + s.records.approved))
-      (asked_is ∙ ap (λ (n : ℕ). one (ltb n alive_now)) (open_is ∙ ap (λ (t : ShownRecords C). t.approved) taken_is)
-      ∙ ap (λ (n : ℕ). one (ltb s.records.approved n)) alive_is)
+  pub due_waiting : (s : Shown C) {taken : ShownRecords C} {alive_now d : ℕ} → taken ≡ s.records → alive_now ≡ s.gets.alive
+      → d ≡ due s.config s.handles (taken.conns + taken.approved) (one (ltb taken.approved alive_now))
+      → d ≡ due s.config s.handles (s.records.conns + s.records.approved) (one (ltb s.records.approved s.gets.alive))
+  due_waiting s {taken} taken_is alive_is d_is =
+      d_is ∙ ap (λ (n : ℕ). due s.config s.handles (taken.conns + taken.approved) (one (ltb taken.approved n))) alive_is
+      ∙ ap (λ (t : ShownRecords C). due s.config s.handles (t.conns + t.approved) (one (ltb t.approved s.gets.alive))) taken_is
 
   -- the records after the leave of a handle, where it is the last one or not
   abbrev left_shown : (l : Ledger C) (b : Bool) → ShownRecords C

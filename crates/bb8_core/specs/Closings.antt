@@ -27,10 +27,13 @@ module _ {C : Type 0} where
   ended_by (reaping.Reaped closed by_idle by_life grant) l at = reaped_at l at
   ended_by reaping.Ended l at = []
 
-  -- A reap offers the connections that it closes, as they were closed: each number that the ledger's reap ends comes as often as there.
+  -- these are the numbers that the ledger's reap ends, in some order: each comes as often as there
+  abbrev pub ReapEnds : Shown C → ℕ → ReapAnswer → List ℕ → Type 0
+  ReapEnds s at a ks = (l : Ledger C) → IsLegal l → Means l s → (k : ℕ) → tally (eqb k) ks ≡ tally (eqb k) (ended_by a l at)
+
+  -- A reap offers the connections that it closes, in some order.
   abbrev pub OffersReaped : Shown C → ℕ → ReapAnswer → Buffer (Closed C) → Buffer (Closed C) → Type 0
-  OffersReaped s at a list offered = (ks : List ℕ) × Offers s ks list offered
-      × ((l : Ledger C) → IsLegal l → Means l s → (k : ℕ) → tally (eqb k) ks ≡ tally (eqb k) (ended_by a l at))
+  OffersReaped s at a list offered = (ks : List ℕ) × Offers s ks list offered × ReapEnds s at a ks
 
   -- The last leave offers all idle connections, in line; another one none.
   abbrev pub OffersLeft : Shown C → Buffer (Closed C) → Buffer (Closed C) → Type 0

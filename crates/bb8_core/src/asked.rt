@@ -42,10 +42,11 @@ pub fn start<C: Drop>(pool: &mut PoolInternals<C>, at: Moment) -> Result<Started
     ensures limits { IsWithinLimits pool.old }
 {
     pool.limits();
-    if !pool.fits_begin() {
-        return Err(Unfit);
+    if pool.fits_begin() {
+        Ok(pool.start(at))
+    } else {
+        Err(Unfit)
     }
-    Ok(pool.start(at))
 }
 
 /// Begins a get and serves it, where connections go out unchecked, one is idle, and the get needs no memory. Else nothing changes. Our own.
@@ -137,7 +138,7 @@ pub fn give_up<C: Drop>(
     if !pool.fits_give_up(get, false) {
         return Err(Unfit);
     }
-    Ok(pool.give_up(at, get, reason, None, broken, 0))
+    Ok(pool.give_up(at, get, reason, broken))
 }
 
 /// Gives up a get that holds this connection. Our own.
@@ -157,10 +158,7 @@ pub fn give_back<C: Drop>(
     ensures limits { IsWithinLimits pool.old }
 {
     pool.limits();
-    if !pool.fits_give_up(get, true) {
-        return Err(conn);
-    }
-    Ok(pool.give_up(at, get, reason, Some(conn), broken, hint))
+    pool.give_back(at, get, reason, conn, broken, hint)
 }
 
 /// Gives back a connection that a guard holds. Our own.

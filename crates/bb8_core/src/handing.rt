@@ -1,76 +1,172 @@
 //! Steps that hand over: where one notifies a get, that get tries in the same call. So no other try comes between, and in a pool whose
 //! events all hand over gets are served in the order in which they began to wait. A close sends the get that it notifies to the end.
+//!
+//! Each is the step of its name in `asked`, and then that try.
+ghost use Rattle.std.specs.Prelude.{None, Some, IfSome, IfOk};
 ghost use Rattle.bb8_ledger.specs.Acts as acts;
-ghost use Rattle.bb8_core.specs.HandedOver.{HandsOver};
-ghost use Rattle.bb8_core.specs.Shown.{IsWithinLimits};
-ghost use Rattle.bb8_core.specs.StepAnswers.{put_back_told, opened_told, GivesBack, HandsBack};
+ghost use Rattle.bb8_core.specs.Asked.{Stepped, OrComesBack};
+ghost use Rattle.bb8_core.specs.HandedOver.{HandsOver, Follows};
+ghost use Rattle.bb8_core.specs.Shown.{IsFitting, IsWithinLimits};
+ghost use Rattle.bb8_core.specs.StepAnswers.{checked_err_told, give_up_told, put_back_told, opened_told, add_told, reason_of, GivesBack, GivesBackInvalid, GivesBackHeld, HandsBack, Refuses};
 
 use crate::api::Moment;
-use crate::asked;
-use crate::internals::{GetKey, Key, OpenedAnswer, PoolInternals, PutBackAnswer, TryAnswer};
+use crate::asked::{self, Unfit};
+use crate::internals::{
+    AddAnswer, CheckedErrAnswer, GetKey, GiveUpAnswer, Key, OpenedAnswer, PoolInternals,
+    PutBackAnswer, Reason, TryAnswer,
+};
 
 /// What a step that hands over comes to. Our own.
 #[derive(Drop)]
-pub enum HandedOver<A, C> {
-    /// The step does not fit: the connection comes back, and nothing changed.
-    Unfit(C),
-    /// The step told this, and notified nobody.
-    Told(A),
-    /// The step told this, and the try of the get that it notified told that.
-    Tried(A, GetKey, TryAnswer<C>),
+pub struct HandedOver<R, C> {
+    /// What the step answered.
+    pub told: R,
+    /// What the try of the get answered that the step notified, where it notified one.
+    pub tried: Option<TryAnswer<C>>,
 }
 
-/// Gives a connection back, and has the get that it notifies try, in one call. Our own.
-pub fn put_back_and_hand_over<C: Drop>(
+/// Lets the get try that was notified, if one was.
+#[inline(always)]
+fn try_of<C: Drop>(
+    pool: &mut PoolInternals<C>,
+    at: Moment,
+    notified: Option<GetKey>,
+) -> Option<TryAnswer<C>>
+    requires { IfSome notified (λ g. IsFitting pool.old (acts.Try g.number)) }
+    ensures { Follows pool.old at.0 notified result pool.new }
+{
+    match notified {
+        None => None,
+        Some(get) => Some(pool.try_get(at, get)),
+    }
+}
+
+// What a step comes to, and then the try of the get that it notified.
+macro_rules! hand_over {
+    ($pool:ident, $at:ident, $step:expr) => {
+        match $step {
+            Err(back) => HandedOver {
+                told: Err(back),
+                tried: None,
+            },
+            Ok(told) => {
+                let tried = try_of($pool, $at, told.notified());
+                HandedOver {
+                    told: Ok(told),
+                    tried,
+                }
+            }
+        }
+    };
+}
+
+/// Tells that the check of a get failed, and hands over. Our own.
+#[inline(always)]
+pub fn checked_err<C: Drop>(
+    pool: &mut PoolInternals<C>,
+    at: Moment,
+    get: GetKey,
+    conn: C,
+    broken: bool,
+    hint: usize,
+) -> HandedOver<Result<CheckedErrAnswer<C>, C>, C>
+    ensures step { Stepped (HandsOver result.tried) checked_err_told pool.old at.0
+        (acts.CheckedErr get.number broken) result.told pool.new }
+    ensures connection { OrComesBack GivesBackInvalid conn result.told }
+    ensures limits { IsWithinLimits pool.old }
+{
+    hand_over!(
+        pool,
+        at,
+        asked::checked_err(pool, at, get, conn, broken, hint)
+    )
+}
+
+/// Gives up a get that holds nothing, and hands over. Our own.
+#[inline(always)]
+pub fn give_up<C: Drop>(
+    pool: &mut PoolInternals<C>,
+    at: Moment,
+    get: GetKey,
+    reason: Reason,
+    broken: bool,
+) -> HandedOver<Result<GiveUpAnswer<C>, Unfit>, C>
+    ensures step { Stepped (HandsOver result.tried) give_up_told pool.old at.0
+        (acts.GiveUp get.number (reason_of reason) None broken) result.told pool.new }
+    ensures connection { IfOk result.told (GivesBackHeld None) }
+    ensures limits { IsWithinLimits pool.old }
+{
+    hand_over!(pool, at, asked::give_up(pool, at, get, reason, broken))
+}
+
+/// Gives up a get that holds this connection, and hands over. Our own.
+#[inline(always)]
+pub fn give_back<C: Drop>(
+    pool: &mut PoolInternals<C>,
+    at: Moment,
+    get: GetKey,
+    reason: Reason,
+    conn: C,
+    broken: bool,
+    hint: usize,
+) -> HandedOver<Result<GiveUpAnswer<C>, C>, C>
+    ensures step { Stepped (HandsOver result.tried) give_up_told pool.old at.0
+        (acts.GiveUp get.number (reason_of reason) (Some conn) broken) result.told pool.new }
+    ensures connection { OrComesBack (λ c. GivesBackHeld (Some c)) conn result.told }
+    ensures limits { IsWithinLimits pool.old }
+{
+    hand_over!(
+        pool,
+        at,
+        asked::give_back(pool, at, get, reason, conn, broken, hint)
+    )
+}
+
+/// Gives back a connection that a guard holds, and hands over. Our own.
+#[inline(always)]
+pub fn put_back<C: Drop>(
     pool: &mut PoolInternals<C>,
     at: Moment,
     key: Key,
     conn: C,
     broken: bool,
-) -> HandedOver<PutBackAnswer<C>, C>
-    ensures step { HandsOver (put_back_told key.number) GivesBack
-        pool.old at.0 (acts.PutBack key.number conn broken) conn result pool.new }
+) -> HandedOver<Result<PutBackAnswer<C>, C>, C>
+    ensures step { Stepped (HandsOver result.tried) (put_back_told key.number) pool.old at.0
+        (acts.PutBack key.number conn broken) result.told pool.new }
+    ensures connection { OrComesBack GivesBack conn result.told }
     ensures limits { IsWithinLimits pool.old }
 {
-    match asked::put_back(pool, at, key, conn, broken) {
-        Err(conn) => HandedOver::Unfit(conn),
-        Ok(PutBackAnswer::Kept(notified)) => match notified {
-            None => HandedOver::Told(PutBackAnswer::Kept(None)),
-            Some(get) => {
-                let tried = pool.try_get(at, get);
-                HandedOver::Tried(PutBackAnswer::Kept(Some(get)), get, tried)
-            }
-        },
-        Ok(PutBackAnswer::Closed(conn, grant, notified)) => match notified {
-            None => HandedOver::Told(PutBackAnswer::Closed(conn, grant, None)),
-            Some(get) => {
-                let tried = pool.try_get(at, get);
-                HandedOver::Tried(PutBackAnswer::Closed(conn, grant, Some(get)), get, tried)
-            }
-        },
-    }
+    hand_over!(pool, at, asked::put_back(pool, at, key, conn, broken))
 }
 
-/// Tells that an approval brought its connection, and has the get that it notifies try, in one call. Our own.
-pub fn opened_and_hand_over<C: Drop>(
+/// Hands in what a claimed approval brought, and hands over. Our own.
+#[inline(always)]
+pub fn opened<C: Drop>(
     pool: &mut PoolInternals<C>,
     at: Moment,
-    approval: Key,
+    key: Key,
     conn: C,
-) -> HandedOver<OpenedAnswer<C>, C>
-    ensures step { HandsOver (opened_told approval.number) HandsBack
-        pool.old at.0 (acts.Opened approval.number conn) conn result pool.new }
+) -> HandedOver<Result<OpenedAnswer<C>, C>, C>
+    ensures step { Stepped (HandsOver result.tried) (opened_told key.number) pool.old at.0
+        (acts.Opened key.number conn) result.told pool.new }
+    ensures connection { OrComesBack HandsBack conn result.told }
     ensures limits { IsWithinLimits pool.old }
 {
-    match asked::opened(pool, at, approval, conn) {
-        Err(conn) => HandedOver::Unfit(conn),
-        Ok(OpenedAnswer::Entered(notified)) => match notified {
-            None => HandedOver::Told(OpenedAnswer::Entered(None)),
-            Some(get) => {
-                let tried = pool.try_get(at, get);
-                HandedOver::Tried(OpenedAnswer::Entered(Some(get)), get, tried)
-            }
-        },
-        Ok(OpenedAnswer::Late(conn)) => HandedOver::Told(OpenedAnswer::Late(conn)),
-    }
+    hand_over!(pool, at, asked::opened(pool, at, key, conn))
+}
+
+/// Adds a connection, and hands over. Our own.
+#[inline(always)]
+pub fn add<C: Drop>(
+    pool: &mut PoolInternals<C>,
+    at: Moment,
+    conn: C,
+    broken: bool,
+) -> HandedOver<Result<AddAnswer<C>, C>, C>
+    ensures step { Stepped (HandsOver result.tried) add_told pool.old at.0
+        (acts.Add conn broken) result.told pool.new }
+    ensures connection { OrComesBack Refuses conn result.told }
+    ensures limits { IsWithinLimits pool.old }
+{
+    hand_over!(pool, at, asked::add(pool, at, conn, broken))
 }

@@ -23,6 +23,7 @@ ghost use Rattle.bb8_types.specs.Bounds.{end_of_numbers, most_records};
 ghost use Rattle.bb8_tables.specs.Keys.{notified_of};
 ghost use Rattle.bb8_tables.specs.Lent.{AddsLent};
 
+mod decided;
 mod questions;
 
 pub use crate::answers::{
@@ -35,12 +36,13 @@ pub use bb8_tables::closed::{Closed, ClosedList};
 use bb8_tables::counters::Counters;
 use bb8_tables::gets::{Gets, first_wait, held_key, is_notified, is_unnotified};
 pub use bb8_tables::keys::{GetKey, Key};
-use bb8_tables::records::{Records, one};
+use bb8_tables::records::Records;
 use bb8_tables::{Asking, Lendings};
 use bb8_types::api::{Config, Moment, State};
 pub use bb8_types::grants::Grant;
 pub use bb8_types::reasons::Reason;
 use bb8_types::standing::{GetPlace, Holder};
+use decided::{due_waiting, end_out, hand_on, holder, is_expired, want};
 use std::alloc::Global;
 use std::marker::Model;
 
@@ -73,89 +75,6 @@ impl<C, A> Model for PoolInternals<C, A> {
     ghost view = { view_of };
 
     ghost invariant = { λ a. HasLedger (view_of a) };
-}
-
-/// How many approvals a grant is to make.
-fn due(config: &Config, handles: u64, taken: u64, asked: u64) -> u64
-    ensures { result ≡ grants.due (settings_of config.now) handles taken asked }
-{
-    if handles == 0 {
-        0
-    } else {
-        asked.min((config.max_size as u64).saturating_sub(taken))
-    }
-}
-
-/// How many approvals are due of those that are wanted.
-fn want<C: Drop>(config: &Config, handles: u64, records: &Records<C>) -> u64
-    ensures { result ≡ decided.want (settings_of config.now) handles records.now }
-{
-    let taken = records.used();
-    if taken >= config.max_size as u64 {
-        return 0;
-    }
-    let least = config.min_idle.unwrap_or(0) as u64;
-    due(
-        config,
-        handles,
-        taken,
-        least.saturating_sub(records.ready()),
-    )
-}
-
-/// Whether a connection of this birth has lived too long.
-fn is_expired(config: &Config, now: u64, birth: u64) -> bool
-    ensures { result ≡ places.is_expired (settings_of config.now).max_lifetime now birth }
-{
-    match config.max_lifetime {
-        None => false,
-        Some(lifetime) => lifetime.as_nanos() <= now.saturating_sub(birth) as u128,
-    }
-}
-
-/// Notifies the oldest waiter that was not notified, where the test passes.
-fn hand_on(gets: &mut Gets, test: bool, lendings: &mut Lendings) -> Option<GetKey>
-    ensures value { notified_of result ≡ cond test (slice_get gets.old.waiting 0) None }
-    ensures state { gets.new ≡ machine.after_notice (notified_of result) gets.old }
-    ensures examined { AddsLent 1 0 lendings.old lendings.new }
-{
-    if test { gets.notify(lendings) } else { None }
-}
-
-/// Who holds a connection that a try takes out: the get, where it is checked before the get is served with it.
-fn holder(config: &Config, get: GetKey) -> Holder
-    ensures { result ≡ cond (settings_of config.now).test_on_check_out (Get get.number) Guard }
-{
-    if config.test_on_check_out {
-        Holder::Get(get.number)
-    } else {
-        Holder::Guard
-    }
-}
-
-/// Ends a connection that was out, and grants what is wanted then.
-fn end_out<C: Drop>(
-    config: &Config,
-    handles: u64,
-    records: &mut Records<C>,
-    k: Key,
-    lendings: &mut Lendings,
-) -> Grant
-    requires out { (s : Standing C) × (map.get records.old.places k.number ≡ Some s)
-        × (places.is_out s.place ≡ true) }
-    requires size { records.old.conns + records.old.approved ≤ (settings_of config.now).max_size }
-    requires few { (settings_of config.now).max_size ≤ most_records }
-    ensures granted { machine.IsGrant (machine.after_close false k.number records.old)
-        (decided.want (settings_of config.now) handles (machine.after_close false k.number
-        records.old)) result }
-    ensures state { records.new ≡ machine.after_grant false result
-        (machine.after_close false k.number records.old) }
-    ensures numbers { records.old.next ≤ end_of_numbers }
-    ensures examined { AddsLent 0 1 lendings.old lendings.new }
-{
-    records.close(k, false, lendings);
-    let wanted = want(config, handles, records);
-    records.grant(wanted, false)
 }
 
 impl<C: Drop> PoolInternals<C> {
@@ -340,9 +259,8 @@ impl<C: Drop, A> PoolInternals<C, A> {
             None => {
                 let get = self.gets.bear_waiting(now, &mut lendings);
                 self.lendings = lendings;
-                let asked = one(self.records.approved() < self.gets.alive());
-                let taken = self.records.used();
-                let due = due(&self.config, self.handles, taken, asked);
+                let alive = self.gets.alive();
+                let due = due_waiting(&self.config, self.handles, &self.records, alive);
                 let grant = self.records.grant(due, false);
                 Started::Tried(get, TryAnswer::Waiting(grant))
             }
@@ -385,9 +303,8 @@ impl<C: Drop, A> PoolInternals<C, A> {
             .take(self.config.queue_strategy, holder, &mut self.lendings)
         {
             None => {
-                let asked = one(self.records.approved() < self.gets.alive());
-                let taken = self.records.used();
-                let due = due(&self.config, self.handles, taken, asked);
+                let alive = self.gets.alive();
+                let due = due_waiting(&self.config, self.handles, &self.records, alive);
                 let grant = self.records.grant(due, false);
                 self.gets.wait(get, now, &mut self.lendings);
                 TryAnswer::Waiting(grant)
@@ -474,33 +391,10 @@ impl<C: Drop, A> PoolInternals<C, A> {
         CheckedErrAnswer::Closed(key, conn, granted, self.gets.notify(&mut self.lendings))
     }
 
-    /// Ends a get that is not served, as it timed out or was cancelled. Where it had been notified, the oldest waiter that was not is
-    /// notified in its place. A connection that it holds is handed in, and returns as in `put_back`. The hint is as of `checked_ok`.
+    /// Ends a get that is not served, as it timed out or was cancelled, and that holds nothing. Where it had been notified, the oldest waiter that
+    /// was not is notified in its place.
     #[inline(always)]
     pub fn give_up(
-        &mut self,
-        at: Moment,
-        get: GetKey,
-        reason: Reason,
-        held: Option<C>,
-        broken: bool,
-        hint: usize,
-    ) -> GiveUpAnswer<C>
-        requires { IsFitting self.old (acts.GiveUp get.number (reason_of reason) held broken) }
-        ensures step { Meets self.old at.0 (acts.GiveUp get.number (reason_of reason) held broken)
-            (give_up_told result) self.new }
-        ensures connection { GivesBackHeld held result }
-        ensures examined { Lends 4 self.old self.new }
-        ensures searched { Searches 4 self.new }
-    {
-        match held {
-            None => self.give_up_free(at, get, reason, broken),
-            Some(conn) => self.give_up_held(at, get, reason, conn, broken, hint),
-        }
-    }
-
-    /// Ends a get that is not served and holds nothing.
-    fn give_up_free(
         &mut self,
         at: Moment,
         get: GetKey,
@@ -523,8 +417,10 @@ impl<C: Drop, A> PoolInternals<C, A> {
         GiveUpAnswer::GaveUp(hand_on(&mut self.gets, is_notified(getting), &mut self.lendings))
     }
 
-    /// Ends a get that is not served and holds this connection.
-    fn give_up_held(
+    /// Ends a get that is not served and holds a connection, which is handed in and returns as in `put_back`. The hint is as of `checked_ok`.
+    /// Where the get holds none nothing changes, and the connection comes back.
+    #[inline(always)]
+    pub fn give_back(
         &mut self,
         at: Moment,
         get: GetKey,
@@ -532,35 +428,45 @@ impl<C: Drop, A> PoolInternals<C, A> {
         conn: C,
         broken: bool,
         hint: usize,
-    ) -> GiveUpAnswer<C>
-        requires { IsFitting self.old
-            (acts.GiveUp get.number (reason_of reason) (Some conn) broken) }
-        ensures step { Meets self.old at.0
-            (acts.GiveUp get.number (reason_of reason) (Some conn) broken)
-            (give_up_told result) self.new }
-        ensures connection { GivesBackHeld (Some conn) result }
-        ensures examined { Lends 4 self.old self.new }
-        ensures searched { Searches 4 self.new }
+    ) -> Result<GiveUpAnswer<C>, C>
+        ensures step { Stepped Meets give_up_told self.old at.0
+            (acts.GiveUp get.number (reason_of reason) (Some conn) broken) result self.new }
+        ensures connection { OrComesBack (λ c. GivesBackHeld (Some c)) conn result }
+        ensures examined { IfOk result (λ told. Lends 4 self.old self.new) }
+        ensures searched { IfOk result (λ told. Searches 4 self.new) }
     {
+        let mut lendings = self.lendings.begun();
+        let Some((held, first_wait)) = self.gets.finish_holding(get, &mut lendings) else {
+            return Err(conn);
+        };
         let now = self.latest.max(at.0);
         self.latest = now;
-        self.lendings.start();
-        let getting = self.gets.getting(get, &mut self.lendings);
-        let key = held_key(getting, hint);
-        self.gets.finish(get, &mut self.lendings);
-        self.counters.give_up(reason, first_wait(getting), now);
+        self.counters.give_up(reason, first_wait, now);
         let ended = self.handles == 0;
+        let key = Key {
+            number: held,
+            place: hint,
+        };
+        let holder = Holder::Get(get.number);
         match self.records.put_back(
             key,
             conn,
+            holder,
             broken,
             ended,
             &self.config,
             now,
-            &mut self.lendings,
+            &mut lendings,
         ) {
-            Ok(()) => GiveUpAnswer::Kept(key, self.gets.notify(&mut self.lendings)),
-            Err((conn, expired)) => {
+            // What a get holds is out with it, so this does not come.
+            Err(conn) => Err(conn),
+            Ok(Ok(())) => {
+                let notified = self.gets.notify(&mut lendings);
+                self.lendings = lendings;
+                Ok(GiveUpAnswer::Kept(key, notified))
+            }
+            Ok(Err((conn, expired))) => {
+                self.lendings = lendings;
                 let grant = end_out(
                     &self.config,
                     self.handles,
@@ -569,7 +475,7 @@ impl<C: Drop, A> PoolInternals<C, A> {
                     &mut self.lendings,
                 );
                 self.counters.close(broken, expired);
-                GiveUpAnswer::Closed(key, conn, grant, self.gets.notify(&mut self.lendings))
+                Ok(GiveUpAnswer::Closed(key, conn, grant, self.gets.notify(&mut self.lendings)))
             }
         }
     }
@@ -593,10 +499,17 @@ impl<C: Drop, A> PoolInternals<C, A> {
         let now = self.latest.max(at.0);
         let mut lendings = self.lendings.begun();
         let ended = self.handles == 0;
-        match self
-            .records
-            .take_back(k, conn, broken, ended, &self.config, now, &mut lendings)
-        {
+        let holder = Holder::Guard;
+        match self.records.put_back(
+            k,
+            conn,
+            holder,
+            broken,
+            ended,
+            &self.config,
+            now,
+            &mut lendings,
+        ) {
             Err(conn) => Err(conn),
             Ok(Ok(())) => {
                 self.latest = now;

@@ -9,6 +9,7 @@ use std::time::Duration;
 mod at_once;
 mod checks;
 mod crowd;
+mod handing;
 mod reaps;
 mod replays;
 mod steps;

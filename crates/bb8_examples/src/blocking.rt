@@ -101,7 +101,7 @@ impl<R: Runtime + Eprint> Service<Files<R>, PrintingSink<R>, NopCustomizer, Mach
 
     /// The guard's connection is used in this thread, so a call of it may block.
     fn run<L: PoolParts>(&self, pool: &FilePool<PrintingSink<R>, R, L>, _thread: usize) -> u64 {
-        let Ok(mut file) = PoolCalls::get_blocking(pool) else {
+        let Ok(mut file) = pool.get_blocking() else {
             return 0;
         };
         thread::sleep(&self.rt, Duration::from_millis(CALL_MILLIS));

@@ -41,8 +41,8 @@ impl<R: Runtime> Service<Files<R>, NopErrorSink, NopCustomizer, MachineClock<R>,
         pool: &FilePool<NopErrorSink, R, L>,
         _told: &[()],
     ) -> (Ended, Ended) {
-        let first = PoolCalls::get_blocking(pool);
-        let second = match PoolCalls::get_blocking(pool) {
+        let first = pool.get_blocking();
+        let second = match pool.get_blocking() {
             Ok(_guard) => Ended::Served,
             Err(RunError::TimedOut) => Ended::TimedOut,
             Err(_) => Ended::Pool,

@@ -23,7 +23,7 @@ impl<R: Runtime> Service<Files<R>, NopErrorSink, NopCustomizer, MachineClock<R>,
     }
 
     fn run<L: PoolParts>(&self, pool: &FilePool<NopErrorSink, R, L>, _thread: usize) -> bool {
-        PoolCalls::get_blocking(pool).is_ok()
+        pool.get_blocking().is_ok()
     }
 
     fn end<L: PoolParts>(&self, _pool: &FilePool<NopErrorSink, R, L>, told: &[bool]) -> usize {

@@ -1,8 +1,8 @@
 //! How a manager is tested: alone, and under a pool in one thread, on a clock that the test sets.
 use crate::blocking::{Down, Files};
 use bb8::{
-    Builder, Driver, DriverCalls, ManageConnection, Moment, NopCustomizer, NopErrorSink, Pool,
-    PoolCalls, PoolParts, Runtime, SetClock, User,
+    Builder, Driver, DriverCalls, Gets, ManageConnection, Moment, NopCustomizer, NopErrorSink,
+    Pool, PoolCalls, PoolParts, Runtime, SetClock, User,
 };
 use futures::task::Poll;
 use futures::test::MockTask;
@@ -32,13 +32,13 @@ impl<R: Runtime> User<Files<R>, NopErrorSink, NopCustomizer, SetClock, R> for Wa
         pool: &Pool<Files<R>, NopErrorSink, NopCustomizer, SetClock, R, L>,
         driver: &mut Driver<Files<R>, NopErrorSink, NopCustomizer, SetClock, R, L>,
     ) -> bool {
-        let mut get = PoolCalls::get(pool);
+        let mut get = pool.get();
         if !self.task.poll(&mut get).is_pending() {
             return false;
         }
-        let _ = DriverCalls::turn(driver, Moment(0));
+        let _ = driver.turn(Moment(0));
         let served = matches!(self.task.poll(&mut get), Poll::Ready(Ok(_)));
-        served && PoolCalls::state(pool).idle_connections == 1
+        served && pool.state().idle_connections == 1
     }
 }
 

@@ -64,6 +64,16 @@ pub struct Returned<C, P> {
     pub broken: bool,
 }
 
+/// A home that is let go by a call, after which nothing is made on it. Our own.
+pub trait LetGo {
+    // Holds of a home that may be let go.
+    ghost goes: { Self → Type 0 };
+
+    /// Lets the home go. Our own.
+    fn go(self)
+        ensures { goes self };
+}
+
 /// The steps that the polls of a get make, on connections `C`: the plain state of a pool is such a home, and so is a pool's lock. Our own.
 ///
 /// One ghost member relates the home, each step with what it was given and answered, and the home then. It has no default: what is proved

@@ -5,7 +5,7 @@ ghost use Rattle.bb8_gets.specs.Polls.{holds_nothing, is_done, rest_of, GetPolls
 ghost use Rattle.bb8_gets.specs.declared.state.Stage.TheVariants.{Done as IsDone, Fresh as IsFresh};
 ghost use Rattle.futures.specs.declared.task.Poll.TheVariants.{Ready};
 
-use super::home::{GetHome, Taken};
+use super::home::{GetHome, LetGo, Taken};
 use super::outside::Outside;
 use super::rows::{ask, begin, go, leave, take_back};
 use bb8_core::api::{Moment, RunError};
@@ -131,17 +131,20 @@ impl<C, V, P> GetState<C, V, P> {
 
     /// As `poll_step`, with a home of its own, which is dropped then. A get that is served at once keeps none of it in memory. Our own.
     #[inline(always)]
-    pub fn poll_with<E, X: GetHome<C, Part = P> + Outside<C, E, Checking = V> + Drop>(
+    pub fn poll_with<E, X: GetHome<C, Part = P> + Outside<C, E, Checking = V> + LetGo>(
         &mut self,
         mut pool: X,
         timeout: Duration,
     ) -> Poll<Result<Taken<C, P>, RunError<E>>>
         ensures { (x' : X) × GetPolls X.GetHome X.Outside (as_nanos timeout) self.old.stage pool
-            (record { answer = result; stage = self.new.stage }) x' }
+            (record { answer = result; stage = self.new.stage }) x' × X.goes x' }
     {
         let served = self.serve_step(&mut pool);
         match served {
-            Ok(taken) => Poll::Ready(Ok(taken)),
+            Ok(taken) => {
+                pool.go();
+                Poll::Ready(Ok(taken))
+            }
             Err(seen) => {
                 let answer = self.rest_with(pool, timeout, seen);
                 answer
@@ -151,7 +154,7 @@ impl<C, V, P> GetState<C, V, P> {
 
     /// As `rest_step`, with a home of its own.
     #[inline(never)]
-    fn rest_with<E, X: GetHome<C, Part = P> + Outside<C, E, Checking = V> + Drop>(
+    fn rest_with<E, X: GetHome<C, Part = P> + Outside<C, E, Checking = V> + LetGo>(
         &mut self,
         mut pool: X,
         timeout: Duration,
@@ -160,9 +163,11 @@ impl<C, V, P> GetState<C, V, P> {
         requires { IfSome seen (λ _. self.old.stage ≡ IsDone) }
         ensures { (x' : X) × ((stage : _) (x : _) → Unserved X.GetHome X.Outside stage x seen
             self.old.stage pool → GetPolls X.GetHome X.Outside (as_nanos timeout)
-            stage x (record { answer = result; stage = self.new.stage }) x') }
+            stage x (record { answer = result; stage = self.new.stage }) x') × X.goes x' }
     {
-        self.rest_step(&mut pool, timeout, seen)
+        let answer = self.rest_step(&mut pool, timeout, seen);
+        pool.go();
+        answer
     }
 
     /// The begin of a poll, which most often is the whole of it: a get that was not polled yet reads the clock, and begins and is served at
@@ -283,15 +288,15 @@ impl<C, V, P> GetState<C, V, P> {
 
     /// As `cancel_step`, with a home of its own, which is dropped then. Our own.
     #[inline(always)]
-    pub fn cancel_with<E, X: GetHome<C, Part = P> + Outside<C, E, Checking = V> + Drop>(
+    pub fn cancel_with<E, X: GetHome<C, Part = P> + Outside<C, E, Checking = V> + LetGo>(
         self,
         pool: X,
     )
-        ensures { (x' : X) × Cancels X.GetHome X.Outside self.stage pool x' }
+        ensures { (x' : X) × Cancels X.GetHome X.Outside self.stage pool x' × X.goes x' }
     {
         let GetState { stage } = self;
         match stage {
-            Stage::Fresh | Stage::Done => {}
+            Stage::Fresh | Stage::Done => pool.go(),
             stage => cancel_begun(pool, GetState { stage }),
         }
     }
@@ -299,13 +304,14 @@ impl<C, V, P> GetState<C, V, P> {
 
 /// Lets a get go that began, with a home of its own.
 #[inline(never)]
-fn cancel_begun<C, V, P, E, X: GetHome<C, Part = P> + Outside<C, E, Checking = V> + Drop>(
+fn cancel_begun<C, V, P, E, X: GetHome<C, Part = P> + Outside<C, E, Checking = V> + LetGo>(
     mut pool: X,
     get: GetState<C, V, P>,
 )
-    ensures { (x' : X) × Cancels X.GetHome X.Outside get.stage pool x' }
+    ensures { (x' : X) × Cancels X.GetHome X.Outside get.stage pool x' × X.goes x' }
 {
     get.cancel_step(&mut pool);
+    pool.go();
 }
 
 /// Lets a get go that began and holds no connection.

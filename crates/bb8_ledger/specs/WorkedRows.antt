@@ -1,8 +1,8 @@
 -- The worked rows: what happens to a pool, line by line, with the answers that were worked out by hand, or that the original gave.
--- Written by crates/bb8_rows/ledger_rows from crates/bb8_rows/stdin.
+-- Written by gate/ledger_rows from crates/bb8_rows/stdin.
 use Rattle.std.specs.Prelude.{true, false, List, [], ◌∷◌, Some, None}
-use Rattle.bb8_ledger.specs.Acts.{Begin, Try, CheckedOk, CheckedErr, GiveUp, PutBack, Fill, Claim, Add, Reap, Join, Leave, TimedOut, Cancelled}
-use Rattle.bb8_ledger.specs.Answers.{Begun, Exhausted, Served, Taken, Waiting, Kept, Closed, GaveUp, Granted, Claimed, Ended, Entered, Late, Added, Broken, NoCapacity, Withheld, Reaped, Joined, Left, Unfit}
+use Rattle.bb8_ledger.specs.Acts.{Begin, Try, CheckedOk, CheckedErr, GiveUp, PutBack, Fill, Claim, Failed, Add, Reap, Join, Leave, TimedOut, Cancelled}
+use Rattle.bb8_ledger.specs.Answers.{Begun, Exhausted, Served, Taken, Waiting, Kept, Closed, GaveUp, Granted, Claimed, Ended, Entered, Late, GivenBack, Added, Broken, NoCapacity, Withheld, Reaped, Joined, Left, Unfit}
 use Rattle.bb8_ledger.specs.Rows.{Told, ◌▸◌⇒◌, grant◌at◌, opens, returns, adds}
 
 -- two connections are to be idle: the two are opened
@@ -104,6 +104,25 @@ overtaken =
     ∷ 0 ▸ Try 0 ⇒ Served 0 (grant 0 at 1)
     ∷ []
 
+-- a close notifies the oldest waiter, whose try asks for another connection and waits anew, behind the others
+abbrev pub closed_puts_last : List Told
+closed_puts_last =
+    0 ▸ Begin ⇒ Begun 0
+    ∷ 0 ▸ Try 0 ⇒ Waiting (grant 1 at 0)
+    ∷ 0 ▸ Claim ⇒ Claimed (Some 0)
+    ∷ 0 ▸ opens 0 ⇒ Entered 0 (Some 0)
+    ∷ 0 ▸ Try 0 ⇒ Served 0 (grant 0 at 1)
+    ∷ 0 ▸ Begin ⇒ Begun 1
+    ∷ 0 ▸ Try 1 ⇒ Waiting (grant 0 at 1)
+    ∷ 0 ▸ Begin ⇒ Begun 2
+    ∷ 0 ▸ Try 2 ⇒ Waiting (grant 0 at 1)
+    ∷ 0 ▸ PutBack 0 0 true ⇒ Closed 0 (grant 0 at 1) (Some 1)
+    ∷ 0 ▸ Try 1 ⇒ Waiting (grant 1 at 1)
+    ∷ 0 ▸ Claim ⇒ Claimed (Some 1)
+    ∷ 0 ▸ opens 1 ⇒ Entered 1 (Some 2)
+    ∷ 0 ▸ Try 2 ⇒ Served 1 (grant 0 at 2)
+    ∷ []
+
 -- a notified get is cancelled, and hands its notification on
 abbrev pub handed_on : List Told
 handed_on =
@@ -197,6 +216,19 @@ cancelled_in_check =
     ∷ 0 ▸ GiveUp 0 Cancelled (Some 0) false ⇒ Kept 0 (Some 1)
     ∷ 0 ▸ Try 1 ⇒ Taken 0 (grant 0 at 1)
     ∷ 0 ▸ GiveUp 1 Cancelled (Some 0) true ⇒ Closed 0 (grant 0 at 1) None
+    ∷ []
+
+-- a failed opening makes room and notifies nobody
+abbrev pub given_back : List Told
+given_back =
+    0 ▸ Begin ⇒ Begun 0
+    ∷ 0 ▸ Try 0 ⇒ Waiting (grant 1 at 0)
+    ∷ 0 ▸ Failed 0 ⇒ Unfit
+    ∷ 0 ▸ Claim ⇒ Claimed (Some 0)
+    ∷ 0 ▸ Failed 0 ⇒ GivenBack
+    ∷ 0 ▸ Failed 0 ⇒ Unfit
+    ∷ 0 ▸ opens 0 ⇒ Unfit
+    ∷ 0 ▸ adds 1 ⇒ Added 1 (Some 0)
     ∷ []
 
 -- the last handle goes: ten idle connections end, the eleventh comes too late, and a reap ends as a claim does

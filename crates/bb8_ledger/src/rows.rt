@@ -3,7 +3,7 @@ ghost use Rattle.std.specs.Prelude.{[], ◌∷◌};
 ghost use Rattle.bb8_types.specs.declared.api.configuration.QueueStrategy.TheVariants.{Lifo};
 ghost use Rattle.bb8_types.specs.Settings.{default_settings};
 ghost use Rattle.bb8_ledger.specs.Rows.{IsRow, IsBackOff, unchecked, connections◌idle◌started◌direct◌waited◌timed_out◌cancelled◌wait_us◌created◌broken◌invalid◌lifetime◌idle_timeout◌};
-ghost use Rattle.bb8_ledger.specs.WorkedRows.{two_opened, three_out, first_script, overtaken, handed_on, oldest_first, newest_first, check_failed, reaped_at_the_limit, moment_goes_back, get_numbers_used_up, numbers_used_up, third_place_refused, third_adding_withheld, added_until_full, returned_unfit, none_left_valid, last_handle_left, waited_five_micros, used_again, idled_out, spared_oldest, spared_newest, spared_after_expired, expired_not_spared, returned_too_old, cancelled_in_check, returned_after_last_handle};
+ghost use Rattle.bb8_ledger.specs.WorkedRows.{two_opened, three_out, first_script, overtaken, closed_puts_last, handed_on, oldest_first, newest_first, check_failed, reaped_at_the_limit, moment_goes_back, get_numbers_used_up, numbers_used_up, third_place_refused, third_adding_withheld, added_until_full, returned_unfit, none_left_valid, last_handle_left, waited_five_micros, used_again, idled_out, spared_oldest, spared_newest, spared_after_expired, expired_not_spared, returned_too_old, cancelled_in_check, given_back, returned_after_last_handle};
 
 /// Worked rows of the definitions: no code stands behind them. Each clause but the last three says of one row that the whole step table
 /// allows the answers of its lines, from its configuration and first numbers on, and that the state shown at the end has these figures.
@@ -22,6 +22,9 @@ pub fn worked_rows()
     ensures overtaken { IsRow (unchecked 1) 0 0 overtaken
         (connections 1 idle 0 started 2 direct 1 waited 1 timed_out 0 cancelled 0
         wait_us 0 created 1 broken 0 invalid 0 lifetime 0 idle_timeout 0) }
+    ensures closed_puts_last { IsRow (unchecked 1) 0 0 closed_puts_last
+        (connections 1 idle 0 started 3 direct 0 waited 2 timed_out 0 cancelled 0
+        wait_us 0 created 2 broken 1 invalid 0 lifetime 0 idle_timeout 0) }
     ensures handed_on { IsRow (unchecked 1) 0 0 handed_on
         (connections 1 idle 1 started 3 direct 0 waited 1 timed_out 0 cancelled 1
         wait_us 0 created 1 broken 0 invalid 0 lifetime 0 idle_timeout 0) }
@@ -79,6 +82,9 @@ pub fn worked_rows()
         0 0 none_left_valid
         (connections 0 idle 0 started 3 direct 2 waited 0 timed_out 1 cancelled 0
         wait_us 1_000_000 created 2 broken 0 invalid 2 lifetime 0 idle_timeout 0) }
+    ensures given_back { IsRow (unchecked 1) 0 0 given_back
+        (connections 1 idle 1 started 1 direct 0 waited 0 timed_out 0 cancelled 0
+        wait_us 0 created 0 broken 0 invalid 0 lifetime 0 idle_timeout 0) }
     ensures last_handle_left { IsRow (record default_settings { max_size = 11; min_idle = Some 11 })
         0 0 last_handle_left
         (connections 0 idle 0 started 0 direct 0 waited 0 timed_out 0 cancelled 0

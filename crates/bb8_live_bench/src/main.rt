@@ -24,7 +24,7 @@ mod rounds;
 mod waiting;
 mod waking;
 
-use bb8::{Builder, Clock, MachineClock, Memory, Moment, PoolParts, Runtime, SetClock};
+use bb8::{Builder, Clock, MachineClock, Memory, Moment, PoolCalls, PoolParts, Runtime, SetClock};
 use manager::{NumberManager, NumberPool, StillClock};
 use rounds::{blocked, polled, polled_ready, shared};
 use std::marker::Brand;

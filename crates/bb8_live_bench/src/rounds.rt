@@ -1,7 +1,7 @@
 //! The rounds.
 
 use crate::manager::NumberPool;
-use bb8::{Clock, Job, Memory, PoolCalls, PoolParts, Runtime, in_threads};
+use bb8::{Clock, Gets, Job, Memory, PoolParts, Runtime, in_threads};
 use futures::executor::block_on;
 use futures::future::ready;
 use futures::task::Poll;
@@ -75,7 +75,7 @@ impl<K: Clock, R: Runtime, L: PoolParts> Job for &Rounds<'_, K, R, L> {
         };
         let mut served: u64 = 0;
         for _ in 0..self.rounds {
-            if let Poll::Ready(Ok(guard)) = task.poll(&mut PoolCalls::get(self.pool)) {
+            if let Poll::Ready(Ok(guard)) = task.poll(&mut self.pool.get()) {
                 served = served.saturating_add(1);
                 drop(guard);
             }

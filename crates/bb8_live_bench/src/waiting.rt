@@ -1,7 +1,7 @@
 //! Gets that wait for connections that are all out.
 
 use crate::manager::{NumberGet, NumberGuard, NumberPool};
-use bb8::{Clock, Memory, PoolParts, Runtime};
+use bb8::{Clock, Gets, Memory, PoolParts, Runtime};
 use futures::task::Poll;
 use futures::test::MockTask;
 

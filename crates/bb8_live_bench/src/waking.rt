@@ -43,7 +43,7 @@ impl<R: Runtime> Service<NumberManager, NopErrorSink, NopCustomizer, MachineCloc
         let mut told = Vec::new(self.rt.alloc());
         for _ in 0..self.rounds {
             let asked = PoolClock::now(&MachineClock(self.rt)).0;
-            let guard = PoolCalls::get_blocking(pool).ok()?;
+            let guard = pool.get_blocking().ok()?;
             let served = PoolClock::now(&MachineClock(self.rt)).0;
             let returned = self.returned.load(Ordering::SeqCst);
             if asked < returned {

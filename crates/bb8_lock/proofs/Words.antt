@@ -5,4 +5,4 @@ pub use Rattle.bb8_ledger.specs.Ledger.{Ledger, Later, next, records, opening_wi
 pub use Rattle.bb8_core.specs.StepAnswers.{checked_err_told, give_up_told, put_back_told, add_told, reason_of}
 pub use Rattle.bb8_core.specs.Parts.{out_of, Moves}
 pub use Rattle.std.proofs.lemmas.Option.{IfSome_then}
-pub use Rattle.bb8_lock.specs.Chains.{Answers, Waits, WaitsOnce}
+pub use Rattle.bb8_lock.specs.Chains.{EndsAt, WaitsOnce}

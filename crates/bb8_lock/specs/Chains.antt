@@ -11,6 +11,9 @@ use Rattle.bb8_core.specs.declared.answers.PutBackAnswer.{PutBackAnswer}
 use Rattle.bb8_core.specs.declared.answers.PutBackAnswer.TheVariants as put_back
 use Rattle.bb8_gets.specs.declared.home.Returned.{Returned}
 use Rattle.bb8_core.specs.declared.asked.Unfit.{Unfit}
+use Rattle.bb8_gets.specs.Polls.{rest_of}
+use Rattle.bb8_lock.specs.declared.bell.Rests.{Ghosts as RestsOf}
+use Rattle.bb8_lock.specs.declared.bell.Sleeper.TheVariants.{Get}
 use Rattle.bb8_gets.specs.Steps as step
 use Rattle.bb8_lock.specs.SectionSteps as section
 
@@ -32,6 +35,11 @@ served_in Pending = Ok None
 pub data Answers {S A : Type 0} (step : S → Poll A → S → Type 0) : S → A → Type 0 where
   now : (s t : S) (x : A) → step s (Ready x) t → Answers step s x
   later : (s t : S) (x : A) → step s Pending t → Answers step t x → Answers step s x
+
+-- the same, and where the last poll led
+pub data EndsAt {S A : Type 0} (step : S → Poll A → S → Type 0) : S → A → S → Type 0 where
+  now : (s t : S) (x : A) → step s (Ready x) t → EndsAt step s x t
+  later : (s t u : S) (x : A) → step s Pending t → EndsAt step t x u → EndsAt step s x u
 
 module _ {C E V X : Type 0} (outside : OutsideOf X C E V) where
   -- a connection that is not idle now is dropped
@@ -94,18 +102,22 @@ module _ {C E V P X : Type 0} (home : HomeOf X C P) (sections : SectionsOf X C P
       × (0 < state.idle_connections → TriesOnce seen.moment timeout x3 result x')))
 
 -- a get for which a thread waits, over any home and any calls outside
-module _ {C E V P X : Type 0} (home : HomeOf X C P) (outside : OutsideOf X C E V) where
-  -- What follows a poll: where it was pending the home is released, and the clock read for how long the thread sleeps; a get that was answered
-  -- is let go.
-  abbrev AfterPoll : Poll (Result (Taken C P) (RunError E)) → Stage C V P → X → X → Type 0
-  AfterPoll Pending stage x x' = (x1 : X) × home.releases x x1 × ((at : Moment) × outside.tells x1 at x')
-  AfterPoll (Ready r) stage x x' = Cancels home outside stage x x'
+module _ {C E V P X : Type 0} (home : HomeOf X C P) (outside : OutsideOf X C E V) (rests : RestsOf X) where
+  -- What follows a poll before which the bell of the gets had rung so often: where it was pending the home is released, the clock read, and the thread sleeps
+  -- until the bell rings once more, or as long as the get may rest; a get that was answered is let go.
+  abbrev pub AfterPoll : ℕ → Poll (Result (Taken C P) (RunError E)) → Stage C V P → X → X → Type 0
+  AfterPoll rings Pending stage x x' =
+      (x1 : X) × home.releases x x1
+      × ((at : Moment) × (x2 : X) × outside.tells x1 at x2 × rests.sleeps x2 Get rings (rest_of stage at.0) x')
+  AfterPoll rings (Ready r) stage x x' = Cancels home outside stage x x'
 
   -- one poll of such a get, which has so much time, and what follows it
   abbrev pub WaitsOnce : ℕ → Stage C V P × X → Poll (Result (Taken C P) (RunError E)) → Stage C V P × X → Type 0
   WaitsOnce timeout before answer after =
-      (x : X) × GetPolls home outside timeout before.0 before.1 (record { answer = answer; stage = after.0 }) x × AfterPoll answer after.0 x after.1
+      (rings : ℕ) × (x : X) × rests.counts before.1 Get rings x
+      × ((x1 : X) × GetPolls home outside timeout before.0 x (record { answer = answer; stage = after.0 }) x1
+      × AfterPoll rings answer after.0 x1 after.1)
 
-  -- a new get is polled until it answers
-  abbrev pub Waits : ℕ → X → Result (Taken C P) (RunError E) → Type 0
-  Waits timeout x result = Answers (WaitsOnce timeout) (Fresh, x) result
+  -- a new get is polled until it answers, and nothing is done then
+  abbrev pub Waits : ℕ → X → Result (Taken C P) (RunError E) → X → Type 0
+  Waits timeout x result x' = (stage : Stage C V P) × EndsAt (WaitsOnce timeout) (Fresh, x) result (stage, x')

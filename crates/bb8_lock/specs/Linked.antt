@@ -5,6 +5,7 @@ use Rattle.bb8_lock.specs.Words.{MutexGuard, DebugOf, Poll, Ready, Pending, AddE
 use Rattle.std.specs.Sync.Mutex.{mutex_guard_value}
 use Rattle.bb8_lock.specs.Chains.{AddsOutside, Answers, CancelsAndLeaves, Joins, HandleLeaves, Returns, ReturnsAndLeaves, Shows, TakesNow, Waits}
 use Rattle.bb8_gets.specs.Steps.{StepsBy}
+use Rattle.bb8_lock.specs.declared.bell.Rests.{Ghosts as RestsOf}
 use Rattle.bb8_lock.specs.Sections.{SectionsBy}
 
 module _ {T : Type 0} where
@@ -70,6 +71,10 @@ module _ {G L M S Z K R C E N V A : Type 0} {m : ManagerOf M C E N V} {d : Debug
     lets_go = λ x _ x'. x' ≡ x;
   }
 
+  -- the relations of a thread's sleep, which changes nothing here
+  abbrev pub rests : RestsOf Linked
+  rests = record { counts = λ x _ _ x'. x' ≡ x; sleeps = λ x _ _ _ x'. x' ≡ x }
+
   -- A poll of a get goes by the table.
   abbrev pub OwnPolls : Stage C V (Part L) → Poll (Result (Taken C (Part L)) (RunError E)) → Stage C V (Part L) → Type 0
   OwnPolls stage r stage' = Own (λ x x'. GetPolls gets calls (settings_of shared.config).connection_timeout stage x (record { answer = r; stage = stage' }) x')
@@ -80,7 +85,7 @@ module _ {G L M S Z K R C E N V A : Type 0} {m : ManagerOf M C E N V} {d : Debug
 
   -- A thread waits for a new get.
   abbrev pub OwnWaits : ℕ → Result (Taken C (Part L)) (RunError E) → Type 0
-  OwnWaits timeout result = (x : Linked) × IsLinked shared x × Waits gets calls timeout x result
+  OwnWaits timeout result = Own (λ x x'. Waits gets calls rests timeout x result x')
 
   -- A connection is taken at once, or none.
   abbrev pub OwnTakesNow : Result (Option (Taken C (Part L))) (RunError E) → Type 0

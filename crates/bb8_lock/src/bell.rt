@@ -1,5 +1,9 @@
 //! A lock with bells: a thread that waits for what another one does under the lock sleeps until a bell is rung.
 
+ghost use Rattle.std.specs.Prelude.{ℕ};
+ghost use Rattle.std.specs.Duration.{as_nanos};
+ghost use Rattle.bb8_lock.specs.declared.bell.Sleeper.{Sleeper as SleeperOf};
+
 use bb8_core::internals::{
     AddAnswer, CheckedErrAnswer, GiveUpAnswer, Grant, OpenedAnswer, PutBackAnswer,
 };
@@ -21,6 +25,32 @@ pub struct Belled<T> {
     pub gets: Bell,
     /// Rung where an approval was granted, or no handle is alive any more. Our own.
     pub drivers: Bell,
+}
+
+/// Whose thread sleeps, and so by which bell. Our own.
+#[derive(Clone, Copy)]
+pub enum Sleeper {
+    /// A waiting get's.
+    Get,
+    /// A driver's.
+    Driver,
+}
+
+/// What a thread sleeps by. Our own.
+pub trait Rests {
+    // Holds before the count of the rings of a sleeper's bell is read, of the count, and after it.
+    ghost counts: { Self → SleeperOf → ℕ → Self → Type 0 };
+
+    // Holds before a sleep that a ring of the sleeper's bell past this count ends, of the nanoseconds that it lasts at most, and after it.
+    ghost sleeps: { Self → SleeperOf → ℕ → ℕ → Self → Type 0 };
+
+    /// How often the sleeper's bell was rung. Our own.
+    fn rings(&mut self, sleeper: Sleeper) -> u64
+        ensures { counts self.old sleeper result self.new };
+
+    /// Sleeps until the sleeper's bell was rung more often than so often, and so long at most. Our own.
+    fn sleep(&mut self, sleeper: Sleeper, rings: u64, most: Duration)
+        ensures { sleeps self.old sleeper rings (as_nanos most) self.new };
 }
 
 /// Which bells are to be rung once the lock is let go.
@@ -70,6 +100,14 @@ impl<T> Belled<T> {
     pub fn into_inner(self) -> T {
         let Belled { lock, .. } = self;
         lock.into_inner()
+    }
+
+    /// The bell of this sleeper.
+    pub(crate) fn bell(&self, sleeper: Sleeper) -> &Bell {
+        match sleeper {
+            Sleeper::Get => &self.gets,
+            Sleeper::Driver => &self.drivers,
+        }
     }
 
     /// Rings these bells.

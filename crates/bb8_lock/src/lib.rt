@@ -17,7 +17,7 @@ mod section_home;
 mod shared;
 mod waits;
 
-pub use bell::{Bell, Belled};
+pub use bell::{Bell, Belled, Rests, Sleeper};
 pub use calls::{
     add, cancel_and_leave, give_back, give_back_and_leave, join, leave, state, take_now,
 };

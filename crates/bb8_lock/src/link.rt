@@ -1,5 +1,5 @@
 //! A pool's lock as a home of gets, of sections, and of the tasks that open connections, of the driver and of the reaper.
-ghost use Rattle.std.specs.Prelude.{◌≡◌, None};
+ghost use Rattle.std.specs.Prelude.{◌≡◌, None, ⊤};
 ghost use Rattle.bb8_gets.specs.Steps.{Fails, GivesBack};
 ghost use Rattle.bb8_lock.specs.Linked.{IsLinked, Leads, Frees, StartsAt};
 ghost use Rattle.bb8_lock.specs.SectionSteps.{PutsBack};
@@ -15,7 +15,7 @@ use bb8_core::internals::{
     AddAnswer, BeginAnswer, CheckedErrAnswer, ClaimAnswer, FailedAnswer, GetKey, GiveUpAnswer,
     Grant, Key, LeaveAnswer, Looked, OpenedAnswer, PutBackAnswer, ReapAnswer, Reason,
 };
-use bb8_gets::{GetHome, Passed, Returned, Taken, Tried};
+use bb8_gets::{GetHome, LetGo, Passed, Returned, Taken, Tried};
 use bb8_tasks::Home;
 use std::sync::MutexGuard;
 
@@ -77,6 +77,16 @@ impl<S: Locking<T>, T> Drop for LinkHome<'_, S, T> {
         } = self;
         drop(held);
         shared.belled().ring(rings);
+    }
+}
+
+/// It is dropped.
+impl<S: Locking<T>, T> LetGo for LinkHome<'_, S, T> {
+    ghost goes = { λ _. ⊤ };
+
+    #[inline(always)]
+    fn go(self) {
+        drop(self);
     }
 }
 

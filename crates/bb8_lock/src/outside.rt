@@ -1,11 +1,13 @@
 //! What a pool calls outside of its lock: its manager, error sink, customizer and clock.
 ghost use Rattle.std.specs.Prelude.{◌≡◌};
 
-use crate::{Given, LinkHome, Locked, Parts, Shared};
+use crate::{Given, LinkHome, Locked, Parts, Rests, Shared, Sleeper};
 use bb8_core::api::{Clock, CustomizeConnection, ErrorSink, ManageConnection, Moment};
 use bb8_gets::Outside;
 use bb8_tasks::{Opener, Reports};
 use futures::task::Poll;
+use std::sync::Wait;
+use std::time::Duration;
 
 /// Each relation is the user's own, and no call changes what is called, nor whether the lock is held.
 impl<G: Given, L: Parts> Outside<G::Connection, G::Error>
@@ -57,6 +59,25 @@ impl<G: Given, L: Parts> Outside<G::Connection, G::Error>
 
     fn let_go(&mut self, connection: G::Connection) {
         drop(connection)
+    }
+}
+
+/// By the bells of the pool's lock.
+impl<G: Given<Runtime: Wait>, L: Parts> Rests
+    for LinkHome<'_, Shared<G, L>, Locked<G::Connection, L>> {
+    ghost counts = { λ x _ _ x'. x' ≡ x };
+
+    ghost sleeps = { λ x _ _ _ x'. x' ≡ x };
+
+    fn rings(&mut self, sleeper: Sleeper) -> u64 {
+        self.shared.locked.bell(sleeper).rings()
+    }
+
+    fn sleep(&mut self, sleeper: Sleeper, rings: u64, most: Duration) {
+        self.shared
+            .locked
+            .bell(sleeper)
+            .sleep(&self.shared.rt, rings, most)
     }
 }
 

@@ -2,7 +2,7 @@
 ghost use Rattle.std.specs.Duration.{as_nanos};
 ghost use Rattle.bb8_lock.specs.Chains.{Waits};
 
-use crate::bell::Bell;
+use crate::bell::{Rests, Sleeper};
 use bb8_core::api::RunError;
 use bb8_gets::{GetHome, GetState, Outside, Taken};
 use futures::task::Poll;
@@ -11,17 +11,16 @@ use std::time::Duration;
 
 /// A get that has so much time is polled until it answers. Between two polls the thread sleeps until the bell is rung, and no longer than the
 /// get may rest. The count of the rings is read before the poll, so that no ring between the poll and the sleep is lost.
-pub fn wait<C, V, P, E, X: GetHome<C, Part = P> + Outside<C, E, Checking = V>, R: Wait>(
+pub fn wait<C, V, P, E, X: GetHome<C, Part = P> + Outside<C, E, Checking = V> + Rests, R: Wait>(
     pool: &mut X,
-    bell: &Bell,
     rt: &R,
     timeout: Duration,
 ) -> Result<Taken<C, P>, RunError<E>>
-    ensures { Waits X.GetHome X.Outside (as_nanos timeout) pool.old result }
+    ensures { Waits X.GetHome X.Outside X.Rests (as_nanos timeout) pool.old result pool.new }
 {
     let mut get = GetState::new();
     for _ in rt.forever() {
-        let rings = bell.rings();
+        let rings = pool.rings(Sleeper::Get);
         match get.poll_step(pool, timeout) {
             Poll::Ready(answer) => {
                 get.cancel_step(pool);
@@ -30,7 +29,7 @@ pub fn wait<C, V, P, E, X: GetHome<C, Part = P> + Outside<C, E, Checking = V>, R
             Poll::Pending => {
                 pool.release();
                 let now = pool.now();
-                bell.sleep(rt, rings, get.rest(now));
+                pool.sleep(Sleeper::Get, rings, get.rest(now));
             }
         }
     }

@@ -1,5 +1,5 @@
 //! Runs in which memory is refused: the Nth request for it of each test, or all from the Nth on. They hold with a refusal and without.
-//! `refusals/run`, at the top of the repository, makes them for every N. What they share: connections whose board counts each one's drops, and
+//! `gate/refusals/run`, at the top of the repository, makes them for every N. What they share: connections whose board counts each one's drops, and
 //! what tells whether a run met a refusal.
 
 mod bare;

@@ -1,9 +1,8 @@
 //! What the service does with its pool.
 use crate::databases::{Databases, Sums, held, write};
-use bb8::{MachineClock, NopCustomizer, NopErrorSink, Pool, PoolCalls, PoolParts, Service, State};
-use std::random::RandomSource;
-use std::sync::Wait;
-use std::time::Clock;
+use bb8::{
+    MachineClock, NopCustomizer, NopErrorSink, Pool, PoolCalls, PoolParts, Runtime, Service, State,
+};
 
 /// How many threads share the pool.
 pub const THREADS: usize = 4;
@@ -27,13 +26,8 @@ pub struct SharedDatabases<R> {
     pub rt: R,
 }
 
-impl<R: Wait + Clock + RandomSource + AllocGlobal + Copy + Send + Sync + Drop + 'static> Service<
-    Databases,
-    NopErrorSink,
-    NopCustomizer,
-    MachineClock<R>,
-    R,
-> for SharedDatabases<R> {
+impl<R: Runtime> Service<Databases, NopErrorSink, NopCustomizer, MachineClock<R>, R>
+    for SharedDatabases<R> {
     /// None where a get was not served, or a database could not be read.
     type Told = Option<Sums>;
 
@@ -50,7 +44,7 @@ impl<R: Wait + Clock + RandomSource + AllocGlobal + Copy + Send + Sync + Drop + 
     fn run<L: PoolParts>(&self, pool: &DatabasePool<R, L>, _thread: usize) -> Option<Sums> {
         let mut sums = Sums::default();
         for round in 0..ROUNDS {
-            let mut guard = PoolCalls::get_blocking(pool).ok()?;
+            let mut guard = pool.get_blocking().ok()?;
             if write(&mut guard, round % AMOUNTS).is_ok() {
                 sums.committed = sums.committed.saturating_add(1);
                 continue;
@@ -73,10 +67,10 @@ impl<R: Wait + Clock + RandomSource + AllocGlobal + Copy + Send + Sync + Drop + 
         }
         let mut guards = Vec::new(self.rt.alloc());
         for _ in 0..CONNECTIONS {
-            let mut guard = PoolCalls::get_blocking(pool).ok()?;
+            let mut guard = pool.get_blocking().ok()?;
             sums = sums.plus(held(&mut guard).ok()?);
             guards.push(guard).ok()?;
         }
-        Some((sums, PoolCalls::state(pool)))
+        Some((sums, pool.state()))
     }
 }

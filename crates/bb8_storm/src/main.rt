@@ -12,7 +12,7 @@ ghost use Rattle.bb8.specs.Settings.{default_settings};
 
 mod rounds;
 
-use bb8::{Builder, Driver, Gate, Memory, PoolParts, Runtime, drive, in_threads};
+use bb8::{Builder, Driver, Gate, Memory, PoolCalls, PoolParts, Runtime, drive, in_threads};
 use bb8_trials::hostile::{GetCounts, Harness, HostilePool};
 use rounds::{SIZE, Storm, THREADS};
 use std::alloc::Global;

@@ -1,6 +1,6 @@
 //! What each thread does with the pool.
 
-use bb8::{Cancel, Job, PoolCalls, PoolParts, RunError, Runtime};
+use bb8::{Cancel, Gets, Job, PoolCalls, PoolParts, RunError, Runtime};
 use bb8_trials::Refused;
 use bb8_trials::hostile::{Counted, GetCounts, Harness, HostilePool, RandomSource};
 use futures::Future;
@@ -100,7 +100,7 @@ fn is_answered<
 /// Cancels a future, or drops it.
 fn let_go<F: Cancel + Drop>(future: F, source: &RandomSource) {
     if source.below(2) == 0 {
-        Cancel::cancel(future);
+        future.cancel();
     } else {
         drop(future);
     }
@@ -141,12 +141,12 @@ impl<R: Runtime, L: PoolParts> MakesRounds for Storm<'_, R, L> {
             _ => self.ask(told),
         }
         if source.below(4) == 0 {
-            let _ = PoolCalls::add(self.pool, self.harness.connection());
+            let _ = self.pool.add(self.harness.connection());
         }
     }
 
     fn get(&self, task: &MockTask, source: &RandomSource, told: &mut GetCounts) {
-        let mut get = PoolCalls::get(self.pool);
+        let mut get = self.pool.get();
         let polls = source.below(POLLS);
         let answered = is_answered(task, self.harness, &mut get, polls, told);
         let_go(get, source);
@@ -154,11 +154,11 @@ impl<R: Runtime, L: PoolParts> MakesRounds for Storm<'_, R, L> {
     }
 
     fn get_owned(&self, task: &MockTask, source: &RandomSource, told: &mut GetCounts) {
-        let Ok(clone) = PoolCalls::try_clone(self.pool) else {
+        let Ok(clone) = self.pool.try_clone() else {
             told.blame();
             return;
         };
-        let mut get = PoolCalls::get_owned(&clone);
+        let mut get = clone.get_owned();
         drop(clone);
         let polls = source.below(POLLS);
         let answered = is_answered(task, self.harness, &mut get, polls, told);
@@ -169,14 +169,14 @@ impl<R: Runtime, L: PoolParts> MakesRounds for Storm<'_, R, L> {
     fn wait(&self, source: &RandomSource, told: &mut GetCounts) {
         told.begun = told.begun.saturating_add(1);
         if source.below(2) == 0 {
-            end(self.harness, PoolCalls::get_blocking(self.pool), told);
+            end(self.harness, self.pool.get_blocking(), told);
         } else {
-            end(self.harness, PoolCalls::get_owned_blocking(self.pool), told);
+            end(self.harness, self.pool.get_owned_blocking(), told);
         }
     }
 
     fn open_dedicated(&self, task: &MockTask, source: &RandomSource) {
-        let mut opening = PoolCalls::dedicated_connection(self.pool);
+        let mut opening = self.pool.dedicated_connection();
         for _ in 0..source.below(POLLS) {
             if let Poll::Ready(_) = task.poll(&mut opening) {
                 break;
@@ -187,7 +187,7 @@ impl<R: Runtime, L: PoolParts> MakesRounds for Storm<'_, R, L> {
     }
 
     fn ask(&self, told: &mut GetCounts) {
-        let state = PoolCalls::state(self.pool);
+        let state = self.pool.state();
         if state.idle_connections > state.connections || state.connections > SIZE {
             told.blame();
         }

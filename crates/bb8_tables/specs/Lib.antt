@@ -1,3 +1,4 @@
+pub mod Holders
 pub mod Keys
 pub mod Lent
 pub mod Views

@@ -389,7 +389,7 @@ impl Gets {
                 match getting.place {
                     GetPlace::Active | GetPlace::Waiting(_) => None,
                     GetPlace::Holding(held) => {
-                        self.slots.release(place);
+                        let _ = self.slots.release(place);
                         self.alive -= 1;
                         Some((held, getting.first_wait))
                     }

@@ -12,6 +12,7 @@ ghost use Rattle.bb8_types.specs.declared.standing.Standing.{Standing};
 ghost use Rattle.bb8_types.specs.Bounds.{end_of_numbers, most_records};
 ghost use Rattle.bb8_tables.specs.Lent.{AddsLent};
 ghost use Rattle.bb8_tables.specs.Closed.{offered_all, closed_in, closed_of};
+ghost use Rattle.bb8_tables.specs.Holders as holders;
 ghost use Rattle.bb8_tables.specs.Lined.{slot_at};
 ghost use Rattle.bb8_tables.specs.declared.table.Slot.{Slot};
 
@@ -71,6 +72,19 @@ fn is_guarded<C>(place: &Place<C>) -> bool
     match place {
         Place::Guarded => true,
         Place::Unclaimed | Place::Claimed | Place::Idle(_) | Place::Held(_) => false,
+    }
+}
+
+/// Whether a connection is out with this holder.
+fn is_with<C>(place: &Place<C>, holder: Holder) -> bool
+    ensures { result ≡ holders.is_with holder place.now }
+{
+    match holder {
+        Holder::Guard => is_guarded(place),
+        Holder::Get(get) => match place {
+            Place::Held(number) => get == *number,
+            Place::Unclaimed | Place::Claimed | Place::Idle(_) | Place::Guarded => false,
+        },
     }
 }
 
@@ -287,59 +301,15 @@ impl<C: Drop> Records<C> {
         }
     }
 
-    /// Takes back a connection that a guard or a get held, which is idle again and keeps its birth. Where it is broken, or has lived too long, or
-    /// the pool has ended, it is handed back instead with whether it has lived too long, and nothing changes. No birth and no entry may lie
-    /// after `now`. It looks for the connection once.
-    #[inline]
+    /// Takes back a connection that somebody holds, which is idle again and keeps its birth. Where it is broken, or has lived too long, or the
+    /// pool has ended, it is handed back instead with whether it has lived too long, and nothing changes. Where the holder does not have it, it
+    /// comes back, and nothing changes. No birth and no entry may lie after `now`. It looks for the connection once.
+    #[inline(always)]
     pub fn put_back(
         &mut self,
         k: Key,
         conn: C,
-        broken: bool,
-        ended: bool,
-        config: &Config,
-        now: u64,
-        lendings: &mut Lendings,
-    ) -> Result<(), (C, bool)>
-        requires moments { NoneAfter now self.old }
-        requires out { (s : Standing C) × (map.get self.old.places k.number ≡ Some s)
-            × (places.is_out s.place ≡ true) }
-        ensures ok { IfOk result (λ u. ((broken || (machine.is_old (settings_of config.now) now
-            k.number self.old || ended)) ≡ false)
-            × (self.new ≡ machine.after_return k.number conn now self.old)) }
-        ensures err { IfErr result (λ r. (r.0 ≡ conn)
-            × (r.1 ≡ machine.is_old (settings_of config.now) now k.number self.old)
-            × ((broken || (r.1 || ended)) ≡ true) × (self.new ≡ self.old)) }
-        ensures examined { AddsLent 2 1 lendings.old lendings.new }
-        ensures counted { min (lendings.old.lent + 1) end_of_numbers ≤ lendings.new.lent }
-    {
-        match self.slots.locate(k.number, k.place, lendings) {
-            None => Ok(()),
-            Some(place) => {
-                let birth = self.slots.at(place, lendings).standing.birth;
-                let expired = is_past(config.max_lifetime, now - birth);
-                if is_closing(broken, expired, ended) {
-                    return Err((conn, expired));
-                }
-                let idle = Standing {
-                    place: Place::Idle(conn),
-                    birth,
-                    entered: now,
-                };
-                let _ = self.slots.replace(place, idle, lendings);
-                self.slots.line_up(place);
-                Ok(())
-            }
-        }
-    }
-
-    /// Takes back a connection that a guard held, as `put_back` does. Where no guard holds it, it comes back, and nothing changes. It looks for
-    /// the connection once.
-    #[inline]
-    pub fn take_back(
-        &mut self,
-        k: Key,
-        conn: C,
+        holder: Holder,
         broken: bool,
         ended: bool,
         config: &Config,
@@ -347,7 +317,7 @@ impl<C: Drop> Records<C> {
         lendings: &mut Lendings,
     ) -> Result<Result<(), (C, bool)>, C>
         requires { NoneAfter now self.old }
-        ensures guarded { IfOk result (λ r. places.stands places.is_guarded
+        ensures held { IfOk result (λ r. places.stands (holders.is_with holder)
             (map.get self.old.places k.number) ≡ true) }
         ensures ok { IfOk result (λ r. IfOk r (λ u. ((broken || (machine.is_old
             (settings_of config.now) now k.number self.old || ended)) ≡ false)
@@ -356,14 +326,14 @@ impl<C: Drop> Records<C> {
             × (x.1 ≡ machine.is_old (settings_of config.now) now k.number self.old)
             × ((broken || (x.1 || ended)) ≡ true) × (self.new ≡ self.old))) }
         ensures unfit { IfErr result (λ c. (c ≡ conn) × (self.new ≡ self.old)
-            × (places.stands places.is_guarded (map.get self.old.places k.number) ≡ false)) }
+            × (places.stands (holders.is_with holder) (map.get self.old.places k.number) ≡ false)) }
         ensures examined { AddsLent 2 1 lendings.old lendings.new }
     {
         match self.slots.locate(k.number, k.place, lendings) {
             None => Err(conn),
             Some(place) => {
                 let standing = &self.slots.at(place, lendings).standing;
-                if !is_guarded(&standing.place) {
+                if !is_with(&standing.place, holder) {
                     return Err(conn);
                 }
                 let birth = standing.birth;

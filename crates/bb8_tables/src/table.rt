@@ -346,7 +346,7 @@ impl<S: Drop> Table<S> {
 
     /// The place after one in the order of births.
     #[inline]
-    pub fn next_birth(&self, place: usize) -> Option<usize>
+    fn next_birth(&self, place: usize) -> Option<usize>
         requires { (j : ℕ) × (slice_get self.now.births j ≡ Some place) }
         ensures { (passed rest : List ℕ) → self.now.births ≡ passed ++ place ∷ rest
             → result ≡ slice_get rest 0 }
@@ -356,6 +356,20 @@ impl<S: Drop> Table<S> {
             return None;
         }
         Some(next as usize)
+    }
+
+    /// What stands at a place, and the place after it in the order of births. One entry is lent for both.
+    #[inline]
+    pub fn pass(&self, place: usize, lendings: &mut Lendings) -> (&Slot<S>, Option<usize>)
+        requires member { (j : ℕ) × (slice_get self.now.births j ≡ Some place) }
+        requires stands { IsSome (slot_at self.now place) }
+        ensures value { slot_at self.now place ≡ Some result.0.now }
+        ensures next { (passed rest : List ℕ) → self.now.births ≡ passed ++ place ∷ rest
+            → result.1 ≡ slice_get rest 0 }
+        ensures examined { lendings.new ≡ lends lendings.old }
+    {
+        let next = self.next_birth(place);
+        (self.at(place, lendings), next)
     }
 
     /// Puts a place at the new end of the order of births.
@@ -423,19 +437,16 @@ impl<S: Drop + Vacant> Table<S> {
           free = self.old.free ++ place ∷ [];
         } }
     {
-        let _links = &self.links;
         self.step_out(place);
-        self.unlink(Order::Births, place);
-        let slot = self.clear(place);
-        self.push(Order::Free, place);
-        slot
+        self.release(place)
     }
 
-    /// Frees a place that is not in line.
+    /// Frees a place that is not in line, and gives back what stood there.
     #[inline]
-    pub fn release(&mut self, place: usize)
+    pub fn release(&mut self, place: usize) -> Slot<S>
         requires stands { IsSome (slot_at self.old place) }
         requires absent { Absent place self.old.line }
+        ensures value { (x : Slot S) → slot_at self.old place ≡ Some x → result ≡ x }
         ensures state { self.new ≡ record {
           slots = slice_set self.old.slots place None;
           line = self.old.line;
@@ -445,8 +456,9 @@ impl<S: Drop + Vacant> Table<S> {
     {
         let _links = &self.links;
         self.unlink(Order::Births, place);
-        let _ = self.clear(place);
+        let slot = self.clear(place);
         self.push(Order::Free, place);
+        slot
     }
 
     /// Frees a place, and tells which number ended there.

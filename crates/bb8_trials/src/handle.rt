@@ -8,7 +8,7 @@ use bb8::dedicated::DedicatedFuture;
 use bb8::get::GetFuture;
 use bb8::owned::{GetOwnedFuture, OwnedConnection};
 use bb8::pool::{Pool, PooledConnection};
-use bb8::{AddError, Cancel, Given, ManageConnection, PoolCalls, PoolParts, RunError, State};
+use bb8::{AddError, Cancel, Gets, Given, ManageConnection, PoolCalls, PoolParts, RunError, State};
 use futures::task::Poll;
 use futures::test::MockTask;
 use std::ops::DerefMut;
@@ -103,7 +103,7 @@ impl<'a, G: Given<Runtime: Wait>, L: PoolParts> LentHandle<G::Manager> for &'a P
     type Dedicated = DedicatedFuture<'a, G, L>;
 
     fn get(self) -> Self::Get {
-        PoolCalls::get(self)
+        Gets::get(self)
     }
 
     fn poll(self, task: &MockTask, get: &mut Self::Get) -> Polled<Self::Guard, G::Error> {
@@ -115,7 +115,7 @@ impl<'a, G: Given<Runtime: Wait>, L: PoolParts> LentHandle<G::Manager> for &'a P
     }
 
     fn lend(self, task: &MockTask) -> Option<Self::Guard> {
-        match task.poll(&mut PoolCalls::get(self)) {
+        match task.poll(&mut Gets::get(self)) {
             Poll::Ready(Ok(guard)) => Some(guard),
             _ => None,
         }
@@ -168,7 +168,7 @@ impl<'a, G: Given<Runtime: Wait>, L: PoolParts> LentHandle<G::Manager> for &'a P
     }
 
     fn dedicated_connection(self) -> Self::Dedicated {
-        PoolCalls::dedicated_connection(self)
+        Gets::dedicated_connection(self)
     }
 
     fn poll_dedicated(
@@ -236,7 +236,7 @@ impl<G: Given<Runtime: Wait>, L: PoolParts> OwnedHandle<G::Manager> for Pool<G, 
     }
 
     fn serves_at_once(&self, task: &MockTask) -> bool {
-        matches!(task.poll(&mut PoolCalls::get(self)), Poll::Ready(Ok(_)))
+        matches!(task.poll(&mut Gets::get(self)), Poll::Ready(Ok(_)))
     }
 
     fn add(&self, connection: G::Connection) -> Result<(), AddError<G::Connection>> {

@@ -10,8 +10,8 @@ use crate::slot::{Slot, SlotManager};
 use crate::stepping::{Get, SlotGuards};
 use crate::turning::StepsAll;
 use bb8::{
-    Clock, CustomizeConnection, Driver, DriverCalls, ErrorSink, GuardsCalls, Locks, Memory, Moment,
-    Parts, Pool, PoolCalls,
+    Clock, CustomizeConnection, Driver, DriverCalls, ErrorSink, Gets, Guards, GuardsCalls, Locks,
+    Memory, Moment, Parts, Pool, PoolCalls,
 };
 use futures::task::Context;
 use std::alloc::Global;
@@ -122,7 +122,7 @@ impl<
         let driver = Driver::new(pool)?;
         Ok(Runner {
             entries: VecDeque::new(alloc),
-            guards: GuardsCalls::new(alloc, pool),
+            guards: Guards::new(alloc, pool),
             driver,
             pool,
             next: 0,
@@ -159,7 +159,7 @@ impl<
             return Err(job);
         }
         let id = self.next;
-        let get = PoolCalls::get(self.pool);
+        let get = self.pool.get();
         self.entries.push_back_reserved(JobEntry {
             id,
             place: JobPlace::Waiting(job, get),
@@ -175,7 +175,7 @@ impl<
         ensures pool { pool_of self.new ≡ pool_of self.old }
         ensures kept { Keeps cx.old cx.new }
     {
-        let _ = DriverCalls::turn(&mut self.driver, moment);
+        let _ = self.driver.turn(moment);
         self.guards.step_each(&mut self.entries, moment, cx)
     }
 
@@ -189,7 +189,7 @@ impl<
         ensures number { result ≡ running_in self.now }
         ensures within { result ≤ most_running self.now }
     {
-        GuardsCalls::len(&self.guards) as u64
+        self.guards.len() as u64
     }
 
     fn take(&mut self, id: u64) -> Option<Outcome<J::Out>>

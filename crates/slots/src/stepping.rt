@@ -72,7 +72,7 @@ impl<
                 ended: 0,
             },
             Poll::Ready(out) => {
-                drop(GuardsCalls::remove(self, 0));
+                drop(self.remove(0));
                 Stepped {
                     place: JobPlace::Ended(Outcome::Done(out)),
                     ended: 1,
@@ -104,7 +104,7 @@ impl<
                 place: JobPlace::Ended(Outcome::Refused(error)),
                 ended: 1,
             },
-            Poll::Ready(Ok(guard)) => match GuardsCalls::push(self, guard) {
+            Poll::Ready(Ok(guard)) => match self.push(guard) {
                 Ok(()) => Stepped {
                     place: JobPlace::Running(job),
                     ended: 0,

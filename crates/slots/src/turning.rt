@@ -80,7 +80,7 @@ impl<
             ended += self.step_first(queue, now, cx);
         }
         // the list tells that it has not passed its bound
-        let _held = GuardsCalls::len(self);
+        let _held = self.len();
         ended
     }
 }

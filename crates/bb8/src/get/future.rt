@@ -1,7 +1,7 @@
 //! The future of a get.
 ghost use Rattle.std.specs.Prelude.{◌≡◌};
 
-use crate::pool::{Cancel, Pool, PooledConnection};
+use crate::pool::{Cancel, PooledConnection};
 use bb8_core::api::RunError;
 use bb8_gets::GetState;
 use bb8_lock::{Given, Links, Part, Parts, Shared};
@@ -21,18 +21,6 @@ pub struct GetFuture<'a, G: Given, L: Parts> {
     pub(crate) get: GetState<G::Connection, G::Checking, Part<L>>,
 }
 
-impl<G: Given<Runtime: Wait>, L: Parts> GetFuture<'_, G, L> {
-    ghost use Rattle.bb8.specs.Gets.{CancelsGet};
-
-    /// Lets the get go, as a drop does, for which it may wait for the lock: one that began and was not answered is given up as cancelled.
-    /// Our own.
-    pub fn cancel(self)
-        ensures { CancelsGet self.entry }
-    {
-        Cancel::cancel(self)
-    }
-}
-
 impl<G: Given<Runtime: Wait>, L: Parts> Cancel for GetFuture<'_, G, L> {
     ghost use Rattle.bb8.specs.Gets.{CancelsGet};
 
@@ -40,29 +28,6 @@ impl<G: Given<Runtime: Wait>, L: Parts> Cancel for GetFuture<'_, G, L> {
         ensures { CancelsGet self.entry }
     {
         drop(self);
-    }
-}
-
-impl<G: Given, L: Parts> Pool<G, L> {
-    ghost use Rattle.bb8.specs.Pools.{stage_of, IsOf};
-    ghost use Rattle.bb8_gets.specs.declared.state.Stage.TheVariants.{Fresh as IsFresh};
-
-    /// Gets a connection: an idle one, or the first that comes in the get's turn. As upstream, but for the future's name.
-    ///
-    /// A get that finds nothing idle waits, and may have an approval granted to open a connection. Without a driver of the pool nobody opens
-    /// it, so the get waits for a connection that comes back or is added, and the approval stays open, which may leave no room for an
-    /// adding. A poll that is pending asks to be polled again at once, so an executor does not sleep while a get waits.
-    ///
-    /// It answers `TimedOut` once `connection_timeout` has passed since the first poll, and `Memory` or `Exhausted` where the get could
-    /// not begin.
-    pub fn get(&self) -> GetFuture<'_, G, L>
-        ensures new { stage_of result ≡ IsFresh }
-        ensures pool { IsOf result self.now }
-    {
-        GetFuture {
-            shared: &*self.shared,
-            get: GetState::new(),
-        }
     }
 }
 

@@ -2,6 +2,7 @@
 
 use super::{assert_equal, served};
 use bb8_core::api::{Config, Memory, QueueStrategy, Statistics};
+use bb8_core::internals::PoolInternals;
 use std::test::Fail;
 use std::time::Duration;
 
@@ -87,4 +88,10 @@ fn text_of_refused_memory(rt: HostRuntime) -> Result<(), Fail> {
     let text = format!(in rt.alloc(); "{}", Memory)?;
     assert_equal(&rt, text.as_str(), "No memory in bb8");
     Ok(())
+}
+
+/// A state has one count of what its steps are lent: with a second one, in which a step could look unseen, it would be larger.
+#[test]
+fn state_has_one_count(rt: HostRuntime) {
+    assert_equal(&rt, size_of::<PoolInternals<u64>>(), 432);
 }

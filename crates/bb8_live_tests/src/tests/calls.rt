@@ -4,12 +4,14 @@ ghost use Rattle.std.specs.Prelude.{Some, false};
 ghost use Rattle.bb8.specs.Parts.{IsBlankOf};
 ghost use Rattle.bb8.specs.Settings.{default_settings};
 
+mod blocking;
+
 use super::assert_equal;
 use bb8::{
-    Builder, Clock, CustomizeConnection, Driver, DriverCalls, ErrorSink, Gate, GetFuture, Job,
-    ManageConnection, Memory, Moment, Pool, PoolCalls, PoolParts, Runtime, start,
+    Builder, Cancel, Clock, CustomizeConnection, Driver, DriverCalls, ErrorSink, Gate, GetFuture,
+    Gets, Job, ManageConnection, Memory, Moment, Pool, PoolCalls, PoolParts, Runtime, start,
 };
-use bb8_trials::{ARMED, Course, LOOKS, Number, OPEN, OwnedHandle, Refused, Unbuilt, WAITING};
+use bb8_trials::{ARMED, Course, LOOKS, Number, OPEN, Refused, Unbuilt, WAITING};
 use futures::task::Poll;
 use futures::test::MockTask;
 use std::alloc::Global;
@@ -44,7 +46,9 @@ pub(super) struct Desk {
     /// What the clock tells, in nanoseconds, and the moment of the last poll of an opening.
     moment: Number,
     polled_at: Number,
-    /// What comes of openings, preparations and checks: 0 passes, 1 lasts, 2 fails.
+    /// By how much each reading sets the clock on first.
+    step: Number,
+    /// What comes of openings, preparations and checks: 0 passes, 1 lasts, 2 fails. A check that is to last once, 3, passes then.
     pub(super) opening: Number,
     preparing: Number,
     check: Number,
@@ -62,6 +66,7 @@ impl Desk {
             missed: Number::new(0),
             moment: Number::new(0),
             polled_at: Number::new(0),
+            step: Number::new(0),
             opening: Number::new(0),
             preparing: Number::new(0),
             check: Number::new(0),
@@ -221,6 +226,10 @@ impl ManageConnection for Teller {
         _moment: Moment,
     ) -> Poll<Result<(), Refused>> {
         self.desk.call("poll_valid");
+        if self.desk.check.get() == 3 {
+            self.desk.check.set(0);
+            return Poll::Pending;
+        }
         answer(self.desk.check.get(), ())
     }
 
@@ -256,8 +265,14 @@ impl ErrorSink<Refused> for Teller {
 
 impl Clock for Teller {
     fn now(&self) -> Moment {
-        self.desk.call("now");
-        Moment(self.desk.moment.get())
+        let desk = &*self.desk;
+        let is_other = desk.stage.get() == WAITING;
+        desk.call("now");
+        if !is_other {
+            desk.moment
+                .set(desk.moment.get().saturating_add(desk.step.get()));
+        }
+        Moment(desk.moment.get())
     }
 }
 
@@ -284,6 +299,8 @@ struct Tools<'a, R> {
     rt: R,
     task: &'a MockTask,
     desk: &'a Arc<Desk, Global>,
+    /// Whether the pool checks what it lends.
+    checks: bool,
 }
 
 impl<R: Runtime + Abort> Tools<'_, R> {
@@ -292,7 +309,7 @@ impl<R: Runtime + Abort> Tools<'_, R> {
     }
 
     fn add<L: PoolParts>(&self, pool: &TellerPool<R, L>) -> Result<(), Memory> {
-        drop(PoolCalls::add(pool, connection(self.desk)?));
+        drop(pool.add(connection(self.desk)?));
         self.made("has_broken now");
         Ok(())
     }
@@ -319,28 +336,28 @@ fn checked<R: Runtime + Abort, L: PoolParts>(
 ) -> Result<(), Memory> {
     let desk = tools.desk;
     tools.add(pool)?;
-    let mut get = PoolCalls::get(pool);
+    let mut get = pool.get();
     tools.poll(&mut get, "now is_valid poll_valid ended");
     tools.poll(&mut get, "");
     drop(get);
     desk.check.set(1);
-    let mut get = PoolCalls::get(pool);
+    let mut get = pool.get();
     tools.poll(&mut get, "now is_valid poll_valid");
     tools.poll(&mut get, "now poll_valid");
     get.cancel();
     tools.made("ended has_broken now");
-    let mut get = PoolCalls::get(pool);
+    let mut get = pool.get();
     tools.poll(&mut get, "now is_valid poll_valid");
     desk.moment.set(100);
     tools.poll(&mut get, "now poll_valid ended has_broken");
     drop(get);
     tools.made("");
-    let mut get = PoolCalls::get(pool);
+    let mut get = pool.get();
     tools.poll(&mut get, "now is_valid poll_valid");
     desk.broken.set(1);
     drop(get);
     tools.made("ended has_broken now dropped");
-    drop(PoolCalls::add(pool, connection(desk)?));
+    drop(pool.add(connection(desk)?));
     tools.made("has_broken now dropped");
     desk.broken.set(0);
     desk.check.set(0);
@@ -353,21 +370,21 @@ fn waiting<R: Runtime + Abort, L: PoolParts>(
     pool: &TellerPool<R, L>,
 ) -> Result<(), Memory> {
     let desk = tools.desk;
-    PoolCalls::get(pool).cancel();
+    pool.get().cancel();
     tools.made("");
-    let mut get = PoolCalls::get(pool);
+    let mut get = pool.get();
     tools.poll(&mut get, "now");
     tools.poll(&mut get, "now");
     get.cancel();
     tools.made("now");
-    let mut get = PoolCalls::get(pool);
+    let mut get = pool.get();
     tools.poll(&mut get, "now");
     desk.moment.set(200);
     tools.poll(&mut get, "now");
     drop(get);
     tools.add(pool)?;
     desk.check.set(2);
-    let mut get = PoolCalls::get(pool);
+    let mut get = pool.get();
     tools.poll(
         &mut get,
         "now is_valid poll_valid ended sink has_broken dropped",
@@ -375,7 +392,7 @@ fn waiting<R: Runtime + Abort, L: PoolParts>(
     drop(get);
     tools.made("now");
     tools.add(pool)?;
-    let mut get = PoolCalls::get(pool);
+    let mut get = pool.get();
     tools.poll(
         &mut get,
         "now is_valid poll_valid ended sink has_broken dropped",
@@ -394,10 +411,10 @@ fn owned<R: Runtime + Abort, L: PoolParts>(
     tools: &Tools<'_, R>,
     pool: &TellerPool<R, L>,
 ) -> Result<(), Memory> {
-    PoolCalls::get_owned(pool).cancel();
+    pool.get_owned().cancel();
     tools.made("now now");
     tools.add(pool)?;
-    let mut get = PoolCalls::get_owned(pool);
+    let mut get = pool.get_owned();
     let polled = tools.task.poll(&mut get);
     tools.made("now now is_valid poll_valid ended");
     drop(get);
@@ -405,7 +422,7 @@ fn owned<R: Runtime + Abort, L: PoolParts>(
     drop(polled);
     tools.made("has_broken now now");
     tools.desk.check.set(1);
-    let mut get = PoolCalls::get_owned(pool);
+    let mut get = pool.get_owned();
     drop(tools.task.poll(&mut get));
     tools.made("now now is_valid poll_valid");
     drop(get);
@@ -417,7 +434,7 @@ fn owned<R: Runtime + Abort, L: PoolParts>(
 /// Connections that the pool does not count: opened and prepared slowly; failing as it is opened, or prepared; let go as it is prepared.
 fn dedicated<R: Runtime + Abort, L: PoolParts>(tools: &Tools<'_, R>, pool: &TellerPool<R, L>) {
     let desk = tools.desk;
-    let mut opening = PoolCalls::dedicated_connection(pool);
+    let mut opening = pool.dedicated_connection();
     for (connects, prepares, calls) in &[
         (1, 0, "now connect poll_connect"),
         (1, 0, "now poll_connect"),
@@ -450,7 +467,7 @@ fn dedicated<R: Runtime + Abort, L: PoolParts>(tools: &Tools<'_, R>, pool: &Tell
     ] {
         desk.opening.set(*connects);
         desk.preparing.set(*prepares);
-        let mut opening = PoolCalls::dedicated_connection(pool);
+        let mut opening = pool.dedicated_connection();
         drop(tools.task.poll(&mut opening));
         tools.made(calls);
         opening.cancel();
@@ -462,8 +479,8 @@ fn dedicated<R: Runtime + Abort, L: PoolParts>(tools: &Tools<'_, R>, pool: &Tell
 /// Whatever connections are idle are closed as their checks fail, and a get waits and is let go: one approval is open.
 fn approve<R: Runtime + Abort, L: PoolParts>(tools: &Tools<'_, R>, pool: &TellerPool<R, L>) {
     tools.desk.check.set(2);
-    let mut get = PoolCalls::get(pool);
-    for _ in 0..PoolCalls::state(pool).idle_connections.saturating_add(1) {
+    let mut get = pool.get();
+    for _ in 0..pool.state().idle_connections.saturating_add(1) {
         drop(tools.task.poll(&mut get));
     }
     get.cancel();
@@ -506,7 +523,7 @@ fn turns<R: Runtime + Abort, L: PoolParts>(
         }
         desk.opening.set(*connects);
         desk.preparing.set(*prepares);
-        let _ = DriverCalls::turn(&mut driver, Moment(300));
+        let _ = driver.turn(Moment(300));
         tools.made(calls);
     }
     drop(driver);
@@ -514,7 +531,7 @@ fn turns<R: Runtime + Abort, L: PoolParts>(
 }
 
 /// A handle more, and its drop.
-fn handles<R: Runtime + Abort, P: OwnedHandle<Teller>>(tools: &Tools<'_, R>, pool: &P) {
+fn handles<R: Runtime + Abort, P: bb8_trials::OwnedHandle<Teller>>(tools: &Tools<'_, R>, pool: &P) {
     let copy = pool.try_clone();
     tools.made("now");
     drop(copy);
@@ -539,7 +556,7 @@ impl<R: Runtime + Abort, L: PoolParts> Job for Asker<R, L> {
         for _ in 0..LOOKS {
             match self.desk.stage.get() {
                 WAITING => {
-                    if PoolCalls::state(&self.pool).connections <= 2 {
+                    if self.pool.state().connections <= 2 {
                         answered = answered.saturating_add(1);
                     }
                     self.desk.stage.set(ARMED);
@@ -552,23 +569,55 @@ impl<R: Runtime + Abort, L: PoolParts> Job for Asker<R, L> {
     }
 }
 
-/// All calls of a pool and its driver, each of which waits, where that is asked for, until another thread was answered.
+/// All calls of a pool that checks its connections, and of its driver.
+fn calls_with_checks<R: Runtime + Abort, L: PoolParts>(
+    tools: &Tools<'_, R>,
+    pool: &TellerPool<R, L>,
+) -> Result<(), Memory> {
+    let desk = tools.desk;
+    let driver = Driver::new(pool)?;
+    checked(tools, pool)?;
+    waiting(tools, pool)?;
+    owned(tools, pool)?;
+    handles(tools, pool);
+    dedicated(tools, pool);
+    turns(tools, pool, driver);
+    approve(tools, pool);
+    desk.moment.set(1000);
+    desk.opening.set(1);
+    let driven = Driver::new(pool)?.run(outside_on(desk)?);
+    tools.made("now connect poll_connect now poll_connect now ended");
+    assert_equal(&tools.rt, driven.turns, 2);
+    assert_equal(&tools.rt, desk.polled_at.get(), 1001);
+    desk.opening.set(0);
+    Ok(())
+}
+
+/// The calls of a pool, each of which waits, where that is asked for, until another thread was answered.
 fn calls_of_a_pool<R: Runtime + Abort + Threads, L: PoolParts + 'static>(
     rt: R,
     blank: Blank,
+    checks: bool,
     waits: bool,
 ) -> Result<(), Fail>
     requires { IsBlankOf blank (record default_settings {
       max_size = 2;
+      test_on_check_out = checks;
       connection_timeout = 100;
       retry_connection = false;
     }) L.name L.parts L.settings }
 {
     let desk = &Desk::new(rt.alloc())?;
     let task = &MockTask::new(&rt)?;
-    let tools = Tools { rt, task, desk };
+    let tools = Tools {
+        rt,
+        task,
+        desk,
+        checks,
+    };
     let pool: TellerPool<R, L> = Builder::new()
         .max_size(2)
+        .test_on_check_out(checks)
         .connection_timeout(Duration::from_nanos(100))
         .retry_connection(false)
         .error_sink(outside_on(desk)?)
@@ -585,26 +634,19 @@ fn calls_of_a_pool<R: Runtime + Abort + Threads, L: PoolParts + 'static>(
         tools.made("now");
         tools.desk.stage.set(ARMED);
     }
-    let driver = Driver::new(&pool)?;
-    checked(&tools, &pool)?;
-    waiting(&tools, &pool)?;
-    owned(&tools, &pool)?;
-    handles(&tools, &pool);
-    dedicated(&tools, &pool);
-    turns(&tools, &pool, driver);
-    approve(&tools, &pool);
-    desk.moment.set(1000);
-    desk.opening.set(1);
-    let driven = Driver::new(&pool)?.run(outside_on(desk)?);
-    tools.made("now connect poll_connect now poll_connect now ended");
-    assert_equal(&rt, driven.turns, 2);
-    assert_equal(&rt, desk.polled_at.get(), 1001);
+    if checks {
+        calls_with_checks(&tools, &pool)?;
+    }
+    blocking::served(&tools, &pool)?;
+    if checks {
+        blocking::unserved(&tools, &pool)?;
+    }
     desk.stage.set(ENDED);
     assert_equal(&rt, asker.is_some(), waits);
     if let Some(asker) = asker {
         assert_equal(&rt, asker.join(&rt), desk.waited.get());
         assert_equal(&rt, desk.missed.get(), 0);
-        assert!(&rt; desk.waited.get() > 100);
+        assert!(&rt; desk.waited.get() > 40);
     }
     Ok(())
 }
@@ -627,10 +669,12 @@ fn calls_of_a_building<R: Runtime + Abort, B: Unbuilt<Teller>>(
             tools.made(
                 "now poll_connect ended on_acquire poll_acquire ended poll_connect ended on_acquire poll_acquire ended",
             );
-            if let Poll::Ready(Ok(pool)) = &polled {
-                pool.serves_at_once(tools.task);
+            for _ in 0..2u32 {
+                if let Poll::Ready(Ok(pool)) = &polled {
+                    bb8_trials::OwnedHandle::serves_at_once(pool, tools.task);
+                }
+                tools.made("now has_broken now");
             }
-            tools.made("now has_broken now");
             drop(polled);
             tools.made("now dropped dropped");
             drop(building.poll(tools.task));
@@ -659,7 +703,12 @@ fn builds<R: Runtime + Abort, L: PoolParts>(rt: R, blank: Blank, course: Course)
 {
     let desk = &Desk::new(rt.alloc())?;
     let task = &MockTask::new(&rt)?;
-    let tools = Tools { rt, task, desk };
+    let tools = Tools {
+        rt,
+        task,
+        desk,
+        checks: false,
+    };
     let builder = Builder::new()
         .max_size(2)
         .min_idle(Some(2))
@@ -683,10 +732,16 @@ fn each_call_is_made_once(rt: HostRuntime) -> Result<(), Fail> {
     for course in [Course::Passes, Course::Lasts, Course::Fails] {
         builds::<HostRuntime, Brand>(rt, Blank::new(2), course)?;
     }
-    calls_of_a_pool::<HostRuntime, Brand>(rt, Blank::new(2), false)
+    for checks in [false, true] {
+        calls_of_a_pool::<HostRuntime, Brand>(rt, Blank::new(2), checks, false)?;
+    }
+    Ok(())
 }
 
 #[test]
 fn no_call_is_made_under_the_lock(rt: HostRuntime) -> Result<(), Fail> {
-    calls_of_a_pool::<HostRuntime, Brand>(rt, Blank::new(2), true)
+    for checks in [false, true] {
+        calls_of_a_pool::<HostRuntime, Brand>(rt, Blank::new(2), checks, true)?;
+    }
+    Ok(())
 }

@@ -1,7 +1,7 @@
 //! Lists of guards.
 
 use super::{NumberTrial, SlowPool, Trial, assert_equal, try_numbers};
-use bb8::{Guards, Moment, PoolParts, Runtime};
+use bb8::{Guards, GuardsCalls, Moment, PoolParts, Runtime};
 use bb8_trials::{LentHandle, SECOND};
 use futures::task::Poll;
 use futures::test::MockTask;

@@ -1,7 +1,7 @@
 //! What a guard shows, and where it may go.
 
 use super::{NumberTrial, Trial, assert_equal, try_numbers};
-use bb8::{PoolParts, Runtime};
+use bb8::{Gets, PoolCalls, PoolParts, Runtime};
 use futures::task::Poll;
 use std::process::Abort;
 use std::test::Fail;

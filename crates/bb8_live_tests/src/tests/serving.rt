@@ -3,8 +3,8 @@ ghost use Rattle.std.specs.Prelude.{◌≡◌, Ok, IfOk, length};
 
 use super::{SlowManager, SlowPool, assert_equal};
 use bb8::{
-    Builder, Memory, Moment, NopCustomizer, NopErrorSink, PoolCalls, PoolParts, Runtime, Service,
-    SetClock,
+    Builder, Gets, Job, Memory, Moment, NopCustomizer, NopErrorSink, PoolCalls, PoolParts, Runtime,
+    Service, SetClock, start,
 };
 use futures::executor::block_on;
 use std::process::Abort;
@@ -55,7 +55,7 @@ impl<R: Runtime + Abort> Service<SlowManager, NopErrorSink, NopCustomizer, SetCl
 
     fn begin<L: PoolParts>(&self, pool: &SlowPool<R, L>) -> Result<(), Option<bool>> {
         self.begun.fetch_add(1, Ordering::SeqCst);
-        match PoolCalls::add(pool, self.connection) {
+        match pool.add(self.connection) {
             Ok(()) => Ok(()),
             Err(_) => Err(None),
         }
@@ -64,8 +64,8 @@ impl<R: Runtime + Abort> Service<SlowManager, NopErrorSink, NopCustomizer, SetCl
     /// By a handle of the thread's own.
     fn run<L: PoolParts>(&self, pool: &SlowPool<R, L>, thread: usize) -> Option<usize> {
         self.run.fetch_add(1, Ordering::SeqCst);
-        let handle = PoolCalls::try_clone(pool).ok()?;
-        let told = match block_on(&self.rt, PoolCalls::get(&handle)) {
+        let handle = pool.try_clone().ok()?;
+        let told = match block_on(&self.rt, handle.get()) {
             Ok(Ok(guard)) if *guard == self.connection => Some(thread),
             _ => None,
         };
@@ -154,5 +154,26 @@ fn how_many<R: Runtime + Abort + Threads + Clock>(rt: R, threads: usize) -> Resu
 fn as_many_threads_run_as_are_asked_for(rt: HostRuntime) -> Result<(), Fail> {
     assert_equal(&rt, how_many(rt, 0)?, 0);
     assert_equal(&rt, how_many(rt, 5)?, 5);
+    Ok(())
+}
+
+/// Tells the number of its thread.
+#[derive(Drop)]
+struct OwnNumber;
+
+impl Job for OwnNumber {
+    type Told = usize;
+
+    fn run(self, thread: usize) -> usize {
+        thread
+    }
+}
+
+#[test]
+fn job_gets_the_number_of_its_thread(rt: HostRuntime) -> Result<(), Fail> {
+    match start(&rt, 7, OwnNumber) {
+        Ok(thread) => assert_equal(&rt, thread.join(&rt), 7),
+        Err(_) => return Err(Fail::new("no thread")),
+    }
     Ok(())
 }

@@ -4,7 +4,7 @@ ghost use Rattle.bb8.specs.Parts.{IsBlankOf};
 ghost use Rattle.bb8.specs.Settings.{default_settings};
 
 use super::assert_equal;
-use bb8::{Memory, Moment, PoolCalls, PoolParts, Runtime, SetClock};
+use bb8::{Gets, Memory, Moment, PoolCalls, PoolParts, Runtime, SetClock};
 use bb8_trials::{Board, ServerConnection, ServerPool, builder_on, connection_on, server_on};
 use futures::executor::block_on;
 use futures::test::MockTask;
@@ -52,16 +52,16 @@ impl<R: Runtime + Abort, L: PoolParts> TestJob for Repeating<'_, R, L> {
     fn run(&self) -> bool {
         for _ in 0..1000u32 {
             let alone = if self.owned {
-                let Ok(clone) = PoolCalls::try_clone(self.pool) else {
+                let Ok(clone) = self.pool.try_clone() else {
                     return false;
                 };
-                let Ok(Ok(mut guard)) = block_on(&self.rt, PoolCalls::get_owned(&clone)) else {
+                let Ok(Ok(mut guard)) = block_on(&self.rt, clone.get_owned()) else {
                     return false;
                 };
                 drop(clone);
                 is_alone(&mut guard)
             } else {
-                let Ok(Ok(mut guard)) = block_on(&self.rt, PoolCalls::get(self.pool)) else {
+                let Ok(Ok(mut guard)) = block_on(&self.rt, self.pool.get()) else {
                     return false;
                 };
                 is_alone(&mut guard)
@@ -95,13 +95,13 @@ impl<R: Runtime + Abort, L: PoolParts> TestJob for Mixed<'_, R, L> {
             let Ok(connection) = connection_on(self.board, round) else {
                 return false;
             };
-            let _ = PoolCalls::add(self.pool, connection);
-            let state = PoolCalls::state(self.pool);
+            let _ = self.pool.add(connection);
+            let state = self.pool.state();
             if state.connections > 3 || state.idle_connections > state.connections {
                 return false;
             }
-            let _ = task.poll(&mut PoolCalls::get(self.pool));
-            let Ok(Ok(mut guard)) = block_on(&self.rt, PoolCalls::get(self.pool)) else {
+            let _ = task.poll(&mut self.pool.get());
+            let Ok(Ok(mut guard)) = block_on(&self.rt, self.pool.get()) else {
                 return false;
             };
             if !is_alone(&mut guard) {

@@ -5,8 +5,8 @@ ghost use Rattle.bb8.specs.Settings.{default_settings};
 use super::calls::{Desk, Teller, TellerPool, connection, outside_on};
 use super::{SlowManager, assert_equal};
 use bb8::{
-    Builder, Building, Driver, DriverCalls, Guards, Job, Memory, Moment, NopCustomizer,
-    NopErrorSink, Pool, PoolParts, Runtime, SetClock, start,
+    Builder, Building, Driver, DriverCalls, Guards, GuardsCalls, Job, Memory, Moment,
+    NopCustomizer, NopErrorSink, Pool, PoolParts, Runtime, SetClock, start,
 };
 use bb8_trials::{ARMED, LentHandle, OPEN, SECOND, WAITING};
 use futures::test::MockTask;
@@ -30,7 +30,7 @@ impl<R: Runtime + Abort, L: PoolParts> Job for Turner<R, L> {
 
     fn run(self, _thread: usize) -> u64 {
         let Turner { mut driver } = self;
-        DriverCalls::turn(&mut driver, Moment(700 * SECOND)).polled
+        driver.turn(Moment(700 * SECOND)).polled
     }
 }
 

@@ -4,7 +4,9 @@ ghost use Rattle.bb8.specs.Parts.{IsBlankOf, unchecked_of};
 ghost use Rattle.bb8.specs.Settings.{default_settings};
 
 use super::assert_equal;
-use bb8::{Driven, Driver, Moment, PoolParts, Runtime, SetClock, drive};
+use bb8::{
+    Driven, Driver, DriverCalls, Gets, Moment, PoolCalls, PoolParts, Runtime, SetClock, drive,
+};
 use bb8_trials::{ARMED, Board, OPEN, OneTurn, ServerPool, WAITING, builder_on, server_on, sizes};
 use futures::task::Poll;
 use futures::test::MockTask;

@@ -211,7 +211,7 @@ impl<P: LentHandle<HostileManager> + Drop, R: Runtime, L: PoolParts> Field<'_, P
 
     /// Makes a turn of the driver.
     fn turn(&mut self) {
-        let turn = DriverCalls::turn(&mut self.driver, self.clock.now());
+        let turn = self.driver.turn(self.clock.now());
         self.told.driven = self.told.driven.saturating_add(turn.polled);
     }
 

@@ -3,12 +3,13 @@
 use super::assert_equal;
 use super::waiting::nanos;
 use bb8::{
-    Clock as PoolClock, Driver, DriverCalls, Moment, NopCustomizer, PoolCalls, PoolParts, Runtime,
-    Service, SetClock, User,
+    Clock as PoolClock, Driver, DriverCalls, Gets, Moment, NopCustomizer, PoolCalls, PoolParts,
+    Runtime, Service, SetClock, User,
 };
 use bb8_trials::{
     Board, Course, Errors, Number, SECOND, Server, ServerPool, builder_on, server_on,
 };
+use futures::executor::block_on;
 use futures::test::MockTask;
 use std::alloc::Global;
 use std::sync::Arc;
@@ -50,7 +51,10 @@ impl<R: Runtime + CpuClock> PoolClock for MeteredClock<R> {
 struct Resting<R> {
     rt: R,
     meter: Arc<Meter, Global>,
+    board: Arc<Board, Global>,
     rest: Duration,
+    /// Whether another connection is idle, whose check fails.
+    check_fails: bool,
 }
 
 /// What such a thread saw.
@@ -64,13 +68,16 @@ struct Rested {
     used: u64,
 }
 
-/// A wait for a driver, as a method of an impl, so that those of a service can call it.
-trait AwaitsTurn {
+/// Waits for a driver, as methods of an impl, so that those of a service can call them.
+trait AwaitsTurn<R: Runtime + CpuClock> {
     /// Waits until the driver has begun a turn.
     fn turned(&self);
+
+    /// Gets the connection that is to be opened, and lets it go.
+    fn opens<L: PoolParts>(&self, pool: &ServerPool<MeteredClock<R>, R, L>) -> Option<()>;
 }
 
-impl<R: Runtime + CpuClock> AwaitsTurn for Resting<R> {
+impl<R: Runtime + CpuClock> AwaitsTurn<R> for Resting<R> {
     fn turned(&self) {
         let before = self.meter.readings.get();
         for _ in 0..10_000u32 {
@@ -79,6 +86,19 @@ impl<R: Runtime + CpuClock> AwaitsTurn for Resting<R> {
             }
             thread::sleep(&self.rt, Duration::from_millis(1));
         }
+    }
+
+    fn opens<L: PoolParts>(&self, pool: &ServerPool<MeteredClock<R>, R, L>) -> Option<()> {
+        if !self.check_fails {
+            drop(pool.get_blocking().ok()?);
+            return Some(());
+        }
+        let mut get = pool.get();
+        self.board.check.set(Course::Fails);
+        drop(MockTask::new(&self.rt).ok()?.poll(&mut get));
+        self.board.check.set(Course::Passes);
+        drop(block_on(&self.rt, get).ok()?.ok()?);
+        Some(())
     }
 }
 
@@ -103,9 +123,8 @@ impl<R: Runtime + CpuClock> Service<Server, Errors, NopCustomizer, MeteredClock<
     ) -> Option<Rested> {
         self.turned();
         let begun = nanos(self.rt.monotonic());
-        let guard = PoolCalls::get_blocking(pool).ok()?;
+        self.opens(pool)?;
         let served = nanos(self.rt.monotonic()).saturating_sub(begun);
-        drop(guard);
         self.turned();
         let (turns, used) = (self.meter.readings.get(), self.meter.used.get());
         thread::sleep(&self.rt, self.rest);
@@ -131,6 +150,7 @@ impl<R: Runtime + CpuClock> Service<Server, Errors, NopCustomizer, MeteredClock<
 fn serve_resting<R: Runtime + CpuClock + Threads>(
     rt: R,
     rest: Duration,
+    check_fails: bool,
 ) -> Result<(Rested, u64), Fail> {
     let board = Board::new(rt.alloc())?;
     let meter = Arc::new(
@@ -148,10 +168,13 @@ fn serve_resting<R: Runtime + CpuClock + Threads>(
     let service = Resting {
         rt,
         meter: Arc::try_clone(&meter)?,
+        board: Arc::try_clone(&board)?,
         rest,
+        check_fails,
     };
     let answer = builder_on(&board)?
         .max_size(1)
+        .min_idle(if check_fails { Some(1) } else { None })
         .serve(server_on(&board)?, clock, rt, 1, &service);
     let ended = nanos(rt.monotonic()).saturating_sub(meter.ended.get());
     match answer {
@@ -163,24 +186,26 @@ fn serve_resting<R: Runtime + CpuClock + Threads>(
 /// A second with nothing to do takes the driver of a service less than 60 turns, and 10 milliseconds of a processor.
 #[test]
 fn idle_driver_sleeps(rt: HostRuntime) -> Result<(), Fail> {
-    let (Rested { turns, used, .. }, _) = serve_resting(rt, Duration::from_secs(1))?;
+    let (Rested { turns, used, .. }, _) = serve_resting(rt, Duration::from_secs(1), false)?;
     assert!(&rt; turns < 60, "{turns} turns");
     assert!(&rt; used < 10_000_000, "{used} nanoseconds");
     Ok(())
 }
 
-/// A driver that only made turns by itself would come some 50 milliseconds after the one before, which both have just seen: the get that is
-/// granted an approval, and the end of the pool. Of five the quickest is looked at.
+/// A driver that only made turns by itself would come some 50 milliseconds after the one before, which all have just seen: the get that is
+/// granted an approval, the failed check that is, and the end of the pool. Of five the quickest is looked at.
 #[test]
 fn grant_and_end_wake_the_driver(rt: HostRuntime) -> Result<(), Fail> {
-    let (mut first, mut last) = (u64::MAX, u64::MAX);
-    for _ in 0..5u32 {
-        let (Rested { served, .. }, ended) = serve_resting(rt, Duration::from_millis(1))?;
-        first = first.min(served);
-        last = last.min(ended);
+    for check_fails in [false, true] {
+        let (mut first, mut last) = (u64::MAX, u64::MAX);
+        for _ in 0..5u32 {
+            let (seen, ended) = serve_resting(rt, Duration::from_millis(1), check_fails)?;
+            first = first.min(seen.served);
+            last = last.min(ended);
+        }
+        assert!(&rt; first < 15_000_000, "{first} nanoseconds");
+        assert!(&rt; last < 15_000_000, "{last} nanoseconds");
     }
-    assert!(&rt; first < 15_000_000, "{first} nanoseconds");
-    assert!(&rt; last < 15_000_000, "{last} nanoseconds");
     Ok(())
 }
 
@@ -203,9 +228,9 @@ impl<R: Runtime> User<Server, Errors, NopCustomizer, SetClock, R> for AsksDue<R>
     ) -> Option<[Option<u64>; 5]> {
         let task = MockTask::new(&self.rt).ok()?;
         let mut found = [None; 5];
-        let mut get = PoolCalls::get(pool);
+        let mut get = pool.get();
         for (turn, due) in found.iter_mut().enumerate() {
-            *due = DriverCalls::next_due(driver).map(|due| due.0 / MILLI);
+            *due = driver.next_due().map(|due| due.0 / MILLI);
             if turn == 1 {
                 drop(task.poll(&mut get));
                 self.board.fails.set(1);
@@ -217,7 +242,7 @@ impl<R: Runtime> User<Server, Errors, NopCustomizer, SetClock, R> for AsksDue<R>
             if turn == 3 {
                 self.board.opening.set(Course::Passes);
             }
-            let _ = DriverCalls::turn_now(driver);
+            let _ = driver.turn_now();
         }
         Some(found)
     }

@@ -1,16 +1,25 @@
-//! A service over a pool whose first connection cannot be opened, and one whose driver has to turn.
+//! A service over a pool whose first connection cannot be opened, or late; and one whose driver has to turn, and to end.
+ghost use Rattle.std.specs.Prelude.{◌≡◌, true};
+ghost use Rattle.bb8.specs.Settings.{is_lawful};
 
 use super::assert_equal;
+use super::waiting::nanos;
 use bb8::{
-    MachineClock, Moment, NopCustomizer, PoolCalls, PoolParts, RunError, Runtime, Service, SetClock,
+    Clock as PoolClock, Job, Moment, NopCustomizer, PoolCalls, PoolParts, RunError, Runtime,
+    Service, SetClock, start,
 };
 use bb8_trials::{
-    Board, Course, Errors, Number, Refused, Server, ServerPool, builder_on, server_on,
+    Board, Course, Errors, Number, Refused, SECOND, Server, ServerBuilder, ServerPool, builder_on,
+    server_on,
 };
 use futures::executor::block_on;
+use std::alloc::Global;
+use std::mem;
+use std::process::Abort;
 use std::sync::Arc;
 use std::test::Fail;
-use std::time::{Clock, Duration};
+use std::thread::{self, Threads};
+use std::time::{Clock, CpuClock, Duration};
 
 /// Counts how often it began.
 #[derive(Drop)]
@@ -55,60 +64,190 @@ fn first_connection_that_fails_ends_a_serve(rt: HostRuntime) -> Result<(), Fail>
     Ok(())
 }
 
+/// The machine's clock, each of whose readings lasts for 50 milliseconds once that is asked for.
+#[derive(Drop)]
+struct LastingClock<R> {
+    rt: R,
+    lasts: Arc<Number, Global>,
+}
+
+impl<R: Runtime> PoolClock for LastingClock<R> {
+    fn now(&self) -> Moment {
+        if self.lasts.get() != 0 {
+            thread::sleep(&self.rt, Duration::from_millis(50));
+        }
+        Moment(nanos(self.rt.monotonic()))
+    }
+}
+
 /// Has two connections at once. Each get asks for an opening, which a turn of the driver after that has to make.
 #[derive(Drop)]
 struct TwoAtOnce<R> {
     rt: R,
+    /// Set as it ends, so that the clock's readings last from then on.
+    lasts: Arc<Number, Global>,
+    /// Whether it lets neither of the two go, each with a handle of its own.
+    keeps: bool,
 }
 
-impl<R: Runtime + Clock> Service<Server, Errors, NopCustomizer, MachineClock<R>, R>
-    for TwoAtOnce<R> {
+impl<R: Runtime> Service<Server, Errors, NopCustomizer, LastingClock<R>, R> for TwoAtOnce<R> {
     type Told = Option<(u64, u64)>;
 
     type Outcome = Option<(u64, u64)>;
 
     fn begin<L: PoolParts>(
         &self,
-        _pool: &ServerPool<MachineClock<R>, R, L>,
+        _pool: &ServerPool<LastingClock<R>, R, L>,
     ) -> Result<(), Option<(u64, u64)>> {
         Ok(())
     }
 
     fn run<L: PoolParts>(
         &self,
-        pool: &ServerPool<MachineClock<R>, R, L>,
+        pool: &ServerPool<LastingClock<R>, R, L>,
         _thread: usize,
     ) -> Option<(u64, u64)> {
-        let first = block_on(&self.rt, PoolCalls::get(pool)).ok()?.ok()?;
-        let second = block_on(&self.rt, PoolCalls::get(pool)).ok()?.ok()?;
-        Some((first.number, second.number))
+        let first = block_on(&self.rt, pool.get_owned()).ok()?.ok()?;
+        let second = block_on(&self.rt, pool.get_owned()).ok()?.ok()?;
+        let numbers = (first.number, second.number);
+        if self.keeps {
+            mem::forget(first);
+            mem::forget(second);
+        }
+        Some(numbers)
     }
 
     fn end<L: PoolParts>(
         &self,
-        _pool: &ServerPool<MachineClock<R>, R, L>,
+        _pool: &ServerPool<LastingClock<R>, R, L>,
         told: &[Option<(u64, u64)>],
     ) -> Option<(u64, u64)> {
+        self.lasts.set(1);
         *told.first()?
     }
 }
 
+/// What such a service answers on a pool of this builder.
+fn serve_two<R: Runtime + Threads>(
+    rt: R,
+    board: &Arc<Board, Global>,
+    builder: ServerBuilder,
+    keeps: bool,
+) -> Result<Result<Option<(u64, u64)>, RunError<Refused>>, Fail>
+    requires { is_lawful builder.settings ≡ true }
+{
+    let lasts = Arc::new(rt.alloc(), Number::new(0))?;
+    let clock = LastingClock {
+        rt,
+        lasts: Arc::try_clone(&lasts)?,
+    };
+    Ok(builder.serve(
+        server_on(board)?,
+        clock,
+        rt,
+        1,
+        &TwoAtOnce { rt, lasts, keeps },
+    ))
+}
+
 /// The driver makes turns while the service runs, the next one in less than half a second, and its thread has let the pool go as the service's
-/// answer is there: nobody else then has what the server counts on.
+/// answer is there: nobody else then has what the server counts on. Its end lasts longer than the pool's, by two readings of the clock to one.
 #[test]
 fn driver_of_a_service_turns_on_and_ends(rt: HostRuntime) -> Result<(), Fail> {
     let board = Board::new(rt.alloc())?;
-    let answer = builder_on(&board)?
+    let builder = builder_on(&board)?
         .max_size(2)
-        .connection_timeout(Duration::from_millis(500))
-        .serve(
-            server_on(&board)?,
-            MachineClock(rt),
-            rt,
-            1,
-            &TwoAtOnce { rt },
-        );
-    assert_equal(&rt, answer, Ok(Some((1, 2))));
+        .connection_timeout(Duration::from_millis(500));
+    assert_equal(
+        &rt,
+        serve_two(rt, &board, builder, false)?,
+        Ok(Some((1, 2))),
+    );
     assert!(&rt; Arc::try_unwrap(board).is_ok());
+    Ok(())
+}
+
+/// Ends the test where no answer came within ten seconds.
+#[derive(Drop)]
+struct Watch<R> {
+    rt: R,
+    answered: Arc<Number, Global>,
+}
+
+impl<R: Runtime + Abort> Job for Watch<R> {
+    type Told = ();
+
+    fn run(self, _thread: usize) {
+        for _ in 0..1000u32 {
+            if self.answered.get() != 0 {
+                return;
+            }
+            thread::sleep(&self.rt, Duration::from_millis(10));
+        }
+        panic!(&self.rt; "no answer");
+    }
+}
+
+/// The answer comes also where handles are left over, with which the pool's driver would turn for ever.
+#[test]
+fn driver_of_a_service_ends_beside_handles(rt: HostRuntime) -> Result<(), Fail> {
+    let board = Board::new(rt.alloc())?;
+    let answered = Arc::new(rt.alloc(), Number::new(0))?;
+    let watch = Watch {
+        rt,
+        answered: Arc::try_clone(&answered)?,
+    };
+    let Ok(watch) = start(&rt, 0, watch) else {
+        return Err(Fail::new("no thread"));
+    };
+    let answer = serve_two(rt, &board, builder_on(&board)?.max_size(2), true)?;
+    answered.set(1);
+    watch.join(&rt);
+    assert_equal(&rt, answer, Ok(Some((1, 2))));
+    Ok(())
+}
+
+/// What a start of a service of two connections at once answers, and the nanoseconds that it takes, and those of a processor.
+#[derive(Drop)]
+struct Started {
+    answer: Result<Option<(u64, u64)>, RunError<Refused>>,
+    lasted: u64,
+    used: u64,
+}
+
+fn time_start<R: Runtime + CpuClock + Threads>(
+    rt: R,
+    board: &Arc<Board, Global>,
+) -> Result<Started, Fail> {
+    let (begun, idle) = (nanos(rt.monotonic()), nanos(rt.thread_cpu_time()));
+    let builder = builder_on(board)?
+        .max_size(2)
+        .min_idle(Some(1))
+        .connection_timeout(Duration::from_secs(1));
+    Ok(Started {
+        answer: serve_two(rt, board, builder, false)?,
+        lasted: nanos(rt.monotonic()).saturating_sub(begun),
+        used: nanos(rt.thread_cpu_time()).saturating_sub(idle),
+    })
+}
+
+/// A server that is down is tried for a second and more, for which the thread that waits uses less than 50 milliseconds of a processor; and less
+/// than a third of it for one whose first opening lasts half a second, in some 500 polls. One that polled without a pause would use all of it.
+#[test]
+fn first_connections_are_awaited_asleep(rt: HostRuntime) -> Result<(), Fail> {
+    let board = Board::new(rt.alloc())?;
+    board.opening.set(Course::Fails);
+    let down = time_start(rt, &board)?;
+    assert!(&rt; matches!(down.answer, Err(RunError::User(_))));
+    assert!(&rt; down.lasted > SECOND, "{} nanoseconds", down.lasted);
+    assert!(&rt; down.used < 50_000_000, "{} nanoseconds", down.used);
+    board.opening.set(Course::Passes);
+    board
+        .ready
+        .set(nanos(rt.monotonic()).saturating_add(SECOND / 2));
+    let slow = time_start(rt, &board)?;
+    assert!(&rt; matches!(slow.answer, Ok(Some(_))));
+    assert!(&rt; slow.lasted > SECOND / 4, "{} nanoseconds", slow.lasted);
+    assert!(&rt; slow.used < slow.lasted / 3, "{} nanoseconds", slow.used);
     Ok(())
 }

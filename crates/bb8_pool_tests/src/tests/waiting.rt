@@ -2,9 +2,13 @@
 
 use super::assert_equal;
 use bb8::{
-    Driver, MachineClock, NopCustomizer, PoolCalls, PoolParts, RunError, Runtime, Service, User,
+    Driver, Gets, MachineClock, NopCustomizer, PoolCalls, PoolParts, RunError, Runtime, Service,
+    User,
 };
-use bb8_trials::{Board, Errors, Number, Server, ServerPool, builder_on, connection_on, server_on};
+use bb8_trials::{
+    Board, Course, Errors, Number, Server, ServerPool, builder_on, connection_on, server_on,
+};
+use futures::test::MockTask;
 use std::alloc::Global;
 use std::sync::Arc;
 use std::test::Fail;
@@ -19,16 +23,55 @@ pub(super) fn nanos(read: std::io::Result<Duration>) -> u64 {
     }
 }
 
-/// Thread 0 holds the one connection for a while, and each other thread waits for it meanwhile.
+/// What reaches a thread that waits.
+#[derive(Clone, Copy)]
+enum Cause {
+    /// The connection comes back.
+    Return,
+    /// Another one is added.
+    Adding,
+    /// The connection comes back to a get that nobody polls, which is let go 20 milliseconds later.
+    HandOn,
+}
+
+/// Who waits, and for what.
+#[derive(Clone, Copy)]
+struct Trial {
+    /// How many threads there are. The first one holds the connection.
+    threads: usize,
+    /// For how many milliseconds it is held.
+    hold: u64,
+    /// By how many milliseconds each thread begins to wait later than the one before it.
+    apart: u64,
+    /// Whether the first one that is served holds it as long once more.
+    holds_again: bool,
+    cause: Cause,
+    /// Whether they wait by handles of their own.
+    owned: bool,
+}
+
+/// One thread that waits until the connection comes back.
+const ONE: Trial = Trial {
+    threads: 2,
+    hold: 70,
+    apart: 0,
+    holds_again: false,
+    cause: Cause::Return,
+    owned: false,
+};
+
+/// Thread 0 holds the one connection for a while, and each other thread waits meanwhile.
 #[derive(Drop)]
 struct Waiting<R> {
     rt: R,
-    /// How long it is held.
-    hold: Duration,
+    board: Arc<Board, Global>,
+    trial: Trial,
     /// 1 once it is held.
     held: Number,
-    /// When it was given back, by the machine's clock.
-    returned: Number,
+    /// 1 once it was held again, or is not to be.
+    held_again: Number,
+    /// When what reaches the others came about, by the machine's clock.
+    caused: Number,
 }
 
 /// What a thread that waited tells, in nanoseconds.
@@ -36,17 +79,114 @@ struct Waiting<R> {
 struct Waited {
     /// The processor time that it used while it waited.
     used: u64,
-    /// How long after the return it was served.
-    after: u64,
+    /// How long after the cause it was served; of several threads, the first and the last of them.
+    first: u64,
+    last: u64,
 }
 
-impl<R: Runtime + CpuClock> Waiting<R> {
-    fn new(rt: R, hold: Duration) -> Self {
-        Waiting {
-            rt,
-            hold,
-            held: Number::new(0),
-            returned: Number::new(0),
+/// What is told of no thread.
+const NOBODY: Waited = Waited {
+    used: 0,
+    first: u64::MAX,
+    last: 0,
+};
+
+/// What the threads do, as methods of an impl, so that those of a service can call them.
+trait Waits<R: Runtime> {
+    /// Holds the connection, and brings the cause about.
+    fn hold<L: PoolParts>(&self, pool: &ServerPool<MachineClock<R>, R, L>) -> Option<Waited>;
+
+    /// Notes when the cause comes about.
+    fn cause(&self);
+
+    /// Sleeps for so many milliseconds.
+    fn sleep(&self, millis: u64);
+
+    /// Waits for a connection once the first is held.
+    fn wait<L: PoolParts>(
+        &self,
+        pool: &ServerPool<MachineClock<R>, R, L>,
+        thread: usize,
+    ) -> Option<Waited>;
+
+    /// What is told where the get was served just now, before which so much processor time was used. It is held again where that is wanted.
+    fn served(&self, before: u64) -> Waited;
+}
+
+impl<R: Runtime + CpuClock> Waits<R> for Waiting<R> {
+    fn hold<L: PoolParts>(&self, pool: &ServerPool<MachineClock<R>, R, L>) -> Option<Waited> {
+        let guard = pool.get_blocking().ok()?;
+        let mut first = pool.get();
+        if let Cause::HandOn = self.trial.cause {
+            drop(MockTask::new(&self.rt).ok()?.poll(&mut first));
+        }
+        self.held.set(1);
+        self.sleep(self.trial.hold);
+        match self.trial.cause {
+            Cause::Return => self.cause(),
+            Cause::Adding => {
+                self.cause();
+                pool.add(connection_on(&self.board, 2).ok()?).ok()?;
+                self.sleep(self.trial.hold);
+            }
+            Cause::HandOn => {
+                drop(guard);
+                self.sleep(20);
+                self.cause();
+                drop(first);
+                return Some(NOBODY);
+            }
+        }
+        drop(guard);
+        Some(NOBODY)
+    }
+
+    fn cause(&self) {
+        self.caused.set(nanos(self.rt.monotonic()));
+    }
+
+    fn sleep(&self, millis: u64) {
+        thread::sleep(&self.rt, Duration::from_millis(millis));
+    }
+
+    fn wait<L: PoolParts>(
+        &self,
+        pool: &ServerPool<MachineClock<R>, R, L>,
+        thread: usize,
+    ) -> Option<Waited> {
+        for _ in 0..10_000u32 {
+            if self.held.get() == 1 {
+                break;
+            }
+            self.sleep(1);
+        }
+        for _ in 1..thread {
+            self.sleep(self.trial.apart);
+        }
+        let before = nanos(self.rt.thread_cpu_time());
+        if self.trial.owned {
+            let guard = pool.get_owned_blocking().ok()?;
+            let waited = self.served(before);
+            drop(guard);
+            return Some(waited);
+        }
+        let guard = pool.get_blocking().ok()?;
+        let waited = self.served(before);
+        drop(guard);
+        Some(waited)
+    }
+
+    fn served(&self, before: u64) -> Waited {
+        let used = nanos(self.rt.thread_cpu_time()).saturating_sub(before);
+        let after = nanos(self.rt.monotonic()).saturating_sub(self.caused.get());
+        if self.held_again.get() == 0 {
+            self.held_again.set(1);
+            self.sleep(self.trial.hold);
+        }
+        Waited {
+            used,
+            first: after,
+            last: after,
         }
     }
 }
@@ -56,13 +196,15 @@ impl<R: Runtime + CpuClock> Service<Server, Errors, NopCustomizer, MachineClock<
     /// None where a get was not served.
     type Told = Option<Waited>;
 
-    /// The sum of what was used, and the least time after the return.
+    /// The sum of what was used, and when the first and the last one was served.
     type Outcome = Option<Waited>;
 
+    /// From here on no connection is opened.
     fn begin<L: PoolParts>(
         &self,
         _pool: &ServerPool<MachineClock<R>, R, L>,
     ) -> Result<(), Option<Waited>> {
+        self.board.opening.set(Course::Lasts);
         Ok(())
     }
 
@@ -72,28 +214,9 @@ impl<R: Runtime + CpuClock> Service<Server, Errors, NopCustomizer, MachineClock<
         thread: usize,
     ) -> Option<Waited> {
         if thread == 0 {
-            let guard = PoolCalls::get_blocking(pool).ok()?;
-            self.held.set(1);
-            thread::sleep(&self.rt, self.hold);
-            self.returned.set(nanos(self.rt.monotonic()));
-            drop(guard);
-            return Some(Waited {
-                used: 0,
-                after: u64::MAX,
-            });
+            return self.hold(pool);
         }
-        for _ in 0..10_000u32 {
-            if self.held.get() == 1 {
-                break;
-            }
-            thread::sleep(&self.rt, Duration::from_millis(1));
-        }
-        let before = nanos(self.rt.thread_cpu_time());
-        let guard = PoolCalls::get_blocking(pool).ok()?;
-        let used = nanos(self.rt.thread_cpu_time()).saturating_sub(before);
-        let after = nanos(self.rt.monotonic()).saturating_sub(self.returned.get());
-        drop(guard);
-        Some(Waited { used, after })
+        self.wait(pool, thread)
     }
 
     fn end<L: PoolParts>(
@@ -101,56 +224,106 @@ impl<R: Runtime + CpuClock> Service<Server, Errors, NopCustomizer, MachineClock<
         _pool: &ServerPool<MachineClock<R>, R, L>,
         told: &[Option<Waited>],
     ) -> Option<Waited> {
-        let mut all = Waited {
-            used: 0,
-            after: u64::MAX,
-        };
+        let mut all = NOBODY;
         for one in told {
-            let Waited { used, after } = (*one)?;
+            let Waited { used, first, last } = (*one)?;
             all.used = all.used.saturating_add(used);
-            all.after = all.after.min(after);
+            all.first = all.first.min(first);
+            all.last = all.last.max(last);
         }
         Some(all)
     }
 }
 
-/// All threads but one wait for the connection of a pool of one while that one holds it so long.
-fn wait_while_held<R: Runtime + CpuClock + Threads>(
-    rt: R,
-    threads: usize,
-    hold: Duration,
-) -> Result<Waited, Fail> {
+/// All threads of a trial but one wait for a connection of a pool, which has one.
+fn wait_in<R: Runtime + CpuClock + Threads>(rt: R, trial: Trial) -> Result<Waited, Fail> {
     let board = Board::new(rt.alloc())?;
-    let answer = builder_on(&board)?.max_size(1).min_idle(Some(1)).serve(
-        server_on(&board)?,
-        MachineClock(rt),
+    let service = Waiting {
         rt,
-        threads,
-        &Waiting::new(rt, hold),
-    );
+        board: Arc::try_clone(&board)?,
+        trial,
+        held: Number::new(0),
+        held_again: Number::new(if trial.holds_again { 0 } else { 1 }),
+        caused: Number::new(0),
+    };
+    let max_size = if let Cause::Adding = trial.cause {
+        5
+    } else {
+        1
+    };
+    let answer = builder_on(&board)?
+        .max_size(max_size)
+        .min_idle(Some(1))
+        .serve(
+            server_on(&board)?,
+            MachineClock(rt),
+            rt,
+            trial.threads,
+            &service,
+        );
     match answer {
         Ok(Some(waited)) => Ok(waited),
         _ => Err(Fail::new("a get was not served")),
     }
 }
 
-/// Five seconds of waiting, a second in each of four threads and in the holder, use less than 40 milliseconds of a processor.
+/// Of five times the quickest, in which the last of the threads that wait was served.
+fn quickest<R: Runtime + CpuClock + Threads>(rt: R, trial: Trial) -> Result<u64, Fail> {
+    let mut least = u64::MAX;
+    for _ in 0..5u32 {
+        least = least.min(wait_in(rt, trial)?.last);
+    }
+    Ok(least)
+}
+
+/// Four threads wait for a second, and three of them, as the bell was rung in between, for one more: they use less than 40 milliseconds of a
+/// processor. One that did not sleep, be it from that ring on, would use the most of a second.
 #[test]
 fn waiting_threads_sleep(rt: HostRuntime) -> Result<(), Fail> {
-    let Waited { used, after: _ } = wait_while_held(rt, 5, Duration::from_millis(1000))?;
+    let trial = Trial {
+        threads: 5,
+        hold: 1000,
+        holds_again: true,
+        ..ONE
+    };
+    let Waited { used, .. } = wait_in(rt, trial)?;
     assert!(&rt; used < 40_000_000, "{used} nanoseconds");
     Ok(())
 }
 
-/// A thread that only polled every 50 milliseconds would come 30 milliseconds after a return at 70. Of five the quickest is looked at.
+/// A thread that only polled every 50 milliseconds would come 30 milliseconds after a return at 70.
 #[test]
 fn return_wakes_who_waits(rt: HostRuntime) -> Result<(), Fail> {
-    let mut least = u64::MAX;
-    for _ in 0..5u32 {
-        let Waited { used: _, after } = wait_while_held(rt, 2, Duration::from_millis(70))?;
-        least = least.min(after);
+    for owned in [false, true] {
+        let least = quickest(rt, Trial { owned, ..ONE })?;
+        assert!(&rt; least < 10_000_000, "{least} nanoseconds");
     }
-    assert!(&rt; least < 10_000_000, "{least} nanoseconds");
+    Ok(())
+}
+
+/// So does what else may serve a get. What the one let go hands on comes 20 milliseconds after the return, which has rung the bell, and so 30
+/// before the next poll.
+#[test]
+fn adding_and_a_turn_handed_on_wake_who_waits(rt: HostRuntime) -> Result<(), Fail> {
+    for cause in [Cause::Adding, Cause::HandOn] {
+        let least = quickest(rt, Trial { cause, ..ONE })?;
+        assert!(&rt; least < 15_000_000, "{least} nanoseconds");
+    }
+    Ok(())
+}
+
+/// Two threads wait, and the second begins 25 milliseconds after the first, so it has slept longer where the connection comes back after 62: the
+/// first one has polled in between. That one's turn it is. A ring that woke but the other would have it come at its next poll, at 100.
+#[test]
+fn return_wakes_the_one_whose_turn_it_is(rt: HostRuntime) -> Result<(), Fail> {
+    let trial = Trial {
+        threads: 3,
+        hold: 62,
+        apart: 25,
+        ..ONE
+    };
+    let least = quickest(rt, trial)?;
+    assert!(&rt; least < 15_000_000, "{least} nanoseconds");
     Ok(())
 }
 
@@ -170,15 +343,15 @@ impl<R: Runtime> User<Server, Errors, NopCustomizer, MachineClock<R>, R> for InV
         pool: &ServerPool<MachineClock<R>, R, L>,
         _driver: &mut Driver<Server, Errors, NopCustomizer, MachineClock<R>, R, L>,
     ) -> Option<(u64, u64, u64)> {
-        PoolCalls::add(pool, connection_on(&self.board, 7).ok()?).ok()?;
-        let first = PoolCalls::get_owned_blocking(pool).ok()?;
+        pool.add(connection_on(&self.board, 7).ok()?).ok()?;
+        let first = pool.get_owned_blocking().ok()?;
         let begun = nanos(self.rt.monotonic());
-        let RunError::TimedOut = PoolCalls::get_blocking(pool).err()? else {
+        let RunError::TimedOut = pool.get_blocking().err()? else {
             return None;
         };
         let between = nanos(self.rt.monotonic());
         let timeout = Duration::from_millis(120);
-        let RunError::TimedOut = PoolCalls::get_blocking_timeout(pool, timeout).err()? else {
+        let RunError::TimedOut = pool.get_blocking_timeout(timeout).err()? else {
             return None;
         };
         let ended = nanos(self.rt.monotonic());

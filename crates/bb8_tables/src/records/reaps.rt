@@ -94,8 +94,8 @@ fn pass_birth<C: Drop>(
     ensures value { Passes (settings_of config.now) now slots.now place result }
     ensures examined { AddsLent 1 0 lendings.old lendings.new }
 {
-    let next = slots.next_birth(place);
-    let standing = &slots.at(place, lendings).standing;
+    let (slot, next) = slots.pass(place, lendings);
+    let standing = &slot.standing;
     if !is_past(config.max_lifetime, now.saturating_sub(standing.birth)) {
         return Age::Young;
     }

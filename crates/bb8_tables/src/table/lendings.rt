@@ -58,10 +58,7 @@ impl Lendings {
     pub fn start(&mut self)
         ensures { self.new ≡ begun self.old }
     {
-        let counted = self.past.wrapping_add(self.lent);
-        self.past = counted.wrapping_add(self.searched).wrapping_add(1);
-        self.lent = 0;
-        self.searched = 0;
+        *self = self.begun();
     }
 
     /// What a step that begins now counts in, before it is known that it is made.

@@ -1,4 +1,4 @@
-//! A run in which any one request for memory is refused, or all from any on, as `refusals/run` makes them. It holds with refusals and without.
+//! A run in which any one request for memory is refused, or all from any on, as `gate/refusals/run` makes them. It holds with refusals and without.
 
 use super::{came_to, lacked_memory};
 use crate::trial::{Bench, Count, CountRunner, RunnerTrial, SlotPool, slots, try_runner};
@@ -24,7 +24,7 @@ impl<R: Runtime + Abort> RunnerTrial<R> for RefusedMemory {
         let mut ended: u64 = 0;
         for _ in 0..12 {
             ended = ended.saturating_add(bench.turn(0));
-            let state = PoolCalls::state(pool);
+            let state = pool.state();
             let running = bench.runner.running();
             assert!(&rt; running <= 2);
             assert_eq!(&rt;

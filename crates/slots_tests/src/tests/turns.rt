@@ -38,7 +38,7 @@ impl<R: Runtime + Abort> RunnerTrial<R> for FiveJobs {
         for id in 0..5u64 {
             assert!(&rt; came_to(bench.runner.take(id), 3));
         }
-        let state = PoolCalls::state(pool);
+        let state = pool.state();
         assert!(&rt; sizes(state) == (2, 2));
         assert_eq!(&rt; state.statistics.get_started, 5);
         assert_eq!(&rt; state.statistics.get_direct, 0);
@@ -52,6 +52,26 @@ fn five_jobs_on_two_slots(rt: HostRuntime) {
     assert!(&rt; try_runner(rt, slots(2), FiveJobs).is_some());
 }
 
+/// A job on a pool that is to have a connection idle.
+#[derive(Drop)]
+struct OpensFirst;
+
+impl<R: Runtime + Abort> RunnerTrial<R> for OpensFirst {
+    fn run<L: PoolParts, X: CountRunner>(self, pool: &SlotPool<R, L>, mut bench: Bench<R, X>) {
+        let rt = bench.rt;
+        assert!(&rt; bench.submits(1, 0));
+        assert_eq!(&rt; bench.turn(0), 0);
+        assert_eq!(&rt; bench.runner.running(), 1);
+        assert_eq!(&rt; pool.state().statistics.get_direct, 1);
+    }
+}
+
+/// The job's get finds idle what the driver has opened in the same turn: the driver's turn comes first.
+#[test]
+fn driver_turns_before_the_jobs(rt: HostRuntime) {
+    assert!(&rt; try_runner(rt, slots(1).min_idle(Some(1)), OpensFirst).is_some());
+}
+
 /// A job whose get finds the one slot lent for longer than it may wait.
 #[derive(Drop)]
 struct TimesOut;
@@ -59,7 +79,7 @@ struct TimesOut;
 impl<R: Runtime + Abort> RunnerTrial<R> for TimesOut {
     fn run<L: PoolParts, X: CountRunner>(self, pool: &SlotPool<R, L>, mut bench: Bench<R, X>) {
         let rt = bench.rt;
-        assert!(&rt; PoolCalls::add(pool, Slot).is_ok());
+        assert!(&rt; pool.add(Slot).is_ok());
         let Some(_lent) = LentHandle::lend(pool, &bench.task) else {
             panic!(&rt; "no slot");
         };
@@ -70,7 +90,7 @@ impl<R: Runtime + Abort> RunnerTrial<R> for TimesOut {
         assert_eq!(&rt; bench.turn(SECOND), 1);
         assert!(&rt; bench.runner.phase(0) == Some(Phase::Ended));
         assert!(&rt; timed_out(bench.runner.take(0)));
-        assert_eq!(&rt; PoolCalls::state(pool).statistics.get_timed_out, 1);
+        assert_eq!(&rt; pool.state().statistics.get_timed_out, 1);
     }
 }
 
@@ -98,9 +118,9 @@ impl<R: Runtime + Abort> RunnerTrial<R> for Dropped {
         assert!(&rt; bench.runner.phase(1) == Some(Phase::Running));
         assert!(&rt; bench.runner.phase(2) == Some(Phase::Running));
         assert!(&rt; bench.runner.phase(3) == Some(Phase::Waiting));
-        assert!(&rt; sizes(PoolCalls::state(pool)) == (2, 0));
+        assert!(&rt; sizes(pool.state()) == (2, 0));
         drop(bench.runner);
-        let state = PoolCalls::state(pool);
+        let state = pool.state();
         assert!(&rt; sizes(state) == (2, 2));
         assert_eq!(&rt; state.statistics.get_cancelled, 1);
         assert_eq!(&rt; state.statistics.pending_gets(), 0);

@@ -2,5 +2,5 @@ use Rattle.bb8_core.proofs.Words.{Begin}
 use Rattle.bb8_core.proofs.Runs.{unfit_step}
 use Rattle.bb8_core.proofs.asked.start.Goals as goal
 
-pub returns-then-not-fits_begin-clause-err : goal.returns-then-not-fits_begin-clause-err
-returns-then-not-fits_begin-clause-err g c = unfit_step c.args.at.0 Begin c.if-not-fits_begin.ensures
+pub returns-else-fits_begin-clause-err : goal.returns-else-fits_begin-clause-err
+returns-else-fits_begin-clause-err g c = unfit_step c.args.at.0 Begin c.if-fits_begin.ensures

@@ -1,5 +1,5 @@
 use Rattle.std.proofs.Common.{sym, ◌∙◌}
-use Rattle.bb8_core.proofs.Runs.{as_named}
+use Rattle.bb8_core.specs.Run.{as_named}
 use Rattle.bb8_core.proofs.replay.fits.Goals as goal
 
 pub returns-clause-fits : goal.returns-clause-fits

@@ -1,13 +1,16 @@
-use Rattle.bb8_lock.proofs.Words.{Answers}
+use Rattle.bb8_lock.proofs.Words.{EndsAt}
 use Rattle.bb8_lock.proofs.waits.wait.Goals as goal
 
 pub loop-init : goal.loop-init
-loop-init g c = λ x answers. rw c.new-get.ensures at answers
+loop-init g c = λ x last answers. rw c.new-get.ensures at answers
 
 pub returns-in-Ready : goal.returns-in-Ready
 returns-in-Ready g c =
-    c.loop.invariant _ (Answers.now _ _ _ (_, c.in-Ready.ensures, c.cancel_step.ensures))
+    (_, c.loop.invariant _ _ (EndsAt.now _ _ _ (c.rings-rings.result, _, c.rings-rings.ensures, (_, c.in-Ready.ensures, c.cancel_step.ensures))))
 
 pub loop-preserved : goal.loop-preserved
-loop-preserved g c = λ x more.
-    c.loop.invariant x (Answers.later _ _ _ (_, c.in-Pending.ensures, (_, c.release.ensures, (c.now-now.result, c.now-now.ensures))) more)
+loop-preserved g c = λ x last more.
+    c.loop.invariant x last
+    (EndsAt.later _ _ _ _
+    (c.rings-rings.result, _, c.rings-rings.ensures, (_, c.in-Pending.ensures, (_, c.release.ensures, (c.now-now.result, _, c.now-now.ensures, rw c.rest.ensures at c.sleep.ensures))))
+    more)

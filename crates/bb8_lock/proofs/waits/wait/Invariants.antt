@@ -1,7 +1,8 @@
-use Rattle.bb8_lock.proofs.Words.{as_nanos, Answers, Waits, WaitsOnce}
+use Rattle.bb8_lock.proofs.Words.{as_nanos, EndsAt, WaitsOnce}
+use Rattle.bb8_gets.specs.declared.state.Stage.TheVariants.{Fresh}
 use Rattle.bb8_lock.proofs.waits.wait.Given as goal
 
 abbrev pub invariant-loop : goal.invariant-loop
 invariant-loop g l =
-    (x : _) → Answers (WaitsOnce g.X.GetHome g.X.Outside (as_nanos l.fn.timeout)) (l.get.stage, l.pool) x
-    → Waits g.X.GetHome g.X.Outside (as_nanos l.fn.timeout) l.fn.pool x
+    (x : _) (last : _) → EndsAt (WaitsOnce g.X.GetHome g.X.Outside g.X.Rests (as_nanos l.fn.timeout)) (l.get.stage, l.pool) x last
+    → EndsAt (WaitsOnce g.X.GetHome g.X.Outside g.X.Rests (as_nanos l.fn.timeout)) (Fresh, l.fn.pool) x last

@@ -1,4 +1,4 @@
-//! A run of two seats in which any one request for memory is refused, or all from any on, as `refusals/run` makes it. The test holds with
+//! A run of two seats in which any one request for memory is refused, or all from any on, as `gate/refusals/run` makes it. The test holds with
 //! refusals and without.
 ghost use Rattle.std.specs.Prelude.{◌≡◌, true};
 ghost use Rattle.bb8_types.specs.Settings.{settings_of, is_lawful};

@@ -1,4 +1,4 @@
-//! The first script from bytes to bytes, and a replay of it, whatever requests for memory are refused, as `refusals/run` makes them. That
+//! The first script from bytes to bytes, and a replay of it, whatever requests for memory are refused, as `gate/refusals/run` makes them. That
 //! what is answered is allowed is proved; here it is the script's answer, or says of a refusal where one was.
 
 use super::assert_equal;

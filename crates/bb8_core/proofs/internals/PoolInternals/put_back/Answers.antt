@@ -6,8 +6,8 @@ use Rattle.bb8_core.proofs.Runs.{unfit_step}
 use Rattle.bb8_core.proofs.Steps.{meets_returned_kept, meets_returned_closed, led, at_view}
 use Rattle.bb8_core.proofs.internals.PoolInternals.put_back.Goals as goal
 
-pub take_back-requires : goal.take_back-requires
-take_back-requires g c = none_after (view_of c.self.inside) c.args.at.0 c.max-now.result c.self.invariant c.max-now.ensures
+pub put_back-requires : goal.put_back-requires
+put_back-requires g c = none_after (view_of c.self.inside) c.args.at.0 c.max-now.result c.self.invariant c.max-now.ensures
 
 pub returns-in-Err-clause-step : goal.returns-in-Err-clause-step
 returns-in-Err-clause-step g c =
@@ -24,7 +24,7 @@ returns-in-Ok-Ok-clause-step g c =
     let a = view_of c.self.inside in
     let ok = rw c.in-Ok-Ok.field-0-is at c.in-Ok-Ok.ensures.ok in (
       at_view c.self.view_is
-          (meets_returned_kept (fits_guarded a c.args.k.number c.args.conn c.args.broken c.in-Ok-Ok.ensures.guarded)
+          (meets_returned_kept (fits_guarded a c.args.k.number c.args.conn c.args.broken c.in-Ok-Ok.ensures.held)
           (record { who = c.notify-notified.ensures.value; after = c.notify-notified.ensures.state })
           (record { now_is = c.max-now.ensures; birth_is = refl; aged_is = refl })
           ok.0 ok.1),
@@ -37,7 +37,7 @@ invariant_of-self-in-Ok-Ok g c = led _ c.args.at.0 (acts.PutBack c.args.k.number
 
 pub end_out-grant-requires-clause-out : goal.end_out-grant-requires-clause-out
 end_out-grant-requires-clause-out g c = let err = rw c.in-Ok-Err.field-0-is at c.in-Ok-Err.ensures.err in rw err.3 (fit_guarded c.args.k.number refl c.self.invariant
-    (fits_guarded (view_of c.self.inside) c.args.k.number c.args.conn c.args.broken c.in-Ok-Err.ensures.guarded))
+    (fits_guarded (view_of c.self.inside) c.args.k.number c.args.conn c.args.broken c.in-Ok-Err.ensures.held))
 
 pub end_out-grant-requires-clause-size : goal.end_out-grant-requires-clause-size
 end_out-grant-requires-clause-size g c = let err = rw c.in-Ok-Err.field-0-is at c.in-Ok-Err.ensures.err in rw err.3 (shown_fits (view_of c.self.inside) c.self.invariant).size
@@ -45,7 +45,7 @@ end_out-grant-requires-clause-size g c = let err = rw c.in-Ok-Err.field-0-is at 
 pub close-requires : goal.close-requires
 close-requires g c = let err = rw c.in-Ok-Err.field-0-is at c.in-Ok-Err.ensures.err in closed_few c.args.k.number (view_of c.self.inside) c.self.invariant
     (fit_guarded c.args.k.number refl c.self.invariant
-    (fits_guarded (view_of c.self.inside) c.args.k.number c.args.conn c.args.broken c.in-Ok-Err.ensures.guarded)) (rw err.3 at c.end_out-grant.ensures.numbers)
+    (fits_guarded (view_of c.self.inside) c.args.k.number c.args.conn c.args.broken c.in-Ok-Err.ensures.held)) (rw err.3 at c.end_out-grant.ensures.numbers)
 
 pub returns-in-Ok-Err-clause-step : goal.returns-in-Ok-Err-clause-step
 returns-in-Ok-Err-clause-step g c =
@@ -53,7 +53,7 @@ returns-in-Ok-Err-clause-step g c =
     let r = c.in-Ok-Err.ensures in
     let err = rw c.in-Ok-Err.field-0-is at r.err in (
       at_view c.self.view_is
-          (meets_returned_closed c.self.inside.counters (fits_guarded a c.args.k.number c.args.conn c.args.broken r.guarded)
+          (meets_returned_closed c.self.inside.counters (fits_guarded a c.args.k.number c.args.conn c.args.broken r.held)
           (record { who = c.notify.ensures.value; after = c.notify.ensures.state })
           (record { now_is = c.max-now.ensures; birth_is = refl; aged_is = err.1 })
           err.2 (rw err.3 at c.end_out-grant.ensures.granted) (rw err.3 at c.end_out-grant.ensures.state) refl c.close.ensures),

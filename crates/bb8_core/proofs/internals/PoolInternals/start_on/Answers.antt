@@ -1,4 +1,4 @@
-use Rattle.bb8_core.proofs.Words.{◌≡◌, ℕ, Bool, cond, sym, ap, refl, ◌∙◌, ◌+◌, arith, Idle, Holding, place_with, view_of, ShownGets, true, false}
+use Rattle.bb8_core.proofs.Words.{ℕ, Bool, cond, sym, ap, refl, ◌∙◌, ◌+◌, arith, Idle, Holding, place_with, view_of, ShownGets}
 use Rattle.bb8_types.specs.declared.standing.Holder.{Holder}
 use Rattle.bb8_types.specs.declared.standing.Holder.TheVariants.{Guard, Get}
 use Rattle.bb8_tables.specs.Machine as machine
@@ -28,7 +28,7 @@ pub overflow_add-self : goal.overflow_add-self
 overflow_add-self g c = omega (arith, (shown_fits (view_of c.self.inside) c.self.invariant).started_few, left c.self.inside.gets.next c.has_number.ensures c.if-not-has_number.false)
 
 pub grant-grant-requires : goal.grant-grant-requires
-grant-grant-requires g c = omega (arith, due_fits (view_of c.self.inside) _ c.self.invariant (omega arith) c.in-None.ensures.none.1 c.used-taken.ensures c.due-due.ensures)
+grant-grant-requires g c = omega (arith, due_fits (view_of c.self.inside) _ c.self.invariant (omega arith) c.in-None.ensures.none.1 refl c.due_waiting-due.ensures)
 
 pub returns-in-None-clause-step : goal.returns-in-None-clause-step
 returns-in-None-clause-step g c =
@@ -36,11 +36,11 @@ returns-in-None-clause-step g c =
     let now_is = c.max-now.ensures in
     let made = c.make_room_for_one.ensures.made c.if-not-make_room_for_one.false in
     let n_is = c.bear_waiting-get.ensures.key ∙ ap (λ (x : ShownGets). x.next) made in
-    let alive_is = c.alive.ensures ∙ ap (λ (x : ShownGets). x.alive) c.bear_waiting-get.ensures.state ∙ ap (λ (x : ShownGets). x.alive + 1) made in (
+    let alive_is = c.alive-alive.ensures ∙ ap (λ (x : ShownGets). x.alive) c.bear_waiting-get.ensures.state ∙ ap (λ (x : ShownGets). x.alive + 1) made in (
       between a c.max-now.result,
       at_view c.self.view_is (meets_begun_between c.args.at.0 n_is (fits_view acts.Begin c.self.view_is c.requires) now_is (left _ c.has_number.ensures c.if-not-has_number.false)),
       at_view refl (meets_waits_between a n_is now_is c.in-None.ensures.none.0 c.in-None.ensures.none.1
-          (due_waiting (between a c.max-now.result) c.in-None.ensures.none.1 c.used-taken.ensures c.approved.ensures alive_is c.one-asked.ensures.value c.due-due.ensures)
+          (due_waiting (between a c.max-now.result) c.in-None.ensures.none.1 alive_is c.due_waiting-due.ensures)
           c.grant-grant.ensures.granted c.grant-grant.ensures.state
           (begun_at a.gets (machine.after_wait c.max-now.result) made c.bear_waiting-get.ensures.state)),
       tt,

@@ -17,7 +17,7 @@ pub invariant_of-self : goal.invariant_of-self
 invariant_of-self g c = led _ c.args.at.0 (acts.Try c.args.get.number) _ c.self.view_is c.self.invariant (returns-then-is_unnotified-clause-step g c)
 
 pub grant-grant-requires : goal.grant-grant-requires
-grant-grant-requires g c = omega (arith, due_fits (view_of c.self.inside) _ c.self.invariant (omega arith) c.in-None.ensures.none.1 c.used-taken.ensures c.due-due.ensures)
+grant-grant-requires g c = omega (arith, due_fits (view_of c.self.inside) _ c.self.invariant (omega arith) c.in-None.ensures.none.1 refl c.due_waiting-due.ensures)
 
 pub wait-requires : goal.wait-requires
 wait-requires g c = record { stands = fit_waits c.args.get.number c.self.view_is c.self.invariant c.requires c.getting-getting.ensures.value (sym c.is_unnotified.ensures ∙ c.if-is_unnotified.false) }
@@ -26,8 +26,7 @@ pub returns-in-None-clause-step : goal.returns-in-None-clause-step
 returns-in-None-clause-step g c = at_view c.self.view_is
     (meets_waits c.max-now.ensures (tries c.self.view_is c.requires c.getting-getting.ensures.value)
     (sym c.is_unnotified.ensures ∙ c.if-is_unnotified.false) c.in-None.ensures.none.0 c.in-None.ensures.none.1
-    (due_waiting (view_of c.self.inside) c.in-None.ensures.none.1 c.used-taken.ensures c.approved.ensures c.alive.ensures
-    c.one-asked.ensures.value c.due-due.ensures) c.grant-grant.ensures.granted c.grant-grant.ensures.state c.wait.ensures.state)
+    (due_waiting (view_of c.self.inside) c.in-None.ensures.none.1 c.alive-alive.ensures c.due_waiting-due.ensures) c.grant-grant.ensures.granted c.grant-grant.ensures.state c.wait.ensures.state)
 
 pub invariant_of-self-in-None : goal.invariant_of-self-in-None
 invariant_of-self-in-None g c = led _ c.args.at.0 (acts.Try c.args.get.number) _ c.self.view_is c.self.invariant (returns-in-None-clause-step g c)

@@ -3,4 +3,4 @@ use Rattle.bb8_gets.proofs.state.GetState.cancel_with.Goals as goal
 
 -- src/state.rt
 pub returns-in-Fresh : goal.returns-in-Fresh
-returns-in-Fresh g c = (c.args.pool, elim c.in-Fresh.is [ inl e ↦ rw e refl | inr e ↦ rw e refl ])
+returns-in-Fresh g c = (c.args.pool, elim c.in-Fresh.is [ inl e ↦ rw e refl | inr e ↦ rw e refl ], c.go.ensures)

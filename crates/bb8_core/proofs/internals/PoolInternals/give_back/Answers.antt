@@ -1,0 +1,89 @@
+use Rattle.bb8_core.proofs.Words.{◌≡◌, true, false, Some, sym, ap, refl, subst, ◌∙◌, arith, Act, Unfit, Meets, Shown, ShownGets, view_of, get, holding_is, reason_of}
+use Rattle.bb8_core.specs.Shown.{TellsFitting}
+use Rattle.bb8_ledger.specs.Acts as acts
+use Rattle.bb8_core.proofs.Fitting.{shown_fits, fits_give_back, unfit_give_back, held_with, held_out, ended_few, closed_few, none_after}
+use Rattle.bb8_core.proofs.Runs.{unfit_step}
+use Rattle.bb8_core.proofs.Steps.{led, at_view}
+use Rattle.bb8_core.proofs.GetEnds.{given_up_is, given_up_open, notices, meets_given_up_kept, meets_given_up_closed}
+use Rattle.bb8_core.proofs.internals.PoolInternals.give_back.Goals as goal
+
+pub returns-in_default-clause-step : goal.returns-in_default-clause-step
+returns-in_default-clause-step g c =
+    let a = view_of c.self.inside in
+    let e : Act g.row.C.Denot = acts.GiveUp c.args.get.number (reason_of c.args.reason) (Some c.args.conn) c.args.broken in
+    let tells = subst (λ (s : Shown g.row.C.Denot). TellsFitting s e false) c.self.view_is
+    (unfit_give_back a c.args.get.number (reason_of c.args.reason) c.args.conn c.args.broken c.in_default.ensures.none.0) in
+    subst (λ (x : Shown g.row.C.Denot). Meets c.args.self.now c.args.at.0 e Unfit x × (x ≡ c.args.self.now))
+    (sym (ap (λ (gs : ShownGets). record a { gets = gs }) c.in_default.ensures.none.1 ∙ c.self.view_is))
+    (unfit_step c.args.at.0 e tells)
+
+pub put_back-requires : goal.put_back-requires
+put_back-requires g c = none_after (view_of c.self.inside) c.args.at.0 c.max-now.result c.self.invariant c.max-now.ensures
+
+pub give_up-requires : goal.give_up-requires
+give_up-requires g c =
+    let st = holding_is (get c.self.inside.gets.places c.args.get.number) c.in-Some.held c.in-Some.ensures.some.0 in
+    let few = ended_few (view_of c.self.inside) c.args.get.number c.self.invariant (st.0, st.1) c.finish_holding.ensures.numbers in
+    record { timed_out = omega (arith, few); cancelled = omega (arith, few) }
+
+pub returns-in-Err-clause-step : goal.returns-in-Err-clause-step
+returns-in-Err-clause-step g c = absurd (let clash : true ≡ false = sym (held_with (view_of c.self.inside) c.args.get.number c.in-Some.held c.self.invariant c.in-Some.ensures.some.0) ∙ c.in-Err.ensures.unfit.2 in cc)
+
+pub invariant_of-self-in-Err : goal.invariant_of-self-in-Err
+invariant_of-self-in-Err g c = absurd (let clash : true ≡ false = sym (held_with (view_of c.self.inside) c.args.get.number c.in-Some.held c.self.invariant c.in-Some.ensures.some.0) ∙ c.in-Err.ensures.unfit.2 in cc)
+
+pub returns-in-Ok-Ok-clause-step : goal.returns-in-Ok-Ok-clause-step
+returns-in-Ok-Ok-clause-step g c =
+    let a = view_of c.self.inside in
+    let held = c.in-Some.ensures.some in
+    let ok = rw c.in-Ok-Ok.field-0-is at c.in-Ok-Ok.ensures.ok in (
+      at_view c.self.view_is
+          (meets_given_up_kept c.args.reason c.self.inside.counters
+          (fits_give_back a c.args.get.number c.in-Some.held (reason_of c.args.reason) c.args.conn c.args.broken held.0)
+          (record { now_is = c.max-now.ensures; get_is = refl; held = held.0 })
+          (record { now_is = c.max-now.ensures; birth_is = refl; aged_is = refl })
+          ok.0 ok.1 (notices held.2 c.notify-notified.ensures.value c.notify-notified.ensures.state) refl held.1
+          (given_up_is c.args.reason c.max-now.result c.in-Some.first_wait c.give_up.ensures.timed_out c.give_up.ensures.cancelled)),
+      tt,
+    )
+
+pub invariant_of-self-in-Ok-Ok : goal.invariant_of-self-in-Ok-Ok
+invariant_of-self-in-Ok-Ok g c = led _ c.args.at.0 (acts.GiveUp c.args.get.number (reason_of c.args.reason) (Some c.args.conn) c.args.broken) _ c.self.view_is c.self.invariant
+    (returns-in-Ok-Ok-clause-step g c).0
+
+pub end_out-grant-requires-clause-out : goal.end_out-grant-requires-clause-out
+end_out-grant-requires-clause-out g c = let err = rw c.in-Ok-Err.field-0-is at c.in-Ok-Err.ensures.err in rw err.3 (held_out (view_of c.self.inside) c.args.get.number c.in-Some.held c.self.invariant c.in-Some.ensures.some.0)
+
+pub end_out-grant-requires-clause-size : goal.end_out-grant-requires-clause-size
+end_out-grant-requires-clause-size g c = let err = rw c.in-Ok-Err.field-0-is at c.in-Ok-Err.ensures.err in rw err.3 (shown_fits (view_of c.self.inside) c.self.invariant).size
+
+pub close-requires : goal.close-requires
+close-requires g c =
+    let err = rw c.in-Ok-Err.field-0-is at c.in-Ok-Err.ensures.err in
+    omega (
+      arith,
+      given_up_open c.args.reason c.max-now.result c.in-Some.first_wait c.self.inside.counters
+          (given_up_is c.args.reason c.max-now.result c.in-Some.first_wait c.give_up.ensures.timed_out c.give_up.ensures.cancelled),
+      closed_few c.in-Some.held (view_of c.self.inside) c.self.invariant
+          (held_out (view_of c.self.inside) c.args.get.number c.in-Some.held c.self.invariant c.in-Some.ensures.some.0) (rw err.3 at c.end_out-grant.ensures.numbers),
+    )
+
+pub returns-in-Ok-Err-clause-step : goal.returns-in-Ok-Err-clause-step
+returns-in-Ok-Err-clause-step g c =
+    let a = view_of c.self.inside in
+    let held = c.in-Some.ensures.some in
+    let err = rw c.in-Ok-Err.field-0-is at c.in-Ok-Err.ensures.err in (
+      at_view c.self.view_is
+          (meets_given_up_closed c.args.reason c.self.inside.counters
+          (fits_give_back a c.args.get.number c.in-Some.held (reason_of c.args.reason) c.args.conn c.args.broken held.0)
+          (record { now_is = c.max-now.ensures; get_is = refl; held = held.0 })
+          (record { now_is = c.max-now.ensures; birth_is = refl; aged_is = err.1 })
+          err.2 (rw err.3 at c.end_out-grant.ensures.granted) (rw err.3 at c.end_out-grant.ensures.state)
+          (notices held.2 c.notify.ensures.value c.notify.ensures.state) refl held.1
+          (given_up_is c.args.reason c.max-now.result c.in-Some.first_wait c.give_up.ensures.timed_out c.give_up.ensures.cancelled) c.close.ensures),
+      tt,
+    )
+
+pub invariant_of-self-in-Ok-Err : goal.invariant_of-self-in-Ok-Err
+invariant_of-self-in-Ok-Err g c = led _ c.args.at.0 (acts.GiveUp c.args.get.number (reason_of c.args.reason) (Some c.args.conn) c.args.broken) _ c.self.view_is c.self.invariant
+    (returns-in-Ok-Err-clause-step g c).0

@@ -1,0 +1,119 @@
+//! What several steps decide or do in common.
+ghost use Rattle.std.specs.Prelude.{◌≡◌, ◌+◌, ◌≤◌, cond, ltb, slice_get, true, false, None, Some};
+ghost use Rattle.std.specs.FinMap as map;
+ghost use Rattle.bb8_types.specs.Bounds.{end_of_numbers, most_records};
+ghost use Rattle.bb8_types.specs.Grants as grants;
+ghost use Rattle.bb8_types.specs.Numbered as numbered;
+ghost use Rattle.bb8_types.specs.Places as places;
+ghost use Rattle.bb8_types.specs.Settings.{settings_of};
+ghost use Rattle.bb8_types.specs.declared.standing.Holder.TheVariants.{Guard, Get};
+ghost use Rattle.bb8_types.specs.declared.standing.Standing.{Standing};
+ghost use Rattle.bb8_tables.specs.Keys.{notified_of};
+ghost use Rattle.bb8_tables.specs.Lent.{AddsLent};
+ghost use Rattle.bb8_tables.specs.Machine as machine;
+ghost use Rattle.bb8_core.specs.Decided as decided;
+
+use bb8_tables::Lendings;
+use bb8_tables::gets::Gets;
+use bb8_tables::keys::{GetKey, Key};
+use bb8_tables::records::{Records, one};
+use bb8_types::api::Config;
+use bb8_types::grants::Grant;
+use bb8_types::standing::Holder;
+
+/// How many approvals a grant is to make.
+fn due(config: &Config, handles: u64, taken: u64, asked: u64) -> u64
+    ensures { result ≡ grants.due (settings_of config.now) handles taken asked }
+{
+    if handles == 0 {
+        0
+    } else {
+        asked.min((config.max_size as u64).saturating_sub(taken))
+    }
+}
+
+/// How many approvals are due of those that are wanted.
+pub(super) fn want<C: Drop>(config: &Config, handles: u64, records: &Records<C>) -> u64
+    ensures { result ≡ decided.want (settings_of config.now) handles records.now }
+{
+    let taken = records.used();
+    if taken >= config.max_size as u64 {
+        return 0;
+    }
+    let least = config.min_idle.unwrap_or(0) as u64;
+    due(
+        config,
+        handles,
+        taken,
+        least.saturating_sub(records.ready()),
+    )
+}
+
+/// How many approvals are due to a get that waits: one is asked for where gets outnumber open approvals.
+pub(super) fn due_waiting<C: Drop>(
+    config: &Config,
+    handles: u64,
+    records: &Records<C>,
+    alive: u64,
+) -> u64
+    ensures { result ≡ grants.due (settings_of config.now) handles
+        (records.now.conns + records.now.approved) (numbered.one (ltb records.now.approved alive)) }
+{
+    let asked = one(records.approved() < alive);
+    due(config, handles, records.used(), asked)
+}
+
+/// Whether a connection of this birth has lived too long.
+pub(super) fn is_expired(config: &Config, now: u64, birth: u64) -> bool
+    ensures { result ≡ places.is_expired (settings_of config.now).max_lifetime now birth }
+{
+    match config.max_lifetime {
+        None => false,
+        Some(lifetime) => lifetime.as_nanos() <= now.saturating_sub(birth) as u128,
+    }
+}
+
+/// Notifies the oldest waiter that was not notified, where the test passes.
+pub(super) fn hand_on(gets: &mut Gets, test: bool, lendings: &mut Lendings) -> Option<GetKey>
+    ensures value { notified_of result ≡ cond test (slice_get gets.old.waiting 0) None }
+    ensures state { gets.new ≡ machine.after_notice (notified_of result) gets.old }
+    ensures examined { AddsLent 1 0 lendings.old lendings.new }
+{
+    if test { gets.notify(lendings) } else { None }
+}
+
+/// Who holds a connection that a try takes out: the get, where it is checked before the get is served with it.
+pub(super) fn holder(config: &Config, get: GetKey) -> Holder
+    ensures { result ≡ cond (settings_of config.now).test_on_check_out (Get get.number) Guard }
+{
+    if config.test_on_check_out {
+        Holder::Get(get.number)
+    } else {
+        Holder::Guard
+    }
+}
+
+/// Ends a connection that was out, and grants what is wanted then.
+pub(super) fn end_out<C: Drop>(
+    config: &Config,
+    handles: u64,
+    records: &mut Records<C>,
+    k: Key,
+    lendings: &mut Lendings,
+) -> Grant
+    requires out { (s : Standing C) × (map.get records.old.places k.number ≡ Some s)
+        × (places.is_out s.place ≡ true) }
+    requires size { records.old.conns + records.old.approved ≤ (settings_of config.now).max_size }
+    requires few { (settings_of config.now).max_size ≤ most_records }
+    ensures granted { machine.IsGrant (machine.after_close false k.number records.old)
+        (decided.want (settings_of config.now) handles (machine.after_close false k.number
+        records.old)) result }
+    ensures state { records.new ≡ machine.after_grant false result
+        (machine.after_close false k.number records.old) }
+    ensures numbers { records.old.next ≤ end_of_numbers }
+    ensures examined { AddsLent 0 1 lendings.old lendings.new }
+{
+    records.close(k, false, lendings);
+    let wanted = want(config, handles, records);
+    records.grant(wanted, false)
+}

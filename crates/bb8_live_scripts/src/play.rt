@@ -1,0 +1,251 @@
+//! What each line of a script does.
+
+use crate::answer::{LineAnswer, error_of, poll_of, refusal_of};
+use crate::asked::{Asked, facts_of};
+use crate::laying::LiveDriver;
+use crate::shelf::Shelf;
+use bb8::{DriverCalls, Moment, PoolParts, Runtime, SetClock, Turn};
+use bb8_runner::fault::Fault;
+use bb8_runner::grammar::{fields_of, number};
+use bb8_runner::text::output;
+use bb8_trials::{ALWAYS, Board, Course, ServerConnection, connection_on};
+use futures::task::Poll;
+use futures::test::MockTask;
+use std::alloc::{AllocError, Global};
+use std::fmt::Write;
+use std::sync::Arc;
+
+/// What stands around a script's pool.
+#[derive(Drop)]
+pub struct Setup {
+    pub alloc: Global,
+    pub clock: SetClock,
+    /// The same clock by a handle of its own.
+    pub copy: SetClock,
+    pub board: Arc<Board, Global>,
+    pub task: MockTask,
+}
+
+/// The lines of a script that set how the server answers. None where it is none of these.
+pub fn set_board(board: &Board, verb: &str, word: &str) -> Option<LineAnswer> {
+    let course = match word {
+        "passes" => Some(Course::Passes),
+        "lasts" => Some(Course::Lasts),
+        "fails" => Some(Course::Fails),
+        _ => None,
+    };
+    match verb {
+        "opening" => board.opening.set(course?),
+        "check" => board.check.set(course?),
+        "opens" => board.opens.set(number(word)?),
+        "fails" => board.fails.set(number(word)?),
+        "ready" => board.ready.set(number(word)?),
+        "breaks" if word == "always" => board.breaks.set(ALWAYS),
+        "breaks" => board.breaks.set(number(word)?),
+        _ => return None,
+    }
+    Some(LineAnswer::Done)
+}
+
+/// A script as it is played: all that it has, each under a number.
+#[derive(Drop)]
+pub struct Play<A: Asked, R: Runtime, L: PoolParts> {
+    asked: A,
+    drivers: Shelf<LiveDriver<R, L>>,
+    gets: Shelf<A::Get>,
+    guards: Shelf<A::Guard>,
+    openings: Shelf<A::Dedicated>,
+    connections: Shelf<ServerConnection>,
+    setup: Setup,
+}
+
+impl<A: Asked, R: Runtime, L: PoolParts> Play<A, R, L> {
+    pub fn new(
+        asked: A,
+        drivers: Shelf<LiveDriver<R, L>>,
+        setup: Setup,
+    ) -> Result<Play<A, R, L>, AllocError> {
+        let alloc = setup.alloc;
+        Ok(Play {
+            asked,
+            drivers,
+            gets: Shelf::new(alloc)?,
+            guards: Shelf::new(alloc)?,
+            openings: Shelf::new(alloc)?,
+            connections: Shelf::new(alloc)?,
+            setup,
+        })
+    }
+
+    /// Does what a line says, and writes its answer, if it has one.
+    pub fn line(&mut self, line: &str, written: &mut String) -> Result<(), Fault> {
+        let alloc = self.setup.alloc;
+        match self
+            .answer(fields_of(alloc, line)?.as_slice())
+            .unwrap_or(LineAnswer::Unfit)
+        {
+            LineAnswer::Done => {}
+            LineAnswer::State(state) => written.push_str(output(alloc, &[], state)?.as_str())?,
+            answer => writeln!(written, "{answer}")?,
+        }
+        Ok(())
+    }
+
+    fn answer(&mut self, fields: &[&str]) -> Option<LineAnswer> {
+        match fields {
+            ["build"] => Some(poll_of(self.asked.build(&self.setup.task)?)),
+            ["leave", "building"] => self.asked.cancel_building().map(|_| LineAnswer::Done),
+            [verb] => match self.counted(verb) {
+                None => self.by_handle(verb, 0),
+                told => told,
+            },
+            [verb, word] => match set_board(&self.setup.board, verb, word) {
+                None => self.numbered(verb, number(word)?),
+                set => set,
+            },
+            [verb, first, second] => self.paired(verb, number(first)?, number(second)?),
+            _ => None,
+        }
+    }
+
+    /// How many openings were begun, connections dropped, and errors taken; whether the script's task was woken.
+    fn counted(&self, verb: &str) -> Option<LineAnswer> {
+        let board = &self.setup.board;
+        match verb {
+            "begun" => Some(LineAnswer::Number(board.begun.get())),
+            "closed" => Some(LineAnswer::Number(board.closed.get())),
+            "errors" => Some(LineAnswer::Number(board.errors.get())),
+            "woken" => Some(yes_or_no(self.setup.task.is_woken())),
+            _ => None,
+        }
+    }
+
+    /// What a handle tells.
+    fn by_handle(&mut self, verb: &str, handle: u64) -> Option<LineAnswer> {
+        match verb {
+            "state" => self.asked.state(handle).map(LineAnswer::State),
+            "sizes" => self.asked.state(handle).map(LineAnswer::Sizes),
+            "gets" => self.asked.state(handle).map(LineAnswer::Gets),
+            "serves" => self.asked.serves(&self.setup.task, handle).map(yes_or_no),
+            "clone" => self.asked.clone_to(handle).map(|_| LineAnswer::Done),
+            "leave" => self.asked.leave(handle).map(|_| LineAnswer::Done),
+            _ => None,
+        }
+    }
+
+    /// The lines of one number, that of a get or its guard for most.
+    fn numbered(&mut self, verb: &str, n: u64) -> Option<LineAnswer> {
+        match verb {
+            "clock" => self.setup.clock.set(Moment(n)),
+            "copy" => self.setup.copy.set(Moment(n)),
+            "poll" => return self.poll(n),
+            "lend" => return self.lend(n),
+            "try" => return self.try_get(n),
+            "drop" => drop(self.gets.take(n)?),
+            "cancel" => self.asked.cancel(self.gets.take(n)?),
+            "guard" => return Some(LineAnswer::Connection(A::facts(self.guards.get(n)?))),
+            "spoil" => A::spoil(self.guards.get_mut(n)?),
+            "return" => drop(self.guards.take(n)?),
+            "rest" => drop(self.drivers.take(n)?),
+            "drive" => {
+                let _ = self.turn(n, 0)?;
+            }
+            "dedicated" => self.openings.put(n, self.asked.dedicated()?)?,
+            "open" => return self.open(n),
+            "close" => self.asked.cancel_dedicated(self.openings.take(n)?),
+            "get" | "own" | "add" | "turn" => return self.paired(verb, n, 0),
+            _ => return self.by_handle(verb, n),
+        }
+        Some(LineAnswer::Done)
+    }
+
+    /// The lines of two numbers, of which the second is that of a handle or a driver for most.
+    fn paired(&mut self, verb: &str, n: u64, m: u64) -> Option<LineAnswer> {
+        match verb {
+            "get" => self.gets.put(n, self.asked.get(m)?)?,
+            "own" => self.gets.put(n, self.asked.get_owned(m)?)?,
+            "make" => self.make(n, m, false)?,
+            "spoiled" => self.make(n, m, true)?,
+            "add" => return self.add(n, m),
+            "turn" => return Some(LineAnswer::Turned(self.turn(n, m)?)),
+            _ => return None,
+        }
+        Some(LineAnswer::Done)
+    }
+
+    /// Polls a get. Its guard goes under the get's number.
+    fn poll(&mut self, n: u64) -> Option<LineAnswer> {
+        let get = self.gets.get_mut(n)?;
+        match self.asked.poll(&self.setup.task, get) {
+            Poll::Pending => Some(LineAnswer::Pending),
+            Poll::Ready(Err(error)) => Some(error_of(error)),
+            Poll::Ready(Ok(guard)) => self.serve(n, guard),
+        }
+    }
+
+    fn serve(&mut self, n: u64, guard: A::Guard) -> Option<LineAnswer> {
+        let (number, _, _) = A::facts(&guard);
+        self.guards.put(n, guard)?;
+        Some(LineAnswer::Served(number))
+    }
+
+    /// A get that waits for nothing. Its guard goes under this number.
+    fn try_get(&mut self, n: u64) -> Option<LineAnswer> {
+        match self.asked.try_get()? {
+            Ok(None) => Some(LineAnswer::Nothing),
+            Ok(Some(guard)) => self.serve(n, guard),
+            Err(error) => Some(error_of(error)),
+        }
+    }
+
+    /// A get that is dropped after its first poll.
+    fn lend(&mut self, n: u64) -> Option<LineAnswer> {
+        self.gets.put(n, self.asked.get(0)?)?;
+        let answer = self.poll(n);
+        drop(self.gets.take(n)?);
+        answer
+    }
+
+    /// Polls a dedicated opening. Its connection goes under its number.
+    fn open(&mut self, n: u64) -> Option<LineAnswer> {
+        let opening = self.openings.get_mut(n)?;
+        match self.asked.poll_dedicated(&self.setup.task, opening) {
+            Poll::Pending => Some(LineAnswer::Pending),
+            Poll::Ready(Err(error)) => Some(LineAnswer::Refused(error.0)),
+            Poll::Ready(Ok(connection)) => {
+                let facts = facts_of(&connection);
+                self.connections.put(n, connection)?;
+                Some(LineAnswer::Connection(facts))
+            }
+        }
+    }
+
+    /// A turn of a driver at this moment.
+    fn turn(&mut self, moment: u64, driver: u64) -> Option<Turn> {
+        Some(self.drivers.get_mut(driver)?.turn(Moment(moment)))
+    }
+
+    /// A connection that no opening brought.
+    fn make(&mut self, n: u64, number: u64, is_broken: bool) -> Option<()> {
+        let mut connection = connection_on(&self.setup.board, number).ok()?;
+        connection.is_broken = is_broken;
+        self.connections.put(n, connection)
+    }
+
+    /// Adds a connection by a handle. One that is refused is there again.
+    fn add(&mut self, n: u64, handle: u64) -> Option<LineAnswer> {
+        let connection = self.connections.take(n)?;
+        match self.asked.add(handle, connection)? {
+            Ok(()) => Some(LineAnswer::Added),
+            Err(error) => {
+                let (answer, connection) = refusal_of(error);
+                self.connections.put(n, connection)?;
+                Some(answer)
+            }
+        }
+    }
+}
+
+fn yes_or_no(yes: bool) -> LineAnswer {
+    if yes { LineAnswer::Yes } else { LineAnswer::No }
+}
