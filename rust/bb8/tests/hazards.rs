@@ -427,7 +427,9 @@ fn all_is_dropped_with_the_last_runtime() {
                 pending::<()>().await;
             });
         }
-        sleep(Duration::from_millis(10)).await;
+        while world.opened.load(SeqCst) < 3 {
+            sleep(Duration::from_millis(1)).await;
+        }
     });
     drop(runtime);
     assert_eq!(world.opened.load(SeqCst), 3);
