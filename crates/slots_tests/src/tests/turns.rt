@@ -38,7 +38,7 @@ impl<R: Runtime + Abort> RunnerTrial<R> for FiveJobs {
         for id in 0..5u64 {
             assert!(&rt; came_to(bench.runner.take(id), 3));
         }
-        let state = pool.state();
+        let state = PoolCalls::state(pool);
         assert!(&rt; sizes(state) == (2, 2));
         assert_eq!(&rt; state.statistics.get_started, 5);
         assert_eq!(&rt; state.statistics.get_direct, 0);
@@ -62,7 +62,7 @@ impl<R: Runtime + Abort> RunnerTrial<R> for OpensFirst {
         assert!(&rt; bench.submits(1, 0));
         assert_eq!(&rt; bench.turn(0), 0);
         assert_eq!(&rt; bench.runner.running(), 1);
-        assert_eq!(&rt; pool.state().statistics.get_direct, 1);
+        assert_eq!(&rt; PoolCalls::state(pool).statistics.get_direct, 1);
     }
 }
 
@@ -79,7 +79,7 @@ struct TimesOut;
 impl<R: Runtime + Abort> RunnerTrial<R> for TimesOut {
     fn run<L: PoolParts, X: CountRunner>(self, pool: &SlotPool<R, L>, mut bench: Bench<R, X>) {
         let rt = bench.rt;
-        assert!(&rt; pool.add(Slot).is_ok());
+        assert!(&rt; PoolCalls::add(pool, Slot).is_ok());
         let Some(_lent) = LentHandle::lend(pool, &bench.task) else {
             panic!(&rt; "no slot");
         };
@@ -90,7 +90,7 @@ impl<R: Runtime + Abort> RunnerTrial<R> for TimesOut {
         assert_eq!(&rt; bench.turn(SECOND), 1);
         assert!(&rt; bench.runner.phase(0) == Some(Phase::Ended));
         assert!(&rt; timed_out(bench.runner.take(0)));
-        assert_eq!(&rt; pool.state().statistics.get_timed_out, 1);
+        assert_eq!(&rt; PoolCalls::state(pool).statistics.get_timed_out, 1);
     }
 }
 
@@ -118,9 +118,9 @@ impl<R: Runtime + Abort> RunnerTrial<R> for Dropped {
         assert!(&rt; bench.runner.phase(1) == Some(Phase::Running));
         assert!(&rt; bench.runner.phase(2) == Some(Phase::Running));
         assert!(&rt; bench.runner.phase(3) == Some(Phase::Waiting));
-        assert!(&rt; sizes(pool.state()) == (2, 0));
+        assert!(&rt; sizes(PoolCalls::state(pool)) == (2, 0));
         drop(bench.runner);
-        let state = pool.state();
+        let state = PoolCalls::state(pool);
         assert!(&rt; sizes(state) == (2, 2));
         assert_eq!(&rt; state.statistics.get_cancelled, 1);
         assert_eq!(&rt; state.statistics.pending_gets(), 0);
