@@ -1,25 +1,26 @@
 #!/usr/bin/env python3
-"""Draws the kept figures, bench/figures.txt, as docs/*.svg.
+"""Draws the kept figures, bench/figures.txt, as docs/*.svg, and writes them into the tables of bench/README.md.
 
-    bench/draw.py            draws them
-    bench/draw.py --check    says which of the pictures is not the one of the kept figures; nothing is written
+    bench/draw.py            draws and writes them
+    bench/draw.py --check    says which picture or page is not of the kept figures; nothing is written
 """
 import math
 import os
 import sys
 
+sys.dont_write_bytecode = True
+
 import figures
-from measures import CORE_OF, CRATE_OF, LIVE_OF, ORIGINAL_CORE, ORIGINAL_OF, R2D2_OF, SIZES, round_of
+import tables
+from measures import CORE_OF, CRATE_OF, LIVE_OF, ORIGINAL_OF, R2D2_OF
 from programs import TOP
+from tables import NAMES
 
 WIDTH, LEFT, RIGHT = 720, 60, 150
 TITLE, TOP_OF, TALL, FOOT = 52, 72, 220, 58
 # the colours in light and in dark, by whose the figure is
 COLOURS = {CORE_OF: ("a", "#0969da", "#58a6ff"), LIVE_OF: ("a", "#0969da", "#58a6ff"), CRATE_OF: ("b", "#1a7f37", "#3fb950"),
-           ORIGINAL_OF: ("c", "#bc4c00", "#f0883e"), ORIGINAL_CORE: ("c", "#bc4c00", "#f0883e"), R2D2_OF: ("d", "#8250df", "#bc8cff")}
-# names in words
-NAMES = {CORE_OF: "the proved core", LIVE_OF: "the live pool", CRATE_OF: "the Rust crate", ORIGINAL_OF: "the original",
-         ORIGINAL_CORE: "the original's core", R2D2_OF: "r2d2"}
+           ORIGINAL_OF: ("c", "#bc4c00", "#f0883e"), R2D2_OF: ("d", "#8250df", "#bc8cff")}
 POOLS = (LIVE_OF, CRATE_OF, R2D2_OF, ORIGINAL_OF)
 
 
@@ -52,10 +53,10 @@ def bars(title, below, groups):
         parts.append(text(16, y + 10, name))
         y += 20
         for whose, figure in each:
-            long = (WIDTH - LEFT - 160) * figure / greatest
-            parts += [text(126, y + 13, NAMES[whose], "", "end"),
-                      f'<rect class="{COLOURS[whose][0]}" x="134" y="{y}" width="{long:.1f}" height="18" rx="2"/>',
-                      text(140 + long, y + 13, f"{figure:,.0f}")]
+            long = (WIDTH - LEFT - 190) * figure / greatest
+            parts += [text(156, y + 13, NAMES[whose], "", "end"),
+                      f'<rect class="{COLOURS[whose][0]}" x="164" y="{y}" width="{long:.1f}" height="18" rx="2"/>',
+                      text(170 + long, y + 13, f"{figure:,.0f}")]
             y += 23
         y += 12
     return picture(y, title, below, parts)
@@ -80,7 +81,7 @@ def lines(title, below, across, up, marks, drawn):
     """Lines over marks, which are places from 0 to 1 with their names; each line is whose, and a figure for each mark."""
     marks_up = steps(max(figure for each in drawn.values() for figure in each))
     foot, wide = TOP_OF + TALL, WIDTH - LEFT - RIGHT
-    parts = [text(16, TOP_OF - 8, up, "s")]
+    parts = [text(16, TOP_OF - 12, up, "s")]
     for mark in marks_up:
         y = foot - TALL * mark / marks_up[-1]
         parts += [f'<path class="g" d="M{LEFT} {y:.1f}H{LEFT + wide}"/>', text(LEFT - 8, y + 4, f"{mark:,g}", "s", "end")]
@@ -95,7 +96,8 @@ def lines(title, below, across, up, marks, drawn):
         parts += [f'<circle class="{colour}" cx="{x:.1f}" cy="{y:.1f}" r="3.5"/>' for x, y in at]
         ends[whose] = at[-1][1] + 4
     for whose, y in apart(ends).items():
-        parts.append(text(LEFT + wide + 10, y, NAMES[whose], COLOURS[whose][0]))
+        parts += [f'<path class="g" d="M{LEFT + wide + 5} {ends[whose] - 4:.1f}L{LEFT + wide + 13} {y - 4:.1f}"/>',
+                  text(LEFT + wide + 16, y, NAMES[whose], COLOURS[whose][0])]
     return picture(foot + FOOT, title, below, parts)
 
 
@@ -113,17 +115,10 @@ def drawn_of(table, whats, whom, by=lambda one: one):
 def pair(parts):
     counts = figures.table(parts, "instructions")
     groups = [(words, [(whose, float(counts[(what, whose)][0])) for whose in POOLS if (what, whose) in counts])
-              for what, words in (("a pair, check off", "Connections go out unchecked"), ("a pair, check on", "Each is checked first, by a check that is ready at once"))]
+              for what, words in (("a pair, check off", "Connections go out unchecked"),
+                                  ("a pair, check on", "Default settings: each is checked first, by a check that is ready at once (of r2d2 a plain call)"))]
     groups = [group for group in groups if group[1]]
-    return groups and bars("A get and its return, in instructions", "One thread, counted by callgrind; fewer is better", groups)
-
-
-def rounds(parts):
-    whats = [round_of(size) for size in SIZES]
-    drawn = drawn_of(figures.table(parts, "instructions"), whats, (CORE_OF, ORIGINAL_CORE))
-    marks = [(at / (len(SIZES) - 1), f"{size:,}") for at, size in enumerate(SIZES)]
-    return drawn and lines("A round does not grow with the pool", "A get begins, is served and gives back, without future and manager; the original's core with its lock",
-                           "connections in the pool", "instructions a round", marks, drawn)
+    return groups and bars("A get and its return, in instructions", "One thread, counted by callgrind; less is better", groups)
 
 
 def sized(table, name):
@@ -137,7 +132,7 @@ def crowd(parts):
     drawn = drawn_of(table, [f"a crowd of {size:,}" for size in sizes], (CORE_OF, LIVE_OF, CRATE_OF, ORIGINAL_OF), lambda one: one / 1e6)
     # the core and the live pool stand in one picture here: the core is left out where both were measured
     drawn = {whose: each for whose, each in drawn.items() if whose != CORE_OF or LIVE_OF not in drawn}
-    return drawn and lines("A crowd that waits for one connection", "All wait and are served one by one, polled by hand in one thread; the best of nine runs",
+    return drawn and lines("A crowd that waits for one connection", "All wait and are served one by one, polled by hand in one thread; the best of nine runs; less is better",
                            "gets that wait", "milliseconds for all of them", [(size / sizes[-1], f"{size:,}") for size in sizes], drawn)
 
 
@@ -146,7 +141,7 @@ def threads(parts):
     many = [count for count in (1, 2, 4, 8) if any(what == named(count) for what, _ in table)]
     drawn = drawn_of(table, [named(count) for count in many], POOLS, lambda one: 1e3 / one)
     marks = [(at / max(len(many) - 1, 1), str(count)) for at, count in enumerate(many)]
-    return drawn and lines("Gets and returns a second, by threads", "A pool of 16 connections, no check, the machine's clock; the best of nine runs; more is better",
+    return drawn and lines("Gets and returns a second, by threads", "A pool of 16, no check, the machine's clock; the best of nine runs; more is better; 1, 2, 4 and 8 stand evenly",
                            "threads that get and return without a pause", "million pairs a second", marks, drawn)
 
 
@@ -155,10 +150,10 @@ def named(count):
 
 
 def drawings():
-    """What each picture is to be, by its file."""
+    """What each picture, and the page of the tables, is to be, by its file."""
     parts = figures.read()
-    made = {"pair": pair(parts), "rounds": rounds(parts), "crowd": crowd(parts), "threads": threads(parts)}
-    return {os.path.join(TOP, "docs", f"{name}.svg"): drawn for name, drawn in made.items() if drawn}
+    made = {"pair": pair(parts), "crowd": crowd(parts), "threads": threads(parts)}
+    return {os.path.join(TOP, "docs", f"{name}.svg"): drawn for name, drawn in made.items() if drawn} | {tables.README: tables.readme(parts)}
 
 
 def write():
@@ -168,7 +163,7 @@ def write():
 
 
 def stale():
-    """The pictures that are not those of the kept figures."""
+    """The pictures and pages that are not those of the kept figures."""
     for path, drawn in drawings().items():
         told = None
         if os.path.exists(path):
@@ -182,7 +177,7 @@ def main():
     if sys.argv[1:] == ["--check"]:
         others = list(stale())
         for path in others:
-            print(f"{path} is not the picture of bench/figures.txt; bench/draw.py draws it")
+            print(f"{path} is not of bench/figures.txt; bench/draw.py writes it")
         sys.exit(1 if others else 0)
     write()
 

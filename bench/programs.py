@@ -64,7 +64,7 @@ def original(folder):
     """Makes of the original's crate in this folder one that is measured, with rounds of its core as a module of its own."""
     out = ORIGINAL
     shutil.rmtree(out, ignore_errors=True)
-    if ran([os.path.join(TOP, "rust", "bench", "original"), folder, out]) is None:
+    if ran([os.path.join(TOP, "rust", "original"), folder, out]) is None:
         return False
     inner = os.path.join(out, "src", "internals")
     os.makedirs(inner)
@@ -88,7 +88,7 @@ def beside(folder):
     if fetched("tokio", [("futures-util", "0.3"), ("tokio", "1")], environment):
         pools.append("crate")
         lines.append('tokio = { version = "1", features = ["rt", "rt-multi-thread", "time"], optional = true }')
-        lines.append(f'bb8 = {{ path = "{TOP}/rust/bb8", package = "bb8-proved", optional = true }}')
+        lines.append(f'bb8 = {{ path = "{TOP}/rust/bb8", optional = true }}')
         folder = folder or fetched("original", [("bb8", f"={VERSION}")], environment)
         if folder and original(os.path.abspath(folder)):
             pools.append("original")

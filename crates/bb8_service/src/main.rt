@@ -1,5 +1,5 @@
 //! A service: threads that write to SQLite databases through one pool. A connection that comes back with its transaction open is closed,
-//! and the pool opens another.
+//! and the pool opens another. Each connection has a database of its own, in memory: the kit's `sqlite` lets one handle open a file.
 #![tactic(auto)]
 
 mod databases;

@@ -1,9 +1,8 @@
 //! What the service does with its pool.
 use crate::databases::{Databases, Sums, held, write};
-use bb8::{MachineClock, NopCustomizer, NopErrorSink, Pool, PoolCalls, PoolParts, Service, State};
-use std::random::RandomSource;
-use std::sync::Wait;
-use std::time::Clock;
+use bb8::{
+    MachineClock, NopCustomizer, NopErrorSink, Pool, PoolCalls, PoolParts, Runtime, Service, State,
+};
 
 /// How many threads share the pool.
 pub const THREADS: usize = 4;
@@ -27,13 +26,8 @@ pub struct SharedDatabases<R> {
     pub rt: R,
 }
 
-impl<R: Wait + Clock + RandomSource + AllocGlobal + Copy + Send + Sync + Drop + 'static> Service<
-    Databases,
-    NopErrorSink,
-    NopCustomizer,
-    MachineClock<R>,
-    R,
-> for SharedDatabases<R> {
+impl<R: Runtime> Service<Databases, NopErrorSink, NopCustomizer, MachineClock<R>, R>
+    for SharedDatabases<R> {
     /// None where a get was not served, or a database could not be read.
     type Told = Option<Sums>;
 

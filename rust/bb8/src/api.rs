@@ -24,8 +24,9 @@ impl<M: ManageConnection> Pool<M> {
 
     /// Waits for a connection, which comes back to the pool when the guard is dropped.
     ///
-    /// Gets that wait are served in their order. One whose future is dropped is let go, and what it
-    /// was promised goes to the next one.
+    /// Gets that wait are woken in their order, but whoever asks before a woken one comes takes the
+    /// connection: see [`Builder::fair_after`]. One whose future is dropped is let go, and what it
+    /// was promised or handed goes to the next one.
     ///
     /// # Errors
     ///
@@ -39,11 +40,29 @@ impl<M: ManageConnection> Pool<M> {
         Ok(PooledConnection::new(PoolRef::Borrowed(&self.inner), lent))
     }
 
-    /// As [`Pool::get`], with a guard that is a handle of the pool, too.
+    /// As [`Pool::get`], with a guard that is a handle of the pool, too. So it may outlive this one,
+    /// and the pool is open as long as the guard lives.
     ///
     /// # Errors
     ///
     /// As [`Pool::get`].
+    ///
+    /// # Examples
+    ///
+    /// A task takes its connection along:
+    ///
+    /// ```
+    /// use bb8::{ManageConnection, Pool, RunError};
+    ///
+    /// async fn start<M: ManageConnection>(pool: &Pool<M>) -> Result<(), RunError<M::Error>> {
+    ///     let mut conn = pool.get_owned().await?;
+    ///     tokio::spawn(async move {
+    ///         work(&mut conn).await;
+    ///     });
+    ///     Ok(())
+    /// }
+    /// # async fn work<C>(_: &mut C) {}
+    /// ```
     pub async fn get_owned(&self) -> Result<PooledConnection<'static, M>, RunError<M::Error>> {
         let lent = match self.inner.get_at_once() {
             Some(lent) => lent,
@@ -58,6 +77,21 @@ impl<M: ManageConnection> Pool<M> {
     /// # Errors
     ///
     /// The manager's, or the customizer's. There is no second try.
+    ///
+    /// # Examples
+    ///
+    /// A subscription has a connection for itself, which counts for no limit and which no age closes:
+    ///
+    /// ```
+    /// use bb8::{ManageConnection, Pool};
+    ///
+    /// async fn follow<M: ManageConnection>(pool: &Pool<M>) -> Result<(), M::Error> {
+    ///     let mut conn = pool.dedicated_connection().await?;
+    ///     subscribe(&mut conn).await;
+    ///     Ok(())
+    /// }
+    /// # async fn subscribe<C>(_: &mut C) {}
+    /// ```
     pub async fn dedicated_connection(&self) -> Result<M::Connection, M::Error> {
         self.inner.connect().await
     }
@@ -68,6 +102,20 @@ impl<M: ManageConnection> Pool<M> {
     ///
     /// Each gives the connection back: where it is broken, where there is no room, and where there
     /// is no memory or no number for it.
+    ///
+    /// # Examples
+    ///
+    /// ```
+    /// use bb8::{AddError, ManageConnection, Pool};
+    ///
+    /// /// Gives back what the pool has no room for.
+    /// fn hand_in<M: ManageConnection>(pool: &Pool<M>, conn: M::Connection) -> Option<M::Connection> {
+    ///     match pool.add(conn) {
+    ///         Ok(()) | Err(AddError::Broken(_)) => None,
+    ///         Err(AddError::NoCapacity(conn) | AddError::Withheld(conn)) => Some(conn),
+    ///     }
+    /// }
+    /// ```
     pub fn add(&self, conn: M::Connection) -> Result<(), AddError<M::Connection>> {
         self.inner.add(conn)
     }

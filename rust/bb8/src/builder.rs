@@ -28,6 +28,8 @@ pub struct Config {
     pub reaper_rate: Duration,
     /// Which idle connection is lent first.
     pub queue_strategy: QueueStrategy,
+    /// After which wait a get is handed its connection.
+    pub fair_after: Option<Duration>,
 }
 
 impl<M: ManageConnection> From<&Builder<M>> for Config {
@@ -42,6 +44,7 @@ impl<M: ManageConnection> From<&Builder<M>> for Config {
             retry_connection: builder.retry_connection,
             reaper_rate: builder.reaper_rate,
             queue_strategy: builder.queue_strategy,
+            fair_after: builder.fair_after,
         }
     }
 }
@@ -69,6 +72,7 @@ pub struct Builder<M: ManageConnection> {
     pub(crate) error_sink: Box<dyn ErrorSink<M::Error>>,
     pub(crate) reaper_rate: Duration,
     pub(crate) queue_strategy: QueueStrategy,
+    pub(crate) fair_after: Option<Duration>,
     pub(crate) connection_customizer: Option<Box<dyn CustomizeConnection<M::Connection, M::Error>>>,
     _p: PhantomData<M>,
 }
@@ -87,6 +91,7 @@ impl<M: ManageConnection> Default for Builder<M> {
             error_sink: Box::new(NopErrorSink),
             reaper_rate: MINUTE / 2,
             queue_strategy: QueueStrategy::default(),
+            fair_after: None,
             connection_customizer: None,
             _p: PhantomData,
         }
@@ -187,6 +192,30 @@ impl<M: ManageConnection> Builder<M> {
     }
 
     /// Sets who is told of errors that no caller sees: nobody by default.
+    ///
+    /// # Examples
+    ///
+    /// ```
+    /// use bb8::{Builder, ErrorSink, ManageConnection, Pool};
+    /// use std::fmt::Debug;
+    ///
+    /// #[derive(Clone, Debug)]
+    /// struct Log;
+    ///
+    /// impl<E: Debug + 'static> ErrorSink<E> for Log {
+    ///     fn sink(&self, error: E) {
+    ///         eprintln!("the pool: {error:?}");
+    ///     }
+    ///
+    ///     fn boxed_clone(&self) -> Box<dyn ErrorSink<E>> {
+    ///         Box::new(self.clone())
+    ///     }
+    /// }
+    ///
+    /// fn logged<M: ManageConnection>() -> Builder<M> {
+    ///     Pool::builder().error_sink(Box::new(Log))
+    /// }
+    /// ```
     #[must_use]
     pub fn error_sink(mut self, error_sink: Box<dyn ErrorSink<M::Error>>) -> Self {
         self.error_sink = error_sink;
@@ -208,7 +237,98 @@ impl<M: ManageConnection> Builder<M> {
         self
     }
 
+    /// Sets after which wait a get is handed its connection: never by default. A millisecond is
+    /// what to take where gets wait.
+    ///
+    /// By default a connection that comes free is promised to the get whose turn it is, which is
+    /// woken; but whoever asks before it comes takes the connection, and it waits anew, behind all
+    /// others. So a get may time out while a few tasks are served again and again. A get that has
+    /// waited for so long is handed the connection as it comes free, and nobody can take it from
+    /// there.
+    ///
+    /// At zero gets are served in the order in which they began to wait, as long as none of their
+    /// connections is closed: a get for which one is opened in its place goes to the end of the
+    /// line. But each connection that comes free lies idle until a task was woken, which costs a
+    /// third of all rounds, and more, where connections are held for microseconds. A millisecond
+    /// leaves those rounds as they are, and lets nobody wait for much longer than the line before
+    /// it takes.
+    ///
+    /// A future that was handed a connection has it, and is to be polled or dropped. One that is
+    /// kept without being polled keeps the connection, also from the task that keeps it:
+    ///
+    /// ```
+    /// # use bb8::{ManageConnection, Pool, RunError};
+    /// # use std::convert::Infallible;
+    /// # use std::time::Duration;
+    /// # struct Numbers;
+    /// # impl ManageConnection for Numbers {
+    /// #     type Connection = u64;
+    /// #     type Error = Infallible;
+    /// #     async fn connect(&self) -> Result<u64, Infallible> {
+    /// #         Ok(7)
+    /// #     }
+    /// #     async fn is_valid(&self, _conn: &mut u64) -> Result<(), Infallible> {
+    /// #         Ok(())
+    /// #     }
+    /// #     fn has_broken(&self, _conn: &mut u64) -> bool {
+    /// #         false
+    /// #     }
+    /// # }
+    /// # #[tokio::main(flavor = "current_thread")]
+    /// # async fn main() {
+    /// let pool = Pool::builder()
+    ///     .max_size(1)
+    ///     .fair_after(Duration::ZERO)
+    ///     .connection_timeout(Duration::from_millis(50))
+    ///     .build(Numbers)
+    ///     .await
+    ///     .unwrap();
+    /// let conn = pool.get().await.unwrap();
+    /// let mut kept = Box::pin(pool.get());
+    /// tokio::select! {
+    ///     biased;
+    ///     _ = &mut kept => unreachable!("the connection is out"),
+    ///     () = async {} => {}
+    /// }
+    /// drop(conn); // it is handed to `kept`
+    /// assert_eq!(pool.get().await.unwrap_err(), RunError::TimedOut);
+    /// assert!(kept.await.is_ok());
+    /// # }
+    /// ```
+    #[must_use]
+    pub fn fair_after(mut self, wait: impl Into<Option<Duration>>) -> Self {
+        self.fair_after = wait.into();
+        self
+    }
+
     /// Sets who prepares each connection that is opened: nobody by default.
+    ///
+    /// # Examples
+    ///
+    /// ```
+    /// use bb8::{Builder, CustomizeConnection, ManageConnection, Pool};
+    /// use std::future::Future;
+    /// use std::pin::Pin;
+    /// # #[derive(Debug)] struct Client;
+    /// # impl Client { async fn ask<E>(&mut self, _: &str) -> Result<(), E> { Ok(()) } }
+    ///
+    /// /// Has each connection of a server speak one time zone.
+    /// #[derive(Debug)]
+    /// struct InUtc;
+    ///
+    /// impl<E: Send + 'static> CustomizeConnection<Client, E> for InUtc {
+    ///     fn on_acquire<'a>(
+    ///         &'a self,
+    ///         conn: &'a mut Client,
+    ///     ) -> Pin<Box<dyn Future<Output = Result<(), E>> + Send + 'a>> {
+    ///         Box::pin(async move { conn.ask("SET TIME ZONE 'UTC'").await })
+    ///     }
+    /// }
+    ///
+    /// fn prepared<M: ManageConnection<Connection = Client>>() -> Builder<M> {
+    ///     Pool::builder().connection_customizer(Box::new(InUtc))
+    /// }
+    /// ```
     #[must_use]
     pub fn connection_customizer(
         mut self,

@@ -1,9 +1,16 @@
 //! The proved core, called by its C interface, and the heap that it asks for memory.
 //!
-//! Nothing checks these declarations against `crates/bb8_c/src` but the tests of `tests/layout.rs`,
-//! which read each field through the library. This file has all `unsafe` of the crate.
+//! That these declarations are those of `crates/bb8_c/src` is asserted where a core is made, as far
+//! as sizes tell it; the tests of `tests/layout.rs` read each field through the library. This file
+//! has all `unsafe` of the crate.
 #![allow(unsafe_code)]
 
+#[macro_use]
+mod text;
+
+pub(crate) use text::IS_THERE;
+
+use std::mem::size_of;
 use std::ptr;
 
 /// A number, with a hint of the place where that stands what it names.
@@ -36,35 +43,84 @@ pub(crate) struct Told {
 }
 
 impl Told {
+    /// What was told. A step that does not fit what the core holds changes nothing and tells 0:
+    /// that comes from a fault of this crate, and nothing may be lent or freed on the strength of
+    /// it.
+    #[inline]
+    pub(crate) fn kind(&self) -> Kind {
+        Kind::of(self.kind).expect("the step fits what the core holds")
+    }
+
+    /// Goes on only where this was told.
+    #[inline]
+    pub(crate) fn assert(&self, kind: Kind) {
+        assert!(self.is(kind), "{kind:?} is not what was told: {self:?}");
+    }
+
+    /// Whether this was told.
+    #[inline]
+    pub(crate) fn is(&self, kind: Kind) -> bool {
+        self.kind == kind as u32
+    }
+
     /// The get that was notified.
+    #[inline]
     pub(crate) fn notified(&self) -> Option<Name> {
         self.notifies.then_some(self.get)
     }
 
     /// The place on the shelf of the connection that is handed out.
+    #[inline]
     pub(crate) fn shelved(&self) -> usize {
         self.conn as usize
     }
 }
 
-/// The kinds of what a step tells; one that does not fit tells 0.
-pub(crate) mod kinds {
-    pub(crate) const MEMORY: u32 = 2;
-    pub(crate) const EXHAUSTED: u32 = 3;
-    pub(crate) const SERVED: u32 = 4;
-    pub(crate) const TAKEN: u32 = 5;
-    pub(crate) const WAITING: u32 = 6;
-    pub(crate) const KEPT: u32 = 7;
-    pub(crate) const CLOSED: u32 = 8;
-    pub(crate) const CLAIMED: u32 = 10;
-    pub(crate) const ENTERED: u32 = 13;
-    pub(crate) const LATE: u32 = 14;
-    pub(crate) const ADDED: u32 = 16;
-    pub(crate) const BROKEN: u32 = 17;
-    pub(crate) const NO_CAPACITY: u32 = 18;
-    #[cfg(test)]
-    pub(crate) const REAPED: u32 = 20;
-    pub(crate) const TOLD_CLOSED: u32 = 24;
+macro_rules! kinds {
+    ($($case:ident = $number:literal,)*) => {
+        /// The kinds of what a step tells.
+        #[derive(Clone, Copy, Debug, PartialEq, Eq)]
+        pub(crate) enum Kind {
+            $($case = $number,)*
+        }
+
+        impl Kind {
+            #[inline]
+            const fn of(number: u32) -> Option<Kind> {
+                match number {
+                    $($number => Some(Kind::$case),)*
+                    _ => None,
+                }
+            }
+        }
+    };
+}
+
+kinds! {
+    Begun = 1,
+    Memory = 2,
+    Exhausted = 3,
+    Served = 4,
+    Taken = 5,
+    Waiting = 6,
+    Kept = 7,
+    Closed = 8,
+    GaveUp = 9,
+    Claimed = 10,
+    Unclaimed = 11,
+    Ended = 12,
+    Entered = 13,
+    Late = 14,
+    GivenBack = 15,
+    Added = 16,
+    Broken = 17,
+    NoCapacity = 18,
+    Withheld = 19,
+    Reaped = 20,
+    Joined = 21,
+    Left = 22,
+    Granted = 23,
+    ToldClosed = 24,
 }
 
 /// What a core holds to. Spans are nanoseconds, and 0 is no limit.
@@ -115,7 +171,8 @@ struct Handle {
 mod exported {
     use super::{Figures, Handle, Looked, Name, Settings, Told};
 
-    extern "C" {
+    proved! {
+        pub(super) fn bb8_size(of: u32) -> usize;
         pub(super) fn bb8_new(settings: Settings, out: *mut Handle) -> bool;
         pub(super) fn bb8_free(core: *mut Handle);
         pub(super) fn bb8_serve_at_once(core: *mut Handle, at: u64) -> Told;
@@ -190,6 +247,7 @@ impl Core {
     /// A core, with one handle of its pool. None where the settings are not lawful, or memory was
     /// refused.
     pub(crate) fn new(settings: Settings) -> Option<Core> {
+        assert_layout();
         let mut handle = Handle {
             at: ptr::null_mut(),
         };
@@ -243,6 +301,22 @@ impl Core {
     }
 }
 
+/// Goes on only where the library that was linked has the structs of this file.
+fn assert_layout() {
+    let here = [
+        size_of::<Handle>(),
+        size_of::<Settings>(),
+        size_of::<Name>(),
+        size_of::<Granted>(),
+        size_of::<Told>(),
+        size_of::<Looked>(),
+        size_of::<Figures>(),
+    ];
+    // SAFETY: the call takes and gives plain numbers.
+    let there = [0, 1, 2, 3, 4, 5, 6].map(|of| unsafe { exported::bb8_size(of) });
+    assert_eq!(here, there, "the library is of another version");
+}
+
 impl Drop for Core {
     fn drop(&mut self) {
         // SAFETY: the handle holds a core, which nothing reaches afterwards.
@@ -250,12 +324,13 @@ impl Drop for Core {
     }
 }
 
+#[cfg_attr(not(target_os = "linux"), allow(dead_code))]
 mod heap {
     //! The heap of the core. The C library gives memory that any type may lie in, and wants no size
     //! back, which the core does not keep.
 
     use std::ffi::c_void;
-    use std::ptr::NonNull;
+    use std::ptr::{self, NonNull};
 
     extern "C" {
         fn malloc(size: usize) -> *mut c_void;
@@ -285,13 +360,21 @@ mod heap {
         }
     }
 
-    /// Memory for so many bytes. The alignment divides 16, which is what `malloc` gives; where no
-    /// byte is asked for, one unit of the alignment is taken, so that the pointer is its own.
-    #[no_mangle]
-    extern "C" fn rattle_alloc(size: usize, alignment: usize) -> Tried {
+    /// Whether a request is refused before `malloc` is asked: it aligns to 16, which is more than
+    /// the core has wanted so far.
+    fn refuses(alignment: usize) -> bool {
         #[cfg(test)]
         if crate::tests::memory::refuses() {
-            return Tried::of(std::ptr::null_mut());
+            return true;
+        }
+        alignment > 16
+    }
+
+    /// Memory for so many bytes. Where no byte is asked for, one unit of the alignment is taken, so
+    /// that the pointer is its own.
+    pub(super) extern "C" fn rattle_alloc(size: usize, alignment: usize) -> Tried {
+        if refuses(alignment) {
+            return Tried::of(ptr::null_mut());
         }
         let size = if size == 0 { alignment } else { size };
         // SAFETY: `malloc` may be asked for any size.
@@ -304,16 +387,14 @@ mod heap {
     /// # Safety
     ///
     /// `at` was given by `rattle_alloc` or by this, and not taken back since.
-    #[no_mangle]
-    unsafe extern "C" fn rattle_realloc(
+    pub(super) unsafe extern "C" fn rattle_realloc(
         at: *mut u8,
         _kept: usize,
         size: usize,
         alignment: usize,
     ) -> Tried {
-        #[cfg(test)]
-        if crate::tests::memory::refuses() {
-            return Tried::of(std::ptr::null_mut());
+        if refuses(alignment) {
+            return Tried::of(ptr::null_mut());
         }
         let size = if size == 0 { alignment } else { size };
         // SAFETY: the caller owes that `at` came from `malloc` or `realloc` and is not freed.
@@ -325,8 +406,7 @@ mod heap {
     /// # Safety
     ///
     /// `at` was given by one of the others, and nothing uses it any more.
-    #[no_mangle]
-    unsafe extern "C" fn rattle_dealloc(at: *mut u8) {
+    pub(super) unsafe extern "C" fn rattle_dealloc(at: *mut u8) {
         // SAFETY: the caller owes that `at` came from `malloc` or `realloc` and is not freed.
         unsafe { free(at.cast()) }
     }
@@ -340,8 +420,7 @@ pub(crate) mod layout {
     mod exported {
         use super::{Figures, Looked, Name, Settings, Told};
 
-        extern "C" {
-            pub(super) fn bb8_size(of: u32) -> usize;
+        proved! {
             pub(super) fn bb8_sample_told() -> Told;
             pub(super) fn bb8_sample_figures() -> Figures;
             pub(super) fn bb8_sample_looked() -> Looked;
@@ -360,14 +439,10 @@ pub(crate) mod layout {
     }
 
     plain! {
-        size = bb8_size(of: u32) -> usize;
         sample_told = bb8_sample_told() -> Told;
         sample_figures = bb8_sample_figures() -> Figures;
         sample_looked = bb8_sample_looked() -> Looked;
         read_settings = bb8_read_settings(settings: Settings, field: u32) -> u64;
         read_name = bb8_read_name(name: Name, field: u32) -> u64;
     }
-
-    /// The bytes of a handle, as this crate has it.
-    pub(crate) const HANDLE: usize = std::mem::size_of::<super::Handle>();
 }

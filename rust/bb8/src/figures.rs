@@ -23,7 +23,8 @@ pub struct Statistics {
     pub get_started: u64,
     /// Gets that were served without ever having waited.
     pub get_direct: u64,
-    /// Gets that were served after they had waited.
+    /// Gets that were served after they had waited. One that is handed its connection, and is not
+    /// to check it, is served by that: see [`Builder::fair_after`](crate::Builder::fair_after).
     pub get_waited: u64,
     /// Gets that timed out.
     pub get_timed_out: u64,

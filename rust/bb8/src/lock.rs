@@ -8,8 +8,13 @@ use std::sync::{self as implementation, PoisonError, TryLockError};
 pub(crate) use implementation::MutexGuard;
 use std::hint::spin_loop;
 
-/// A lock that knows no poison: what it holds is whole after each step. What lies beside it is read
-/// without it, and so is in no line of the processor's memory that it is in.
+/// A lock that knows no poison. Nothing of the user's runs under it: no manager, no drop of a
+/// connection, no waker. So a panic there is a fault of this crate that an assertion has found,
+/// before anything was lent or freed on the strength of it: a connection may be lost by it, none is
+/// lent twice.
+///
+/// What lies beside it is read without it, and so is in no line of the processor's memory that it
+/// is in.
 #[repr(align(128))]
 pub(crate) struct Mutex<T>(implementation::Mutex<T>);
 
@@ -23,9 +28,9 @@ impl<T> Mutex<T> {
         self.try_lock().unwrap_or_else(|| self.lock_taken())
     }
 
-    /// Tries again after longer and longer waits, of some dozens of microseconds in all, and parks the
-    /// thread only then. A step is far shorter than a call of the system, and a thread that makes
-    /// many in a row has at hand all that the lock holds.
+    /// Tries again after longer and longer waits, of some dozens of microseconds in all, and parks
+    /// the thread only then. A step is far shorter than a call of the system, and a thread that
+    /// makes many in a row has at hand all that the lock holds.
     #[cold]
     fn lock_taken(&self) -> MutexGuard<'_, T> {
         for turns in [4, 16, 64, 256, 1024, 1024] {

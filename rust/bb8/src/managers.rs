@@ -30,7 +30,7 @@ pub trait ManageConnection: Sized + Send + Sync + 'static {
     ) -> impl Future<Output = Result<(), Self::Error>> + Send;
 
     /// Whether a connection is known to be broken, as far as can be told at once. The pool asks
-    /// whenever a connection is handed in, and closes one that is.
+    /// whenever a connection is handed in, and closes one that is, or for which this panics.
     fn has_broken(&self, conn: &mut Self::Connection) -> bool;
 }
 
@@ -48,7 +48,8 @@ pub trait CustomizeConnection<C: Send + 'static, E: 'static>:
     }
 }
 
-/// Is told of errors that no caller sees: of checks that failed, and of openings by the pool itself.
+/// Is told of errors that no caller sees: of checks that failed, and of openings by the pool
+/// itself.
 pub trait ErrorSink<E>: fmt::Debug + Send + Sync + 'static {
     /// Takes an error.
     fn sink(&self, error: E);

@@ -1,25 +1,38 @@
 //! The opening of one connection, for an approval that was claimed.
 
-use crate::core::{kinds, Name};
+use crate::core::{Kind, Name};
 use crate::managers::ManageConnection;
 use crate::pool::Shared;
 use std::sync::Arc;
+use std::task::Waker;
+use std::thread;
 use std::time::Duration;
 use tokio::time::{sleep, Instant};
 
-/// An approval that was claimed, and the place that is kept for its connection. Where it is dropped
-/// before it ended, the approval is given back. It is no handle of the pool.
-pub(crate) struct Opening<M: ManageConnection> {
-    shared: Arc<Shared<M>>,
+/// An approval that was claimed, and the place that is kept for its connection.
+pub(crate) struct Claimed {
     approval: Name,
     place: usize,
-    ended: bool,
+}
+
+/// An approval that is claimed, until its connection is open or it is given back. It is no handle
+/// of the pool. Where it is dropped before, as its runtime ends, another one opens the connection.
+pub(crate) struct Opening<M: ManageConnection> {
+    shared: Arc<Shared<M>>,
+    claimed: Option<Claimed>,
 }
 
 /// Half of the first wait between two tries.
 const SHORTEST: Duration = Duration::from_millis(200);
 
 impl<M: ManageConnection> Opening<M> {
+    pub(crate) fn of(shared: &Arc<Shared<M>>, claimed: Claimed) -> Self {
+        Opening {
+            shared: shared.clone(),
+            claimed: Some(claimed),
+        }
+    }
+
     /// Claims an approval. None where none is unclaimed, or memory for a place is refused: then it
     /// stays unclaimed, and is claimed later.
     pub(crate) fn claim(shared: &Arc<Shared<M>>) -> Option<Self> {
@@ -30,17 +43,13 @@ impl<M: ManageConnection> Opening<M> {
             return None;
         };
         let told = locked.core.claim(at);
-        if told.kind != kinds::CLAIMED {
+        if told.kind() != Kind::Claimed {
             locked.shelf.free(place);
             return None;
         }
         drop(locked);
-        Some(Opening {
-            shared: shared.clone(),
-            approval: told.key,
-            place,
-            ended: false,
-        })
+        let approval = told.key;
+        Some(Opening::of(shared, Claimed { approval, place }))
     }
 
     /// Opens the connection, and tries again after an error as long as there is time for it and
@@ -58,8 +67,10 @@ impl<M: ManageConnection> Opening<M> {
                 Err(error) => error,
             };
             let retries = self.shared.settings.retry_connection;
-            if !retries || start.elapsed() > limit || !self.is_wanted() {
-                self.give_back();
+            if !retries || start.elapsed() > limit || !self.shared.is_alive() {
+                if let Some(claimed) = self.claimed.take() {
+                    self.shared.give_back(claimed);
+                }
                 return Err(error);
             }
             self.shared.forward(error);
@@ -76,35 +87,60 @@ impl<M: ManageConnection> Opening<M> {
         }
     }
 
-    /// Whether a handle of the pool is alive.
-    fn is_wanted(&self) -> bool {
-        let at = self.shared.now();
-        self.shared.lock().core.look(at).alive
-    }
-
     /// Hands the connection to the pool, which closes it if nobody has a handle any more.
     fn enter(&mut self, conn: M::Connection) {
-        self.ended = true;
-        let at = self.shared.now();
-        let mut locked = self.shared.lock();
-        let told = locked.core.opened(at, self.approval, self.place as u64);
-        self.shared.shelve(locked, &told, self.place, Some(conn));
-    }
-
-    fn give_back(&mut self) {
-        if self.ended {
+        let Some(Claimed { approval, place }) = self.claimed.take() else {
             return;
-        }
-        self.ended = true;
+        };
         let at = self.shared.now();
         let mut locked = self.shared.lock();
-        locked.core.failed(at, self.approval);
-        locked.shelf.free(self.place);
+        let told = locked.core.opened(at, approval, place as u64);
+        self.shared.shelve(locked, at, &told, place, Some(conn));
     }
 }
 
 impl<M: ManageConnection> Drop for Opening<M> {
     fn drop(&mut self) {
-        self.give_back();
+        let Some(claimed) = self.claimed.take() else {
+            return;
+        };
+        // A manager that panics is not called again for the same approval.
+        if thread::panicking() || !self.shared.is_alive() {
+            self.shared.give_back(claimed);
+        } else {
+            self.shared.hand_on(claimed);
+        }
+    }
+}
+
+impl<M: ManageConnection> Shared<M> {
+    /// Whether a handle of the pool is alive.
+    fn is_alive(&self) -> bool {
+        let at = self.now();
+        self.lock().core.look(at).alive
+    }
+
+    /// Gives an approval back that brought no connection.
+    fn give_back(&self, Claimed { approval, place }: Claimed) {
+        let at = self.now();
+        let mut locked = self.lock();
+        locked.core.failed(at, approval).assert(Kind::GivenBack);
+        locked.shelf.free(place);
+    }
+
+    /// Leaves an approval to whoever makes the next step inside a runtime. Gets that wait for its
+    /// connection make none, so all are woken: the runtimes of some may have ended, too.
+    fn hand_on(&self, claimed: Claimed) {
+        let mut locked = self.lock();
+        if locked.cut_off.try_reserve(1).is_err() {
+            drop(locked);
+            self.give_back(claimed);
+            return;
+        }
+        locked.cut_off.push(claimed);
+        locked.unopened = true;
+        let wakers = locked.waiters.wakers();
+        drop(locked);
+        wakers.into_iter().for_each(Waker::wake);
     }
 }

@@ -2,20 +2,21 @@
 //! it but the gets and the openings.
 
 use crate::builder::{Builder, QueueStrategy};
-use crate::core::{kinds, Core, Name, Settings, Told};
+use crate::core::{self, Core, Kind, Name, Settings, Told};
 use crate::errors::{AddError, RunError};
 use crate::figures::State;
 use crate::getting::Getting;
 use crate::lock::{Mutex, MutexGuard};
 use crate::managers::ManageConnection;
-use crate::opening::Opening;
+use crate::opening::{Claimed, Opening};
 use crate::shelf::Shelf;
-use crate::waiters::Waiters;
+use crate::waiters::{Handed, Waiters};
 use futures_util::stream::{FuturesUnordered, StreamExt};
-use std::fmt;
+use std::panic::resume_unwind;
 use std::sync::{Arc, Weak};
 use std::task::Waker;
 use std::time::Duration;
+use std::{fmt, iter, mem, thread};
 use tokio::runtime::Handle;
 use tokio::time::{interval_at, Instant, Interval, MissedTickBehavior};
 
@@ -31,33 +32,55 @@ pub(crate) struct Locked<C> {
     pub(crate) core: Core,
     pub(crate) shelf: Shelf<C>,
     pub(crate) waiters: Waiters,
-    /// Whether an approval was left unclaimed, for want of memory or of a runtime.
+    /// Whether something is left to be opened, for want of memory or of a runtime.
     pub(crate) unopened: bool,
+    /// The approvals whose openings ended with their runtime.
+    pub(crate) cut_off: Vec<Claimed>,
 }
 
 impl<C> Locked<C> {
-    /// The waker of the get that a step notified.
-    #[inline]
-    pub(crate) fn waker(&mut self, told: &Told) -> Option<Waker> {
-        self.waiters.take(told.notified()?)
+    /// Has a get that was notified try at once, under the lock of the step that notified it, so
+    /// that no other comes between. The answer is its waker, where it was handed a connection, and
+    /// whether something is to be opened. Where nothing is idle it waits on, and is not woken.
+    pub(crate) fn hand_over(&mut self, at: u64, get: Name) -> (Option<Waker>, bool) {
+        let told = self.core.try_get(at, get);
+        let waker = match told.kind() {
+            Kind::Served | Kind::Taken => {
+                let handed = self.handed(&told);
+                self.waiters.hand(get, handed)
+            }
+            Kind::Waiting => None,
+            kind => unreachable!("{kind:?} is no answer to a try"),
+        };
+        (waker, told.granted.count > 0)
     }
 
-    /// Takes the connection that a step handed out.
+    /// What a step handed out.
     #[inline]
-    pub(crate) fn lend(&mut self, told: &Told) -> Lent<C> {
-        let place = told.shelved();
-        Lent {
-            conn: self.shelf.take(place),
+    pub(crate) fn handed(&mut self, told: &Told) -> Handed {
+        self.shelf.promise(1);
+        Handed {
             key: told.key,
-            place,
+            place: told.shelved(),
+            served: told.is(Kind::Served),
+        }
+    }
+
+    /// Takes a connection that was handed out.
+    #[inline]
+    pub(crate) fn lend(&mut self, handed: &Handed) -> Lent<C> {
+        Lent {
+            conn: self.shelf.take(handed.place),
+            key: handed.key,
+            place: handed.place,
         }
     }
 
     /// Takes the connection off the shelf that a reap or the last leave closed first, of those that
-    /// are left.
-    fn take_closed(&mut self) -> Option<C> {
+    /// stand there yet.
+    pub(crate) fn take_closed(&mut self) -> Option<C> {
         let told = self.core.closed_next();
-        if told.kind != kinds::TOLD_CLOSED {
+        if !told.is(Kind::ToldClosed) {
             return None;
         }
         let conn = self.shelf.take(told.shelved());
@@ -78,8 +101,11 @@ pub(crate) struct Shared<M: ManageConnection> {
     pub(crate) manager: M,
     /// The moment from which the core's moments count.
     started: Instant,
-    /// Whether an age is limited, so that the core needs to know when something becomes idle.
-    has_limits: bool,
+    /// Whether what comes back needs the moment: an age is limited, so that the core needs to know
+    /// when something becomes idle, or it is to be told how long a get has waited.
+    needs_moment: bool,
+    /// After which wait a get is handed a connection.
+    pub(crate) fair_after: Option<u64>,
     locked: Mutex<Locked<M::Connection>>,
 }
 
@@ -98,10 +124,10 @@ impl<M: ManageConnection> Shared<M> {
         self.moment(Instant::now())
     }
 
-    /// The moment of a step that needs one only where an age is limited.
+    /// The moment at which a connection comes back.
     #[inline]
-    fn age_now(&self) -> u64 {
-        if self.has_limits {
+    pub(crate) fn back_now(&self) -> u64 {
+        if self.needs_moment {
             self.now()
         } else {
             0
@@ -120,68 +146,25 @@ impl<M: ManageConnection> Shared<M> {
         Ok(conn)
     }
 
-    /// Unlocks after a step, drops what it closed, has opened what it granted, and wakes whom it
-    /// notified.
-    #[inline]
-    pub(crate) fn settle(
-        self: &Arc<Self>,
-        mut locked: MutexGuard<'_, Locked<M::Connection>>,
-        told: &Told,
-        closed: Option<M::Connection>,
-    ) {
-        let waker = locked.waker(told);
-        let due = locked.is_due(told);
-        drop(locked);
-        drop(closed);
-        if due {
-            self.open();
-        }
-        if let Some(waker) = waker {
-            waker.wake();
-        }
-    }
-
-    /// The same after a step to which a connection was handed in, if it is not closed already: at its
-    /// place it is idle, or the place is free and it is dropped.
-    #[inline(always)]
-    pub(crate) fn shelve(
-        self: &Arc<Self>,
-        mut locked: MutexGuard<'_, Locked<M::Connection>>,
-        told: &Told,
-        place: usize,
-        conn: Option<M::Connection>,
-    ) {
-        let closed = match conn {
-            Some(conn) if matches!(told.kind, kinds::KEPT | kinds::ENTERED) => {
-                locked.shelf.put(place, conn);
-                None
-            }
-            conn => {
-                debug_assert!(matches!(told.kind, kinds::CLOSED | kinds::LATE));
-                locked.shelf.free(place);
-                conn
-            }
-        };
-        self.settle(locked, told, closed);
-    }
-
-    /// Has connections opened for all approvals that are unclaimed, each by a task of its own.
+    /// Opens connections for all approvals whose openings were cut off, and for all that are
+    /// unclaimed, each by a task of its own. A runtime that ends drops such a task at once, which
+    /// cuts its opening off anew: so those that were cut off before are taken in one piece.
     #[cold]
     pub(crate) fn open(self: &Arc<Self>) {
         let Ok(runtime) = Handle::try_current() else {
             self.lock().unopened = true;
             return;
         };
-        self.lock().unopened = false;
-        while let Some(opening) = Opening::claim(self) {
+        let again = {
+            let mut locked = self.lock();
+            locked.unopened = false;
+            mem::take(&mut locked.cut_off)
+        };
+        let mut again = again.into_iter();
+        let next = || again.next().map(|claimed| Opening::of(self, claimed));
+        for opening in iter::from_fn(next).chain(iter::from_fn(|| Opening::claim(self))) {
             runtime.spawn(opening.run_alone());
         }
-    }
-
-    /// Drops the connections that a reap or the last leave closed, one by one and outside the lock: a
-    /// connection may take time to close, and its drop may call the pool.
-    fn drop_closed(&self) {
-        std::iter::from_fn(|| self.lock().take_closed()).for_each(drop);
     }
 }
 
@@ -191,8 +174,8 @@ pub(crate) fn nanoseconds(span: Duration) -> u64 {
 }
 
 /// The one handle that the core counts; all handles of the pool share it. Once the last of them is
-/// gone, the core is left, and the idle connections are closed. Where memory to list them is refused,
-/// they are closed with the last opening that is under way.
+/// gone, the core is left, and the idle connections are closed. Where memory to list them is
+/// refused, they are closed with the last opening that is under way.
 struct Owner<M: ManageConnection> {
     shared: Arc<Shared<M>>,
 }
@@ -200,8 +183,13 @@ struct Owner<M: ManageConnection> {
 impl<M: ManageConnection> Drop for Owner<M> {
     fn drop(&mut self) {
         let at = self.shared.now();
-        self.shared.lock().core.leave(at);
-        self.shared.drop_closed();
+        let told = self.shared.lock().core.leave(at);
+        assert!(matches!(told.kind(), Kind::Left | Kind::Memory));
+        match self.shared.drop_closed() {
+            // Beside another panic it would end the process.
+            Err(panicked) if !thread::panicking() => resume_unwind(panicked),
+            _ => {}
+        }
     }
 }
 
@@ -224,8 +212,15 @@ impl<M: ManageConnection> fmt::Debug for PoolInner<M> {
 }
 
 impl<M: ManageConnection> PoolInner<M> {
+    /// Ends the build of a program for another target in a sentence; a check and the docs go on.
+    const HAS_CORE: () = assert!(
+        core::IS_THERE,
+        "bb8 has its proved core for x86-64 and aarch64 Linux alone"
+    );
+
     /// A pool of settings that the builder has tested. It reaps, where an age is limited.
     pub(crate) fn new(settings: Builder<M>, manager: M) -> Self {
+        let () = Self::HAS_CORE;
         let limit = |limit: Option<Duration>| limit.map_or(0, nanoseconds);
         let core = Core::new(Settings {
             max_size: settings.max_size,
@@ -239,15 +234,17 @@ impl<M: ManageConnection> PoolInner<M> {
         let has_limits = settings.max_lifetime.is_some() || settings.idle_timeout.is_some();
         let rate = settings.reaper_rate;
         let shared = Arc::new(Shared {
+            needs_moment: has_limits || settings.fair_after.is_some(),
+            fair_after: settings.fair_after.map(nanoseconds),
             settings,
             manager,
             started,
-            has_limits,
             locked: Mutex::new(Locked {
                 core: core.expect("there is memory for a pool"),
                 shelf: Shelf::new(),
                 waiters: Waiters::new(),
                 unopened: false,
+                cut_off: Vec::new(),
             }),
         });
         let owner = Arc::new(Owner { shared });
@@ -274,7 +271,8 @@ impl<M: ManageConnection> PoolInner<M> {
 
     fn fill(&self) {
         let shared = self.shared();
-        shared.lock().core.fill(shared.now(), false);
+        let at = shared.now();
+        shared.lock().core.fill(at, false).assert(Kind::Granted);
     }
 
     /// Opens the first connections.
@@ -306,10 +304,11 @@ impl<M: ManageConnection> PoolInner<M> {
         let mut locked = shared.lock();
         // The moment of a get that does not wait counts for nothing.
         let told = locked.core.serve_at_once(0);
-        if told.kind != kinds::SERVED {
+        if !told.is(Kind::Served) {
             return None;
         }
-        let lent = locked.lend(&told);
+        let handed = locked.handed(&told);
+        let lent = locked.lend(&handed);
         let due = locked.is_due(&told);
         drop(locked);
         if due {
@@ -322,21 +321,9 @@ impl<M: ManageConnection> PoolInner<M> {
         Getting::new(self.shared()).answer().await
     }
 
-    /// Takes a connection back that was lent.
+    #[inline]
     pub(crate) fn put_back(&self, lent: Lent<M::Connection>) {
-        let shared = self.shared();
-        let Lent {
-            mut conn,
-            key,
-            place,
-        } = lent;
-        let broken = shared.manager.has_broken(&mut conn);
-        // A broken connection is closed before the core gives its room away.
-        let conn = (!broken).then_some(conn);
-        let at = shared.age_now();
-        let mut locked = shared.lock();
-        let told = locked.core.put_back(at, key, place as u64, broken);
-        shared.shelve(locked, &told, place, conn);
+        self.shared().put_back(lent);
     }
 
     pub(crate) fn add(&self, mut conn: M::Connection) -> Result<(), AddError<M::Connection>> {
@@ -345,29 +332,34 @@ impl<M: ManageConnection> PoolInner<M> {
         let at = shared.now();
         let mut locked = shared.lock();
         let Some(place) = locked.shelf.keep() else {
-            return Err(match broken {
-                true => AddError::Broken(conn),
-                false => AddError::Withheld(conn),
+            return Err(if broken {
+                AddError::Broken(conn)
+            } else {
+                AddError::Withheld(conn)
             });
         };
         let told = locked.core.add(at, place as u64, broken);
-        if told.kind == kinds::ADDED {
-            locked.shelf.put(place, conn);
-            shared.settle(locked, &told, None);
-            return Ok(());
-        }
+        let refused = match told.kind() {
+            Kind::Added => {
+                locked.shelf.put(place, conn);
+                shared.settle(locked, at, &told, None);
+                return Ok(());
+            }
+            Kind::Broken => AddError::Broken(conn),
+            Kind::NoCapacity => AddError::NoCapacity(conn),
+            Kind::Withheld => AddError::Withheld(conn),
+            kind => unreachable!("{kind:?} is no answer to an adding"),
+        };
         locked.shelf.free(place);
-        Err(match told.kind {
-            kinds::BROKEN => AddError::Broken(conn),
-            kinds::NO_CAPACITY => AddError::NoCapacity(conn),
-            _ => AddError::Withheld(conn),
-        })
+        Err(refused)
     }
 
     pub(crate) fn state(&self) -> State {
         let shared = self.shared();
         let at = shared.now();
-        let figures = shared.lock().core.state(at);
+        let mut locked = shared.lock();
+        let figures = locked.core.state(at);
+        debug_assert_eq!(figures.idle_connections as usize, locked.shelf.idle());
         State::from(figures)
     }
 
@@ -377,9 +369,14 @@ impl<M: ManageConnection> PoolInner<M> {
         let at = shared.now();
         let mut locked = shared.lock();
         let told = locked.core.reap(at);
+        match told.kind() {
+            Kind::Reaped => locked.shelf.promise(told.key.number as usize),
+            kind => assert_eq!(kind, Kind::Memory),
+        }
         let due = locked.is_due(&told);
         drop(locked);
-        shared.drop_closed();
+        // What panics there was told by the panic hook, and is not to end the reaper.
+        let _panicked = shared.drop_closed();
         if due {
             shared.open();
         }

@@ -19,6 +19,8 @@ enum Place<C> {
 pub(crate) struct Shelf<C> {
     places: Vec<Place<C>>,
     free: Option<usize>,
+    /// How many connections the core has here, to be handed out.
+    idle: usize,
 }
 
 impl<C> Shelf<C> {
@@ -26,6 +28,7 @@ impl<C> Shelf<C> {
         Shelf {
             places: Vec::new(),
             free: None,
+            idle: 0,
         }
     }
 
@@ -47,6 +50,19 @@ impl<C> Shelf<C> {
     pub(crate) fn put(&mut self, place: usize, conn: C) {
         debug_assert!(matches!(self.places[place], Place::Kept));
         self.places[place] = Place::Idle(conn);
+        self.idle += 1;
+    }
+
+    /// Notes that the core has handed out or closed so many, which are yet to be taken.
+    #[inline]
+    pub(crate) fn promise(&mut self, count: usize) {
+        self.idle -= count;
+    }
+
+    /// How many the core has here, to be handed out.
+    #[inline]
+    pub(crate) fn idle(&self) -> usize {
+        self.idle
     }
 
     /// Takes the connection from its place, which is kept.

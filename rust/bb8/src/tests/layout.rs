@@ -1,21 +1,7 @@
 //! The structs that cross the C interface lie in memory as the library has them.
 
-use crate::core::layout::{
-    read_name, read_settings, sample_figures, sample_looked, sample_told, size, HANDLE,
-};
-use crate::core::{Figures, Granted, Looked, Name, Settings, Told};
-use std::mem::size_of;
-
-#[test]
-fn sizes_are_the_library_s() {
-    assert_eq!(size(0), HANDLE);
-    assert_eq!(size(1), size_of::<Settings>());
-    assert_eq!(size(2), size_of::<Name>());
-    assert_eq!(size(3), size_of::<Granted>());
-    assert_eq!(size(4), size_of::<Told>());
-    assert_eq!(size(5), size_of::<Looked>());
-    assert_eq!(size(6), size_of::<Figures>());
-}
+use crate::core::layout::{read_name, read_settings, sample_figures, sample_looked, sample_told};
+use crate::core::{Name, Settings};
 
 #[test]
 fn each_field_of_what_is_told_has_its_number() {

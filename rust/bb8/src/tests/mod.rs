@@ -4,7 +4,9 @@
 pub(crate) mod journal;
 mod layout;
 pub(crate) mod memory;
+mod order;
 mod shadow;
 mod steps;
 mod storm;
+mod waiting;
 mod wanting;

@@ -1,6 +1,6 @@
 //! Steps of a core through the C interface, by rows that were worked out by hand from the rules.
 
-use crate::core::{kinds, Core, Figures, Name, Settings};
+use crate::core::{Core, Figures, Kind, Name, Settings};
 
 const SECOND: u64 = 1_000_000_000;
 
@@ -35,9 +35,12 @@ fn filled(lifo: bool) -> Core {
     assert_eq!((granted.first, granted.count, granted.withheld), (0, 3, 0));
     for number in 0..3 {
         let claimed = core.claim(0);
-        assert_eq!((claimed.kind, claimed.key.number), (kinds::CLAIMED, number));
+        assert_eq!(
+            (claimed.kind(), claimed.key.number),
+            (Kind::Claimed, number)
+        );
         let opened = core.opened(0, claimed.key, 70 + number);
-        assert_eq!((opened.kind, opened.notifies), (kinds::ENTERED, false));
+        assert_eq!((opened.kind(), opened.notifies), (Kind::Entered, false));
     }
     core
 }
@@ -47,7 +50,7 @@ fn the_order_says_which_goes_out_first() {
     for (lifo, first) in [(false, 0), (true, 2)] {
         let mut core = filled(lifo);
         let told = core.get(0);
-        assert_eq!(told.kind, kinds::SERVED);
+        assert_eq!(told.kind(), Kind::Served);
         assert_eq!((told.key.number, told.conn), (first, 70 + first));
         let due = Figures {
             connections: 3,
@@ -67,12 +70,12 @@ fn a_get_is_served_at_once_below_the_peak() {
     // No get was there before, so this one would need memory.
     assert_eq!(core.serve_at_once(0).kind, 0);
     let first = core.get(0);
-    assert_eq!((first.kind, first.get.number), (kinds::SERVED, 0));
+    assert_eq!((first.kind(), first.get.number), (Kind::Served, 0));
     let second = core.serve_at_once(0);
-    assert_eq!((second.kind, second.get.number), (kinds::SERVED, 1));
+    assert_eq!((second.kind(), second.get.number), (Kind::Served, 1));
     assert_eq!((second.key.number, second.conn), (1, 71));
     let told = core.put_back(0, first.key, 90, false);
-    assert_eq!((told.kind, told.notifies), (kinds::KEPT, false));
+    assert_eq!((told.kind(), told.notifies), (Kind::Kept, false));
     let third = core.serve_at_once(0);
     assert_eq!((third.key.number, third.conn), (2, 72));
     let fourth = core.serve_at_once(0);
@@ -87,21 +90,21 @@ fn a_get_that_is_cancelled_in_its_check_hands_on() {
         ..Settings::default()
     });
     let added = core.add(0, 5, false);
-    assert_eq!((added.kind, added.key.number), (kinds::ADDED, 0));
+    assert_eq!((added.kind(), added.key.number), (Kind::Added, 0));
     let first = core.get(0);
-    assert_eq!((first.kind, first.key.number), (kinds::TAKEN, 0));
+    assert_eq!((first.kind(), first.key.number), (Kind::Taken, 0));
     assert_eq!((first.get.number, first.conn), (0, 5));
     let second = core.get(0);
-    assert_eq!((second.kind, second.get.number), (kinds::WAITING, 1));
+    assert_eq!((second.kind(), second.get.number), (Kind::Waiting, 1));
     let told = core.give_up_held(0, first.get, false, 6, false, first.key.place);
-    assert_eq!((told.kind, told.key.number), (kinds::KEPT, 0));
+    assert_eq!((told.kind(), told.key.number), (Kind::Kept, 0));
     assert_eq!(told.notified(), Some(second.get));
     let taken = core.try_get(0, second.get);
-    assert_eq!((taken.kind, taken.conn), (kinds::TAKEN, 6));
+    assert_eq!((taken.kind(), taken.conn), (Kind::Taken, 6));
     let told = core.give_up_held(0, second.get, false, 7, true, taken.key.place);
     assert_eq!(
-        (told.kind, told.key.number, told.conn),
-        (kinds::CLOSED, 0, 7)
+        (told.kind(), told.key.number, told.conn),
+        (Kind::Closed, 0, 7)
     );
     let due = Figures {
         get_started: 2,
@@ -124,17 +127,18 @@ fn a_wait_counts_from_its_first_moment_to_the_answer() {
     assert_eq!(core.opened(5_000, approval, 1).notified(), Some(get));
     let taken = core.try_get(6_000, get);
     assert_eq!(
-        core.checked_err(7_000, get, 1, false, taken.key.place).kind,
-        kinds::CLOSED
+        core.checked_err(7_000, get, 1, false, taken.key.place)
+            .kind(),
+        Kind::Closed
     );
-    assert_eq!(core.try_get(8_000, get).kind, kinds::WAITING);
+    assert_eq!(core.try_get(8_000, get).kind(), Kind::Waiting);
     let approval = core.claim(9_000).key;
     assert_eq!(approval.number, 1);
     assert_eq!(core.opened(10_000, approval, 2).notified(), Some(get));
     let taken = core.try_get(11_000, get);
     assert_eq!(
-        core.checked_ok(43_999, get, taken.key.place).kind,
-        kinds::SERVED
+        core.checked_ok(43_999, get, taken.key.place).kind(),
+        Kind::Served
     );
     let due = Figures {
         connections: 1,
@@ -168,7 +172,7 @@ fn what_does_not_fit_changes_nothing() {
 
 /// Number and place of each connection that was closed, and not told yet.
 fn closed(core: &mut Core) -> Vec<(u64, u64)> {
-    let next = || Some(core.closed_next()).filter(|told| told.kind == kinds::TOLD_CLOSED);
+    let next = || Some(core.closed_next()).filter(|told| told.is(Kind::ToldClosed));
     std::iter::from_fn(next)
         .map(|told| (told.key.number, told.conn))
         .collect()
@@ -186,13 +190,13 @@ fn a_reap_spares_as_many_as_are_to_be_idle() {
         assert_eq!(core.add(0, 70 + number, false).key.number, number);
     }
     let told = core.add(0, 9, false);
-    assert_eq!((told.kind, told.conn), (kinds::NO_CAPACITY, 9));
+    assert_eq!((told.kind(), told.conn), (Kind::NoCapacity, 9));
     let told = core.reap(SECOND);
-    assert_eq!((told.kind, told.key.number), (kinds::REAPED, 3));
+    assert_eq!((told.kind(), told.key.number), (Kind::Reaped, 3));
     assert_eq!(closed(&mut core), [(0, 70), (1, 71), (2, 72)]);
     assert_eq!(closed(&mut core), []);
     let told = core.get(SECOND);
-    assert_eq!((told.kind, told.key.number), (kinds::SERVED, 3));
+    assert_eq!((told.kind(), told.key.number), (Kind::Served, 3));
     assert_eq!((told.granted.first, told.granted.count), (5, 1));
 }
 
@@ -208,12 +212,12 @@ fn what_opens_after_the_last_handle_is_late() {
     core.add(0, 1, false);
     assert!(core.look(3).alive);
     let left = core.leave(4);
-    assert_eq!((left.kind, left.key.number), (22, 1));
+    assert_eq!((left.kind(), left.key.number), (Kind::Left, 1));
     assert_eq!(closed(&mut core), [(1, 1)]);
     let looked = core.look(3);
     assert_eq!((looked.moment, looked.alive), (4, false));
     let opened = core.opened(5, approval, 8);
-    assert_eq!((opened.kind, opened.conn), (14, 8));
+    assert_eq!((opened.kind(), opened.conn), (Kind::Late, 8));
     assert_eq!(core.get(5).kind, 0);
     assert_eq!(core.state(5), Figures::default());
 }

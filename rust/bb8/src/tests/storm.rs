@@ -1,5 +1,5 @@
-//! Storms: many tasks get, cancel, time out, break, fail checks, add and reap. Afterwards nothing is
-//! lost, and every step told what the shadow says.
+//! Storms: many tasks get, cancel, time out, break, fail checks, add and reap. Afterwards nothing
+//! is lost, and every step told what the shadow says.
 
 use super::shadow;
 use crate::{ManageConnection, Pool, QueueStrategy, State};
@@ -80,6 +80,7 @@ impl ManageConnection for Wild {
 #[derive(Clone, Copy, Debug)]
 struct Weather {
     check: bool,
+    fair_after: Option<Duration>,
     order: QueueStrategy,
     tasks: u64,
     rounds: u64,
@@ -136,6 +137,7 @@ async fn storm(weather: Weather) {
         .min_idle(2)
         .test_on_check_out(weather.check)
         .queue_strategy(weather.order)
+        .fair_after(weather.fair_after)
         .connection_timeout(weather.patience)
         .max_lifetime(Duration::from_millis(12))
         .idle_timeout(Duration::from_millis(4))
@@ -171,7 +173,8 @@ async fn storm(weather: Weather) {
         seen.connections_closed_broken,
         seen.connections_closed_invalid + u64::from(!weather.check),
         ages[0],
-        ages[1],
+        // In a fair pool hardly one is idle long enough.
+        ages[1] + u64::from(weather.fair_after.is_some()),
     ];
     println!("{weather:?}: {state:?}");
     assert!(counts.iter().all(|count| *count > 0), "{counts:?}");
@@ -190,17 +193,25 @@ async fn storm(weather: Weather) {
     panic!("a connection outlives its pool");
 }
 
-/// Four kinds of weather on four threads.
+/// The kinds of weather.
+const KINDS: [(bool, QueueStrategy, Option<Duration>); 8] = [
+    (true, QueueStrategy::Fifo, None),
+    (true, QueueStrategy::Lifo, None),
+    (false, QueueStrategy::Fifo, None),
+    (false, QueueStrategy::Lifo, None),
+    (true, QueueStrategy::Fifo, Some(Duration::ZERO)),
+    (false, QueueStrategy::Lifo, Some(Duration::ZERO)),
+    (true, QueueStrategy::Lifo, Some(Duration::from_millis(1))),
+    (false, QueueStrategy::Fifo, Some(Duration::from_millis(1))),
+];
+
+/// All kinds of weather on four threads.
 #[tokio::test(flavor = "multi_thread", worker_threads = 4)]
 async fn four_threads_by_the_machine_s_clock() {
-    for (check, order) in [
-        (true, QueueStrategy::Fifo),
-        (true, QueueStrategy::Lifo),
-        (false, QueueStrategy::Fifo),
-        (false, QueueStrategy::Lifo),
-    ] {
+    for (check, order, fair_after) in KINDS {
         storm(Weather {
             check,
+            fair_after,
             order,
             tasks: 24,
             rounds: 400,
@@ -215,14 +226,10 @@ async fn four_threads_by_the_machine_s_clock() {
 /// between tries and reaps come at moments of that clock.
 #[tokio::test(start_paused = true)]
 async fn one_thread_by_a_paused_clock() {
-    for (check, order) in [
-        (true, QueueStrategy::Fifo),
-        (true, QueueStrategy::Lifo),
-        (false, QueueStrategy::Fifo),
-        (false, QueueStrategy::Lifo),
-    ] {
+    for (check, order, fair_after) in KINDS {
         storm(Weather {
             check,
+            fair_after,
             order,
             tasks: 24,
             rounds: 400,

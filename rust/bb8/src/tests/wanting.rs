@@ -96,7 +96,7 @@ async fn use_of(pool: &Pool<Counting>, open: &Arc<AtomicU32>) {
 
 #[test]
 fn nothing_is_lost_whichever_request_is_refused() {
-    for requests in 0..40 {
+    for (requests, fair_after) in (0..80).map(|n| (n / 2, (n % 2 > 0).then_some(Duration::ZERO))) {
         let mut builder = tokio::runtime::Builder::new_current_thread();
         let runtime = builder.enable_time().start_paused(true).build().unwrap();
         let open = Arc::new(AtomicU32::new(0));
@@ -104,6 +104,7 @@ fn nothing_is_lost_whichever_request_is_refused() {
             let pool = Pool::builder()
                 .max_size(4)
                 .min_idle(1)
+                .fair_after(fair_after)
                 .connection_timeout(Duration::from_secs(1))
                 .build_unchecked(Counting(open.clone()));
             tokio::task::yield_now().await;

@@ -4,10 +4,8 @@
 //!
 //! Arguments: the connection string, and the command that restarts the server.
 
-mod manager;
-
 use bb8::{ErrorSink, Pool, PooledConnection, RunError};
-use manager::{open, Closed, Connection, Database};
+use postgres_manager::{open, Closed, Connection, Database};
 use std::collections::BTreeSet;
 use std::env;
 use std::process::{Command, ExitCode};

@@ -1,4 +1,4 @@
-//! Connections to PostgreSQL, and their manager.
+//! Connections to PostgreSQL, and their manager: an adapter for bb8.
 
 use bb8::ManageConnection;
 use std::collections::HashSet;
@@ -11,6 +11,7 @@ pub type Closed = Arc<Mutex<HashSet<i32>>>;
 
 /// A connection to PostgreSQL. A task of its own moves its bytes, and ends with it.
 pub struct Connection {
+    /// What speaks to the server.
     pub client: Client,
     /// Whether a transaction is open. Then the connection is not fit for another user.
     pub in_transaction: bool,
@@ -36,7 +37,9 @@ pub async fn open(config: &Config) -> Result<Client, Error> {
 
 /// Opens connections to one database.
 pub struct Database {
+    /// Where the database is.
     pub config: Config,
+    /// Where closed connections are told.
     pub closed: Closed,
 }
 

@@ -1,0 +1,193 @@
+//! Who is served where gets wait, by `fair_after`: clocks are paused, so each run is the same.
+
+use bb8::{ManageConnection, Pool, PooledConnection, RunError};
+use std::convert::Infallible;
+use std::future::Future;
+use std::mem::ManuallyDrop;
+use std::pin::Pin;
+use std::sync::atomic::{AtomicU32, Ordering::SeqCst};
+use std::sync::{Arc, Mutex};
+use std::task::{Context, Poll, RawWaker, RawWakerVTable, Wake, Waker};
+use std::time::Duration;
+use tokio::time::{advance, sleep, Instant};
+
+const MILLISECOND: Duration = Duration::from_millis(1);
+const SECOND: Duration = Duration::from_secs(1);
+
+struct Numbers(AtomicU32);
+
+impl ManageConnection for Numbers {
+    type Connection = u32;
+    type Error = Infallible;
+
+    async fn connect(&self) -> Result<u32, Infallible> {
+        Ok(self.0.fetch_add(1, SeqCst))
+    }
+
+    async fn is_valid(&self, _: &mut u32) -> Result<(), Infallible> {
+        Ok(())
+    }
+
+    fn has_broken(&self, _: &mut u32) -> bool {
+        false
+    }
+}
+
+type Got = Result<PooledConnection<'static, Numbers>, RunError<Infallible>>;
+
+async fn pool(size: u32, check: bool, fair_after: impl Into<Option<Duration>>) -> Pool<Numbers> {
+    let builder = Pool::builder().max_size(size).min_idle(size);
+    let builder = builder.test_on_check_out(check).connection_timeout(SECOND);
+    let built = builder.fair_after(fair_after).build(Numbers(0.into()));
+    built.await.unwrap()
+}
+
+/// Of 32 tasks that share four connections for ten seconds: the rounds of each, and how many gets
+/// timed out.
+async fn rounds(check: bool, fair_after: Option<Duration>) -> (Vec<u32>, u64) {
+    let pool = pool(4, check, fair_after).await;
+    let end = Instant::now() + 10 * SECOND;
+    let task = |pool: Pool<Numbers>| async move {
+        let mut rounds = 0;
+        while Instant::now() < end {
+            if let Ok(conn) = pool.get().await {
+                sleep(MILLISECOND).await;
+                drop(conn);
+                rounds += 1;
+            }
+        }
+        rounds
+    };
+    let tasks: Vec<_> = (0..32).map(|_| tokio::spawn(task(pool.clone()))).collect();
+    let mut all = Vec::new();
+    for task in tasks {
+        all.push(task.await.unwrap());
+    }
+    all.sort_unstable();
+    (all, pool.state().statistics.get_timed_out)
+}
+
+#[tokio::test(start_paused = true)]
+async fn a_fair_pool_lets_nobody_starve() {
+    for check in [false, true] {
+        for wait in [Duration::ZERO, MILLISECOND] {
+            let (rounds, timed_out) = rounds(check, Some(wait)).await;
+            let (least, most) = (rounds[0], rounds[31]);
+            assert!(least > 100 && most - least < least / 10, "{rounds:?}");
+            assert_eq!(timed_out, 0);
+        }
+    }
+}
+
+#[tokio::test(start_paused = true)]
+async fn a_pool_that_is_not_fair_may_let_them_starve() {
+    let (rounds, timed_out) = rounds(false, None).await;
+    assert!(rounds[0] == 0 && rounds[31] > 1000, "{rounds:?}");
+    assert!(timed_out > 100);
+}
+
+type Hook = Box<dyn FnOnce() + Send>;
+
+/// A waker, each clone of which does the last of these things that is left.
+#[derive(Default)]
+struct Woken(Mutex<Vec<Hook>>);
+
+impl Woken {
+    fn cloned(&self) {
+        let hook = self.0.lock().unwrap().pop();
+        if let Some(hook) = hook {
+            hook();
+        }
+    }
+}
+
+impl Wake for Woken {
+    fn wake(self: Arc<Self>) {}
+}
+
+fn waker(woken: &Arc<Woken>) -> Waker {
+    static TABLE: RawWakerVTable = RawWakerVTable::new(
+        |data| {
+            // SAFETY: all wakers of this table own an `Arc<Woken>`, which is only looked at here.
+            let woken = unsafe { ManuallyDrop::new(Arc::from_raw(data.cast::<Woken>())) };
+            woken.cloned();
+            RawWaker::new(Arc::into_raw(Arc::clone(&woken)).cast(), &TABLE)
+        },
+        // SAFETY: as above, and this ends the waker, whose part this is.
+        |data| unsafe { Arc::from_raw(data.cast::<Woken>()) }.wake(),
+        // SAFETY: as above, and the waker keeps its part.
+        |data| unsafe { ManuallyDrop::new(Arc::from_raw(data.cast::<Woken>())) }.wake_by_ref(),
+        // SAFETY: as above, and this ends the waker, whose part this is.
+        |data| drop(unsafe { Arc::from_raw(data.cast::<Woken>()) }),
+    );
+    let data = Arc::into_raw(woken.clone()).cast();
+    // SAFETY: the functions of the table are those of an `Arc`, which any thread may call.
+    unsafe { Waker::from_raw(RawWaker::new(data, &TABLE)) }
+}
+
+/// A get that is polled by hand.
+struct Hand {
+    get: Pin<Box<dyn Future<Output = Got>>>,
+    woken: Arc<Woken>,
+}
+
+impl Hand {
+    fn new(pool: &Pool<Numbers>) -> Self {
+        let pool = pool.clone();
+        Hand {
+            get: Box::pin(async move { pool.get_owned().await }),
+            woken: Arc::default(),
+        }
+    }
+
+    /// One that was polled, and waits.
+    fn waiting(pool: &Pool<Numbers>) -> Self {
+        let mut hand = Hand::new(pool);
+        assert!(hand.poll().is_none());
+        hand
+    }
+
+    fn poll(&mut self) -> Option<Got> {
+        let waker = waker(&self.woken);
+        match self.get.as_mut().poll(&mut Context::from_waker(&waker)) {
+            Poll::Ready(got) => Some(got),
+            Poll::Pending => None,
+        }
+    }
+}
+
+#[tokio::test(start_paused = true)]
+async fn what_is_handed_at_the_deadline_is_served_or_comes_back() {
+    for check in [false, true] {
+        let pool = pool(1, check, Duration::ZERO).await;
+        let conn = pool.get_owned().await.unwrap();
+        let mut hand = Hand::waiting(&pool);
+        advance(SECOND).await;
+        // The get clones its waker before it looks for a connection, and its timer after that.
+        let hooks: [Hook; 2] = [Box::new(|| drop(conn)), Box::new(|| {})];
+        hand.woken.0.lock().unwrap().extend(hooks);
+        let got = hand.poll().expect("its time is over");
+        assert!(hand.woken.0.lock().unwrap().is_empty());
+        assert_eq!(got.is_ok(), !check);
+        drop(got);
+        let state = pool.state();
+        let figures = &state.statistics;
+        assert_eq!(figures.get_timed_out, u64::from(check));
+        assert_eq!(figures.get_waited, u64::from(!check));
+        assert_eq!((figures.pending_gets(), state.idle_connections), (0, 1));
+    }
+}
+
+#[tokio::test(start_paused = true)]
+async fn what_was_handed_to_a_get_stays_with_it() {
+    for fair_after in [None, Some(Duration::ZERO)] {
+        let pool = pool(1, false, fair_after).await;
+        let conn = pool.get().await.unwrap();
+        let mut kept = Hand::waiting(&pool);
+        drop(conn);
+        // A fair pool has handed it to the get that is kept and not polled.
+        assert_eq!(pool.get().await.is_ok(), fair_after.is_none());
+        assert!(matches!(kept.poll(), Some(Ok(_))));
+        assert_eq!(pool.config().fair_after, fair_after);
+    }
+}

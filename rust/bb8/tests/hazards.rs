@@ -1,0 +1,454 @@
+//! What may go wrong round a pool: panics of the manager, of the error sink and of a connection's
+//! drop, wakers that own what they wake, runtimes that end, futures and guards that are forgotten.
+//! No room is lost but with what is forgotten, and no get that waits is.
+
+use bb8::{ErrorSink, ManageConnection, Pool, PooledConnection, RunError};
+use std::future::{pending, Future};
+use std::panic::{catch_unwind, AssertUnwindSafe};
+use std::pin::Pin;
+use std::sync::atomic::{AtomicU32, Ordering::SeqCst};
+use std::sync::mpsc::channel;
+use std::sync::{Arc, Mutex};
+use std::task::{Context, Wake, Waker};
+use std::thread;
+use std::time::Duration;
+use tokio::runtime::{Builder, Runtime};
+use tokio::task::yield_now;
+use tokio::time::{sleep, timeout};
+
+/// What goes wrong, until it is mended.
+#[derive(Clone, Copy, Debug)]
+enum Fault {
+    ConnectHangs,
+    ConnectFails,
+    ConnectPanics,
+    CheckFails,
+    CheckPanics,
+    IsBroken,
+    AskingPanics,
+    DropPanics,
+    SinkPanics,
+}
+
+/// The faults of now, and what was opened and dropped so far.
+#[derive(Debug, Default)]
+struct World {
+    faults: AtomicU32,
+    opened: AtomicU32,
+    dropped: AtomicU32,
+}
+
+impl World {
+    fn set(&self, faults: &[Fault]) {
+        let bits = faults
+            .iter()
+            .fold(0, |bits, fault| bits | 1 << *fault as u32);
+        self.faults.store(bits, SeqCst);
+    }
+
+    fn mend(&self) {
+        self.set(&[]);
+    }
+
+    fn has(&self, fault: Fault) -> bool {
+        self.faults.load(SeqCst) >> fault as u32 & 1 == 1
+    }
+
+    /// Panics where that is the fault.
+    fn may_panic(&self, fault: Fault) {
+        assert!(!self.has(fault), "{fault:?}");
+    }
+}
+
+struct Connection(Arc<World>);
+
+impl Connection {
+    fn open(world: &Arc<World>) -> Self {
+        world.opened.fetch_add(1, SeqCst);
+        Connection(world.clone())
+    }
+}
+
+impl Drop for Connection {
+    fn drop(&mut self) {
+        self.0.dropped.fetch_add(1, SeqCst);
+        if !thread::panicking() {
+            self.0.may_panic(Fault::DropPanics);
+        }
+    }
+}
+
+#[derive(Debug)]
+struct Failed;
+
+struct Manager(Arc<World>);
+
+impl ManageConnection for Manager {
+    type Connection = Connection;
+    type Error = Failed;
+
+    async fn connect(&self) -> Result<Connection, Failed> {
+        yield_now().await;
+        self.0.may_panic(Fault::ConnectPanics);
+        if self.0.has(Fault::ConnectHangs) {
+            pending::<()>().await;
+        }
+        if self.0.has(Fault::ConnectFails) {
+            return Err(Failed);
+        }
+        Ok(Connection::open(&self.0))
+    }
+
+    async fn is_valid(&self, _: &mut Connection) -> Result<(), Failed> {
+        self.0.may_panic(Fault::CheckPanics);
+        if self.0.has(Fault::CheckFails) {
+            return Err(Failed);
+        }
+        Ok(())
+    }
+
+    fn has_broken(&self, _: &mut Connection) -> bool {
+        self.0.may_panic(Fault::AskingPanics);
+        self.0.has(Fault::IsBroken)
+    }
+}
+
+#[derive(Debug)]
+struct Sink(Arc<World>);
+
+impl ErrorSink<Failed> for Sink {
+    fn sink(&self, _: Failed) {
+        self.0.may_panic(Fault::SinkPanics);
+    }
+
+    fn boxed_clone(&self) -> Box<dyn ErrorSink<Failed>> {
+        Box::new(Sink(self.0.clone()))
+    }
+}
+
+type Guard = PooledConnection<'static, Manager>;
+type Got = Result<Guard, RunError<Failed>>;
+
+fn builder(world: &Arc<World>, size: u32) -> bb8::Builder<Manager> {
+    Pool::builder()
+        .max_size(size)
+        .test_on_check_out(false)
+        .connection_timeout(Duration::from_secs(1))
+        .error_sink(Box::new(Sink(world.clone())))
+}
+
+async fn pool(world: &Arc<World>, size: u32) -> Pool<Manager> {
+    let built = builder(world, size).build(Manager(world.clone()));
+    built.await.unwrap()
+}
+
+/// A pool of one connection that is checked, and is open.
+async fn checking(world: &Arc<World>) -> Pool<Manager> {
+    let builder = builder(world, 1).min_idle(1).test_on_check_out(true);
+    builder.build(Manager(world.clone())).await.unwrap()
+}
+
+/// Connections that the pool counts, and those that are there.
+fn counts(pool: &Pool<Manager>, world: &World) -> (u32, u32) {
+    let there = world.opened.load(SeqCst) - world.dropped.load(SeqCst);
+    (pool.state().connections, there)
+}
+
+/// A get and its drop in a task of its own: whether it was served.
+async fn serves(pool: &Pool<Manager>) -> bool {
+    let pool = pool.clone();
+    let got = tokio::spawn(async move { pool.get().await.is_ok() });
+    got.await.unwrap_or(false)
+}
+
+/// Whether a drop panics.
+fn panics<T>(dropped: T) -> bool {
+    catch_unwind(AssertUnwindSafe(|| drop(dropped))).is_err()
+}
+
+/// Polls a get once; it waits.
+fn poll_by(waker: &Waker, get: Pin<&mut impl Future>) {
+    assert!(get.poll(&mut Context::from_waker(waker)).is_pending());
+}
+
+fn runtime() -> Runtime {
+    Builder::new_current_thread().enable_time().build().unwrap()
+}
+
+/// Runs on a thread of its own, which has ten seconds for it.
+fn in_time(run: impl FnOnce() + Send + 'static) {
+    let (done, ended) = channel();
+    let running = thread::spawn(move || {
+        run();
+        done.send(()).unwrap();
+    });
+    let ended = ended.recv_timeout(Duration::from_secs(10));
+    assert!(ended.is_ok() || running.is_finished(), "it hangs");
+    running.join().unwrap();
+}
+
+/// A task whose future only its waker owns.
+struct Task(#[allow(dead_code)] Mutex<Option<Guard>>);
+
+impl Wake for Task {
+    fn wake(self: Arc<Self>) {}
+}
+
+#[test]
+fn an_old_waker_that_owns_a_guard_may_be_dropped() {
+    in_time(|| {
+        runtime().block_on(async {
+            let world: Arc<World> = Arc::default();
+            // A timer would keep a waker of its own.
+            let builder = builder(&world, 2).connection_timeout(Duration::MAX);
+            let pool = builder.build(Manager(world.clone())).await.unwrap();
+            let owned = pool.get_owned().await.unwrap();
+            let _other = pool.get().await.unwrap();
+            let mut get = Box::pin(pool.get());
+            let task = Waker::from(Arc::new(Task(Mutex::new(Some(owned)))));
+            poll_by(&task, get.as_mut());
+            drop(task);
+            // The poll by another task replaces the waker, and with it the first task ends.
+            poll_by(&Waker::from(Arc::new(Task(Mutex::default()))), get.as_mut());
+            assert_eq!(pool.state().idle_connections, 1);
+            assert!(get.await.is_ok());
+        });
+    });
+}
+
+#[tokio::test]
+async fn no_waker_of_a_get_that_ended_is_kept() {
+    let world = Arc::default();
+    let pool = pool(&world, 1).await;
+    let task = Arc::new(Task(Mutex::default()));
+    let waker = Waker::from(task.clone());
+    let conn = pool.get().await.unwrap();
+    let mut served = Box::pin(pool.get());
+    let mut dropped = Box::pin(pool.get());
+    poll_by(&waker, served.as_mut());
+    poll_by(&waker, dropped.as_mut());
+    drop((conn, dropped));
+    drop(served.await);
+    assert_eq!(Arc::strong_count(&task), 2);
+}
+
+#[tokio::test(start_paused = true)]
+async fn a_drop_that_panics_keeps_no_room() {
+    for fault in [Fault::IsBroken, Fault::AskingPanics] {
+        let world = Arc::default();
+        let pool = pool(&world, 1).await;
+        let conn = pool.get_owned().await.unwrap();
+        world.set(&[fault, Fault::DropPanics]);
+        assert!(panics(conn));
+        world.mend();
+        assert_eq!(counts(&pool, &world), (0, 0), "{fault:?}");
+        assert!(serves(&pool).await, "{fault:?}");
+    }
+}
+
+#[tokio::test(start_paused = true)]
+async fn a_drop_that_panics_after_a_failed_check_keeps_no_room() {
+    let world = Arc::default();
+    let pool = checking(&world).await;
+    world.set(&[Fault::CheckFails, Fault::DropPanics]);
+    assert!(!serves(&pool).await);
+    world.mend();
+    assert!(serves(&pool).await);
+    assert_eq!(counts(&pool, &world), (1, 1));
+    assert_eq!(pool.state().statistics.pending_gets(), 0);
+}
+
+#[tokio::test(start_paused = true)]
+async fn a_drop_that_panics_holds_up_no_get_that_waits() {
+    let world = Arc::default();
+    let builder = builder(&world, 1).max_lifetime(Duration::from_millis(20));
+    let pool = builder.build(Manager(world.clone())).await.unwrap();
+    let conn = pool.get_owned().await.unwrap();
+    let waiting = tokio::spawn({
+        let pool = pool.clone();
+        async move { pool.get().await.is_ok() }
+    });
+    sleep(Duration::from_millis(50)).await;
+    world.set(&[Fault::DropPanics]);
+    assert!(panics(conn));
+    world.mend();
+    let served = timeout(Duration::from_millis(1), waiting).await;
+    assert!(served.unwrap().unwrap());
+}
+
+#[tokio::test(start_paused = true)]
+async fn drops_that_panic_do_not_end_the_reaper() {
+    let world = Arc::default();
+    let builder = builder(&world, 4).idle_timeout(Duration::from_millis(30));
+    let builder = builder.reaper_rate(Duration::from_millis(40));
+    let pool = builder.build(Manager(world.clone())).await.unwrap();
+    for _ in 0..4 {
+        assert!(pool.add(Connection::open(&world)).is_ok());
+    }
+    world.set(&[Fault::DropPanics]);
+    sleep(Duration::from_millis(100)).await;
+    world.mend();
+    assert_eq!(counts(&pool, &world), (0, 0));
+    assert!(pool.add(Connection::open(&world)).is_ok());
+    sleep(Duration::from_millis(100)).await;
+    assert_eq!(counts(&pool, &world), (0, 0));
+}
+
+#[tokio::test]
+async fn a_drop_that_panics_keeps_no_other_connection_at_the_end() {
+    let world = Arc::default();
+    let pool = pool(&world, 4).await;
+    for _ in 0..4 {
+        assert!(pool.add(Connection::open(&world)).is_ok());
+    }
+    world.set(&[Fault::DropPanics]);
+    assert!(panics(pool));
+    assert_eq!(world.dropped.load(SeqCst), 4);
+}
+
+#[tokio::test(start_paused = true)]
+async fn a_manager_that_panics_keeps_no_room() {
+    let opening = [Fault::ConnectPanics];
+    let sinking = [Fault::ConnectFails, Fault::SinkPanics];
+    for faults in [&opening[..], &sinking[..]] {
+        let world = Arc::default();
+        let pool = pool(&world, 1).await;
+        world.set(faults);
+        assert!(!serves(&pool).await, "{faults:?}");
+        world.mend();
+        assert_eq!(counts(&pool, &world), (0, 0), "{faults:?}");
+        assert!(serves(&pool).await, "{faults:?}");
+    }
+}
+
+#[tokio::test(start_paused = true)]
+async fn a_check_that_panics_keeps_no_room() {
+    let checking_it = [Fault::CheckPanics];
+    let sinking = [Fault::CheckFails, Fault::SinkPanics];
+    for (faults, left) in [(&checking_it[..], 1), (&sinking[..], 0)] {
+        let world = Arc::default();
+        let pool = checking(&world).await;
+        world.set(faults);
+        assert!(!serves(&pool).await, "{faults:?}");
+        assert_eq!(counts(&pool, &world), (left, left), "{faults:?}");
+        world.mend();
+        assert!(serves(&pool).await, "{faults:?}");
+        assert_eq!(pool.state().statistics.pending_gets(), 0, "{faults:?}");
+    }
+}
+
+/// Gets of a runtime ask for openings, which hang, and end with it.
+fn openings_that_end(pool: &Pool<Manager>, world: &World, count: usize) -> Runtime {
+    world.set(&[Fault::ConnectHangs]);
+    let ends = runtime();
+    ends.block_on(async {
+        for _ in 0..count {
+            let pool = pool.clone();
+            tokio::spawn(async move { pool.get().await.map(drop) });
+        }
+        for _ in 0..3 {
+            yield_now().await;
+        }
+    });
+    world.mend();
+    ends
+}
+
+#[test]
+fn another_runtime_opens_what_one_that_ended_left() {
+    for count in [1, 3] {
+        let world: Arc<World> = Arc::default();
+        let lives = runtime();
+        let pool = lives.block_on(async {
+            let builder = builder(&world, 3).connection_timeout(Duration::from_secs(60));
+            builder.build(Manager(world.clone())).await.unwrap()
+        });
+        let ends = openings_that_end(&pool, &world, count);
+        let got = lives.block_on(async {
+            let get = || {
+                let pool = pool.clone();
+                tokio::spawn(async move { pool.get_owned().await })
+            };
+            let gets: Vec<_> = (0..count).map(|_| get()).collect();
+            yield_now().await;
+            thread::spawn(|| drop(ends)).join().unwrap();
+            let mut got: Vec<Got> = Vec::new();
+            for get in gets {
+                let served = timeout(Duration::from_secs(5), get).await;
+                got.push(served.expect("it is served soon").unwrap());
+            }
+            got
+        });
+        assert!(got.iter().all(Result::is_ok));
+        assert_eq!(world.opened.load(SeqCst), count as u32);
+        drop(got);
+        assert_eq!(counts(&pool, &world), (count as u32, count as u32));
+    }
+}
+
+#[test]
+fn what_a_runtime_left_is_opened_once_somebody_asks() {
+    let world: Arc<World> = Arc::default();
+    let lives = runtime();
+    let pool = lives.block_on(pool(&world, 1));
+    drop(openings_that_end(&pool, &world, 1));
+    assert_eq!(world.opened.load(SeqCst), 0);
+    assert!(lives.block_on(serves(&pool)));
+    assert_eq!(world.opened.load(SeqCst), 1);
+}
+
+#[test]
+fn a_guard_may_be_dropped_outside_a_runtime() {
+    let world: Arc<World> = Arc::default();
+    let runtime = runtime();
+    let (pool, conn) = runtime.block_on(async {
+        let builder = builder(&world, 1).min_idle(1);
+        let pool = builder.build(Manager(world.clone())).await.unwrap();
+        let conn = pool.get_owned().await.unwrap();
+        (pool, conn)
+    });
+    world.set(&[Fault::IsBroken]);
+    assert!(!panics(conn));
+    world.mend();
+    assert!(runtime.block_on(serves(&pool)));
+    assert_eq!(counts(&pool, &world), (1, 1));
+}
+
+#[test]
+fn all_is_dropped_with_the_last_runtime() {
+    let world: Arc<World> = Arc::default();
+    let runtime = runtime();
+    runtime.block_on(async {
+        let pool = pool(&world, 3).await;
+        for _ in 0..10 {
+            let pool = pool.clone();
+            tokio::spawn(async move {
+                let _conns = (pool.get_owned().await, pool.get_owned().await);
+                pending::<()>().await;
+            });
+        }
+        sleep(Duration::from_millis(10)).await;
+    });
+    drop(runtime);
+    assert_eq!(world.opened.load(SeqCst), 3);
+    assert_eq!(world.dropped.load(SeqCst), 3);
+}
+
+#[tokio::test(start_paused = true)]
+async fn what_is_forgotten_costs_no_more_than_itself() {
+    let world = Arc::default();
+    let pool: &Pool<Manager> = Box::leak(Box::new(pool(&world, 2).await));
+    std::mem::forget(pool.get().await.unwrap());
+    assert!(serves(pool).await);
+    let conn = pool.get().await.unwrap();
+    let mut forgotten = Box::pin(pool.get());
+    poll_by(
+        &Waker::from(Arc::new(Task(Mutex::default()))),
+        forgotten.as_mut(),
+    );
+    std::mem::forget(forgotten);
+    // It is told of the connection, and never comes for it.
+    drop(conn);
+    assert!(serves(pool).await);
+    assert_eq!(counts(pool, &world), (2, 2));
+}
