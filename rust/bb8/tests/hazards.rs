@@ -428,7 +428,7 @@ fn all_is_dropped_with_the_last_runtime() {
             });
         }
         while world.opened.load(SeqCst) < 3 {
-            yield_now().await;
+            sleep(Duration::from_millis(1)).await;
         }
     });
     drop(runtime);
