@@ -80,6 +80,7 @@ macro_rules! kinds {
     ($($case:ident = $number:literal,)*) => {
         /// The kinds of what a step tells.
         #[derive(Clone, Copy, Debug, PartialEq, Eq)]
+        #[repr(u32)]
         pub(crate) enum Kind {
             $($case = $number,)*
         }

@@ -30,8 +30,8 @@ pub struct Statistics {
     pub get_timed_out: u64,
     /// Gets whose future was dropped before its answer.
     pub get_cancelled: u64,
-    /// How long the gets that were served or timed out had waited, each from its first wait to its
-    /// answer, in whole microseconds.
+    /// How long the gets that were served or timed out had waited, each from its first wait to where
+    /// it was served or timed out, in whole microseconds.
     pub get_wait_time: Duration,
     /// Connections that were opened; added ones do not count.
     pub connections_created: u64,

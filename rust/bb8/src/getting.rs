@@ -67,6 +67,8 @@ pub(crate) struct Getting<'a, M: ManageConnection> {
     time: Time,
     stage: Stage,
     get: Name,
+    /// The moment at which it began, once that was asked for.
+    since: Option<u64>,
     /// What it was handed.
     held: Option<Lent<M::Connection>>,
 }
@@ -82,6 +84,7 @@ impl<'a, M: ManageConnection> Getting<'a, M> {
             },
             stage: Stage::New,
             get: Name::default(),
+            since: None,
             held: None,
         }
     }
@@ -114,6 +117,11 @@ impl<'a, M: ManageConnection> Getting<'a, M> {
         }
     }
 
+    fn since(&mut self) -> u64 {
+        let moment = || self.shared.moment(self.time.began());
+        *self.since.get_or_insert_with(moment)
+    }
+
     /// Begins, and tries. Where something is idle it does not wait, and its moment and its waker
     /// count for nothing. Else they are asked for outside the lock: the clock takes long, and
     /// wakers are cloned and dropped by code of others.
@@ -129,7 +137,7 @@ impl<'a, M: ManageConnection> Getting<'a, M> {
                 return (locked, told);
             }
         }
-        let at = self.shared.moment(self.time.began());
+        let at = self.since();
         *waker = Some(cx.waker().clone());
         let mut locked = self.shared.lock();
         let told = locked.core.get(at);
@@ -169,7 +177,7 @@ impl<'a, M: ManageConnection> Getting<'a, M> {
             Kind::Waiting => {
                 self.stage = Stage::Waited;
                 waker.get_or_insert_with(|| cx.waker().clone());
-                let since = self.shared.moment(self.time.began());
+                let since = self.since();
                 if locked.waiters.wait(self.get, since, &mut waker) {
                     Poll::Pending
                 } else {

@@ -7,6 +7,7 @@ use crate::lock::MutexGuard;
 use crate::managers::ManageConnection;
 use crate::pool::{Lent, Locked, Shared};
 use std::any::Any;
+use std::mem::ManuallyDrop;
 use std::panic::{catch_unwind, AssertUnwindSafe};
 use std::sync::Arc;
 use std::task::Waker;
@@ -28,9 +29,8 @@ pub(crate) trait HandsIn: FnOnce(&mut Core, u64, Name, u64, bool) -> Told {}
 
 impl<F: FnOnce(&mut Core, u64, Name, u64, bool) -> Told> HandsIn for F {}
 
-/// A connection that is out, and the step that is to tell the core that it came back. Where that is
-/// not made otherwise, it is made at the end, as of a broken one that is gone: else its room would
-/// be lost for ever.
+/// A connection that is out, and the step that is to tell the core that it came back. Where this is
+/// dropped the step is made, as the connection is gone: else its room would be lost for ever.
 struct Owed<'a, M: ManageConnection, S: HandsIn> {
     shared: &'a Arc<Shared<M>>,
     key: Name,
@@ -49,14 +49,14 @@ impl<M: ManageConnection, S: HandsIn> Owed<'_, M, S> {
         };
         let at = (self.clock)(self.shared);
         let mut locked = self.shared.lock();
-        let conn_at = self.place as u64;
-        let told = step(&mut locked.core, at, self.key, conn_at, self.broken);
+        let place = self.place as u64;
+        let told = step(&mut locked.core, at, self.key, place, self.broken);
         self.shared.shelve(locked, at, &told, self.place, conn);
     }
 }
 
 impl<M: ManageConnection, S: HandsIn> Drop for Owed<'_, M, S> {
-    #[inline]
+    #[cold]
     fn drop(&mut self) {
         self.tell(None);
     }
@@ -70,7 +70,8 @@ impl<M: ManageConnection> Shared<M> {
     }
 
     /// Takes a connection back by a step, at the moment that the clock tells. One that is broken,
-    /// or is not to be kept, is dropped before the core gives its room away.
+    /// also as its manager panics, or that is not to be kept, is dropped before the core gives its
+    /// room away.
     #[inline]
     pub(crate) fn take_back(
         self: &Arc<Self>,
@@ -79,6 +80,7 @@ impl<M: ManageConnection> Shared<M> {
         clock: fn(&Shared<M>) -> u64,
         step: impl HandsIn,
     ) {
+        // It is dropped after the connection.
         let mut owed = Owed {
             shared: self,
             key: lent.key,
@@ -87,11 +89,10 @@ impl<M: ManageConnection> Shared<M> {
             clock,
             step: Some(step),
         };
-        // It is dropped before what is owed, also where its manager panics.
         let mut conn = lent.conn;
         owed.broken = self.manager.has_broken(&mut conn);
         if keep && !owed.broken {
-            owed.tell(Some(conn));
+            ManuallyDrop::new(owed).tell(Some(conn));
         }
     }
 
@@ -106,33 +107,48 @@ impl<M: ManageConnection> Shared<M> {
         place: usize,
         conn: Option<M::Connection>,
     ) {
-        let closed = match (told.kind(), conn) {
-            (Kind::Kept | Kind::Entered, Some(conn)) => {
+        let closed = match conn {
+            Some(conn) if told.is(Kind::Kept) || told.is(Kind::Entered) => {
                 locked.shelf.put(place, conn);
                 None
             }
-            (Kind::Closed | Kind::Late, conn) => {
+            conn => {
+                assert!(told.is(Kind::Closed) || told.is(Kind::Late), "{told:?}");
                 locked.shelf.free(place);
                 conn
             }
-            (kind, _) => unreachable!("{kind:?} tells nothing of what comes back"),
         };
         self.settle(locked, at, told, closed);
     }
 
-    /// Unlocks after a step at this moment, drops what it closed, has opened what it granted, and
-    /// wakes whom it notified, or hands it a connection first.
-    #[inline]
+    /// Goes on after a step at this moment: unlocks, drops what it closed, has opened what it
+    /// granted, and wakes whom it notified, or hands it a connection first.
+    #[inline(always)]
     pub(crate) fn settle(
         self: &Arc<Self>,
-        mut locked: MutexGuard<'_, Locked<M::Connection>>,
+        locked: MutexGuard<'_, Locked<M::Connection>>,
         at: u64,
         told: &Told,
         closed: Option<M::Connection>,
     ) {
-        let mut due = locked.is_due(told);
+        let due = locked.is_due(told);
+        let notified = told.notified();
+        if due || notified.is_some() || closed.is_some() {
+            self.follow(locked, at, due, notified, closed);
+        }
+    }
+
+    /// Does what a step has left to be done.
+    fn follow(
+        self: &Arc<Self>,
+        mut locked: MutexGuard<'_, Locked<M::Connection>>,
+        at: u64,
+        mut due: bool,
+        notified: Option<Name>,
+        closed: Option<M::Connection>,
+    ) {
         let mut waker = None;
-        if let Some(get) = told.notified() {
+        if let Some(get) = notified {
             let (woken, more) = self.notify(&mut locked, at, get);
             waker = woken;
             due |= more;
@@ -152,7 +168,7 @@ impl<M: ManageConnection> Shared<M> {
     /// What follows for a get that was notified: whom to wake, and whether something is to be
     /// opened. Where memory to note that it waits was refused it gives up, and its notification
     /// goes on.
-    #[cold]
+    #[inline]
     fn notify(
         &self,
         locked: &mut Locked<M::Connection>,

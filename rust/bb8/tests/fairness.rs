@@ -42,11 +42,11 @@ async fn pool(size: u32, check: bool, fair_after: impl Into<Option<Duration>>) -
     built.await.unwrap()
 }
 
-/// Of 32 tasks that share four connections for ten seconds: the rounds of each, and how many gets
-/// timed out.
+/// Of 32 tasks that share four connections for three seconds: the rounds of each, and how many
+/// gets timed out.
 async fn rounds(check: bool, fair_after: Option<Duration>) -> (Vec<u32>, u64) {
     let pool = pool(4, check, fair_after).await;
-    let end = Instant::now() + 10 * SECOND;
+    let end = Instant::now() + 3 * SECOND;
     let task = |pool: Pool<Numbers>| async move {
         let mut rounds = 0;
         while Instant::now() < end {
@@ -83,7 +83,7 @@ async fn a_fair_pool_lets_nobody_starve() {
 async fn a_pool_that_is_not_fair_may_let_them_starve() {
     let (rounds, timed_out) = rounds(false, None).await;
     assert!(rounds[0] == 0 && rounds[31] > 1000, "{rounds:?}");
-    assert!(timed_out > 100);
+    assert!(timed_out > 50, "{timed_out}");
 }
 
 type Hook = Box<dyn FnOnce() + Send>;
