@@ -167,8 +167,8 @@ fn hangs<R: Runtime + Abort + Threads + Eprint, L: PoolParts + 'static>(
         }
     };
     if holds {
-        assert!(&rt; pool.add(make(board)?).is_ok());
-        assert_equal(&rt, sizes(pool.state()), (1, 1));
+        assert!(&rt; OwnedHandle::add(&pool, make(board)?).is_ok());
+        assert_equal(&rt, sizes(OwnedHandle::state(&pool)), (1, 1));
     }
     Ok(met)
 }
