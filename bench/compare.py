@@ -1,9 +1,9 @@
 #!/usr/bin/env python3
 """Measures the core and the live pool beside the original, r2d2, and the Rust crate over the core, and keeps the figures.
 
-    bench/compare.py [--original FOLDER] [--built] [instructions] [bytes] [times] [wakes]
+    bench/compare.py [--original FOLDER] [--built] [instructions] [bytes] [times] [wakes] [shares] [loads]
 
-Without a part it measures all four. With --built it takes what an earlier run built; else it builds what is to be had, and says in a line what is not: the core and the live pool by the kit,
+Without a part it measures all six. With --built it takes what an earlier run built; else it builds what is to be had, and says in a line what is not: the core and the live pool by the kit,
 r2d2 and the original where cargo finds them; the original's crate may also lie in FOLDER. The figures go to bench/figures.txt, and the
 pictures in docs/ are drawn of them.
 """
@@ -20,9 +20,9 @@ import draw
 import figures
 import measures
 import programs
-from measures import CORE_OF, CRATE_OF, LIVE_OF, ORIGINAL_CORE, ORIGINAL_OF, POOLS, R2D2_OF
+from measures import CORE_OF, CRATE_OF, FAIR_OF, LIVE_OF, ORIGINAL_CORE, ORIGINAL_OF, POOLS, R2D2_OF
 
-PARTS = ("instructions", "bytes", "times", "wakes")
+PARTS = ("instructions", "bytes", "times", "wakes", "shares", "loads")
 REPETITIONS = 9
 # all pairs of a run that is timed, in all its threads together
 PAIRS = 800_000
@@ -31,6 +31,9 @@ CROWDS = (10_000, 25_000, 50_000, 100_000)
 THREADS = ((1, 16), (2, 16), (4, 16), (8, 16), (4, 4))
 # rounds of each of two threads that wake each other
 WAKES = "500"
+# 32 tasks share four connections: whose these are, of which pool and by which mode, and for how many milliseconds
+SHARING = ((CRATE_OF, CRATE_OF, "tasks"), (FAIR_OF, CRATE_OF, "fair-tasks"), (ORIGINAL_OF, ORIGINAL_OF, "tasks"))
+LONG, SHORT = "3000", "300"
 
 
 def taken():
@@ -102,6 +105,32 @@ def wakes(have):
     return rows + [["a return to the get that sleeps", whose, *map(str, min(all_of))] for whose, all_of in told.items()]
 
 
+def shared(have, held, long):
+    """How 32 tasks share four connections, which each has for such a while: whose, how many gets time out, and the rounds of each."""
+    for whose, of, mode in SHARING:
+        if of in have:
+            late, *rounds = programs.ran([programs.BESIDE, POOLS[of], f"{mode}-{held}", long, "4", "32"]).split()
+            yield whose, late, list(map(int, rounds))
+
+
+def shares(have):
+    """The rounds of each task, of one run of each pool."""
+    rows = [["what", "whose", "gets that timed out", "rounds of each"]]
+    return rows + [["32 tasks over 4 connections", whose, late, " ".join(map(str, rounds))] for whose, late, rounds in shared(have, "sleep", LONG)]
+
+
+def loads(have):
+    """The rounds that all tasks make in a second: the median of runs by turns."""
+    rows = [["what", "whose", "rounds a second"]]
+    for held in measures.HELD:
+        told = {}
+        for _ in range(REPETITIONS):
+            for whose, _, rounds in shared(have, held, SHORT):
+                told.setdefault(whose, []).append(sum(rounds) * 1000 / int(SHORT))
+        rows += [[f"held for {held}", whose, f"{statistics.median(each):.0f}"] for whose, each in told.items()]
+    return rows
+
+
 def measured(part, have):
     """The notes and rows of a part."""
     before, notes = load(), taken()
@@ -111,8 +140,8 @@ def measured(part, have):
         return notes, rows
     if part == "bytes":
         return notes, [["what", "whose", "bytes"], *map(list, measures.heaps(have))]
-    rows = times(have) if part == "times" else wakes(have)
-    notes.append(f"Of {REPETITIONS} interleaved runs each. The machine's load was {before} before (1, 5 and 15 minutes) and {load()} after: where it is "
+    rows = {"times": times, "wakes": wakes, "shares": shares, "loads": loads}[part](have)
+    notes.append(f"Of {'one run' if part == 'shares' else f'{REPETITIONS} interleaved runs'} each. The machine's load was {before} before (1, 5 and 15 minutes) and {load()} after: where it is "
                  "not near 0, other work ran beside them.")
     return notes, rows
 

@@ -12,7 +12,7 @@ sys.dont_write_bytecode = True
 
 import figures
 import tables
-from measures import CORE_OF, CRATE_OF, LIVE_OF, ORIGINAL_OF, R2D2_OF
+from measures import CORE_OF, CRATE_OF, FAIR_OF, LIVE_OF, ORIGINAL_OF, R2D2_OF
 from programs import TOP
 from tables import NAMES
 
@@ -20,7 +20,7 @@ WIDTH, LEFT, RIGHT = 720, 60, 150
 TITLE, TOP_OF, TALL, FOOT = 52, 72, 220, 58
 # the colours in light and in dark, by whose the figure is
 COLOURS = {CORE_OF: ("a", "#0969da", "#58a6ff"), LIVE_OF: ("a", "#0969da", "#58a6ff"), CRATE_OF: ("b", "#1a7f37", "#3fb950"),
-           ORIGINAL_OF: ("c", "#bc4c00", "#f0883e"), R2D2_OF: ("d", "#8250df", "#bc8cff")}
+           FAIR_OF: ("a", "#0969da", "#58a6ff"), ORIGINAL_OF: ("c", "#bc4c00", "#f0883e"), R2D2_OF: ("d", "#8250df", "#bc8cff")}
 POOLS = (LIVE_OF, CRATE_OF, R2D2_OF, ORIGINAL_OF)
 
 
@@ -85,8 +85,7 @@ def lines(title, below, across, up, marks, drawn):
     for mark in marks_up:
         y = foot - TALL * mark / marks_up[-1]
         parts += [f'<path class="g" d="M{LEFT} {y:.1f}H{LEFT + wide}"/>', text(LEFT - 8, y + 4, f"{mark:,g}", "s", "end")]
-    for place, name in marks:
-        parts.append(text(LEFT + wide * place, foot + 18, name, "s", "middle"))
+    parts += [text(LEFT + wide * place, foot + 18, name, "s", "middle") for place, name in marks if name]
     parts.append(text(LEFT + wide / 2, foot + 38, across, "s", "middle"))
     ends = {}
     for whose, each in drawn.items():
@@ -145,6 +144,16 @@ def threads(parts):
                            "threads that get and return without a pause", "million pairs a second", marks, drawn)
 
 
+def shares(parts):
+    """The rounds of each task, from the least on."""
+    table = figures.table(parts, "shares")
+    drawn = {whose: list(map(float, table[what, whose][1].split())) for what, whose in table}
+    many = max(map(len, drawn.values()), default=0)
+    marks = [(at / (many - 1), str(at + 1) if at % 8 == 7 or at == 0 else "") for at in range(many)]
+    return drawn and lines(f"{many} tasks that share four connections for three seconds", "Each has a connection for a millisecond, gives it back and asks again; a level line is a fair one",
+                           "tasks, from the one with the fewest rounds on", "rounds of a task", marks, drawn)
+
+
 def named(count):
     return f"a pair, {count} thread{'' if count == 1 else 's'}, pool of 16"
 
@@ -152,7 +161,7 @@ def named(count):
 def drawings():
     """What each picture, and the page of the tables, is to be, by its file."""
     parts = figures.read()
-    made = {"pair": pair(parts), "crowd": crowd(parts), "threads": threads(parts)}
+    made = {"pair": pair(parts), "crowd": crowd(parts), "threads": threads(parts), "shares": shares(parts)}
     return {os.path.join(TOP, "docs", f"{name}.svg"): drawn for name, drawn in made.items() if drawn} | {tables.README: tables.readme(parts)}
 
 

@@ -10,10 +10,13 @@ from programs import BESIDE, CORE, LIVE
 # whose figures stand beside each other
 CORE_OF, LIVE_OF, CRATE_OF, ORIGINAL_OF, R2D2_OF = "core", "live pool", "Rust crate", "original", "r2d2"
 ORIGINAL_CORE, FREE_CORE = "original's core", "original's core, no limits on ages"
+FAIR_OF = "Rust crate, fair after 1 ms"
 # the pools that `beside` has, by its own names for them
 POOLS = {CRATE_OF: "crate", ORIGINAL_OF: "original", R2D2_OF: "r2d2"}
 SIZES = (1, 10, 1_000, 100_000)
 FEW, MANY = 1_000, 11_000
+# what a task does while it has a connection, by the modes of `beside`
+HELD = ("nothing", "yield", "compute", "sleep")
 # what one run of the profiler is allowed
 LIMIT = 600
 

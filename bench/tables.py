@@ -3,12 +3,12 @@ import os
 import re
 
 import figures
-from measures import CORE_OF, CRATE_OF, LIVE_OF, ORIGINAL_CORE, ORIGINAL_OF, R2D2_OF, SIZES, round_of
+from measures import CORE_OF, CRATE_OF, FAIR_OF, HELD, LIVE_OF, ORIGINAL_CORE, ORIGINAL_OF, R2D2_OF, SIZES, round_of
 
 README = os.path.join(os.path.dirname(os.path.abspath(__file__)), "README.md")
 POOLS = (LIVE_OF, CRATE_OF, ORIGINAL_OF, R2D2_OF)
 NAMES = {LIVE_OF: "this pool, in Rattle", CRATE_OF: "this pool, in Rust", ORIGINAL_OF: "bb8", R2D2_OF: "r2d2", CORE_OF: "the proved core",
-         ORIGINAL_CORE: "bb8's core, with its lock"}
+         ORIGINAL_CORE: "bb8's core, with its lock", FAIR_OF: "in Rust, fair after 1 ms"}
 # the rows: their words, and the part and what of the kept figures
 PAIRS = (
     ("instructions: a pair, default settings", "instructions", "a pair, check on"),
@@ -24,6 +24,8 @@ PAIRS = (
     ("in tables that have just grown", "bytes", "a waiting get, 4,097 of them"),
     ("ns from a return to the get that sleeps", "wakes", "a return to the get that sleeps"),
 )
+LOADS = tuple((words, "loads", f"held for {held}") for words, held in zip(
+    ("not held", "held for one yield", "held for 20 µs of computing", "held for a sleep of 1 ms"), HELD))
 FLOOR = "the floor: lock, pop, unlock, lock, push, unlock"
 ROUNDS = (*((what, "instructions", what) for what in (*map(round_of, SIZES), "a waiting get, served", "the letting go of one that waits")),
           ("a `Mutex` round a `VecDeque` of 10 takes, for the same", "instructions", FLOOR))
@@ -56,7 +58,7 @@ def readme(parts):
     """The page with its tables as the kept figures have them."""
     with open(README, encoding="utf-8") as told:
         text = told.read()
-    made = {"pools": table(parts, PAIRS, POOLS), "core": table(parts, ROUNDS, (CORE_OF, ORIGINAL_CORE))}
+    made = {"pools": table(parts, PAIRS, POOLS), "loads": table(parts, LOADS, (CRATE_OF, FAIR_OF, ORIGINAL_OF)), "core": table(parts, ROUNDS, (CORE_OF, ORIGINAL_CORE))}
     for name, lines in made.items():
         text = re.sub(rf"(<!-- {name} -->\n).*?(<!-- end -->)", lambda found, lines=lines: f"{found[1]}{lines}\n{found[2]}", text, flags=re.S)
     return text

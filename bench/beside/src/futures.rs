@@ -3,12 +3,14 @@
 use crate::numbers::{Never, Numbers};
 use crate::Run;
 use std::future::Future;
-use std::hint::black_box;
+use std::hint::{black_box, spin_loop};
 use std::mem::size_of_val;
 use std::pin::{pin, Pin};
 use std::task::{Context, Poll, Waker};
 use std::thread;
-use tokio::runtime::Builder;
+use std::time::{Duration, Instant};
+use tokio::task::yield_now;
+use tokio::{runtime, time};
 
 /// How many polls last a while.
 const POLLS: u64 = 200_000;
@@ -30,11 +32,26 @@ unsafe fn pinned<F>(all: &mut [F], place: usize) -> Pin<&mut F> {
     Pin::new_unchecked(&mut all[place])
 }
 
+/// What a task does while it has a connection, by the end of the mode's name.
+async fn hold(mode: &str) {
+    match mode.rsplit('-').next() {
+        Some("sleep") => time::sleep(Duration::from_millis(1)).await,
+        Some("yield") => yield_now().await,
+        Some("compute") => {
+            let end = Instant::now() + Duration::from_micros(20);
+            while Instant::now() < end {
+                spin_loop();
+            }
+        }
+        _ => {}
+    }
+}
+
 macro_rules! runs {
-    ($name:ident) => {
+    ($name:ident, $fair:expr) => {
         pub mod $name {
             use super::*;
-            use ::$name::{ManageConnection, Pool, PooledConnection};
+            use ::$name::{Builder, ManageConnection, Pool, PooledConnection};
 
             impl ManageConnection for Numbers {
                 type Connection = u64;
@@ -82,7 +99,7 @@ macro_rules! runs {
 
             /// The same in so many threads.
             fn shared(pool: &Pool<Numbers>, count: u64, threads: u32) -> u64 {
-                let runtime = tokio::runtime::Handle::current();
+                let runtime = runtime::Handle::current();
                 thread::scope(|scope| {
                     let one = || {
                         let _inside = runtime.enter();
@@ -138,9 +155,61 @@ macro_rules! runs {
                 count
             }
 
+            /// The rounds of a task that takes a connection, has it for a while, gives it back and asks again, until this time.
+            async fn share(pool: Pool<Numbers>, mode: String, end: Instant) -> u64 {
+                let mut rounds = 0;
+                while Instant::now() < end {
+                    if let Ok(guard) = pool.get().await {
+                        hold(&mode).await;
+                        drop(guard);
+                        rounds += 1;
+                        // A task that never waits lets the others of its thread in.
+                        if rounds % 256 == 0 {
+                            yield_now().await;
+                        }
+                    }
+                }
+                rounds
+            }
+
+            /// How many gets time out, at a second, and the rounds of so many such tasks in so many milliseconds, from the least on.
+            pub fn shares(run: &Run) -> Option<String> {
+                let builder = Pool::builder()
+                    .max_size(run.size)
+                    .min_idle(run.size)
+                    .connection_timeout(Duration::from_secs(1));
+                let fair: fn(Builder<Numbers>) -> Builder<Numbers> = $fair;
+                let builder = if run.mode.starts_with("fair") {
+                    fair(builder)
+                } else {
+                    builder
+                };
+                let runtime = runtime::Builder::new_multi_thread()
+                    .worker_threads(4)
+                    .enable_time()
+                    .build()
+                    .ok()?;
+                let (late, mut all) = runtime.block_on(async {
+                    let pool = builder
+                        .test_on_check_out(false)
+                        .build(Numbers)
+                        .await
+                        .expect("it opens numbers");
+                    let end = Instant::now() + Duration::from_millis(run.count);
+                    let task = |_| tokio::spawn(share(pool.clone(), run.mode.clone(), end));
+                    let mut all = Vec::new();
+                    for task in (0..run.threads).map(task).collect::<Vec<_>>() {
+                        all.push(task.await.expect("it ends"));
+                    }
+                    (pool.state().statistics.get_timed_out, all)
+                });
+                all.sort_unstable();
+                Some(all.iter().fold(late.to_string(), |told, rounds| format!("{told} {rounds}")))
+            }
+
             /// The answer of a run.
             pub fn answer(run: &Run) -> Option<u64> {
-                let runtime = Builder::new_current_thread().enable_time().build().ok()?;
+                let runtime = runtime::Builder::new_current_thread().enable_time().build().ok()?;
                 let _inside = runtime.enter();
                 let pool = |check, limits| pool(run.size, check, limits);
                 match run.mode.as_str() {
@@ -159,6 +228,6 @@ macro_rules! runs {
     };
 }
 
-runs!(bb8);
+runs!(bb8, |builder| builder.fair_after(Duration::from_millis(1)));
 #[cfg(feature = "original")]
-runs!(original);
+runs!(original, |builder| builder);

@@ -10,9 +10,12 @@
 //!   they wait for a while;
 //! - `wake`: two threads take turns with one connection of r2d2, and sleep in their gets; it prints two figures, as there;
 //! - `core`: rounds of the original's locked core alone; `core-free` the same without limits on ages;
+//! - `tasks-HELD`: for so many milliseconds so many tasks take a connection, have it for what HELD says (`nothing`, `yield`, `compute` for
+//!   20 microseconds, `sleep` of a millisecond) and ask again; `fair-tasks-HELD` the same of the crate with `fair_after` of a
+//!   millisecond. It prints how many gets timed out, and the rounds of each task, from the least on;
 //! - `sizes`: how many bytes the future of a get has.
 //!
-//! It prints how many gets were served, or let go, or the size.
+//! Else it prints how many gets were served, or let go, or the size.
 
 #[cfg(feature = "tokio")]
 mod futures;
@@ -45,9 +48,13 @@ fn core_rounds(run: &Run) -> Option<u64> {
 fn answer(pool: &str, run: &Run) -> Option<String> {
     let number = match pool {
         #[cfg(feature = "tokio")]
+        "crate" if run.mode.contains("tasks") => return futures::bb8::shares(run),
+        #[cfg(feature = "tokio")]
         "crate" => futures::bb8::answer(run),
         #[cfg(feature = "original")]
         "original" if run.mode.starts_with("core") => core_rounds(run),
+        #[cfg(feature = "original")]
+        "original" if run.mode.starts_with("tasks") => return futures::original::shares(run),
         #[cfg(feature = "original")]
         "original" => futures::original::answer(run),
         #[cfg(feature = "r2d2")]

@@ -13,7 +13,7 @@ use std::sync::Wait;
 use std::sync::ledger::Blank;
 
 /// What one thread does with a pool and a driver of it, by whatever parts `L` the connections that are out are counted.
-/// `Builder::with_pool` runs it. Our own.
+/// `Builder::with_pool` runs it.
 ///
 /// As in a `Service`, its method calls the pool by `PoolCalls` and the driver by `DriverCalls`. Its ghost members are relations between
 /// what it was given and what it answers, with what the pool was built of; one that is left out allows everything.
@@ -24,7 +24,7 @@ pub trait User<
     K: Clock,
     R: Locks,
 > {
-    /// What comes of it. Our own.
+    /// What comes of it.
     type Outcome;
 
     // Holds of a user, and what each pool was built of that it may be run over.
@@ -33,7 +33,7 @@ pub trait User<
     // Holds of a user, what its pool was built of, and each outcome that it may have.
     ghost comes_to: { Self → Basis M S Z K → Self.Outcome → Type 0 } = { λ _ _ _. ⊤ };
 
-    /// What is done with the pool, which has no connection yet, and its driver, which made no turn. Our own.
+    /// What is done with the pool, which has no connection yet, and its driver, which made no turn.
     fn run<L: PoolParts>(
         &self,
         pool: &Pool<M, S, Z, K, R, L>,
@@ -77,7 +77,7 @@ impl<
     Z: CustomizeConnection<M::Connection, M::Error>,
 > Builder<M, S, Z> {
     /// Builds a pool as `build_unchecked` does, with parts of its own, and runs a user over it and a driver of it, in this thread. Then
-    /// both are dropped. Our own.
+    /// both are dropped.
     ///
     /// No thread is started and nothing is waited for: a connection is opened where the user turns the driver. For small programs, and
     /// for tests on a `SetClock`. It fails only where the pool or its driver was refused memory; then the user did not run.

@@ -4,10 +4,7 @@ ghost use Rattle.std.specs.Duration.{as_nanos};
 ghost use Rattle.std.specs.Option.{ForSome, option_map};
 ghost use Rattle.bb8_types.specs.Settings.{settings_of, default_settings};
 
-use bb8_core::api::{
-    Config, CustomizeConnection, ErrorSink, ManageConnection, NopCustomizer, NopErrorSink,
-    QueueStrategy,
-};
+use bb8_core::api::{Config, NopCustomizer, NopErrorSink, QueueStrategy};
 use std::marker::{Model, PhantomData};
 use std::time::Duration;
 
@@ -17,7 +14,8 @@ use std::time::Duration;
 /// changed has its default. `Config::from(&builder)` tells the settings, and its `is_lawful` whether a pool can hold to them.
 ///
 /// As upstream, but that a value which upstream answers with a panic is here a condition on the caller, that options are taken
-/// plainly, and that sink and customizer are type parameters in place of boxes. Spans of time are whole nanoseconds of the
+/// plainly, that sink and customizer are type parameters in place of boxes, and that what manager, sink and customizer can do is asked
+/// for where a pool is built, and not at each call. Spans of time are whole nanoseconds of the
 /// pool's clock; one of more than 18,446,744,073,709,551,615 nanoseconds, some 584 years, is never over.
 #[derive(Drop)]
 pub struct Builder<M, S = NopErrorSink, Z = NopCustomizer> {
@@ -70,7 +68,7 @@ impl<M, S, Z> Builder<M, S, Z> {
     }
 }
 
-impl<M: ManageConnection> Default for Builder<M> {
+impl<M> Default for Builder<M> {
     ghost is_default = { λ builder. builder.settings ≡ default_settings };
 
     /// The settings at their defaults, as `Config::default` gives them, with a sink and a customizer that do nothing. As upstream.
@@ -79,7 +77,7 @@ impl<M: ManageConnection> Default for Builder<M> {
     }
 }
 
-impl<M: ManageConnection> Builder<M> {
+impl<M> Builder<M> {
     /// A builder with each setting at its default. As upstream.
     pub fn new() -> Self
         ensures { result.settings ≡ default_settings }
@@ -88,11 +86,7 @@ impl<M: ManageConnection> Builder<M> {
     }
 }
 
-impl<
-    M: ManageConnection,
-    S: ErrorSink<M::Error>,
-    Z: CustomizeConnection<M::Connection, M::Error>,
-> Builder<M, S, Z> {
+impl<M, S: Drop, Z: Drop> Builder<M, S, Z> {
     /// How many connections and open approvals there are at most. 10 by default.
     ///
     /// Zero is refused by the condition, where upstream panics. A `min_idle` above it makes the settings unlawful.
@@ -223,7 +217,7 @@ impl<
 
     /// Where errors go that no caller of the pool waits for; the sink that was set before is dropped. `NopErrorSink` by default. As
     /// upstream, but that the sink's type becomes part of the builder's.
-    pub fn error_sink<T: ErrorSink<M::Error>>(self, error_sink: T) -> Builder<M, T, Z>
+    pub fn error_sink<T>(self, error_sink: T) -> Builder<M, T, Z>
         ensures { result ≡ record {
           settings = self.settings;
           error_sink = error_sink;
@@ -235,10 +229,7 @@ impl<
 
     /// What prepares each connection that the pool opens; the customizer that was set before is dropped. `NopCustomizer` by default. As
     /// upstream, but that the customizer's type becomes part of the builder's.
-    pub fn connection_customizer<T: CustomizeConnection<M::Connection, M::Error>>(
-        self,
-        connection_customizer: T,
-    ) -> Builder<M, S, T>
+    pub fn connection_customizer<T>(self, connection_customizer: T) -> Builder<M, S, T>
         ensures { result ≡ record {
           settings = self.settings;
           error_sink = self.error_sink;

@@ -126,7 +126,7 @@ impl<G: Given<Runtime: Wait + AllocGlobal>, L: Parts> MakesPool for Plan<G, L> {
 /// the error sink. The first failure of a last try ends the building.
 ///
 /// One that is pending asks to be polled again at once; `BuildingCalls::wait` sleeps between its polls. When it is dropped before its answer, its approvals are given back and its pool is
-/// dropped. Manager, customizer, sink and clock are called while the pool's lock is free. Our own: upstream's is an async function.
+/// dropped. Manager, customizer, sink and clock are called while the pool's lock is free. Upstream's is an async function.
 pub struct Building<G: Given, L: Parts> {
     site: Site<Plan<G, L>, Pool<G, L>, Tasks<G::Connection, G::Connecting, G::Acquiring>>,
 }
@@ -333,17 +333,17 @@ impl<G: Given<Runtime: Wait + AllocGlobal>, L: Parts> Builds for Building<G, L> 
     }
 }
 
-/// The calls of a building beside its polls, as methods of an impl, so that code that a thread runs can make them. Our own.
+/// The calls of a building beside its polls, as methods of an impl, so that code that a thread runs can make them.
 pub trait BuildingCalls {
-    /// What it answers at last. Our own.
+    /// What it answers at last.
     type Answer;
 
     /// When a poll next has something to do: once an opening has slept after a try that failed; or at once, which is a moment that has
-    /// passed, before the first poll and while an opening is pending. None is never. Our own.
+    /// passed, before the first poll and while an opening is pending. None is never.
     fn next_due(&self) -> Option<Moment>;
 
     /// Polls it until it answers. Between two polls the pool's clock is read once more, and the thread sleeps until something is due, and
-    /// 50 milliseconds at most; where an opening was pending, a millisecond. Our own.
+    /// 50 milliseconds at most; where an opening was pending, a millisecond.
     fn wait(self, rt: &impl Wait) -> Self::Answer;
 }
 

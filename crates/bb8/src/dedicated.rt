@@ -12,7 +12,7 @@ use std::mem;
 /// What `Pool::dedicated_connection` answers: an opening that does nothing until it is polled.
 ///
 /// Each poll reads the pool's clock, and none takes the pool's lock. One that is pending asks to be polled again at once. When it is
-/// dropped before its answer, what it holds is dropped. Our own: upstream's is an async function.
+/// dropped before its answer, what it holds is dropped. Upstream's is an async function.
 pub struct DedicatedFuture<'a, G: Given, L: Parts> {
     pub(crate) shared: &'a Shared<G, L>,
     pub(crate) latest: Moment,

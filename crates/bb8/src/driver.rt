@@ -17,7 +17,7 @@ use std::sync::{Arc, Wait};
 use std::thread::{JoinHandle, Threads};
 use std::time::Duration;
 
-/// Opens the connections that a pool approved, and reaps those that idled or lived too long, at its turns. Our own: upstream spawns a task
+/// Opens the connections that a pool approved, and reaps those that idled or lived too long, at its turns. Upstream spawns a task
 /// for each opening, and one that reaps.
 ///
 /// A driver holds no handle of its pool, and a pool may have several. Whoever has one makes its turns (`turn`), or hands it to a thread
@@ -29,23 +29,23 @@ pub struct Driver<G: Given, L: Parts> {
     turning: Turning<G::Connection, G::Connecting, G::Acquiring>,
 }
 
-/// What a thread asks between two turns of its driver. Our own.
+/// What a thread asks between two turns of its driver.
 pub trait Gate {
     // Holds of a gate, what a pause may answer, and the gate then.
     ghost pauses: { Self → Bool → Self → Type 0 } = { λ _ _ _. ⊤ };
 
-    /// Waits as long as it sees fit, and says whether one more turn is to be made. Our own.
+    /// Waits as long as it sees fit, and says whether one more turn is to be made.
     fn pause(&mut self) -> bool
         ensures { pauses self.old result self.new };
 
     /// How long the thread may then sleep, where nothing wakes it: 50 milliseconds, unless the implementer says otherwise. A pool whose clock
-    /// is not the machine's, or goes otherwise than it, may ask for less. Our own.
+    /// is not the machine's, or goes otherwise than it, may ask for less.
     fn longest(&self) -> Duration {
         Duration::from_millis(50)
     }
 }
 
-/// What a run of turns came to. Our own.
+/// What a run of turns came to.
 #[derive(Clone, Copy, Debug, PartialEq, Eq)]
 pub struct Driven {
     /// How many turns were made; it stays at the greatest u64.
@@ -55,13 +55,11 @@ pub struct Driven {
 }
 
 impl<G: Given<Runtime: Wait + AllocGlobal>, L: Parts> Driver<G, L> {
-    /// A driver of the pool, which made no turn yet. It fails only where sharing the pool was refused memory. Our own.
+    /// A driver of the pool, which made no turn yet. It fails only where sharing the pool was refused memory.
     pub fn new(pool: &Pool<G, L>) -> Result<Self, Memory>
         ensures { IfOk result (λ driver. IsDriverOf driver pool.now) }
     {
-        let Ok(shared) = Arc::try_clone(&pool.shared) else {
-            return Err(Memory);
-        };
+        let shared = Arc::try_clone(&pool.shared)?;
         let turning = Turning::new(shared.rt.alloc(), &shared.config, shared.made);
         Ok(Driver { shared, turning })
     }
@@ -86,9 +84,9 @@ pub(crate) fn rest(due: Option<Moment>, at: Moment, longest: Duration) -> Durati
     }
 }
 
-/// The turns of a driver. Our own.
+/// The turns of a driver.
 pub trait DriverCalls {
-    /// One turn at a moment, in nanoseconds of the pool's clock; for each step it may wait for the pool's lock. Our own.
+    /// One turn at a moment, in nanoseconds of the pool's clock; for each step it may wait for the pool's lock.
     ///
     /// It polls the reaper first. Then it claims the pool's approvals, in the order of their numbers, until none is unclaimed or there is no
     /// memory for the task of one more, whose approval then stays unclaimed. Then it polls the opening of each approval that it holds
@@ -96,12 +94,12 @@ pub trait DriverCalls {
     /// claim finds no handle alive it polls none, drops what it opens, gives all approvals back, and has ended, as at each later turn.
     fn turn(&mut self, moment: Moment) -> Turn;
 
-    /// One turn at the moment that the pool's clock tells, which is read first. Our own.
+    /// One turn at the moment that the pool's clock tells, which is read first.
     fn turn_now(&mut self) -> Turn;
 
     /// When a turn next has something to do, by what the driver holds: at its reaper's next tick, or earlier where an opening is to be
     /// polled, be it once it has slept after a try that failed, or at once; that is a moment that has passed. None is never. Approvals that
-    /// were granted since the last turn, and a pool without a handle, are not looked for. Our own.
+    /// were granted since the last turn, and a pool without a handle, are not looked for.
     fn next_due(&self) -> Option<Moment>;
 }
 
@@ -141,7 +139,7 @@ impl<G: Given<Runtime: Wait>, L: Parts> Driver<G, L> {
 
     /// Makes turns, each at a reading of the pool's clock, until one has ended or the gate, which is asked after each other one, does not
     /// pause. Before the next one the thread sleeps until an approval is granted, no handle is alive, or something is due, and no longer
-    /// than the gate lets it; where an opening was pending, a millisecond. Then the driver is dropped. Our own.
+    /// than the gate lets it; where an opening was pending, a millisecond. Then the driver is dropped.
     pub fn run<P: Gate + Drop>(self, gate: P) -> Driven
         ensures { RunsDriver P.pauses self gate result }
     {
@@ -243,7 +241,7 @@ impl<G: Given<Runtime: Wait>, L: Parts, P: Gate + Drop> Job for Gated<Driver<G, 
 }
 
 /// Runs a driver in a thread of its own, as `Driver::run` does. Where no thread can be made the driver is dropped. The pool's own runtime
-/// needs no threads. Our own.
+/// needs no threads.
 pub fn drive<
     M: ManageConnection,
     S: ErrorSink<M::Error>,

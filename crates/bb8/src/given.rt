@@ -1,9 +1,13 @@
 //! The pool's types by manager, error sink, customizer, clock, runtime and parts. In their modules the first five are one parameter.
-use crate::{building, dedicated, driver, get, guards, owned, pool};
+use crate::{MachineClock, building, dedicated, driver, get, guards, owned, pool};
+use bb8_core::api::{NopCustomizer, NopErrorSink};
 use bb8_lock::These;
 
 /// A handle of a pool, `pool::Pool`.
 pub type Pool<M, S, Z, K, R, L> = pool::Pool<These<M, S, Z, K, R>, L>;
+
+/// A handle of a pool without sink and customizer, on the machine's clock: of what `Builder::new()` and `serve` make of `MachineClock`.
+pub type PlainPool<M, R, L> = Pool<M, NopErrorSink, NopCustomizer, MachineClock<R>, R, L>;
 
 /// A guard, `pool::PooledConnection`.
 pub type PooledConnection<'a, M, S, Z, K, R, L> = pool::PooledConnection<

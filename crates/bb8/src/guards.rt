@@ -16,7 +16,7 @@ struct Ticket<'a, G: Given, L: Parts> {
 }
 
 /// A list of guards of one pool, which has at most as many as the pool's `max_size`: its guards' parts say so. When it is dropped it drops
-/// each of its guards, for which it may wait for the lock. Our own.
+/// each of its guards, for which it may wait for the lock.
 pub struct Guards<'a, G: Given, L: Parts> {
     shared: &'a Shared<G, L>,
     tickets: Vec<Ticket<'a, G, L>>,
@@ -27,33 +27,33 @@ pub struct Guards<'a, G: Given, L: Parts> {
     ghost within: { vec_len connections ≤ shared.now.config.max_size },
 }
 
-/// The calls of a list of guards. Our own.
+/// The calls of a list of guards.
 pub trait GuardsCalls: Sized {
-    /// A handle of the pool, by reference. Our own.
+    /// A handle of the pool, by reference.
     type Pool;
 
-    /// A guard of it. Our own.
+    /// A guard of it.
     type Guard;
 
-    /// What a guard holds. Our own.
+    /// What a guard holds.
     type Connection;
 
-    /// An empty list of guards of this pool. It takes no memory. Our own.
+    /// An empty list of guards of this pool. It takes no memory.
     fn new(alloc: Global, pool: Self::Pool) -> Self;
 
-    /// How many guards there are. Our own.
+    /// How many guards there are.
     fn len(&self) -> usize;
 
-    /// Whether there is no guard. Our own.
+    /// Whether there is no guard.
     fn is_empty(&self) -> bool;
 
-    /// Adds a guard at the end. It comes back, and the list is as before, where memory for it was refused. Our own.
+    /// Adds a guard at the end. It comes back, and the list is as before, where memory for it was refused.
     fn push(&mut self, guard: Self::Guard) -> Result<(), Self::Guard>;
 
-    /// Takes the guard of an index out; the ones behind it move up. None where there is no such index. Our own.
+    /// Takes the guard of an index out; the ones behind it move up. None where there is no such index.
     fn remove(&mut self, index: usize) -> Option<Self::Guard>;
 
-    /// The connection of the guard of an index. None where there is no such index. Our own.
+    /// The connection of the guard of an index. None where there is no such index.
     fn get_mut(&mut self, index: usize) -> Option<&mut Self::Connection>;
 }
 

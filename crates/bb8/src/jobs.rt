@@ -6,12 +6,12 @@ use bb8_core::api::Memory;
 use std::thread;
 use std::thread::{JoinHandle, Threads, map_indices};
 
-/// What a thread does: a closure that calls a pool gets no proof in a thread of its own, a job does. Our own.
+/// What a thread does: a closure that calls a pool gets no proof in a thread of its own, a job does.
 ///
 /// Its method calls the pool by `PoolCalls`, as those of a `Service` do. The implementer chooses its ghost members, and one that is left
 /// out allows everything.
 pub trait Job {
-    /// What it tells at its end. Our own.
+    /// What it tells at its end.
     type Told;
 
     // Holds of each job that may be run.
@@ -20,17 +20,17 @@ pub trait Job {
     // Holds of a job, the number of its thread, and each thing that it may tell.
     ghost tells: { Self → ℕ → Self.Told → Type 0 } = { λ _ _ _. ⊤ };
 
-    /// Does it in the thread of this number. Our own.
+    /// Does it in the thread of this number.
     fn run(self, thread: usize) -> Self::Told
         requires { is_ready self }
         ensures { tells self thread result };
 }
 
-/// No thread could be made, and what it was to do was dropped. Our own.
+/// No thread could be made, and what it was to do was dropped.
 #[derive(Clone, Copy, Debug, PartialEq, Eq)]
 pub struct NoThread;
 
-/// Starts a job in a thread of its own, to which this number is given. Where no thread can be made the job is dropped. Our own.
+/// Starts a job in a thread of its own, to which this number is given. Where no thread can be made the job is dropped.
 pub fn start<R: Threads, J: Job + Send + Drop + 'static>(
     threads: &R,
     number: usize,
@@ -47,7 +47,7 @@ where
 }
 
 /// Does a job so many times, with the numbers from 0 on, each in a thread of its own where one can be made, and gives what they tell, in
-/// their order. It fails only where that finds no memory; then some may have run. Our own.
+/// their order. It fails only where that finds no memory; then some may have run.
 pub fn in_threads<R: Threads + AllocGlobal + Sync, J: Job + Copy + Sync>(
     rt: &R,
     threads: usize,

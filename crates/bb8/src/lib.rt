@@ -1,4 +1,5 @@
-//! A pool of connections: its builder, and all that `bb8_core` gives to a user.
+//! A pool of connections: its builder, and all that `bb8_core` gives to a user. What is bb8's of Rust ("upstream") says so; all else has no
+//! counterpart there.
 //!
 //! A program whose threads share a pool has three parts: a manager, which opens and checks connections (`ManageConnection`); a service,
 //! which says what is done before the threads run, in each, and after them (`Service`); and a `main`, which builds the pool and runs the
@@ -51,8 +52,8 @@ pub use builder::Builder;
 pub use building::BuildingCalls;
 pub use driver::{Driven, DriverCalls, Gate, Turn, drive};
 pub use given::{
-    Building, DedicatedFuture, Driver, GetFuture, GetOwnedFuture, Guards, OwnedConnection, Pool,
-    PooledConnection,
+    Building, DedicatedFuture, Driver, GetFuture, GetOwnedFuture, Guards, OwnedConnection,
+    PlainPool, Pool, PooledConnection,
 };
 pub use guards::GuardsCalls;
 pub use jobs::{Job, NoThread, in_threads, start};

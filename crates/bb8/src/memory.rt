@@ -6,19 +6,19 @@ use crate::jobs::NoThread;
 use bb8_core::api::{Memory, RunError};
 
 impl From<NoThread> for Memory {
-    /// No thread could be made, as where memory was refused. Our own.
+    /// No thread could be made, as where memory was refused.
     fn from(_: NoThread) -> Memory {
         Memory
     }
 }
 
 /// `call.or_memory()?` passes a refusal of memory on from a function that answers `RunError`, whose `?` takes each other error for the
-/// manager's own. Our own.
+/// manager's own.
 pub trait OrMemory {
-    /// What the call answers where nothing was refused. Our own.
+    /// What the call answers where nothing was refused.
     type Value;
 
-    /// The value, or `RunError::Memory`. Our own.
+    /// The value, or `RunError::Memory`.
     fn or_memory<E>(self) -> Result<Self::Value, RunError<E>>;
 }
 

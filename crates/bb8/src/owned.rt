@@ -34,7 +34,7 @@ pub(crate) enum Owning<G: Given, L: Parts> {
 /// What `Pool::get_owned` answers: a get with a handle of its own, or why it has none, and nothing once it was answered.
 ///
 /// Each poll is as one of `GetFuture`. When it is dropped before its answer, it gives the get up as cancelled, and its handle leaves; the
-/// handle of one that was served goes with the guard, and that of one that was refused leaves at its answer. Our own: upstream's get is an
+/// handle of one that was served goes with the guard, and that of one that was refused leaves at its answer. Upstream's get is an
 /// async function.
 pub struct GetOwnedFuture<G: Given, L: Parts> {
     pub(crate) owning: Option<Owning<G, L>>,

@@ -129,12 +129,12 @@ impl<'a, G: Given, L: Parts> IntoParts for PooledConnection<'a, G, L> {
     }
 }
 
-/// The calls of a pool that take no lock, so that they cannot wait. Our own.
+/// The calls of a pool that take no lock, so that they cannot wait.
 pub trait Gets {
-    /// The future of a get. Our own.
+    /// The future of a get.
     type Get;
 
-    /// The future of a dedicated connection. Our own.
+    /// The future of a dedicated connection.
     type Dedicated;
 
     /// Gets a connection: an idle one, or the first that comes in the get's turn. As upstream, but for the future's name.
@@ -187,24 +187,24 @@ impl<'a, G: Given, L: Parts> Gets for &'a Pool<G, L> {
     }
 }
 
-/// The calls of a pool that may wait for its lock. They stand in a trait, as a thread's code can call methods of traits alone. Our own.
+/// The calls of a pool that may wait for its lock. They stand in a trait, as a thread's code can call methods of traits alone.
 pub trait PoolCalls {
-    /// What the pool lends. Our own.
+    /// What the pool lends.
     type Connection;
 
-    /// What the manager answers where something fails. Our own.
+    /// What the manager answers where something fails.
     type Error;
 
-    /// A handle of the pool. Our own.
+    /// A handle of the pool.
     type Handle;
 
-    /// The future of a get with a handle of its own. Our own.
+    /// The future of a get with a handle of its own.
     type GetOwned;
 
-    /// A guard. Our own.
+    /// A guard.
     type Guard;
 
-    /// A guard that has a handle of its own. Our own.
+    /// A guard that has a handle of its own.
     type Owned;
 
     /// Gets a connection as `get` does, with a handle of its own, so that neither the get nor its guard borrows the pool. As upstream, but
@@ -214,13 +214,13 @@ pub trait PoolCalls {
     fn get_owned(self) -> Self::GetOwned;
 
     /// Gets a connection if one is idle, and waits for none. It asks under one taking of the lock whether one is, and where none is it answers
-    /// `None`: no get began and none is counted. Our own.
+    /// `None`: no get began and none is counted.
     ///
     /// With the check off one that is idle is the answer. With the check on the check is polled once: where it does not pass at that poll the
     /// answer is `None`, and the get is counted as cancelled. It answers `Memory` or `Exhausted` where the get could not begin.
     fn try_get(self) -> Result<Option<Self::Guard>, RunError<Self::Error>>;
 
-    /// Gets a connection as `get` does, in one call: the thread waits until the get answers, `connection_timeout` at most. Our own: upstream
+    /// Gets a connection as `get` does, in one call: the thread waits until the get answers, `connection_timeout` at most. Upstream
     /// awaits.
     ///
     /// It sleeps between the polls of its get, until a connection comes back or is opened or added, or the deadline has come, and
@@ -228,11 +228,11 @@ pub trait PoolCalls {
     /// it sleeps. The errors are those of `get`.
     fn get_blocking(self) -> Result<Self::Guard, RunError<Self::Error>>;
 
-    /// As `get_blocking`, with a time of its own in place of `connection_timeout`. Our own: upstream's caller sets a timer.
+    /// As `get_blocking`, with a time of its own in place of `connection_timeout`. Upstream's caller sets a timer.
     fn get_blocking_timeout(self, timeout: Duration) -> Result<Self::Guard, RunError<Self::Error>>;
 
     /// Gets a connection as `get_owned` does, and waits as `get_blocking` does. The handle is made first; one that is refused is the answer,
-    /// and then no get begins. Our own.
+    /// and then no get begins.
     fn get_owned_blocking(self) -> Result<Self::Owned, RunError<Self::Error>>;
 
     /// Adds a connection that the pool did not open. It is asked whether it is broken first, and is otherwise idle at once, and born
@@ -256,9 +256,9 @@ pub trait PoolCalls {
     fn try_clone(self) -> Result<Self::Handle, RunError<Self::Error>>;
 }
 
-/// The cancelling of a future. Our own.
+/// The cancelling of a future.
 pub trait Cancel {
-    /// Lets the get, the opening or the building go, as a drop does. Our own.
+    /// Lets the get, the opening or the building go, as a drop does.
     fn cancel(self);
 }
 
@@ -416,7 +416,7 @@ impl<G: Given, L: Parts> Drop for Pool<G, L> {
 }
 
 impl<G: Given, L: Parts> Debug for Pool<G, L> {
-    /// `Pool(..)`, without its parts. Our own: upstream prints an address.
+    /// `Pool(..)`, without its parts. Upstream prints an address.
     fn fmt<W: fmt::Write>(&self, f: &mut Formatter<W>) -> fmt::Result {
         f.write_str("Pool(..)")
     }

@@ -22,7 +22,7 @@ use std::sync::{Arc, Wait};
 use std::thread::{JoinHandle, Threads};
 
 /// What a program does with its pool in threads, by whatever parts `L` the connections that are out are counted. `Builder::serve` runs
-/// it. Our own.
+/// it.
 ///
 /// Its methods call the pool by `PoolCalls`; a call of a function that takes the pool has no proof in them. Each has a ghost member, a
 /// relation between what it was given and what it answered, with the pool's settings, manager and clock. The implementer chooses it,
@@ -34,10 +34,10 @@ pub trait Service<
     K: Clock,
     R: Locks,
 >: Sync {
-    /// What a thread tells. Our own.
+    /// What a thread tells.
     type Told: Send + Drop;
 
-    /// What comes of it all. Our own.
+    /// What comes of it all.
     type Outcome;
 
     // Holds of a service, and what each pool was built of that it may be run over.
@@ -52,17 +52,17 @@ pub trait Service<
     // Holds of a service, what its pool was built of, what the threads told in their order, and each outcome that it may end with.
     ghost ends: { Self → Basis M S Z K → List Self.Told → Self.Outcome → Type 0 } = { λ _ _ _ _. ⊤ };
 
-    /// What is done before the threads start. Where it answers an error, none is started, and that is what comes of it all. Our own.
+    /// What is done before the threads start. Where it answers an error, none is started, and that is what comes of it all.
     fn begin<L: PoolParts>(&self, pool: &Pool<M, S, Z, K, R, L>) -> Result<(), Self::Outcome>
         requires { suits self.now (basis_of pool.now) }
         ensures { begins self.now (basis_of pool.now) result };
 
-    /// What the thread of this number does, from 0 on. Our own.
+    /// What the thread of this number does, from 0 on.
     fn run<L: PoolParts>(&self, pool: &Pool<M, S, Z, K, R, L>, thread: usize) -> Self::Told
         requires { suits self.now (basis_of pool.now) }
         ensures { tells self.now (basis_of pool.now) thread result };
 
-    /// What is done once all threads have ended, with what they told, in their order. The pool is dropped then. Our own.
+    /// What is done once all threads have ended, with what they told, in their order. The pool is dropped then.
     fn end<L: PoolParts>(&self, pool: &Pool<M, S, Z, K, R, L>, told: &[Self::Told]) -> Self::Outcome
         requires { suits self.now (basis_of pool.now) }
         ensures { ends self.now (basis_of pool.now) told.now result };
@@ -200,9 +200,7 @@ fn serve_with<
         (M.connect_answers manager) (Z.acquire_answers builder.connection_customizer)) }
 {
     let over = Arc::new(rt.alloc(), AtomicBool::new(false)).or_memory::<M::Error>()?;
-    let Ok(seen) = Arc::try_clone(&over) else {
-        return Err(RunError::Memory);
-    };
+    let seen = Arc::try_clone(&over).or_memory::<M::Error>()?;
     let pool: Pool<M, S, Z, K, R, L> = built(builder, manager, clock, rt, blank)?;
     let thread = drive_while(&pool, rt, seen).or_memory::<M::Error>()?;
     let outcome = run_service(&rt, &pool, threads, service);
@@ -220,7 +218,7 @@ impl<
     /// Builds a pool as `build` does, with parts of its own, and waits asleep until its first connections are open. Then it runs a service over
     /// the pool: the service begins, each thread runs with its number, in a thread of its own where one can be made, and once all have
     /// ended the service ends. A driver makes the pool's turns meanwhile, in one more thread, which sleeps between two of them while
-    /// nothing is to be done (`Driver::run`). Then the pool is dropped, and the driver with it. Our own.
+    /// nothing is to be done (`Driver::run`). Then the pool is dropped, and the driver with it.
     ///
     /// The answer is `User` with the error of a first connection that could not be opened, and `Memory` where the pool, or a thread for its
     /// driver, could not be made: then the service did not begin. It is `Memory` too where what the threads tell found no memory: then

@@ -20,7 +20,7 @@ use waiting::{given_up, served_in_turn};
 
 /// Opens `size` connections, and then `rounds` times begins a get, has it take the connection that is idle longest, and gives that one
 /// back. Answers the sum of the numbers of the connections that were served, each counted from 1, at most the greatest u64. 0 comes where
-/// `size` or `rounds` is 0, where memory was refused, and where no number was left. Our own.
+/// `size` or `rounds` is 0, where memory was refused, and where no number was left.
 #[unsafe(no_mangle)]
 pub extern "C" fn core_rounds(alloc: Global, size: u32, rounds: u64) -> u64
     ensures { (result ≡ 0) ⊎ (result ≡ held (turned rounds (upto size))) }
@@ -32,7 +32,7 @@ pub extern "C" fn core_rounds(alloc: Global, size: u32, rounds: u64) -> u64
 }
 
 /// Opens `size` connections, and then has a get take each, of which none comes back. Answers the sum of their numbers, each counted from
-/// 1, at most the greatest u64; 0 as `core_rounds`. Our own.
+/// 1, at most the greatest u64; 0 as `core_rounds`.
 #[unsafe(no_mangle)]
 pub extern "C" fn core_fill_drain(alloc: Global, size: u32) -> u64
     ensures { (result ≡ 0) ⊎ (result ≡ held (counted (upto size))) }
@@ -45,7 +45,7 @@ pub extern "C" fn core_fill_drain(alloc: Global, size: u32) -> u64
 
 /// Has a get take the one connection of a pool, has `gets` more begin and wait for it, and then so often gives it back and has the get
 /// that is notified take it. Answers `gets`, where they were notified in the order of their numbers. 0 comes where they were not, where
-/// memory was refused, and where no number was left. Our own.
+/// memory was refused, and where no number was left.
 #[unsafe(no_mangle)]
 pub extern "C" fn core_crowd(alloc: Global, gets: u32) -> u64
     ensures { (result ≡ 0) ⊎ (result ≡ gets) }
@@ -55,7 +55,6 @@ pub extern "C" fn core_crowd(alloc: Global, gets: u32) -> u64
 
 /// Has `gets` gets wait as `core_crowd`, and then lets `count` of them go, one after another in the order of their numbers, from the one
 /// before which `from` wait. Answers `count`. 0 comes where they are not so many, where memory was refused, and where no number was left.
-/// Our own.
 #[unsafe(no_mangle)]
 pub extern "C" fn core_give_ups(alloc: Global, gets: u32, from: u32, count: u32) -> u64
     ensures { (result ≡ 0) ⊎ (result ≡ count) }
@@ -64,7 +63,7 @@ pub extern "C" fn core_give_ups(alloc: Global, gets: u32, from: u32, count: u32)
 }
 
 /// Runs the script that `input` spells, and writes its answers over the front of `out`. Answers how many bytes they are. 0 comes where
-/// memory was refused, and where `out` is too short; then `out` is unchanged. Our own.
+/// memory was refused, and where `out` is too short; then `out` is unchanged.
 #[unsafe(no_mangle)]
 pub extern "C" fn script_run(alloc: Global, input: &[u8], out: &mut [u8]) -> u64
     ensures written { ((result ≡ 0) × (out.new ≡ out.old))

@@ -16,11 +16,11 @@ use crate::internals::{
     Started, TryAnswer,
 };
 
-/// The step does not fit, as the state knows no such get or approval, or no handle is alive; nothing has changed. Our own.
+/// The step does not fit, as the state knows no such get or approval, or no handle is alive; nothing has changed.
 #[derive(Clone, Copy, Debug)]
 pub struct Unfit;
 
-/// Begins a get. Our own.
+/// Begins a get.
 #[inline(always)]
 pub fn begin<C: Drop>(pool: &mut PoolInternals<C>, at: Moment) -> Result<BeginAnswer, Unfit>
     ensures step { Stepped Meets begin_told pool.old at.0 acts.Begin result pool.new }
@@ -33,7 +33,7 @@ pub fn begin<C: Drop>(pool: &mut PoolInternals<C>, at: Moment) -> Result<BeginAn
     Ok(pool.begin(at))
 }
 
-/// Begins a get and lets it try, in one step. Our own.
+/// Begins a get and lets it try, in one step.
 #[inline(always)]
 pub fn start<C: Drop>(pool: &mut PoolInternals<C>, at: Moment) -> Result<Started<C>, Unfit>
     ensures ok { IfOk result (λ told. Starts pool.old at.0 told pool.new) }
@@ -49,7 +49,7 @@ pub fn start<C: Drop>(pool: &mut PoolInternals<C>, at: Moment) -> Result<Started
     }
 }
 
-/// Begins a get and serves it, where connections go out unchecked, one is idle, and the get needs no memory. Else nothing changes. Our own.
+/// Begins a get and serves it, where connections go out unchecked, one is idle, and the get needs no memory. Else nothing changes.
 #[inline(always)]
 pub fn serve_at_once<C: Drop>(pool: &mut PoolInternals<C>, at: Moment) -> Option<AtOnce<C>>
     ensures some { IfSome result (λ served. ServesAtOnce pool.old at.0 served pool.new) }
@@ -64,7 +64,7 @@ pub fn serve_at_once<C: Drop>(pool: &mut PoolInternals<C>, at: Moment) -> Option
     pool.serve_at_once(at)
 }
 
-/// Has a get try. Our own.
+/// Has a get try.
 #[inline(always)]
 pub fn try_get<C: Drop>(
     pool: &mut PoolInternals<C>,
@@ -82,7 +82,7 @@ pub fn try_get<C: Drop>(
     Ok(pool.try_get(at, get))
 }
 
-/// Tells that the check of a get was passed. Our own.
+/// Tells that the check of a get was passed.
 #[inline(always)]
 pub fn checked_ok<C: Drop>(
     pool: &mut PoolInternals<C>,
@@ -98,7 +98,7 @@ pub fn checked_ok<C: Drop>(
     pool.checked_ok(at, get, hint)
 }
 
-/// Tells that the check of a get failed. Our own.
+/// Tells that the check of a get failed.
 #[inline(always)]
 pub fn checked_err<C: Drop>(
     pool: &mut PoolInternals<C>,
@@ -120,7 +120,7 @@ pub fn checked_err<C: Drop>(
     Ok(pool.checked_err(at, get, conn, broken, hint))
 }
 
-/// Gives up a get that holds nothing. Our own.
+/// Gives up a get that holds nothing.
 #[inline(always)]
 pub fn give_up<C: Drop>(
     pool: &mut PoolInternals<C>,
@@ -141,7 +141,7 @@ pub fn give_up<C: Drop>(
     Ok(pool.give_up(at, get, reason, broken))
 }
 
-/// Gives up a get that holds this connection. Our own.
+/// Gives up a get that holds this connection.
 #[inline(always)]
 pub fn give_back<C: Drop>(
     pool: &mut PoolInternals<C>,
@@ -161,7 +161,7 @@ pub fn give_back<C: Drop>(
     pool.give_back(at, get, reason, conn, broken, hint)
 }
 
-/// Gives back a connection that a guard holds. Our own.
+/// Gives back a connection that a guard holds.
 #[inline(always)]
 pub fn put_back<C: Drop>(
     pool: &mut PoolInternals<C>,
@@ -179,7 +179,7 @@ pub fn put_back<C: Drop>(
     pool.put_back(at, key, conn, broken)
 }
 
-/// Hands in what a claimed approval brought. Our own.
+/// Hands in what a claimed approval brought.
 #[inline(always)]
 pub fn opened<C: Drop>(
     pool: &mut PoolInternals<C>,
@@ -199,7 +199,7 @@ pub fn opened<C: Drop>(
     Ok(pool.opened(at, key, conn))
 }
 
-/// Ends a claimed approval that brought nothing. Our own.
+/// Ends a claimed approval that brought nothing.
 #[inline(always)]
 pub fn failed<C: Drop>(
     pool: &mut PoolInternals<C>,
@@ -217,7 +217,7 @@ pub fn failed<C: Drop>(
     Ok(pool.failed(at, key))
 }
 
-/// Adds a connection. Our own.
+/// Adds a connection.
 #[inline(always)]
 pub fn add<C: Drop>(
     pool: &mut PoolInternals<C>,
@@ -236,7 +236,7 @@ pub fn add<C: Drop>(
     Ok(pool.add(at, conn, broken))
 }
 
-/// Adds a handle. Our own.
+/// Adds a handle.
 #[inline(always)]
 pub fn join<C: Drop>(pool: &mut PoolInternals<C>, at: Moment) -> Result<JoinAnswer, Unfit>
     ensures step { Stepped Meets join_told pool.old at.0 acts.Join result pool.new }
@@ -249,7 +249,7 @@ pub fn join<C: Drop>(pool: &mut PoolInternals<C>, at: Moment) -> Result<JoinAnsw
     Ok(pool.join(at))
 }
 
-/// Takes a handle away. Our own.
+/// Takes a handle away.
 #[inline(always)]
 pub fn leave<C: Drop>(pool: &mut PoolInternals<C>, at: Moment) -> Result<LeaveAnswer, Unfit>
     ensures step { Stepped Meets leave_told pool.old at.0 acts.Leave result pool.new }

@@ -16,7 +16,7 @@ use crate::internals::{
     PutBackAnswer, Reason, TryAnswer,
 };
 
-/// What a step that hands over comes to. Our own.
+/// What a step that hands over comes to.
 #[derive(Drop)]
 pub struct HandedOver<R, C> {
     /// What the step answered.
@@ -60,7 +60,7 @@ macro_rules! hand_over {
     };
 }
 
-/// Tells that the check of a get failed, and hands over. Our own.
+/// Tells that the check of a get failed, and hands over.
 #[inline(always)]
 pub fn checked_err<C: Drop>(
     pool: &mut PoolInternals<C>,
@@ -82,7 +82,7 @@ pub fn checked_err<C: Drop>(
     )
 }
 
-/// Gives up a get that holds nothing, and hands over. Our own.
+/// Gives up a get that holds nothing, and hands over.
 #[inline(always)]
 pub fn give_up<C: Drop>(
     pool: &mut PoolInternals<C>,
@@ -99,7 +99,7 @@ pub fn give_up<C: Drop>(
     hand_over!(pool, at, asked::give_up(pool, at, get, reason, broken))
 }
 
-/// Gives up a get that holds this connection, and hands over. Our own.
+/// Gives up a get that holds this connection, and hands over.
 #[inline(always)]
 pub fn give_back<C: Drop>(
     pool: &mut PoolInternals<C>,
@@ -122,7 +122,7 @@ pub fn give_back<C: Drop>(
     )
 }
 
-/// Gives back a connection that a guard holds, and hands over. Our own.
+/// Gives back a connection that a guard holds, and hands over.
 #[inline(always)]
 pub fn put_back<C: Drop>(
     pool: &mut PoolInternals<C>,
@@ -139,7 +139,7 @@ pub fn put_back<C: Drop>(
     hand_over!(pool, at, asked::put_back(pool, at, key, conn, broken))
 }
 
-/// Hands in what a claimed approval brought, and hands over. Our own.
+/// Hands in what a claimed approval brought, and hands over.
 #[inline(always)]
 pub fn opened<C: Drop>(
     pool: &mut PoolInternals<C>,
@@ -155,7 +155,7 @@ pub fn opened<C: Drop>(
     hand_over!(pool, at, asked::opened(pool, at, key, conn))
 }
 
-/// Adds a connection, and hands over. Our own.
+/// Adds a connection, and hands over.
 #[inline(always)]
 pub fn add<C: Drop>(
     pool: &mut PoolInternals<C>,

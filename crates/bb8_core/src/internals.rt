@@ -47,7 +47,7 @@ use std::alloc::Global;
 use std::marker::Model;
 
 /// The state of a pool that stands behind its lock, over connections of any type. Its steps are the events of a pool; they call no
-/// manager and wait for nothing. Its name and its part are upstream's, its steps are our own.
+/// manager and wait for nothing. Its name and its part are upstream's.
 ///
 /// Whoever has one has what some legal ledger shows, so it keeps the limits: see `limits`.
 ///
@@ -118,14 +118,14 @@ impl<C: Drop, A> PoolInternals<C, A> {
         let _ = &self.config;
     }
 
-    /// How many entries of its tables the latest step lent: each time what stands at a place was read or changed. Our own.
+    /// How many entries of its tables the latest step lent: each time what stands at a place was read or changed.
     pub fn examined(&self) -> u64
         ensures { result ≡ examined self.now }
     {
         self.lendings.lent()
     }
 
-    /// How often the latest step searched a table, as a key that it was handed told a place where its number does not stand. Our own.
+    /// How often the latest step searched a table, as a key that it was handed told a place where its number does not stand.
     pub fn searched(&self) -> u64
         ensures { result ≡ searched self.now }
     {
@@ -197,7 +197,7 @@ impl<C: Drop, A> PoolInternals<C, A> {
     }
 
     /// Begins a get and lets it try, as `begin` and then `try_get` do, in one step. A get that is served leaves no entry; another is born where
-    /// it stands then, and is looked up nowhere. Our own.
+    /// it stands then, and is looked up nowhere.
     #[inline(always)]
     pub fn start(&mut self, at: Moment) -> Started<C>
         requires { IsFitting self.old acts.Begin }
@@ -638,7 +638,7 @@ impl<C: Drop, A> PoolInternals<C, A> {
     }
 
     /// Reaps as `reap` does, and puts the connections that it closes into a list, in the order in which it closes them. What the list has no
-    /// room for is dropped. Our own.
+    /// room for is dropped.
     pub fn reap_into(&mut self, at: Moment, closed: &mut ClosedList<C>) -> ReapAnswer
         ensures closed { OffersReaped self.old at.0 result closed.old closed.new }
         ensures step { Meets self.old at.0 acts.Reap (reap_told result) self.new }
@@ -718,7 +718,7 @@ impl<C: Drop, A> PoolInternals<C, A> {
         self.leave_into(at, &mut dropped)
     }
 
-    /// Leaves as `leave` does, and puts the connections that it closes into a list, in line. What the list has no room for is dropped. Our own.
+    /// Leaves as `leave` does, and puts the connections that it closes into a list, in line. What the list has no room for is dropped.
     pub fn leave_into(&mut self, at: Moment, closed: &mut ClosedList<C>) -> LeaveAnswer
         requires { IsFitting self.old acts.Leave }
         ensures step { Meets self.old at.0 acts.Leave (leave_told result) self.new }
@@ -751,7 +751,7 @@ impl<C: Drop, A> PoolInternals<C, A> {
     }
 
     /// How many events may still come that end a get, a handle or the lending of a connection: one of each get alive, of each handle alive,
-    /// and of each connection that is out. It stays at the greatest u64. Our own.
+    /// and of each connection that is out. It stays at the greatest u64.
     pub fn endings(&self) -> u64
         ensures { result ≡ min (endings_of self.now) end_of_numbers }
     {

@@ -40,7 +40,7 @@ fn number_of(notified: Option<GetKey>) -> Option<u64>
     }
 }
 
-/// Where the records and the gets of a replay stood last. It spares searches, and changes no answer. Our own.
+/// Where the records and the gets of a replay stood last. It spares searches, and changes no answer.
 #[derive(Drop)]
 pub struct Known {
     records: Hints,
@@ -49,7 +49,7 @@ pub struct Known {
 
 impl Known {
     /// Nothing is known yet, of a pool whose connections and approvals have numbers from `first_number` on, and its gets from `first_get`
-    /// on. It takes no memory. Our own.
+    /// on. It takes no memory.
     pub fn new(alloc: Global, first_number: u64, first_get: u64) -> Self {
         Known {
             records: Hints::new(alloc, first_number),
@@ -79,7 +79,7 @@ impl Known {
     }
 }
 
-/// Whether the event fits the state. A connection that it hands in does not matter. Our own.
+/// Whether the event fits the state. A connection that it hands in does not matter.
 pub fn fits<C: Drop>(pool: &PoolInternals<C>, event: Event) -> bool
     ensures named { (l : Ledger C) → IsLegal l → Means l pool.now
         → result ≡ fits_named l event.act }
@@ -319,7 +319,7 @@ fn look(pool: &mut PoolInternals<u64>, at: Moment) -> Answer
 }
 
 /// What an event is answered: `Unfit` where it does not fit, and then nothing changes. The connection of a record is its number; that of
-/// an `Add` is the next number. Our own.
+/// an `Add` is the next number.
 pub fn apply(pool: &mut PoolInternals<u64>, known: &mut Known, event: Event) -> Answer
     ensures { Applies pool.old event result pool.new }
 {
@@ -357,7 +357,7 @@ pub fn apply(pool: &mut PoolInternals<u64>, known: &mut Known, event: Event) -> 
 
 /// What the events are answered, one answer each, from the empty state on, and the state that they leave. An event that does not fit
 /// answers `Unfit` and changes nothing. `Memory` comes only where the list of answers could not grow: want of memory inside a step is
-/// that step's answer. Our own.
+/// that step's answer.
 pub fn replay(
     alloc: Global,
     config: Config,

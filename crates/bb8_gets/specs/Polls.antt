@@ -9,13 +9,13 @@ use Rattle.bb8_types.specs.declared.api.errors.RunError.TheVariants as errors
 use Rattle.bb8_types.specs.declared.reasons.Reason.{Reason}
 use Rattle.bb8_types.specs.declared.reasons.Reason.TheVariants.{TimedOut, Cancelled}
 use Rattle.bb8_tables.specs.declared.keys.GetKey.{GetKey}
-use Rattle.bb8_core.specs.declared.answers.BeginAnswer.{BeginAnswer}
-use Rattle.bb8_core.specs.declared.answers.BeginAnswer.TheVariants.{Begun, Memory, Exhausted}
 use Rattle.bb8_core.specs.declared.answers.CheckedErrAnswer.{CheckedErrAnswer}
 use Rattle.bb8_core.specs.declared.answers.CheckedErrAnswer.TheVariants as failed
 use Rattle.bb8_core.specs.declared.answers.GiveUpAnswer.{GiveUpAnswer}
 use Rattle.bb8_core.specs.declared.answers.GiveUpAnswer.TheVariants as given_up
 use Rattle.bb8_core.specs.declared.answers.Looked.{Looked}
+use Rattle.bb8_gets.specs.declared.home.FirstTry.{FirstTry}
+use Rattle.bb8_gets.specs.declared.home.FirstTry.TheVariants as first
 use Rattle.bb8_gets.specs.declared.home.GetHome.{Ghosts as HomeOf}
 use Rattle.bb8_gets.specs.declared.home.Passed.{Passed}
 use Rattle.bb8_gets.specs.declared.home.Returned.{Returned}
@@ -159,20 +159,20 @@ module _ {C E V P X : Type 0} (home : HomeOf X C P) (outside : OutsideOf X C E V
   abbrev pub Tries : Open → X → Next C V P E → X → Type 0
   Tries b x next x' = (t : Result (Tried C P) Unfit) × (x1 : X) × home.steps x m (step.Tries b.get t) x1 × AfterTry t b x1 next x'
 
-  -- after the begin of a first poll
-  abbrev pub AfterBegin : Result BeginAnswer Unfit → ℕ → X → Next C V P E → X → Type 0
-  AfterBegin (Ok (Begun g)) timeout x next x' =
-      (deadline : Option Moment) × IsDeadline m timeout deadline × Tries (record { get = g; deadline = deadline }) x next x'
-  AfterBegin (Ok Memory) timeout x next x' = MovesTo (Answer (Err errors.Memory)) x next x'
-  AfterBegin (Ok Exhausted) timeout x next x' = MovesTo (Answer (Err errors.Exhausted)) x next x'
-  AfterBegin (Err u) timeout x next x' = MovesTo (Answer (Err errors.TimedOut)) x next x'
+  -- after the begin of a get and its first try
+  abbrev pub AfterStart : Result (FirstTry C P) Unfit → ℕ → X → Next C V P E → X → Type 0
+  AfterStart (Ok (first.Tried g t)) timeout x next x' =
+      (deadline : Option Moment) × IsDeadline m timeout deadline × AfterTry (Ok t) (record { get = g; deadline = deadline }) x next x'
+  AfterStart (Ok first.Memory) timeout x next x' = MovesTo (Answer (Err errors.Memory)) x next x'
+  AfterStart (Ok first.Exhausted) timeout x next x' = MovesTo (Answer (Err errors.Exhausted)) x next x'
+  AfterStart (Err u) timeout x next x' = MovesTo (Answer (Err errors.TimedOut)) x next x'
 
-  abbrev pub GetBegins : ℕ → X → Next C V P E → X → Type 0
-  GetBegins timeout x next x' = (b : Result BeginAnswer Unfit) × (x1 : X) × home.steps x m (step.Begins b) x1 × AfterBegin b timeout x1 next x'
+  abbrev pub GetStarts : ℕ → X → Next C V P E → X → Type 0
+  GetStarts timeout x next x' = (r : Result (FirstTry C P) Unfit) × (x1 : X) × home.steps x m (step.Starts r) x1 × AfterStart r timeout x1 next x'
 
   -- the rows of each state
   abbrev pub GetAdvances : ℕ → Stage C V P → X → Next C V P E → X → Type 0
-  GetAdvances timeout Fresh x next x' = GetBegins timeout x next x'
+  GetAdvances timeout Fresh x next x' = GetStarts timeout x next x'
   GetAdvances timeout (Trying b) x next x' = Tries b x next x'
   GetAdvances timeout (Waiting b) x next x' = Tries b x next x'
   GetAdvances timeout (Checking b held) x next x' = (x1 : X) × home.releases x x1 × Checks b held x1 next x'
@@ -214,7 +214,7 @@ module _ {C E V P X : Type 0} (home : HomeOf X C P) (outside : OutsideOf X C E V
   -- a first poll, once the home was looked at
   abbrev pub Starts : ℕ → X → Settled C V P E → X → Type 0
   Starts timeout x settled x' =
-      (next : Next C V P E) × (x1 : X) × GetBegins timeout x next x1 × EndsPoll next x1 settled x'
+      (next : Next C V P E) × (x1 : X) × GetStarts timeout x next x1 × EndsPoll next x1 settled x'
 
 module _ {C E V P X : Type 0} (home : HomeOf X C P) (outside : OutsideOf X C E V) where
   -- A poll of a get that was not answered: the clock is read, the home looked at, the get goes on, and it answers or its deadline is
@@ -230,16 +230,6 @@ module _ {C E V P X : Type 0} (home : HomeOf X C P) (outside : OutsideOf X C E V
   abbrev pub GetPolls : ℕ → Stage C V P → X → Settled C V P E → X → Type 0
   GetPolls timeout stage x settled x' =
       MatchBool (is_done stage) ((settled.answer ≡ Pending) × (settled.stage ≡ stage) × (x' ≡ x)) (Goes timeout stage x settled x')
-
-  -- The begin of a poll that did not serve: where it saw the home, a get that was not polled before has read the clock and looked at its home,
-  -- and what may begin then could begin right after the look; where it saw nothing, nothing was called.
-  abbrev pub Unserved : Stage C V P → X → Option Looked → Stage C V P → X → Type 0
-  Unserved stage x (Some seen) stage' x' =
-      (stage ≡ Fresh) × (stage' ≡ Done)
-      × ((at : Moment) × (x1 : X) × outside.tells x at x1
-      × ((looked : X) × home.steps x1 at (step.Looks seen) looked
-      × ((m : Moment) (b : Result BeginAnswer Unfit) (after : X) → home.steps x' m (step.Begins b) after → home.steps looked m (step.Begins b) after)))
-  Unserved stage x None stage' x' = (stage' ≡ stage) × (x' ≡ x)
 
   -- a get that began and holds no connection is let go
   abbrev pub CancelsFree : GetKey → X → X → Type 0

@@ -1,19 +1,21 @@
 -- The steps of a get on its home, each with what it was given and what it answered, and what each is in the words of the ledger.
-use Rattle.std.specs.Prelude.{ℕ, false, Some, None, Result, IfOk}
+use Rattle.std.specs.Prelude.{◌≡◌, ℕ, false, Some, None, Result, Ok, Err, IfOk}
 use Rattle.bb8_types.specs.declared.api.moments.Moment.{Moment}
 use Rattle.bb8_types.specs.declared.reasons.Reason.{Reason}
 use Rattle.bb8_tables.specs.declared.keys.GetKey.{GetKey}
 use Rattle.bb8_tables.specs.declared.keys.Key.{Key}
 use Rattle.bb8_ledger.specs.Acts as acts
 use Rattle.bb8_ledger.specs.Acts.{Act}
+use Rattle.bb8_ledger.specs.Answers as answers
 use Rattle.bb8_ledger.specs.Answers.{Answer}
-use Rattle.bb8_core.specs.declared.answers.BeginAnswer.{BeginAnswer}
 use Rattle.bb8_core.specs.declared.answers.CheckedErrAnswer.{CheckedErrAnswer}
 use Rattle.bb8_core.specs.declared.answers.GiveUpAnswer.{GiveUpAnswer}
 use Rattle.bb8_core.specs.declared.answers.Looked.{Looked}
-use Rattle.bb8_core.specs.StepAnswers.{begin_told, checked_err_told, give_up_told, look_told, reason_of, GivesBackHeld, GivesBackInvalid, HandsOut}
+use Rattle.bb8_core.specs.StepAnswers.{checked_err_told, give_up_told, look_told, reason_of, GivesBackHeld, GivesBackInvalid, HandsOut}
 use Rattle.bb8_core.specs.Asked.{OrComesBack, Stepped}
 use Rattle.bb8_core.specs.Shown.{Shown}
+use Rattle.bb8_gets.specs.declared.home.FirstTry.{FirstTry}
+use Rattle.bb8_gets.specs.declared.home.FirstTry.TheVariants as first
 use Rattle.bb8_gets.specs.declared.home.Passed.{Passed}
 use Rattle.bb8_gets.specs.declared.home.Returned.{Returned}
 use Rattle.bb8_gets.specs.declared.home.Tried.{Tried}
@@ -23,7 +25,7 @@ use Rattle.bb8_gets.specs.Told.{in_core, passed_told, tried_told}
 -- Each step, by which get, with what is handed in, and its answer.
 pub data GetStep (C P : Type 0) : Type 0 where
   Looks : Looked → GetStep C P
-  Begins : Result BeginAnswer Unfit → GetStep C P
+  Starts : Result (FirstTry C P) Unfit → GetStep C P
   Tries : GetKey → Result (Tried C P) Unfit → GetStep C P
   Passes : GetKey → Key → P → Result (Passed P) Unfit → GetStep C P
   Fails : GetKey → Returned C P → Result (CheckedErrAnswer C) C → GetStep C P
@@ -31,11 +33,20 @@ pub data GetStep (C P : Type 0) : Type 0 where
   GivesBack : GetKey → Reason → Returned C P → Result (GiveUpAnswer C) C → GetStep C P
 
 module _ {C P : Type 0} (Makes : Shown C → ℕ → Act C → Answer → Shown C → Type 0) where
+  -- a get began and then tried, with a state between; or it did not begin
+  abbrev pub StartsBy : Shown C → ℕ → Result (FirstTry C P) Unfit → Shown C → Type 0
+  StartsBy s at (Ok (first.Tried g t)) s' =
+      (between : Shown C) × Makes s at acts.Begin (answers.Begun g.number) between × Makes between at (acts.Try g.number) (tried_told t) s'
+      × HandsOut between (in_core t)
+  StartsBy s at (Ok first.Memory) s' = Makes s at acts.Begin answers.Memory s'
+  StartsBy s at (Ok first.Exhausted) s' = Makes s at acts.Begin answers.Exhausted s'
+  StartsBy s at (Err u) s' = Makes s at acts.Begin answers.Unfit s' × (s' ≡ s)
+
   -- a step of a home that makes its events like this: the event and its answer, and which connection goes out or comes back; a step that does
   -- not fit changes nothing
   abbrev pub StepsBy : Shown C → Moment → GetStep C P → Shown C → Type 0
   StepsBy s at (Looks seen) s' = Makes s at.0 acts.Look (look_told seen) s'
-  StepsBy s at (Begins b) s' = Stepped Makes begin_told s at.0 acts.Begin b s'
+  StepsBy s at (Starts r) s' = StartsBy s at.0 r s'
   StepsBy s at (Tries get t) s' = Stepped Makes tried_told s at.0 (acts.Try get.number) t s' × IfOk t (λ a. HandsOut s (in_core a))
   StepsBy s at (Passes get key part a) s' = Stepped Makes (passed_told s.records.next) s at.0 (acts.CheckedOk get.number) a s'
   StepsBy s at (Fails get r a) s' =

@@ -7,7 +7,7 @@ mod plain;
 mod rows;
 mod state;
 
-pub use home::{GetHome, LetGo, Passed, Returned, Taken, Tried};
+pub use home::{FirstTry, GetHome, LetGo, Passed, Returned, Taken, Tried};
 pub use outside::Outside;
 pub use rows::ask;
 pub use state::{Begun, GetState, Held, Next, Settled, Stage};

@@ -7,12 +7,12 @@ use bb8_core::api::Moment;
 use futures::task::Poll;
 
 /// The calls that gets and guards of connections `C` make of a pool's clock, its manager, whose errors are `E`, and its error sink, and where
-/// connections are let go. Our own.
+/// connections are let go.
 ///
 /// Each call changes the value that it is made of, by a relation that says nothing else and has no default. So a chain of these relations
 /// is the list of all calls, in their order: one that is made twice, left out or made at another place does not fit it.
 pub trait Outside<C, E> {
-    /// A check that is being made. Our own.
+    /// A check that is being made.
     type Checking;
 
     // Holds before a reading of the clock, of the moment that it tells, and after it.
@@ -36,15 +36,15 @@ pub trait Outside<C, E> {
     // Holds before a connection is dropped, and after it.
     ghost lets_go: { Self → C → Self → Type 0 };
 
-    /// Reads the clock. Our own.
+    /// Reads the clock.
     fn now(&mut self) -> Moment
         ensures { tells self.old result self.new };
 
-    /// Begins to check a connection. Our own.
+    /// Begins to check a connection.
     fn is_valid(&mut self, connection: &mut C) -> Self::Checking
         ensures { checks self.old connection.old result connection.new self.new };
 
-    /// Goes on with the check of a connection. Our own.
+    /// Goes on with the check of a connection.
     fn poll_valid(
         &mut self,
         connection: &mut C,
@@ -54,19 +54,19 @@ pub trait Outside<C, E> {
         ensures { check_answers self.old connection.old checking.old moment result connection.new
             checking.new self.new };
 
-    /// Ends a check, which is dropped. Our own.
+    /// Ends a check, which is dropped.
     fn end_check(&mut self, checking: Self::Checking)
         ensures { ends_check self.old checking self.new };
 
-    /// Asks whether a connection is broken. Our own.
+    /// Asks whether a connection is broken.
     fn has_broken(&mut self, connection: &mut C) -> bool
         ensures { breaks self.old connection.old result connection.new self.new };
 
-    /// Hands an error to the sink. Our own.
+    /// Hands an error to the sink.
     fn sink(&mut self, error: E)
         ensures { sinks self.old error self.new };
 
-    /// Drops a connection. Our own.
+    /// Drops a connection.
     fn let_go(&mut self, connection: C)
         ensures { lets_go self.old connection self.new };
 }

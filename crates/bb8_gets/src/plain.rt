@@ -5,14 +5,40 @@ ghost use Rattle.bb8_core.specs.Asked.{OrComesBack, Stepped};
 ghost use Rattle.bb8_core.specs.Shown.{Steps};
 ghost use Rattle.bb8_core.specs.StepAnswers.{checked_err_told, give_up_told, reason_of, GivesBackHeld, GivesBackInvalid};
 ghost use Rattle.bb8_gets.specs.Steps.{StepsBy};
+ghost use Rattle.bb8_gets.specs.Told.{in_core};
 
-use super::home::{GetHome, Passed, Returned, Taken, Tried};
+use super::home::{FirstTry, GetHome, Passed, Returned, Taken, Tried};
 use bb8_core::api::Moment;
 use bb8_core::asked::{self, Unfit};
 use bb8_core::internals::{
-    BeginAnswer, CheckedErrAnswer, GetKey, GiveUpAnswer, Key, Looked, PoolInternals, Reason,
-    TryAnswer,
+    CheckedErrAnswer, GetKey, GiveUpAnswer, Key, Looked, PoolInternals, Reason, Started, TryAnswer,
 };
+
+/// A try's answer, where nothing goes with the connection.
+fn alone<C>(told: TryAnswer<C>) -> Tried<C, ()>
+    ensures { in_core result ≡ told }
+{
+    let part = ();
+    match told {
+        TryAnswer::Served(key, connection, grant) => Tried::Served(
+            Taken {
+                key,
+                connection,
+                part,
+            },
+            grant,
+        ),
+        TryAnswer::Taken(key, connection, grant) => Tried::Taken(
+            Taken {
+                key,
+                connection,
+                part,
+            },
+            grant,
+        ),
+        TryAnswer::Waiting(grant) => Tried::Waiting(grant),
+    }
+}
 
 /// A connection comes with nothing.
 impl<C: Drop> GetHome<C> for PoolInternals<C> {
@@ -30,31 +56,16 @@ impl<C: Drop> GetHome<C> for PoolInternals<C> {
         PoolInternals::look(self, at)
     }
 
-    fn begin(&mut self, at: Moment) -> Result<BeginAnswer, Unfit> {
-        asked::begin(self, at)
+    fn start(&mut self, at: Moment) -> Result<FirstTry<C, ()>, Unfit> {
+        match asked::start(self, at)? {
+            Started::Tried(get, told) => Ok(FirstTry::Tried(get, alone(told))),
+            Started::Memory => Ok(FirstTry::Memory),
+            Started::Exhausted => Ok(FirstTry::Exhausted),
+        }
     }
 
     fn try_get(&mut self, at: Moment, get: GetKey) -> Result<Tried<C, ()>, Unfit> {
-        let part = ();
-        match asked::try_get(self, at, get)? {
-            TryAnswer::Served(key, connection, grant) => Ok(Tried::Served(
-                Taken {
-                    key,
-                    connection,
-                    part,
-                },
-                grant,
-            )),
-            TryAnswer::Taken(key, connection, grant) => Ok(Tried::Taken(
-                Taken {
-                    key,
-                    connection,
-                    part,
-                },
-                grant,
-            )),
-            TryAnswer::Waiting(grant) => Ok(Tried::Waiting(grant)),
-        }
+        Ok(alone(asked::try_get(self, at, get)?))
     }
 
     fn checked_ok(

@@ -3,14 +3,14 @@
 //! The home is released between a step and what is then called outside.
 ghost use Rattle.std.specs.Prelude.{◌≡◌};
 ghost use Rattle.std.specs.Duration.{as_nanos};
-ghost use Rattle.bb8_gets.specs.Polls.{IsDeadline, closed_in, AfterGiveUp, Asks, CheckFails, Checks, Tries, GetBegins, GetAdvances, DropsAfterStep, LeavesLine, TakesBack, TimesOut, Settles, EndsPoll, Starts, Goes};
+ghost use Rattle.bb8_gets.specs.Polls.{IsDeadline, closed_in, AfterGiveUp, Asks, CheckFails, Checks, AfterTry, Tries, AfterStart, GetStarts, GetAdvances, DropsAfterStep, LeavesLine, TakesBack, TimesOut, Settles, EndsPoll, Starts, Goes};
 
-use super::home::{GetHome, Passed, Returned, Taken, Tried};
+use super::home::{FirstTry, GetHome, Passed, Returned, Taken, Tried};
 use super::outside::Outside;
 use super::state::{Begun, Held, Next, Settled, Stage};
 use bb8_core::api::{Moment, RunError};
 use bb8_core::asked::Unfit;
-use bb8_core::internals::{BeginAnswer, CheckedErrAnswer, GetKey, GiveUpAnswer, Reason};
+use bb8_core::internals::{CheckedErrAnswer, GetKey, GiveUpAnswer, Reason};
 use futures::task::Poll;
 use std::time::Duration;
 
@@ -22,7 +22,7 @@ fn deadline(moment: Moment, timeout: Duration) -> Option<Moment>
     Some(Moment(moment.0.checked_add(nanos)?))
 }
 
-/// A connection that comes back is asked whether it is broken. Our own.
+/// A connection that comes back is asked whether it is broken.
 pub fn ask<C, V, P, E, X: Outside<C, E, Checking = V>>(
     pool: &mut X,
     taken: Taken<C, P>,
@@ -145,16 +145,17 @@ fn check<C, V, P, E, X: GetHome<C, Part = P> + Outside<C, E, Checking = V>>(
     }
 }
 
-/// One try of a get.
+/// What follows a try: a connection that is to be checked is polled in the same poll.
 #[inline(always)]
-fn take<C, V, P, E, X: GetHome<C, Part = P> + Outside<C, E, Checking = V>>(
+fn tried<C, V, P, E, X: GetHome<C, Part = P> + Outside<C, E, Checking = V>>(
     pool: &mut X,
     moment: Moment,
     begun: Begun,
+    answer: Result<Tried<C, P>, Unfit>,
 ) -> Next<C, V, P, E>
-    ensures { Tries X.GetHome X.Outside moment begun pool.old result pool.new }
+    ensures { AfterTry X.GetHome X.Outside moment answer begun pool.old result pool.new }
 {
-    match pool.try_get(moment, begun.get) {
+    match answer {
         Ok(Tried::Served(taken, _)) => Next::Answer(Ok(taken)),
         Ok(Tried::Taken(taken, _)) => {
             let Taken {
@@ -176,25 +177,53 @@ fn take<C, V, P, E, X: GetHome<C, Part = P> + Outside<C, E, Checking = V>>(
     }
 }
 
-/// What a get does at its first poll where it was not served at once: it begins and tries.
+/// One try of a get that began.
+#[inline(always)]
+fn take<C, V, P, E, X: GetHome<C, Part = P> + Outside<C, E, Checking = V>>(
+    pool: &mut X,
+    moment: Moment,
+    begun: Begun,
+) -> Next<C, V, P, E>
+    ensures { Tries X.GetHome X.Outside moment begun pool.old result pool.new }
+{
+    let answer = pool.try_get(moment, begun.get);
+    tried(pool, moment, begun, answer)
+}
+
+/// What follows the begin of a get and its first try.
+#[inline(always)]
+pub(crate) fn follow<C, V, P, E, X: GetHome<C, Part = P> + Outside<C, E, Checking = V>>(
+    pool: &mut X,
+    moment: Moment,
+    timeout: Duration,
+    first: Result<FirstTry<C, P>, Unfit>,
+) -> Next<C, V, P, E>
+    ensures { AfterStart X.GetHome X.Outside moment first (as_nanos timeout) pool.old result
+        pool.new }
+{
+    match first {
+        Ok(FirstTry::Tried(get, answer)) => {
+            let deadline = deadline(moment, timeout);
+            tried(pool, moment, Begun { get, deadline }, Ok(answer))
+        }
+        Ok(FirstTry::Memory) => Next::Answer(Err(RunError::Memory)),
+        Ok(FirstTry::Exhausted) => Next::Answer(Err(RunError::Exhausted)),
+        Err(Unfit) => Next::Answer(Err(RunError::TimedOut)),
+    }
+}
+
+/// What a get does at its first poll: it begins and tries.
 #[inline(always)]
 fn start<C, V, P, E, X: GetHome<C, Part = P> + Outside<C, E, Checking = V>>(
     pool: &mut X,
     moment: Moment,
     timeout: Duration,
 ) -> Next<C, V, P, E>
-    ensures { GetBegins X.GetHome X.Outside moment (as_nanos timeout) pool.old result
+    ensures { GetStarts X.GetHome X.Outside moment (as_nanos timeout) pool.old result
         pool.new }
 {
-    match pool.begin(moment) {
-        Ok(BeginAnswer::Begun(get)) => {
-            let deadline = deadline(moment, timeout);
-            take(pool, moment, Begun { get, deadline })
-        }
-        Ok(BeginAnswer::Memory) => Next::Answer(Err(RunError::Memory)),
-        Ok(BeginAnswer::Exhausted) => Next::Answer(Err(RunError::Exhausted)),
-        Err(Unfit) => Next::Answer(Err(RunError::TimedOut)),
-    }
+    let first = pool.start(moment);
+    follow(pool, moment, timeout, first)
 }
 
 /// What a get does at a poll before its deadline is compared.
@@ -313,7 +342,7 @@ fn settle<C, V, P, E, X: GetHome<C, Part = P> + Outside<C, E, Checking = V>>(
 
 /// The end of a poll: it answers, or its deadline is compared.
 #[inline(always)]
-fn end<C, V, P, E, X: GetHome<C, Part = P> + Outside<C, E, Checking = V>>(
+pub(crate) fn end<C, V, P, E, X: GetHome<C, Part = P> + Outside<C, E, Checking = V>>(
     pool: &mut X,
     moment: Moment,
     next: Next<C, V, P, E>,
@@ -329,7 +358,7 @@ fn end<C, V, P, E, X: GetHome<C, Part = P> + Outside<C, E, Checking = V>>(
     }
 }
 
-/// The rest of a first poll, of a get that was not served at once.
+/// A first poll, once the home was looked at.
 #[inline(always)]
 pub(crate) fn begin<C, V, P, E, X: GetHome<C, Part = P> + Outside<C, E, Checking = V>>(
     pool: &mut X,

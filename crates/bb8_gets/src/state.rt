@@ -1,15 +1,15 @@
 //! Where a get stands, its poll, and its letting go.
-ghost use Rattle.std.specs.Prelude.{◌≡◌, ℕ, true, Ok, IfSome, IfOk, IfErr};
+ghost use Rattle.std.specs.Prelude.{◌≡◌, true};
 ghost use Rattle.std.specs.Duration.{as_nanos};
-ghost use Rattle.bb8_gets.specs.Polls.{holds_nothing, is_done, rest_of, GetPolls, Starts, Unserved, CancelsFree, CancelsHeld, Cancels};
-ghost use Rattle.bb8_gets.specs.declared.state.Stage.TheVariants.{Done as IsDone, Fresh as IsFresh};
-ghost use Rattle.futures.specs.declared.task.Poll.TheVariants.{Ready};
+ghost use Rattle.bb8_gets.specs.Polls.{holds_nothing, is_done, rest_of, AfterStart, EndsPoll, GetPolls, Starts, CancelsFree, CancelsHeld, Cancels};
+ghost use Rattle.bb8_gets.specs.declared.state.Stage.TheVariants.{Fresh as IsFresh};
 
-use super::home::{GetHome, LetGo, Taken};
+use super::home::{FirstTry, GetHome, LetGo, Taken, Tried};
 use super::outside::Outside;
-use super::rows::{ask, begin, go, leave, take_back};
+use super::rows::{ask, begin, end, follow, go, leave, take_back};
 use bb8_core::api::{Moment, RunError};
-use bb8_core::internals::{GetKey, Looked, Reason};
+use bb8_core::asked::Unfit;
+use bb8_core::internals::{GetKey, Reason};
 use futures::task::Poll;
 use std::mem;
 use std::time::Duration;
@@ -20,7 +20,7 @@ const LONGEST_WAIT: u64 = 50_000_000;
 /// The nanoseconds after which a check is polled again.
 const LONGEST_CHECK: u64 = 1_000_000;
 
-/// A get that began, and its deadline, which may be none. Our own.
+/// A get that began, and its deadline, which may be none.
 #[derive(Clone, Copy, Debug)]
 pub struct Begun {
     /// Which get it is.
@@ -29,7 +29,7 @@ pub struct Begun {
     pub deadline: Option<Moment>,
 }
 
-/// What a get holds while its connection is checked. Our own.
+/// What a get holds while its connection is checked.
 pub struct Held<C, V, P> {
     /// The connection.
     pub taken: Taken<C, P>,
@@ -37,7 +37,7 @@ pub struct Held<C, V, P> {
     pub checking: V,
 }
 
-/// Where a get stands between its polls. One that holds a connection cannot be let go but by a step of its home. Our own.
+/// Where a get stands between its polls. One that holds a connection cannot be let go but by a step of its home.
 pub enum Stage<C, V, P> {
     /// It was not polled yet.
     Fresh,
@@ -63,7 +63,7 @@ impl<C, V, P> Stage<C, V, P> {
     }
 }
 
-/// What a poll does after its steps: it answers, or the get stands somewhere and its deadline is compared. Our own.
+/// What a poll does after its steps: it answers, or the get stands somewhere and its deadline is compared.
 pub enum Next<C, V, P, E> {
     /// It answers this.
     Answer(Result<Taken<C, P>, RunError<E>>),
@@ -71,7 +71,7 @@ pub enum Next<C, V, P, E> {
     Stand(Stage<C, V, P>),
 }
 
-/// What a poll answers, and where it leaves the get. Our own.
+/// What a poll answers, and where it leaves the get.
 pub struct Settled<C, V, P, E> {
     /// The answer.
     pub answer: Poll<Result<Taken<C, P>, RunError<E>>>,
@@ -79,7 +79,7 @@ pub struct Settled<C, V, P, E> {
     pub stage: Stage<C, V, P>,
 }
 
-/// A get of a connection `C`, whose check is a `V`, and which comes with a `P`: what a future of a get holds beside its pool. Our own.
+/// A get of a connection `C`, whose check is a `V`, and which comes with a `P`: what a future of a get holds beside its pool.
 ///
 /// It does nothing until it is polled. It cannot be dropped but by `cancel_step`, as what it holds goes back to its home.
 pub struct GetState<C, V, P> {
@@ -87,7 +87,7 @@ pub struct GetState<C, V, P> {
 }
 
 impl<C, V, P> GetState<C, V, P> {
-    /// A get that was not polled yet. Our own.
+    /// A get that was not polled yet.
     pub fn new() -> Self
         ensures { result.stage ≡ IsFresh }
     {
@@ -107,7 +107,7 @@ impl<C, V, P> GetState<C, V, P> {
         }
     }
 
-    /// One poll of the get over a home; `timeout` is the pool's `connection_timeout`. Our own: upstream's get is an async function.
+    /// One poll of the get over a home; `timeout` is the pool's `connection_timeout`. Upstream's get is an async function.
     ///
     /// It reads the clock once and looks at the home. The first poll begins the get and sets its deadline. Each poll tries once at most, or
     /// polls the check of the connection that it holds, and compares the deadline last. A check that failed hands its error to the sink
@@ -116,127 +116,6 @@ impl<C, V, P> GetState<C, V, P> {
     /// It answers a connection; `TimedOut` once the deadline has come, or where the home knows no such get or no handle; `Memory` or
     /// `Exhausted` where the get could not begin. After an answer each poll is pending, and calls nothing.
     pub fn poll_step<E, X: GetHome<C, Part = P> + Outside<C, E, Checking = V>>(
-        &mut self,
-        pool: &mut X,
-        timeout: Duration,
-    ) -> Poll<Result<Taken<C, P>, RunError<E>>>
-        ensures { GetPolls X.GetHome X.Outside (as_nanos timeout) self.old.stage pool.old
-            (record { answer = result; stage = self.new.stage }) pool.new }
-    {
-        match self.serve_step(pool) {
-            Ok(taken) => Poll::Ready(Ok(taken)),
-            Err(seen) => self.rest_step(pool, timeout, seen),
-        }
-    }
-
-    /// As `poll_step`, with a home of its own, which is dropped then. A get that is served at once keeps none of it in memory. Our own.
-    #[inline(always)]
-    pub fn poll_with<E, X: GetHome<C, Part = P> + Outside<C, E, Checking = V> + LetGo>(
-        &mut self,
-        mut pool: X,
-        timeout: Duration,
-    ) -> Poll<Result<Taken<C, P>, RunError<E>>>
-        ensures { (x' : X) × GetPolls X.GetHome X.Outside (as_nanos timeout) self.old.stage pool
-            (record { answer = result; stage = self.new.stage }) x' × X.goes x' }
-    {
-        let served = self.serve_step(&mut pool);
-        match served {
-            Ok(taken) => {
-                pool.go();
-                Poll::Ready(Ok(taken))
-            }
-            Err(seen) => {
-                let answer = self.rest_with(pool, timeout, seen);
-                answer
-            }
-        }
-    }
-
-    /// As `rest_step`, with a home of its own.
-    #[inline(never)]
-    fn rest_with<E, X: GetHome<C, Part = P> + Outside<C, E, Checking = V> + LetGo>(
-        &mut self,
-        mut pool: X,
-        timeout: Duration,
-        seen: Option<Looked>,
-    ) -> Poll<Result<Taken<C, P>, RunError<E>>>
-        requires { IfSome seen (λ _. self.old.stage ≡ IsDone) }
-        ensures { (x' : X) × ((stage : _) (x : _) → Unserved X.GetHome X.Outside stage x seen
-            self.old.stage pool → GetPolls X.GetHome X.Outside (as_nanos timeout)
-            stage x (record { answer = result; stage = self.new.stage }) x') × X.goes x' }
-    {
-        let answer = self.rest_step(&mut pool, timeout, seen);
-        pool.go();
-        answer
-    }
-
-    /// The begin of a poll, which most often is the whole of it: a get that was not polled yet reads the clock, and begins and is served at
-    /// once, where its home can do that. Where it is not served, it answers what was seen of the home, and `rest_step` goes on from there. A
-    /// get that was polled before is left to `rest_step`, and nothing is called. Our own.
-    #[inline(always)]
-    pub fn serve_step<E, X: GetHome<C, Part = P> + Outside<C, E, Checking = V>>(
-        &mut self,
-        pool: &mut X,
-    ) -> Result<Taken<C, P>, Option<Looked>>
-        ensures served { IfOk result (λ taken. (timeout : ℕ)
-            → GetPolls X.GetHome X.Outside timeout self.old.stage pool.old (record {
-              answer = Ready (Ok taken);
-              stage = self.new.stage;
-            }) pool.new) }
-        ensures unserved { IfErr result (λ seen. Unserved X.GetHome X.Outside self.old.stage
-            pool.old seen self.new.stage pool.new) }
-    {
-        match &self.stage {
-            Stage::Fresh => {
-                self.stand(Stage::Done);
-                let at = pool.now();
-                match pool.serve(at) {
-                    Ok((taken, _)) => Ok(taken),
-                    Err(seen) => Err(Some(seen)),
-                }
-            }
-            Stage::Trying(_) | Stage::Waiting(_) | Stage::Checking(..) | Stage::Done => Err(None),
-        }
-    }
-
-    /// The rest of a poll whose begin, `serve_step`, did not serve the get, and saw this. Our own.
-    #[inline(never)]
-    pub fn rest_step<E, X: GetHome<C, Part = P> + Outside<C, E, Checking = V>>(
-        &mut self,
-        pool: &mut X,
-        timeout: Duration,
-        seen: Option<Looked>,
-    ) -> Poll<Result<Taken<C, P>, RunError<E>>>
-        requires { IfSome seen (λ _. self.old.stage ≡ IsDone) }
-        ensures { (stage : _) (x : _) → Unserved X.GetHome X.Outside stage x seen
-            self.old.stage pool.old → GetPolls X.GetHome X.Outside (as_nanos timeout)
-            stage x (record { answer = result; stage = self.new.stage }) pool.new }
-    {
-        match seen {
-            None => self.again(pool, timeout),
-            Some(seen) => self.start_step(pool, seen.moment, timeout),
-        }
-    }
-
-    /// A first poll from a moment on at which its home was looked at: the get begins and tries. Our own.
-    #[inline(always)]
-    pub fn start_step<E, X: GetHome<C, Part = P> + Outside<C, E, Checking = V>>(
-        &mut self,
-        pool: &mut X,
-        moment: Moment,
-        timeout: Duration,
-    ) -> Poll<Result<Taken<C, P>, RunError<E>>>
-        requires { holds_nothing self.old.stage ≡ true }
-        ensures { Starts X.GetHome X.Outside moment (as_nanos timeout) pool.old
-            (record { answer = result; stage = self.new.stage }) pool.new }
-    {
-        let Settled { answer, stage } = begin(pool, moment, timeout);
-        self.stand(stage);
-        answer
-    }
-
-    /// A poll from its begin on.
-    fn again<E, X: GetHome<C, Part = P> + Outside<C, E, Checking = V>>(
         &mut self,
         pool: &mut X,
         timeout: Duration,
@@ -253,8 +132,91 @@ impl<C, V, P> GetState<C, V, P> {
         answer
     }
 
+    /// As `poll_step`, with a home of its own, which is let go then. A get that is served at once keeps none of it in memory.
+    #[inline(always)]
+    pub fn poll_with<E, X: GetHome<C, Part = P> + Outside<C, E, Checking = V> + LetGo>(
+        &mut self,
+        mut pool: X,
+        timeout: Duration,
+    ) -> Poll<Result<Taken<C, P>, RunError<E>>>
+        ensures { (x' : X) × GetPolls X.GetHome X.Outside (as_nanos timeout) self.old.stage pool
+            (record { answer = result; stage = self.new.stage }) x' × X.goes x' }
+    {
+        match &self.stage {
+            Stage::Fresh => {
+                self.stand(Stage::Done);
+                let at = pool.now();
+                let moment = pool.look(at).moment;
+                match pool.start(moment) {
+                    Ok(FirstTry::Tried(_, Tried::Served(taken, _))) => {
+                        pool.go();
+                        Poll::Ready(Ok(taken))
+                    }
+                    first => self.follow_with(pool, moment, timeout, first),
+                }
+            }
+            Stage::Trying(_) | Stage::Waiting(_) | Stage::Checking(..) | Stage::Done => {
+                self.go_on(pool, timeout)
+            }
+        }
+    }
+
+    /// The rest of a first poll whose get began and tried, with a home of its own.
+    #[inline(never)]
+    fn follow_with<E, X: GetHome<C, Part = P> + Outside<C, E, Checking = V> + LetGo>(
+        &mut self,
+        mut pool: X,
+        moment: Moment,
+        timeout: Duration,
+        first: Result<FirstTry<C, P>, Unfit>,
+    ) -> Poll<Result<Taken<C, P>, RunError<E>>>
+        requires { holds_nothing self.old.stage ≡ true }
+        ensures { (next : _) × (x1 : X)
+            × AfterStart X.GetHome X.Outside moment first (as_nanos timeout) pool next x1
+            × ((x' : X) × EndsPoll X.GetHome X.Outside moment next x1
+            (record { answer = result; stage = self.new.stage }) x' × X.goes x') }
+    {
+        let next = follow(&mut pool, moment, timeout, first);
+        let Settled { answer, stage } = end(&mut pool, moment, next);
+        pool.go();
+        self.stand(stage);
+        answer
+    }
+
+    /// As `poll_step`, with a home of its own.
+    #[inline(never)]
+    fn go_on<E, X: GetHome<C, Part = P> + Outside<C, E, Checking = V> + LetGo>(
+        &mut self,
+        mut pool: X,
+        timeout: Duration,
+    ) -> Poll<Result<Taken<C, P>, RunError<E>>>
+        ensures { (x' : X) × GetPolls X.GetHome X.Outside (as_nanos timeout) self.old.stage pool
+            (record { answer = result; stage = self.new.stage }) x' × X.goes x' }
+    {
+        let answer = self.poll_step(&mut pool, timeout);
+        pool.go();
+        answer
+    }
+
+    /// A first poll from a moment on at which its home was looked at: the get begins and tries.
+    #[inline(always)]
+    pub fn start_step<E, X: GetHome<C, Part = P> + Outside<C, E, Checking = V>>(
+        &mut self,
+        pool: &mut X,
+        moment: Moment,
+        timeout: Duration,
+    ) -> Poll<Result<Taken<C, P>, RunError<E>>>
+        requires { holds_nothing self.old.stage ≡ true }
+        ensures { Starts X.GetHome X.Outside moment (as_nanos timeout) pool.old
+            (record { answer = result; stage = self.new.stage }) pool.new }
+    {
+        let Settled { answer, stage } = begin(pool, moment, timeout);
+        self.stand(stage);
+        answer
+    }
+
     /// How long a thread may sleep after a poll that was pending, before it polls the get again: not past the get's deadline, and one that waits
-    /// at most 50 milliseconds, one whose connection is checked a millisecond. Our own.
+    /// at most 50 milliseconds, one whose connection is checked a millisecond.
     pub fn rest(&self, now: Moment) -> Duration
         ensures { as_nanos result ≡ rest_of self.now.stage now.0 }
     {
@@ -272,7 +234,7 @@ impl<C, V, P> GetState<C, V, P> {
 
     /// Lets the get go: one that began and was not answered is given up as cancelled, at a reading of the clock. A connection that it holds
     /// is asked first whether it is broken. Nothing is called where it was not polled yet, or was answered. The same as a drop of a get's
-    /// future. Our own: upstream's caller drops its future.
+    /// future. Upstream's caller drops its future.
     pub fn cancel_step<E, X: GetHome<C, Part = P> + Outside<C, E, Checking = V>>(self, pool: &mut X)
         ensures { Cancels X.GetHome X.Outside self.stage pool.old pool.new }
     {
@@ -286,7 +248,7 @@ impl<C, V, P> GetState<C, V, P> {
         }
     }
 
-    /// As `cancel_step`, with a home of its own, which is dropped then. Our own.
+    /// As `cancel_step`, with a home of its own, which is dropped then.
     #[inline(always)]
     pub fn cancel_with<E, X: GetHome<C, Part = P> + Outside<C, E, Checking = V> + LetGo>(
         self,

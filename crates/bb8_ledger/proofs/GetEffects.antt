@@ -159,8 +159,9 @@ module _ {C : Type 0} where
   -- a get begins to wait
   pub waits_sums : (l : Ledger C) (at g : ℕ) → gets_stand is_trying (get_of l g) ≡ true → gets_stand is_unnotified (get_of l g) ≡ false
       → let gs : List (Numbered Getting) = waited_gets l at g in
-      (alive_of gs ≡ alive l) × (length gs ≡ length (gets l)) × (tally_gets is_unnotified gs ≡ unnotified l + 1) × (tally_gets is_notified gs ≤ notified l)
-      × (notified l ≤ tally_gets is_notified gs + 1) × (tally_gets is_unnotified gs + tally_gets is_notified gs ≤ alive l)
+      (alive_of gs ≡ alive l) × (length gs ≡ length (gets l)) × (tally_gets is_unnotified gs ≡ unnotified l + 1)
+      × (tally_gets is_notified gs + one (gets_stand is_notified (get_of l g)) ≡ notified l)
+      × (one (gets_stand is_notified (get_of l g)) ≤ 1) × (tally_gets is_unnotified gs + tally_gets is_notified gs ≤ alive l)
   waits_sums l at g f off =
       let now : ℕ = max (latest l) at in
       let st = trier l g f off in
@@ -173,7 +174,8 @@ module _ {C : Type 0} where
         begins_counted is_notified (start l).first_get now (position l) g (gets l) m.0 st.0 m.1 m.2 standing,
         numbered.length-update (gets l) (start l).first_get g (at_wait now (position l)),
         ap one st.2,
-        one_few (is_notified st.0.place),
+        ap (λ (o : Option Getting). one (gets_stand is_notified o)) st.1,
+        one_few (gets_stand is_notified (get_of l g)),
         waiters_few (waited_gets l at g),
       )
 

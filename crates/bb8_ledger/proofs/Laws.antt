@@ -8,6 +8,7 @@ use Rattle.bb8_ledger.proofs.GetEffects.{getting, handed_to, trier, trier_leaves
 use Rattle.bb8_ledger.proofs.Sums.{Sums, Serves, row_sums, never_again}
 pub use Rattle.bb8_ledger.proofs.Sums.{due_few}
 pub use Rattle.bb8_ledger.proofs.GetEffects.{alive_get, waits_on_gets}
+use Rattle.bb8_ledger.proofs.Places.{always_keeps_places}
 use Rattle.bb8_ledger.proofs.Wants.{either_none, makes_good}
 use Rattle.bb8_ledger.proofs.Reaps.{never_reaps_twice}
 use Rattle.bb8_ledger.proofs.Held.{all_held, all_holding, never_twice, never_unchecked}
@@ -147,4 +148,5 @@ module _ {C : Type 0} where
         ];
     remembered = never_forgets l legal;
     in_turn = (let i = all_in_line l legal in λ g h a b e d told untold. omega (arith, (i.keeps g a e).0 told, (i.keeps h b d).1 untold));
+    kept = always_keeps_places l legal;
   }

@@ -9,8 +9,8 @@ pub mod Held
 pub mod Sums
 pub mod Invalid
 pub mod Wants
+pub mod Places
 pub mod Reaps
 pub mod Laws
 pub mod Handed
-pub mod HandedRows
 pub mod Evaluated

@@ -1,5 +1,6 @@
 -- What each row of the step table does to the sizes, the numbers and the statistics.
-use Rattle.bb8_ledger.proofs.Words.{⊤, ◌≡◌, ◌⊎◌, ℕ, ◌+◌, ◌-◌, ◌<◌, ◌≤◌, min, Bool, true, false, not, ltb, ◌&&◌, List, Option, Some, None, is_some, refl, ap, arith, length-append, Grant, Guarded, Held, Standing, Settings, Numbered, one, due, Act, Try, CheckedOk, GiveUp, Reason, TimedOut, Cancelled, Answer, Kept, Closed, GaveUp, Entered, Reaped, Unfit, Ledger, Later, start, handles, idle, idle_count, first_idle, unnotified, notified, conns, approved, conns_of, approved_of, alive, expires, waited_since, started, direct, waited, timed_out, cancelled, created, broken, expired, invalid, idled_out, get_of, Row, begins, waits_on, serves, takes_out, waits, checks, check_fails, gives_up, gives_up_kept, gives_up_closed, keeps, returns_closed, fills, claims, opens, opens_late, fails, adds, reaps, joins, leaves, IsWant, IsLegal, fits, outlived_at, idled_at, GivesNext, NeverGivesAgain, numbers_given, gets_given, lost, and_right, nat_tests}
+use Rattle.bb8_ledger.proofs.Words.{⊤, ◌≡◌, ◌⊎◌, ℕ, ◌+◌, ◌-◌, ◌<◌, ◌≤◌, min, Bool, true, false, not, ltb, ◌&&◌, List, Option, Some, None, is_some, refl, ap, arith, length-append, Grant, Guarded, Held, Standing, Settings, Numbered, one, due, Act, Try, CheckedOk, GiveUp, Reason, TimedOut, Cancelled, Answer, Getting, GetPlace, Waiting, gets_stand, is_unnotified, is_notified, Closed, GaveUp, Kept, cond, oldest_waiter, Entered, Reaped, Unfit, Ledger, Later, start, handles, idle, idle_count, first_idle, unnotified, notified, conns, approved, conns_of, approved_of, alive, expires, waited_since, started, direct, waited, timed_out, cancelled, created, broken, expired, invalid, idled_out, get_of, Row, begins, waits_on, serves, takes_out, waits, checks, check_fails, gives_up, gives_up_kept, gives_up_closed, keeps, returns_closed, fills, claims, opens, opens_late, fails, adds, reaps, joins, leaves, IsWant, IsLegal, fits, outlived_at, idled_at, GivesNext, NeverGivesAgain, numbers_given, gets_given, lost, and_right, nat_tests}
+use Rattle.bb8_ledger.specs.Handed.{told_by, brought_by, waiters, unasked, closes_told, places_lost}
 use Rattle.bb8_ledger.proofs.Effects.{each_legal, returns_turn, closes_turn, opens_turn, ends_turn, idle_turns, unclaimed_turns, stays_sized, turned_sized, adds_sized, granted_sized, reaped_sized, granted_reaped, left_sized}
 use Rattle.bb8_ledger.proofs.GetEffects.{trier_leaves, trier_holds, holder_ends, holder_turns, left_sums, left_told, begun_sums, waits_on_sums, waits_sums, told_sums, given_up_sums}
 use Rattle.bb8_ledger.proofs.Facts.{idle_tally, none_first}
@@ -40,6 +41,19 @@ one_or_enough have need = grind arith
 is_open : (n : ℕ) → ltb 0 n ≡ true → 0 < n
 is_open n e = grind (arith, nat_tests, e)
 
+-- there is one, or none
+one_if_some : (n : ℕ) → one (ltb 0 n) ≡ min 1 n
+one_if_some n = grind arith
+
+-- who was not notified is not among the notified
+pub untold : (o : Option Getting) → gets_stand is_unnotified o ≡ true → gets_stand is_notified o ≡ false
+untold None on = cc
+untold (Some s) on = by_place s.place on
+  where
+    by_place : (p : GetPlace) → is_unnotified p ≡ true → is_notified p ≡ false
+    by_place (Waiting false) on = refl
+    by_place _ on = cc
+
 -- how far the notified waiters may be fewer after an event, where so many are not notified then
 abbrev Lowers : {C : Type 0} → Act C → ℕ → ℕ → Type 0
 Lowers (Try g) less unnotified = ⊤
@@ -55,6 +69,10 @@ module _ {C : Type 0} where
   wanted_few : (l : Ledger C) (rs : List (Numbered (Standing C))) (g : Grant) → IsWant l rs g → g.count ≤ (start l).config.max_size - (conns_of rs + approved_of rs)
   wanted_few l rs g want = grind (arith, due_few)
 
+  -- whether a get that stands here is notified
+  told_place : (l : Ledger C) (g : ℕ) (st : Getting) → get_of l g ≡ Some st → one (gets_stand is_notified (get_of l g)) ≡ one (is_notified st.place)
+  told_place l g st was = ap (λ (o : Option Getting). one (gets_stand is_notified o)) was
+
   -- a get that gives up counts once
   gave_up : (l : Ledger C) (at g : ℕ) (why : Reason) (held : Option C) (broken : Bool) (a : Answer) → (a ≡ Unfit → ⊥)
       → timed_out (Later l at (GiveUp g why held broken) a) + cancelled (Later l at (GiveUp g why held broken) a) ≡ timed_out l + cancelled l + 1
@@ -67,6 +85,28 @@ module _ {C : Type 0} where
   pub record Serves (l : Ledger C) : Type 0 where
     pub served : min (unnotified l) (idle_count l - notified l) ≡ 0
     pub promised : min (handles l) (min (unnotified l - (approved l + lost l)) ((start l).config.max_size - (conns l + approved l) + idle_count l - (notified l + lost l))) ≡ 0
+
+  -- how many notified gets an event is the try of: one or none
+  abbrev pub notified_in : Ledger C → Act C → ℕ
+  notified_in l (Try g) = one (gets_stand is_notified (get_of l g))
+  notified_in l _ = 0
+
+  -- nobody waits, or nothing is idle, or the event is the try of a notified get
+  abbrev pub IsMet : Ledger C → Act C → Type 0
+  IsMet l e = min (waiters l) (min (idle_count l) (1 - notified_in l e)) ≡ 0
+
+  -- no more are notified, or have waited anew, than closes notified a get, but for one where a connection is idle
+  abbrev pub LosesFew : Ledger C → Type 0
+  LosesFew l = notified l + places_lost l ≤ closes_told l + min 1 (min (notified l) (idle_count l))
+
+  -- who waits is provided for, as `IsProvided` says
+  abbrev pub Provides : Ledger C → Type 0
+  Provides l = min (handles l) (min (waiters l - (approved l + idle_count l + lost l)) ((start l).config.max_size - (conns l + approved l + lost l + unasked l))) ≡ 0
+
+  -- where a get waits unnotified, one is first
+  some_told : (l : Ledger C) (n : Option ℕ) → n ≡ oldest_waiter l → min 1 (unnotified l) ≤ one (is_some n)
+  some_told l None is = omega (arith, told_sums l None is)
+  some_told l (Some g) is = omega arith
 
   -- ---- the sums of a row
 
@@ -85,16 +125,29 @@ module _ {C : Type 0} where
         (Later l at e a) ≡ direct l + waited l + timed_out l + cancelled l + alive l + gets_given a
     pub serves : conns l + approved l ≤ (start l).config.max_size → Serves l → Serves (Later l at e a)
     pub remembers : Lowers e (notified l - notified (Later l at e a)) (unnotified (Later l at e a))
+    pub told_few : notified (Later l at e a) + notified_in l e ≤ notified l + one (is_some (told_by a))
+    pub settles : IsMet l e → min (waiters l) (idle_count l - 1) ≡ 0 → min (waiters (Later l at e a)) (idle_count (Later l at e a) - one (is_some (brought_by a))) ≡ 0
+    pub loses : IsMet l e → LosesFew l → LosesFew (Later l at e a)
+    pub provides : IsMet l e → Provides l → Provides (Later l at e a)
+    pub asks : IsMet l e → notified l ≤ notified_in l e → unasked l ≤ notified_in l e - idle_count l → unasked (Later l at e a) ≤ one (is_some (told_by a)) - idle_count (Later l at e a)
 
   pub row_sums : (l : Ledger C) (at : ℕ) (e : Act C) (a : Answer) → IsLegal l → fits l e ≡ true → Row l at e a → Sums l at e a
   row_sums l at _ _ legal f (begins {g} is few) = omega (arith, begun_sums l)
-  row_sums l at _ _ legal f (waits_on {g} {grant} on nothing) = omega (arith, granted_sized false grant.count (stays_sized l), waits_on_sums l at g on)
+  row_sums l at _ _ legal f (waits_on {g} {grant} on nothing) = omega (
+    arith,
+    granted_sized false grant.count (stays_sized l),
+    waits_on_sums l at g on,
+    ap one (untold (get_of l g) on),
+    ap (λ (b : Bool). cond b (unasked l) (unasked l - 1)) on,
+  )
   row_sums l at _ _ legal f (serves {g} {k} {grant} not_waiting off first want) =
       let z = turned_sized (idle_turns l k Guarded first).1 in
-      omega (arith, z, granted_sized false grant.count z, wanted_few l _ grant want, left_sums (trier_leaves l g f not_waiting), either_one (is_some (waited_since l (Try g))))
+      let t = trier_leaves l g f not_waiting in
+      omega (arith, z, granted_sized false grant.count z, wanted_few l _ grant want, left_sums t, told_place l g t.standing t.was, either_one (is_some (waited_since l (Try g))))
   row_sums l at _ _ legal f (takes_out {g} {k} {grant} not_waiting on first want) =
       let z = turned_sized (idle_turns l k (Held g) first).1 in
-      omega (arith, z, granted_sized false grant.count z, wanted_few l _ grant want, left_sums (trier_holds l g k f not_waiting))
+      let t = trier_holds l g k f not_waiting in
+      omega (arith, z, granted_sized false grant.count z, wanted_few l _ grant want, left_sums t, told_place l g t.standing t.was)
   row_sums l at _ _ legal f (waits {g} {grant} not_waiting none granted) =
       let asked : ℕ = one (ltb (approved l) (alive l)) in
       omega (
@@ -105,6 +158,7 @@ module _ {C : Type 0} where
         due_or_none (start l).config (handles l) (conns l + approved l) asked,
         one_or_enough (approved l) (alive l),
         none_idle l none,
+        ap (λ (b : Bool). cond b (unasked l) (unasked l - 1)) not_waiting,
       )
   row_sums l at _ _ legal f (checks {g} {k} holds_it nothing) =
       let t = holder_ends l g k holds_it in
@@ -112,12 +166,23 @@ module _ {C : Type 0} where
   row_sums l at _ _ legal f (check_fails {g} {k} {broken = b} {grant} {n} holds_it want is) =
       let z = turned_sized (drops_turn l g k legal holds_it) in
       let t = holder_turns l g k holds_it in
-      omega (arith, z, granted_sized false grant.count z, wanted_few l _ grant want, left_sums t.0, left_told t.0 n is, ap one t.1, one_of b (expires l at k))
+      omega (
+        arith,
+        z,
+        granted_sized false grant.count z,
+        wanted_few l _ grant want,
+        left_sums t.0,
+        left_told t.0 n is,
+        some_told l n is,
+        one_if_some (waiters l),
+        ap one t.1,
+        one_of b (expires l at k),
+      )
   row_sums l at _ _ legal f (gives_up {g} {why} {broken} {n} is) =
       omega (arith, given_up_sums l g n (and_right (is_some (get_of l g)) _ f).0 is, gave_up l at g why None broken (GaveUp n) (λ e. cc))
   row_sums l at _ _ legal f (gives_up_kept {g} {k} {why} {c} {broken = b} {n} holds_it keep is) =
       let t = holder_ends l g k holds_it in
-      omega (arith, turned_sized (hands_in_turn l at g k c legal holds_it), left_sums t.0, left_told t.0 n is, ap one t.1, gave_up l at g why (Some c) b (Kept k n) (λ e. cc))
+      omega (arith, turned_sized (hands_in_turn l at g k c legal holds_it), left_sums t.0, left_told t.0 n is, some_told l n is, ap one t.1, gave_up l at g why (Some c) b (Kept k n) (λ e. cc))
   row_sums l at _ _ legal f (gives_up_closed {g} {k} {why} {c} {broken = b} {grant} {n} holds_it shut want is) =
       let z = turned_sized (drops_turn l g k legal holds_it) in
       let t = holder_ends l g k holds_it in
@@ -128,20 +193,22 @@ module _ {C : Type 0} where
         wanted_few l _ grant want,
         left_sums t.0,
         left_told t.0 n is,
+        some_told l n is,
+        one_if_some (waiters l),
         ap one t.1,
         one_of b (expires l at k),
         gave_up l at g why (Some c) b (Closed k grant n) (λ e. cc),
       )
-  row_sums l at _ _ legal f (keeps {k} {c} {n} keep is) = omega (arith, turned_sized (returns_turn l at k c f), told_sums l n is)
+  row_sums l at _ _ legal f (keeps {k} {c} {n} keep is) = omega (arith, turned_sized (returns_turn l at k c f), told_sums l n is, some_told l n is)
   row_sums l at _ _ legal f (returns_closed {k} {c} {broken = b} {grant} {n} shut want is) =
       let z = turned_sized (closes_turn l k f) in
-      omega (arith, z, granted_sized false grant.count z, wanted_few l _ grant want, told_sums l n is, one_of b (expires l at k))
+      omega (arith, z, granted_sized false grant.count z, wanted_few l _ grant want, told_sums l n is, some_told l n is, one_if_some (waiters l), one_of b (expires l at k))
   row_sums l at _ _ legal f (fills {claimed} {grant} want) = omega (arith, granted_sized claimed grant.count (stays_sized l), wanted_few l _ grant want)
   row_sums l at _ _ legal f (claims {k = Some k} open_now first) = omega (arith, turned_sized (unclaimed_turns l k first))
-  row_sums l at _ _ legal f (opens {k} {c} {n} open_now is) = omega (arith, turned_sized (opens_turn l at k c f), told_sums l n is)
+  row_sums l at _ _ legal f (opens {k} {c} {n} open_now is) = omega (arith, turned_sized (opens_turn l at k c f), told_sums l n is, some_told l n is)
   row_sums l at _ _ legal f (opens_late {k} none) = omega (arith, turned_sized (ends_turn l k f))
   row_sums l at _ _ legal f (fails {k}) = omega (arith, turned_sized (ends_turn l k f))
-  row_sums l at _ _ legal f (adds {k} {c} {n} room few is who) = omega (arith, adds_sized l at c, told_sums l n who)
+  row_sums l at _ _ legal f (adds {k} {c} {n} room few is who) = omega (arith, adds_sized l at c, told_sums l n who, some_told l n who)
   row_sums l at _ _ legal f (reaps {closed} {by_idle} {by_life} {grant} open_now closed_is by_idle_is by_life_is want) =
       let z = reaped_sized l at in
       omega (arith, z, granted_reaped grant.count z, wanted_few l _ grant want, length-append (outlived_at l at) (idled_at l at))

@@ -43,10 +43,10 @@ module _ {R : Type 0} where
   ]
 
   -- the first in the list stands at a position below which nobody stands
-  abbrev Least : (ℕ → R → Bool) → List R → (n m k : ℕ) → Type 0
+  abbrev pub Least : (ℕ → R → Bool) → List R → (n m k : ℕ) → Type 0
   Least stands rs n m k = (r : R) × (at n rs k ≡ Some r) × (p : ℕ) × (p < m) × (stands p r ≡ true) × (in_order stands n rs p ≡ [])
 
-  in_order_least : (stands : ℕ → R → Bool) (rs : List R) (n m k : ℕ) → slice_get (in_order stands n rs m) 0 ≡ Some k → Least stands rs n m k
+  pub in_order_least : (stands : ℕ → R → Bool) (rs : List R) (n m k : ℕ) → slice_get (in_order stands n rs m) 0 ≡ Some k → Least stands rs n m k
   in_order_least stands rs n zero k h = cc
   in_order_least stands rs n (suc m) k h = go (in_order_least stands rs n m k) (in_order stands n rs m) refl h
     where

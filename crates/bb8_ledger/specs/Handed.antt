@@ -1,13 +1,13 @@
--- Handing over: in which order gets are served, where each notification is followed at once by the try of the get that was notified.
-use Rattle.std.specs.Prelude.{◌≡◌, ◌≢◌, ◌⊎◌, ◌+◌, ◌<◌, ◌≤◌, ℕ, suc, true, cond, Option, Some, None, is_some, ⊤}
+-- Handing over: in which order gets are served, where the notified get that waits longest tries as soon as a connection is idle.
+use Rattle.std.specs.Prelude.{◌≡◌, ◌≢◌, ◌⊎◌, ◌+◌, ◌-◌, ◌<◌, ◌≤◌, ℕ, suc, true, Bool, ◌&&◌, cond, eqb, ltb, slice_get, Option, Some, None, is_some, ⊤}
 use Rattle.std.specs.Option.{IfSome}
 use Rattle.bb8_types.specs.declared.standing.Getting.{Getting}
-use Rattle.bb8_types.specs.Numbered.{Numbered, one}
+use Rattle.bb8_types.specs.Numbered.{Numbered, in_order, one}
 use Rattle.bb8_types.specs.Places.{gets_stand, is_notified, is_unnotified}
 use Rattle.bb8_ledger.specs.Acts.{Act, Try}
 use Rattle.bb8_ledger.specs.Answers.{Answer, Served, Taken, Waiting, Kept, Closed, GaveUp, Entered, Added, Unfit}
-use Rattle.bb8_ledger.specs.Ledger.{Ledger, Opening, Later, start, position, handles, conns, approved, idle_count, unnotified, notified, get_of, numbered_get}
-use Rattle.bb8_ledger.specs.Limits.{lost}
+use Rattle.bb8_ledger.specs.Ledger.{Ledger, Opening, Later, start, position, handles, conns, approved, gets, idle_count, unnotified, notified, get_of, numbered_get}
+use Rattle.bb8_ledger.specs.Limits.{lost, WaitsSince}
 
 -- the get that an answer notifies
 abbrev pub told_by : Answer → Option ℕ
@@ -37,6 +37,10 @@ abbrev pub past : Option (Numbered Getting) → ℕ → ℕ
 past None before = before
 past (Some a) before = cond (gets_stand is_notified a.standing) (suc a.position) before
 
+-- a get that waits since this position and was notified
+abbrev pub notified_at : ℕ → Numbered Getting → Bool
+notified_at p g = gets_stand is_notified g.standing && eqb g.position p
+
 module _ {C : Type 0} where
   -- the get that was notified just now: by the latest event that fitted
   abbrev pub just_told : Ledger C → Option ℕ
@@ -50,50 +54,70 @@ module _ {C : Type 0} where
   just_brought (Later l at e Unfit) = just_brought l
   just_brought (Later l at e a) = brought_by a
 
-  -- A history that hands over: directly after each event that notifies a get comes the try of that get. Events that do not fit change
-  -- nothing, and are not looked at.
+  -- how many gets wait, notified or not
+  abbrev pub waiters : Ledger C → ℕ
+  waiters l = unnotified l + notified l
+
+  -- the notified get that waits longest
+  abbrev pub oldest_notified : Ledger C → Option ℕ
+  oldest_notified l = slice_get (in_order notified_at (start l).first_get (gets l) (position l)) 0
+
+  -- the get whose try is due: where a connection is idle, the notified one that waits longest
+  abbrev pub due_try : Ledger C → Option ℕ
+  due_try l = cond (eqb (idle_count l) 0) None (oldest_notified l)
+
+  -- A history that hands over: where a try is due, it comes next. Events that do not fit change nothing, and are not looked at.
   abbrev pub HandsOver : Ledger C → Type 0
   HandsOver (Opening s) = ⊤
   HandsOver (Later l at e Unfit) = HandsOver l
-  HandsOver (Later l at e a) = HandsOver l × IfSome (just_told l) (λ g. e ≡ Try g)
-
-  -- Nobody is notified but who was told just now; and where nobody was, no connection is idle while somebody waits.
-  pub record IsSettled (l : Ledger C) : Type 0 where
-    pub few : notified l ≡ one (is_some (just_told l))
-    pub told : IfSome (just_told l) (λ g. gets_stand is_notified (get_of l g) ≡ true)
-    pub idle : just_told l ≡ None → (unnotified l ≡ 0) ⊎ (idle_count l ≡ 0)
-
-  -- the get g waits since this position, notified or not
-  abbrev pub WaitsSince : Ledger C → ℕ → ℕ → Type 0
-  WaitsSince l g p = (a : Numbered Getting) × (numbered_get l g ≡ Some a) × (a.position ≡ p)
-      × ((gets_stand is_notified a.standing ≡ true) ⊎ (gets_stand is_unnotified a.standing ≡ true))
+  HandsOver (Later l at e a) = HandsOver l × IfSome (due_try l) (λ g. e ≡ Try g)
 
   -- where any other get waits, g waits too, and since an earlier position
   abbrev pub IsFirst : Ledger C → ℕ → Type 0
   IsFirst l g = (h q : ℕ) → WaitsSince l h q → h ≢ g → (p : ℕ) × WaitsSince l g p × (p < q)
 
-  -- A try that goes out with a connection was of the first of those who wait, or nobody else waited; and who was notified goes out with the
-  -- connection that notified it, but for one that a close notified, which waits anew.
+  -- A try that goes out with a connection was of the first of those who wait, and went out with the connection that became idle just now,
+  -- or nobody waited; and a try waits only where nothing is idle.
   abbrev pub TriesInTurn : Ledger C → Act C → Answer → Type 0
-  TriesInTurn l (Try g) (Served k grant) = IsFirst l g × IfSome (just_told l) (λ h. just_brought l ≡ Some k)
-  TriesInTurn l (Try g) (Taken k grant) = IsFirst l g × IfSome (just_told l) (λ h. just_brought l ≡ Some k)
-  TriesInTurn l (Try g) (Waiting grant) = IfSome (just_told l) (λ h. just_brought l ≡ None)
+  TriesInTurn l (Try g) (Served k grant) = IsFirst l g × (0 < waiters l → just_brought l ≡ Some k)
+  TriesInTurn l (Try g) (Taken k grant) = IsFirst l g × (0 < waiters l → just_brought l ≡ Some k)
+  TriesInTurn l (Try g) (Waiting grant) = idle_count l ≡ 0
   TriesInTurn l _ _ = ⊤
-
-  -- Who waits before an event and after it waits since the same position, but for the get of a try that a close notified just now: that one
-  -- waits since this event, and so behind all others.
-  abbrev pub KeepsPlaces : Ledger C → ℕ → Act C → Answer → Type 0
-  KeepsPlaces l at e a = (g p q : ℕ) → WaitsSince l g p → WaitsSince (Later l at e a) g q
-      → (q ≡ p) ⊎ ((q ≡ position l) × (e ≡ Try g) × (just_told l ≡ Some g) × (just_brought l ≡ None))
 
   -- so it is at each event
   abbrev pub AlwaysInTurn : Ledger C → Type 0
   AlwaysInTurn (Opening s) = ⊤
-  AlwaysInTurn (Later l at e a) = AlwaysInTurn l × TriesInTurn l e a × KeepsPlaces l at e a
+  AlwaysInTurn (Later l at e a) = AlwaysInTurn l × TriesInTurn l e a
 
-  -- Where nobody was told just now and a handle is alive, each that waits has an open approval, or the size is reached; but for what was lost.
+  -- how many closes have notified a get
+  abbrev pub closes_told : Ledger C → ℕ
+  closes_told (Opening s) = 0
+  closes_told (Later l at e (Closed k grant n)) = closes_told l + one (is_some n)
+  closes_told (Later l at e a) = closes_told l
+
+  -- how often a notified get has tried and waited anew
+  abbrev pub places_lost : Ledger C → ℕ
+  places_lost (Opening s) = 0
+  places_lost (Later l at e Unfit) = places_lost l
+  places_lost (Later l at (Try g) (Waiting grant)) = places_lost l + one (gets_stand is_notified (get_of l g))
+  places_lost (Later l at e a) = places_lost l
+
+  -- how many closes, while somebody waited, no try has asked for since: a try that begins a wait asks for a connection
+  abbrev pub unasked : Ledger C → ℕ
+  unasked (Opening s) = 0
+  unasked (Later l at e Unfit) = unasked l
+  unasked (Later l at e (Closed k grant n)) = unasked l + one (ltb 0 (waiters l))
+  unasked (Later l at (Try g) (Waiting grant)) = cond (gets_stand is_unnotified (get_of l g)) (unasked l) (unasked l - 1)
+  unasked (Later l at e a) = unasked l
+
+  -- Where somebody waits, nothing is idle, but for one connection where a try is due.
+  abbrev pub IsSettled : Ledger C → Type 0
+  IsSettled l = (waiters l ≡ 0) ⊎ (idle_count l ≡ one (is_some (due_try l)))
+
+  -- While a handle is alive, each that waits has an open approval or an idle connection, or the size is reached; but for what was lost, and
+  -- for the closes that nobody asked for.
   abbrev pub IsProvided : Ledger C → Type 0
-  IsProvided l = 0 < handles l → just_told l ≡ None → (unnotified l ≤ approved l + lost l) ⊎ ((start l).config.max_size ≤ conns l + approved l + lost l)
+  IsProvided l = 0 < handles l → (waiters l ≤ approved l + idle_count l + lost l) ⊎ ((start l).config.max_size ≤ conns l + approved l + lost l + unasked l)
 
   -- the first position behind that since which the get waited that went out last, of those that had waited
   abbrev pub served_up_to : Ledger C → ℕ
@@ -107,14 +131,30 @@ module _ {C : Type 0} where
   abbrev pub AllWaitBehind : Ledger C → Type 0
   AllWaitBehind l = (g p : ℕ) → WaitsSince l g p → served_up_to l ≤ p
 
-  -- Who waits is served in order, where notifications are handed over: nobody is left notified, none waits beside an idle connection, each
-  -- try is in turn, and who waits keeps its place.
+  -- Who waits is served in order, where notifications are handed over: nothing stays idle while somebody waits, each try is in turn, and
+  -- closes alone cost places, one each at most, be it lost already or still kept by a get that is notified.
   pub record KeepsOrder (l : Ledger C) : Type 0 where
     pub settled : IsSettled l
     pub provided : IsProvided l
     pub in_turn : AlwaysInTurn l
     pub behind : AllWaitBehind l
+    pub few_lost : places_lost l ≤ closes_told l
+    pub few_told : notified l + places_lost l ≤ closes_told l + one (is_some (due_try l))
 
-  -- who waits is served in order, where the history hands over
-  abbrev pub IsOrderly : Ledger C → Type 0
-  IsOrderly l = HandsOver l → KeepsOrder l
+  -- A history in which each get that is notified tries at once, directly after the event that notified it.
+  abbrev pub TriesWhenTold : Ledger C → Type 0
+  TriesWhenTold (Opening s) = ⊤
+  TriesWhenTold (Later l at e Unfit) = TriesWhenTold l
+  TriesWhenTold (Later l at e a) = TriesWhenTold l × IfSome (just_told l) (λ g. e ≡ Try g)
+
+  -- It hands over; nobody is notified but who was told just now; and where nobody was, each close was asked for.
+  pub record TriesAtOnce (l : Ledger C) : Type 0 where
+    pub hands_over : HandsOver l
+    pub few : notified l ≡ one (is_some (just_told l))
+    pub told : IfSome (just_told l) (λ g. gets_stand is_notified (get_of l g) ≡ true)
+    pub asked : just_told l ≡ None → unasked l ≡ 0
+
+  -- who waits is served in order, where the history hands over, and so where each get that is notified tries at once
+  pub record IsOrderly (l : Ledger C) : Type 0 where
+    pub handed : HandsOver l → KeepsOrder l
+    pub at_once : TriesWhenTold l → TriesAtOnce l

@@ -7,7 +7,7 @@ use Rattle.bb8_ledger.specs.Acts.{Act, Try, CheckedOk, GiveUp, PutBack}
 use Rattle.bb8_ledger.specs.Answers.{Answer, Begun, Served, Taken, Waiting, Kept, Closed, Granted, GivenBack, Added, Reaped, Unfit}
 use Rattle.bb8_types.specs.Figures.{pending}
 use Rattle.bb8_types.specs.Numbered.{Numbered}
-use Rattle.bb8_ledger.specs.Ledger.{Ledger, Opening, Later, start, latest, handles, conns, approved, idle_count, out, unnotified, notified, record_of, get_of, numbered_get, next, next_get, alive, counts}
+use Rattle.bb8_ledger.specs.Ledger.{Ledger, Opening, Later, start, position, latest, handles, conns, approved, idle_count, out, unnotified, notified, record_of, get_of, numbered_get, next, next_get, alive, counts}
 use Rattle.bb8_types.specs.Places.{holds, stands, gets_stand, is_held_by, is_notified, is_unnotified}
 
 -- how many numbers an answer gives to new approvals and connections
@@ -183,8 +183,25 @@ module _ {C : Type 0} where
   AreInTurn l = (g h : ℕ) (a b : Numbered Getting) → numbered_get l g ≡ Some a → numbered_get l h ≡ Some b
       → gets_stand is_notified a.standing ≡ true → gets_stand is_unnotified b.standing ≡ true → a.position < b.position
 
-  -- The promises to those who wait: no notification is lost or out of turn.
+  -- the get g waits since this position, notified or not
+  abbrev pub WaitsSince : Ledger C → ℕ → ℕ → Type 0
+  WaitsSince l g p = (a : Numbered Getting) × (numbered_get l g ≡ Some a) × (a.position ≡ p)
+      × ((gets_stand is_notified a.standing ≡ true) ⊎ (gets_stand is_unnotified a.standing ≡ true))
+
+  -- Who waits before an event and after it waits since the same position, but for a notified get that tries where no connection is idle:
+  -- that one waits since this event, and so behind all others.
+  abbrev pub KeepsPlaces : Ledger C → ℕ → Act C → Answer → Type 0
+  KeepsPlaces l at e a = (g p q : ℕ) → WaitsSince l g p → WaitsSince (Later l at e a) g q
+      → (q ≡ p) ⊎ ((q ≡ position l) × (e ≡ Try g) × (gets_stand is_notified (get_of l g) ≡ true) × (idle_count l ≡ 0))
+
+  -- so it is at each event
+  abbrev pub AlwaysKeepsPlaces : Ledger C → Type 0
+  AlwaysKeepsPlaces (Opening s) = ⊤
+  AlwaysKeepsPlaces (Later l at e a) = AlwaysKeepsPlaces l × KeepsPlaces l at e a
+
+  -- The promises to those who wait: no notification is lost or out of turn, and each keeps its place until it tries in vain.
   pub record KeepsPromises (l : Ledger C) : Type 0 where
     pub promised : IsPromised l
     pub remembered : NeverForgets l
     pub in_turn : AreInTurn l
+    pub kept : AlwaysKeepsPlaces l

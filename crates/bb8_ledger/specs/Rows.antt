@@ -8,6 +8,7 @@ use Rattle.bb8_ledger.specs.Acts.{Act, PutBack, Opened, Add}
 use Rattle.bb8_ledger.specs.Answers.{Answer}
 use Rattle.bb8_ledger.specs.Ledger.{Ledger, Later, figures, opening_with}
 use Rattle.bb8_ledger.specs.Table.{Allowed}
+use Rattle.bb8_ledger.specs.Handed.{HandsOver, places_lost, unasked}
 use Rattle.bb8_ledger.specs.Waits.{wait, IsMostWaits}
 
 -- ---- what a row says
@@ -87,3 +88,13 @@ connections c idle i started s direct d waited w timed_out t cancelled x wait_us
 -- so many connections at most, and no check on check-out
 abbrev pub unchecked : ℕ → Settings
 unchecked max_size = record default_settings { max_size = max_size; test_on_check_out = false }
+
+-- ---- in which order gets are served in a row
+
+-- a row of one connection that hands over: so often a get has waited anew, and each close was asked for
+abbrev pub HandsOverLosing : ℕ → List Told → Type 0
+HandsOverLosing lost told = let l : Ledger ℕ = after (opening_with (unchecked 1) 0 0) told in HandsOver l × (places_lost l ≡ lost) × (unasked l ≡ 0)
+
+-- a row of one connection that does not hand over
+abbrev pub IsOvertaking : List Told → Type 0
+IsOvertaking told = HandsOver (after (opening_with (unchecked 1) 0 0) told) → ⊥

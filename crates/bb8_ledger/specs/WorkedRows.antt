@@ -123,6 +123,55 @@ closed_puts_last =
     ∷ 0 ▸ Try 2 ⇒ Served 1 (grant 0 at 2)
     ∷ []
 
+-- two closes: the oldest waiter goes behind another each time, and a newcomer is served before it, too
+abbrev pub passed_by_two : List Told
+passed_by_two =
+    0 ▸ Begin ⇒ Begun 0
+    ∷ 0 ▸ Try 0 ⇒ Waiting (grant 1 at 0)
+    ∷ 0 ▸ Claim ⇒ Claimed (Some 0)
+    ∷ 0 ▸ opens 0 ⇒ Entered 0 (Some 0)
+    ∷ 0 ▸ Try 0 ⇒ Served 0 (grant 0 at 1)
+    ∷ 0 ▸ Begin ⇒ Begun 1
+    ∷ 0 ▸ Try 1 ⇒ Waiting (grant 0 at 1)
+    ∷ 0 ▸ Begin ⇒ Begun 2
+    ∷ 0 ▸ Try 2 ⇒ Waiting (grant 0 at 1)
+    ∷ 0 ▸ PutBack 0 0 true ⇒ Closed 0 (grant 0 at 1) (Some 1)
+    ∷ 0 ▸ Try 1 ⇒ Waiting (grant 1 at 1)
+    ∷ 0 ▸ Claim ⇒ Claimed (Some 1)
+    ∷ 0 ▸ opens 1 ⇒ Entered 1 (Some 2)
+    ∷ 0 ▸ Try 2 ⇒ Served 1 (grant 0 at 2)
+    ∷ 0 ▸ Begin ⇒ Begun 3
+    ∷ 0 ▸ Try 3 ⇒ Waiting (grant 0 at 2)
+    ∷ 0 ▸ PutBack 1 1 true ⇒ Closed 1 (grant 0 at 2) (Some 1)
+    ∷ 0 ▸ Try 1 ⇒ Waiting (grant 1 at 2)
+    ∷ 0 ▸ Claim ⇒ Claimed (Some 2)
+    ∷ 0 ▸ opens 2 ⇒ Entered 2 (Some 3)
+    ∷ 0 ▸ Try 3 ⇒ Served 2 (grant 0 at 3)
+    ∷ []
+
+-- after a close a get that is thrown away asks for the connection: who was notified keeps its place, and is served first
+abbrev pub closed_keeps_place : List Told
+closed_keeps_place =
+    0 ▸ Begin ⇒ Begun 0
+    ∷ 0 ▸ Try 0 ⇒ Waiting (grant 1 at 0)
+    ∷ 0 ▸ Claim ⇒ Claimed (Some 0)
+    ∷ 0 ▸ opens 0 ⇒ Entered 0 (Some 0)
+    ∷ 0 ▸ Try 0 ⇒ Served 0 (grant 0 at 1)
+    ∷ 0 ▸ Begin ⇒ Begun 1
+    ∷ 0 ▸ Try 1 ⇒ Waiting (grant 0 at 1)
+    ∷ 0 ▸ Begin ⇒ Begun 2
+    ∷ 0 ▸ Try 2 ⇒ Waiting (grant 0 at 1)
+    ∷ 0 ▸ PutBack 0 0 true ⇒ Closed 0 (grant 0 at 1) (Some 1)
+    ∷ 0 ▸ Begin ⇒ Begun 3
+    ∷ 0 ▸ Try 3 ⇒ Waiting (grant 1 at 1)
+    ∷ 0 ▸ GiveUp 3 Cancelled None false ⇒ GaveUp None
+    ∷ 0 ▸ Claim ⇒ Claimed (Some 1)
+    ∷ 0 ▸ opens 1 ⇒ Entered 1 (Some 2)
+    ∷ 0 ▸ Try 1 ⇒ Served 1 (grant 0 at 2)
+    ∷ 0 ▸ returns 1 ⇒ Kept 1 None
+    ∷ 0 ▸ Try 2 ⇒ Served 1 (grant 0 at 2)
+    ∷ []
+
 -- a notified get is cancelled, and hands its notification on
 abbrev pub handed_on : List Told
 handed_on =

@@ -2,11 +2,12 @@
 ghost use Rattle.std.specs.Prelude.{[], ◌∷◌};
 ghost use Rattle.bb8_types.specs.declared.api.configuration.QueueStrategy.TheVariants.{Lifo};
 ghost use Rattle.bb8_types.specs.Settings.{default_settings};
-ghost use Rattle.bb8_ledger.specs.Rows.{IsRow, IsBackOff, unchecked, connections◌idle◌started◌direct◌waited◌timed_out◌cancelled◌wait_us◌created◌broken◌invalid◌lifetime◌idle_timeout◌};
-ghost use Rattle.bb8_ledger.specs.WorkedRows.{two_opened, three_out, first_script, overtaken, closed_puts_last, handed_on, oldest_first, newest_first, check_failed, reaped_at_the_limit, moment_goes_back, get_numbers_used_up, numbers_used_up, third_place_refused, third_adding_withheld, added_until_full, returned_unfit, none_left_valid, last_handle_left, waited_five_micros, used_again, idled_out, spared_oldest, spared_newest, spared_after_expired, expired_not_spared, returned_too_old, cancelled_in_check, given_back, returned_after_last_handle};
+ghost use Rattle.bb8_ledger.specs.Rows.{IsRow, HandsOverLosing, IsOvertaking, IsBackOff, unchecked, connections◌idle◌started◌direct◌waited◌timed_out◌cancelled◌wait_us◌created◌broken◌invalid◌lifetime◌idle_timeout◌};
+ghost use Rattle.bb8_ledger.specs.WorkedRows.{two_opened, three_out, first_script, overtaken, closed_puts_last, passed_by_two, closed_keeps_place, handed_on, oldest_first, newest_first, check_failed, reaped_at_the_limit, moment_goes_back, get_numbers_used_up, numbers_used_up, third_place_refused, third_adding_withheld, added_until_full, returned_unfit, none_left_valid, last_handle_left, waited_five_micros, used_again, idled_out, spared_oldest, spared_newest, spared_after_expired, expired_not_spared, returned_too_old, cancelled_in_check, given_back, returned_after_last_handle};
 
-/// Worked rows of the definitions: no code stands behind them. Each clause but the last three says of one row that the whole step table
+/// Worked rows of the definitions: no code stands behind them. Each clause but the last four says of one row that the whole step table
 /// allows the answers of its lines, from its configuration and first numbers on, and that the state shown at the end has these figures.
+/// The clause `order` says which of them hand over, and how many places closes cost there.
 /// The last three tell the waits of a back-off in nanoseconds, and how many of them end within the timeout. The behaviour is upstream's
 /// but where the list of differences says otherwise; the function is our own.
 pub fn worked_rows()
@@ -24,6 +25,12 @@ pub fn worked_rows()
         wait_us 0 created 1 broken 0 invalid 0 lifetime 0 idle_timeout 0) }
     ensures closed_puts_last { IsRow (unchecked 1) 0 0 closed_puts_last
         (connections 1 idle 0 started 3 direct 0 waited 2 timed_out 0 cancelled 0
+        wait_us 0 created 2 broken 1 invalid 0 lifetime 0 idle_timeout 0) }
+    ensures passed_by_two { IsRow (unchecked 1) 0 0 passed_by_two
+        (connections 1 idle 0 started 4 direct 0 waited 3 timed_out 0 cancelled 0
+        wait_us 0 created 3 broken 2 invalid 0 lifetime 0 idle_timeout 0) }
+    ensures closed_keeps_place { IsRow (unchecked 1) 0 0 closed_keeps_place
+        (connections 1 idle 0 started 4 direct 0 waited 3 timed_out 0 cancelled 1
         wait_us 0 created 2 broken 1 invalid 0 lifetime 0 idle_timeout 0) }
     ensures handed_on { IsRow (unchecked 1) 0 0 handed_on
         (connections 1 idle 1 started 3 direct 0 waited 1 timed_out 0 cancelled 1
@@ -151,6 +158,8 @@ pub fn worked_rows()
     ensures returned_after_last_handle { IsRow (unchecked 1) 0 0 returned_after_last_handle
         (connections 0 idle 0 started 1 direct 1 waited 0 timed_out 0 cancelled 0
         wait_us 0 created 0 broken 0 invalid 0 lifetime 0 idle_timeout 0) }
+    ensures order { IsOvertaking overtaken × HandsOverLosing 0 closed_keeps_place
+        × HandsOverLosing 1 closed_puts_last × HandsOverLosing 2 passed_by_two }
     ensures waits_of_one_second { IsBackOff 1_000_000_000
         (400_000_000 ∷ 500_000_000 ∷ 500_000_000 ∷ []) 2 }
     ensures waits_of_thirty_seconds { IsBackOff 30_000_000_000

@@ -1,5 +1,5 @@
 -- What holds of the sections of a pool.
-use Rattle.bb8_lock.proofs.Words.{◌≡◌, subst, ℕ, ◌+◌, ◌^◌, ◌<◌, ◌≤◌, length, Bool, true, false, Option, Some, None, refl, sym, ap, ◌∙◌, arith, Settings, settings_of, is_lawful, Ledger, Later, next, records, checked_err_told, give_up_told, put_back_told, add_told, fits, out_of, Moves}
+use Rattle.bb8_lock.proofs.Words.{◌≡◌, ℕ, ◌+◌, ◌^◌, ◌<◌, ◌≤◌, length, Bool, true, false, Option, Some, None, refl, sym, ap, ◌∙◌, arith, Settings, settings_of, is_lawful, Ledger, next, records, checked_err_told, give_up_told, put_back_told, add_told, fits, out_of, Moves}
 use Rattle.std.proofs.Common.{IfOk, Result, Ok, Err, is_some}
 use Rattle.bb8_core.specs.declared.answers.GiveUpAnswer.{GiveUpAnswer}
 use Rattle.bb8_core.specs.declared.answers.GiveUpAnswer.TheVariants as given_back
@@ -9,20 +9,32 @@ use Rattle.bb8_core.specs.declared.answers.PutBackAnswer.{PutBackAnswer}
 use Rattle.bb8_core.specs.declared.answers.PutBackAnswer.TheVariants.{Kept, Closed}
 use Rattle.bb8_core.specs.declared.answers.AddAnswer.{AddAnswer}
 use Rattle.bb8_core.specs.declared.answers.AddAnswer.TheVariants as adding
+use Rattle.bb8_core.specs.declared.answers.Started.TheVariants as starting
+use Rattle.bb8_core.specs.declared.answers.TryAnswer.{TryAnswer}
+use Rattle.bb8_core.specs.declared.answers.TryAnswer.TheVariants as tried
+use Rattle.bb8_core.specs.StepAnswers.{try_told, Starts}
+use Rattle.bb8_gets.specs.declared.home.FirstTry.TheVariants as first
+use Rattle.bb8_gets.specs.declared.home.Tried.{Tried}
+use Rattle.bb8_gets.specs.Homes.{StepsIn}
+use Rattle.bb8_gets.specs.Steps as step
+use Rattle.bb8_gets.specs.Steps.{StepsBy}
+use Rattle.bb8_gets.specs.Told.{in_core}
+use Rattle.bb8_tables.specs.declared.keys.GetKey.{GetKey}
 use Rattle.bb8_types.specs.declared.api.configuration.Config.{Config}
+use Rattle.bb8_types.specs.declared.api.moments.Moment.{Moment}
 use Rattle.bb8_types.specs.declared.grants.Grant.{Grant}
-use Rattle.bb8_ledger.specs.Acts.{Act, CheckedErr, GiveUp, PutBack, Fill, Add, Reason}
+use Rattle.bb8_ledger.specs.Acts.{Act, Begin, Try, CheckedErr, GiveUp, PutBack, Fill, Add, Reason}
 use Rattle.bb8_ledger.specs.Answers as answers
-use Rattle.bb8_ledger.specs.Answers.{Answer, Broken, Granted, Unfit}
+use Rattle.bb8_ledger.specs.Answers.{Answer, Begun, Broken, Granted, Unfit}
 use Rattle.bb8_ledger.specs.Table.{Allowed, Row, fills, add_broken, gives_up}
-use Rattle.bb8_core.specs.Shown.{Shown, Means, Meets, HasLedger, IsWithinLimits, Steps}
-use Rattle.bb8_core.specs.Asked.{answered, Stepped}
+use Rattle.bb8_core.specs.Shown.{Shown, Means, Meets, IsWithinLimits, Steps}
+use Rattle.bb8_core.specs.Asked.{answered}
 use Rattle.bb8_core.specs.Run.{opening}
-use Rattle.bb8_lock.specs.Parts.{parts_back}
+use Rattle.bb8_lock.specs.Parts.{goes_out, parts_back}
 use Rattle.bb8_lock.specs.Sections.{IsSorted}
 use Rattle.bb8_core.proofs.Parts.{counted}
+use Rattle.bb8_gets.proofs.Starting.{follows, within, starts_within}
 use Rattle.bb8_ledger.proofs.Effects.{by_fit}
-use Rattle.bb8_ledger.proofs.Laws.{keeps_limits, keeps_laws, keeps_promises}
 
 -- an answer that a connection came back
 abbrev pub brings_back : Answer → Bool
@@ -36,19 +48,6 @@ refuses_broken Broken = true
 refuses_broken _ = false
 
 module _ {C : Type 0} where
-  -- a step that is answered so is made
-  pub met : {A U : Type 0} (told : A → Answer) {old new : Shown C} (at : ℕ) (e : Act C) {r : Result A U} {x : A} → r ≡ Ok x
-      → IsWithinLimits old → Stepped Meets told old at e r new → Steps old at e (told x) new
-  met {U = U} told {old} {new} at e is within step = (within, subst (λ q. Meets old at e (answered {U = U} told q) new) is step.0)
-
-  -- a step leads to a state that has a ledger
-  pub follows : (s new : Shown C) (at : ℕ) (e : Act C) (a : Answer) → HasLedger s → Meets s at e a new → HasLedger new
-  follows s new at e a h m = let step = m h.0 h.1 h.2 in (Later h.0 at e a, (h.1, step.0), step.1)
-
-  -- whatever has a ledger keeps the limits
-  pub within : (s : Shown C) → HasLedger s → IsWithinLimits s
-  within s h = (h, λ l legal means. (keeps_limits l legal, keeps_laws l legal, keeps_promises l legal))
-
   -- a step that moves nothing leaves the parts as they are
   pub unmoved : (old new : Shown C) (at : ℕ) (e : Act C) (a : Answer) (rest : ℕ) → Steps old at e a new
       → (Moves e a (out_of old) (out_of new) → out_of new ≡ out_of old) → out_of old + rest ≡ old.config.max_size
@@ -69,24 +68,37 @@ module _ {C : Type 0} where
       → (out_of new + rest ≡ new.config.max_size) × (new.config ≡ settings)
   all_kept {old} {new} at e a rest {settings} s same parts is = (unmoved old new at e a rest s same parts, kept_settings old new at e a settings s is)
 
-  -- where one more goes out there is a part for it
-  pub has_part : (old new : Shown C) (at : ℕ) (e : Act C) (a : Answer) (rest : ℕ) → Steps old at e a new
-      → (Moves e a (out_of old) (out_of new) → out_of new ≡ out_of old + 1) → out_of old + rest ≡ old.config.max_size → 1 ≤ rest
-  has_part old new at e a rest s more parts =
-      let k = counted old at e a new s.0.0 s.1 in
-      let size : new.config.max_size ≡ old.config.max_size = ap (λ (c : Settings). c.max_size) k.config in
-      let moved : out_of new ≡ out_of old + 1 = more k.moves in
-      omega (arith, moved, size, parts, k.few)
+  -- as many go out as a try's answer says
+  goes : (g : ℕ) (told : TryAnswer C) (before after : ℕ) → Moves {C = C} (Try g) (try_told told) before after → after ≡ before + goes_out told
+  goes g (tried.Served k c grant) before after moves = moves
+  goes g (tried.Taken k c grant) before after moves = moves
+  goes g (tried.Waiting grant) before after moves = omega (arith, moves)
 
-  -- one more goes out with a part
-  pub gone_out : (old new : Shown C) (at : ℕ) (e : Act C) (a : Answer) (rest less : ℕ) → Steps old at e a new
-      → (Moves e a (out_of old) (out_of new) → out_of new ≡ out_of old + 1) → out_of old + rest ≡ old.config.max_size → less + 1 ≡ rest
-      → out_of new + less ≡ new.config.max_size
-  gone_out old new at e a rest less s more parts split =
-      let k = counted old at e a new s.0.0 s.1 in
+  -- where a connection goes out there is a part for it, and with it the rest of the parts counts what is not out; the settings are kept
+  pub try_parts : {old new : Shown C} (at g : ℕ) (told : TryAnswer C) (rest : ℕ) {settings : Settings} → Steps old at (Try g) (try_told told) new
+      → out_of old + rest ≡ old.config.max_size → old.config ≡ settings
+      → (goes_out told ≤ rest) × ((less : ℕ) → less + goes_out told ≡ rest → out_of new + less ≡ new.config.max_size) × (new.config ≡ settings)
+  try_parts {old} {new} at g told rest {settings} s parts is =
+      let k = counted old at (Try g) (try_told told) new s.0.0 s.1 in
       let size : new.config.max_size ≡ old.config.max_size = ap (λ (c : Settings). c.max_size) k.config in
-      let moved : out_of new ≡ out_of old + 1 = more k.moves in
-      omega (arith, moved, size, parts, split)
+      let moved : out_of new ≡ out_of old + goes_out told = goes g told (out_of old) (out_of new) k.moves in
+      (omega (arith, moved, size, parts, k.few), λ less split. omega (arith, moved, size, parts, split), k.config ∙ is)
+
+  -- so of a get that begins and tries
+  pub start_parts : (old new : Shown C) (at : ℕ) (g : GetKey) (told : TryAnswer C) (rest : ℕ) {settings : Settings} → IsWithinLimits old
+      → Starts old at (starting.Tried g told) new → out_of old + rest ≡ old.config.max_size → old.config ≡ settings
+      → (goes_out told ≤ rest) × ((less : ℕ) → less + goes_out told ≡ rest → out_of new + less ≡ new.config.max_size) × (new.config ≡ settings)
+  start_parts old new at g told rest is s parts same =
+      let kept = all_kept {new = s.0} at Begin (Begun g.number) rest (is, s.1) (λ m. m) parts same in
+      try_parts at g.number told rest (within s.0 (follows old s.0 at Begin (Begun g.number) is.0 s.1), s.2) kept.0 kept.1
+
+  -- a get that begins and tries does both in a state of these settings
+  pub starts_in : {P : Type 0} (old new : Shown C) {settings : Settings} (at : Moment) (g : GetKey) (t : Tried C P) {told : TryAnswer C} → in_core t ≡ told
+      → old.config ≡ settings → IsWithinLimits old → Starts old at.0 (starting.Tried g told) new
+      → StepsBy (StepsIn settings) old at (step.Starts (Ok (first.Tried g t))) new
+  starts_in old new {settings} at g t is same limits starts =
+      let s = starts_within old new at g t is limits starts in
+      (s.0, (same, s.1), (kept_settings old s.0 at.0 Begin (Begun g.number) settings s.1 same, s.2), s.3)
 
   -- one comes back with its part
   pub come_back : (old new : Shown C) (at : ℕ) (e : Act C) (a : Answer) (rest : ℕ) → Steps old at e a new

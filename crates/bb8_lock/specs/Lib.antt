@@ -5,7 +5,6 @@ pub mod Opening
 pub mod Parts
 pub mod Sections
 pub mod SectionSteps
-pub mod Serving
 pub mod Turning
 pub use Rattle.bb8_gets.specs.Homes
 pub use Rattle.bb8_gets.specs.Polls

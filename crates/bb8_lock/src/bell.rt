@@ -4,30 +4,28 @@ ghost use Rattle.std.specs.Prelude.{ℕ};
 ghost use Rattle.std.specs.Duration.{as_nanos};
 ghost use Rattle.bb8_lock.specs.declared.bell.Sleeper.{Sleeper as SleeperOf};
 
-use bb8_core::internals::{
-    AddAnswer, CheckedErrAnswer, GiveUpAnswer, Grant, OpenedAnswer, PutBackAnswer,
-};
-use bb8_gets::{Taken, Tried};
+use bb8_core::internals::{AddAnswer, CheckedErrAnswer, GiveUpAnswer, OpenedAnswer, PutBackAnswer};
+use bb8_gets::{FirstTry, Tried};
 use std::sync::{Condvar, Mutex, Wait};
 use std::time::Duration;
 
-/// A bell, until whose rings threads sleep. Our own.
+/// A bell, until whose rings threads sleep.
 #[derive(Drop)]
 pub struct Bell {
     rung: Condvar,
 }
 
-/// A lock, and the bells that are rung once it was let go. Our own.
+/// A lock, and the bells that are rung once it was let go.
 #[derive(Drop)]
 pub struct Belled<T> {
     pub(crate) lock: Mutex<T>,
-    /// Rung where a waiting get was notified. Our own.
+    /// Rung where a waiting get was notified.
     pub gets: Bell,
-    /// Rung where an approval was granted, or no handle is alive any more. Our own.
+    /// Rung where an approval was granted, or no handle is alive any more.
     pub drivers: Bell,
 }
 
-/// Whose thread sleeps, and so by which bell. Our own.
+/// Whose thread sleeps, and so by which bell.
 #[derive(Clone, Copy)]
 pub enum Sleeper {
     /// A waiting get's.
@@ -36,7 +34,7 @@ pub enum Sleeper {
     Driver,
 }
 
-/// What a thread sleeps by. Our own.
+/// What a thread sleeps by.
 pub trait Rests {
     // Holds before the count of the rings of a sleeper's bell is read, of the count, and after it.
     ghost counts: { Self → SleeperOf → ℕ → Self → Type 0 };
@@ -44,11 +42,11 @@ pub trait Rests {
     // Holds before a sleep that a ring of the sleeper's bell past this count ends, of the nanoseconds that it lasts at most, and after it.
     ghost sleeps: { Self → SleeperOf → ℕ → ℕ → Self → Type 0 };
 
-    /// How often the sleeper's bell was rung. Our own.
+    /// How often the sleeper's bell was rung.
     fn rings(&mut self, sleeper: Sleeper) -> u64
         ensures { counts self.old sleeper result self.new };
 
-    /// Sleeps until the sleeper's bell was rung more often than so often, and so long at most. Our own.
+    /// Sleeps until the sleeper's bell was rung more often than so often, and so long at most.
     fn sleep(&mut self, sleeper: Sleeper, rings: u64, most: Duration)
         ensures { sleeps self.old sleeper rings (as_nanos most) self.new };
 }
@@ -61,7 +59,7 @@ pub(crate) struct Rings {
 }
 
 impl Bell {
-    /// A bell that was not rung. Our own.
+    /// A bell that was not rung.
     pub fn new() -> Self {
         Bell {
             rung: Condvar::new(),
@@ -69,25 +67,25 @@ impl Bell {
     }
 
     /// How often the bell was rung, wrapping. Who reads it before the look at what it waits for loses no ring between the look and its
-    /// sleep. Our own.
+    /// sleep.
     pub fn rings(&self) -> u64 {
         self.rung.notifications()
     }
 
-    /// Wakes all that sleep. Our own.
+    /// Wakes all that sleep.
     #[cold]
     pub fn ring(&self) {
         self.rung.notify_all();
     }
 
-    /// Sleeps until the bell was rung more often than so often, and so long at most. It may end early. Our own.
+    /// Sleeps until the bell was rung more often than so often, and so long at most. It may end early.
     pub fn sleep<R: Wait>(&self, rt: &R, rings: u64, most: Duration) {
         self.rung.sleep(rt, rings, most);
     }
 }
 
 impl<T> Belled<T> {
-    /// A lock that is free, whose bells were not rung. Our own.
+    /// A lock that is free, whose bells were not rung.
     pub fn new(value: T) -> Self {
         Belled {
             lock: Mutex::new(value),
@@ -96,7 +94,7 @@ impl<T> Belled<T> {
         }
     }
 
-    /// What the lock holds. Our own.
+    /// What the lock holds.
     pub fn into_inner(self) -> T {
         let Belled { lock, .. } = self;
         lock.into_inner()
@@ -167,9 +165,12 @@ impl<A: Notifies, E> Notifies for Result<A, E> {
     }
 }
 
-impl<C, P> Notifies for (Taken<C, P>, Grant) {
+impl<C, P> Notifies for FirstTry<C, P> {
     fn grants(&self) -> bool {
-        self.1.count > 0
+        match self {
+            FirstTry::Tried(_, answer) => answer.grants(),
+            FirstTry::Memory | FirstTry::Exhausted => false,
+        }
     }
 }
 

@@ -6,7 +6,7 @@ use crate::Part;
 use std::marker::Model;
 use std::sync::ledger::{Ledger, Share, Total};
 
-/// Some of the parts, or none. Contracts see how many they are. Our own.
+/// Some of the parts, or none. Contracts see how many they are.
 #[derive(Drop)]
 pub struct Gathered<L: Ledger> {
     share: Option<Share<L>>,
@@ -21,14 +21,14 @@ impl<L: Ledger> Model for Gathered<L> {
 }
 
 impl<L: Ledger> Gathered<L> {
-    /// No part. Our own.
+    /// No part.
     pub fn none() -> Self
         ensures { result ≡ 0 }
     {
         Gathered { share: None }
     }
 
-    /// Takes one part more. There are never more than the total. Our own.
+    /// Takes one part more. There are never more than the total.
     pub fn put(&mut self, part: Part<L>, total: &Total<L>)
         ensures one_more { self.new ≡ self.old + 1 }
         ensures within { self.new ≤ total.now.amount }
@@ -41,7 +41,7 @@ impl<L: Ledger> Gathered<L> {
         self.share = Some(all);
     }
 
-    /// Gives one part back. Our own.
+    /// Gives one part back.
     pub fn take_one(&mut self) -> Part<L>
         requires { 0 < self.old }
         ensures { self.new + 1 ≡ self.old }

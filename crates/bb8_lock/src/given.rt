@@ -4,9 +4,9 @@ use bb8_core::api::{Clock, CustomizeConnection, ErrorSink, ManageConnection};
 use std::fmt::Debug;
 use std::marker::PhantomData;
 
-/// What a pool is given from outside, and the types that come with it. `These` is the one implementer. Our own.
+/// What a pool is given from outside, and the types that come with it. `These` is the one implementer.
 pub trait Given: Drop + 'static {
-    /// The manager. Our own.
+    /// The manager.
     type Manager: ManageConnection<
         Connection = Self::Connection,
         Error = Self::Error,
@@ -14,39 +14,39 @@ pub trait Given: Drop + 'static {
         Checking = Self::Checking,
     >;
 
-    /// Where errors go that no caller waits for. Our own.
+    /// Where errors go that no caller waits for.
     type Sink: ErrorSink<Self::Error>;
 
-    /// What prepares connections. Our own.
+    /// What prepares connections.
     type Customizer: CustomizeConnection<
         Self::Connection,
         Self::Error,
         Acquiring = Self::Acquiring,
     >;
 
-    /// The clock. Our own.
+    /// The clock.
     type Clock: Clock;
 
-    /// The runtime that the lock needs. Our own.
+    /// The runtime that the lock needs.
     type Runtime: Locks;
 
-    /// The manager's connections. Our own.
+    /// The manager's connections.
     type Connection: Send + Drop + 'static;
 
-    /// The manager's errors. Our own.
+    /// The manager's errors.
     type Error: Debug + Send + Drop + 'static;
 
-    /// The manager's openings. Our own.
+    /// The manager's openings.
     type Connecting: Send + Drop + 'static;
 
-    /// The manager's checks. Our own.
+    /// The manager's checks.
     type Checking: Send + Drop + 'static;
 
-    /// The customizer's preparations. Our own.
+    /// The customizer's preparations.
     type Acquiring: Send + Drop + 'static;
 }
 
-/// A manager, an error sink, a customizer, a clock and a runtime, as one type, of which there is no value. Our own.
+/// A manager, an error sink, a customizer, a clock and a runtime, as one type, of which there is no value.
 #[derive(Drop)]
 pub struct These<M, S, Z, K, R> {
     which: PhantomData<(M, S, Z, K, R)>,

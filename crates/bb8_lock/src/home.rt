@@ -1,47 +1,66 @@
 //! What a pool's lock holds as a home of gets.
-ghost use Rattle.std.specs.Prelude.{◌≡◌, Some, IfSome, IfNone};
+ghost use Rattle.std.specs.Prelude.{◌≡◌, ◌+◌, ◌≤◌, Some};
 ghost use Rattle.bb8_ledger.specs.Acts as acts;
 ghost use Rattle.bb8_core.specs.Asked.{OrComesBack, Stepped};
 ghost use Rattle.bb8_core.specs.StepAnswers.{checked_err_told, give_up_told, reason_of, GivesBackHeld, GivesBackInvalid};
 ghost use Rattle.bb8_gets.specs.Homes.{StepsIn};
-ghost use Rattle.bb8_lock.specs.Serving.{ServesNow};
-ghost use Rattle.bb8_gets.specs.Steps.{StepsBy};
+ghost use Rattle.bb8_gets.specs.Steps.{StepsBy, Starts};
+ghost use Rattle.bb8_gets.specs.Told.{in_core};
+ghost use Rattle.bb8_lock.specs.Parts.{goes_out};
 
 use crate::locked::{Locked, Part, Parts};
 use bb8_core::api::Moment;
 use bb8_core::asked::{self, Unfit};
 use bb8_core::internals::{
-    AtOnce, BeginAnswer, CheckedErrAnswer, GetKey, GiveUpAnswer, Grant, Key, Looked, Reason,
-    TryAnswer,
+    AtOnce, CheckedErrAnswer, GetKey, GiveUpAnswer, Key, Looked, Reason, Started, TryAnswer,
 };
-use bb8_gets::{GetHome, Passed, Returned, Taken, Tried};
+use bb8_gets::{FirstTry, GetHome, Passed, Returned, Taken, Tried};
+use std::sync::ledger::Share;
+
+/// A try's answer, where one of the parts goes with a connection.
+#[inline(always)]
+fn hand_out<C, L: Parts>(rest: &mut Share<L>, told: TryAnswer<C>) -> Tried<C, Part<L>>
+    requires parts { goes_out told ≤ rest.old.parts }
+    requires amount { rest.old.amount ≡ rest.old.parts }
+    ensures told { in_core result ≡ told }
+    ensures parts { rest.new.parts + goes_out told ≡ rest.old.parts }
+    ensures amount { rest.new.amount ≡ rest.new.parts }
+{
+    match told {
+        TryAnswer::Waiting(grant) => Tried::Waiting(grant),
+        TryAnswer::Served(key, connection, grant) => {
+            let part = Part::cut(rest);
+            let taken = Taken {
+                key,
+                connection,
+                part,
+            };
+            Tried::Served(taken, grant)
+        }
+        TryAnswer::Taken(key, connection, grant) => {
+            let part = Part::cut(rest);
+            let taken = Taken {
+                key,
+                connection,
+                part,
+            };
+            Tried::Taken(taken, grant)
+        }
+    }
+}
 
 impl<C: Drop, L: Parts> Locked<C, L> {
-    /// Begins a get and serves it, where that takes no memory. Where it does not, nothing has changed.
-    #[inline(always)]
-    fn serve_now(&mut self, at: Moment) -> Option<(Taken<C, Part<L>>, Grant)>
-        ensures served { IfSome result (λ s. ServesNow L.settings self.old at s.0 s.1 self.new) }
-        ensures none { IfNone result (self.new.core ≡ self.old.core) }
+    /// Begins a get that is not served at once, and lets it try.
+    #[inline(never)]
+    fn start_on(&mut self, at: Moment) -> Result<FirstTry<C, Part<L>>, Unfit>
+        ensures { StepsBy (StepsIn L.settings) self.old.core at (Starts result) self.new.core }
     {
         let Locked { core, rest, .. } = self;
-        match asked::serve_at_once(core, at) {
-            None => None,
-            Some(
-                AtOnce {
-                    key,
-                    conn,
-                    grant,
-                    ..
-                },
-            ) => {
-                let one = rest.split_off(1, 1);
-                let taken = Taken {
-                    key,
-                    connection: conn,
-                    part: Part { share: one },
-                };
-                Some((taken, grant))
-            }
+        match asked::start(core, at) {
+            Ok(Started::Tried(get, told)) => Ok(FirstTry::Tried(get, hand_out(rest, told))),
+            Ok(Started::Memory) => Ok(FirstTry::Memory),
+            Ok(Started::Exhausted) => Ok(FirstTry::Exhausted),
+            Err(Unfit) => Err(Unfit),
         }
     }
 }
@@ -63,44 +82,35 @@ impl<C: Drop, L: Parts> GetHome<C> for Locked<C, L> {
         core.look(at)
     }
 
-    /// It is served at once where that takes no memory.
+    /// A get is served at once where connections go out unchecked and that takes no memory.
     #[inline(always)]
-    fn serve(&mut self, at: Moment) -> Result<(Taken<C, Part<L>>, Grant), Looked> {
-        let seen = self.look(at);
-        match self.serve_now(seen.moment) {
-            Some(served) => Ok(served),
-            None => Err(seen),
+    fn start(&mut self, at: Moment) -> Result<FirstTry<C, Part<L>>, Unfit> {
+        let Locked { core, rest, .. } = self;
+        match asked::serve_at_once(core, at) {
+            Some(
+                AtOnce {
+                    get,
+                    key,
+                    conn,
+                    grant,
+                },
+            ) => {
+                let get = GetKey {
+                    number: get,
+                    place: 0,
+                };
+                let told = TryAnswer::Served(key, conn, grant);
+                Ok(FirstTry::Tried(get, hand_out(rest, told)))
+            }
+            None => self.start_on(at),
         }
-    }
-
-    fn begin(&mut self, at: Moment) -> Result<BeginAnswer, Unfit> {
-        let Locked { core, .. } = self;
-        asked::begin(core, at)
     }
 
     fn try_get(&mut self, at: Moment, get: GetKey) -> Result<Tried<C, Part<L>>, Unfit> {
         let Locked { core, rest, .. } = self;
         match asked::try_get(core, at, get) {
+            Ok(told) => Ok(hand_out(rest, told)),
             Err(Unfit) => Err(Unfit),
-            Ok(TryAnswer::Waiting(grant)) => Ok(Tried::Waiting(grant)),
-            Ok(TryAnswer::Served(key, connection, grant)) => {
-                let share = rest.split_off(1, 1);
-                let taken = Taken {
-                    key,
-                    connection,
-                    part: Part { share },
-                };
-                Ok(Tried::Served(taken, grant))
-            }
-            Ok(TryAnswer::Taken(key, connection, grant)) => {
-                let share = rest.split_off(1, 1);
-                let taken = Taken {
-                    key,
-                    connection,
-                    part: Part { share },
-                };
-                Ok(Tried::Taken(taken, grant))
-            }
         }
     }
 

@@ -12,10 +12,10 @@ use crate::{Given, Handle, Joining, Locked, Parts, SectionHome, Shared};
 use bb8_core::api::{Moment, State};
 use bb8_core::asked::Unfit;
 use bb8_core::internals::{
-    AddAnswer, BeginAnswer, CheckedErrAnswer, ClaimAnswer, FailedAnswer, GetKey, GiveUpAnswer,
-    Grant, Key, LeaveAnswer, Looked, OpenedAnswer, PutBackAnswer, ReapAnswer, Reason,
+    AddAnswer, CheckedErrAnswer, ClaimAnswer, FailedAnswer, GetKey, GiveUpAnswer, Key, LeaveAnswer,
+    Looked, OpenedAnswer, PutBackAnswer, ReapAnswer, Reason,
 };
-use bb8_gets::{GetHome, LetGo, Passed, Returned, Taken, Tried};
+use bb8_gets::{FirstTry, GetHome, LetGo, Passed, Returned, Taken, Tried};
 use bb8_tasks::Home;
 use std::sync::MutexGuard;
 
@@ -128,6 +128,7 @@ impl<C, S: Locking<T>, T: GetHome<C>> GetHome<C> for LinkHome<'_, S, T> {
         self.rings = Rings::none();
     }
 
+    #[inline(always)]
     fn look(&mut self, at: Moment) -> Looked {
         let mut guard = self.hold();
         let seen = guard.look(at);
@@ -136,19 +137,11 @@ impl<C, S: Locking<T>, T: GetHome<C>> GetHome<C> for LinkHome<'_, S, T> {
     }
 
     #[inline(always)]
-    fn serve(&mut self, at: Moment) -> Result<(Taken<C, T::Part>, Grant), Looked> {
+    fn start(&mut self, at: Moment) -> Result<FirstTry<C, T::Part>, Unfit> {
         let mut guard = self.hold();
-        let answer = guard.serve(at);
+        let answer = guard.start(at);
         self.held = Some(guard);
         self.rings.note(&answer);
-        answer
-    }
-
-    #[inline(always)]
-    fn begin(&mut self, at: Moment) -> Result<BeginAnswer, Unfit> {
-        let mut guard = self.hold();
-        let answer = guard.begin(at);
-        self.held = Some(guard);
         answer
     }
 

@@ -1,7 +1,7 @@
 //! What the lock of a pool holds, and the sections: what is done to it under one taking of the lock.
 //!
 //! A section is lent the state, and asks for one step. No manager, customizer, sink or clock is called here.
-ghost use Rattle.std.specs.Prelude.{◌≡◌, ◌+◌, ◌^◌, ◌<◌, true, IfOk};
+ghost use Rattle.std.specs.Prelude.{◌≡◌, ◌+◌, ◌^◌, ◌<◌, ◌≤◌, true, IfOk};
 ghost use Rattle.bb8_ledger.specs.Acts as acts;
 ghost use Rattle.bb8_types.specs.Settings.{Settings, default_settings, is_lawful, settings_of};
 ghost use Rattle.bb8_lock.specs.Parts.{parts_back, PoolBegins, IsBlankOf};
@@ -20,7 +20,7 @@ use std::marker::Brand;
 use std::sync::ledger::{Blank, Ledger, Share, Total};
 
 /// The parts by which the connections of one pool are counted, as many as its `max_size`, and the settings of that pool. They tie what the
-/// lock holds to what stands beside the lock: of one pool's parts there is one value of settings. Our own.
+/// lock holds to what stands beside the lock: of one pool's parts there is one value of settings.
 pub trait Parts: Ledger {
     // The settings of the pool that the parts are of.
     ghost settings: { Settings };
@@ -30,7 +30,7 @@ impl Parts for Brand {
     ghost settings = { default_settings };
 }
 
-/// The parts of a pool that threads share. A program names `Brand`. Our own.
+/// The parts of a pool that threads share. A program names `Brand`.
 pub trait PoolParts: Parts + Send + Sync {}
 
 impl PoolParts for Brand {}
@@ -54,6 +54,18 @@ pub struct Part<L: Ledger> {
 }
 
 impl<L: Parts> Part<L> {
+    /// A part of the rest, for a connection that goes out.
+    #[inline(always)]
+    pub(crate) fn cut(rest: &mut Share<L>) -> Self
+        requires parts { 1 ≤ rest.old.parts }
+        requires amount { rest.old.amount ≡ rest.old.parts }
+        ensures parts { rest.new.parts + 1 ≡ rest.old.parts }
+        ensures amount { rest.new.amount ≡ rest.new.parts }
+    {
+        let share = rest.split_off(1, 1);
+        Part { share }
+    }
+
     /// The part joins the rest where its connection was taken back, and is let go where that did not fit.
     #[inline(always)]
     pub(crate) fn settle<C, A>(self, rest: &mut Share<L>, answer: &Result<A, C>)
@@ -68,7 +80,7 @@ impl<L: Parts> Part<L> {
     }
 }
 
-/// What a new pool is made of. Our own.
+/// What a new pool is made of.
 pub struct NewPool<C, L: Parts> {
     /// How many parts there are.
     pub total: Total<L>,

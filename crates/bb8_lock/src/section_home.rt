@@ -8,12 +8,12 @@ use bb8_core::internals::{AddAnswer, LeaveAnswer, PutBackAnswer};
 use bb8_gets::{GetHome, Returned};
 
 /// A handle that is alive. The opening of a pool and `SectionHome::join` make one, and `SectionHome::leave` alone takes one: it cannot be
-/// dropped. Our own.
+/// dropped.
 pub struct Handle {
     pub(crate) _alive: (),
 }
 
-/// What the making of a handle answers. Our own.
+/// What the making of a handle answers.
 pub enum Joining {
     /// There is one handle more.
     Joined(Handle),
@@ -30,13 +30,13 @@ pub trait Ends {
 }
 
 /// The steps that guards and handles of connections `C` make, beside those of gets. They have one relation without a default, as
-/// those of gets have. Our own.
+/// those of gets have.
 pub trait SectionHome<C>: GetHome<C> {
     // Holds of a home, a moment, a step with what it was given and what it may answer, and the home then.
     ghost makes: { Self → MomentOf → SectionStep C Self.Part → Self → Type 0 };
 
     /// Takes back a connection that was out, and what went with it. Where that does not fit, the connection comes back as the error, and
-    /// its part is gone. Our own.
+    /// its part is gone.
     fn put_back(
         &mut self,
         at: Moment,
@@ -44,19 +44,19 @@ pub trait SectionHome<C>: GetHome<C> {
     ) -> Result<PutBackAnswer<C>, C>
         ensures { makes self.old at (PutsBack returned result) self.new };
 
-    /// Adds a connection that no approval brought. Where that does not fit, the connection comes back as the error. Our own.
+    /// Adds a connection that no approval brought. Where that does not fit, the connection comes back as the error.
     fn add(&mut self, at: Moment, conn: C, broken: bool) -> Result<AddAnswer<C>, C>
         ensures { makes self.old at (Adds conn broken result) self.new };
 
-    /// What the pool tells of itself. Our own.
+    /// What the pool tells of itself.
     fn state(&mut self, at: Moment) -> State
         ensures { makes self.old at (Shows result) self.new };
 
-    /// Makes one handle more, where one is alive and another may be. Our own.
+    /// Makes one handle more, where one is alive and another may be.
     fn join(&mut self, at: Moment) -> Joining
         ensures { makes self.old at (Joins result) self.new };
 
-    /// Takes a handle away. With the last one all idle connections end, and are dropped here, and all unclaimed approvals. Our own.
+    /// Takes a handle away. With the last one all idle connections end, and are dropped here, and all unclaimed approvals.
     fn leave(&mut self, at: Moment, handle: Handle) -> Result<LeaveAnswer, Unfit>
         ensures { makes self.old at (Leaves result) self.new };
 }

@@ -1,4 +1,4 @@
-//! What the lines of a script are read as. The language of scripts is our own.
+//! What the lines of a script are read as.
 ghost use Rattle.std.specs.Prelude.{◌≡◌, map, IfOk, List, ℕ};
 ghost use Rattle.bb8_runner.specs.Grammar.{number_of, plain_act, worded_act, numbered_act, broken_act, flagged_act, act_of, event_of_fields, event_of, fields_of};
 

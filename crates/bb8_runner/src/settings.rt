@@ -1,4 +1,4 @@
-//! The settings of a script's first line. The language of scripts is our own.
+//! The settings of a script's first line.
 ghost use Rattle.std.specs.Prelude.{◌≡◌, map, IfOk, IfSome, option_map, unwrap_or, true};
 ghost use Rattle.bb8_runner.specs.Words.{settings_of, is_lawful};
 ghost use Rattle.std.specs.Duration.{as_nanos};

@@ -1,4 +1,4 @@
-//! The lines that a script's answers print as. All of them are our own.
+//! The lines that a script's answers print as.
 ghost use Rattle.std.specs.Prelude.{◌≡◌, ◌++◌, Some, IfOk, string_bytes};
 ghost use Rattle.bb8_types.specs.Figures.{counts_of, figures_of};
 ghost use Rattle.bb8_runner.specs.Text.{grant_text, notifies_text, sizes_text, gets_text, opened_text, closed_text, state_text, answer_text, output_of, bad_line_text};

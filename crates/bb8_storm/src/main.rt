@@ -58,9 +58,7 @@ fn in_phase<R: Runtime + Threads, L: PoolParts + 'static>(
     storm: &Storm<'_, R, L>,
 ) -> Result<GetCounts, Memory> {
     let asked = Arc::new(rt.alloc(), AtomicBool::new(false))?;
-    let Ok(stop) = Arc::try_clone(&asked) else {
-        return Err(Memory);
-    };
+    let stop = Arc::try_clone(&asked)?;
     let driver = Driver::new(storm.pool)?;
     let Ok(driving) = drive(&rt, driver, Stop { asked: stop }) else {
         return Err(Memory);

@@ -1,5 +1,5 @@
 -- The code's side of each change of the gets: what it does to the fields, seen in what they mean.
-use Rattle.bb8_tables.proofs.Words.{◌≡◌, ◌≢◌, ℕ, List, ◌+◌, ◌-◌, ◌<◌, ◌≤◌, Bool, true, false, [], ◌∷◌, ◌++◌, length, set, slice_get, arith, Option, Some, None, is_some, IsSome, refl, sym, ap, ◌∙◌, length-append, get, tally, one, Lined, slot_at, Absent, GetPlace, Active, Waiting, Getting, Slot, is_unnotified, get_in_wait, get_with_place, ShownGets, IsTable, view_of_gets, AreGoodGets, AreWaitingPlaces, removed_inserted}
+use Rattle.bb8_tables.proofs.Words.{◌≡◌, ◌≢◌, ℕ, List, ◌+◌, ◌-◌, ◌<◌, ◌≤◌, Bool, true, false, [], ◌∷◌, ◌++◌, length, set, slice_get, arith, Option, Some, None, is_some, IsSome, refl, sym, ap, ◌∙◌, get, tally, one, Lined, slot_at, Absent, GetPlace, Active, Waiting, Getting, Slot, is_unnotified, get_in_wait, get_with_place, ShownGets, IsTable, view_of_gets, AreGoodGets, AreWaitingPlaces, removed_inserted}
 use Rattle.bb8_tables.specs.declared.gets.Gets.TheInside.{Inside}
 use Rattle.bb8_tables.specs.Machine as machine
 use Rattle.bb8_tables.proofs.Slots.{Updates, set_at, set_within, tally_set, tally_at, table_set, table_added, table_removed, table_kept}
@@ -35,7 +35,7 @@ stands_is a q i x s good is e same shown = grind (arith, some_shown a q i x s go
 -- Good gets are good after one place has changed, where the line and the count are right again.
 changed_good : {a : Inside} {next alive place : ℕ} {slots : Lined (Slot Getting)} {was is : Option (Slot Getting)} (m n : Bool) → AreGoodGets a → slot_at a.slots place ≡ was
     → Updates a.slots.slots slots.slots place is
-    → is_some was ≡ m → is_some is ≡ n → alive + one m ≡ a.alive + one n → alive + length slots.free ≡ a.alive + length a.slots.free → alive ≤ a.peak → alive ≤ next
+    → is_some was ≡ m → is_some is ≡ n → alive + one m ≡ a.alive + one n → alive + slots.free ≡ a.alive + a.slots.free → alive ≤ a.peak → alive ≤ next
     → IsTable numbered slots.slots next → AreWaitingPlaces slots.slots slots.line → AreGoodGets (record { next = next; slots = slots; alive = alive; peak = a.peak })
 changed_good {a} {slots = slots} m n good at_place u m_is n_is alive_sum sum few alive_few table waiting =
     let z = good.sizes in
@@ -46,7 +46,7 @@ changed_good {a} {slots = slots} m n good at_place u m_is n_is alive_sum sum few
 
 -- the same stands at each place
 module _ (a : Inside) (slots : Lined (Slot Getting)) (peak : ℕ) (good : AreGoodGets a) (kept : (i : ℕ) → slot_at slots i ≡ slot_at a.slots i) (line_is : slots.line ≡ a.slots.line) where
-  pub kept_good : a.alive ≤ peak → peak ≤ a.alive + length slots.free → AreGoodGets (record a { slots = slots; peak = peak })
+  pub kept_good : a.alive ≤ peak → peak ≤ a.alive + slots.free → AreGoodGets (record a { slots = slots; peak = peak })
   kept_good few room = grind (arith, table_kept good.table kept, same_line good.waiting kept, Slots.tally_same is_some refl a.slots.slots slots.slots kept)
 
   pub kept_view : view_of_gets (record a { slots = slots; peak = peak }) ≡ record (view_of_gets a) { peak = peak }
@@ -58,15 +58,15 @@ module _ (a : Inside) (slots : Lined (Slot Getting)) (peak : ℕ) (good : AreGoo
 module _ (a : Inside) (place : ℕ) (slots : Lined (Slot Getting)) (good : AreGoodGets a) (free : slot_at a.slots place ≡ None) (within : place < length a.slots.slots)
     (takes : slots ≡ record a.slots {
       slots = set a.slots.slots place (Some (record { number = a.next; standing = record { place = Active; first_wait = None } }));
-      free = machine.without place a.slots.free;
-    }) (room : length slots.free + 1 ≡ length a.slots.free) where
+      free = a.slots.free - 1;
+    }) (room : slots.free + 1 ≡ a.slots.free) where
   abbrev born : Slot Getting
   born = record { number = a.next; standing = record { place = Active; first_wait = None } }
 
   pub begin_good : a.alive < a.peak → AreGoodGets (record a { next = a.next + 1; slots = slots; alive = a.alive + 1 })
   begin_good few =
       let u = set_within a.slots.slots place (Some born) within in
-      let r : length (machine.without place a.slots.free) + 1 ≡ length a.slots.free = rw takes at room in
+      let r : (a.slots.free - 1) + 1 ≡ a.slots.free = rw takes at room in
       rw takes (changed_good false true good free u refl refl (omega arith) (omega arith) (omega arith) (omega (arith, good.sizes.alive_few)) (table_added good.table refl u)
       (free_line good.waiting free u))
 
@@ -176,7 +176,6 @@ module _ (a : Inside) (place q : ℕ) (x : Slot Getting) (slots : Lined (Slot Ge
       let z = good.sizes in
       let some : 1 ≤ a.alive = end_counted in
       let u = set_at a.slots.slots place x None at_place in
-      let f : length (a.slots.free ++ place ∷ []) ≡ length a.slots.free + 1 = length-append a.slots.free (place ∷ []) in
       rw gone (changed_good true false good at_place u refl refl (omega arith) (omega arith) (omega (arith, z.peak_holds)) (omega (arith, z.alive_few)) (table_removed good.table u)
       (places_without good.waiting u))
 
@@ -192,8 +191,8 @@ module _ (a : Inside) (place q : ℕ) (x : Slot Getting) (slots : Lined (Slot Ge
 module _ (a : Inside) (place : ℕ) (mid : Lined (Slot Getting)) (good : AreGoodGets a) (free : slot_at a.slots place ≡ None) (within : place < length a.slots.slots)
     (takes : mid ≡ record a.slots {
       slots = set a.slots.slots place (Some (record { number = a.next; standing = record { place = Active; first_wait = None } }));
-      free = machine.without place a.slots.free;
-    }) (room : length mid.free + 1 ≡ length a.slots.free) (few : a.alive < a.peak) where
+      free = a.slots.free - 1;
+    }) (room : mid.free + 1 ≡ a.slots.free) (few : a.alive < a.peak) where
   abbrev begun : Inside
   begun = record a { next = a.next + 1; slots = mid; alive = a.alive + 1 }
 
@@ -229,8 +228,8 @@ module _ (a : Inside) (place : ℕ) (mid : Lined (Slot Getting)) (good : AreGood
 
 -- a get that holds a connection is in no line, so its place goes as any other
 pub released : (a : Inside) (place k : ℕ) (x : Slot Getting) (slots : Lined (Slot Getting)) → AreGoodGets a → slot_at a.slots place ≡ Some x → x.standing.place ≡ Holding k
-    → slots ≡ record { slots = set a.slots.slots place None; line = a.slots.line; births = machine.without place a.slots.births; free = a.slots.free ++ place ∷ [] }
+    → slots ≡ record { slots = set a.slots.slots place None; line = a.slots.line; births = machine.without place a.slots.births; free = a.slots.free + 1 }
     → Frees a.slots slots place
 released a place k x slots good at_place holding gone =
-    gone ∙ ap (λ (l : List ℕ). record { slots = set a.slots.slots place None; line = l; births = machine.without place a.slots.births; free = a.slots.free ++ place ∷ [] })
+    gone ∙ ap (λ (l : List ℕ). record { slots = set a.slots.slots place None; line = l; births = machine.without place a.slots.births; free = a.slots.free + 1 })
     (sym (without_absent place a.slots.line (wait_absent a place x good at_place (ap is_unnotified holding))))

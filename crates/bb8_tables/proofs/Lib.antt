@@ -2,6 +2,7 @@ pub mod Words
 pub mod Views
 pub mod Spelled
 pub mod Linked
+pub mod Tables
 pub mod Slots
 pub mod Lines
 pub mod Numbers

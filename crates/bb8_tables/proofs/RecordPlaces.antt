@@ -1,5 +1,5 @@
 -- The code's side of each change: what it does to the fields, seen in what they mean.
-use Rattle.bb8_tables.proofs.Words.{◌≡◌, ◌≢◌, ℕ, ◌+◌, ◌-◌, ◌<◌, ◌≤◌, Bool, true, false, cond, not, [], ◌∷◌, ◌++◌, map, length, Option, Some, None, IsSome, set, slice_get, drop, refl, sym, ap, ◌∙◌, arith, length-append, append-nil, map_push, drop-map, length-map, get, Lined, slot_at, Absent, Buffer, buffer, Place, Unclaimed, Claimed, Idle, Guarded, Standing, Holder, Guard, Get, Key, Slot, QueueStrategy, is_idle, is_unclaimed, is_conn, is_approval, is_out, place_with, with_place, first_place, first_of, comes_from, birth_in, IsTable, number_in, numbers_at, view_of_records, AreGoodRecords, passes, IsLineOf, IsOrderOf, tally, one, ShownRecords, NoneAfter, most_records, Inside, unclaimed_is, idle_is, held_conn, idle_from, unclaimed_from, conn_from, approval_from}
+use Rattle.bb8_tables.proofs.Words.{◌≡◌, ◌≢◌, ℕ, ◌+◌, ◌-◌, ◌<◌, ◌≤◌, Bool, true, false, cond, not, [], ◌∷◌, ◌++◌, map, length, Option, Some, None, IsSome, set, slice_get, drop, refl, sym, ap, ◌∙◌, arith, append-nil, map_push, drop-map, length-map, get, Lined, slot_at, Absent, Buffer, buffer, Place, Unclaimed, Claimed, Idle, Guarded, Standing, Holder, Guard, Get, Key, Slot, QueueStrategy, is_idle, is_unclaimed, is_conn, is_approval, is_out, place_with, with_place, first_place, first_of, comes_from, birth_in, IsTable, number_in, numbers_at, view_of_records, AreGoodRecords, passes, IsLineOf, IsOrderOf, tally, one, ShownRecords, NoneAfter, most_records, Inside, unclaimed_is, idle_is, held_conn, idle_from, unclaimed_from, conn_from, approval_from}
 use Rattle.bb8_tables.specs.Machine as machine
 use Rattle.bb8_tables.proofs.Views.{same_records}
 use Rattle.bb8_tables.proofs.Lines.{other_line, free_line, added_line, shorter_line, same_line, places_absent, free_absent}
@@ -91,7 +91,7 @@ module _ {C : Type 0} where
       → AreGoodRecords a → slot_at a.slots place ≡ was → Updates a.slots.slots slots.slots place is
       → passes is_conn was ≡ m → passes is_conn is ≡ n → conns + one m ≡ a.conns + one n
       → passes is_approval was ≡ k → passes is_approval is ≡ l → approved + one k ≡ a.approved + one l
-      → conns + approved + length slots.free ≡ a.conns + a.approved + length a.slots.free → conns + approved ≤ a.peak → unclaimed.capacity ≡ a.unclaimed.capacity
+      → conns + approved + slots.free ≡ a.conns + a.approved + a.slots.free → conns + approved ≤ a.peak → unclaimed.capacity ≡ a.unclaimed.capacity
       → IsTable numbered slots.slots next → IsOrderOf is_idle (λ s. s.entered) slots.slots slots.line → IsOrderOf is_conn (λ s. s.birth) slots.slots slots.births
       → IsLineOf is_unclaimed slots.slots unclaimed.items
       → AreGoodRecords (record { next = next; slots = slots; unclaimed = unclaimed; conns = conns; approved = approved; peak = a.peak })
@@ -108,7 +108,7 @@ module _ {C : Type 0} where
 
   -- ---- nothing in an empty table
 
-  pub new_good : (first : ℕ) (slots : Lined (Slot (Standing C))) (unclaimed : Buffer Key) → slots ≡ record { slots = []; line = []; births = []; free = [] } → unclaimed ≡ buffer [] 0
+  pub new_good : (first : ℕ) (slots : Lined (Slot (Standing C))) (unclaimed : Buffer Key) → slots ≡ record { slots = []; line = []; births = []; free = 0 } → unclaimed ≡ buffer [] 0
       → AreGoodRecords (record { next = first; slots = slots; unclaimed = unclaimed; conns = 0; approved = 0; peak = 0 })
   new_good first slots unclaimed empty none = grind (arith, no_order)
 
@@ -117,7 +117,7 @@ module _ {C : Type 0} where
   -- the same stands at each place
   module _ (a : Inside C) (slots : Lined (Slot (Standing C))) (peak : ℕ) (good : AreGoodRecords a) (kept : (i : ℕ) → slot_at slots i ≡ slot_at a.slots i) (line_is : slots.line ≡ a.slots.line)
       (births_are : slots.births ≡ a.slots.births) where
-    pub kept_good : (unclaimed : Buffer Key) → unclaimed.items ≡ a.unclaimed.items → a.conns + a.approved ≤ peak → peak ≤ most_records → peak ≤ a.conns + a.approved + length slots.free
+    pub kept_good : (unclaimed : Buffer Key) → unclaimed.items ≡ a.unclaimed.items → a.conns + a.approved ≤ peak → peak ≤ most_records → peak ≤ a.conns + a.approved + slots.free
         → peak ≤ unclaimed.capacity → AreGoodRecords (record a { slots = slots; unclaimed = unclaimed; peak = peak })
     kept_good unclaimed items few most room unclaimed_room = record {
       table = table_kept good.table kept;
@@ -283,7 +283,6 @@ module _ {C : Type 0} where
       → AreGoodRecords (record a { slots = slots; unclaimed = unclaimed; conns = conns; approved = approved })
   ended_good {a} {place = place} x m k good at_place gone m_is conns_sum k_is approved_sum one_less capacity line =
       let u = set_at a.slots.slots place x None at_place in
-      let f : length (a.slots.free ++ place ∷ []) ≡ length a.slots.free + 1 = length-append a.slots.free (place ∷ []) in
       rw gone (changed_good m false k false good at_place u m_is refl (omega arith) k_is refl (omega arith) (omega arith) (omega (arith, good.sizes.peak_holds)) capacity
       (table_removed good.table u) (left_order good.idle u refl) (left_order good.births u refl) (line u))
 
@@ -337,8 +336,8 @@ module _ {C : Type 0} where
       (good : AreGoodRecords a) (free : slot_at a.slots place ≡ None)
       (within : place < length a.slots.slots) (takes : slots ≡ record a.slots {
         slots = set a.slots.slots place (Some (record { number = a.next; standing = record { place = cond claimed_now Claimed Unclaimed; birth = 0; entered = 0 } }));
-        free = machine.without place a.slots.free;
-      }) (room : length slots.free + 1 ≡ length a.slots.free)
+        free = a.slots.free - 1;
+      }) (room : slots.free + 1 ≡ a.slots.free)
       (pushed : unclaimed ≡ buffer (a.unclaimed.items ++ cond claimed_now [] ((record { number = a.next; place = place }) ∷ []))
       a.unclaimed.capacity) where
     abbrev added : Slot (Standing C)
@@ -363,7 +362,7 @@ module _ {C : Type 0} where
     pub approve_good : a.conns + a.approved < a.peak → AreGoodRecords (record a { next = a.next + 1; slots = slots; unclaimed = unclaimed; approved = a.approved + 1 })
     approve_good free_room =
         let t = tests claimed_now in
-        let r : length (machine.without place a.slots.free) + 1 ≡ length a.slots.free = rw takes at room in
+        let r : (a.slots.free - 1) + 1 ≡ a.slots.free = rw takes at room in
         rw (pushed, takes) (changed_good false false false true good free u refl t.0 refl refl (ap not t.0) (omega arith) (omega arith) (omega arith) refl
         (table_added good.table refl u) (other_order good.idle u free refl t.1) (other_order good.births u free refl t.0) (line_added claimed_now (is_unclaimed_now claimed_now)))
 
@@ -383,15 +382,15 @@ module _ {C : Type 0} where
   module _ (a : Inside C) (place now : ℕ) (conn : C) (mid slots : Lined (Slot (Standing C))) (good : AreGoodRecords a)
       (free : slot_at a.slots place ≡ None) (within : place < length a.slots.slots) (takes : mid ≡ record a.slots {
         slots = set a.slots.slots place (Some (record { number = a.next; standing = record { place = Idle conn; birth = now; entered = now } }));
-        free = machine.without place a.slots.free;
-      }) (room : length mid.free + 1 ≡ length a.slots.free) (in_line : slots ≡ record mid { line = mid.line ++ place ∷ []; births = mid.births ++ place ∷ [] }) where
+        free = a.slots.free - 1;
+      }) (room : mid.free + 1 ≡ a.slots.free) (in_line : slots ≡ record mid { line = mid.line ++ place ∷ []; births = mid.births ++ place ∷ [] }) where
     abbrev newborn : Slot (Standing C)
     newborn = record { number = a.next; standing = record { place = Idle conn; birth = now; entered = now } }
 
     pub born_good : a.conns + a.approved < a.peak → NoneAfter now (view_of_records a) → AreGoodRecords (record a { next = a.next + 1; slots = slots; conns = a.conns + 1 })
     born_good free_room late =
         let u = set_within a.slots.slots place (Some newborn) within in
-        let r : length (machine.without place a.slots.free) + 1 ≡ length a.slots.free = rw takes at room in
+        let r : (a.slots.free - 1) + 1 ≡ a.slots.free = rw takes at room in
         rw (in_line, takes) (changed_good false true false false good free u refl refl (omega arith) refl refl refl (omega arith) (omega arith) refl
         (table_added good.table refl u) (pushed_order good.idle u free refl refl refl (λ i y e. (moments a now i y good late e).1))
         (pushed_order good.births u free refl refl refl (λ i y e. (moments a now i y good late e).0)) (free_line good.unclaimed free u))

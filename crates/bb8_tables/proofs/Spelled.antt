@@ -47,11 +47,11 @@ absent_get p (suc j) (x ∷ xs) a e = absent_get p j xs a.1 e
 
 -- ---- places that are told apart, below a bound
 
-abbrev Distinct : List ℕ → Type 0
+abbrev pub Distinct : List ℕ → Type 0
 Distinct [] = Unit {0}
 Distinct (x ∷ xs) = Absent x xs × Distinct xs
 
-abbrev Below : ℕ → List ℕ → Type 0
+abbrev pub Below : ℕ → List ℕ → Type 0
 Below n [] = Unit {0}
 Below n (x ∷ xs) = (x < n) × Below n xs
 

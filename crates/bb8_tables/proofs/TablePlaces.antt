@@ -1,5 +1,5 @@
 -- What a table shows under its numbers, and what it shows after one place has changed.
-use Rattle.bb8_tables.proofs.Words.{◌≡◌, ℕ, ◌<◌, Bool, List, length, [], ◌∷◌, ◌++◌, Option, Some, None, IsSome, set, option_map, get_or, slice_get, refl, sym, ap, ◌∙◌, subst, nat_cmp, slice_get-map, FinMap, insert, remove, get, Slot, Lined, slot_at, without, values_at, IsTable, ArePlaces, number_in, numbers_at}
+use Rattle.bb8_tables.proofs.Words.{◌≡◌, ℕ, ◌+◌, ◌<◌, Bool, List, length, [], ◌∷◌, ◌++◌, Option, Some, None, IsSome, set, option_map, get_or, slice_get, refl, sym, ap, ◌∙◌, subst, nat_cmp, slice_get-map, FinMap, insert, remove, get, Slot, Lined, slot_at, without, values_at, IsTable, ArePlaces, number_in, numbers_at}
 use Rattle.bb8_tables.proofs.Lines.{left_away, free_avoids}
 use Rattle.bb8_tables.proofs.Numbers.{numbers_kept, numbers_same, numbers_push, numbers_without}
 use Rattle.bb8_tables.proofs.Slots.{set_at, set_within, held_at, held_set, held_added, held_removed}
@@ -18,7 +18,7 @@ module _ {S : Type 0} where
 
   -- what a freed place leaves
   abbrev pub Frees : Lined (Slot S) → Lined (Slot S) → ℕ → Type 0
-  Frees old new place = new ≡ record { slots = set old.slots place None; line = without place old.line; births = without place old.births; free = old.free ++ place ∷ [] }
+  Frees old new place = new ≡ record { slots = set old.slots place None; line = without place old.line; births = without place old.births; free = old.free + 1 }
 
   -- something stands there then
   pub stands_then : (old mid : Lined (Slot S)) (place : ℕ) (f : S → S) (x : Slot S) → slot_at old place ≡ Some x → Restands old mid place f → IsSome (slot_at mid place)

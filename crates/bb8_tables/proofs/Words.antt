@@ -2,7 +2,9 @@
 pub use Rattle.std.proofs.Common.{◌≡◌, ◌≢◌, ℕ, ◌+◌, ◌-◌, ◌<◌, ◌≤◌, Bool, true, false, cond, not, List, [], ◌∷◌, ◌++◌, map, length, Option, Some, None, IsSome, set, get_or, slice_get, drop, refl, sym, ap, ◌∙◌, arith, subst, length-append, append-nil, append_assoc, is_some, ◌&&◌, ◌⊎◌, inl, inr, ⊎_elim, zero, suc, option_map, eq-eqb, ne_eqb, get_or-set_other, get_or-set_same, Result, Ok, Err, OnOk, OnErr, eqb, nat_cmp, append_assoc, max}
 pub use Rattle.std.proofs.lemmas.List.{map_push, drop-map, length-map, map-set, map-append}
 pub use Rattle.std.specs.FinMap.{insert, get, FinMap, remove, get-empty}
-pub use Rattle.bb8_tables.specs.Lined.{Lined, slot_at, is_same, places_of, with_places}
+pub use Rattle.bb8_tables.specs.Lined.{Lined, slot_at}
+pub use Rattle.bb8_tables.specs.Ordered.{Ordered, most_places}
+pub use Rattle.bb8_tables.specs.Tables.{slot_in, slots_of, view_of_table, IsGoodTable, AreFree}
 pub use Rattle.bb8_tables.specs.Spelled.{Absent, Spells, walk, Joins, LinksLead}
 pub use Rattle.circular_buffer.specs.Buffer.{Buffer, buffer}
 pub use Rattle.bb8_types.specs.declared.standing.Place.{Place}
@@ -36,13 +38,6 @@ pub use Rattle.std.proofs.Math.Seq.{map-set_same}
 pub use Rattle.std.proofs.lemmas.Bool.Decides.{eqb_tells}
 pub use Rattle.std.specs.declared.alloc.AllocError.{AllocError}
 pub use Rattle.std.specs.Vec.{with_item}
-pub use Rattle.bb8_tables.specs.declared.links.Order.{Order}
-pub use Rattle.bb8_tables.specs.declared.links.Order.TheVariants.{Line, Births, Free}
-pub use Rattle.bb8_tables.specs.declared.links.Link.{Link}
-pub use Rattle.bb8_tables.specs.declared.links.Entry.{Entry}
-pub use Rattle.bb8_tables.specs.declared.links.Links.{Links}
-pub use Rattle.bb8_tables.specs.declared.links.Sizes.{Sizes}
-pub use Rattle.bb8_tables.specs.Linked.{end, most_places, size_of, with_size, link_in, with_link, after_at, before_at, after_of, before_of, JoinsAt, SameLinks, SameOthers, slot_in, slots_of, spelled, view_of_table, IsGoodTable}
 pub use Rattle.bb8_tables.specs.declared.records.Records.TheInside.{Inside}
 pub use Rattle.bb8_types.proofs.Places.{approval_from, conn_from, held_conn, idle_from, idle_is, unclaimed_from, unclaimed_is}
 pub use Rattle.bb8_types.proofs.Numbered.{get_inserted, get_removed, removed_inserted, same_gets, same_or_not}

@@ -8,7 +8,8 @@ pub mod Closed
 pub mod Spelled
 pub mod Lined
 pub mod Dues
-pub mod Linked
+pub mod Ordered
+pub mod Tables
 pub mod Slots
 pub mod State
 pub mod Counted

@@ -1,5 +1,5 @@
 -- What the fields of the tables mean, and what holds of them.
-use Rattle.std.specs.Prelude.{◌≡◌, ℕ, ◌+◌, ◌≤◌, List, map, length, Option, Some, None, is_some, Bool, false}
+use Rattle.std.specs.Prelude.{◌≡◌, ℕ, ◌+◌, ◌≤◌, List, map, Option, Some, None, is_some, Bool, false}
 use Rattle.bb8_types.specs.declared.standing.Place.{Place}
 use Rattle.bb8_tables.specs.declared.keys.Key.{Key}
 use Rattle.bb8_types.specs.declared.standing.Standing.{Standing}
@@ -61,7 +61,7 @@ module _ {C : Type 0} where
     pub unclaimed : IsLineOf is_unclaimed a.slots.slots a.unclaimed.items
     pub conns_are : tally (passes is_conn) a.slots.slots ≡ a.conns
     pub approved_are : tally (passes is_approval) a.slots.slots ≡ a.approved
-    pub sizes : AreSized (length a.slots.free) a.unclaimed.capacity a.conns a.approved a.peak
+    pub sizes : AreSized a.slots.free a.unclaimed.capacity a.conns a.approved a.peak
 
 -- what the fields of the gets show
 abbrev pub view_of_gets : GetsInside → ShownGets
@@ -81,4 +81,4 @@ AreWaitingPlaces = ArePlaces (λ (x : Slot Getting). is_unnotified x.standing.pl
 pub record AreGoodGets (a : GetsInside) : Type 0 where
   pub table : IsTable (λ (x : Slot Getting). x.number) a.slots.slots a.next
   pub waiting : AreWaitingPlaces a.slots.slots a.slots.line
-  pub sizes : AreGetsSized (tally is_some a.slots.slots) (length a.slots.free) a.alive a.peak a.next
+  pub sizes : AreGetsSized (tally is_some a.slots.slots) a.slots.free a.alive a.peak a.next

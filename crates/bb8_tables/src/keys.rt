@@ -1,7 +1,7 @@
 //! Names of connections, approvals and gets.
 
 /// Names a connection or an approval by its number. Where it stands is kept beside the number as a hint, which may be stale and changes
-/// no answer. Our own.
+/// no answer.
 #[derive(Clone, Copy, Debug)]
 pub struct Key {
     /// The number.
@@ -10,7 +10,7 @@ pub struct Key {
     pub place: usize,
 }
 
-/// Names a get by its number, with a hint as of `Key`. Our own.
+/// Names a get by its number, with a hint as of `Key`.
 #[derive(Clone, Copy, Debug)]
 pub struct GetKey {
     /// The number.

@@ -5,7 +5,7 @@ pub mod closed;
 pub mod counters;
 pub mod gets;
 pub mod keys;
-mod links;
+mod line;
 pub mod records;
 pub mod ring;
 mod table;

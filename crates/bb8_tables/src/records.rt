@@ -112,7 +112,7 @@ fn close_at<C: Drop>(
       slots = slice_set slots.old.slots place None;
       line = machine.without place slots.old.line;
       births = machine.without place slots.old.births;
-      free = slots.old.free ++ place ∷ [];
+      free = slots.old.free + 1;
     } }
     ensures listed { (x : Slot (Standing C)) → slot_at slots.old place ≡ Some x
         → closed.new ≡ offered_all (closed_in x.number (Some x.standing)) closed.old }

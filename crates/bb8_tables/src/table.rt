@@ -1,19 +1,18 @@
 //! A table of places, in which each number stands once, and some stand in line.
 ghost use Rattle.std.specs.Prelude.{◌≡◌, ◌≢◌, ℕ, List, ◌+◌, ◌-◌, ◌<◌, ◌≤◌, min, IsSome, IfSome, IfNone, OnOk, OnErr, Some, None, option_copied, [], slice_get, slice_set, length, ◌++◌, ◌∷◌, Bool, true, false, cond};
 ghost use Rattle.bb8_tables.specs.declared.table.Slot.{Slot};
-ghost use Rattle.bb8_tables.specs.declared.links.Order.TheVariants.{Line, Births, Free};
 ghost use Rattle.bb8_types.specs.declared.standing.Standing.{Standing};
 ghost use Rattle.bb8_types.specs.declared.standing.Getting.{Getting};
 ghost use Rattle.bb8_types.specs.Bounds.{end_of_numbers};
 ghost use Rattle.bb8_types.specs.Places.{get_in_wait, first_place};
 ghost use Rattle.bb8_tables.specs.Machine.{without};
-ghost use Rattle.bb8_tables.specs.Lined.{slot_at, places_of, with_places, is_same};
+ghost use Rattle.bb8_tables.specs.Lined.{slot_at};
 ghost use Rattle.bb8_tables.specs.Spelled.{Absent};
 ghost use Rattle.bb8_tables.specs.Lent.{lends, searches, AddsLent};
 
 mod lendings;
 
-use crate::links::{END, Links, Order, Sizes, Vacant};
+use crate::line::Line;
 use bb8_types::api::QueueStrategy;
 use bb8_types::bounds::END_OF_NUMBERS;
 use bb8_types::standing::{GetPlace, Getting, Place, Standing};
@@ -29,6 +28,12 @@ pub struct Slot<S> {
     pub number: u64,
     /// What stands there.
     pub standing: S,
+}
+
+/// What a free place holds.
+pub trait Vacant {
+    /// Something that is never seen.
+    fn vacant() -> Self;
 }
 
 impl<C> Vacant for Standing<C> {
@@ -50,11 +55,14 @@ impl Vacant for Getting {
     }
 }
 
-/// Places, with the line of those that stand in it, and those of connections by birth. Ended places are used again.
+/// Places, with the line of those that stand in it, and those of connections by birth. Ended places are used again, the last one first. No
+/// place is the first one, which stands for the ends of both orders.
 #[derive(Drop)]
 pub struct Table<S> {
-    links: Links<S>,
-    sizes: Sizes,
+    slots: Vec<Slot<S>>,
+    line: Line,
+    births: Line,
+    free: Vec<u32>,
 }
 
 impl<S> Model for Table<S> {
@@ -63,7 +71,7 @@ impl<S> Model for Table<S> {
 
     ghost Value = { Lined (Slot S) };
 
-    ghost use Rattle.bb8_tables.specs.Linked.{view_of_table, IsGoodTable};
+    ghost use Rattle.bb8_tables.specs.Tables.{view_of_table, IsGoodTable};
 
     ghost view = { view_of_table };
 
@@ -73,126 +81,58 @@ impl<S> Model for Table<S> {
 impl<S: Drop> Table<S> {
     /// An empty table, which takes no memory, and the leave to ask.
     pub fn new(alloc: Global) -> (Self, Asking)
-        ensures { result.0 ≡ record { slots = []; line = []; births = []; free = [] } }
+        ensures { result.0 ≡ record { slots = []; line = []; births = []; free = 0 } }
     {
         let table = Table {
-            links: Links {
-                entries: Vec::new(alloc),
-            },
-            sizes: Sizes {
-                line: 0,
-                births: 0,
-                free: 0,
-            },
+            slots: Vec::new(alloc),
+            line: Line::new(alloc),
+            births: Line::new(alloc),
+            free: Vec::new(alloc),
         };
         (table, Asking::given())
-    }
-
-    /// The place at the old end of an order, which has one.
-    #[inline]
-    fn oldest(&self, order: Order) -> usize
-        requires { 0 < length (places_of order self.now) }
-        ensures { slice_get (places_of order self.now) 0 ≡ Some result }
-    {
-        self.links.link(order, END).after as usize
-    }
-
-    /// The place at the new end of an order, which has one.
-    #[inline]
-    fn newest(&self, order: Order) -> usize
-        requires { 0 < length (places_of order self.now) }
-        ensures { slice_get (places_of order self.now) (length (places_of order self.now) - 1)
-            ≡ Some result }
-    {
-        self.links.link(order, END).before as usize
-    }
-
-    /// The free place at the new end, where there is one.
-    #[inline]
-    fn vacancy(&self) -> usize
-        requires { 0 < length self.now.free }
-        ensures within { result < length self.now.slots }
-        ensures apart { 0 < result }
-        ensures vacant { slot_at self.now result ≡ None }
-        ensures fewer { length (without result self.now.free) + 1 ≡ length self.now.free }
-    {
-        let _links = &self.links;
-        self.newest(Order::Free)
-    }
-
-    /// How many places are free.
-    #[inline]
-    fn room(&self) -> usize
-        ensures { result ≡ length self.now.free }
-    {
-        self.sizes.free
-    }
-
-    /// Puts a place at the new end of an order.
-    #[inline]
-    fn push(&mut self, order: Order, place: usize)
-        requires within { place < length self.old.slots }
-        requires apart { 0 < place }
-        requires absent { Absent place (places_of order self.old) }
-        requires vacant { IsSome (slot_at self.old place) → is_same Free order ≡ false }
-        ensures { self.new ≡ with_places order (places_of order self.old ++ place ∷ []) self.old }
-    {
-        let last = self.links.link(order, END).before;
-        let at = place as u32;
-        self.links.join(order, last, at);
-        self.links.join(order, at, END);
-        self.sizes.set(order, self.sizes.get(order) + 1);
-    }
-
-    /// Takes a place out of an order, where it stands in it.
-    #[inline]
-    fn unlink(&mut self, order: Order, place: usize)
-        requires within { place < length self.old.slots }
-        requires apart { 0 < place }
-        ensures { self.new ≡ with_places order (without place (places_of order self.old)) self.old }
-    {
-        let _links = &self.links;
-        let at = place as u32;
-        let link = self.links.link(order, at);
-        if link.after != at {
-            self.links.join(order, link.before, link.after);
-            self.links.join(order, at, at);
-            self.sizes.set(order, self.sizes.get(order) - 1);
-        }
-    }
-
-    /// Has this stand at a place that is not free.
-    #[inline]
-    fn fill(&mut self, place: usize, slot: Slot<S>)
-        requires within { place < length self.old.slots }
-        requires apart { 0 < place }
-        requires absent { Absent place self.old.free }
-        requires number { slot.number < end_of_numbers }
-        ensures { self.new ≡ record self.old {
-          slots = slice_set self.old.slots place
-              (Some slot);
-        } }
-    {
-        self.links.entries[place].slot = slot;
     }
 
     /// Takes a free place, of which there is one.
     #[inline]
     pub fn insert(&mut self, slot: Slot<S>) -> usize
-        requires free { 0 < length self.old.free }
+        requires free { 0 < self.old.free }
         requires number { slot.number < end_of_numbers }
         ensures vacant { slot_at self.old result ≡ None }
         ensures within { result < length self.old.slots }
         ensures state { self.new ≡ record self.old {
           slots = slice_set self.old.slots result (Some slot);
-          free = without result self.old.free;
+          free = self.old.free - 1;
         } }
-        ensures room { length self.new.free + 1 ≡ length self.old.free }
+        ensures room { self.new.free + 1 ≡ self.old.free }
     {
-        let place = self.vacancy();
-        self.unlink(Order::Free, place);
-        self.fill(place, slot);
-        place
+        match self.free.pop() {
+            // One is free, so this does not come.
+            None => 0,
+            Some(place) => {
+                self.slots[place as usize] = slot;
+                place as usize
+            }
+        }
+    }
+
+    /// What stands at a place, if it has that number.
+    #[inline]
+    fn found(&self, number: u64, at: usize) -> Option<&Slot<S>>
+        ensures some { IfSome (option_copied result)
+            (λ x. (slot_at self.now at ≡ Some x) × (x.number ≡ number)) }
+        ensures none { IfNone (option_copied result)
+            ((x : Slot S) → slot_at self.now at ≡ Some x → x.number ≢ number) }
+    {
+        match self.slots.get(at) {
+            None => None,
+            Some(slot) => {
+                if slot.number == number && number != END_OF_NUMBERS {
+                    Some(slot)
+                } else {
+                    None
+                }
+            }
+        }
     }
 
     /// Where a search finds the number, which is counted.
@@ -205,8 +145,8 @@ impl<S: Drop> Table<S> {
         ensures counted { lendings.new ≡ searches lendings.old }
     {
         lendings.search();
-        for i in 0..self.links.entries.len() {
-            if let Some(_) = self.links.found(number, i) {
+        for i in 0..self.slots.len() {
+            if let Some(_) = self.found(number, i) {
                 return Some(i);
             }
         }
@@ -227,7 +167,7 @@ impl<S: Drop> Table<S> {
         ensures searched { AddsLent 0 1 lendings.old lendings.new }
         ensures lent { lendings.new.lent ≡ lendings.old.lent }
     {
-        match self.links.found(number, hint) {
+        match self.found(number, hint) {
             Some(_) => Some(hint),
             None => self.search(number, lendings),
         }
@@ -244,7 +184,7 @@ impl<S: Drop> Table<S> {
     {
         match self.search(number, lendings) {
             None => None,
-            Some(place) => self.links.found(number, place),
+            Some(place) => self.found(number, place),
         }
     }
 
@@ -263,7 +203,7 @@ impl<S: Drop> Table<S> {
         ensures lent { lendings.new.lent ≡ min (lendings.old.lent + 1) end_of_numbers }
     {
         lendings.lend();
-        match self.links.found(number, hint) {
+        match self.found(number, hint) {
             Some(slot) => Some(slot),
             None => self.sought(number, lendings),
         }
@@ -277,7 +217,7 @@ impl<S: Drop> Table<S> {
         ensures examined { lendings.new ≡ lends lendings.old }
     {
         lendings.lend();
-        &self.links.entries[place].slot
+        &self.slots[place]
     }
 
     /// How many places stand in line.
@@ -285,7 +225,7 @@ impl<S: Drop> Table<S> {
     pub fn len(&self) -> usize
         ensures { result ≡ length self.now.line }
     {
-        self.sizes.line
+        self.line.len()
     }
 
     /// The place that came into line first.
@@ -293,10 +233,7 @@ impl<S: Drop> Table<S> {
     pub fn first(&self) -> Option<usize>
         ensures { result ≡ slice_get self.now.line 0 }
     {
-        if self.sizes.line == 0 {
-            return None;
-        }
-        Some(self.oldest(Order::Line))
+        self.line.first()
     }
 
     /// The place that came into line first, or the one that came last.
@@ -305,12 +242,9 @@ impl<S: Drop> Table<S> {
         ensures { result ≡ slice_get self.now.line
             (first_place strategy (length self.now.line)) }
     {
-        if self.sizes.line == 0 {
-            return None;
-        }
         match strategy {
-            QueueStrategy::Fifo => Some(self.oldest(Order::Line)),
-            QueueStrategy::Lifo => Some(self.newest(Order::Line)),
+            QueueStrategy::Fifo => self.line.first(),
+            QueueStrategy::Lifo => self.line.last(),
         }
     }
 
@@ -321,8 +255,7 @@ impl<S: Drop> Table<S> {
         requires absent { Absent place self.old.line }
         ensures { self.new ≡ record self.old { line = self.old.line ++ place ∷ [] } }
     {
-        let _links = &self.links;
-        self.push(Order::Line, place);
+        self.line.push(place);
     }
 
     /// How many places stand in the order of births.
@@ -330,7 +263,7 @@ impl<S: Drop> Table<S> {
     pub fn births(&self) -> usize
         ensures { result ≡ length self.now.births }
     {
-        self.sizes.births
+        self.births.len()
     }
 
     /// The place whose connection was born first.
@@ -338,24 +271,7 @@ impl<S: Drop> Table<S> {
     pub fn first_birth(&self) -> Option<usize>
         ensures { result ≡ slice_get self.now.births 0 }
     {
-        if self.sizes.births == 0 {
-            return None;
-        }
-        Some(self.oldest(Order::Births))
-    }
-
-    /// The place after one in the order of births.
-    #[inline]
-    fn next_birth(&self, place: usize) -> Option<usize>
-        requires { (j : ℕ) × (slice_get self.now.births j ≡ Some place) }
-        ensures { (passed rest : List ℕ) → self.now.births ≡ passed ++ place ∷ rest
-            → result ≡ slice_get rest 0 }
-    {
-        let next = self.links.link(Order::Births, place as u32).after;
-        if next == END {
-            return None;
-        }
-        Some(next as usize)
+        self.births.first()
     }
 
     /// What stands at a place, and the place after it in the order of births. One entry is lent for both.
@@ -368,7 +284,7 @@ impl<S: Drop> Table<S> {
             → result.1 ≡ slice_get rest 0 }
         ensures examined { lendings.new ≡ lends lendings.old }
     {
-        let next = self.next_birth(place);
+        let next = self.births.next(place);
         (self.at(place, lendings), next)
     }
 
@@ -379,8 +295,7 @@ impl<S: Drop> Table<S> {
         requires absent { Absent place self.old.births }
         ensures { self.new ≡ record self.old { births = self.old.births ++ place ∷ [] } }
     {
-        let _links = &self.links;
-        self.push(Order::Births, place);
+        self.births.push(place);
     }
 
     /// Takes a place out of line, wherever it stands in it.
@@ -389,8 +304,7 @@ impl<S: Drop> Table<S> {
         requires { IsSome (slot_at self.old place) }
         ensures { self.new ≡ record self.old { line = without place self.old.line } }
     {
-        let _links = &self.links;
-        self.unlink(Order::Line, place);
+        self.line.unlink(place);
     }
 
     /// Has something else stand at a place, and gives back what stood there.
@@ -406,26 +320,11 @@ impl<S: Drop> Table<S> {
         ensures examined { lendings.new ≡ lends lendings.old }
     {
         lendings.lend();
-        mem::replace(&mut self.links.entries[place].slot.standing, standing)
+        mem::replace(&mut self.slots[place].standing, standing)
     }
 }
 
 impl<S: Drop + Vacant> Table<S> {
-    /// Has nothing stand at a place, and gives back what stood there.
-    #[inline]
-    fn clear(&mut self, place: usize) -> Slot<S>
-        requires { IsSome (slot_at self.old place) }
-        ensures value { (x : Slot S) → slot_at self.old place ≡ Some x → result ≡ x }
-        ensures state { self.new ≡ record self.old { slots = slice_set self.old.slots place None } }
-        ensures absent { Absent place self.old.free }
-    {
-        let vacant = Slot {
-            number: END_OF_NUMBERS,
-            standing: S::vacant(),
-        };
-        mem::replace(&mut self.links.entries[place].slot, vacant)
-    }
-
     /// Frees a place, wherever it stands in the orders, and gives back what stood there.
     pub fn take_out(&mut self, place: usize) -> Slot<S>
         requires { IsSome (slot_at self.old place) }
@@ -434,7 +333,7 @@ impl<S: Drop + Vacant> Table<S> {
           slots = slice_set self.old.slots place None;
           line = without place self.old.line;
           births = without place self.old.births;
-          free = self.old.free ++ place ∷ [];
+          free = self.old.free + 1;
         } }
     {
         self.step_out(place);
@@ -451,14 +350,16 @@ impl<S: Drop + Vacant> Table<S> {
           slots = slice_set self.old.slots place None;
           line = self.old.line;
           births = without place self.old.births;
-          free = self.old.free ++ place ∷ [];
+          free = self.old.free + 1;
         } }
     {
-        let _links = &self.links;
-        self.unlink(Order::Births, place);
-        let slot = self.clear(place);
-        self.push(Order::Free, place);
-        slot
+        self.births.unlink(place);
+        self.free.push_reserved(place as u32);
+        let vacant = Slot {
+            number: END_OF_NUMBERS,
+            standing: S::vacant(),
+        };
+        mem::replace(&mut self.slots[place], vacant)
     }
 
     /// Frees a place, and tells which number ended there.
@@ -469,73 +370,62 @@ impl<S: Drop + Vacant> Table<S> {
           slots = slice_set self.old.slots place None;
           line = without place self.old.line;
           births = without place self.old.births;
-          free = self.old.free ++ place ∷ [];
+          free = self.old.free + 1;
         } }
     {
         self.take_out(place).number
     }
 
-    /// Adds an entry where nothing stands, which leads to itself.
-    fn append(&mut self) -> Result<(), AllocError>
-        ensures ok { OnOk result (self.new ≡ record self.old {
-          slots = self.old.slots ++
-              None ∷ [];
-        }) }
-        ensures err { OnErr result (self.new ≡ self.old) }
-        ensures absent { Absent (length self.old.slots) self.old.free }
-    {
-        let place = self.links.entries.len();
-        if place > u32::MAX as usize {
-            return Err(AllocError);
-        }
-        self.links.append(place as u32)
-    }
-
-    /// Adds a free place.
-    fn add_place(&mut self) -> Result<(), AllocError>
-        requires { 0 < length self.old.slots }
-        ensures ok { OnOk result (self.new ≡ record self.old {
-          slots = self.old.slots ++ None ∷ [];
-          free = self.old.free ++ length self.old.slots ∷ [];
-        }) }
-        ensures err { OnErr result (self.new ≡ self.old) }
-    {
-        let place = self.links.entries.len();
-        self.append()?;
-        self.push(Order::Free, place);
-        Ok(())
-    }
-
-    /// Whether there is no entry, not even the one of the ends.
-    fn is_empty(&self) -> bool
-        ensures yes { result ≡ true → length self.now.slots ≡ 0 }
-        ensures no { result ≡ false → 0 < length self.now.slots }
-    {
-        self.links.entries.is_empty()
-    }
-
-    /// Takes the memory for so many more entries.
+    /// Takes the memory for so many more places.
     fn grow(&mut self, additional: usize) -> Result<(), AllocError>
         ensures { self.new ≡ self.old }
     {
-        self.links.entries.reserve(additional)
+        // First what takes most, so that little is kept where it is refused.
+        self.slots.reserve(additional)?;
+        self.line.reserve(additional)?;
+        self.births.reserve(additional)?;
+        self.free.reserve(additional)
+    }
+
+    /// Adds a place where nothing stands, which is free but where it is the first one.
+    fn add_place(&mut self) -> Result<(), AllocError>
+        ensures ok { OnOk result (self.new ≡ record self.old {
+          slots = self.old.slots ++ None ∷ [];
+          free = self.old.free + min 1 (length self.old.slots);
+        }) }
+        ensures err { OnErr result (self.new ≡ self.old) }
+    {
+        let place = self.slots.len();
+        self.free
+            .reserve((place + 1).saturating_sub(self.free.len()))?;
+        self.slots.reserve(1)?;
+        self.line.add_place()?;
+        self.births.add_place()?;
+        self.slots.push_reserved(Slot {
+            number: END_OF_NUMBERS,
+            standing: S::vacant(),
+        });
+        if place > 0 {
+            self.free.push_reserved(place as u32);
+        }
+        Ok(())
     }
 
     /// Makes room for so many more in all.
     pub fn reserve(&mut self, additional: usize) -> Result<(), AllocError>
-        ensures room { OnOk result (additional ≤ length self.new.free) }
-        ensures more { length self.old.free ≤ length self.new.free }
+        ensures room { OnOk result (additional ≤ self.new.free) }
+        ensures more { self.old.free ≤ self.new.free }
         ensures kept { (i : ℕ) → slot_at self.new i ≡ slot_at self.old i }
         ensures line { self.new.line ≡ self.old.line }
         ensures births { self.new.births ≡ self.old.births }
     {
-        let missing = additional.saturating_sub(self.room());
+        let missing = additional.saturating_sub(self.free.len());
         if missing == 0 {
             return Ok(());
         }
         self.grow(missing.saturating_add(1))?;
-        if self.is_empty() {
-            self.append()?;
+        if self.slots.is_empty() {
+            self.add_place()?;
         }
         for _ in 0..missing {
             self.add_place()?;
@@ -561,7 +451,7 @@ impl<C: Drop> Table<Standing<C>> {
         ensures examined { lendings.new ≡ lends lendings.old }
     {
         lendings.lend();
-        let slot = &mut self.links.entries[at].slot;
+        let slot = &mut self.slots[at];
         (slot.number, mem::replace(&mut slot.standing.place, place))
     }
 }
@@ -580,7 +470,7 @@ impl Table<Getting> {
         ensures examined { lendings.new ≡ lends lendings.old }
     {
         lendings.lend();
-        let slot = &mut self.links.entries[at].slot;
+        let slot = &mut self.slots[at];
         slot.standing.place = place;
         slot.number
     }
@@ -597,7 +487,7 @@ impl Table<Getting> {
         ensures examined { lendings.new ≡ lends lendings.old }
     {
         lendings.lend();
-        let standing = &mut self.links.entries[at].slot.standing;
+        let standing = &mut self.slots[at].standing;
         *standing = Getting {
             place: GetPlace::Waiting(false),
             first_wait: Some(standing.first_wait.unwrap_or(now)),

@@ -14,7 +14,7 @@ use bb8_core::internals::{ClaimAnswer, FailedAnswer, Key, Looked, OpenedAnswer, 
 use futures::task::Poll;
 use std::alloc::Global;
 
-/// What a manager answers at one poll of an opening. Our own.
+/// What a manager answers at one poll of an opening.
 #[derive(Clone, Copy, Debug, PartialEq, Eq)]
 pub enum Reply {
     /// The opening is under way.
@@ -114,7 +114,7 @@ impl Home<()> for Scripted {
     }
 }
 
-/// What a replenishing answered at each poll, and how many openings it began. Our own.
+/// What a replenishing answered at each poll, and how many openings it began.
 #[derive(Drop)]
 pub struct Backoff {
     /// The answers, one a poll.
@@ -159,7 +159,7 @@ fn play_all(
 }
 
 /// Polls a replenishing at these moments, which may go back, with a manager that gives these replies. A handle stays alive, and what is
-/// opened is entered. It refuses only where the list of answers could not grow. Our own.
+/// opened is entered. It refuses only where the list of answers could not grow.
 ///
 /// Whatever the moments and the replies, a task begins at most two more openings than the most first waits whose sum is at most the
 /// `connection_timeout`; a timeout below two nanoseconds, whose waits are zero, alone has no such bound.

@@ -3,7 +3,7 @@ use bb8_core::api::RunError;
 use futures::task::Poll;
 
 /// Where the building of a pool stands between its polls: an `I` is what the pool is to be made of, a `P` the pool, and a `T` the tasks that
-/// open its first connections. Our own.
+/// open its first connections.
 pub enum Site<I, P, T> {
     /// It was not polled yet.
     Planned(I),
@@ -13,7 +13,7 @@ pub enum Site<I, P, T> {
     Done,
 }
 
-/// What a poll of a building answers, and where the building stands then. Our own.
+/// What a poll of a building answers, and where the building stands then.
 pub struct Built<I, P, T, E> {
     /// The answer.
     pub answer: Poll<Result<P, RunError<E>>>,

@@ -9,7 +9,7 @@ use bb8_core::api::Moment;
 use futures::task::Poll;
 use std::mem;
 
-/// Where the opening of a dedicated connection stands between its polls. It cannot be let go but by name. Our own.
+/// Where the opening of a dedicated connection stands between its polls. It cannot be let go but by name.
 pub enum Opening<C, V, A> {
     /// It was not polled yet.
     Fresh,
@@ -21,7 +21,7 @@ pub enum Opening<C, V, A> {
     Done,
 }
 
-/// What a poll answers, and where it leaves the opening. Our own.
+/// What a poll answers, and where it leaves the opening.
 pub struct Opened<C, V, A, E> {
     /// The answer.
     pub answer: Poll<Result<C, E>>,
@@ -123,8 +123,8 @@ impl<C, V, A> Opening<C, V, A> {
     }
 }
 
-/// The opening of a connection that no pool counts: a `C` is the connection, a `V` one that is being opened, an `A` a preparation. Our
-/// own: upstream's is an async function.
+/// The opening of a connection that no pool counts: a `C` is the connection, a `V` one that is being opened, an `A` a preparation.
+/// Upstream's is an async function.
 ///
 /// It does nothing until it is polled. It cannot be dropped but by `cancel`, as what it holds is let go.
 pub struct Dedicated<C, V, A> {
@@ -135,7 +135,7 @@ pub struct Dedicated<C, V, A> {
 }
 
 impl<C, V, A> Dedicated<C, V, A> {
-    /// An opening that was not polled yet. Our own.
+    /// An opening that was not polled yet.
     pub fn new() -> Self
         ensures { result ≡ fresh }
     {
@@ -156,7 +156,7 @@ impl<C, V, A> Dedicated<C, V, A> {
         }
     }
 
-    /// One poll of the opening, at the greatest reading of the clock so far. Our own.
+    /// One poll of the opening, at the greatest reading of the clock so far.
     ///
     /// It begins one opening at its first poll, and goes on from the opening to the preparation in the same poll. It answers the connection,
     /// or the first error; a connection whose preparation failed is dropped. An opening or a preparation that has answered ends before what
@@ -179,7 +179,7 @@ impl<C, V, A> Dedicated<C, V, A> {
         answer
     }
 
-    /// Lets the opening go: what is under way ends, and a connection that it holds is dropped then. Our own.
+    /// Lets the opening go: what is under way ends, and a connection that it holds is dropped then.
     pub fn cancel<E, W: Opener<C, E, Connecting = V, Acquiring = A>>(self, outside: &mut W)
         ensures { DropsOpening W.Opener self.stage outside.old outside.new }
     {

@@ -6,7 +6,7 @@ use bb8_core::api::Moment;
 use bb8_core::asked::Unfit;
 use bb8_core::internals::{ClaimAnswer, FailedAnswer, Key, Looked, OpenedAnswer, ReapAnswer};
 
-/// The steps that the tasks, the driver and the reaper of a pool make, on connections `C`: the plain state of a pool is such a home. Our own.
+/// The steps that the tasks, the driver and the reaper of a pool make, on connections `C`: the plain state of a pool is such a home.
 ///
 /// One ghost member relates the home, each step with what it was given and answered, and the home then. It has no default: what is proved of
 /// polls and turns holds for every choice.
@@ -15,24 +15,23 @@ pub trait Home<C> {
     // the clock.
     ghost steps: { Self → MomentOf → TaskStep C → Self → Type 0 };
 
-    /// The effective moment at this reading of the clock, and whether a handle is alive. Our own.
+    /// The effective moment at this reading of the clock, and whether a handle is alive.
     fn look(&mut self, at: Moment) -> Looked
         ensures { steps self.old at (Looks result) self.new };
 
-    /// Enters the connection that was opened for an approval. Where no such approval is claimed, the connection comes back as the error. Our
-    /// own.
+    /// Enters the connection that was opened for an approval. Where no such approval is claimed, the connection comes back as the error.
     fn opened(&mut self, at: Moment, approval: Key, connection: C) -> Result<OpenedAnswer<C>, C>
         ensures { steps self.old at (Opens approval connection result) self.new };
 
-    /// Gives back an approval for which no connection was opened. Our own.
+    /// Gives back an approval for which no connection was opened.
     fn failed(&mut self, at: Moment, approval: Key) -> Result<FailedAnswer, Unfit>
         ensures { steps self.old at (Fails approval result) self.new };
 
-    /// Claims the unclaimed approval of the least number. Our own.
+    /// Claims the unclaimed approval of the least number.
     fn claim(&mut self, at: Moment) -> ClaimAnswer
         ensures { steps self.old at (Claims result) self.new };
 
-    /// Closes the idle connections that live too long, and those that are idle too long beyond `min_idle`. Our own.
+    /// Closes the idle connections that live too long, and those that are idle too long beyond `min_idle`.
     fn reap(&mut self, at: Moment) -> ReapAnswer
         ensures { steps self.old at (Reaps result) self.new };
 }

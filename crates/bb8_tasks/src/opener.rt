@@ -6,7 +6,7 @@ ghost use Rattle.bb8_types.specs.declared.api.moments.Moment.{Moment as MomentOf
 use bb8_core::api::Moment;
 use futures::task::Poll;
 
-/// The calls by which connections `C` are opened and prepared, which may fail with an `E`, and where they are let go. Our own.
+/// The calls by which connections `C` are opened and prepared, which may fail with an `E`, and where they are let go.
 ///
 /// Each call changes the value that it is made of, by a relation that says nothing else and has no default. So a chain of these relations
 /// is the list of all calls, in their order: one that is made twice, left out or made at another place does not fit it. What an opening or a
@@ -40,11 +40,11 @@ pub trait Opener<C, E> {
     // Holds before a connection is dropped, and after it.
     ghost lets_go: { Self → C → Self → Type 0 };
 
-    /// Begins to open a connection. Our own.
+    /// Begins to open a connection.
     fn connect(&mut self) -> Self::Connecting
         ensures { connects self.old result self.new };
 
-    /// Goes on with an opening. Our own.
+    /// Goes on with an opening.
     fn poll_connect(
         &mut self,
         connecting: &mut Self::Connecting,
@@ -52,15 +52,15 @@ pub trait Opener<C, E> {
     ) -> Poll<Result<C, E>>
         ensures { connect_answers self.old connecting.old moment result connecting.new self.new };
 
-    /// Ends an opening, which is dropped. Our own.
+    /// Ends an opening, which is dropped.
     fn end_connect(&mut self, connecting: Self::Connecting)
         ensures { ends_connect self.old connecting self.new };
 
-    /// Begins to prepare a connection. Our own.
+    /// Begins to prepare a connection.
     fn on_acquire(&mut self, connection: &mut C) -> Self::Acquiring
         ensures { acquires self.old connection.old result connection.new self.new };
 
-    /// Goes on with a connection's preparation. Our own.
+    /// Goes on with a connection's preparation.
     fn poll_acquire(
         &mut self,
         connection: &mut C,
@@ -70,11 +70,11 @@ pub trait Opener<C, E> {
         ensures { acquire_answers self.old connection.old acquiring.old moment result connection.new
             acquiring.new self.new };
 
-    /// Ends a preparation, which is dropped. Our own.
+    /// Ends a preparation, which is dropped.
     fn end_acquire(&mut self, acquiring: Self::Acquiring)
         ensures { ends_acquire self.old acquiring self.new };
 
-    /// Drops a connection. Our own.
+    /// Drops a connection.
     fn let_go(&mut self, connection: C)
         ensures { lets_go self.old connection self.new };
 }

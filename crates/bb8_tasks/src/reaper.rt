@@ -8,7 +8,7 @@ use bb8_core::api::Moment;
 use bb8_core::internals::Grant;
 use std::time::Duration;
 
-/// What a poll of a reaper answers. Our own.
+/// What a poll of a reaper answers.
 #[derive(Clone, Copy, Debug, PartialEq, Eq)]
 pub enum ReaperAnswer {
     /// No tick is due.
@@ -28,7 +28,7 @@ pub enum ReaperAnswer {
     Ended,
 }
 
-/// Reaps a pool at its ticks, which are `start + rate`, `start + 2 * rate` and so on. Our own: upstream's is a spawned task.
+/// Reaps a pool at its ticks, which are `start + rate`, `start + 2 * rate` and so on. Upstream's is a spawned task.
 ///
 /// Of several ticks that it missed it makes up for one, where upstream makes up for each.
 #[derive(Clone, Copy, Debug)]

@@ -14,7 +14,7 @@ use futures::task::Poll;
 use std::mem;
 use std::time::Duration;
 
-/// What a poll of a replenishing answers. Our own.
+/// What a poll of a replenishing answers.
 #[derive(Drop, Debug, PartialEq, Eq)]
 pub enum ReplenishAnswer<E> {
     /// The task goes on, and asks to be polled again.
@@ -31,7 +31,7 @@ pub enum ReplenishAnswer<E> {
     GivenBack,
 }
 
-/// The tries of a replenishing so far. Our own.
+/// The tries of a replenishing so far.
 #[derive(Clone, Copy, Debug)]
 pub struct Tries {
     /// The moment of the first one.
@@ -40,7 +40,7 @@ pub struct Tries {
     pub failures: u32,
 }
 
-/// Where a replenishing stands between its polls. It cannot be let go but by name. Our own.
+/// Where a replenishing stands between its polls. It cannot be let go but by name.
 pub enum ReplenishStage<C, V, A> {
     /// It was not polled yet.
     Start,
@@ -54,7 +54,7 @@ pub enum ReplenishStage<C, V, A> {
     Done,
 }
 
-/// What a poll answers, and where it leaves the task. Our own.
+/// What a poll answers, and where it leaves the task.
 pub struct ReplenishStep<C, V, A, E> {
     /// The answer.
     pub answer: ReplenishAnswer<E>,
@@ -307,8 +307,8 @@ impl Row {
     }
 }
 
-/// The opening of the connection of an approval: a `C` is a connection, a `V` one that is being opened, an `A` a preparation. Our own:
-/// upstream's is a spawned task.
+/// The opening of the connection of an approval: a `C` is a connection, a `V` one that is being opened, an `A` a preparation.
+/// Upstream's is a spawned task.
 ///
 /// It does nothing until it is polled. It cannot be dropped but by `give_back`, as its approval goes back to its home.
 pub struct Replenish<C, V, A> {
@@ -318,7 +318,7 @@ pub struct Replenish<C, V, A> {
 }
 
 impl<C, V, A> Replenish<C, V, A> {
-    /// A task for an approval, which was not polled yet. Our own.
+    /// A task for an approval, which was not polled yet.
     pub fn new(approval: Key) -> Self
         ensures { result ≡ fresh approval }
     {
@@ -345,7 +345,7 @@ impl<C, V, A> Replenish<C, V, A> {
         }
     }
 
-    /// One poll of the task over a home, at a reading `at` of the clock. Our own.
+    /// One poll of the task over a home, at a reading `at` of the clock.
     ///
     /// It looks at the home first, and begins one opening at most. A try that failed is made again later, where `retry_connection` is set
     /// and no more than the `connection_timeout` has passed since the first one; else its approval is given back. After an answer other
@@ -377,7 +377,7 @@ impl<C, V, A> Replenish<C, V, A> {
         answer
     }
 
-    /// When the task is to be polled: a time that has passed where that is at once, and None where it is never. Our own.
+    /// When the task is to be polled: a time that has passed where that is at once, and None where it is never.
     pub fn next_due(&self) -> Option<Moment>
         ensures { result ≡ poll_due self.now.stage }
     {
@@ -406,7 +406,6 @@ impl<C, V, A> Replenish<C, V, A> {
     }
 
     /// Lets the task go, at a reading `at` of the clock: where it has not ended, what it holds is dropped, and its approval given back.
-    /// Our own.
     pub fn give_back<E, X: Home<C> + Opener<C, E, Connecting = V, Acquiring = A>>(
         self,
         at: Moment,

@@ -3,7 +3,7 @@ ghost use Rattle.bb8_types.specs.declared.api.moments.Moment.{Moment as MomentOf
 
 use bb8_core::api::Moment;
 
-/// The clock that tasks go by, and the sink of their errors `E`. Our own.
+/// The clock that tasks go by, and the sink of their errors `E`.
 ///
 /// Each call changes the value that it is made of, by a relation that says nothing else and has no default, as those of `Opener` do.
 pub trait Reports<E> {
@@ -13,16 +13,16 @@ pub trait Reports<E> {
     // Holds before an error is handed to the sink, and after it.
     ghost sinks: { Self → E → Self → Type 0 };
 
-    /// Reads the clock. Our own.
+    /// Reads the clock.
     fn now(&mut self) -> Moment
         ensures { tells self.old result self.new };
 
-    /// Hands an error to the sink. Our own.
+    /// Hands an error to the sink.
     fn sink(&mut self, error: E)
         ensures { sinks self.old error self.new };
 }
 
-/// What a round does at a task whose last try failed. Our own.
+/// What a round does at a task whose last try failed.
 #[derive(Clone, Copy, Debug, PartialEq, Eq)]
 pub enum OnFailure {
     /// It polls no further task, and tells the error.
@@ -31,7 +31,7 @@ pub enum OnFailure {
     GoOn,
 }
 
-/// Where a round leads that stops at the first failure: a `T` is a list of tasks. It cannot be let go but by name. Our own.
+/// Where a round leads that stops at the first failure: a `T` is a list of tasks. It cannot be let go but by name.
 pub enum Round<T, E> {
     /// A task failed with this error, and all others were let go.
     Failed(E),

@@ -28,7 +28,7 @@ fn earlier(one: Option<Moment>, other: Option<Moment>) -> Option<Moment>
     }
 }
 
-/// Tasks, in the order in which their approvals were claimed. Our own: upstream spawns each by itself.
+/// Tasks, in the order in which their approvals were claimed. Upstream spawns each by itself.
 ///
 /// They cannot be dropped but by `give_back`, as their approvals go back to their home. Contracts see them as the list of the tasks.
 pub struct Tasks<C, V, A> {
@@ -45,7 +45,7 @@ impl<C, V, A> Model for Tasks<C, V, A> {
 }
 
 impl<C, V, A> Tasks<C, V, A> {
-    /// No tasks. Our own.
+    /// No tasks.
     pub fn new(alloc: Global) -> Self
         ensures { result ≡ [] }
     {
@@ -55,7 +55,7 @@ impl<C, V, A> Tasks<C, V, A> {
     }
 
     /// A task for each of `count` claimed approvals, whose numbers are those from `first` on; none was polled yet. It fails where memory
-    /// for them is refused. Our own.
+    /// for them is refused.
     ///
     /// Where the approvals stand is guessed, as in a pool that has just begun. A wrong guess costs a search and changes no answer.
     pub fn for_approvals(alloc: Global, first: u64, count: u32) -> Result<Self, Memory>
@@ -75,21 +75,21 @@ impl<C, V, A> Tasks<C, V, A> {
         Ok(Tasks { queue })
     }
 
-    /// How many they are. Our own.
+    /// How many they are.
     pub fn len(&self) -> usize
         ensures { result ≡ length self.now }
     {
         self.queue.len()
     }
 
-    /// Whether there is none. Our own.
+    /// Whether there is none.
     pub fn is_empty(&self) -> bool
         ensures { result ≡ true ↔ (self.now ≡ []) }
     {
         self.queue.is_empty()
     }
 
-    /// The earliest of a moment and those at which the tasks are to be polled; None is never. Our own.
+    /// The earliest of a moment and those at which the tasks are to be polled; None is never.
     pub fn next_due(&self, tick: Option<Moment>) -> Option<Moment>
         ensures { result ≡ earliest tick self.now }
     {
@@ -101,7 +101,7 @@ impl<C, V, A> Tasks<C, V, A> {
     }
 
     /// Claims an approval at its home, and takes on its task. The place for the task is made first: where memory for it is refused, no
-    /// approval is claimed. Our own.
+    /// approval is claimed.
     pub fn claim<H: Home<C>>(&mut self, at: Moment, home: &mut H) -> Result<ClaimAnswer, Memory>
         ensures claimed { IfOk result (λ answer. H.steps home.old at (Claims answer) home.new) }
         ensures task { IfOk result (λ answer. TakesTaskOn answer self.old self.new) }
@@ -117,7 +117,7 @@ impl<C, V, A> Tasks<C, V, A> {
         Ok(answer)
     }
 
-    /// Polls each task once, in their order, at a reading `at` of the clock. Those that end are gone. Our own.
+    /// Polls each task once, in their order, at a reading `at` of the clock. Those that end are gone.
     ///
     /// The error of a try that is made again goes to the sink, and so does that of a last try where `on_failure` says so; else the round
     /// stops with that error, polls no further task, and keeps those.
@@ -191,7 +191,7 @@ impl<C, V, A> Tasks<C, V, A> {
         }
     }
 
-    /// Lets each task go, in their order, so that the approval of each that has not ended is given back. Our own.
+    /// Lets each task go, in their order, so that the approval of each that has not ended is given back.
     pub fn give_back<E, X: Home<C> + Opener<C, E, Connecting = V, Acquiring = A>>(
         self,
         at: Moment,
@@ -206,7 +206,7 @@ impl<C, V, A> Tasks<C, V, A> {
         queue.destroy_empty();
     }
 
-    /// As `give_back`, at a reading of the clock. Our own.
+    /// As `give_back`, at a reading of the clock.
     pub fn let_go<E, X: Home<C> + Opener<C, E, Connecting = V, Acquiring = A> + Reports<E>>(
         self,
         pool: &mut X,
@@ -218,7 +218,7 @@ impl<C, V, A> Tasks<C, V, A> {
         self.give_back(at, pool);
     }
 
-    /// A round of polls at a reading of the clock, which stops at the first failure of a last try, and then lets all other tasks go. Our own.
+    /// A round of polls at a reading of the clock, which stops at the first failure of a last try, and then lets all other tasks go.
     pub fn round<E, X: Home<C> + Opener<C, E, Connecting = V, Acquiring = A> + Reports<E>>(
         mut self,
         pool: &mut X,
@@ -252,7 +252,7 @@ impl<C, V, A> Tasks<C, V, A> {
         queue.destroy_empty();
     }
 
-    /// A round of polls that goes on after each failure: each task is polled once, and each error goes to the sink. Our own.
+    /// A round of polls that goes on after each failure: each task is polled once, and each error goes to the sink.
     pub fn poll_each<E, X: Home<C> + Opener<C, E, Connecting = V, Acquiring = A> + Reports<E>>(
         &mut self,
         at: Moment,

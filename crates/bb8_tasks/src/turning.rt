@@ -14,7 +14,7 @@ use bb8_core::api::{Config, Moment};
 use std::alloc::Global;
 use std::mem;
 
-/// What a turn of a driver did. Our own.
+/// What a turn of a driver did.
 #[derive(Clone, Copy, Debug, PartialEq, Eq)]
 pub struct Turn {
     /// How many tasks were polled, each once. The reaper is not counted.
@@ -23,7 +23,7 @@ pub struct Turn {
     pub ended: bool,
 }
 
-/// What a driver holds between its turns. Our own: upstream spawns each task by itself.
+/// What a driver holds between its turns. Upstream spawns each task by itself.
 ///
 /// It cannot be dropped but by `give_back`, as the approvals of its tasks go back to their home.
 pub enum Turning<C, V, A> {
@@ -74,7 +74,7 @@ fn poll_tasks<
 
 impl<C, V, A> Turning<C, V, A> {
     /// What a driver begins with: no task, and a reaper where `max_lifetime` or `idle_timeout` is set, whose ticks count from the moment
-    /// `start` on. Our own.
+    /// `start` on.
     pub fn new(alloc: Global, config: &Config, start: Moment) -> Self
         requires { is_lawful (settings_of config.now) ≡ true }
         ensures { DriverBegins (settings_of config.now) start result }
@@ -82,7 +82,7 @@ impl<C, V, A> Turning<C, V, A> {
         Turning::Going(reaper_of(config, start), Tasks::new(alloc))
     }
 
-    /// One turn over a home, at a reading `at` of the clock. Our own.
+    /// One turn over a home, at a reading `at` of the clock.
     ///
     /// It polls the reaper first. Then it claims approvals until none is unclaimed, while there is a place for a task: where memory for
     /// one is refused, no claim is made, and the approval stays unclaimed. Then it polls each task once, in the order of their claims;
@@ -122,7 +122,7 @@ impl<C, V, A> Turning<C, V, A> {
     }
 
     /// When the driver next has something to do, by what it holds: at its reaper's next tick, or earlier where a task is to be polled, be it
-    /// once it has slept after a try that failed, or at once. That is a moment that has passed. None is never. Our own.
+    /// once it has slept after a try that failed, or at once. That is a moment that has passed. None is never.
     pub fn next_due(&self) -> Option<Moment>
         ensures { result ≡ driver_due self.now }
     {
@@ -134,7 +134,7 @@ impl<C, V, A> Turning<C, V, A> {
     }
 
     /// Lets the driver go, at a reading `at` of the clock, and each of its tasks, in their order: the approval of each that has not ended is
-    /// given back. Our own.
+    /// given back.
     pub fn give_back<E, X: Home<C> + Opener<C, E, Connecting = V, Acquiring = A>>(
         self,
         at: Moment,
@@ -148,7 +148,7 @@ impl<C, V, A> Turning<C, V, A> {
         }
     }
 
-    /// As `give_back`, at a reading of the clock. Our own.
+    /// As `give_back`, at a reading of the clock.
     pub fn let_go<E, X: Home<C> + Opener<C, E, Connecting = V, Acquiring = A> + Reports<E>>(
         self,
         pool: &mut X,

@@ -176,18 +176,10 @@ impl Board {
     }
 }
 
-/// The same board once more.
-fn share(board: &Arc<Board, Global>) -> Result<Arc<Board, Global>, Memory> {
-    match Arc::try_clone(board) {
-        Ok(board) => Ok(board),
-        Err(_) => Err(Memory),
-    }
-}
-
 /// A server that answers as this board says.
 pub fn server_on(board: &Arc<Board, Global>) -> Result<Server, Memory> {
     Ok(Server {
-        board: share(board)?,
+        board: Arc::try_clone(board)?,
     })
 }
 
@@ -202,13 +194,13 @@ pub fn builder_on(board: &Arc<Board, Global>) -> Result<ServerBuilder, Memory>
     ensures { IfOk result (λ builder. builder.settings ≡ default_settings) }
 {
     Ok(Builder::new().error_sink(Errors {
-        board: share(board)?,
+        board: Arc::try_clone(board)?,
     }))
 }
 
 /// A connection of this number that no opening brought.
 pub fn connection_on(board: &Arc<Board, Global>, number: u64) -> Result<ServerConnection, Memory> {
-    let shared = share(board)?;
+    let shared = Arc::try_clone(board)?;
     let mut digit: u64 = 1;
     for _ in 1..board.made.count().min(17) {
         digit = digit.wrapping_mul(16);

@@ -1,6 +1,6 @@
 //! Why a get is given up.
 
-/// Why a get is given up. Our own.
+/// Why a get is given up.
 #[derive(Clone, Copy, Debug, PartialEq, Eq)]
 pub enum Reason {
     /// Its deadline came.

@@ -1,5 +1,5 @@
 -- The jobs of a runner, in the order of their ids.
-use Rattle.std.specs.Prelude.{◌≡◌, ℕ, ◌+◌, ◌≤◌, ◌==◌, cond, Bool, true, false, Option, Some, None, List, [], ◌∷◌, ◌++◌}
+use Rattle.std.specs.Prelude.{◌≡◌, ℕ, ◌+◌, ◌≤◌, ◌==◌, cond, Bool, true, false, Option, Some, None, List, [], ◌∷◌, ◌++◌, ⊤}
 use Rattle.std.specs.Coded.{×_prop, le_prop}
 use Rattle.slots.specs.declared.entries.JobEntry.{JobEntry}
 use Rattle.slots.specs.declared.entries.JobPlace.{JobPlace}
@@ -37,6 +37,16 @@ module _ {J O G : Type 0} where
   abbrev pub place_of : ℕ → List (JobEntry J O G) → Option (JobPlace J O G)
   place_of id [] = None
   place_of id (e ∷ es) = cond (e.id == id) (Some e.place) (place_of id es)
+
+  -- P holds of the get of a job that stands so, where it waits
+  abbrev pub OfGet : (G → Type 0) → JobPlace J O G → Type 0
+  OfGet P (Waiting job get) = P get
+  OfGet P _ = ⊤
+
+  -- P holds of the get of each job that waits
+  abbrev pub EachGet : (G → Type 0) → List (JobEntry J O G) → Type 0
+  EachGet P [] = ⊤
+  EachGet P (e ∷ es) = OfGet P e.place × EachGet P es
 
   -- the phase of a job that stands so
   abbrev pub phase_in : JobPlace J O G → Phase

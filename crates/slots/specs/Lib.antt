@@ -1,3 +1,4 @@
 pub mod Entries
+pub mod Guards
 pub mod Runners
 pub mod Turns

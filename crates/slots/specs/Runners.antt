@@ -3,7 +3,6 @@ use Rattle.std.specs.Prelude.{◌≡◌, ℕ, List, ⊤}
 use Rattle.std.specs.Arc.{arc_value}
 use Rattle.std.specs.contracts.prelude.InfallibleDebug.TheImpl as infallible
 use Rattle.std.specs.declared.convert.Infallible.{Infallible}
-use Rattle.futures.specs.declared.task.Poll.{Poll}
 use Rattle.bb8_types.specs.declared.api.clocks.Clock.{Ghosts as ClockOf}
 use Rattle.bb8_types.specs.declared.api.customizers.CustomizeConnection.{Ghosts as CustomizerOf}
 use Rattle.bb8_types.specs.declared.api.moments.Moment.{Moment}
@@ -16,7 +15,7 @@ use Rattle.bb8.specs.declared.driver.Driver.{Driver}
 use Rattle.bb8.specs.declared.get.future.GetFuture.{GetFuture}
 use Rattle.bb8.specs.declared.pool.Pool.{Pool}
 use Rattle.bb8.specs.Drivers.{TurnsDriver}
-use Rattle.bb8.specs.Gets.{PollsGet}
+use Rattle.bb8.specs.Gets.{CancelsGet, PollsGet}
 use Rattle.bb8.specs.GuardLists.{ReturnsEach}
 use Rattle.bb8.specs.Pools.{settings_in, stage_of, IsOf}
 use Rattle.bb8.specs.Turning.{OwnDropsTurning}
@@ -26,7 +25,8 @@ use Rattle.slots.specs.declared.job.Job.{Ghosts as JobOf}
 use Rattle.slots.specs.declared.runner.Runner.{Runner}
 use Rattle.slots.specs.declared.slot.Slot.{Slot}
 use Rattle.slots.specs.declared.slot.SlotManager.{SlotManager}
-use Rattle.slots.specs.Entries.{running, AddsJob}
+use Rattle.slots.specs.Entries.{running, AddsJob, EachGet}
+use Rattle.slots.specs.Guards.{GivesBack}
 use Rattle.slots.specs.Turns.{StepsEach}
 
 module _ (S Z K R L A : Type 0) (s : SinkOf S Infallible) (z : CustomizerOf Z Slot Infallible A) (k : ClockOf K) (l : PartsOf L) where
@@ -63,9 +63,10 @@ module _ {J S Z K R L O A : Type 0} {j : JobOf J O} {s : SinkOf S Infallible} {z
   abbrev pub driver_of : Runner J S Z K R L O A j s z k l → SlotDriver S Z K R L A s z k l
   driver_of runner = runner.driver
 
-  -- a runner is let go: each of its guards gives its connection back, and then its driver is let go
+  -- a runner is let go: the get of each job that waits is cancelled, each of its guards gives its connection back, and its driver is let go
   abbrev pub LetsRunnerGo : Runner J S Z K R L O A j s z k l → Type 0
-  LetsRunnerGo runner = ReturnsEach runner.guards × OwnDropsTurning (arc_value runner.driver.shared) runner.driver.turning
+  LetsRunnerGo runner =
+      EachGet CancelsGet (jobs_in runner) × ReturnsEach runner.guards × OwnDropsTurning (arc_value runner.driver.shared) runner.driver.turning
 
   -- how many jobs may run: as many as the pool may have connections
   abbrev pub most_running : Runner J S Z K R L O A j s z k l → ℕ
@@ -76,10 +77,17 @@ module _ {J S Z K R L O A : Type 0} {j : JobOf J O} {s : SinkOf S Infallible} {z
   TakesJobOn runner job runner' =
       AddsJob (λ get. (stage_of get ≡ Fresh) × IsOf get (pool_of runner)) (next_id runner) job (jobs_in runner) (jobs_in runner')
 
-  -- the driver makes a turn at a moment
-  abbrev pub TurnsIts : Moment → Runner J S Z K R L O A j s z k l → Runner J S Z K R L O A j s z k l → Type 0
-  TurnsIts moment runner runner' = (turn : Turn) × TurnsDriver moment (driver_of runner) turn (driver_of runner')
+  -- both runners have the same pool, and the same id for the next job
+  abbrev pub AreAlike : Runner J S Z K R L O A j s z k l → Runner J S Z K R L O A j s z k l → Type 0
+  AreAlike runner runner' = (pool_of runner' ≡ pool_of runner) × (next_id runner' ≡ next_id runner)
 
-  -- each job makes a step at a moment, and so many end
-  abbrev pub StepsJobs : (J → Moment → Poll O → J → Type 0) → Moment → Runner J S Z K R L O A j s z k l → Runner J S Z K R L O A j s z k l → ℕ → Type 0
-  StepsJobs polls moment runner runner' ended = StepsEach polls PollsGet moment (jobs_in runner) (jobs_in runner') ended
+  -- the driver makes a turn at a moment, and each job stands where it stood
+  abbrev pub TurnsDriverOf : Runner J S Z K R L O A j s z k l → Moment → Runner J S Z K R L O A j s z k l → Type 0
+  TurnsDriverOf runner moment runner' =
+      ((turn : Turn) × TurnsDriver moment (driver_of runner) turn (driver_of runner')) × (jobs_in runner' ≡ jobs_in runner) × AreAlike runner runner'
+
+  -- each job makes a step at a moment, so many end, and the driver is as it was
+  abbrev pub StepsJobsOf : Runner J S Z K R L O A j s z k l → Moment → ℕ → Runner J S Z K R L O A j s z k l → Type 0
+  StepsJobsOf runner moment ended runner' =
+      StepsEach j.polls PollsGet GivesBack moment (jobs_in runner) (jobs_in runner') ended × (driver_of runner' ≡ driver_of runner)
+      × AreAlike runner runner'

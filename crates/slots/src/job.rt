@@ -7,7 +7,7 @@ use bb8::{Moment, RunError};
 use futures::task::Poll;
 use std::convert::Infallible;
 
-/// Work that is done in polls, each of which is made while a guard of the pool is held for it. Our own.
+/// Work that is done in polls, each of which is made while a guard of the pool is held for it.
 pub trait Job: Drop {
     /// What the job comes to.
     type Out: Drop;
@@ -17,12 +17,12 @@ pub trait Job: Drop {
     ghost polls: { Self → MomentOf → PollOf Self.Out → Self → Type 0 } = { λ _ _ _ _. ⊤ };
 
     /// Goes on with the job, at the moment `now`, in nanoseconds of the pool's clock: what it comes to once it is done, else pending. It is
-    /// not polled again once it was ready. Our own.
+    /// not polled again once it was ready.
     fn poll(&mut self, now: Moment) -> Poll<Self::Out>
         ensures { polls self.old now result self.new };
 }
 
-/// How a job ended. Our own.
+/// How a job ended.
 #[derive(Clone, Debug, Drop)]
 pub enum Outcome<O> {
     /// It came to this.
@@ -32,7 +32,7 @@ pub enum Outcome<O> {
     Refused(RunError<Infallible>),
 }
 
-/// Where a job stands between two turns. Our own.
+/// Where a job stands between two turns.
 #[derive(Clone, Copy, Debug, PartialEq, Eq)]
 pub enum Phase {
     /// It waits for a connection.

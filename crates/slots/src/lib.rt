@@ -99,5 +99,5 @@ mod stepping;
 mod turning;
 
 pub use job::{Job, Outcome, Phase};
-pub use runner::{Runner, RunnerCalls};
+pub use runner::{Runner, RunnerCalls, TurnParts};
 pub use slot::{Slot, SlotManager};

@@ -1,5 +1,7 @@
 //! A runner of jobs over a pool of slots.
-ghost use Rattle.std.specs.Prelude.{◌≡◌, ◌≤◌, ◌+◌, [], None, IfOk, OnOk, IfErr, OnErr, OnSome};
+ghost use Rattle.std.specs.Prelude.{◌≡◌, ◌≤◌, ◌+◌, ℕ, [], None, IfOk, OnOk, IfErr, OnErr, OnSome};
+ghost use Rattle.futures.specs.Task.{Keeps};
+ghost use Rattle.bb8_types.specs.declared.api.moments.Moment.{Moment as MomentOf};
 ghost use Rattle.bb8.specs.GuardLists.{most_in, number_in};
 ghost use Rattle.bb8.specs.Pools.{settings_in};
 ghost use Rattle.slots.specs.Entries.{ids, left_after, outcome_of, phase_of, place_of, running, AreIds, AreIds-prop};
@@ -19,7 +21,7 @@ use std::collections::VecDeque;
 use std::convert::Infallible;
 use std::sync::Wait;
 
-/// Runs jobs, each while it holds a connection of the pool, so that no more run at a time than the pool's `max_size`. Our own.
+/// Runs jobs, each while it holds a connection of the pool, so that no more run at a time than the pool's `max_size`.
 ///
 /// Jobs are submitted, go on at each turn, and their outcomes are taken by their ids. When a runner is dropped, the gets of jobs that wait
 /// are cancelled and the guards of those that run are given back, for which it may wait for the pool's lock.
@@ -57,46 +59,77 @@ impl<
         ensures { LetsRunnerGo self.entry }
     {
         let Runner {
-            entries,
+            mut entries,
             guards,
             driver,
             pool: _,
             next: _,
         } = self;
-        drop(entries);
+        while let Some(JobEntry { id: _, place }) = entries.pop_front() {
+            match place {
+                JobPlace::Waiting(_job, get) => drop(get),
+                JobPlace::Running(_job) => {}
+                JobPlace::Ended(_outcome) => {}
+            }
+        }
         drop(guards);
         drop(driver);
     }
 }
 
-/// The calls of a runner, as methods of an impl, so that code that a thread runs can make them. Our own.
-pub trait RunnerCalls {
-    /// What is run. Our own.
+/// The two parts of a turn, which makes them in this order.
+pub trait TurnParts {
+    // Holds before the driver's turn at a moment, and after it.
+    ghost turns: { Self → MomentOf → Self → Type 0 };
+
+    // Holds before the steps of all jobs at a moment, of how many end by them, and after them.
+    ghost steps: { Self → MomentOf → ℕ → Self → Type 0 };
+
+    /// The pool's driver makes a turn.
+    fn turn_driver(&mut self, moment: Moment)
+        ensures { turns self.old moment self.new };
+
+    /// Each job that has not ended has one step. How many jobs ended.
+    fn step_jobs(&mut self, moment: Moment, cx: &mut Context<'_>) -> u64
+        ensures steps { steps self.old moment result self.new }
+        ensures kept { Keeps cx.old cx.new };
+}
+
+/// The calls of a runner, as methods of an impl, so that code that a thread runs can make them.
+pub trait RunnerCalls: TurnParts {
+    /// What is run.
     type Job;
 
-    /// How a job ends. Our own.
+    /// How a job ends.
     type Outcome;
 
     /// Takes a job on, and answers its id: ids count from 0. Where memory for it is refused, or each id below the greatest u64 was given, the
-    /// job comes back and nothing changes. Our own.
+    /// job comes back and nothing changes.
     fn submit(&mut self, job: Self::Job) -> Result<u64, Self::Job>;
 
-    /// One turn at a moment, in nanoseconds of the pool's clock; it may wait for the pool's lock. How many jobs ended. Our own.
+    /// One turn at a moment, in nanoseconds of the pool's clock; it may wait for the pool's lock. How many jobs ended.
     ///
     /// The pool's driver makes a turn first. Then each job that has not ended has one step, in the order of the ids. The get of a job that
     /// waits is polled: where it is served the job runs from the next turn on, where it fails the job has ended with its error, and where there
     /// is no memory to keep the guard, that is dropped and the job has ended with `Memory`. A job that runs is polled once: where it is ready
     /// it has ended, and a guard is dropped at once.
-    fn turn(&mut self, moment: Moment, cx: &mut Context<'_>) -> u64;
+    final fn turn(&mut self, moment: Moment, cx: &mut Context<'_>) -> u64
+        ensures chain { (between : Self) × Self.turns self.old moment between
+            × Self.steps between moment result self.new }
+        ensures kept { Keeps cx.old cx.new }
+    {
+        self.turn_driver(moment);
+        self.step_jobs(moment, cx)
+    }
 
-    /// Where the job of an id stands: None where no such id was given, or its outcome was taken. Our own.
+    /// Where the job of an id stands: None where no such id was given, or its outcome was taken.
     fn phase(&self, id: u64) -> Option<Phase>;
 
-    /// How many jobs run. Our own.
+    /// How many jobs run.
     fn running(&self) -> u64;
 
     /// How the job of an id has ended, once: the job is then forgotten. None where it has not ended, no such id was given, or its outcome was
-    /// taken. Our own.
+    /// taken.
     fn take(&mut self, id: u64) -> Option<Self::Outcome>;
 }
 
@@ -112,7 +145,7 @@ impl<
     ghost use Rattle.bb8.specs.Drivers.{IsDriverOf};
     ghost use Rattle.slots.specs.Runners.{driver_of, jobs_in, next_id, pool_of};
 
-    /// A runner of the pool that has no job yet, with a driver of the pool. It fails only where `Driver::new` does. Our own.
+    /// A runner of the pool that has no job yet, with a driver of the pool. It fails only where `Driver::new` does.
     pub fn new(alloc: Global, pool: &'a Pool<SlotManager, S, Z, K, R, L>) -> Result<Self, Memory>
         ensures pool { IfOk result (λ runner. pool_of runner ≡ pool.now) }
         ensures driver { IfOk result (λ runner. IsDriverOf (driver_of runner) pool.now) }
@@ -138,9 +171,32 @@ impl<
     K: Clock,
     R: Wait + Send + Sync + Drop + 'static,
     L: Parts,
+> TurnParts for Runner<'a, J, S, Z, K, R, L> {
+    ghost use Rattle.slots.specs.Runners.{StepsJobsOf, TurnsDriverOf};
+
+    ghost turns = { λ runner moment runner'. TurnsDriverOf runner moment runner' };
+
+    ghost steps = { λ runner moment ended runner'. StepsJobsOf runner moment ended runner' };
+
+    fn turn_driver(&mut self, moment: Moment) {
+        let _ = self.driver.turn(moment);
+    }
+
+    fn step_jobs(&mut self, moment: Moment, cx: &mut Context<'_>) -> u64 {
+        self.guards.step_each(&mut self.entries, moment, cx)
+    }
+}
+
+impl<
+    'a,
+    J: Job,
+    S: ErrorSink<Infallible>,
+    Z: CustomizeConnection<Slot, Infallible>,
+    K: Clock,
+    R: Wait + Send + Sync + Drop + 'static,
+    L: Parts,
 > RunnerCalls for Runner<'a, J, S, Z, K, R, L> {
-    ghost use Rattle.futures.specs.Task.{Keeps};
-    ghost use Rattle.slots.specs.Runners.{jobs_in, most_running, next_id, pool_of, running_in, StepsJobs, TakesJobOn, TurnsIts};
+    ghost use Rattle.slots.specs.Runners.{jobs_in, most_running, next_id, pool_of, running_in, TakesJobOn};
 
     type Job = J;
 
@@ -166,17 +222,6 @@ impl<
         });
         self.next += 1;
         Ok(id)
-    }
-
-    fn turn(&mut self, moment: Moment, cx: &mut Context<'_>) -> u64
-        ensures driver { TurnsIts moment self.old self.new }
-        ensures steps { StepsJobs J.polls moment self.old self.new result }
-        ensures next { next_id self.new ≡ next_id self.old }
-        ensures pool { pool_of self.new ≡ pool_of self.old }
-        ensures kept { Keeps cx.old cx.new }
-    {
-        let _ = self.driver.turn(moment);
-        self.guards.step_each(&mut self.entries, moment, cx)
     }
 
     fn phase(&self, id: u64) -> Option<Phase>

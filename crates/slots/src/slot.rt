@@ -6,11 +6,11 @@ use bb8::{ManageConnection, Moment};
 use futures::task::Poll;
 use std::convert::Infallible;
 
-/// A connection that has nothing in it: whoever holds its guard may run a job. Our own.
+/// A connection that has nothing in it: whoever holds its guard may run a job.
 #[derive(Clone, Copy, Debug, PartialEq, Eq)]
 pub struct Slot;
 
-/// Opens slots. Each is there, and passes its check, at the first poll, and none is ever broken. Our own.
+/// Opens slots. Each is there, and passes its check, at the first poll, and none is ever broken.
 #[derive(Clone, Copy, Debug, PartialEq, Eq)]
 pub struct SlotManager;
 

@@ -4,6 +4,7 @@ ghost use Rattle.futures.specs.Task.{Keeps};
 ghost use Rattle.bb8.specs.Gets.{PollsGet};
 ghost use Rattle.bb8.specs.GuardLists.{number_in, AreOfOne};
 ghost use Rattle.slots.specs.Entries.{guards_for};
+ghost use Rattle.slots.specs.Guards.{GivesBack, GivesOneBack};
 ghost use Rattle.slots.specs.Turns.{StepsJob, StepsGet, JobSteps};
 
 use crate::entries::JobPlace;
@@ -59,7 +60,8 @@ impl<
     L: Parts,
 > StepsOne<J, J::Out, Get<'a, S, Z, K, R, L>> for SlotGuards<'a, S, Z, K, R, L> {
     fn step_job(&mut self, job: J, now: Moment) -> Stepped<J, J::Out, Get<'a, S, Z, K, R, L>>
-        ensures steps { StepsJob J.polls now job result.place result.ended }
+        ensures steps { 0 < number_in self.old
+            → StepsJob J.polls (GivesOneBack self.old) now job result.place result.ended }
         ensures held { 0 < number_in self.old
             → number_in self.new + 1 ≡ number_in self.old + guards_for result.place }
         ensures pool { AreOfOne self.new self.old }
@@ -72,7 +74,10 @@ impl<
                 ended: 0,
             },
             Poll::Ready(out) => {
-                drop(self.remove(0));
+                match self.remove(0) {
+                    Some(guard) => drop(guard),
+                    None => {}
+                }
                 Stepped {
                     place: JobPlace::Ended(Outcome::Done(out)),
                     ended: 1,
@@ -87,7 +92,7 @@ impl<
         get: Get<'a, S, Z, K, R, L>,
         cx: &mut Context<'_>,
     ) -> Stepped<J, J::Out, Get<'a, S, Z, K, R, L>>
-        ensures steps { StepsGet PollsGet job get.entry result.place
+        ensures steps { StepsGet PollsGet GivesBack job get.entry result.place
             result.ended }
         ensures held { number_in self.new ≡ number_in self.old + guards_for result.place }
         ensures pool { AreOfOne self.new self.old }
@@ -109,10 +114,13 @@ impl<
                     place: JobPlace::Running(job),
                     ended: 0,
                 },
-                Err(_guard) => Stepped {
-                    place: JobPlace::Ended(Outcome::Refused(RunError::Memory)),
-                    ended: 1,
-                },
+                Err(refused) => {
+                    drop(refused);
+                    Stepped {
+                        place: JobPlace::Ended(Outcome::Refused(RunError::Memory)),
+                        ended: 1,
+                    }
+                }
             },
         }
     }
@@ -123,8 +131,8 @@ impl<
         now: Moment,
         cx: &mut Context<'_>,
     ) -> Stepped<J, J::Out, Get<'a, S, Z, K, R, L>>
-        ensures steps { JobSteps J.polls PollsGet now place.entry result.place
-            result.ended }
+        ensures steps { guards_for place.entry ≤ number_in self.old
+            → JobSteps J.polls PollsGet GivesBack now place.entry result.place result.ended }
         ensures held { guards_for place.entry ≤ number_in self.old
             → number_in self.new + guards_for place.entry
             ≡ number_in self.old + guards_for result.place }

@@ -5,6 +5,7 @@ ghost use Rattle.futures.specs.Task.{Keeps};
 ghost use Rattle.bb8.specs.Gets.{PollsGet};
 ghost use Rattle.bb8.specs.GuardLists.{most_in, number_in, AreOfOne};
 ghost use Rattle.slots.specs.Entries.{running};
+ghost use Rattle.slots.specs.Guards.{GivesBack};
 ghost use Rattle.slots.specs.Turns.{StepsFirst, StepsEach};
 
 use crate::entries::JobEntry;
@@ -43,8 +44,8 @@ impl<
         now: Moment,
         cx: &mut Context<'_>,
     ) -> u64
-        ensures steps { 0 < deque_len queue.old → StepsFirst J.polls PollsGet now
-            queue.old.items queue.new.items result }
+        ensures steps { 0 < deque_len queue.old → running queue.old.items ≡ number_in self.old
+            → StepsFirst J.polls PollsGet GivesBack now queue.old.items queue.new.items result }
         ensures held { running queue.old.items ≡ number_in self.old
             → running queue.new.items ≡ number_in self.new }
         ensures length { deque_len queue.new ≡ deque_len queue.old }
@@ -66,8 +67,8 @@ impl<
         now: Moment,
         cx: &mut Context<'_>,
     ) -> u64
-        ensures steps { StepsEach J.polls PollsGet now queue.old.items
-            queue.new.items result }
+        ensures steps { running queue.old.items ≡ number_in self.old
+            → StepsEach J.polls PollsGet GivesBack now queue.old.items queue.new.items result }
         ensures held { running queue.old.items ≡ number_in self.old
             → running queue.new.items ≡ number_in self.new }
         ensures pool { AreOfOne self.new self.old }

@@ -248,10 +248,11 @@ impl<M: ManageConnection> Builder<M> {
     ///
     /// At zero gets are served in the order in which they began to wait, as long as none of their
     /// connections is closed: a get for which one is opened in its place goes to the end of the
-    /// line. But each connection that comes free lies idle until a task was woken, which costs a
-    /// third of all rounds, and more, where connections are held for microseconds. A millisecond
-    /// leaves those rounds as they are, and lets nobody wait for much longer than the line before
-    /// it takes.
+    /// line. But each connection that comes free lies idle until a task was woken, which costs from
+    /// a third to more than a half of all rounds where connections are held for microseconds. A
+    /// millisecond leaves those rounds as they are, and lets nobody wait for much longer than the
+    /// line before it takes. Where tasks compute for milliseconds without an await, it costs up to
+    /// a fifth, as they hold up whom they wake.
     ///
     /// A future that was handed a connection has it, and is to be polled or dropped. One that is
     /// kept without being polled keeps the connection, also from the task that keeps it:

@@ -1,8 +1,8 @@
 //! The proved core, called by its C interface, and the heap that it asks for memory.
 //!
 //! That these declarations are those of `crates/bb8_c/src` is asserted where a core is made, as far
-//! as sizes tell it; the tests of `tests/layout.rs` read each field through the library. This file
-//! has all `unsafe` of the crate.
+//! as sizes tell it; the tests of `tests/layout.rs` read each field through the library. All
+//! `unsafe` of the crate is here and in `aligned.rs`.
 #![allow(unsafe_code)]
 
 #[macro_use]

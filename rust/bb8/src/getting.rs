@@ -1,5 +1,6 @@
 //! One get: it begins, tries, waits, checks what it was handed, and ends.
 
+use crate::aligned::Aligned;
 use crate::core::{Core, Kind, Name, Told};
 use crate::errors::RunError;
 use crate::lock::MutexGuard;
@@ -7,10 +8,9 @@ use crate::managers::ManageConnection;
 use crate::pool::{Lent, Locked, Shared};
 use crate::waiters::{Handed, Waiter};
 use std::future::{poll_fn, Future};
-use std::pin::{pin, Pin};
+use std::pin::pin;
 use std::sync::Arc;
-use std::task::{Context, Poll, Waker};
-use std::time::Duration;
+use std::task::{Context, Poll};
 use tokio::task::unconstrained;
 use tokio::time::{sleep_until, Instant, Sleep};
 
@@ -27,22 +27,37 @@ enum Stage {
     Ended,
 }
 
-/// The time that a get has. It runs from where it is first asked for, so that a get which is served
-/// at once reads no clock.
-struct Time {
-    limit: Duration,
-    began: Option<Instant>,
-    timer: Option<Pin<Box<Sleep>>>,
+/// What a try comes to.
+enum Tried {
+    /// It was served, and holds its connection.
+    Served,
+    /// It holds a connection that is to be checked.
+    Taken,
+    /// Its time is over.
+    TimedOut,
+    /// Memory for it was refused.
+    Memory,
+    /// No number was left for it.
+    Exhausted,
 }
 
-impl Time {
+/// The time that a get has. It runs from where it is first asked for, so that a get which is served
+/// at once reads no clock.
+struct Time<'a, M: ManageConnection> {
+    shared: &'a Arc<Shared<M>>,
+    /// When it began, once that was asked for.
+    began: Option<Instant>,
+    timer: Option<Aligned<Sleep>>,
+}
+
+impl<M: ManageConnection> Time<'_, M> {
     fn began(&mut self) -> Instant {
         *self.began.get_or_insert_with(Instant::now)
     }
 
     /// Whether it is over.
     fn is_over(&mut self) -> bool {
-        self.began().elapsed() >= self.limit
+        self.began().elapsed() >= self.shared.settings.connection_timeout
     }
 
     /// Ready where it is over, and never where its end lies beyond all moments. The timer is made
@@ -50,8 +65,9 @@ impl Time {
     /// a get.
     fn poll(&mut self, cx: &mut Context<'_>) -> Poll<()> {
         if self.timer.is_none() {
-            let end = self.began().checked_add(self.limit);
-            self.timer = end.map(|end| Box::pin(sleep_until(end)));
+            let limit = self.shared.settings.connection_timeout;
+            let end = self.began().checked_add(limit);
+            self.timer = end.map(|end| Aligned::new(sleep_until(end)));
         }
         match &mut self.timer {
             // What a check used of the task's budget is not to hold the timer up.
@@ -62,164 +78,38 @@ impl Time {
 }
 
 /// A get. Where it is dropped before it ended, it is given up as cancelled.
-pub(crate) struct Getting<'a, M: ManageConnection> {
-    shared: &'a Arc<Shared<M>>,
-    time: Time,
+struct Getting<'a, M: ManageConnection> {
+    time: Time<'a, M>,
     stage: Stage,
     get: Name,
-    /// The moment at which it began, once that was asked for.
-    since: Option<u64>,
     /// What it was handed.
     held: Option<Lent<M::Connection>>,
 }
 
-impl<'a, M: ManageConnection> Getting<'a, M> {
-    pub(crate) fn new(shared: &'a Arc<Shared<M>>) -> Self {
-        Getting {
-            shared,
-            time: Time {
-                limit: shared.settings.connection_timeout,
-                began: None,
-                timer: None,
-            },
-            stage: Stage::New,
-            get: Name::default(),
-            since: None,
-            held: None,
-        }
-    }
+/// What a get holds in the end, or why it holds nothing.
+pub(crate) type Answer<M> =
+    Result<Lent<<M as ManageConnection>::Connection>, RunError<<M as ManageConnection>::Error>>;
 
-    /// Runs until its end or its deadline. A get has one answer.
-    pub(crate) async fn answer(&mut self) -> Result<Lent<M::Connection>, RunError<M::Error>> {
-        let served = self.run().await;
-        if matches!(served, Err(RunError::TimedOut)) {
-            self.end(true);
-            // It may have been served since its last try.
-            return self.held.take().ok_or(RunError::TimedOut);
-        }
-        served.map(|()| self.held.take().expect("what is served holds a connection"))
-    }
-
-    /// Runs until it is served what it then holds, or its time is over.
-    async fn run(&mut self) -> Result<(), RunError<M::Error>> {
-        loop {
-            let tried = poll_fn(|cx| match self.try_get(cx) {
-                Poll::Pending => self.time.poll(cx).map(|()| Err(RunError::TimedOut)),
-                ready => ready,
-            });
-            if tried.await? || self.check().await? {
-                return Ok(());
-            }
-            if self.time.is_over() {
-                return Err(RunError::TimedOut);
-            }
-            next_poll().await;
-        }
-    }
-
-    fn since(&mut self) -> u64 {
-        let moment = || self.shared.moment(self.time.began());
-        *self.since.get_or_insert_with(moment)
-    }
-
-    /// Begins, and tries. Where something is idle it does not wait, and its moment and its waker
-    /// count for nothing. Else they are asked for outside the lock: the clock takes long, and
-    /// wakers are cloned and dropped by code of others.
-    fn begin(
-        &mut self,
-        cx: &mut Context<'_>,
-        waker: &mut Option<Waker>,
-    ) -> (MutexGuard<'a, Locked<M::Connection>>, Told) {
-        if self.shared.settings.test_on_check_out {
-            let mut locked = self.shared.lock();
-            if locked.shelf.idle() > 0 {
-                let told = locked.core.get(0);
-                return (locked, told);
-            }
-        }
-        let at = self.since();
-        *waker = Some(cx.waker().clone());
-        let mut locked = self.shared.lock();
-        let told = locked.core.get(at);
-        (locked, told)
-    }
-
-    /// Ready once it holds a connection: whether it is served, or is to check it first.
-    fn try_get(&mut self, cx: &mut Context<'_>) -> Poll<Result<bool, RunError<M::Error>>> {
-        // They are dropped after the lock.
-        let (had, mut waker);
-        let (mut locked, told) = if self.stage == Stage::New {
-            waker = None;
-            self.begin(cx, &mut waker)
-        } else {
-            // Where a check follows, the moment of its end tells how long the get has waited.
-            let checks = self.shared.settings.test_on_check_out;
-            let at = if checks { 0 } else { self.shared.now() };
-            waker = Some(cx.waker().clone());
-            let mut locked = self.shared.lock();
-            had = locked.waiters.take(self.get);
-            if let Some(Waiter::Handed(handed)) = &had {
-                return Poll::Ready(Ok(self.hold(&mut locked, handed)));
-            }
-            let told = locked.core.try_get(at, self.get);
-            (locked, told)
+/// A get, until its end or its deadline.
+pub(crate) async fn get<M: ManageConnection>(shared: &Arc<Shared<M>>) -> Answer<M> {
+    let mut getting = Getting::new(shared);
+    let mut tried = getting.try_at_once();
+    loop {
+        let tried = match tried.take() {
+            Some(tried) => tried,
+            None => poll_fn(|cx| getting.try_in_time(cx)).await,
         };
-        let kind = told.kind();
-        if self.stage == Stage::New {
-            self.get = told.get;
-            self.stage = Stage::Begun;
+        match tried {
+            Tried::Served => return Ok(getting.held.take().expect(HOLDS)),
+            Tried::Taken => {}
+            Tried::TimedOut => return getting.time_out(),
+            Tried::Memory => return Err(RunError::Memory),
+            Tried::Exhausted => return Err(RunError::Exhausted),
         }
-        let polled = match kind {
-            Kind::Served | Kind::Taken => {
-                let handed = locked.handed(&told);
-                Poll::Ready(Ok(self.hold(&mut locked, &handed)))
-            }
-            Kind::Waiting => {
-                self.stage = Stage::Waited;
-                waker.get_or_insert_with(|| cx.waker().clone());
-                let since = self.since();
-                if locked.waiters.wait(self.get, since, &mut waker) {
-                    Poll::Pending
-                } else {
-                    Poll::Ready(Err(RunError::Memory))
-                }
-            }
-            Kind::Memory => self.refuse(RunError::Memory),
-            Kind::Exhausted => self.refuse(RunError::Exhausted),
-            kind => unreachable!("{kind:?} is no answer to a get"),
-        };
-        let due = locked.is_due(&told);
-        drop(locked);
-        if due {
-            self.shared.open();
-        }
-        polled
-    }
-
-    /// Holds what it was handed; whether it was served by it.
-    #[inline]
-    fn hold(&mut self, locked: &mut Locked<M::Connection>, handed: &Handed) -> bool {
-        self.held = Some(locked.lend(handed));
-        if handed.served {
-            self.stage = Stage::Ended;
-        }
-        handed.served
-    }
-
-    /// Ends, as it could not begin.
-    fn refuse<T>(&mut self, error: RunError<M::Error>) -> Poll<Result<T, RunError<M::Error>>> {
-        self.stage = Stage::Ended;
-        Poll::Ready(Err(error))
-    }
-
-    /// Whether what it holds passes its check in time; then the get has ended.
-    async fn check(&mut self) -> Result<bool, RunError<M::Error>> {
-        let Some(lent) = &mut self.held else {
-            return Ok(false);
-        };
         let checked = {
-            let mut check = pin!(self.shared.manager.is_valid(&mut lent.conn));
-            let time = &mut self.time;
+            let time = &mut getting.time;
+            let conn = &mut getting.held.as_mut().expect(HOLDS).conn;
+            let mut check = pin!(time.shared.manager.is_valid(conn));
             poll_fn(move |cx| match check.as_mut().poll(cx) {
                 Poll::Pending => time.poll(cx).map(|()| None),
                 Poll::Ready(checked) => Poll::Ready(Some(checked)),
@@ -227,22 +117,170 @@ impl<'a, M: ManageConnection> Getting<'a, M> {
             .await
         };
         match checked {
-            Some(Ok(())) => {}
-            Some(Err(error)) => {
-                self.close(error);
-                return Ok(false);
-            }
-            None => return Err(RunError::TimedOut),
+            Some(Ok(())) => return Ok(getting.pass()),
+            Some(Err(error)) => getting.close(error),
+            None => return getting.time_out(),
         }
+        if getting.time.is_over() {
+            return getting.time_out();
+        }
+        next_poll().await;
+    }
+}
+
+const HOLDS: &str = "what is served or taken holds a connection";
+
+impl<'a, M: ManageConnection> Getting<'a, M> {
+    fn new(shared: &'a Arc<Shared<M>>) -> Self {
+        Getting {
+            time: Time {
+                shared,
+                began: None,
+                timer: None,
+            },
+            stage: Stage::New,
+            get: Name::default(),
+            held: None,
+        }
+    }
+
+    #[inline]
+    fn shared(&self) -> &'a Arc<Shared<M>> {
+        self.time.shared
+    }
+
+    /// Begins and tries, where connections are checked and one is idle: such a get does not wait,
+    /// and its moment and its waker count for nothing.
+    #[inline]
+    fn try_at_once(&mut self) -> Option<Tried> {
+        if !self.shared().settings.test_on_check_out {
+            return None;
+        }
+        let mut locked = self.shared().lock();
+        if locked.shelf.idle() == 0 {
+            return None;
+        }
+        let told = locked.core.get(0);
+        self.tried(locked, &told)
+    }
+
+    /// Ready once it holds a connection, its time is over, or it could not begin.
+    fn try_in_time(&mut self, cx: &mut Context<'_>) -> Poll<Tried> {
+        match self.try_get(cx) {
+            Some(tried) => Poll::Ready(tried),
+            None => self.time.poll(cx).map(|()| Tried::TimedOut),
+        }
+    }
+
+    /// Tries, and begins with that if it is new. None where it waits.
+    fn try_get(&mut self, cx: &mut Context<'_>) -> Option<Tried> {
+        // The clock is read outside the lock, as it takes long, and wakers are cloned and dropped
+        // there, as code of others does it.
+        let had;
+        let mut waker = Some(cx.waker().clone());
+        let is_new = self.stage == Stage::New;
+        let (began, mut since) = (self.time.began(), None);
+        let mut locked;
+        let told = if is_new {
+            let at = *since.insert(self.shared().moment(began));
+            locked = self.shared().lock();
+            locked.core.get(at)
+        } else {
+            // Where a check follows, the moment of its end tells how long the get has waited.
+            let checks = self.shared().settings.test_on_check_out;
+            let at = if checks { 0 } else { self.shared().now() };
+            locked = self.shared().lock();
+            had = locked.waiters.take(self.get);
+            if let Some(Waiter::Handed(handed)) = &had {
+                return Some(self.hold(&mut locked, handed));
+            }
+            locked.core.try_get(at, self.get)
+        };
+        let get = if is_new { told.get } else { self.get };
+        let is_noted = !told.is(Kind::Waiting) || {
+            let since = since.unwrap_or_else(|| self.shared().moment(began));
+            locked.waiters.wait(get, since, &mut waker)
+        };
+        let tried = self.tried(locked, &told);
+        if is_noted {
+            tried
+        } else {
+            Some(Tried::Memory)
+        }
+    }
+
+    /// Goes on after a try. None where it waits.
+    #[inline]
+    fn tried(
+        &mut self,
+        mut locked: MutexGuard<'_, Locked<M::Connection>>,
+        told: &Told,
+    ) -> Option<Tried> {
+        let kind = told.kind();
+        if self.stage == Stage::New {
+            self.get = told.get;
+            self.stage = Stage::Begun;
+        }
+        let tried = match kind {
+            Kind::Served | Kind::Taken => {
+                let handed = locked.handed(told);
+                Some(self.hold(&mut locked, &handed))
+            }
+            Kind::Waiting => {
+                self.stage = Stage::Waited;
+                None
+            }
+            Kind::Memory => Some(self.refuse(Tried::Memory)),
+            Kind::Exhausted => Some(self.refuse(Tried::Exhausted)),
+            kind => unreachable!("{kind:?} is no answer to a get"),
+        };
+        let due = locked.is_due(told);
+        drop(locked);
+        if due {
+            self.shared().open();
+        }
+        tried
+    }
+
+    /// Holds what it was handed.
+    #[inline]
+    fn hold(&mut self, locked: &mut Locked<M::Connection>, handed: &Handed) -> Tried {
+        self.held = Some(locked.lend(handed));
+        if handed.served {
+            self.stage = Stage::Ended;
+            Tried::Served
+        } else {
+            Tried::Taken
+        }
+    }
+
+    /// Ends, as it could not begin.
+    fn refuse(&mut self, why: Tried) -> Tried {
+        self.stage = Stage::Ended;
+        why
+    }
+
+    /// Is served by what it holds, whose check was passed.
+    #[inline]
+    fn pass(&mut self) -> Lent<M::Connection> {
         // The moment counts only for the time that a get has waited.
         let waited = self.stage == Stage::Waited;
-        let at = if waited { self.shared.now() } else { 0 };
-        let hint = lent.key.place;
-        let told = self.shared.lock().core.checked_ok(at, self.get, hint);
+        let at = if waited { self.shared().now() } else { 0 };
+        let shared = self.shared();
+        let lent = self.held.as_mut().expect(HOLDS);
+        let mut locked = shared.lock();
+        let told = locked.core.checked_ok(at, self.get, lent.key.place);
+        drop(locked);
         told.assert(Kind::Served);
         self.stage = Stage::Ended;
         lent.key = told.key;
-        Ok(true)
+        self.held.take().expect(HOLDS)
+    }
+
+    /// Ends as its time is over, unless it was served since its last try.
+    fn time_out(&mut self) -> Answer<M> {
+        self.end(true);
+        self.held.take().ok_or(RunError::TimedOut)
     }
 
     /// Closes what it holds, whose check has failed.
@@ -254,27 +292,29 @@ impl<'a, M: ManageConnection> Getting<'a, M> {
         let step = |core: &mut Core, at, key: Name, conn, broken| {
             core.checked_err(at, get, conn, broken, key.place)
         };
-        self.shared.take_back(lent, false, Shared::now, step);
-        self.shared.forward(error);
+        self.shared().take_back(lent, false, Shared::now, step);
+        self.shared().forward(error);
     }
 
     /// Ends without a connection, unless it was served since its last try: then it holds that.
     fn end(&mut self, timed_out: bool) {
         if self.held.is_none() {
-            let at = self.shared.now();
+            let at = self.shared().now();
             let had;
-            let mut locked = self.shared.lock();
+            let mut locked = self.shared().lock();
             had = locked.waiters.take(self.get);
             let Some(Waiter::Handed(handed)) = had else {
                 self.stage = Stage::Ended;
                 let told = locked.core.give_up(at, self.get, timed_out);
                 told.assert(Kind::GaveUp);
-                self.shared.settle(locked, at, &told, None);
+                self.shared().settle(locked, at, &told, None);
                 return;
             };
-            if self.hold(&mut locked, &handed) {
+            if handed.served {
+                self.hold(&mut locked, &handed);
                 return;
             }
+            self.held = Some(locked.lend(&handed));
         }
         self.stage = Stage::Ended;
         if let Some(lent) = self.held.take() {
@@ -282,7 +322,7 @@ impl<'a, M: ManageConnection> Getting<'a, M> {
             let step = |core: &mut Core, at, key: Name, conn, broken| {
                 core.give_up_held(at, get, timed_out, conn, broken, key.place)
             };
-            self.shared.take_back(lent, true, Shared::now, step);
+            self.shared().take_back(lent, true, Shared::now, step);
         }
     }
 }
@@ -294,7 +334,7 @@ impl<M: ManageConnection> Drop for Getting<'_, M> {
         }
         // It was served, and nobody comes for that.
         if let Some(lent) = self.held.take() {
-            self.shared.put_back(lent);
+            self.shared().put_back(lent);
         }
     }
 }

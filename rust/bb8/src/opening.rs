@@ -95,7 +95,8 @@ impl<M: ManageConnection> Opening<M> {
         let at = self.shared.now();
         let mut locked = self.shared.lock();
         let told = locked.core.opened(at, approval, place as u64);
-        self.shared.shelve(locked, at, &told, place, Some(conn));
+        self.shared
+            .shelve(locked, at, &told, Kind::Entered, place, Some(conn));
     }
 }
 

@@ -3,15 +3,16 @@
 
 use crate::builder::{Builder, QueueStrategy};
 use crate::core::{self, Core, Kind, Name, Settings, Told};
-use crate::errors::{AddError, RunError};
+use crate::errors::AddError;
 use crate::figures::State;
-use crate::getting::Getting;
+use crate::getting::{self, Answer};
 use crate::lock::{Mutex, MutexGuard};
 use crate::managers::ManageConnection;
 use crate::opening::{Claimed, Opening};
 use crate::shelf::Shelf;
 use crate::waiters::{Handed, Waiters};
 use futures_util::stream::{FuturesUnordered, StreamExt};
+use std::future::Future;
 use std::panic::resume_unwind;
 use std::sync::{Arc, Weak};
 use std::task::Waker;
@@ -302,6 +303,9 @@ impl<M: ManageConnection> PoolInner<M> {
             return None;
         }
         let mut locked = shared.lock();
+        if locked.shelf.idle() == 0 {
+            return None;
+        }
         // The moment of a get that does not wait counts for nothing.
         let told = locked.core.serve_at_once(0);
         if !told.is(Kind::Served) {
@@ -317,8 +321,8 @@ impl<M: ManageConnection> PoolInner<M> {
         Some(lent)
     }
 
-    pub(crate) async fn get(&self) -> Result<Lent<M::Connection>, RunError<M::Error>> {
-        Getting::new(self.shared()).answer().await
+    pub(crate) fn get(&self) -> impl Future<Output = Answer<M>> + '_ {
+        getting::get(self.shared())
     }
 
     #[inline]

@@ -51,7 +51,8 @@ impl<M: ManageConnection, S: HandsIn> Owed<'_, M, S> {
         let mut locked = self.shared.lock();
         let place = self.place as u64;
         let told = step(&mut locked.core, at, self.key, place, self.broken);
-        self.shared.shelve(locked, at, &told, self.place, conn);
+        self.shared
+            .shelve(locked, at, &told, Kind::Kept, self.place, conn);
     }
 }
 
@@ -96,19 +97,20 @@ impl<M: ManageConnection> Shared<M> {
         }
     }
 
-    /// Goes on after a step to which a connection was handed in, if it is not dropped already: at
-    /// its place it is idle, or the place is free and it is dropped.
+    /// Goes on after a step to which a connection was handed in, if it is not dropped already: where
+    /// it is kept, as this kind tells, it is idle at its place; else that is free and it is dropped.
     #[inline(always)]
     pub(crate) fn shelve(
         self: &Arc<Self>,
         mut locked: MutexGuard<'_, Locked<M::Connection>>,
         at: u64,
         told: &Told,
+        kept: Kind,
         place: usize,
         conn: Option<M::Connection>,
     ) {
         let closed = match conn {
-            Some(conn) if told.is(Kind::Kept) || told.is(Kind::Entered) => {
+            Some(conn) if told.is(kept) => {
                 locked.shelf.put(place, conn);
                 None
             }

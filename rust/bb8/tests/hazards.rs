@@ -3,6 +3,7 @@
 //! No room is lost but with what is forgotten, and no get that waits is.
 
 use bb8::{ErrorSink, ManageConnection, Pool, PooledConnection, RunError};
+use futures_util::future::join_all;
 use std::future::{pending, Future};
 use std::panic::{catch_unwind, AssertUnwindSafe};
 use std::pin::Pin;
@@ -12,8 +13,9 @@ use std::sync::{Arc, Mutex};
 use std::task::{Context, Wake, Waker};
 use std::thread;
 use std::time::Duration;
-use tokio::runtime::{Builder, Runtime};
-use tokio::task::yield_now;
+use tokio::runtime::{Builder, Handle, Runtime};
+use tokio::sync::Semaphore;
+use tokio::task::{block_in_place, spawn_local, yield_now, LocalSet};
 use tokio::time::{sleep, timeout};
 
 /// What goes wrong, until it is mended.
@@ -22,7 +24,10 @@ enum Fault {
     ConnectHangs,
     ConnectFails,
     ConnectPanics,
+    CheckBlocks,
     CheckFails,
+    CheckHangs,
+    CheckIsGreedy,
     CheckPanics,
     IsBroken,
     AskingPanics,
@@ -30,10 +35,11 @@ enum Fault {
     SinkPanics,
 }
 
-/// The faults of now, and what was opened and dropped so far.
+/// The faults of now, and how often one was to be opened, was, and was dropped so far.
 #[derive(Debug, Default)]
 struct World {
     faults: AtomicU32,
+    asked: AtomicU32,
     opened: AtomicU32,
     dropped: AtomicU32,
 }
@@ -89,6 +95,7 @@ impl ManageConnection for Manager {
 
     async fn connect(&self) -> Result<Connection, Failed> {
         yield_now().await;
+        self.0.asked.fetch_add(1, SeqCst);
         self.0.may_panic(Fault::ConnectPanics);
         if self.0.has(Fault::ConnectHangs) {
             pending::<()>().await;
@@ -101,6 +108,16 @@ impl ManageConnection for Manager {
 
     async fn is_valid(&self, _: &mut Connection) -> Result<(), Failed> {
         self.0.may_panic(Fault::CheckPanics);
+        if self.0.has(Fault::CheckHangs) {
+            pending::<()>().await;
+        }
+        let ready = Semaphore::new(1);
+        while self.0.has(Fault::CheckIsGreedy) {
+            drop(ready.acquire().await);
+        }
+        if self.0.has(Fault::CheckBlocks) {
+            thread::sleep(Duration::from_millis(10));
+        }
         if self.0.has(Fault::CheckFails) {
             return Err(Failed);
         }
@@ -315,6 +332,8 @@ async fn a_manager_that_panics_keeps_no_room() {
         let pool = pool(&world, 1).await;
         world.set(faults);
         assert!(!serves(&pool).await, "{faults:?}");
+        // It is not asked again for the same connection.
+        assert_eq!(world.asked.load(SeqCst), 1, "{faults:?}");
         world.mend();
         assert_eq!(counts(&pool, &world), (0, 0), "{faults:?}");
         assert!(serves(&pool).await, "{faults:?}");
@@ -335,6 +354,59 @@ async fn a_check_that_panics_keeps_no_room() {
         assert!(serves(&pool).await, "{faults:?}");
         assert_eq!(pool.state().statistics.pending_gets(), 0, "{faults:?}");
     }
+}
+
+#[tokio::test(start_paused = true)]
+async fn a_check_that_hangs_is_cut_off_and_says_nothing() {
+    let world = Arc::default();
+    let pool = checking(&world).await;
+    world.set(&[Fault::CheckHangs]);
+    assert!(matches!(pool.get().await, Err(RunError::TimedOut)));
+    world.mend();
+    assert!(serves(&pool).await);
+    assert_eq!(
+        (counts(&pool, &world), world.dropped.load(SeqCst)),
+        ((1, 1), 0)
+    );
+    let figures = pool.state().statistics;
+    assert_eq!((figures.get_timed_out, figures.get_cancelled), (1, 0));
+}
+
+#[tokio::test]
+async fn a_check_that_uses_up_its_tasks_turns_is_cut_off() {
+    let world = Arc::default();
+    let builder = builder(&world, 1).min_idle(1).test_on_check_out(true);
+    let limited = builder.connection_timeout(Duration::from_millis(20));
+    let pool = limited.build(Manager(world.clone())).await.unwrap();
+    world.set(&[Fault::CheckIsGreedy]);
+    let got = timeout(Duration::from_secs(5), pool.get()).await;
+    assert!(matches!(got, Ok(Err(RunError::TimedOut))));
+}
+
+#[tokio::test(start_paused = true)]
+async fn nothing_is_opened_again_for_a_pool_that_is_gone() {
+    let world: Arc<World> = Arc::default();
+    world.set(&[Fault::ConnectFails]);
+    let pool = builder(&world, 1).min_idle(1);
+    let pool = pool.build_unchecked(Manager(world.clone()));
+    sleep(Duration::from_millis(100)).await;
+    drop(pool);
+    sleep(Duration::from_secs(5)).await;
+    // The second try was due when the pool went.
+    assert_eq!(world.asked.load(SeqCst), 2);
+}
+
+#[tokio::test]
+async fn a_get_whose_checks_fail_ends_in_time() {
+    let world = Arc::default();
+    let builder = builder(&world, 9).min_idle(9).test_on_check_out(true);
+    let limited = builder.connection_timeout(Duration::from_millis(20));
+    let pool = limited.build(Manager(world.clone())).await.unwrap();
+    world.set(&[Fault::CheckBlocks, Fault::CheckFails]);
+    let got = timeout(Duration::from_secs(5), pool.get()).await;
+    assert!(matches!(got, Ok(Err(RunError::TimedOut))));
+    // Its time runs from the end of the first one.
+    assert!(world.dropped.load(SeqCst) < 5);
 }
 
 /// Gets of a runtime ask for openings, which hang, and end with it.
@@ -434,6 +506,24 @@ fn all_is_dropped_with_the_last_runtime() {
     drop(runtime);
     assert_eq!(world.opened.load(SeqCst), 3);
     assert_eq!(world.dropped.load(SeqCst), 3);
+}
+
+#[test]
+fn each_kind_of_runtime_serves() {
+    let gets = || async {
+        let pool = pool(&Arc::default(), 2).await;
+        let served = join_all((0..20).map(|_| serves(&pool))).await;
+        assert_eq!(served, [true; 20]);
+        pool
+    };
+    let one = runtime();
+    one.block_on(gets());
+    let local = LocalSet::new();
+    local.block_on(&one, async { spawn_local(gets()).await.unwrap() });
+    let many = Builder::new_multi_thread().enable_time().build().unwrap();
+    let pool = many.block_on(gets());
+    let blocks = async move { block_in_place(|| Handle::current().block_on(serves(&pool))) };
+    assert!(many.block_on(async { tokio::spawn(blocks).await.unwrap() }));
 }
 
 #[tokio::test(start_paused = true)]

@@ -14,8 +14,8 @@ use std::sync::Wait;
 ///
 /// Each poll reads the pool's clock. It takes the pool's lock once where no check is made, and lets go of it before each call of the manager,
 /// the error sink or the clock. One that is pending asks to be polled again at once. When it is dropped before its answer, it gives the
-/// get up as cancelled; one that was not polled or was answered is dropped without a reading of the clock and without the lock. Our
-/// own: upstream's get is an async function.
+/// get up as cancelled; one that was not polled or was answered is dropped without a reading of the clock and without the lock.
+/// Upstream's get is an async function.
 pub struct GetFuture<'a, G: Given, L: Parts> {
     pub(crate) shared: &'a Shared<G, L>,
     pub(crate) get: GetState<G::Connection, G::Checking, Part<L>>,

@@ -154,14 +154,14 @@ impl<C: Drop> PoolInternals<C> {
         self.gets.find(number, &mut self.asking.count())
     }
 
-    /// How many connections are idle. Our own.
+    /// How many connections are idle.
     pub fn idle(&self) -> u32
         ensures { result ≡ length self.now.records.idle }
     {
         self.records.idle_connections()
     }
 
-    /// How many connections the next leave closes: all that are idle, where one handle is alive and no other. Our own.
+    /// How many connections the next leave closes: all that are idle, where one handle is alive and no other.
     pub fn closed_by_leave(&self) -> u32
         ensures { result ≡ length (cond (eqb self.now.handles 1) self.now.records.idle []) }
     {

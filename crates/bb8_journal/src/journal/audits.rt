@@ -98,7 +98,7 @@ fn are_noted(entries: &[Entry], notes: &[Notes]) -> bool
 }
 
 /// Whether no note is missing and the notes together are the entries' indices with their seats and answers, each once. Then each seat's
-/// entries are as many as the steps that it made. It needs no memory. Our own.
+/// entries are as many as the steps that it made. It needs no memory.
 pub fn audit(entries: &[Entry], notes: &[Notes]) -> bool
     ensures account { Decides result (IsAccount entries.now notes.now) }
     ensures seats { result ≡ true

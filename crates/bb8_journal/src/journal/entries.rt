@@ -18,7 +18,7 @@ use std::alloc::Global;
 use std::marker::{Brand, Model};
 use std::sync::ledger::{Book, Ledger, Share};
 
-/// An event that a seat made, and what it was answered. Entries are counted from 0. Our own, as all of this crate.
+/// An event that a seat made, and what it was answered. Entries are counted from 0.
 #[derive(Clone, Copy, Debug, PartialEq, Eq)]
 pub struct Entry {
     /// The number of the seat.

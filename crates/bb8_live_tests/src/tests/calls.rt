@@ -124,14 +124,6 @@ fn answer<T: Drop>(course: u64, value: T) -> Poll<Result<T, Refused>> {
     }
 }
 
-/// The same desk once more.
-fn share(desk: &Arc<Desk, Global>) -> Result<Arc<Desk, Global>, Memory> {
-    match Arc::try_clone(desk) {
-        Ok(desk) => Ok(desk),
-        Err(_) => Err(Memory),
-    }
-}
-
 /// A manager, a customizer, a sink, a clock, a gate or a connection that writes its calls down.
 pub(super) struct Teller {
     desk: Arc<Desk, Global>,
@@ -153,7 +145,7 @@ impl Drop for Teller {
 /// One that is no connection.
 pub(super) fn outside_on(desk: &Arc<Desk, Global>) -> Result<Teller, Memory> {
     Ok(Teller {
-        desk: share(desk)?,
+        desk: Arc::try_clone(desk)?,
         is_connection: false,
     })
 }
@@ -161,7 +153,7 @@ pub(super) fn outside_on(desk: &Arc<Desk, Global>) -> Result<Teller, Memory> {
 /// A connection.
 pub(super) fn connection(desk: &Arc<Desk, Global>) -> Result<Teller, Memory> {
     Ok(Teller {
-        desk: share(desk)?,
+        desk: Arc::try_clone(desk)?,
         is_connection: true,
     })
 }
@@ -184,7 +176,7 @@ impl Drop for UnderWay {
 fn begin(desk: &Arc<Desk, Global>, call: &str) -> UnderWay {
     desk.call(call);
     UnderWay {
-        desk: share(desk).ok(),
+        desk: Arc::try_clone(desk).ok(),
     }
 }
 
@@ -629,7 +621,7 @@ fn calls_of_a_pool<R: Runtime + Abort + Threads, L: PoolParts + 'static>(
         let Ok(copy) = pool.try_clone() else {
             return Err(Fail::from(Memory));
         };
-        let desk = share(desk)?;
+        let desk = Arc::try_clone(desk)?;
         asker = start(&rt, 0, Asker { pool: copy, desk }).ok();
         tools.made("now");
         tools.desk.stage.set(ARMED);

@@ -5,7 +5,7 @@ ghost use Rattle.bb8_runner.specs.Arguments.{threads_of, arguments_of};
 
 use crate::grammar::number;
 
-/// How a script is run. Our own, as all of this crate.
+/// How a script is run.
 #[derive(Clone, Copy, Debug, PartialEq, Eq)]
 pub enum Mode {
     /// One event after the other, and each answer is told.

@@ -28,7 +28,7 @@ fn next_tick(start: Moment, rate: Duration, moment: Moment) -> Option<Moment>
 }
 
 impl Reaper {
-    /// A reaper whose ticks count from the moment `start` on, so far apart. Our own.
+    /// A reaper whose ticks count from the moment `start` on, so far apart.
     pub fn new(start: Moment, rate: Duration) -> Self
         requires { 0 < as_nanos rate }
         ensures start { result.start ≡ start }
@@ -46,14 +46,14 @@ impl Reaper {
         }
     }
 
-    /// The tick that is due next: None, and so never, where each is past the greatest moment. Our own.
+    /// The tick that is due next: None, and so never, where each is past the greatest moment.
     pub fn next_due(&self) -> Option<Moment>
         ensures { result ≡ self.now.due }
     {
         self.due
     }
 
-    /// One poll over a home, at a reading `at` of the clock. Our own.
+    /// One poll over a home, at a reading `at` of the clock.
     ///
     /// It looks at the home first, and reaps once where a tick is due, however many were missed. Once no handle is alive each poll answers
     /// `Ended`, and calls nothing.

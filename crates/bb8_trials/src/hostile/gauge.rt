@@ -38,10 +38,8 @@ impl Gauge {
 
     /// The same gauge once more. It fails where there are more copies and tokens than can be counted.
     pub fn try_clone(&self) -> Result<Gauge, Memory> {
-        match Arc::try_clone(&self.counts) {
-            Ok(counts) => Ok(Gauge { counts }),
-            Err(_) => Err(Memory),
-        }
+        let counts = Arc::try_clone(&self.counts)?;
+        Ok(Gauge { counts })
     }
 
     /// One more token. Where there are more than can be counted it is counted neither as made nor as dropped.

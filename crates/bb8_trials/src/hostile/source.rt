@@ -27,10 +27,8 @@ impl RandomSource {
 
     /// The same row once more. It fails where there are more copies than can be counted.
     pub fn try_clone(&self) -> Result<RandomSource, Memory> {
-        match Arc::try_clone(&self.state) {
-            Ok(state) => Ok(RandomSource { state }),
-            Err(_) => Err(Memory),
-        }
+        let state = Arc::try_clone(&self.state)?;
+        Ok(RandomSource { state })
     }
 
     /// The next number of the row: any of 64 bits.

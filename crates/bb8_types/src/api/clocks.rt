@@ -9,41 +9,39 @@ use std::sync::atomic::{AtomicU64, Ordering};
 
 /// A clock that a pool reads: how far a deadline, a lifetime or a time of idleness has come is what this clock says.
 ///
-/// Our own: upstream reads the machine's clock. A clock may be set back, as a pool takes a moment earlier than one that it has seen
+/// Upstream reads the machine's clock. A clock may be set back, as a pool takes a moment earlier than one that it has seen
 /// already for that one.
 pub trait Clock: Send + Sync + Drop + 'static {
     // Holds of a clock and each moment that it may tell. The implementer's choice; by default it may tell any.
     ghost tells: { Self → MomentOf → Type 0 } = { λ _ _. ⊤ };
 
-    /// The moment that it is now, in nanoseconds from a zero of the clock's own choice. Our own.
+    /// The moment that it is now, in nanoseconds from a zero of the clock's own choice.
     fn now(&self) -> Moment
         ensures { tells self.now result };
 }
 
 /// A clock that stands still until it is set, for tests and for programs that bring their own time. Threads share it: a copy by
-/// `try_clone` tells, from then on, whatever moment any of the copies was set to last. Our own.
+/// `try_clone` tells, from then on, whatever moment any of the copies was set to last.
 #[derive(Drop)]
 pub struct SetClock {
     nanoseconds: Arc<AtomicU64, Global>,
 }
 
 impl SetClock {
-    /// A clock that tells this moment until it is set. It fails where memory is refused. Our own.
+    /// A clock that tells this moment until it is set. It fails where memory is refused.
     pub fn new(alloc: Global, moment: Moment) -> Result<SetClock, Memory> {
         let nanoseconds = Arc::new(alloc, AtomicU64::new(moment.0))?;
         Ok(SetClock { nanoseconds })
     }
 
     /// The same clock once more, for another thread or pool; it takes no memory. It fails where there are more copies than can be
-    /// counted. Our own.
+    /// counted.
     pub fn try_clone(&self) -> Result<SetClock, Memory> {
-        match Arc::try_clone(&self.nanoseconds) {
-            Ok(nanoseconds) => Ok(SetClock { nanoseconds }),
-            Err(_) => Err(Memory),
-        }
+        let nanoseconds = Arc::try_clone(&self.nanoseconds)?;
+        Ok(SetClock { nanoseconds })
     }
 
-    /// From now on the clock and all its copies tell this moment. It may be an earlier one. Our own.
+    /// From now on the clock and all its copies tell this moment. It may be an earlier one.
     pub fn set(&self, moment: Moment) {
         self.nanoseconds.store(moment.0, Ordering::SeqCst);
     }

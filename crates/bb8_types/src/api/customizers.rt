@@ -17,7 +17,7 @@ use futures::task::Poll;
 /// Each call has a ghost member, a relation between what the call was given and what it answered. The implementer chooses it, and
 /// one that is left out allows everything.
 pub trait CustomizeConnection<C, E>: Send + Sync + Drop + 'static {
-    /// A connection's preparation that is under way. Our own.
+    /// A connection's preparation that is under way.
     type Acquiring: Send + Drop + 'static;
 
     // Holds of a customizer, a connection, each preparation of it that may be begun, and the connection then.
@@ -33,7 +33,7 @@ pub trait CustomizeConnection<C, E>: Send + Sync + Drop + 'static {
 
     /// Goes on with a connection's preparation, at the moment `moment`: Ok where it is done, an error where it failed, and pending
     /// while it is under way. It is not polled again once it was ready. A connection whose preparation failed is dropped, and that
-    /// counts as a failed opening. Our own.
+    /// counts as a failed opening.
     fn poll_acquire(
         &self,
         connection: &mut C,
@@ -44,7 +44,7 @@ pub trait CustomizeConnection<C, E>: Send + Sync + Drop + 'static {
             acquiring.new };
 }
 
-/// The customizer that leaves each connection as it is and is ready at once: what a pool has where none is set. Our own: upstream has an
+/// The customizer that leaves each connection as it is and is ready at once: what a pool has where none is set. Upstream has an
 /// optional customizer instead.
 #[derive(Clone, Copy, Debug)]
 pub struct NopCustomizer;

@@ -4,11 +4,11 @@ ghost use Rattle.bb8_types.specs.Errors.{run_error_text, run_error_eq, add_error
 ghost use Rattle.bb8_types.specs.ErrorLaws.{run_error_eq_partial_equivalence, run_error_eq_equivalence, add_error_eq_partial_equivalence, add_error_eq_equivalence};
 ghost use Rattle.bb8_types.specs.declared.api.errors.RunError.TheVariants.{User};
 
-use std::alloc::AllocFailed;
+use std::alloc::{AllocError, AllocFailed};
 use std::error::Error;
 use std::fmt;
 
-/// Memory was refused. It prints as `RunError::Memory` does. Our own: upstream aborts where no memory is left.
+/// Memory was refused. It prints as `RunError::Memory` does. Upstream aborts where no memory is left.
 #[derive(Clone, Copy, Debug, PartialEq, Eq)]
 pub struct Memory;
 
@@ -30,6 +30,14 @@ impl<T: Drop> From<AllocFailed<T>> for Memory {
     }
 }
 
+impl From<AllocError> for Memory {
+    ghost from_gives = { λ _ _. ⊤ };
+
+    fn from(_refused: AllocError) -> Memory {
+        Memory
+    }
+}
+
 /// Why a get or the building of a pool failed.
 ///
 /// Two are equal where they are of the same case and, of two `User`, where the manager's errors are equal.
@@ -39,9 +47,9 @@ pub enum RunError<E> {
     User(E),
     /// The get was not served within `connection_timeout`. As upstream.
     TimedOut,
-    /// Memory was refused. Our own: upstream aborts where no memory is left.
+    /// Memory was refused. Upstream aborts where no memory is left.
     Memory,
-    /// The pool has no number left for another get: each of the 18,446,744,073,709,551,615 was given. Our own.
+    /// The pool has no number left for another get: each of the 18,446,744,073,709,551,615 was given.
     Exhausted,
 }
 
@@ -99,7 +107,7 @@ pub enum AddError<C> {
     Broken(C),
     /// Connections and open approvals together were `max_size` already. As upstream.
     NoCapacity(C),
-    /// There was no memory for the connection's place, or no number left for it. Our own: upstream aborts where no memory is left.
+    /// There was no memory for the connection's place, or no number left for it. Upstream aborts where no memory is left.
     Withheld(C),
 }
 

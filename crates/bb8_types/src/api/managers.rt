@@ -26,10 +26,10 @@ pub trait ManageConnection: Sized + Send + Sync + Drop + 'static {
     /// Why a connection could not be opened, or is not valid. As upstream.
     type Error: Debug + Send + Drop + 'static;
 
-    /// A connection that is being opened. Our own.
+    /// A connection that is being opened.
     type Connecting: Send + Drop + 'static;
 
-    /// A check that is being made. Our own.
+    /// A check that is being made.
     type Checking: Send + Drop + 'static;
 
     // Holds of a manager and each opening that it may begin.
@@ -53,7 +53,7 @@ pub trait ManageConnection: Sized + Send + Sync + Drop + 'static {
         ensures { connects self.now result };
 
     /// Goes on with the opening of a connection, at the moment `moment`: the connection or the error once it is open or has failed,
-    /// else pending. Our own.
+    /// else pending.
     fn poll_connect(
         &self,
         connecting: &mut Self::Connecting,
@@ -66,7 +66,7 @@ pub trait ManageConnection: Sized + Send + Sync + Drop + 'static {
         ensures { checks self.now connection.old result connection.new };
 
     /// Goes on with the check of a connection, at the moment `moment`: Ok where it serves, an error where it does not and is to be
-    /// closed, and pending while that is not known. Our own.
+    /// closed, and pending while that is not known.
     fn poll_valid(
         &self,
         connection: &mut Self::Connection,

@@ -220,11 +220,14 @@ async fn a_wait_counts_from_where_it_began() {
 #[tokio::test(start_paused = true)]
 async fn only_who_has_waited_so_long_is_handed_it() {
     let pool = pool(false, Some(Duration::from_millis(1))).await;
-    let conn = pool.get().await.unwrap();
+    tokio::time::advance(Duration::from_secs(5)).await;
+    let mut newer = pool.get().await.unwrap();
     let mut first = Hand::waiting(&pool);
-    drop(conn);
-    let newer = pool.get().await.unwrap();
-    assert!(first.poll().is_none());
+    for _ in 0..2 {
+        drop(newer);
+        newer = pool.get().await.unwrap();
+        assert!(first.poll().is_none());
+    }
     tokio::time::advance(Duration::from_millis(1)).await;
     drop(newer);
     assert!(Hand::of(&pool).poll().is_none());

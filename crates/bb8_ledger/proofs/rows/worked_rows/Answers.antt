@@ -1,5 +1,5 @@
 -- Each row computes: its configuration is lawful, its answers are allowed, and these are the figures at its end.
-use Rattle.std.proofs.Common.{refl}
+use Rattle.std.proofs.Common.{refl, arith}
 use Rattle.bb8_ledger.proofs.Evaluated.{by_evaluation, waits_by_evaluation}
 use Rattle.bb8_ledger.proofs.rows.worked_rows.Goals as goal
 
@@ -10,6 +10,8 @@ returns c = record {
   first_script = by_evaluation refl refl refl;
   overtaken = by_evaluation refl refl refl;
   closed_puts_last = by_evaluation refl refl refl;
+  passed_by_two = by_evaluation refl refl refl;
+  closed_keeps_place = by_evaluation refl refl refl;
   handed_on = by_evaluation refl refl refl;
   oldest_first = by_evaluation refl refl refl;
   newest_first = by_evaluation refl refl refl;
@@ -35,6 +37,7 @@ returns c = record {
   returned_too_old = by_evaluation refl refl refl;
   cancelled_in_check = by_evaluation refl refl refl;
   returned_after_last_handle = by_evaluation refl refl refl;
+  order = grind arith;
   waits_of_one_second = waits_by_evaluation refl refl;
   waits_of_thirty_seconds = waits_by_evaluation refl refl;
   waits_of_a_tenth_second = waits_by_evaluation refl refl;

@@ -4,8 +4,8 @@ use Rattle.bb8_types.specs.Settings.{Settings, settings_of, is_unset_or_above_ze
 use Rattle.bb8_types.proofs.Places.{and_right}
 use Rattle.bb8_live_scripts.proofs.laying.builder_of.Goals as goal
 
-pub connection_timeout-requires-after_bounds : goal.connection_timeout-requires-after_bounds
-connection_timeout-requires-after_bounds c κs =
+pub connection_timeout-requires : goal.connection_timeout-requires
+connection_timeout-requires c =
     let s : Settings = settings_of c.args.config in
     let idle = (and_right (ltb 0 s.max_size) _ c.requires).1 in
     let life = (and_right (is_unset_or_at_most s.min_idle s.max_size) _ idle).1 in

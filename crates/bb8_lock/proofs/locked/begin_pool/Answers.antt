@@ -1,4 +1,4 @@
-use Rattle.bb8_lock.proofs.Words.{arith, settings_of, opening_with}
+use Rattle.bb8_lock.proofs.Words.{ap, arith, Settings, settings_of, opening_with}
 use Rattle.bb8_lock.proofs.Sections.{begun_settings, first_numbers, none_out}
 use Rattle.bb8_lock.proofs.locked.begin_pool.Goals as goal
 
@@ -6,6 +6,11 @@ pub lay_out_parts-total-requires-clause-parts : goal.lay_out_parts-total-require
 lay_out_parts-total-requires-clause-parts g c =
     let settled = begun_settings _ 0 0 _ _ c.args.at.0 c.args.claimed c.fill-grant.result c.requires.lawful c.new-core.ensures c.fill-grant.ensures.step in
     rw settled c.requires.parts
+
+pub lay_out_parts-total-requires-clause-same : goal.lay_out_parts-total-requires-clause-same
+lay_out_parts-total-requires-clause-same g c =
+    let settled = begun_settings _ 0 0 _ _ c.args.at.0 c.args.claimed c.fill-grant.result c.requires.lawful c.new-core.ensures c.fill-grant.ensures.step in
+    ap (λ (s : Settings). s.max_size) settled
 
 pub lay_out_parts-total-requires-clause-none_out : goal.lay_out_parts-total-requires-clause-none_out
 lay_out_parts-total-requires-clause-none_out g c = none_out _ 0 0 _ _ c.args.at.0 c.args.claimed c.fill-grant.result c.requires.lawful c.new-core.ensures c.fill-grant.ensures.step

@@ -1,8 +1,6 @@
-use Rattle.bb8_tables.proofs.Words.{◌≡◌, ap, ◌∙◌, sym, refl, get, subst, Getting, Slot, Option, Some, ⊎_elim}
+use Rattle.bb8_tables.proofs.Words.{◌≡◌, ap, ◌∙◌, sym, refl, subst, Getting, Slot, Option, ⊎_elim}
 use Rattle.std.proofs.Common.{IfSome}
 use Rattle.bb8_types.specs.Places.{holds, first_wait_of}
-use Rattle.bb8_types.specs.declared.standing.GetPlace.{GetPlace}
-use Rattle.bb8_types.specs.declared.standing.GetPlace.TheVariants.{Holding}
 use Rattle.bb8_types.specs.Places.{held_in, is_unnotified}
 use Rattle.bb8_tables.specs.Machine as machine
 use Rattle.bb8_tables.proofs.GetPlaces.{none_shown, some_shown, end_counted, end_good, end_view, released, wait_absent}

@@ -1,4 +1,4 @@
-use Rattle.bb8_tables.proofs.Words.{◌≡◌, set, subst, Some, ap, ◌∙◌, arith, Standing}
+use Rattle.bb8_tables.proofs.Words.{◌-◌, ◌≡◌, set, subst, Some, ap, ◌∙◌, arith, Standing}
 use Rattle.bb8_tables.specs.Machine as machine
 use Rattle.bb8_tables.proofs.RecordPlaces.{unclaimed_fit, approve_good, approve_view}
 use Rattle.bb8_tables.proofs.records.Records.approve.Goals as goal
@@ -15,7 +15,7 @@ invariant_of-self g c =
     approve_good c.self.inside c.args.claimed i.result i.new.self c.line_up.new.unclaimed c.self.invariant i.ensures.vacant i.ensures.within
     (subst (λ (s : Standing g.row.C.Denot). i.new.self ≡ record c.self.inside.slots {
       slots = set c.self.inside.slots.slots i.result (Some (record { number = c.self.inside.next; standing = s }));
-      free = machine.without i.result c.self.inside.slots.free;
+      free = c.self.inside.slots.free - 1;
     }) c.approval.ensures i.ensures.state) i.ensures.room c.line_up.ensures (rw (← c.self.view_is) at c.requires.room)
 
 pub returns : goal.returns
@@ -24,6 +24,6 @@ returns g c =
     approve_view c.self.inside c.args.claimed i.result i.new.self c.line_up.new.unclaimed c.self.invariant i.ensures.vacant i.ensures.within
     (subst (λ (s : Standing g.row.C.Denot). i.new.self ≡ record c.self.inside.slots {
       slots = set c.self.inside.slots.slots i.result (Some (record { number = c.self.inside.next; standing = s }));
-      free = machine.without i.result c.self.inside.slots.free;
+      free = c.self.inside.slots.free - 1;
     }) c.approval.ensures i.ensures.state) i.ensures.room c.line_up.ensures
     ∙ ap (machine.after_approval c.args.claimed) c.self.view_is

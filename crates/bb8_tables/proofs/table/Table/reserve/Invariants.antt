@@ -7,5 +7,5 @@ invariant-loop g l = record {
   kept : (i : ℕ) → get_or l.self.slots i None ≡ get_or l.fn.self.slots i None;
   line : l.self.line ≡ l.fn.self.line;
   births : l.self.births ≡ l.fn.self.births;
-  free : length l.self.free ≡ length l.fn.self.free + l.counter;
+  free : l.self.free ≡ l.fn.self.free + l.counter;
 }

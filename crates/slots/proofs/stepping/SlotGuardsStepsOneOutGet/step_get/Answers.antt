@@ -1,4 +1,4 @@
-use Rattle.std.proofs.Common.{refl, inl, inr}
+use Rattle.slots.proofs.Words.{refl, inl, inr, subst, GivesBack}
 use Rattle.slots.proofs.stepping.SlotGuardsStepsOneOutGet.step_get.Goals as goal
 
 pub returns-in-Ready-Err-clause-steps : goal.returns-in-Ready-Err-clause-steps
@@ -11,4 +11,5 @@ returns-in-Ok-clause-steps g c =
 
 pub returns-clause-steps : goal.returns-clause-steps
 returns-clause-steps g c =
-    (c.poll.result, c.poll.new.self, c.poll.ensures.table, rw (c.in-Ready-Ok.is, c.in-Ready-Ok.field-0-is) (inr (refl, refl)))
+    let came = subst (λ x. GivesBack x) c.in-Err.ensures.refused (c.in-Err.refused.taken.part, c.drop.ensures) in
+    (c.poll.result, c.poll.new.self, c.poll.ensures.table, rw (c.in-Ready-Ok.is, c.in-Ready-Ok.field-0-is) (inr (refl, refl, came)))

@@ -1,10 +1,10 @@
-use Rattle.slots.proofs.Words.{◌<◌, ◌∙◌, refl, arith, deque_len, PollsGet}
+use Rattle.slots.proofs.Words.{◌<◌, ◌∙◌, refl, arith, deque_len, GivesBack, PollsGet}
 use Rattle.slots.proofs.Stepped.{Midway-first, Midway-step, Midway-over}
 use Rattle.slots.proofs.turning.SlotGuardsStepsAllVecDequeJobEntryOutGet.step_each.Goals as goal
 
 pub loop-init : goal.loop-init
 loop-init g c = record {
-  midway = Midway-first g.J.Job.polls PollsGet c.args.now _ _ (omega arith);
+  midway = λ h. Midway-first g.J.Job.polls PollsGet GivesBack c.args.now _ _ (omega arith);
   len = omega arith;
   most = omega arith;
   held = λ h. h;
@@ -15,7 +15,8 @@ loop-init g c = record {
 pub loop-preserved : goal.loop-preserved
 loop-preserved g c =
     let some : 0 < deque_len c.loop.queue = omega (arith, c.loop.invariant.len) in record {
-      midway = Midway-step g.J.Job.polls PollsGet c.args.now _ _ _ _ _ _ _ (omega arith) c.loop.invariant.midway (c.step_first-ended.ensures.steps some);
+      midway = λ h. Midway-step g.J.Job.polls PollsGet GivesBack c.args.now _ _ _ _ _ _ _ (omega arith) (c.loop.invariant.midway h)
+          (c.step_first-ended.ensures.steps some (c.loop.invariant.held h));
       len = omega (arith, c.loop.invariant.len);
       most = omega arith;
       held = λ h. c.step_first-ended.ensures.held (c.loop.invariant.held h);
@@ -24,4 +25,4 @@ loop-preserved g c =
     }
 
 pub returns-clause-steps : goal.returns-clause-steps
-returns-clause-steps g c = Midway-over g.J.Job.polls PollsGet c.args.now _ _ _ _ (omega arith) c.loop.invariant.midway
+returns-clause-steps g c h = Midway-over g.J.Job.polls PollsGet GivesBack c.args.now _ _ _ _ (omega arith) (c.loop.invariant.midway h)

@@ -1,10 +1,11 @@
-use Rattle.slots.proofs.Words.{◌≡◌, ◌-◌, ◌≤◌, deque_len, number_in, AreOfOne, PollsGet, running, TurnMidway}
+use Rattle.slots.proofs.Words.{◌≡◌, ◌-◌, ◌≤◌, deque_len, number_in, AreOfOne, GivesBack, PollsGet, running}
+use Rattle.slots.proofs.Stepped.{TurnMidway}
 use Rattle.futures.specs.Task.{Keeps}
 use Rattle.slots.proofs.turning.SlotGuardsStepsAllVecDequeJobEntryOutGet.step_each.Given as goal
 
 abbrev pub invariant-loop : goal.invariant-loop
 invariant-loop g l = record {
-  midway : TurnMidway g.J.Job.polls PollsGet l.fn.now l.fn.queue.items l.queue.items l.ended (l.count - l.counter);
+  midway : running l.fn.queue.items ≡ number_in l.fn.self → TurnMidway g.J.Job.polls PollsGet GivesBack l.fn.now l.fn.queue.items l.queue.items l.ended (l.count - l.counter);
   len : deque_len l.queue ≡ l.count;
   most : l.ended ≤ l.counter;
   held : running l.fn.queue.items ≡ number_in l.fn.self → running l.queue.items ≡ number_in l.self;

@@ -1,0 +1,222 @@
+//! Places in an order that links from place to place keep: a place enters at the new end, and leaves wherever it stands.
+ghost use Rattle.std.specs.Prelude.{◌≡◌, ◌≢◌, ℕ, List, ◌+◌, ◌-◌, ◌<◌, ◌≤◌, ◌++◌, ◌∷◌, [], length, slice_get, Some, OnOk, OnErr};
+ghost use Rattle.std.specs.Vec.{vec_len};
+ghost use Rattle.bb8_tables.specs.Ordered.{Ordered, most_places, after_of, before_of, JoinsAt};
+ghost use Rattle.bb8_tables.specs.Spelled.{Absent};
+ghost use Rattle.bb8_tables.specs.Machine.{without};
+
+use std::alloc::{AllocError, Global};
+use std::marker::Model;
+
+/// The places before and after a place.
+#[derive(Clone, Copy)]
+struct Link {
+    before: u32,
+    after: u32,
+}
+
+/// The place that stands for both ends.
+const END: u32 = 0;
+
+/// The links of all places.
+#[derive(Drop)]
+struct Links {
+    entries: Vec<Link>,
+}
+
+/// Some of the places from 1 on, in an order. A place that is not in it leads to itself.
+#[derive(Drop)]
+pub struct Line {
+    links: Links,
+    len: usize,
+}
+
+impl Model for Line {
+    ghost use Rattle.bb8_tables.specs.Ordered.{Ordered, ordered_code, view_of, IsGood};
+
+    ghost Value = { Ordered };
+
+    ghost coded = { ordered_code };
+
+    ghost view = { view_of };
+
+    ghost invariant = { IsGood };
+}
+
+/// Changes the place after one.
+#[inline]
+fn set_after(links: &mut [Link], at: u32, to: u32)
+    requires { at < length links.old }
+    ensures is { after_of links.new at ≡ to }
+    ensures kept { (i : ℕ) → i ≢ at → after_of links.new i ≡ after_of links.old i }
+    ensures before { (i : ℕ) → before_of links.new i ≡ before_of links.old i }
+    ensures len { length links.new ≡ length links.old }
+{
+    links[at as usize].after = to;
+}
+
+/// Changes the place before one.
+#[inline]
+fn set_before(links: &mut [Link], at: u32, to: u32)
+    requires { at < length links.old }
+    ensures is { before_of links.new at ≡ to }
+    ensures kept { (i : ℕ) → i ≢ at → before_of links.new i ≡ before_of links.old i }
+    ensures after { (i : ℕ) → after_of links.new i ≡ after_of links.old i }
+    ensures len { length links.new ≡ length links.old }
+{
+    links[at as usize].before = to;
+}
+
+impl Links {
+    /// The places before and after one.
+    #[inline]
+    fn read(&self, at: u32) -> Link
+        requires { at < vec_len self.now.entries }
+        ensures after { result.after ≡ after_of self.now.entries.items at }
+        ensures before { result.before ≡ before_of self.now.entries.items at }
+    {
+        self.entries[at as usize]
+    }
+
+    /// Adds a place that leads to itself.
+    fn append(&mut self, place: u32) -> Result<(), AllocError>
+        requires { place ≡ vec_len self.old.entries }
+        ensures after { (i : ℕ) → after_of self.new.entries.items i
+            ≡ after_of self.old.entries.items i }
+        ensures before { (i : ℕ) → before_of self.new.entries.items i
+            ≡ before_of self.old.entries.items i }
+        ensures more { OnOk result (vec_len self.new.entries ≡ vec_len self.old.entries + 1) }
+        ensures same { OnErr result (vec_len self.new.entries ≡ vec_len self.old.entries) }
+    {
+        let link = Link {
+            before: place,
+            after: place,
+        };
+        match self.entries.push(link) {
+            Ok(()) => Ok(()),
+            Err(_) => Err(AllocError),
+        }
+    }
+
+    /// Lets one place come right after another.
+    #[inline]
+    fn join(&mut self, left: u32, right: u32)
+        requires left { left < vec_len self.old.entries }
+        requires right { right < vec_len self.old.entries }
+        ensures joins { JoinsAt self.old.entries.items self.new.entries.items left right }
+        ensures len { vec_len self.new.entries ≡ vec_len self.old.entries }
+    {
+        let entries = self.entries.as_mut_slice();
+        set_after(entries, left, right);
+        set_before(entries, right, left);
+    }
+}
+
+impl Line {
+    /// No place stands in it, and it takes no memory.
+    pub fn new(alloc: Global) -> Self
+        ensures { result ≡ record { size = 0; places = [] } }
+    {
+        Line {
+            links: Links {
+                entries: Vec::new(alloc),
+            },
+            len: 0,
+        }
+    }
+
+    /// Takes the memory for so many more places.
+    pub fn reserve(&mut self, additional: usize) -> Result<(), AllocError>
+        ensures { self.new ≡ self.old }
+    {
+        self.links.entries.reserve(additional)
+    }
+
+    /// Adds a place, which does not stand in it.
+    pub fn add_place(&mut self) -> Result<(), AllocError>
+        ensures ok { OnOk result (self.new ≡ record self.old { size = self.old.size + 1 }) }
+        ensures few { OnOk result (self.new.size ≤ most_places) }
+        ensures err { OnErr result (self.new ≡ self.old) }
+    {
+        let place = self.links.entries.len();
+        if place > u32::MAX as usize {
+            return Err(AllocError);
+        }
+        self.links.append(place as u32)
+    }
+
+    /// How many places stand in it.
+    #[inline]
+    pub fn len(&self) -> usize
+        ensures { result ≡ length self.now.places }
+    {
+        self.len
+    }
+
+    /// The place that came in first.
+    #[inline]
+    pub fn first(&self) -> Option<usize>
+        ensures { result ≡ slice_get self.now.places 0 }
+    {
+        if self.len == 0 {
+            return None;
+        }
+        Some(self.links.read(END).after as usize)
+    }
+
+    /// The place that came in last.
+    #[inline]
+    pub fn last(&self) -> Option<usize>
+        ensures { result ≡ slice_get self.now.places (length self.now.places - 1) }
+    {
+        if self.len == 0 {
+            return None;
+        }
+        Some(self.links.read(END).before as usize)
+    }
+
+    /// The place after one that stands in it.
+    #[inline]
+    pub fn next(&self, place: usize) -> Option<usize>
+        requires { (j : ℕ) × (slice_get self.now.places j ≡ Some place) }
+        ensures { (passed rest : List ℕ) → self.now.places ≡ passed ++ place ∷ rest
+            → result ≡ slice_get rest 0 }
+    {
+        let next = self.links.read(place as u32).after;
+        if next == END {
+            return None;
+        }
+        Some(next as usize)
+    }
+
+    /// Puts a place at the new end.
+    #[inline]
+    pub fn push(&mut self, place: usize)
+        requires within { place < self.old.size }
+        requires apart { 0 < place }
+        requires absent { Absent place self.old.places }
+        ensures { self.new ≡ record self.old { places = self.old.places ++ place ∷ [] } }
+    {
+        let last = self.links.read(END).before;
+        self.links.join(last, place as u32);
+        self.links.join(place as u32, END);
+        self.len += 1;
+    }
+
+    /// Takes a place out, wherever it stands in it, if it does.
+    #[inline]
+    pub fn unlink(&mut self, place: usize)
+        requires within { place < self.old.size }
+        requires apart { 0 < place }
+        ensures { self.new ≡ record self.old { places = without place self.old.places } }
+    {
+        let _links = &self.links;
+        let at = place as u32;
+        let link = self.links.read(at);
+        if link.after != at {
+            self.links.join(link.before, link.after);
+            self.links.join(at, at);
+            self.len -= 1;
+        }
+    }
+}
