@@ -142,6 +142,7 @@ impl<C, V, P> GetState<C, V, P> {
         ensures { (x' : X) × GetPolls X.GetHome X.Outside (as_nanos timeout) self.old.stage pool
             (record { answer = result; stage = self.new.stage }) x' × X.goes x' }
     {
+        // (the other answers stand in places of their own, so that one that is served at once stays in registers)
         match &self.stage {
             Stage::Fresh => {
                 self.stand(Stage::Done);
@@ -152,11 +153,15 @@ impl<C, V, P> GetState<C, V, P> {
                         pool.go();
                         Poll::Ready(Ok(taken))
                     }
-                    first => self.follow_with(pool, moment, timeout, first),
+                    first => {
+                        let answer = self.follow_with(pool, moment, timeout, first);
+                        answer
+                    }
                 }
             }
             Stage::Trying(_) | Stage::Waiting(_) | Stage::Checking(..) | Stage::Done => {
-                self.go_on(pool, timeout)
+                let answer = self.go_on(pool, timeout);
+                answer
             }
         }
     }

@@ -102,7 +102,11 @@ impl<C: Drop, L: Parts> GetHome<C> for Locked<C, L> {
                 let told = TryAnswer::Served(key, conn, grant);
                 Ok(FirstTry::Tried(get, hand_out(rest, told)))
             }
-            None => self.start_on(at),
+            None => {
+                // (in a place of its own, as in `GetState::poll_with`)
+                let first = self.start_on(at);
+                first
+            }
         }
     }
 
