@@ -3,8 +3,9 @@
 
     bench/bar.py [--built]
 
-With --built it takes what an earlier run built. It ends with 1 where one rose. Where the kit, cargo or valgrind is not at hand it says so in a line, and that is no failure. A count does not
-differ from run to run; what fell is told too, so that `bench/compare.py instructions` keeps it.
+With --built it takes what an earlier run built, `rt ci` among them. It ends with 1 where one rose. Where the kit, cargo or valgrind is not at
+hand it says so in a line, and that is no failure; nor is a count above one of another kit or processor. A count does not differ from run to run;
+what fell is told too, so that `bench/compare.py instructions` keeps it.
 """
 import shutil
 import sys
@@ -16,7 +17,8 @@ from measures import CORE_OF, LIVE_OF
 
 
 def main():
-    kept = figures.table(figures.read(), "instructions")
+    parts = figures.read()
+    kept, notes = figures.table(parts, "instructions"), " ".join(parts["instructions"][0])
     if shutil.which("valgrind") is None:
         programs.lacks("instructions (no valgrind)")
         return 0
@@ -34,7 +36,13 @@ def main():
         change = "as kept" if figure == before else f"{'ROSE' if figure > before else 'fell'} from {before}"
         print(f"{whose}, {what}: {figure}, {change}", flush=True)
         rose += figure > before
+    if not have:
+        programs.lacks("instructions (no program stands built)")
     print(f"bench/bar.py: {rose} rose" if rose else "bench/bar.py: none rose")
+    kit, processor = (programs.ran(["rt", "version"]) or "").strip(), programs.machine().rpartition(",")[0]
+    if rose and not (kit in notes and processor in notes):
+        print(f"bench/bar.py: no failure, as the figures are not of {kit} on {processor}")
+        return 0
     return 1 if rose else 0
 
 

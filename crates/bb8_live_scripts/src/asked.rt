@@ -4,6 +4,7 @@ use crate::shelf::Shelf;
 use bb8::{AddError, Memory, RunError, State};
 use bb8_trials::{
     Either, LentHandle, OwnedHandle, Polled, Refused, Server, ServerConnection, Unbuilt,
+    cancel_either, poll_either,
 };
 use futures::task::Poll;
 use futures::test::MockTask;
@@ -124,11 +125,11 @@ impl<P: LentHandle<Server> + Drop> Asked for Lent<P> {
     }
 
     fn poll(&self, task: &MockTask, get: &mut Self::Get) -> Polled<Self::Guard, Refused> {
-        self.first.poll_either(task, get)
+        poll_either(self.first, task, get)
     }
 
     fn cancel(&self, get: Self::Get) {
-        self.first.cancel_either(get);
+        cancel_either(self.first, get);
     }
 
     fn try_get(&self) -> Option<Result<Option<Self::Guard>, RunError<Refused>>> {

@@ -67,15 +67,6 @@ pub trait LentHandle<M: ManageConnection>: Copy {
 
     fn cancel_owned(self, get: Self::OwnedGet);
 
-    /// A poll of a get of either kind.
-    fn poll_either(
-        self,
-        task: &MockTask,
-        get: &mut Either<Self::Get, Self::OwnedGet>,
-    ) -> Polled<Either<Self::Guard, Self::OwnedGuard>, M::Error>;
-
-    fn cancel_either(self, get: Either<Self::Get, Self::OwnedGet>);
-
     fn dedicated_connection(self) -> Self::Dedicated;
 
     fn poll_dedicated(
@@ -141,32 +132,6 @@ impl<'a, G: Given<Runtime: Wait>, L: PoolParts> LentHandle<G::Manager> for &'a P
         Cancel::cancel(get);
     }
 
-    fn poll_either(
-        self,
-        task: &MockTask,
-        get: &mut Either<Self::Get, Self::OwnedGet>,
-    ) -> Polled<Either<Self::Guard, Self::OwnedGuard>, G::Error> {
-        match get {
-            Either::Lent(get) => match task.poll(get) {
-                Poll::Ready(Ok(guard)) => Poll::Ready(Ok(Either::Lent(guard))),
-                Poll::Ready(Err(error)) => Poll::Ready(Err(error)),
-                Poll::Pending => Poll::Pending,
-            },
-            Either::Owned(get) => match task.poll(get) {
-                Poll::Ready(Ok(guard)) => Poll::Ready(Ok(Either::Owned(guard))),
-                Poll::Ready(Err(error)) => Poll::Ready(Err(error)),
-                Poll::Pending => Poll::Pending,
-            },
-        }
-    }
-
-    fn cancel_either(self, get: Either<Self::Get, Self::OwnedGet>) {
-        match get {
-            Either::Lent(get) => Cancel::cancel(get),
-            Either::Owned(get) => Cancel::cancel(get),
-        }
-    }
-
     fn dedicated_connection(self) -> Self::Dedicated {
         Gets::dedicated_connection(self)
     }
@@ -189,6 +154,37 @@ impl<'a, G: Given<Runtime: Wait>, L: PoolParts> LentHandle<G::Manager> for &'a P
 
     fn state(self) -> State {
         PoolCalls::state(self)
+    }
+}
+
+/// A poll of a get of either kind.
+pub fn poll_either<M: ManageConnection, P: LentHandle<M>>(
+    pool: P,
+    task: &MockTask,
+    get: &mut Either<P::Get, P::OwnedGet>,
+) -> Polled<Either<P::Guard, P::OwnedGuard>, M::Error> {
+    match get {
+        Either::Lent(get) => match pool.poll(task, get) {
+            Poll::Ready(Ok(guard)) => Poll::Ready(Ok(Either::Lent(guard))),
+            Poll::Ready(Err(error)) => Poll::Ready(Err(error)),
+            Poll::Pending => Poll::Pending,
+        },
+        Either::Owned(get) => match pool.poll_owned(task, get) {
+            Poll::Ready(Ok(guard)) => Poll::Ready(Ok(Either::Owned(guard))),
+            Poll::Ready(Err(error)) => Poll::Ready(Err(error)),
+            Poll::Pending => Poll::Pending,
+        },
+    }
+}
+
+/// Cancels a get of either kind.
+pub fn cancel_either<M: ManageConnection, P: LentHandle<M>>(
+    pool: P,
+    get: Either<P::Get, P::OwnedGet>,
+) {
+    match get {
+        Either::Lent(get) => pool.cancel(get),
+        Either::Owned(get) => pool.cancel_owned(get),
     }
 }
 

@@ -12,4 +12,6 @@ pub use board::{
     ALWAYS, ARMED, Board, Course, Errors, LOOKS, Number, OPEN, OneTurn, Refused, SECOND, Server,
     ServerBuilder, ServerConnection, ServerPool, WAITING, builder_on, connection_on, server_on,
 };
-pub use handle::{Either, LentHandle, OwnedHandle, Polled, Unbuilt, sizes};
+pub use handle::{
+    Either, LentHandle, OwnedHandle, Polled, Unbuilt, cancel_either, poll_either, sizes,
+};

@@ -9,7 +9,7 @@ use bb8_trials::hostile::{
     Counted, GetCounts, Harness, HostileClock, HostileDriver, HostileManager, HostilePool,
     RandomSource,
 };
-use bb8_trials::{Either, LentHandle, Refused};
+use bb8_trials::{Either, LentHandle, Refused, cancel_either, poll_either};
 use futures::task::Poll;
 use futures::test::MockTask;
 use std::alloc::Global;
@@ -151,7 +151,7 @@ impl<P: LentHandle<HostileManager> + Drop, R: Runtime, L: PoolParts> Field<'_, P
         if !polled {
             told.gets.begun = told.gets.begun.saturating_add(1);
         }
-        match self.pool.poll_either(task, &mut get) {
+        match poll_either(self.pool, task, &mut get) {
             Poll::Pending => {
                 let polled = true;
                 let _ = self.gets.push(Going { get, polled });
@@ -191,7 +191,7 @@ impl<P: LentHandle<HostileManager> + Drop, R: Runtime, L: PoolParts> Field<'_, P
             self.told.gets.cancelled = self.told.gets.cancelled.saturating_add(1);
         }
         if cancels {
-            self.pool.cancel_either(get);
+            cancel_either(self.pool, get);
         }
     }
 
@@ -294,6 +294,17 @@ fn plays<P: LentHandle<HostileManager> + Drop, R: Runtime + Abort, L: PoolParts>
     Ok(told)
 }
 
+/// A pool makes its steps, with a driver of its own.
+fn plays_driven<R: Runtime + Abort, L: PoolParts>(
+    rt: &R,
+    pool: &HostilePool<R, L>,
+    harness: &Harness,
+) -> Result<Tally, Fail> {
+    let task = MockTask::new(rt)?;
+    let driver = Driver::new(pool)?;
+    plays(rt, &task, pool, driver, harness)
+}
+
 /// A pool of this seed makes its steps, and is dropped: then nothing is left.
 fn polls_at_random<R: Runtime + Abort, L: PoolParts>(
     rt: R,
@@ -308,7 +319,6 @@ fn polls_at_random<R: Runtime + Abort, L: PoolParts>(
           reaper_rate = 300;
         }) L.name L.parts L.settings }
 {
-    let task = MockTask::new(&rt)?;
     let harness = Harness::new(rt.alloc(), seed, 8, 100)?;
     let pool: HostilePool<R, L> = Builder::new()
         .max_size(6)
@@ -318,8 +328,7 @@ fn polls_at_random<R: Runtime + Abort, L: PoolParts>(
         .error_sink(harness.sink()?)
         .connection_customizer(harness.customizer()?)
         .build_unchecked(harness.manager()?, harness.clock()?, rt, blank)?;
-    let driver = Driver::new(&pool)?;
-    let told = plays(&rt, &task, &pool, driver, &harness)?;
+    let told = plays_driven(&rt, &pool, &harness)?;
     drop(pool);
     assert!(&rt; harness.gauges.are_empty(), "pool {seed}");
     Ok(told)
