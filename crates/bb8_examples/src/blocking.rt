@@ -1,9 +1,9 @@
 //! A manager over a client that blocks: each call of it takes the thread that polls.
 use bb8::{
-    Builder, MachineClock, ManageConnection, Moment, NopCustomizer, Pool, PoolCalls, PoolParts,
-    PrintingSink, RunError, Runtime, Service,
+    Builder, MachineClock, NopCustomizer, Pool, PoolCalls, PoolParts, PrintingSink, RunError,
+    Runtime, Service,
 };
-use futures::task::Poll;
+use bb8_blocking::{Blocking, BlockingManager};
 use std::thread::Threads;
 use std::time::{Clock, Duration};
 use std::{fmt, thread};
@@ -43,36 +43,23 @@ impl<R> Files<R> {
     }
 }
 
-impl<R: Clock + Send + Sync + Drop + 'static> ManageConnection for Files<R> {
+impl<R: Clock + Send + Sync + Drop + 'static> BlockingManager for Files<R> {
     type Connection = File;
 
     type Error = Down;
 
-    type Connecting = ();
-
-    type Checking = ();
-
-    fn connect(&self) {}
-
     /// Blocks the driver's thread: other openings and the reaper wait meanwhile, gets do not but for what they would be opened.
-    fn poll_connect(&self, _connecting: &mut (), _moment: Moment) -> Poll<Result<File, Down>> {
+    fn connect(&self) -> Result<File, Down> {
         thread::sleep(&self.rt, Duration::from_millis(CALL_MILLIS));
         if self.is_down {
-            return Poll::Ready(Err(Down));
+            return Err(Down);
         }
-        Poll::Ready(Ok(File { reads: 0 }))
+        Ok(File { reads: 0 })
     }
 
-    fn is_valid(&self, _file: &mut File) {}
-
     /// Asks nobody: a check that blocked would hold its get past the deadline. What broke is found at use, and told by `has_broken`.
-    fn poll_valid(
-        &self,
-        _file: &mut File,
-        _checking: &mut (),
-        _moment: Moment,
-    ) -> Poll<Result<(), Down>> {
-        Poll::Ready(Ok(()))
+    fn is_valid(&self, _file: &mut File) -> Result<(), Down> {
+        Ok(())
     }
 
     fn has_broken(&self, file: &mut File) -> bool {
@@ -87,10 +74,15 @@ struct Reading<R> {
 }
 
 /// A pool of files, whose errors go to this sink.
-pub type FilePool<S, R, L> = Pool<Files<R>, S, NopCustomizer, MachineClock<R>, R, L>;
+pub type FilePool<S, R, L> = Pool<Blocking<Files<R>>, S, NopCustomizer, MachineClock<R>, R, L>;
 
-impl<R: Runtime + Eprint> Service<Files<R>, PrintingSink<R>, NopCustomizer, MachineClock<R>, R>
-    for Reading<R> {
+impl<R: Runtime + Eprint> Service<
+    Blocking<Files<R>>,
+    PrintingSink<R>,
+    NopCustomizer,
+    MachineClock<R>,
+    R,
+> for Reading<R> {
     type Told = u64;
 
     type Outcome = u64;
@@ -125,5 +117,5 @@ pub fn reads<R: Runtime + Threads + Eprint>(rt: R, files: Files<R>) -> Result<u6
         .min_idle(Some(1))
         .connection_timeout(Duration::from_secs(1))
         .error_sink(PrintingSink { rt, name: "files" })
-        .serve(files, MachineClock(rt), rt, 4, &Reading { rt })
+        .serve(Blocking(files), MachineClock(rt), rt, 4, &Reading { rt })
 }

@@ -4,6 +4,7 @@ use bb8::{
     Builder, MachineClock, NopCustomizer, NopErrorSink, PoolCalls, PoolParts, RunError, Runtime,
     Service,
 };
+use bb8_blocking::Blocking;
 use std::thread::Threads;
 use std::time::Duration;
 
@@ -22,7 +23,8 @@ pub enum Ended {
 #[derive(Drop)]
 struct Twice;
 
-impl<R: Runtime> Service<Files<R>, NopErrorSink, NopCustomizer, MachineClock<R>, R> for Twice {
+impl<R: Runtime> Service<Blocking<Files<R>>, NopErrorSink, NopCustomizer, MachineClock<R>, R>
+    for Twice {
     type Told = ();
 
     type Outcome = (Ended, Ended);
@@ -60,5 +62,5 @@ pub fn ends<R: Runtime + Threads>(rt: R) -> Result<(Ended, Ended), RunError<Down
     Builder::new()
         .max_size(1)
         .connection_timeout(Duration::from_millis(100))
-        .serve(Files::up(rt), MachineClock(rt), rt, 0, &Twice)
+        .serve(Blocking(Files::up(rt)), MachineClock(rt), rt, 0, &Twice)
 }

@@ -4,6 +4,7 @@ use bb8::{
     Builder, Config, MachineClock, NopCustomizer, NopErrorSink, PoolCalls, PoolParts, RunError,
     Runtime, Service,
 };
+use bb8_blocking::Blocking;
 use std::thread::Threads;
 
 /// Settings as they might be read: the most connections, and how many are to be idle.
@@ -13,7 +14,8 @@ pub const SETTINGS: [(u32, u32); 3] = [(3, 1), (2, 5), (0, 0)];
 #[derive(Drop)]
 struct GetsOnce;
 
-impl<R: Runtime> Service<Files<R>, NopErrorSink, NopCustomizer, MachineClock<R>, R> for GetsOnce {
+impl<R: Runtime> Service<Blocking<Files<R>>, NopErrorSink, NopCustomizer, MachineClock<R>, R>
+    for GetsOnce {
     type Told = bool;
 
     type Outcome = usize;
@@ -44,5 +46,5 @@ pub fn served<R: Runtime + Threads>(
     if !Config::from(&builder).is_lawful() {
         return None;
     }
-    Some(builder.serve(Files::up(rt), MachineClock(rt), rt, 4, &GetsOnce))
+    Some(builder.serve(Blocking(Files::up(rt)), MachineClock(rt), rt, 4, &GetsOnce))
 }

@@ -1,9 +1,10 @@
 //! How a manager is tested: alone, and under a pool in one thread, on a clock that the test sets.
 use crate::blocking::{Down, Files};
 use bb8::{
-    Builder, Driver, DriverCalls, Gets, ManageConnection, Moment, NopCustomizer, NopErrorSink,
-    Pool, PoolCalls, PoolParts, Runtime, SetClock, User,
+    Builder, Driver, DriverCalls, Gets, Moment, NopCustomizer, NopErrorSink, Pool, PoolCalls,
+    PoolParts, Runtime, SetClock, User,
 };
+use bb8_blocking::{Blocking, BlockingManager};
 use futures::task::Poll;
 use futures::test::MockTask;
 use std::test::Fail;
@@ -11,9 +12,7 @@ use std::test::Fail;
 #[test]
 fn server_that_is_down_refuses(rt: HostRuntime) -> Result<(), Fail> {
     let files = Files { rt, is_down: true };
-    files.connect();
-    let polled = files.poll_connect(&mut (), Moment(0));
-    assert!(&rt; matches!(polled, Poll::Ready(Err(Down))));
+    assert!(&rt; matches!(files.connect(), Err(Down)));
     Ok(())
 }
 
@@ -23,14 +22,14 @@ struct WaitingGet {
     task: MockTask,
 }
 
-impl<R: Runtime> User<Files<R>, NopErrorSink, NopCustomizer, SetClock, R> for WaitingGet {
+impl<R: Runtime> User<Blocking<Files<R>>, NopErrorSink, NopCustomizer, SetClock, R> for WaitingGet {
     /// Whether it was so.
     type Outcome = bool;
 
     fn run<L: PoolParts>(
         &self,
-        pool: &Pool<Files<R>, NopErrorSink, NopCustomizer, SetClock, R, L>,
-        driver: &mut Driver<Files<R>, NopErrorSink, NopCustomizer, SetClock, R, L>,
+        pool: &Pool<Blocking<Files<R>>, NopErrorSink, NopCustomizer, SetClock, R, L>,
+        driver: &mut Driver<Blocking<Files<R>>, NopErrorSink, NopCustomizer, SetClock, R, L>,
     ) -> bool {
         let mut get = pool.get();
         if !self.task.poll(&mut get).is_pending() {
@@ -50,7 +49,7 @@ fn turn_opens_for_a_get(rt: HostRuntime) -> Result<(), Fail> {
     };
     let was_served = Builder::new()
         .max_size(2)
-        .with_pool(Files::up(rt), clock, rt, &waits)?;
+        .with_pool(Blocking(Files::up(rt)), clock, rt, &waits)?;
     assert!(&rt; was_served);
     Ok(())
 }

@@ -25,6 +25,7 @@ mod waiting;
 mod waking;
 
 use bb8::{Builder, Clock, MachineClock, Memory, Moment, PoolCalls, PoolParts, Runtime, SetClock};
+use bb8_blocking::Blocking;
 use manager::{NumberManager, NumberPool, StillClock};
 use rounds::{blocked, polled, polled_ready, shared};
 use std::marker::Brand;
@@ -83,7 +84,7 @@ fn full<K: Clock, R: Runtime, L: PoolParts>(
     let pool: NumberPool<K, R, L> = Builder::new()
         .max_size(size)
         .test_on_check_out(check)
-        .build_unchecked(NumberManager, clock, rt, blank)?;
+        .build_unchecked(Blocking(NumberManager), clock, rt, blank)?;
     for number in 0..size {
         let _ = pool.add(number as u64);
     }

@@ -1,9 +1,7 @@
 //! The manager and the pool that are measured.
 
-use bb8::{
-    Clock, GetFuture, ManageConnection, Moment, NopCustomizer, NopErrorSink, Pool, PooledConnection,
-};
-use futures::task::Poll;
+use bb8::{Clock, GetFuture, Moment, NopCustomizer, NopErrorSink, Pool, PooledConnection};
+use bb8_blocking::{Blocking, BlockingManager};
 use std::error::Error;
 use std::fmt;
 
@@ -18,12 +16,12 @@ impl Clock for StillClock {
 }
 
 /// A pool whose connections are numbers.
-pub type NumberPool<K, R, L> = Pool<NumberManager, NopErrorSink, NopCustomizer, K, R, L>;
+pub type NumberPool<K, R, L> = Pool<Blocking<NumberManager>, NopErrorSink, NopCustomizer, K, R, L>;
 
 /// A get of such a pool.
 pub type NumberGet<'a, K, R, L> = GetFuture<
     'a,
-    NumberManager,
+    Blocking<NumberManager>,
     NopErrorSink,
     NopCustomizer,
     K,
@@ -34,7 +32,7 @@ pub type NumberGet<'a, K, R, L> = GetFuture<
 /// What guards a connection of such a pool.
 pub type NumberGuard<'a, K, R, L> = PooledConnection<
     'a,
-    NumberManager,
+    Blocking<NumberManager>,
     NopErrorSink,
     NopCustomizer,
     K,
@@ -58,30 +56,17 @@ impl fmt::Display for Never {
 
 impl Error for Never {}
 
-impl ManageConnection for NumberManager {
+impl BlockingManager for NumberManager {
     type Connection = u64;
 
     type Error = Never;
 
-    type Connecting = ();
-
-    type Checking = ();
-
-    fn connect(&self) {}
-
-    fn poll_connect(&self, _connecting: &mut (), _moment: Moment) -> Poll<Result<u64, Never>> {
-        Poll::Ready(Ok(7))
+    fn connect(&self) -> Result<u64, Never> {
+        Ok(7)
     }
 
-    fn is_valid(&self, _connection: &mut u64) {}
-
-    fn poll_valid(
-        &self,
-        _connection: &mut u64,
-        _checking: &mut (),
-        _moment: Moment,
-    ) -> Poll<Result<(), Never>> {
-        Poll::Ready(Ok(()))
+    fn is_valid(&self, _connection: &mut u64) -> Result<(), Never> {
+        Ok(())
     }
 
     fn has_broken(&self, _connection: &mut u64) -> bool {

@@ -5,6 +5,7 @@ use bb8::{
     Builder, Clock as PoolClock, MachineClock, NopCustomizer, NopErrorSink, PoolCalls, PoolParts,
     Runtime, Service,
 };
+use bb8_blocking::Blocking;
 use std::sync::atomic::{AtomicU64, Ordering};
 use std::thread;
 use std::thread::Threads;
@@ -20,7 +21,7 @@ struct Turns<R> {
     returned: AtomicU64,
 }
 
-impl<R: Runtime> Service<NumberManager, NopErrorSink, NopCustomizer, MachineClock<R>, R>
+impl<R: Runtime> Service<Blocking<NumberManager>, NopErrorSink, NopCustomizer, MachineClock<R>, R>
     for Turns<R> {
     /// The nanoseconds from a return to the answer, of each get that waited for it.
     type Told = Option<Vec<u64>>;
@@ -88,6 +89,6 @@ pub fn woken<R: Runtime + Threads>(rt: R, rounds: u64) -> Option<(u64, u64)> {
         .max_size(1)
         .min_idle(Some(1))
         .test_on_check_out(false)
-        .serve(NumberManager, MachineClock(rt), rt, 2, &turns)
+        .serve(Blocking(NumberManager), MachineClock(rt), rt, 2, &turns)
         .ok()?
 }

@@ -1,6 +1,5 @@
 //! The connections of the service: SQLite databases, each in memory of its own.
-use bb8::{ManageConnection, Moment};
-use futures::task::Poll;
+use bb8_blocking::BlockingManager;
 use sqlite::{Connection, Error, MemStore, params};
 use std::alloc::Global;
 
@@ -32,16 +31,6 @@ impl Sums {
     }
 }
 
-/// Opens a database, with a table that takes rows of a positive amount.
-fn open(alloc: Global) -> Result<Database, Error> {
-    let mut database = Connection::open_in_memory(alloc)?;
-    database.execute(
-        "CREATE TABLE visit (id INTEGER PRIMARY KEY, amount INTEGER NOT NULL CHECK (amount > 0)) STRICT",
-        &[],
-    )?;
-    Ok(database)
-}
-
 /// Writes a row in a transaction. Where the table refuses the row, the transaction is left open.
 pub fn write(database: &mut Database, amount: u32) -> Result<(), Error> {
     database.execute("BEGIN", &[])?;
@@ -67,31 +56,24 @@ pub struct Databases {
     pub alloc: Global,
 }
 
-impl ManageConnection for Databases {
+impl BlockingManager for Databases {
     type Connection = Database;
 
     type Error = Error;
 
-    type Connecting = ();
-
-    type Checking = ();
-
-    fn connect(&self) {}
-
-    fn poll_connect(&self, _connecting: &mut (), _moment: Moment) -> Poll<Result<Database, Error>> {
-        Poll::Ready(open(self.alloc))
+    /// Opens a database, with a table that takes rows of a positive amount.
+    fn connect(&self) -> Result<Database, Error> {
+        let mut database = Connection::open_in_memory(self.alloc)?;
+        database.execute(
+            "CREATE TABLE visit (id INTEGER PRIMARY KEY, amount INTEGER NOT NULL CHECK (amount > 0)) STRICT",
+            &[],
+        )?;
+        Ok(database)
     }
 
-    fn is_valid(&self, _database: &mut Database) {}
-
     /// A database is valid that answers a query.
-    fn poll_valid(
-        &self,
-        database: &mut Database,
-        _checking: &mut (),
-        _moment: Moment,
-    ) -> Poll<Result<(), Error>> {
-        Poll::Ready(database.query_row("SELECT 1", &[]).map(|_| ()))
+    fn is_valid(&self, database: &mut Database) -> Result<(), Error> {
+        database.query_row("SELECT 1", &[]).map(|_| ())
     }
 
     /// A database is broken whose transaction was left open.

@@ -8,13 +8,14 @@ mod service;
 use crate::databases::Databases;
 use crate::service::{CONNECTIONS, SharedDatabases, THREADS};
 use bb8::{Builder, MachineClock};
+use bb8_blocking::Blocking;
 use std::io;
 use std::process::ExitCode;
 
 /// Runs the service over its pool, and prints what came of it, which is the same whatever the schedule.
 fn main(rt: HostRuntime) -> io::Result<ExitCode> {
     let service = SharedDatabases { rt };
-    let manager = Databases { alloc: rt.alloc() };
+    let manager = Blocking(Databases { alloc: rt.alloc() });
     let outcome = Builder::new()
         .max_size(CONNECTIONS)
         .min_idle(Some(2))

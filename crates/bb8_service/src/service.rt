@@ -1,8 +1,10 @@
 //! What the service does with its pool.
 use crate::databases::{Databases, Sums, held, write};
 use bb8::{
-    MachineClock, NopCustomizer, NopErrorSink, Pool, PoolCalls, PoolParts, Runtime, Service, State,
+    MachineClock, NopCustomizer, NopErrorSink, PlainPool, PoolCalls, PoolParts, Runtime, Service,
+    State,
 };
+use bb8_blocking::Blocking;
 
 /// How many threads share the pool.
 pub const THREADS: usize = 4;
@@ -17,7 +19,7 @@ const ROUNDS: u32 = 25;
 const AMOUNTS: u32 = 5;
 
 /// The pool of the service.
-type DatabasePool<R, L> = Pool<Databases, NopErrorSink, NopCustomizer, MachineClock<R>, R, L>;
+type DatabasePool<R, L> = PlainPool<Blocking<Databases>, R, L>;
 
 /// Threads that write to the databases of one pool.
 #[derive(Drop)]
@@ -26,7 +28,7 @@ pub struct SharedDatabases<R> {
     pub rt: R,
 }
 
-impl<R: Runtime> Service<Databases, NopErrorSink, NopCustomizer, MachineClock<R>, R>
+impl<R: Runtime> Service<Blocking<Databases>, NopErrorSink, NopCustomizer, MachineClock<R>, R>
     for SharedDatabases<R> {
     /// None where a get was not served, or a database could not be read.
     type Told = Option<Sums>;

@@ -7,6 +7,7 @@ mod service;
 use crate::manager::Manager;
 use crate::service::Questions;
 use bb8::{Builder, MachineClock};
+use bb8_blocking::Blocking;
 use std::io;
 use std::process::ExitCode;
 
@@ -14,9 +15,10 @@ use std::process::ExitCode;
 const THREADS: usize = 4;
 
 fn main(rt: HostRuntime) -> io::Result<ExitCode> {
+    let manager = Blocking(Manager);
     let outcome = Builder::new()
         .max_size(2)
-        .serve(Manager, MachineClock(rt), rt, THREADS, &Questions);
+        .serve(manager, MachineClock(rt), rt, THREADS, &Questions);
     match outcome {
         Ok(answered) => {
             println!(rt; "{answered} questions answered")?;
