@@ -5,7 +5,7 @@ use Rattle.bb8_types.specs.declared.api.errors.RunError.{RunError}
 use Rattle.bb8_types.specs.Settings.{settings_of}
 use Rattle.bb8_gets.specs.declared.home.Taken.{Taken}
 use Rattle.bb8_lock.specs.declared.locked.Part.{Part}
-use Rattle.bb8_lock.specs.Linked.{MakesGuard, OwnLeaves, OwnTakesNow, OwnWaits}
+use Rattle.bb8_lock.specs.Scope.{MakesGuard, OwnLeaves, OwnTakesNow, OwnWaits}
 use Rattle.bb8_lock.specs.declared.locked.Parts.{Ghosts as PartsOf}
 use Rattle.bb8_lock.specs.Words.{ManagerOf, DebugOf, SinkOf, CustomizerOf, ClockOf}
 use Rattle.bb8.specs.declared.handles.Holding.{Holding}

@@ -23,7 +23,7 @@ use Rattle.bb8.specs.declared.building.Plan.{Plan}
 use Rattle.bb8.specs.declared.pool.Pool.{Pool}
 use Rattle.bb8.specs.Choices.{Choices}
 use Rattle.bb8_lock.specs.Chains.{Answers}
-use Rattle.bb8_lock.specs.Linked.{OwnLeaves}
+use Rattle.bb8_lock.specs.Scope.{OwnLeaves}
 use Rattle.bb8_lock.specs.Opening.{OwnRounds, OwnDropsTasks}
 use Rattle.bb8_lock.specs.declared.locked.Parts.{Ghosts as PartsOf}
 use Rattle.bb8_lock.specs.Words.{ManagerOf, DebugOf, SinkOf, CustomizerOf, ClockOf}

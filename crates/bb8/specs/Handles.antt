@@ -5,7 +5,7 @@ use Rattle.bb8_types.specs.declared.api.errors.RunError.{RunError}
 use Rattle.bb8_types.specs.declared.api.errors.RunError.TheVariants as errors
 use Rattle.bb8_lock.specs.declared.section_home.Joining.{Joining}
 use Rattle.bb8_lock.specs.declared.section_home.Joining.TheVariants as joining
-use Rattle.bb8_lock.specs.Linked.{OwnJoins}
+use Rattle.bb8_lock.specs.Scope.{OwnJoins}
 use Rattle.bb8.specs.declared.handles.Holding.{Holding}
 use Rattle.bb8.specs.declared.pool.Pool.{Pool}
 use Rattle.bb8_lock.specs.declared.shared.Shared.{Shared}

@@ -16,7 +16,7 @@ use Rattle.bb8.specs.declared.owned.Owning.TheVariants.{Refused, Open}
 use Rattle.bb8.specs.declared.pool.Pool.{Pool}
 use Rattle.bb8.specs.Handles.{IsHandleOf}
 use Rattle.bb8_lock.specs.Chains.{Answers}
-use Rattle.bb8_lock.specs.Linked.{OwnCancelsAndLeaves, OwnLeaves, OwnPolls}
+use Rattle.bb8_lock.specs.Scope.{OwnCancelsAndLeaves, OwnLeaves, OwnPolls}
 use Rattle.bb8_lock.specs.declared.locked.Parts.{Ghosts as PartsOf}
 use Rattle.bb8_lock.specs.Words.{ManagerOf, DebugOf, SinkOf, CustomizerOf, ClockOf}
 

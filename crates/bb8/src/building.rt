@@ -11,7 +11,7 @@ use bb8_core::api::{
 };
 use bb8_core::internals::Grant;
 use bb8_lock::{
-    Belled, Given, Links, Locks, NewPool, Parts, SectionHome, Shared, These, begin_pool,
+    Belled, Given, Locks, NewPool, OpensScope, Parts, SectionHome, Shared, These, begin_pool,
 };
 pub use bb8_tasks::{Built, Replenish, Round, Site, Tasks};
 use futures::Future;
@@ -189,7 +189,7 @@ impl<G: Given, L: Parts> EndsSite for Building<G, L> {
             Site::Planned(plan) => drop(plan),
             Site::Opening(pool, tasks) => {
                 let shared = &*pool.shared;
-                tasks.let_go(&mut shared.linked());
+                tasks.let_go(&mut shared.scope());
             }
             Site::Done => {}
         }
@@ -244,7 +244,7 @@ impl<G: Given, L: Parts> OpensFirst for Pool<G, L> {
         ensures { Sweeps PoolRounds self tasks result.answer result.site }
     {
         let shared = &*self.shared;
-        let round = tasks.round(&mut shared.linked(), &shared.config);
+        let round = tasks.round(&mut shared.scope(), &shared.config);
         match round {
             Round::Failed(error) => Built {
                 answer: Poll::Ready(Err(RunError::User(error))),

@@ -4,7 +4,7 @@ ghost use Rattle.std.specs.Arc.{arc_value};
 
 use crate::pool::Pool;
 use bb8_core::api::RunError;
-use bb8_lock::{Given, Handle, Joining, Links, Parts, Shared, join};
+use bb8_lock::{Given, Handle, Joining, OpensScope, Parts, Shared, join};
 use std::alloc::Global;
 use std::sync::Arc;
 
@@ -33,7 +33,7 @@ impl<'a, G: Given, L: Parts> Joins for &'a Pool<G, L> {
             return Err(RunError::Memory);
         };
         let pool = &*self.shared;
-        match join(&mut pool.linked()) {
+        match join(&mut pool.scope()) {
             Joining::Joined(handle) => Ok(Holding { shared, handle }),
             Joining::Exhausted | Joining::Unfit => Err(RunError::Exhausted),
         }

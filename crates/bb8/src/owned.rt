@@ -6,7 +6,7 @@ use crate::handles::Holding;
 use crate::pool::Cancel;
 use bb8_core::api::RunError;
 use bb8_gets::{GetState, Taken};
-use bb8_lock::{Given, Links, Part, Parts, cancel_and_leave, give_back_and_leave, leave};
+use bb8_lock::{Given, OpensScope, Part, Parts, cancel_and_leave, give_back_and_leave, leave};
 use futures::Future;
 use futures::task::{Context, Poll};
 use std::fmt::{Debug, Formatter};
@@ -65,7 +65,7 @@ pub(crate) trait Owns {
 }
 
 impl<G: Given, L: Parts> Owns for Holding<G, L> {
-    ghost use Rattle.bb8_lock.specs.Linked.{OwnCancels, OwnCancelsAndLeaves, OwnLeaves, OwnPolls, OwnReturnsAndLeaves};
+    ghost use Rattle.bb8_lock.specs.Scope.{OwnCancels, OwnCancelsAndLeaves, OwnLeaves, OwnPolls, OwnReturnsAndLeaves};
 
     type Get = GetState<G::Connection, G::Checking, Part<L>>;
 
@@ -77,14 +77,14 @@ impl<G: Given, L: Parts> Owns for Holding<G, L> {
         ensures { OwnPolls (arc_value self.now.shared) get.old.stage result get.new.stage }
     {
         let shared = &*self.shared;
-        get.poll_with(shared.linked(), shared.config.connection_timeout)
+        get.poll_with(shared.scope(), shared.config.connection_timeout)
     }
 
     fn let_go(&self, get: Self::Get)
         ensures { OwnCancels (arc_value self.now.shared) get.stage }
     {
         let shared = &*self.shared;
-        get.cancel_with(shared.linked());
+        get.cancel_with(shared.scope());
     }
 
     fn cancel_owned(self, get: Self::Get)
@@ -92,7 +92,7 @@ impl<G: Given, L: Parts> Owns for Holding<G, L> {
     {
         let Holding { shared, handle } = self;
         let pool = &*shared;
-        cancel_and_leave(&mut pool.linked(), get, handle);
+        cancel_and_leave(&mut pool.scope(), get, handle);
     }
 
     fn give_back_owned(self, taken: Self::Taken)
@@ -100,7 +100,7 @@ impl<G: Given, L: Parts> Owns for Holding<G, L> {
     {
         let Holding { shared, handle } = self;
         let pool = &*shared;
-        give_back_and_leave(&mut pool.linked(), taken, handle);
+        give_back_and_leave(&mut pool.scope(), taken, handle);
     }
 
     fn leave_owned(self)
@@ -108,7 +108,7 @@ impl<G: Given, L: Parts> Owns for Holding<G, L> {
     {
         let Holding { shared, handle } = self;
         let pool = &*shared;
-        leave(&mut pool.linked(), handle);
+        leave(&mut pool.scope(), handle);
     }
 }
 
@@ -241,7 +241,7 @@ impl<G: Given<Runtime: Wait>, L: Parts> Future for GetOwnedFuture<G, L> {
 }
 
 impl<G: Given, L: Parts> Drop for OwnedConnection<G, L> {
-    ghost use Rattle.bb8_lock.specs.Linked.{OwnReturnsAndLeaves};
+    ghost use Rattle.bb8_lock.specs.Scope.{OwnReturnsAndLeaves};
 
     fn drop(self)
         ensures { OwnReturnsAndLeaves (arc_value self.holding.shared) self.taken }

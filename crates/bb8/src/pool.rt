@@ -5,7 +5,7 @@ ghost use Rattle.std.specs.Duration.{as_nanos};
 ghost use Rattle.bb8_types.specs.declared.grants.Grant.{Grant as GrantOf};
 ghost use Rattle.bb8_types.specs.Settings.{settings_of, default_settings, is_lawful};
 ghost use Rattle.bb8_lock.specs.Parts.{HasBegun};
-ghost use Rattle.bb8_lock.specs.Linked.{OwnAdds, OwnShows};
+ghost use Rattle.bb8_lock.specs.Scope.{OwnAdds, OwnShows};
 
 use crate::Builder;
 use crate::building::{MakesPool, Plan};
@@ -19,7 +19,8 @@ use bb8_core::api::{
 };
 use bb8_gets::{GetState, Taken};
 use bb8_lock::{
-    Given, Handle, Links, Locks, Part, Parts, Shared, These, add, give_back, state, take_now, wait,
+    Given, Handle, Locks, OpensScope, Part, Parts, Shared, These, add, give_back, state, take_now,
+    wait,
 };
 use std::alloc::Global;
 use std::fmt;
@@ -296,7 +297,7 @@ impl<'a, G: Given<Runtime: Wait>, L: Parts> PoolCalls for &'a Pool<G, L> {
         ensures { GetsAtOnce self.now result }
     {
         let shared = &*self.shared;
-        let answer = take_now(&mut shared.linked(), shared.config.connection_timeout);
+        let answer = take_now(&mut shared.scope(), shared.config.connection_timeout);
         match answer {
             Ok(Some(taken)) => Ok(Some(PooledConnection {
                 shared,
@@ -321,7 +322,7 @@ impl<'a, G: Given<Runtime: Wait>, L: Parts> PoolCalls for &'a Pool<G, L> {
         ensures { WaitsForGet (as_nanos timeout) self.now result }
     {
         let shared = &*self.shared;
-        let answer = wait(&mut shared.linked(), &shared.rt, timeout);
+        let answer = wait(&mut shared.scope(), &shared.rt, timeout);
         match answer {
             Ok(taken) => Ok(PooledConnection {
                 shared,
@@ -341,7 +342,7 @@ impl<'a, G: Given<Runtime: Wait>, L: Parts> PoolCalls for &'a Pool<G, L> {
         };
         let shared = &*holding.shared;
         let answer = wait(
-            &mut shared.linked(),
+            &mut shared.scope(),
             &shared.rt,
             shared.config.connection_timeout,
         );
@@ -358,7 +359,7 @@ impl<'a, G: Given<Runtime: Wait>, L: Parts> PoolCalls for &'a Pool<G, L> {
         ensures { OwnAdds (arc_value self.now.shared) conn result }
     {
         let shared = &*self.shared;
-        add(&mut shared.linked(), conn)
+        add(&mut shared.scope(), conn)
     }
 
     fn state(self) -> State
@@ -367,7 +368,7 @@ impl<'a, G: Given<Runtime: Wait>, L: Parts> PoolCalls for &'a Pool<G, L> {
         ensures idle { result.idle_connections ≤ result.connections }
     {
         let shared = &*self.shared;
-        state(&mut shared.linked())
+        state(&mut shared.scope())
     }
 
     fn try_clone(self) -> Result<Pool<G, L>, RunError<G::Error>>
@@ -405,7 +406,7 @@ impl<M: ManageConnection, R: Locks, L: Parts> Pool<
 }
 
 impl<G: Given, L: Parts> Drop for Pool<G, L> {
-    ghost use Rattle.bb8_lock.specs.Linked.{OwnLeaves};
+    ghost use Rattle.bb8_lock.specs.Scope.{OwnLeaves};
 
     fn drop(self)
         ensures { OwnLeaves (arc_value self.shared) }
@@ -423,7 +424,7 @@ impl<G: Given, L: Parts> Debug for Pool<G, L> {
 }
 
 impl<G: Given, L: Parts> Drop for PooledConnection<'_, G, L> {
-    ghost use Rattle.bb8_lock.specs.Linked.{OwnReturns};
+    ghost use Rattle.bb8_lock.specs.Scope.{OwnReturns};
 
     fn drop(self)
         ensures { OwnReturns self.entry.shared.now self.entry.taken }
@@ -433,7 +434,7 @@ impl<G: Given, L: Parts> Drop for PooledConnection<'_, G, L> {
             taken,
             lends: _,
         } = self;
-        give_back(&mut shared.linked(), taken);
+        give_back(&mut shared.scope(), taken);
     }
 }
 

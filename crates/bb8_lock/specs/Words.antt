@@ -22,7 +22,7 @@ pub use Rattle.bb8_core.specs.StepAnswers.{add_told, begin_told, checked_err_tol
 pub use Rattle.bb8_lock.specs.declared.locked.Locked.{Locked}
 pub use Rattle.bb8_lock.specs.declared.locked.Part.{Part}
 pub use Rattle.bb8_lock.specs.declared.locked.Parts.{Ghosts as PartsOf}
-pub use Rattle.bb8_lock.specs.declared.link.LinkHome.{LinkHome}
+pub use Rattle.bb8_lock.specs.declared.scope.LockScope.{LockScope}
 pub use Rattle.bb8_lock.specs.declared.shared.Shared.{Shared}
 pub use Rattle.bb8_gets.specs.Homes.{StepsIn}
 pub use Rattle.bb8_gets.specs.Told.{in_core, tried_told}
