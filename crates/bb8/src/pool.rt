@@ -11,8 +11,8 @@ use crate::Builder;
 use crate::building::{MakesPool, Plan};
 use crate::dedicated::{Dedicated, DedicatedFuture};
 use crate::get::GetFuture;
-use crate::handles::{Holding, Joins};
-use crate::owned::{GetOwnedFuture, OwnedConnection, Owning, Owns};
+use crate::handles::{BareHandle, Joins};
+use crate::owned::{GetOwnedFuture, OwnedCalls, OwnedConnection, OwnedStage};
 use bb8_core::api::{
     AddError, Clock, Config, CustomizeConnection, ErrorSink, ManageConnection, Memory,
     NopCustomizer, NopErrorSink, RunError, SetClock, State,
@@ -266,7 +266,7 @@ pub trait Cancel {
 impl<'a, G: Given<Runtime: Wait>, L: Parts> PoolCalls for &'a Pool<G, L> {
     ghost use Rattle.bb8.specs.Blocking.{GetsAtOnce, WaitsForGet, WaitsForOwned};
     ghost use Rattle.bb8.specs.Handles.{IsClone};
-    ghost use Rattle.bb8.specs.Owned.{BeginsOwning};
+    ghost use Rattle.bb8.specs.Owned.{BeginsOwned};
     ghost use Rattle.bb8.specs.Pools.{settings_in};
 
     type Connection = G::Connection;
@@ -282,15 +282,13 @@ impl<'a, G: Given<Runtime: Wait>, L: Parts> PoolCalls for &'a Pool<G, L> {
     type Owned = OwnedConnection<G, L>;
 
     fn get_owned(self) -> GetOwnedFuture<G, L>
-        ensures { BeginsOwning self.now result.owning }
+        ensures { BeginsOwned self.now result.stage }
     {
-        let owning = match self.join() {
-            Ok(holding) => Owning::Open(holding, GetState::new()),
-            Err(error) => Owning::Refused(error),
+        let stage = match self.join() {
+            Ok(holding) => OwnedStage::Open(holding, GetState::new()),
+            Err(error) => OwnedStage::Refused(error),
         };
-        GetOwnedFuture {
-            owning: Some(owning),
-        }
+        GetOwnedFuture { stage: Some(stage) }
     }
 
     fn try_get(self) -> Result<Option<PooledConnection<'a, G, L>>, RunError<G::Error>>
@@ -375,7 +373,7 @@ impl<'a, G: Given<Runtime: Wait>, L: Parts> PoolCalls for &'a Pool<G, L> {
         ensures { IsClone self.now result }
     {
         match self.join() {
-            Ok(Holding { shared, handle }) => Ok(Pool { shared, handle }),
+            Ok(BareHandle { shared, handle }) => Ok(Pool { shared, handle }),
             Err(error) => Err(error),
         }
     }
@@ -412,7 +410,7 @@ impl<G: Given, L: Parts> Drop for Pool<G, L> {
         ensures { OwnLeaves (arc_value self.shared) }
     {
         let Pool { shared, handle } = self;
-        Holding { shared, handle }.leave_owned();
+        BareHandle { shared, handle }.leave_owned();
     }
 }
 
