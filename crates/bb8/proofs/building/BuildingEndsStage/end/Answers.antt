@@ -1,4 +1,4 @@
-use Rattle.bb8.proofs.building.BuildingEndsSite.end.Goals as goal
+use Rattle.bb8.proofs.building.BuildingEndsStage.end.Goals as goal
 
 pub returns-in-Opening : goal.returns-in-Opening
 returns-in-Opening g c =
