@@ -1,5 +1,5 @@
 -- The two walks of a reap.
-use Rattle.bb8_tables.proofs.Words.{slice_get_within, append_assoc, ◌≡◌, ◌⊎◌, inl, inr, ℕ, zero, suc, ◌+◌, ◌-◌, ◌<◌, ◌≤◌, Bool, true, false, ◌&&◌, List, [], ◌∷◌, ◌++◌, length, Option, Some, None, slice_get, refl, sym, ap, ◌∙◌, arith, subst, length-append, eq-eqb, ne_eqb, length-map, leb-false, lt-leb, get, most_records, Settings, one, tally, is_idle, is_conn, is_out, is_past, is_expired, idles_out, lives_out, Place, Unclaimed, Held, Guarded, Standing, Slot, Young, Out, Aged, Buffer, Closed, offered_all, closed_in, closed_of, EndsFirst, Ends, EndsIdle, Passes, Lent, AddsLent, Lined, slot_at, without, AreFirst, Reaps, ArePlaces, IsRising, numbers_at, Absent, view_of_records, AreGoodRecords, passes, ShownRecords, Inside, idle_from}
+use Rattle.bb8_tables.proofs.Words.{slice_get_within, append_assoc, ◌≡◌, ◌⊎◌, inl, inr, ℕ, zero, suc, ◌+◌, ◌-◌, ◌<◌, ◌≤◌, Bool, true, false, ◌&&◌, List, [], ◌∷◌, ◌++◌, length, Option, Some, None, slice_get, refl, sym, ap, ◌∙◌, arith, subst, length-append, eq-eqb, ne_eqb, length-map, leb-false, lt-leb, get, most_records, Settings, one, tally, is_idle, is_conn, is_out, is_past, is_expired, idles_out, lives_out, Place, Unclaimed, Held, Guarded, Standing, Slot, Young, Out, Aged, Buffer, Closed, offered_all, closed_in, closed_of, EndsFirst, Ends, EndsIdle, Passes, Lent, AddsLent, TableView, slot_at, without, AreFirst, Reaps, ArePlaces, IsRising, numbers_at, Absent, view_of_records, AreGoodRecords, passes, ShownRecords, Inside, idle_from}
 use Rattle.bb8_tables.proofs.Lent.{adds_none, adds_more, adds_within}
 use Rattle.bb8_tables.proofs.Lines.{get_absent}
 use Rattle.bb8_tables.proofs.Orders.{found_in, no_earlier}
@@ -153,7 +153,7 @@ module _ {C : Type 0} where
   -- ---- the walk along the order of births
 
   -- at each of the places stands a connection that is out
-  abbrev pub AreOut : Lined (Slot (Standing C)) → List ℕ → Type 0
+  abbrev pub AreOut : TableView (Slot (Standing C)) → List ℕ → Type 0
   AreOut t ks = (j k : ℕ) → slice_get ks j ≡ Some k → (x : Slot (Standing C)) × (slot_at t k ≡ Some x) × (is_out x.standing.place ≡ true)
 
   -- how far the walk has come: it has passed those that are out, and ended the others
@@ -173,7 +173,7 @@ module _ {C : Type 0} where
     pub few : old.conns ≤ most_records
     pub many_few : many ≤ old.conns
 
-  out_push : (t : Lined (Slot (Standing C))) (ks : List ℕ) (k : ℕ) (x : Slot (Standing C)) → AreOut t ks → slot_at t k ≡ Some x → is_out x.standing.place ≡ true → AreOut t (ks ++ k ∷ [])
+  out_push : (t : TableView (Slot (Standing C))) (ks : List ℕ) (k : ℕ) (x : Slot (Standing C)) → AreOut t ks → slot_at t k ≡ Some x → is_out x.standing.place ≡ true → AreOut t (ks ++ k ∷ [])
   out_push t ks k x o e is j q f = grind (arith, get-push ks k q j f)
 
   -- no place stands twice in a line that is cut at one
@@ -257,7 +257,7 @@ module _ {C : Type 0} where
           }
 
       -- it ends one that is idle
-      module _ {slots : Lined (Slot (Standing C))} {next : Option ℕ} (p : Passes config now a.slots place (Aged next)) (gone : Frees a.slots slots place) where
+      module _ {slots : TableView (Slot (Standing C))} {next : Option ℕ} (p : Passes config now a.slots place (Aged next)) (gone : Frees a.slots slots place) where
         aged_idle : is_idle p.0.standing.place ≡ true
         aged_idle = lives_idle config now p.0.standing p.2
 
@@ -277,7 +277,7 @@ module _ {C : Type 0} where
                   ∙ without_between place i.passed ahead.0 front (absent_back a.slots.slots i.passed ahead.0 place are);
               at_is = p.3 i.passed ahead.0 cut;
               outs = λ j k e. let o = i.outs j k e in
-                  let others = subst (λ (t : Lined (Slot (Standing C))). Updates a.slots.slots t.slots place None) (sym gone) (set_at a.slots.slots place p.0 None p.1) in
+                  let others = subst (λ (t : TableView (Slot (Standing C))). Updates a.slots.slots t.slots place None) (sym gone) (set_at a.slots.slots place p.0 None p.1) in
                   (o.0, others.others k (λ s. absent_get place j i.passed front (e ∙ ap (λ (q : ℕ). Some q) s)) ∙ o.1, o.2);
               steps = omega (arith, i.steps);
               lendings = adds_more counter 1 lent lent_now new_lent i.lendings l;

@@ -2,7 +2,7 @@
 pub use Rattle.std.proofs.Common.{◌≡◌, ◌≢◌, ℕ, ◌+◌, ◌-◌, ◌<◌, ◌≤◌, Bool, true, false, cond, not, List, [], ◌∷◌, ◌++◌, map, length, Option, Some, None, IsSome, set, get_or, slice_get, drop, refl, sym, ap, ◌∙◌, arith, subst, length-append, append-nil, append_assoc, is_some, ◌&&◌, ◌⊎◌, inl, inr, ⊎_elim, zero, suc, option_map, eq-eqb, ne_eqb, get_or-set_other, get_or-set_same, Result, Ok, Err, OnOk, OnErr, eqb, nat_cmp, append_assoc, max}
 pub use Rattle.std.proofs.lemmas.List.{map_push, drop-map, length-map, map-set, map-append}
 pub use Rattle.std.specs.FinMap.{insert, get, FinMap, remove, get-empty}
-pub use Rattle.bb8_tables.specs.Lined.{Lined, slot_at}
+pub use Rattle.bb8_tables.specs.TableView.{TableView, slot_at}
 pub use Rattle.bb8_tables.specs.Ordered.{Ordered, most_places}
 pub use Rattle.bb8_tables.specs.Tables.{slot_in, slots_of, view_of_table, IsGoodTable, AreFree}
 pub use Rattle.bb8_tables.specs.Spelled.{Absent, Spells, walk, Joins, LinksLead}

@@ -10,7 +10,7 @@ use Rattle.bb8_tables.specs.declared.records.reaps.Age.TheVariants.{Young, Out, 
 use Rattle.circular_buffer.specs.Buffer.{Buffer}
 use Rattle.bb8_tables.specs.declared.closed.Closed.{Closed}
 use Rattle.bb8_tables.specs.Closed.{offered_all, closed_of}
-use Rattle.bb8_tables.specs.Lined.{Lined, slot_at}
+use Rattle.bb8_tables.specs.TableView.{TableView, slot_at}
 use Rattle.bb8_tables.specs.Views.{ShownRecords}
 use Rattle.bb8_tables.specs.Reaps.{after_reaped, after_reap, AreReaped, AreFirst, beyond}
 
@@ -40,11 +40,11 @@ module _ {C : Type 0} where
     pub all : (told ≡ beyond config old) ⊎ ((k : ℕ) → idles_out config now (get new.places k) ≡ false)
 
   -- the place after this one in the order of births
-  abbrev pub IsNext : Lined (Slot (Standing C)) → ℕ → Option ℕ → Type 0
+  abbrev pub IsNext : TableView (Slot (Standing C)) → ℕ → Option ℕ → Type 0
   IsNext t place next = (passed rest : List ℕ) → t.births ≡ passed ++ place ∷ rest → next ≡ slice_get rest 0
 
   -- what was found at a place in the order of births
-  abbrev pub Passes : Settings → ℕ → Lined (Slot (Standing C)) → ℕ → Age → Type 0
+  abbrev pub Passes : Settings → ℕ → TableView (Slot (Standing C)) → ℕ → Age → Type 0
   Passes config now t place Young = (x : Slot (Standing C)) × (slot_at t place ≡ Some x) × (is_expired config.max_lifetime now x.standing.birth ≡ false)
   Passes config now t place (Out next) = (x : Slot (Standing C)) × (slot_at t place ≡ Some x) × (is_idle x.standing.place ≡ false) × IsNext t place next
   Passes config now t place (Aged next) = (x : Slot (Standing C)) × (slot_at t place ≡ Some x) × (lives_out config now (Some x.standing) ≡ true) × IsNext t place next

@@ -13,7 +13,7 @@ ghost use Rattle.bb8_types.specs.Bounds.{end_of_numbers, most_records};
 ghost use Rattle.bb8_tables.specs.Lent.{AddsLent};
 ghost use Rattle.bb8_tables.specs.Closed.{offered_all, closed_in, closed_of};
 ghost use Rattle.bb8_tables.specs.Holders as holders;
-ghost use Rattle.bb8_tables.specs.Lined.{slot_at};
+ghost use Rattle.bb8_tables.specs.TableView.{slot_at};
 ghost use Rattle.bb8_tables.specs.declared.table.Slot.{Slot};
 
 mod reaps;

@@ -6,7 +6,7 @@ ghost use Rattle.bb8_types.specs.declared.standing.Getting.{Getting};
 ghost use Rattle.bb8_types.specs.Bounds.{end_of_numbers};
 ghost use Rattle.bb8_types.specs.Places.{get_in_wait, first_place};
 ghost use Rattle.bb8_tables.specs.Machine.{without};
-ghost use Rattle.bb8_tables.specs.Lined.{slot_at};
+ghost use Rattle.bb8_tables.specs.TableView.{slot_at};
 ghost use Rattle.bb8_tables.specs.Spelled.{Absent};
 ghost use Rattle.bb8_tables.specs.Lent.{lends, searches, AddsLent};
 
@@ -66,10 +66,10 @@ pub struct Table<S> {
 }
 
 impl<S> Model for Table<S> {
-    ghost use Rattle.bb8_tables.specs.Lined.{Lined, lined_code};
+    ghost use Rattle.bb8_tables.specs.TableView.{TableView, table_view_code};
     ghost use Rattle.bb8_tables.specs.declared.table.Slot.{Slot};
 
-    ghost Value = { Lined (Slot S) };
+    ghost Value = { TableView (Slot S) };
 
     ghost use Rattle.bb8_tables.specs.Tables.{view_of_table, IsGoodTable};
 
