@@ -1,5 +1,5 @@
 use Rattle.std.proofs.Common.{arith, refl, ◌∙◌}
-use Rattle.bb8_tables.proofs.Walks.{births_start, births_member, births_stands, births_out, births_aged, none_ahead, none_more, none_after, lent_at_most}
+use Rattle.bb8_tables.proofs.ReapWalks.{births_start, births_member, births_stands, births_out, births_aged, none_ahead, none_more, none_after, lent_at_most}
 use Rattle.bb8_tables.proofs.records.Records.reap_aged.Goals as goal
 use Rattle.bb8_tables.proofs.records.Records.reap_aged.Goals.{in-Out, in-Aged}
 

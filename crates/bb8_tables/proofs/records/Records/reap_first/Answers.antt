@@ -1,6 +1,6 @@
 use Rattle.bb8_tables.proofs.Words.{◌≡◌, ℕ, false, refl, sym, ap, ◌∙◌, subst, slice_get, get, idles_out, settings_of, ShownRecords}
 use Rattle.bb8_tables.proofs.ReapPlaces.{freed_counted, freed_good, freed_due}
-use Rattle.bb8_tables.proofs.Walks.{first_idle, first_not_due, none_in_line, first_shown}
+use Rattle.bb8_tables.proofs.ReapWalks.{first_idle, first_not_due, none_in_line, first_shown}
 use Rattle.bb8_tables.proofs.records.Records.reap_first.Goals as goal
 
 pub returns-in_default-clause-ends : goal.returns-in_default-clause-ends
