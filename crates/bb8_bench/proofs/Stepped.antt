@@ -1,5 +1,5 @@
 -- What a step that was taken says of the state behind it: its lines, and which step is taken next.
-use Rattle.bb8_bench.proofs.Words.{◌≡◌, ℕ, zero, suc, ◌+◌, ◌<◌, max, Bool, true, false, ◌&&◌, cond, eqb, ltb, List, [], ◌∷◌, ◌++◌, length, drop, Option, Some, None, slice_get, refl, sym, ap, ◌∙◌, subst, MatchBool, option_and_then, arith, length-append, option_map, get, Grant, Claimed, Guarded, Standing, Getting, Act, Begin, Try, PutBack, Fill, Claim, Opened, Answer, Begun, Served, Kept, Granted, Entered, Numbered, at_number, update, numbers, in_order, Ledger, Later, start, position, latest, handles, records, gets, idle, record_of, idle_at, at_place, entry, at_entry, approval, with_approvals, new_get, first_of, stands, is_claimed, is_guarded, is_idle, is_unclaimed, gets_stand, birth_in, with_place, is_trying, Row, begins, serves, claims, fits, Allowed, Shown, shown_records, Means, IsFitting, ShownRecords, change, standing_is, guarded_out, and_right, entered_before, upto, IsServing, HasLedger, Meets}
+use Rattle.bb8_bench.proofs.Words.{◌≡◌, ℕ, zero, suc, ◌+◌, ◌<◌, max, Bool, true, false, ◌&&◌, cond, eqb, ltb, List, [], ◌∷◌, ◌++◌, length, drop, Option, Some, None, slice_get, refl, sym, ap, ◌∙◌, subst, MatchBool, option_and_then, arith, length-append, option_map, get, Grant, Claimed, Guarded, Standing, Getting, Act, Begin, Try, PutBack, Fill, Claim, Opened, Answer, Begun, Served, Kept, Granted, Entered, Numbered, at_number, update, numbers, in_order, Ledger, Later, start, position, latest, handles, records, gets, idle, record_of, idle_at, at_place, entry, at_entry, approval, with_approvals, new_get, first_of, stands, is_claimed, is_guarded, is_idle, is_unclaimed, gets_stand, birth_in, with_place, is_trying, Row, begins, serves, claims, fits, Allowed, Shown, shown_records, Means, IsFitting, RecordsView, change, standing_is, guarded_out, and_right, entered_before, upto, IsServing, HasLedger, Meets}
 use Rattle.bb8_tables.specs.declared.keys.Key.{Key}
 use Rattle.bb8_bench.specs.Serving.{Takes, Opens}
 use Rattle.std.proofs.Common.{lt-ltb}
@@ -149,7 +149,7 @@ module _ (s t : Shown ℕ) (l : Ledger ℕ) (means : Means l s) where
       let is = shown-entered (start l).first (position l) 0 (records l) false k st.0 c st.0.birth now (at_entry c now (position l))
       (entered_before l) st.1 (guarded_out st.0.place st.2)
       (λ r e. ap (λ (o : Option (Standing ℕ)). entry c (birth_in o) now (position l)) e) in
-      sym (ap (λ (x : Shown ℕ). x.records.idle) new) ∙ ap (λ (x : ShownRecords ℕ). x.idle) is ∙ ap (λ (x : Shown ℕ). x.records.idle ++ k ∷ []) means
+      sym (ap (λ (x : Shown ℕ). x.records.idle) new) ∙ ap (λ (x : RecordsView ℕ). x.idle) is ∙ ap (λ (x : Shown ℕ). x.records.idle ++ k ∷ []) means
 
   -- ---- claim and open
 
@@ -164,14 +164,14 @@ module _ (s t : Shown ℕ) (l : Ledger ℕ) (means : Means l s) where
       let first : slice_get (unclaimed l) 0 ≡ Some k = first_unclaimed at k allowed in
       let line = head (unclaimed l) k first in
       let is = shown-claimed (start l).first (suc (position l)) 0 (records l) k first in
-      let before : ShownRecords ℕ = shown_records (start l).first (suc (position l)) 0 (records l) in
+      let before : RecordsView ℕ = shown_records (start l).first (suc (position l)) 0 (records l) in
       let now : Standing ℕ = machine.standing_at Claimed (get before.places k) in
       let there : get t.records.places k ≡ Some now = sym (ap (λ (x : Shown ℕ). get x.records.places k) new)
-      ∙ ap (λ (x : ShownRecords ℕ). get x.places k) is ∙ numbered.get_inserted before.places k now k
+      ∙ ap (λ (x : RecordsView ℕ). get x.places k) is ∙ numbered.get_inserted before.places k now k
       ∙ ap (λ (b : Bool). cond b (Some now) (get before.places k)) (numbered.eqb_self k) in
-      let rest : t.records.unclaimed ≡ line.0 = sym (ap (λ (x : Shown ℕ). x.records.unclaimed) new) ∙ ap (λ (x : ShownRecords ℕ). x.unclaimed) is ∙ ap (drop 1) line.1 in (
+      let rest : t.records.unclaimed ≡ line.0 = sym (ap (λ (x : Shown ℕ). x.records.unclaimed) new) ∙ ap (λ (x : RecordsView ℕ). x.unclaimed) is ∙ ap (drop 1) line.1 in (
         sym (ap (λ (x : Shown ℕ). x.records.unclaimed) means) ∙ line.1 ∙ ap (λ (xs : List ℕ). k ∷ xs) (sym rest),
-        sym (ap (λ (x : Shown ℕ). x.records.idle) new) ∙ ap (λ (x : ShownRecords ℕ). x.idle) is
+        sym (ap (λ (x : Shown ℕ). x.records.idle) new) ∙ ap (λ (x : RecordsView ℕ). x.idle) is
             ∙ numbered.in_order-later idle_at (records l) (start l).first (position l) (entered_before l)
             ∙ ap (λ (x : Shown ℕ). x.records.idle) means,
         ap (stands is_claimed) there ∙ claimed_place (get before.places k),
@@ -185,8 +185,8 @@ module _ (s t : Shown ℕ) (l : Ledger ℕ) (means : Means l s) where
       let st = standing_is is_claimed (record_of l k) there in
       let now : ℕ = max (latest l) at in
       let is = shown-entered (start l).first (position l) 0 (records l) true k st.0 c now now (λ r. entry c now now (position l)) (entered_before l) st.1 st.2 (λ r e. refl) in (
-        sym (ap (λ (x : Shown ℕ). x.records.idle) new) ∙ ap (λ (x : ShownRecords ℕ). x.idle) is ∙ ap (λ (x : Shown ℕ). x.records.idle ++ k ∷ []) means,
-        sym (ap (λ (x : Shown ℕ). x.records.unclaimed) new) ∙ ap (λ (x : ShownRecords ℕ). x.unclaimed) is ∙ ap (λ (x : Shown ℕ). x.records.unclaimed) means,
+        sym (ap (λ (x : Shown ℕ). x.records.idle) new) ∙ ap (λ (x : RecordsView ℕ). x.idle) is ∙ ap (λ (x : Shown ℕ). x.records.idle ++ k ∷ []) means,
+        sym (ap (λ (x : Shown ℕ). x.records.unclaimed) new) ∙ ap (λ (x : RecordsView ℕ). x.unclaimed) is ∙ ap (λ (x : Shown ℕ). x.records.unclaimed) means,
       )
 
   -- ---- fill

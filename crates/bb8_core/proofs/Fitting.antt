@@ -1,5 +1,5 @@
 -- What the condition of a step says of what is shown.
-use Rattle.bb8_core.proofs.Words.{◌≡◌, ℕ, ◌≤◌, Bool, true, false, Option, Some, None, is_some, refl, sym, ap, ◌∙◌, subst, ◌+◌, ◌<◌, max, arith, ltb-true, get, Place, Unclaimed, Claimed, Idle, Held, Guarded, Standing, Getting, Try, CheckedOk, PutBack, GiveUp, Leave, Reason, Cancelled, Ledger, agree, ◌&&◌, conns, approved, alive, get_of, start, latest, handles, records, gets, record_of, holds, stands, gets_stand, is_unnotified, is_claimed, is_guarded, is_held_by, is_out, fits, IsLegal, Shown, shown_beside, HasLedger, IsFitting, Means, standing_is, claimed_is, guarded_out, and_right, holding_is, all_held, alive_get, trying_is, alive_is, out_counted, claimed_counted, Fits, all_fit, due_few, Numbered, end_of_numbers, due, Settings, none_lent, ShownRecords, NoneAfter}
+use Rattle.bb8_core.proofs.Words.{◌≡◌, ℕ, ◌≤◌, Bool, true, false, Option, Some, None, is_some, refl, sym, ap, ◌∙◌, subst, ◌+◌, ◌<◌, max, arith, ltb-true, get, Place, Unclaimed, Claimed, Idle, Held, Guarded, Standing, Getting, Try, CheckedOk, PutBack, GiveUp, Leave, Reason, Cancelled, Ledger, agree, ◌&&◌, conns, approved, alive, get_of, start, latest, handles, records, gets, record_of, holds, stands, gets_stand, is_unnotified, is_claimed, is_guarded, is_held_by, is_out, fits, IsLegal, Shown, shown_beside, HasLedger, IsFitting, Means, standing_is, claimed_is, guarded_out, and_right, holding_is, all_held, alive_get, trying_is, alive_is, out_counted, claimed_counted, Fits, all_fit, due_few, Numbered, end_of_numbers, due, Settings, none_lent, RecordsView, NoneAfter}
 use Rattle.bb8_core.specs.Shown.{TellsFitting}
 use Rattle.bb8_ledger.proofs.Invalid.{few_ended}
 use Rattle.bb8_ledger.proofs.Moments.{none_later}
@@ -56,14 +56,14 @@ module _ {C : Type 0} where
   shown_fits s h = subst (λ (t : Shown C). Fits t.config.max_size t.records.conns t.records.approved t.records.next t.gets.alive t.gets.next t.counts) h.2 (all_fit h.0 h.1)
 
   -- What is due of what is asked is within the size, where what is taken is.
-  pub due_within : (config : Settings) (handles : ℕ) {taken was : ShownRecords C} {n : ℕ} (asked : ℕ)
+  pub due_within : (config : Settings) (handles : ℕ) {taken was : RecordsView C} {n : ℕ} (asked : ℕ)
       → was.conns + was.approved ≤ config.max_size → taken ≡ was → n ≡ due config handles (taken.conns + taken.approved) asked
       → taken.conns + taken.approved + n ≤ config.max_size
   due_within config handles {taken} {was} {n} asked few taken_is n_is =
-      omega (arith, ap (λ (t : ShownRecords C). t.conns + t.approved) taken_is, due_few config handles (taken.conns + taken.approved) asked)
+      omega (arith, ap (λ (t : RecordsView C). t.conns + t.approved) taken_is, due_few config handles (taken.conns + taken.approved) asked)
 
   -- It is so, too, where what is taken is no more than what a state shows.
-  pub due_fits : (s : Shown C) {taken was : ShownRecords C} {used n : ℕ} (asked : ℕ) → HasLedger s
+  pub due_fits : (s : Shown C) {taken was : RecordsView C} {used n : ℕ} (asked : ℕ) → HasLedger s
       → was.conns + was.approved ≤ s.records.conns + s.records.approved → taken ≡ was → used ≡ taken.conns + taken.approved
       → n ≡ due s.config s.handles used asked → taken.conns + taken.approved + n ≤ s.config.max_size
   due_fits s {was = was} asked h few taken_is used_is n_is = due_within s.config s.handles {was = was} asked (omega (arith, few, (shown_fits s h).size)) taken_is (n_is

@@ -12,7 +12,7 @@ pub use Rattle.bb8_tables.proofs.Views.{same_records, same_gets}
 pub use Rattle.bb8_tables.specs.Counted.{counts_held}
 pub use Rattle.bb8_tables.specs.Lent.{none_lent, Lent}
 pub use Rattle.bb8_tables.specs.Reaps.{after_reap, AreFirst, Reaps, after_reaped, AreReaped, beyond}
-pub use Rattle.bb8_tables.specs.Views.{ShownRecords, ShownGets, NoneAfter, no_gets, no_records}
+pub use Rattle.bb8_tables.specs.Views.{RecordsView, GetsView, NoneAfter, no_gets, no_records}
 pub use Rattle.bb8_tables.specs.declared.counters.Counters.{Counters}
 pub use Rattle.bb8_tables.specs.declared.records.reaps.Reaped.{Reaped as Told}
 pub use Rattle.bb8_ledger.proofs.Effects.{lives_idle, idles_idle, reaped_sized, granted_reaped, closes_turn, idle_turns, ends_turn, opens_turn, left_sized, stays_sized, turned_sized, returns_turn, granted_sized, each_allowed, unclaimed_turns, adds_sized, ended_append, over_idle, over_idle_line, ended_swept}

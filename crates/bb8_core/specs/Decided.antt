@@ -4,12 +4,12 @@ use Rattle.std.specs.FinMap.{get}
 use Rattle.bb8_types.specs.Places.{birth_in, is_expired}
 use Rattle.bb8_types.specs.Settings.{Settings}
 use Rattle.bb8_core.specs.Shown.{Shown}
-use Rattle.bb8_tables.specs.Views.{ShownRecords}
+use Rattle.bb8_tables.specs.Views.{RecordsView}
 use Rattle.bb8_types.specs.Grants.{due, lacking}
 
 module _ {C : Type 0} where
   -- what is due of the approvals that are wanted
-  abbrev pub want : Settings → ℕ → ShownRecords C → ℕ
+  abbrev pub want : Settings → ℕ → RecordsView C → ℕ
   want config handles s = due config handles (s.conns + s.approved) (lacking config (length s.idle + s.approved))
 
   -- whether a connection has lived too long

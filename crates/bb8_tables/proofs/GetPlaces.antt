@@ -1,5 +1,5 @@
 -- The code's side of each change of the gets: what it does to the fields, seen in what they mean.
-use Rattle.bb8_tables.proofs.Words.{◌≡◌, ◌≢◌, ℕ, List, ◌+◌, ◌-◌, ◌<◌, ◌≤◌, Bool, true, false, [], ◌∷◌, ◌++◌, length, set, slice_get, arith, Option, Some, None, is_some, IsSome, refl, sym, ap, ◌∙◌, get, tally, one, TableView, slot_at, Absent, GetPlace, Active, Waiting, Getting, Slot, is_unnotified, get_in_wait, get_with_place, ShownGets, IsTable, view_of_gets, AreGoodGets, AreWaitingPlaces, removed_inserted}
+use Rattle.bb8_tables.proofs.Words.{◌≡◌, ◌≢◌, ℕ, List, ◌+◌, ◌-◌, ◌<◌, ◌≤◌, Bool, true, false, [], ◌∷◌, ◌++◌, length, set, slice_get, arith, Option, Some, None, is_some, IsSome, refl, sym, ap, ◌∙◌, get, tally, one, TableView, slot_at, Absent, GetPlace, Active, Waiting, Getting, Slot, is_unnotified, get_in_wait, get_with_place, GetsView, IsTable, view_of_gets, AreGoodGets, AreWaitingPlaces, removed_inserted}
 use Rattle.bb8_tables.specs.declared.gets.Gets.TheInside.{Inside}
 use Rattle.bb8_tables.specs.Machine as machine
 use Rattle.bb8_tables.proofs.Slots.{Updates, set_at, set_within, tally_set, tally_at, table_set, table_added, table_removed, table_kept}
@@ -16,18 +16,18 @@ pub shown_at : (a : Inside) (q i : ℕ) (x : Slot Getting) → AreGoodGets a →
 shown_at a q i x good e same = TablePlaces.shown_at q i good.table e same
 
 -- a look-up that finds nothing, or a slot
-pub none_shown : (a : Inside) (q : ℕ) (s : ShownGets) → view_of_gets a ≡ s → ((i : ℕ) (x : Slot Getting) → slot_at a.slots i ≡ Some x → x.number ≢ q) → get s.places q ≡ None
-none_shown a q s is none = ap (λ (t : ShownGets). get t.places q) (sym is) ∙ Slots.held_absent numbered (λ x. x.standing) a.slots.slots q none
+pub none_shown : (a : Inside) (q : ℕ) (s : GetsView) → view_of_gets a ≡ s → ((i : ℕ) (x : Slot Getting) → slot_at a.slots i ≡ Some x → x.number ≢ q) → get s.places q ≡ None
+none_shown a q s is none = ap (λ (t : GetsView). get t.places q) (sym is) ∙ Slots.held_absent numbered (λ x. x.standing) a.slots.slots q none
 
-pub some_shown : (a : Inside) (q i : ℕ) (x : Slot Getting) (s : ShownGets) → AreGoodGets a → view_of_gets a ≡ s → slot_at a.slots i ≡ Some x → x.number ≡ q → get s.places q ≡ Some x.standing
-some_shown a q i x s good is e same = ap (λ (t : ShownGets). get t.places q) (sym is) ∙ shown_at a q i x good e same
+pub some_shown : (a : Inside) (q i : ℕ) (x : Slot Getting) (s : GetsView) → AreGoodGets a → view_of_gets a ≡ s → slot_at a.slots i ≡ Some x → x.number ≡ q → get s.places q ≡ Some x.standing
+some_shown a q i x s good is e same = ap (λ (t : GetsView). get t.places q) (sym is) ∙ shown_at a q i x good e same
 
-pub never_absent : (a : Inside) (q : ℕ) {g : Getting} (s : ShownGets) {G : Type 0} → view_of_gets a ≡ s → get s.places q ≡ Some g →
+pub never_absent : (a : Inside) (q : ℕ) {g : Getting} (s : GetsView) {G : Type 0} → view_of_gets a ≡ s → get s.places q ≡ Some g →
     ((i : ℕ) (x : Slot Getting) → slot_at a.slots i ≡ Some x → x.number ≢ q) → G
 never_absent a q {g} s is shows none = absurd (let clash : Some g ≡ None = sym shows ∙ none_shown a q s is none in cc)
 
 -- a get is shown as it stands
-pub stands_is : (a : Inside) (q i : ℕ) (x : Slot Getting) (s : ShownGets) → AreGoodGets a → view_of_gets a ≡ s
+pub stands_is : (a : Inside) (q i : ℕ) (x : Slot Getting) (s : GetsView) → AreGoodGets a → view_of_gets a ≡ s
     → slot_at a.slots i ≡ Some x → x.number ≡ q → (g : Getting) × (get s.places q ≡ Some g) × (is_unnotified g.place ≡ false)
     → is_unnotified x.standing.place ≡ false
 stands_is a q i x s good is e same shown = grind (arith, some_shown a q i x s good is e same)

@@ -1,5 +1,5 @@
 -- Idle connections that end.
-use Rattle.bb8_tables.proofs.Words.{◌≡◌, ℕ, ◌+◌, ◌-◌, ◌≤◌, Bool, true, false, List, length, Option, Some, None, slice_get, refl, sym, ap, ◌∙◌, arith, subst, append-nil, drop-map, length-map, get, Buffer, Settings, is_idle, is_unclaimed, is_conn, is_approval, lives_out, Standing, Slot, Closed, offered_all, closed_in, EndsFirst, TableView, slot_at, without, after_reaped, number_in, numbers_at, view_of_records, AreGoodRecords, ShownRecords, Inside, idle_is}
+use Rattle.bb8_tables.proofs.Words.{◌≡◌, ℕ, ◌+◌, ◌-◌, ◌≤◌, Bool, true, false, List, length, Option, Some, None, slice_get, refl, sym, ap, ◌∙◌, arith, subst, append-nil, drop-map, length-map, get, Buffer, Settings, is_idle, is_unclaimed, is_conn, is_approval, lives_out, Standing, Slot, Closed, offered_all, closed_in, EndsFirst, TableView, slot_at, without, after_reaped, number_in, numbers_at, view_of_records, AreGoodRecords, RecordsView, Inside, idle_is}
 use Rattle.bb8_tables.specs.Machine as machine
 use Rattle.bb8_tables.proofs.Lines.{other_line, without_first, one_shorter}
 use Rattle.bb8_tables.proofs.Orders.{found_in}
@@ -38,10 +38,10 @@ module _ {C : Type 0} where
     freed_shorter = grind (arith, found_in good.idle place x at_place was, one_shorter)
 
     -- it ends because it was due
-    pub freed_due : (test : Option (Standing C) → Bool) (old : ShownRecords C) {list offered : Buffer (Closed C)} → view_of_records a ≡ old → test (Some x.standing) ≡ true
+    pub freed_due : (test : Option (Standing C) → Bool) (old : RecordsView C) {list offered : Buffer (Closed C)} → view_of_records a ≡ old → test (Some x.standing) ≡ true
         → offered ≡ offered_all (closed_in x.number (Some x.standing)) list → EndsFirst test old x.number (view_of_records (record a { slots = slots; conns = a.conns - 1 })) list offered
     freed_due test old {list} {offered} shows is listed = subst
-        (λ (s : ShownRecords C). EndsFirst test s x.number (view_of_records (record a { slots = slots; conns = a.conns - 1 })) list offered) shows (record {
+        (λ (s : RecordsView C). EndsFirst test s x.number (view_of_records (record a { slots = slots; conns = a.conns - 1 })) list offered) shows (record {
           is_due = ap test (shown_at a place x.number x good at_place refl) ∙ is;
           state = freed_view;
           conns = omega (arith, freed_counted);

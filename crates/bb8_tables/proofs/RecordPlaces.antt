@@ -1,5 +1,5 @@
 -- The code's side of each change: what it does to the fields, seen in what they mean.
-use Rattle.bb8_tables.proofs.Words.{◌≡◌, ◌≢◌, ℕ, ◌+◌, ◌-◌, ◌<◌, ◌≤◌, Bool, true, false, cond, not, [], ◌∷◌, ◌++◌, map, length, Option, Some, None, IsSome, set, slice_get, drop, refl, sym, ap, ◌∙◌, arith, append-nil, map_push, drop-map, length-map, get, TableView, slot_at, Absent, Buffer, buffer, Place, Unclaimed, Claimed, Idle, Guarded, Standing, Holder, Guard, Get, Key, Slot, QueueStrategy, is_idle, is_unclaimed, is_conn, is_approval, is_out, place_with, with_place, first_place, first_of, comes_from, birth_in, IsTable, number_in, numbers_at, view_of_records, AreGoodRecords, passes, IsLineOf, IsOrderOf, tally, one, ShownRecords, NoneAfter, most_records, Inside, unclaimed_is, idle_is, held_conn, idle_from, unclaimed_from, conn_from, approval_from}
+use Rattle.bb8_tables.proofs.Words.{◌≡◌, ◌≢◌, ℕ, ◌+◌, ◌-◌, ◌<◌, ◌≤◌, Bool, true, false, cond, not, [], ◌∷◌, ◌++◌, map, length, Option, Some, None, IsSome, set, slice_get, drop, refl, sym, ap, ◌∙◌, arith, append-nil, map_push, drop-map, length-map, get, TableView, slot_at, Absent, Buffer, buffer, Place, Unclaimed, Claimed, Idle, Guarded, Standing, Holder, Guard, Get, Key, Slot, QueueStrategy, is_idle, is_unclaimed, is_conn, is_approval, is_out, place_with, with_place, first_place, first_of, comes_from, birth_in, IsTable, number_in, numbers_at, view_of_records, AreGoodRecords, passes, IsLineOf, IsOrderOf, tally, one, RecordsView, NoneAfter, most_records, Inside, unclaimed_is, idle_is, held_conn, idle_from, unclaimed_from, conn_from, approval_from}
 use Rattle.bb8_tables.specs.Machine as machine
 use Rattle.bb8_tables.proofs.Views.{same_records}
 use Rattle.bb8_tables.proofs.Lines.{other_line, free_line, added_line, shorter_line, same_line, places_absent, free_absent}
@@ -68,19 +68,19 @@ module _ {C : Type 0} where
   shown_absent a q h = Slots.held_absent numbered (λ s. s.standing) a.slots.slots q h
 
   -- a look-up that finds nothing, or a slot
-  pub none_shown : (a : Inside C) (q : ℕ) (s : ShownRecords C) → view_of_records a ≡ s → ((i : ℕ) (x : Slot (Standing C)) → slot_at a.slots i ≡ Some x → x.number ≢ q) → get s.places q ≡ None
-  none_shown a q s is none = ap (λ (t : ShownRecords C). get t.places q) (sym is) ∙ shown_absent a q none
+  pub none_shown : (a : Inside C) (q : ℕ) (s : RecordsView C) → view_of_records a ≡ s → ((i : ℕ) (x : Slot (Standing C)) → slot_at a.slots i ≡ Some x → x.number ≢ q) → get s.places q ≡ None
+  none_shown a q s is none = ap (λ (t : RecordsView C). get t.places q) (sym is) ∙ shown_absent a q none
 
-  pub some_shown : (a : Inside C) (q i : ℕ) (x y : Slot (Standing C)) (s : ShownRecords C) → AreGoodRecords a → view_of_records a ≡ s
+  pub some_shown : (a : Inside C) (q i : ℕ) (x y : Slot (Standing C)) (s : RecordsView C) → AreGoodRecords a → view_of_records a ≡ s
       → slot_at a.slots i ≡ Some x → x.number ≡ q → Some y ≡ slot_at a.slots i → get s.places q ≡ Some y.standing
   some_shown a q i x y s good is e same found = grind (arith, shown_at a i q x good e same)
 
-  pub never_absent : (a : Inside C) (q : ℕ) {r : Standing C} (s : ShownRecords C) {G : Type 0} → view_of_records a ≡ s → get s.places q ≡ Some r
+  pub never_absent : (a : Inside C) (q : ℕ) {r : Standing C} (s : RecordsView C) {G : Type 0} → view_of_records a ≡ s → get s.places q ≡ Some r
       → ((i : ℕ) (x : Slot (Standing C)) → slot_at a.slots i ≡ Some x → x.number ≢ q) → G
   never_absent a q {r} s is shows none = absurd (let clash : Some r ≡ None = sym shows ∙ none_shown a q s is none in cc)
 
   -- the record that is shown of a number stands where the number was found
-  pub stood : (a : Inside C) (q i : ℕ) (x : Slot (Standing C)) (test : Place C → Bool) (s : ShownRecords C) → AreGoodRecords a → view_of_records a ≡ s
+  pub stood : (a : Inside C) (q i : ℕ) (x : Slot (Standing C)) (test : Place C → Bool) (s : RecordsView C) → AreGoodRecords a → view_of_records a ≡ s
       → (r : Standing C) × (get s.places q ≡ Some r) × (test r.place ≡ true) → slot_at a.slots i ≡ Some x → x.number ≡ q → test x.standing.place ≡ true
   stood a q i x test s good is h e same = grind (arith, shown_at a i q x good e same)
 

@@ -19,7 +19,7 @@ pub use Rattle.bb8_types.specs.Places.{is_idle, is_unclaimed, is_conn, is_approv
 pub use Rattle.bb8_tables.specs.Slots.{IsTable, number_in, numbers_at, ArePlaces, IsRising, values_at, IsOrder, AllFrom, IsDistinct, IsLine}
 pub use Rattle.bb8_tables.specs.State.{view_of_records, AreGoodRecords, passes, IsLineOf, IsOrderOf, view_of_gets, AreGoodGets, AreWaitingPlaces}
 pub use Rattle.bb8_types.specs.Numbered.{tally, one}
-pub use Rattle.bb8_tables.specs.Views.{ShownRecords, NoneAfter, ShownGets}
+pub use Rattle.bb8_tables.specs.Views.{RecordsView, NoneAfter, GetsView}
 pub use Rattle.bb8_types.specs.Bounds.{most_records, end_of_numbers}
 pub use Rattle.bb8_types.specs.declared.standing.GetPlace.{GetPlace}
 pub use Rattle.bb8_types.specs.declared.standing.GetPlace.TheVariants.{Active, Waiting}

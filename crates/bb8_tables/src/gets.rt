@@ -28,9 +28,9 @@ pub struct Gets {
 }
 
 impl Model for Gets {
-    ghost use Rattle.bb8_tables.specs.Views.{ShownGets, gets_code};
+    ghost use Rattle.bb8_tables.specs.Views.{GetsView, gets_code};
 
-    ghost Value = { ShownGets };
+    ghost Value = { GetsView };
 
     ghost coded = { gets_code };
 

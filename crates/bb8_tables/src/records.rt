@@ -44,9 +44,9 @@ pub struct Records<C> {
 }
 
 impl<C> Model for Records<C> {
-    ghost use Rattle.bb8_tables.specs.Views.{ShownRecords, records_code};
+    ghost use Rattle.bb8_tables.specs.Views.{RecordsView, records_code};
 
-    ghost Value = { ShownRecords C };
+    ghost Value = { RecordsView C };
 
     ghost coded = { records_code C.code };
 

@@ -1,4 +1,4 @@
-use Rattle.bb8_core.proofs.Words.{◌≡◌, ℕ, false, Some, sym, ap, refl, subst, ◌∙◌, arith, Act, Unfit, Meets, Shown, ShownGets, view_of, get, holding_is}
+use Rattle.bb8_core.proofs.Words.{◌≡◌, ℕ, false, Some, sym, ap, refl, subst, ◌∙◌, arith, Act, Unfit, Meets, Shown, GetsView, view_of, get, holding_is}
 use Rattle.bb8_core.specs.Shown.{TellsFitting}
 use Rattle.bb8_ledger.specs.Acts as acts
 use Rattle.bb8_tables.specs.Machine as machine
@@ -38,5 +38,5 @@ returns-in-None-clause-step g c =
     let e : Act g.row.C.Denot = acts.CheckedOk c.args.get.number in
     let tells = subst (λ (s : Shown g.row.C.Denot). TellsFitting s e false) c.self.view_is (unfit_held a c.args.get.number c.in-None.ensures.none.0) in
     subst (λ (x : Shown g.row.C.Denot). Meets c.args.self.now c.args.at.0 e Unfit x × (x ≡ c.args.self.now))
-    (sym (ap (λ (gs : ShownGets). record a { gets = gs }) c.in-None.ensures.none.1 ∙ c.self.view_is))
+    (sym (ap (λ (gs : GetsView). record a { gets = gs }) c.in-None.ensures.none.1 ∙ c.self.view_is))
     (unfit_step c.args.at.0 e tells)

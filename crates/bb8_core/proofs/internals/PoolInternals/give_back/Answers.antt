@@ -1,4 +1,4 @@
-use Rattle.bb8_core.proofs.Words.{◌≡◌, true, false, Some, sym, ap, refl, subst, ◌∙◌, arith, Act, Unfit, Meets, Shown, ShownGets, view_of, get, holding_is, reason_of}
+use Rattle.bb8_core.proofs.Words.{◌≡◌, true, false, Some, sym, ap, refl, subst, ◌∙◌, arith, Act, Unfit, Meets, Shown, GetsView, view_of, get, holding_is, reason_of}
 use Rattle.bb8_core.specs.Shown.{TellsFitting}
 use Rattle.bb8_ledger.specs.Acts as acts
 use Rattle.bb8_core.proofs.Fitting.{shown_fits, fits_give_back, unfit_give_back, held_with, held_out, ended_few, closed_few, none_after}
@@ -14,7 +14,7 @@ returns-in_default-clause-step g c =
     let tells = subst (λ (s : Shown g.row.C.Denot). TellsFitting s e false) c.self.view_is
     (unfit_give_back a c.args.get.number (reason_of c.args.reason) c.args.conn c.args.broken c.in_default.ensures.none.0) in
     subst (λ (x : Shown g.row.C.Denot). Meets c.args.self.now c.args.at.0 e Unfit x × (x ≡ c.args.self.now))
-    (sym (ap (λ (gs : ShownGets). record a { gets = gs }) c.in_default.ensures.none.1 ∙ c.self.view_is))
+    (sym (ap (λ (gs : GetsView). record a { gets = gs }) c.in_default.ensures.none.1 ∙ c.self.view_is))
     (unfit_step c.args.at.0 e tells)
 
 pub put_back-requires : goal.put_back-requires

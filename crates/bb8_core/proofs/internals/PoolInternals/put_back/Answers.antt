@@ -1,4 +1,4 @@
-use Rattle.bb8_core.proofs.Words.{◌≡◌, false, sym, ap, subst, ◌∙◌, refl, Act, Unfit, Meets, Shown, ShownRecords, view_of}
+use Rattle.bb8_core.proofs.Words.{◌≡◌, false, sym, ap, subst, ◌∙◌, refl, Act, Unfit, Meets, Shown, RecordsView, view_of}
 use Rattle.bb8_core.specs.Shown.{TellsFitting}
 use Rattle.bb8_ledger.specs.Acts as acts
 use Rattle.bb8_core.proofs.Fitting.{shown_fits, fit_guarded, fits_guarded, unfit_guarded, closed_few, none_after}
@@ -16,7 +16,7 @@ returns-in-Err-clause-step g c =
     let none = c.in-Err.ensures.unfit in
     let tells = subst (λ (s : Shown g.row.C.Denot). TellsFitting s e false) c.self.view_is (unfit_guarded a c.args.k.number c.args.conn c.args.broken none.2) in
     subst (λ (x : Shown g.row.C.Denot). Meets c.args.self.now c.args.at.0 e Unfit x × (x ≡ c.args.self.now))
-    (sym (ap (λ (rs : ShownRecords g.row.C.Denot). record a { records = rs }) none.1 ∙ c.self.view_is))
+    (sym (ap (λ (rs : RecordsView g.row.C.Denot). record a { records = rs }) none.1 ∙ c.self.view_is))
     (unfit_step c.args.at.0 e tells)
 
 pub returns-in-Ok-Ok-clause-step : goal.returns-in-Ok-Ok-clause-step
