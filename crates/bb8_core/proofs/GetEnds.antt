@@ -1,5 +1,5 @@
 -- The steps at which a get lets go of what it holds, or ends without being served: both ends of a check, and a give-up.
-use Rattle.bb8_core.proofs.Words.{◌≡◌, ℕ, suc, ◌+◌, ◌*◌, max, min, Bool, true, false, not, eqb, ◌&&◌, ◌||◌, cond, List, Option, Some, None, slice_get, refl, sym, ap, ◌∙◌, IfSome, get, Grant, Idle, Active, Getting, Counters, reason_of, counts_held, Counts, CheckedOk, CheckedErr, GiveUp, Served, Kept, Closed, GaveUp, Numbered, update, in_order, standing_at, one, after_end, Ledger, Later, start, position, latest, records, gets, peak, get_peak, get_of, counts, wait_micros, broken, timed_out, cancelled, with_notice, get_at_place, unnotified_at, oldest_waiter, waiting, expires, holds, first_wait_of, is_notified, is_unnotified, gets_stand, micros_since, checks, check_fails, gives_up, gives_up_kept, gives_up_closed, Shown, IsFitting, RecordsView, GetsView, waited_before, peak_holds, get_peak_holds, holding_is, most_micros}
+use Rattle.bb8_core.proofs.Words.{◌≡◌, ℕ, suc, ◌+◌, ◌*◌, max, min, Bool, true, false, not, eqb, ◌&&◌, ◌||◌, cond, List, Option, Some, None, slice_get, refl, sym, ap, ◌∙◌, IfSome, get, Grant, Idle, Active, Getting, Counters, reason_of, counts_held, Counts, CheckedOk, CheckedErr, GiveUp, Served, Kept, Closed, GaveUp, Numbered, update, in_order, standing_at, one, after_end, Ledger, Later, start, position, latest, records, gets, peak, get_peak, get_of, counts, wait_micros, broken, timed_out, cancelled, with_notice, get_at_place, unnotified_at, oldest_waiter, waiting, expires, holds, first_wait_of, is_notified, is_unnotified, gets_stand, micros_since, checks, check_fails, gives_up, gives_up_kept, gives_up_closed, StateView, IsFitting, RecordsView, GetsView, waited_before, peak_holds, get_peak_holds, holding_is, most_micros}
 use Rattle.bb8_types.specs.declared.reasons.Reason.{Reason as Named}
 use Rattle.bb8_types.specs.declared.reasons.Reason.TheVariants as reasons
 use Rattle.bb8_tables.specs.Machine as machine
@@ -68,16 +68,16 @@ module _ {C : Type 0} where
   -- ---- a get that holds a connection
 
   -- what the code knows of it
-  pub record Holds (s : Shown C) (at g k now : ℕ) (o : Option Getting) : Type 0 where
+  pub record Holds (s : StateView C) (at g k now : ℕ) (o : Option Getting) : Type 0 where
     pub now_is : now ≡ max s.latest at
     pub get_is : o ≡ get s.gets.places g
     pub held : holds o ≡ Some k
 
   -- what is known of it is shown
-  abbrev IsHeld : Shown C → ℕ → ℕ → Type 0
+  abbrev IsHeld : StateView C → ℕ → ℕ → Type 0
   IsHeld s g k = holds (get s.gets.places g) ≡ Some k
 
-  is_held : {s : Shown C} {at g k now : ℕ} {o : Option Getting} → Holds s at g k now o → IsHeld s g k
+  is_held : {s : StateView C} {at g k now : ℕ} {o : Option Getting} → Holds s at g k now o → IsHeld s g k
   is_held h = ap (λ (x : Option Getting). holds x) (sym h.get_is) ∙ h.held
 
   holds_in : (l : Ledger C) (g k : ℕ) → IsHeld (shown l) g k → holds (get_of l g) ≡ Some k
@@ -90,7 +90,7 @@ module _ {C : Type 0} where
       n_is ∙ ap (λ (xs : List ℕ). slice_get xs 0) (without_other (start l).first_get (position l) (gets l) g st.0 st.1 (ap is_unnotified st.2))
 
   -- the check was passed
-  pub meets_passed : {s : Shown C} {at g k now : ℕ} {o : Option Getting} {since : Option ℕ} {rs : RecordsView C} {gs : GetsView}
+  pub meets_passed : {s : StateView C} {at g k now : ℕ} {o : Option Getting} {since : Option ℕ} {rs : RecordsView C} {gs : GetsView}
       {next : ℕ} (was : Counters) {is : Counters} → IsFitting s (CheckedOk g) → Holds s at g k now o → next ≡ s.records.next → rs ≡ machine.after_handover k s.records
       → gs ≡ machine.after_get_end g s.gets → s.counts ≡ counts_held was → since ≡ first_wait_of o → is ≡ served was now since
       → IsStep s at (CheckedOk g) (Served k (nothing next))
@@ -118,7 +118,7 @@ module _ {C : Type 0} where
       ))
 
   -- the check failed
-  pub meets_invalid : {s : Shown C} {at g k : ℕ} {broken : Bool} {now birth : ℕ} {aged : Bool} {o : Option Getting} {grant : Grant}
+  pub meets_invalid : {s : StateView C} {at g k : ℕ} {broken : Bool} {now birth : ℕ} {aged : Bool} {o : Option Getting} {grant : Grant}
       {rs : RecordsView C} {n : Option ℕ} {gs : GetsView} (was : Counters) {is : Counters} → IsFitting s (CheckedErr g broken)
       → Holds s at g k now o → Returned s at k now birth aged → IsEndGrant s k grant → rs ≡ ended_records s k grant
       → Notices (machine.after_turn Active g s.gets) n gs → s.counts ≡ counts_held was
@@ -186,7 +186,7 @@ module _ {C : Type 0} where
   count_closed l at g k reasons.Cancelled c broken grant n = refl
 
   -- the counters after a give-up, by what is shown
-  given_up_shown : (s : Shown C) (at g : ℕ) (reason : Named) (was : Counters) {now : ℕ} {o : Option Getting} {since : Option ℕ} {is : Counters} → now ≡ max s.latest at → o ≡ get s.gets.places g
+  given_up_shown : (s : StateView C) (at g : ℕ) (reason : Named) (was : Counters) {now : ℕ} {o : Option Getting} {since : Option ℕ} {is : Counters} → now ≡ max s.latest at → o ≡ get s.gets.places g
       → since ≡ first_wait_of o → is ≡ given_up reason now since was → is ≡ given_up reason (max s.latest at) (first_wait_of (get s.gets.places g)) was
   given_up_shown s at g reason was {since = since} now_is get_is since_is counted =
       counted ∙ ap (λ (m : ℕ). given_up reason m since was) now_is
@@ -203,7 +203,7 @@ module _ {C : Type 0} where
       go false off e = e
 
   -- no connection is handed in, and whether it is broken does not matter
-  pub meets_given_up : {s : Shown C} {at g : ℕ} (reason : Named) (broken : Bool) {now : ℕ} {o : Option Getting} {since : Option
+  pub meets_given_up : {s : StateView C} {at g : ℕ} (reason : Named) (broken : Bool) {now : ℕ} {o : Option Getting} {since : Option
       ℕ} {left : GetsView} {test : Bool} {n : Option ℕ} {gs : GetsView} (was : Counters) {is : Counters}
       → IsFitting s (GiveUp g (reason_of reason) None broken) → now ≡ max s.latest at → o ≡ get s.gets.places g
       → left ≡ machine.after_get_end g s.gets → test ≡ gets_stand is_notified o → n ≡ cond test (slice_get left.waiting 0) None
@@ -234,7 +234,7 @@ module _ {C : Type 0} where
       ))
 
   -- the connection that is handed in is idle again
-  pub meets_given_up_kept : {s : Shown C} {at g k : ℕ} (reason : Named) {c : C} {broken : Bool} {now birth : ℕ} {aged : Bool} {o : Option
+  pub meets_given_up_kept : {s : StateView C} {at g k : ℕ} (reason : Named) {c : C} {broken : Bool} {now birth : ℕ} {aged : Bool} {o : Option
       Getting} {since : Option ℕ} {rs : RecordsView C} {n : Option ℕ} {gs : GetsView} (was : Counters) {is : Counters}
       → IsFitting s (GiveUp g (reason_of reason) (Some c) broken) → Holds s at g k now o → Returned s at k now birth aged
       → (broken || (aged || eqb s.handles 0)) ≡ false
@@ -265,7 +265,7 @@ module _ {C : Type 0} where
       ))
 
   -- the connection that is handed in is closed
-  pub meets_given_up_closed : {s : Shown C} {at g k : ℕ} (reason : Named) {c : C} {broken : Bool} {now birth : ℕ} {aged : Bool} {o : Option
+  pub meets_given_up_closed : {s : StateView C} {at g k : ℕ} (reason : Named) {c : C} {broken : Bool} {now birth : ℕ} {aged : Bool} {o : Option
       Getting} {since : Option ℕ} {grant : Grant} {rs : RecordsView C} {n : Option ℕ} {gs : GetsView} (was : Counters)
       {mid is : Counters} → IsFitting s (GiveUp g (reason_of reason) (Some c) broken) → Holds s at g k now o → Returned s at k now birth aged
       → (broken || (aged || eqb s.handles 0)) ≡ true → IsEndGrant s k grant → rs ≡ ended_records s k grant

@@ -1,5 +1,5 @@
 -- Each step, from what it does to what is shown to what it does on every legal ledger.
-use Rattle.bb8_core.proofs.Words.{◌≡◌, ℕ, suc, ◌+◌, ◌-◌, ◌*◌, ◌<◌, ◌≤◌, max, min, Bool, true, false, not, eqb, ◌&&◌, ◌||◌, List, length, Option, Some, None, slice_get, refl, sym, ap, ◌∙◌, arith, subst, is_some, MatchBool, ◌≢◌, IfSome, cond, ltb, get, nat_tests, Grant, Place, Claimed, Idle, Held, Guarded, Standing, Holding, Getting, Counters, counts_held, Counts, Figures, Act, Begin, Try, PutBack, Fill, Claim, Opened, Failed, Add, Join, Leave, Look, Answer, Begun, Memory, Exhausted, Served, Taken, Kept, Closed, Granted, Ended, Entered, Late, GivenBack, Broken, NoCapacity, Withheld, Added, Joined, Left, Looked, Numbered, update, one, after_end, at_entry, Ledger, Later, start, position, latest, handles, records, gets, peak, get_peak, alive, idle, record_of, get_of, idle_at, at_place, entry, with_approvals, idle_count, conns_of, approved_of, alive_of, counts, figures, wait_micros, next, with_notice, oldest_waiter, waiting, stands, first_of, first_place, first_wait_of, is_claimed, is_guarded, is_out, is_unnotified, gets_stand, birth_in, is_expired, micros_since, Allowed, IsLegal, Row, begins, begin_refused, begin_exhausted, serves, keeps, returns_closed, takes_out, fills, claims, claim_ended, opens, opens_late, fails, fits, closes, IsWant, with_record, adds, add_broken, add_full, add_exhausted, add_refused, waits_on, waits, joins, join_exhausted, leaves, looks, due, lacking, IsGranted, IsNoGrant, Shown, shown_records, shown_gets, Means, Meets, HasLedger, IsFitting, RecordsView, GetsView, Before, before_later, ne_test, standing_is, claimed_is, guarded_out, idle_from, unclaimed_from, conn_from, entered_before, waited_before, put_before, ended_before, peak_holds, get_peak_holds, idle_counted, idle_tally, trying_is, claimed_counted, waits_on_gets, end_of_numbers, most_handles, most_micros, State, ShownFigures, shows}
+use Rattle.bb8_core.proofs.Words.{◌≡◌, ℕ, suc, ◌+◌, ◌-◌, ◌*◌, ◌<◌, ◌≤◌, max, min, Bool, true, false, not, eqb, ◌&&◌, ◌||◌, List, length, Option, Some, None, slice_get, refl, sym, ap, ◌∙◌, arith, subst, is_some, MatchBool, ◌≢◌, IfSome, cond, ltb, get, nat_tests, Grant, Place, Claimed, Idle, Held, Guarded, Standing, Holding, Getting, Counters, counts_held, Counts, Figures, Act, Begin, Try, PutBack, Fill, Claim, Opened, Failed, Add, Join, Leave, Look, Answer, Begun, Memory, Exhausted, Served, Taken, Kept, Closed, Granted, Ended, Entered, Late, GivenBack, Broken, NoCapacity, Withheld, Added, Joined, Left, Looked, Numbered, update, one, after_end, at_entry, Ledger, Later, start, position, latest, handles, records, gets, peak, get_peak, alive, idle, record_of, get_of, idle_at, at_place, entry, with_approvals, idle_count, conns_of, approved_of, alive_of, counts, figures, wait_micros, next, with_notice, oldest_waiter, waiting, stands, first_of, first_place, first_wait_of, is_claimed, is_guarded, is_out, is_unnotified, gets_stand, birth_in, is_expired, micros_since, Allowed, IsLegal, Row, begins, begin_refused, begin_exhausted, serves, keeps, returns_closed, takes_out, fills, claims, claim_ended, opens, opens_late, fails, fits, closes, IsWant, with_record, adds, add_broken, add_full, add_exhausted, add_refused, waits_on, waits, joins, join_exhausted, leaves, looks, due, lacking, IsGranted, IsNoGrant, StateView, shown_records, shown_gets, Means, Meets, HasLedger, IsFitting, RecordsView, GetsView, Before, before_later, ne_test, standing_is, claimed_is, guarded_out, idle_from, unclaimed_from, conn_from, entered_before, waited_before, put_before, ended_before, peak_holds, get_peak_holds, idle_counted, idle_tally, trying_is, claimed_counted, waits_on_gets, end_of_numbers, most_handles, most_micros, State, ShownFigures, shows}
 use Rattle.std.proofs.lemmas.Bool.Decides.{leb_tells}
 use Rattle.bb8_ledger.specs.Answers as answers
 use Rattle.bb8_tables.specs.Machine as machine
@@ -47,26 +47,26 @@ abbrev pub closed_counters : Counters → Bool → Bool → Counters
 closed_counters was broken aged = record was { broken = was.broken + one broken; max_lifetime = was.max_lifetime + one (not broken && aged) }
 
 module _ {C : Type 0} where
-  pub same_shown : (s t : Shown C) → s.lent ≡ t.lent → s.config ≡ t.config → s.latest ≡ t.latest → s.handles ≡ t.handles → s.records ≡ t.records → s.gets ≡ t.gets → s.counts ≡ t.counts → s ≡ t
+  pub same_shown : (s t : StateView C) → s.lent ≡ t.lent → s.config ≡ t.config → s.latest ≡ t.latest → s.handles ≡ t.handles → s.records ≡ t.records → s.gets ≡ t.gets → s.counts ≡ t.counts → s ≡ t
   same_shown s t lent config latest handles records gets counts = λ i. record { config = config i; latest = latest i; handles = handles i; records = records i; gets = gets i; counts = counts i; lent = lent i }
 
   -- What an event does to a state, as a fact that names the event and the answer: on each legal ledger that the state means the answer is
   -- allowed, and the ledger that it leads to shows this.
-  pub record Step (s : Shown C) (at : ℕ) (e : Act C) (a : Answer) (new : Shown C) : Type 0 where
+  pub record Step (s : StateView C) (at : ℕ) (e : Act C) (a : Answer) (new : StateView C) : Type 0 where
     pub leads : (l : Ledger C) → IsLegal l → Means l s → Allowed l at e a × (shown (Later l at e a) ≡ new)
 
   -- whatever was lent
-  abbrev pub IsStep : Shown C → ℕ → Act C → Answer → Shown C → Type 0
+  abbrev pub IsStep : StateView C → ℕ → Act C → Answer → StateView C → Type 0
   IsStep s at e a new = Step s at e a (unexamined new)
 
   -- A step leads from a state that has a ledger to one that has one. The old state is the view of the fields.
-  pub led : {s t : Shown C} (new : Shown C) (at : ℕ) (e : Act C) (a : Answer) → s ≡ t → HasLedger s → Meets t at e a new → HasLedger new
+  pub led : {s t : StateView C} (new : StateView C) (at : ℕ) (e : Act C) (a : Answer) → s ≡ t → HasLedger s → Meets t at e a new → HasLedger new
   led new at e a is h meets = let step = meets h.0 h.1 (as_shown h.0 is h.2) in (Later h.0 at e a, (h.1, step.0), step.1)
 
-  pub at_view : {s t new : Shown C} {at : ℕ} {e : Act C} {a : Answer} → s ≡ t → IsStep s at e a new → Meets t at e a new
+  pub at_view : {s t new : StateView C} {at : ℕ} {e : Act C} {a : Answer} → s ≡ t → IsStep s at e a new → Meets t at e a new
   at_view {at = at} {e = e} {a = a} is m l legal means = let done = m.leads l legal (as_shown l (sym is) means) in (done.0, beside (Later l at e a) done.1)
 
-  pub fits_view : {s t : Shown C} (e : Act C) → s ≡ t → IsFitting t e → IsFitting s e
+  pub fits_view : {s t : StateView C} (e : Act C) → s ≡ t → IsFitting t e → IsFitting s e
   fits_view e is f l legal means = f l legal (as_shown l is means)
 
   -- the records and the gets of a ledger, as they are shown after the event that comes next
@@ -84,7 +84,7 @@ module _ {C : Type 0} where
   gets_kept l = shown-kept (start l).first_get (position l) (get_peak l) (gets l) (waited_before l) (get_peak_holds l)
 
   -- A step is proved of what a ledger shows: what is known of the state is known of that, and the new state is told by the old one.
-  pub meets_by : (Known : Shown C → Type 0) (next : Shown C → Shown C) (s new : Shown C) (at : ℕ) (e : Act C) (a : Answer) → IsFitting s e
+  pub meets_by : (Known : StateView C → Type 0) (next : StateView C → StateView C) (s new : StateView C) (at : ℕ) (e : Act C) (a : Answer) → IsFitting s e
       → Known (unexamined s) → new ≡ next (unexamined s) → ((l : Ledger C) → IsLegal l → fits l e ≡ true → Known (shown l) → Row l at e a
       × (shown (Later l at e a) ≡ next (shown l))) → Step s at e a new
   meets_by Known next s new at e a fit known is step = record {
@@ -116,11 +116,11 @@ module _ {C : Type 0} where
   changed claimed l n rs new is = ap machine.with_peak (shown-approve claimed n (start l).first (suc (position l)) (peak l) rs ∙ ap (machine.after_approvals claimed n) is)
 
   -- what is granted of what is wanted, once the records have changed to these
-  pub record Grants (s : Shown C) (claimed : Bool) (was : RecordsView C) (grant : Grant) (rs : RecordsView C) : Type 0 where
+  pub record Grants (s : StateView C) (claimed : Bool) (was : RecordsView C) (grant : Grant) (rs : RecordsView C) : Type 0 where
     pub granted : machine.IsGrant was (decided.want s.config s.handles was) grant
     pub after : rs ≡ machine.after_grant claimed grant was
 
-  pub grants : {s : Shown C} {claimed : Bool} {taken was : RecordsView C} {wanted : ℕ} {grant : Grant} {rs : RecordsView C} → taken ≡ was
+  pub grants : {s : StateView C} {claimed : Bool} {taken was : RecordsView C} {wanted : ℕ} {grant : Grant} {rs : RecordsView C} → taken ≡ was
       → wanted ≡ decided.want s.config s.handles taken → machine.IsGrant taken wanted grant → rs ≡ machine.after_grant claimed grant taken
       → Grants s claimed was grant rs
   grants {s} {claimed} {taken} {grant = grant} taken_is wanted_is granted rs_is = record {
@@ -166,24 +166,24 @@ module _ {C : Type 0} where
       || (is_expired (start l).config.max_lifetime (max (latest l) at) (birth_in o) || eqb (handles l) 0)) (shown_record l (shown l) refl k)
 
   -- what the code knows when a connection has come back
-  pub record Returned (s : Shown C) (at k now birth : ℕ) (aged : Bool) : Type 0 where
+  pub record Returned (s : StateView C) (at k now birth : ℕ) (aged : Bool) : Type 0 where
     pub now_is : now ≡ max s.latest at
     pub birth_is : birth ≡ birth_in (get s.records.places k)
     pub aged_is : aged ≡ is_expired s.config.max_lifetime now birth
 
-  old_is : (s : Shown C) (at k now birth : ℕ) (aged : Bool) → Returned s at k now birth aged → decided.is_old s at k ≡ aged
+  old_is : (s : StateView C) (at k now birth : ℕ) (aged : Bool) → Returned s at k now birth aged → decided.is_old s at k ≡ aged
   old_is s at k now birth aged r = sym (r.aged_is ∙ ap (λ (n : ℕ). is_expired s.config.max_lifetime n birth) r.now_is ∙ ap (is_expired s.config.max_lifetime (max s.latest at)) r.birth_is)
 
   -- so what the code decides of it is what is decided
-  pub closing_is : {s : Shown C} {at k now birth : ℕ} {aged closing : Bool} (broken : Bool) → Returned s at k now birth aged
+  pub closing_is : {s : StateView C} {at k now birth : ℕ} {aged closing : Bool} (broken : Bool) → Returned s at k now birth aged
       → (broken || (aged || eqb s.handles 0)) ≡ closing → decided.closes s at k broken ≡ closing
   closing_is {s} {at} {k} {now} {birth} {aged} broken r is = ap (λ (b : Bool). broken || (b || eqb s.handles 0)) (old_is s at k now birth aged r) ∙ is
 
   -- the records once it is idle again, with the birth that it had
-  abbrev pub kept_records : Shown C → ℕ → ℕ → C → RecordsView C
+  abbrev pub kept_records : StateView C → ℕ → ℕ → C → RecordsView C
   kept_records s at k c = machine.after_entry false k (record { place = Idle c; birth = birth_in (get s.records.places k); entered = max s.latest at }) s.records
 
-  pub kept_is : {s : Shown C} {at k now birth : ℕ} (c : C) {aged : Bool} {rs : RecordsView C} → Returned s at k now birth aged
+  pub kept_is : {s : StateView C} {at k now birth : ℕ} (c : C) {aged : Bool} {rs : RecordsView C} → Returned s at k now birth aged
       → rs ≡ machine.after_entry false k (record { place = Idle c; birth = birth; entered = now }) s.records → rs ≡ kept_records s at k c
   kept_is {s} {at} {k} {now} {birth} c r rs_is =
       rs_is
@@ -203,11 +203,11 @@ module _ {C : Type 0} where
       (shown l).records) (shown_record l (shown l) refl k)
 
   -- what is granted once it has ended
-  abbrev pub IsEndGrant : Shown C → ℕ → Grant → Type 0
+  abbrev pub IsEndGrant : StateView C → ℕ → Grant → Type 0
   IsEndGrant s k grant = machine.IsGrant (machine.after_close false k s.records) (decided.want s.config s.handles (machine.after_close false k s.records)) grant
 
   -- the records once it has ended, and approvals were granted
-  abbrev pub ended_records : Shown C → ℕ → Grant → RecordsView C
+  abbrev pub ended_records : StateView C → ℕ → Grant → RecordsView C
   ended_records s k grant = machine.after_grant false grant (machine.after_close false k s.records)
 
   pub ended_shown : (l : Ledger C) (k : ℕ) (st : Standing C) (grant : Grant) → record_of l k ≡ Some st → is_out st.place ≡ true
@@ -221,7 +221,7 @@ module _ {C : Type 0} where
         changed false l grant.count (with_record l k after_end) _ later,
       )
 
-  pub meets_returned_kept : {s : Shown C} {at k : ℕ} {c : C} {broken : Bool} {now birth : ℕ} {aged : Bool} {rs : RecordsView C} {n : Option
+  pub meets_returned_kept : {s : StateView C} {at k : ℕ} {c : C} {broken : Bool} {now birth : ℕ} {aged : Bool} {rs : RecordsView C} {n : Option
       ℕ} {gs : GetsView} → IsFitting s (PutBack k c broken) → Notices s.gets n gs → Returned s at k now birth aged
       → (broken || (aged || eqb s.handles 0)) ≡ false
       → rs ≡ machine.after_entry false k (record { place = Idle c; birth = birth; entered = now }) s.records
@@ -238,14 +238,14 @@ module _ {C : Type 0} where
       ))
 
   -- what the code counts of it is what is decided
-  pub closed_is : {s : Shown C} {at k now birth : ℕ} {aged : Bool} (was : Counters) {is : Counters} (broken : Bool)
+  pub closed_is : {s : StateView C} {at k now birth : ℕ} {aged : Bool} (was : Counters) {is : Counters} (broken : Bool)
       → Returned s at k now birth aged → is ≡ closed_counters was broken aged → is ≡ closed_counters was broken (decided.is_old s at k)
   closed_is {s} {at} {k} {now} {birth} {aged} was broken r is_is = is_is ∙ ap (closed_counters was broken) (sym (old_is s at k now birth aged r))
 
   pub old_shown : (l : Ledger C) (at k : ℕ) → is_expired (start l).config.max_lifetime (max (latest l) at) (birth_in (record_of l k)) ≡ decided.is_old (shown l) at k
   old_shown l at k = ap (λ (o : Option (Standing C)). is_expired (start l).config.max_lifetime (max (latest l) at) (birth_in o)) (shown_record l (shown l) refl k)
 
-  pub meets_returned_closed : {s : Shown C} {at k : ℕ} {c : C} {broken : Bool} {now birth : ℕ} {aged : Bool} {grant : Grant} {rs : RecordsView
+  pub meets_returned_closed : {s : StateView C} {at k : ℕ} {c : C} {broken : Bool} {now birth : ℕ} {aged : Bool} {grant : Grant} {rs : RecordsView
       C} {n : Option ℕ} {gs : GetsView} (was : Counters) {is : Counters} → IsFitting s (PutBack k c broken) → Notices s.gets n gs
       → Returned s at k now birth aged → (broken || (aged || eqb s.handles 0)) ≡ true → IsEndGrant s k grant → rs ≡ ended_records s k grant
       → s.counts ≡ counts_held was → is ≡ closed_counters was broken aged
@@ -273,10 +273,10 @@ module _ {C : Type 0} where
       ))
 
   -- what a state shows is what its ledger tells
-  pub figures_told : (s : Shown C) (l : Ledger C) → Means l s → record { connections = s.records.conns; idle = length s.records.idle; counts = s.counts } ≡ figures l
+  pub figures_told : (s : StateView C) (l : Ledger C) → Means l s → record { connections = s.records.conns; idle = length s.records.idle; counts = s.counts } ≡ figures l
   figures_told s l means =
       let told : Figures = record { connections = conns_of (records l); idle = length (idle l); counts = counts l } in
-      ap (λ (t : Shown C). record { connections = t.records.conns; idle = length t.records.idle; counts = t.counts }) (sym means)
+      ap (λ (t : StateView C). record { connections = t.records.conns; idle = length t.records.idle; counts = t.counts }) (sym means)
       ∙ ap (λ (n : ℕ). record { connections = conns_of (records l); idle = n; counts = counts l }) (idle_tally l)
 
   -- ---- try
@@ -296,11 +296,11 @@ module _ {C : Type 0} where
       ∙ ap (λ (o : Option Getting). counts_held (served was (max (latest l) at) (first_wait_of o))) (shown_get l (shown l) refl g)
 
   -- what the code knows when a get tries
-  pub record Tries (s : Shown C) (g : ℕ) (o : Option Getting) : Type 0 where
+  pub record Tries (s : StateView C) (g : ℕ) (o : Option Getting) : Type 0 where
     pub fit : IsFitting s (Try g)
     pub get_is : o ≡ get s.gets.places g
 
-  pub tries : {s t : Shown C} {g : ℕ} {o : Option Getting} → s ≡ t → IsFitting t (Try g) → o ≡ get s.gets.places g → Tries s g o
+  pub tries : {s t : StateView C} {g : ℕ} {o : Option Getting} → s ≡ t → IsFitting t (Try g) → o ≡ get s.gets.places g → Tries s g o
   tries {g = g} is fit get_is = record { fit = fits_view (Try g) is fit; get_is = get_is }
 
   -- a test of the get, as it is shown
@@ -308,7 +308,7 @@ module _ {C : Type 0} where
   line_test l g b is = ap (gets_stand is_unnotified) (shown_get l (shown l) refl g) ∙ is
 
   -- the first idle connection goes out, and what is wanted then is granted
-  abbrev pub IsTakeGrant : Shown C → Place C → ℕ → Grant → Type 0
+  abbrev pub IsTakeGrant : StateView C → Place C → ℕ → Grant → Type 0
   IsTakeGrant s out k grant = machine.IsGrant (machine.after_take out k s.records) (decided.want s.config s.handles (machine.after_take out k s.records)) grant
 
   taken_shown : (l : Ledger C) (out : Place C) (k : ℕ) (grant : Grant) → is_out out ≡ true
@@ -330,7 +330,7 @@ module _ {C : Type 0} where
       (want_is l rs grant _ (put_before (position l) (start l).first k out (records l) off (entered_before l)) is granted, changed false l grant.count rs _ later)
 
   -- what is due to a get that waits
-  pub due_waiting : (s : Shown C) {taken : RecordsView C} {alive_now d : ℕ} → taken ≡ s.records → alive_now ≡ s.gets.alive
+  pub due_waiting : (s : StateView C) {taken : RecordsView C} {alive_now d : ℕ} → taken ≡ s.records → alive_now ≡ s.gets.alive
       → d ≡ due s.config s.handles (taken.conns + taken.approved) (one (ltb taken.approved alive_now))
       → d ≡ due s.config s.handles (s.records.conns + s.records.approved) (one (ltb s.records.approved s.gets.alive))
   due_waiting s {taken} taken_is alive_is d_is =
@@ -342,18 +342,18 @@ module _ {C : Type 0} where
   left_shown l b = let rs : List (Numbered (Standing C)) = cond b (shut (records l)) (records l) in shown_records (start l).first (suc (position l)) (max (peak l) (conns_of rs + approved_of rs)) rs
 
   -- what the code knows when one is added that is not broken, and there is room
-  pub record Adds (s : Shown C) (c : C) : Type 0 where
+  pub record Adds (s : StateView C) (c : C) : Type 0 where
     pub fit : IsFitting s (Add c false)
     pub room : s.records.conns + s.records.approved ≢ s.config.max_size
 
-  pub has_room : {s t : Shown C} {c : C} {used : ℕ} → s ≡ t → IsFitting t (Add c false) → used ≡ s.records.conns + s.records.approved → used ≢ s.config.max_size → Adds s c
+  pub has_room : {s t : StateView C} {c : C} {used : ℕ} → s ≡ t → IsFitting t (Add c false) → used ≡ s.records.conns + s.records.approved → used ≢ s.config.max_size → Adds s c
   has_room {c = c} is fit used_is room = record { fit = fits_view (Add c false) is fit; room = λ e. room (used_is ∙ e) }
 
   -- ---- the steps, where the moment of the event is told
 
-  module _ {s : Shown C} {at now : ℕ} (now_is : now ≡ max s.latest at) where
+  module _ {s : StateView C} {at now : ℕ} (now_is : now ≡ max s.latest at) where
     -- an event that changes the latest moment alone
-    pub meets_quiet : (Known : Shown C → Type 0) {rs : RecordsView C} {gs : GetsView} (e : Act C) (a : Answer) → IsFitting s e → Known (unexamined s) → rs ≡ s.records → gs ≡ s.gets
+    pub meets_quiet : (Known : StateView C → Type 0) {rs : RecordsView C} {gs : GetsView} (e : Act C) (a : Answer) → IsFitting s e → Known (unexamined s) → rs ≡ s.records → gs ≡ s.gets
         → ((l : Ledger C) → (latest (Later l at e a) ≡ max (latest l) at) × (handles (Later l at e a) ≡ handles l)
         × (counts (Later l at e a) ≡ counts l)) → ((l : Ledger C) → IsLegal l → fits l e ≡ true → Known (shown l) → Row l at e a
         × (records (Later l at e a) ≡ records l) × (gets (Later l at e a) ≡ gets l))

@@ -6,7 +6,7 @@ ghost use Rattle.std.specs.Prelude.{◌≡◌, None, Some, IfOk, IfErr, IfSome, 
 ghost use Rattle.bb8_ledger.specs.Acts as acts;
 ghost use Rattle.bb8_ledger.specs.Answers as answers;
 ghost use Rattle.bb8_core.specs.Asked.{Stepped, OrComesBack};
-ghost use Rattle.bb8_core.specs.Shown.{IsWithinLimits, Meets};
+ghost use Rattle.bb8_core.specs.StateView.{IsWithinLimits, Meets};
 ghost use Rattle.bb8_core.specs.StepAnswers.{begin_told, try_told, checked_ok_told, checked_err_told, reason_of, give_up_told, put_back_told, opened_told, failed_told, add_told, join_told, leave_told, HandsOut, GivesBack, GivesBackInvalid, GivesBackHeld, HandsBack, Refuses, ServesAtOnce, NotAtOnce, Starts};
 
 use crate::api::Moment;

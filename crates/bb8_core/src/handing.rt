@@ -6,7 +6,7 @@ ghost use Rattle.std.specs.Prelude.{None, Some, IfSome, IfOk};
 ghost use Rattle.bb8_ledger.specs.Acts as acts;
 ghost use Rattle.bb8_core.specs.Asked.{Stepped, OrComesBack};
 ghost use Rattle.bb8_core.specs.HandedOver.{HandsOver, Follows};
-ghost use Rattle.bb8_core.specs.Shown.{IsFitting, IsWithinLimits};
+ghost use Rattle.bb8_core.specs.StateView.{IsFitting, IsWithinLimits};
 ghost use Rattle.bb8_core.specs.StepAnswers.{checked_err_told, give_up_told, put_back_told, opened_told, add_told, reason_of, GivesBack, GivesBackInvalid, GivesBackHeld, HandsBack, Refuses};
 
 use crate::api::Moment;

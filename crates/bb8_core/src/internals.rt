@@ -13,7 +13,7 @@ ghost use Rattle.bb8_types.specs.Figures.{figures_of};
 ghost use Rattle.bb8_core.specs.Endings.{endings_of};
 ghost use Rattle.bb8_core.specs.Run.{opening};
 ghost use Rattle.bb8_core.specs.Parts.{out_of};
-ghost use Rattle.bb8_core.specs.Shown.{Means, Meets, Lends, Searches, examined, searched, IsFitting, IsWithinLimits};
+ghost use Rattle.bb8_core.specs.StateView.{Means, Meets, Lends, Searches, examined, searched, IsFitting, IsWithinLimits};
 ghost use Rattle.bb8_core.specs.Asked.{Stepped, OrComesBack};
 ghost use Rattle.bb8_core.specs.Closings.{OffersReaped, OffersLeft};
 ghost use Rattle.bb8_core.specs.StepAnswers.{begin_told, try_told, checked_ok_told, checked_err_told, reason_of, give_up_told, put_back_told, claim_told, opened_told, failed_told, add_told, reap_told, join_told, leave_told, look_told, HandsOut, ServesAtOnce, NoneAtOnce, Starts, GivesBack, GivesBackInvalid, GivesBackHeld, HandsBack, Refuses, closed_in};
@@ -65,12 +65,12 @@ pub struct PoolInternals<C, A = Asking> {
 }
 
 impl<C, A> Model for PoolInternals<C, A> {
-    ghost use Rattle.bb8_core.specs.Shown.{Shown, shown_code, HasLedger};
+    ghost use Rattle.bb8_core.specs.StateView.{StateView, state_view_code, HasLedger};
     ghost use Rattle.bb8_core.specs.Pool.{view_of};
 
-    ghost Value = { Shown C };
+    ghost Value = { StateView C };
 
-    ghost coded = { shown_code C.code };
+    ghost coded = { state_view_code C.code };
 
     ghost view = { view_of };
 

@@ -10,7 +10,7 @@ ghost use Rattle.bb8_tables.specs.Keys.{notified_of};
 ghost use Rattle.bb8_core.specs.Run.{act_with, fits_named, answer_of, opening, IsRun, Happens, Applies, AfterEach};
 ghost use Rattle.bb8_core.specs.declared.replay.events.Act.TheVariants as events;
 ghost use Rattle.bb8_types.specs.Settings.{settings_of, is_lawful};
-ghost use Rattle.bb8_core.specs.Shown.{Means, Meets};
+ghost use Rattle.bb8_core.specs.StateView.{Means, Meets};
 ghost use Rattle.bb8_core.specs.StepAnswers.{give_up_told};
 
 mod events;

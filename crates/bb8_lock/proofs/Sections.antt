@@ -27,7 +27,7 @@ use Rattle.bb8_ledger.specs.Acts.{Act, Begin, Try, CheckedErr, GiveUp, PutBack, 
 use Rattle.bb8_ledger.specs.Answers as answers
 use Rattle.bb8_ledger.specs.Answers.{Answer, Begun, Broken, Granted, Unfit}
 use Rattle.bb8_ledger.specs.Table.{Allowed, Row, fills, add_broken, gives_up}
-use Rattle.bb8_core.specs.Shown.{Shown, Means, Meets, IsWithinLimits, Steps}
+use Rattle.bb8_core.specs.StateView.{StateView, Means, Meets, IsWithinLimits, Steps}
 use Rattle.bb8_core.specs.Asked.{answered}
 use Rattle.bb8_core.specs.Run.{opening}
 use Rattle.bb8_lock.specs.Parts.{goes_out, parts_back}
@@ -49,7 +49,7 @@ refuses_broken _ = false
 
 module _ {C : Type 0} where
   -- a step that moves nothing leaves the parts as they are
-  pub unmoved : (old new : Shown C) (at : ℕ) (e : Act C) (a : Answer) (rest : ℕ) → Steps old at e a new
+  pub unmoved : (old new : StateView C) (at : ℕ) (e : Act C) (a : Answer) (rest : ℕ) → Steps old at e a new
       → (Moves e a (out_of old) (out_of new) → out_of new ≡ out_of old) → out_of old + rest ≡ old.config.max_size
       → out_of new + rest ≡ new.config.max_size
   unmoved old new at e a rest s same parts =
@@ -59,11 +59,11 @@ module _ {C : Type 0} where
       omega (arith, moved, size, parts)
 
   -- no step changes the settings
-  pub kept_settings : (old new : Shown C) (at : ℕ) (e : Act C) (a : Answer) (settings : Settings) → Steps old at e a new → old.config ≡ settings → new.config ≡ settings
+  pub kept_settings : (old new : StateView C) (at : ℕ) (e : Act C) (a : Answer) (settings : Settings) → Steps old at e a new → old.config ≡ settings → new.config ≡ settings
   kept_settings old new at e a settings s is = (counted old at e a new s.0.0 s.1).config ∙ is
 
   -- a step that moves nothing leaves the parts and the settings as they are
-  pub all_kept : {old new : Shown C} (at : ℕ) (e : Act C) (a : Answer) (rest : ℕ) {settings : Settings} → Steps old at e a new
+  pub all_kept : {old new : StateView C} (at : ℕ) (e : Act C) (a : Answer) (rest : ℕ) {settings : Settings} → Steps old at e a new
       → (Moves e a (out_of old) (out_of new) → out_of new ≡ out_of old) → out_of old + rest ≡ old.config.max_size → old.config ≡ settings
       → (out_of new + rest ≡ new.config.max_size) × (new.config ≡ settings)
   all_kept {old} {new} at e a rest {settings} s same parts is = (unmoved old new at e a rest s same parts, kept_settings old new at e a settings s is)
@@ -75,7 +75,7 @@ module _ {C : Type 0} where
   goes g (tried.Waiting grant) before after moves = omega (arith, moves)
 
   -- where a connection goes out there is a part for it, and with it the rest of the parts counts what is not out; the settings are kept
-  pub try_parts : {old new : Shown C} (at g : ℕ) (told : TryAnswer C) (rest : ℕ) {settings : Settings} → Steps old at (Try g) (try_told told) new
+  pub try_parts : {old new : StateView C} (at g : ℕ) (told : TryAnswer C) (rest : ℕ) {settings : Settings} → Steps old at (Try g) (try_told told) new
       → out_of old + rest ≡ old.config.max_size → old.config ≡ settings
       → (goes_out told ≤ rest) × ((less : ℕ) → less + goes_out told ≡ rest → out_of new + less ≡ new.config.max_size) × (new.config ≡ settings)
   try_parts {old} {new} at g told rest {settings} s parts is =
@@ -85,7 +85,7 @@ module _ {C : Type 0} where
       (omega (arith, moved, size, parts, k.few), λ less split. omega (arith, moved, size, parts, split), k.config ∙ is)
 
   -- so of a get that begins and tries
-  pub start_parts : (old new : Shown C) (at : ℕ) (g : GetKey) (told : TryAnswer C) (rest : ℕ) {settings : Settings} → IsWithinLimits old
+  pub start_parts : (old new : StateView C) (at : ℕ) (g : GetKey) (told : TryAnswer C) (rest : ℕ) {settings : Settings} → IsWithinLimits old
       → Starts old at (starting.Tried g told) new → out_of old + rest ≡ old.config.max_size → old.config ≡ settings
       → (goes_out told ≤ rest) × ((less : ℕ) → less + goes_out told ≡ rest → out_of new + less ≡ new.config.max_size) × (new.config ≡ settings)
   start_parts old new at g told rest is s parts same =
@@ -93,7 +93,7 @@ module _ {C : Type 0} where
       try_parts at g.number told rest (within s.0 (follows old s.0 at Begin (Begun g.number) is.0 s.1), s.2) kept.0 kept.1
 
   -- a get that begins and tries does both in a state of these settings
-  pub starts_in : {P : Type 0} (old new : Shown C) {settings : Settings} (at : Moment) (g : GetKey) (t : Tried C P) {told : TryAnswer C} → in_core t ≡ told
+  pub starts_in : {P : Type 0} (old new : StateView C) {settings : Settings} (at : Moment) (g : GetKey) (t : Tried C P) {told : TryAnswer C} → in_core t ≡ told
       → old.config ≡ settings → IsWithinLimits old → Starts old at.0 (starting.Tried g told) new
       → StepsBy (StepsIn settings) old at (step.Starts (Ok (first.Tried g t))) new
   starts_in old new {settings} at g t is same limits starts =
@@ -101,7 +101,7 @@ module _ {C : Type 0} where
       (s.0, (same, s.1), (kept_settings old s.0 at.0 Begin (Begun g.number) settings s.1 same, s.2), s.3)
 
   -- one comes back with its part
-  pub come_back : (old new : Shown C) (at : ℕ) (e : Act C) (a : Answer) (rest : ℕ) → Steps old at e a new
+  pub come_back : (old new : StateView C) (at : ℕ) (e : Act C) (a : Answer) (rest : ℕ) → Steps old at e a new
       → (Moves e a (out_of old) (out_of new) → out_of new + 1 ≡ out_of old) → out_of old + rest ≡ old.config.max_size
       → out_of new + (rest + 1) ≡ new.config.max_size
   come_back old new at e a rest s less parts =
@@ -111,7 +111,7 @@ module _ {C : Type 0} where
       omega (arith, moved, size, parts)
 
   -- where a return fits, one comes back with its part; else nothing moves
-  pub taken_in : {A U : Type 0} (told : A → Answer) {old new : Shown C} (at : ℕ) (e : Act C) (r : Result A U) (rest : ℕ) {settings : Settings}
+  pub taken_in : {A U : Type 0} (told : A → Answer) {old new : StateView C} (at : ℕ) (e : Act C) (r : Result A U) (rest : ℕ) {settings : Settings}
       → Steps old at e (answered told r) new → ((a : A) → Steps old at e (told a) new → Moves e (told a) (out_of old) (out_of new) → out_of new + 1 ≡ out_of old)
       → (Moves e Unfit (out_of old) (out_of new) → out_of new ≡ out_of old)
       → out_of old + rest ≡ old.config.max_size → old.config ≡ settings
@@ -140,7 +140,7 @@ module _ {C : Type 0} where
   adds_fit (adding.NoCapacity c) P is = cc
   adds_fit (adding.Withheld c) P is = cc
 
-  pub add_sorted : {old new : Shown C} (at : ℕ) (c : C) (b : Bool) (r : Result (AddAnswer C) C)
+  pub add_sorted : {old new : StateView C} (at : ℕ) (c : C) (b : Bool) (r : Result (AddAnswer C) C)
       → Steps old at (Add c b) (answered add_told r) new → IfOk r (IsSorted b)
   add_sorted at c b (Err same) s = tt
   add_sorted at c b (Ok answer) s =
@@ -150,15 +150,15 @@ module _ {C : Type 0} where
       (λ f is. adds_fit answer (refuses_broken (add_told answer) ≡ b) is))
 
   -- a new state keeps its settings as its first approvals are granted
-  pub begun_settings : (config : Config) (first first_get : ℕ) (old new : Shown C) (at : ℕ) (claimed : Bool) (grant : Grant)
+  pub begun_settings : (config : Config) (first first_get : ℕ) (old new : StateView C) (at : ℕ) (claimed : Bool) (grant : Grant)
       → is_lawful (settings_of config) ≡ true → Means (opening config first first_get) old → Meets old at (Fill claimed) (Granted grant) new
       → new.config ≡ settings_of config
   begun_settings config first first_get old new at claimed grant lawful means meets =
       kept_settings old new at (Fill claimed) (Granted grant) (settings_of config) (within old (opening config first first_get, lawful, means), meets)
-      (ap (λ (s : Shown C). s.config) (sym means))
+      (ap (λ (s : StateView C). s.config) (sym means))
 
   -- a new state has nothing out, also once its first approvals are granted
-  pub none_out : (config : Config) (first first_get : ℕ) (old new : Shown C) (at : ℕ) (claimed : Bool) (grant : Grant)
+  pub none_out : (config : Config) (first first_get : ℕ) (old new : StateView C) (at : ℕ) (claimed : Bool) (grant : Grant)
       → is_lawful (settings_of config) ≡ true → Means (opening config first first_get) old → Meets old at (Fill claimed) (Granted grant) new
       → out_of new ≡ 0
   none_out config first first_get old new at claimed grant lawful means meets =
@@ -170,7 +170,7 @@ module _ {C : Type 0} where
   give_up_row l at g why _ b _ (gives_up who) = refl
   give_up_row l at g why _ b _ _ = refl
 
-  given_up : {old new : Shown C} (at g : ℕ) (why : Reason) (held : Option C) (b : Bool) (a : Answer)
+  given_up : {old new : StateView C} (at g : ℕ) (why : Reason) (held : Option C) (b : Bool) (a : Answer)
       → Steps old at (GiveUp g why held b) a new → (a ≡ Unfit → brings_back a ≡ is_some held) → brings_back a ≡ is_some held
   given_up at g why held b a s unfit =
       let h = s.0.0 in
@@ -178,7 +178,7 @@ module _ {C : Type 0} where
       (λ f row. give_up_row h.0 at g why held b a row) (λ f is. unfit is)
 
   -- so one into which none is handed in moves nothing
-  pub gave_up : {old new : Shown C} (at g : ℕ) (why : Reason) (b : Bool) {U : Type 0} (r : Result (GiveUpAnswer C) U) (before after : ℕ)
+  pub gave_up : {old new : StateView C} (at g : ℕ) (why : Reason) (b : Bool) {U : Type 0} (r : Result (GiveUpAnswer C) U) (before after : ℕ)
       → Steps old at (GiveUp g why None b) (answered give_up_told r) new → Moves {C = C} (GiveUp g why None b) (answered give_up_told r) before after
       → after ≡ before
   gave_up at g why b (Err u) before after s moves = moves
@@ -189,7 +189,7 @@ module _ {C : Type 0} where
       let none : true ≡ false = given_up at g why None b _ s (λ is. cc) in absurd cc
 
   -- and one into which a connection is handed in brings it back
-  pub gave_back : {old new : Shown C} (at g : ℕ) (why : Reason) (c : C) (b : Bool) (answer : GiveUpAnswer C) (before after : ℕ)
+  pub gave_back : {old new : StateView C} (at g : ℕ) (why : Reason) (c : C) (b : Bool) (answer : GiveUpAnswer C) (before after : ℕ)
       → Steps old at (GiveUp g why (Some c) b) (give_up_told answer) new → Moves (GiveUp g why (Some c) b) (give_up_told answer) before after
       → after + 1 ≡ before
   gave_back at g why c b (given_back.GaveUp n) before after s moves =

@@ -7,7 +7,7 @@ use Rattle.bb8_types.specs.Figures.{figures_of}
 use Rattle.bb8_ledger.specs.Acts as acts
 use Rattle.bb8_ledger.specs.Answers as answers
 use Rattle.bb8_core.specs.Asked.{OrComesBack, Stepped}
-use Rattle.bb8_core.specs.Shown.{Shown}
+use Rattle.bb8_core.specs.StateView.{StateView}
 use Rattle.bb8_lock.specs.SectionSteps.{SectionStep, PutsBack, Adds, Shows, Joins, Leaves}
 
 -- the answer to the making of a handle
@@ -23,7 +23,7 @@ IsSorted broken _ = broken ≡ false
 
 module _ {C P : Type 0} (settings : Settings) where
   -- a section of a pool with these settings: its event and answer, which connection comes back, and what is told
-  abbrev pub SectionsBy : Shown C → Moment → SectionStep C P → Shown C → Type 0
+  abbrev pub SectionsBy : StateView C → Moment → SectionStep C P → StateView C → Type 0
   SectionsBy s at (PutsBack r a) s' =
       Stepped (StepsIn settings) (put_back_told r.taken.key.number) s at.0 (acts.PutBack r.taken.key.number r.taken.connection r.broken) a s'
       × OrComesBack GivesBack r.taken.connection a

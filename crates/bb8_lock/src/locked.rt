@@ -6,7 +6,7 @@ ghost use Rattle.bb8_ledger.specs.Acts as acts;
 ghost use Rattle.bb8_types.specs.Settings.{Settings, default_settings, is_lawful, settings_of};
 ghost use Rattle.bb8_lock.specs.Parts.{parts_back, PoolBegins, IsBlankOf};
 ghost use Rattle.bb8_core.specs.Parts.{out_of};
-ghost use Rattle.bb8_core.specs.Shown.{IsWithinLimits};
+ghost use Rattle.bb8_core.specs.StateView.{IsWithinLimits};
 
 use crate::section_home::{Ends, Handle, Joining, SectionHome};
 use bb8_core::api::{Config, Memory, Moment, State};

@@ -4,14 +4,14 @@ use Rattle.bb8_tasks.specs.Words.{Answer, Moment}
 use Rattle.bb8_ledger.specs.Acts as acts
 use Rattle.bb8_ledger.specs.Acts.{Act}
 use Rattle.bb8_core.specs.Asked.{OrComesBack, Stepped}
-use Rattle.bb8_core.specs.Shown.{Shown}
+use Rattle.bb8_core.specs.StateView.{StateView}
 use Rattle.bb8_core.specs.StepAnswers.{claim_told, failed_told, look_told, opened_told, reap_told, HandsBack}
 use Rattle.bb8_tasks.specs.TaskSteps.{TaskStep, Looks, Opens, Fails, Claims, Reaps}
 
-module _ {C : Type 0} (Makes : Shown C → ℕ → Act C → Answer → Shown C → Type 0) where
+module _ {C : Type 0} (Makes : StateView C → ℕ → Act C → Answer → StateView C → Type 0) where
   -- a step of a home that makes its events like this: the event and its answer, and which connection comes back; a step that does not fit
   -- changes nothing
-  abbrev pub TaskStepsBy : Shown C → Moment → TaskStep C → Shown C → Type 0
+  abbrev pub TaskStepsBy : StateView C → Moment → TaskStep C → StateView C → Type 0
   TaskStepsBy s at (Looks seen) s' = Makes s at.0 acts.Look (look_told seen) s'
   TaskStepsBy s at (Opens a c step) s' = Stepped Makes (opened_told a.number) s at.0 (acts.Opened a.number c) step s' × OrComesBack HandsBack c step
   TaskStepsBy s at (Fails a step) s' = Stepped Makes failed_told s at.0 (acts.Failed a.number) step s'

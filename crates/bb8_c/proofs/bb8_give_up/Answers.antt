@@ -1,7 +1,7 @@
 use Rattle.bb8_c.proofs.Words.{refl, subst, None, false}
 use Rattle.bb8_ledger.specs.Acts.{GiveUp}
 use Rattle.bb8_core.specs.Asked.{Stepped}
-use Rattle.bb8_core.specs.Shown.{Meets}
+use Rattle.bb8_core.specs.StateView.{Meets}
 use Rattle.bb8_core.specs.StepAnswers.{give_up_told}
 use Rattle.bb8_c.proofs.Inside.{within}
 use Rattle.bb8_c.proofs.bb8_give_up.Goals as goal

@@ -1,5 +1,5 @@
-use Rattle.bb8_core.proofs.Words.{◌≡◌, true, false, Some, sym, ap, refl, subst, ◌∙◌, arith, Act, Unfit, Meets, Shown, GetsView, view_of, get, holding_is, reason_of}
-use Rattle.bb8_core.specs.Shown.{TellsFitting}
+use Rattle.bb8_core.proofs.Words.{◌≡◌, true, false, Some, sym, ap, refl, subst, ◌∙◌, arith, Act, Unfit, Meets, StateView, GetsView, view_of, get, holding_is, reason_of}
+use Rattle.bb8_core.specs.StateView.{TellsFitting}
 use Rattle.bb8_ledger.specs.Acts as acts
 use Rattle.bb8_core.proofs.Fitting.{shown_fits, fits_give_back, unfit_give_back, held_with, held_out, ended_few, closed_few, none_after}
 use Rattle.bb8_core.proofs.Runs.{unfit_step}
@@ -11,9 +11,9 @@ pub returns-in_default-clause-step : goal.returns-in_default-clause-step
 returns-in_default-clause-step g c =
     let a = view_of c.self.inside in
     let e : Act g.row.C.Denot = acts.GiveUp c.args.get.number (reason_of c.args.reason) (Some c.args.conn) c.args.broken in
-    let tells = subst (λ (s : Shown g.row.C.Denot). TellsFitting s e false) c.self.view_is
+    let tells = subst (λ (s : StateView g.row.C.Denot). TellsFitting s e false) c.self.view_is
     (unfit_give_back a c.args.get.number (reason_of c.args.reason) c.args.conn c.args.broken c.in_default.ensures.none.0) in
-    subst (λ (x : Shown g.row.C.Denot). Meets c.args.self.now c.args.at.0 e Unfit x × (x ≡ c.args.self.now))
+    subst (λ (x : StateView g.row.C.Denot). Meets c.args.self.now c.args.at.0 e Unfit x × (x ≡ c.args.self.now))
     (sym (ap (λ (gs : GetsView). record a { gets = gs }) c.in_default.ensures.none.1 ∙ c.self.view_is))
     (unfit_step c.args.at.0 e tells)
 

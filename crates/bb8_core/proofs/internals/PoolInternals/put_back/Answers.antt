@@ -1,5 +1,5 @@
-use Rattle.bb8_core.proofs.Words.{◌≡◌, false, sym, ap, subst, ◌∙◌, refl, Act, Unfit, Meets, Shown, RecordsView, view_of}
-use Rattle.bb8_core.specs.Shown.{TellsFitting}
+use Rattle.bb8_core.proofs.Words.{◌≡◌, false, sym, ap, subst, ◌∙◌, refl, Act, Unfit, Meets, StateView, RecordsView, view_of}
+use Rattle.bb8_core.specs.StateView.{TellsFitting}
 use Rattle.bb8_ledger.specs.Acts as acts
 use Rattle.bb8_core.proofs.Fitting.{shown_fits, fit_guarded, fits_guarded, unfit_guarded, closed_few, none_after}
 use Rattle.bb8_core.proofs.Runs.{unfit_step}
@@ -14,8 +14,8 @@ returns-in-Err-clause-step g c =
     let a = view_of c.self.inside in
     let e : Act g.row.C.Denot = acts.PutBack c.args.k.number c.args.conn c.args.broken in
     let none = c.in-Err.ensures.unfit in
-    let tells = subst (λ (s : Shown g.row.C.Denot). TellsFitting s e false) c.self.view_is (unfit_guarded a c.args.k.number c.args.conn c.args.broken none.2) in
-    subst (λ (x : Shown g.row.C.Denot). Meets c.args.self.now c.args.at.0 e Unfit x × (x ≡ c.args.self.now))
+    let tells = subst (λ (s : StateView g.row.C.Denot). TellsFitting s e false) c.self.view_is (unfit_guarded a c.args.k.number c.args.conn c.args.broken none.2) in
+    subst (λ (x : StateView g.row.C.Denot). Meets c.args.self.now c.args.at.0 e Unfit x × (x ≡ c.args.self.now))
     (sym (ap (λ (rs : RecordsView g.row.C.Denot). record a { records = rs }) none.1 ∙ c.self.view_is))
     (unfit_step c.args.at.0 e tells)
 

@@ -1,4 +1,4 @@
-use Rattle.bb8_core.proofs.Words.{◌≡◌, ap, refl, ◌∙◌, arith, false, Idle, view_of, Shown}
+use Rattle.bb8_core.proofs.Words.{◌≡◌, ap, refl, ◌∙◌, arith, false, Idle, view_of, StateView}
 use Rattle.bb8_ledger.specs.Acts as acts
 use Rattle.bb8_core.proofs.Fitting.{shown_record, shown_fits, due_fits}
 use Rattle.bb8_core.proofs.Steps.{grants, led, at_view, fits_view}
@@ -20,7 +20,7 @@ grant-grant-requires g c = omega (arith, due_fits (view_of c.self.inside) _ c.se
 pub returns-in-Some-clause-some : goal.returns-in-Some-clause-some
 returns-in-Some-clause-some g c =
     let a = view_of c.self.inside in
-    let off : a.config.test_on_check_out ≡ false = ap (λ (s : Shown g.row.C.Denot). s.config.test_on_check_out) c.self.view_is ∙ c.requires.unchecked in
+    let off : a.config.test_on_check_out ≡ false = ap (λ (s : StateView g.row.C.Denot). s.config.test_on_check_out) c.self.view_is ∙ c.requires.unchecked in
     let was = c.in-Some.ensures.some.1 in (
       between a c.max-now.result,
       at_view c.self.view_is
