@@ -1,5 +1,5 @@
 -- What a step that was taken says of the state behind it: its lines, and which step is taken next.
-use Rattle.bb8_bench.proofs.Words.{◌≡◌, ℕ, zero, suc, ◌+◌, ◌<◌, max, Bool, true, false, ◌&&◌, cond, eqb, ltb, List, [], ◌∷◌, ◌++◌, length, drop, Option, Some, None, slice_get, refl, sym, ap, ◌∙◌, subst, MatchBool, option_and_then, arith, length-append, option_map, get, Grant, Claimed, Guarded, Standing, Getting, Act, Begin, Try, PutBack, Fill, Claim, Opened, Answer, Begun, Served, Kept, Granted, Entered, Numbered, at_number, update, numbers, in_order, Ledger, Later, start, position, latest, handles, records, gets, idle, record_of, idle_at, at_place, entry, at_entry, approval, with_approvals, new_get, first_of, stands, is_claimed, is_guarded, is_idle, is_unclaimed, gets_stand, birth_in, with_place, is_trying, Row, begins, serves, claims, fits, Allowed, StateView, shown_records, Means, IsFitting, RecordsView, change, standing_is, guarded_out, and_right, entered_before, upto, IsServing, HasLedger, Meets}
+use Rattle.bb8_bench.proofs.Words.{◌≡◌, ℕ, zero, suc, ◌+◌, ◌<◌, max, Bool, true, false, ◌&&◌, cond, eqb, ltb, List, [], ◌∷◌, ◌++◌, length, drop, Option, Some, None, slice_get, refl, sym, ap, ◌∙◌, subst, MatchBool, option_and_then, arith, length-append, option_map, get, Grant, Claimed, Guarded, Standing, Getting, Act, Begin, Try, PutBack, Fill, Claim, Opened, Answer, Begun, Served, Kept, Granted, Entered, Numbered, at_number, update, numbers, in_order, Ledger, Later, start, position, latest, handles, records, gets, idle, record_of, idle_at, at_place, entry, at_entry, approval, with_approvals, new_get, first_of, stands, is_claimed, is_guarded, is_idle, is_unclaimed, gets_stand, birth_in, with_place, is_trying, Row, begins, serves, claims, fits, Allowed, StateView, shown_records, Represents, IsFitting, RecordsView, change, standing_is, guarded_out, and_right, entered_before, upto, IsServing, HasLedger, Meets}
 use Rattle.bb8_tables.specs.declared.keys.Key.{Key}
 use Rattle.bb8_bench.specs.Serving.{Takes, Opens}
 use Rattle.std.proofs.Common.{lt-ltb}
@@ -73,9 +73,9 @@ opened_fits s k c claimed_now l legal means = ap (stands is_claimed) (shown_reco
 
 -- ---- a state behind a step
 
-module _ (s t : StateView ℕ) (l : Ledger ℕ) (means : Means l s) where
+module _ (s t : StateView ℕ) (l : Ledger ℕ) (means : Represents l s) where
   -- an answer that leaves the handles alone leaves a pool that serves
-  pub serving : (at : ℕ) (e : Act ℕ) (a : Answer) → handles_after (handles l) a ≡ handles l → Means (Later l at e a) t → IsServing s → IsServing t
+  pub serving : (at : ℕ) (e : Act ℕ) (a : Answer) → handles_after (handles l) a ≡ handles l → Represents (Later l at e a) t → IsServing s → IsServing t
   serving at e a kept new ready = record {
     handles = subst (λ (n : ℕ). 0 < n) (sym (ap (λ (x : StateView ℕ). x.handles) means) ∙ sym kept ∙ ap (λ (x : StateView ℕ). x.handles) new) ready.handles;
     unchecked = sym (ap (λ (x : StateView ℕ). x.config.test_on_check_out) new) ∙ ap (λ (x : StateView ℕ). x.config.test_on_check_out) means ∙ ready.unchecked;
@@ -84,7 +84,7 @@ module _ (s t : StateView ℕ) (l : Ledger ℕ) (means : Means l s) where
 
   -- ---- begin
 
-  begun_idle : (at g : ℕ) → Means (Later l at Begin (Begun g)) t → t.records.idle ≡ s.records.idle
+  begun_idle : (at g : ℕ) → Represents (Later l at Begin (Begun g)) t → t.records.idle ≡ s.records.idle
   begun_idle at g new = sym (ap (λ (x : StateView ℕ). x.records.idle) new)
       ∙ numbered.in_order-later idle_at (records l) (start l).first (position l) (entered_before l)
       ∙ ap (λ (x : StateView ℕ). x.records.idle) means
@@ -92,7 +92,7 @@ module _ (s t : StateView ℕ) (l : Ledger ℕ) (means : Means l s) where
   given : (at g : ℕ) → Row l at Begin (Begun g) → g ≡ next_get l
   given at g (begins is few) = is
 
-  begun_tries : (at g : ℕ) → IsServing s → Allowed l at Begin (Begun g) → Means (Later l at Begin (Begun g)) t → gets_stand is_trying (get t.gets.places g) ≡ true
+  begun_tries : (at g : ℕ) → IsServing s → Allowed l at Begin (Begun g) → Represents (Later l at Begin (Begun g)) t → gets_stand is_trying (get t.gets.places g) ≡ true
   begun_tries at g ready allowed new =
       let open_now : ltb 0 (handles l) ≡ true = lt-ltb 0 (handles l) (subst (λ (n : ℕ). 0 < n) (sym (ap (λ (x : StateView ℕ). x.handles) means)) ready.handles) in
       let is : g ≡ next_get l = given at g (by_row (fits l Begin) _ _ open_now allowed) in
@@ -102,7 +102,7 @@ module _ (s t : StateView ℕ) (l : Ledger ℕ) (means : Means l s) where
       ∙ ap (λ (b : Bool). cond b (Some new_get) (at_number (start l).first_get (gets l) g)) last in
       ap (gets_stand is_trying) (sym (shown_get (Later l at Begin (Begun g)) t new g) ∙ ap (option_and_then (λ (r : Numbered Getting). r.standing)) found)
 
-  pub begun_fits : (at g : ℕ) → IsServing s → 0 < length s.records.idle → Allowed l at Begin (Begun g) → Means (Later l at Begin (Begun g)) t → IsFitting t (Try g)
+  pub begun_fits : (at g : ℕ) → IsServing s → 0 < length s.records.idle → Allowed l at Begin (Begun g) → Represents (Later l at Begin (Begun g)) t → IsFitting t (Try g)
   begun_fits at g ready some allowed new = try_fits t g (serving at Begin (Begun g) refl new ready)
       (subst (λ (xs : List ℕ). 0 < length xs) (sym (begun_idle at g new)) some) (begun_tries at g ready allowed new)
 
@@ -113,7 +113,7 @@ module _ (s t : StateView ℕ) (l : Ledger ℕ) (means : Means l s) where
 
   -- what a served try leaves: the line without its first, which is out
   served : (at g k : ℕ) (grant : Grant) → IsServing s → fits l (Try g) ≡ true → Allowed l at (Try g) (Served k grant)
-      → Means (Later l at (Try g) (Served k grant)) t → (s.records.idle ≡ k ∷ t.records.idle)
+      → Represents (Later l at (Try g) (Served k grant)) t → (s.records.idle ≡ k ∷ t.records.idle)
       × (stands is_guarded (get t.records.places k) ≡ true)
   served at g k grant ready fit allowed new =
       let strategy : (start l).config.queue_strategy ≡ _ = ap (λ (x : StateView ℕ). x.config.queue_strategy) means ∙ ready.oldest in
@@ -141,7 +141,8 @@ module _ (s t : StateView ℕ) (l : Ledger ℕ) (means : Means l s) where
 
   -- ---- return
 
-  pub kept_idle : (at k c : ℕ) (n : Option ℕ) → stands is_guarded (get s.records.places k) ≡ true → Means (Later l at (PutBack k c false) (Kept k n)) t → t.records.idle ≡ s.records.idle ++ k ∷ []
+  pub kept_idle : (at k c : ℕ) (n : Option ℕ) → stands is_guarded (get s.records.places k) ≡ true → Represents (Later l at (PutBack k c false) (Kept k n)) t
+      → t.records.idle ≡ s.records.idle ++ k ∷ []
   kept_idle at k c n out new =
       let guarded : stands is_guarded (record_of l k) ≡ true = ap (stands is_guarded) (shown_record l s means k) ∙ out in
       let st = standing_is is_guarded (record_of l k) guarded in
@@ -157,7 +158,7 @@ module _ (s t : StateView ℕ) (l : Ledger ℕ) (means : Means l s) where
   first_unclaimed at k (claims open_now first) = first
 
   -- what a claim leaves: the line of the unclaimed without its first, which is claimed
-  claimed : (at k : ℕ) → Allowed l at Claim (answers.Claimed (Some k)) → Means (Later l at Claim (answers.Claimed (Some k))) t
+  claimed : (at k : ℕ) → Allowed l at Claim (answers.Claimed (Some k)) → Represents (Later l at Claim (answers.Claimed (Some k))) t
       → (s.records.unclaimed ≡ k ∷ t.records.unclaimed) × (t.records.idle ≡ s.records.idle)
       × (stands is_claimed (get t.records.places k) ≡ true)
   claimed at k allowed new =
@@ -178,7 +179,7 @@ module _ (s t : StateView ℕ) (l : Ledger ℕ) (means : Means l s) where
       )
 
   entered : (at k c : ℕ) (n : Option ℕ) → stands is_claimed (get s.records.places k) ≡ true
-      → Means (Later l at (Opened k c) (Entered k n)) t → (t.records.idle ≡ s.records.idle ++ k ∷ [])
+      → Represents (Later l at (Opened k c) (Entered k n)) t → (t.records.idle ≡ s.records.idle ++ k ∷ [])
       × (t.records.unclaimed ≡ s.records.unclaimed)
   entered at k c n claimed_now new =
       let there : stands is_claimed (record_of l k) ≡ true = ap (stands is_claimed) (shown_record l s means k) ∙ claimed_now in
@@ -192,7 +193,8 @@ module _ (s t : StateView ℕ) (l : Ledger ℕ) (means : Means l s) where
   -- ---- fill
 
   -- what a fill leaves where there were no records yet
-  pub filled : (at : ℕ) (grant : Grant) → records l ≡ [] → (start l).first ≡ 0 → Means (Later l at (Fill false) (Granted grant)) t → (t.records.idle ≡ []) × (t.records.unclaimed ≡ upto grant.count)
+  pub filled : (at : ℕ) (grant : Grant) → records l ≡ [] → (start l).first ≡ 0 → Represents (Later l at (Fill false) (Granted grant)) t
+      → (t.records.idle ≡ []) × (t.records.unclaimed ≡ upto grant.count)
   filled at grant none first new = (
     sym (ap (λ (x : StateView ℕ). x.records.idle) new) ∙ idle-approve grant.count (start l).first (suc (position l)) (records l)
         ∙ numbered.in_order-later idle_at (records l) (start l).first (position l) (entered_before l)

@@ -1,5 +1,5 @@
 -- What a reap and the last leave close has room in the list, and so all of it is listed.
-use Rattle.bb8_c.proofs.Words.{◌≡◌, ◌≢◌, ⊎_elim, ℕ, suc, ◌+◌, ◌≤◌, Bool, true, false, cond, eqb, ltb, List, [], ◌∷◌, ◌++◌, length, Some, refl, sym, ap, ◌∙◌, arith, subst, append-nil, length-append, one, tally, same_or_not, eqb_self, Reap, Leave, Ledger, idle, IsLegal, reaped_at, reaped_sized, idle_tally, StateView, Means, Meets, HasLedger, reap_told, leave_told, Listing, Reaps, Leaves}
+use Rattle.bb8_c.proofs.Words.{◌≡◌, ◌≢◌, ⊎_elim, ℕ, suc, ◌+◌, ◌≤◌, Bool, true, false, cond, eqb, ltb, List, [], ◌∷◌, ◌++◌, length, Some, refl, sym, ap, ◌∙◌, arith, subst, append-nil, length-append, one, tally, same_or_not, eqb_self, Reap, Leave, Ledger, idle, IsLegal, reaped_at, reaped_sized, idle_tally, StateView, Represents, Meets, HasLedger, reap_told, leave_told, Listing, Reaps, Leaves}
 use Rattle.std.proofs.Common.{lt-ltb}
 use Rattle.std.proofs.lemmas.List.{append_assoc}
 use Rattle.circular_buffer.specs.Buffer.{Buffer, buffer}
@@ -56,7 +56,7 @@ listed s ks {list} {offered} {was} is room o =
 
 -- a reap closes no more than what is idle
 few : (s : StateView ℕ) (at : ℕ) (a : ReapAnswer) (ks : List ℕ) → HasLedger s
-    → ((l : Ledger ℕ) → IsLegal l → Means l s → (k : ℕ) → tally (eqb k) ks ≡ tally (eqb k) (ended_by a l at)) → length ks ≤ length s.records.idle
+    → ((l : Ledger ℕ) → IsLegal l → Represents l s → (k : ℕ) → tally (eqb k) ks ≡ tally (eqb k) (ended_by a l at)) → length ks ≤ length s.records.idle
 few s at (reaping.Reaped closed by_idle by_life grant) ks h often =
     let all : length ks ≤ length (reaped_at h.0 at) = no_longer ks (reaped_at h.0 at) (λ k. omega (arith, often h.0 h.1 h.2 k)) in
     let least : length ks ≤ length (idle h.0) = omega (arith, reaped_sized h.0 at, idle_tally h.0) in

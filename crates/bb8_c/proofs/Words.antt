@@ -1,5 +1,5 @@
 -- The words that the proofs speak with.
-pub use Rattle.bb8_core.proofs.Words.{◌≡◌, Option, Some, None, is_some, true, refl, [], ℕ, Bool, false, inl, inr, subst, Begin, StateView, ◌∙◌, ◌++◌, ◌∷◌, cond, eqb, sym, ap, MatchBool, option_and_then, Getting, Numbered, at_number, gets_stand, is_trying, Try, Begun, Unfit, Ledger, Later, start, gets, new_get, Row, begins, fits, HasLedger, Meets, IsFitting, ◌≢◌, ⊎_elim, suc, ◌+◌, ◌≤◌, ltb, List, length, arith, append-nil, length-append, one, tally, same_or_not, eqb_self, Reap, Leave, idle, IsLegal, reaped_at, reaped_sized, idle_tally, Means, ◌&&◌}
+pub use Rattle.bb8_core.proofs.Words.{◌≡◌, Option, Some, None, is_some, true, refl, [], ℕ, Bool, false, inl, inr, subst, Begin, StateView, ◌∙◌, ◌++◌, ◌∷◌, cond, eqb, sym, ap, MatchBool, option_and_then, Getting, Numbered, at_number, gets_stand, is_trying, Try, Begun, Unfit, Ledger, Later, start, gets, new_get, Row, begins, fits, HasLedger, Meets, IsFitting, ◌≢◌, ⊎_elim, suc, ◌+◌, ◌≤◌, ltb, List, length, arith, append-nil, length-append, one, tally, same_or_not, eqb_self, Reap, Leave, idle, IsLegal, reaped_at, reaped_sized, idle_tally, Represents, ◌&&◌}
 pub use mir.Syntax.{impl, tnil, dnil, a_type, dcons}
 pub use denote.Signature.{Slot, plain, type_at, types_at}
 pub use Rattle.std_alloc.proofs.BoxSteps.Form.{Bx, X, D, B, word, box_typed}

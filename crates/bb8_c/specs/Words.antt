@@ -1,6 +1,6 @@
 -- The words that the definitions speak with.
 pub use Rattle.bb8_tables.specs.declared.closed.Closed.{Closed}
-pub use Rattle.bb8_core.specs.StateView.{StateView, state_view_code, Means, Meets, TellsFitting, IsRecordIn, IsNoRecordIn}
+pub use Rattle.bb8_core.specs.StateView.{StateView, state_view_code, Represents, Meets, TellsFitting, IsRecordIn, IsNoRecordIn}
 pub use Rattle.bb8_core.specs.declared.asked.Unfit.{Unfit}
 pub use Rattle.bb8_c.specs.declared.listing.Listing.{Listing}
 pub use Rattle.std.specs.Duration.{as_nanos}

@@ -1,5 +1,5 @@
 -- What the condition of a step says of what is shown.
-use Rattle.bb8_core.proofs.Words.{◌≡◌, ℕ, ◌≤◌, Bool, true, false, Option, Some, None, is_some, refl, sym, ap, ◌∙◌, subst, ◌+◌, ◌<◌, max, arith, ltb-true, get, Place, Unclaimed, Claimed, Idle, Held, Guarded, Standing, Getting, Try, CheckedOk, PutBack, GiveUp, Leave, Reason, Cancelled, Ledger, agree, ◌&&◌, conns, approved, alive, get_of, start, latest, handles, records, gets, record_of, holds, stands, gets_stand, is_unnotified, is_claimed, is_guarded, is_held_by, is_out, fits, IsLegal, StateView, shown_beside, HasLedger, IsFitting, Means, standing_is, claimed_is, guarded_out, and_right, holding_is, all_held, alive_get, trying_is, alive_is, out_counted, claimed_counted, Fits, all_fit, due_few, Numbered, end_of_numbers, due, Settings, none_lent, RecordsView, NoneAfter}
+use Rattle.bb8_core.proofs.Words.{◌≡◌, ℕ, ◌≤◌, Bool, true, false, Option, Some, None, is_some, refl, sym, ap, ◌∙◌, subst, ◌+◌, ◌<◌, max, arith, ltb-true, get, Place, Unclaimed, Claimed, Idle, Held, Guarded, Standing, Getting, Try, CheckedOk, PutBack, GiveUp, Leave, Reason, Cancelled, Ledger, agree, ◌&&◌, conns, approved, alive, get_of, start, latest, handles, records, gets, record_of, holds, stands, gets_stand, is_unnotified, is_claimed, is_guarded, is_held_by, is_out, fits, IsLegal, StateView, shown_beside, HasLedger, IsFitting, Represents, standing_is, claimed_is, guarded_out, and_right, holding_is, all_held, alive_get, trying_is, alive_is, out_counted, claimed_counted, Fits, all_fit, due_few, Numbered, end_of_numbers, due, Settings, none_lent, RecordsView, NoneAfter}
 use Rattle.bb8_core.specs.StateView.{TellsFitting}
 use Rattle.bb8_ledger.proofs.Invalid.{few_ended}
 use Rattle.bb8_ledger.proofs.Moments.{none_later}
@@ -24,17 +24,17 @@ module _ {C : Type 0} where
   unexamined s = record s { lent = none_lent }
 
   -- what was lent tells nothing of the ledger
-  pub bare : {s : StateView C} (l : Ledger C) → Means l s → shown l ≡ unexamined s
+  pub bare : {s : StateView C} (l : Ledger C) → Represents l s → shown l ≡ unexamined s
   bare l means = ap unexamined means
 
-  pub beside : {s : StateView C} (l : Ledger C) → shown l ≡ unexamined s → Means l s
+  pub beside : {s : StateView C} (l : Ledger C) → shown l ≡ unexamined s → Represents l s
   beside {s} l is = ap (λ (t : StateView C). record t { lent = s.lent }) is
 
   -- the fields are what is shown
-  pub as_shown : {s t : StateView C} (l : Ledger C) → s ≡ t → Means l s → Means l t
-  as_shown l is means = subst (λ (x : StateView C). Means l x) is means
+  pub as_shown : {s t : StateView C} (l : Ledger C) → s ≡ t → Represents l s → Represents l t
+  as_shown l is means = subst (λ (x : StateView C). Represents l x) is means
 
-  pub shown_record : (l : Ledger C) (s : StateView C) → Means l s → (k : ℕ) → record_of l k ≡ get s.records.places k
+  pub shown_record : (l : Ledger C) (s : StateView C) → Represents l s → (k : ℕ) → record_of l k ≡ get s.records.places k
   shown_record l s is k = sym (numbered.get-numbered (λ (r : Numbered (Standing C)). r.standing) (records l) (start l).first k) ∙ ap (λ (t : StateView C). get t.records.places k) is
 
   -- so no birth and no entry of what a state shows lies after the moment of its next event
@@ -44,11 +44,11 @@ module _ {C : Type 0} where
       let same : latest h.0 ≡ s.latest = ap (λ (t : StateView C). t.latest) h.2 in
       (omega (arith, none.0), omega (arith, none.1))
 
-  pub shown_get : (l : Ledger C) (s : StateView C) → Means l s → (g : ℕ) → get_of l g ≡ get s.gets.places g
+  pub shown_get : (l : Ledger C) (s : StateView C) → Represents l s → (g : ℕ) → get_of l g ≡ get s.gets.places g
   shown_get l s is g = sym (numbered.get-numbered (λ (r : Numbered Getting). r.standing) (gets l) (start l).first_get g) ∙ ap (λ (t : StateView C). get t.gets.places g) is
 
   -- so what a state shows is within the size
-  pub size_shown : (s : StateView C) (l : Ledger C) → IsLegal l → Means l s → s.records.conns + s.records.approved ≤ s.config.max_size
+  pub size_shown : (s : StateView C) (l : Ledger C) → IsLegal l → Represents l s → s.records.conns + s.records.approved ≤ s.config.max_size
   size_shown s l legal shows = subst (λ (t : StateView C). t.records.conns + t.records.approved ≤ t.config.max_size) shows (all_fit l legal).size
 
   -- what is shown fits together
@@ -90,7 +90,7 @@ module _ {C : Type 0} where
 
   -- each record of that number stands at such a place, as an event asks that brings a connection
   abbrev IsPlaced : (Place C → Bool) → StateView C → ℕ → Type 0
-  IsPlaced test s k = (l : Ledger C) → IsLegal l → Means l s → stands test (record_of l k) ≡ true
+  IsPlaced test s k = (l : Ledger C) → IsLegal l → Represents l s → stands test (record_of l k) ≡ true
 
   placed : {s t : StateView C} (test : Place C → Bool) (k : ℕ) → s ≡ t → HasLedger s → IsPlaced test t k → (st : Standing C) × (get s.records.places k ≡ Some st) × (test st.place ≡ true)
   placed {s} test k is h fit = standing_is test (get s.records.places k) (ap (stands test) (sym (shown_record h.0 s h.2 k)) ∙ fit h.0 h.1 (as_shown h.0 is h.2))
@@ -157,7 +157,7 @@ module _ {C : Type 0} where
 
   -- an event that wants it fits: this is what it holds, by the number that the code reads off it
   pub fit_holds : {s t : StateView C} {o : Option Getting} {n : ℕ} (g : ℕ) → s ≡ t → HasLedger s
-      → ((l : Ledger C) → IsLegal l → Means l t → is_some (holds (get_of l g)) ≡ true) → o ≡ get s.gets.places g
+      → ((l : Ledger C) → IsLegal l → Represents l t → is_some (holds (get_of l g)) ≡ true) → o ≡ get s.gets.places g
       → ((k : ℕ) → holds o ≡ Some k → n ≡ k) → holds o ≡ Some n
   fit_holds {s} {t} {o} {n} g is h fit get_is names =
       let some = some_held (holds o) (ap (λ (x : Option Getting). is_some (holds x)) (get_is ∙ sym (shown_get h.0 s h.2 g)) ∙ fit h.0 h.1 (as_shown h.0 is h.2)) in
@@ -169,7 +169,7 @@ module _ {C : Type 0} where
 
   -- what it holds is out
   pub holds_out : {s t : StateView C} {o : Option Getting} {n : ℕ} (g : ℕ) → s ≡ t → HasLedger s
-      → ((l : Ledger C) → IsLegal l → Means l t → is_some (holds (get_of l g)) ≡ true) → o ≡ get s.gets.places g
+      → ((l : Ledger C) → IsLegal l → Represents l t → is_some (holds (get_of l g)) ≡ true) → o ≡ get s.gets.places g
       → ((k : ℕ) → holds o ≡ Some k → n ≡ k) → (st : Standing C) × (get s.records.places n ≡ Some st) × (is_out st.place ≡ true)
   holds_out {s} {n = n} g is h fit get_is names =
       let st = held_record h.0 g n h.1 (ap (λ (x : Option Getting). holds x) (shown_get h.0 s h.2 g ∙ sym get_is) ∙ fit_holds g is h fit get_is names) in
@@ -177,7 +177,7 @@ module _ {C : Type 0} where
 
   -- and it stands in no line
   pub holds_stands : {s t : StateView C} {o : Option Getting} {n : ℕ} (g : ℕ) → s ≡ t → HasLedger s
-      → ((l : Ledger C) → IsLegal l → Means l t → is_some (holds (get_of l g)) ≡ true) → o ≡ get s.gets.places g
+      → ((l : Ledger C) → IsLegal l → Represents l t → is_some (holds (get_of l g)) ≡ true) → o ≡ get s.gets.places g
       → ((k : ℕ) → holds o ≡ Some k → n ≡ k) → (st : Getting) × (get s.gets.places g ≡ Some st) × (is_unnotified st.place ≡ false)
   holds_stands {o = o} {n = n} g is h fit get_is names = let st = holding_is o n (fit_holds g is h fit get_is names) in (st.0, sym get_is ∙ st.1, ap is_unnotified st.2)
 

@@ -3,7 +3,7 @@ use Rattle.bb8_core.proofs.Words.{◌≡◌, ◌∙◌, ℕ, Bool, true, false, 
 use Rattle.bb8_tables.specs.declared.keys.GetKey.{GetKey}
 use Rattle.bb8_core.specs.declared.answers.TryAnswer.{TryAnswer}
 use Rattle.bb8_core.specs.StepAnswers.{try_told}
-use Rattle.bb8_core.specs.StateView.{Meets, Means}
+use Rattle.bb8_core.specs.StateView.{Meets, Represents}
 use Rattle.bb8_tables.specs.Keys.{notified_of}
 use Rattle.bb8_core.specs.HandedOver.{Follows, HandsOn, HandsOver}
 use Rattle.bb8_ledger.specs.Handed.{told_by}
@@ -16,8 +16,8 @@ told_row true P a g p told = (p, refl)
 told_row false P a g p told = absurd (let clash : None ≡ Some g = sym (ap told_by p) ∙ told in cc)
 
 module _ {C : Type 0} where
-  -- on a legal ledger that the state means, the get may try
-  tries_on : {s t : StateView C} (at g : ℕ) (e : Act C) (a : Answer) (l : Ledger C) → IsLegal l → Means l s → Meets s at e a t → told_by a ≡ Some g
+  -- on a legal ledger that the state represents, the get may try
+  tries_on : {s t : StateView C} (at g : ℕ) (e : Act C) (a : Answer) (l : Ledger C) → IsLegal l → Represents l s → Meets s at e a t → told_by a ≡ Some g
       → Row l at e a × (fits l e ≡ true) × (fits (Later l at e a) (Try g) ≡ true)
   tries_on at g e a l legal means step told =
       let row = told_row (fits l e) _ a g (step l legal means).0 told in

@@ -1,5 +1,5 @@
 -- Runs: what a state says of its ledger's numbers, an event that does not fit, and lists of events.
-use Rattle.bb8_core.proofs.Words.{◌≡◌, ℕ, zero, suc, true, false, List, [], ◌∷◌, ◌++◌, take, length, Option, Some, None, IsSome, IfSome, IfNone, refl, sym, ap, ◌∙◌, subst, get, Key, Event, Act, Try, Unfit, Ledger, Later, gets_stand, is_trying, fits, Allowed, IsLegal, StateView, Means, IsRecordIn, IsNoRecordIn, IsGetIn, IsNoGetIn, act_of, answer_of, IsRun, AfterEach}
+use Rattle.bb8_core.proofs.Words.{◌≡◌, ℕ, zero, suc, true, false, List, [], ◌∷◌, ◌++◌, take, length, Option, Some, None, IsSome, IfSome, IfNone, refl, sym, ap, ◌∙◌, subst, get, Key, Event, Act, Try, Unfit, Ledger, Later, gets_stand, is_trying, fits, Allowed, IsLegal, StateView, Represents, IsRecordIn, IsNoRecordIn, IsGetIn, IsNoGetIn, act_of, answer_of, IsRun, AfterEach}
 use Rattle.bb8_tables.specs.declared.keys.GetKey.{GetKey}
 use Rattle.bb8_core.specs.declared.replay.events.Answer.{Answer as Told}
 use Rattle.bb8_core.specs.StateView.{IsFitting, Meets, TellsFitting}
@@ -26,7 +26,7 @@ module _ {C : Type 0} where
   get_absent s t n (Some g) is h = tt
 
   -- which tries fit, by what is shown
-  pub shown_try : (l : Ledger C) (s : StateView C) (g : ℕ) → Means l s → fits l (Try g) ≡ gets_stand is_trying (get s.gets.places g)
+  pub shown_try : (l : Ledger C) (s : StateView C) (g : ℕ) → Represents l s → fits l (Try g) ≡ gets_stand is_trying (get s.gets.places g)
   shown_try l s g means = ap (gets_stand is_trying) (shown_get l s means g)
 
   -- ---- an event that does not fit changes nothing
@@ -34,7 +34,7 @@ module _ {C : Type 0} where
   unfit_shown : (l : Ledger C) (at : ℕ) (e : Act C) → shown (Later l at e Unfit) ≡ shown l
   unfit_shown l at e = same_shown _ _ refl refl refl refl (records_kept l) (gets_kept l) refl
 
-  pub unfit_now : (l : Ledger C) (s : StateView C) (at : ℕ) (e : Act C) → fits l e ≡ false → Means l s → Allowed l at e Unfit × Means (Later l at e Unfit) s
+  pub unfit_now : (l : Ledger C) (s : StateView C) (at : ℕ) (e : Act C) → fits l e ≡ false → Represents l s → Allowed l at e Unfit × Represents (Later l at e Unfit) s
   unfit_now l s at e misfit means = (unfitting (fits l e) _ _ misfit refl, beside (Later l at e Unfit) (unfit_shown l at e ∙ bare l means))
 
   -- so it is a step that changes nothing

@@ -1,5 +1,5 @@
 -- Each step, from what it does to what is shown to what it does on every legal ledger.
-use Rattle.bb8_core.proofs.Words.{◌≡◌, ℕ, suc, ◌+◌, ◌-◌, ◌*◌, ◌<◌, ◌≤◌, max, min, Bool, true, false, not, eqb, ◌&&◌, ◌||◌, List, length, Option, Some, None, slice_get, refl, sym, ap, ◌∙◌, arith, subst, is_some, MatchBool, ◌≢◌, IfSome, cond, ltb, get, nat_tests, Grant, Place, Claimed, Idle, Held, Guarded, Standing, Holding, Getting, Counters, counts_held, Counts, Figures, Act, Begin, Try, PutBack, Fill, Claim, Opened, Failed, Add, Join, Leave, Look, Answer, Begun, Memory, Exhausted, Served, Taken, Kept, Closed, Granted, Ended, Entered, Late, GivenBack, Broken, NoCapacity, Withheld, Added, Joined, Left, Looked, Numbered, update, one, after_end, at_entry, Ledger, Later, start, position, latest, handles, records, gets, peak, get_peak, alive, idle, record_of, get_of, idle_at, at_place, entry, with_approvals, idle_count, conns_of, approved_of, alive_of, counts, figures, wait_micros, next, with_notice, oldest_waiter, waiting, stands, first_of, first_place, first_wait_of, is_claimed, is_guarded, is_out, is_unnotified, gets_stand, birth_in, is_expired, micros_since, Allowed, IsLegal, Row, begins, begin_refused, begin_exhausted, serves, keeps, returns_closed, takes_out, fills, claims, claim_ended, opens, opens_late, fails, fits, closes, IsWant, with_record, adds, add_broken, add_full, add_exhausted, add_refused, waits_on, waits, joins, join_exhausted, leaves, looks, due, lacking, IsGranted, IsNoGrant, StateView, shown_records, shown_gets, Means, Meets, HasLedger, IsFitting, RecordsView, GetsView, Before, before_later, ne_test, standing_is, claimed_is, guarded_out, idle_from, unclaimed_from, conn_from, entered_before, waited_before, put_before, ended_before, peak_holds, get_peak_holds, idle_counted, idle_tally, trying_is, claimed_counted, waits_on_gets, end_of_numbers, most_handles, most_micros, State, ShownFigures, shows}
+use Rattle.bb8_core.proofs.Words.{◌≡◌, ℕ, suc, ◌+◌, ◌-◌, ◌*◌, ◌<◌, ◌≤◌, max, min, Bool, true, false, not, eqb, ◌&&◌, ◌||◌, List, length, Option, Some, None, slice_get, refl, sym, ap, ◌∙◌, arith, subst, is_some, MatchBool, ◌≢◌, IfSome, cond, ltb, get, nat_tests, Grant, Place, Claimed, Idle, Held, Guarded, Standing, Holding, Getting, Counters, counts_held, Counts, Figures, Act, Begin, Try, PutBack, Fill, Claim, Opened, Failed, Add, Join, Leave, Look, Answer, Begun, Memory, Exhausted, Served, Taken, Kept, Closed, Granted, Ended, Entered, Late, GivenBack, Broken, NoCapacity, Withheld, Added, Joined, Left, Looked, Numbered, update, one, after_end, at_entry, Ledger, Later, start, position, latest, handles, records, gets, peak, get_peak, alive, idle, record_of, get_of, idle_at, at_place, entry, with_approvals, idle_count, conns_of, approved_of, alive_of, counts, figures, wait_micros, next, with_notice, oldest_waiter, waiting, stands, first_of, first_place, first_wait_of, is_claimed, is_guarded, is_out, is_unnotified, gets_stand, birth_in, is_expired, micros_since, Allowed, IsLegal, Row, begins, begin_refused, begin_exhausted, serves, keeps, returns_closed, takes_out, fills, claims, claim_ended, opens, opens_late, fails, fits, closes, IsWant, with_record, adds, add_broken, add_full, add_exhausted, add_refused, waits_on, waits, joins, join_exhausted, leaves, looks, due, lacking, IsGranted, IsNoGrant, StateView, shown_records, shown_gets, Represents, Meets, HasLedger, IsFitting, RecordsView, GetsView, Before, before_later, ne_test, standing_is, claimed_is, guarded_out, idle_from, unclaimed_from, conn_from, entered_before, waited_before, put_before, ended_before, peak_holds, get_peak_holds, idle_counted, idle_tally, trying_is, claimed_counted, waits_on_gets, end_of_numbers, most_handles, most_micros, State, ShownFigures, shows}
 use Rattle.std.proofs.lemmas.Bool.Decides.{leb_tells}
 use Rattle.bb8_ledger.specs.Answers as answers
 use Rattle.bb8_tables.specs.Machine as machine
@@ -50,10 +50,10 @@ module _ {C : Type 0} where
   pub same_shown : (s t : StateView C) → s.lent ≡ t.lent → s.config ≡ t.config → s.latest ≡ t.latest → s.handles ≡ t.handles → s.records ≡ t.records → s.gets ≡ t.gets → s.counts ≡ t.counts → s ≡ t
   same_shown s t lent config latest handles records gets counts = λ i. record { config = config i; latest = latest i; handles = handles i; records = records i; gets = gets i; counts = counts i; lent = lent i }
 
-  -- What an event does to a state, as a fact that names the event and the answer: on each legal ledger that the state means the answer is
+  -- What an event does to a state, as a fact that names the event and the answer: on each legal ledger that the state represents the answer is
   -- allowed, and the ledger that it leads to shows this.
   pub record Step (s : StateView C) (at : ℕ) (e : Act C) (a : Answer) (new : StateView C) : Type 0 where
-    pub leads : (l : Ledger C) → IsLegal l → Means l s → Allowed l at e a × (shown (Later l at e a) ≡ new)
+    pub leads : (l : Ledger C) → IsLegal l → Represents l s → Allowed l at e a × (shown (Later l at e a) ≡ new)
 
   -- whatever was lent
   abbrev pub IsStep : StateView C → ℕ → Act C → Answer → StateView C → Type 0
@@ -273,7 +273,7 @@ module _ {C : Type 0} where
       ))
 
   -- what a state shows is what its ledger tells
-  pub figures_told : (s : StateView C) (l : Ledger C) → Means l s → record { connections = s.records.conns; idle = length s.records.idle; counts = s.counts } ≡ figures l
+  pub figures_told : (s : StateView C) (l : Ledger C) → Represents l s → record { connections = s.records.conns; idle = length s.records.idle; counts = s.counts } ≡ figures l
   figures_told s l means =
       let told : Figures = record { connections = conns_of (records l); idle = length (idle l); counts = counts l } in
       ap (λ (t : StateView C). record { connections = t.records.conns; idle = length t.records.idle; counts = t.counts }) (sym means)
@@ -468,8 +468,8 @@ module _ {C : Type 0} where
         (λ t. end_of_numbers ≤ t.gets.next) Begin Exhausted fit many refl refl (λ l. (refl, refl, refl))
         (λ l legal f known. (begin_exhausted known, refl, refl))
 
-    pub meets_state : {f : Figures} → ((l : Ledger C) → Means l s → f ≡ figures l) → IsStep s at State (ShownFigures f) (record s { latest = now })
-    meets_state {f} told = meets_quiet (λ t. (l : Ledger C) → Means l t → f ≡ figures l) State (ShownFigures f)
+    pub meets_state : {f : Figures} → ((l : Ledger C) → Represents l s → f ≡ figures l) → IsStep s at State (ShownFigures f) (record s { latest = now })
+    meets_state {f} told = meets_quiet (λ t. (l : Ledger C) → Represents l t → f ≡ figures l) State (ShownFigures f)
         (λ l legal means. refl) (λ l means. told l (beside l means)) refl refl (λ l. (refl, refl, refl))
         (λ l legal fit known. (subst (λ (x : Figures). Row l at State (ShownFigures x)) (sym (known l refl)) shows, refl, refl))
 

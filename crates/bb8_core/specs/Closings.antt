@@ -8,7 +8,7 @@ use Rattle.bb8_ledger.specs.Ledger.{Ledger}
 use Rattle.bb8_ledger.specs.Table.{IsLegal, reaped_at}
 use Rattle.bb8_core.specs.declared.answers.ReapAnswer.{ReapAnswer}
 use Rattle.bb8_core.specs.declared.answers.ReapAnswer.TheVariants as reaping
-use Rattle.bb8_core.specs.StateView.{StateView, Means}
+use Rattle.bb8_core.specs.StateView.{StateView, Represents}
 use Rattle.bb8_core.specs.StepAnswers.{IsIdleAs}
 
 module _ {C : Type 0} where
@@ -29,7 +29,7 @@ module _ {C : Type 0} where
 
   -- these are the numbers that the ledger's reap ends, in some order: each comes as often as there
   abbrev pub ReapEnds : StateView C → ℕ → ReapAnswer → List ℕ → Type 0
-  ReapEnds s at a ks = (l : Ledger C) → IsLegal l → Means l s → (k : ℕ) → tally (eqb k) ks ≡ tally (eqb k) (ended_by a l at)
+  ReapEnds s at a ks = (l : Ledger C) → IsLegal l → Represents l s → (k : ℕ) → tally (eqb k) ks ≡ tally (eqb k) (ended_by a l at)
 
   -- A reap offers the connections that it closes, in some order.
   abbrev pub OffersReaped : StateView C → ℕ → ReapAnswer → Buffer (Closed C) → Buffer (Closed C) → Type 0

@@ -3,7 +3,7 @@ use Rattle.std.specs.Prelude.{◌≡◌, ℕ, Option, Some, None}
 use Rattle.bb8_tables.specs.declared.keys.GetKey.{GetKey}
 use Rattle.bb8_core.specs.declared.answers.TryAnswer.{TryAnswer}
 use Rattle.bb8_core.specs.StepAnswers.{try_told, HandsOut}
-use Rattle.bb8_core.specs.StateView.{StateView, Means, Meets}
+use Rattle.bb8_core.specs.StateView.{StateView, Represents, Meets}
 use Rattle.bb8_ledger.specs.Acts.{Act, Try}
 use Rattle.bb8_ledger.specs.Answers.{Answer}
 use Rattle.bb8_ledger.specs.Ledger.{Ledger, Later, notified}
@@ -17,10 +17,10 @@ module _ {C : Type 0} where
   Follows old at (Some g) (Some tried) new = Meets old at (Try g.number) (try_told tried) new × HandsOut old tried
   Follows old at _ _ new = ⊥
 
-  -- An event and the try of a get, on each legal ledger that the state means and in which nobody was notified: the get goes out with the
+  -- An event and the try of a get, on each legal ledger that the state represents and in which nobody was notified: the get goes out with the
   -- connection that the event brought, or waits anew where it brought none, and nobody is notified then.
   abbrev pub HandsOn : StateView C → ℕ → Act C → Answer → ℕ → Answer → Type 0
-  HandsOn s at e a g b = (l : Ledger C) → IsLegal l → Means l s → notified l ≡ 0 → GoesWith (brought_by a) b × (notified (Later (Later l at e a) at (Try g) b) ≡ 0)
+  HandsOn s at e a g b = (l : Ledger C) → IsLegal l → Represents l s → notified l ≡ 0 → GoesWith (brought_by a) b × (notified (Later (Later l at e a) at (Try g) b) ≡ 0)
 
   -- an event that notified a get, and at once the try of this get: two steps, with a state between them
   abbrev pub TriesAtOnce : StateView C → ℕ → Act C → Answer → TryAnswer C → StateView C → Type 0

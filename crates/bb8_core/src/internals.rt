@@ -13,7 +13,7 @@ ghost use Rattle.bb8_types.specs.Figures.{figures_of};
 ghost use Rattle.bb8_core.specs.Endings.{endings_of};
 ghost use Rattle.bb8_core.specs.Run.{opening};
 ghost use Rattle.bb8_core.specs.Parts.{out_of};
-ghost use Rattle.bb8_core.specs.StateView.{Means, Meets, Lends, Searches, examined, searched, IsFitting, IsWithinLimits};
+ghost use Rattle.bb8_core.specs.StateView.{Represents, Meets, Lends, Searches, examined, searched, IsFitting, IsWithinLimits};
 ghost use Rattle.bb8_core.specs.Asked.{Stepped, OrComesBack};
 ghost use Rattle.bb8_core.specs.Closings.{OffersReaped, OffersLeft};
 ghost use Rattle.bb8_core.specs.StepAnswers.{begin_told, try_told, checked_ok_told, checked_err_told, reason_of, give_up_told, put_back_told, claim_told, opened_told, failed_told, add_told, reap_told, join_told, leave_told, look_told, HandsOut, ServesAtOnce, NoneAtOnce, Starts, GivesBack, GivesBackInvalid, GivesBackHeld, HandsBack, Refuses, closed_in};
@@ -81,7 +81,7 @@ impl<C: Drop> PoolInternals<C> {
     /// The empty state with one handle, which takes no memory. Numbers begin at 0.
     pub fn new(alloc: Global, config: Config) -> Self
         requires { is_lawful (settings_of config) ≡ true }
-        ensures { Means (opening config 0 0) result }
+        ensures { Represents (opening config 0 0) result }
     {
         Self::starting_at(alloc, config, 0, 0)
     }
@@ -90,7 +90,7 @@ impl<C: Drop> PoolInternals<C> {
     /// `first_get` on. It takes no memory.
     pub fn starting_at(alloc: Global, config: Config, first_number: u64, first_get: u64) -> Self
         requires { is_lawful (settings_of config) ≡ true }
-        ensures { Means (opening config first_number first_get) result }
+        ensures { Represents (opening config first_number first_get) result }
     {
         let (records, asking) = Records::new(alloc, first_number);
         PoolInternals {
@@ -108,7 +108,7 @@ impl<C: Drop> PoolInternals<C> {
 
 impl<C: Drop, A> PoolInternals<C, A> {
     /// What holds of every state, whoever has it: its configuration is lawful, connections and open approvals are within the size, and the
-    /// legal ledger that it means keeps all limits. It does nothing.
+    /// legal ledger that it represents keeps all limits. It does nothing.
     pub fn limits(&self)
         ensures lawful { is_lawful self.now.config ≡ true }
         ensures size { self.now.records.conns + self.now.records.approved ≤
@@ -675,7 +675,7 @@ impl<C: Drop, A> PoolInternals<C, A> {
     /// What the pool tells of itself.
     pub fn state(&mut self, at: Moment) -> State
         ensures step { Meets self.old at.0 acts.State (answers.Shown (figures_of result)) self.new }
-        ensures figures { (l : ledger.Ledger C) → Means l self.old
+        ensures figures { (l : ledger.Ledger C) → Represents l self.old
             → figures_of result ≡ ledger.figures l }
         ensures size { result.connections ≤ self.old.config.max_size }
         ensures idle { result.idle_connections ≤ result.connections }

@@ -1,10 +1,10 @@
 -- Histories that grow, and what holds after each beginning of one.
-use Rattle.bb8_journal.proofs.Words.{◌≡◌, ℕ, List, [], ◌∷◌, ◌++◌, true, refl, map-append, Answer, Entry, Settings, is_lawful, Ledger, Later, IsLegal, StateView, Means, Applies, act_of, answer_of, run_more, run_legal, run_after, Replays, AfterEachEntry, entry, events_of, answers_of}
+use Rattle.bb8_journal.proofs.Words.{◌≡◌, ℕ, List, [], ◌∷◌, ◌++◌, true, refl, map-append, Answer, Entry, Settings, is_lawful, Ledger, Later, IsLegal, StateView, Represents, Applies, act_of, answer_of, run_more, run_legal, run_after, Replays, AfterEachEntry, entry, events_of, answers_of}
 use Rattle.bb8_core.specs.declared.replay.events.Event.{Event}
 use Rattle.bb8_ledger.specs.Ledger.{opening_with}
 
 -- no entry
-pub replays_none : (config : Settings) (state : StateView ℕ) → Means (opening_with config 0 0) state → Replays config [] state
+pub replays_none : (config : Settings) (state : StateView ℕ) → Represents (opening_with config 0 0) state → Replays config [] state
 replays_none config state means = (opening_with config 0 0, refl, means)
 
 -- one entry more

@@ -27,7 +27,7 @@ use Rattle.bb8_ledger.specs.Acts.{Act, Begin, Try, CheckedErr, GiveUp, PutBack, 
 use Rattle.bb8_ledger.specs.Answers as answers
 use Rattle.bb8_ledger.specs.Answers.{Answer, Begun, Broken, Granted, Unfit}
 use Rattle.bb8_ledger.specs.Table.{Allowed, Row, fills, add_broken, gives_up}
-use Rattle.bb8_core.specs.StateView.{StateView, Means, Meets, IsWithinLimits, Steps}
+use Rattle.bb8_core.specs.StateView.{StateView, Represents, Meets, IsWithinLimits, Steps}
 use Rattle.bb8_core.specs.Asked.{answered}
 use Rattle.bb8_core.specs.Run.{opening}
 use Rattle.bb8_lock.specs.Parts.{goes_out, parts_back}
@@ -151,7 +151,7 @@ module _ {C : Type 0} where
 
   -- a new state keeps its settings as its first approvals are granted
   pub begun_settings : (config : Config) (first first_get : ℕ) (old new : StateView C) (at : ℕ) (claimed : Bool) (grant : Grant)
-      → is_lawful (settings_of config) ≡ true → Means (opening config first first_get) old → Meets old at (Fill claimed) (Granted grant) new
+      → is_lawful (settings_of config) ≡ true → Represents (opening config first first_get) old → Meets old at (Fill claimed) (Granted grant) new
       → new.config ≡ settings_of config
   begun_settings config first first_get old new at claimed grant lawful means meets =
       kept_settings old new at (Fill claimed) (Granted grant) (settings_of config) (within old (opening config first first_get, lawful, means), meets)
@@ -159,7 +159,7 @@ module _ {C : Type 0} where
 
   -- a new state has nothing out, also once its first approvals are granted
   pub none_out : (config : Config) (first first_get : ℕ) (old new : StateView C) (at : ℕ) (claimed : Bool) (grant : Grant)
-      → is_lawful (settings_of config) ≡ true → Means (opening config first first_get) old → Meets old at (Fill claimed) (Granted grant) new
+      → is_lawful (settings_of config) ≡ true → Represents (opening config first first_get) old → Meets old at (Fill claimed) (Granted grant) new
       → out_of new ≡ 0
   none_out config first first_get old new at claimed grant lawful means meets =
       let k = counted old at (Fill claimed) (Granted grant) new (opening config first first_get, lawful, means) meets in
