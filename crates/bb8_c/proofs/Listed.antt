@@ -1,5 +1,5 @@
 -- What a reap and the last leave close has room in the list, and so all of it is listed.
-use Rattle.bb8_c.proofs.Words.{◌≡◌, ◌≢◌, ⊎_elim, ℕ, suc, ◌+◌, ◌≤◌, Bool, true, false, cond, eqb, ltb, List, [], ◌∷◌, ◌++◌, length, Some, refl, sym, ap, ◌∙◌, arith, subst, append-nil, length-append, one, tally, same_or_not, eqb_self, Reap, Leave, Ledger, idle, IsLegal, reaped_at, reaped_sized, idle_tally, StateView, Represents, Meets, HasLedger, reap_told, leave_told, Listing, Reaps, Leaves}
+use Rattle.bb8_c.proofs.Words.{◌≡◌, ◌≢◌, ⊎_elim, ℕ, suc, ◌+◌, ◌≤◌, Bool, true, false, cond, eqb, ltb, List, [], ◌∷◌, ◌++◌, length, Some, refl, sym, ap, ◌∙◌, arith, subst, append-nil, length-append, one, tally, same_or_not, eqb_self, Reap, Leave, Ledger, idle, IsLegal, reaped_at, reaped_sized, idle_tally, StateView, Represents, Meets, HasLedger, answer_of_reap, answer_of_leave, Listing, Reaps, Leaves}
 use Rattle.std.proofs.Common.{lt-ltb}
 use Rattle.std.proofs.lemmas.List.{append_assoc}
 use Rattle.circular_buffer.specs.Buffer.{Buffer, buffer}
@@ -65,17 +65,17 @@ few s at reaping.Ended ks h often = let none : length ks ≤ 0 = no_longer ks []
 
 pub reap_lists : (old new : Listing) {mid : StateView ℕ} {list : Buffer (Closed ℕ)} {n : ℕ} (at : ℕ) (a : ReapAnswer) → HasLedger old.internals
     → mid ≡ old.internals → list.items ≡ old.closed.items → n ≡ length old.internals.records.idle → length old.closed.items + n ≤ list.capacity
-    → Meets mid at Reap (reap_told a) new.internals → OffersReaped mid at a list new.closed → Reaps old at (Some a) new
+    → Meets mid at Reap (answer_of_reap a) new.internals → OffersReaped mid at a list new.closed → Reaps old at (Some a) new
 reap_lists old new {mid} {list} at a h same is many room meets offers =
     let o : OffersReaped old.internals at a list new.closed = subst (λ (s : StateView ℕ). OffersReaped s at a list new.closed) same offers in
     let less : length o.0 ≤ length old.internals.records.idle = few old.internals at a o.0 h o.2 in
-    (subst (λ (s : StateView ℕ). Meets s at Reap (reap_told a) new.internals) same meets, o.0, listed old.internals o.0 is (omega arith) o.1, o.2)
+    (subst (λ (s : StateView ℕ). Meets s at Reap (answer_of_reap a) new.internals) same meets, o.0, listed old.internals o.0 is (omega arith) o.1, o.2)
 
 pub leave_lists : (old new : Listing) {mid : StateView ℕ} {list : Buffer (Closed ℕ)} {n : ℕ} (at : ℕ) (a : LeaveAnswer) → mid ≡ old.internals
     → list.items ≡ old.closed.items → n ≡ length (cond (eqb old.internals.handles 1) old.internals.records.idle []) → length old.closed.items + n ≤ list.capacity
-    → Meets mid at Leave (leave_told a) new.internals → OffersLeft mid list new.closed → Leaves old at (left.Told a) new
+    → Meets mid at Leave (answer_of_leave a) new.internals → OffersLeft mid list new.closed → Leaves old at (left.Told a) new
 leave_lists old new {mid} {list} at a same is many room meets offers = (
-  subst (λ (s : StateView ℕ). Meets s at Leave (leave_told a) new.internals) same meets,
+  subst (λ (s : StateView ℕ). Meets s at Leave (answer_of_leave a) new.internals) same meets,
   listed old.internals (cond (eqb old.internals.handles 1) old.internals.records.idle []) is (omega arith)
       (subst (λ (s : StateView ℕ). OffersLeft s list new.closed) same offers),
 )

@@ -5,7 +5,7 @@ pub use denote.Signature.{Slot, plain, type_at, types_at}
 pub use Rattle.std_alloc.proofs.BoxSteps.Form.{Bx, X, D, B, word, box_typed}
 pub use Rattle.bb8_c.specs.Steps.{Within, Reaps, Leaves}
 pub use Rattle.bb8_c.specs.declared.listing.Listing.{Listing}
-pub use Rattle.bb8_core.specs.StepAnswers.{reap_told, leave_told, begin_told}
+pub use Rattle.bb8_core.specs.StepAnswers.{answer_of_reap, answer_of_leave, answer_of_begin}
 pub use lib.Dec.{T, lit<}
 pub use seplogic.Ra.Ura.{Ura}
 pub use mir.Raw.{raw as bare}

@@ -2,7 +2,7 @@
 use Rattle.bb8_core.proofs.Words.{◌≡◌, ◌∙◌, ℕ, Bool, true, false, Option, None, Some, IfSome, refl, sym, ap, subst, MatchBool, Try, Unfit, Answer, Act, Ledger, Later, Row, fits, IsLegal, StateView, HasLedger, IsFitting}
 use Rattle.bb8_tables.specs.declared.keys.GetKey.{GetKey}
 use Rattle.bb8_core.specs.declared.answers.TryAnswer.{TryAnswer}
-use Rattle.bb8_core.specs.StepAnswers.{try_told}
+use Rattle.bb8_core.specs.StepAnswers.{answer_of_try}
 use Rattle.bb8_core.specs.StateView.{Meets, Represents}
 use Rattle.bb8_tables.specs.Keys.{notified_of}
 use Rattle.bb8_core.specs.HandedOver.{Follows, HandsOn, HandsOver}
@@ -45,6 +45,6 @@ module _ {C : Type 0} where
   pub hands_over : {s t : StateView C} (u : StateView C) (at : ℕ) (e : Act C) (a : Answer) (n : Option GetKey) (o : Option (TryAnswer C))
       → Meets s at e a t → told_by a ≡ notified_of n → Follows t at n o u → HandsOver o s at e a u
   hands_over {s} {t} u at e a None None step is same = (subst (λ (x : StateView C). Meets s at e a x) (sym same) step, is)
-  hands_over {s} {t} u at e a (Some g) (Some tried) step is next = (g.number, is, t, step, next.0, next.1, hands_on at g.number e a (try_told tried) step is next.0)
+  hands_over {s} {t} u at e a (Some g) (Some tried) step is next = (g.number, is, t, step, next.0, next.1, hands_on at g.number e a (answer_of_try tried) step is next.0)
   hands_over {s} {t} u at e a None (Some tried) step is next = absurd next
   hands_over {s} {t} u at e a (Some g) None step is next = absurd next

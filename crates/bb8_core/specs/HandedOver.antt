@@ -2,7 +2,7 @@
 use Rattle.std.specs.Prelude.{◌≡◌, ℕ, Option, Some, None}
 use Rattle.bb8_tables.specs.declared.keys.GetKey.{GetKey}
 use Rattle.bb8_core.specs.declared.answers.TryAnswer.{TryAnswer}
-use Rattle.bb8_core.specs.StepAnswers.{try_told, HandsOut}
+use Rattle.bb8_core.specs.StepAnswers.{answer_of_try, HandsOut}
 use Rattle.bb8_core.specs.StateView.{StateView, Represents, Meets}
 use Rattle.bb8_ledger.specs.Acts.{Act, Try}
 use Rattle.bb8_ledger.specs.Answers.{Answer}
@@ -14,7 +14,7 @@ module _ {C : Type 0} where
   -- the try of the get that was notified; nothing changes where none was
   abbrev pub Follows : StateView C → ℕ → Option GetKey → Option (TryAnswer C) → StateView C → Type 0
   Follows old at None None new = new ≡ old
-  Follows old at (Some g) (Some tried) new = Meets old at (Try g.number) (try_told tried) new × HandsOut old tried
+  Follows old at (Some g) (Some tried) new = Meets old at (Try g.number) (answer_of_try tried) new × HandsOut old tried
   Follows old at _ _ new = ⊥
 
   -- An event and the try of a get, on each legal ledger that the state represents and in which nobody was notified: the get goes out with the
@@ -25,7 +25,7 @@ module _ {C : Type 0} where
   -- an event that notified a get, and at once the try of this get: two steps, with a state between them
   abbrev pub TriesAtOnce : StateView C → ℕ → Act C → Answer → TryAnswer C → StateView C → Type 0
   TriesAtOnce old at e a tried new = (g : ℕ) × (told_by a ≡ Some g) × (between : StateView C) × Meets old at e a between
-      × Meets between at (Try g) (try_told tried) new × HandsOut between tried × HandsOn old at e a g (try_told tried)
+      × Meets between at (Try g) (answer_of_try tried) new × HandsOut between tried × HandsOn old at e a g (answer_of_try tried)
 
   -- A step that hands over: its event notified nobody, or it is the event and the try of the get that it notified.
   abbrev pub HandsOver : Option (TryAnswer C) → StateView C → ℕ → Act C → Answer → StateView C → Type 0

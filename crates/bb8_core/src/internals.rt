@@ -16,7 +16,7 @@ ghost use Rattle.bb8_core.specs.Parts.{out_of};
 ghost use Rattle.bb8_core.specs.StateView.{Represents, Meets, Lends, Searches, examined, searched, IsFitting, IsWithinLimits};
 ghost use Rattle.bb8_core.specs.Asked.{Stepped, OrComesBack};
 ghost use Rattle.bb8_core.specs.Closings.{OffersReaped, OffersLeft};
-ghost use Rattle.bb8_core.specs.StepAnswers.{begin_told, try_told, checked_ok_told, checked_err_told, reason_of, give_up_told, put_back_told, claim_told, opened_told, failed_told, add_told, reap_told, join_told, leave_told, look_told, HandsOut, ServesAtOnce, NoneAtOnce, Starts, GivesBack, GivesBackInvalid, GivesBackHeld, HandsBack, Refuses, closed_in};
+ghost use Rattle.bb8_core.specs.StepAnswers.{answer_of_begin, answer_of_try, answer_of_checked_ok, answer_of_checked_err, reason_of, answer_of_give_up, answer_of_put_back, answer_of_claim, answer_of_opened, answer_of_failed, answer_of_add, answer_of_reap, answer_of_join, answer_of_leave, answer_of_look, HandsOut, ServesAtOnce, NoneAtOnce, Starts, GivesBack, GivesBackInvalid, GivesBackHeld, HandsBack, Refuses, closed_in};
 ghost use Rattle.bb8_types.specs.declared.standing.Holder.TheVariants.{Guard, Get};
 ghost use Rattle.bb8_types.specs.declared.standing.Standing.{Standing};
 ghost use Rattle.bb8_types.specs.Bounds.{end_of_numbers, most_records};
@@ -135,7 +135,7 @@ impl<C: Drop, A> PoolInternals<C, A> {
     /// Begins a get. Memory is asked for only where as many gets are alive as ever were.
     pub fn begin(&mut self, at: Moment) -> BeginAnswer
         requires { IsFitting self.old acts.Begin }
-        ensures step { Meets self.old at.0 acts.Begin (begin_told result) self.new }
+        ensures step { Meets self.old at.0 acts.Begin (answer_of_begin result) self.new }
         ensures examined { Lends 4 self.old self.new }
         ensures searched { Searches 0 self.new }
     {
@@ -285,7 +285,7 @@ impl<C: Drop, A> PoolInternals<C, A> {
     /// and was not notified waits on, and nothing changes but the latest moment. No memory is asked for, but for approvals.
     pub fn try_get(&mut self, at: Moment, get: GetKey) -> TryAnswer<C>
         requires { IsFitting self.old (acts.Try get.number) }
-        ensures step { Meets self.old at.0 (acts.Try get.number) (try_told result) self.new }
+        ensures step { Meets self.old at.0 (acts.Try get.number) (answer_of_try result) self.new }
         ensures connection { HandsOut self.old result }
         ensures examined { Lends 4 self.old self.new }
         ensures searched { Searches 2 self.new }
@@ -332,7 +332,7 @@ impl<C: Drop, A> PoolInternals<C, A> {
         get: GetKey,
         hint: usize,
     ) -> Result<CheckedOkAnswer, Unfit>
-        ensures step { Stepped Meets (checked_ok_told self.old.records.next)
+        ensures step { Stepped Meets (answer_of_checked_ok self.old.records.next)
             self.old at.0 (acts.CheckedOk get.number) result self.new }
         ensures examined { IfOk result (λ told. Lends 4 self.old self.new) }
         ensures searched { IfOk result (λ told. Searches 3 self.new) }
@@ -367,7 +367,7 @@ impl<C: Drop, A> PoolInternals<C, A> {
     ) -> CheckedErrAnswer<C>
         requires { IsFitting self.old (acts.CheckedErr get.number broken) }
         ensures step { Meets self.old at.0 (acts.CheckedErr get.number broken)
-            (checked_err_told result) self.new }
+            (answer_of_checked_err result) self.new }
         ensures connection { GivesBackInvalid conn result }
         ensures examined { Lends 4 self.old self.new }
         ensures searched { Searches 4 self.new }
@@ -403,7 +403,7 @@ impl<C: Drop, A> PoolInternals<C, A> {
     ) -> GiveUpAnswer<C>
         requires { IsFitting self.old (acts.GiveUp get.number (reason_of reason) None broken) }
         ensures step { Meets self.old at.0 (acts.GiveUp get.number (reason_of reason) None broken)
-            (give_up_told result) self.new }
+            (answer_of_give_up result) self.new }
         ensures connection { GivesBackHeld None result }
         ensures examined { Lends 4 self.old self.new }
         ensures searched { Searches 2 self.new }
@@ -429,7 +429,7 @@ impl<C: Drop, A> PoolInternals<C, A> {
         broken: bool,
         hint: usize,
     ) -> Result<GiveUpAnswer<C>, C>
-        ensures step { Stepped Meets give_up_told self.old at.0
+        ensures step { Stepped Meets answer_of_give_up self.old at.0
             (acts.GiveUp get.number (reason_of reason) (Some conn) broken) result self.new }
         ensures connection { OrComesBack (λ c. GivesBackHeld (Some c)) conn result }
         ensures examined { IfOk result (λ told. Lends 4 self.old self.new) }
@@ -490,7 +490,7 @@ impl<C: Drop, A> PoolInternals<C, A> {
         conn: C,
         broken: bool,
     ) -> Result<PutBackAnswer<C>, C>
-        ensures step { Stepped Meets (put_back_told k.number)
+        ensures step { Stepped Meets (answer_of_put_back k.number)
             self.old at.0 (acts.PutBack k.number conn broken) result self.new }
         ensures connection { OrComesBack GivesBack conn result }
         ensures examined { IfOk result (λ told. Lends 4 self.old self.new) }
@@ -548,7 +548,7 @@ impl<C: Drop, A> PoolInternals<C, A> {
 
     /// Claims the unclaimed approval of the least number.
     pub fn claim(&mut self, at: Moment) -> ClaimAnswer
-        ensures step { Meets self.old at.0 acts.Claim (claim_told result) self.new }
+        ensures step { Meets self.old at.0 acts.Claim (answer_of_claim result) self.new }
         ensures examined { Lends 4 self.old self.new }
         ensures searched { Searches 0 self.new }
     {
@@ -565,7 +565,7 @@ impl<C: Drop, A> PoolInternals<C, A> {
     pub fn opened(&mut self, at: Moment, a: Key, conn: C) -> OpenedAnswer<C>
         requires { IsFitting self.old (acts.Opened a.number conn) }
         ensures step { Meets self.old at.0 (acts.Opened a.number conn)
-            (opened_told a.number result) self.new }
+            (answer_of_opened a.number result) self.new }
         ensures connection { HandsBack conn result }
         ensures examined { Lends 4 self.old self.new }
         ensures searched { Searches 1 self.new }
@@ -586,7 +586,7 @@ impl<C: Drop, A> PoolInternals<C, A> {
     pub fn failed(&mut self, at: Moment, approval: Key) -> FailedAnswer
         requires { IsFitting self.old (acts.Failed approval.number) }
         ensures step { Meets self.old at.0 (acts.Failed approval.number)
-            (failed_told result) self.new }
+            (answer_of_failed result) self.new }
         ensures examined { Lends 4 self.old self.new }
         ensures searched { Searches 1 self.new }
     {
@@ -601,7 +601,7 @@ impl<C: Drop, A> PoolInternals<C, A> {
     /// refused.
     pub fn add(&mut self, at: Moment, conn: C, broken: bool) -> AddAnswer<C>
         requires { IsFitting self.old (acts.Add conn broken) }
-        ensures step { Meets self.old at.0 (acts.Add conn broken) (add_told result) self.new }
+        ensures step { Meets self.old at.0 (acts.Add conn broken) (answer_of_add result) self.new }
         ensures connection { Refuses conn result }
         ensures examined { Lends 4 self.old self.new }
         ensures searched { Searches 0 self.new }
@@ -629,7 +629,7 @@ impl<C: Drop, A> PoolInternals<C, A> {
     /// lived too long, or as one that idled. Nobody is notified. The connections are dropped here. Where no handle is alive nothing changes
     /// but the latest moment. It looks at the connections that end, at most at those that are out, and at two more.
     pub fn reap(&mut self, at: Moment) -> ReapAnswer
-        ensures step { Meets self.old at.0 acts.Reap (reap_told result) self.new }
+        ensures step { Meets self.old at.0 acts.Reap (answer_of_reap result) self.new }
         ensures examined { Lends (closed_in result + out_of self.old + 2) self.old self.new }
         ensures searched { Searches 0 self.new }
     {
@@ -641,7 +641,7 @@ impl<C: Drop, A> PoolInternals<C, A> {
     /// room for is dropped.
     pub fn reap_into(&mut self, at: Moment, closed: &mut ClosedList<C>) -> ReapAnswer
         ensures closed { OffersReaped self.old at.0 result closed.old closed.new }
-        ensures step { Meets self.old at.0 acts.Reap (reap_told result) self.new }
+        ensures step { Meets self.old at.0 acts.Reap (answer_of_reap result) self.new }
         ensures examined { Lends (closed_in result + out_of self.old + 2) self.old self.new }
         ensures searched { Searches 0 self.new }
     {
@@ -694,7 +694,7 @@ impl<C: Drop, A> PoolInternals<C, A> {
     /// Adds a handle, where fewer than 4,294,967,295 are alive.
     pub fn join(&mut self, at: Moment) -> JoinAnswer
         requires { IsFitting self.old acts.Join }
-        ensures step { Meets self.old at.0 acts.Join (join_told result) self.new }
+        ensures step { Meets self.old at.0 acts.Join (answer_of_join result) self.new }
         ensures examined { Lends 4 self.old self.new }
         ensures searched { Searches 0 self.new }
     {
@@ -710,7 +710,7 @@ impl<C: Drop, A> PoolInternals<C, A> {
     /// Takes a handle away. With the last one all idle connections and all unclaimed approvals end; the connections are dropped here.
     pub fn leave(&mut self, at: Moment) -> LeaveAnswer
         requires { IsFitting self.old acts.Leave }
-        ensures step { Meets self.old at.0 acts.Leave (leave_told result) self.new }
+        ensures step { Meets self.old at.0 acts.Leave (answer_of_leave result) self.new }
         ensures examined { Lends 0 self.old self.new }
         ensures searched { Searches 0 self.new }
     {
@@ -721,7 +721,7 @@ impl<C: Drop, A> PoolInternals<C, A> {
     /// Leaves as `leave` does, and puts the connections that it closes into a list, in line. What the list has no room for is dropped.
     pub fn leave_into(&mut self, at: Moment, closed: &mut ClosedList<C>) -> LeaveAnswer
         requires { IsFitting self.old acts.Leave }
-        ensures step { Meets self.old at.0 acts.Leave (leave_told result) self.new }
+        ensures step { Meets self.old at.0 acts.Leave (answer_of_leave result) self.new }
         ensures closed { OffersLeft self.old closed.old closed.new }
         ensures examined { Lends 0 self.old self.new }
         ensures searched { Searches 0 self.new }
@@ -738,7 +738,7 @@ impl<C: Drop, A> PoolInternals<C, A> {
 
     /// The effective moment, and whether a handle is alive.
     pub fn look(&mut self, at: Moment) -> Looked
-        ensures step { Meets self.old at.0 acts.Look (look_told result) self.new }
+        ensures step { Meets self.old at.0 acts.Look (answer_of_look result) self.new }
         ensures examined { Lends 4 self.old self.new }
         ensures searched { Searches 0 self.new }
     {

@@ -11,7 +11,7 @@ ghost use Rattle.bb8_core.specs.Run.{act_with, fits_named, answer_of, opening, I
 ghost use Rattle.bb8_core.specs.declared.replay.events.Act.TheVariants as events;
 ghost use Rattle.bb8_types.specs.Settings.{settings_of, is_lawful};
 ghost use Rattle.bb8_core.specs.StateView.{Represents, Meets};
-ghost use Rattle.bb8_core.specs.StepAnswers.{give_up_told};
+ghost use Rattle.bb8_core.specs.StepAnswers.{answer_of_give_up};
 
 mod events;
 mod hints;
@@ -174,7 +174,7 @@ fn checked_err(
 }
 
 fn gave_up(answer: GiveUpAnswer<u64>) -> Answer
-    ensures { answer_of result ≡ give_up_told answer }
+    ensures { answer_of result ≡ answer_of_give_up answer }
 {
     match answer {
         GiveUpAnswer::GaveUp(notified) => Answer::GaveUp(number_of(notified)),

@@ -1,5 +1,5 @@
 -- What holds of the sections of a pool.
-use Rattle.bb8_lock.proofs.Words.{◌≡◌, ℕ, ◌+◌, ◌^◌, ◌<◌, ◌≤◌, length, Bool, true, false, Option, Some, None, refl, sym, ap, ◌∙◌, arith, Settings, settings_of, is_lawful, Ledger, next, records, checked_err_told, give_up_told, put_back_told, add_told, fits, out_of, Moves}
+use Rattle.bb8_lock.proofs.Words.{◌≡◌, ℕ, ◌+◌, ◌^◌, ◌<◌, ◌≤◌, length, Bool, true, false, Option, Some, None, refl, sym, ap, ◌∙◌, arith, Settings, settings_of, is_lawful, Ledger, next, records, answer_of_checked_err, answer_of_give_up, answer_of_put_back, answer_of_add, fits, out_of, Moves}
 use Rattle.std.proofs.Common.{IfOk, Result, Ok, Err, is_some}
 use Rattle.bb8_core.specs.declared.answers.GiveUpAnswer.{GiveUpAnswer}
 use Rattle.bb8_core.specs.declared.answers.GiveUpAnswer.TheVariants as given_back
@@ -12,7 +12,7 @@ use Rattle.bb8_core.specs.declared.answers.AddAnswer.TheVariants as adding
 use Rattle.bb8_core.specs.declared.answers.Started.TheVariants as starting
 use Rattle.bb8_core.specs.declared.answers.TryAnswer.{TryAnswer}
 use Rattle.bb8_core.specs.declared.answers.TryAnswer.TheVariants as tried
-use Rattle.bb8_core.specs.StepAnswers.{try_told, Starts}
+use Rattle.bb8_core.specs.StepAnswers.{answer_of_try, Starts}
 use Rattle.bb8_gets.specs.declared.home.FirstTry.TheVariants as first
 use Rattle.bb8_gets.specs.declared.home.Tried.{Tried}
 use Rattle.bb8_gets.specs.Homes.{StepsIn}
@@ -69,17 +69,17 @@ module _ {C : Type 0} where
   all_kept {old} {new} at e a rest {settings} s same parts is = (unmoved old new at e a rest s same parts, kept_settings old new at e a settings s is)
 
   -- as many go out as a try's answer says
-  goes : (g : ℕ) (told : TryAnswer C) (before after : ℕ) → Moves {C = C} (Try g) (try_told told) before after → after ≡ before + goes_out told
+  goes : (g : ℕ) (told : TryAnswer C) (before after : ℕ) → Moves {C = C} (Try g) (answer_of_try told) before after → after ≡ before + goes_out told
   goes g (tried.Served k c grant) before after moves = moves
   goes g (tried.Taken k c grant) before after moves = moves
   goes g (tried.Waiting grant) before after moves = omega (arith, moves)
 
   -- where a connection goes out there is a part for it, and with it the rest of the parts counts what is not out; the settings are kept
-  pub try_parts : {old new : StateView C} (at g : ℕ) (told : TryAnswer C) (rest : ℕ) {settings : Settings} → Steps old at (Try g) (try_told told) new
+  pub try_parts : {old new : StateView C} (at g : ℕ) (told : TryAnswer C) (rest : ℕ) {settings : Settings} → Steps old at (Try g) (answer_of_try told) new
       → out_of old + rest ≡ old.config.max_size → old.config ≡ settings
       → (goes_out told ≤ rest) × ((less : ℕ) → less + goes_out told ≡ rest → out_of new + less ≡ new.config.max_size) × (new.config ≡ settings)
   try_parts {old} {new} at g told rest {settings} s parts is =
-      let k = counted old at (Try g) (try_told told) new s.0.0 s.1 in
+      let k = counted old at (Try g) (answer_of_try told) new s.0.0 s.1 in
       let size : new.config.max_size ≡ old.config.max_size = ap (λ (c : Settings). c.max_size) k.config in
       let moved : out_of new ≡ out_of old + goes_out told = goes g told (out_of old) (out_of new) k.moves in
       (omega (arith, moved, size, parts, k.few), λ less split. omega (arith, moved, size, parts, split), k.config ∙ is)
@@ -121,7 +121,7 @@ module _ {C : Type 0} where
   taken_in told at e (Err u) rest s less same parts is = let kept = all_kept at e Unfit rest s same parts is in (omega (arith, kept.0), kept.1)
 
   -- a return brings one back
-  pub put_it_back : (k : ℕ) (c : C) (b : Bool) (answer : PutBackAnswer C) (before after : ℕ) → Moves (PutBack k c b) (put_back_told k answer) before after → after + 1 ≡ before
+  pub put_it_back : (k : ℕ) (c : C) (b : Bool) (answer : PutBackAnswer C) (before after : ℕ) → Moves (PutBack k c b) (answer_of_put_back k answer) before after → after + 1 ≡ before
   put_it_back k c b (Kept n) before after moves = moves
   put_it_back k c b (Closed conn grant n) before after moves = moves
 
@@ -130,24 +130,24 @@ module _ {C : Type 0} where
   add_row l at c _ _ add_broken = refl
   add_row l at c _ _ _ = refl
 
-  sorted_as : (answer : AddAnswer C) (b : Bool) → refuses_broken (add_told answer) ≡ b → IsSorted b answer
+  sorted_as : (answer : AddAnswer C) (b : Bool) → refuses_broken (answer_of_add answer) ≡ b → IsSorted b answer
   sorted_as (adding.Broken c) b is = sym is
   sorted_as _ b is = sym is
 
-  adds_fit : (answer : AddAnswer C) (P : Type 0) → add_told answer ≡ Unfit → P
+  adds_fit : (answer : AddAnswer C) (P : Type 0) → answer_of_add answer ≡ Unfit → P
   adds_fit (adding.Added k n) P is = cc
   adds_fit (adding.Broken c) P is = cc
   adds_fit (adding.NoCapacity c) P is = cc
   adds_fit (adding.Withheld c) P is = cc
 
   pub add_sorted : {old new : StateView C} (at : ℕ) (c : C) (b : Bool) (r : Result (AddAnswer C) C)
-      → Steps old at (Add c b) (answered add_told r) new → IfOk r (IsSorted b)
+      → Steps old at (Add c b) (answered answer_of_add r) new → IfOk r (IsSorted b)
   add_sorted at c b (Err same) s = tt
   add_sorted at c b (Ok answer) s =
       sorted_as answer b
-      (let h = s.0.0 in by_fit (fits h.0 (Add c b)) _ _ (refuses_broken (add_told answer) ≡ b) (s.1 h.0 h.1 h.2).0
-      (λ f row. add_row h.0 at c b (add_told answer) row)
-      (λ f is. adds_fit answer (refuses_broken (add_told answer) ≡ b) is))
+      (let h = s.0.0 in by_fit (fits h.0 (Add c b)) _ _ (refuses_broken (answer_of_add answer) ≡ b) (s.1 h.0 h.1 h.2).0
+      (λ f row. add_row h.0 at c b (answer_of_add answer) row)
+      (λ f is. adds_fit answer (refuses_broken (answer_of_add answer) ≡ b) is))
 
   -- a new state keeps its settings as its first approvals are granted
   pub begun_settings : (config : Config) (first first_get : ℕ) (old new : StateView C) (at : ℕ) (claimed : Bool) (grant : Grant)
@@ -179,7 +179,7 @@ module _ {C : Type 0} where
 
   -- so one into which none is handed in moves nothing
   pub gave_up : {old new : StateView C} (at g : ℕ) (why : Reason) (b : Bool) {U : Type 0} (r : Result (GiveUpAnswer C) U) (before after : ℕ)
-      → Steps old at (GiveUp g why None b) (answered give_up_told r) new → Moves {C = C} (GiveUp g why None b) (answered give_up_told r) before after
+      → Steps old at (GiveUp g why None b) (answered answer_of_give_up r) new → Moves {C = C} (GiveUp g why None b) (answered answer_of_give_up r) before after
       → after ≡ before
   gave_up at g why b (Err u) before after s moves = moves
   gave_up at g why b (Ok (given_back.GaveUp n)) before after s moves = moves
@@ -190,7 +190,7 @@ module _ {C : Type 0} where
 
   -- and one into which a connection is handed in brings it back
   pub gave_back : {old new : StateView C} (at g : ℕ) (why : Reason) (c : C) (b : Bool) (answer : GiveUpAnswer C) (before after : ℕ)
-      → Steps old at (GiveUp g why (Some c) b) (give_up_told answer) new → Moves (GiveUp g why (Some c) b) (give_up_told answer) before after
+      → Steps old at (GiveUp g why (Some c) b) (answer_of_give_up answer) new → Moves (GiveUp g why (Some c) b) (answer_of_give_up answer) before after
       → after + 1 ≡ before
   gave_back at g why c b (given_back.GaveUp n) before after s moves =
       let some : false ≡ true = given_up at g why (Some c) b _ s (λ is. cc) in absurd cc
@@ -198,7 +198,7 @@ module _ {C : Type 0} where
   gave_back at g why c b (given_back.Closed k d grant n) before after s moves = moves
 
   -- the failing of a check brings one back
-  pub failed_back : (g : ℕ) (b : Bool) (answer : CheckedErrAnswer C) (before after : ℕ) → Moves {C = C} (CheckedErr g b) (checked_err_told answer) before after → after + 1 ≡ before
+  pub failed_back : (g : ℕ) (b : Bool) (answer : CheckedErrAnswer C) (before after : ℕ) → Moves {C = C} (CheckedErr g b) (answer_of_checked_err answer) before after → after + 1 ≡ before
   failed_back g b (invalid.Closed k c grant n) before after moves = moves
 
   -- what a new pool is granted for its first connections has numbers that a u64 can be
