@@ -37,7 +37,7 @@ use bb8_tables::counters::Counters;
 use bb8_tables::gets::{Gets, first_wait, held_key, is_notified, is_unnotified};
 pub use bb8_tables::keys::{GetKey, Key};
 use bb8_tables::records::Records;
-use bb8_tables::{Asking, Lendings};
+use bb8_tables::{Lendings, UncountedAccess};
 use bb8_types::api::{Config, Moment, State};
 pub use bb8_types::grants::Grant;
 pub use bb8_types::reasons::Reason;
@@ -51,9 +51,9 @@ use std::marker::Model;
 ///
 /// Whoever has one has what some legal ledger shows, so it keeps the limits: see `limits`.
 ///
-/// Its steps know nothing of `A`, so they can look at the tables on the state's own count alone. Who knows that it is `Asking` may ask.
+/// Its steps know nothing of `A`, so they can look at the tables on the state's own count alone. Who knows that it is `UncountedAccess` may ask.
 #[derive(Drop)]
-pub struct PoolInternals<C, A = Asking> {
+pub struct PoolInternals<C, A = UncountedAccess> {
     config: Config,
     latest: u64,
     handles: u64,

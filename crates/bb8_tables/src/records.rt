@@ -21,7 +21,7 @@ mod reaps;
 use crate::closed::{Closed, ClosedList};
 use crate::keys::Key;
 use crate::ring::Ring;
-use crate::table::{Asking, Lendings, Slot, Table};
+use crate::table::{Lendings, Slot, Table, UncountedAccess};
 use bb8_types::api::{Config, QueueStrategy};
 use bb8_types::bounds::END_OF_NUMBERS;
 use bb8_types::grants::Grant;
@@ -178,7 +178,7 @@ pub fn one(test: bool) -> u64
 
 impl<C: Drop> Records<C> {
     /// No records, which take no memory, and the leave to ask.
-    pub fn new(alloc: Global, first: u64) -> (Self, Asking)
+    pub fn new(alloc: Global, first: u64) -> (Self, UncountedAccess)
         ensures { result.0 ≡ no_records first }
     {
         let (slots, asking) = Table::new(alloc);

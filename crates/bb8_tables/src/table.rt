@@ -16,7 +16,7 @@ use crate::line::Line;
 use bb8_types::api::QueueStrategy;
 use bb8_types::bounds::END_OF_NUMBERS;
 use bb8_types::standing::{GetPlace, Getting, Place, Standing};
-pub use lendings::{Asking, Lendings};
+pub use lendings::{Lendings, UncountedAccess};
 use std::alloc::{AllocError, Global};
 use std::marker::Model;
 use std::mem;
@@ -80,7 +80,7 @@ impl<S> Model for Table<S> {
 
 impl<S: Drop> Table<S> {
     /// An empty table, which takes no memory, and the leave to ask.
-    pub fn new(alloc: Global) -> (Self, Asking)
+    pub fn new(alloc: Global) -> (Self, UncountedAccess)
         ensures { result.0 ≡ record { slots = []; line = []; births = []; free = 0 } }
     {
         let table = Table {
@@ -89,7 +89,7 @@ impl<S: Drop> Table<S> {
             births: Line::new(alloc),
             free: Vec::new(alloc),
         };
-        (table, Asking::given())
+        (table, UncountedAccess::given())
     }
 
     /// Takes a free place, of which there is one.
