@@ -181,7 +181,7 @@ impl<C: Drop, A> PoolInternals<C, A> {
             Some((key, conn)) => {
                 let now = self.latest.max(at.0);
                 self.latest = now;
-                let get = self.gets.pass();
+                let get = self.gets.begin_and_end();
                 self.counters.started += 1;
                 self.counters.serve(None, now);
                 let wanted = want(&self.config, self.handles, &self.records);
@@ -273,7 +273,7 @@ impl<C: Drop, A> PoolInternals<C, A> {
                     return Started::Tried(get, TryAnswer::Taken(key, conn, grant));
                 }
                 self.lendings = lendings;
-                let _ = self.gets.pass();
+                let _ = self.gets.begin_and_end();
                 self.counters.serve(None, now);
                 Started::Tried(next, TryAnswer::Served(key, conn, grant))
             }

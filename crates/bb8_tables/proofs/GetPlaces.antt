@@ -75,7 +75,7 @@ module _ (a : Inside) (place : ℕ) (slots : TableView (Slot Getting)) (good : A
       (added_shown a.slots.slots a.next place born.standing free within good.table) (TablePlaces.added_line a.slots.slots a.next place born.standing free within a.slots.line good.waiting)
       refl (omega arith))
 
--- ---- pass
+-- ---- begin and end at once
 
 -- a get that begins and ends at once leaves its number behind
 module _ (a : Inside) (good : AreGoodGets a) where

@@ -260,7 +260,7 @@ impl Gets {
     }
 
     /// Gives the next number to a get that begins and ends at once, for which there is room.
-    pub fn pass(&mut self) -> u64
+    pub fn begin_and_end(&mut self) -> u64
         requires room { self.old.alive < self.old.peak }
         requires number { self.old.next < end_of_numbers }
         ensures number { result ≡ self.old.next }

@@ -100,7 +100,7 @@ returns-else-self-clause-step g c =
           ∙ ap (λ (h : Holder). machine.after_take (place_with h) c.in-Some.key.number c.self.inside.records)
           (c.holder-holder.ensures ∙ ap (λ (b : Bool). cond b (Get c.next_number.result) Guard) c.if-self.false))
           c.want-wanted.ensures c.grant-grant-in-Some.ensures.granted c.grant-grant-in-Some.ensures.state)
-          (begun_at a.gets machine.after_get_end made c.pass.ensures.state) refl c.serve.ensures),
+          (begun_at a.gets machine.after_get_end made c.begin_and_end.ensures.state) refl c.serve.ensures),
       λ l legal means. (record { place = Idle c.in-Some.conn; birth = was.0; entered = was.1 }, shown_record l (between a c.max-now.result) means c.in-Some.key.number ∙ was.2, refl),
     )
 

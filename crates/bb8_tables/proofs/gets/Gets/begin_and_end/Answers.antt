@@ -1,7 +1,7 @@
 use Rattle.bb8_tables.proofs.Words.{ap, ◌∙◌, GetsView}
 use Rattle.bb8_tables.specs.Machine as machine
 use Rattle.bb8_tables.proofs.GetPlaces.{pass_good, pass_view}
-use Rattle.bb8_tables.proofs.gets.Gets.pass.Goals as goal
+use Rattle.bb8_tables.proofs.gets.Gets.begin_and_end.Goals as goal
 
 pub invariant_of-self : goal.invariant_of-self
 invariant_of-self c = pass_good c.self.inside c.self.invariant
