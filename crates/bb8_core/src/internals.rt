@@ -42,7 +42,7 @@ use bb8_types::api::{Config, Moment, State};
 pub use bb8_types::grants::Grant;
 pub use bb8_types::reasons::Reason;
 use bb8_types::standing::{GetPlace, Holder};
-use decided::{due_waiting, end_out, hand_on, holder, is_expired, want};
+use decided::{close_and_grant, due_waiting, holder, is_expired, notify_next_if, want};
 use std::alloc::Global;
 use std::marker::Model;
 
@@ -378,7 +378,7 @@ impl<C: Drop, A> PoolInternals<C, A> {
         let key = held_key(self.gets.getting(get, &mut self.lendings), hint);
         let birth = self.records.birth(key, &mut self.lendings);
         let expired = is_expired(&self.config, now, birth);
-        let granted = end_out(
+        let granted = close_and_grant(
             &self.config,
             self.handles,
             &mut self.records,
@@ -414,7 +414,11 @@ impl<C: Drop, A> PoolInternals<C, A> {
         let getting = self.gets.getting(get, &mut self.lendings);
         self.gets.end(get, &mut self.lendings);
         self.counters.give_up(reason, first_wait(getting), now);
-        GiveUpAnswer::GaveUp(hand_on(&mut self.gets, is_notified(getting), &mut self.lendings))
+        GiveUpAnswer::GaveUp(notify_next_if(
+            &mut self.gets,
+            is_notified(getting),
+            &mut self.lendings,
+        ))
     }
 
     /// Ends a get that is not served and holds a connection, which is handed in and returns as in `put_back`. The hint is as of `checked_ok`.
@@ -467,7 +471,7 @@ impl<C: Drop, A> PoolInternals<C, A> {
             }
             Ok(Err((conn, expired))) => {
                 self.lendings = lendings;
-                let grant = end_out(
+                let grant = close_and_grant(
                     &self.config,
                     self.handles,
                     &mut self.records,
@@ -520,7 +524,7 @@ impl<C: Drop, A> PoolInternals<C, A> {
             Ok(Err((conn, expired))) => {
                 self.latest = now;
                 self.lendings = lendings;
-                let grant = end_out(
+                let grant = close_and_grant(
                     &self.config,
                     self.handles,
                     &mut self.records,

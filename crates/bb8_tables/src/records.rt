@@ -100,7 +100,7 @@ fn connection_of<C: Drop>(place: Place<C>) -> Option<C>
 }
 
 /// Frees the place of an idle connection, which is offered to a list, and tells its number.
-fn close_at<C: Drop>(
+fn close_idle_at<C: Drop>(
     slots: &mut Table<Standing<C>>,
     place: usize,
     closed: &mut ClosedList<C>,
@@ -158,7 +158,7 @@ fn approval<C>(claimed: bool) -> Standing<C>
 }
 
 /// Puts a new approval in line, where it is not claimed already.
-fn line_up(unclaimed: &mut Ring<Key>, claimed: bool, key: Key)
+fn push_unclaimed(unclaimed: &mut Ring<Key>, claimed: bool, key: Key)
     requires { length unclaimed.old.items < unclaimed.old.capacity }
     ensures { unclaimed.new ≡ buffer (unclaimed.old.items ++ cond claimed [] (key ∷ []))
         unclaimed.old.capacity }
@@ -383,7 +383,7 @@ impl<C: Drop> Records<C> {
         match self.slots.first() {
             None => None,
             Some(place) => {
-                let number = close_at(&mut self.slots, place, closed);
+                let number = close_idle_at(&mut self.slots, place, closed);
                 self.conns -= 1;
                 Some(Key { number, place })
             }
@@ -534,7 +534,7 @@ impl<C: Drop> Records<C> {
             number,
             standing: approval(claimed),
         });
-        line_up(&mut self.unclaimed, claimed, Key { number, place });
+        push_unclaimed(&mut self.unclaimed, claimed, Key { number, place });
         self.next += 1;
         self.approved += 1;
     }

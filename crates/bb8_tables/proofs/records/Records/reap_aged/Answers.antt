@@ -16,7 +16,7 @@ pub loop-preserved : goal.loop-preserved
 loop-preserved g c = elim c.match-pass_birth.branch [
   | in-Out w ↦ rw (w.many-is, w.at-is, w.self-inside-is, w.closed-is) (births_out (rw c.in-Some.is at c.loop.invariant) w.in-Out.ensures.value w.in-Out.ensures.examined)
   | in-Aged w ↦ rw (w.many-is, w.at-is, w.self-inside-is, w.closed-is)
-      (births_aged (rw c.in-Some.is at c.loop.invariant) w.in-Aged.ensures.value w.close_at.ensures.state refl w.close_at.ensures.listed w.in-Aged.ensures.examined)
+      (births_aged (rw c.in-Some.is at c.loop.invariant) w.in-Aged.ensures.value w.close_idle_at.ensures.state refl w.close_idle_at.ensures.listed w.in-Aged.ensures.examined)
 ]
 
 pub returns-after-loop-clause-none_left : goal.returns-after-loop-clause-none_left

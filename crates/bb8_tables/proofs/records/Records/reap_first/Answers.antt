@@ -21,19 +21,19 @@ returns-then-not-due-clause-ends g c = (
 )
 
 pub overflow_sub-self : goal.overflow_sub-self
-overflow_sub-self g c = freed_counted c.self.inside c.in-Some.place c.at.result.now c.close_at.new.slots c.self.invariant c.at.ensures.value
-    (first_idle c.self.inside c.in-Some.place c.at.result.now c.self.invariant (sym c.in-Some.ensures) c.at.ensures.value) c.close_at.ensures.state
+overflow_sub-self g c = freed_counted c.self.inside c.in-Some.place c.at.result.now c.close_idle_at.new.slots c.self.invariant c.at.ensures.value
+    (first_idle c.self.inside c.in-Some.place c.at.result.now c.self.invariant (sym c.in-Some.ensures) c.at.ensures.value) c.close_idle_at.ensures.state
 
 pub invariant_of-self : goal.invariant_of-self
-invariant_of-self g c = freed_good c.self.inside c.in-Some.place c.at.result.now c.close_at.new.slots c.self.invariant c.at.ensures.value
-    (first_idle c.self.inside c.in-Some.place c.at.result.now c.self.invariant (sym c.in-Some.ensures) c.at.ensures.value) c.close_at.ensures.state
+invariant_of-self g c = freed_good c.self.inside c.in-Some.place c.at.result.now c.close_idle_at.new.slots c.self.invariant c.at.ensures.value
+    (first_idle c.self.inside c.in-Some.place c.at.result.now c.self.invariant (sym c.in-Some.ensures) c.at.ensures.value) c.close_idle_at.ensures.state
 
 pub returns-clause-ends : goal.returns-clause-ends
 returns-clause-ends g c = (
   c.at.result.now.number,
   ap (λ (s : RecordsView g.row.C.Denot). slice_get s.idle 0) (sym c.self.view_is) ∙ first_shown c.self.inside c.in-Some.place c.at.result.now (sym c.in-Some.ensures) c.at.ensures.value,
-  freed_due c.self.inside c.in-Some.place c.at.result.now c.close_at.new.slots c.self.invariant c.at.ensures.value
-      (first_idle c.self.inside c.in-Some.place c.at.result.now c.self.invariant (sym c.in-Some.ensures) c.at.ensures.value) c.close_at.ensures.state
+  freed_due c.self.inside c.in-Some.place c.at.result.now c.close_idle_at.new.slots c.self.invariant c.at.ensures.value
+      (first_idle c.self.inside c.in-Some.place c.at.result.now c.self.invariant (sym c.in-Some.ensures) c.at.ensures.value) c.close_idle_at.ensures.state
       (idles_out (settings_of c.args.config.now) c.args.now) c.args.self.now c.self.view_is
-      (sym c.idles_out-due.ensures ∙ c.if-not-due.false) (c.close_at.ensures.listed c.at.result.now c.at.ensures.value),
+      (sym c.idles_out-due.ensures ∙ c.if-not-due.false) (c.close_idle_at.ensures.listed c.at.result.now c.at.ensures.value),
 )
