@@ -13,10 +13,10 @@ ghost use Rattle.bb8_types.specs.Figures.{figures_of};
 ghost use Rattle.bb8_core.specs.Endings.{endings_of};
 ghost use Rattle.bb8_core.specs.Run.{opening};
 ghost use Rattle.bb8_core.specs.Parts.{out_of};
-ghost use Rattle.bb8_core.specs.Shown.{Means, Meets, Lends, Searches, examined, searched, IsFitting, IsWithinLimits};
+ghost use Rattle.bb8_core.specs.StateView.{Represents, Meets, Lends, Searches, examined, searched, IsFitting, IsWithinLimits};
 ghost use Rattle.bb8_core.specs.Asked.{Stepped, OrComesBack};
 ghost use Rattle.bb8_core.specs.Closings.{OffersReaped, OffersLeft};
-ghost use Rattle.bb8_core.specs.StepAnswers.{begin_told, try_told, checked_ok_told, checked_err_told, reason_of, give_up_told, put_back_told, claim_told, opened_told, failed_told, add_told, reap_told, join_told, leave_told, look_told, HandsOut, ServesAtOnce, NoneAtOnce, Starts, GivesBack, GivesBackInvalid, GivesBackHeld, HandsBack, Refuses, closed_in};
+ghost use Rattle.bb8_core.specs.StepAnswers.{answer_of_begin, answer_of_try, answer_of_checked_ok, answer_of_checked_err, reason_of, answer_of_give_up, answer_of_put_back, answer_of_claim, answer_of_opened, answer_of_failed, answer_of_add, answer_of_reap, answer_of_join, answer_of_leave, answer_of_look, HandsOut, ServesAtOnce, NoneAtOnce, Starts, GivesBack, GivesBackInvalid, GivesBackHeld, HandsBack, Refuses, closed_in};
 ghost use Rattle.bb8_types.specs.declared.standing.Holder.TheVariants.{Guard, Get};
 ghost use Rattle.bb8_types.specs.declared.standing.Standing.{Standing};
 ghost use Rattle.bb8_types.specs.Bounds.{end_of_numbers, most_records};
@@ -37,12 +37,12 @@ use bb8_tables::counters::Counters;
 use bb8_tables::gets::{Gets, first_wait, held_key, is_notified, is_unnotified};
 pub use bb8_tables::keys::{GetKey, Key};
 use bb8_tables::records::Records;
-use bb8_tables::{Asking, Lendings};
+use bb8_tables::{Lendings, UncountedAccess};
 use bb8_types::api::{Config, Moment, State};
 pub use bb8_types::grants::Grant;
 pub use bb8_types::reasons::Reason;
 use bb8_types::standing::{GetPlace, Holder};
-use decided::{due_waiting, end_out, hand_on, holder, is_expired, want};
+use decided::{close_and_grant, due_waiting, holder, is_expired, notify_next_if, want};
 use std::alloc::Global;
 use std::marker::Model;
 
@@ -51,9 +51,9 @@ use std::marker::Model;
 ///
 /// Whoever has one has what some legal ledger shows, so it keeps the limits: see `limits`.
 ///
-/// Its steps know nothing of `A`, so they can look at the tables on the state's own count alone. Who knows that it is `Asking` may ask.
+/// Its steps know nothing of `A`, so they can look at the tables on the state's own count alone. Who knows that it is `UncountedAccess` may ask.
 #[derive(Drop)]
-pub struct PoolInternals<C, A = Asking> {
+pub struct PoolInternals<C, A = UncountedAccess> {
     config: Config,
     latest: u64,
     handles: u64,
@@ -65,12 +65,12 @@ pub struct PoolInternals<C, A = Asking> {
 }
 
 impl<C, A> Model for PoolInternals<C, A> {
-    ghost use Rattle.bb8_core.specs.Shown.{Shown, shown_code, HasLedger};
+    ghost use Rattle.bb8_core.specs.StateView.{StateView, state_view_code, HasLedger};
     ghost use Rattle.bb8_core.specs.Pool.{view_of};
 
-    ghost Value = { Shown C };
+    ghost Value = { StateView C };
 
-    ghost coded = { shown_code C.code };
+    ghost coded = { state_view_code C.code };
 
     ghost view = { view_of };
 
@@ -81,7 +81,7 @@ impl<C: Drop> PoolInternals<C> {
     /// The empty state with one handle, which takes no memory. Numbers begin at 0.
     pub fn new(alloc: Global, config: Config) -> Self
         requires { is_lawful (settings_of config) ≡ true }
-        ensures { Means (opening config 0 0) result }
+        ensures { Represents (opening config 0 0) result }
     {
         Self::starting_at(alloc, config, 0, 0)
     }
@@ -90,7 +90,7 @@ impl<C: Drop> PoolInternals<C> {
     /// `first_get` on. It takes no memory.
     pub fn starting_at(alloc: Global, config: Config, first_number: u64, first_get: u64) -> Self
         requires { is_lawful (settings_of config) ≡ true }
-        ensures { Means (opening config first_number first_get) result }
+        ensures { Represents (opening config first_number first_get) result }
     {
         let (records, asking) = Records::new(alloc, first_number);
         PoolInternals {
@@ -108,7 +108,7 @@ impl<C: Drop> PoolInternals<C> {
 
 impl<C: Drop, A> PoolInternals<C, A> {
     /// What holds of every state, whoever has it: its configuration is lawful, connections and open approvals are within the size, and the
-    /// legal ledger that it means keeps all limits. It does nothing.
+    /// legal ledger that it represents keeps all limits. It does nothing.
     pub fn limits(&self)
         ensures lawful { is_lawful self.now.config ≡ true }
         ensures size { self.now.records.conns + self.now.records.approved ≤
@@ -135,7 +135,7 @@ impl<C: Drop, A> PoolInternals<C, A> {
     /// Begins a get. Memory is asked for only where as many gets are alive as ever were.
     pub fn begin(&mut self, at: Moment) -> BeginAnswer
         requires { IsFitting self.old acts.Begin }
-        ensures step { Meets self.old at.0 acts.Begin (begin_told result) self.new }
+        ensures step { Meets self.old at.0 acts.Begin (answer_of_begin result) self.new }
         ensures examined { Lends 4 self.old self.new }
         ensures searched { Searches 0 self.new }
     {
@@ -181,7 +181,7 @@ impl<C: Drop, A> PoolInternals<C, A> {
             Some((key, conn)) => {
                 let now = self.latest.max(at.0);
                 self.latest = now;
-                let get = self.gets.pass();
+                let get = self.gets.begin_and_end();
                 self.counters.started += 1;
                 self.counters.serve(None, now);
                 let wanted = want(&self.config, self.handles, &self.records);
@@ -273,7 +273,7 @@ impl<C: Drop, A> PoolInternals<C, A> {
                     return Started::Tried(get, TryAnswer::Taken(key, conn, grant));
                 }
                 self.lendings = lendings;
-                let _ = self.gets.pass();
+                let _ = self.gets.begin_and_end();
                 self.counters.serve(None, now);
                 Started::Tried(next, TryAnswer::Served(key, conn, grant))
             }
@@ -285,7 +285,7 @@ impl<C: Drop, A> PoolInternals<C, A> {
     /// and was not notified waits on, and nothing changes but the latest moment. No memory is asked for, but for approvals.
     pub fn try_get(&mut self, at: Moment, get: GetKey) -> TryAnswer<C>
         requires { IsFitting self.old (acts.Try get.number) }
-        ensures step { Meets self.old at.0 (acts.Try get.number) (try_told result) self.new }
+        ensures step { Meets self.old at.0 (acts.Try get.number) (answer_of_try result) self.new }
         ensures connection { HandsOut self.old result }
         ensures examined { Lends 4 self.old self.new }
         ensures searched { Searches 2 self.new }
@@ -332,7 +332,7 @@ impl<C: Drop, A> PoolInternals<C, A> {
         get: GetKey,
         hint: usize,
     ) -> Result<CheckedOkAnswer, Unfit>
-        ensures step { Stepped Meets (checked_ok_told self.old.records.next)
+        ensures step { Stepped Meets (answer_of_checked_ok self.old.records.next)
             self.old at.0 (acts.CheckedOk get.number) result self.new }
         ensures examined { IfOk result (λ told. Lends 4 self.old self.new) }
         ensures searched { IfOk result (λ told. Searches 3 self.new) }
@@ -367,7 +367,7 @@ impl<C: Drop, A> PoolInternals<C, A> {
     ) -> CheckedErrAnswer<C>
         requires { IsFitting self.old (acts.CheckedErr get.number broken) }
         ensures step { Meets self.old at.0 (acts.CheckedErr get.number broken)
-            (checked_err_told result) self.new }
+            (answer_of_checked_err result) self.new }
         ensures connection { GivesBackInvalid conn result }
         ensures examined { Lends 4 self.old self.new }
         ensures searched { Searches 4 self.new }
@@ -378,7 +378,7 @@ impl<C: Drop, A> PoolInternals<C, A> {
         let key = held_key(self.gets.getting(get, &mut self.lendings), hint);
         let birth = self.records.birth(key, &mut self.lendings);
         let expired = is_expired(&self.config, now, birth);
-        let granted = end_out(
+        let granted = close_and_grant(
             &self.config,
             self.handles,
             &mut self.records,
@@ -403,7 +403,7 @@ impl<C: Drop, A> PoolInternals<C, A> {
     ) -> GiveUpAnswer<C>
         requires { IsFitting self.old (acts.GiveUp get.number (reason_of reason) None broken) }
         ensures step { Meets self.old at.0 (acts.GiveUp get.number (reason_of reason) None broken)
-            (give_up_told result) self.new }
+            (answer_of_give_up result) self.new }
         ensures connection { GivesBackHeld None result }
         ensures examined { Lends 4 self.old self.new }
         ensures searched { Searches 2 self.new }
@@ -414,7 +414,11 @@ impl<C: Drop, A> PoolInternals<C, A> {
         let getting = self.gets.getting(get, &mut self.lendings);
         self.gets.end(get, &mut self.lendings);
         self.counters.give_up(reason, first_wait(getting), now);
-        GiveUpAnswer::GaveUp(hand_on(&mut self.gets, is_notified(getting), &mut self.lendings))
+        GiveUpAnswer::GaveUp(notify_next_if(
+            &mut self.gets,
+            is_notified(getting),
+            &mut self.lendings,
+        ))
     }
 
     /// Ends a get that is not served and holds a connection, which is handed in and returns as in `put_back`. The hint is as of `checked_ok`.
@@ -429,7 +433,7 @@ impl<C: Drop, A> PoolInternals<C, A> {
         broken: bool,
         hint: usize,
     ) -> Result<GiveUpAnswer<C>, C>
-        ensures step { Stepped Meets give_up_told self.old at.0
+        ensures step { Stepped Meets answer_of_give_up self.old at.0
             (acts.GiveUp get.number (reason_of reason) (Some conn) broken) result self.new }
         ensures connection { OrComesBack (λ c. GivesBackHeld (Some c)) conn result }
         ensures examined { IfOk result (λ told. Lends 4 self.old self.new) }
@@ -467,7 +471,7 @@ impl<C: Drop, A> PoolInternals<C, A> {
             }
             Ok(Err((conn, expired))) => {
                 self.lendings = lendings;
-                let grant = end_out(
+                let grant = close_and_grant(
                     &self.config,
                     self.handles,
                     &mut self.records,
@@ -490,7 +494,7 @@ impl<C: Drop, A> PoolInternals<C, A> {
         conn: C,
         broken: bool,
     ) -> Result<PutBackAnswer<C>, C>
-        ensures step { Stepped Meets (put_back_told k.number)
+        ensures step { Stepped Meets (answer_of_put_back k.number)
             self.old at.0 (acts.PutBack k.number conn broken) result self.new }
         ensures connection { OrComesBack GivesBack conn result }
         ensures examined { IfOk result (λ told. Lends 4 self.old self.new) }
@@ -520,7 +524,7 @@ impl<C: Drop, A> PoolInternals<C, A> {
             Ok(Err((conn, expired))) => {
                 self.latest = now;
                 self.lendings = lendings;
-                let grant = end_out(
+                let grant = close_and_grant(
                     &self.config,
                     self.handles,
                     &mut self.records,
@@ -548,7 +552,7 @@ impl<C: Drop, A> PoolInternals<C, A> {
 
     /// Claims the unclaimed approval of the least number.
     pub fn claim(&mut self, at: Moment) -> ClaimAnswer
-        ensures step { Meets self.old at.0 acts.Claim (claim_told result) self.new }
+        ensures step { Meets self.old at.0 acts.Claim (answer_of_claim result) self.new }
         ensures examined { Lends 4 self.old self.new }
         ensures searched { Searches 0 self.new }
     {
@@ -565,7 +569,7 @@ impl<C: Drop, A> PoolInternals<C, A> {
     pub fn opened(&mut self, at: Moment, a: Key, conn: C) -> OpenedAnswer<C>
         requires { IsFitting self.old (acts.Opened a.number conn) }
         ensures step { Meets self.old at.0 (acts.Opened a.number conn)
-            (opened_told a.number result) self.new }
+            (answer_of_opened a.number result) self.new }
         ensures connection { HandsBack conn result }
         ensures examined { Lends 4 self.old self.new }
         ensures searched { Searches 1 self.new }
@@ -586,7 +590,7 @@ impl<C: Drop, A> PoolInternals<C, A> {
     pub fn failed(&mut self, at: Moment, approval: Key) -> FailedAnswer
         requires { IsFitting self.old (acts.Failed approval.number) }
         ensures step { Meets self.old at.0 (acts.Failed approval.number)
-            (failed_told result) self.new }
+            (answer_of_failed result) self.new }
         ensures examined { Lends 4 self.old self.new }
         ensures searched { Searches 1 self.new }
     {
@@ -601,7 +605,7 @@ impl<C: Drop, A> PoolInternals<C, A> {
     /// refused.
     pub fn add(&mut self, at: Moment, conn: C, broken: bool) -> AddAnswer<C>
         requires { IsFitting self.old (acts.Add conn broken) }
-        ensures step { Meets self.old at.0 (acts.Add conn broken) (add_told result) self.new }
+        ensures step { Meets self.old at.0 (acts.Add conn broken) (answer_of_add result) self.new }
         ensures connection { Refuses conn result }
         ensures examined { Lends 4 self.old self.new }
         ensures searched { Searches 0 self.new }
@@ -629,7 +633,7 @@ impl<C: Drop, A> PoolInternals<C, A> {
     /// lived too long, or as one that idled. Nobody is notified. The connections are dropped here. Where no handle is alive nothing changes
     /// but the latest moment. It looks at the connections that end, at most at those that are out, and at two more.
     pub fn reap(&mut self, at: Moment) -> ReapAnswer
-        ensures step { Meets self.old at.0 acts.Reap (reap_told result) self.new }
+        ensures step { Meets self.old at.0 acts.Reap (answer_of_reap result) self.new }
         ensures examined { Lends (closed_in result + out_of self.old + 2) self.old self.new }
         ensures searched { Searches 0 self.new }
     {
@@ -641,7 +645,7 @@ impl<C: Drop, A> PoolInternals<C, A> {
     /// room for is dropped.
     pub fn reap_into(&mut self, at: Moment, closed: &mut ClosedList<C>) -> ReapAnswer
         ensures closed { OffersReaped self.old at.0 result closed.old closed.new }
-        ensures step { Meets self.old at.0 acts.Reap (reap_told result) self.new }
+        ensures step { Meets self.old at.0 acts.Reap (answer_of_reap result) self.new }
         ensures examined { Lends (closed_in result + out_of self.old + 2) self.old self.new }
         ensures searched { Searches 0 self.new }
     {
@@ -675,7 +679,7 @@ impl<C: Drop, A> PoolInternals<C, A> {
     /// What the pool tells of itself.
     pub fn state(&mut self, at: Moment) -> State
         ensures step { Meets self.old at.0 acts.State (answers.Shown (figures_of result)) self.new }
-        ensures figures { (l : ledger.Ledger C) → Means l self.old
+        ensures figures { (l : ledger.Ledger C) → Represents l self.old
             → figures_of result ≡ ledger.figures l }
         ensures size { result.connections ≤ self.old.config.max_size }
         ensures idle { result.idle_connections ≤ result.connections }
@@ -694,7 +698,7 @@ impl<C: Drop, A> PoolInternals<C, A> {
     /// Adds a handle, where fewer than 4,294,967,295 are alive.
     pub fn join(&mut self, at: Moment) -> JoinAnswer
         requires { IsFitting self.old acts.Join }
-        ensures step { Meets self.old at.0 acts.Join (join_told result) self.new }
+        ensures step { Meets self.old at.0 acts.Join (answer_of_join result) self.new }
         ensures examined { Lends 4 self.old self.new }
         ensures searched { Searches 0 self.new }
     {
@@ -710,7 +714,7 @@ impl<C: Drop, A> PoolInternals<C, A> {
     /// Takes a handle away. With the last one all idle connections and all unclaimed approvals end; the connections are dropped here.
     pub fn leave(&mut self, at: Moment) -> LeaveAnswer
         requires { IsFitting self.old acts.Leave }
-        ensures step { Meets self.old at.0 acts.Leave (leave_told result) self.new }
+        ensures step { Meets self.old at.0 acts.Leave (answer_of_leave result) self.new }
         ensures examined { Lends 0 self.old self.new }
         ensures searched { Searches 0 self.new }
     {
@@ -721,7 +725,7 @@ impl<C: Drop, A> PoolInternals<C, A> {
     /// Leaves as `leave` does, and puts the connections that it closes into a list, in line. What the list has no room for is dropped.
     pub fn leave_into(&mut self, at: Moment, closed: &mut ClosedList<C>) -> LeaveAnswer
         requires { IsFitting self.old acts.Leave }
-        ensures step { Meets self.old at.0 acts.Leave (leave_told result) self.new }
+        ensures step { Meets self.old at.0 acts.Leave (answer_of_leave result) self.new }
         ensures closed { OffersLeft self.old closed.old closed.new }
         ensures examined { Lends 0 self.old self.new }
         ensures searched { Searches 0 self.new }
@@ -738,7 +742,7 @@ impl<C: Drop, A> PoolInternals<C, A> {
 
     /// The effective moment, and whether a handle is alive.
     pub fn look(&mut self, at: Moment) -> Looked
-        ensures step { Meets self.old at.0 acts.Look (look_told result) self.new }
+        ensures step { Meets self.old at.0 acts.Look (answer_of_look result) self.new }
         ensures examined { Lends 4 self.old self.new }
         ensures searched { Searches 0 self.new }
     {

@@ -28,9 +28,9 @@ pub struct Gets {
 }
 
 impl Model for Gets {
-    ghost use Rattle.bb8_tables.specs.Views.{ShownGets, gets_code};
+    ghost use Rattle.bb8_tables.specs.Views.{GetsView, gets_code};
 
-    ghost Value = { ShownGets };
+    ghost Value = { GetsView };
 
     ghost coded = { gets_code };
 
@@ -260,7 +260,7 @@ impl Gets {
     }
 
     /// Gives the next number to a get that begins and ends at once, for which there is room.
-    pub fn pass(&mut self) -> u64
+    pub fn begin_and_end(&mut self) -> u64
         requires room { self.old.alive < self.old.peak }
         requires number { self.old.next < end_of_numbers }
         ensures number { result ≡ self.old.next }

@@ -13,7 +13,7 @@ ghost use Rattle.bb8_types.specs.Bounds.{end_of_numbers, most_records};
 ghost use Rattle.bb8_tables.specs.Lent.{AddsLent};
 ghost use Rattle.bb8_tables.specs.Closed.{offered_all, closed_in, closed_of};
 ghost use Rattle.bb8_tables.specs.Holders as holders;
-ghost use Rattle.bb8_tables.specs.Lined.{slot_at};
+ghost use Rattle.bb8_tables.specs.TableView.{slot_at};
 ghost use Rattle.bb8_tables.specs.declared.table.Slot.{Slot};
 
 mod reaps;
@@ -21,7 +21,7 @@ mod reaps;
 use crate::closed::{Closed, ClosedList};
 use crate::keys::Key;
 use crate::ring::Ring;
-use crate::table::{Asking, Lendings, Slot, Table};
+use crate::table::{Lendings, Slot, Table, UncountedAccess};
 use bb8_types::api::{Config, QueueStrategy};
 use bb8_types::bounds::END_OF_NUMBERS;
 use bb8_types::grants::Grant;
@@ -44,9 +44,9 @@ pub struct Records<C> {
 }
 
 impl<C> Model for Records<C> {
-    ghost use Rattle.bb8_tables.specs.Views.{ShownRecords, records_code};
+    ghost use Rattle.bb8_tables.specs.Views.{RecordsView, records_code};
 
-    ghost Value = { ShownRecords C };
+    ghost Value = { RecordsView C };
 
     ghost coded = { records_code C.code };
 
@@ -100,7 +100,7 @@ fn connection_of<C: Drop>(place: Place<C>) -> Option<C>
 }
 
 /// Frees the place of an idle connection, which is offered to a list, and tells its number.
-fn close_at<C: Drop>(
+fn close_idle_at<C: Drop>(
     slots: &mut Table<Standing<C>>,
     place: usize,
     closed: &mut ClosedList<C>,
@@ -158,7 +158,7 @@ fn approval<C>(claimed: bool) -> Standing<C>
 }
 
 /// Puts a new approval in line, where it is not claimed already.
-fn line_up(unclaimed: &mut Ring<Key>, claimed: bool, key: Key)
+fn push_unclaimed(unclaimed: &mut Ring<Key>, claimed: bool, key: Key)
     requires { length unclaimed.old.items < unclaimed.old.capacity }
     ensures { unclaimed.new ≡ buffer (unclaimed.old.items ++ cond claimed [] (key ∷ []))
         unclaimed.old.capacity }
@@ -178,7 +178,7 @@ pub fn one(test: bool) -> u64
 
 impl<C: Drop> Records<C> {
     /// No records, which take no memory, and the leave to ask.
-    pub fn new(alloc: Global, first: u64) -> (Self, Asking)
+    pub fn new(alloc: Global, first: u64) -> (Self, UncountedAccess)
         ensures { result.0 ≡ no_records first }
     {
         let (slots, asking) = Table::new(alloc);
@@ -383,7 +383,7 @@ impl<C: Drop> Records<C> {
         match self.slots.first() {
             None => None,
             Some(place) => {
-                let number = close_at(&mut self.slots, place, closed);
+                let number = close_idle_at(&mut self.slots, place, closed);
                 self.conns -= 1;
                 Some(Key { number, place })
             }
@@ -534,7 +534,7 @@ impl<C: Drop> Records<C> {
             number,
             standing: approval(claimed),
         });
-        line_up(&mut self.unclaimed, claimed, Key { number, place });
+        push_unclaimed(&mut self.unclaimed, claimed, Key { number, place });
         self.next += 1;
         self.approved += 1;
     }

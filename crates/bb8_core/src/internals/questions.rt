@@ -3,7 +3,7 @@ ghost use Rattle.std.specs.Prelude.{◌≡◌, Bool, cond, eqb, [], length, Opti
 ghost use Rattle.bb8_ledger.specs.Acts as acts;
 ghost use Rattle.bb8_ledger.specs.Ledger as ledger;
 ghost use Rattle.bb8_types.specs.Places as places;
-ghost use Rattle.bb8_core.specs.Shown.{Means, IsFitting, TellsFitting, TellsRecord, TellsGet, IsRecordIn, IsNoRecordIn, IsGetIn, IsNoGetIn};
+ghost use Rattle.bb8_core.specs.StateView.{Represents, IsFitting, TellsFitting, TellsRecord, TellsGet, IsRecordIn, IsNoRecordIn, IsGetIn, IsNoGetIn};
 
 use super::{GetKey, Key, PoolInternals};
 use bb8_tables::gets::{held, is_trying};
@@ -36,7 +36,7 @@ impl<C: Drop> PoolInternals<C> {
 
     /// How the get stands, if it is alive.
     fn getting(&self, get: GetKey) -> Option<Getting>
-        ensures { (l : ledger.Ledger C) → Means l self.now
+        ensures { (l : ledger.Ledger C) → Represents l self.now
             → result ≡ ledger.get_of l get.number }
     {
         self.gets.getting(get, &mut self.asking.count())
@@ -75,7 +75,7 @@ impl<C: Drop> PoolInternals<C> {
 
     /// The number of the connection that the get holds, if it holds one.
     pub(crate) fn held(&self, get: GetKey) -> Option<u64>
-        ensures { (l : ledger.Ledger C) → Means l self.now
+        ensures { (l : ledger.Ledger C) → Represents l self.now
             → result ≡ places.holds (ledger.get_of l get.number) }
     {
         held(self.getting(get))

@@ -1,6 +1,6 @@
 //! Replenishings that are polled by hand over the plain state, with a server that counts.
 ghost use Rattle.std.specs.Prelude.{⊤};
-ghost use Rattle.bb8_core.specs.Shown.{Steps};
+ghost use Rattle.bb8_core.specs.StateView.{Steps};
 ghost use Rattle.bb8_tasks.specs.Homes.{TaskStepsBy};
 
 use super::assert_equal;

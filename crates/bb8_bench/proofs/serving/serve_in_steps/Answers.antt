@@ -1,6 +1,6 @@
 use Rattle.bb8_bench.proofs.Words.{ℕ, Try, subst, Meets}
 use Rattle.bb8_core.specs.declared.answers.TryAnswer.{TryAnswer}
-use Rattle.bb8_core.specs.StepAnswers.{try_told}
+use Rattle.bb8_core.specs.StepAnswers.{answer_of_try}
 use Rattle.bb8_bench.proofs.Stepped.{begun_fits, taken}
 use Rattle.bb8_bench.proofs.serving.serve_in_steps.Goals as goal
 
@@ -12,4 +12,4 @@ try_get-requires c =
 
 pub returns : goal.returns
 returns c = taken c.limits.ensures.ledger.0 c.requires.serving c.requires.some c.in-Begun.ensures.step
-    (subst (λ (r : TryAnswer ℕ). Meets c.begin.new.self 0 (Try c.in-Begun.get.number) (try_told r) c.try_get.new.self) c.in_ok-key.ensures c.try_get.ensures.step)
+    (subst (λ (r : TryAnswer ℕ). Meets c.begin.new.self 0 (Try c.in-Begun.get.number) (answer_of_try r) c.try_get.new.self) c.in_ok-key.ensures c.try_get.ensures.step)

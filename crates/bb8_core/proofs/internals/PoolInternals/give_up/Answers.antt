@@ -18,7 +18,7 @@ pub returns-clause-step : goal.returns-clause-step
 returns-clause-step g c = at_view c.self.view_is
     (meets_given_up c.args.reason c.args.broken c.self.inside.counters
     (fits_view (acts.GiveUp c.args.get.number (reason_of c.args.reason) None c.args.broken) c.self.view_is c.requires) c.max-now.ensures
-    c.getting-getting.ensures.value c.end.ensures.state c.is_notified.ensures c.hand_on.ensures.value c.hand_on.ensures.state refl
+    c.getting-getting.ensures.value c.end.ensures.state c.is_notified.ensures c.notify_next_if.ensures.value c.notify_next_if.ensures.state refl
     c.first_wait.ensures (given_up_is c.args.reason c.max-now.result c.first_wait.result c.give_up.ensures.timed_out c.give_up.ensures.cancelled))
 
 pub invariant_of-self : goal.invariant_of-self

@@ -3,14 +3,14 @@ use Rattle.std.specs.Prelude.{ℕ, List, Option, None, get_or, refl}
 use Rattle.std.specs.Coded.{Coded, code_by, coded×, coded_ℕ, coded_list, coded_option}
 
 -- The places, with those in line, those of connections by birth, and how many are free.
-pub record Lined (X : Type 0) : Type 0 where
+pub record TableView (X : Type 0) : Type 0 where
   pub slots : List (Option X)
   pub line : List ℕ
   pub births : List ℕ
   pub free : ℕ
 
-abbrev pub lined_code : {X : Type 0} → Coded X → Coded (Lined X)
-lined_code {X} code =
+abbrev pub table_view_code : {X : Type 0} → Coded X → Coded (TableView X)
+table_view_code {X} code =
     code_by
     (List (Option X) × (List ℕ × (List ℕ × ℕ)))
     (coded× (coded_list (coded_option code)) (coded× (coded_list coded_ℕ) (coded× (coded_list coded_ℕ) coded_ℕ)))
@@ -20,5 +20,5 @@ lined_code {X} code =
 
 module _ {X : Type 0} where
   -- what stands at a place
-  abbrev pub slot_at : Lined X → ℕ → Option X
+  abbrev pub slot_at : TableView X → ℕ → Option X
   slot_at t place = get_or t.slots place None

@@ -1,4 +1,4 @@
-use Rattle.bb8_tasks.proofs.replenish.Row.connect.Goals as goal
+use Rattle.bb8_tasks.proofs.replenish.PollInput.connect.Goals as goal
 
 pub returns-in-Ready-Err : goal.returns-in-Ready-Err
 returns-in-Ready-Err g c =

@@ -1,7 +1,7 @@
 -- What gets, guards and handles do on a pool: the tables at what a pool's lock holds, while it is held, and at the pool's own manager, error sink
 -- and clock.
 use Rattle.std.specs.Prelude.{◌≡◌, ℕ, None, Option, Some, Result, Ok, Err, ⊤}
-use Rattle.bb8_lock.specs.Words.{MutexGuard, DebugOf, Poll, Ready, Pending, AddError, RunError, State, ManagerOf, SinkOf, CustomizerOf, ClockOf, settings_of, HomeOf, Taken, OutsideOf, Stage, Joining, SectionsOf, Locked, Part, PartsOf, LinkHome, Shared, StepsIn, GetPolls, Cancels}
+use Rattle.bb8_lock.specs.Words.{MutexGuard, DebugOf, Poll, Ready, Pending, AddError, RunError, State, ManagerOf, SinkOf, CustomizerOf, ClockOf, settings_of, HomeOf, Taken, OutsideOf, Stage, Joining, SectionsOf, Locked, Part, PartsOf, LockScope, Shared, StepsIn, GetPolls, Cancels}
 use Rattle.std.specs.Sync.Mutex.{mutex_guard_value}
 use Rattle.bb8_lock.specs.Chains.{AddsOutside, Answers, CancelsAndLeaves, Joins, HandleLeaves, Returns, ReturnsAndLeaves, Shows, TakesNow, Waits}
 use Rattle.bb8_gets.specs.Steps.{StepsBy}
@@ -26,41 +26,41 @@ module _ {T : Type 0} where
 -- A lock with what is called outside of it, as one value.
 module _ {S T : Type 0} where
   -- these are shared, and the lock is free
-  abbrev pub IsLinked : S → LinkHome S T → Type 0
-  IsLinked shared x = (x.shared.now ≡ shared) × (x.held ≡ None)
+  abbrev pub IsScopeOf : S → LockScope S T → Type 0
+  IsScopeOf shared x = (x.shared.now ≡ shared) × (x.held ≡ None)
 
   -- a step leads from what is held, or else stands behind the lock, to what is held then
-  abbrev pub Leads : (T → T → Type 0) → LinkHome S T → LinkHome S T → Type 0
+  abbrev pub Leads : (T → T → Type 0) → LockScope S T → LockScope S T → Type 0
   Leads Step x x' = LeadsHeld Step x.held x'.held × (x'.shared ≡ x.shared)
 
   -- nothing is held then
-  abbrev pub Frees : LinkHome S T → LinkHome S T → Type 0
+  abbrev pub Frees : LockScope S T → LockScope S T → Type 0
   Frees x x' = (x'.held ≡ None) × (x'.shared ≡ x.shared)
 
 -- What the gets, guards and handles of a pool do, which share this: on the pool's lock, and by its own manager, error sink and clock.
 module _ {G L M S Z K R C E N V A : Type 0} {m : ManagerOf M C E N V} {d : DebugOf E} {s : SinkOf S E} {z : CustomizerOf Z C E A} {k : ClockOf K} {l : PartsOf L}
     (shared : Shared G L M S Z K R C E N V A m d s z k l) where
   -- the pool's lock with what the pool calls outside
-  abbrev pub Linked : Type 0
-  Linked = LinkHome (Shared G L M S Z K R C E N V A m d s z k l) (Locked C L l)
+  abbrev pub Scope : Type 0
+  Scope = LockScope (Shared G L M S Z K R C E N V A m d s z k l) (Locked C L l)
 
   -- this is done by it
-  abbrev pub Own : (Linked → Linked → Type 0) → Type 0
-  Own Does = (x : Linked) × (x' : Linked) × IsLinked shared x × Does x x'
+  abbrev pub Own : (Scope → Scope → Type 0) → Type 0
+  Own Does = (x : Scope) × (x' : Scope) × IsScopeOf shared x × Does x x'
 
   -- The relations of the lock as a home. While it is held each step starts where the one before ended; once it was let go, the next one starts at
   -- whatever stands behind it. What a step answers follows from that very state, which keeps the limits.
-  abbrev pub gets : HomeOf Linked C (Part L)
+  abbrev pub gets : HomeOf Scope C (Part L)
   gets = record {
     releases = λ x x'. Frees x x';
     steps = λ x at s x'. Leads (λ t t'. StepsBy (StepsIn l.settings) t.core at s t'.core) x x';
   }
 
-  abbrev pub sections : SectionsOf Linked C (Part L)
+  abbrev pub sections : SectionsOf Scope C (Part L)
   sections = record { makes = λ x at s x'. Leads (λ t t'. SectionsBy l.settings t.core at s t'.core) x x' }
 
   -- the relations of the calls of its manager, error sink and clock
-  abbrev pub calls : OutsideOf Linked C E V
+  abbrev pub calls : OutsideOf Scope C E V
   calls = record {
     tells = λ x moment x'. k.tells x.shared.now.clock moment × (x' ≡ x);
     checks = λ x c v c' x'. m.checks x.shared.now.manager c v c' × (x' ≡ x);
@@ -72,7 +72,7 @@ module _ {G L M S Z K R C E N V A : Type 0} {m : ManagerOf M C E N V} {d : Debug
   }
 
   -- the relations of a thread's sleep, which changes nothing here
-  abbrev pub rests : RestsOf Linked
+  abbrev pub rests : RestsOf Scope
   rests = record { counts = λ x _ _ x'. x' ≡ x; sleeps = λ x _ _ _ x'. x' ≡ x }
 
   -- A poll of a get goes by the table.

@@ -1,5 +1,5 @@
 -- The two walks of a reap.
-use Rattle.bb8_tables.proofs.Words.{slice_get_within, append_assoc, ◌≡◌, ◌⊎◌, inl, inr, ℕ, zero, suc, ◌+◌, ◌-◌, ◌<◌, ◌≤◌, Bool, true, false, ◌&&◌, List, [], ◌∷◌, ◌++◌, length, Option, Some, None, slice_get, refl, sym, ap, ◌∙◌, arith, subst, length-append, eq-eqb, ne_eqb, length-map, leb-false, lt-leb, get, most_records, Settings, one, tally, is_idle, is_conn, is_out, is_past, is_expired, idles_out, lives_out, Place, Unclaimed, Held, Guarded, Standing, Slot, Young, Out, Aged, Buffer, Closed, offered_all, closed_in, closed_of, EndsFirst, Ends, EndsIdle, Passes, Lent, AddsLent, Lined, slot_at, without, AreFirst, Reaps, ArePlaces, IsRising, numbers_at, Absent, view_of_records, AreGoodRecords, passes, ShownRecords, Inside, idle_from}
+use Rattle.bb8_tables.proofs.Words.{slice_get_within, append_assoc, ◌≡◌, ◌⊎◌, inl, inr, ℕ, zero, suc, ◌+◌, ◌-◌, ◌<◌, ◌≤◌, Bool, true, false, ◌&&◌, List, [], ◌∷◌, ◌++◌, length, Option, Some, None, slice_get, refl, sym, ap, ◌∙◌, arith, subst, length-append, eq-eqb, ne_eqb, length-map, leb-false, lt-leb, get, most_records, Settings, one, tally, is_idle, is_conn, is_out, is_past, is_expired, idles_out, lives_out, Place, Unclaimed, Held, Guarded, Standing, Slot, Young, Out, Aged, Buffer, Closed, offered_all, closed_in, closed_of, EndsFirst, Ends, EndsIdle, Passes, Lent, AddsLent, TableView, slot_at, without, AreFirst, Reaps, ArePlaces, IsRising, numbers_at, Absent, view_of_records, AreGoodRecords, passes, RecordsView, Inside, idle_from}
 use Rattle.bb8_tables.proofs.Lent.{adds_none, adds_more, adds_within}
 use Rattle.bb8_tables.proofs.Lines.{get_absent}
 use Rattle.bb8_tables.proofs.Orders.{found_in, no_earlier}
@@ -132,20 +132,20 @@ module _ {C : Type 0} where
   first_shown a place x first at_place = number_at a.slots.slots a.slots.line 0 first at_place
 
   -- how far the walk has come
-  pub record InIdle (config : Settings) (now : ℕ) (old new : ShownRecords C) (told : ℕ) (list listed : Buffer (Closed C)) (lent lent_now : Lent) : Type 0 where
+  pub record InIdle (config : Settings) (now : ℕ) (old new : RecordsView C) (told : ℕ) (list listed : Buffer (Closed C)) (lent lent_now : Lent) : Type 0 where
     pub ks : List ℕ
     pub first : AreFirst (idles_out config now) ks old
     pub ends : Ends (idles_out config now) old ks new told list listed
     pub lendings : AddsLent told 0 lent lent_now
 
-  pub idle_more : {config : Settings} {now : ℕ} {old mid new : ShownRecords C} {told : ℕ} {list listed offered : Buffer (Closed C)} {lent mid_lent new_lent : Lent}
+  pub idle_more : {config : Settings} {now : ℕ} {old mid new : RecordsView C} {told : ℕ} {list listed offered : Buffer (Closed C)} {lent mid_lent new_lent : Lent}
       → InIdle config now old mid told list listed lent mid_lent
       → (k : ℕ) × (slice_get mid.idle 0 ≡ Some k) × EndsFirst (idles_out config now) mid k new listed offered → AddsLent 1 0 mid_lent new_lent
       → InIdle config now old new (told + 1) list offered lent new_lent
   idle_more {config} {now} {old} {mid} {new} {told} {list} {listed} {offered} {lent} {mid_lent} {new_lent} i e l = record {
     ks = i.ks ++ e.0 ∷ [];
-    first = first_more (idles_out config now) i.ks e.0 old i.first (ap (λ (s : ShownRecords C). slice_get s.idle 0) (sym i.ends.state) ∙ e.1)
-        (ap (λ (s : ShownRecords C). idles_out config now (get s.places e.0)) (sym i.ends.state) ∙ e.2.is_due);
+    first = first_more (idles_out config now) i.ks e.0 old i.first (ap (λ (s : RecordsView C). slice_get s.idle 0) (sym i.ends.state) ∙ e.1)
+        (ap (λ (s : RecordsView C). idles_out config now (get s.places e.0)) (sym i.ends.state) ∙ e.2.is_due);
     ends = ends_more (idles_out config now) i.ends e.2 refl;
     lendings = adds_more told 1 lent mid_lent new_lent i.lendings l;
   }
@@ -153,11 +153,11 @@ module _ {C : Type 0} where
   -- ---- the walk along the order of births
 
   -- at each of the places stands a connection that is out
-  abbrev pub AreOut : Lined (Slot (Standing C)) → List ℕ → Type 0
+  abbrev pub AreOut : TableView (Slot (Standing C)) → List ℕ → Type 0
   AreOut t ks = (j k : ℕ) → slice_get ks j ≡ Some k → (x : Slot (Standing C)) × (slot_at t k ≡ Some x) × (is_out x.standing.place ≡ true)
 
   -- how far the walk has come: it has passed those that are out, and ended the others
-  pub record InBirths (config : Settings) (now : ℕ) (old : ShownRecords C) (list : Buffer (Closed C)) (lent : Lent) (many : ℕ) (a : Inside C) (told : ℕ) (at : Option ℕ)
+  pub record InBirths (config : Settings) (now : ℕ) (old : RecordsView C) (list : Buffer (Closed C)) (lent : Lent) (many : ℕ) (a : Inside C) (told : ℕ) (at : Option ℕ)
       (listed : Buffer (Closed C)) (lent_now : Lent) (counter : ℕ) : Type 0 where
     pub good : AreGoodRecords a
     pub ks : List ℕ
@@ -173,7 +173,7 @@ module _ {C : Type 0} where
     pub few : old.conns ≤ most_records
     pub many_few : many ≤ old.conns
 
-  out_push : (t : Lined (Slot (Standing C))) (ks : List ℕ) (k : ℕ) (x : Slot (Standing C)) → AreOut t ks → slot_at t k ≡ Some x → is_out x.standing.place ≡ true → AreOut t (ks ++ k ∷ [])
+  out_push : (t : TableView (Slot (Standing C))) (ks : List ℕ) (k : ℕ) (x : Slot (Standing C)) → AreOut t ks → slot_at t k ≡ Some x → is_out x.standing.place ≡ true → AreOut t (ks ++ k ∷ [])
   out_push t ks k x o e is j q f = grind (arith, get-push ks k q j f)
 
   -- no place stands twice in a line that is cut at one
@@ -189,17 +189,17 @@ module _ {C : Type 0} where
     absent_back = get_absent place rest (λ j k e s.
         omega (arith, are.once (length passed + suc j) (length passed) k place (get_back passed (place ∷ rest) (length passed + suc j) (suc j) refl ∙ e) middle s))
 
-  pub conns_few : (a : Inside C) (s : ShownRecords C) → AreGoodRecords a → view_of_records a ≡ s → s.conns ≤ most_records
-  conns_few a s good shows = omega (arith, ap (λ (t : ShownRecords C). t.conns) shows, good.sizes.peak_holds, good.sizes.peak_few)
+  pub conns_few : (a : Inside C) (s : RecordsView C) → AreGoodRecords a → view_of_records a ≡ s → s.conns ≤ most_records
+  conns_few a s good shows = omega (arith, ap (λ (t : RecordsView C). t.conns) shows, good.sizes.peak_holds, good.sizes.peak_few)
 
-  module _ {config : Settings} {now : ℕ} {old : ShownRecords C} {list : Buffer (Closed C)} {lent : Lent} {many : ℕ} where
+  module _ {config : Settings} {now : ℕ} {old : RecordsView C} {list : Buffer (Closed C)} {lent : Lent} {many : ℕ} where
     -- it begins at the one that was born first
     pub births_start : (a : Inside C) (told : ℕ) (at : Option ℕ) → AreGoodRecords a → view_of_records a ≡ old → told ≡ 0
         → at ≡ slice_get a.slots.births 0 → many ≡ length a.slots.births → InBirths config now old list lent many a told at list lent 0
     births_start a told at good shows zero_told at_is all = record {
       good = good;
       ks = [];
-      ends = subst (λ (s : ShownRecords C). Ends (lives_out config now) s [] (view_of_records a) told list list) shows (none_ended (lives_out config now) (view_of_records a) told list zero_told);
+      ends = subst (λ (s : RecordsView C). Ends (lives_out config now) s [] (view_of_records a) told list list) shows (none_ended (lives_out config now) (view_of_records a) told list zero_told);
       passed = [];
       rest = a.slots.births;
       births = refl;
@@ -211,7 +211,7 @@ module _ {C : Type 0} where
       few = conns_few a old good shows;
       many_few =
           let l : length a.slots.births ≤ tally (passes is_conn) a.slots.slots = line_length _ _ _ _ (passes is_conn) refl (λ x h. h) a.slots.births a.slots.slots good.births.are in
-          omega (arith, ap (λ (s : ShownRecords C). s.conns) shows, good.conns_are);
+          omega (arith, ap (λ (s : RecordsView C). s.conns) shows, good.conns_are);
     }
 
     module _ {a : Inside C} {told place : ℕ} {listed : Buffer (Closed C)} {lent_now : Lent} {counter : ℕ} (i : InBirths config now old list lent many a told (Some place) listed lent_now counter) where
@@ -257,7 +257,7 @@ module _ {C : Type 0} where
           }
 
       -- it ends one that is idle
-      module _ {slots : Lined (Slot (Standing C))} {next : Option ℕ} (p : Passes config now a.slots place (Aged next)) (gone : Frees a.slots slots place) where
+      module _ {slots : TableView (Slot (Standing C))} {next : Option ℕ} (p : Passes config now a.slots place (Aged next)) (gone : Frees a.slots slots place) where
         aged_idle : is_idle p.0.standing.place ≡ true
         aged_idle = lives_idle config now p.0.standing p.2
 
@@ -277,7 +277,7 @@ module _ {C : Type 0} where
                   ∙ without_between place i.passed ahead.0 front (absent_back a.slots.slots i.passed ahead.0 place are);
               at_is = p.3 i.passed ahead.0 cut;
               outs = λ j k e. let o = i.outs j k e in
-                  let others = subst (λ (t : Lined (Slot (Standing C))). Updates a.slots.slots t.slots place None) (sym gone) (set_at a.slots.slots place p.0 None p.1) in
+                  let others = subst (λ (t : TableView (Slot (Standing C))). Updates a.slots.slots t.slots place None) (sym gone) (set_at a.slots.slots place p.0 None p.1) in
                   (o.0, others.others k (λ s. absent_get place j i.passed front (e ∙ ap (λ (q : ℕ). Some q) s)) ∙ o.1, o.2);
               steps = omega (arith, i.steps);
               lendings = adds_more counter 1 lent lent_now new_lent i.lendings l;
@@ -339,7 +339,7 @@ module _ {C : Type 0} where
 
   -- ---- both walks
 
-  pub reaps_both : {config : Settings} {now : ℕ} {old mid new : ShownRecords C} {js ks : List ℕ} {aged idle : ℕ} {list listed offered : Buffer (Closed C)}
+  pub reaps_both : {config : Settings} {now : ℕ} {old mid new : RecordsView C} {js ks : List ℕ} {aged idle : ℕ} {list listed offered : Buffer (Closed C)}
       → Ends (lives_out config now) old js mid aged list listed
       → ((k : ℕ) → lives_out config now (get mid.places k) ≡ false) → EndsIdle config now mid ks new idle listed offered
       → Reaps config now old js ks new (record { closed = aged + idle; by_idle = idle; by_life = aged }) × (offered ≡ offered_all (closed_of (js ++ ks) old.places) list)

@@ -1,6 +1,6 @@
 use Rattle.std.proofs.Common.{refl, Ok, Err}
 use Rattle.futures.specs.declared.task.Poll.TheVariants.{Ready, Pending}
-use Rattle.bb8.proofs.owned.GetOwnedFutureOnOwning.poll_owning.Goals as goal
+use Rattle.bb8.proofs.owned.GetOwnedFutureOwnedStages.poll_stage.Goals as goal
 
 pub returns-in-Pending : goal.returns-in-Pending
 returns-in-Pending g c = rw (c.in-Some-Open.is, c.in-Some-Open.field-0-is) (Pending, c.poll_owned.new.get, c.in-Pending.ensures, (refl, refl))

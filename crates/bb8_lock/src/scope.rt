@@ -1,7 +1,7 @@
 //! A pool's lock as a home of gets, of sections, and of the tasks that open connections, of the driver and of the reaper.
 ghost use Rattle.std.specs.Prelude.{◌≡◌, None, ⊤};
 ghost use Rattle.bb8_gets.specs.Steps.{Fails, GivesBack};
-ghost use Rattle.bb8_lock.specs.Linked.{IsLinked, Leads, Frees, StartsAt};
+ghost use Rattle.bb8_lock.specs.Scope.{IsScopeOf, Leads, Frees, StartsAt};
 ghost use Rattle.bb8_lock.specs.SectionSteps.{PutsBack};
 ghost use Rattle.std.specs.Sync.Mutex.{mutex_guard_value};
 
@@ -30,16 +30,16 @@ pub trait Locking<T> {
 
 /// A lock with what is called outside of it. It is taken at a step where it is not held, and held until it is released. After the release the
 /// bells are rung, each once, for which a step since then gave cause.
-pub struct LinkHome<'a, S: Locking<T>, T> {
+pub struct LockScope<'a, S: Locking<T>, T> {
     pub(crate) shared: &'a S,
     held: Option<MutexGuard<'a, T>>,
     rings: Rings,
 }
 
-/// The making of such a value, as a method of an impl, too.
-pub trait Links<S: Locking<T>, T> {
-    /// What the handles share, as such a value. The lock is not held.
-    fn linked(&self) -> LinkHome<'_, S, T>;
+/// Opens a scope of the lock, as a method of an impl, so that polls and drops can call it.
+pub trait OpensScope<S: Locking<T>, T> {
+    /// A scope of the lock that the handles share. The lock is not held.
+    fn scope(&self) -> LockScope<'_, S, T>;
 }
 
 impl<G: Given, L: Parts> Locking<Locked<G::Connection, L>> for Shared<G, L> {
@@ -54,12 +54,12 @@ impl<G: Given, L: Parts> Locking<Locked<G::Connection, L>> for Shared<G, L> {
     }
 }
 
-impl<S: Locking<T>, T> Links<S, T> for S {
+impl<S: Locking<T>, T> OpensScope<S, T> for S {
     #[inline(always)]
-    fn linked(&self) -> LinkHome<'_, S, T>
-        ensures { IsLinked self.now result }
+    fn scope(&self) -> LockScope<'_, S, T>
+        ensures { IsScopeOf self.now result }
     {
-        LinkHome {
+        LockScope {
             shared: self,
             held: None,
             rings: Rings::none(),
@@ -67,10 +67,10 @@ impl<S: Locking<T>, T> Links<S, T> for S {
     }
 }
 
-impl<S: Locking<T>, T> Drop for LinkHome<'_, S, T> {
+impl<S: Locking<T>, T> Drop for LockScope<'_, S, T> {
     #[inline(always)]
     fn drop(self) {
-        let LinkHome {
+        let LockScope {
             shared,
             held,
             rings,
@@ -81,7 +81,7 @@ impl<S: Locking<T>, T> Drop for LinkHome<'_, S, T> {
 }
 
 /// It is dropped.
-impl<S: Locking<T>, T> LetGo for LinkHome<'_, S, T> {
+impl<S: Locking<T>, T> LetGo for LockScope<'_, S, T> {
     ghost goes = { λ _. ⊤ };
 
     #[inline(always)]
@@ -98,7 +98,7 @@ pub trait Hold {
     fn hold(&mut self) -> Self::Guard;
 }
 
-impl<'a, S: Locking<T>, T> Hold for LinkHome<'a, S, T> {
+impl<'a, S: Locking<T>, T> Hold for LockScope<'a, S, T> {
     type Guard = MutexGuard<'a, T>;
 
     #[inline(always)]
@@ -114,7 +114,7 @@ impl<'a, S: Locking<T>, T> Hold for LinkHome<'a, S, T> {
     }
 }
 
-impl<C, S: Locking<T>, T: GetHome<C>> GetHome<C> for LinkHome<'_, S, T> {
+impl<C, S: Locking<T>, T: GetHome<C>> GetHome<C> for LockScope<'_, S, T> {
     type Part = T::Part;
 
     ghost releases = { λ x x'. Frees x x' };
@@ -214,7 +214,7 @@ impl<C, S: Locking<T>, T: GetHome<C>> GetHome<C> for LinkHome<'_, S, T> {
     }
 }
 
-impl<C, S: Locking<T>, T: SectionHome<C> + Ends> SectionHome<C> for LinkHome<'_, S, T> {
+impl<C, S: Locking<T>, T: SectionHome<C> + Ends> SectionHome<C> for LockScope<'_, S, T> {
     ghost makes = { λ x at s x'. Leads (λ t t'. T.makes t at s t') x x' };
 
     #[inline(always)]
@@ -264,7 +264,7 @@ impl<C, S: Locking<T>, T: SectionHome<C> + Ends> SectionHome<C> for LinkHome<'_,
 }
 
 /// The lock is taken for each step, and is free again when the step has answered.
-impl<C, S: Locking<T>, T: Home<C>> Home<C> for LinkHome<'_, S, T> {
+impl<C, S: Locking<T>, T: Home<C>> Home<C> for LockScope<'_, S, T> {
     ghost use Rattle.bb8_lock.specs.Opening.{Visits};
 
     ghost steps = { λ x at s x'. Visits (λ t t'. T.steps t at s t') x x' };
