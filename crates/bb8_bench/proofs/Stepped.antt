@@ -1,5 +1,5 @@
 -- What a step that was taken says of the state behind it: its lines, and which step is taken next.
-use Rattle.bb8_bench.proofs.Words.{◌≡◌, ℕ, zero, suc, ◌+◌, ◌<◌, max, Bool, true, false, ◌&&◌, cond, eqb, ltb, List, [], ◌∷◌, ◌++◌, length, drop, Option, Some, None, slice_get, refl, sym, ap, ◌∙◌, subst, MatchBool, option_and_then, arith, length-append, option_map, get, Grant, Claimed, Guarded, Standing, Getting, Act, Begin, Try, PutBack, Fill, Claim, Opened, Answer, Begun, Served, Kept, Granted, Entered, Numbered, at_number, update, numbers, in_order, Ledger, Later, start, position, latest, handles, records, gets, idle, record_of, idle_at, at_place, entry, at_entry, approval, with_approvals, new_get, first_of, stands, is_claimed, is_guarded, is_idle, is_unclaimed, gets_stand, birth_in, with_place, is_trying, Row, begins, serves, claims, fits, Allowed, StateView, shown_records, Represents, IsFitting, RecordsView, change, standing_is, guarded_out, and_right, entered_before, upto, IsServing, HasLedger, Meets}
+use Rattle.bb8_bench.proofs.Words.{◌≡◌, ℕ, zero, suc, ◌+◌, ◌<◌, max, Bool, true, false, ◌&&◌, cond, eqb, ltb, List, [], ◌∷◌, ◌++◌, length, drop, Option, Some, None, slice_get, refl, sym, ap, ◌∙◌, subst, MatchBool, option_and_then, arith, length-append, option_map, get, Grant, Claimed, Guarded, Standing, Getting, Act, Begin, Try, PutBack, Fill, Claim, Opened, Answer, Begun, Served, Kept, Granted, Entered, Numbered, at_number, update, numbers, in_order, Ledger, Later, start, position, latest, handles, records, gets, idle, record_of, idle_at, at_place, entry, at_entry, approval, with_approvals, new_get, first_of, stands, is_claimed, is_guarded, is_idle, is_unclaimed, gets_stand, birth_in, with_place, is_trying, Row, begins, serves, claims, fits, Allowed, StateView, shown_records, Represents, IsFitting, ShownRecords, change, standing_is, guarded_out, and_right, entered_before, upto, IsServing, HasLedger, Meets}
 use Rattle.bb8_tables.specs.declared.keys.Key.{Key}
 use Rattle.bb8_bench.specs.Serving.{Takes, Opens}
 use Rattle.std.proofs.Common.{lt-ltb}
@@ -68,9 +68,6 @@ unclaimed-approve (suc n) =
 try_fits : (s : StateView ℕ) (g : ℕ) → IsServing s → 0 < length s.records.idle → gets_stand is_trying (get s.gets.places g) ≡ true → IsFitting s (Try g)
 try_fits s g ready some tries l legal means = shown_try l s g means ∙ tries
 
-opened_fits : (s : StateView ℕ) (k c : ℕ) → stands is_claimed (get s.records.places k) ≡ true → IsFitting s (Opened k c)
-opened_fits s k c claimed_now l legal means = ap (stands is_claimed) (shown_record l s means k) ∙ claimed_now
-
 -- ---- a state behind a step
 
 module _ (s t : StateView ℕ) (l : Ledger ℕ) (means : Represents l s) where
@@ -102,7 +99,7 @@ module _ (s t : StateView ℕ) (l : Ledger ℕ) (means : Represents l s) where
       ∙ ap (λ (b : Bool). cond b (Some new_get) (at_number (start l).first_get (gets l) g)) last in
       ap (gets_stand is_trying) (sym (shown_get (Later l at Begin (Begun g)) t new g) ∙ ap (option_and_then (λ (r : Numbered Getting). r.standing)) found)
 
-  pub begun_fits : (at g : ℕ) → IsServing s → 0 < length s.records.idle → Allowed l at Begin (Begun g) → Represents (Later l at Begin (Begun g)) t → IsFitting t (Try g)
+  begun_fits : (at g : ℕ) → IsServing s → 0 < length s.records.idle → Allowed l at Begin (Begun g) → Represents (Later l at Begin (Begun g)) t → IsFitting t (Try g)
   begun_fits at g ready some allowed new = try_fits t g (serving at Begin (Begun g) refl new ready)
       (subst (λ (xs : List ℕ). 0 < length xs) (sym (begun_idle at g new)) some) (begun_tries at g ready allowed new)
 
@@ -141,8 +138,7 @@ module _ (s t : StateView ℕ) (l : Ledger ℕ) (means : Represents l s) where
 
   -- ---- return
 
-  pub kept_idle : (at k c : ℕ) (n : Option ℕ) → stands is_guarded (get s.records.places k) ≡ true → Represents (Later l at (PutBack k c false) (Kept k n)) t
-      → t.records.idle ≡ s.records.idle ++ k ∷ []
+  pub kept_idle : (at k c : ℕ) (n : Option ℕ) → stands is_guarded (get s.records.places k) ≡ true → Represents (Later l at (PutBack k c false) (Kept k n)) t → t.records.idle ≡ s.records.idle ++ k ∷ []
   kept_idle at k c n out new =
       let guarded : stands is_guarded (record_of l k) ≡ true = ap (stands is_guarded) (shown_record l s means k) ∙ out in
       let st = standing_is is_guarded (record_of l k) guarded in
@@ -193,8 +189,7 @@ module _ (s t : StateView ℕ) (l : Ledger ℕ) (means : Represents l s) where
   -- ---- fill
 
   -- what a fill leaves where there were no records yet
-  pub filled : (at : ℕ) (grant : Grant) → records l ≡ [] → (start l).first ≡ 0 → Represents (Later l at (Fill false) (Granted grant)) t
-      → (t.records.idle ≡ []) × (t.records.unclaimed ≡ upto grant.count)
+  pub filled : (at : ℕ) (grant : Grant) → records l ≡ [] → (start l).first ≡ 0 → Represents (Later l at (Fill false) (Granted grant)) t → (t.records.idle ≡ []) × (t.records.unclaimed ≡ upto grant.count)
   filled at grant none first new = (
     sym (ap (λ (x : StateView ℕ). x.records.idle) new) ∙ idle-approve grant.count (start l).first (suc (position l)) (records l)
         ∙ numbered.in_order-later idle_at (records l) (start l).first (position l) (entered_before l)
@@ -229,9 +224,6 @@ taken {s} {t} {u} {g} {k} {grant} h ready some begins_so tries_so =
 pub claim_named : {s t : StateView ℕ} {o : Option Key} {key : Key} → o ≡ Some key → Meets s 0 Claim (answers.Claimed (option_map (λ (a : Key). a.number) o)) t
     → Meets s 0 Claim (answers.Claimed (Some key.number)) t
 claim_named {s} {t} is step = subst (λ (o : Option Key). Meets s 0 Claim (answers.Claimed (option_map (λ (a : Key). a.number) o)) t) is step
-
-pub claim_fits : {s t : StateView ℕ} {k : ℕ} (c : ℕ) → HasLedger s → Meets s 0 Claim (answers.Claimed (Some k)) t → IsFitting t (Opened k c)
-claim_fits {s} {t} {k} c h step = let m = step h.0 h.1 h.2 in opened_fits t k c (claimed s t h.0 h.2 0 k m.0 m.1).2
 
 -- an approval that was claimed and brought a connection was the first of the unclaimed
 pub opened : {s t u : StateView ℕ} {k c : ℕ} {n : Option ℕ} → HasLedger s → IsServing s → Meets s 0 Claim (answers.Claimed (Some k)) t

@@ -1,6 +1,8 @@
 -- What the condition of a step says of what is shown.
-use Rattle.bb8_core.proofs.Words.{◌≡◌, ℕ, ◌≤◌, Bool, true, false, Option, Some, None, is_some, refl, sym, ap, ◌∙◌, subst, ◌+◌, ◌<◌, max, arith, ltb-true, get, Place, Unclaimed, Claimed, Idle, Held, Guarded, Standing, Getting, Try, CheckedOk, PutBack, GiveUp, Leave, Reason, Cancelled, Ledger, agree, ◌&&◌, conns, approved, alive, get_of, start, latest, handles, records, gets, record_of, holds, stands, gets_stand, is_unnotified, is_claimed, is_guarded, is_held_by, is_out, fits, IsLegal, StateView, shown_beside, HasLedger, IsFitting, Represents, standing_is, claimed_is, guarded_out, and_right, holding_is, all_held, alive_get, trying_is, alive_is, out_counted, claimed_counted, Fits, all_fit, due_few, Numbered, end_of_numbers, due, Settings, none_lent, RecordsView, NoneAfter}
+use Rattle.bb8_core.proofs.Words.{◌≡◌, ℕ, ◌≤◌, Bool, true, false, Option, Some, None, is_some, refl, sym, ap, ◌∙◌, subst, ◌+◌, ◌<◌, max, arith, ltb-true, get, Place, Unclaimed, Claimed, Idle, Held, Guarded, Standing, Getting, CheckedOk, GiveUp, Leave, Reason, Cancelled, Ledger, agree, ◌&&◌, conns, approved, alive, get_of, start, latest, handles, records, gets, record_of, holds, stands, gets_stand, is_unnotified, is_claimed, is_guarded, is_held_by, is_out, is_trying, GetPlace, Active, Holding, fits, IsLegal, StateView, shown_beside, HasLedger, IsFitting, Represents, standing_is, claimed_is, guarded_out, and_right, all_held, alive_get, alive_is, out_counted, claimed_counted, Fits, all_fit, due_few, Numbered, end_of_numbers, due, Settings, none_lent, RecordsView, NoneAfter}
 use Rattle.bb8_core.specs.StateView.{TellsFitting}
+use Rattle.bb8_types.specs.Places.{held_in}
+use Rattle.bb8_types.specs.declared.standing.GetPlace.TheVariants.{Waiting}
 use Rattle.bb8_ledger.proofs.Invalid.{few_ended}
 use Rattle.bb8_ledger.proofs.Moments.{none_later}
 use Rattle.bb8_types.proofs.Numbered as numbered
@@ -13,6 +15,29 @@ handing_in (Some x) k held = ap is_some held
 handing_none : (o : Option Getting) → holds o ≡ None → (is_some o && agree true (is_some (holds o))) ≡ false
 handing_none None none = refl
 handing_none (Some x) none = ap is_some none
+
+-- one that holds nothing may try
+giving_none : (o : Option Getting) → (is_some o && agree false (is_some (holds o))) ≡ gets_stand is_trying o
+giving_none None = refl
+giving_none (Some x) = each x.place
+  where
+    each : (p : GetPlace) → agree false (is_some (held_in p)) ≡ is_trying p
+    each Active = refl
+    each (Waiting notified) = refl
+    each (Holding k) = refl
+
+-- a get that was found to try stands
+pub trying_stands : {o p : Option Getting} {b : Bool} → o ≡ p → b ≡ gets_stand is_trying o → b ≡ true → (st : Getting) × (p ≡ Some st)
+trying_stands {o} get_is b_is on = let st = each o (sym b_is ∙ on) in (st.0, sym get_is ∙ st.1)
+  where
+    each : (x : Option Getting) → gets_stand is_trying x ≡ true → (st : Getting) × (x ≡ Some st)
+    each None e = cc
+    each (Some st) e = (st, refl)
+
+-- and in no line, where it was found not to wait, or to be notified
+pub trying_off : {o p : Option Getting} {b n : Bool} → o ≡ p → b ≡ gets_stand is_trying o → b ≡ true → n ≡ gets_stand is_unnotified o → n ≡ false
+    → (st : Getting) × (p ≡ Some st) × (is_unnotified st.place ≡ false)
+trying_off get_is b_is on n_is off = let st = trying_stands get_is b_is on in (st.0, st.1, ap (gets_stand is_unnotified) (sym st.1 ∙ sym get_is) ∙ sym n_is ∙ off)
 
 module _ {C : Type 0} where
   -- what a ledger shows, where nothing was lent
@@ -86,21 +111,18 @@ module _ {C : Type 0} where
       held_out (Held h) e = refl
       held_out Guarded e = refl
 
-  -- ---- what a call knows of the state that it finds: the fields show it, and the event fits
+  -- ---- a record that was found to stand at such a place, or not
 
-  -- each record of that number stands at such a place, as an event asks that brings a connection
-  abbrev IsPlaced : (Place C → Bool) → StateView C → ℕ → Type 0
-  IsPlaced test s k = (l : Ledger C) → IsLegal l → Represents l s → stands test (record_of l k) ≡ true
+  -- an event that asks for it fits, or it does not
+  pub fits_at : (s : StateView C) (test : Place C → Bool) (k : ℕ) → stands test (get s.records.places k) ≡ true → (l : Ledger C) → IsLegal l → Represents l s → stands test (record_of l k) ≡ true
+  fits_at s test k on l legal means = ap (stands test) (shown_record l s means k) ∙ on
 
-  placed : {s t : StateView C} (test : Place C → Bool) (k : ℕ) → s ≡ t → HasLedger s → IsPlaced test t k → (st : Standing C) × (get s.records.places k ≡ Some st) × (test st.place ≡ true)
-  placed {s} test k is h fit = standing_is test (get s.records.places k) (ap (stands test) (sym (shown_record h.0 s h.2 k)) ∙ fit h.0 h.1 (as_shown h.0 is h.2))
-
-  pub fit_claimed : {s t : StateView C} (k : ℕ) → s ≡ t → HasLedger s → IsPlaced is_claimed t k → (st : Standing C) × (get s.records.places k ≡ Some st) × (is_claimed st.place ≡ true)
-  fit_claimed k is h fit = placed is_claimed k is h fit
+  pub unfit_at : (s : StateView C) (test : Place C → Bool) (k : ℕ) → stands test (get s.records.places k) ≡ false → (l : Ledger C) → IsLegal l → Represents l s → false ≡ stands test (record_of l k)
+  unfit_at s test k off l legal means = sym (ap (stands test) (shown_record l s means k) ∙ off)
 
   -- what a guard holds is out
-  pub fit_guarded : {s t : StateView C} (k : ℕ) → s ≡ t → HasLedger s → IsPlaced is_guarded t k → (st : Standing C) × (get s.records.places k ≡ Some st) × (is_out st.place ≡ true)
-  fit_guarded k is h fit = let st = placed is_guarded k is h fit in (st.0, st.1, guarded_out st.0.place st.2)
+  pub guarded_record : (s : StateView C) (k : ℕ) → stands is_guarded (get s.records.places k) ≡ true → (st : Standing C) × (get s.records.places k ≡ Some st) × (is_out st.place ≡ true)
+  guarded_record s k on = let st = standing_is is_guarded (get s.records.places k) on in (st.0, st.1, guarded_out st.0.place st.2)
 
   -- a connection that is out is one
   out_some : (k : ℕ) (s : StateView C) → HasLedger s → (st : Standing C) × (get s.records.places k ≡ Some st) × (is_out st.place ≡ true) → 1 ≤ s.records.conns
@@ -109,9 +131,9 @@ module _ {C : Type 0} where
       subst (λ (t : StateView C). 1 ≤ t.records.conns) h.2 some
 
   -- a connection more may be counted as created, and as closed
-  pub created_few : {s t : StateView C} (k : ℕ) → s ≡ t → HasLedger s → IsPlaced is_claimed t k → s.records.next ≤ end_of_numbers → s.counts.created < end_of_numbers
-  created_few {s} k is h fit few =
-      let st = fit_claimed k is h fit in
+  pub created_few : (s : StateView C) (k : ℕ) → HasLedger s → stands is_claimed (get s.records.places k) ≡ true → s.records.next ≤ end_of_numbers → s.counts.created < end_of_numbers
+  created_few s k h on few =
+      let st = standing_is is_claimed (get s.records.places k) on in
       let some : 1 ≤ approved h.0 = claimed_counted h.0 k st.0 (shown_record h.0 s h.2 k ∙ st.1) (claimed_is st.0.place st.2) in
       omega (arith, subst (λ (t : StateView C). 1 ≤ t.records.approved) h.2 some, (shown_fits s h).created_few)
 
@@ -124,26 +146,17 @@ module _ {C : Type 0} where
       → s.records.next ≤ end_of_numbers → s.counts.invalid < end_of_numbers
   invalid_few k s h st few = omega (arith, out_some k s h st, ended_shown s h)
 
+  -- ---- what a call knows of the state that it finds: the fields show it, and the event fits
+
   -- where a handle leaves, one is alive
   pub fit_leave : {s t : StateView C} → s ≡ t → HasLedger s → IsFitting t Leave → 1 ≤ s.handles
   fit_leave is h fit =
       let some : 0 < handles h.0 = ltb-true 0 (handles h.0) (fit h.0 h.1 (as_shown h.0 is h.2)) in
       subst (λ (x : StateView C). 1 ≤ x.handles) h.2 (omega arith)
 
-  -- a get that tries stands, and so does one that is given up, whatever the reason
-  pub fit_try : {s t : StateView C} (g : ℕ) → s ≡ t → HasLedger s → IsFitting t (Try g) → (st : Getting) × (get s.gets.places g ≡ Some st)
-  fit_try {s} g is h fit = let st = trying_is h.0 g (fit h.0 h.1 (as_shown h.0 is h.2)) in (st.0, sym (shown_get h.0 s h.2 g) ∙ st.1)
-
+  -- a get that is given up stands, whatever the reason
   pub giving_is : (l : Ledger C) (g : ℕ) (held : Option C) → fits l (GiveUp g Cancelled held false) ≡ true → (st : Getting) × (get_of l g ≡ Some st)
   giving_is l g held f = alive_get (get_of l g) (and_right (is_some (get_of l g)) _ f).0
-
-  pub fit_give_up : {s t : StateView C} (g : ℕ) (held : Option C) → s ≡ t → HasLedger s → IsFitting t (GiveUp g Cancelled held false) → (st : Getting) × (get s.gets.places g ≡ Some st)
-  fit_give_up {s} g held is h fit = let st = giving_is h.0 g held (fit h.0 h.1 (as_shown h.0 is h.2)) in (st.0, sym (shown_get h.0 s h.2 g) ∙ st.1)
-
-  -- a get that tries and stands in no line
-  pub fit_waits : {s t : StateView C} {o : Option Getting} (g : ℕ) → s ≡ t → HasLedger s → IsFitting t (Try g) → o ≡ get s.gets.places g
-      → gets_stand is_unnotified o ≡ false → (st : Getting) × (get s.gets.places g ≡ Some st) × (is_unnotified st.place ≡ false)
-  fit_waits g view h fit is off = let st = fit_try g view h fit in (st.0, st.1, ap (gets_stand is_unnotified) (sym st.1 ∙ sym is) ∙ off)
 
   -- a get that stands has not been counted as ended, so it may be
   pub ended_few : (s : StateView C) (g : ℕ) → HasLedger s → (st : Getting) × (get s.gets.places g ≡ Some st) → s.gets.next ≤ end_of_numbers
@@ -152,34 +165,6 @@ module _ {C : Type 0} where
       let some : 1 ≤ alive h.0 = alive_is h.0 g st.0 (shown_get h.0 s h.2 g ∙ st.1) in
       let fit = shown_fits s h in
       omega (arith, subst (λ (t : StateView C). 1 ≤ t.gets.alive) h.2 some, fit.answered, fit.started_few)
-
-  -- ---- a get that holds a connection
-
-  -- an event that wants it fits: this is what it holds, by the number that the code reads off it
-  pub fit_holds : {s t : StateView C} {o : Option Getting} {n : ℕ} (g : ℕ) → s ≡ t → HasLedger s
-      → ((l : Ledger C) → IsLegal l → Represents l t → is_some (holds (get_of l g)) ≡ true) → o ≡ get s.gets.places g
-      → ((k : ℕ) → holds o ≡ Some k → n ≡ k) → holds o ≡ Some n
-  fit_holds {s} {t} {o} {n} g is h fit get_is names =
-      let some = some_held (holds o) (ap (λ (x : Option Getting). is_some (holds x)) (get_is ∙ sym (shown_get h.0 s h.2 g)) ∙ fit h.0 h.1 (as_shown h.0 is h.2)) in
-      some.1 ∙ ap (λ (k : ℕ). Some k) (sym (names some.0 some.1))
-    where
-      some_held : (x : Option ℕ) → is_some x ≡ true → (k : ℕ) × (x ≡ Some k)
-      some_held None e = cc
-      some_held (Some k) e = (k, refl)
-
-  -- what it holds is out
-  pub holds_out : {s t : StateView C} {o : Option Getting} {n : ℕ} (g : ℕ) → s ≡ t → HasLedger s
-      → ((l : Ledger C) → IsLegal l → Represents l t → is_some (holds (get_of l g)) ≡ true) → o ≡ get s.gets.places g
-      → ((k : ℕ) → holds o ≡ Some k → n ≡ k) → (st : Standing C) × (get s.records.places n ≡ Some st) × (is_out st.place ≡ true)
-  holds_out {s} {n = n} g is h fit get_is names =
-      let st = held_record h.0 g n h.1 (ap (λ (x : Option Getting). holds x) (shown_get h.0 s h.2 g ∙ sym get_is) ∙ fit_holds g is h fit get_is names) in
-      (st.0, sym (shown_record h.0 s h.2 n) ∙ st.1, st.2)
-
-  -- and it stands in no line
-  pub holds_stands : {s t : StateView C} {o : Option Getting} {n : ℕ} (g : ℕ) → s ≡ t → HasLedger s
-      → ((l : Ledger C) → IsLegal l → Represents l t → is_some (holds (get_of l g)) ≡ true) → o ≡ get s.gets.places g
-      → ((k : ℕ) → holds o ≡ Some k → n ≡ k) → (st : Getting) × (get s.gets.places g ≡ Some st) × (is_unnotified st.place ≡ false)
-  holds_stands {o = o} {n = n} g is h fit get_is names = let st = holding_is o n (fit_holds g is h fit get_is names) in (st.0, sym get_is ∙ st.1, ap is_unnotified st.2)
 
   -- ---- a get that was found to hold a connection, or none
 
@@ -205,8 +190,11 @@ module _ {C : Type 0} where
   pub held_with : (s : StateView C) (g k : ℕ) → HasLedger s → holds (get s.gets.places g) ≡ Some k → stands (is_held_by g) (get s.records.places k) ≡ true
   held_with s g k h held = ap (stands (is_held_by g)) (sym (shown_record h.0 s h.2 k)) ∙ all_held h.0 h.1 g k (ap (λ (x : Option Getting). holds x) (shown_get h.0 s h.2 g) ∙ held)
 
-  pub fits_guarded : (s : StateView C) (k : ℕ) (c : C) (broken : Bool) → stands is_guarded (get s.records.places k) ≡ true → IsFitting s (PutBack k c broken)
-  fits_guarded s k c broken on l legal means = ap (stands is_guarded) (shown_record l s means k) ∙ on
+  -- ---- a get that was found to hold nothing, or else
 
-  pub unfit_guarded : (s : StateView C) (k : ℕ) (c : C) (broken : Bool) → stands is_guarded (get s.records.places k) ≡ false → TellsFitting s (PutBack k c broken) false
-  unfit_guarded s k c broken off l legal means = sym (ap (stands is_guarded) (shown_record l s means k) ∙ off)
+  -- it may be given up, and another get hands in what it holds
+  pub fits_give_up : (s : StateView C) (g : ℕ) (why : Reason) (broken : Bool) → gets_stand is_trying (get s.gets.places g) ≡ true → IsFitting s (GiveUp g why None broken)
+  fits_give_up s g why broken on l legal means = giving_none (get_of l g) ∙ ap (gets_stand is_trying) (shown_get l s means g) ∙ on
+
+  pub unfit_give_up : (s : StateView C) (g : ℕ) (why : Reason) (broken : Bool) → gets_stand is_trying (get s.gets.places g) ≡ false → TellsFitting s (GiveUp g why None broken) false
+  unfit_give_up s g why broken off l legal means = sym (giving_none (get_of l g) ∙ ap (gets_stand is_trying) (shown_get l s means g) ∙ off)

@@ -41,6 +41,14 @@ module _ {C : Type 0} where
   fits_told at e a None h step told = tt
   fits_told at e a (Some g) h step told = may_try at g.number e a h step told
 
+  -- and no try that fits is told to be unfit
+  no_row : (l : Ledger C) (at g : ℕ) → Row l at (Try g) Unfit → ⊥
+  no_row l at g r = elim r [ ]
+
+  pub made_once_fitting : {s t : StateView C} {G : Type 0} (at g : ℕ) → HasLedger s → IsFitting s (Try g) → Meets s at (Try g) Unfit t → G
+  made_once_fitting at g h fit step =
+      absurd (no_row h.0 at g (subst (λ (b : Bool). MatchBool b (Row h.0 at (Try g) Unfit) (Unfit ≡ Unfit)) (fit h.0 h.1 h.2) (step h.0 h.1 h.2).0))
+
   -- and a step and this try hand over
   pub hands_over : {s t : StateView C} (u : StateView C) (at : ℕ) (e : Act C) (a : Answer) (n : Option GetKey) (o : Option (TryAnswer C))
       → Meets s at e a t → told_by a ≡ notified_of n → Follows t at n o u → HandsOver o s at e a u

@@ -1,5 +1,5 @@
 -- Runs: what a state says of its ledger's numbers, an event that does not fit, and lists of events.
-use Rattle.bb8_core.proofs.Words.{◌≡◌, ℕ, zero, suc, true, false, List, [], ◌∷◌, ◌++◌, take, length, Option, Some, None, IsSome, IfSome, IfNone, refl, sym, ap, ◌∙◌, subst, get, Key, Event, Act, Try, Unfit, Ledger, Later, gets_stand, is_trying, fits, Allowed, IsLegal, StateView, Represents, IsRecordIn, IsNoRecordIn, IsGetIn, IsNoGetIn, act_of, answer_of, IsRun, AfterEach}
+use Rattle.bb8_core.proofs.Words.{◌≡◌, ℕ, zero, suc, true, false, List, [], ◌∷◌, ◌++◌, take, length, Option, Some, None, IsSome, IfSome, IfNone, refl, sym, ap, ◌∙◌, subst, get, Key, Event, Act, Try, Unfit, Ledger, Later, gets_stand, is_trying, fits, Allowed, IsLegal, StateView, Represents, IsRecordIn, IsNoRecordIn, IsGetIn, IsNoGetIn, act_of, answer_of, IsRun, AfterEach, RecordsView, GetsView}
 use Rattle.bb8_tables.specs.declared.keys.GetKey.{GetKey}
 use Rattle.bb8_core.specs.declared.replay.events.Answer.{Answer as Told}
 use Rattle.bb8_core.specs.StateView.{IsFitting, Meets, TellsFitting}
@@ -40,6 +40,17 @@ module _ {C : Type 0} where
   -- so it is a step that changes nothing
   pub unfit_step : {s : StateView C} (at : ℕ) (e : Act C) → TellsFitting s e false → Meets s at e Unfit s × (s ≡ s)
   unfit_step {s} at e tells = (λ l legal means. unfit_now l s at e (sym (tells l legal means)) means, refl)
+
+  -- it leaves what it read, where that is told to be as it was
+  pub unfit_records : {s t : StateView C} {rs : RecordsView C} (at : ℕ) (e : Act C) → s ≡ t → TellsFitting s e false → rs ≡ s.records
+      → Meets t at e Unfit (record s { records = rs }) × (record s { records = rs } ≡ t)
+  unfit_records {s} {t} at e is tells same = subst (λ (x : StateView C). Meets t at e Unfit x × (x ≡ t)) (sym (ap (λ (y : RecordsView C). record s { records = y }) same ∙ is))
+      (unfit_step at e (subst (λ (x : StateView C). TellsFitting x e false) is tells))
+
+  pub unfit_gets : {s t : StateView C} {gs : GetsView} (at : ℕ) (e : Act C) → s ≡ t → TellsFitting s e false → gs ≡ s.gets
+      → Meets t at e Unfit (record s { gets = gs }) × (record s { gets = gs } ≡ t)
+  unfit_gets {s} {t} at e is tells same = subst (λ (x : StateView C). Meets t at e Unfit x × (x ≡ t)) (sym (ap (λ (y : GetsView). record s { gets = y }) same ∙ is))
+      (unfit_step at e (subst (λ (x : StateView C). TellsFitting x e false) is tells))
 
   -- and one that fits may be made
   pub fitting : {s : StateView C} (e : Act C) → TellsFitting s e true → IsFitting s e

@@ -1,5 +1,6 @@
-//! The steps of the bare state that may not fit: each asks whether it does, and makes it then. Where it does not nothing changes, and a
-//! connection that was handed in comes back. Homes, replays and C make their steps here.
+//! The steps of the bare state that may not fit. Where one does not nothing changes, and a connection that was handed in comes back. A step
+//! that is given a key tells that by itself; of the others it is asked here whether a handle is alive. Homes, replays and C make their
+//! steps here.
 //!
 //! That what is asked is what the step requires is proved once, here, and that the state keeps the limits.
 ghost use Rattle.std.specs.Prelude.{◌≡◌, None, Some, IfOk, IfErr, IfSome, IfNone};
@@ -76,10 +77,7 @@ pub fn try_get<C: Drop>(
     ensures limits { IsWithinLimits pool.old }
 {
     pool.limits();
-    if !pool.fits_try(get) {
-        return Err(Unfit);
-    }
-    Ok(pool.try_get(at, get))
+    pool.try_get(at, get)
 }
 
 /// Tells that the check of a get was passed.
@@ -114,10 +112,7 @@ pub fn checked_err<C: Drop>(
     ensures limits { IsWithinLimits pool.old }
 {
     pool.limits();
-    if !pool.fits_checked_err(get) {
-        return Err(conn);
-    }
-    Ok(pool.checked_err(at, get, conn, broken, hint))
+    pool.checked_err(at, get, conn, broken, hint)
 }
 
 /// Gives up a get that holds nothing.
@@ -135,10 +130,7 @@ pub fn give_up<C: Drop>(
     ensures limits { IsWithinLimits pool.old }
 {
     pool.limits();
-    if !pool.fits_give_up(get, false) {
-        return Err(Unfit);
-    }
-    Ok(pool.give_up(at, get, reason, broken))
+    pool.give_up(at, get, reason, broken)
 }
 
 /// Gives up a get that holds this connection.
@@ -193,10 +185,7 @@ pub fn opened<C: Drop>(
     ensures limits { IsWithinLimits pool.old }
 {
     pool.limits();
-    if !pool.fits_opened(key) {
-        return Err(conn);
-    }
-    Ok(pool.opened(at, key, conn))
+    pool.opened(at, key, conn)
 }
 
 /// Ends a claimed approval that brought nothing.
@@ -211,10 +200,7 @@ pub fn failed<C: Drop>(
     ensures limits { IsWithinLimits pool.old }
 {
     pool.limits();
-    if !pool.fits_failed(key) {
-        return Err(Unfit);
-    }
-    Ok(pool.failed(at, key))
+    pool.failed(at, key)
 }
 
 /// Adds a connection.

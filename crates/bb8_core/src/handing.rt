@@ -35,9 +35,14 @@ fn try_of<C: Drop>(
     requires { IfSome notified (λ g. IsFitting pool.old (acts.Try g.number)) }
     ensures { Follows pool.old at.0 notified result pool.new }
 {
+    pool.limits();
     match notified {
         None => None,
-        Some(get) => Some(pool.try_get(at, get)),
+        Some(get) => match pool.try_get(at, get) {
+            Ok(tried) => Some(tried),
+            // Whoever was notified may try, so this does not come.
+            Err(Unfit) => None,
+        },
     }
 }
 

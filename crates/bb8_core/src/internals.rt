@@ -1,11 +1,8 @@
 //! The locked state of a pool.
-ghost use Rattle.std.specs.Prelude.{◌≡◌, ◌+◌, ◌≤◌, min, not, cond, slice_get, IfSome, IfNone, IfOk, true, false, None, Some};
-ghost use Rattle.std.specs.FinMap as map;
+ghost use Rattle.std.specs.Prelude.{◌≡◌, ◌+◌, ◌≤◌, min, IfSome, IfNone, IfOk, true, false, None, Some};
 ghost use Rattle.bb8_ledger.specs.Acts as acts;
 ghost use Rattle.bb8_ledger.specs.Answers as answers;
 ghost use Rattle.bb8_ledger.specs.Ledger as ledger;
-ghost use Rattle.bb8_types.specs.Places as places;
-ghost use Rattle.bb8_tables.specs.Machine as machine;
 ghost use Rattle.bb8_core.specs.Decided as decided;
 ghost use Rattle.bb8_types.specs.Grants as grants;
 ghost use Rattle.bb8_types.specs.Settings.{settings_of, is_lawful};
@@ -18,10 +15,7 @@ ghost use Rattle.bb8_core.specs.Asked.{Stepped, OrComesBack};
 ghost use Rattle.bb8_core.specs.Closings.{OffersReaped, OffersLeft};
 ghost use Rattle.bb8_core.specs.StepAnswers.{answer_of_begin, answer_of_try, answer_of_checked_ok, answer_of_checked_err, reason_of, answer_of_give_up, answer_of_put_back, answer_of_claim, answer_of_opened, answer_of_failed, answer_of_add, answer_of_reap, answer_of_join, answer_of_leave, answer_of_look, HandsOut, ServesAtOnce, NoneAtOnce, Starts, GivesBack, GivesBackInvalid, GivesBackHeld, HandsBack, Refuses, closed_in};
 ghost use Rattle.bb8_types.specs.declared.standing.Holder.TheVariants.{Guard, Get};
-ghost use Rattle.bb8_types.specs.declared.standing.Standing.{Standing};
-ghost use Rattle.bb8_types.specs.Bounds.{end_of_numbers, most_records};
-ghost use Rattle.bb8_tables.specs.Keys.{notified_of};
-ghost use Rattle.bb8_tables.specs.Lent.{AddsLent};
+ghost use Rattle.bb8_types.specs.Bounds.{end_of_numbers};
 
 mod decided;
 mod questions;
@@ -34,7 +28,7 @@ pub use crate::answers::{
 use crate::asked::Unfit;
 pub use bb8_tables::closed::{Closed, ClosedList};
 use bb8_tables::counters::Counters;
-use bb8_tables::gets::{Gets, first_wait, held_key, is_notified, is_unnotified};
+use bb8_tables::gets::{Gets, first_wait, is_notified, is_trying, is_unnotified};
 pub use bb8_tables::keys::{GetKey, Key};
 use bb8_tables::records::Records;
 use bb8_tables::{Lendings, UncountedAccess};
@@ -51,7 +45,7 @@ use std::marker::Model;
 ///
 /// Whoever has one has what some legal ledger shows, so it keeps the limits: see `limits`.
 ///
-/// Its steps know nothing of `A`, so they can look at the tables on the state's own count alone. Who knows that it is `UncountedAccess` may ask.
+/// Its steps stand in an impl for every `A`, so they cannot ask by `asking`, as the questions do, which stand in an impl for `UncountedAccess`.
 #[derive(Drop)]
 pub struct PoolInternals<C, A = UncountedAccess> {
     config: Config,
@@ -282,20 +276,26 @@ impl<C: Drop, A> PoolInternals<C, A> {
 
     /// Takes out the idle connection that is first by the queue strategy, and grants what is wanted then. Where connections are checked, the
     /// get holds it until its check is told; otherwise the get is served with it, and it goes to a guard. Where none is idle the get waits from now on, and one approval is granted where gets outnumber open approvals. A get that waits
-    /// and was not notified waits on, and nothing changes but the latest moment. No memory is asked for, but for approvals.
-    pub fn try_get(&mut self, at: Moment, get: GetKey) -> TryAnswer<C>
-        requires { IsFitting self.old (acts.Try get.number) }
-        ensures step { Meets self.old at.0 (acts.Try get.number) (answer_of_try result) self.new }
-        ensures connection { HandsOut self.old result }
-        ensures examined { Lends 4 self.old self.new }
-        ensures searched { Searches 2 self.new }
+    /// and was not notified waits on, and nothing changes but the latest moment. No memory is asked for, but for approvals. Where the get may
+    /// not try nothing changes.
+    pub fn try_get(&mut self, at: Moment, get: GetKey) -> Result<TryAnswer<C>, Unfit>
+        ensures step { Stepped Meets answer_of_try
+            self.old at.0 (acts.Try get.number) result self.new }
+        ensures connection { IfOk result (HandsOut self.old) }
+        ensures examined { IfOk result (λ told. Lends 4 self.old self.new) }
+        ensures searched { IfOk result (λ told. Searches 2 self.new) }
     {
+        let mut lendings = self.lendings.begun();
+        let getting = self.gets.getting(get, &mut lendings);
+        if !is_trying(getting) {
+            return Err(Unfit);
+        }
         let now = self.latest.max(at.0);
         self.latest = now;
-        self.lendings.start();
-        let getting = self.gets.getting(get, &mut self.lendings);
+        self.lendings = lendings;
         if is_unnotified(getting) {
-            return TryAnswer::Waiting(Grant::of_nothing(self.records.next_number()));
+            let nothing = Grant::of_nothing(self.records.next_number());
+            return Ok(TryAnswer::Waiting(nothing));
         }
         let holder = holder(&self.config, get);
         match self
@@ -307,7 +307,7 @@ impl<C: Drop, A> PoolInternals<C, A> {
                 let due = due_waiting(&self.config, self.handles, &self.records, alive);
                 let grant = self.records.grant(due, false);
                 self.gets.wait(get, now, &mut self.lendings);
-                TryAnswer::Waiting(grant)
+                Ok(TryAnswer::Waiting(grant))
             }
             Some((key, conn)) => {
                 let wanted = want(&self.config, self.handles, &self.records);
@@ -315,11 +315,11 @@ impl<C: Drop, A> PoolInternals<C, A> {
                 if self.config.test_on_check_out {
                     self.gets
                         .turn(get, GetPlace::Holding(key.number), &mut self.lendings);
-                    return TryAnswer::Taken(key, conn, grant);
+                    return Ok(TryAnswer::Taken(key, conn, grant));
                 }
                 self.gets.finish(get, &mut self.lendings);
                 self.counters.serve(first_wait(getting), now);
-                TryAnswer::Served(key, conn, grant)
+                Ok(TryAnswer::Served(key, conn, grant))
             }
         }
     }
@@ -335,7 +335,7 @@ impl<C: Drop, A> PoolInternals<C, A> {
         ensures step { Stepped Meets (answer_of_checked_ok self.old.records.next)
             self.old at.0 (acts.CheckedOk get.number) result self.new }
         ensures examined { IfOk result (λ told. Lends 4 self.old self.new) }
-        ensures searched { IfOk result (λ told. Searches 3 self.new) }
+        ensures searched { IfOk result (λ told. Searches 2 self.new) }
     {
         let mut lendings = self.lendings.begun();
         match self.gets.finish_holding(get, &mut lendings) {
@@ -356,7 +356,8 @@ impl<C: Drop, A> PoolInternals<C, A> {
     }
 
     /// Closes the connection that a get holds, as its check failed; the get may try again. It counts as invalid, and as broken too where it
-    /// is broken, or else as too old where it has lived too long. The hint is as of `checked_ok`.
+    /// is broken, or else as too old where it has lived too long. The hint is as of `checked_ok`. Where the get holds none nothing changes, and
+    /// the connection comes back.
     pub fn checked_err(
         &mut self,
         at: Moment,
@@ -364,35 +365,41 @@ impl<C: Drop, A> PoolInternals<C, A> {
         conn: C,
         broken: bool,
         hint: usize,
-    ) -> CheckedErrAnswer<C>
-        requires { IsFitting self.old (acts.CheckedErr get.number broken) }
-        ensures step { Meets self.old at.0 (acts.CheckedErr get.number broken)
-            (answer_of_checked_err result) self.new }
-        ensures connection { GivesBackInvalid conn result }
-        ensures examined { Lends 4 self.old self.new }
-        ensures searched { Searches 4 self.new }
+    ) -> Result<CheckedErrAnswer<C>, C>
+        ensures step { Stepped Meets answer_of_checked_err
+            self.old at.0 (acts.CheckedErr get.number broken) result self.new }
+        ensures connection { OrComesBack GivesBackInvalid conn result }
+        ensures examined { IfOk result (λ told. Lends 4 self.old self.new) }
+        ensures searched { IfOk result (λ told. Searches 3 self.new) }
     {
+        let mut lendings = self.lendings.begun();
+        let Some(held) = self.gets.let_go(get, &mut lendings) else {
+            return Err(conn);
+        };
         let now = self.latest.max(at.0);
         self.latest = now;
-        self.lendings.start();
-        let key = held_key(self.gets.getting(get, &mut self.lendings), hint);
-        let birth = self.records.birth(key, &mut self.lendings);
+        let key = Key {
+            number: held,
+            place: hint,
+        };
+        let birth = self.records.birth(key, &mut lendings);
         let expired = is_expired(&self.config, now, birth);
-        let granted = close_and_grant(
+        let grant = close_and_grant(
             &self.config,
             self.handles,
             &mut self.records,
             key,
-            &mut self.lendings,
+            &mut lendings,
         );
         self.counters.invalid += 1;
         self.counters.close(broken, expired);
-        self.gets.turn(get, GetPlace::Active, &mut self.lendings);
-        CheckedErrAnswer::Closed(key, conn, granted, self.gets.notify(&mut self.lendings))
+        let notified = self.gets.notify(&mut lendings);
+        self.lendings = lendings;
+        Ok(CheckedErrAnswer::Closed(key, conn, grant, notified))
     }
 
     /// Ends a get that is not served, as it timed out or was cancelled, and that holds nothing. Where it had been notified, the oldest waiter that
-    /// was not is notified in its place.
+    /// was not is notified in its place. Where there is no such get nothing changes. It is looked for once.
     #[inline(always)]
     pub fn give_up(
         &mut self,
@@ -400,25 +407,23 @@ impl<C: Drop, A> PoolInternals<C, A> {
         get: GetKey,
         reason: Reason,
         broken: bool,
-    ) -> GiveUpAnswer<C>
-        requires { IsFitting self.old (acts.GiveUp get.number (reason_of reason) None broken) }
-        ensures step { Meets self.old at.0 (acts.GiveUp get.number (reason_of reason) None broken)
-            (answer_of_give_up result) self.new }
-        ensures connection { GivesBackHeld None result }
-        ensures examined { Lends 4 self.old self.new }
-        ensures searched { Searches 2 self.new }
+    ) -> Result<GiveUpAnswer<C>, Unfit>
+        ensures step { Stepped Meets answer_of_give_up self.old at.0
+            (acts.GiveUp get.number (reason_of reason) None broken) result self.new }
+        ensures connection { IfOk result (GivesBackHeld None) }
+        ensures examined { IfOk result (λ told. Lends 4 self.old self.new) }
+        ensures searched { IfOk result (λ told. Searches 1 self.new) }
     {
+        let mut lendings = self.lendings.begun();
+        let Some(getting) = self.gets.end(get, &mut lendings) else {
+            return Err(Unfit);
+        };
         let now = self.latest.max(at.0);
         self.latest = now;
-        self.lendings.start();
-        let getting = self.gets.getting(get, &mut self.lendings);
-        self.gets.end(get, &mut self.lendings);
-        self.counters.give_up(reason, first_wait(getting), now);
-        GiveUpAnswer::GaveUp(notify_next_if(
-            &mut self.gets,
-            is_notified(getting),
-            &mut self.lendings,
-        ))
+        self.counters.give_up(reason, getting.first_wait, now);
+        let heir = notify_next_if(&mut self.gets, is_notified(Some(getting)), &mut lendings);
+        self.lendings = lendings;
+        Ok(GiveUpAnswer::GaveUp(heir))
     }
 
     /// Ends a get that is not served and holds a connection, which is handed in and returns as in `put_back`. The hint is as of `checked_ok`.
@@ -437,7 +442,7 @@ impl<C: Drop, A> PoolInternals<C, A> {
             (acts.GiveUp get.number (reason_of reason) (Some conn) broken) result self.new }
         ensures connection { OrComesBack (λ c. GivesBackHeld (Some c)) conn result }
         ensures examined { IfOk result (λ told. Lends 4 self.old self.new) }
-        ensures searched { IfOk result (λ told. Searches 4 self.new) }
+        ensures searched { IfOk result (λ told. Searches 3 self.new) }
     {
         let mut lendings = self.lendings.begun();
         let Some((held, first_wait)) = self.gets.finish_holding(get, &mut lendings) else {
@@ -565,39 +570,50 @@ impl<C: Drop, A> PoolInternals<C, A> {
     }
 
     /// Makes idle the connection that a claimed approval brought; its birth is now. Where no handle is alive the approval ends instead,
-    /// and the connection is handed back.
-    pub fn opened(&mut self, at: Moment, a: Key, conn: C) -> OpenedAnswer<C>
-        requires { IsFitting self.old (acts.Opened a.number conn) }
-        ensures step { Meets self.old at.0 (acts.Opened a.number conn)
-            (answer_of_opened a.number result) self.new }
-        ensures connection { HandsBack conn result }
-        ensures examined { Lends 4 self.old self.new }
-        ensures searched { Searches 1 self.new }
+    /// and the connection is handed back. Where the number is no claimed approval it comes back, and nothing changes. It is looked for once.
+    pub fn opened(&mut self, at: Moment, a: Key, conn: C) -> Result<OpenedAnswer<C>, C>
+        ensures step { Stepped Meets (answer_of_opened a.number)
+            self.old at.0 (acts.Opened a.number conn) result self.new }
+        ensures connection { OrComesBack HandsBack conn result }
+        ensures examined { IfOk result (λ told. Lends 4 self.old self.new) }
+        ensures searched { IfOk result (λ told. Searches 1 self.new) }
     {
         let now = self.latest.max(at.0);
-        self.latest = now;
-        self.lendings.start();
+        let mut lendings = self.lendings.begun();
         if self.handles == 0 {
-            self.records.close(a, true, &mut self.lendings);
-            return OpenedAnswer::Late(conn);
+            if !self.records.end_claimed(a, &mut lendings) {
+                return Err(conn);
+            }
+            self.latest = now;
+            self.lendings = lendings;
+            return Ok(OpenedAnswer::Late(conn));
         }
-        self.records.enter(a, conn, now, &mut self.lendings);
-        self.counters.created += 1;
-        OpenedAnswer::Entered(self.gets.notify(&mut self.lendings))
+        match self.records.enter(a, conn, now, &mut lendings) {
+            Err(conn) => Err(conn),
+            Ok(()) => {
+                self.latest = now;
+                self.counters.created += 1;
+                let notified = self.gets.notify(&mut lendings);
+                self.lendings = lendings;
+                Ok(OpenedAnswer::Entered(notified))
+            }
+        }
     }
 
-    /// Ends a claimed approval that brought no connection. Nobody is notified.
-    pub fn failed(&mut self, at: Moment, approval: Key) -> FailedAnswer
-        requires { IsFitting self.old (acts.Failed approval.number) }
-        ensures step { Meets self.old at.0 (acts.Failed approval.number)
-            (answer_of_failed result) self.new }
-        ensures examined { Lends 4 self.old self.new }
-        ensures searched { Searches 1 self.new }
+    /// Ends a claimed approval that brought no connection. Nobody is notified. Where the number is none nothing changes. It is looked for once.
+    pub fn failed(&mut self, at: Moment, approval: Key) -> Result<FailedAnswer, Unfit>
+        ensures step { Stepped Meets answer_of_failed self.old at.0 (acts.Failed approval.number)
+            result self.new }
+        ensures examined { IfOk result (λ told. Lends 4 self.old self.new) }
+        ensures searched { IfOk result (λ told. Searches 1 self.new) }
     {
+        let mut lendings = self.lendings.begun();
+        if !self.records.end_claimed(approval, &mut lendings) {
+            return Err(Unfit);
+        }
         self.latest = self.latest.max(at.0);
-        self.lendings.start();
-        self.records.close(approval, true, &mut self.lendings);
-        FailedAnswer::GivenBack
+        self.lendings = lendings;
+        Ok(FailedAnswer::GivenBack)
     }
 
     /// Adds a connection that no approval brought, born now. A broken one is refused first; then any, where connections and open approvals

@@ -97,12 +97,12 @@ fn fits_act<C: Drop>(pool: &PoolInternals<C>, act: Act) -> bool
     match act {
         Act::Begin | Act::Add(_) => pool.fits_begin(),
         Act::Try(number) => pool.fits_try(GetKey { number, place }),
-        Act::CheckedOk(number) => pool.fits_checked_ok(GetKey { number, place }),
-        Act::CheckedErr(number, _) => pool.fits_checked_err(GetKey { number, place }),
+        Act::CheckedOk(number) | Act::CheckedErr(number, _) => {
+            pool.fits_checked_ok(GetKey { number, place })
+        }
         Act::GiveUp(number, _, _) => pool.is_alive(GetKey { number, place }),
         Act::PutBack(number, _) => pool.is_guarded(Key { number, place }),
-        Act::Opened(number) => pool.is_claimed(Key { number, place }),
-        Act::Failed(number) => pool.fits_failed(Key { number, place }),
+        Act::Opened(number) | Act::Failed(number) => pool.is_claimed(Key { number, place }),
         Act::Join => pool.fits_join(),
         Act::Leave => pool.fits_leave(),
         Act::Fill(_) | Act::Claim | Act::Reap | Act::State | Act::Look => true,

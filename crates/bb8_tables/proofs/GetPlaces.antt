@@ -1,5 +1,6 @@
 -- The code's side of each change of the gets: what it does to the fields, seen in what they mean.
-use Rattle.bb8_tables.proofs.Words.{◌≡◌, ◌≢◌, ℕ, List, ◌+◌, ◌-◌, ◌<◌, ◌≤◌, Bool, true, false, [], ◌∷◌, ◌++◌, length, set, slice_get, arith, Option, Some, None, is_some, IsSome, refl, sym, ap, ◌∙◌, get, tally, one, TableView, slot_at, Absent, GetPlace, Active, Waiting, Getting, Slot, is_unnotified, get_in_wait, get_with_place, GetsView, IsTable, view_of_gets, AreGoodGets, AreWaitingPlaces, removed_inserted}
+use Rattle.bb8_tables.proofs.Words.{subst, ◌≡◌, ◌≢◌, ℕ, List, ◌+◌, ◌-◌, ◌<◌, ◌≤◌, Bool, true, false, [], ◌∷◌, ◌++◌, length, set, slice_get, arith, Option, Some, None, is_some, IsSome, refl, sym, ap, ◌∙◌, get, tally, one, TableView, slot_at, Absent, GetPlace, Active, Waiting, Getting, Slot, is_unnotified, get_in_wait, get_with_place, GetsView, IsTable, view_of_gets, AreGoodGets, AreWaitingPlaces, removed_inserted}
+use Rattle.std.proofs.Common.{IfSome}
 use Rattle.bb8_tables.specs.declared.gets.Gets.TheInside.{Inside}
 use Rattle.bb8_tables.specs.Machine as machine
 use Rattle.bb8_tables.proofs.Slots.{Updates, set_at, set_within, tally_set, tally_at, table_set, table_added, table_removed, table_kept}
@@ -25,6 +26,10 @@ some_shown a q i x s good is e same = ap (λ (t : GetsView). get t.places q) (sy
 pub never_absent : (a : Inside) (q : ℕ) {g : Getting} (s : GetsView) {G : Type 0} → view_of_gets a ≡ s → get s.places q ≡ Some g →
     ((i : ℕ) (x : Slot Getting) → slot_at a.slots i ≡ Some x → x.number ≢ q) → G
 never_absent a q {g} s is shows none = absurd (let clash : Some g ≡ None = sym shows ∙ none_shown a q s is none in cc)
+
+-- what a look finds at the place of a number has that number
+pub named : {o : Option (Slot Getting)} {q : ℕ} (x y : Slot Getting) → o ≡ Some x → x.number ≡ q → o ≡ Some y → y.number ≡ q
+named {q = q} x y e is f = subst (λ (o : Option (Slot Getting)). IfSome o (λ z. z.number ≡ q)) (sym e ∙ f) is
 
 -- a get is shown as it stands
 pub stands_is : (a : Inside) (q i : ℕ) (x : Slot Getting) (s : GetsView) → AreGoodGets a → view_of_gets a ≡ s

@@ -1,5 +1,6 @@
 -- The code's side of each change: what it does to the fields, seen in what they mean.
-use Rattle.bb8_tables.proofs.Words.{◌≡◌, ◌≢◌, ℕ, ◌+◌, ◌-◌, ◌<◌, ◌≤◌, Bool, true, false, cond, not, [], ◌∷◌, ◌++◌, map, length, Option, Some, None, IsSome, set, slice_get, drop, refl, sym, ap, ◌∙◌, arith, append-nil, map_push, drop-map, length-map, get, TableView, slot_at, Absent, Buffer, buffer, Place, Unclaimed, Claimed, Idle, Guarded, Standing, Holder, Guard, Get, Key, Slot, QueueStrategy, is_idle, is_unclaimed, is_conn, is_approval, is_out, place_with, with_place, first_place, first_of, comes_from, birth_in, IsTable, number_in, numbers_at, view_of_records, AreGoodRecords, passes, IsLineOf, IsOrderOf, tally, one, RecordsView, NoneAfter, most_records, Inside, unclaimed_is, idle_is, held_conn, idle_from, unclaimed_from, conn_from, approval_from}
+use Rattle.bb8_tables.proofs.Words.{subst, ◌≡◌, ◌≢◌, ℕ, ◌+◌, ◌-◌, ◌<◌, ◌≤◌, Bool, true, false, cond, not, [], ◌∷◌, ◌++◌, map, length, Option, Some, None, IsSome, set, slice_get, drop, refl, sym, ap, ◌∙◌, arith, append-nil, map_push, drop-map, length-map, get, TableView, slot_at, Absent, Buffer, buffer, Place, Unclaimed, Claimed, Idle, Guarded, Standing, Holder, Guard, Get, Key, Slot, QueueStrategy, is_idle, is_unclaimed, is_conn, is_approval, is_out, place_with, with_place, first_place, first_of, comes_from, birth_in, IsTable, number_in, numbers_at, view_of_records, AreGoodRecords, passes, IsLineOf, IsOrderOf, tally, one, RecordsView, NoneAfter, most_records, Inside, unclaimed_is, idle_is, held_conn, idle_from, unclaimed_from, conn_from, approval_from}
+use Rattle.std.proofs.Common.{IfSome}
 use Rattle.bb8_tables.specs.Machine as machine
 use Rattle.bb8_tables.proofs.Views.{same_records}
 use Rattle.bb8_tables.proofs.Lines.{other_line, free_line, added_line, shorter_line, same_line, places_absent, free_absent}
@@ -83,6 +84,10 @@ module _ {C : Type 0} where
   pub stood : (a : Inside C) (q i : ℕ) (x : Slot (Standing C)) (test : Place C → Bool) (s : RecordsView C) → AreGoodRecords a → view_of_records a ≡ s
       → (r : Standing C) × (get s.places q ≡ Some r) × (test r.place ≡ true) → slot_at a.slots i ≡ Some x → x.number ≡ q → test x.standing.place ≡ true
   stood a q i x test s good is h e same = grind (arith, shown_at a i q x good e same)
+
+  -- what a look finds at its place is what stands there
+  pub passed : {o : Option (Slot (Standing C))} (x y : Slot (Standing C)) (test : Place C → Bool) → o ≡ Some x → o ≡ Some y → test y.standing.place ≡ true → test x.standing.place ≡ true
+  passed x y test e f on = subst (λ (o : Option (Slot (Standing C))). IfSome o (λ z. test z.standing.place ≡ true)) (sym f ∙ e) on
 
   -- ---- one place changes
 

@@ -113,7 +113,7 @@ pub(super) fn close_and_grant<C: Drop>(
     ensures numbers { records.old.next ≤ end_of_numbers }
     ensures examined { AddsLent 0 1 lendings.old lendings.new }
 {
-    records.close(k, false, lendings);
+    records.close(k, lendings);
     let wanted = want(config, handles, records);
     records.grant(wanted, false)
 }

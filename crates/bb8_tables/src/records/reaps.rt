@@ -6,7 +6,7 @@ ghost use Rattle.std.specs.Duration.{as_nanos};
 ghost use Rattle.std.specs.FinMap as map;
 ghost use Rattle.bb8_types.specs.Places as places;
 ghost use Rattle.bb8_types.specs.Settings.{settings_of};
-ghost use Rattle.bb8_types.specs.Bounds.{end_of_numbers, most_records};
+ghost use Rattle.bb8_types.specs.Bounds.{end_of_numbers};
 ghost use Rattle.bb8_tables.specs.Dues.{Ends, EndsFirst, EndsIdle, Passes};
 ghost use Rattle.bb8_types.specs.declared.standing.Standing.{Standing};
 ghost use Rattle.bb8_tables.specs.TableView.{slot_at};

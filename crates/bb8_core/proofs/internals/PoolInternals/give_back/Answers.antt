@@ -1,21 +1,14 @@
-use Rattle.bb8_core.proofs.Words.{◌≡◌, true, false, Some, sym, ap, refl, subst, ◌∙◌, arith, Act, Unfit, Meets, StateView, GetsView, view_of, get, holding_is, reason_of}
-use Rattle.bb8_core.specs.StateView.{TellsFitting}
+use Rattle.bb8_core.proofs.Words.{◌≡◌, true, false, Some, sym, refl, ◌∙◌, arith, view_of, get, holding_is, reason_of}
 use Rattle.bb8_ledger.specs.Acts as acts
 use Rattle.bb8_core.proofs.Fitting.{shown_fits, fits_give_back, unfit_give_back, held_with, held_out, ended_few, closed_few, none_after}
-use Rattle.bb8_core.proofs.Runs.{unfit_step}
+use Rattle.bb8_core.proofs.Runs.{unfit_gets}
 use Rattle.bb8_core.proofs.Steps.{led, at_view}
 use Rattle.bb8_core.proofs.GetEnds.{given_up_is, given_up_open, notices, meets_given_up_kept, meets_given_up_closed}
 use Rattle.bb8_core.proofs.internals.PoolInternals.give_back.Goals as goal
 
 pub returns-in_default-clause-step : goal.returns-in_default-clause-step
-returns-in_default-clause-step g c =
-    let a = view_of c.self.inside in
-    let e : Act g.row.C.Denot = acts.GiveUp c.args.get.number (reason_of c.args.reason) (Some c.args.conn) c.args.broken in
-    let tells = subst (λ (s : StateView g.row.C.Denot). TellsFitting s e false) c.self.view_is
-    (unfit_give_back a c.args.get.number (reason_of c.args.reason) c.args.conn c.args.broken c.in_default.ensures.none.0) in
-    subst (λ (x : StateView g.row.C.Denot). Meets c.args.self.now c.args.at.0 e Unfit x × (x ≡ c.args.self.now))
-    (sym (ap (λ (gs : GetsView). record a { gets = gs }) c.in_default.ensures.none.1 ∙ c.self.view_is))
-    (unfit_step c.args.at.0 e tells)
+returns-in_default-clause-step g c = unfit_gets c.args.at.0 (acts.GiveUp c.args.get.number (reason_of c.args.reason) (Some c.args.conn) c.args.broken) c.self.view_is
+    (unfit_give_back (view_of c.self.inside) c.args.get.number (reason_of c.args.reason) c.args.conn c.args.broken c.in_default.ensures.none.0) c.in_default.ensures.none.1
 
 pub put_back-requires : goal.put_back-requires
 put_back-requires g c = none_after (view_of c.self.inside) c.args.at.0 c.max-now.result c.self.invariant c.max-now.ensures
