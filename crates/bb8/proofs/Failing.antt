@@ -109,7 +109,7 @@ module _ {G L M S Z K R C E N V A : Type 0} {manager : ManagerOf M C E N V} {d :
     fails tries e x x' next is by f = by_retry retry refl
       where
         last : (retry ≡ false) ⊎ (timeout < at.0 - tries.start.0) → IsBy x' × Told Known next.answer
-        last why = let g = f.0 why in (ap (λ r. r.now) g.1.1.1 ∙ is, known Known (Failed e) next g.2 by)
+        last why = let g = f.0 why in (ap (λ r. r.now) g.1.4 ∙ is, known Known (Failed e) next g.2 by)
 
         by_retry : (r : Bool) → r ≡ retry → IsBy x' × Told Known next.answer
         by_retry false off = last (inl (sym off))
@@ -131,7 +131,7 @@ module _ {G L M S Z K R C E N V A : Type 0} {manager : ManagerOf M C E N V} {d :
         → replenishing.AfterTaskAcquire (tasks_home shared) timeout retry approval at (opener shared) answer tries c a x next x'
         → IsBy x' × Told Known next.answer
     prepares poll.Pending tries c0 c a0 a x x' next is said p = (still x x' p.2 is, known Known Pending next p.0 tt)
-    prepares (poll.Ready (Ok u)) tries c0 c a0 a x x' next is said (x1, ended, (step, x2, entered, p)) = opens step x2 x' next (ap (λ r. r.now) entered.1.1 ∙ still x x1 ended is) p
+    prepares (poll.Ready (Ok u)) tries c0 c a0 a x x' next is said (x1, ended, (step, x2, entered, p)) = opens step x2 x' next (ap (λ r. r.now) entered.4 ∙ still x x1 ended is) p
     prepares (poll.Ready (Err e)) tries c0 c a0 a x x' next is said (x1, ended, (x2, dropped, p)) =
         fails tries e x2 x' next (still x1 x2 dropped (still x x1 ended is)) (inr (c0, a0, at, c, a, said)) p
 
@@ -190,7 +190,7 @@ module _ {G L M S Z K R C E N V A : Type 0} {manager : ManagerOf M C E N V} {d :
         → replenishing.TaskProceeds (tasks_home shared) timeout retry approval at (opener shared) alive stage x next x'
         → IsBy x' × Told Known next.answer
     proceeds true stage x x' next is p = advances stage x x' next is p
-    proceeds false stage x x' next is (x1, dropped, p) = (ap (λ r. r.now) p.1.1.1 ∙ drops stage x x1 is dropped, known Known GivenBack next p.2 tt)
+    proceeds false stage x x' next is (x1, dropped, p) = (ap (λ r. r.now) p.1.4 ∙ drops stage x x1 is dropped, known Known GivenBack next p.2 tt)
 
   module _ (timeout : ℕ) (retry : Bool) (at : Moment) where
     at_stage : (approval : Key) (latest : Moment) (stage : ReplenishStage C N A) (t' : Replenish C N A) (x x' : Scope shared) (r : ReplenishAnswer E) → IsBy x
@@ -198,13 +198,13 @@ module _ {G L M S Z K R C E N V A : Type 0} {manager : ManagerOf M C E N V} {d :
         (record { approval = approval; latest = latest; stage = stage }) x r t' x'
         → IsBy x' × Told Known r
     at_stage approval latest Start t' x x' r is p =
-        proceeds timeout retry approval t'.latest p.0.alive Start p.1 x' (record { answer = r; stage = t'.stage }) (ap (λ r. r.now) p.2.1.1 ∙ is) p.5
+        proceeds timeout retry approval t'.latest p.0.alive Start p.1 x' (record { answer = r; stage = t'.stage }) (ap (λ r. r.now) p.2.4 ∙ is) p.5
     at_stage approval latest (Connecting tries v) t' x x' r is p =
-        proceeds timeout retry approval t'.latest p.0.alive (Connecting tries v) p.1 x' (record { answer = r; stage = t'.stage }) (ap (λ r. r.now) p.2.1.1 ∙ is) p.5
+        proceeds timeout retry approval t'.latest p.0.alive (Connecting tries v) p.1 x' (record { answer = r; stage = t'.stage }) (ap (λ r. r.now) p.2.4 ∙ is) p.5
     at_stage approval latest (Acquiring tries c a) t' x x' r is p =
-        proceeds timeout retry approval t'.latest p.0.alive (Acquiring tries c a) p.1 x' (record { answer = r; stage = t'.stage }) (ap (λ r. r.now) p.2.1.1 ∙ is) p.5
+        proceeds timeout retry approval t'.latest p.0.alive (Acquiring tries c a) p.1 x' (record { answer = r; stage = t'.stage }) (ap (λ r. r.now) p.2.4 ∙ is) p.5
     at_stage approval latest (Sleeping tries due) t' x x' r is p =
-        proceeds timeout retry approval t'.latest p.0.alive (Sleeping tries due) p.1 x' (record { answer = r; stage = t'.stage }) (ap (λ r. r.now) p.2.1.1 ∙ is) p.5
+        proceeds timeout retry approval t'.latest p.0.alive (Sleeping tries due) p.1 x' (record { answer = r; stage = t'.stage }) (ap (λ r. r.now) p.2.4 ∙ is) p.5
     at_stage approval latest Done t' x x' r is p =
         (still x x' p.2 is, known Known GivenBack (record { answer = r; stage = t'.stage }) p.0 tt)
 
@@ -217,7 +217,7 @@ module _ {G L M S Z K R C E N V A : Type 0} {manager : ManagerOf M C E N V} {d :
   -- a round of a pool's first tasks that failed had its error of the pool's manager or its customizer
   pub round_failed : (tasks : List (Replenish C N A)) (r : Round (List (Replenish C N A)) E) → OwnRounds shared tasks r
       → Ended (λ e. IsBuildError (manager.connect_answers shared.manager) (z.acquire_answers shared.customizer) (User e)) r
-  round_failed tasks r (x, x', (is, free), (at, x1, told, rounds)) =
+  round_failed tasks r (x, x', (is, free, silent), (at, x1, told, rounds)) =
       ended
       (replenishing.TaskPolls (tasks_home shared) (opener shared) (as_nanos shared.config.connection_timeout) shared.config.retry_connection at)
       (reports shared).sinks (Known shared) (IsBy shared)

@@ -1,6 +1,9 @@
 -- What holds of the sections of a pool.
 use Rattle.bb8_lock.proofs.Words.{◌≡◌, ℕ, ◌+◌, ◌^◌, ◌<◌, ◌≤◌, length, Bool, true, false, Option, Some, None, refl, sym, ap, ◌∙◌, arith, Settings, settings_of, is_lawful, Ledger, next, records, answer_of_checked_err, answer_of_give_up, answer_of_put_back, answer_of_add, fits, out_of, Moves}
+use Rattle.std.specs.Prelude.{not, eqb, ltb}
 use Rattle.std.proofs.Common.{IfOk, Result, Ok, Err, is_some}
+use Rattle.std.proofs.lemmas.Bool.Decides.{nat_tests}
+use Rattle.bb8_ledger.specs.Ledger.{handles}
 use Rattle.bb8_core.specs.declared.answers.GiveUpAnswer.{GiveUpAnswer}
 use Rattle.bb8_core.specs.declared.answers.GiveUpAnswer.TheVariants as given_back
 use Rattle.bb8_core.specs.declared.answers.CheckedErrAnswer.{CheckedErrAnswer}
@@ -23,11 +26,11 @@ use Rattle.bb8_tables.specs.declared.keys.GetKey.{GetKey}
 use Rattle.bb8_types.specs.declared.api.configuration.Config.{Config}
 use Rattle.bb8_types.specs.declared.api.moments.Moment.{Moment}
 use Rattle.bb8_types.specs.declared.grants.Grant.{Grant}
-use Rattle.bb8_ledger.specs.Acts.{Act, Begin, Try, CheckedErr, GiveUp, PutBack, Fill, Add, Reason}
+use Rattle.bb8_ledger.specs.Acts.{Act, Begin, Try, CheckedErr, GiveUp, PutBack, Fill, Add, Leave, Reason}
 use Rattle.bb8_ledger.specs.Answers as answers
 use Rattle.bb8_ledger.specs.Answers.{Answer, Begun, Broken, Granted, Unfit}
 use Rattle.bb8_ledger.specs.Table.{Allowed, Row, fills, add_broken, gives_up}
-use Rattle.bb8_core.specs.StateView.{StateView, Represents, Meets, IsWithinLimits, Steps}
+use Rattle.bb8_core.specs.StateView.{StateView, Represents, Meets, HasLedger, IsWithinLimits, Steps, TellsFitting}
 use Rattle.bb8_core.specs.Asked.{answered}
 use Rattle.bb8_core.specs.Run.{opening}
 use Rattle.bb8_lock.specs.Parts.{goes_out, parts_back}
@@ -47,7 +50,15 @@ abbrev refuses_broken : Answer → Bool
 refuses_broken Broken = true
 refuses_broken _ = false
 
+no_fewer : (n : ℕ) → not (ltb 0 n) ≡ eqb n 0
+no_fewer n = grind (arith, nat_tests)
+
 module _ {C : Type 0} where
+  -- a handle that cannot leave is none
+  pub none_left : (s : StateView C) (fitting : Bool) → HasLedger s → TellsFitting s Leave fitting → not fitting ≡ eqb s.handles 0
+  none_left s fitting (l, legal, means) tells =
+      ap not (tells l legal means) ∙ (no_fewer (handles l) ∙ ap (λ (t : StateView C). eqb t.handles 0) means)
+
   -- a step that moves nothing leaves the parts as they are
   pub unmoved : (old new : StateView C) (at : ℕ) (e : Act C) (a : Answer) (rest : ℕ) → Steps old at e a new
       → (Moves e a (out_of old) (out_of new) → out_of new ≡ out_of old) → out_of old + rest ≡ old.config.max_size

@@ -1,3 +1,4 @@
+pub mod Bells
 pub mod Chains
 pub mod Gathered
 pub mod Scope

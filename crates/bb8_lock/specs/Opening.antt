@@ -1,5 +1,5 @@
 -- Tasks on a pool's lock, which is taken for each of their steps alone, and by the pool's own manager, customizer, error sink and clock.
-use Rattle.std.specs.Prelude.{◌≡◌, Result, List}
+use Rattle.std.specs.Prelude.{◌≡◌, None, Result, List}
 use Rattle.bb8_lock.specs.Words.{as_nanos, DebugOf, Poll, CustomizerOf, ManagerOf, SinkOf, ClockOf, StepsIn, OpenerOf, ReportsOf, PartsOf, LockScope, Shared}
 use Rattle.bb8_tasks.specs.declared.dedicated.Dedicated.{Dedicated}
 use Rattle.bb8_tasks.specs.declared.home.Home.{Ghosts as HomeOf}
@@ -7,13 +7,19 @@ use Rattle.bb8_tasks.specs.declared.replenish.Replenish.{Replenish}
 use Rattle.bb8_tasks.specs.declared.rounds.Round.{Round}
 use Rattle.bb8_tasks.specs.Dedicating as dedicating
 use Rattle.bb8_tasks.specs.Homes.{TaskStepsBy}
+use Rattle.bb8_tasks.specs.TaskSteps.{TaskStep}
 use Rattle.bb8_tasks.specs.Replenishing.{TaskPolls, LetsGo}
 use Rattle.bb8_tasks.specs.Sweeping.{AtReading, Rounds, LetsGoEach}
-use Rattle.bb8_lock.specs.Scope.{Frees, Scope, Own, StartsAt}
+use Rattle.bb8_lock.specs.declared.bell.Rings.{Rings}
+use Rattle.bb8_lock.specs.Bells.{RingsFor}
+use Rattle.bb8_lock.specs.Scope.{Scope, Own, Rung, StartsAt}
 
--- A step on what is held, or else on whatever stands behind the lock, which is taken for it. Nothing is held then.
-abbrev pub Visits : {S T : Type 0} → (T → T → Type 0) → LockScope S T → LockScope S T → Type 0
-Visits {T = T} Step x x' = ((t : T) × (t' : T) × StartsAt x.held t × Step t t') × Frees x x'
+-- A step on what is held, or else on whatever stands behind the lock, which is taken for it. Its bells are rung. Nothing is held then, and what was
+-- noted stays so.
+abbrev pub Visits : {S T C : Type 0} → (S → Rings → Type 0) → (T → T → Type 0) → TaskStep C → LockScope S T → LockScope S T → Type 0
+Visits {T = T} Rung Step s x x' =
+    ((t : T) × (t' : T) × StartsAt x.held t × Step t t') × RingsFor (Rung x.shared.now) s
+    × (x'.held ≡ None) × (x'.rings ≡ x.rings) × (x'.shared ≡ x.shared)
 
 -- What a pool does with its tasks, of which handles and guards share this: on the pool's lock, and by its own manager, customizer, error sink and
 -- clock.
@@ -21,7 +27,7 @@ module _ {G L M S Z K R C E N V A : Type 0} {m : ManagerOf M C E N V} {d : Debug
     (shared : Shared G L M S Z K R C E N V A m d s z k l) where
   -- the relations of the lock as a home of tasks
   abbrev pub tasks_home : HomeOf (Scope shared) C
-  tasks_home = record { steps = λ x at s x'. Visits (λ t t'. TaskStepsBy (StepsIn l.settings) t.core at s t'.core) x x' }
+  tasks_home = record { steps = λ x at s x'. Visits (Rung shared) (λ t t'. TaskStepsBy (StepsIn l.settings) t.core at s t'.core) s x x' }
 
   -- the relations of the calls of a pool's manager and customizer
   abbrev pub opener : OpenerOf (Scope shared) C E N A

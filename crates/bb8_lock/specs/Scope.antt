@@ -1,8 +1,10 @@
 -- What gets, guards and handles do on a pool: the tables at what a pool's lock holds, while it is held, and at the pool's own manager, error sink
 -- and clock.
-use Rattle.std.specs.Prelude.{◌≡◌, ℕ, None, Option, Some, Result, Ok, Err, ⊤}
+use Rattle.std.specs.Prelude.{◌≡◌, ℕ, eqb, None, Option, Some, Result, Ok, Err, ⊤}
 use Rattle.bb8_lock.specs.Words.{MutexGuard, DebugOf, Poll, Ready, Pending, AddError, RunError, State, ManagerOf, SinkOf, CustomizerOf, ClockOf, settings_of, HomeOf, Taken, OutsideOf, Stage, Joining, SectionsOf, Locked, Part, PartsOf, LockScope, Shared, StepsIn, GetPolls, Cancels}
 use Rattle.std.specs.Sync.Mutex.{mutex_guard_value}
+use Rattle.bb8_lock.specs.declared.bell.Rings.{Rings}
+use Rattle.bb8_lock.specs.Bells.{get_bells, joined, section_bells, silent}
 use Rattle.bb8_lock.specs.Chains.{AddsOutside, Answers, CancelsAndLeaves, Joins, HandleLeaves, Returns, ReturnsAndLeaves, Shows, TakesNow, Waits}
 use Rattle.bb8_gets.specs.Steps.{StepsBy}
 use Rattle.bb8_lock.specs.declared.bell.Rests.{Ghosts as RestsOf}
@@ -25,17 +27,19 @@ module _ {T : Type 0} where
 
 -- A lock with what is called outside of it, as one value.
 module _ {S T : Type 0} where
-  -- these are shared, and the lock is free
+  -- these are shared, the lock is free, and no bell is noted
   abbrev pub IsScopeOf : S → LockScope S T → Type 0
-  IsScopeOf shared x = (x.shared.now ≡ shared) × (x.held ≡ None)
+  IsScopeOf shared x = (x.shared.now ≡ shared) × (x.held ≡ None) × (x.rings ≡ silent)
 
-  -- a step leads from what is held, or else stands behind the lock, to what is held then
-  abbrev pub Leads : (T → T → Type 0) → LockScope S T → LockScope S T → Type 0
-  Leads Step x x' = LeadsHeld Step x.held x'.held × (x'.shared ≡ x.shared)
+  -- A step leads from what is held, or else stands behind the lock, to what is held then. Its bells, which may depend on that, are noted beside
+  -- those that were, and no others.
+  abbrev pub Leads : (T → T → Type 0) → (T → Rings) → LockScope S T → LockScope S T → Type 0
+  Leads Step its_bells x x' =
+      LeadsHeld (λ t t'. Step t t' × (x'.rings ≡ joined (its_bells t') x.rings)) x.held x'.held × (x'.shared ≡ x.shared)
 
-  -- nothing is held then
-  abbrev pub Frees : LockScope S T → LockScope S T → Type 0
-  Frees x x' = (x'.held ≡ None) × (x'.shared ≡ x.shared)
+  -- the bells that were noted are rung; nothing is held then, and no bell is noted
+  abbrev pub Frees : (S → Rings → Type 0) → LockScope S T → LockScope S T → Type 0
+  Frees Rung x x' = Rung x.shared.now x.rings × (x'.held ≡ None) × (x'.rings ≡ silent) × (x'.shared ≡ x.shared)
 
 -- What the gets, guards and handles of a pool do, which share this: on the pool's lock, and by its own manager, error sink and clock.
 module _ {G L M S Z K R C E N V A : Type 0} {m : ManagerOf M C E N V} {d : DebugOf E} {s : SinkOf S E} {z : CustomizerOf Z C E A} {k : ClockOf K} {l : PartsOf L}
@@ -43,6 +47,10 @@ module _ {G L M S Z K R C E N V A : Type 0} {m : ManagerOf M C E N V} {d : Debug
   -- the pool's lock with what the pool calls outside
   abbrev pub Scope : Type 0
   Scope = LockScope (Shared G L M S Z K R C E N V A m d s z k l) (Locked C L l)
+
+  -- bells of the pool were rung, of which no relation tells
+  abbrev pub Rung : Shared G L M S Z K R C E N V A m d s z k l → Rings → Type 0
+  Rung _ _ = ⊤
 
   -- this is done by it
   abbrev pub Own : (Scope → Scope → Type 0) → Type 0
@@ -52,12 +60,12 @@ module _ {G L M S Z K R C E N V A : Type 0} {m : ManagerOf M C E N V} {d : Debug
   -- whatever stands behind it. What a step answers follows from that very state, which keeps the limits.
   abbrev pub gets : HomeOf Scope C (Part L)
   gets = record {
-    releases = λ x x'. Frees x x';
-    steps = λ x at s x'. Leads (λ t t'. StepsBy (StepsIn l.settings) t.core at s t'.core) x x';
+    releases = λ x x'. Frees Rung x x';
+    steps = λ x at s x'. Leads (λ t t'. StepsBy (StepsIn l.settings) t.core at s t'.core) (λ _. get_bells s) x x';
   }
 
   abbrev pub sections : SectionsOf Scope C (Part L)
-  sections = record { makes = λ x at s x'. Leads (λ t t'. SectionsBy l.settings t.core at s t'.core) x x' }
+  sections = record { makes = λ x at s x'. Leads (λ t t'. SectionsBy l.settings t.core at s t'.core) (λ t'. section_bells (eqb t'.core.handles 0) s) x x' }
 
   -- the relations of the calls of its manager, error sink and clock
   abbrev pub calls : OutsideOf Scope C E V

@@ -17,7 +17,7 @@ mod section_home;
 mod shared;
 mod waits;
 
-pub use bell::{Bell, Belled, Rests, Sleeper};
+pub use bell::{Bell, Belled, Locking, Rests, Sleeper};
 pub use calls::{
     add, cancel_and_leave, give_back, give_back_and_leave, join, leave, state, take_now,
 };
@@ -25,7 +25,7 @@ pub use gathered::Gathered;
 pub use given::{Given, These};
 pub use locked::{Locked, NewPool, Part, Parts, PoolParts, begin_pool};
 pub use locks::Locks;
-pub use scope::{LockScope, Locking, OpensScope};
+pub use scope::{LockScope, OpensScope};
 pub use section_home::{Handle, Joining, SectionHome};
 pub use shared::Shared;
 pub use waits::wait;

@@ -1,7 +1,7 @@
 //! What the lock of a pool holds, and the sections: what is done to it under one taking of the lock.
 //!
 //! A section is lent the state, and asks for one step. No manager, customizer, sink or clock is called here.
-ghost use Rattle.std.specs.Prelude.{◌≡◌, ◌+◌, ◌^◌, ◌<◌, ◌≤◌, true, IfOk};
+ghost use Rattle.std.specs.Prelude.{◌≡◌, ◌+◌, ◌^◌, ◌<◌, ◌≤◌, eqb, true, IfOk};
 ghost use Rattle.bb8_ledger.specs.Acts as acts;
 ghost use Rattle.bb8_types.specs.Settings.{Settings, default_settings, is_lawful, settings_of};
 ghost use Rattle.bb8_lock.specs.Parts.{parts_back, PoolBegins, IsBlankOf};
@@ -212,7 +212,10 @@ impl<C: Drop, L: Parts> SectionHome<C> for Locked<C, L> {
 }
 
 impl<C: Drop, L: Parts> Ends for Locked<C, L> {
+    ghost over = { λ h. eqb h.core.handles 0 };
+
     fn is_over(&self) -> bool {
+        self.limits();
         !self.core.fits_leave()
     }
 }

@@ -1,11 +1,12 @@
 //! A pool's lock as a home of gets, of sections, and of the tasks that open connections, of the driver and of the reaper.
 ghost use Rattle.std.specs.Prelude.{◌≡◌, None, ⊤};
 ghost use Rattle.bb8_gets.specs.Steps.{Fails, GivesBack};
+ghost use Rattle.bb8_lock.specs.Bells.{get_bells, section_bells};
 ghost use Rattle.bb8_lock.specs.Scope.{IsScopeOf, Leads, Frees, StartsAt};
 ghost use Rattle.bb8_lock.specs.SectionSteps.{PutsBack};
 ghost use Rattle.std.specs.Sync.Mutex.{mutex_guard_value};
 
-use crate::bell::{Belled, Notifies, Rings};
+use crate::bell::{Locking, Rings};
 use crate::locks::Locks;
 use crate::section_home::Ends;
 use crate::{Given, Handle, Joining, Locked, Parts, SectionHome, Shared};
@@ -19,15 +20,6 @@ use bb8_gets::{FirstTry, GetHome, LetGo, Passed, Returned, Taken, Tried};
 use bb8_tasks::Home;
 use std::sync::MutexGuard;
 
-/// What a lock is reached by, as methods of an impl, so that polls and drops can call them.
-pub trait Locking<T> {
-    /// The lock and its bells.
-    fn belled(&self) -> &Belled<T>;
-
-    /// Waits for the lock and takes it.
-    fn take(&self) -> MutexGuard<'_, T>;
-}
-
 /// A lock with what is called outside of it. It is taken at a step where it is not held, and held until it is released. After the release the
 /// bells are rung, each once, for which a step since then gave cause.
 pub struct LockScope<'a, S: Locking<T>, T> {
@@ -36,21 +28,23 @@ pub struct LockScope<'a, S: Locking<T>, T> {
     rings: Rings,
 }
 
-/// Opens a scope of the lock, as a method of an impl, so that polls and drops can call it.
+/// The making of such a value, as a method of an impl, too.
 pub trait OpensScope<S: Locking<T>, T> {
-    /// A scope of the lock that the handles share. The lock is not held.
+    /// What the handles share, as such a value. The lock is not held.
     fn scope(&self) -> LockScope<'_, S, T>;
 }
 
 impl<G: Given, L: Parts> Locking<Locked<G::Connection, L>> for Shared<G, L> {
-    #[inline(always)]
-    fn belled(&self) -> &Belled<Locked<G::Connection, L>> {
-        &self.locked
-    }
+    ghost rung = { λ _ _. ⊤ };
 
     #[inline(always)]
     fn take(&self) -> MutexGuard<'_, Locked<G::Connection, L>> {
         self.rt.take(&self.locked.lock)
+    }
+
+    #[inline(always)]
+    fn ring(&self, rings: Rings) {
+        self.locked.ring(rings)
     }
 }
 
@@ -69,20 +63,22 @@ impl<S: Locking<T>, T> OpensScope<S, T> for S {
 
 impl<S: Locking<T>, T> Drop for LockScope<'_, S, T> {
     #[inline(always)]
-    fn drop(self) {
+    fn drop(self)
+        ensures { S.rung self.entry.shared.now self.entry.rings }
+    {
         let LockScope {
             shared,
             held,
             rings,
         } = self;
         drop(held);
-        shared.belled().ring(rings);
+        shared.ring(rings);
     }
 }
 
 /// It is dropped.
 impl<S: Locking<T>, T> LetGo for LockScope<'_, S, T> {
-    ghost goes = { λ _. ⊤ };
+    ghost goes = { λ x. S.rung x.shared.now x.rings };
 
     #[inline(always)]
     fn go(self) {
@@ -106,6 +102,7 @@ impl<'a, S: Locking<T>, T> Hold for LockScope<'a, S, T> {
         ensures start { StartsAt self.old.held (mutex_guard_value result) }
         ensures free { self.new.held ≡ None }
         ensures same { self.new.shared ≡ self.old.shared }
+        ensures noted { self.new.rings ≡ self.old.rings }
     {
         match self.held.take() {
             Some(guard) => guard,
@@ -117,14 +114,14 @@ impl<'a, S: Locking<T>, T> Hold for LockScope<'a, S, T> {
 impl<C, S: Locking<T>, T: GetHome<C>> GetHome<C> for LockScope<'_, S, T> {
     type Part = T::Part;
 
-    ghost releases = { λ x x'. Frees x x' };
+    ghost releases = { λ x x'. Frees S.rung x x' };
 
-    ghost steps = { λ x at s x'. Leads (λ t t'. T.steps t at s t') x x' };
+    ghost steps = { λ x at s x'. Leads (λ t t'. T.steps t at s t') (λ _. get_bells s) x x' };
 
     #[inline(always)]
     fn release(&mut self) {
         self.held = None;
-        self.shared.belled().ring(self.rings);
+        self.shared.ring(self.rings);
         self.rings = Rings::none();
     }
 
@@ -141,7 +138,9 @@ impl<C, S: Locking<T>, T: GetHome<C>> GetHome<C> for LockScope<'_, S, T> {
         let mut guard = self.hold();
         let answer = guard.start(at);
         self.held = Some(guard);
-        self.rings.note(&answer);
+        if let Ok(FirstTry::Tried(_, tried)) = &answer {
+            self.rings.note_try(tried);
+        }
         answer
     }
 
@@ -150,7 +149,9 @@ impl<C, S: Locking<T>, T: GetHome<C>> GetHome<C> for LockScope<'_, S, T> {
         let mut guard = self.hold();
         let answer = guard.try_get(at, get);
         self.held = Some(guard);
-        self.rings.note(&answer);
+        if let Ok(tried) = &answer {
+            self.rings.note_try(tried);
+        }
         answer
     }
 
@@ -174,12 +175,15 @@ impl<C, S: Locking<T>, T: GetHome<C>> GetHome<C> for LockScope<'_, S, T> {
         get: GetKey,
         returned: Returned<C, T::Part>,
     ) -> Result<CheckedErrAnswer<C>, C>
-        ensures { Leads (λ t t'. T.steps t at (Fails get returned result) t') self.old self.new }
+        ensures { Leads (λ t t'. T.steps t at (Fails get returned result) t')
+            (λ _. get_bells (Fails get returned result)) self.old self.new }
     {
         let mut guard = self.hold();
         let answer = guard.checked_err(at, get, returned);
         self.held = Some(guard);
-        self.rings.note(&answer);
+        if let Ok(CheckedErrAnswer::Closed(_, _, grant, told)) = &answer {
+            self.rings.note(*told, grant.count);
+        }
         answer
     }
 
@@ -192,7 +196,7 @@ impl<C, S: Locking<T>, T: GetHome<C>> GetHome<C> for LockScope<'_, S, T> {
         let mut guard = self.hold();
         let answer = guard.give_up(at, get, reason);
         self.held = Some(guard);
-        self.rings.note(&answer);
+        self.rings.note_give_up(&answer);
         answer
     }
 
@@ -204,18 +208,18 @@ impl<C, S: Locking<T>, T: GetHome<C>> GetHome<C> for LockScope<'_, S, T> {
         returned: Returned<C, T::Part>,
     ) -> Result<GiveUpAnswer<C>, C>
         ensures { Leads (λ t t'. T.steps t at (GivesBack get reason returned result) t')
-            self.old self.new }
+            (λ _. get_bells (GivesBack get reason returned result)) self.old self.new }
     {
         let mut guard = self.hold();
         let answer = guard.give_back(at, get, reason, returned);
         self.held = Some(guard);
-        self.rings.note(&answer);
+        self.rings.note_give_up(&answer);
         answer
     }
 }
 
 impl<C, S: Locking<T>, T: SectionHome<C> + Ends> SectionHome<C> for LockScope<'_, S, T> {
-    ghost makes = { λ x at s x'. Leads (λ t t'. T.makes t at s t') x x' };
+    ghost makes = { λ x at s x'. Leads (λ t t'. T.makes t at s t') (λ t'. section_bells (T.over t') s) x x' };
 
     #[inline(always)]
     fn put_back(
@@ -223,12 +227,17 @@ impl<C, S: Locking<T>, T: SectionHome<C> + Ends> SectionHome<C> for LockScope<'_
         at: Moment,
         returned: Returned<C, T::Part>,
     ) -> Result<PutBackAnswer<C>, C>
-        ensures { Leads (λ t t'. T.makes t at (PutsBack returned result) t') self.old self.new }
+        ensures { Leads (λ t t'. T.makes t at (PutsBack returned result) t')
+            (λ t'. section_bells (T.over t') (PutsBack returned result)) self.old self.new }
     {
         let mut guard = self.hold();
         let answer = guard.put_back(at, returned);
         self.held = Some(guard);
-        self.rings.note(&answer);
+        match &answer {
+            Ok(PutBackAnswer::Kept(told)) => self.rings.note(*told, 0),
+            Ok(PutBackAnswer::Closed(_, grant, told)) => self.rings.note(*told, grant.count),
+            Err(_) => {}
+        }
         answer
     }
 
@@ -236,7 +245,9 @@ impl<C, S: Locking<T>, T: SectionHome<C> + Ends> SectionHome<C> for LockScope<'_
         let mut guard = self.hold();
         let answer = guard.add(at, conn, broken);
         self.held = Some(guard);
-        self.rings.note(&answer);
+        if let Ok(AddAnswer::Added(_, told)) = &answer {
+            self.rings.note(*told, 0);
+        }
         answer
     }
 
@@ -257,7 +268,7 @@ impl<C, S: Locking<T>, T: SectionHome<C> + Ends> SectionHome<C> for LockScope<'_
     fn leave(&mut self, at: Moment, handle: Handle) -> Result<LeaveAnswer, Unfit> {
         let mut guard = self.hold();
         let answer = guard.leave(at, handle);
-        self.rings.drivers |= guard.is_over();
+        self.rings.drivers = guard.is_over() | self.rings.drivers;
         self.held = Some(guard);
         answer
     }
@@ -267,7 +278,7 @@ impl<C, S: Locking<T>, T: SectionHome<C> + Ends> SectionHome<C> for LockScope<'_
 impl<C, S: Locking<T>, T: Home<C>> Home<C> for LockScope<'_, S, T> {
     ghost use Rattle.bb8_lock.specs.Opening.{Visits};
 
-    ghost steps = { λ x at s x'. Visits (λ t t'. T.steps t at s t') x x' };
+    ghost steps = { λ x at s x'. Visits S.rung (λ t t'. T.steps t at s t') s x x' };
 
     fn look(&mut self, at: Moment) -> Looked {
         let mut guard = self.hold();
@@ -278,9 +289,11 @@ impl<C, S: Locking<T>, T: Home<C>> Home<C> for LockScope<'_, S, T> {
         let mut guard = self.hold();
         let answer = guard.opened(at, approval, connection);
         drop(guard);
-        if answer.notifies() {
-            self.shared.belled().gets.ring();
-        }
+        let rings = match &answer {
+            Ok(OpenedAnswer::Entered(told)) => Rings::of(*told, 0),
+            Ok(OpenedAnswer::Late(_)) | Err(_) => Rings::none(),
+        };
+        self.shared.ring(rings);
         answer
     }
 
