@@ -1,5 +1,5 @@
 -- What a step that was taken says of the state behind it: its lines, and which step is taken next.
-use Rattle.bb8_bench.proofs.Words.{◌≡◌, ℕ, zero, suc, ◌+◌, ◌<◌, max, Bool, true, false, ◌&&◌, cond, eqb, ltb, List, [], ◌∷◌, ◌++◌, length, drop, Option, Some, None, slice_get, refl, sym, ap, ◌∙◌, subst, MatchBool, option_and_then, arith, length-append, option_map, get, Grant, Claimed, Guarded, Standing, Getting, Act, Begin, Try, PutBack, Fill, Claim, Opened, Answer, Begun, Served, Kept, Granted, Entered, Numbered, at_number, update, numbers, in_order, Ledger, Later, start, position, latest, handles, records, gets, idle, record_of, idle_at, at_place, entry, at_entry, approval, with_approvals, new_get, first_of, stands, is_claimed, is_guarded, is_idle, is_unclaimed, gets_stand, birth_in, with_place, is_trying, Row, begins, serves, claims, fits, Allowed, StateView, shown_records, Represents, IsFitting, ShownRecords, change, standing_is, guarded_out, and_right, entered_before, upto, IsServing, HasLedger, Meets}
+use Rattle.bb8_bench.proofs.Words.{◌≡◌, ℕ, zero, suc, ◌+◌, ◌<◌, max, Bool, true, false, ◌&&◌, cond, eqb, ltb, List, [], ◌∷◌, ◌++◌, length, drop, Option, Some, None, slice_get, refl, sym, ap, ◌∙◌, subst, MatchBool, option_and_then, arith, length-append, option_map, get, Grant, Claimed, Guarded, Standing, Getting, Act, Begin, Try, PutBack, Fill, Claim, Opened, Answer, Begun, Served, Kept, Granted, Entered, Numbered, at_number, update, numbers, in_order, Ledger, Later, start, position, latest, handles, records, gets, idle, record_of, idle_at, at_place, entry, at_entry, approval, with_approvals, new_get, first_of, stands, is_claimed, is_guarded, is_idle, is_unclaimed, gets_stand, birth_in, with_place, is_trying, Row, begins, serves, claims, fits, Allowed, StateView, shown_records, Represents, IsFitting, RecordsView, change, standing_is, guarded_out, and_right, entered_before, upto, IsServing, HasLedger, Meets}
 use Rattle.bb8_tables.specs.declared.keys.Key.{Key}
 use Rattle.bb8_bench.specs.Serving.{Takes, Opens}
 use Rattle.std.proofs.Common.{lt-ltb}
