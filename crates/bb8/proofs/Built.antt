@@ -8,8 +8,8 @@ use Rattle.futures.specs.declared.task.Poll.TheVariants.{Ready, Pending}
 use Rattle.bb8_types.specs.declared.api.errors.Memory.{Memory}
 use Rattle.bb8_types.specs.declared.api.errors.RunError.{RunError}
 use Rattle.bb8_types.specs.declared.api.errors.RunError.TheVariants as errors
-use Rattle.bb8_tasks.specs.declared.building.Site.{Site}
-use Rattle.bb8_tasks.specs.declared.building.Site.TheVariants.{Planned, Opening, Done}
+use Rattle.bb8_tasks.specs.declared.building.BuildingStage.{BuildingStage}
+use Rattle.bb8_tasks.specs.declared.building.BuildingStage.TheVariants.{Planned, Opening, Done}
 use Rattle.bb8_tasks.specs.declared.replenish.Replenish.{Replenish}
 use Rattle.bb8_tasks.specs.declared.rounds.Round.{Round}
 use Rattle.bb8_tasks.specs.declared.rounds.Round.TheVariants.{Failed, Complete, Going}
@@ -19,13 +19,13 @@ use Rattle.bb8_lock.specs.declared.locked.Parts.{Ghosts as PartsOf}
 use Rattle.bb8_lock.specs.Words.{ManagerOf, DebugOf, SinkOf, CustomizerOf, ClockOf}
 use Rattle.bb8.specs.declared.building.Plan.{Plan}
 use Rattle.bb8.specs.declared.pool.Pool.{Pool}
-use Rattle.bb8.specs.Buildings.{IsBuildError, PoolIsMade, PlansSite, PollsSite, PoolRounds}
+use Rattle.bb8.specs.Buildings.{IsBuildError, PoolIsMade, PlansStage, PollsStage, PoolRounds}
 use Rattle.bb8.specs.Choices.{Choices}
 use Rattle.bb8.specs.Services.{basis, basis_of, Basis}
 use Rattle.bb8.proofs.Failing.{round_failed, Ended}
 
 -- what stands here is of that basis
-abbrev pub Stands : {B I P T : Type 0} → (I → B) → (P → B) → B → Site I P T → Type 0
+abbrev pub Stands : {B I P T : Type 0} → (I → B) → (P → B) → B → BuildingStage I P T → Type 0
 Stands of has b (Planned i) = of i ≡ b
 Stands of has b (Opening p ts) = has p ≡ b
 Stands of has b Done = ⊤
@@ -42,20 +42,20 @@ Tells has b Error Pending = ⊤
 module _ {B I P T E : Type 0} (makes : I → Result (P × T) Memory → Type 0) (rounds : P → T → Round T E → Type 0) (of : I → B) (has : P → B)
     (is_made : (i : I) (made : P × T) → makes i (Ok made) → has made.0 ≡ of i) (b : B) (Error : RunError E → Type 0) (refused : Error errors.Memory)
     (failed : (p : P) (ts : T) (round : Round T E) → has p ≡ b → rounds p ts round → Ended (λ e. Error (errors.User e)) round) where
-  swept : (p : P) (round : Round T E) (r : Poll (Result P (RunError E))) (s : Site I P T) → AfterFirstRound rounds round p r s → Ended (λ e. Error (errors.User e)) round → has p ≡ b
+  swept : (p : P) (round : Round T E) (r : Poll (Result P (RunError E))) (s : BuildingStage I P T) → AfterFirstRound rounds round p r s → Ended (λ e. Error (errors.User e)) round → has p ≡ b
       → Tells has b Error r × Stands of has b s
   swept p (Failed e) r s (told, at) ended is = rw (told, at) (ended, tt)
   swept p Complete r s (told, at) ended is = rw (told, at) (is, tt)
   swept p (Going ts) r s (told, at) ended is = rw (told, at) (tt, is)
 
-  polled : (s s' : Site I P T) (r : Poll (Result P (RunError E))) → BuildingPolls makes rounds s r s' → Stands of has b s → Tells has b Error r × Stands of has b s'
+  polled : (s s' : BuildingStage I P T) (r : Poll (Result P (RunError E))) → BuildingPolls makes rounds s r s' → Stands of has b s → Tells has b Error r × Stands of has b s'
   polled (Planned i) s' r (Ok made, of_plan, (round, at, after)) is =
       let of_b = is_made i made of_plan ∙ is in swept made.0 round r s' after (failed made.0 made.1 round of_b at) of_b
   polled (Planned i) s' r (Err none, of_plan, (told, at)) is = rw (told, at) (refused, tt)
   polled (Opening p ts) s' r (round, at, after) is = swept p round r s' after (failed p ts round is at) is
   polled Done s' r (told, at) is = rw (told, at) (tt, tt)
 
-  pub built : (s : Site I P T) (x : Result P (RunError E)) → Answers (BuildingPolls makes rounds) s x → Stands of has b s → Answered has b Error x
+  pub built : (s : BuildingStage I P T) (x : Result P (RunError E)) → Answers (BuildingPolls makes rounds) s x → Stands of has b s → Answered has b Error x
   built _ _ (Answers.now s t x polls) is = (polled s t (Ready x) polls is).0
   built _ _ (Answers.later s t x polls more) is = built t x more (polled s t Pending polls is).1
 
@@ -84,16 +84,17 @@ module _ {G L M S Z K R C E N V A : Type 0} {m : ManagerOf M C E N V} {d : Debug
   is_made plan made (grant, opened, tasks) = rw (opened.settings, opened.manager, opened.clock, opened.sink, opened.customizer) refl
 
   -- a building that was not polled yet stands at its plan
-  planned : (builder : Choices S Z) (manager : M) (clock : K) (site : Site (Plan G L M S Z K R C E N V A m d s z k l p) (Pool G L M S Z K R C E N V A m d s z k l) (List (Replenish C N A)))
-      → PlansSite builder manager clock site → Stands basis_in basis_of (basis builder manager clock) site
+  planned : (builder : Choices S Z) (manager : M) (clock : K) (stage : BuildingStage (Plan G L M S Z K R C E N V A m d s z k l p) (Pool G L M S Z K R C E N V A m d s z k l) (List (Replenish C N A)))
+      → PlansStage builder manager clock stage → Stands basis_in basis_of (basis builder manager clock) stage
   planned builder manager clock (Planned plan) (is, by, at) = rw (is, by, at) refl
   planned builder manager clock (Opening pool tasks) never = absurd never
   planned builder manager clock Done never = tt
 
   -- the answer of a building that was planned: a pool of its basis, or an error that may end it
-  pub answered : (builder : Choices S Z) (manager : M) (clock : K) (site : Site (Plan G L M S Z K R C E N V A m d s z k l p) (Pool G L M S Z K R C E N V A m d s z k l) (List (Replenish C N A)))
-      → (x : Result (Pool G L M S Z K R C E N V A m d s z k l) (RunError E)) → PlansSite builder manager clock site → Answers PollsSite site x
+  pub answered : (builder : Choices S Z) (manager : M) (clock : K)
+      (stage : BuildingStage (Plan G L M S Z K R C E N V A m d s z k l p) (Pool G L M S Z K R C E N V A m d s z k l) (List (Replenish C N A)))
+      → (x : Result (Pool G L M S Z K R C E N V A m d s z k l) (RunError E)) → PlansStage builder manager clock stage → Answers PollsStage stage x
       → IfOk x (λ pool. basis_of pool ≡ basis builder manager clock) × IfErr x (IsBuildError (m.connect_answers manager) (z.acquire_answers builder.connection_customizer))
-  answered builder manager clock site x is answers =
+  answered builder manager clock stage x is answers =
       let of = basis builder manager clock in
-      told of x (built _ _ basis_in basis_of is_made of (ErrorAt m z of) tt (failed of) site x answers (planned builder manager clock site is))
+      told of x (built _ _ basis_in basis_of is_made of (ErrorAt m z of) tt (failed of) stage x answers (planned builder manager clock stage is))

@@ -23,7 +23,7 @@ use Rattle.bb8_tasks.specs.declared.rounds.Round.TheVariants as round
 use Rattle.bb8_tasks.specs.Replenishing as replenishing
 use Rattle.bb8_tasks.specs.Sweeping.{After, AfterRound, RoundLeaves, PollsUntil, Rest, Rounds}
 use Rattle.bb8_lock.specs.declared.shared.Shared.{Shared}
-use Rattle.bb8_lock.specs.Linked.{Linked}
+use Rattle.bb8_lock.specs.Scope.{Scope}
 use Rattle.bb8_lock.specs.Opening.{opener, reports, tasks_home, OwnRounds}
 use Rattle.bb8_lock.specs.declared.locked.Parts.{Ghosts as PartsOf}
 use Rattle.bb8_lock.specs.Words.{ManagerOf, DebugOf, SinkOf, CustomizerOf, ClockOf}
@@ -97,19 +97,19 @@ module _ {G L M S Z K R C E N V A : Type 0} {manager : ManagerOf M C E N V} {d :
   Known e = IsBuildError (manager.connect_answers shared.manager) (z.acquire_answers shared.customizer) (User e)
 
   -- this is what the calls are made of
-  abbrev IsBy : Linked shared → Type 0
+  abbrev IsBy : Scope shared → Type 0
   IsBy x = x.shared.now ≡ shared
 
-  still : (x x' : Linked shared) → x' ≡ x → IsBy x → IsBy x'
-  still x x' same is = ap (λ (y : Linked shared). y.shared.now) same ∙ is
+  still : (x x' : Scope shared) → x' ≡ x → IsBy x → IsBy x'
+  still x x' same is = ap (λ (y : Scope shared). y.shared.now) same ∙ is
 
   module _ (timeout : ℕ) (retry : Bool) (approval : Key) (at : Moment) where
-    fails : (tries : Tries) (e : E) (x x' : Linked shared) (next : ReplenishStep C N A E) → IsBy x → Known e
+    fails : (tries : Tries) (e : E) (x x' : Scope shared) (next : ReplenishStep C N A E) → IsBy x → Known e
         → replenishing.TaskFails (tasks_home shared) timeout retry approval at tries e x next x' → IsBy x' × Told Known next.answer
     fails tries e x x' next is by f = by_retry retry refl
       where
         last : (retry ≡ false) ⊎ (timeout < at.0 - tries.start.0) → IsBy x' × Told Known next.answer
-        last why = let g = f.0 why in (ap (λ r. r.now) g.1.1.1 ∙ is, known Known (Failed e) next g.2 by)
+        last why = let g = f.0 why in (ap (λ r. r.now) g.1.4 ∙ is, known Known (Failed e) next g.2 by)
 
         by_retry : (r : Bool) → r ≡ retry → IsBy x' × Told Known next.answer
         by_retry false off = last (inl (sym off))
@@ -119,29 +119,29 @@ module _ {G L M S Z K R C E N V A : Type 0} {manager : ManagerOf M C E N V} {d :
               | inr within ↦ (let s = f.1 (sym on) within in (still x x' s.2.2 is, known Known (Retrying e) next s.2.0 tt))
             ]
 
-    opens : (step : Result (OpenedAnswer C) C) (x x' : Linked shared) (next : ReplenishStep C N A E) → IsBy x
+    opens : (step : Result (OpenedAnswer C) C) (x x' : Scope shared) (next : ReplenishStep C N A E) → IsBy x
         → replenishing.AfterOpened (tasks_home shared) timeout retry approval at (opener shared) step x next x'
         → IsBy x' × Told Known next.answer
     opens (Ok (opened.Entered notified)) x x' next is a = (still x x' a.2 is, known Known Entered next a.0 tt)
     opens (Ok (opened.Late c)) x x' next is (x1, dropped, a) = (still x1 x' a.2 (still x x1 dropped is), known Known Late next a.0 tt)
     opens (Err c) x x' next is (x1, dropped, a) = (still x1 x' a.2 (still x x1 dropped is), known Known GivenBack next a.0 tt)
 
-    prepares : (answer : Poll (Result (Unit {0}) E)) (tries : Tries) (c0 c : C) (a0 a : A) (x x' : Linked shared) (next : ReplenishStep C N A E) → IsBy x
+    prepares : (answer : Poll (Result (Unit {0}) E)) (tries : Tries) (c0 c : C) (a0 a : A) (x x' : Scope shared) (next : ReplenishStep C N A E) → IsBy x
         → z.acquire_answers shared.customizer c0 a0 at answer c a
         → replenishing.AfterTaskAcquire (tasks_home shared) timeout retry approval at (opener shared) answer tries c a x next x'
         → IsBy x' × Told Known next.answer
     prepares poll.Pending tries c0 c a0 a x x' next is said p = (still x x' p.2 is, known Known Pending next p.0 tt)
-    prepares (poll.Ready (Ok u)) tries c0 c a0 a x x' next is said (x1, ended, (step, x2, entered, p)) = opens step x2 x' next (ap (λ r. r.now) entered.1.1 ∙ still x x1 ended is) p
+    prepares (poll.Ready (Ok u)) tries c0 c a0 a x x' next is said (x1, ended, (step, x2, entered, p)) = opens step x2 x' next (ap (λ r. r.now) entered.4 ∙ still x x1 ended is) p
     prepares (poll.Ready (Err e)) tries c0 c a0 a x x' next is said (x1, ended, (x2, dropped, p)) =
         fails tries e x2 x' next (still x1 x2 dropped (still x x1 ended is)) (inr (c0, a0, at, c, a, said)) p
 
-    acquires : (tries : Tries) (c : C) (a : A) (x x' : Linked shared) (next : ReplenishStep C N A E) → IsBy x
+    acquires : (tries : Tries) (c : C) (a : A) (x x' : Scope shared) (next : ReplenishStep C N A E) → IsBy x
         → replenishing.TaskAcquires (tasks_home shared) timeout retry approval at (opener shared) tries c a x next x'
         → IsBy x' × Told Known next.answer
     acquires tries c a x x' next is (answer, c1, a1, x1, polled, p) =
         prepares answer tries c c1 a a1 x1 x' next (still x x1 polled.1 is) (subst (λ (w : Shared G L M S Z K R C E N V A manager d s z k l). z.acquire_answers w.customizer c a at answer c1 a1) is polled.0) p
 
-    connected : (answer : Poll (Result C E)) (tries : Tries) (v0 v : N) (x x' : Linked shared) (next : ReplenishStep C N A E) → IsBy x
+    connected : (answer : Poll (Result C E)) (tries : Tries) (v0 v : N) (x x' : Scope shared) (next : ReplenishStep C N A E) → IsBy x
         → manager.connect_answers shared.manager v0 at answer v
         → replenishing.AfterTaskConnect (tasks_home shared) timeout retry approval at (opener shared) answer tries v x next x'
         → IsBy x' × Told Known next.answer
@@ -149,18 +149,18 @@ module _ {G L M S Z K R C E N V A : Type 0} {manager : ManagerOf M C E N V} {d :
     connected (poll.Ready (Ok c)) tries v0 v x x' next is said (x1, ended, (a, c1, x2, begun, p)) = acquires tries c1 a x2 x' next (still x1 x2 begun.1 (still x x1 ended is)) p
     connected (poll.Ready (Err e)) tries v0 v x x' next is said (x1, ended, p) = fails tries e x1 x' next (still x x1 ended is) (inl (v0, at, v, said)) p
 
-    connects : (tries : Tries) (v : N) (x x' : Linked shared) (next : ReplenishStep C N A E) → IsBy x
+    connects : (tries : Tries) (v : N) (x x' : Scope shared) (next : ReplenishStep C N A E) → IsBy x
         → replenishing.TaskConnects (tasks_home shared) timeout retry approval at (opener shared) tries v x next x'
         → IsBy x' × Told Known next.answer
     connects tries v x x' next is (answer, v1, x1, polled, p) =
         connected answer tries v v1 x1 x' next (still x x1 polled.1 is) (subst (λ (w : Shared G L M S Z K R C E N V A manager d s z k l). manager.connect_answers w.manager v at answer v1) is polled.0) p
 
-    begins : (tries : Tries) (x x' : Linked shared) (next : ReplenishStep C N A E) → IsBy x
+    begins : (tries : Tries) (x x' : Scope shared) (next : ReplenishStep C N A E) → IsBy x
         → replenishing.TaskBegins (tasks_home shared) timeout retry approval at (opener shared) tries x next x'
         → IsBy x' × Told Known next.answer
     begins tries x x' next is (v, x1, begun, p) = connects tries v x1 x' next (still x x1 begun.1 is) p
 
-    wakes : (tries : Tries) (due : Option Moment) (x x' : Linked shared) (next : ReplenishStep C N A E) → IsBy x
+    wakes : (tries : Tries) (due : Option Moment) (x x' : Scope shared) (next : ReplenishStep C N A E) → IsBy x
         → replenishing.Wakes (tasks_home shared) timeout retry approval at (opener shared) tries due x next x'
         → IsBy x' × Told Known next.answer
     wakes tries None x x' next is p = (still x x' p.2 is, known Known Pending next p.0 tt)
@@ -170,7 +170,7 @@ module _ {G L M S Z K R C E N V A : Type 0} {manager : ManagerOf M C E N V} {d :
           | inr now ↦ begins tries x x' next is (p.0 now)
         ]
 
-    advances : (stage : ReplenishStage C N A) (x x' : Linked shared) (next : ReplenishStep C N A E) → IsBy x
+    advances : (stage : ReplenishStage C N A) (x x' : Scope shared) (next : ReplenishStep C N A E) → IsBy x
         → replenishing.TaskAdvances (tasks_home shared) timeout retry approval at (opener shared) stage x next x'
         → IsBy x' × Told Known next.answer
     advances Start x x' next is p = begins (record { start = at; failures = 0 }) x x' next is p
@@ -179,36 +179,36 @@ module _ {G L M S Z K R C E N V A : Type 0} {manager : ManagerOf M C E N V} {d :
     advances (Sleeping tries due) x x' next is p = wakes tries due x x' next is p
     advances Done x x' next is p = (still x x' p.2 is, known Known GivenBack next p.0 tt)
 
-    drops : (stage : ReplenishStage C N A) (x x' : Linked shared) → IsBy x → replenishing.DropsTask (opener shared) stage x x' → IsBy x'
+    drops : (stage : ReplenishStage C N A) (x x' : Scope shared) → IsBy x → replenishing.DropsTask (opener shared) stage x x' → IsBy x'
     drops Start x x' is p = still x x' p is
     drops (Connecting tries v) x x' is p = still x x' p is
     drops (Acquiring tries c a) x x' is (x1, ended, dropped) = still x1 x' dropped (still x x1 ended is)
     drops (Sleeping tries due) x x' is p = still x x' p is
     drops Done x x' is p = still x x' p is
 
-    proceeds : (alive : Bool) (stage : ReplenishStage C N A) (x x' : Linked shared) (next : ReplenishStep C N A E) → IsBy x
+    proceeds : (alive : Bool) (stage : ReplenishStage C N A) (x x' : Scope shared) (next : ReplenishStep C N A E) → IsBy x
         → replenishing.TaskProceeds (tasks_home shared) timeout retry approval at (opener shared) alive stage x next x'
         → IsBy x' × Told Known next.answer
     proceeds true stage x x' next is p = advances stage x x' next is p
-    proceeds false stage x x' next is (x1, dropped, p) = (ap (λ r. r.now) p.1.1.1 ∙ drops stage x x1 is dropped, known Known GivenBack next p.2 tt)
+    proceeds false stage x x' next is (x1, dropped, p) = (ap (λ r. r.now) p.1.4 ∙ drops stage x x1 is dropped, known Known GivenBack next p.2 tt)
 
   module _ (timeout : ℕ) (retry : Bool) (at : Moment) where
-    at_stage : (approval : Key) (latest : Moment) (stage : ReplenishStage C N A) (t' : Replenish C N A) (x x' : Linked shared) (r : ReplenishAnswer E) → IsBy x
+    at_stage : (approval : Key) (latest : Moment) (stage : ReplenishStage C N A) (t' : Replenish C N A) (x x' : Scope shared) (r : ReplenishAnswer E) → IsBy x
         → replenishing.TaskPolls (tasks_home shared) (opener shared) timeout retry at
         (record { approval = approval; latest = latest; stage = stage }) x r t' x'
         → IsBy x' × Told Known r
     at_stage approval latest Start t' x x' r is p =
-        proceeds timeout retry approval t'.latest p.0.alive Start p.1 x' (record { answer = r; stage = t'.stage }) (ap (λ r. r.now) p.2.1.1 ∙ is) p.5
+        proceeds timeout retry approval t'.latest p.0.alive Start p.1 x' (record { answer = r; stage = t'.stage }) (ap (λ r. r.now) p.2.4 ∙ is) p.5
     at_stage approval latest (Connecting tries v) t' x x' r is p =
-        proceeds timeout retry approval t'.latest p.0.alive (Connecting tries v) p.1 x' (record { answer = r; stage = t'.stage }) (ap (λ r. r.now) p.2.1.1 ∙ is) p.5
+        proceeds timeout retry approval t'.latest p.0.alive (Connecting tries v) p.1 x' (record { answer = r; stage = t'.stage }) (ap (λ r. r.now) p.2.4 ∙ is) p.5
     at_stage approval latest (Acquiring tries c a) t' x x' r is p =
-        proceeds timeout retry approval t'.latest p.0.alive (Acquiring tries c a) p.1 x' (record { answer = r; stage = t'.stage }) (ap (λ r. r.now) p.2.1.1 ∙ is) p.5
+        proceeds timeout retry approval t'.latest p.0.alive (Acquiring tries c a) p.1 x' (record { answer = r; stage = t'.stage }) (ap (λ r. r.now) p.2.4 ∙ is) p.5
     at_stage approval latest (Sleeping tries due) t' x x' r is p =
-        proceeds timeout retry approval t'.latest p.0.alive (Sleeping tries due) p.1 x' (record { answer = r; stage = t'.stage }) (ap (λ r. r.now) p.2.1.1 ∙ is) p.5
+        proceeds timeout retry approval t'.latest p.0.alive (Sleeping tries due) p.1 x' (record { answer = r; stage = t'.stage }) (ap (λ r. r.now) p.2.4 ∙ is) p.5
     at_stage approval latest Done t' x x' r is p =
         (still x x' p.2 is, known Known GivenBack (record { answer = r; stage = t'.stage }) p.0 tt)
 
-    polled : (t t' : Replenish C N A) (x x' : Linked shared) (r : ReplenishAnswer E) → IsBy x
+    polled : (t t' : Replenish C N A) (x x' : Scope shared) (r : ReplenishAnswer E) → IsBy x
         → replenishing.TaskPolls (tasks_home shared) (opener shared) timeout retry at t x r t' x' → IsBy x' × Told Known r
     polled t t' x x' r is p = at_stage t.approval t.latest t.stage t' x x' r is p
 
@@ -217,7 +217,7 @@ module _ {G L M S Z K R C E N V A : Type 0} {manager : ManagerOf M C E N V} {d :
   -- a round of a pool's first tasks that failed had its error of the pool's manager or its customizer
   pub round_failed : (tasks : List (Replenish C N A)) (r : Round (List (Replenish C N A)) E) → OwnRounds shared tasks r
       → Ended (λ e. IsBuildError (manager.connect_answers shared.manager) (z.acquire_answers shared.customizer) (User e)) r
-  round_failed tasks r (x, x', (is, free), (at, x1, told, rounds)) =
+  round_failed tasks r (x, x', (is, free, silent), (at, x1, told, rounds)) =
       ended
       (replenishing.TaskPolls (tasks_home shared) (opener shared) (as_nanos shared.config.connection_timeout) shared.config.retry_connection at)
       (reports shared).sinks (Known shared) (IsBy shared)

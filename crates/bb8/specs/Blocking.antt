@@ -5,10 +5,10 @@ use Rattle.bb8_types.specs.declared.api.errors.RunError.{RunError}
 use Rattle.bb8_types.specs.Settings.{settings_of}
 use Rattle.bb8_gets.specs.declared.home.Taken.{Taken}
 use Rattle.bb8_lock.specs.declared.locked.Part.{Part}
-use Rattle.bb8_lock.specs.Linked.{MakesGuard, OwnLeaves, OwnTakesNow, OwnWaits}
+use Rattle.bb8_lock.specs.Scope.{MakesGuard, OwnLeaves, OwnTakesNow, OwnWaits}
 use Rattle.bb8_lock.specs.declared.locked.Parts.{Ghosts as PartsOf}
 use Rattle.bb8_lock.specs.Words.{ManagerOf, DebugOf, SinkOf, CustomizerOf, ClockOf}
-use Rattle.bb8.specs.declared.handles.Holding.{Holding}
+use Rattle.bb8.specs.declared.handles.BareHandle.{BareHandle}
 use Rattle.bb8.specs.declared.owned.OwnedConnection.{OwnedConnection}
 use Rattle.bb8.specs.declared.pool.Pool.{Pool}
 use Rattle.bb8.specs.declared.pool.PooledConnection.{PooledConnection}
@@ -36,12 +36,12 @@ module _ {G L M S Z K R C E N V A : Type 0} {m : ManagerOf M C E N V} {d : Debug
       × MakesGuard (MakesSome (Guards (arc_value pool.shared))) given out
 
   -- what was given to a get that has a handle: a guard takes the handle along, and with an error it leaves
-  abbrev pub EndsOwned : Holding G L M S Z K R C E N V A m d s z k l → Result (Taken C (Part L)) (RunError E) → Result (OwnedConnection G L M S Z K R C E N V A m d s z k l) (RunError E) → Type 0
+  abbrev pub EndsOwned : BareHandle G L M S Z K R C E N V A m d s z k l → Result (Taken C (Part L)) (RunError E) → Result (OwnedConnection G L M S Z K R C E N V A m d s z k l) (RunError E) → Type 0
   EndsOwned holding (Ok taken) out = out ≡ Ok (record { holding = holding; taken = taken })
   EndsOwned holding (Err e) out = (out ≡ Err e) × OwnLeaves (arc_value holding.shared)
 
   -- a thread waited for a get with a handle of its own, which was made first, or refused
-  abbrev pub WaitsHolding : Result (Holding G L M S Z K R C E N V A m d s z k l) (RunError E) → Result (OwnedConnection G L M S Z K R C E N V A m d s z k l) (RunError E) → Type 0
+  abbrev pub WaitsHolding : Result (BareHandle G L M S Z K R C E N V A m d s z k l) (RunError E) → Result (OwnedConnection G L M S Z K R C E N V A m d s z k l) (RunError E) → Type 0
   WaitsHolding (Err e) out = out ≡ Err e
   WaitsHolding (Ok holding) out =
       (given : Result (Taken C (Part L)) (RunError E))
@@ -50,5 +50,5 @@ module _ {G L M S Z K R C E N V A : Type 0} {m : ManagerOf M C E N V} {d : Debug
 
   abbrev pub WaitsForOwned : Pool G L M S Z K R C E N V A m d s z k l → Result (OwnedConnection G L M S Z K R C E N V A m d s z k l) (RunError E) → Type 0
   WaitsForOwned pool out =
-      (joined : Result (Holding G L M S Z K R C E N V A m d s z k l) (RunError E)) × IsHandleOf (arc_value pool.shared) joined
+      (joined : Result (BareHandle G L M S Z K R C E N V A m d s z k l) (RunError E)) × IsHandleOf (arc_value pool.shared) joined
       × WaitsHolding joined out

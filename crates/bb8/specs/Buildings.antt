@@ -9,8 +9,8 @@ use Rattle.bb8_types.specs.declared.api.errors.RunError.{RunError}
 use Rattle.bb8_types.specs.declared.api.errors.RunError.TheVariants as errors
 use Rattle.bb8_types.specs.declared.api.moments.Moment.{Moment}
 use Rattle.bb8_types.specs.declared.grants.Grant.{Grant}
-use Rattle.bb8_tasks.specs.declared.building.Site.{Site}
-use Rattle.bb8_tasks.specs.declared.building.Site.TheVariants.{Planned, Opening, Done}
+use Rattle.bb8_tasks.specs.declared.building.BuildingStage.{BuildingStage}
+use Rattle.bb8_tasks.specs.declared.building.BuildingStage.TheVariants.{Planned, Opening, Done}
 use Rattle.bb8_tasks.specs.declared.replenish.Replenish.{Replenish}
 use Rattle.bb8_tasks.specs.declared.rounds.Round.{Round}
 use Rattle.bb8_tasks.specs.declared.rounds.Round.TheVariants.{Failed, Complete, Going}
@@ -23,7 +23,7 @@ use Rattle.bb8.specs.declared.building.Plan.{Plan}
 use Rattle.bb8.specs.declared.pool.Pool.{Pool}
 use Rattle.bb8.specs.Choices.{Choices}
 use Rattle.bb8_lock.specs.Chains.{Answers}
-use Rattle.bb8_lock.specs.Linked.{OwnLeaves}
+use Rattle.bb8_lock.specs.Scope.{OwnLeaves}
 use Rattle.bb8_lock.specs.Opening.{OwnRounds, OwnDropsTasks}
 use Rattle.bb8_lock.specs.declared.locked.Parts.{Ghosts as PartsOf}
 use Rattle.bb8_lock.specs.Words.{ManagerOf, DebugOf, SinkOf, CustomizerOf, ClockOf}
@@ -44,12 +44,12 @@ module _ {G L M S Z K R C E N V A : Type 0} {m : ManagerOf M C E N V} {d : Debug
   PoolIsMade plan pool tasks = (grant : Grant) × IsOpened plan true pool grant × AreFor grant.first grant.count tasks
 
   -- the building of a pool by this builder, manager and clock, which was not polled yet
-  abbrev pub PlansSite : Choices S Z → M → K → Site (Plan G L M S Z K R C E N V A m d s z k l p) (Pool G L M S Z K R C E N V A m d s z k l) (List (Replenish C N A)) → Type 0
-  PlansSite builder manager clock (Planned plan) = (plan.builder ≡ builder) × (plan.manager ≡ manager) × (plan.clock ≡ clock)
-  PlansSite builder manager clock _ = ⊥
+  abbrev pub PlansStage : Choices S Z → M → K → BuildingStage (Plan G L M S Z K R C E N V A m d s z k l p) (Pool G L M S Z K R C E N V A m d s z k l) (List (Replenish C N A)) → Type 0
+  PlansStage builder manager clock (Planned plan) = (plan.builder ≡ builder) × (plan.manager ≡ manager) × (plan.clock ≡ clock)
+  PlansStage builder manager clock _ = ⊥
 
   abbrev pub IsPlanned : Choices S Z → M → K → Building G L M S Z K R C E N V A m d s z k l p → Type 0
-  IsPlanned builder manager clock building = PlansSite builder manager clock building.site
+  IsPlanned builder manager clock building = PlansStage builder manager clock building.stage
 
 module _ {G L M S Z K R C E N V A : Type 0} {m : ManagerOf M C E N V} {d : DebugOf E} {s : SinkOf S E} {z : CustomizerOf Z C E A} {k : ClockOf K} {l : PartsOf L} where
   -- where the first connections of a pool failed the pool is dropped
@@ -64,36 +64,36 @@ module _ {G L M S Z K R C E N V A : Type 0} {m : ManagerOf M C E N V} {d : Debug
 
 module _ {G L M S Z K R C E N V A : Type 0} {m : ManagerOf M C E N V} {d : DebugOf E} {s : SinkOf S E} {z : CustomizerOf Z C E A} {k : ClockOf K} {l : PartsOf L} {p : LedgerOf L} where
   -- a poll of a building that stands here: what it answers, and where it stands then
-  abbrev pub PollsSite : Site (Plan G L M S Z K R C E N V A m d s z k l p) (Pool G L M S Z K R C E N V A m d s z k l) (List (Replenish C N A))
+  abbrev pub PollsStage : BuildingStage (Plan G L M S Z K R C E N V A m d s z k l p) (Pool G L M S Z K R C E N V A m d s z k l) (List (Replenish C N A))
       → Poll (Result (Pool G L M S Z K R C E N V A m d s z k l) (RunError E))
-      → Site (Plan G L M S Z K R C E N V A m d s z k l p) (Pool G L M S Z K R C E N V A m d s z k l) (List (Replenish C N A)) → Type 0
-  PollsSite = BuildingPolls (λ plan (made : Result (Pool G L M S Z K R C E N V A m d s z k l × List (Replenish C N A)) Memory). IfOk made (λ x. PoolIsMade plan x.0 x.1)) PoolRounds
+      → BuildingStage (Plan G L M S Z K R C E N V A m d s z k l p) (Pool G L M S Z K R C E N V A m d s z k l) (List (Replenish C N A)) → Type 0
+  PollsStage = BuildingPolls (λ plan (made : Result (Pool G L M S Z K R C E N V A m d s z k l × List (Replenish C N A)) Memory). IfOk made (λ x. PoolIsMade plan x.0 x.1)) PoolRounds
 
   abbrev pub PollsBuilding : Building G L M S Z K R C E N V A m d s z k l p → Poll (Result (Pool G L M S Z K R C E N V A m d s z k l) (RunError E))
       → Building G L M S Z K R C E N V A m d s z k l p → Type 0
-  PollsBuilding building answer after = PollsSite building.site answer after.site
+  PollsBuilding building answer after = PollsStage building.stage answer after.stage
 
   -- what the building may answer at last
   abbrev pub GivesBuilding : Building G L M S Z K R C E N V A m d s z k l p → Result (Pool G L M S Z K R C E N V A m d s z k l) (RunError E) → Type 0
-  GivesBuilding building out = Answers PollsSite building.site out
+  GivesBuilding building out = Answers PollsStage building.stage out
 
   -- when a building that stands here is to be polled: at once before its first poll, and then as soon as one of its tasks is
-  abbrev pub due_at : Site (Plan G L M S Z K R C E N V A m d s z k l p) (Pool G L M S Z K R C E N V A m d s z k l) (List (Replenish C N A)) → Option Moment
+  abbrev pub due_at : BuildingStage (Plan G L M S Z K R C E N V A m d s z k l p) (Pool G L M S Z K R C E N V A m d s z k l) (List (Replenish C N A)) → Option Moment
   due_at (Planned plan) = Some (record { 0 = 0 })
   due_at (Opening pool tasks) = earliest None tasks
   due_at Done = None
 
   abbrev pub building_due : Building G L M S Z K R C E N V A m d s z k l p → Option Moment
-  building_due building = due_at building.site
+  building_due building = due_at building.stage
 
   -- a building that stands here is let go: its tasks are, and its pool is dropped
-  abbrev pub EndsAt : Site (Plan G L M S Z K R C E N V A m d s z k l p) (Pool G L M S Z K R C E N V A m d s z k l) (List (Replenish C N A)) → Type 0
+  abbrev pub EndsAt : BuildingStage (Plan G L M S Z K R C E N V A m d s z k l p) (Pool G L M S Z K R C E N V A m d s z k l) (List (Replenish C N A)) → Type 0
   EndsAt (Planned plan) = ⊤
   EndsAt (Opening pool tasks) = OwnDropsTasks (arc_value pool.shared) tasks × OwnLeaves (arc_value pool.shared)
   EndsAt Done = ⊤
 
   abbrev pub CancelsBuilding : Building G L M S Z K R C E N V A m d s z k l p → Type 0
-  CancelsBuilding building = EndsAt building.site
+  CancelsBuilding building = EndsAt building.stage
 
 -- What a building may fail with, by the answers that the polls of an opening and those of a preparation may give: an error with which an
 -- opening or a preparation was answered, or that memory was refused.

@@ -9,7 +9,7 @@ use Rattle.bb8_tasks.specs.Turns.{is_ended, DriverBegins, DriverTurns}
 use Rattle.bb8_lock.specs.declared.shared.Shared.{Shared}
 use Rattle.bb8_lock.specs.declared.bell.Rests.{Ghosts as RestsOf}
 use Rattle.bb8_lock.specs.declared.bell.Sleeper.TheVariants.{Driver as Sleeping}
-use Rattle.bb8_lock.specs.Linked.{rests, IsLinked, Linked}
+use Rattle.bb8_lock.specs.Scope.{rests, IsScopeOf, Scope}
 use Rattle.bb8_lock.specs.Opening.{opener, reports, tasks_home}
 use Rattle.bb8_lock.specs.Turning.{OwnTurns}
 use Rattle.bb8_lock.specs.declared.locked.Parts.{Ghosts as PartsOf}
@@ -60,7 +60,7 @@ module _ {G L M S Z K R C E N V A : Type 0} {m : ManagerOf M C E N V} {d : Debug
     (shared : Shared G L M S Z K R C E N V A m d s z k l) where
   abbrev pub OwnRuns : {P : Type 0} → (P → Bool → P → Type 0) → Turning C N A → P → Driven → Type 0
   OwnRuns pauses turning gate d =
-      (x : Linked shared) × (last : Turning C N A × Linked shared) × IsLinked shared x
+      (x : Scope shared) × (last : Turning C N A × Scope shared) × IsScopeOf shared x
       × Runs (TurnsOnce (tasks_home shared) (opener shared) (reports shared) (rests shared) (as_nanos shared.config.connection_timeout)
       shared.config.retry_connection) pauses (SleepsOnce (rests shared)) (turning, x) gate 0 d last
 

@@ -7,7 +7,7 @@ use Rattle.bb8_gets.specs.declared.home.Taken.{Taken}
 use Rattle.bb8_lock.specs.declared.locked.Part.{Part}
 use Rattle.bb8_lock.specs.declared.shared.Shared.{Shared}
 use Rattle.bb8.specs.declared.pool.PooledConnection.{PooledConnection}
-use Rattle.bb8_lock.specs.Linked.{OwnPolls, OwnGives, OwnCancels, MakesGuard, MakesPoll}
+use Rattle.bb8_lock.specs.Scope.{OwnPolls, OwnGives, OwnCancels, MakesGuard, MakesPoll}
 use Rattle.bb8_lock.specs.declared.locked.Parts.{Ghosts as PartsOf}
 use Rattle.bb8_lock.specs.Words.{ManagerOf, DebugOf, SinkOf, CustomizerOf, ClockOf}
 use Rattle.bb8.specs.Pools.{stage_of}

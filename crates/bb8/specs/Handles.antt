@@ -5,8 +5,8 @@ use Rattle.bb8_types.specs.declared.api.errors.RunError.{RunError}
 use Rattle.bb8_types.specs.declared.api.errors.RunError.TheVariants as errors
 use Rattle.bb8_lock.specs.declared.section_home.Joining.{Joining}
 use Rattle.bb8_lock.specs.declared.section_home.Joining.TheVariants as joining
-use Rattle.bb8_lock.specs.Linked.{OwnJoins}
-use Rattle.bb8.specs.declared.handles.Holding.{Holding}
+use Rattle.bb8_lock.specs.Scope.{OwnJoins}
+use Rattle.bb8.specs.declared.handles.BareHandle.{BareHandle}
 use Rattle.bb8.specs.declared.pool.Pool.{Pool}
 use Rattle.bb8_lock.specs.declared.shared.Shared.{Shared}
 use Rattle.bb8_lock.specs.declared.locked.Parts.{Ghosts as PartsOf}
@@ -14,7 +14,7 @@ use Rattle.bb8_lock.specs.Words.{ManagerOf, DebugOf, SinkOf, CustomizerOf, Clock
 
 module _ {G L M S Z K R C E N V A : Type 0} {m : ManagerOf M C E N V} {d : DebugOf E} {s : SinkOf S E} {z : CustomizerOf Z C E A} {k : ClockOf K} {l : PartsOf L} where
   -- What is told of the making of a handle: one more is of the same pool. Where as many are alive as may be, or none is, it is refused.
-  abbrev pub IsToldHandle : Shared G L M S Z K R C E N V A m d s z k l → Joining → Result (Holding G L M S Z K R C E N V A m d s z k l) (RunError E) → Type 0
+  abbrev pub IsToldHandle : Shared G L M S Z K R C E N V A m d s z k l → Joining → Result (BareHandle G L M S Z K R C E N V A m d s z k l) (RunError E) → Type 0
   IsToldHandle shared (joining.Joined handle) (Ok holding) = arc_value holding.shared ≡ shared
   IsToldHandle shared joining.Exhausted (Err errors.Exhausted) = ⊤
   IsToldHandle shared joining.Unfit (Err errors.Exhausted) = ⊤
@@ -22,7 +22,7 @@ module _ {G L M S Z K R C E N V A : Type 0} {m : ManagerOf M C E N V} {d : Debug
 
   -- The making of one more handle: some state of the pool's settings counts it or refuses it, at a reading of the clock, and the caller is told
   -- so. Of one that is refused for want of memory nothing is said here.
-  abbrev pub IsHandleOf : Shared G L M S Z K R C E N V A m d s z k l → Result (Holding G L M S Z K R C E N V A m d s z k l) (RunError E) → Type 0
+  abbrev pub IsHandleOf : Shared G L M S Z K R C E N V A m d s z k l → Result (BareHandle G L M S Z K R C E N V A m d s z k l) (RunError E) → Type 0
   IsHandleOf shared (Err errors.Memory) = ⊤
   IsHandleOf shared result =
       (answer : Joining) × OwnJoins shared answer × IsToldHandle shared answer result

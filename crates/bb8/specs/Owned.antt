@@ -8,15 +8,15 @@ use Rattle.bb8_gets.specs.declared.home.Taken.{Taken}
 use Rattle.bb8_gets.specs.declared.state.GetState.{GetState}
 use Rattle.bb8_gets.specs.declared.state.Stage.TheVariants.{Fresh}
 use Rattle.bb8_lock.specs.declared.locked.Part.{Part}
-use Rattle.bb8.specs.declared.handles.Holding.{Holding}
+use Rattle.bb8.specs.declared.handles.BareHandle.{BareHandle}
 use Rattle.bb8.specs.declared.owned.OwnedConnection.{OwnedConnection}
 use Rattle.bb8.specs.declared.owned.GetOwnedFuture.{GetOwnedFuture}
-use Rattle.bb8.specs.declared.owned.Owning.{Owning}
-use Rattle.bb8.specs.declared.owned.Owning.TheVariants.{Refused, Open}
+use Rattle.bb8.specs.declared.owned.OwnedStage.{OwnedStage}
+use Rattle.bb8.specs.declared.owned.OwnedStage.TheVariants.{Refused, Open}
 use Rattle.bb8.specs.declared.pool.Pool.{Pool}
 use Rattle.bb8.specs.Handles.{IsHandleOf}
 use Rattle.bb8_lock.specs.Chains.{Answers}
-use Rattle.bb8_lock.specs.Linked.{OwnCancelsAndLeaves, OwnLeaves, OwnPolls}
+use Rattle.bb8_lock.specs.Scope.{OwnCancelsAndLeaves, OwnLeaves, OwnPolls}
 use Rattle.bb8_lock.specs.declared.locked.Parts.{Ghosts as PartsOf}
 use Rattle.bb8_lock.specs.Words.{ManagerOf, DebugOf, SinkOf, CustomizerOf, ClockOf}
 
@@ -26,30 +26,30 @@ module _ {G L M S Z K R C E N V A : Type 0} {m : ManagerOf M C E N V} {d : Debug
   with_connection guard connection = record guard { taken = record guard.taken { connection = connection } }
 
   -- a get with a handle of its own is let go: it is given up, where it began and was not answered, and then the handle leaves
-  abbrev pub CancelsOwning : Option (Owning G L M S Z K R C E N V A m d s z k l) → Type 0
-  CancelsOwning None = ⊤
-  CancelsOwning (Some (Refused e)) = ⊤
-  CancelsOwning (Some (Open holding get)) = OwnCancelsAndLeaves (arc_value holding.shared) get.stage
+  abbrev pub CancelsOwned : Option (OwnedStage G L M S Z K R C E N V A m d s z k l) → Type 0
+  CancelsOwned None = ⊤
+  CancelsOwned (Some (Refused e)) = ⊤
+  CancelsOwned (Some (Open holding get)) = OwnCancelsAndLeaves (arc_value holding.shared) get.stage
 
   -- how a get with a handle of its own begins: the handle is made, or refused
-  abbrev pub BeginsOwning : Pool G L M S Z K R C E N V A m d s z k l → Option (Owning G L M S Z K R C E N V A m d s z k l) → Type 0
-  BeginsOwning pool None = ⊥
-  BeginsOwning pool (Some (Refused e)) = IsHandleOf (arc_value pool.shared) (Err e)
-  BeginsOwning pool (Some (Open holding get)) = IsHandleOf (arc_value pool.shared) (Ok holding) × (get.stage ≡ Fresh)
+  abbrev pub BeginsOwned : Pool G L M S Z K R C E N V A m d s z k l → Option (OwnedStage G L M S Z K R C E N V A m d s z k l) → Type 0
+  BeginsOwned pool None = ⊥
+  BeginsOwned pool (Some (Refused e)) = IsHandleOf (arc_value pool.shared) (Err e)
+  BeginsOwned pool (Some (Open holding get)) = IsHandleOf (arc_value pool.shared) (Ok holding) × (get.stage ≡ Fresh)
 
   -- After a poll on the pool's lock. A guard takes the handle along; with an error the handle leaves.
-  abbrev pub AfterOwned : Holding G L M S Z K R C E N V A m d s z k l → GetState C V (Part L) → Poll (Result (Taken C (Part L)) (RunError E))
-      → Poll (Result (OwnedConnection G L M S Z K R C E N V A m d s z k l) (RunError E)) → Option (Owning G L M S Z K R C E N V A m d s z k l) → Type 0
+  abbrev pub AfterOwned : BareHandle G L M S Z K R C E N V A m d s z k l → GetState C V (Part L) → Poll (Result (Taken C (Part L)) (RunError E))
+      → Poll (Result (OwnedConnection G L M S Z K R C E N V A m d s z k l) (RunError E)) → Option (OwnedStage G L M S Z K R C E N V A m d s z k l) → Type 0
   AfterOwned holding get Pending r after = (r ≡ Pending) × (after ≡ Some (Open holding get))
   AfterOwned holding get (Ready (Err e)) r after = (r ≡ Ready (Err e)) × (after ≡ None) × OwnLeaves (arc_value holding.shared)
   AfterOwned holding get (Ready (Ok taken)) r after = (r ≡ Ready (Ok (record { holding = holding; taken = taken }))) × (after ≡ None)
 
   -- a poll of the get: what stood before its answer, what it answers, and what stands then
-  abbrev pub OwningPolls : Option (Owning G L M S Z K R C E N V A m d s z k l) → Poll (Result (OwnedConnection G L M S Z K R C E N V A m d s z k l) (RunError E))
-      → Option (Owning G L M S Z K R C E N V A m d s z k l) → Type 0
-  OwningPolls None r after = (r ≡ Pending) × (after ≡ None)
-  OwningPolls (Some (Refused e)) r after = (r ≡ Ready (Err e)) × (after ≡ None)
-  OwningPolls (Some (Open holding get)) r after =
+  abbrev pub OwnedPolls : Option (OwnedStage G L M S Z K R C E N V A m d s z k l) → Poll (Result (OwnedConnection G L M S Z K R C E N V A m d s z k l) (RunError E))
+      → Option (OwnedStage G L M S Z K R C E N V A m d s z k l) → Type 0
+  OwnedPolls None r after = (r ≡ Pending) × (after ≡ None)
+  OwnedPolls (Some (Refused e)) r after = (r ≡ Ready (Err e)) × (after ≡ None)
+  OwnedPolls (Some (Open holding get)) r after =
       (given : Poll (Result (Taken C (Part L)) (RunError E))) × (polled : GetState C V (Part L))
       × OwnPolls (arc_value holding.shared) get.stage given polled.stage
       × AfterOwned holding polled given r after
@@ -57,8 +57,8 @@ module _ {G L M S Z K R C E N V A : Type 0} {m : ManagerOf M C E N V} {d : Debug
   -- the same, of the future
   abbrev pub PollsOwned : GetOwnedFuture G L M S Z K R C E N V A m d s z k l → Poll (Result (OwnedConnection G L M S Z K R C E N V A m d s z k l) (RunError E))
       → GetOwnedFuture G L M S Z K R C E N V A m d s z k l → Type 0
-  PollsOwned future r after = OwningPolls future.owning r after.owning
+  PollsOwned future r after = OwnedPolls future.stage r after.stage
 
   -- what the get may answer at last
   abbrev pub GivesOwned : GetOwnedFuture G L M S Z K R C E N V A m d s z k l → Result (OwnedConnection G L M S Z K R C E N V A m d s z k l) (RunError E) → Type 0
-  GivesOwned future out = Answers OwningPolls future.owning out
+  GivesOwned future out = Answers OwnedPolls future.stage out

@@ -11,9 +11,9 @@ use bb8_core::api::{
 };
 use bb8_core::internals::Grant;
 use bb8_lock::{
-    Belled, Given, Links, Locks, NewPool, Parts, SectionHome, Shared, These, begin_pool,
+    Belled, Given, Locks, NewPool, OpensScope, Parts, SectionHome, Shared, These, begin_pool,
 };
-pub use bb8_tasks::{Built, Replenish, Round, Site, Tasks};
+pub use bb8_tasks::{BuildingStage, BuildingStep, Replenish, Round, Tasks};
 use futures::Future;
 use futures::task::{Context, Poll};
 use std::marker::PhantomData;
@@ -128,7 +128,7 @@ impl<G: Given<Runtime: Wait + AllocGlobal>, L: Parts> MakesPool for Plan<G, L> {
 /// One that is pending asks to be polled again at once; `BuildingCalls::wait` sleeps between its polls. When it is dropped before its answer, its approvals are given back and its pool is
 /// dropped. Manager, customizer, sink and clock are called while the pool's lock is free. Upstream's is an async function.
 pub struct Building<G: Given, L: Parts> {
-    site: Site<Plan<G, L>, Pool<G, L>, Tasks<G::Connection, G::Connecting, G::Acquiring>>,
+    stage: BuildingStage<Plan<G, L>, Pool<G, L>, Tasks<G::Connection, G::Connecting, G::Acquiring>>,
 }
 
 impl<
@@ -157,7 +157,7 @@ impl<
         ensures { IsPlanned self manager clock result }
     {
         Building {
-            site: Site::Planned(Plan {
+            stage: BuildingStage::Planned(Plan {
                 builder: self,
                 manager,
                 clock,
@@ -170,28 +170,32 @@ impl<
 }
 
 /// The end of a building, as a method of an impl, so that a drop and a cancelling can call it.
-trait EndsSite {
-    type Site;
+trait EndsStage {
+    type BuildingStage;
 
     /// Gives the approvals of its tasks back, and drops all.
-    fn end(site: Self::Site);
+    fn end(stage: Self::BuildingStage);
 }
 
-impl<G: Given, L: Parts> EndsSite for Building<G, L> {
+impl<G: Given, L: Parts> EndsStage for Building<G, L> {
     ghost use Rattle.bb8.specs.Buildings.{EndsAt};
 
-    type Site = Site<Plan<G, L>, Pool<G, L>, Tasks<G::Connection, G::Connecting, G::Acquiring>>;
+    type BuildingStage = BuildingStage<
+        Plan<G, L>,
+        Pool<G, L>,
+        Tasks<G::Connection, G::Connecting, G::Acquiring>,
+    >;
 
-    fn end(site: Self::Site)
-        ensures { EndsAt site }
+    fn end(stage: Self::BuildingStage)
+        ensures { EndsAt stage }
     {
-        match site {
-            Site::Planned(plan) => drop(plan),
-            Site::Opening(pool, tasks) => {
+        match stage {
+            BuildingStage::Planned(plan) => drop(plan),
+            BuildingStage::Opening(pool, tasks) => {
                 let shared = &*pool.shared;
-                tasks.let_go(&mut shared.linked());
+                tasks.let_go(&mut shared.scope());
             }
-            Site::Done => {}
+            BuildingStage::Done => {}
         }
     }
 }
@@ -212,8 +216,8 @@ impl<G: Given, L: Parts> Drop for Building<G, L> {
     fn drop(self)
         ensures { CancelsBuilding self }
     {
-        let Building { site } = self;
-        Self::end(site);
+        let Building { stage } = self;
+        Self::end(stage);
     }
 }
 
@@ -221,10 +225,10 @@ impl<G: Given, L: Parts> Drop for Building<G, L> {
 trait OpensFirst {
     type Tasks;
 
-    type Built;
+    type BuildingStep;
 
     /// A round, and what the building answers then.
-    fn sweep(self, tasks: Self::Tasks) -> Self::Built;
+    fn sweep(self, tasks: Self::Tasks) -> Self::BuildingStep;
 }
 
 impl<G: Given, L: Parts> OpensFirst for Pool<G, L> {
@@ -233,30 +237,30 @@ impl<G: Given, L: Parts> OpensFirst for Pool<G, L> {
 
     type Tasks = Tasks<G::Connection, G::Connecting, G::Acquiring>;
 
-    type Built = Built<
+    type BuildingStep = BuildingStep<
         Plan<G, L>,
         Pool<G, L>,
         Tasks<G::Connection, G::Connecting, G::Acquiring>,
         G::Error,
     >;
 
-    fn sweep(self, tasks: Self::Tasks) -> Self::Built
-        ensures { Sweeps PoolRounds self tasks result.answer result.site }
+    fn sweep(self, tasks: Self::Tasks) -> Self::BuildingStep
+        ensures { Sweeps PoolRounds self tasks result.answer result.stage }
     {
         let shared = &*self.shared;
-        let round = tasks.round(&mut shared.linked(), &shared.config);
+        let round = tasks.round(&mut shared.scope(), &shared.config);
         match round {
-            Round::Failed(error) => Built {
+            Round::Failed(error) => BuildingStep {
                 answer: Poll::Ready(Err(RunError::User(error))),
-                site: Site::Done,
+                stage: BuildingStage::Done,
             },
-            Round::Complete => Built {
+            Round::Complete => BuildingStep {
                 answer: Poll::Ready(Ok(self)),
-                site: Site::Done,
+                stage: BuildingStage::Done,
             },
-            Round::Going(tasks) => Built {
+            Round::Going(tasks) => BuildingStep {
                 answer: Poll::Pending,
-                site: Site::Opening(self, tasks),
+                stage: BuildingStage::Opening(self, tasks),
             },
         }
     }
@@ -264,15 +268,15 @@ impl<G: Given, L: Parts> OpensFirst for Pool<G, L> {
 
 /// A poll of a building, as a method of an impl, so that the poll of a future can call it.
 trait Builds {
-    type Site;
+    type BuildingStage;
 
-    type Built;
+    type BuildingStep;
 
     /// What the building answers at last.
     type Answer;
 
     /// One poll of a building that stands here.
-    fn advance(site: Self::Site) -> Self::Built;
+    fn advance(stage: Self::BuildingStage) -> Self::BuildingStep;
 
     /// One poll.
     fn step(&mut self) -> Poll<Self::Answer>;
@@ -282,11 +286,15 @@ trait Builds {
 }
 
 impl<G: Given<Runtime: Wait + AllocGlobal>, L: Parts> Builds for Building<G, L> {
-    ghost use Rattle.bb8.specs.Buildings.{PollsBuilding, PollsSite};
+    ghost use Rattle.bb8.specs.Buildings.{PollsBuilding, PollsStage};
 
-    type Site = Site<Plan<G, L>, Pool<G, L>, Tasks<G::Connection, G::Connecting, G::Acquiring>>;
+    type BuildingStage = BuildingStage<
+        Plan<G, L>,
+        Pool<G, L>,
+        Tasks<G::Connection, G::Connecting, G::Acquiring>,
+    >;
 
-    type Built = Built<
+    type BuildingStep = BuildingStep<
         Plan<G, L>,
         Pool<G, L>,
         Tasks<G::Connection, G::Connecting, G::Acquiring>,
@@ -295,21 +303,21 @@ impl<G: Given<Runtime: Wait + AllocGlobal>, L: Parts> Builds for Building<G, L> 
 
     type Answer = Result<Pool<G, L>, RunError<G::Error>>;
 
-    fn advance(site: Self::Site) -> Self::Built
-        ensures { PollsSite site result.answer result.site }
+    fn advance(stage: Self::BuildingStage) -> Self::BuildingStep
+        ensures { PollsStage stage result.answer result.stage }
     {
-        match site {
-            Site::Planned(plan) => match plan.make() {
+        match stage {
+            BuildingStage::Planned(plan) => match plan.make() {
                 Ok((pool, tasks)) => pool.sweep(tasks),
-                Err(Memory) => Built {
+                Err(Memory) => BuildingStep {
                     answer: Poll::Ready(Err(RunError::Memory)),
-                    site: Site::Done,
+                    stage: BuildingStage::Done,
                 },
             },
-            Site::Opening(pool, tasks) => pool.sweep(tasks),
-            Site::Done => Built {
+            BuildingStage::Opening(pool, tasks) => pool.sweep(tasks),
+            BuildingStage::Done => BuildingStep {
                 answer: Poll::Pending,
-                site: Site::Done,
+                stage: BuildingStage::Done,
             },
         }
     }
@@ -317,13 +325,16 @@ impl<G: Given<Runtime: Wait + AllocGlobal>, L: Parts> Builds for Building<G, L> 
     fn step(&mut self) -> Poll<Self::Answer>
         ensures { PollsBuilding self.old result self.new }
     {
-        let Built { answer, site } = Self::advance(mem::replace(&mut self.site, Site::Done));
-        Self::end(mem::replace(&mut self.site, site));
+        let BuildingStep { answer, stage } = Self::advance(mem::replace(
+            &mut self.stage,
+            BuildingStage::Done,
+        ));
+        Self::end(mem::replace(&mut self.stage, stage));
         answer
     }
 
     fn rest(&self) {
-        if let Site::Opening(pool, tasks) = &self.site {
+        if let BuildingStage::Opening(pool, tasks) = &self.stage {
             let shared = &*pool.shared;
             let bell = &shared.locked.drivers;
             let due = tasks.next_due(None);
@@ -355,10 +366,10 @@ impl<G: Given<Runtime: Wait + AllocGlobal>, L: Parts> BuildingCalls for Building
     fn next_due(&self) -> Option<Moment>
         ensures { result ≡ building_due self.now }
     {
-        match &self.site {
-            Site::Planned(_) => Some(Moment(0)),
-            Site::Opening(_, tasks) => tasks.next_due(None),
-            Site::Done => None,
+        match &self.stage {
+            BuildingStage::Planned(_) => Some(Moment(0)),
+            BuildingStage::Opening(_, tasks) => tasks.next_due(None),
+            BuildingStage::Done => None,
         }
     }
 

@@ -3,7 +3,7 @@ ghost use Rattle.std.specs.Prelude.{◌≡◌};
 
 use crate::pool::Cancel;
 use bb8_core::api::Moment;
-use bb8_lock::{Given, Links, Parts, Shared};
+use bb8_lock::{Given, OpensScope, Parts, Shared};
 pub use bb8_tasks::{Dedicated, Opened, Opening};
 use futures::Future;
 use futures::task::{Context, Poll};
@@ -40,7 +40,7 @@ impl<G: Given, L: Parts> Drop for DedicatedFuture<'_, G, L> {
             latest,
             stage,
         } = self;
-        Dedicated { latest, stage }.cancel(&mut shared.linked());
+        Dedicated { latest, stage }.cancel(&mut shared.scope());
     }
 }
 
@@ -72,7 +72,7 @@ impl<'a, G: Given, L: Parts> Future for DedicatedFuture<'a, G, L> {
             latest: self.latest,
             stage,
         };
-        let answer = opening.poll(&mut shared.linked());
+        let answer = opening.poll(&mut shared.scope());
         let Dedicated { latest, stage } = opening;
         self.latest = latest;
         match mem::replace(&mut self.stage, stage) {

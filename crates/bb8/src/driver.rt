@@ -9,7 +9,7 @@ use crate::pool::Pool;
 use bb8_core::api::{
     Clock, Config, CustomizeConnection, ErrorSink, ManageConnection, Memory, Moment,
 };
-use bb8_lock::{Given, Links, Parts, PoolParts, Rests, Shared, Sleeper, These};
+use bb8_lock::{Given, OpensScope, Parts, PoolParts, Rests, Shared, Sleeper, These};
 pub use bb8_tasks::Turn;
 use bb8_tasks::{Home, Opener, Reports, Turning};
 use std::alloc::Global;
@@ -114,7 +114,7 @@ impl<G: Given<Runtime: Wait>, L: Parts> DriverCalls for Driver<G, L> {
         ensures stays { has_ended self.old ≡ true → result.ended ≡ true }
     {
         let pool = &*self.shared;
-        self.turning.turn(moment, &mut pool.linked(), &pool.config)
+        self.turning.turn(moment, &mut pool.scope(), &pool.config)
     }
 
     fn turn_now(&mut self) -> Turn
@@ -200,7 +200,7 @@ impl<G: Given<Runtime: Wait>, L: Parts> RunsTurns for Driver<G, L> {
     {
         let pool = &*self.shared;
         run(
-            &mut pool.linked(),
+            &mut pool.scope(),
             &pool.rt,
             &pool.config,
             &mut self.turning,
@@ -217,7 +217,7 @@ impl<G: Given, L: Parts> Drop for Driver<G, L> {
     {
         let Driver { shared, turning } = self;
         let pool = &*shared;
-        turning.let_go(&mut pool.linked());
+        turning.let_go(&mut pool.scope());
     }
 }
 

@@ -4,7 +4,7 @@ mod future;
 
 pub use bb8_core::asked::Unfit;
 pub use bb8_gets::{
-    Begun, FirstTry, GetHome, GetState, Held, LetGo, Next, Outside, Passed, Returned, Settled,
-    Stage, Taken, Tried,
+    Begun, CheckUnderWay, FirstTry, GetHome, GetState, LetGo, Next, Outside, Passed, Returned,
+    Settled, Stage, Taken, Tried,
 };
 pub use future::GetFuture;

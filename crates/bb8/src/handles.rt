@@ -4,12 +4,12 @@ ghost use Rattle.std.specs.Arc.{arc_value};
 
 use crate::pool::Pool;
 use bb8_core::api::RunError;
-use bb8_lock::{Given, Handle, Joining, Links, Parts, Shared, join};
+use bb8_lock::{Given, Handle, Joining, OpensScope, Parts, Shared, join};
 use std::alloc::Global;
 use std::sync::Arc;
 
 /// A handle beside what it shares with the others of its pool. It cannot be dropped, so whoever lets it go has to say how.
-pub(crate) struct Holding<G: Given, L: Parts> {
+pub(crate) struct BareHandle<G: Given, L: Parts> {
     pub shared: Arc<Shared<G, L>, Global>,
     pub handle: Handle,
 }
@@ -24,17 +24,17 @@ pub(crate) trait Joins {
 impl<'a, G: Given, L: Parts> Joins for &'a Pool<G, L> {
     ghost use Rattle.bb8.specs.Handles.{IsHandleOf};
 
-    type Joined = Result<Holding<G, L>, RunError<G::Error>>;
+    type Joined = Result<BareHandle<G, L>, RunError<G::Error>>;
 
-    fn join(self) -> Result<Holding<G, L>, RunError<G::Error>>
+    fn join(self) -> Result<BareHandle<G, L>, RunError<G::Error>>
         ensures { IsHandleOf (arc_value self.now.shared) result }
     {
         let Ok(shared) = Arc::try_clone(&self.shared) else {
             return Err(RunError::Memory);
         };
         let pool = &*self.shared;
-        match join(&mut pool.linked()) {
-            Joining::Joined(handle) => Ok(Holding { shared, handle }),
+        match join(&mut pool.scope()) {
+            Joining::Joined(handle) => Ok(BareHandle { shared, handle }),
             Joining::Exhausted | Joining::Unfit => Err(RunError::Exhausted),
         }
     }

@@ -2,11 +2,11 @@
 ghost use Rattle.std.specs.Prelude.{◌≡◌};
 ghost use Rattle.std.specs.Arc.{arc_value};
 
-use crate::handles::Holding;
+use crate::handles::BareHandle;
 use crate::pool::Cancel;
 use bb8_core::api::RunError;
 use bb8_gets::{GetState, Taken};
-use bb8_lock::{Given, Links, Part, Parts, cancel_and_leave, give_back_and_leave, leave};
+use bb8_lock::{Given, OpensScope, Part, Parts, cancel_and_leave, give_back_and_leave, leave};
 use futures::Future;
 use futures::task::{Context, Poll};
 use std::fmt::{Debug, Formatter};
@@ -19,16 +19,16 @@ use std::{fmt, mem};
 ///
 /// When it is dropped it gives the connection back as `PooledConnection` does, and then its handle leaves.
 pub struct OwnedConnection<G: Given, L: Parts> {
-    pub(crate) holding: Holding<G, L>,
+    pub(crate) holding: BareHandle<G, L>,
     pub(crate) taken: Taken<G::Connection, Part<L>>,
 }
 
 /// Where a get with a handle of its own stands before its answer.
-pub(crate) enum Owning<G: Given, L: Parts> {
+pub(crate) enum OwnedStage<G: Given, L: Parts> {
     /// The handle was refused.
     Refused(RunError<G::Error>),
     /// It has its handle.
-    Open(Holding<G, L>, GetState<G::Connection, G::Checking, Part<L>>),
+    Open(BareHandle<G, L>, GetState<G::Connection, G::Checking, Part<L>>),
 }
 
 /// What `Pool::get_owned` answers: a get with a handle of its own, or why it has none, and nothing once it was answered.
@@ -37,11 +37,11 @@ pub(crate) enum Owning<G: Given, L: Parts> {
 /// handle of one that was served goes with the guard, and that of one that was refused leaves at its answer. Upstream's get is an
 /// async function.
 pub struct GetOwnedFuture<G: Given, L: Parts> {
-    pub(crate) owning: Option<Owning<G, L>>,
+    pub(crate) stage: Option<OwnedStage<G, L>>,
 }
 
 /// What a handle does, and a get or a guard that has one of its own, as methods of an impl, so that polls and drops can call them.
-pub(crate) trait Owns {
+pub(crate) trait OwnedCalls {
     type Get;
 
     type Polled;
@@ -64,8 +64,8 @@ pub(crate) trait Owns {
     fn leave_owned(self);
 }
 
-impl<G: Given, L: Parts> Owns for Holding<G, L> {
-    ghost use Rattle.bb8_lock.specs.Linked.{OwnCancels, OwnCancelsAndLeaves, OwnLeaves, OwnPolls, OwnReturnsAndLeaves};
+impl<G: Given, L: Parts> OwnedCalls for BareHandle<G, L> {
+    ghost use Rattle.bb8_lock.specs.Scope.{OwnCancels, OwnCancelsAndLeaves, OwnLeaves, OwnPolls, OwnReturnsAndLeaves};
 
     type Get = GetState<G::Connection, G::Checking, Part<L>>;
 
@@ -77,134 +77,134 @@ impl<G: Given, L: Parts> Owns for Holding<G, L> {
         ensures { OwnPolls (arc_value self.now.shared) get.old.stage result get.new.stage }
     {
         let shared = &*self.shared;
-        get.poll_with(shared.linked(), shared.config.connection_timeout)
+        get.poll_with(shared.scope(), shared.config.connection_timeout)
     }
 
     fn let_go(&self, get: Self::Get)
         ensures { OwnCancels (arc_value self.now.shared) get.stage }
     {
         let shared = &*self.shared;
-        get.cancel_with(shared.linked());
+        get.cancel_with(shared.scope());
     }
 
     fn cancel_owned(self, get: Self::Get)
         ensures { OwnCancelsAndLeaves (arc_value self.shared) get.stage }
     {
-        let Holding { shared, handle } = self;
+        let BareHandle { shared, handle } = self;
         let pool = &*shared;
-        cancel_and_leave(&mut pool.linked(), get, handle);
+        cancel_and_leave(&mut pool.scope(), get, handle);
     }
 
     fn give_back_owned(self, taken: Self::Taken)
         ensures { OwnReturnsAndLeaves (arc_value self.shared) taken }
     {
-        let Holding { shared, handle } = self;
+        let BareHandle { shared, handle } = self;
         let pool = &*shared;
-        give_back_and_leave(&mut pool.linked(), taken, handle);
+        give_back_and_leave(&mut pool.scope(), taken, handle);
     }
 
     fn leave_owned(self)
         ensures { OwnLeaves (arc_value self.shared) }
     {
-        let Holding { shared, handle } = self;
+        let BareHandle { shared, handle } = self;
         let pool = &*shared;
-        leave(&mut pool.linked(), handle);
+        leave(&mut pool.scope(), handle);
     }
 }
 
-/// What a poll answers, and what stands then.
-pub(crate) struct Stood<G: Given, L: Parts> {
+/// What a poll answers, and the stage then.
+pub(crate) struct OwnedStep<G: Given, L: Parts> {
     answer: Poll<Result<OwnedConnection<G, L>, RunError<G::Error>>>,
-    owning: Option<Owning<G, L>>,
+    stage: Option<OwnedStage<G, L>>,
 }
 
-/// What the future does with what stands, as methods of an impl, so that its poll and its drop can call them.
-trait OnOwning {
-    type Owning;
+/// What the future does with its stage, as methods of an impl, so that its poll and its drop can call them.
+trait OwnedStages {
+    type OwnedStage;
 
-    type Stood;
+    type OwnedStep;
 
-    /// One poll of what stands.
-    fn poll_owning(owning: Self::Owning) -> Self::Stood;
+    /// One poll of the stage.
+    fn poll_stage(stage: Self::OwnedStage) -> Self::OwnedStep;
 
-    /// Lets go of what stands.
-    fn cancel_owning(owning: Self::Owning);
+    /// Lets go of the stage.
+    fn cancel_stage(stage: Self::OwnedStage);
 }
 
-impl<G: Given, L: Parts> OnOwning for GetOwnedFuture<G, L> {
-    ghost use Rattle.bb8.specs.Owned.{CancelsOwning, OwningPolls};
+impl<G: Given, L: Parts> OwnedStages for GetOwnedFuture<G, L> {
+    ghost use Rattle.bb8.specs.Owned.{CancelsOwned, OwnedPolls};
 
-    type Owning = Option<Owning<G, L>>;
+    type OwnedStage = Option<OwnedStage<G, L>>;
 
-    type Stood = Stood<G, L>;
+    type OwnedStep = OwnedStep<G, L>;
 
-    fn poll_owning(owning: Self::Owning) -> Self::Stood
-        ensures { OwningPolls owning result.answer result.owning }
+    fn poll_stage(stage: Self::OwnedStage) -> Self::OwnedStep
+        ensures { OwnedPolls stage result.answer result.stage }
     {
-        match owning {
-            None => Stood {
+        match stage {
+            None => OwnedStep {
                 answer: Poll::Pending,
-                owning: None,
+                stage: None,
             },
-            Some(Owning::Refused(error)) => Stood {
+            Some(OwnedStage::Refused(error)) => OwnedStep {
                 answer: Poll::Ready(Err(error)),
-                owning: None,
+                stage: None,
             },
-            Some(Owning::Open(holding, mut get)) => match holding.poll_owned(&mut get) {
-                Poll::Pending => Stood {
+            Some(OwnedStage::Open(holding, mut get)) => match holding.poll_owned(&mut get) {
+                Poll::Pending => OwnedStep {
                     answer: Poll::Pending,
-                    owning: Some(Owning::Open(holding, get)),
+                    stage: Some(OwnedStage::Open(holding, get)),
                 },
                 Poll::Ready(Err(error)) => {
                     // The get was answered: to let it go calls nothing.
                     holding.let_go(get);
                     holding.leave_owned();
-                    Stood {
+                    OwnedStep {
                         answer: Poll::Ready(Err(error)),
-                        owning: None,
+                        stage: None,
                     }
                 }
                 Poll::Ready(Ok(taken)) => {
                     // As above.
                     holding.let_go(get);
-                    Stood {
+                    OwnedStep {
                         answer: Poll::Ready(Ok(OwnedConnection { holding, taken })),
-                        owning: None,
+                        stage: None,
                     }
                 }
             },
         }
     }
 
-    fn cancel_owning(owning: Self::Owning)
-        ensures { CancelsOwning owning }
+    fn cancel_stage(stage: Self::OwnedStage)
+        ensures { CancelsOwned stage }
     {
-        match owning {
+        match stage {
             None => {}
-            Some(Owning::Refused(error)) => drop(error),
-            Some(Owning::Open(holding, get)) => holding.cancel_owned(get),
+            Some(OwnedStage::Refused(error)) => drop(error),
+            Some(OwnedStage::Open(holding, get)) => holding.cancel_owned(get),
         }
     }
 }
 
 impl<G: Given<Runtime: Wait>, L: Parts> Cancel for GetOwnedFuture<G, L> {
-    ghost use Rattle.bb8.specs.Owned.{CancelsOwning};
+    ghost use Rattle.bb8.specs.Owned.{CancelsOwned};
 
     fn cancel(self)
-        ensures { CancelsOwning self.owning }
+        ensures { CancelsOwned self.stage }
     {
         drop(self);
     }
 }
 
 impl<G: Given, L: Parts> Drop for GetOwnedFuture<G, L> {
-    ghost use Rattle.bb8.specs.Owned.{CancelsOwning};
+    ghost use Rattle.bb8.specs.Owned.{CancelsOwned};
 
     fn drop(self)
-        ensures { CancelsOwning self.owning }
+        ensures { CancelsOwned self.stage }
     {
-        let GetOwnedFuture { owning } = self;
-        Self::cancel_owning(owning);
+        let GetOwnedFuture { stage } = self;
+        Self::cancel_stage(stage);
     }
 }
 
@@ -227,9 +227,9 @@ impl<G: Given<Runtime: Wait>, L: Parts> Future for GetOwnedFuture<G, L> {
         ensures registered { OnPending result (Covers cx.new (λ _. ⊥)) }
         ensures kept { Keeps cx.old cx.new }
     {
-        let owning = mem::replace(&mut self.owning, None);
-        let Stood { answer, owning } = Self::poll_owning(owning);
-        match mem::replace(&mut self.owning, owning) {
+        let stage = mem::replace(&mut self.stage, None);
+        let OwnedStep { answer, stage } = Self::poll_stage(stage);
+        match mem::replace(&mut self.stage, stage) {
             None => {}
             Some(_) => unreachable!(),
         }
@@ -241,7 +241,7 @@ impl<G: Given<Runtime: Wait>, L: Parts> Future for GetOwnedFuture<G, L> {
 }
 
 impl<G: Given, L: Parts> Drop for OwnedConnection<G, L> {
-    ghost use Rattle.bb8_lock.specs.Linked.{OwnReturnsAndLeaves};
+    ghost use Rattle.bb8_lock.specs.Scope.{OwnReturnsAndLeaves};
 
     fn drop(self)
         ensures { OwnReturnsAndLeaves (arc_value self.holding.shared) self.taken }

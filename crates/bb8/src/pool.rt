@@ -5,21 +5,22 @@ ghost use Rattle.std.specs.Duration.{as_nanos};
 ghost use Rattle.bb8_types.specs.declared.grants.Grant.{Grant as GrantOf};
 ghost use Rattle.bb8_types.specs.Settings.{settings_of, default_settings, is_lawful};
 ghost use Rattle.bb8_lock.specs.Parts.{HasBegun};
-ghost use Rattle.bb8_lock.specs.Linked.{OwnAdds, OwnShows};
+ghost use Rattle.bb8_lock.specs.Scope.{OwnAdds, OwnShows};
 
 use crate::Builder;
 use crate::building::{MakesPool, Plan};
 use crate::dedicated::{Dedicated, DedicatedFuture};
 use crate::get::GetFuture;
-use crate::handles::{Holding, Joins};
-use crate::owned::{GetOwnedFuture, OwnedConnection, Owning, Owns};
+use crate::handles::{BareHandle, Joins};
+use crate::owned::{GetOwnedFuture, OwnedCalls, OwnedConnection, OwnedStage};
 use bb8_core::api::{
     AddError, Clock, Config, CustomizeConnection, ErrorSink, ManageConnection, Memory,
     NopCustomizer, NopErrorSink, RunError, SetClock, State,
 };
 use bb8_gets::{GetState, Taken};
 use bb8_lock::{
-    Given, Handle, Links, Locks, Part, Parts, Shared, These, add, give_back, state, take_now, wait,
+    Given, Handle, Locks, OpensScope, Part, Parts, Shared, These, add, give_back, state, take_now,
+    wait,
 };
 use std::alloc::Global;
 use std::fmt;
@@ -265,7 +266,7 @@ pub trait Cancel {
 impl<'a, G: Given<Runtime: Wait>, L: Parts> PoolCalls for &'a Pool<G, L> {
     ghost use Rattle.bb8.specs.Blocking.{GetsAtOnce, WaitsForGet, WaitsForOwned};
     ghost use Rattle.bb8.specs.Handles.{IsClone};
-    ghost use Rattle.bb8.specs.Owned.{BeginsOwning};
+    ghost use Rattle.bb8.specs.Owned.{BeginsOwned};
     ghost use Rattle.bb8.specs.Pools.{settings_in};
 
     type Connection = G::Connection;
@@ -281,22 +282,20 @@ impl<'a, G: Given<Runtime: Wait>, L: Parts> PoolCalls for &'a Pool<G, L> {
     type Owned = OwnedConnection<G, L>;
 
     fn get_owned(self) -> GetOwnedFuture<G, L>
-        ensures { BeginsOwning self.now result.owning }
+        ensures { BeginsOwned self.now result.stage }
     {
-        let owning = match self.join() {
-            Ok(holding) => Owning::Open(holding, GetState::new()),
-            Err(error) => Owning::Refused(error),
+        let stage = match self.join() {
+            Ok(holding) => OwnedStage::Open(holding, GetState::new()),
+            Err(error) => OwnedStage::Refused(error),
         };
-        GetOwnedFuture {
-            owning: Some(owning),
-        }
+        GetOwnedFuture { stage: Some(stage) }
     }
 
     fn try_get(self) -> Result<Option<PooledConnection<'a, G, L>>, RunError<G::Error>>
         ensures { GetsAtOnce self.now result }
     {
         let shared = &*self.shared;
-        let answer = take_now(&mut shared.linked(), shared.config.connection_timeout);
+        let answer = take_now(&mut shared.scope(), shared.config.connection_timeout);
         match answer {
             Ok(Some(taken)) => Ok(Some(PooledConnection {
                 shared,
@@ -321,7 +320,7 @@ impl<'a, G: Given<Runtime: Wait>, L: Parts> PoolCalls for &'a Pool<G, L> {
         ensures { WaitsForGet (as_nanos timeout) self.now result }
     {
         let shared = &*self.shared;
-        let answer = wait(&mut shared.linked(), &shared.rt, timeout);
+        let answer = wait(&mut shared.scope(), &shared.rt, timeout);
         match answer {
             Ok(taken) => Ok(PooledConnection {
                 shared,
@@ -341,7 +340,7 @@ impl<'a, G: Given<Runtime: Wait>, L: Parts> PoolCalls for &'a Pool<G, L> {
         };
         let shared = &*holding.shared;
         let answer = wait(
-            &mut shared.linked(),
+            &mut shared.scope(),
             &shared.rt,
             shared.config.connection_timeout,
         );
@@ -358,7 +357,7 @@ impl<'a, G: Given<Runtime: Wait>, L: Parts> PoolCalls for &'a Pool<G, L> {
         ensures { OwnAdds (arc_value self.now.shared) conn result }
     {
         let shared = &*self.shared;
-        add(&mut shared.linked(), conn)
+        add(&mut shared.scope(), conn)
     }
 
     fn state(self) -> State
@@ -367,14 +366,14 @@ impl<'a, G: Given<Runtime: Wait>, L: Parts> PoolCalls for &'a Pool<G, L> {
         ensures idle { result.idle_connections ≤ result.connections }
     {
         let shared = &*self.shared;
-        state(&mut shared.linked())
+        state(&mut shared.scope())
     }
 
     fn try_clone(self) -> Result<Pool<G, L>, RunError<G::Error>>
         ensures { IsClone self.now result }
     {
         match self.join() {
-            Ok(Holding { shared, handle }) => Ok(Pool { shared, handle }),
+            Ok(BareHandle { shared, handle }) => Ok(Pool { shared, handle }),
             Err(error) => Err(error),
         }
     }
@@ -405,13 +404,13 @@ impl<M: ManageConnection, R: Locks, L: Parts> Pool<
 }
 
 impl<G: Given, L: Parts> Drop for Pool<G, L> {
-    ghost use Rattle.bb8_lock.specs.Linked.{OwnLeaves};
+    ghost use Rattle.bb8_lock.specs.Scope.{OwnLeaves};
 
     fn drop(self)
         ensures { OwnLeaves (arc_value self.shared) }
     {
         let Pool { shared, handle } = self;
-        Holding { shared, handle }.leave_owned();
+        BareHandle { shared, handle }.leave_owned();
     }
 }
 
@@ -423,7 +422,7 @@ impl<G: Given, L: Parts> Debug for Pool<G, L> {
 }
 
 impl<G: Given, L: Parts> Drop for PooledConnection<'_, G, L> {
-    ghost use Rattle.bb8_lock.specs.Linked.{OwnReturns};
+    ghost use Rattle.bb8_lock.specs.Scope.{OwnReturns};
 
     fn drop(self)
         ensures { OwnReturns self.entry.shared.now self.entry.taken }
@@ -433,7 +432,7 @@ impl<G: Given, L: Parts> Drop for PooledConnection<'_, G, L> {
             taken,
             lends: _,
         } = self;
-        give_back(&mut shared.linked(), taken);
+        give_back(&mut shared.scope(), taken);
     }
 }
 

@@ -41,8 +41,8 @@ fn open_one(pool: &mut PoolInternals<u64>) -> Option<u64>
         return None;
     };
     match pool.opened(NOW, key, key.number) {
-        OpenedAnswer::Entered(_) => Some(key.number),
-        OpenedAnswer::Late(_) => None,
+        Ok(OpenedAnswer::Entered(_)) => Some(key.number),
+        Ok(OpenedAnswer::Late(_)) | Err(_) => None,
     }
 }
 

@@ -32,7 +32,10 @@ fn serve_in_steps(pool: &mut PoolInternals<u64>) -> Option<(Key, u64)>
     let BeginAnswer::Begun(get) = pool.begin(NOW) else {
         return None;
     };
-    let (key, conn, _) = out_of(pool.try_get(NOW, get))?;
+    let Ok(answer) = pool.try_get(NOW, get) else {
+        return None;
+    };
+    let (key, conn, _) = out_of(answer)?;
     Some((key, conn))
 }
 

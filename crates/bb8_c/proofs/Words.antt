@@ -1,11 +1,11 @@
 -- The words that the proofs speak with.
-pub use Rattle.bb8_core.proofs.Words.{◌≡◌, Option, Some, None, is_some, true, refl, [], ℕ, Bool, false, inl, inr, subst, Begin, Shown, ◌∙◌, ◌++◌, ◌∷◌, cond, eqb, sym, ap, MatchBool, option_and_then, Getting, Numbered, at_number, gets_stand, is_trying, Try, Begun, Unfit, Ledger, Later, start, gets, new_get, Row, begins, fits, HasLedger, Meets, IsFitting, ◌≢◌, ⊎_elim, suc, ◌+◌, ◌≤◌, ltb, List, length, arith, append-nil, length-append, one, tally, same_or_not, eqb_self, Reap, Leave, idle, IsLegal, reaped_at, reaped_sized, idle_tally, Means, ◌&&◌}
+pub use Rattle.bb8_core.proofs.Words.{◌≡◌, Option, Some, None, is_some, true, refl, [], ℕ, Bool, false, inl, inr, subst, Begin, StateView, ◌∙◌, ◌++◌, ◌∷◌, cond, eqb, sym, ap, MatchBool, option_and_then, Getting, Numbered, at_number, gets_stand, is_trying, Try, Begun, Unfit, Ledger, Later, start, gets, new_get, Row, begins, fits, HasLedger, Meets, IsFitting, ◌≢◌, ⊎_elim, suc, ◌+◌, ◌≤◌, ltb, List, length, arith, append-nil, length-append, one, tally, same_or_not, eqb_self, Reap, Leave, idle, IsLegal, reaped_at, reaped_sized, idle_tally, Represents, ◌&&◌}
 pub use mir.Syntax.{impl, tnil, dnil, a_type, dcons}
 pub use denote.Signature.{Slot, plain, type_at, types_at}
 pub use Rattle.std_alloc.proofs.BoxSteps.Form.{Bx, X, D, B, word, box_typed}
 pub use Rattle.bb8_c.specs.Steps.{Within, Reaps, Leaves}
 pub use Rattle.bb8_c.specs.declared.listing.Listing.{Listing}
-pub use Rattle.bb8_core.specs.StepAnswers.{reap_told, leave_told, begin_told}
+pub use Rattle.bb8_core.specs.StepAnswers.{answer_of_reap, answer_of_leave, answer_of_begin}
 pub use lib.Dec.{T, lit<}
 pub use seplogic.Ra.Ura.{Ura}
 pub use mir.Raw.{raw as bare}

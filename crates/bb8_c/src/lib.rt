@@ -5,7 +5,7 @@
 #![tactic(auto)]
 
 ghost use Rattle.std.specs.Prelude.{◌≡◌, ℕ, true, false, Option, None, Some, IsSome, IfSome, IfNone, Result, IfOk, IfErr, ⊤};
-ghost use Rattle.bb8_c.specs.Words.{Grant, State, AtOnce, Started, TryAnswer, ClaimAnswer, ReapAnswer, Look, begin_told, try_told, checked_ok_told, checked_err_told, give_up_told, put_back_told, claim_told, opened_told, failed_told, add_told, join_told, look_told, reason_of, ServesAtOnce, Starts, HandsOut, GivesBack, GivesBackInvalid, GivesBackHeld, HandsBack, Refuses, Meets, NotAtOnce, IsRecordIn, IsNoRecordIn, Closed, Left, Unfit};
+ghost use Rattle.bb8_c.specs.Words.{Grant, State, AtOnce, Started, TryAnswer, ClaimAnswer, ReapAnswer, Look, answer_of_begin, answer_of_try, answer_of_checked_ok, answer_of_checked_err, answer_of_give_up, answer_of_put_back, answer_of_claim, answer_of_opened, answer_of_failed, answer_of_add, answer_of_join, answer_of_look, reason_of, ServesAtOnce, Starts, HandsOut, GivesBack, GivesBackInvalid, GivesBackHeld, HandsBack, Refuses, Meets, NotAtOnce, IsRecordIn, IsNoRecordIn, Closed, Left, Unfit};
 ghost use Rattle.bb8_ledger.specs.Acts as acts;
 ghost use Rattle.bb8_ledger.specs.Answers as answers;
 ghost use Rattle.bb8_types.specs.Figures.{figures_of};
@@ -97,7 +97,7 @@ pub extern "C" fn bb8_free(alloc: Global, core: &mut CoreHandle)
 #[unsafe(no_mangle)]
 pub extern "C" fn bb8_begin(alloc: Global, core: &mut CoreHandle, at: u64) -> Told
     requires { IsSome core.old.core }
-    ensures { Beside (Crosses (in_c.begin_in {U = Unfit}) begin_told (λ a. ⊤)
+    ensures { Beside (Crosses (in_c.begin_in {U = Unfit}) answer_of_begin (λ a. ⊤)
         acts.Begin at result) core.old.core core.new.core }
 {
     with_core!(alloc, core, open => told::begun(asked::begin(&mut open.internals, Moment(at))))
@@ -134,7 +134,7 @@ pub extern "C" fn bb8_serve_at_once(alloc: Global, core: &mut CoreHandle, at: u6
 pub extern "C" fn bb8_try(alloc: Global, core: &mut CoreHandle, at: u64, get: Name) -> Told
     requires { IsSome core.old.core }
     ensures { Beside (λ old new. (a : Result (TryAnswer ℕ) Unfit) × (result ≡ in_c.try_in a)
-        × Stepped Meets try_told old at (acts.Try get.number) a new
+        × Stepped Meets answer_of_try old at (acts.Try get.number) a new
         × IfOk a (HandsOut old)) core.old.core core.new.core }
 {
     with_core!(alloc, core, open => told::tried(asked::try_get(&mut open.internals, Moment(at), named!(GetKey, get))))
@@ -151,7 +151,8 @@ pub extern "C" fn bb8_checked_ok(
 ) -> Told
     requires { IsSome core.old.core }
     ensures { Beside (λ old new. Crosses (in_c.checked_ok_in {U = Unfit})
-        (checked_ok_told old.records.next) (λ a. ⊤) (acts.CheckedOk get.number) at result old new)
+        (answer_of_checked_ok old.records.next) (λ a. ⊤) (acts.CheckedOk get.number) at
+        result old new)
         core.old.core core.new.core }
 {
     with_core!(alloc, core, open => told::checked(asked::checked_ok(&mut open.internals, Moment(at), named!(GetKey, get), hint)))
@@ -169,7 +170,7 @@ pub extern "C" fn bb8_checked_err(
     hint: usize,
 ) -> Told
     requires { IsSome core.old.core }
-    ensures { Beside (Crosses in_c.checked_err_in checked_err_told
+    ensures { Beside (Crosses in_c.checked_err_in answer_of_checked_err
         (OrComesBack GivesBackInvalid conn)
         (acts.CheckedErr get.number broken) at result) core.old.core core.new.core }
 {
@@ -186,7 +187,7 @@ pub extern "C" fn bb8_give_up(
     timed_out: bool,
 ) -> Told
     requires { IsSome core.old.core }
-    ensures { Beside (Crosses (in_c.give_up_in {U = Unfit}) give_up_told
+    ensures { Beside (Crosses (in_c.give_up_in {U = Unfit}) answer_of_give_up
         (λ a. IfOk a (GivesBackHeld None))
         (acts.GiveUp get.number (why timed_out) None false) at result) core.old.core core.new.core }
 {
@@ -206,7 +207,7 @@ pub extern "C" fn bb8_give_up_held(
     hint: usize,
 ) -> Told
     requires { IsSome core.old.core }
-    ensures { Beside (Crosses in_c.give_up_in give_up_told
+    ensures { Beside (Crosses in_c.give_up_in answer_of_give_up
         (OrComesBack (λ c. GivesBackHeld (Some c)) conn)
         (acts.GiveUp get.number (why timed_out) (Some conn) broken) at result)
         core.old.core core.new.core }
@@ -225,7 +226,7 @@ pub extern "C" fn bb8_put_back(
     broken: bool,
 ) -> Told
     requires { IsSome core.old.core }
-    ensures { Beside (Crosses in_c.put_back_in (put_back_told key.number)
+    ensures { Beside (Crosses in_c.put_back_in (answer_of_put_back key.number)
         (OrComesBack GivesBack conn)
         (acts.PutBack key.number conn broken) at result) core.old.core core.new.core }
 {
@@ -247,7 +248,7 @@ pub extern "C" fn bb8_fill(alloc: Global, core: &mut CoreHandle, at: u64, claime
 pub extern "C" fn bb8_claim(alloc: Global, core: &mut CoreHandle, at: u64) -> Told
     requires { IsSome core.old.core }
     ensures { Beside (λ old new. (a : ClaimAnswer) × (result ≡ in_c.claim_in a)
-        × Meets old at acts.Claim (claim_told a) new) core.old.core core.new.core }
+        × Meets old at acts.Claim (answer_of_claim a) new) core.old.core core.new.core }
 {
     with_core!(alloc, core, open => told::claimed(open.internals.claim(Moment(at))))
 }
@@ -262,7 +263,7 @@ pub extern "C" fn bb8_opened(
     conn: u64,
 ) -> Told
     requires { IsSome core.old.core }
-    ensures { Beside (Crosses in_c.opened_in (opened_told approval.number)
+    ensures { Beside (Crosses in_c.opened_in (answer_of_opened approval.number)
         (OrComesBack HandsBack conn)
         (acts.Opened approval.number conn) at result) core.old.core core.new.core }
 {
@@ -273,7 +274,7 @@ pub extern "C" fn bb8_opened(
 #[unsafe(no_mangle)]
 pub extern "C" fn bb8_failed(alloc: Global, core: &mut CoreHandle, at: u64, approval: Name) -> Told
     requires { IsSome core.old.core }
-    ensures { Beside (Crosses (in_c.failed_in {U = Unfit}) failed_told (λ a. ⊤)
+    ensures { Beside (Crosses (in_c.failed_in {U = Unfit}) answer_of_failed (λ a. ⊤)
         (acts.Failed approval.number) at result) core.old.core core.new.core }
 {
     with_core!(alloc, core, open => told::given_back(asked::failed(&mut open.internals, Moment(at), named!(Key, approval))))
@@ -289,7 +290,7 @@ pub extern "C" fn bb8_add(
     broken: bool,
 ) -> Told
     requires { IsSome core.old.core }
-    ensures { Beside (Crosses in_c.add_in add_told (OrComesBack Refuses conn)
+    ensures { Beside (Crosses in_c.add_in answer_of_add (OrComesBack Refuses conn)
         (acts.Add conn broken) at result) core.old.core core.new.core }
 {
     with_core!(alloc, core, open => told::added(asked::add(&mut open.internals, Moment(at), conn, broken)))
@@ -307,7 +308,7 @@ pub extern "C" fn bb8_checked_err_and_hand_over(
     hint: usize,
 ) -> Handed
     requires { IsSome core.old.core }
-    ensures { Beside (CrossesOver in_c.checked_err_in checked_err_told
+    ensures { Beside (CrossesOver in_c.checked_err_in answer_of_checked_err
         (OrComesBack GivesBackInvalid conn)
         (acts.CheckedErr get.number broken) at result) core.old.core core.new.core }
 {
@@ -324,7 +325,7 @@ pub extern "C" fn bb8_give_up_and_hand_over(
     timed_out: bool,
 ) -> Handed
     requires { IsSome core.old.core }
-    ensures { Beside (CrossesOver (in_c.give_up_in {U = Unfit}) give_up_told
+    ensures { Beside (CrossesOver (in_c.give_up_in {U = Unfit}) answer_of_give_up
         (λ a. IfOk a (GivesBackHeld None))
         (acts.GiveUp get.number (why timed_out) None false) at result) core.old.core core.new.core }
 {
@@ -344,7 +345,7 @@ pub extern "C" fn bb8_give_up_held_and_hand_over(
     hint: usize,
 ) -> Handed
     requires { IsSome core.old.core }
-    ensures { Beside (CrossesOver in_c.give_up_in give_up_told
+    ensures { Beside (CrossesOver in_c.give_up_in answer_of_give_up
         (OrComesBack (λ c. GivesBackHeld (Some c)) conn)
         (acts.GiveUp get.number (why timed_out) (Some conn) broken) at result)
         core.old.core core.new.core }
@@ -363,7 +364,7 @@ pub extern "C" fn bb8_put_back_and_hand_over(
     broken: bool,
 ) -> Handed
     requires { IsSome core.old.core }
-    ensures { Beside (CrossesOver in_c.put_back_in (put_back_told key.number)
+    ensures { Beside (CrossesOver in_c.put_back_in (answer_of_put_back key.number)
         (OrComesBack GivesBack conn)
         (acts.PutBack key.number conn broken) at result) core.old.core core.new.core }
 {
@@ -380,7 +381,7 @@ pub extern "C" fn bb8_opened_and_hand_over(
     conn: u64,
 ) -> Handed
     requires { IsSome core.old.core }
-    ensures { Beside (CrossesOver in_c.opened_in (opened_told approval.number)
+    ensures { Beside (CrossesOver in_c.opened_in (answer_of_opened approval.number)
         (OrComesBack HandsBack conn)
         (acts.Opened approval.number conn) at result) core.old.core core.new.core }
 {
@@ -397,7 +398,7 @@ pub extern "C" fn bb8_add_and_hand_over(
     broken: bool,
 ) -> Handed
     requires { IsSome core.old.core }
-    ensures { Beside (CrossesOver in_c.add_in add_told (OrComesBack Refuses conn)
+    ensures { Beside (CrossesOver in_c.add_in answer_of_add (OrComesBack Refuses conn)
         (acts.Add conn broken) at result) core.old.core core.new.core }
 {
     with_try!(alloc, core, open => added, handing::add(&mut open.internals, Moment(at), conn, broken))
@@ -418,7 +419,7 @@ pub extern "C" fn bb8_reap(alloc: Global, core: &mut CoreHandle, at: u64) -> Tol
 #[unsafe(no_mangle)]
 pub extern "C" fn bb8_join(alloc: Global, core: &mut CoreHandle, at: u64) -> Told
     requires { IsSome core.old.core }
-    ensures { Beside (Crosses (in_c.join_in {U = Unfit}) join_told (λ a. ⊤)
+    ensures { Beside (Crosses (in_c.join_in {U = Unfit}) answer_of_join (λ a. ⊤)
         acts.Join at result) core.old.core core.new.core }
 {
     with_core!(alloc, core, open => told::joined(asked::join(&mut open.internals, Moment(at))))
@@ -450,7 +451,7 @@ pub extern "C" fn bb8_closed_next(alloc: Global, core: &mut CoreHandle) -> Told
 pub extern "C" fn bb8_look(alloc: Global, core: &mut CoreHandle, at: u64) -> LookAnswer
     requires { IsSome core.old.core }
     ensures { Beside (λ old new. (a : Look) × (result ≡ in_c.look_in a)
-        × Meets old at acts.Look (look_told a) new) core.old.core core.new.core }
+        × Meets old at acts.Look (answer_of_look a) new) core.old.core core.new.core }
 {
     with_core!(alloc, core, open => figures::seen(open.internals.look(Moment(at))))
 }

@@ -1,5 +1,5 @@
 -- A begin and a try in one step.
-use Rattle.bb8_core.proofs.Words.{◌≡◌, ℕ, ◌+◌, ◌<◌, max, Bool, false, cond, Option, Some, None, refl, sym, ap, ◌∙◌, arith, subst, get, Grant, Guarded, Active, Getting, Counters, Begin, Try, Counts, Begun, Served, Taken, due, one, ltb, Held, Holding, first_of, gets_stand, is_trying, counts_held, Shown, IsFitting, ShownRecords, ShownGets, eqb_self, get_inserted, end_of_numbers, same_gets, true}
+use Rattle.bb8_core.proofs.Words.{◌≡◌, ℕ, ◌+◌, ◌<◌, max, Bool, false, cond, Option, Some, None, refl, sym, ap, ◌∙◌, arith, subst, get, Grant, Guarded, Active, Getting, Counters, Begin, Try, Counts, Begun, Served, Taken, due, one, ltb, Held, Holding, first_of, gets_stand, is_trying, counts_held, StateView, IsFitting, RecordsView, GetsView, eqb_self, get_inserted, end_of_numbers, same_gets, true}
 use Rattle.bb8_tables.specs.Machine as machine
 use Rattle.bb8_core.proofs.Runs.{shown_try}
 use Rattle.bb8_core.proofs.Steps.{IsStep, Grants, served, meets_begun, meets_served, meets_taken, meets_waits}
@@ -14,31 +14,31 @@ abbrev pub never : Option ℕ
 never = None
 
 -- room was made for one get more, which changes no begin
-roomy : (s : ShownGets) → machine.after_begin (record s { peak = max s.peak (s.alive + 1) }) ≡ machine.after_begin s
+roomy : (s : GetsView) → machine.after_begin (record s { peak = max s.peak (s.alive + 1) }) ≡ machine.after_begin s
 roomy s = same_gets _ _ refl refl refl refl (omega arith)
 
 -- a get that was born where it stands now was begun in the state between
-pub begun_at : (s : ShownGets) {room gs : ShownGets} (f : ℕ → ShownGets → ShownGets) → room ≡ record s { peak = max s.peak (s.alive + 1) }
+pub begun_at : (s : GetsView) {room gs : GetsView} (f : ℕ → GetsView → GetsView) → room ≡ record s { peak = max s.peak (s.alive + 1) }
     → gs ≡ f room.next (machine.after_begin room) → gs ≡ f s.next (machine.after_begin s)
-begun_at s f room_is gs_is = gs_is ∙ ap (λ (x : ShownGets). f x.next (machine.after_begin x)) room_is ∙ ap (f s.next) (roomy s)
+begun_at s f room_is gs_is = gs_is ∙ ap (λ (x : GetsView). f x.next (machine.after_begin x)) room_is ∙ ap (f s.next) (roomy s)
 
 module _ {C : Type 0} where
   -- the state between the begin and the try
-  abbrev pub between : Shown C → ℕ → Shown C
+  abbrev pub between : StateView C → ℕ → StateView C
   between s now = record s { latest = now; gets = machine.after_begin s.gets; counts = record s.counts { started = s.counts.started + 1 } }
 
-  stands_new : (s : Shown C) (now : ℕ) → get (between s now).gets.places s.gets.next ≡ Some fresh
+  stands_new : (s : StateView C) (now : ℕ) → get (between s now).gets.places s.gets.next ≡ Some fresh
   stands_new s now = get_inserted s.gets.places s.gets.next fresh s.gets.next ∙ ap (λ (b : Bool). cond b (Some fresh) (get s.gets.places s.gets.next)) (eqb_self s.gets.next)
 
-  fits_between : (s : Shown C) (now : ℕ) → IsFitting (between s now) (Try s.gets.next)
+  fits_between : (s : StateView C) (now : ℕ) → IsFitting (between s now) (Try s.gets.next)
   fits_between s now l legal means = shown_try l (between s now) s.gets.next means ∙ ap (gets_stand is_trying) (stands_new s now)
 
-  pub meets_begun_between : {s : Shown C} (at : ℕ) {now n : ℕ} → n ≡ s.gets.next → IsFitting s Begin → now ≡ max s.latest at
+  pub meets_begun_between : {s : StateView C} (at : ℕ) {now n : ℕ} → n ≡ s.gets.next → IsFitting s Begin → now ≡ max s.latest at
       → s.gets.next < end_of_numbers → IsStep s at Begin (Begun n) (between s now)
   meets_begun_between at n_is fit now_is few = meets_begun now_is fit few refl refl n_is
 
   -- what is done to the fields, from the state between on
-  pub meets_served_between : (s : Shown C) {at now n k : ℕ} {grant : Grant} {rs : ShownRecords C} {gs : ShownGets}
+  pub meets_served_between : (s : StateView C) {at now n k : ℕ} {grant : Grant} {rs : RecordsView C} {gs : GetsView}
       (was : Counters) {is : Counters} → n ≡ s.gets.next → s.config.test_on_check_out ≡ false → now ≡ max s.latest at
       → first_of s.config.queue_strategy s.records.idle ≡ Some k → Grants s false (machine.after_take Guarded k s.records) grant rs
       → gs ≡ machine.after_get_end s.gets.next (machine.after_begin s.gets) → s.counts ≡ counts_held was
@@ -54,7 +54,7 @@ module _ {C : Type 0} where
       (ap (λ (x : Counts). record x { started = x.started + 1 }) were) refl counted)
 
   -- the get holds a connection at once
-  pub meets_taken_between : (s : Shown C) {at now n k : ℕ} {grant : Grant} {rs : ShownRecords C} {gs : ShownGets} → n ≡ s.gets.next → s.config.test_on_check_out ≡ true → now ≡ max s.latest at
+  pub meets_taken_between : (s : StateView C) {at now n k : ℕ} {grant : Grant} {rs : RecordsView C} {gs : GetsView} → n ≡ s.gets.next → s.config.test_on_check_out ≡ true → now ≡ max s.latest at
       → first_of s.config.queue_strategy s.records.idle ≡ Some k → Grants s false (machine.after_take (Held n) k s.records) grant rs
       → gs ≡ machine.after_turn (Holding k) s.gets.next (machine.after_begin s.gets)
       → IsStep (between s now) at (Try n) (Taken k grant) (record (between s now) { records = rs; gets = gs })
@@ -66,7 +66,7 @@ module _ {C : Type 0} where
       (gs_is ∙ ap (λ (m : ℕ). machine.after_turn (Holding k) m (machine.after_begin s.gets)) (sym n_is))
 
   -- the get waits at once
-  pub meets_waits_between : (s : Shown C) {at now n : ℕ} {taken : ShownRecords C} {due_now : ℕ} {grant : Grant} {rs : ShownRecords C} {gs : ShownGets} → n ≡ s.gets.next → now ≡ max s.latest at
+  pub meets_waits_between : (s : StateView C) {at now n : ℕ} {taken : RecordsView C} {due_now : ℕ} {grant : Grant} {rs : RecordsView C} {gs : GetsView} → n ≡ s.gets.next → now ≡ max s.latest at
       → first_of s.config.queue_strategy s.records.idle ≡ None → taken ≡ s.records
       → due_now ≡ due s.config s.handles (s.records.conns + s.records.approved) (one (ltb s.records.approved (s.gets.alive + 1)))
       → machine.IsGrant taken due_now grant → rs ≡ machine.after_grant false grant taken → gs ≡ machine.after_wait now s.gets.next (machine.after_begin s.gets)

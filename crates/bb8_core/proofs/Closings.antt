@@ -1,5 +1,5 @@
 -- The connections that a reap or the last leave closes, one by one.
-use Rattle.bb8_core.proofs.Words.{◌≡◌, ◌≢◌, ℕ, suc, ◌+◌, ◌<◌, max, Bool, true, false, cond, eqb, List, [], ◌∷◌, ◌++◌, drop, slice_get, Option, option_and_then, Some, None, refl, sym, ap, ◌∙◌, arith, subst, FinMap, get, remove, Grant, Idle, Standing, Numbered, at_number, update, numbers, in_order, tally, one, after_end, stands, is_idle, idles_out, lives_out, Told, Reaps, after_reap, after_reaped, AreReaped, AreFirst, ShownRecords, Ledger, Start, start, position, latest, records, peak, idle_at, outlived, reaped_at, outlived_at, idled_at, Shown, HasLedger, shown_records, Before, same_or_not, at-below, get_removed, and_right, standing_is, idle_is, lives_idle, idles_idle, entered_before, ended_before, inl, inr}
+use Rattle.bb8_core.proofs.Words.{◌≡◌, ◌≢◌, ℕ, suc, ◌+◌, ◌<◌, max, Bool, true, false, cond, eqb, List, [], ◌∷◌, ◌++◌, drop, slice_get, Option, option_and_then, Some, None, refl, sym, ap, ◌∙◌, arith, subst, FinMap, get, remove, Grant, Idle, Standing, Numbered, at_number, update, numbers, in_order, tally, one, after_end, stands, is_idle, idles_out, lives_out, Told, Reaps, after_reap, after_reaped, AreReaped, AreFirst, RecordsView, Ledger, Start, start, position, latest, records, peak, idle_at, outlived, reaped_at, outlived_at, idled_at, StateView, HasLedger, shown_records, Before, same_or_not, at-below, get_removed, and_right, standing_is, idle_is, lives_idle, idles_idle, entered_before, ended_before, inl, inr}
 use Rattle.std.specs.Ordering.{nat_cmp}
 use Rattle.circular_buffer.specs.Buffer.{Buffer}
 use Rattle.bb8_tables.specs.declared.closed.Closed.{Closed}
@@ -62,7 +62,7 @@ module _ {C : Type 0} where
       go false e = e
 
   -- so each was idle under its number in the beginning
-  are_closed : (s : Shown C) (ks : List ℕ) (m : FinMap nat_cmp (Standing C)) → AreIdle ks m → ((k : ℕ) (r : Standing C) → get m k ≡ Some r → get s.records.places k ≡ Some r)
+  are_closed : (s : StateView C) (ks : List ℕ) (m : FinMap nat_cmp (Standing C)) → AreIdle ks m → ((k : ℕ) (r : Standing C) → get m k ≡ Some r → get s.records.places k ≡ Some r)
       → AreIdleAs s ks (closed_of ks m)
   are_closed s [] m each from = tt
   are_closed s (k ∷ ks) m each from =
@@ -73,17 +73,17 @@ module _ {C : Type 0} where
 
   -- ---- a reap
 
-  idle_both : (js ks : List ℕ) (s : ShownRecords C) → AreIdle js s.places → AreIdle ks (after_reap js s).places → AreIdle (js ++ ks) s.places
+  idle_both : (js ks : List ℕ) (s : RecordsView C) → AreIdle js s.places → AreIdle ks (after_reap js s).places → AreIdle (js ++ ks) s.places
   idle_both [] ks s a b = b
   idle_both (j ∷ js) ks s a b = (a.0, idle_both js ks (after_reaped j s) a.1 b)
 
-  first_are : (test : Option (Standing C) → Bool) (ks : List ℕ) (s : ShownRecords C) → AreFirst test ks s → AreReaped test ks s
+  first_are : (test : Option (Standing C) → Bool) (ks : List ℕ) (s : RecordsView C) → AreFirst test ks s → AreReaped test ks s
   first_are test [] s a = tt
   first_are test (k ∷ ks) s a = (a.1, first_are test ks (after_reaped k s) a.2)
 
   module _ (test : Option (Standing C) → Bool) (off : test None ≡ false) where
     -- those that pass a test for idle ones are idle
-    reaped_idle : ((s : Standing C) → test (Some s) ≡ true → is_idle s.place ≡ true) → (ks : List ℕ) (s : ShownRecords C) → AreReaped test ks s → AreIdle ks s.places
+    reaped_idle : ((s : Standing C) → test (Some s) ≡ true → is_idle s.place ≡ true) → (ks : List ℕ) (s : RecordsView C) → AreReaped test ks s → AreIdle ks s.places
     reaped_idle idle [] s each = tt
     reaped_idle idle (k ∷ ks) s each = (go (get s.places k) refl, reaped_idle idle ks (after_reaped k s) each.1)
       where
@@ -92,7 +92,7 @@ module _ {C : Type 0} where
         go (Some r) e = let is = idle_is r.place (idle r (sym (ap test e) ∙ each.0)) in (r, is.0, e, is.1)
 
     -- a number is among them once if it passed before, and does not any more
-    reaped_count : (k : ℕ) (ks : List ℕ) (s : ShownRecords C) → AreReaped test ks s → tally (eqb k) ks + one (test (get (after_reap ks s).places k)) ≡ one (test (get s.places k))
+    reaped_count : (k : ℕ) (ks : List ℕ) (s : RecordsView C) → AreReaped test ks s → tally (eqb k) ks + one (test (get (after_reap ks s).places k)) ≡ one (test (get s.places k))
     reaped_count k [] s each = omega arith
     reaped_count k (j ∷ js) s each =
         let ih : tally (eqb k) js + one (test (get (after_reap js (after_reaped j s)).places k)) ≡ one (test (get (remove s.places j) k)) = reaped_count k js (after_reaped j s) each.1 in
@@ -127,17 +127,17 @@ module _ {C : Type 0} where
       let aged : tally (eqb k) js ≡ tally (eqb k) (outlived_at l at) = aged_count (start l) (max (latest l) at) (position l) (peak l) (records l) js r.aged r.none_aged k in
       omega (arith, ap (λ (xs : List ℕ). tally (eqb k) xs) e.idle, tally_both (eqb k) js ks, tally_both (eqb k) (outlived_at l at) (idled_at l at))
 
-  pub reap_offers : {s t : Shown C} (at : ℕ) {now : ℕ} {js ks : List ℕ} {mid : ShownRecords C} {told : Told} (grant : Grant) (list : Buffer (Closed C)) {offered : Buffer (Closed C)} → s ≡ t
+  pub reap_offers : {s t : StateView C} (at : ℕ) {now : ℕ} {js ks : List ℕ} {mid : RecordsView C} {told : Told} (grant : Grant) (list : Buffer (Closed C)) {offered : Buffer (Closed C)} → s ≡ t
       → now ≡ max s.latest at → Reaps s.config now s.records js ks mid told → offered ≡ offered_all (closed_of (js ++ ks) s.records.places) list
       → OffersReaped t at (reaping.Reaped told.closed told.by_idle told.by_life grant) list offered
   reap_offers {s} {t} at {now} {js} {ks} {mid} {told} grant list {offered} is now_is r listed =
-      subst (λ (x : Shown C). OffersReaped x at (reaping.Reaped told.closed told.by_idle told.by_life grant) list offered) is (
+      subst (λ (x : StateView C). OffersReaped x at (reaping.Reaped told.closed told.by_idle told.by_life grant) list offered) is (
         js ++ ks,
         (closed_of (js ++ ks) s.records.places, are_closed s (js ++ ks) s.records.places each (λ k q h. h), listed),
-        λ l legal means k. subst (λ (x : Shown C). now ≡ max x.latest at → Reaps x.config now x.records js ks mid told → tally (eqb k) (js ++ ks) ≡ tally (eqb k) (reaped_at l at)) means
+        λ l legal means k. subst (λ (x : StateView C). now ≡ max x.latest at → Reaps x.config now x.records js ks mid told → tally (eqb k) (js ++ ks) ≡ tally (eqb k) (reaped_at l at)) means
             (λ n q. reap_count l at js ks told
             (subst (λ (m : ℕ). Reaps (start l).config m (shown l).records js ks (both_ended js ks (shown l).records) told) n
-            (subst (λ (x : ShownRecords C). Reaps (start l).config now (shown l).records js ks x told) q.state q)) k) now_is r,
+            (subst (λ (x : RecordsView C). Reaps (start l).config now (shown l).records js ks x told) q.state q)) k) now_is r,
       )
     where
       each : AreIdle (js ++ ks) s.records.places
@@ -146,7 +146,7 @@ module _ {C : Type 0} where
           (reaped_idle (idles_out s.config now) refl (λ x h. idles_idle s.config now (Some x) h) ks (after_reap js s.records) (first_are (idles_out s.config now) ks (after_reap js s.records) r.first))
 
   -- where no handle is alive none is offered
-  pub no_reap_offers : {s : Shown C} (at : ℕ) (list : Buffer (Closed C)) → OffersReaped s at reaping.Ended list list
+  pub no_reap_offers : {s : StateView C} (at : ℕ) (list : Buffer (Closed C)) → OffersReaped s at reaping.Ended list list
   no_reap_offers at list = ([], ([], tt, refl), λ l legal means k. refl)
 
   -- ---- the last leave
@@ -161,20 +161,20 @@ module _ {C : Type 0} where
       let step = (shown-idle_end first p top rs k ks h).0 in
       let found : get (shown_records first p top rs).places k ≡ Some was.0 =
       numbered.get-numbered (λ (r : Numbered (Standing C)). r.standing) rs first k ∙ ap (option_and_then (λ (r : Numbered (Standing C)). r.standing)) m.1 ∙ was.1 in
-      let rest = line_idle first p top ks (update first k after_end rs) (ended_before p first k rs b) (ap (λ (s : ShownRecords C). s.idle) step ∙ ap (drop 1) h) in
-      ((was.0, place.0, found, place.1), subst (λ (s : ShownRecords C). AreIdle ks s.places) step rest)
+      let rest = line_idle first p top ks (update first k after_end rs) (ended_before p first k rs b) (ap (λ (s : RecordsView C). s.idle) step ∙ ap (drop 1) h) in
+      ((was.0, place.0, found, place.1), subst (λ (s : RecordsView C). AreIdle ks s.places) step rest)
 
-  pub left_offers : {s t : Shown C} (list : Buffer (Closed C)) {offered : Buffer (Closed C)} → s ≡ t → HasLedger s → s.handles ≡ 1
+  pub left_offers : {s t : StateView C} (list : Buffer (Closed C)) {offered : Buffer (Closed C)} → s ≡ t → HasLedger s → s.handles ≡ 1
       → offered ≡ offered_all (closed_of s.records.idle s.records.places) list → OffersLeft t list offered
   left_offers {s} {t} list {offered} is h last listed =
-      subst (λ (x : Shown C). OffersLeft x list offered) is (
+      subst (λ (x : StateView C). OffersLeft x list offered) is (
         closed_of s.records.idle s.records.places,
         subst (λ (b : Bool). AreIdleAs s (cond b s.records.idle []) (closed_of s.records.idle s.records.places)) (sym (ap (λ (n : ℕ). eqb n 1) last))
             (are_closed s s.records.idle s.records.places
-            (subst (λ (x : Shown C). AreIdle x.records.idle x.records.places) h.2 (line_idle (start h.0).first (position h.0) (peak h.0) (shown h.0).records.idle (records h.0) (entered_before h.0) refl)) (λ k q e. e)),
+            (subst (λ (x : StateView C). AreIdle x.records.idle x.records.places) h.2 (line_idle (start h.0).first (position h.0) (peak h.0) (shown h.0).records.idle (records h.0) (entered_before h.0) refl)) (λ k q e. e)),
         listed,
       )
 
-  pub none_left : {s t : Shown C} (list : Buffer (Closed C)) → s ≡ t → s.handles ≢ 1 → OffersLeft t list list
+  pub none_left : {s t : StateView C} (list : Buffer (Closed C)) → s ≡ t → s.handles ≢ 1 → OffersLeft t list list
   none_left {s} {t} list is more =
-      subst (λ (x : Shown C). OffersLeft x list list) is ([], subst (λ (b : Bool). AreIdleAs s (cond b s.records.idle []) []) (sym (numbered.ne_test s.handles 1 more)) tt, refl)
+      subst (λ (x : StateView C). OffersLeft x list list) is ([], subst (λ (b : Bool). AreIdleAs s (cond b s.records.idle []) []) (sym (numbered.ne_test s.handles 1 more)) tt, refl)

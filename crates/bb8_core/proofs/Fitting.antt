@@ -1,6 +1,8 @@
 -- What the condition of a step says of what is shown.
-use Rattle.bb8_core.proofs.Words.{◌≡◌, ℕ, ◌≤◌, Bool, true, false, Option, Some, None, is_some, refl, sym, ap, ◌∙◌, subst, ◌+◌, ◌<◌, max, arith, ltb-true, get, Place, Unclaimed, Claimed, Idle, Held, Guarded, Standing, Getting, Try, CheckedOk, PutBack, GiveUp, Leave, Reason, Cancelled, Ledger, agree, ◌&&◌, conns, approved, alive, get_of, start, latest, handles, records, gets, record_of, holds, stands, gets_stand, is_unnotified, is_claimed, is_guarded, is_held_by, is_out, fits, IsLegal, Shown, shown_beside, HasLedger, IsFitting, Means, standing_is, claimed_is, guarded_out, and_right, holding_is, all_held, alive_get, trying_is, alive_is, out_counted, claimed_counted, Fits, all_fit, due_few, Numbered, end_of_numbers, due, Settings, none_lent, ShownRecords, NoneAfter}
-use Rattle.bb8_core.specs.Shown.{TellsFitting}
+use Rattle.bb8_core.proofs.Words.{◌≡◌, ℕ, ◌≤◌, Bool, true, false, Option, Some, None, is_some, refl, sym, ap, ◌∙◌, subst, ◌+◌, ◌<◌, max, arith, ltb-true, get, Place, Unclaimed, Claimed, Idle, Held, Guarded, Standing, Getting, CheckedOk, GiveUp, Leave, Reason, Cancelled, Ledger, agree, ◌&&◌, conns, approved, alive, get_of, start, latest, handles, records, gets, record_of, holds, stands, gets_stand, is_unnotified, is_claimed, is_guarded, is_held_by, is_out, is_trying, GetPlace, Active, Holding, fits, IsLegal, StateView, shown_beside, HasLedger, IsFitting, Represents, standing_is, claimed_is, guarded_out, and_right, all_held, alive_get, alive_is, out_counted, claimed_counted, Fits, all_fit, due_few, Numbered, end_of_numbers, due, Settings, none_lent, RecordsView, NoneAfter}
+use Rattle.bb8_core.specs.StateView.{TellsFitting}
+use Rattle.bb8_types.specs.Places.{held_in}
+use Rattle.bb8_types.specs.declared.standing.GetPlace.TheVariants.{Waiting}
 use Rattle.bb8_ledger.proofs.Invalid.{few_ended}
 use Rattle.bb8_ledger.proofs.Moments.{none_later}
 use Rattle.bb8_types.proofs.Numbered as numbered
@@ -14,64 +16,87 @@ handing_none : (o : Option Getting) → holds o ≡ None → (is_some o && agree
 handing_none None none = refl
 handing_none (Some x) none = ap is_some none
 
+-- one that holds nothing may try
+giving_none : (o : Option Getting) → (is_some o && agree false (is_some (holds o))) ≡ gets_stand is_trying o
+giving_none None = refl
+giving_none (Some x) = each x.place
+  where
+    each : (p : GetPlace) → agree false (is_some (held_in p)) ≡ is_trying p
+    each Active = refl
+    each (Waiting notified) = refl
+    each (Holding k) = refl
+
+-- a get that was found to try stands
+pub trying_stands : {o p : Option Getting} {b : Bool} → o ≡ p → b ≡ gets_stand is_trying o → b ≡ true → (st : Getting) × (p ≡ Some st)
+trying_stands {o} get_is b_is on = let st = each o (sym b_is ∙ on) in (st.0, sym get_is ∙ st.1)
+  where
+    each : (x : Option Getting) → gets_stand is_trying x ≡ true → (st : Getting) × (x ≡ Some st)
+    each None e = cc
+    each (Some st) e = (st, refl)
+
+-- and in no line, where it was found not to wait, or to be notified
+pub trying_off : {o p : Option Getting} {b n : Bool} → o ≡ p → b ≡ gets_stand is_trying o → b ≡ true → n ≡ gets_stand is_unnotified o → n ≡ false
+    → (st : Getting) × (p ≡ Some st) × (is_unnotified st.place ≡ false)
+trying_off get_is b_is on n_is off = let st = trying_stands get_is b_is on in (st.0, st.1, ap (gets_stand is_unnotified) (sym st.1 ∙ sym get_is) ∙ sym n_is ∙ off)
+
 module _ {C : Type 0} where
   -- what a ledger shows, where nothing was lent
-  abbrev pub shown : Ledger C → Shown C
+  abbrev pub shown : Ledger C → StateView C
   shown l = shown_beside none_lent l
 
   -- a state, whatever was lent
-  abbrev pub unexamined : Shown C → Shown C
+  abbrev pub unexamined : StateView C → StateView C
   unexamined s = record s { lent = none_lent }
 
   -- what was lent tells nothing of the ledger
-  pub bare : {s : Shown C} (l : Ledger C) → Means l s → shown l ≡ unexamined s
+  pub bare : {s : StateView C} (l : Ledger C) → Represents l s → shown l ≡ unexamined s
   bare l means = ap unexamined means
 
-  pub beside : {s : Shown C} (l : Ledger C) → shown l ≡ unexamined s → Means l s
-  beside {s} l is = ap (λ (t : Shown C). record t { lent = s.lent }) is
+  pub beside : {s : StateView C} (l : Ledger C) → shown l ≡ unexamined s → Represents l s
+  beside {s} l is = ap (λ (t : StateView C). record t { lent = s.lent }) is
 
   -- the fields are what is shown
-  pub as_shown : {s t : Shown C} (l : Ledger C) → s ≡ t → Means l s → Means l t
-  as_shown l is means = subst (λ (x : Shown C). Means l x) is means
+  pub as_shown : {s t : StateView C} (l : Ledger C) → s ≡ t → Represents l s → Represents l t
+  as_shown l is means = subst (λ (x : StateView C). Represents l x) is means
 
-  pub shown_record : (l : Ledger C) (s : Shown C) → Means l s → (k : ℕ) → record_of l k ≡ get s.records.places k
-  shown_record l s is k = sym (numbered.get-numbered (λ (r : Numbered (Standing C)). r.standing) (records l) (start l).first k) ∙ ap (λ (t : Shown C). get t.records.places k) is
+  pub shown_record : (l : Ledger C) (s : StateView C) → Represents l s → (k : ℕ) → record_of l k ≡ get s.records.places k
+  shown_record l s is k = sym (numbered.get-numbered (λ (r : Numbered (Standing C)). r.standing) (records l) (start l).first k) ∙ ap (λ (t : StateView C). get t.records.places k) is
 
   -- so no birth and no entry of what a state shows lies after the moment of its next event
-  pub none_after : (s : Shown C) (at now : ℕ) → HasLedger s → now ≡ max s.latest at → NoneAfter now s.records
+  pub none_after : (s : StateView C) (at now : ℕ) → HasLedger s → now ≡ max s.latest at → NoneAfter now s.records
   none_after s at now h now_is k r e =
       let none = none_later h.0 k r (shown_record h.0 s h.2 k ∙ e) in
-      let same : latest h.0 ≡ s.latest = ap (λ (t : Shown C). t.latest) h.2 in
+      let same : latest h.0 ≡ s.latest = ap (λ (t : StateView C). t.latest) h.2 in
       (omega (arith, none.0), omega (arith, none.1))
 
-  pub shown_get : (l : Ledger C) (s : Shown C) → Means l s → (g : ℕ) → get_of l g ≡ get s.gets.places g
-  shown_get l s is g = sym (numbered.get-numbered (λ (r : Numbered Getting). r.standing) (gets l) (start l).first_get g) ∙ ap (λ (t : Shown C). get t.gets.places g) is
+  pub shown_get : (l : Ledger C) (s : StateView C) → Represents l s → (g : ℕ) → get_of l g ≡ get s.gets.places g
+  shown_get l s is g = sym (numbered.get-numbered (λ (r : Numbered Getting). r.standing) (gets l) (start l).first_get g) ∙ ap (λ (t : StateView C). get t.gets.places g) is
 
   -- so what a state shows is within the size
-  pub size_shown : (s : Shown C) (l : Ledger C) → IsLegal l → Means l s → s.records.conns + s.records.approved ≤ s.config.max_size
-  size_shown s l legal shows = subst (λ (t : Shown C). t.records.conns + t.records.approved ≤ t.config.max_size) shows (all_fit l legal).size
+  pub size_shown : (s : StateView C) (l : Ledger C) → IsLegal l → Represents l s → s.records.conns + s.records.approved ≤ s.config.max_size
+  size_shown s l legal shows = subst (λ (t : StateView C). t.records.conns + t.records.approved ≤ t.config.max_size) shows (all_fit l legal).size
 
   -- what is shown fits together
-  pub shown_fits : (s : Shown C) → HasLedger s → Fits s.config.max_size s.records.conns s.records.approved s.records.next s.gets.alive s.gets.next s.counts
-  shown_fits s h = subst (λ (t : Shown C). Fits t.config.max_size t.records.conns t.records.approved t.records.next t.gets.alive t.gets.next t.counts) h.2 (all_fit h.0 h.1)
+  pub shown_fits : (s : StateView C) → HasLedger s → Fits s.config.max_size s.records.conns s.records.approved s.records.next s.gets.alive s.gets.next s.counts
+  shown_fits s h = subst (λ (t : StateView C). Fits t.config.max_size t.records.conns t.records.approved t.records.next t.gets.alive t.gets.next t.counts) h.2 (all_fit h.0 h.1)
 
   -- What is due of what is asked is within the size, where what is taken is.
-  pub due_within : (config : Settings) (handles : ℕ) {taken was : ShownRecords C} {n : ℕ} (asked : ℕ)
+  pub due_within : (config : Settings) (handles : ℕ) {taken was : RecordsView C} {n : ℕ} (asked : ℕ)
       → was.conns + was.approved ≤ config.max_size → taken ≡ was → n ≡ due config handles (taken.conns + taken.approved) asked
       → taken.conns + taken.approved + n ≤ config.max_size
   due_within config handles {taken} {was} {n} asked few taken_is n_is =
-      omega (arith, ap (λ (t : ShownRecords C). t.conns + t.approved) taken_is, due_few config handles (taken.conns + taken.approved) asked)
+      omega (arith, ap (λ (t : RecordsView C). t.conns + t.approved) taken_is, due_few config handles (taken.conns + taken.approved) asked)
 
   -- It is so, too, where what is taken is no more than what a state shows.
-  pub due_fits : (s : Shown C) {taken was : ShownRecords C} {used n : ℕ} (asked : ℕ) → HasLedger s
+  pub due_fits : (s : StateView C) {taken was : RecordsView C} {used n : ℕ} (asked : ℕ) → HasLedger s
       → was.conns + was.approved ≤ s.records.conns + s.records.approved → taken ≡ was → used ≡ taken.conns + taken.approved
       → n ≡ due s.config s.handles used asked → taken.conns + taken.approved + n ≤ s.config.max_size
   due_fits s {was = was} asked h few taken_is used_is n_is = due_within s.config s.handles {was = was} asked (omega (arith, few, (shown_fits s h).size)) taken_is (n_is
       ∙ ap (λ (u : ℕ). due s.config s.handles u asked) used_is)
 
   -- connections that were closed as invalid, or idled out, are no more than the numbers that are free
-  pub ended_shown : (s : Shown C) → HasLedger s → s.counts.invalid + s.counts.idle_timeout + s.records.conns + s.records.approved ≤ s.records.next
-  ended_shown s h = subst (λ (t : Shown C). t.counts.invalid + t.counts.idle_timeout + t.records.conns + t.records.approved ≤ t.records.next) h.2 (few_ended h.0 h.1)
+  pub ended_shown : (s : StateView C) → HasLedger s → s.counts.invalid + s.counts.idle_timeout + s.records.conns + s.records.approved ≤ s.records.next
+  ended_shown s h = subst (λ (t : StateView C). t.counts.invalid + t.counts.idle_timeout + t.records.conns + t.records.approved ≤ t.records.next) h.2 (few_ended h.0 h.1)
 
   -- the record that a get holds is out
   pub held_record : (l : Ledger C) (g k : ℕ) → IsLegal l → holds (get_of l g) ≡ Some k → (st : Standing C) × (record_of l k ≡ Some st) × (is_out st.place ≡ true)
@@ -86,127 +111,90 @@ module _ {C : Type 0} where
       held_out (Held h) e = refl
       held_out Guarded e = refl
 
-  -- ---- what a call knows of the state that it finds: the fields show it, and the event fits
+  -- ---- a record that was found to stand at such a place, or not
 
-  -- each record of that number stands at such a place, as an event asks that brings a connection
-  abbrev IsPlaced : (Place C → Bool) → Shown C → ℕ → Type 0
-  IsPlaced test s k = (l : Ledger C) → IsLegal l → Means l s → stands test (record_of l k) ≡ true
+  -- an event that asks for it fits, or it does not
+  pub fits_at : (s : StateView C) (test : Place C → Bool) (k : ℕ) → stands test (get s.records.places k) ≡ true → (l : Ledger C) → IsLegal l → Represents l s → stands test (record_of l k) ≡ true
+  fits_at s test k on l legal means = ap (stands test) (shown_record l s means k) ∙ on
 
-  placed : {s t : Shown C} (test : Place C → Bool) (k : ℕ) → s ≡ t → HasLedger s → IsPlaced test t k → (st : Standing C) × (get s.records.places k ≡ Some st) × (test st.place ≡ true)
-  placed {s} test k is h fit = standing_is test (get s.records.places k) (ap (stands test) (sym (shown_record h.0 s h.2 k)) ∙ fit h.0 h.1 (as_shown h.0 is h.2))
-
-  pub fit_claimed : {s t : Shown C} (k : ℕ) → s ≡ t → HasLedger s → IsPlaced is_claimed t k → (st : Standing C) × (get s.records.places k ≡ Some st) × (is_claimed st.place ≡ true)
-  fit_claimed k is h fit = placed is_claimed k is h fit
+  pub unfit_at : (s : StateView C) (test : Place C → Bool) (k : ℕ) → stands test (get s.records.places k) ≡ false → (l : Ledger C) → IsLegal l → Represents l s → false ≡ stands test (record_of l k)
+  unfit_at s test k off l legal means = sym (ap (stands test) (shown_record l s means k) ∙ off)
 
   -- what a guard holds is out
-  pub fit_guarded : {s t : Shown C} (k : ℕ) → s ≡ t → HasLedger s → IsPlaced is_guarded t k → (st : Standing C) × (get s.records.places k ≡ Some st) × (is_out st.place ≡ true)
-  fit_guarded k is h fit = let st = placed is_guarded k is h fit in (st.0, st.1, guarded_out st.0.place st.2)
+  pub guarded_record : (s : StateView C) (k : ℕ) → stands is_guarded (get s.records.places k) ≡ true → (st : Standing C) × (get s.records.places k ≡ Some st) × (is_out st.place ≡ true)
+  guarded_record s k on = let st = standing_is is_guarded (get s.records.places k) on in (st.0, st.1, guarded_out st.0.place st.2)
 
   -- a connection that is out is one
-  out_some : (k : ℕ) (s : Shown C) → HasLedger s → (st : Standing C) × (get s.records.places k ≡ Some st) × (is_out st.place ≡ true) → 1 ≤ s.records.conns
+  out_some : (k : ℕ) (s : StateView C) → HasLedger s → (st : Standing C) × (get s.records.places k ≡ Some st) × (is_out st.place ≡ true) → 1 ≤ s.records.conns
   out_some k s h st =
       let some : 1 ≤ conns h.0 = out_counted h.0 k st.0 (shown_record h.0 s h.2 k ∙ st.1) st.2 in
-      subst (λ (t : Shown C). 1 ≤ t.records.conns) h.2 some
+      subst (λ (t : StateView C). 1 ≤ t.records.conns) h.2 some
 
   -- a connection more may be counted as created, and as closed
-  pub created_few : {s t : Shown C} (k : ℕ) → s ≡ t → HasLedger s → IsPlaced is_claimed t k → s.records.next ≤ end_of_numbers → s.counts.created < end_of_numbers
-  created_few {s} k is h fit few =
-      let st = fit_claimed k is h fit in
+  pub created_few : (s : StateView C) (k : ℕ) → HasLedger s → stands is_claimed (get s.records.places k) ≡ true → s.records.next ≤ end_of_numbers → s.counts.created < end_of_numbers
+  created_few s k h on few =
+      let st = standing_is is_claimed (get s.records.places k) on in
       let some : 1 ≤ approved h.0 = claimed_counted h.0 k st.0 (shown_record h.0 s h.2 k ∙ st.1) (claimed_is st.0.place st.2) in
-      omega (arith, subst (λ (t : Shown C). 1 ≤ t.records.approved) h.2 some, (shown_fits s h).created_few)
+      omega (arith, subst (λ (t : StateView C). 1 ≤ t.records.approved) h.2 some, (shown_fits s h).created_few)
 
-  pub closed_few : (k : ℕ) (s : Shown C) → HasLedger s → (st : Standing C) × (get s.records.places k ≡ Some st) × (is_out st.place ≡ true)
+  pub closed_few : (k : ℕ) (s : StateView C) → HasLedger s → (st : Standing C) × (get s.records.places k ≡ Some st) × (is_out st.place ≡ true)
       → s.records.next ≤ end_of_numbers → s.counts.broken + s.counts.max_lifetime < end_of_numbers
   closed_few k s h st few = omega (arith, out_some k s h st, (shown_fits s h).closed_few)
 
   -- and as invalid
-  pub invalid_few : (k : ℕ) (s : Shown C) → HasLedger s → (st : Standing C) × (get s.records.places k ≡ Some st) × (is_out st.place ≡ true)
+  pub invalid_few : (k : ℕ) (s : StateView C) → HasLedger s → (st : Standing C) × (get s.records.places k ≡ Some st) × (is_out st.place ≡ true)
       → s.records.next ≤ end_of_numbers → s.counts.invalid < end_of_numbers
   invalid_few k s h st few = omega (arith, out_some k s h st, ended_shown s h)
 
+  -- ---- what a call knows of the state that it finds: the fields show it, and the event fits
+
   -- where a handle leaves, one is alive
-  pub fit_leave : {s t : Shown C} → s ≡ t → HasLedger s → IsFitting t Leave → 1 ≤ s.handles
+  pub fit_leave : {s t : StateView C} → s ≡ t → HasLedger s → IsFitting t Leave → 1 ≤ s.handles
   fit_leave is h fit =
       let some : 0 < handles h.0 = ltb-true 0 (handles h.0) (fit h.0 h.1 (as_shown h.0 is h.2)) in
-      subst (λ (x : Shown C). 1 ≤ x.handles) h.2 (omega arith)
+      subst (λ (x : StateView C). 1 ≤ x.handles) h.2 (omega arith)
 
-  -- a get that tries stands, and so does one that is given up, whatever the reason
-  pub fit_try : {s t : Shown C} (g : ℕ) → s ≡ t → HasLedger s → IsFitting t (Try g) → (st : Getting) × (get s.gets.places g ≡ Some st)
-  fit_try {s} g is h fit = let st = trying_is h.0 g (fit h.0 h.1 (as_shown h.0 is h.2)) in (st.0, sym (shown_get h.0 s h.2 g) ∙ st.1)
-
+  -- a get that is given up stands, whatever the reason
   pub giving_is : (l : Ledger C) (g : ℕ) (held : Option C) → fits l (GiveUp g Cancelled held false) ≡ true → (st : Getting) × (get_of l g ≡ Some st)
   giving_is l g held f = alive_get (get_of l g) (and_right (is_some (get_of l g)) _ f).0
 
-  pub fit_give_up : {s t : Shown C} (g : ℕ) (held : Option C) → s ≡ t → HasLedger s → IsFitting t (GiveUp g Cancelled held false) → (st : Getting) × (get s.gets.places g ≡ Some st)
-  fit_give_up {s} g held is h fit = let st = giving_is h.0 g held (fit h.0 h.1 (as_shown h.0 is h.2)) in (st.0, sym (shown_get h.0 s h.2 g) ∙ st.1)
-
-  -- a get that tries and stands in no line
-  pub fit_waits : {s t : Shown C} {o : Option Getting} (g : ℕ) → s ≡ t → HasLedger s → IsFitting t (Try g) → o ≡ get s.gets.places g
-      → gets_stand is_unnotified o ≡ false → (st : Getting) × (get s.gets.places g ≡ Some st) × (is_unnotified st.place ≡ false)
-  fit_waits g view h fit is off = let st = fit_try g view h fit in (st.0, st.1, ap (gets_stand is_unnotified) (sym st.1 ∙ sym is) ∙ off)
-
   -- a get that stands has not been counted as ended, so it may be
-  pub ended_few : (s : Shown C) (g : ℕ) → HasLedger s → (st : Getting) × (get s.gets.places g ≡ Some st) → s.gets.next ≤ end_of_numbers
+  pub ended_few : (s : StateView C) (g : ℕ) → HasLedger s → (st : Getting) × (get s.gets.places g ≡ Some st) → s.gets.next ≤ end_of_numbers
       → s.counts.direct + s.counts.waited + s.counts.timed_out + s.counts.cancelled < end_of_numbers
   ended_few s g h st few =
       let some : 1 ≤ alive h.0 = alive_is h.0 g st.0 (shown_get h.0 s h.2 g ∙ st.1) in
       let fit = shown_fits s h in
-      omega (arith, subst (λ (t : Shown C). 1 ≤ t.gets.alive) h.2 some, fit.answered, fit.started_few)
-
-  -- ---- a get that holds a connection
-
-  -- an event that wants it fits: this is what it holds, by the number that the code reads off it
-  pub fit_holds : {s t : Shown C} {o : Option Getting} {n : ℕ} (g : ℕ) → s ≡ t → HasLedger s
-      → ((l : Ledger C) → IsLegal l → Means l t → is_some (holds (get_of l g)) ≡ true) → o ≡ get s.gets.places g
-      → ((k : ℕ) → holds o ≡ Some k → n ≡ k) → holds o ≡ Some n
-  fit_holds {s} {t} {o} {n} g is h fit get_is names =
-      let some = some_held (holds o) (ap (λ (x : Option Getting). is_some (holds x)) (get_is ∙ sym (shown_get h.0 s h.2 g)) ∙ fit h.0 h.1 (as_shown h.0 is h.2)) in
-      some.1 ∙ ap (λ (k : ℕ). Some k) (sym (names some.0 some.1))
-    where
-      some_held : (x : Option ℕ) → is_some x ≡ true → (k : ℕ) × (x ≡ Some k)
-      some_held None e = cc
-      some_held (Some k) e = (k, refl)
-
-  -- what it holds is out
-  pub holds_out : {s t : Shown C} {o : Option Getting} {n : ℕ} (g : ℕ) → s ≡ t → HasLedger s
-      → ((l : Ledger C) → IsLegal l → Means l t → is_some (holds (get_of l g)) ≡ true) → o ≡ get s.gets.places g
-      → ((k : ℕ) → holds o ≡ Some k → n ≡ k) → (st : Standing C) × (get s.records.places n ≡ Some st) × (is_out st.place ≡ true)
-  holds_out {s} {n = n} g is h fit get_is names =
-      let st = held_record h.0 g n h.1 (ap (λ (x : Option Getting). holds x) (shown_get h.0 s h.2 g ∙ sym get_is) ∙ fit_holds g is h fit get_is names) in
-      (st.0, sym (shown_record h.0 s h.2 n) ∙ st.1, st.2)
-
-  -- and it stands in no line
-  pub holds_stands : {s t : Shown C} {o : Option Getting} {n : ℕ} (g : ℕ) → s ≡ t → HasLedger s
-      → ((l : Ledger C) → IsLegal l → Means l t → is_some (holds (get_of l g)) ≡ true) → o ≡ get s.gets.places g
-      → ((k : ℕ) → holds o ≡ Some k → n ≡ k) → (st : Getting) × (get s.gets.places g ≡ Some st) × (is_unnotified st.place ≡ false)
-  holds_stands {o = o} {n = n} g is h fit get_is names = let st = holding_is o n (fit_holds g is h fit get_is names) in (st.0, sym get_is ∙ st.1, ap is_unnotified st.2)
+      omega (arith, subst (λ (t : StateView C). 1 ≤ t.gets.alive) h.2 some, fit.answered, fit.started_few)
 
   -- ---- a get that was found to hold a connection, or none
 
-  pub fits_held : (s : Shown C) (g k : ℕ) → holds (get s.gets.places g) ≡ Some k → IsFitting s (CheckedOk g)
+  pub fits_held : (s : StateView C) (g k : ℕ) → holds (get s.gets.places g) ≡ Some k → IsFitting s (CheckedOk g)
   fits_held s g k held l legal means = ap is_some (ap (λ (x : Option Getting). holds x) (shown_get l s means g) ∙ held)
 
-  pub unfit_held : (s : Shown C) (g : ℕ) → holds (get s.gets.places g) ≡ None → TellsFitting s (CheckedOk g) false
+  pub unfit_held : (s : StateView C) (g : ℕ) → holds (get s.gets.places g) ≡ None → TellsFitting s (CheckedOk g) false
   unfit_held s g none l legal means = sym (ap is_some (ap (λ (x : Option Getting). holds x) (shown_get l s means g) ∙ none))
 
-  pub held_out : (s : Shown C) (g k : ℕ) → HasLedger s → holds (get s.gets.places g) ≡ Some k → (st : Standing C) × (get s.records.places k ≡ Some st) × (is_out st.place ≡ true)
+  pub held_out : (s : StateView C) (g k : ℕ) → HasLedger s → holds (get s.gets.places g) ≡ Some k → (st : Standing C) × (get s.records.places k ≡ Some st) × (is_out st.place ≡ true)
   held_out s g k h held =
       let st = held_record h.0 g k h.1 (ap (λ (x : Option Getting). holds x) (shown_get h.0 s h.2 g) ∙ held) in
       (st.0, sym (shown_record h.0 s h.2 k) ∙ st.1, st.2)
 
   -- it may hand that connection in, and another get none
-  pub fits_give_back : (s : Shown C) (g k : ℕ) (why : Reason) (c : C) (broken : Bool) → holds (get s.gets.places g) ≡ Some k → IsFitting s (GiveUp g why (Some c) broken)
+  pub fits_give_back : (s : StateView C) (g k : ℕ) (why : Reason) (c : C) (broken : Bool) → holds (get s.gets.places g) ≡ Some k → IsFitting s (GiveUp g why (Some c) broken)
   fits_give_back s g k why c broken held l legal means = handing_in (get_of l g) k (ap (λ (x : Option Getting). holds x) (shown_get l s means g) ∙ held)
 
-  pub unfit_give_back : (s : Shown C) (g : ℕ) (why : Reason) (c : C) (broken : Bool) → holds (get s.gets.places g) ≡ None → TellsFitting s (GiveUp g why (Some c) broken) false
+  pub unfit_give_back : (s : StateView C) (g : ℕ) (why : Reason) (c : C) (broken : Bool) → holds (get s.gets.places g) ≡ None → TellsFitting s (GiveUp g why (Some c) broken) false
   unfit_give_back s g why c broken none l legal means = sym (handing_none (get_of l g) (ap (λ (x : Option Getting). holds x) (shown_get l s means g) ∙ none))
 
   -- and it is out with this get
-  pub held_with : (s : Shown C) (g k : ℕ) → HasLedger s → holds (get s.gets.places g) ≡ Some k → stands (is_held_by g) (get s.records.places k) ≡ true
+  pub held_with : (s : StateView C) (g k : ℕ) → HasLedger s → holds (get s.gets.places g) ≡ Some k → stands (is_held_by g) (get s.records.places k) ≡ true
   held_with s g k h held = ap (stands (is_held_by g)) (sym (shown_record h.0 s h.2 k)) ∙ all_held h.0 h.1 g k (ap (λ (x : Option Getting). holds x) (shown_get h.0 s h.2 g) ∙ held)
 
-  pub fits_guarded : (s : Shown C) (k : ℕ) (c : C) (broken : Bool) → stands is_guarded (get s.records.places k) ≡ true → IsFitting s (PutBack k c broken)
-  fits_guarded s k c broken on l legal means = ap (stands is_guarded) (shown_record l s means k) ∙ on
+  -- ---- a get that was found to hold nothing, or else
 
-  pub unfit_guarded : (s : Shown C) (k : ℕ) (c : C) (broken : Bool) → stands is_guarded (get s.records.places k) ≡ false → TellsFitting s (PutBack k c broken) false
-  unfit_guarded s k c broken off l legal means = sym (ap (stands is_guarded) (shown_record l s means k) ∙ off)
+  -- it may be given up, and another get hands in what it holds
+  pub fits_give_up : (s : StateView C) (g : ℕ) (why : Reason) (broken : Bool) → gets_stand is_trying (get s.gets.places g) ≡ true → IsFitting s (GiveUp g why None broken)
+  fits_give_up s g why broken on l legal means = giving_none (get_of l g) ∙ ap (gets_stand is_trying) (shown_get l s means g) ∙ on
+
+  pub unfit_give_up : (s : StateView C) (g : ℕ) (why : Reason) (broken : Bool) → gets_stand is_trying (get s.gets.places g) ≡ false → TellsFitting s (GiveUp g why None broken) false
+  unfit_give_up s g why broken off l legal means = sym (giving_none (get_of l g) ∙ ap (gets_stand is_trying) (shown_get l s means g) ∙ off)

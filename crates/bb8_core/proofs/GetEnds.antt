@@ -1,5 +1,5 @@
 -- The steps at which a get lets go of what it holds, or ends without being served: both ends of a check, and a give-up.
-use Rattle.bb8_core.proofs.Words.{◌≡◌, ℕ, suc, ◌+◌, ◌*◌, max, min, Bool, true, false, not, eqb, ◌&&◌, ◌||◌, cond, List, Option, Some, None, slice_get, refl, sym, ap, ◌∙◌, IfSome, get, Grant, Idle, Active, Getting, Counters, reason_of, counts_held, Counts, CheckedOk, CheckedErr, GiveUp, Served, Kept, Closed, GaveUp, Numbered, update, in_order, standing_at, one, after_end, Ledger, Later, start, position, latest, records, gets, peak, get_peak, get_of, counts, wait_micros, broken, timed_out, cancelled, with_notice, get_at_place, unnotified_at, oldest_waiter, waiting, expires, holds, first_wait_of, is_notified, is_unnotified, gets_stand, micros_since, checks, check_fails, gives_up, gives_up_kept, gives_up_closed, Shown, IsFitting, ShownRecords, ShownGets, waited_before, peak_holds, get_peak_holds, holding_is, most_micros}
+use Rattle.bb8_core.proofs.Words.{◌≡◌, ℕ, suc, ◌+◌, ◌*◌, max, min, Bool, true, false, not, eqb, ◌&&◌, ◌||◌, cond, List, Option, Some, None, slice_get, refl, sym, ap, ◌∙◌, IfSome, get, Grant, Idle, Active, Getting, Counters, reason_of, counts_held, Counts, CheckedOk, CheckedErr, GiveUp, Served, Kept, Closed, GaveUp, Numbered, update, in_order, standing_at, one, after_end, Ledger, Later, start, position, latest, records, gets, peak, get_peak, get_of, counts, wait_micros, broken, timed_out, cancelled, with_notice, get_at_place, unnotified_at, oldest_waiter, waiting, expires, holds, first_wait_of, is_notified, is_unnotified, gets_stand, micros_since, checks, check_fails, gives_up, gives_up_kept, gives_up_closed, StateView, IsFitting, RecordsView, GetsView, waited_before, peak_holds, get_peak_holds, holding_is, most_micros}
 use Rattle.bb8_types.specs.declared.reasons.Reason.{Reason as Named}
 use Rattle.bb8_types.specs.declared.reasons.Reason.TheVariants as reasons
 use Rattle.bb8_tables.specs.Machine as machine
@@ -17,8 +17,8 @@ named_stands first p gs true (Some k) e = let w = first_waits first p gs k (sym 
 named_stands first p gs false (Some k) e = cc
 
 -- the first in line is notified, once the gets are these
-pub notices : {left was gs : ShownGets} {n : Option ℕ} → left ≡ was → n ≡ slice_get left.waiting 0 → gs ≡ machine.after_notice n left → Notices was n gs
-notices {n = n} is who after = record { who = who ∙ ap (λ (x : ShownGets). slice_get x.waiting 0) is; after = after ∙ ap (machine.after_notice n) is }
+pub notices : {left was gs : GetsView} {n : Option ℕ} → left ≡ was → n ≡ slice_get left.waiting 0 → gs ≡ machine.after_notice n left → Notices was n gs
+notices {n = n} is who after = record { who = who ∙ ap (λ (x : GetsView). slice_get x.waiting 0) is; after = after ∙ ap (machine.after_notice n) is }
 
 -- the counters after a give-up for this reason, of a get that first waited then
 abbrev pub given_up : Named → ℕ → Option ℕ → Counters → Counters
@@ -51,14 +51,14 @@ nothing next = record { first = next; count = 0; withheld = 0 }
 
 module _ {C : Type 0} where
   -- the gets once one has changed, and who is named is notified
-  told_shown : (l : Ledger C) (g : ℕ) (f : Numbered Getting → Numbered Getting) (b : Bool) (n : Option ℕ) (after : ShownGets)
+  told_shown : (l : Ledger C) (g : ℕ) (f : Numbered Getting → Numbered Getting) (b : Bool) (n : Option ℕ) (after : GetsView)
       → next_gets l (update (start l).first_get g f (gets l)) ≡ after → n ≡ cond b (slice_get after.waiting 0) None
       → next_gets l (with_notice (start l).first_get n (update (start l).first_get g f (gets l))) ≡ machine.after_notice n after
   told_shown l g f b n after is n_is =
       let out : List (Numbered Getting) = update (start l).first_get g f (gets l) in
       let named : IfSome n (λ k. (x : Getting) × (standing_at (start l).first_get out k ≡ Some x)) =
       named_stands (start l).first_get (suc (position l)) out b n
-      (n_is ∙ ap (λ (x : ShownGets). cond b (slice_get x.waiting 0) None) (sym is)) in
+      (n_is ∙ ap (λ (x : GetsView). cond b (slice_get x.waiting 0) None) (sym is)) in
       noticed_later (start l).first_get (suc (position l)) (get_peak l) out n named ∙ ap (machine.after_notice n) is
 
   -- a get that ends
@@ -68,16 +68,16 @@ module _ {C : Type 0} where
   -- ---- a get that holds a connection
 
   -- what the code knows of it
-  pub record Holds (s : Shown C) (at g k now : ℕ) (o : Option Getting) : Type 0 where
+  pub record Holds (s : StateView C) (at g k now : ℕ) (o : Option Getting) : Type 0 where
     pub now_is : now ≡ max s.latest at
     pub get_is : o ≡ get s.gets.places g
     pub held : holds o ≡ Some k
 
   -- what is known of it is shown
-  abbrev IsHeld : Shown C → ℕ → ℕ → Type 0
+  abbrev IsHeld : StateView C → ℕ → ℕ → Type 0
   IsHeld s g k = holds (get s.gets.places g) ≡ Some k
 
-  is_held : {s : Shown C} {at g k now : ℕ} {o : Option Getting} → Holds s at g k now o → IsHeld s g k
+  is_held : {s : StateView C} {at g k now : ℕ} {o : Option Getting} → Holds s at g k now o → IsHeld s g k
   is_held h = ap (λ (x : Option Getting). holds x) (sym h.get_is) ∙ h.held
 
   holds_in : (l : Ledger C) (g k : ℕ) → IsHeld (shown l) g k → holds (get_of l g) ≡ Some k
@@ -90,7 +90,7 @@ module _ {C : Type 0} where
       n_is ∙ ap (λ (xs : List ℕ). slice_get xs 0) (without_other (start l).first_get (position l) (gets l) g st.0 st.1 (ap is_unnotified st.2))
 
   -- the check was passed
-  pub meets_passed : {s : Shown C} {at g k now : ℕ} {o : Option Getting} {since : Option ℕ} {rs : ShownRecords C} {gs : ShownGets}
+  pub meets_passed : {s : StateView C} {at g k now : ℕ} {o : Option Getting} {since : Option ℕ} {rs : RecordsView C} {gs : GetsView}
       {next : ℕ} (was : Counters) {is : Counters} → IsFitting s (CheckedOk g) → Holds s at g k now o → next ≡ s.records.next → rs ≡ machine.after_handover k s.records
       → gs ≡ machine.after_get_end g s.gets → s.counts ≡ counts_held was → since ≡ first_wait_of o → is ≡ served was now since
       → IsStep s at (CheckedOk g) (Served k (nothing next))
@@ -118,8 +118,8 @@ module _ {C : Type 0} where
       ))
 
   -- the check failed
-  pub meets_invalid : {s : Shown C} {at g k : ℕ} {broken : Bool} {now birth : ℕ} {aged : Bool} {o : Option Getting} {grant : Grant}
-      {rs : ShownRecords C} {n : Option ℕ} {gs : ShownGets} (was : Counters) {is : Counters} → IsFitting s (CheckedErr g broken)
+  pub meets_invalid : {s : StateView C} {at g k : ℕ} {broken : Bool} {now birth : ℕ} {aged : Bool} {o : Option Getting} {grant : Grant}
+      {rs : RecordsView C} {n : Option ℕ} {gs : GetsView} (was : Counters) {is : Counters} → IsFitting s (CheckedErr g broken)
       → Holds s at g k now o → Returned s at k now birth aged → IsEndGrant s k grant → rs ≡ ended_records s k grant
       → Notices (machine.after_turn Active g s.gets) n gs → s.counts ≡ counts_held was
       → is ≡ closed_counters (invalid_counters was) broken aged
@@ -186,7 +186,7 @@ module _ {C : Type 0} where
   count_closed l at g k reasons.Cancelled c broken grant n = refl
 
   -- the counters after a give-up, by what is shown
-  given_up_shown : (s : Shown C) (at g : ℕ) (reason : Named) (was : Counters) {now : ℕ} {o : Option Getting} {since : Option ℕ} {is : Counters} → now ≡ max s.latest at → o ≡ get s.gets.places g
+  given_up_shown : (s : StateView C) (at g : ℕ) (reason : Named) (was : Counters) {now : ℕ} {o : Option Getting} {since : Option ℕ} {is : Counters} → now ≡ max s.latest at → o ≡ get s.gets.places g
       → since ≡ first_wait_of o → is ≡ given_up reason now since was → is ≡ given_up reason (max s.latest at) (first_wait_of (get s.gets.places g)) was
   given_up_shown s at g reason was {since = since} now_is get_is since_is counted =
       counted ∙ ap (λ (m : ℕ). given_up reason m since was) now_is
@@ -203,8 +203,8 @@ module _ {C : Type 0} where
       go false off e = e
 
   -- no connection is handed in, and whether it is broken does not matter
-  pub meets_given_up : {s : Shown C} {at g : ℕ} (reason : Named) (broken : Bool) {now : ℕ} {o : Option Getting} {since : Option
-      ℕ} {left : ShownGets} {test : Bool} {n : Option ℕ} {gs : ShownGets} (was : Counters) {is : Counters}
+  pub meets_given_up : {s : StateView C} {at g : ℕ} (reason : Named) (broken : Bool) {now : ℕ} {o : Option Getting} {since : Option
+      ℕ} {left : GetsView} {test : Bool} {n : Option ℕ} {gs : GetsView} (was : Counters) {is : Counters}
       → IsFitting s (GiveUp g (reason_of reason) None broken) → now ≡ max s.latest at → o ≡ get s.gets.places g
       → left ≡ machine.after_get_end g s.gets → test ≡ gets_stand is_notified o → n ≡ cond test (slice_get left.waiting 0) None
       → gs ≡ machine.after_notice n left → s.counts ≡ counts_held was → since ≡ first_wait_of o
@@ -217,7 +217,7 @@ module _ {C : Type 0} where
         gets = machine.after_notice n (machine.after_get_end g x.gets);
         counts = counts_held (given_up reason (max x.latest at) (first_wait_of (get x.gets.places g)) was);
       }) s _ at (GiveUp g (reason_of reason) None broken) (GaveUp n) fit (
-        n_is ∙ ap (λ (b : Bool). cond b (slice_get left.waiting 0) None) test_is ∙ ap (λ (x : ShownGets). machine.heir_of o x) left_is
+        n_is ∙ ap (λ (b : Bool). cond b (slice_get left.waiting 0) None) test_is ∙ ap (λ (x : GetsView). machine.heir_of o x) left_is
             ∙ ap (λ (x : Option Getting). machine.heir_of x (machine.after_get_end g s.gets)) get_is,
         were,
       )
@@ -234,8 +234,8 @@ module _ {C : Type 0} where
       ))
 
   -- the connection that is handed in is idle again
-  pub meets_given_up_kept : {s : Shown C} {at g k : ℕ} (reason : Named) {c : C} {broken : Bool} {now birth : ℕ} {aged : Bool} {o : Option
-      Getting} {since : Option ℕ} {rs : ShownRecords C} {n : Option ℕ} {gs : ShownGets} (was : Counters) {is : Counters}
+  pub meets_given_up_kept : {s : StateView C} {at g k : ℕ} (reason : Named) {c : C} {broken : Bool} {now birth : ℕ} {aged : Bool} {o : Option
+      Getting} {since : Option ℕ} {rs : RecordsView C} {n : Option ℕ} {gs : GetsView} (was : Counters) {is : Counters}
       → IsFitting s (GiveUp g (reason_of reason) (Some c) broken) → Holds s at g k now o → Returned s at k now birth aged
       → (broken || (aged || eqb s.handles 0)) ≡ false
       → rs ≡ machine.after_entry false k (record { place = Idle c; birth = birth; entered = now }) s.records
@@ -265,8 +265,8 @@ module _ {C : Type 0} where
       ))
 
   -- the connection that is handed in is closed
-  pub meets_given_up_closed : {s : Shown C} {at g k : ℕ} (reason : Named) {c : C} {broken : Bool} {now birth : ℕ} {aged : Bool} {o : Option
-      Getting} {since : Option ℕ} {grant : Grant} {rs : ShownRecords C} {n : Option ℕ} {gs : ShownGets} (was : Counters)
+  pub meets_given_up_closed : {s : StateView C} {at g k : ℕ} (reason : Named) {c : C} {broken : Bool} {now birth : ℕ} {aged : Bool} {o : Option
+      Getting} {since : Option ℕ} {grant : Grant} {rs : RecordsView C} {n : Option ℕ} {gs : GetsView} (was : Counters)
       {mid is : Counters} → IsFitting s (GiveUp g (reason_of reason) (Some c) broken) → Holds s at g k now o → Returned s at k now birth aged
       → (broken || (aged || eqb s.handles 0)) ≡ true → IsEndGrant s k grant → rs ≡ ended_records s k grant
       → Notices (machine.after_get_end g s.gets) n gs → s.counts ≡ counts_held was → since ≡ first_wait_of o

@@ -1,9 +1,9 @@
 -- A get that was notified may try, and what its try comes to.
-use Rattle.bb8_core.proofs.Words.{◌≡◌, ◌∙◌, ℕ, Bool, true, false, Option, None, Some, IfSome, refl, sym, ap, subst, MatchBool, Try, Unfit, Answer, Act, Ledger, Later, Row, fits, IsLegal, Shown, HasLedger, IsFitting}
+use Rattle.bb8_core.proofs.Words.{◌≡◌, ◌∙◌, ℕ, Bool, true, false, Option, None, Some, IfSome, refl, sym, ap, subst, MatchBool, Try, Unfit, Answer, Act, Ledger, Later, Row, fits, IsLegal, StateView, HasLedger, IsFitting}
 use Rattle.bb8_tables.specs.declared.keys.GetKey.{GetKey}
 use Rattle.bb8_core.specs.declared.answers.TryAnswer.{TryAnswer}
-use Rattle.bb8_core.specs.StepAnswers.{try_told}
-use Rattle.bb8_core.specs.Shown.{Meets, Means}
+use Rattle.bb8_core.specs.StepAnswers.{answer_of_try}
+use Rattle.bb8_core.specs.StateView.{Meets, Represents}
 use Rattle.bb8_tables.specs.Keys.{notified_of}
 use Rattle.bb8_core.specs.HandedOver.{Follows, HandsOn, HandsOver}
 use Rattle.bb8_ledger.specs.Handed.{told_by}
@@ -16,18 +16,18 @@ told_row true P a g p told = (p, refl)
 told_row false P a g p told = absurd (let clash : None ≡ Some g = sym (ap told_by p) ∙ told in cc)
 
 module _ {C : Type 0} where
-  -- on a legal ledger that the state means, the get may try
-  tries_on : {s t : Shown C} (at g : ℕ) (e : Act C) (a : Answer) (l : Ledger C) → IsLegal l → Means l s → Meets s at e a t → told_by a ≡ Some g
+  -- on a legal ledger that the state represents, the get may try
+  tries_on : {s t : StateView C} (at g : ℕ) (e : Act C) (a : Answer) (l : Ledger C) → IsLegal l → Represents l s → Meets s at e a t → told_by a ≡ Some g
       → Row l at e a × (fits l e ≡ true) × (fits (Later l at e a) (Try g) ≡ true)
   tries_on at g e a l legal means step told =
       let row = told_row (fits l e) _ a g (step l legal means).0 told in
       (row.0, row.1, told_tries l at e a g row.1 row.0 told)
 
-  may_try : {s t : Shown C} (at g : ℕ) (e : Act C) (a : Answer) → HasLedger s → Meets s at e a t → told_by a ≡ Some g → IsFitting t (Try g)
+  may_try : {s t : StateView C} (at g : ℕ) (e : Act C) (a : Answer) → HasLedger s → Meets s at e a t → told_by a ≡ Some g → IsFitting t (Try g)
   may_try {s} {t} at g e a h step told later legal means =
       shown_try later t g means ∙ sym (shown_try (Later h.0 at e a) t g (step h.0 h.1 h.2).1) ∙ (tries_on at g e a h.0 h.1 h.2 step told).2
 
-  hands_on : {s t u : Shown C} (at g : ℕ) (e : Act C) (a b : Answer) → Meets s at e a t → told_by a ≡ Some g → Meets t at (Try g) b u → HandsOn s at e a g b
+  hands_on : {s t u : StateView C} (at g : ℕ) (e : Act C) (a b : Answer) → Meets s at e a t → told_by a ≡ Some g → Meets t at (Try g) b u → HandsOn s at e a g b
   hands_on {s} {t} {u} at g e a b step told next l legal means none =
       let now = step l legal means in
       let row = tries_on at g e a l legal means step told in
@@ -37,14 +37,22 @@ module _ {C : Type 0} where
       handed_over l at at g e a b later row.1 row.0 told tries none
 
   -- so where a step notified a get, it may
-  pub fits_told : {s t : Shown C} (at : ℕ) (e : Act C) (a : Answer) (n : Option GetKey) → HasLedger s → Meets s at e a t → told_by a ≡ notified_of n → IfSome n (λ g. IsFitting t (Try g.number))
+  pub fits_told : {s t : StateView C} (at : ℕ) (e : Act C) (a : Answer) (n : Option GetKey) → HasLedger s → Meets s at e a t → told_by a ≡ notified_of n → IfSome n (λ g. IsFitting t (Try g.number))
   fits_told at e a None h step told = tt
   fits_told at e a (Some g) h step told = may_try at g.number e a h step told
 
+  -- and no try that fits is told to be unfit
+  no_row : (l : Ledger C) (at g : ℕ) → Row l at (Try g) Unfit → ⊥
+  no_row l at g r = elim r [ ]
+
+  pub made_once_fitting : {s t : StateView C} {G : Type 0} (at g : ℕ) → HasLedger s → IsFitting s (Try g) → Meets s at (Try g) Unfit t → G
+  made_once_fitting at g h fit step =
+      absurd (no_row h.0 at g (subst (λ (b : Bool). MatchBool b (Row h.0 at (Try g) Unfit) (Unfit ≡ Unfit)) (fit h.0 h.1 h.2) (step h.0 h.1 h.2).0))
+
   -- and a step and this try hand over
-  pub hands_over : {s t : Shown C} (u : Shown C) (at : ℕ) (e : Act C) (a : Answer) (n : Option GetKey) (o : Option (TryAnswer C))
+  pub hands_over : {s t : StateView C} (u : StateView C) (at : ℕ) (e : Act C) (a : Answer) (n : Option GetKey) (o : Option (TryAnswer C))
       → Meets s at e a t → told_by a ≡ notified_of n → Follows t at n o u → HandsOver o s at e a u
-  hands_over {s} {t} u at e a None None step is same = (subst (λ (x : Shown C). Meets s at e a x) (sym same) step, is)
-  hands_over {s} {t} u at e a (Some g) (Some tried) step is next = (g.number, is, t, step, next.0, next.1, hands_on at g.number e a (try_told tried) step is next.0)
+  hands_over {s} {t} u at e a None None step is same = (subst (λ (x : StateView C). Meets s at e a x) (sym same) step, is)
+  hands_over {s} {t} u at e a (Some g) (Some tried) step is next = (g.number, is, t, step, next.0, next.1, hands_on at g.number e a (answer_of_try tried) step is next.0)
   hands_over {s} {t} u at e a None (Some tried) step is next = absurd next
   hands_over {s} {t} u at e a (Some g) None step is next = absurd next

@@ -1,5 +1,5 @@
 -- How many connections are out of the pool, step by step.
-use Rattle.bb8_core.proofs.Words.{◌≡◌, ℕ, ◌+◌, ◌-◌, ◌≤◌, length, true, false, Some, refl, sym, ap, ◌∙◌, subst, arith, Act, Begin, Answer, Unfit, Guarded, Held, Ledger, Later, start, records, conns, idle, idle_count, out, Row, waits_on, serves, takes_out, waits, checks, check_fails, gives_up_kept, gives_up_closed, keeps, returns_closed, fills, claims, opens, opens_late, fails, adds, reaps, leaves, fits, Allowed, IsLegal, Lent, Shown, shown_beside, Meets, HasLedger, idle_tally, conns_split, each_allowed, returns_turn, closes_turn, opens_turn, ends_turn, idle_turns, unclaimed_turns, stays_sized, turned_sized, adds_sized, granted_sized, reaped_sized, granted_reaped, left_sized, checks_turn, drops_turn, hands_in_turn, all_fit}
+use Rattle.bb8_core.proofs.Words.{◌≡◌, ℕ, ◌+◌, ◌-◌, ◌≤◌, length, true, false, Some, refl, sym, ap, ◌∙◌, subst, arith, Act, Begin, Answer, Unfit, Guarded, Held, Ledger, Later, start, records, conns, idle, idle_count, out, Row, waits_on, serves, takes_out, waits, checks, check_fails, gives_up_kept, gives_up_closed, keeps, returns_closed, fills, claims, opens, opens_late, fails, adds, reaps, leaves, fits, Allowed, IsLegal, Lent, StateView, shown_beside, Meets, HasLedger, idle_tally, conns_split, each_allowed, returns_turn, closes_turn, opens_turn, ends_turn, idle_turns, unclaimed_turns, stays_sized, turned_sized, adds_sized, granted_sized, reaped_sized, granted_reaped, left_sized, checks_turn, drops_turn, hands_in_turn, all_fit}
 use Rattle.bb8_core.specs.Parts.{out_of, Moves, IsCounted}
 use Rattle.bb8_core.proofs.Fitting.{shown}
 
@@ -56,15 +56,15 @@ module _ {C : Type 0} where
   }
 
   -- A step of a state that means a legal ledger is counted.
-  pub counted : (old : Shown C) (at : ℕ) (e : Act C) (a : Answer) (new : Shown C) → HasLedger old → Meets old at e a new → IsCounted old e a new
+  pub counted : (old : StateView C) (at : ℕ) (e : Act C) (a : Answer) (new : StateView C) → HasLedger old → Meets old at e a new → IsCounted old e a new
   counted old at e a new h meets =
       let m = meets h.0 h.1 h.2 in
-      subst (λ (s : Shown C). IsCounted s e a new) h.2
-      (subst (λ (s : Shown C). IsCounted (shown_beside old.lent h.0) e a s) m.1 (counted_at h.0 at e a old.lent new.lent h.1 m.0))
+      subst (λ (s : StateView C). IsCounted s e a new) h.2
+      (subst (λ (s : StateView C). IsCounted (shown_beside old.lent h.0) e a s) m.1 (counted_at h.0 at e a old.lent new.lent h.1 m.0))
 
   -- the idle connections are among the connections
-  pub idle_few : (s : Shown C) → HasLedger s → length s.records.idle ≤ s.records.conns
+  pub idle_few : (s : StateView C) → HasLedger s → length s.records.idle ≤ s.records.conns
   idle_few s h =
       let split : conns h.0 ≡ idle_count h.0 + out h.0 = conns_split (records h.0) in
       let few : length (idle h.0) ≤ conns h.0 = omega (arith, idle_tally h.0) in
-      subst (λ (t : Shown C). length t.records.idle ≤ t.records.conns) h.2 few
+      subst (λ (t : StateView C). length t.records.idle ≤ t.records.conns) h.2 few

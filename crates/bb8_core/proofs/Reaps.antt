@@ -1,5 +1,5 @@
 -- The step of a reap.
-use Rattle.bb8_core.proofs.Words.{◌≡◌, ◌≢◌, ℕ, suc, ◌+◌, ◌<◌, ◌≤◌, max, false, List, length, refl, sym, ap, ◌∙◌, arith, subst, length-append, Grant, Standing, Counters, Told, counts_held, Reaps, after_reap, ShownRecords, end_of_numbers, Counts, Numbered, Reap, Reaped, Ended, Ledger, start, position, latest, records, peak, idle_at, with_ended, reap_ended, reaps, reaped_at, outlived_at, idled_at, Shown, shown_records, HasLedger, Before, before_later, entered_before, ended_all_before, reaped_sized, ended_append}
+use Rattle.bb8_core.proofs.Words.{◌≡◌, ◌≢◌, ℕ, suc, ◌+◌, ◌<◌, ◌≤◌, max, false, List, length, refl, sym, ap, ◌∙◌, arith, subst, length-append, Grant, Standing, Counters, Told, counts_held, Reaps, after_reap, RecordsView, end_of_numbers, Counts, Numbered, Reap, Reaped, Ended, Ledger, start, position, latest, records, peak, idle_at, with_ended, reap_ended, reaps, reaped_at, outlived_at, idled_at, StateView, shown_records, HasLedger, Before, before_later, entered_before, ended_all_before, reaped_sized, ended_append}
 use Rattle.bb8_tables.specs.Machine as machine
 use Rattle.bb8_core.specs.Decided as decided
 use Rattle.bb8_core.proofs.Fitting.{shown, shown_fits, ended_shown}
@@ -11,7 +11,7 @@ abbrev pub reaped_counters : Counters → Told → Counters
 reaped_counters was told = record was { max_lifetime = was.max_lifetime + told.by_life; idle_timeout = was.idle_timeout + told.by_idle }
 
 module _ {C : Type 0} where
-  pub meets_reap_ended : {s : Shown C} {at now : ℕ} → now ≡ max s.latest at → s.handles ≡ 0 → IsStep s at Reap Ended (record s { latest = now })
+  pub meets_reap_ended : {s : StateView C} {at now : ℕ} → now ≡ max s.latest at → s.handles ≡ 0 → IsStep s at Reap Ended (record s { latest = now })
   meets_reap_ended {s} {at} {now} now_is ended_now =
       meets_quiet now_is (λ t. t.handles ≡ 0) Reap Ended (λ l legal means. refl) ended_now refl refl (λ l. (refl, refl, refl))
       (λ l legal f none. (reap_ended none, refl, refl))
@@ -21,17 +21,17 @@ module _ {C : Type 0} where
   Ended_at l at p js ks = AreEnded (start l) p (peak l) (max (latest l) at) js ks (records l)
 
   -- the records once both have ended
-  abbrev pub both_ended : List ℕ → List ℕ → ShownRecords C → ShownRecords C
+  abbrev pub both_ended : List ℕ → List ℕ → RecordsView C → RecordsView C
   both_ended js ks rs = after_reap ks (after_reap js rs)
 
   pub ended_at : (l : Ledger C) (at p : ℕ) (js ks : List ℕ) (told : Told) → Before idle_at p (records l) → shown_records (start l).first p (peak l) (records l) ≡ (shown l).records
       → Reaps (start l).config (max (latest l) at) (shown l).records js ks (both_ended js ks (shown l).records) told → Ended_at l at p js ks
   ended_at l at p js ks told before is h =
-      let r = subst (λ (s : ShownRecords C). Reaps (start l).config (max (latest l) at) s js ks (both_ended js ks s) told) (sym is) h in
+      let r = subst (λ (s : RecordsView C). Reaps (start l).config (max (latest l) at) s js ks (both_ended js ks s) told) (sym is) h in
       all_ended (start l) p (peak l) (max (latest l) at) js ks (records l) before r.aged r.none_aged r.first r.few r.all
 
   -- what a reap makes of the records that are shown
-  abbrev reaped_records : Shown C → List ℕ → List ℕ → Grant → ShownRecords C
+  abbrev reaped_records : StateView C → List ℕ → List ℕ → Grant → RecordsView C
   reaped_records s js ks grant = machine.after_grant false grant (both_ended js ks s.records)
 
   -- the ledger's list, by the numbers that the code ended
@@ -41,7 +41,7 @@ module _ {C : Type 0} where
       ap (λ (xs : List ℕ). with_ended (start l).first xs (with_ended (start l).first (outlived_at l at) (records l))) here.idle
       ∙ sym (ended_append (start l).first (outlived_at l at) (idled_at l at) (records l))
 
-  pub meets_reaped : {s : Shown C} {at now : ℕ} {js ks : List ℕ} {told : Told} {mid rs : ShownRecords C} {grant : Grant} (was : Counters) {is : Counters}
+  pub meets_reaped : {s : StateView C} {at now : ℕ} {js ks : List ℕ} {told : Told} {mid rs : RecordsView C} {grant : Grant} (was : Counters) {is : Counters}
       → now ≡ max s.latest at → s.handles ≢ 0 → Reaps s.config now s.records js ks mid told → Grants s false mid grant rs → s.counts ≡ counts_held was
       → is ≡ reaped_counters was told
       → IsStep s at Reap (Reaped told.closed told.by_idle told.by_life grant) (record s { latest = now; records = rs; counts = counts_held is })
@@ -51,9 +51,9 @@ module _ {C : Type 0} where
       (λ t. record t { latest = max t.latest at; records = reaped_records t js ks grant; counts = counts_held (reaped_counters was told) })
       s _ at Reap (Reaped told.closed told.by_idle told.by_life grant) (λ l legal means. refl) (
         open_now _ alive_now,
-        subst (λ (t : ShownRecords C). Reaps s.config (max s.latest at) s.records js ks t told) ended.state
+        subst (λ (t : RecordsView C). Reaps s.config (max s.latest at) s.records js ks t told) ended.state
             (subst (λ (m : ℕ). Reaps s.config m s.records js ks mid told) now_is ended),
-        subst (λ (t : ShownRecords C). machine.IsGrant t (decided.want s.config s.handles t) grant) ended.state granted.granted,
+        subst (λ (t : RecordsView C). machine.IsGrant t (decided.want s.config s.handles t) grant) ended.state granted.granted,
         were,
       )
       (same_shown _ _ refl refl now_is refl (granted.after ∙ ap (machine.after_grant false grant) ended.state) refl (ap counts_held is_is))
@@ -73,15 +73,15 @@ module _ {C : Type 0} where
       ))
 
   -- no more end than there are connections
-  ended_few : (s : Shown C) {js ks : List ℕ} {now : ℕ} {mid : ShownRecords C} {told : Told} → HasLedger s → s.latest ≤ now
+  ended_few : (s : StateView C) {js ks : List ℕ} {now : ℕ} {mid : RecordsView C} {told : Told} → HasLedger s → s.latest ≤ now
       → Reaps s.config now s.records js ks mid told → told.closed ≤ s.records.conns
   ended_few s {js} {ks} {now} {mid} {told} h later ended =
-      subst (λ (t : Shown C). t.latest ≤ now → Reaps t.config now t.records js ks mid told → told.closed ≤ t.records.conns) h.2
+      subst (λ (t : StateView C). t.latest ≤ now → Reaps t.config now t.records js ks mid told → told.closed ≤ t.records.conns) h.2
       (λ after r.
       let m : max (latest h.0) now ≡ now = greater (latest h.0) now after in
       let r_at : Reaps (start h.0).config (max (latest h.0) now) (shown h.0).records js ks (both_ended js ks (shown h.0).records) told =
       subst (λ (n : ℕ). Reaps (start h.0).config n (shown h.0).records js ks (both_ended js ks (shown h.0).records) told) (sym m)
-      (subst (λ (t : ShownRecords C). Reaps (start h.0).config now (shown h.0).records js ks t told) r.state r) in
+      (subst (λ (t : RecordsView C). Reaps (start h.0).config now (shown h.0).records js ks t told) r.state r) in
       let z = reaped_sized h.0 now in
       let e : Ended_at h.0 now (position h.0) js ks = ended_at h.0 now (position h.0) js ks told (entered_before h.0) refl r_at in
       omega (arith, ap (λ (xs : List ℕ). length xs) e.idle, r.closed, e.aged, length-append (outlived_at h.0 now) (idled_at h.0 now), z.conns_are)) later ended
@@ -90,7 +90,7 @@ module _ {C : Type 0} where
       greater a b less = omega arith
 
   -- so they may be counted
-  pub reaped_few : (s : Shown C) {js ks : List ℕ} {now : ℕ} {mid : ShownRecords C} {told : Told} → HasLedger s → s.latest ≤ now
+  pub reaped_few : (s : StateView C) {js ks : List ℕ} {now : ℕ} {mid : RecordsView C} {told : Told} → HasLedger s → s.latest ≤ now
       → Reaps s.config now s.records js ks mid told → s.records.next ≤ end_of_numbers
       → (s.counts.idle_timeout + told.by_idle ≤ end_of_numbers) × (s.counts.max_lifetime + told.by_life ≤ end_of_numbers)
   reaped_few s {js} {ks} {now} {mid} {told} h later ended few =

@@ -1,32 +1,32 @@
 -- Runs: what a state says of its ledger's numbers, an event that does not fit, and lists of events.
-use Rattle.bb8_core.proofs.Words.{◌≡◌, ℕ, zero, suc, true, false, List, [], ◌∷◌, ◌++◌, take, length, Option, Some, None, IsSome, IfSome, IfNone, refl, sym, ap, ◌∙◌, subst, get, Key, Event, Act, Try, Unfit, Ledger, Later, gets_stand, is_trying, fits, Allowed, IsLegal, Shown, Means, IsRecordIn, IsNoRecordIn, IsGetIn, IsNoGetIn, act_of, answer_of, IsRun, AfterEach}
+use Rattle.bb8_core.proofs.Words.{◌≡◌, ℕ, zero, suc, true, false, List, [], ◌∷◌, ◌++◌, take, length, Option, Some, None, IsSome, IfSome, IfNone, refl, sym, ap, ◌∙◌, subst, get, Key, Event, Act, Try, Unfit, Ledger, Later, gets_stand, is_trying, fits, Allowed, IsLegal, StateView, Represents, IsRecordIn, IsNoRecordIn, IsGetIn, IsNoGetIn, act_of, answer_of, IsRun, AfterEach, RecordsView, GetsView}
 use Rattle.bb8_tables.specs.declared.keys.GetKey.{GetKey}
 use Rattle.bb8_core.specs.declared.replay.events.Answer.{Answer as Told}
-use Rattle.bb8_core.specs.Shown.{IsFitting, Meets, TellsFitting}
+use Rattle.bb8_core.specs.StateView.{IsFitting, Meets, TellsFitting}
 use Rattle.bb8_core.proofs.Fitting.{shown, bare, beside, as_shown, shown_record, shown_get}
 use Rattle.bb8_core.proofs.Steps.{unfitting, same_shown, records_kept, gets_kept}
 
 module _ {C : Type 0} where
   -- ---- what a look-up says of the ledger
 
-  pub found : (s t : Shown C) (n : ℕ) (o : Option Key) → s ≡ t → IfSome o (λ k. (k.number ≡ n) × IsSome (get s.records.places n)) → IfSome o (λ k. (k.number ≡ n) × IsRecordIn t n)
+  pub found : (s t : StateView C) (n : ℕ) (o : Option Key) → s ≡ t → IfSome o (λ k. (k.number ≡ n) × IsSome (get s.records.places n)) → IfSome o (λ k. (k.number ≡ n) × IsRecordIn t n)
   found s t n None is h = tt
   found s t n (Some k) is h = (h.0, λ l legal means. subst IsSome (sym (shown_record l s (as_shown l (sym is) means) n)) h.1)
 
-  pub absent : (s t : Shown C) (n : ℕ) (o : Option Key) → s ≡ t → IfNone o (get s.records.places n ≡ None) → IfNone o (IsNoRecordIn t n)
+  pub absent : (s t : StateView C) (n : ℕ) (o : Option Key) → s ≡ t → IfNone o (get s.records.places n ≡ None) → IfNone o (IsNoRecordIn t n)
   absent s t n None is h = λ l legal means. shown_record l s (as_shown l (sym is) means) n ∙ h
   absent s t n (Some k) is h = tt
 
-  pub get_found : (s t : Shown C) (n : ℕ) (o : Option GetKey) → s ≡ t → IfSome o (λ g. (g.number ≡ n) × IsSome (get s.gets.places n)) → IfSome o (λ g. (g.number ≡ n) × IsGetIn t n)
+  pub get_found : (s t : StateView C) (n : ℕ) (o : Option GetKey) → s ≡ t → IfSome o (λ g. (g.number ≡ n) × IsSome (get s.gets.places n)) → IfSome o (λ g. (g.number ≡ n) × IsGetIn t n)
   get_found s t n None is h = tt
   get_found s t n (Some g) is h = (h.0, λ l legal means. subst IsSome (sym (shown_get l s (as_shown l (sym is) means) n)) h.1)
 
-  pub get_absent : (s t : Shown C) (n : ℕ) (o : Option GetKey) → s ≡ t → IfNone o (get s.gets.places n ≡ None) → IfNone o (IsNoGetIn t n)
+  pub get_absent : (s t : StateView C) (n : ℕ) (o : Option GetKey) → s ≡ t → IfNone o (get s.gets.places n ≡ None) → IfNone o (IsNoGetIn t n)
   get_absent s t n None is h = λ l legal means. shown_get l s (as_shown l (sym is) means) n ∙ h
   get_absent s t n (Some g) is h = tt
 
   -- which tries fit, by what is shown
-  pub shown_try : (l : Ledger C) (s : Shown C) (g : ℕ) → Means l s → fits l (Try g) ≡ gets_stand is_trying (get s.gets.places g)
+  pub shown_try : (l : Ledger C) (s : StateView C) (g : ℕ) → Represents l s → fits l (Try g) ≡ gets_stand is_trying (get s.gets.places g)
   shown_try l s g means = ap (gets_stand is_trying) (shown_get l s means g)
 
   -- ---- an event that does not fit changes nothing
@@ -34,15 +34,26 @@ module _ {C : Type 0} where
   unfit_shown : (l : Ledger C) (at : ℕ) (e : Act C) → shown (Later l at e Unfit) ≡ shown l
   unfit_shown l at e = same_shown _ _ refl refl refl refl (records_kept l) (gets_kept l) refl
 
-  pub unfit_now : (l : Ledger C) (s : Shown C) (at : ℕ) (e : Act C) → fits l e ≡ false → Means l s → Allowed l at e Unfit × Means (Later l at e Unfit) s
+  pub unfit_now : (l : Ledger C) (s : StateView C) (at : ℕ) (e : Act C) → fits l e ≡ false → Represents l s → Allowed l at e Unfit × Represents (Later l at e Unfit) s
   unfit_now l s at e misfit means = (unfitting (fits l e) _ _ misfit refl, beside (Later l at e Unfit) (unfit_shown l at e ∙ bare l means))
 
   -- so it is a step that changes nothing
-  pub unfit_step : {s : Shown C} (at : ℕ) (e : Act C) → TellsFitting s e false → Meets s at e Unfit s × (s ≡ s)
+  pub unfit_step : {s : StateView C} (at : ℕ) (e : Act C) → TellsFitting s e false → Meets s at e Unfit s × (s ≡ s)
   unfit_step {s} at e tells = (λ l legal means. unfit_now l s at e (sym (tells l legal means)) means, refl)
 
+  -- it leaves what it read, where that is told to be as it was
+  pub unfit_records : {s t : StateView C} {rs : RecordsView C} (at : ℕ) (e : Act C) → s ≡ t → TellsFitting s e false → rs ≡ s.records
+      → Meets t at e Unfit (record s { records = rs }) × (record s { records = rs } ≡ t)
+  unfit_records {s} {t} at e is tells same = subst (λ (x : StateView C). Meets t at e Unfit x × (x ≡ t)) (sym (ap (λ (y : RecordsView C). record s { records = y }) same ∙ is))
+      (unfit_step at e (subst (λ (x : StateView C). TellsFitting x e false) is tells))
+
+  pub unfit_gets : {s t : StateView C} {gs : GetsView} (at : ℕ) (e : Act C) → s ≡ t → TellsFitting s e false → gs ≡ s.gets
+      → Meets t at e Unfit (record s { gets = gs }) × (record s { gets = gs } ≡ t)
+  unfit_gets {s} {t} at e is tells same = subst (λ (x : StateView C). Meets t at e Unfit x × (x ≡ t)) (sym (ap (λ (y : GetsView). record s { gets = y }) same ∙ is))
+      (unfit_step at e (subst (λ (x : StateView C). TellsFitting x e false) is tells))
+
   -- and one that fits may be made
-  pub fitting : {s : Shown C} (e : Act C) → TellsFitting s e true → IsFitting s e
+  pub fitting : {s : StateView C} (e : Act C) → TellsFitting s e true → IsFitting s e
   fitting e tells = λ l legal means. sym (tells l legal means)
 
 -- ---- lists of events

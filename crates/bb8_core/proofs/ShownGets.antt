@@ -1,5 +1,5 @@
 -- What each change of the gets does to what is shown of them.
-use Rattle.bb8_core.proofs.Words.{◌≡◌, ℕ, suc, ◌+◌, ◌≤◌, max, Bool, true, false, eqb, ◌&&◌, List, [], ◌∷◌, ◌++◌, Option, Some, None, IfSome, is_some, option_and_then, option_map, slice_get, refl, sym, ap, ◌∙◌, arith, length-append, insert, Getting, GetPlace, Active, Numbered, update, in_order, standing_at, standings, after_end, gets_stand, is_unnotified, is_notified, get_with_place, get_in_wait, unnotified_at, alive_of, new_get, with_notice, get_at_place, at_wait, ShownGets, no_gets, shown_gets, change, Before, and_right, same_gets}
+use Rattle.bb8_core.proofs.Words.{◌≡◌, ℕ, suc, ◌+◌, ◌≤◌, max, Bool, true, false, eqb, ◌&&◌, List, [], ◌∷◌, ◌++◌, Option, Some, None, IfSome, is_some, option_and_then, option_map, slice_get, refl, sym, ap, ◌∙◌, arith, length-append, insert, Getting, GetPlace, Active, Numbered, update, in_order, standing_at, standings, after_end, gets_stand, is_unnotified, is_notified, get_with_place, get_in_wait, unnotified_at, alive_of, new_get, with_notice, get_at_place, at_wait, GetsView, no_gets, shown_gets, change, Before, and_right, same_gets}
 use Rattle.bb8_types.specs.declared.standing.GetPlace.TheVariants.{Waiting}
 use Rattle.bb8_tables.specs.Machine as machine
 use Rattle.bb8_types.proofs.Numbered as numbered
@@ -10,7 +10,7 @@ not_in_line : (g : Numbered Getting) (s : Getting) → g.standing ≡ Some s →
 not_in_line g s is off q = ap (λ (t : Bool). t && eqb g.position q) (ap (gets_stand is_unnotified) is ∙ off)
 
 module _ (first p top : ℕ) (gs : List (Numbered Getting)) where
-  abbrev before : ShownGets
+  abbrev before : GetsView
   before = shown_gets first p top gs
 
   -- an event at which no get begins, nor begins to wait

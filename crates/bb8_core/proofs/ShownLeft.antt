@@ -1,5 +1,5 @@
 -- What the leave of the last handle does to what is shown: idle connections and unclaimed approvals end, one after another.
-use Rattle.bb8_core.proofs.Words.{◌≡◌, ℕ, suc, ◌+◌, ◌-◌, ◌<◌, ◌≤◌, Bool, true, false, cond, eqb, ◌&&◌, ◌||◌, List, [], ◌∷◌, map, length, drop, slice_get, Option, Some, None, refl, sym, ap, ◌∙◌, arith, Place, Unclaimed, Idle, Standing, Numbered, at, update, numbers, in_order, tally, one, after_end, after_end_where, stands, is_conn, is_approval, is_unclaimed, is_idle, is_left, idle_at, conns_of, ShownRecords, shown_records, change, Before, same_or_not, change_below, and_right, standing_is, unclaimed_is, idle_is, tested, ended_before, idle_counted, remove, standings, inl, inr}
+use Rattle.bb8_core.proofs.Words.{◌≡◌, ℕ, suc, ◌+◌, ◌-◌, ◌<◌, ◌≤◌, Bool, true, false, cond, eqb, ◌&&◌, ◌||◌, List, [], ◌∷◌, map, length, drop, slice_get, Option, Some, None, refl, sym, ap, ◌∙◌, arith, Place, Unclaimed, Idle, Standing, Numbered, at, update, numbers, in_order, tally, one, after_end, after_end_where, stands, is_conn, is_approval, is_unclaimed, is_idle, is_left, idle_at, conns_of, RecordsView, shown_records, change, Before, same_or_not, change_below, and_right, standing_is, unclaimed_is, idle_is, tested, ended_before, idle_counted, remove, standings, inl, inr}
 use Rattle.bb8_tables.specs.Machine as machine
 use Rattle.bb8_types.proofs.Numbered as numbered
 use Rattle.bb8_core.proofs.ShownRecords.{shown-changed}
@@ -50,7 +50,7 @@ module _ {C : Type 0} where
       (λ n e. omega arith) (λ n e. omega arith) refl
 
   module _ (first p top : ℕ) where
-    abbrev show : List (Numbered (Standing C)) → ShownRecords C
+    abbrev show : List (Numbered (Standing C)) → RecordsView C
     show = shown_records first p top
 
     -- the idle connection that is first ends
@@ -87,7 +87,7 @@ module _ {C : Type 0} where
         (shows, shut_ended first k rs r m.1 (ap is_left was.1 ∙ unclaimed_left was.0 was.2))
 
     -- records that are left alone by all that ends
-    record Ends (rs : List (Numbered (Standing C))) (s : ShownRecords C) : Type 0 where
+    record Ends (rs : List (Numbered (Standing C))) (s : RecordsView C) : Type 0 where
       pub to : List (Numbered (Standing C))
       pub shows : show to ≡ s
       pub same : shut to ≡ shut rs
@@ -99,7 +99,7 @@ module _ {C : Type 0} where
     idles_end [] rs b h = record { to = rs; shows = refl; same = refl; before = b; no_idle = h }
     idles_end (k ∷ xs) rs b h =
         let step = shown-idle_end rs k xs h in
-        let next = idles_end xs (update first k after_end rs) (ended_before p first k rs b) (ap (λ (s : ShownRecords C). s.idle) step.0 ∙ ap (drop 1) h) in
+        let next = idles_end xs (update first k after_end rs) (ended_before p first k rs b) (ap (λ (s : RecordsView C). s.idle) step.0 ∙ ap (drop 1) h) in
         record { to = next.to; shows = next.shows ∙ ap (machine.after_idle_ends xs) step.0; same = next.same ∙ step.1; before = next.before; no_idle = next.no_idle }
 
     -- all unclaimed approvals end
@@ -110,7 +110,7 @@ module _ {C : Type 0} where
     unclaimeds_end (k ∷ xs) rs b h i =
         let step = shown-unclaimed_end rs k xs h in
         let next = unclaimeds_end xs (update first k after_end rs) (ended_before p first k rs b)
-        (ap (λ (s : ShownRecords C). s.unclaimed) step.0 ∙ ap (drop 1) h) (ap (λ (s : ShownRecords C). s.idle) step.0 ∙ i) in
+        (ap (λ (s : RecordsView C). s.unclaimed) step.0 ∙ ap (drop 1) h) (ap (λ (s : RecordsView C). s.idle) step.0 ∙ i) in
         (record { to = next.0.to; shows = next.0.shows ∙ ap (machine.after_unclaimed_ends xs) step.0; same = next.0.same ∙ step.1; before = next.0.before; no_idle = next.0.no_idle }, next.1)
 
     -- where nothing is idle or unclaimed, nothing ends
@@ -143,18 +143,18 @@ module _ {C : Type 0} where
         let none : tally (λ r. stands is_idle r.standing) all.0.to ≡ 0 = sym (idle_counted first p all.0.to all.0.before) ∙ ap length all.0.no_idle in
         ap show (sym (all.0.same ∙ idle.same) ∙ nothing_left all.0.to first none all.1)
         ∙ all.0.shows
-        ∙ ap (λ (s : ShownRecords C). machine.after_unclaimed_ends s.unclaimed s) idle.shows
+        ∙ ap (λ (s : RecordsView C). machine.after_unclaimed_ends s.unclaimed s) idle.shows
 
   -- no more is left than there was
-  idles_few : (xs : List ℕ) (s : ShownRecords C) → (machine.after_idle_ends xs s).conns + (machine.after_idle_ends xs s).approved ≤ s.conns + s.approved
+  idles_few : (xs : List ℕ) (s : RecordsView C) → (machine.after_idle_ends xs s).conns + (machine.after_idle_ends xs s).approved ≤ s.conns + s.approved
   idles_few [] s = omega arith
   idles_few (k ∷ xs) s = omega (arith, idles_few xs (machine.after_idle_end k s))
 
-  unclaimeds_few : (xs : List ℕ) (s : ShownRecords C) → (machine.after_unclaimed_ends xs s).conns + (machine.after_unclaimed_ends xs s).approved ≤ s.conns + s.approved
+  unclaimeds_few : (xs : List ℕ) (s : RecordsView C) → (machine.after_unclaimed_ends xs s).conns + (machine.after_unclaimed_ends xs s).approved ≤ s.conns + s.approved
   unclaimeds_few [] s = omega arith
   unclaimeds_few (k ∷ xs) s = omega (arith, unclaimeds_few xs (machine.after_unclaimed_end k s))
 
-  pub left_few : (s : ShownRecords C) → (machine.after_leave s).conns + (machine.after_leave s).approved ≤ s.conns + s.approved
+  pub left_few : (s : RecordsView C) → (machine.after_leave s).conns + (machine.after_leave s).approved ≤ s.conns + s.approved
   left_few s =
       let idle = idles_few s.idle s in
       let all = unclaimeds_few (machine.after_idle_ends s.idle s).unclaimed (machine.after_idle_ends s.idle s) in

@@ -1,5 +1,5 @@
 -- What a reap does to what is shown: those that live too long end, wherever they stand in line, and then some from the front of the line.
-use Rattle.bb8_core.proofs.Words.{◌≡◌, ◌≢◌, ℕ, zero, suc, ◌+◌, ◌-◌, ◌≤◌, Bool, true, false, cond, eqb, ◌&&◌, List, [], ◌∷◌, ◌++◌, map, filter, take, length, slice_get, Option, Some, None, option_and_then, ◌⊎◌, inl, inr, refl, sym, ap, ◌∙◌, arith, subst, eq-eqb, ne_eqb, unwrap_or, get, Standing, Settings, Numbered, at, update, numbers, in_order, tally, one, standing_at, after_end, after_end_where, stands, is_idle, idles_out, lives_out, Start, idle_at, idle_of, with_ended, outlived, idled, over_idle_at, ShownRecords, after_reaped, after_reap, AreReaped, AreFirst, beyond, shown_records, change, same_or_not, at-below, Before, and_right, idle_counted, ended_all_before, ended_swept, over_idle, over_idle_line, lives_idle, idles_idle}
+use Rattle.bb8_core.proofs.Words.{◌≡◌, ◌≢◌, ℕ, zero, suc, ◌+◌, ◌-◌, ◌≤◌, Bool, true, false, cond, eqb, ◌&&◌, List, [], ◌∷◌, ◌++◌, map, filter, take, length, slice_get, Option, Some, None, option_and_then, ◌⊎◌, inl, inr, refl, sym, ap, ◌∙◌, arith, subst, eq-eqb, ne_eqb, unwrap_or, get, Standing, Settings, Numbered, at, update, numbers, in_order, tally, one, standing_at, after_end, after_end_where, stands, is_idle, idles_out, lives_out, Start, idle_at, idle_of, with_ended, outlived, idled, over_idle_at, RecordsView, after_reaped, after_reap, AreReaped, AreFirst, beyond, shown_records, change, same_or_not, at-below, Before, and_right, idle_counted, ended_all_before, ended_swept, over_idle, over_idle_line, lives_idle, idles_idle}
 use Rattle.std.proofs.lemmas.List.Elements.{filter-append}
 use Rattle.bb8_types.proofs.Numbered as numbered
 use Rattle.bb8_core.proofs.ShownLeft.{map-change, idle-ended}
@@ -25,7 +25,7 @@ module _ {C : Type 0} where
       later k (inr t) = ap (λ (b : Bool). test (standing_in (cond b (Some r) (at (suc n) rs k)))) (sym t.0) ∙ none k
 
   -- no more is left than there was
-  pub reap_few : (ks : List ℕ) (s : ShownRecords C) → (after_reap ks s).conns + (after_reap ks s).approved ≤ s.conns + s.approved
+  pub reap_few : (ks : List ℕ) (s : RecordsView C) → (after_reap ks s).conns + (after_reap ks s).approved ≤ s.conns + s.approved
   reap_few [] s = omega arith
   reap_few (k ∷ ks) s = omega (arith, reap_few ks (after_reaped k s))
 
@@ -65,7 +65,7 @@ module _ {C : Type 0} where
       ∙ sym (filter-append (λ k. idles_out s.config now (standing_at s.first rs k)) (in_order idle_at s.first rs m) (numbers (idle_at m) s.first rs))
 
   module _ (s : Start) (p top : ℕ) (now : ℕ) where
-    abbrev show : List (Numbered (Standing C)) → ShownRecords C
+    abbrev show : List (Numbered (Standing C)) → RecordsView C
     show = shown_records s.first p top
 
     -- what is shown of a number
@@ -107,7 +107,7 @@ module _ {C : Type 0} where
         let r = due_record due refl rs k each.0 in
         let now_rs : List (Numbered (Standing C)) = change s.first k (after_end r.0) rs in
         let step : show now_rs ≡ after_reaped k (show rs) = shown-idle_end rs k r.0 r.1 (lives_idle s.config now r.0.standing r.2) in
-        let next = ends ks now_rs (subst (λ (t : ShownRecords C). AreReaped due ks t) (sym step) each.1) in
+        let next = ends ks now_rs (subst (λ (t : RecordsView C). AreReaped due ks t) (sym step) each.1) in
         record {
           to = next.to;
           shows = next.shows ∙ ap (after_reap ks) step;
@@ -123,7 +123,7 @@ module _ {C : Type 0} where
     pub all_aged : (ks : List ℕ) (rs : List (Numbered (Standing C))) → AreReaped due ks (show rs) → ((k : ℕ) → due (get (after_reap ks (show rs)).places k) ≡ false) → AreAged ks rs
     all_aged ks rs each none =
         let e : Ends ks rs = ends ks rs each in
-        let left = nothing_due due refl e.to s.first (λ k. sym (ap due (shown_standing e.to k)) ∙ ap (λ (t : ShownRecords C). due (get t.places k)) e.shows ∙ none k) in
+        let left = nothing_due due refl e.to s.first (λ k. sym (ap due (shown_standing e.to k)) ∙ ap (λ (t : RecordsView C). due (get t.places k)) e.shows ∙ none k) in
         record {
           shows = ap show (ended_swept due s.first rs ∙ sym e.same ∙ left.0) ∙ e.shows;
           closed = (omega (arith, e.counted, numbered.length-numbers (λ r. due r.standing) rs s.first, left.1));
@@ -180,8 +180,8 @@ module _ {C : Type 0} where
         let step : show (update s.first k after_end rs) ≡ after_reaped k (show rs) =
         ap show (numbered.update_is rs s.first k after_end r.0 r.1) ∙ shown-idle_end rs k r.0 r.1 (idles_idle s.config now r.0.standing r.2) in
         let rest : AreIdled q ks (update s.first k after_end rs) = all_idled q ks (update s.first k after_end rs)
-        (subst (λ (t : ShownRecords C). AreFirst (idles_out s.config now) ks t) (sym step) first.2) (omega arith)
-        (subst (λ (t : ShownRecords C). (length ks ≡ q) ⊎ ((k : ℕ) → idles_out s.config now (get (after_reap ks t).places k) ≡ false)) (sym step) (one_less all)) in
+        (subst (λ (t : RecordsView C). AreFirst (idles_out s.config now) ks t) (sym step) first.2) (omega arith)
+        (subst (λ (t : RecordsView C). (length ks ≡ q) ⊎ ((k : ℕ) → idles_out s.config now (get (after_reap ks t).places k) ≡ false)) (sym step) (one_less all)) in
         record {
           shows = rest.shows ∙ ap (after_reap ks) step;
           are = ap (λ (xs : List ℕ). k ∷ xs) rest.are ∙ ap (λ (xs : List ℕ). k ∷ take q xs) ((over_idle_line s p now).leaves rs k h.0 h.1) ∙ sym (ap (take (suc q)) h.1);
@@ -209,7 +209,7 @@ module _ {C : Type 0} where
         let idle_is : length (in_order idle_at s.first then p) ≡ idle_of then = idle_counted s.first p then (ended_all_before p s.first (outlived s now rs) rs before) in
         let q_is : beyond s.config (show then) ≡ idle_of then - unwrap_or s.config.min_idle 0 = ap (λ (n : ℕ). n - unwrap_or s.config.min_idle 0) idle_is in
         let i : AreIdled (beyond s.config (show then)) ks then = all_idled (beyond s.config (show then)) ks then
-        (subst (λ (t : ShownRecords C). AreFirst (idles_out s.config now) ks t) (sym a.shows) first)
-        (subst (λ (t : ShownRecords C). length ks ≤ beyond s.config t) (sym a.shows) few)
-        (subst (λ (t : ShownRecords C). (length ks ≡ beyond s.config t) ⊎ ((k : ℕ) → idles_out s.config now (get (after_reap ks t).places k) ≡ false)) (sym a.shows) all) in
+        (subst (λ (t : RecordsView C). AreFirst (idles_out s.config now) ks t) (sym a.shows) first)
+        (subst (λ (t : RecordsView C). length ks ≤ beyond s.config t) (sym a.shows) few)
+        (subst (λ (t : RecordsView C). (length ks ≡ beyond s.config t) ⊎ ((k : ℕ) → idles_out s.config now (get (after_reap ks t).places k) ≡ false)) (sym a.shows) all) in
         record { shows = i.shows ∙ ap (after_reap ks) a.shows; aged = a.closed; idle = i.are ∙ ap (λ (n : ℕ). take n (over_idle s p now then)) q_is }

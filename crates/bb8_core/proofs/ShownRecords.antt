@@ -1,5 +1,5 @@
 -- What each change of the records does to what is shown of them.
-use Rattle.bb8_core.proofs.Words.{◌≡◌, ℕ, zero, suc, ◌+◌, ◌-◌, ◌<◌, ◌≤◌, Bool, true, false, eqb, ◌&&◌, List, [], ◌∷◌, ◌++◌, Option, Some, slice_get, drop, option_and_then, option_map, refl, sym, ap, ◌∙◌, arith, length, length-append, append-nil, cond, not, insert, get, Place, Unclaimed, Claimed, Idle, Guarded, Standing, Numbered, at, update, numbers, one, standings, standing_at, after_end, stands, is_conn, is_approval, is_unclaimed, is_idle, is_out, with_place, comes_from, idle_at, conns_of, approved_of, at_place, approval, with_approvals, entry, ShownRecords, no_records, shown_records, change, Before, and_right, idle_from, unclaimed_from, conn_from, approval_from, standing_is, unclaimed_is, idle_is, tested, conns-change, approved-change, same_records, in_order}
+use Rattle.bb8_core.proofs.Words.{◌≡◌, ℕ, zero, suc, ◌+◌, ◌-◌, ◌<◌, ◌≤◌, Bool, true, false, eqb, ◌&&◌, List, [], ◌∷◌, ◌++◌, Option, Some, slice_get, drop, option_and_then, option_map, refl, sym, ap, ◌∙◌, arith, length, length-append, append-nil, cond, not, insert, get, Place, Unclaimed, Claimed, Idle, Guarded, Standing, Numbered, at, update, numbers, one, standings, standing_at, after_end, stands, is_conn, is_approval, is_unclaimed, is_idle, is_out, with_place, comes_from, idle_at, conns_of, approved_of, at_place, approval, with_approvals, entry, RecordsView, no_records, shown_records, change, Before, and_right, idle_from, unclaimed_from, conn_from, approval_from, standing_is, unclaimed_is, idle_is, tested, conns-change, approved-change, same_records, in_order}
 use Rattle.bb8_tables.specs.Machine as machine
 use Rattle.bb8_types.proofs.Numbered as numbered
 
@@ -25,7 +25,7 @@ module _ {C : Type 0} where
       ∙ ap (option_and_then (λ (x : Numbered (Standing C)). x.standing)) h ∙ e))
 
   -- One record changes: the sizes follow from what it was and what it is, and the rest is told.
-  pub shown-changed : {t : ShownRecords C} (first p top k : ℕ) (rs : List (Numbered (Standing C))) (new r : Numbered (Standing C)) (a b c d : Bool)
+  pub shown-changed : {t : RecordsView C} (first p top k : ℕ) (rs : List (Numbered (Standing C))) (new r : Numbered (Standing C)) (a b c d : Bool)
       → at first rs k ≡ Some r → stands is_conn r.standing ≡ a → stands is_conn new.standing ≡ b
       → stands is_approval r.standing ≡ c → stands is_approval new.standing ≡ d
       → first + length rs ≡ t.next → standings first (change first k new rs) ≡ t.places → in_order idle_at first (change first k new rs) p ≡ t.idle
@@ -37,7 +37,7 @@ module _ {C : Type 0} where
       (conns _ (conns-change first rs k new r a b h was_conn conn)) (approved _ (approved-change first rs k new r c d h was_approval approval)) peak
 
   module _ (first p top : ℕ) (rs : List (Numbered (Standing C))) where
-    abbrev before : ShownRecords C
+    abbrev before : RecordsView C
     before = shown_records first p top rs
 
     -- an event at which nobody enters
@@ -184,7 +184,7 @@ module _ {C : Type 0} where
   shown-approve claimed zero first p top rs = refl
   shown-approve claimed (suc n) first p top rs = shown-approve_one first p top (with_approvals claimed n rs) claimed ∙ ap (machine.after_approval claimed) (shown-approve claimed n first p top rs)
 
-  pub raised_same : (s : ShownRecords C) → s.conns + s.approved ≤ s.peak → machine.with_peak s ≡ s
+  pub raised_same : (s : RecordsView C) → s.conns + s.approved ≤ s.peak → machine.with_peak s ≡ s
   raised_same s h = same_records _ _ refl refl refl refl refl refl (omega arith)
 
   -- no record yet

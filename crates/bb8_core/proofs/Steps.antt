@@ -1,5 +1,5 @@
 -- Each step, from what it does to what is shown to what it does on every legal ledger.
-use Rattle.bb8_core.proofs.Words.{◌≡◌, ℕ, suc, ◌+◌, ◌-◌, ◌*◌, ◌<◌, ◌≤◌, max, min, Bool, true, false, not, eqb, ◌&&◌, ◌||◌, List, length, Option, Some, None, slice_get, refl, sym, ap, ◌∙◌, arith, subst, is_some, MatchBool, ◌≢◌, IfSome, cond, ltb, get, nat_tests, Grant, Place, Claimed, Idle, Held, Guarded, Standing, Holding, Getting, Counters, counts_held, Counts, Figures, Act, Begin, Try, PutBack, Fill, Claim, Opened, Failed, Add, Join, Leave, Look, Answer, Begun, Memory, Exhausted, Served, Taken, Kept, Closed, Granted, Ended, Entered, Late, GivenBack, Broken, NoCapacity, Withheld, Added, Joined, Left, Looked, Numbered, update, one, after_end, at_entry, Ledger, Later, start, position, latest, handles, records, gets, peak, get_peak, alive, idle, record_of, get_of, idle_at, at_place, entry, with_approvals, idle_count, conns_of, approved_of, alive_of, counts, figures, wait_micros, next, with_notice, oldest_waiter, waiting, stands, first_of, first_place, first_wait_of, is_claimed, is_guarded, is_out, is_unnotified, gets_stand, birth_in, is_expired, micros_since, Allowed, IsLegal, Row, begins, begin_refused, begin_exhausted, serves, keeps, returns_closed, takes_out, fills, claims, claim_ended, opens, opens_late, fails, fits, closes, IsWant, with_record, adds, add_broken, add_full, add_exhausted, add_refused, waits_on, waits, joins, join_exhausted, leaves, looks, due, lacking, IsGranted, IsNoGrant, Shown, shown_records, shown_gets, Means, Meets, HasLedger, IsFitting, ShownRecords, ShownGets, Before, before_later, ne_test, standing_is, claimed_is, guarded_out, idle_from, unclaimed_from, conn_from, entered_before, waited_before, put_before, ended_before, peak_holds, get_peak_holds, idle_counted, idle_tally, trying_is, claimed_counted, waits_on_gets, end_of_numbers, most_handles, most_micros, State, ShownFigures, shows}
+use Rattle.bb8_core.proofs.Words.{◌≡◌, ℕ, suc, ◌+◌, ◌-◌, ◌*◌, ◌<◌, ◌≤◌, max, min, Bool, true, false, not, eqb, ◌&&◌, ◌||◌, List, length, Option, Some, None, slice_get, refl, sym, ap, ◌∙◌, arith, subst, is_some, MatchBool, ◌≢◌, IfSome, cond, ltb, get, nat_tests, Grant, Place, Claimed, Idle, Held, Guarded, Standing, Holding, Getting, Counters, counts_held, Counts, Figures, Act, Begin, Try, PutBack, Fill, Claim, Opened, Failed, Add, Join, Leave, Look, Answer, Begun, Memory, Exhausted, Served, Taken, Kept, Closed, Granted, Ended, Entered, Late, GivenBack, Broken, NoCapacity, Withheld, Added, Joined, Left, Looked, Numbered, update, one, after_end, at_entry, Ledger, Later, start, position, latest, handles, records, gets, peak, get_peak, alive, idle, record_of, get_of, idle_at, at_place, entry, with_approvals, idle_count, conns_of, approved_of, alive_of, counts, figures, wait_micros, next, with_notice, oldest_waiter, waiting, stands, first_of, first_place, first_wait_of, is_claimed, is_guarded, is_out, is_unnotified, is_trying, gets_stand, birth_in, is_expired, micros_since, Allowed, IsLegal, Row, begins, begin_refused, begin_exhausted, serves, keeps, returns_closed, takes_out, fills, claims, claim_ended, opens, opens_late, fails, fits, closes, IsWant, with_record, adds, add_broken, add_full, add_exhausted, add_refused, waits_on, waits, joins, join_exhausted, leaves, looks, due, lacking, IsGranted, IsNoGrant, StateView, shown_records, shown_gets, Represents, Meets, HasLedger, IsFitting, RecordsView, GetsView, Before, before_later, ne_test, standing_is, claimed_is, guarded_out, idle_from, unclaimed_from, conn_from, entered_before, waited_before, put_before, ended_before, peak_holds, get_peak_holds, idle_counted, idle_tally, trying_is, claimed_counted, waits_on_gets, end_of_numbers, most_handles, most_micros, State, ShownFigures, shows}
 use Rattle.std.proofs.lemmas.Bool.Decides.{leb_tells}
 use Rattle.bb8_ledger.specs.Answers as answers
 use Rattle.bb8_tables.specs.Machine as machine
@@ -30,7 +30,7 @@ pub open_now : (n : ℕ) → n ≢ 0 → 0 < n
 open_now n h = omega arith
 
 -- the first in line is notified, if there is one
-pub record Notices (was : ShownGets) (n : Option ℕ) (gs : ShownGets) : Type 0 where
+pub record Notices (was : GetsView) (n : Option ℕ) (gs : GetsView) : Type 0 where
   pub who : n ≡ slice_get was.waiting 0
   pub after : gs ≡ machine.after_notice n was
 
@@ -47,33 +47,33 @@ abbrev pub closed_counters : Counters → Bool → Bool → Counters
 closed_counters was broken aged = record was { broken = was.broken + one broken; max_lifetime = was.max_lifetime + one (not broken && aged) }
 
 module _ {C : Type 0} where
-  pub same_shown : (s t : Shown C) → s.lent ≡ t.lent → s.config ≡ t.config → s.latest ≡ t.latest → s.handles ≡ t.handles → s.records ≡ t.records → s.gets ≡ t.gets → s.counts ≡ t.counts → s ≡ t
+  pub same_shown : (s t : StateView C) → s.lent ≡ t.lent → s.config ≡ t.config → s.latest ≡ t.latest → s.handles ≡ t.handles → s.records ≡ t.records → s.gets ≡ t.gets → s.counts ≡ t.counts → s ≡ t
   same_shown s t lent config latest handles records gets counts = λ i. record { config = config i; latest = latest i; handles = handles i; records = records i; gets = gets i; counts = counts i; lent = lent i }
 
-  -- What an event does to a state, as a fact that names the event and the answer: on each legal ledger that the state means the answer is
+  -- What an event does to a state, as a fact that names the event and the answer: on each legal ledger that the state represents the answer is
   -- allowed, and the ledger that it leads to shows this.
-  pub record Step (s : Shown C) (at : ℕ) (e : Act C) (a : Answer) (new : Shown C) : Type 0 where
-    pub leads : (l : Ledger C) → IsLegal l → Means l s → Allowed l at e a × (shown (Later l at e a) ≡ new)
+  pub record Step (s : StateView C) (at : ℕ) (e : Act C) (a : Answer) (new : StateView C) : Type 0 where
+    pub leads : (l : Ledger C) → IsLegal l → Represents l s → Allowed l at e a × (shown (Later l at e a) ≡ new)
 
   -- whatever was lent
-  abbrev pub IsStep : Shown C → ℕ → Act C → Answer → Shown C → Type 0
+  abbrev pub IsStep : StateView C → ℕ → Act C → Answer → StateView C → Type 0
   IsStep s at e a new = Step s at e a (unexamined new)
 
   -- A step leads from a state that has a ledger to one that has one. The old state is the view of the fields.
-  pub led : {s t : Shown C} (new : Shown C) (at : ℕ) (e : Act C) (a : Answer) → s ≡ t → HasLedger s → Meets t at e a new → HasLedger new
+  pub led : {s t : StateView C} (new : StateView C) (at : ℕ) (e : Act C) (a : Answer) → s ≡ t → HasLedger s → Meets t at e a new → HasLedger new
   led new at e a is h meets = let step = meets h.0 h.1 (as_shown h.0 is h.2) in (Later h.0 at e a, (h.1, step.0), step.1)
 
-  pub at_view : {s t new : Shown C} {at : ℕ} {e : Act C} {a : Answer} → s ≡ t → IsStep s at e a new → Meets t at e a new
+  pub at_view : {s t new : StateView C} {at : ℕ} {e : Act C} {a : Answer} → s ≡ t → IsStep s at e a new → Meets t at e a new
   at_view {at = at} {e = e} {a = a} is m l legal means = let done = m.leads l legal (as_shown l (sym is) means) in (done.0, beside (Later l at e a) done.1)
 
-  pub fits_view : {s t : Shown C} (e : Act C) → s ≡ t → IsFitting t e → IsFitting s e
+  pub fits_view : {s t : StateView C} (e : Act C) → s ≡ t → IsFitting t e → IsFitting s e
   fits_view e is f l legal means = f l legal (as_shown l is means)
 
   -- the records and the gets of a ledger, as they are shown after the event that comes next
-  abbrev pub next_records : Ledger C → List (Numbered (Standing C)) → ShownRecords C
+  abbrev pub next_records : Ledger C → List (Numbered (Standing C)) → RecordsView C
   next_records l rs = shown_records (start l).first (suc (position l)) (max (peak l) (conns_of rs + approved_of rs)) rs
 
-  abbrev pub next_gets : Ledger C → List (Numbered Getting) → ShownGets
+  abbrev pub next_gets : Ledger C → List (Numbered Getting) → GetsView
   next_gets l gs = shown_gets (start l).first_get (suc (position l)) (max (get_peak l) (alive_of gs)) gs
 
   -- what an event leaves alone
@@ -84,7 +84,7 @@ module _ {C : Type 0} where
   gets_kept l = shown-kept (start l).first_get (position l) (get_peak l) (gets l) (waited_before l) (get_peak_holds l)
 
   -- A step is proved of what a ledger shows: what is known of the state is known of that, and the new state is told by the old one.
-  pub meets_by : (Known : Shown C → Type 0) (next : Shown C → Shown C) (s new : Shown C) (at : ℕ) (e : Act C) (a : Answer) → IsFitting s e
+  pub meets_by : (Known : StateView C → Type 0) (next : StateView C → StateView C) (s new : StateView C) (at : ℕ) (e : Act C) (a : Answer) → IsFitting s e
       → Known (unexamined s) → new ≡ next (unexamined s) → ((l : Ledger C) → IsLegal l → fits l e ≡ true → Known (shown l) → Row l at e a
       × (shown (Later l at e a) ≡ next (shown l))) → Step s at e a new
   meets_by Known next s new at e a fit known is step = record {
@@ -108,7 +108,7 @@ module _ {C : Type 0} where
       stands (Some k) e = let w = first_waits (start l).first_get (position l) (gets l) k e in (w.0, w.1)
 
   -- records that were changed without entry, and approvals that were granted then
-  pub changed : (claimed : Bool) (l : Ledger C) (n : ℕ) (rs : List (Numbered (Standing C))) (new : ShownRecords C)
+  pub changed : (claimed : Bool) (l : Ledger C) (n : ℕ) (rs : List (Numbered (Standing C))) (new : RecordsView C)
       → shown_records (start l).first (suc (position l)) (peak l) rs ≡ new
       → shown_records (start l).first (suc (position l))
       (max (peak l) (conns_of (with_approvals claimed n rs) + approved_of (with_approvals claimed n rs)))
@@ -116,33 +116,33 @@ module _ {C : Type 0} where
   changed claimed l n rs new is = ap machine.with_peak (shown-approve claimed n (start l).first (suc (position l)) (peak l) rs ∙ ap (machine.after_approvals claimed n) is)
 
   -- what is granted of what is wanted, once the records have changed to these
-  pub record Grants (s : Shown C) (claimed : Bool) (was : ShownRecords C) (grant : Grant) (rs : ShownRecords C) : Type 0 where
+  pub record Grants (s : StateView C) (claimed : Bool) (was : RecordsView C) (grant : Grant) (rs : RecordsView C) : Type 0 where
     pub granted : machine.IsGrant was (decided.want s.config s.handles was) grant
     pub after : rs ≡ machine.after_grant claimed grant was
 
-  pub grants : {s : Shown C} {claimed : Bool} {taken was : ShownRecords C} {wanted : ℕ} {grant : Grant} {rs : ShownRecords C} → taken ≡ was
+  pub grants : {s : StateView C} {claimed : Bool} {taken was : RecordsView C} {wanted : ℕ} {grant : Grant} {rs : RecordsView C} → taken ≡ was
       → wanted ≡ decided.want s.config s.handles taken → machine.IsGrant taken wanted grant → rs ≡ machine.after_grant claimed grant taken
       → Grants s claimed was grant rs
   grants {s} {claimed} {taken} {grant = grant} taken_is wanted_is granted rs_is = record {
-    granted = subst (λ (x : ShownRecords C). machine.IsGrant x (decided.want s.config s.handles x) grant) taken_is (subst (λ (m : ℕ). machine.IsGrant taken m grant) wanted_is granted);
+    granted = subst (λ (x : RecordsView C). machine.IsGrant x (decided.want s.config s.handles x) grant) taken_is (subst (λ (m : ℕ). machine.IsGrant taken m grant) wanted_is granted);
     after = rs_is ∙ ap (machine.after_grant claimed grant) taken_is;
   }
 
   -- what is granted of what is wanted, by tallies
-  pub want_is : (l : Ledger C) (rs : List (Numbered (Standing C))) (g : Grant) (new : ShownRecords C) → Before idle_at (position l) rs
+  pub want_is : (l : Ledger C) (rs : List (Numbered (Standing C))) (g : Grant) (new : RecordsView C) → Before idle_at (position l) rs
       → shown_records (start l).first (position l) (peak l) rs ≡ new → machine.IsGrant new (decided.want (start l).config (handles l) new) g
       → IsWant l rs g
   want_is l rs g new before is granted =
-      let wants : ShownRecords C → ℕ → Type 0 = λ x n. IsGranted x.next (x.conns + x.approved) x.peak
+      let wants : RecordsView C → ℕ → Type 0 = λ x n. IsGranted x.next (x.conns + x.approved) x.peak
       (due (start l).config (handles l) (x.conns + x.approved) (lacking (start l).config (n + x.approved))) g in
       subst (wants (shown_records (start l).first (position l) (peak l) rs)) (idle_counted (start l).first (position l) rs before)
-      (subst (λ (x : ShownRecords C). wants x (length x.idle)) (sym is) granted)
+      (subst (λ (x : RecordsView C). wants x (length x.idle)) (sym is) granted)
 
   -- records that are no more than before keep the peak
-  pub still_raised : (l : Ledger C) (rs : List (Numbered (Standing C))) (new : ShownRecords C)
+  pub still_raised : (l : Ledger C) (rs : List (Numbered (Standing C))) (new : RecordsView C)
       → shown_records (start l).first (suc (position l)) (peak l) rs ≡ new → new.conns + new.approved ≤ peak l
       → shown_records (start l).first (suc (position l)) (max (peak l) (conns_of rs + approved_of rs)) rs ≡ new
-  still_raised l rs new is few = raised_same _ (subst (λ (t : ShownRecords C). t.conns + t.approved ≤ peak l) (sym is) few) ∙ is
+  still_raised l rs new is few = raised_same _ (subst (λ (t : RecordsView C). t.conns + t.approved ≤ peak l) (sym is) few) ∙ is
 
   -- a claimed approval ends
   approval_ended : (l : Ledger C) (k : ℕ) → stands is_claimed (record_of l k) ≡ true
@@ -166,24 +166,24 @@ module _ {C : Type 0} where
       || (is_expired (start l).config.max_lifetime (max (latest l) at) (birth_in o) || eqb (handles l) 0)) (shown_record l (shown l) refl k)
 
   -- what the code knows when a connection has come back
-  pub record Returned (s : Shown C) (at k now birth : ℕ) (aged : Bool) : Type 0 where
+  pub record Returned (s : StateView C) (at k now birth : ℕ) (aged : Bool) : Type 0 where
     pub now_is : now ≡ max s.latest at
     pub birth_is : birth ≡ birth_in (get s.records.places k)
     pub aged_is : aged ≡ is_expired s.config.max_lifetime now birth
 
-  old_is : (s : Shown C) (at k now birth : ℕ) (aged : Bool) → Returned s at k now birth aged → decided.is_old s at k ≡ aged
+  old_is : (s : StateView C) (at k now birth : ℕ) (aged : Bool) → Returned s at k now birth aged → decided.is_old s at k ≡ aged
   old_is s at k now birth aged r = sym (r.aged_is ∙ ap (λ (n : ℕ). is_expired s.config.max_lifetime n birth) r.now_is ∙ ap (is_expired s.config.max_lifetime (max s.latest at)) r.birth_is)
 
   -- so what the code decides of it is what is decided
-  pub closing_is : {s : Shown C} {at k now birth : ℕ} {aged closing : Bool} (broken : Bool) → Returned s at k now birth aged
+  pub closing_is : {s : StateView C} {at k now birth : ℕ} {aged closing : Bool} (broken : Bool) → Returned s at k now birth aged
       → (broken || (aged || eqb s.handles 0)) ≡ closing → decided.closes s at k broken ≡ closing
   closing_is {s} {at} {k} {now} {birth} {aged} broken r is = ap (λ (b : Bool). broken || (b || eqb s.handles 0)) (old_is s at k now birth aged r) ∙ is
 
   -- the records once it is idle again, with the birth that it had
-  abbrev pub kept_records : Shown C → ℕ → ℕ → C → ShownRecords C
+  abbrev pub kept_records : StateView C → ℕ → ℕ → C → RecordsView C
   kept_records s at k c = machine.after_entry false k (record { place = Idle c; birth = birth_in (get s.records.places k); entered = max s.latest at }) s.records
 
-  pub kept_is : {s : Shown C} {at k now birth : ℕ} (c : C) {aged : Bool} {rs : ShownRecords C} → Returned s at k now birth aged
+  pub kept_is : {s : StateView C} {at k now birth : ℕ} (c : C) {aged : Bool} {rs : RecordsView C} → Returned s at k now birth aged
       → rs ≡ machine.after_entry false k (record { place = Idle c; birth = birth; entered = now }) s.records → rs ≡ kept_records s at k c
   kept_is {s} {at} {k} {now} {birth} c r rs_is =
       rs_is
@@ -203,11 +203,11 @@ module _ {C : Type 0} where
       (shown l).records) (shown_record l (shown l) refl k)
 
   -- what is granted once it has ended
-  abbrev pub IsEndGrant : Shown C → ℕ → Grant → Type 0
+  abbrev pub IsEndGrant : StateView C → ℕ → Grant → Type 0
   IsEndGrant s k grant = machine.IsGrant (machine.after_close false k s.records) (decided.want s.config s.handles (machine.after_close false k s.records)) grant
 
   -- the records once it has ended, and approvals were granted
-  abbrev pub ended_records : Shown C → ℕ → Grant → ShownRecords C
+  abbrev pub ended_records : StateView C → ℕ → Grant → RecordsView C
   ended_records s k grant = machine.after_grant false grant (machine.after_close false k s.records)
 
   pub ended_shown : (l : Ledger C) (k : ℕ) (st : Standing C) (grant : Grant) → record_of l k ≡ Some st → is_out st.place ≡ true
@@ -221,8 +221,8 @@ module _ {C : Type 0} where
         changed false l grant.count (with_record l k after_end) _ later,
       )
 
-  pub meets_returned_kept : {s : Shown C} {at k : ℕ} {c : C} {broken : Bool} {now birth : ℕ} {aged : Bool} {rs : ShownRecords C} {n : Option
-      ℕ} {gs : ShownGets} → IsFitting s (PutBack k c broken) → Notices s.gets n gs → Returned s at k now birth aged
+  pub meets_returned_kept : {s : StateView C} {at k : ℕ} {c : C} {broken : Bool} {now birth : ℕ} {aged : Bool} {rs : RecordsView C} {n : Option
+      ℕ} {gs : GetsView} → IsFitting s (PutBack k c broken) → Notices s.gets n gs → Returned s at k now birth aged
       → (broken || (aged || eqb s.handles 0)) ≡ false
       → rs ≡ machine.after_entry false k (record { place = Idle c; birth = birth; entered = now }) s.records
       → IsStep s at (PutBack k c broken) (Kept k n) (record s { latest = now; records = rs; gets = gs })
@@ -238,15 +238,15 @@ module _ {C : Type 0} where
       ))
 
   -- what the code counts of it is what is decided
-  pub closed_is : {s : Shown C} {at k now birth : ℕ} {aged : Bool} (was : Counters) {is : Counters} (broken : Bool)
+  pub closed_is : {s : StateView C} {at k now birth : ℕ} {aged : Bool} (was : Counters) {is : Counters} (broken : Bool)
       → Returned s at k now birth aged → is ≡ closed_counters was broken aged → is ≡ closed_counters was broken (decided.is_old s at k)
   closed_is {s} {at} {k} {now} {birth} {aged} was broken r is_is = is_is ∙ ap (closed_counters was broken) (sym (old_is s at k now birth aged r))
 
   pub old_shown : (l : Ledger C) (at k : ℕ) → is_expired (start l).config.max_lifetime (max (latest l) at) (birth_in (record_of l k)) ≡ decided.is_old (shown l) at k
   old_shown l at k = ap (λ (o : Option (Standing C)). is_expired (start l).config.max_lifetime (max (latest l) at) (birth_in o)) (shown_record l (shown l) refl k)
 
-  pub meets_returned_closed : {s : Shown C} {at k : ℕ} {c : C} {broken : Bool} {now birth : ℕ} {aged : Bool} {grant : Grant} {rs : ShownRecords
-      C} {n : Option ℕ} {gs : ShownGets} (was : Counters) {is : Counters} → IsFitting s (PutBack k c broken) → Notices s.gets n gs
+  pub meets_returned_closed : {s : StateView C} {at k : ℕ} {c : C} {broken : Bool} {now birth : ℕ} {aged : Bool} {grant : Grant} {rs : RecordsView
+      C} {n : Option ℕ} {gs : GetsView} (was : Counters) {is : Counters} → IsFitting s (PutBack k c broken) → Notices s.gets n gs
       → Returned s at k now birth aged → (broken || (aged || eqb s.handles 0)) ≡ true → IsEndGrant s k grant → rs ≡ ended_records s k grant
       → s.counts ≡ counts_held was → is ≡ closed_counters was broken aged
       → IsStep s at (PutBack k c broken) (Closed k grant n)
@@ -273,10 +273,10 @@ module _ {C : Type 0} where
       ))
 
   -- what a state shows is what its ledger tells
-  pub figures_told : (s : Shown C) (l : Ledger C) → Means l s → record { connections = s.records.conns; idle = length s.records.idle; counts = s.counts } ≡ figures l
+  pub figures_told : (s : StateView C) (l : Ledger C) → Represents l s → record { connections = s.records.conns; idle = length s.records.idle; counts = s.counts } ≡ figures l
   figures_told s l means =
       let told : Figures = record { connections = conns_of (records l); idle = length (idle l); counts = counts l } in
-      ap (λ (t : Shown C). record { connections = t.records.conns; idle = length t.records.idle; counts = t.counts }) (sym means)
+      ap (λ (t : StateView C). record { connections = t.records.conns; idle = length t.records.idle; counts = t.counts }) (sym means)
       ∙ ap (λ (n : ℕ). record { connections = conns_of (records l); idle = n; counts = counts l }) (idle_tally l)
 
   -- ---- try
@@ -296,19 +296,19 @@ module _ {C : Type 0} where
       ∙ ap (λ (o : Option Getting). counts_held (served was (max (latest l) at) (first_wait_of o))) (shown_get l (shown l) refl g)
 
   -- what the code knows when a get tries
-  pub record Tries (s : Shown C) (g : ℕ) (o : Option Getting) : Type 0 where
+  pub record Tries (s : StateView C) (g : ℕ) (o : Option Getting) : Type 0 where
     pub fit : IsFitting s (Try g)
     pub get_is : o ≡ get s.gets.places g
 
-  pub tries : {s t : Shown C} {g : ℕ} {o : Option Getting} → s ≡ t → IsFitting t (Try g) → o ≡ get s.gets.places g → Tries s g o
-  tries {g = g} is fit get_is = record { fit = fits_view (Try g) is fit; get_is = get_is }
+  pub tries : (s : StateView C) {g : ℕ} {o : Option Getting} {b : Bool} → o ≡ get s.gets.places g → b ≡ gets_stand is_trying o → b ≡ true → Tries s g o
+  tries s {g} get_is b_is on = record { fit = λ l legal means. ap (gets_stand is_trying) (shown_get l s means g ∙ sym get_is) ∙ sym b_is ∙ on; get_is = get_is }
 
   -- a test of the get, as it is shown
   line_test : (l : Ledger C) (g : ℕ) (b : Bool) → gets_stand is_unnotified (get (shown l).gets.places g) ≡ b → gets_stand is_unnotified (get_of l g) ≡ b
   line_test l g b is = ap (gets_stand is_unnotified) (shown_get l (shown l) refl g) ∙ is
 
   -- the first idle connection goes out, and what is wanted then is granted
-  abbrev pub IsTakeGrant : Shown C → Place C → ℕ → Grant → Type 0
+  abbrev pub IsTakeGrant : StateView C → Place C → ℕ → Grant → Type 0
   IsTakeGrant s out k grant = machine.IsGrant (machine.after_take out k s.records) (decided.want s.config s.handles (machine.after_take out k s.records)) grant
 
   taken_shown : (l : Ledger C) (out : Place C) (k : ℕ) (grant : Grant) → is_out out ≡ true
@@ -323,37 +323,37 @@ module _ {C : Type 0} where
       let is : shown_records (start l).first (position l) (peak l) rs ≡ machine.after_take out k (shown l).records =
       shown-taken (start l).first (position l) (peak l) (records l) out k j off (unclaimed_from false out out_now)
       (conn_from false out out_now) first in
-      let first_later : slice_get (shown_records (start l).first (suc (position l)) (peak l) (records l)).idle j ≡ Some k = ap (λ (x : ShownRecords C). slice_get x.idle j) (later_shown l) ∙ first in
+      let first_later : slice_get (shown_records (start l).first (suc (position l)) (peak l) (records l)).idle j ≡ Some k = ap (λ (x : RecordsView C). slice_get x.idle j) (later_shown l) ∙ first in
       let later : shown_records (start l).first (suc (position l)) (peak l) rs ≡ machine.after_take out k (shown l).records =
       shown-taken (start l).first (suc (position l)) (peak l) (records l) out k j off (unclaimed_from false out out_now)
       (conn_from false out out_now) first_later ∙ ap (machine.after_take out k) (later_shown l) in
       (want_is l rs grant _ (put_before (position l) (start l).first k out (records l) off (entered_before l)) is granted, changed false l grant.count rs _ later)
 
   -- what is due to a get that waits
-  pub due_waiting : (s : Shown C) {taken : ShownRecords C} {alive_now d : ℕ} → taken ≡ s.records → alive_now ≡ s.gets.alive
+  pub due_waiting : (s : StateView C) {taken : RecordsView C} {alive_now d : ℕ} → taken ≡ s.records → alive_now ≡ s.gets.alive
       → d ≡ due s.config s.handles (taken.conns + taken.approved) (one (ltb taken.approved alive_now))
       → d ≡ due s.config s.handles (s.records.conns + s.records.approved) (one (ltb s.records.approved s.gets.alive))
   due_waiting s {taken} taken_is alive_is d_is =
       d_is ∙ ap (λ (n : ℕ). due s.config s.handles (taken.conns + taken.approved) (one (ltb taken.approved n))) alive_is
-      ∙ ap (λ (t : ShownRecords C). due s.config s.handles (t.conns + t.approved) (one (ltb t.approved s.gets.alive))) taken_is
+      ∙ ap (λ (t : RecordsView C). due s.config s.handles (t.conns + t.approved) (one (ltb t.approved s.gets.alive))) taken_is
 
   -- the records after the leave of a handle, where it is the last one or not
-  abbrev left_shown : (l : Ledger C) (b : Bool) → ShownRecords C
+  abbrev left_shown : (l : Ledger C) (b : Bool) → RecordsView C
   left_shown l b = let rs : List (Numbered (Standing C)) = cond b (shut (records l)) (records l) in shown_records (start l).first (suc (position l)) (max (peak l) (conns_of rs + approved_of rs)) rs
 
   -- what the code knows when one is added that is not broken, and there is room
-  pub record Adds (s : Shown C) (c : C) : Type 0 where
+  pub record Adds (s : StateView C) (c : C) : Type 0 where
     pub fit : IsFitting s (Add c false)
     pub room : s.records.conns + s.records.approved ≢ s.config.max_size
 
-  pub has_room : {s t : Shown C} {c : C} {used : ℕ} → s ≡ t → IsFitting t (Add c false) → used ≡ s.records.conns + s.records.approved → used ≢ s.config.max_size → Adds s c
+  pub has_room : {s t : StateView C} {c : C} {used : ℕ} → s ≡ t → IsFitting t (Add c false) → used ≡ s.records.conns + s.records.approved → used ≢ s.config.max_size → Adds s c
   has_room {c = c} is fit used_is room = record { fit = fits_view (Add c false) is fit; room = λ e. room (used_is ∙ e) }
 
   -- ---- the steps, where the moment of the event is told
 
-  module _ {s : Shown C} {at now : ℕ} (now_is : now ≡ max s.latest at) where
+  module _ {s : StateView C} {at now : ℕ} (now_is : now ≡ max s.latest at) where
     -- an event that changes the latest moment alone
-    pub meets_quiet : (Known : Shown C → Type 0) {rs : ShownRecords C} {gs : ShownGets} (e : Act C) (a : Answer) → IsFitting s e → Known (unexamined s) → rs ≡ s.records → gs ≡ s.gets
+    pub meets_quiet : (Known : StateView C → Type 0) {rs : RecordsView C} {gs : GetsView} (e : Act C) (a : Answer) → IsFitting s e → Known (unexamined s) → rs ≡ s.records → gs ≡ s.gets
         → ((l : Ledger C) → (latest (Later l at e a) ≡ max (latest l) at) × (handles (Later l at e a) ≡ handles l)
         × (counts (Later l at e a) ≡ counts l)) → ((l : Ledger C) → IsLegal l → fits l e ≡ true → Known (shown l) → Row l at e a
         × (records (Later l at e a) ≡ records l) × (gets (Later l at e a) ≡ gets l))
@@ -370,7 +370,7 @@ module _ {C : Type 0} where
               same.2,
         ))
 
-    pub meets_fill : {claimed : Bool} {g : Grant} {rs : ShownRecords C} → Grants s claimed s.records g rs → IsStep s at (Fill claimed) (Granted g) (record s { latest = now; records = rs })
+    pub meets_fill : {claimed : Bool} {g : Grant} {rs : RecordsView C} → Grants s claimed s.records g rs → IsStep s at (Fill claimed) (Granted g) (record s { latest = now; records = rs })
     meets_fill {claimed} {g} {rs} granted =
         meets_by (λ t. machine.IsGrant t.records (decided.want t.config t.handles t.records) g)
         (λ t. record t { latest = max t.latest at; records = machine.after_grant claimed g t.records }) s _ at (Fill claimed) (Granted g)
@@ -381,7 +381,7 @@ module _ {C : Type 0} where
               (changed claimed l g.count (records l) _ (later_shown l)) (gets_kept l) refl,
         ))
 
-    pub meets_claim : {k : ℕ} {rs : ShownRecords C} → s.handles ≢ 0
+    pub meets_claim : {k : ℕ} {rs : RecordsView C} → s.handles ≢ 0
         → slice_get s.records.unclaimed 0 ≡ Some k → rs ≡ machine.after_claim k s.records
         → IsStep s at Claim (answers.Claimed (Some k)) (record s { latest = now; records = rs })
     meets_claim {k} {rs} alive_now first rs_is =
@@ -392,7 +392,7 @@ module _ {C : Type 0} where
         shown-claimed (start l).first (suc (position l)) (peak l) (records l) k known.1 ∙ ap (machine.after_claim k) (later_shown l) in
         (claims known.0 known.1, same_shown _ _ refl refl refl refl (still_raised l _ _ is (peak_holds l)) (gets_kept l) refl))
 
-    pub meets_claim_none : {rs : ShownRecords C} → s.handles ≢ 0
+    pub meets_claim_none : {rs : RecordsView C} → s.handles ≢ 0
         → slice_get s.records.unclaimed 0 ≡ None → rs ≡ s.records
         → IsStep s at Claim (answers.Claimed None) (record s { latest = now; records = rs })
     meets_claim_none {rs} alive_now none rs_is =
@@ -405,7 +405,7 @@ module _ {C : Type 0} where
         meets_quiet (λ t. t.handles ≡ 0) Claim Ended (λ l legal means. refl) ended_now refl refl (λ l. (refl, refl, refl))
         (λ l legal f none. (claim_ended none, refl, refl))
 
-    pub meets_opened : {k : ℕ} (c : C) {rs : ShownRecords C} {n : Option ℕ} {gs : ShownGets} {new : Counts} → IsFitting s (Opened k c) → s.handles ≢ 0
+    pub meets_opened : {k : ℕ} (c : C) {rs : RecordsView C} {n : Option ℕ} {gs : GetsView} {new : Counts} → IsFitting s (Opened k c) → s.handles ≢ 0
         → rs ≡ machine.after_entry true k (record { place = Idle c; birth = now; entered = now }) s.records → Notices s.gets n gs
         → new ≡ record s.counts { created = s.counts.created + 1 }
         → IsStep s at (Opened k c) (Entered k n) (record s { latest = now; records = rs; gets = gs; counts = new })
@@ -427,20 +427,20 @@ module _ {C : Type 0} where
         (λ r. entry c (max (latest l) at) (max (latest l) at) (position l)) (entered_before l) st.1 st.2 (λ r e. refl) in
         (opens known.0 known.1, same_shown _ _ refl refl refl refl (ap machine.with_peak is ∙ raised_same _ (omega arith)) (gets_told l n known.1) refl))
 
-    pub meets_late : {k : ℕ} (c : C) {rs : ShownRecords C} → IsFitting s (Opened k c) → s.handles ≡ 0 → rs ≡ machine.after_close true k s.records
+    pub meets_late : {k : ℕ} (c : C) {rs : RecordsView C} → IsFitting s (Opened k c) → s.handles ≡ 0 → rs ≡ machine.after_close true k s.records
         → IsStep s at (Opened k c) (Late k) (record s { latest = now; records = rs })
     meets_late {k} c {rs} fit ended_now rs_is =
         meets_by (λ t. t.handles ≡ 0) (λ t. record t { latest = max t.latest at; records = machine.after_close true k t.records }) s _ at
         (Opened k c) (Late k) fit ended_now (same_shown _ _ refl refl now_is refl rs_is refl refl)
         (λ l legal f none. (opens_late none, same_shown _ _ refl refl refl refl (approval_ended l k f) (gets_kept l) refl))
 
-    pub meets_failed : {k : ℕ} {rs : ShownRecords C} → IsFitting s (Failed k) → rs ≡ machine.after_close true k s.records → IsStep s at (Failed k) GivenBack (record s { latest = now; records = rs })
+    pub meets_failed : {k : ℕ} {rs : RecordsView C} → IsFitting s (Failed k) → rs ≡ machine.after_close true k s.records → IsStep s at (Failed k) GivenBack (record s { latest = now; records = rs })
     meets_failed {k} {rs} fit rs_is =
         meets_by (λ t. Unit {0}) (λ t. record t { latest = max t.latest at; records = machine.after_close true k t.records }) s _ at
         (Failed k) GivenBack fit tt (same_shown _ _ refl refl now_is refl rs_is refl refl)
         (λ l legal f known. (fails, same_shown _ _ refl refl refl refl (approval_ended l k f) (gets_kept l) refl))
 
-    pub meets_begun : {n : ℕ} {gs : ShownGets} {new : Counts} → IsFitting s Begin → s.gets.next < end_of_numbers → gs ≡ machine.after_begin s.gets
+    pub meets_begun : {n : ℕ} {gs : GetsView} {new : Counts} → IsFitting s Begin → s.gets.next < end_of_numbers → gs ≡ machine.after_begin s.gets
         → new ≡ record s.counts { started = s.counts.started + 1 }
         → n ≡ s.gets.next → IsStep s at Begin (Begun n) (record s { latest = now; gets = gs; counts = new })
     meets_begun {n} {gs} {new} fit few gs_is new_is n_is =
@@ -457,7 +457,7 @@ module _ {C : Type 0} where
               (records_kept l) (shown-begun (start l).first_get (position l) (get_peak l) (gets l) (waited_before l) (get_peak_holds l)) refl,
         ))
 
-    pub meets_memory : {gs : ShownGets} → IsFitting s Begin → s.gets.next < end_of_numbers → s.gets.alive ≡ s.gets.peak → gs ≡ s.gets
+    pub meets_memory : {gs : GetsView} → IsFitting s Begin → s.gets.next < end_of_numbers → s.gets.alive ≡ s.gets.peak → gs ≡ s.gets
         → IsStep s at Begin Memory (record s { latest = now; gets = gs })
     meets_memory {gs} fit few full gs_is =
         meets_quiet (λ t. (t.gets.next < end_of_numbers) × (t.gets.alive ≡ t.gets.peak)) Begin Memory fit (few, full) refl gs_is
@@ -468,12 +468,12 @@ module _ {C : Type 0} where
         (λ t. end_of_numbers ≤ t.gets.next) Begin Exhausted fit many refl refl (λ l. (refl, refl, refl))
         (λ l legal f known. (begin_exhausted known, refl, refl))
 
-    pub meets_state : {f : Figures} → ((l : Ledger C) → Means l s → f ≡ figures l) → IsStep s at State (ShownFigures f) (record s { latest = now })
-    meets_state {f} told = meets_quiet (λ t. (l : Ledger C) → Means l t → f ≡ figures l) State (ShownFigures f)
+    pub meets_state : {f : Figures} → ((l : Ledger C) → Represents l s → f ≡ figures l) → IsStep s at State (ShownFigures f) (record s { latest = now })
+    meets_state {f} told = meets_quiet (λ t. (l : Ledger C) → Represents l t → f ≡ figures l) State (ShownFigures f)
         (λ l legal means. refl) (λ l means. told l (beside l means)) refl refl (λ l. (refl, refl, refl))
         (λ l legal fit known. (subst (λ (x : Figures). Row l at State (ShownFigures x)) (sym (known l refl)) shows, refl, refl))
 
-    pub meets_served : {g k : ℕ} {grant : Grant} {o : Option Getting} {since : Option ℕ} {rs : ShownRecords C} {gs : ShownGets} (was : Counters) {is : Counters}
+    pub meets_served : {g k : ℕ} {grant : Grant} {o : Option Getting} {since : Option ℕ} {rs : RecordsView C} {gs : GetsView} (was : Counters) {is : Counters}
         → Tries s g o → gets_stand is_unnotified o ≡ false
         → s.config.test_on_check_out ≡ false → first_of s.config.queue_strategy s.records.idle ≡ Some k
         → Grants s false (machine.after_take Guarded k s.records) grant rs → gs ≡ machine.after_get_end g s.gets → s.counts ≡ counts_held was
@@ -502,7 +502,7 @@ module _ {C : Type 0} where
         ))
 
     -- where it is checked, the get holds it
-    pub meets_taken : {g k : ℕ} {grant : Grant} {o : Option Getting} {rs : ShownRecords C} {gs : ShownGets} → Tries s g o → gets_stand is_unnotified o ≡ false → s.config.test_on_check_out ≡ true
+    pub meets_taken : {g k : ℕ} {grant : Grant} {o : Option Getting} {rs : RecordsView C} {gs : GetsView} → Tries s g o → gets_stand is_unnotified o ≡ false → s.config.test_on_check_out ≡ true
         → first_of s.config.queue_strategy s.records.idle ≡ Some k → Grants s false (machine.after_take (Held g) k s.records) grant rs
         → gs ≡ machine.after_turn (Holding k) g s.gets
         → IsStep s at (Try g) (Taken k grant) (record s { latest = now; records = rs; gets = gs })
@@ -539,14 +539,14 @@ module _ {C : Type 0} where
         (waits_on on known.1, ap (λ (m : ℕ). with_approvals false m (records l)) known.1.count, waits_on_gets l at g on))
 
     -- where nothing is idle, a get waits that did not, or was notified
-    pub meets_waits : {g : ℕ} {o : Option Getting} {taken : ShownRecords C} {due_now : ℕ} {grant : Grant} {rs : ShownRecords C} {gs : ShownGets} → Tries s g o → gets_stand is_unnotified o ≡ false
+    pub meets_waits : {g : ℕ} {o : Option Getting} {taken : RecordsView C} {due_now : ℕ} {grant : Grant} {rs : RecordsView C} {gs : GetsView} → Tries s g o → gets_stand is_unnotified o ≡ false
         → first_of s.config.queue_strategy s.records.idle ≡ None → taken ≡ s.records
         → due_now ≡ due s.config s.handles (s.records.conns + s.records.approved) (one (ltb s.records.approved s.gets.alive))
         → machine.IsGrant taken due_now grant → rs ≡ machine.after_grant false grant taken → gs ≡ machine.after_wait now g s.gets
         → IsStep s at (Try g) (answers.Waiting grant) (record s { latest = now; records = rs; gets = gs })
     meets_waits {g} {o} {taken} {due_now} {grant} {rs} {gs} t not_waiting none taken_is due_is granted rs_is gs_is =
         let granted_s : machine.IsGrant s.records (due s.config s.handles (s.records.conns + s.records.approved) (one (ltb s.records.approved s.gets.alive))) grant =
-        subst (λ (x : ShownRecords C). machine.IsGrant x
+        subst (λ (x : RecordsView C). machine.IsGrant x
         (due s.config s.handles (s.records.conns + s.records.approved) (one (ltb s.records.approved s.gets.alive))) grant) taken_is
         (subst (λ (m : ℕ). machine.IsGrant taken m grant) due_is granted) in
         meets_by (λ x. (gets_stand is_unnotified (get x.gets.places g) ≡ false) × (first_of x.config.queue_strategy x.records.idle ≡ None)
@@ -584,7 +584,7 @@ module _ {C : Type 0} where
         meets_quiet (λ t. most_handles ≤ t.handles) Join Exhausted fit many refl refl (λ l. (refl, refl, refl))
         (λ l legal f known. (join_exhausted known, refl, refl))
 
-    pub meets_left_last : {n : ℕ} {rs : ShownRecords C} → IsFitting s Leave → s.handles ≡ 1
+    pub meets_left_last : {n : ℕ} {rs : RecordsView C} → IsFitting s Leave → s.handles ≡ 1
         → n ≡ length s.records.idle → rs ≡ machine.after_leave s.records
         → IsStep s at Leave (Left n) (record s { latest = now; handles = 0; records = rs })
     meets_left_last {n} {rs} fit last n_is rs_is =
@@ -625,7 +625,7 @@ module _ {C : Type 0} where
         (Add c false) Withheld h.fit (h.room, many) refl refl (λ l. (refl, refl, refl))
         (λ l legal f known. (add_exhausted known.0 known.1, refl, refl))
 
-    pub meets_add_refused : {c : C} {rs : ShownRecords C} → Adds s c → s.records.next < end_of_numbers
+    pub meets_add_refused : {c : C} {rs : RecordsView C} → Adds s c → s.records.next < end_of_numbers
         → s.records.conns + s.records.approved ≡ s.records.peak → rs ≡ s.records
         → IsStep s at (Add c false) Withheld (record s { latest = now; records = rs })
     meets_add_refused {c} {rs} h few full rs_is =
@@ -633,7 +633,7 @@ module _ {C : Type 0} where
         × (t.records.conns + t.records.approved ≡ t.records.peak)) (Add c false) Withheld h.fit (h.room, few, full) rs_is refl
         (λ l. (refl, refl, refl)) (λ l legal f known. (add_refused known.0 known.1 known.2, refl, refl))
 
-    pub meets_added : {k : ℕ} {c : C} {rs : ShownRecords C} {n : Option ℕ} {gs : ShownGets} → Adds s c
+    pub meets_added : {k : ℕ} {c : C} {rs : RecordsView C} {n : Option ℕ} {gs : GetsView} → Adds s c
         → Notices s.gets n gs → s.records.next < end_of_numbers → k ≡ s.records.next → rs ≡ machine.with_peak (machine.after_birth c now s.records)
         → IsStep s at (Add c false) (Added k n) (record s { latest = now; records = rs; gets = gs })
     meets_added {k} {c} {rs} {n} {gs} h told few k_is rs_is =

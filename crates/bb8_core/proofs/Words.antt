@@ -12,7 +12,7 @@ pub use Rattle.bb8_tables.proofs.Views.{same_records, same_gets}
 pub use Rattle.bb8_tables.specs.Counted.{counts_held}
 pub use Rattle.bb8_tables.specs.Lent.{none_lent, Lent}
 pub use Rattle.bb8_tables.specs.Reaps.{after_reap, AreFirst, Reaps, after_reaped, AreReaped, beyond}
-pub use Rattle.bb8_tables.specs.Views.{ShownRecords, ShownGets, NoneAfter, no_gets, no_records}
+pub use Rattle.bb8_tables.specs.Views.{RecordsView, GetsView, NoneAfter, no_gets, no_records}
 pub use Rattle.bb8_tables.specs.declared.counters.Counters.{Counters}
 pub use Rattle.bb8_tables.specs.declared.records.reaps.Reaped.{Reaped as Told}
 pub use Rattle.bb8_ledger.proofs.Effects.{lives_idle, idles_idle, reaped_sized, granted_reaped, closes_turn, idle_turns, ends_turn, opens_turn, left_sized, stays_sized, turned_sized, returns_turn, granted_sized, each_allowed, unclaimed_turns, adds_sized, ended_append, over_idle, over_idle_line, ended_swept}
@@ -24,7 +24,7 @@ pub use Rattle.bb8_ledger.proofs.Standings.{tested, conns-change, approved-chang
 pub use Rattle.bb8_ledger.specs.Ledger.{waiting, wait_micros}
 pub use Rattle.bb8_core.specs.Pool.{view_of}
 pub use Rattle.bb8_core.specs.Run.{IsRun, opening, answer_of, AfterEach, act_of, act_with, fits_named}
-pub use Rattle.bb8_core.specs.Shown.{Shown, shown_records, HasLedger, IsFitting, Means, shown_beside, Meets, shown_gets, IsGetIn, IsNoGetIn, IsNoRecordIn, IsRecordIn}
+pub use Rattle.bb8_core.specs.StateView.{StateView, shown_records, HasLedger, IsFitting, Represents, shown_beside, Meets, shown_gets, IsGetIn, IsNoGetIn, IsNoRecordIn, IsRecordIn}
 pub use Rattle.bb8_core.specs.StepAnswers.{reason_of}
 pub use Rattle.bb8_tables.specs.declared.keys.Key.{Key}
 pub use Rattle.bb8_core.specs.declared.replay.events.Event.{Event}

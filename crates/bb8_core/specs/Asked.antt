@@ -3,7 +3,7 @@ use Rattle.std.specs.Prelude.{◌≡◌, ℕ, Result, Ok, Err, IfErr}
 use Rattle.bb8_ledger.specs.Acts.{Act}
 use Rattle.bb8_ledger.specs.Answers as answers
 use Rattle.bb8_ledger.specs.Answers.{Answer}
-use Rattle.bb8_core.specs.Shown.{Shown}
+use Rattle.bb8_core.specs.StateView.{StateView}
 
 -- the answer of such a step, by plain numbers
 abbrev pub answered : {A U : Type 0} → (A → Answer) → Result A U → Answer
@@ -11,7 +11,7 @@ answered told (Ok a) = told a
 answered told (Err u) = answers.Unfit
 
 -- Such a step of those that make their events like this: its event and its answer. Where the event does not fit nothing changes.
-abbrev pub Stepped : {A C U : Type 0} → (Shown C → ℕ → Act C → Answer → Shown C → Type 0) → (A → Answer) → Shown C → ℕ → Act C → Result A U → Shown C → Type 0
+abbrev pub Stepped : {A C U : Type 0} → (StateView C → ℕ → Act C → Answer → StateView C → Type 0) → (A → Answer) → StateView C → ℕ → Act C → Result A U → StateView C → Type 0
 Stepped Makes told old at e r new = Makes old at e (answered told r) new × IfErr r (λ u. new ≡ old)
 
 -- where the event fits this holds of its answer, and otherwise the connection that was handed in comes back

@@ -8,18 +8,18 @@ use Rattle.bb8_ledger.specs.Ledger.{Ledger}
 use Rattle.bb8_ledger.specs.Table.{IsLegal, reaped_at}
 use Rattle.bb8_core.specs.declared.answers.ReapAnswer.{ReapAnswer}
 use Rattle.bb8_core.specs.declared.answers.ReapAnswer.TheVariants as reaping
-use Rattle.bb8_core.specs.Shown.{Shown, Means}
+use Rattle.bb8_core.specs.StateView.{StateView, Represents}
 use Rattle.bb8_core.specs.StepAnswers.{IsIdleAs}
 
 module _ {C : Type 0} where
   -- these connections, one after another, are idle under these numbers
-  abbrev pub AreIdleAs : Shown C → List ℕ → List (Closed C) → Type 0
+  abbrev pub AreIdleAs : StateView C → List ℕ → List (Closed C) → Type 0
   AreIdleAs s [] [] = ⊤
   AreIdleAs s (k ∷ ks) (x ∷ xs) = (x.number ≡ k) × IsIdleAs s k x.conn × AreIdleAs s ks xs
   AreIdleAs s _ _ = ⊥
 
   -- A list is offered the connections that were idle under these numbers, in this order.
-  abbrev pub Offers : Shown C → List ℕ → Buffer (Closed C) → Buffer (Closed C) → Type 0
+  abbrev pub Offers : StateView C → List ℕ → Buffer (Closed C) → Buffer (Closed C) → Type 0
   Offers s ks list offered = (xs : List (Closed C)) × AreIdleAs s ks xs × (offered ≡ offered_all xs list)
 
   -- the numbers that the ledger's reap ends, where the answer tells of one
@@ -28,13 +28,13 @@ module _ {C : Type 0} where
   ended_by reaping.Ended l at = []
 
   -- these are the numbers that the ledger's reap ends, in some order: each comes as often as there
-  abbrev pub ReapEnds : Shown C → ℕ → ReapAnswer → List ℕ → Type 0
-  ReapEnds s at a ks = (l : Ledger C) → IsLegal l → Means l s → (k : ℕ) → tally (eqb k) ks ≡ tally (eqb k) (ended_by a l at)
+  abbrev pub ReapEnds : StateView C → ℕ → ReapAnswer → List ℕ → Type 0
+  ReapEnds s at a ks = (l : Ledger C) → IsLegal l → Represents l s → (k : ℕ) → tally (eqb k) ks ≡ tally (eqb k) (ended_by a l at)
 
   -- A reap offers the connections that it closes, in some order.
-  abbrev pub OffersReaped : Shown C → ℕ → ReapAnswer → Buffer (Closed C) → Buffer (Closed C) → Type 0
+  abbrev pub OffersReaped : StateView C → ℕ → ReapAnswer → Buffer (Closed C) → Buffer (Closed C) → Type 0
   OffersReaped s at a list offered = (ks : List ℕ) × Offers s ks list offered × ReapEnds s at a ks
 
   -- The last leave offers all idle connections, in line; another one none.
-  abbrev pub OffersLeft : Shown C → Buffer (Closed C) → Buffer (Closed C) → Type 0
+  abbrev pub OffersLeft : StateView C → Buffer (Closed C) → Buffer (Closed C) → Type 0
   OffersLeft s list offered = Offers s (cond (eqb s.handles 1) s.records.idle []) list offered

@@ -3,19 +3,19 @@ use Rattle.std.specs.Prelude.{ℕ, ◌+◌, max, Bool, ◌||◌, eqb, length}
 use Rattle.std.specs.FinMap.{get}
 use Rattle.bb8_types.specs.Places.{birth_in, is_expired}
 use Rattle.bb8_types.specs.Settings.{Settings}
-use Rattle.bb8_core.specs.Shown.{Shown}
-use Rattle.bb8_tables.specs.Views.{ShownRecords}
+use Rattle.bb8_core.specs.StateView.{StateView}
+use Rattle.bb8_tables.specs.Views.{RecordsView}
 use Rattle.bb8_types.specs.Grants.{due, lacking}
 
 module _ {C : Type 0} where
   -- what is due of the approvals that are wanted
-  abbrev pub want : Settings → ℕ → ShownRecords C → ℕ
+  abbrev pub want : Settings → ℕ → RecordsView C → ℕ
   want config handles s = due config handles (s.conns + s.approved) (lacking config (length s.idle + s.approved))
 
   -- whether a connection has lived too long
-  abbrev pub is_old : Shown C → ℕ → ℕ → Bool
+  abbrev pub is_old : StateView C → ℕ → ℕ → Bool
   is_old s at k = is_expired s.config.max_lifetime (max s.latest at) (birth_in (get s.records.places k))
 
   -- whether a returned connection is closed
-  abbrev pub closes : Shown C → ℕ → ℕ → Bool → Bool
+  abbrev pub closes : StateView C → ℕ → ℕ → Bool → Bool
   closes s at k broken = broken || (is_old s at k || eqb s.handles 0)

@@ -2,8 +2,8 @@
 use Rattle.std.specs.Prelude.{◌≡◌, ℕ, Option, Some, None}
 use Rattle.bb8_tables.specs.declared.keys.GetKey.{GetKey}
 use Rattle.bb8_core.specs.declared.answers.TryAnswer.{TryAnswer}
-use Rattle.bb8_core.specs.StepAnswers.{try_told, HandsOut}
-use Rattle.bb8_core.specs.Shown.{Shown, Means, Meets}
+use Rattle.bb8_core.specs.StepAnswers.{answer_of_try, HandsOut}
+use Rattle.bb8_core.specs.StateView.{StateView, Represents, Meets}
 use Rattle.bb8_ledger.specs.Acts.{Act, Try}
 use Rattle.bb8_ledger.specs.Answers.{Answer}
 use Rattle.bb8_ledger.specs.Ledger.{Ledger, Later, notified}
@@ -12,22 +12,22 @@ use Rattle.bb8_ledger.specs.Handed.{told_by, brought_by, GoesWith}
 
 module _ {C : Type 0} where
   -- the try of the get that was notified; nothing changes where none was
-  abbrev pub Follows : Shown C → ℕ → Option GetKey → Option (TryAnswer C) → Shown C → Type 0
+  abbrev pub Follows : StateView C → ℕ → Option GetKey → Option (TryAnswer C) → StateView C → Type 0
   Follows old at None None new = new ≡ old
-  Follows old at (Some g) (Some tried) new = Meets old at (Try g.number) (try_told tried) new × HandsOut old tried
+  Follows old at (Some g) (Some tried) new = Meets old at (Try g.number) (answer_of_try tried) new × HandsOut old tried
   Follows old at _ _ new = ⊥
 
-  -- An event and the try of a get, on each legal ledger that the state means and in which nobody was notified: the get goes out with the
+  -- An event and the try of a get, on each legal ledger that the state represents and in which nobody was notified: the get goes out with the
   -- connection that the event brought, or waits anew where it brought none, and nobody is notified then.
-  abbrev pub HandsOn : Shown C → ℕ → Act C → Answer → ℕ → Answer → Type 0
-  HandsOn s at e a g b = (l : Ledger C) → IsLegal l → Means l s → notified l ≡ 0 → GoesWith (brought_by a) b × (notified (Later (Later l at e a) at (Try g) b) ≡ 0)
+  abbrev pub HandsOn : StateView C → ℕ → Act C → Answer → ℕ → Answer → Type 0
+  HandsOn s at e a g b = (l : Ledger C) → IsLegal l → Represents l s → notified l ≡ 0 → GoesWith (brought_by a) b × (notified (Later (Later l at e a) at (Try g) b) ≡ 0)
 
   -- an event that notified a get, and at once the try of this get: two steps, with a state between them
-  abbrev pub TriesAtOnce : Shown C → ℕ → Act C → Answer → TryAnswer C → Shown C → Type 0
-  TriesAtOnce old at e a tried new = (g : ℕ) × (told_by a ≡ Some g) × (between : Shown C) × Meets old at e a between
-      × Meets between at (Try g) (try_told tried) new × HandsOut between tried × HandsOn old at e a g (try_told tried)
+  abbrev pub TriesAtOnce : StateView C → ℕ → Act C → Answer → TryAnswer C → StateView C → Type 0
+  TriesAtOnce old at e a tried new = (g : ℕ) × (told_by a ≡ Some g) × (between : StateView C) × Meets old at e a between
+      × Meets between at (Try g) (answer_of_try tried) new × HandsOut between tried × HandsOn old at e a g (answer_of_try tried)
 
   -- A step that hands over: its event notified nobody, or it is the event and the try of the get that it notified.
-  abbrev pub HandsOver : Option (TryAnswer C) → Shown C → ℕ → Act C → Answer → Shown C → Type 0
+  abbrev pub HandsOver : Option (TryAnswer C) → StateView C → ℕ → Act C → Answer → StateView C → Type 0
   HandsOver None old at e a new = Meets old at e a new × (told_by a ≡ None)
   HandsOver (Some tried) old at e a new = TriesAtOnce old at e a tried new

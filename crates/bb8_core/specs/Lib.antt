@@ -1,5 +1,5 @@
 pub mod Asked
-pub mod Shown
+pub mod StateView
 pub mod Decided
 pub mod StepAnswers
 pub mod HandedOver

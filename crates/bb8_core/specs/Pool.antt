@@ -1,12 +1,12 @@
 -- What the fields of a `PoolInternals` mean.
 use Rattle.bb8_core.specs.declared.internals.PoolInternals.TheInside.{Inside}
 use Rattle.bb8_types.specs.Settings.{settings_of}
-use Rattle.bb8_core.specs.Shown.{Shown}
+use Rattle.bb8_core.specs.StateView.{StateView}
 use Rattle.bb8_tables.specs.Counted.{counts_held}
 
 module _ {C A : Type 0} where
   -- what the fields show
-  abbrev pub view_of : Inside C A → Shown C
+  abbrev pub view_of : Inside C A → StateView C
   view_of a = record {
     config = settings_of a.config;
     latest = a.latest;

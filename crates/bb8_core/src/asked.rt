@@ -1,13 +1,14 @@
-//! The steps of the bare state that may not fit: each asks whether it does, and makes it then. Where it does not nothing changes, and a
-//! connection that was handed in comes back. Homes, replays and C make their steps here.
+//! The steps of the bare state that may not fit. Where one does not nothing changes, and a connection that was handed in comes back. A step
+//! that is given a key tells that by itself; of the others it is asked here whether a handle is alive. Homes, replays and C make their
+//! steps here.
 //!
 //! That what is asked is what the step requires is proved once, here, and that the state keeps the limits.
 ghost use Rattle.std.specs.Prelude.{◌≡◌, None, Some, IfOk, IfErr, IfSome, IfNone};
 ghost use Rattle.bb8_ledger.specs.Acts as acts;
 ghost use Rattle.bb8_ledger.specs.Answers as answers;
 ghost use Rattle.bb8_core.specs.Asked.{Stepped, OrComesBack};
-ghost use Rattle.bb8_core.specs.Shown.{IsWithinLimits, Meets};
-ghost use Rattle.bb8_core.specs.StepAnswers.{begin_told, try_told, checked_ok_told, checked_err_told, reason_of, give_up_told, put_back_told, opened_told, failed_told, add_told, join_told, leave_told, HandsOut, GivesBack, GivesBackInvalid, GivesBackHeld, HandsBack, Refuses, ServesAtOnce, NotAtOnce, Starts};
+ghost use Rattle.bb8_core.specs.StateView.{IsWithinLimits, Meets};
+ghost use Rattle.bb8_core.specs.StepAnswers.{answer_of_begin, answer_of_try, answer_of_checked_ok, answer_of_checked_err, reason_of, answer_of_give_up, answer_of_put_back, answer_of_opened, answer_of_failed, answer_of_add, answer_of_join, answer_of_leave, HandsOut, GivesBack, GivesBackInvalid, GivesBackHeld, HandsBack, Refuses, ServesAtOnce, NotAtOnce, Starts};
 
 use crate::api::Moment;
 use crate::internals::{
@@ -23,7 +24,7 @@ pub struct Unfit;
 /// Begins a get.
 #[inline(always)]
 pub fn begin<C: Drop>(pool: &mut PoolInternals<C>, at: Moment) -> Result<BeginAnswer, Unfit>
-    ensures step { Stepped Meets begin_told pool.old at.0 acts.Begin result pool.new }
+    ensures step { Stepped Meets answer_of_begin pool.old at.0 acts.Begin result pool.new }
     ensures limits { IsWithinLimits pool.old }
 {
     pool.limits();
@@ -71,15 +72,12 @@ pub fn try_get<C: Drop>(
     at: Moment,
     get: GetKey,
 ) -> Result<TryAnswer<C>, Unfit>
-    ensures step { Stepped Meets try_told pool.old at.0 (acts.Try get.number) result pool.new }
+    ensures step { Stepped Meets answer_of_try pool.old at.0 (acts.Try get.number) result pool.new }
     ensures connection { IfOk result (HandsOut pool.old) }
     ensures limits { IsWithinLimits pool.old }
 {
     pool.limits();
-    if !pool.fits_try(get) {
-        return Err(Unfit);
-    }
-    Ok(pool.try_get(at, get))
+    pool.try_get(at, get)
 }
 
 /// Tells that the check of a get was passed.
@@ -90,7 +88,7 @@ pub fn checked_ok<C: Drop>(
     get: GetKey,
     hint: usize,
 ) -> Result<CheckedOkAnswer, Unfit>
-    ensures step { Stepped Meets (checked_ok_told pool.old.records.next)
+    ensures step { Stepped Meets (answer_of_checked_ok pool.old.records.next)
         pool.old at.0 (acts.CheckedOk get.number) result pool.new }
     ensures limits { IsWithinLimits pool.old }
 {
@@ -108,16 +106,13 @@ pub fn checked_err<C: Drop>(
     broken: bool,
     hint: usize,
 ) -> Result<CheckedErrAnswer<C>, C>
-    ensures step { Stepped Meets checked_err_told pool.old at.0 (acts.CheckedErr get.number broken)
-        result pool.new }
+    ensures step { Stepped Meets answer_of_checked_err pool.old at.0
+        (acts.CheckedErr get.number broken) result pool.new }
     ensures connection { OrComesBack GivesBackInvalid conn result }
     ensures limits { IsWithinLimits pool.old }
 {
     pool.limits();
-    if !pool.fits_checked_err(get) {
-        return Err(conn);
-    }
-    Ok(pool.checked_err(at, get, conn, broken, hint))
+    pool.checked_err(at, get, conn, broken, hint)
 }
 
 /// Gives up a get that holds nothing.
@@ -129,16 +124,13 @@ pub fn give_up<C: Drop>(
     reason: Reason,
     broken: bool,
 ) -> Result<GiveUpAnswer<C>, Unfit>
-    ensures step { Stepped Meets give_up_told
+    ensures step { Stepped Meets answer_of_give_up
         pool.old at.0 (acts.GiveUp get.number (reason_of reason) None broken) result pool.new }
     ensures connection { IfOk result (GivesBackHeld None) }
     ensures limits { IsWithinLimits pool.old }
 {
     pool.limits();
-    if !pool.fits_give_up(get, false) {
-        return Err(Unfit);
-    }
-    Ok(pool.give_up(at, get, reason, broken))
+    pool.give_up(at, get, reason, broken)
 }
 
 /// Gives up a get that holds this connection.
@@ -152,7 +144,7 @@ pub fn give_back<C: Drop>(
     broken: bool,
     hint: usize,
 ) -> Result<GiveUpAnswer<C>, C>
-    ensures step { Stepped Meets give_up_told pool.old at.0
+    ensures step { Stepped Meets answer_of_give_up pool.old at.0
         (acts.GiveUp get.number (reason_of reason) (Some conn) broken) result pool.new }
     ensures connection { OrComesBack (λ c. GivesBackHeld (Some c)) conn result }
     ensures limits { IsWithinLimits pool.old }
@@ -170,7 +162,7 @@ pub fn put_back<C: Drop>(
     conn: C,
     broken: bool,
 ) -> Result<PutBackAnswer<C>, C>
-    ensures step { Stepped Meets (put_back_told key.number)
+    ensures step { Stepped Meets (answer_of_put_back key.number)
         pool.old at.0 (acts.PutBack key.number conn broken) result pool.new }
     ensures connection { OrComesBack GivesBack conn result }
     ensures limits { IsWithinLimits pool.old }
@@ -187,16 +179,13 @@ pub fn opened<C: Drop>(
     key: Key,
     conn: C,
 ) -> Result<OpenedAnswer<C>, C>
-    ensures step { Stepped Meets (opened_told key.number)
+    ensures step { Stepped Meets (answer_of_opened key.number)
         pool.old at.0 (acts.Opened key.number conn) result pool.new }
     ensures connection { OrComesBack HandsBack conn result }
     ensures limits { IsWithinLimits pool.old }
 {
     pool.limits();
-    if !pool.fits_opened(key) {
-        return Err(conn);
-    }
-    Ok(pool.opened(at, key, conn))
+    pool.opened(at, key, conn)
 }
 
 /// Ends a claimed approval that brought nothing.
@@ -206,15 +195,12 @@ pub fn failed<C: Drop>(
     at: Moment,
     key: Key,
 ) -> Result<FailedAnswer, Unfit>
-    ensures step { Stepped Meets failed_told pool.old at.0 (acts.Failed key.number)
+    ensures step { Stepped Meets answer_of_failed pool.old at.0 (acts.Failed key.number)
         result pool.new }
     ensures limits { IsWithinLimits pool.old }
 {
     pool.limits();
-    if !pool.fits_failed(key) {
-        return Err(Unfit);
-    }
-    Ok(pool.failed(at, key))
+    pool.failed(at, key)
 }
 
 /// Adds a connection.
@@ -225,7 +211,8 @@ pub fn add<C: Drop>(
     conn: C,
     broken: bool,
 ) -> Result<AddAnswer<C>, C>
-    ensures step { Stepped Meets add_told pool.old at.0 (acts.Add conn broken) result pool.new }
+    ensures step { Stepped Meets answer_of_add pool.old at.0 (acts.Add conn broken)
+        result pool.new }
     ensures connection { OrComesBack Refuses conn result }
     ensures limits { IsWithinLimits pool.old }
 {
@@ -239,7 +226,7 @@ pub fn add<C: Drop>(
 /// Adds a handle.
 #[inline(always)]
 pub fn join<C: Drop>(pool: &mut PoolInternals<C>, at: Moment) -> Result<JoinAnswer, Unfit>
-    ensures step { Stepped Meets join_told pool.old at.0 acts.Join result pool.new }
+    ensures step { Stepped Meets answer_of_join pool.old at.0 acts.Join result pool.new }
     ensures limits { IsWithinLimits pool.old }
 {
     pool.limits();
@@ -252,7 +239,7 @@ pub fn join<C: Drop>(pool: &mut PoolInternals<C>, at: Moment) -> Result<JoinAnsw
 /// Takes a handle away.
 #[inline(always)]
 pub fn leave<C: Drop>(pool: &mut PoolInternals<C>, at: Moment) -> Result<LeaveAnswer, Unfit>
-    ensures step { Stepped Meets leave_told pool.old at.0 acts.Leave result pool.new }
+    ensures step { Stepped Meets answer_of_leave pool.old at.0 acts.Leave result pool.new }
     ensures limits { IsWithinLimits pool.old }
 {
     pool.limits();

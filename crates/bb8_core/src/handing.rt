@@ -6,8 +6,8 @@ ghost use Rattle.std.specs.Prelude.{None, Some, IfSome, IfOk};
 ghost use Rattle.bb8_ledger.specs.Acts as acts;
 ghost use Rattle.bb8_core.specs.Asked.{Stepped, OrComesBack};
 ghost use Rattle.bb8_core.specs.HandedOver.{HandsOver, Follows};
-ghost use Rattle.bb8_core.specs.Shown.{IsFitting, IsWithinLimits};
-ghost use Rattle.bb8_core.specs.StepAnswers.{checked_err_told, give_up_told, put_back_told, opened_told, add_told, reason_of, GivesBack, GivesBackInvalid, GivesBackHeld, HandsBack, Refuses};
+ghost use Rattle.bb8_core.specs.StateView.{IsFitting, IsWithinLimits};
+ghost use Rattle.bb8_core.specs.StepAnswers.{answer_of_checked_err, answer_of_give_up, answer_of_put_back, answer_of_opened, answer_of_add, reason_of, GivesBack, GivesBackInvalid, GivesBackHeld, HandsBack, Refuses};
 
 use crate::api::Moment;
 use crate::asked::{self, Unfit};
@@ -35,9 +35,14 @@ fn try_of<C: Drop>(
     requires { IfSome notified (λ g. IsFitting pool.old (acts.Try g.number)) }
     ensures { Follows pool.old at.0 notified result pool.new }
 {
+    pool.limits();
     match notified {
         None => None,
-        Some(get) => Some(pool.try_get(at, get)),
+        Some(get) => match pool.try_get(at, get) {
+            Ok(tried) => Some(tried),
+            // Whoever was notified may try, so this does not come.
+            Err(Unfit) => None,
+        },
     }
 }
 
@@ -70,7 +75,7 @@ pub fn checked_err<C: Drop>(
     broken: bool,
     hint: usize,
 ) -> HandedOver<Result<CheckedErrAnswer<C>, C>, C>
-    ensures step { Stepped (HandsOver result.tried) checked_err_told pool.old at.0
+    ensures step { Stepped (HandsOver result.tried) answer_of_checked_err pool.old at.0
         (acts.CheckedErr get.number broken) result.told pool.new }
     ensures connection { OrComesBack GivesBackInvalid conn result.told }
     ensures limits { IsWithinLimits pool.old }
@@ -91,7 +96,7 @@ pub fn give_up<C: Drop>(
     reason: Reason,
     broken: bool,
 ) -> HandedOver<Result<GiveUpAnswer<C>, Unfit>, C>
-    ensures step { Stepped (HandsOver result.tried) give_up_told pool.old at.0
+    ensures step { Stepped (HandsOver result.tried) answer_of_give_up pool.old at.0
         (acts.GiveUp get.number (reason_of reason) None broken) result.told pool.new }
     ensures connection { IfOk result.told (GivesBackHeld None) }
     ensures limits { IsWithinLimits pool.old }
@@ -110,7 +115,7 @@ pub fn give_back<C: Drop>(
     broken: bool,
     hint: usize,
 ) -> HandedOver<Result<GiveUpAnswer<C>, C>, C>
-    ensures step { Stepped (HandsOver result.tried) give_up_told pool.old at.0
+    ensures step { Stepped (HandsOver result.tried) answer_of_give_up pool.old at.0
         (acts.GiveUp get.number (reason_of reason) (Some conn) broken) result.told pool.new }
     ensures connection { OrComesBack (λ c. GivesBackHeld (Some c)) conn result.told }
     ensures limits { IsWithinLimits pool.old }
@@ -131,7 +136,7 @@ pub fn put_back<C: Drop>(
     conn: C,
     broken: bool,
 ) -> HandedOver<Result<PutBackAnswer<C>, C>, C>
-    ensures step { Stepped (HandsOver result.tried) (put_back_told key.number) pool.old at.0
+    ensures step { Stepped (HandsOver result.tried) (answer_of_put_back key.number) pool.old at.0
         (acts.PutBack key.number conn broken) result.told pool.new }
     ensures connection { OrComesBack GivesBack conn result.told }
     ensures limits { IsWithinLimits pool.old }
@@ -147,7 +152,7 @@ pub fn opened<C: Drop>(
     key: Key,
     conn: C,
 ) -> HandedOver<Result<OpenedAnswer<C>, C>, C>
-    ensures step { Stepped (HandsOver result.tried) (opened_told key.number) pool.old at.0
+    ensures step { Stepped (HandsOver result.tried) (answer_of_opened key.number) pool.old at.0
         (acts.Opened key.number conn) result.told pool.new }
     ensures connection { OrComesBack HandsBack conn result.told }
     ensures limits { IsWithinLimits pool.old }
@@ -163,7 +168,7 @@ pub fn add<C: Drop>(
     conn: C,
     broken: bool,
 ) -> HandedOver<Result<AddAnswer<C>, C>, C>
-    ensures step { Stepped (HandsOver result.tried) add_told pool.old at.0
+    ensures step { Stepped (HandsOver result.tried) answer_of_add pool.old at.0
         (acts.Add conn broken) result.told pool.new }
     ensures connection { OrComesBack Refuses conn result.told }
     ensures limits { IsWithinLimits pool.old }

@@ -1,11 +1,8 @@
 //! The locked state of a pool.
-ghost use Rattle.std.specs.Prelude.{◌≡◌, ◌+◌, ◌≤◌, min, not, cond, slice_get, IfSome, IfNone, IfOk, true, false, None, Some};
-ghost use Rattle.std.specs.FinMap as map;
+ghost use Rattle.std.specs.Prelude.{◌≡◌, ◌+◌, ◌≤◌, min, IfSome, IfNone, IfOk, true, false, None, Some};
 ghost use Rattle.bb8_ledger.specs.Acts as acts;
 ghost use Rattle.bb8_ledger.specs.Answers as answers;
 ghost use Rattle.bb8_ledger.specs.Ledger as ledger;
-ghost use Rattle.bb8_types.specs.Places as places;
-ghost use Rattle.bb8_tables.specs.Machine as machine;
 ghost use Rattle.bb8_core.specs.Decided as decided;
 ghost use Rattle.bb8_types.specs.Grants as grants;
 ghost use Rattle.bb8_types.specs.Settings.{settings_of, is_lawful};
@@ -13,15 +10,12 @@ ghost use Rattle.bb8_types.specs.Figures.{figures_of};
 ghost use Rattle.bb8_core.specs.Endings.{endings_of};
 ghost use Rattle.bb8_core.specs.Run.{opening};
 ghost use Rattle.bb8_core.specs.Parts.{out_of};
-ghost use Rattle.bb8_core.specs.Shown.{Means, Meets, Lends, Searches, examined, searched, IsFitting, IsWithinLimits};
+ghost use Rattle.bb8_core.specs.StateView.{Represents, Meets, Lends, Searches, examined, searched, IsFitting, IsWithinLimits};
 ghost use Rattle.bb8_core.specs.Asked.{Stepped, OrComesBack};
 ghost use Rattle.bb8_core.specs.Closings.{OffersReaped, OffersLeft};
-ghost use Rattle.bb8_core.specs.StepAnswers.{begin_told, try_told, checked_ok_told, checked_err_told, reason_of, give_up_told, put_back_told, claim_told, opened_told, failed_told, add_told, reap_told, join_told, leave_told, look_told, HandsOut, ServesAtOnce, NoneAtOnce, Starts, GivesBack, GivesBackInvalid, GivesBackHeld, HandsBack, Refuses, closed_in};
+ghost use Rattle.bb8_core.specs.StepAnswers.{answer_of_begin, answer_of_try, answer_of_checked_ok, answer_of_checked_err, reason_of, answer_of_give_up, answer_of_put_back, answer_of_claim, answer_of_opened, answer_of_failed, answer_of_add, answer_of_reap, answer_of_join, answer_of_leave, answer_of_look, HandsOut, ServesAtOnce, NoneAtOnce, Starts, GivesBack, GivesBackInvalid, GivesBackHeld, HandsBack, Refuses, closed_in};
 ghost use Rattle.bb8_types.specs.declared.standing.Holder.TheVariants.{Guard, Get};
-ghost use Rattle.bb8_types.specs.declared.standing.Standing.{Standing};
-ghost use Rattle.bb8_types.specs.Bounds.{end_of_numbers, most_records};
-ghost use Rattle.bb8_tables.specs.Keys.{notified_of};
-ghost use Rattle.bb8_tables.specs.Lent.{AddsLent};
+ghost use Rattle.bb8_types.specs.Bounds.{end_of_numbers};
 
 mod decided;
 mod questions;
@@ -34,15 +28,15 @@ pub use crate::answers::{
 use crate::asked::Unfit;
 pub use bb8_tables::closed::{Closed, ClosedList};
 use bb8_tables::counters::Counters;
-use bb8_tables::gets::{Gets, first_wait, held_key, is_notified, is_unnotified};
+use bb8_tables::gets::{Gets, first_wait, is_notified, is_trying, is_unnotified};
 pub use bb8_tables::keys::{GetKey, Key};
 use bb8_tables::records::Records;
-use bb8_tables::{Asking, Lendings};
+use bb8_tables::{Lendings, UncountedAccess};
 use bb8_types::api::{Config, Moment, State};
 pub use bb8_types::grants::Grant;
 pub use bb8_types::reasons::Reason;
 use bb8_types::standing::{GetPlace, Holder};
-use decided::{due_waiting, end_out, hand_on, holder, is_expired, want};
+use decided::{close_and_grant, due_waiting, holder, is_expired, notify_next_if, want};
 use std::alloc::Global;
 use std::marker::Model;
 
@@ -51,9 +45,9 @@ use std::marker::Model;
 ///
 /// Whoever has one has what some legal ledger shows, so it keeps the limits: see `limits`.
 ///
-/// Its steps know nothing of `A`, so they can look at the tables on the state's own count alone. Who knows that it is `Asking` may ask.
+/// Its steps stand in an impl for every `A`, so they cannot ask by `asking`, as the questions do, which stand in an impl for `UncountedAccess`.
 #[derive(Drop)]
-pub struct PoolInternals<C, A = Asking> {
+pub struct PoolInternals<C, A = UncountedAccess> {
     config: Config,
     latest: u64,
     handles: u64,
@@ -65,12 +59,12 @@ pub struct PoolInternals<C, A = Asking> {
 }
 
 impl<C, A> Model for PoolInternals<C, A> {
-    ghost use Rattle.bb8_core.specs.Shown.{Shown, shown_code, HasLedger};
+    ghost use Rattle.bb8_core.specs.StateView.{StateView, state_view_code, HasLedger};
     ghost use Rattle.bb8_core.specs.Pool.{view_of};
 
-    ghost Value = { Shown C };
+    ghost Value = { StateView C };
 
-    ghost coded = { shown_code C.code };
+    ghost coded = { state_view_code C.code };
 
     ghost view = { view_of };
 
@@ -81,7 +75,7 @@ impl<C: Drop> PoolInternals<C> {
     /// The empty state with one handle, which takes no memory. Numbers begin at 0.
     pub fn new(alloc: Global, config: Config) -> Self
         requires { is_lawful (settings_of config) ≡ true }
-        ensures { Means (opening config 0 0) result }
+        ensures { Represents (opening config 0 0) result }
     {
         Self::starting_at(alloc, config, 0, 0)
     }
@@ -90,7 +84,7 @@ impl<C: Drop> PoolInternals<C> {
     /// `first_get` on. It takes no memory.
     pub fn starting_at(alloc: Global, config: Config, first_number: u64, first_get: u64) -> Self
         requires { is_lawful (settings_of config) ≡ true }
-        ensures { Means (opening config first_number first_get) result }
+        ensures { Represents (opening config first_number first_get) result }
     {
         let (records, asking) = Records::new(alloc, first_number);
         PoolInternals {
@@ -108,7 +102,7 @@ impl<C: Drop> PoolInternals<C> {
 
 impl<C: Drop, A> PoolInternals<C, A> {
     /// What holds of every state, whoever has it: its configuration is lawful, connections and open approvals are within the size, and the
-    /// legal ledger that it means keeps all limits. It does nothing.
+    /// legal ledger that it represents keeps all limits. It does nothing.
     pub fn limits(&self)
         ensures lawful { is_lawful self.now.config ≡ true }
         ensures size { self.now.records.conns + self.now.records.approved ≤
@@ -135,7 +129,7 @@ impl<C: Drop, A> PoolInternals<C, A> {
     /// Begins a get. Memory is asked for only where as many gets are alive as ever were.
     pub fn begin(&mut self, at: Moment) -> BeginAnswer
         requires { IsFitting self.old acts.Begin }
-        ensures step { Meets self.old at.0 acts.Begin (begin_told result) self.new }
+        ensures step { Meets self.old at.0 acts.Begin (answer_of_begin result) self.new }
         ensures examined { Lends 4 self.old self.new }
         ensures searched { Searches 0 self.new }
     {
@@ -181,7 +175,7 @@ impl<C: Drop, A> PoolInternals<C, A> {
             Some((key, conn)) => {
                 let now = self.latest.max(at.0);
                 self.latest = now;
-                let get = self.gets.pass();
+                let get = self.gets.begin_and_end();
                 self.counters.started += 1;
                 self.counters.serve(None, now);
                 let wanted = want(&self.config, self.handles, &self.records);
@@ -273,7 +267,7 @@ impl<C: Drop, A> PoolInternals<C, A> {
                     return Started::Tried(get, TryAnswer::Taken(key, conn, grant));
                 }
                 self.lendings = lendings;
-                let _ = self.gets.pass();
+                let _ = self.gets.begin_and_end();
                 self.counters.serve(None, now);
                 Started::Tried(next, TryAnswer::Served(key, conn, grant))
             }
@@ -282,20 +276,26 @@ impl<C: Drop, A> PoolInternals<C, A> {
 
     /// Takes out the idle connection that is first by the queue strategy, and grants what is wanted then. Where connections are checked, the
     /// get holds it until its check is told; otherwise the get is served with it, and it goes to a guard. Where none is idle the get waits from now on, and one approval is granted where gets outnumber open approvals. A get that waits
-    /// and was not notified waits on, and nothing changes but the latest moment. No memory is asked for, but for approvals.
-    pub fn try_get(&mut self, at: Moment, get: GetKey) -> TryAnswer<C>
-        requires { IsFitting self.old (acts.Try get.number) }
-        ensures step { Meets self.old at.0 (acts.Try get.number) (try_told result) self.new }
-        ensures connection { HandsOut self.old result }
-        ensures examined { Lends 4 self.old self.new }
-        ensures searched { Searches 2 self.new }
+    /// and was not notified waits on, and nothing changes but the latest moment. No memory is asked for, but for approvals. Where the get may
+    /// not try nothing changes.
+    pub fn try_get(&mut self, at: Moment, get: GetKey) -> Result<TryAnswer<C>, Unfit>
+        ensures step { Stepped Meets answer_of_try
+            self.old at.0 (acts.Try get.number) result self.new }
+        ensures connection { IfOk result (HandsOut self.old) }
+        ensures examined { IfOk result (λ told. Lends 4 self.old self.new) }
+        ensures searched { IfOk result (λ told. Searches 2 self.new) }
     {
+        let mut lendings = self.lendings.begun();
+        let getting = self.gets.getting(get, &mut lendings);
+        if !is_trying(getting) {
+            return Err(Unfit);
+        }
         let now = self.latest.max(at.0);
         self.latest = now;
-        self.lendings.start();
-        let getting = self.gets.getting(get, &mut self.lendings);
+        self.lendings = lendings;
         if is_unnotified(getting) {
-            return TryAnswer::Waiting(Grant::of_nothing(self.records.next_number()));
+            let nothing = Grant::of_nothing(self.records.next_number());
+            return Ok(TryAnswer::Waiting(nothing));
         }
         let holder = holder(&self.config, get);
         match self
@@ -307,7 +307,7 @@ impl<C: Drop, A> PoolInternals<C, A> {
                 let due = due_waiting(&self.config, self.handles, &self.records, alive);
                 let grant = self.records.grant(due, false);
                 self.gets.wait(get, now, &mut self.lendings);
-                TryAnswer::Waiting(grant)
+                Ok(TryAnswer::Waiting(grant))
             }
             Some((key, conn)) => {
                 let wanted = want(&self.config, self.handles, &self.records);
@@ -315,11 +315,11 @@ impl<C: Drop, A> PoolInternals<C, A> {
                 if self.config.test_on_check_out {
                     self.gets
                         .turn(get, GetPlace::Holding(key.number), &mut self.lendings);
-                    return TryAnswer::Taken(key, conn, grant);
+                    return Ok(TryAnswer::Taken(key, conn, grant));
                 }
                 self.gets.finish(get, &mut self.lendings);
                 self.counters.serve(first_wait(getting), now);
-                TryAnswer::Served(key, conn, grant)
+                Ok(TryAnswer::Served(key, conn, grant))
             }
         }
     }
@@ -332,10 +332,10 @@ impl<C: Drop, A> PoolInternals<C, A> {
         get: GetKey,
         hint: usize,
     ) -> Result<CheckedOkAnswer, Unfit>
-        ensures step { Stepped Meets (checked_ok_told self.old.records.next)
+        ensures step { Stepped Meets (answer_of_checked_ok self.old.records.next)
             self.old at.0 (acts.CheckedOk get.number) result self.new }
         ensures examined { IfOk result (λ told. Lends 4 self.old self.new) }
-        ensures searched { IfOk result (λ told. Searches 3 self.new) }
+        ensures searched { IfOk result (λ told. Searches 2 self.new) }
     {
         let mut lendings = self.lendings.begun();
         match self.gets.finish_holding(get, &mut lendings) {
@@ -356,7 +356,8 @@ impl<C: Drop, A> PoolInternals<C, A> {
     }
 
     /// Closes the connection that a get holds, as its check failed; the get may try again. It counts as invalid, and as broken too where it
-    /// is broken, or else as too old where it has lived too long. The hint is as of `checked_ok`.
+    /// is broken, or else as too old where it has lived too long. The hint is as of `checked_ok`. Where the get holds none nothing changes, and
+    /// the connection comes back.
     pub fn checked_err(
         &mut self,
         at: Moment,
@@ -364,35 +365,41 @@ impl<C: Drop, A> PoolInternals<C, A> {
         conn: C,
         broken: bool,
         hint: usize,
-    ) -> CheckedErrAnswer<C>
-        requires { IsFitting self.old (acts.CheckedErr get.number broken) }
-        ensures step { Meets self.old at.0 (acts.CheckedErr get.number broken)
-            (checked_err_told result) self.new }
-        ensures connection { GivesBackInvalid conn result }
-        ensures examined { Lends 4 self.old self.new }
-        ensures searched { Searches 4 self.new }
+    ) -> Result<CheckedErrAnswer<C>, C>
+        ensures step { Stepped Meets answer_of_checked_err
+            self.old at.0 (acts.CheckedErr get.number broken) result self.new }
+        ensures connection { OrComesBack GivesBackInvalid conn result }
+        ensures examined { IfOk result (λ told. Lends 4 self.old self.new) }
+        ensures searched { IfOk result (λ told. Searches 3 self.new) }
     {
+        let mut lendings = self.lendings.begun();
+        let Some(held) = self.gets.let_go(get, &mut lendings) else {
+            return Err(conn);
+        };
         let now = self.latest.max(at.0);
         self.latest = now;
-        self.lendings.start();
-        let key = held_key(self.gets.getting(get, &mut self.lendings), hint);
-        let birth = self.records.birth(key, &mut self.lendings);
+        let key = Key {
+            number: held,
+            place: hint,
+        };
+        let birth = self.records.birth(key, &mut lendings);
         let expired = is_expired(&self.config, now, birth);
-        let granted = end_out(
+        let grant = close_and_grant(
             &self.config,
             self.handles,
             &mut self.records,
             key,
-            &mut self.lendings,
+            &mut lendings,
         );
         self.counters.invalid += 1;
         self.counters.close(broken, expired);
-        self.gets.turn(get, GetPlace::Active, &mut self.lendings);
-        CheckedErrAnswer::Closed(key, conn, granted, self.gets.notify(&mut self.lendings))
+        let notified = self.gets.notify(&mut lendings);
+        self.lendings = lendings;
+        Ok(CheckedErrAnswer::Closed(key, conn, grant, notified))
     }
 
     /// Ends a get that is not served, as it timed out or was cancelled, and that holds nothing. Where it had been notified, the oldest waiter that
-    /// was not is notified in its place.
+    /// was not is notified in its place. Where there is no such get nothing changes. It is looked for once.
     #[inline(always)]
     pub fn give_up(
         &mut self,
@@ -400,21 +407,23 @@ impl<C: Drop, A> PoolInternals<C, A> {
         get: GetKey,
         reason: Reason,
         broken: bool,
-    ) -> GiveUpAnswer<C>
-        requires { IsFitting self.old (acts.GiveUp get.number (reason_of reason) None broken) }
-        ensures step { Meets self.old at.0 (acts.GiveUp get.number (reason_of reason) None broken)
-            (give_up_told result) self.new }
-        ensures connection { GivesBackHeld None result }
-        ensures examined { Lends 4 self.old self.new }
-        ensures searched { Searches 2 self.new }
+    ) -> Result<GiveUpAnswer<C>, Unfit>
+        ensures step { Stepped Meets answer_of_give_up self.old at.0
+            (acts.GiveUp get.number (reason_of reason) None broken) result self.new }
+        ensures connection { IfOk result (GivesBackHeld None) }
+        ensures examined { IfOk result (λ told. Lends 4 self.old self.new) }
+        ensures searched { IfOk result (λ told. Searches 1 self.new) }
     {
+        let mut lendings = self.lendings.begun();
+        let Some(getting) = self.gets.end(get, &mut lendings) else {
+            return Err(Unfit);
+        };
         let now = self.latest.max(at.0);
         self.latest = now;
-        self.lendings.start();
-        let getting = self.gets.getting(get, &mut self.lendings);
-        self.gets.end(get, &mut self.lendings);
-        self.counters.give_up(reason, first_wait(getting), now);
-        GiveUpAnswer::GaveUp(hand_on(&mut self.gets, is_notified(getting), &mut self.lendings))
+        self.counters.give_up(reason, getting.first_wait, now);
+        let heir = notify_next_if(&mut self.gets, is_notified(Some(getting)), &mut lendings);
+        self.lendings = lendings;
+        Ok(GiveUpAnswer::GaveUp(heir))
     }
 
     /// Ends a get that is not served and holds a connection, which is handed in and returns as in `put_back`. The hint is as of `checked_ok`.
@@ -429,11 +438,11 @@ impl<C: Drop, A> PoolInternals<C, A> {
         broken: bool,
         hint: usize,
     ) -> Result<GiveUpAnswer<C>, C>
-        ensures step { Stepped Meets give_up_told self.old at.0
+        ensures step { Stepped Meets answer_of_give_up self.old at.0
             (acts.GiveUp get.number (reason_of reason) (Some conn) broken) result self.new }
         ensures connection { OrComesBack (λ c. GivesBackHeld (Some c)) conn result }
         ensures examined { IfOk result (λ told. Lends 4 self.old self.new) }
-        ensures searched { IfOk result (λ told. Searches 4 self.new) }
+        ensures searched { IfOk result (λ told. Searches 3 self.new) }
     {
         let mut lendings = self.lendings.begun();
         let Some((held, first_wait)) = self.gets.finish_holding(get, &mut lendings) else {
@@ -467,7 +476,7 @@ impl<C: Drop, A> PoolInternals<C, A> {
             }
             Ok(Err((conn, expired))) => {
                 self.lendings = lendings;
-                let grant = end_out(
+                let grant = close_and_grant(
                     &self.config,
                     self.handles,
                     &mut self.records,
@@ -490,7 +499,7 @@ impl<C: Drop, A> PoolInternals<C, A> {
         conn: C,
         broken: bool,
     ) -> Result<PutBackAnswer<C>, C>
-        ensures step { Stepped Meets (put_back_told k.number)
+        ensures step { Stepped Meets (answer_of_put_back k.number)
             self.old at.0 (acts.PutBack k.number conn broken) result self.new }
         ensures connection { OrComesBack GivesBack conn result }
         ensures examined { IfOk result (λ told. Lends 4 self.old self.new) }
@@ -520,7 +529,7 @@ impl<C: Drop, A> PoolInternals<C, A> {
             Ok(Err((conn, expired))) => {
                 self.latest = now;
                 self.lendings = lendings;
-                let grant = end_out(
+                let grant = close_and_grant(
                     &self.config,
                     self.handles,
                     &mut self.records,
@@ -548,7 +557,7 @@ impl<C: Drop, A> PoolInternals<C, A> {
 
     /// Claims the unclaimed approval of the least number.
     pub fn claim(&mut self, at: Moment) -> ClaimAnswer
-        ensures step { Meets self.old at.0 acts.Claim (claim_told result) self.new }
+        ensures step { Meets self.old at.0 acts.Claim (answer_of_claim result) self.new }
         ensures examined { Lends 4 self.old self.new }
         ensures searched { Searches 0 self.new }
     {
@@ -561,39 +570,50 @@ impl<C: Drop, A> PoolInternals<C, A> {
     }
 
     /// Makes idle the connection that a claimed approval brought; its birth is now. Where no handle is alive the approval ends instead,
-    /// and the connection is handed back.
-    pub fn opened(&mut self, at: Moment, a: Key, conn: C) -> OpenedAnswer<C>
-        requires { IsFitting self.old (acts.Opened a.number conn) }
-        ensures step { Meets self.old at.0 (acts.Opened a.number conn)
-            (opened_told a.number result) self.new }
-        ensures connection { HandsBack conn result }
-        ensures examined { Lends 4 self.old self.new }
-        ensures searched { Searches 1 self.new }
+    /// and the connection is handed back. Where the number is no claimed approval it comes back, and nothing changes. It is looked for once.
+    pub fn opened(&mut self, at: Moment, a: Key, conn: C) -> Result<OpenedAnswer<C>, C>
+        ensures step { Stepped Meets (answer_of_opened a.number)
+            self.old at.0 (acts.Opened a.number conn) result self.new }
+        ensures connection { OrComesBack HandsBack conn result }
+        ensures examined { IfOk result (λ told. Lends 4 self.old self.new) }
+        ensures searched { IfOk result (λ told. Searches 1 self.new) }
     {
         let now = self.latest.max(at.0);
-        self.latest = now;
-        self.lendings.start();
+        let mut lendings = self.lendings.begun();
         if self.handles == 0 {
-            self.records.close(a, true, &mut self.lendings);
-            return OpenedAnswer::Late(conn);
+            if !self.records.end_claimed(a, &mut lendings) {
+                return Err(conn);
+            }
+            self.latest = now;
+            self.lendings = lendings;
+            return Ok(OpenedAnswer::Late(conn));
         }
-        self.records.enter(a, conn, now, &mut self.lendings);
-        self.counters.created += 1;
-        OpenedAnswer::Entered(self.gets.notify(&mut self.lendings))
+        match self.records.enter(a, conn, now, &mut lendings) {
+            Err(conn) => Err(conn),
+            Ok(()) => {
+                self.latest = now;
+                self.counters.created += 1;
+                let notified = self.gets.notify(&mut lendings);
+                self.lendings = lendings;
+                Ok(OpenedAnswer::Entered(notified))
+            }
+        }
     }
 
-    /// Ends a claimed approval that brought no connection. Nobody is notified.
-    pub fn failed(&mut self, at: Moment, approval: Key) -> FailedAnswer
-        requires { IsFitting self.old (acts.Failed approval.number) }
-        ensures step { Meets self.old at.0 (acts.Failed approval.number)
-            (failed_told result) self.new }
-        ensures examined { Lends 4 self.old self.new }
-        ensures searched { Searches 1 self.new }
+    /// Ends a claimed approval that brought no connection. Nobody is notified. Where the number is none nothing changes. It is looked for once.
+    pub fn failed(&mut self, at: Moment, approval: Key) -> Result<FailedAnswer, Unfit>
+        ensures step { Stepped Meets answer_of_failed self.old at.0 (acts.Failed approval.number)
+            result self.new }
+        ensures examined { IfOk result (λ told. Lends 4 self.old self.new) }
+        ensures searched { IfOk result (λ told. Searches 1 self.new) }
     {
+        let mut lendings = self.lendings.begun();
+        if !self.records.end_claimed(approval, &mut lendings) {
+            return Err(Unfit);
+        }
         self.latest = self.latest.max(at.0);
-        self.lendings.start();
-        self.records.close(approval, true, &mut self.lendings);
-        FailedAnswer::GivenBack
+        self.lendings = lendings;
+        Ok(FailedAnswer::GivenBack)
     }
 
     /// Adds a connection that no approval brought, born now. A broken one is refused first; then any, where connections and open approvals
@@ -601,7 +621,7 @@ impl<C: Drop, A> PoolInternals<C, A> {
     /// refused.
     pub fn add(&mut self, at: Moment, conn: C, broken: bool) -> AddAnswer<C>
         requires { IsFitting self.old (acts.Add conn broken) }
-        ensures step { Meets self.old at.0 (acts.Add conn broken) (add_told result) self.new }
+        ensures step { Meets self.old at.0 (acts.Add conn broken) (answer_of_add result) self.new }
         ensures connection { Refuses conn result }
         ensures examined { Lends 4 self.old self.new }
         ensures searched { Searches 0 self.new }
@@ -629,7 +649,7 @@ impl<C: Drop, A> PoolInternals<C, A> {
     /// lived too long, or as one that idled. Nobody is notified. The connections are dropped here. Where no handle is alive nothing changes
     /// but the latest moment. It looks at the connections that end, at most at those that are out, and at two more.
     pub fn reap(&mut self, at: Moment) -> ReapAnswer
-        ensures step { Meets self.old at.0 acts.Reap (reap_told result) self.new }
+        ensures step { Meets self.old at.0 acts.Reap (answer_of_reap result) self.new }
         ensures examined { Lends (closed_in result + out_of self.old + 2) self.old self.new }
         ensures searched { Searches 0 self.new }
     {
@@ -641,7 +661,7 @@ impl<C: Drop, A> PoolInternals<C, A> {
     /// room for is dropped.
     pub fn reap_into(&mut self, at: Moment, closed: &mut ClosedList<C>) -> ReapAnswer
         ensures closed { OffersReaped self.old at.0 result closed.old closed.new }
-        ensures step { Meets self.old at.0 acts.Reap (reap_told result) self.new }
+        ensures step { Meets self.old at.0 acts.Reap (answer_of_reap result) self.new }
         ensures examined { Lends (closed_in result + out_of self.old + 2) self.old self.new }
         ensures searched { Searches 0 self.new }
     {
@@ -675,7 +695,7 @@ impl<C: Drop, A> PoolInternals<C, A> {
     /// What the pool tells of itself.
     pub fn state(&mut self, at: Moment) -> State
         ensures step { Meets self.old at.0 acts.State (answers.Shown (figures_of result)) self.new }
-        ensures figures { (l : ledger.Ledger C) → Means l self.old
+        ensures figures { (l : ledger.Ledger C) → Represents l self.old
             → figures_of result ≡ ledger.figures l }
         ensures size { result.connections ≤ self.old.config.max_size }
         ensures idle { result.idle_connections ≤ result.connections }
@@ -694,7 +714,7 @@ impl<C: Drop, A> PoolInternals<C, A> {
     /// Adds a handle, where fewer than 4,294,967,295 are alive.
     pub fn join(&mut self, at: Moment) -> JoinAnswer
         requires { IsFitting self.old acts.Join }
-        ensures step { Meets self.old at.0 acts.Join (join_told result) self.new }
+        ensures step { Meets self.old at.0 acts.Join (answer_of_join result) self.new }
         ensures examined { Lends 4 self.old self.new }
         ensures searched { Searches 0 self.new }
     {
@@ -710,7 +730,7 @@ impl<C: Drop, A> PoolInternals<C, A> {
     /// Takes a handle away. With the last one all idle connections and all unclaimed approvals end; the connections are dropped here.
     pub fn leave(&mut self, at: Moment) -> LeaveAnswer
         requires { IsFitting self.old acts.Leave }
-        ensures step { Meets self.old at.0 acts.Leave (leave_told result) self.new }
+        ensures step { Meets self.old at.0 acts.Leave (answer_of_leave result) self.new }
         ensures examined { Lends 0 self.old self.new }
         ensures searched { Searches 0 self.new }
     {
@@ -721,7 +741,7 @@ impl<C: Drop, A> PoolInternals<C, A> {
     /// Leaves as `leave` does, and puts the connections that it closes into a list, in line. What the list has no room for is dropped.
     pub fn leave_into(&mut self, at: Moment, closed: &mut ClosedList<C>) -> LeaveAnswer
         requires { IsFitting self.old acts.Leave }
-        ensures step { Meets self.old at.0 acts.Leave (leave_told result) self.new }
+        ensures step { Meets self.old at.0 acts.Leave (answer_of_leave result) self.new }
         ensures closed { OffersLeft self.old closed.old closed.new }
         ensures examined { Lends 0 self.old self.new }
         ensures searched { Searches 0 self.new }
@@ -738,7 +758,7 @@ impl<C: Drop, A> PoolInternals<C, A> {
 
     /// The effective moment, and whether a handle is alive.
     pub fn look(&mut self, at: Moment) -> Looked
-        ensures step { Meets self.old at.0 acts.Look (look_told result) self.new }
+        ensures step { Meets self.old at.0 acts.Look (answer_of_look result) self.new }
         ensures examined { Lends 4 self.old self.new }
         ensures searched { Searches 0 self.new }
     {

@@ -10,8 +10,8 @@ ghost use Rattle.bb8_tables.specs.Keys.{notified_of};
 ghost use Rattle.bb8_core.specs.Run.{act_with, fits_named, answer_of, opening, IsRun, Happens, Applies, AfterEach};
 ghost use Rattle.bb8_core.specs.declared.replay.events.Act.TheVariants as events;
 ghost use Rattle.bb8_types.specs.Settings.{settings_of, is_lawful};
-ghost use Rattle.bb8_core.specs.Shown.{Means, Meets};
-ghost use Rattle.bb8_core.specs.StepAnswers.{give_up_told};
+ghost use Rattle.bb8_core.specs.StateView.{Represents, Meets};
+ghost use Rattle.bb8_core.specs.StepAnswers.{answer_of_give_up};
 
 mod events;
 mod hints;
@@ -81,9 +81,9 @@ impl Known {
 
 /// Whether the event fits the state. A connection that it hands in does not matter.
 pub fn fits<C: Drop>(pool: &PoolInternals<C>, event: Event) -> bool
-    ensures named { (l : Ledger C) → IsLegal l → Means l pool.now
+    ensures named { (l : Ledger C) → IsLegal l → Represents l pool.now
         → result ≡ fits_named l event.act }
-    ensures fits { (conn : ℕ → C) (l : Ledger C) → IsLegal l → Means l pool.now
+    ensures fits { (conn : ℕ → C) (l : Ledger C) → IsLegal l → Represents l pool.now
         → result ≡ table.fits l (act_with conn l event.act) }
 {
     fits_act(pool, event.act)
@@ -91,18 +91,18 @@ pub fn fits<C: Drop>(pool: &PoolInternals<C>, event: Event) -> bool
 
 /// As `fits`, by the event alone.
 fn fits_act<C: Drop>(pool: &PoolInternals<C>, act: Act) -> bool
-    ensures { (l : Ledger C) → IsLegal l → Means l pool.now → result ≡ fits_named l act }
+    ensures { (l : Ledger C) → IsLegal l → Represents l pool.now → result ≡ fits_named l act }
 {
     let place = 0;
     match act {
         Act::Begin | Act::Add(_) => pool.fits_begin(),
         Act::Try(number) => pool.fits_try(GetKey { number, place }),
-        Act::CheckedOk(number) => pool.fits_checked_ok(GetKey { number, place }),
-        Act::CheckedErr(number, _) => pool.fits_checked_err(GetKey { number, place }),
+        Act::CheckedOk(number) | Act::CheckedErr(number, _) => {
+            pool.fits_checked_ok(GetKey { number, place })
+        }
         Act::GiveUp(number, _, _) => pool.is_alive(GetKey { number, place }),
         Act::PutBack(number, _) => pool.is_guarded(Key { number, place }),
-        Act::Opened(number) => pool.is_claimed(Key { number, place }),
-        Act::Failed(number) => pool.fits_failed(Key { number, place }),
+        Act::Opened(number) | Act::Failed(number) => pool.is_claimed(Key { number, place }),
         Act::Join => pool.fits_join(),
         Act::Leave => pool.fits_leave(),
         Act::Fill(_) | Act::Claim | Act::Reap | Act::State | Act::Look => true,
@@ -174,7 +174,7 @@ fn checked_err(
 }
 
 fn gave_up(answer: GiveUpAnswer<u64>) -> Answer
-    ensures { answer_of result ≡ give_up_told answer }
+    ensures { answer_of result ≡ answer_of_give_up answer }
 {
     match answer {
         GiveUpAnswer::GaveUp(notified) => Answer::GaveUp(number_of(notified)),
@@ -366,7 +366,7 @@ pub fn replay(
     requires { is_lawful (settings_of config) ≡ true }
     ensures answers { IfOk result (λ r. length r.0.items ≡ length events.now) }
     ensures run { IfOk result (λ r. (last : Ledger ℕ)
-        × IsRun (opening config 0 0) events.now r.0.items last × Means last r.1) }
+        × IsRun (opening config 0 0) events.now r.0.items last × Represents last r.1) }
     ensures limits { IfOk result (λ r. AfterEach KeepsLimits
         (opening config 0 0) events.now r.0.items) }
     ensures laws { IfOk result (λ r. AfterEach KeepsLaws
@@ -391,7 +391,7 @@ pub fn replay_from(
     ensures answers { IfOk result (λ r. length r.0.items ≡ length events.now) }
     ensures run { IfOk result (λ r. (last : Ledger ℕ)
         × IsRun (opening config first_number first_get) events.now r.0.items last
-        × Means last r.1) }
+        × Represents last r.1) }
     ensures limits { IfOk result (λ r. AfterEach KeepsLimits
         (opening config first_number first_get) events.now r.0.items) }
     ensures laws { IfOk result (λ r. AfterEach KeepsLaws

@@ -25,7 +25,7 @@ use Rattle.bb8_gets.specs.declared.home.Tried.TheVariants as tried
 use Rattle.bb8_core.specs.declared.asked.Unfit.{Unfit}
 use Rattle.bb8_gets.specs.declared.outside.Outside.{Ghosts as OutsideOf}
 use Rattle.bb8_gets.specs.declared.state.Begun.{Begun as Open}
-use Rattle.bb8_gets.specs.declared.state.Held.{Held}
+use Rattle.bb8_gets.specs.declared.state.CheckUnderWay.{CheckUnderWay}
 use Rattle.bb8_gets.specs.declared.state.Next.{Next}
 use Rattle.bb8_gets.specs.declared.state.Next.TheVariants.{Answer, Stand}
 use Rattle.bb8_gets.specs.declared.state.Settled.{Settled}
@@ -131,7 +131,7 @@ module _ {C E V P X : Type 0} (home : HomeOf X C P) (outside : OutsideOf X C E V
   AfterPass (Err u) c x next x' = DropsAfterStep home outside c x x' × (next ≡ Answer (Err errors.TimedOut))
 
   -- after a poll of a check, which left the connection and the check like this: a check that answered ends first
-  abbrev pub AfterCheck : Poll (Result (Unit {0}) E) → Open → Held C V P → X → Next C V P E → X → Type 0
+  abbrev pub AfterCheck : Poll (Result (Unit {0}) E) → Open → CheckUnderWay C V P → X → Next C V P E → X → Type 0
   AfterCheck Pending b held x next x' = MovesTo (Stand (Checking b held)) x next x'
   AfterCheck (Ready (Ok u)) b held x next x' =
       (x1 : X) × outside.ends_check x held.checking x1
@@ -140,7 +140,7 @@ module _ {C E V P X : Type 0} (home : HomeOf X C P) (outside : OutsideOf X C E V
   AfterCheck (Ready (Err e)) b held x next x' = (x1 : X) × outside.ends_check x held.checking x1 × CheckFails b held.taken e x1 next x'
 
   -- a check is polled
-  abbrev pub Checks : Open → Held C V P → X → Next C V P E → X → Type 0
+  abbrev pub Checks : Open → CheckUnderWay C V P → X → Next C V P E → X → Type 0
   Checks b held x next x' =
       (answer : Poll (Result (Unit {0}) E)) × (c : C) × (v : V) × (x1 : X)
       × outside.check_answers x held.taken.connection held.checking m answer c v x1
@@ -236,7 +236,7 @@ module _ {C E V P X : Type 0} (home : HomeOf X C P) (outside : OutsideOf X C E V
   CancelsFree g x x' = (at : Moment) × (x1 : X) × outside.tells x at x1 × LeavesLine home outside at g Cancelled x1 x'
 
   -- a get whose connection is being checked is let go
-  abbrev pub CancelsHeld : GetKey → Held C V P → X → X → Type 0
+  abbrev pub CancelsHeld : GetKey → CheckUnderWay C V P → X → X → Type 0
   CancelsHeld g held x x' =
       (x1 : X) × outside.ends_check x held.checking x1
       × ((r : Returned C P) × (x2 : X) × Asks outside held.taken x1 r x2

@@ -11,16 +11,16 @@ use Rattle.bb8_ledger.specs.Answers.{Answer}
 use Rattle.bb8_core.specs.declared.answers.CheckedErrAnswer.{CheckedErrAnswer}
 use Rattle.bb8_core.specs.declared.answers.GiveUpAnswer.{GiveUpAnswer}
 use Rattle.bb8_core.specs.declared.answers.Looked.{Looked}
-use Rattle.bb8_core.specs.StepAnswers.{checked_err_told, give_up_told, look_told, reason_of, GivesBackHeld, GivesBackInvalid, HandsOut}
+use Rattle.bb8_core.specs.StepAnswers.{answer_of_checked_err, answer_of_give_up, answer_of_look, reason_of, GivesBackHeld, GivesBackInvalid, HandsOut}
 use Rattle.bb8_core.specs.Asked.{OrComesBack, Stepped}
-use Rattle.bb8_core.specs.Shown.{Shown}
+use Rattle.bb8_core.specs.StateView.{StateView}
 use Rattle.bb8_gets.specs.declared.home.FirstTry.{FirstTry}
 use Rattle.bb8_gets.specs.declared.home.FirstTry.TheVariants as first
 use Rattle.bb8_gets.specs.declared.home.Passed.{Passed}
 use Rattle.bb8_gets.specs.declared.home.Returned.{Returned}
 use Rattle.bb8_gets.specs.declared.home.Tried.{Tried}
 use Rattle.bb8_core.specs.declared.asked.Unfit.{Unfit}
-use Rattle.bb8_gets.specs.Told.{in_core, passed_told, tried_told}
+use Rattle.bb8_gets.specs.Told.{in_core, answer_of_passed, answer_of_tried}
 
 -- Each step, by which get, with what is handed in, and its answer.
 pub data GetStep (C P : Type 0) : Type 0 where
@@ -32,11 +32,11 @@ pub data GetStep (C P : Type 0) : Type 0 where
   GivesUp : GetKey → Reason → Result (GiveUpAnswer C) Unfit → GetStep C P
   GivesBack : GetKey → Reason → Returned C P → Result (GiveUpAnswer C) C → GetStep C P
 
-module _ {C P : Type 0} (Makes : Shown C → ℕ → Act C → Answer → Shown C → Type 0) where
+module _ {C P : Type 0} (Makes : StateView C → ℕ → Act C → Answer → StateView C → Type 0) where
   -- a get began and then tried, with a state between; or it did not begin
-  abbrev pub StartsBy : Shown C → ℕ → Result (FirstTry C P) Unfit → Shown C → Type 0
+  abbrev pub StartsBy : StateView C → ℕ → Result (FirstTry C P) Unfit → StateView C → Type 0
   StartsBy s at (Ok (first.Tried g t)) s' =
-      (between : Shown C) × Makes s at acts.Begin (answers.Begun g.number) between × Makes between at (acts.Try g.number) (tried_told t) s'
+      (between : StateView C) × Makes s at acts.Begin (answers.Begun g.number) between × Makes between at (acts.Try g.number) (answer_of_tried t) s'
       × HandsOut between (in_core t)
   StartsBy s at (Ok first.Memory) s' = Makes s at acts.Begin answers.Memory s'
   StartsBy s at (Ok first.Exhausted) s' = Makes s at acts.Begin answers.Exhausted s'
@@ -44,14 +44,14 @@ module _ {C P : Type 0} (Makes : Shown C → ℕ → Act C → Answer → Shown 
 
   -- a step of a home that makes its events like this: the event and its answer, and which connection goes out or comes back; a step that does
   -- not fit changes nothing
-  abbrev pub StepsBy : Shown C → Moment → GetStep C P → Shown C → Type 0
-  StepsBy s at (Looks seen) s' = Makes s at.0 acts.Look (look_told seen) s'
+  abbrev pub StepsBy : StateView C → Moment → GetStep C P → StateView C → Type 0
+  StepsBy s at (Looks seen) s' = Makes s at.0 acts.Look (answer_of_look seen) s'
   StepsBy s at (Starts r) s' = StartsBy s at.0 r s'
-  StepsBy s at (Tries get t) s' = Stepped Makes tried_told s at.0 (acts.Try get.number) t s' × IfOk t (λ a. HandsOut s (in_core a))
-  StepsBy s at (Passes get key part a) s' = Stepped Makes (passed_told s.records.next) s at.0 (acts.CheckedOk get.number) a s'
+  StepsBy s at (Tries get t) s' = Stepped Makes answer_of_tried s at.0 (acts.Try get.number) t s' × IfOk t (λ a. HandsOut s (in_core a))
+  StepsBy s at (Passes get key part a) s' = Stepped Makes (answer_of_passed s.records.next) s at.0 (acts.CheckedOk get.number) a s'
   StepsBy s at (Fails get r a) s' =
-      Stepped Makes checked_err_told s at.0 (acts.CheckedErr get.number r.broken) a s' × OrComesBack GivesBackInvalid r.taken.connection a
-  StepsBy s at (GivesUp get why a) s' = Stepped Makes give_up_told s at.0 (acts.GiveUp get.number (reason_of why) None false) a s'
+      Stepped Makes answer_of_checked_err s at.0 (acts.CheckedErr get.number r.broken) a s' × OrComesBack GivesBackInvalid r.taken.connection a
+  StepsBy s at (GivesUp get why a) s' = Stepped Makes answer_of_give_up s at.0 (acts.GiveUp get.number (reason_of why) None false) a s'
   StepsBy s at (GivesBack get why r a) s' =
-      Stepped Makes give_up_told s at.0 (acts.GiveUp get.number (reason_of why) (Some r.taken.connection) r.broken) a s'
+      Stepped Makes answer_of_give_up s at.0 (acts.GiveUp get.number (reason_of why) (Some r.taken.connection) r.broken) a s'
       × OrComesBack (λ c. GivesBackHeld (Some c)) r.taken.connection a

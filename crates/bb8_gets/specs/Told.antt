@@ -4,14 +4,14 @@ use Rattle.bb8_core.specs.declared.answers.CheckedOkAnswer.TheVariants as passes
 use Rattle.bb8_core.specs.declared.answers.TryAnswer.{TryAnswer}
 use Rattle.bb8_core.specs.declared.answers.TryAnswer.TheVariants as tries
 use Rattle.bb8_ledger.specs.Answers.{Answer}
-use Rattle.bb8_core.specs.StepAnswers.{checked_ok_told, try_told}
+use Rattle.bb8_core.specs.StepAnswers.{answer_of_checked_ok, answer_of_try}
 use Rattle.bb8_gets.specs.declared.home.Passed.{Passed}
 use Rattle.bb8_gets.specs.declared.home.Tried.{Tried}
 use Rattle.bb8_gets.specs.declared.home.Tried.TheVariants as tried
 
 -- the answer to a check that was passed, by plain numbers, where this number is next
-abbrev pub passed_told : {P : Type 0} → ℕ → Passed P → Answer
-passed_told next p = checked_ok_told next (passes.Served p.key)
+abbrev pub answer_of_passed : {P : Type 0} → ℕ → Passed P → Answer
+answer_of_passed next p = answer_of_checked_ok next (passes.Served p.key)
 
 module _ {C P : Type 0} where
   -- the answer of a try without what goes with the connection
@@ -21,5 +21,5 @@ module _ {C P : Type 0} where
   in_core (tried.Waiting grant) = tries.Waiting grant
 
   -- a try's answer, by plain numbers
-  abbrev pub tried_told : Tried C P → Answer
-  tried_told t = try_told (in_core t)
+  abbrev pub answer_of_tried : Tried C P → Answer
+  answer_of_tried t = answer_of_try (in_core t)

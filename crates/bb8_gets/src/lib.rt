@@ -10,4 +10,4 @@ mod state;
 pub use home::{FirstTry, GetHome, LetGo, Passed, Returned, Taken, Tried};
 pub use outside::Outside;
 pub use rows::ask;
-pub use state::{Begun, GetState, Held, Next, Settled, Stage};
+pub use state::{Begun, CheckUnderWay, GetState, Next, Settled, Stage};

@@ -2,8 +2,8 @@
 ghost use Rattle.std.specs.Prelude.{◌≡◌, Some};
 ghost use Rattle.bb8_ledger.specs.Acts as acts;
 ghost use Rattle.bb8_core.specs.Asked.{OrComesBack, Stepped};
-ghost use Rattle.bb8_core.specs.Shown.{Steps};
-ghost use Rattle.bb8_core.specs.StepAnswers.{checked_err_told, give_up_told, reason_of, GivesBackHeld, GivesBackInvalid};
+ghost use Rattle.bb8_core.specs.StateView.{Steps};
+ghost use Rattle.bb8_core.specs.StepAnswers.{answer_of_checked_err, answer_of_give_up, reason_of, GivesBackHeld, GivesBackInvalid};
 ghost use Rattle.bb8_gets.specs.Steps.{StepsBy};
 ghost use Rattle.bb8_gets.specs.Told.{in_core};
 
@@ -84,7 +84,7 @@ impl<C: Drop> GetHome<C> for PoolInternals<C> {
         get: GetKey,
         returned: Returned<C, ()>,
     ) -> Result<CheckedErrAnswer<C>, C>
-        ensures step { Stepped Steps checked_err_told self.old at.0
+        ensures step { Stepped Steps answer_of_checked_err self.old at.0
             (acts.CheckedErr get.number returned.broken) result self.new }
         ensures connection { OrComesBack GivesBackInvalid returned.taken.connection result }
     {
@@ -113,7 +113,7 @@ impl<C: Drop> GetHome<C> for PoolInternals<C> {
         reason: Reason,
         returned: Returned<C, ()>,
     ) -> Result<GiveUpAnswer<C>, C>
-        ensures step { Stepped Steps give_up_told self.old at.0
+        ensures step { Stepped Steps answer_of_give_up self.old at.0
             (acts.GiveUp get.number (reason_of reason) (Some returned.taken.connection)
             returned.broken) result self.new }
         ensures connection { OrComesBack (λ c. GivesBackHeld (Some c))

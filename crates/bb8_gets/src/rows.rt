@@ -7,7 +7,7 @@ ghost use Rattle.bb8_gets.specs.Polls.{IsDeadline, closed_in, AfterGiveUp, Asks,
 
 use super::home::{FirstTry, GetHome, Passed, Returned, Taken, Tried};
 use super::outside::Outside;
-use super::state::{Begun, Held, Next, Settled, Stage};
+use super::state::{Begun, CheckUnderWay, Next, Settled, Stage};
 use bb8_core::api::{Moment, RunError};
 use bb8_core::asked::Unfit;
 use bb8_core::internals::{CheckedErrAnswer, GetKey, GiveUpAnswer, Reason};
@@ -94,11 +94,11 @@ fn check<C, V, P, E, X: GetHome<C, Part = P> + Outside<C, E, Checking = V>>(
     pool: &mut X,
     moment: Moment,
     begun: Begun,
-    held: Held<C, V, P>,
+    held: CheckUnderWay<C, V, P>,
 ) -> Next<C, V, P, E>
     ensures { Checks X.GetHome X.Outside moment begun held pool.old result pool.new }
 {
-    let Held {
+    let CheckUnderWay {
         taken,
         mut checking,
     } = held;
@@ -114,7 +114,7 @@ fn check<C, V, P, E, X: GetHome<C, Part = P> + Outside<C, E, Checking = V>>(
                 connection,
                 part,
             };
-            Next::Stand(Stage::Checking(begun, Held { taken, checking }))
+            Next::Stand(Stage::Checking(begun, CheckUnderWay { taken, checking }))
         }
         Poll::Ready(Ok(())) => {
             pool.end_check(checking);
@@ -170,7 +170,7 @@ fn tried<C, V, P, E, X: GetHome<C, Part = P> + Outside<C, E, Checking = V>>(
                 connection,
                 part,
             };
-            check(pool, moment, begun, Held { taken, checking })
+            check(pool, moment, begun, CheckUnderWay { taken, checking })
         }
         Ok(Tried::Waiting(_)) => Next::Stand(Stage::Waiting(begun)),
         Err(Unfit) => Next::Answer(Err(RunError::TimedOut)),
@@ -304,7 +304,7 @@ fn time_out<C, V, P, E, X: GetHome<C, Part = P> + Outside<C, E, Checking = V>>(
             leave(pool, moment, begun.get, Reason::TimedOut);
         }
         Stage::Checking(begun, held) => {
-            let Held { taken, checking } = held;
+            let CheckUnderWay { taken, checking } = held;
             pool.end_check(checking);
             let returned = ask(pool, taken);
             take_back(pool, moment, begun.get, Reason::TimedOut, returned);

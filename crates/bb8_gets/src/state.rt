@@ -30,7 +30,7 @@ pub struct Begun {
 }
 
 /// What a get holds while its connection is checked.
-pub struct Held<C, V, P> {
+pub struct CheckUnderWay<C, V, P> {
     /// The connection.
     pub taken: Taken<C, P>,
     /// The check.
@@ -46,7 +46,7 @@ pub enum Stage<C, V, P> {
     /// It waits.
     Waiting(Begun),
     /// Its connection is being checked.
-    Checking(Begun, Held<C, V, P>),
+    Checking(Begun, CheckUnderWay<C, V, P>),
     /// It was answered, or cancelled.
     Done,
 }
@@ -298,11 +298,11 @@ fn cancel_free<C, V, P, E, X: GetHome<C, Part = P> + Outside<C, E, Checking = V>
 fn cancel_held<C, V, P, E, X: GetHome<C, Part = P> + Outside<C, E, Checking = V>>(
     pool: &mut X,
     get: GetKey,
-    held: Held<C, V, P>,
+    held: CheckUnderWay<C, V, P>,
 )
     ensures { CancelsHeld X.GetHome X.Outside get held pool.old pool.new }
 {
-    let Held { taken, checking } = held;
+    let CheckUnderWay { taken, checking } = held;
     pool.end_check(checking);
     let returned = ask(pool, taken);
     let at = pool.now();

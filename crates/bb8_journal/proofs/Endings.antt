@@ -1,5 +1,5 @@
 -- How many ending events may still come, step by step.
-use Rattle.bb8_journal.proofs.Words.{◌≡◌, ℕ, ◌+◌, ◌<◌, ◌≤◌, max, Bool, true, false, ◌&&◌, ltb, is_some, refl, sym, ap, ◌∙◌, subst, arith, nat_tests, Told, Act, Ledger, Later, start, position, latest, handles, gets, alive, get_of, new_get, Row, begins, waits_on, serves, takes_out, waits, checks, check_fails, gives_up, gives_up_kept, gives_up_closed, keeps, returns_closed, opens, adds, leaves, fits, Allowed, IsLegal, and_right, none_lent, Shown, HasLedger, act_of, answer_of, Happens, IsTaken, endings_of, unfit_now}
+use Rattle.bb8_journal.proofs.Words.{◌≡◌, ℕ, ◌+◌, ◌<◌, ◌≤◌, max, Bool, true, false, ◌&&◌, ltb, is_some, refl, sym, ap, ◌∙◌, subst, arith, nat_tests, Told, Act, Ledger, Later, start, position, latest, handles, gets, alive, get_of, new_get, Row, begins, waits_on, serves, takes_out, waits, checks, check_fails, gives_up, gives_up_kept, gives_up_closed, keeps, returns_closed, opens, adds, leaves, fits, Allowed, IsLegal, and_right, none_lent, StateView, HasLedger, act_of, answer_of, Happens, IsTaken, endings_of, unfit_now}
 use Rattle.bb8_core.specs.declared.replay.events.Act.{Act as Named}
 use Rattle.bb8_core.specs.declared.replay.events.Act.TheVariants as named
 use Rattle.bb8_ledger.specs.Answers.{Answer}
@@ -64,14 +64,14 @@ at_most true before after h = omega arith
 at_most false before after h = h
 
 -- In a replay an event leaves at most one ending event more to come.
-pub one_more : (old : Shown ℕ) (at : ℕ) (e : Named) (a : Told) (new : Shown ℕ) → HasLedger old → Happens old at e a new → endings_of new ≤ endings_of old + 1
+pub one_more : (old : StateView ℕ) (at : ℕ) (e : Named) (a : Told) (new : StateView ℕ) → HasLedger old → Happens old at e a new → endings_of new ≤ endings_of old + 1
 one_more old at e a new h happens =
     let m = happens h.0 h.1 h.2 in
     at_most (fits h.0 (act_of h.0 e) && is_ending (act_of h.0 e)) _ _
     (ends_shown _ _ _ _ _ (ap endings_of h.2) (ap endings_of m.1) (ends_at h.0 at (act_of h.0 e) (answer_of a) h.1 m.0))
 
 -- An ending event that is taken leaves fewer.
-pub one_less : (old : Shown ℕ) (at : ℕ) (e : Named) (a : Told) (new : Shown ℕ) → HasLedger old → Happens old at e a new
+pub one_less : (old : StateView ℕ) (at : ℕ) (e : Named) (a : Told) (new : StateView ℕ) → HasLedger old → Happens old at e a new
     → IsTaken old e → is_named_ending e ≡ true → endings_of new + 1 ≤ endings_of old
 one_less old at e a new h happens taken ending =
     let m = happens h.0 h.1 h.2 in

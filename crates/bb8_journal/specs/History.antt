@@ -7,12 +7,12 @@ use Rattle.bb8_journal.specs.declared.journal.entries.Entry.{Entry}
 use Rattle.bb8_types.specs.Settings.{Settings}
 use Rattle.bb8_ledger.specs.Ledger.{Ledger, opening_with}
 use Rattle.bb8_core.specs.Run.{IsRun, AfterEach}
-use Rattle.bb8_core.specs.Shown.{Shown, shown_code, Means}
+use Rattle.bb8_core.specs.StateView.{StateView, state_view_code, Represents}
 
 -- what a journal keeps: its entries, and the state that they lead to
 pub record Kept : Type 0 where
   pub entries : List Entry
-  pub pool : Shown ℕ
+  pub pool : StateView ℕ
 
 -- an entry of a seat
 abbrev pub entry : ℕ → Event → Answer → Entry
@@ -27,9 +27,9 @@ abbrev pub answers_of : List Entry → List Answer
 answers_of = map (λ e. e.answer)
 
 -- A history replays: from the empty ledger of the configuration on, the answers of its entries are allowed for their events, one by one,
--- and the state means the ledger that they lead to.
-abbrev pub Replays : Settings → List Entry → Shown ℕ → Type 0
-Replays config entries state = (last : Ledger ℕ) × IsRun (opening_with config 0 0) (events_of entries) (answers_of entries) last × Means last state
+-- and the state represents the ledger that they lead to.
+abbrev pub Replays : Settings → List Entry → StateView ℕ → Type 0
+Replays config entries state = (last : Ledger ℕ) × IsRun (opening_with config 0 0) (events_of entries) (answers_of entries) last × Represents last state
 
 -- So it is after each beginning of a history.
 abbrev pub AfterEachEntry : (Ledger ℕ → Type 0) → Settings → List Entry → Type 0
@@ -37,8 +37,8 @@ AfterEachEntry Holds config entries = AfterEach Holds (opening_with config 0 0) 
 
 -- no entry yet, and an empty pool
 abbrev pub IsUnwritten : Settings → Kept → Type 0
-IsUnwritten config kept = (kept.entries ≡ []) × Means (opening_with config 0 0) kept.pool
+IsUnwritten config kept = (kept.entries ≡ []) × Represents (opening_with config 0 0) kept.pool
 
 -- what a journal keeps is stored as the pair of its fields
 abbrev pub kept_code : Coded Entry → Coded Kept
-kept_code c = code_by (List Entry × Shown ℕ) (coded× (coded_list c) (shown_code coded_ℕ)) (λ k. (k.entries, k.pool)) (λ p. record { entries = p.0; pool = p.1 }) (λ _. refl)
+kept_code c = code_by (List Entry × StateView ℕ) (coded× (coded_list c) (state_view_code coded_ℕ)) (λ k. (k.entries, k.pool)) (λ p. record { entries = p.0; pool = p.1 }) (λ _. refl)

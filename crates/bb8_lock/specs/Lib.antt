@@ -1,6 +1,7 @@
+pub mod Bells
 pub mod Chains
 pub mod Gathered
-pub mod Linked
+pub mod Scope
 pub mod Opening
 pub mod Parts
 pub mod Sections

@@ -1,30 +1,36 @@
 -- Tasks on a pool's lock, which is taken for each of their steps alone, and by the pool's own manager, customizer, error sink and clock.
-use Rattle.std.specs.Prelude.{◌≡◌, Result, List}
-use Rattle.bb8_lock.specs.Words.{as_nanos, DebugOf, Poll, CustomizerOf, ManagerOf, SinkOf, ClockOf, StepsIn, OpenerOf, ReportsOf, PartsOf, LinkHome, Shared}
+use Rattle.std.specs.Prelude.{◌≡◌, None, Result, List}
+use Rattle.bb8_lock.specs.Words.{as_nanos, DebugOf, Poll, CustomizerOf, ManagerOf, SinkOf, ClockOf, StepsIn, OpenerOf, ReportsOf, PartsOf, LockScope, Shared}
 use Rattle.bb8_tasks.specs.declared.dedicated.Dedicated.{Dedicated}
 use Rattle.bb8_tasks.specs.declared.home.Home.{Ghosts as HomeOf}
 use Rattle.bb8_tasks.specs.declared.replenish.Replenish.{Replenish}
 use Rattle.bb8_tasks.specs.declared.rounds.Round.{Round}
 use Rattle.bb8_tasks.specs.Dedicating as dedicating
 use Rattle.bb8_tasks.specs.Homes.{TaskStepsBy}
+use Rattle.bb8_tasks.specs.TaskSteps.{TaskStep}
 use Rattle.bb8_tasks.specs.Replenishing.{TaskPolls, LetsGo}
 use Rattle.bb8_tasks.specs.Sweeping.{AtReading, Rounds, LetsGoEach}
-use Rattle.bb8_lock.specs.Linked.{Frees, Linked, Own, StartsAt}
+use Rattle.bb8_lock.specs.declared.bell.Rings.{Rings}
+use Rattle.bb8_lock.specs.Bells.{RingsFor}
+use Rattle.bb8_lock.specs.Scope.{Scope, Own, Rung, StartsAt}
 
--- A step on what is held, or else on whatever stands behind the lock, which is taken for it. Nothing is held then.
-abbrev pub Visits : {S T : Type 0} → (T → T → Type 0) → LinkHome S T → LinkHome S T → Type 0
-Visits {T = T} Step x x' = ((t : T) × (t' : T) × StartsAt x.held t × Step t t') × Frees x x'
+-- A step on what is held, or else on whatever stands behind the lock, which is taken for it. Its bells are rung. Nothing is held then, and what was
+-- noted stays so.
+abbrev pub Visits : {S T C : Type 0} → (S → Rings → Type 0) → (T → T → Type 0) → TaskStep C → LockScope S T → LockScope S T → Type 0
+Visits {T = T} Rung Step s x x' =
+    ((t : T) × (t' : T) × StartsAt x.held t × Step t t') × RingsFor (Rung x.shared.now) s
+    × (x'.held ≡ None) × (x'.rings ≡ x.rings) × (x'.shared ≡ x.shared)
 
 -- What a pool does with its tasks, of which handles and guards share this: on the pool's lock, and by its own manager, customizer, error sink and
 -- clock.
 module _ {G L M S Z K R C E N V A : Type 0} {m : ManagerOf M C E N V} {d : DebugOf E} {s : SinkOf S E} {z : CustomizerOf Z C E A} {k : ClockOf K} {l : PartsOf L}
     (shared : Shared G L M S Z K R C E N V A m d s z k l) where
   -- the relations of the lock as a home of tasks
-  abbrev pub tasks_home : HomeOf (Linked shared) C
-  tasks_home = record { steps = λ x at s x'. Visits (λ t t'. TaskStepsBy (StepsIn l.settings) t.core at s t'.core) x x' }
+  abbrev pub tasks_home : HomeOf (Scope shared) C
+  tasks_home = record { steps = λ x at s x'. Visits (Rung shared) (λ t t'. TaskStepsBy (StepsIn l.settings) t.core at s t'.core) s x x' }
 
   -- the relations of the calls of a pool's manager and customizer
-  abbrev pub opener : OpenerOf (Linked shared) C E N A
+  abbrev pub opener : OpenerOf (Scope shared) C E N A
   opener = record {
     connects = λ x v x'. m.connects x.shared.now.manager v × (x' ≡ x);
     connect_answers = λ x v at answer v' x'. m.connect_answers x.shared.now.manager v at answer v' × (x' ≡ x);
@@ -36,7 +42,7 @@ module _ {G L M S Z K R C E N V A : Type 0} {m : ManagerOf M C E N V} {d : Debug
   }
 
   -- the relations of the calls of its error sink and clock
-  abbrev pub reports : ReportsOf (Linked shared) E
+  abbrev pub reports : ReportsOf (Scope shared) E
   reports = record {
     tells = λ x at x'. k.tells x.shared.now.clock at × (x' ≡ x);
     sinks = λ x e x'. s.sinks x.shared.now.error_sink e × (x' ≡ x);

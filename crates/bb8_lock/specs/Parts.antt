@@ -10,7 +10,7 @@ use Rattle.bb8_ledger.specs.Ledger.{Later, opening_with}
 use Rattle.bb8_ledger.specs.Table.{Allowed}
 use Rattle.bb8_core.specs.declared.answers.TryAnswer.{TryAnswer}
 use Rattle.bb8_core.specs.declared.answers.TryAnswer.TheVariants as tried
-use Rattle.bb8_core.specs.Shown.{Shown, Means}
+use Rattle.bb8_core.specs.StateView.{StateView, Represents}
 
 -- The blank of a pool with these settings: it has a name, and a part for each connection; the parts are those of such a pool.
 pub record IsBlankOf (blank : Blank) (settings : Settings) (name parts : ℕ) (of : Settings) : Type 0 where
@@ -35,11 +35,11 @@ abbrev pub unchecked_of : ℕ → Settings
 unchecked_of size = record default_settings { max_size = size; test_on_check_out = false }
 
 -- A pool's state begins as this is granted for its first connections, claimed or not. Nothing of it was withheld.
-abbrev pub PoolBegins : {C : Type 0} → Settings → Bool → ℕ → Grant → Shown C → Type 0
+abbrev pub PoolBegins : {C : Type 0} → Settings → Bool → ℕ → Grant → StateView C → Type 0
 PoolBegins {C} settings claimed at grant s =
     (grant.withheld ≡ 0) × Allowed {C = C} (opening_with settings 0 0) at (Fill claimed) (Granted grant)
-    × Means {C = C} (Later (opening_with settings 0 0) at (Fill claimed) (Granted grant)) s
+    × Represents {C = C} (Later (opening_with settings 0 0) at (Fill claimed) (Granted grant)) s
 
 -- some state begins so, at a reading of the clock
 abbrev pub HasBegun : (C : Type 0) → (Moment → Type 0) → Settings → Bool → Grant → Type 0
-HasBegun C Tells settings claimed grant = (at : Moment) × Tells at × ((s : Shown C) × PoolBegins settings claimed at.0 grant s)
+HasBegun C Tells settings claimed grant = (at : Moment) × Tells at × ((s : StateView C) × PoolBegins settings claimed at.0 grant s)

@@ -1,13 +1,13 @@
 -- What the sections of a pool are and answer, in the words of the ledger.
 use Rattle.std.specs.Prelude.{◌≡◌, ◌≤◌, Bool, true, false, IfOk}
-use Rattle.bb8_lock.specs.Words.{AddAnswer, Joining, Answer, Moment, Settings, StepsIn, add_told, leave_told, put_back_told, GivesBack, Refuses}
+use Rattle.bb8_lock.specs.Words.{AddAnswer, Joining, Answer, Moment, Settings, StepsIn, answer_of_add, answer_of_leave, answer_of_put_back, GivesBack, Refuses}
 use Rattle.bb8_core.specs.declared.answers.AddAnswer.TheVariants as adding
 use Rattle.bb8_lock.specs.declared.section_home.Joining.TheVariants as joining
 use Rattle.bb8_types.specs.Figures.{figures_of}
 use Rattle.bb8_ledger.specs.Acts as acts
 use Rattle.bb8_ledger.specs.Answers as answers
 use Rattle.bb8_core.specs.Asked.{OrComesBack, Stepped}
-use Rattle.bb8_core.specs.Shown.{Shown}
+use Rattle.bb8_core.specs.StateView.{StateView}
 use Rattle.bb8_lock.specs.SectionSteps.{SectionStep, PutsBack, Adds, Shows, Joins, Leaves}
 
 -- the answer to the making of a handle
@@ -23,14 +23,14 @@ IsSorted broken _ = broken ≡ false
 
 module _ {C P : Type 0} (settings : Settings) where
   -- a section of a pool with these settings: its event and answer, which connection comes back, and what is told
-  abbrev pub SectionsBy : Shown C → Moment → SectionStep C P → Shown C → Type 0
+  abbrev pub SectionsBy : StateView C → Moment → SectionStep C P → StateView C → Type 0
   SectionsBy s at (PutsBack r a) s' =
-      Stepped (StepsIn settings) (put_back_told r.taken.key.number) s at.0 (acts.PutBack r.taken.key.number r.taken.connection r.broken) a s'
+      Stepped (StepsIn settings) (answer_of_put_back r.taken.key.number) s at.0 (acts.PutBack r.taken.key.number r.taken.connection r.broken) a s'
       × OrComesBack GivesBack r.taken.connection a
   SectionsBy s at (Adds conn broken a) s' =
-      Stepped (StepsIn settings) add_told s at.0 (acts.Add conn broken) a s' × OrComesBack Refuses conn a × IfOk a (IsSorted broken)
+      Stepped (StepsIn settings) answer_of_add s at.0 (acts.Add conn broken) a s' × OrComesBack Refuses conn a × IfOk a (IsSorted broken)
   SectionsBy s at (Shows state) s' =
       StepsIn settings s at.0 acts.State (answers.Shown (figures_of state)) s'
       × (state.connections ≤ settings.max_size) × (state.idle_connections ≤ state.connections)
   SectionsBy s at (Joins a) s' = StepsIn settings s at.0 acts.Join (joining_told a) s'
-  SectionsBy s at (Leaves a) s' = Stepped (StepsIn settings) leave_told s at.0 acts.Leave a s'
+  SectionsBy s at (Leaves a) s' = Stepped (StepsIn settings) answer_of_leave s at.0 acts.Leave a s'

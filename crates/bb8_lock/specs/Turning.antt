@@ -4,7 +4,7 @@ use Rattle.bb8_tasks.specs.declared.turning.Turn.{Turn}
 use Rattle.bb8_tasks.specs.declared.turning.Turning.{Turning}
 use Rattle.bb8_tasks.specs.Sweeping.{AtReading}
 use Rattle.bb8_tasks.specs.Turns.{DriverLetsGo, DriverTurns}
-use Rattle.bb8_lock.specs.Linked.{Own}
+use Rattle.bb8_lock.specs.Scope.{Own}
 use Rattle.bb8_lock.specs.Opening.{opener, reports, tasks_home}
 
 module _ {G L M S Z K R C E N V A : Type 0} {m : ManagerOf M C E N V} {d : DebugOf E} {s : SinkOf S E} {z : CustomizerOf Z C E A} {k : ClockOf K} {l : PartsOf L}

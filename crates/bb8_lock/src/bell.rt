@@ -1,12 +1,18 @@
 //! A lock with bells: a thread that waits for what another one does under the lock sleeps until a bell is rung.
 
-ghost use Rattle.std.specs.Prelude.{ℕ};
+ghost use Rattle.std.specs.Prelude.{◌≡◌, ℕ};
 ghost use Rattle.std.specs.Duration.{as_nanos};
+ghost use Rattle.bb8_tables.specs.Keys.{notified_of};
+ghost use Rattle.bb8_core.specs.Asked.{answered};
+ghost use Rattle.bb8_core.specs.StepAnswers.{answer_of_give_up};
+ghost use Rattle.bb8_gets.specs.Told.{answer_of_tried};
+ghost use Rattle.bb8_lock.specs.declared.bell.Rings.{Rings as RingsOf};
 ghost use Rattle.bb8_lock.specs.declared.bell.Sleeper.{Sleeper as SleeperOf};
+ghost use Rattle.bb8_lock.specs.Bells.{bells, bells_of, joined, silent};
 
-use bb8_core::internals::{AddAnswer, CheckedErrAnswer, GiveUpAnswer, OpenedAnswer, PutBackAnswer};
-use bb8_gets::{FirstTry, Tried};
-use std::sync::{Condvar, Mutex, Wait};
+use bb8_core::internals::{GetKey, GiveUpAnswer};
+use bb8_gets::Tried;
+use std::sync::{Condvar, Mutex, MutexGuard, Wait};
 use std::time::Duration;
 
 /// A bell, until whose rings threads sleep.
@@ -51,9 +57,22 @@ pub trait Rests {
         ensures { sleeps self.old sleeper rings (as_nanos most) self.new };
 }
 
+/// What a lock is reached by, as methods of an impl, so that polls and drops can call them.
+pub trait Locking<T> {
+    // Holds of what is shared, and of bells of it that were rung.
+    ghost rung: { Self → RingsOf → Type 0 };
+
+    /// Waits for the lock and takes it.
+    fn take(&self) -> MutexGuard<'_, T>;
+
+    /// Rings these bells.
+    fn ring(&self, rings: Rings)
+        ensures { rung self.now rings };
+}
+
 /// Which bells are to be rung once the lock is let go.
 #[derive(Clone, Copy)]
-pub(crate) struct Rings {
+pub struct Rings {
     gets: bool,
     pub(crate) drivers: bool,
 }
@@ -122,128 +141,58 @@ impl<T> Belled<T> {
 
 impl Rings {
     /// No bell.
-    pub(crate) fn none() -> Self {
+    #[inline(always)]
+    pub(crate) fn none() -> Self
+        ensures { result ≡ silent }
+    {
         Rings {
             gets: false,
             drivers: false,
         }
     }
 
-    /// Those of an answer besides.
-    pub(crate) fn note<A: Notifies>(&mut self, answer: &A) {
-        self.gets |= answer.notifies();
-        self.drivers |= answer.grants();
-    }
-}
-
-/// An answer after which bells are to be rung.
-pub(crate) trait Notifies {
-    /// Whether a waiting get was notified, which may be served at its next poll.
-    fn notifies(&self) -> bool {
-        false
-    }
-
-    /// Whether an approval was granted, which a driver claims at its next turn.
-    fn grants(&self) -> bool {
-        false
-    }
-}
-
-impl<A: Notifies, E> Notifies for Result<A, E> {
-    fn notifies(&self) -> bool {
-        match self {
-            Ok(answer) => answer.notifies(),
-            Err(_) => false,
+    /// That of the gets where a get was notified, which may be served at its next poll. That of the drivers where approvals were granted, which a
+    /// driver claims at its next turn.
+    #[inline(always)]
+    pub(crate) fn of(notified: Option<GetKey>, granted: u32) -> Self
+        ensures { result ≡ bells (notified_of notified) granted }
+    {
+        Rings {
+            gets: notified.is_some(),
+            drivers: granted > 0,
         }
     }
 
-    fn grants(&self) -> bool {
-        match self {
-            Ok(answer) => answer.grants(),
-            Err(_) => false,
-        }
+    /// The same besides.
+    #[inline(always)]
+    pub(crate) fn note(&mut self, notified: Option<GetKey>, granted: u32)
+        ensures { self.new ≡ joined (bells (notified_of notified) granted) self.old }
+    {
+        let more = Rings::of(notified, granted);
+        self.gets = more.gets | self.gets;
+        self.drivers = more.drivers | self.drivers;
     }
-}
 
-impl<C, P> Notifies for FirstTry<C, P> {
-    fn grants(&self) -> bool {
-        match self {
-            FirstTry::Tried(_, answer) => answer.grants(),
-            FirstTry::Memory | FirstTry::Exhausted => false,
-        }
-    }
-}
-
-impl<C, P> Notifies for Tried<C, P> {
-    fn grants(&self) -> bool {
-        match self {
+    /// Those of a try besides.
+    #[inline(always)]
+    pub(crate) fn note_try<C, P>(&mut self, tried: &Tried<C, P>)
+        ensures { self.new ≡ joined (bells_of (answer_of_tried tried.now)) self.old }
+    {
+        match tried {
             Tried::Served(_, grant) | Tried::Taken(_, grant) | Tried::Waiting(grant) => {
-                grant.count > 0
-            }
-        }
-    }
-}
-
-impl<C> Notifies for PutBackAnswer<C> {
-    fn notifies(&self) -> bool {
-        match self {
-            PutBackAnswer::Kept(notified) | PutBackAnswer::Closed(_, _, notified) => {
-                notified.is_some()
+                self.note(None, grant.count)
             }
         }
     }
 
-    fn grants(&self) -> bool {
-        match self {
-            PutBackAnswer::Closed(_, grant, _) => grant.count > 0,
-            PutBackAnswer::Kept(_) => false,
-        }
-    }
-}
-
-impl<C> Notifies for AddAnswer<C> {
-    fn notifies(&self) -> bool {
-        match self {
-            AddAnswer::Added(_, notified) => notified.is_some(),
-            AddAnswer::Broken(_) | AddAnswer::NoCapacity(_) | AddAnswer::Withheld(_) => false,
-        }
-    }
-}
-
-impl<C> Notifies for CheckedErrAnswer<C> {
-    fn notifies(&self) -> bool {
-        let CheckedErrAnswer::Closed(_, _, _, notified) = self;
-        notified.is_some()
-    }
-
-    fn grants(&self) -> bool {
-        let CheckedErrAnswer::Closed(_, _, grant, _) = self;
-        grant.count > 0
-    }
-}
-
-impl<C> Notifies for GiveUpAnswer<C> {
-    fn notifies(&self) -> bool {
-        match self {
-            GiveUpAnswer::GaveUp(notified)
-            | GiveUpAnswer::Kept(_, notified)
-            | GiveUpAnswer::Closed(_, _, _, notified) => notified.is_some(),
-        }
-    }
-
-    fn grants(&self) -> bool {
-        match self {
-            GiveUpAnswer::Closed(_, _, grant, _) => grant.count > 0,
-            GiveUpAnswer::GaveUp(_) | GiveUpAnswer::Kept(..) => false,
-        }
-    }
-}
-
-impl<C> Notifies for OpenedAnswer<C> {
-    fn notifies(&self) -> bool {
-        match self {
-            OpenedAnswer::Entered(notified) => notified.is_some(),
-            OpenedAnswer::Late(_) => false,
+    /// Those of a give-up besides.
+    pub(crate) fn note_give_up<C, E>(&mut self, answer: &Result<GiveUpAnswer<C>, E>)
+        ensures { self.new ≡ joined (bells_of (answered answer_of_give_up answer.now)) self.old }
+    {
+        match answer {
+            Ok(GiveUpAnswer::GaveUp(told)) | Ok(GiveUpAnswer::Kept(_, told)) => self.note(*told, 0),
+            Ok(GiveUpAnswer::Closed(_, _, grant, told)) => self.note(*told, grant.count),
+            Err(_) => {}
         }
     }
 }

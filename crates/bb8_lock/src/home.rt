@@ -2,7 +2,7 @@
 ghost use Rattle.std.specs.Prelude.{◌≡◌, ◌+◌, ◌≤◌, Some};
 ghost use Rattle.bb8_ledger.specs.Acts as acts;
 ghost use Rattle.bb8_core.specs.Asked.{OrComesBack, Stepped};
-ghost use Rattle.bb8_core.specs.StepAnswers.{checked_err_told, give_up_told, reason_of, GivesBackHeld, GivesBackInvalid};
+ghost use Rattle.bb8_core.specs.StepAnswers.{answer_of_checked_err, answer_of_give_up, reason_of, GivesBackHeld, GivesBackInvalid};
 ghost use Rattle.bb8_gets.specs.Homes.{StepsIn};
 ghost use Rattle.bb8_gets.specs.Steps.{StepsBy, Starts};
 ghost use Rattle.bb8_gets.specs.Told.{in_core};
@@ -142,7 +142,7 @@ impl<C: Drop, L: Parts> GetHome<C> for Locked<C, L> {
         get: GetKey,
         returned: Returned<C, Part<L>>,
     ) -> Result<CheckedErrAnswer<C>, C>
-        ensures step { Stepped (StepsIn L.settings) checked_err_told self.old.core at.0
+        ensures step { Stepped (StepsIn L.settings) answer_of_checked_err self.old.core at.0
             (acts.CheckedErr get.number returned.broken) result self.new.core }
         ensures connection { OrComesBack GivesBackInvalid returned.taken.connection result }
     {
@@ -176,7 +176,7 @@ impl<C: Drop, L: Parts> GetHome<C> for Locked<C, L> {
         reason: Reason,
         returned: Returned<C, Part<L>>,
     ) -> Result<GiveUpAnswer<C>, C>
-        ensures step { Stepped (StepsIn L.settings) give_up_told self.old.core at.0
+        ensures step { Stepped (StepsIn L.settings) answer_of_give_up self.old.core at.0
             (acts.GiveUp get.number (reason_of reason) (Some returned.taken.connection)
             returned.broken) result self.new.core }
         ensures connection { OrComesBack (λ c. GivesBackHeld (Some c))

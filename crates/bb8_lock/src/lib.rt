@@ -8,24 +8,24 @@ mod calls;
 mod gathered;
 mod given;
 mod home;
-mod link;
 mod locked;
 mod locks;
 mod opens;
 mod outside;
+mod scope;
 mod section_home;
 mod shared;
 mod waits;
 
-pub use bell::{Bell, Belled, Rests, Sleeper};
+pub use bell::{Bell, Belled, Locking, Rests, Sleeper};
 pub use calls::{
     add, cancel_and_leave, give_back, give_back_and_leave, join, leave, state, take_now,
 };
 pub use gathered::Gathered;
 pub use given::{Given, These};
-pub use link::{LinkHome, Links, Locking};
 pub use locked::{Locked, NewPool, Part, Parts, PoolParts, begin_pool};
 pub use locks::Locks;
+pub use scope::{LockScope, OpensScope};
 pub use section_home::{Handle, Joining, SectionHome};
 pub use shared::Shared;
 pub use waits::wait;

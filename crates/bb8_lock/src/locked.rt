@@ -1,12 +1,12 @@
 //! What the lock of a pool holds, and the sections: what is done to it under one taking of the lock.
 //!
 //! A section is lent the state, and asks for one step. No manager, customizer, sink or clock is called here.
-ghost use Rattle.std.specs.Prelude.{◌≡◌, ◌+◌, ◌^◌, ◌<◌, ◌≤◌, true, IfOk};
+ghost use Rattle.std.specs.Prelude.{◌≡◌, ◌+◌, ◌^◌, ◌<◌, ◌≤◌, eqb, true, IfOk};
 ghost use Rattle.bb8_ledger.specs.Acts as acts;
 ghost use Rattle.bb8_types.specs.Settings.{Settings, default_settings, is_lawful, settings_of};
 ghost use Rattle.bb8_lock.specs.Parts.{parts_back, PoolBegins, IsBlankOf};
 ghost use Rattle.bb8_core.specs.Parts.{out_of};
-ghost use Rattle.bb8_core.specs.Shown.{IsWithinLimits};
+ghost use Rattle.bb8_core.specs.StateView.{IsWithinLimits};
 
 use crate::section_home::{Ends, Handle, Joining, SectionHome};
 use bb8_core::api::{Config, Memory, Moment, State};
@@ -153,7 +153,7 @@ impl<C: Drop, L: Parts> Locked<C, L> {
 /// Each section is one step, from the state that stands there to the next one.
 impl<C: Drop, L: Parts> SectionHome<C> for Locked<C, L> {
     ghost use Rattle.bb8_core.specs.Asked.{OrComesBack, Stepped};
-    ghost use Rattle.bb8_core.specs.StepAnswers.{add_told, put_back_told, GivesBack, Refuses};
+    ghost use Rattle.bb8_core.specs.StepAnswers.{answer_of_add, answer_of_put_back, GivesBack, Refuses};
     ghost use Rattle.bb8_gets.specs.Homes.{StepsIn};
     ghost use Rattle.bb8_lock.specs.Sections.{IsSorted, SectionsBy};
 
@@ -161,7 +161,7 @@ impl<C: Drop, L: Parts> SectionHome<C> for Locked<C, L> {
 
     #[inline(always)]
     fn put_back(&mut self, at: Moment, back: Returned<C, Part<L>>) -> Result<PutBackAnswer<C>, C>
-        ensures step { Stepped (StepsIn L.settings) (put_back_told back.taken.key.number)
+        ensures step { Stepped (StepsIn L.settings) (answer_of_put_back back.taken.key.number)
             self.old.core at.0
             (acts.PutBack back.taken.key.number back.taken.connection back.broken)
             result self.new.core }
@@ -180,7 +180,7 @@ impl<C: Drop, L: Parts> SectionHome<C> for Locked<C, L> {
     }
 
     fn add(&mut self, at: Moment, conn: C, broken: bool) -> Result<AddAnswer<C>, C>
-        ensures step { Stepped (StepsIn L.settings) add_told self.old.core at.0
+        ensures step { Stepped (StepsIn L.settings) answer_of_add self.old.core at.0
             (acts.Add conn broken) result self.new.core }
         ensures connection { OrComesBack Refuses conn result }
         ensures sorted { IfOk result (IsSorted broken) }
@@ -212,7 +212,10 @@ impl<C: Drop, L: Parts> SectionHome<C> for Locked<C, L> {
 }
 
 impl<C: Drop, L: Parts> Ends for Locked<C, L> {
+    ghost over = { λ h. eqb h.core.handles 0 };
+
     fn is_over(&self) -> bool {
+        self.limits();
         !self.core.fits_leave()
     }
 }

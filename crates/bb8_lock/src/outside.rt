@@ -1,7 +1,7 @@
 //! What a pool calls outside of its lock: its manager, error sink, customizer and clock.
 ghost use Rattle.std.specs.Prelude.{◌≡◌};
 
-use crate::{Given, LinkHome, Locked, Parts, Rests, Shared, Sleeper};
+use crate::{Given, LockScope, Locked, Parts, Rests, Shared, Sleeper};
 use bb8_core::api::{Clock, CustomizeConnection, ErrorSink, ManageConnection, Moment};
 use bb8_gets::Outside;
 use bb8_tasks::{Opener, Reports};
@@ -11,7 +11,7 @@ use std::time::Duration;
 
 /// Each relation is the user's own, and no call changes what is called, nor whether the lock is held.
 impl<G: Given, L: Parts> Outside<G::Connection, G::Error>
-    for LinkHome<'_, Shared<G, L>, Locked<G::Connection, L>> {
+    for LockScope<'_, Shared<G, L>, Locked<G::Connection, L>> {
     type Checking = G::Checking;
 
     ghost tells = { λ x moment x'. G.Clock.tells x.shared.now.clock moment × (x' ≡ x) };
@@ -64,7 +64,7 @@ impl<G: Given, L: Parts> Outside<G::Connection, G::Error>
 
 /// By the bells of the pool's lock.
 impl<G: Given<Runtime: Wait>, L: Parts> Rests
-    for LinkHome<'_, Shared<G, L>, Locked<G::Connection, L>> {
+    for LockScope<'_, Shared<G, L>, Locked<G::Connection, L>> {
     ghost counts = { λ x _ _ x'. x' ≡ x };
 
     ghost sleeps = { λ x _ _ _ x'. x' ≡ x };
@@ -82,7 +82,7 @@ impl<G: Given<Runtime: Wait>, L: Parts> Rests
 }
 
 impl<G: Given, L: Parts> Opener<G::Connection, G::Error>
-    for LinkHome<'_, Shared<G, L>, Locked<G::Connection, L>> {
+    for LockScope<'_, Shared<G, L>, Locked<G::Connection, L>> {
     type Connecting = G::Connecting;
 
     type Acquiring = G::Acquiring;
@@ -142,7 +142,7 @@ impl<G: Given, L: Parts> Opener<G::Connection, G::Error>
 }
 
 impl<G: Given, L: Parts> Reports<G::Error>
-    for LinkHome<'_, Shared<G, L>, Locked<G::Connection, L>> {
+    for LockScope<'_, Shared<G, L>, Locked<G::Connection, L>> {
     ghost tells = { λ x moment x'. G.Clock.tells x.shared.now.clock moment × (x' ≡ x) };
 
     ghost sinks = { λ x e x'. G.Sink.sinks x.shared.now.error_sink e × (x' ≡ x) };

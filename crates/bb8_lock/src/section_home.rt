@@ -1,4 +1,5 @@
 //! The handles of a pool, and the sections that guards and handles make: each is done under one taking of a pool's lock.
+ghost use Rattle.std.specs.Prelude.{◌≡◌, Bool};
 ghost use Rattle.bb8_types.specs.declared.api.moments.Moment.{Moment as MomentOf};
 ghost use Rattle.bb8_lock.specs.SectionSteps.{SectionStep, PutsBack, Adds, Shows, Joins, Leaves};
 
@@ -25,8 +26,12 @@ pub enum Joining {
 
 /// What drivers end by.
 pub trait Ends {
+    // Whether no handle is alive.
+    ghost over: { Self → Bool };
+
     /// Whether no handle is alive.
-    fn is_over(&self) -> bool;
+    fn is_over(&self) -> bool
+        ensures { result ≡ over self.now };
 }
 
 /// The steps that guards and handles of connections `C` make, beside those of gets. They have one relation without a default, as

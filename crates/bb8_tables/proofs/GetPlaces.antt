@@ -1,5 +1,6 @@
 -- The code's side of each change of the gets: what it does to the fields, seen in what they mean.
-use Rattle.bb8_tables.proofs.Words.{◌≡◌, ◌≢◌, ℕ, List, ◌+◌, ◌-◌, ◌<◌, ◌≤◌, Bool, true, false, [], ◌∷◌, ◌++◌, length, set, slice_get, arith, Option, Some, None, is_some, IsSome, refl, sym, ap, ◌∙◌, get, tally, one, Lined, slot_at, Absent, GetPlace, Active, Waiting, Getting, Slot, is_unnotified, get_in_wait, get_with_place, ShownGets, IsTable, view_of_gets, AreGoodGets, AreWaitingPlaces, removed_inserted}
+use Rattle.bb8_tables.proofs.Words.{subst, ◌≡◌, ◌≢◌, ℕ, List, ◌+◌, ◌-◌, ◌<◌, ◌≤◌, Bool, true, false, [], ◌∷◌, ◌++◌, length, set, slice_get, arith, Option, Some, None, is_some, IsSome, refl, sym, ap, ◌∙◌, get, tally, one, TableView, slot_at, Absent, GetPlace, Active, Waiting, Getting, Slot, is_unnotified, get_in_wait, get_with_place, GetsView, IsTable, view_of_gets, AreGoodGets, AreWaitingPlaces, removed_inserted}
+use Rattle.std.proofs.Common.{IfSome}
 use Rattle.bb8_tables.specs.declared.gets.Gets.TheInside.{Inside}
 use Rattle.bb8_tables.specs.Machine as machine
 use Rattle.bb8_tables.proofs.Slots.{Updates, set_at, set_within, tally_set, tally_at, table_set, table_added, table_removed, table_kept}
@@ -16,24 +17,28 @@ pub shown_at : (a : Inside) (q i : ℕ) (x : Slot Getting) → AreGoodGets a →
 shown_at a q i x good e same = TablePlaces.shown_at q i good.table e same
 
 -- a look-up that finds nothing, or a slot
-pub none_shown : (a : Inside) (q : ℕ) (s : ShownGets) → view_of_gets a ≡ s → ((i : ℕ) (x : Slot Getting) → slot_at a.slots i ≡ Some x → x.number ≢ q) → get s.places q ≡ None
-none_shown a q s is none = ap (λ (t : ShownGets). get t.places q) (sym is) ∙ Slots.held_absent numbered (λ x. x.standing) a.slots.slots q none
+pub none_shown : (a : Inside) (q : ℕ) (s : GetsView) → view_of_gets a ≡ s → ((i : ℕ) (x : Slot Getting) → slot_at a.slots i ≡ Some x → x.number ≢ q) → get s.places q ≡ None
+none_shown a q s is none = ap (λ (t : GetsView). get t.places q) (sym is) ∙ Slots.held_absent numbered (λ x. x.standing) a.slots.slots q none
 
-pub some_shown : (a : Inside) (q i : ℕ) (x : Slot Getting) (s : ShownGets) → AreGoodGets a → view_of_gets a ≡ s → slot_at a.slots i ≡ Some x → x.number ≡ q → get s.places q ≡ Some x.standing
-some_shown a q i x s good is e same = ap (λ (t : ShownGets). get t.places q) (sym is) ∙ shown_at a q i x good e same
+pub some_shown : (a : Inside) (q i : ℕ) (x : Slot Getting) (s : GetsView) → AreGoodGets a → view_of_gets a ≡ s → slot_at a.slots i ≡ Some x → x.number ≡ q → get s.places q ≡ Some x.standing
+some_shown a q i x s good is e same = ap (λ (t : GetsView). get t.places q) (sym is) ∙ shown_at a q i x good e same
 
-pub never_absent : (a : Inside) (q : ℕ) {g : Getting} (s : ShownGets) {G : Type 0} → view_of_gets a ≡ s → get s.places q ≡ Some g →
+pub never_absent : (a : Inside) (q : ℕ) {g : Getting} (s : GetsView) {G : Type 0} → view_of_gets a ≡ s → get s.places q ≡ Some g →
     ((i : ℕ) (x : Slot Getting) → slot_at a.slots i ≡ Some x → x.number ≢ q) → G
 never_absent a q {g} s is shows none = absurd (let clash : Some g ≡ None = sym shows ∙ none_shown a q s is none in cc)
 
+-- what a look finds at the place of a number has that number
+pub named : {o : Option (Slot Getting)} {q : ℕ} (x y : Slot Getting) → o ≡ Some x → x.number ≡ q → o ≡ Some y → y.number ≡ q
+named {q = q} x y e is f = subst (λ (o : Option (Slot Getting)). IfSome o (λ z. z.number ≡ q)) (sym e ∙ f) is
+
 -- a get is shown as it stands
-pub stands_is : (a : Inside) (q i : ℕ) (x : Slot Getting) (s : ShownGets) → AreGoodGets a → view_of_gets a ≡ s
+pub stands_is : (a : Inside) (q i : ℕ) (x : Slot Getting) (s : GetsView) → AreGoodGets a → view_of_gets a ≡ s
     → slot_at a.slots i ≡ Some x → x.number ≡ q → (g : Getting) × (get s.places q ≡ Some g) × (is_unnotified g.place ≡ false)
     → is_unnotified x.standing.place ≡ false
 stands_is a q i x s good is e same shown = grind (arith, some_shown a q i x s good is e same)
 
 -- Good gets are good after one place has changed, where the line and the count are right again.
-changed_good : {a : Inside} {next alive place : ℕ} {slots : Lined (Slot Getting)} {was is : Option (Slot Getting)} (m n : Bool) → AreGoodGets a → slot_at a.slots place ≡ was
+changed_good : {a : Inside} {next alive place : ℕ} {slots : TableView (Slot Getting)} {was is : Option (Slot Getting)} (m n : Bool) → AreGoodGets a → slot_at a.slots place ≡ was
     → Updates a.slots.slots slots.slots place is
     → is_some was ≡ m → is_some is ≡ n → alive + one m ≡ a.alive + one n → alive + slots.free ≡ a.alive + a.slots.free → alive ≤ a.peak → alive ≤ next
     → IsTable numbered slots.slots next → AreWaitingPlaces slots.slots slots.line → AreGoodGets (record { next = next; slots = slots; alive = alive; peak = a.peak })
@@ -45,7 +50,7 @@ changed_good {a} {slots = slots} m n good at_place u m_is n_is alive_sum sum few
 -- ---- other memory
 
 -- the same stands at each place
-module _ (a : Inside) (slots : Lined (Slot Getting)) (peak : ℕ) (good : AreGoodGets a) (kept : (i : ℕ) → slot_at slots i ≡ slot_at a.slots i) (line_is : slots.line ≡ a.slots.line) where
+module _ (a : Inside) (slots : TableView (Slot Getting)) (peak : ℕ) (good : AreGoodGets a) (kept : (i : ℕ) → slot_at slots i ≡ slot_at a.slots i) (line_is : slots.line ≡ a.slots.line) where
   pub kept_good : a.alive ≤ peak → peak ≤ a.alive + slots.free → AreGoodGets (record a { slots = slots; peak = peak })
   kept_good few room = grind (arith, table_kept good.table kept, same_line good.waiting kept, Slots.tally_same is_some refl a.slots.slots slots.slots kept)
 
@@ -55,7 +60,7 @@ module _ (a : Inside) (slots : Lined (Slot Getting)) (peak : ℕ) (good : AreGoo
 -- ---- begin
 
 -- a new get at a free place
-module _ (a : Inside) (place : ℕ) (slots : Lined (Slot Getting)) (good : AreGoodGets a) (free : slot_at a.slots place ≡ None) (within : place < length a.slots.slots)
+module _ (a : Inside) (place : ℕ) (slots : TableView (Slot Getting)) (good : AreGoodGets a) (free : slot_at a.slots place ≡ None) (within : place < length a.slots.slots)
     (takes : slots ≡ record a.slots {
       slots = set a.slots.slots place (Some (record { number = a.next; standing = record { place = Active; first_wait = None } }));
       free = a.slots.free - 1;
@@ -75,7 +80,7 @@ module _ (a : Inside) (place : ℕ) (slots : Lined (Slot Getting)) (good : AreGo
       (added_shown a.slots.slots a.next place born.standing free within good.table) (TablePlaces.added_line a.slots.slots a.next place born.standing free within a.slots.line good.waiting)
       refl (omega arith))
 
--- ---- pass
+-- ---- begin and end at once
 
 -- a get that begins and ends at once leaves its number behind
 module _ (a : Inside) (good : AreGoodGets a) where
@@ -91,7 +96,7 @@ module _ (a : Inside) (good : AreGoodGets a) where
 -- ---- wait
 
 -- a get that stands in no line begins to wait
-module _ (a : Inside) (now place q : ℕ) (x : Slot Getting) (mid slots : Lined (Slot Getting)) (good : AreGoodGets a)
+module _ (a : Inside) (now place q : ℕ) (x : Slot Getting) (mid slots : TableView (Slot Getting)) (good : AreGoodGets a)
     (at_place : slot_at a.slots place ≡ Some x) (off : is_unnotified x.standing.place ≡ false) (number_is : x.number ≡ q)
     (sets : Restands a.slots mid place (get_in_wait now)) (in_line : slots ≡ record mid { line = mid.line ++ place ∷ [] }) where
   pub wait_good : AreGoodGets (record a { slots = slots })
@@ -112,7 +117,7 @@ wait_absent a place x good at_place off = places_absent a.slots.slots a.slots.li
 -- ---- turn
 
 -- a get that stands in no line stands elsewhere
-module _ (a : Inside) (place q : ℕ) (p : GetPlace) (x : Slot Getting) (slots : Lined (Slot Getting)) (good : AreGoodGets a)
+module _ (a : Inside) (place q : ℕ) (p : GetPlace) (x : Slot Getting) (slots : TableView (Slot Getting)) (good : AreGoodGets a)
     (at_place : slot_at a.slots place ≡ Some x) (number_is : x.number ≡ q) (off : is_unnotified x.standing.place ≡ false)
     (sets : Restands a.slots slots place (get_with_place p)) where
   pub turn_good : AreGoodGets (record a { slots = slots })
@@ -129,12 +134,12 @@ module _ (a : Inside) (place q : ℕ) (p : GetPlace) (x : Slot Getting) (slots :
 -- ---- notify
 
 -- the place that is first holds something after its get has turned
-pub turned_stands : (a : Inside) (place : ℕ) (f : Getting → Getting) (mid : Lined (Slot Getting)) → AreGoodGets a → Some place ≡ slice_get a.slots.line 0 → Restands a.slots mid place f → IsSome
+pub turned_stands : (a : Inside) (place : ℕ) (f : Getting → Getting) (mid : TableView (Slot Getting)) → AreGoodGets a → Some place ≡ slice_get a.slots.line 0 → Restands a.slots mid place f → IsSome
     (slot_at mid place)
 turned_stands a place f mid good first sets = let x = good.waiting.each 0 place (sym first) in stands_then a.slots mid place f x.0 x.1 sets
 
 -- the first in line is notified
-module _ (a : Inside) (place number : ℕ) (mid slots : Lined (Slot Getting)) (good : AreGoodGets a) (first : Some place ≡ slice_get a.slots.line 0)
+module _ (a : Inside) (place number : ℕ) (mid slots : TableView (Slot Getting)) (good : AreGoodGets a) (first : Some place ≡ slice_get a.slots.line 0)
     (number_is : (x : Slot Getting) → slot_at a.slots place ≡ Some x → number ≡ x.number)
     (sets : Restands a.slots mid place (get_with_place (Waiting true))) (out : slots ≡ record mid { line = machine.without place mid.line }) where
   noticed : (x : Slot Getting) × (slot_at a.slots place ≡ Some x) × (x.number ≡ number)
@@ -166,7 +171,7 @@ none_first a none = sym (no_number_at a.slots.slots a.slots.line 0 (sym none))
 -- ---- end
 
 -- a get ends, which stands in line or not
-module _ (a : Inside) (place q : ℕ) (x : Slot Getting) (slots : Lined (Slot Getting)) (good : AreGoodGets a) (at_place : slot_at a.slots place ≡ Some x) (number_is : x.number ≡ q)
+module _ (a : Inside) (place q : ℕ) (x : Slot Getting) (slots : TableView (Slot Getting)) (good : AreGoodGets a) (at_place : slot_at a.slots place ≡ Some x) (number_is : x.number ≡ q)
     (gone : Frees a.slots slots place) where
   pub end_counted : 1 ≤ a.alive
   end_counted = omega (arith, tally_at is_some refl a.slots.slots place, ap (λ (o : Option (Slot Getting)). one (is_some o)) at_place, good.sizes.places_are)
@@ -188,7 +193,7 @@ module _ (a : Inside) (place q : ℕ) (x : Slot Getting) (slots : Lined (Slot Ge
 -- ---- born elsewhere
 
 -- a new get that stands elsewhere at once
-module _ (a : Inside) (place : ℕ) (mid : Lined (Slot Getting)) (good : AreGoodGets a) (free : slot_at a.slots place ≡ None) (within : place < length a.slots.slots)
+module _ (a : Inside) (place : ℕ) (mid : TableView (Slot Getting)) (good : AreGoodGets a) (free : slot_at a.slots place ≡ None) (within : place < length a.slots.slots)
     (takes : mid ≡ record a.slots {
       slots = set a.slots.slots place (Some (record { number = a.next; standing = record { place = Active; first_wait = None } }));
       free = a.slots.free - 1;
@@ -208,26 +213,26 @@ module _ (a : Inside) (place : ℕ) (mid : Lined (Slot Getting)) (good : AreGood
   begun_view : view_of_gets begun ≡ machine.after_begin (view_of_gets a)
   begun_view = begin_view a place mid good free within takes room few
 
-  pub turned_good : (p : GetPlace) (slots : Lined (Slot Getting)) → Restands mid slots place (get_with_place p) → AreGoodGets (record begun { slots = slots })
+  pub turned_good : (p : GetPlace) (slots : TableView (Slot Getting)) → Restands mid slots place (get_with_place p) → AreGoodGets (record begun { slots = slots })
   turned_good p slots sets = turn_good begun place a.next p newborn slots begun_good stands_newborn refl refl sets
 
-  pub turned_view : (p : GetPlace) (slots : Lined (Slot Getting)) → Restands mid slots place (get_with_place p)
+  pub turned_view : (p : GetPlace) (slots : TableView (Slot Getting)) → Restands mid slots place (get_with_place p)
       → view_of_gets (record begun { slots = slots }) ≡ machine.after_turn p a.next (machine.after_begin (view_of_gets a))
   turned_view p slots sets = turn_view begun place a.next p newborn slots begun_good stands_newborn refl refl sets ∙ ap (machine.after_turn p a.next) begun_view
 
   pub newborn_absent : Absent place mid.line
   newborn_absent = wait_absent begun place newborn begun_good stands_newborn refl
 
-  pub waiting_good : (now : ℕ) (next slots : Lined (Slot Getting)) → Restands mid next place (get_in_wait now) → slots ≡ record next { line = next.line ++ place ∷ [] }
+  pub waiting_good : (now : ℕ) (next slots : TableView (Slot Getting)) → Restands mid next place (get_in_wait now) → slots ≡ record next { line = next.line ++ place ∷ [] }
       → AreGoodGets (record begun { slots = slots })
   waiting_good now next slots sets in_line = wait_good begun now place a.next newborn next slots begun_good stands_newborn refl refl sets in_line
 
-  pub waiting_view : (now : ℕ) (next slots : Lined (Slot Getting)) → Restands mid next place (get_in_wait now) → slots ≡ record next { line = next.line ++ place ∷ [] }
+  pub waiting_view : (now : ℕ) (next slots : TableView (Slot Getting)) → Restands mid next place (get_in_wait now) → slots ≡ record next { line = next.line ++ place ∷ [] }
       → view_of_gets (record begun { slots = slots }) ≡ machine.after_wait now a.next (machine.after_begin (view_of_gets a))
   waiting_view now next slots sets in_line = wait_view begun now place a.next newborn next slots begun_good stands_newborn refl refl sets in_line ∙ ap (machine.after_wait now a.next) begun_view
 
 -- a get that holds a connection is in no line, so its place goes as any other
-pub released : (a : Inside) (place k : ℕ) (x : Slot Getting) (slots : Lined (Slot Getting)) → AreGoodGets a → slot_at a.slots place ≡ Some x → x.standing.place ≡ Holding k
+pub released : (a : Inside) (place k : ℕ) (x : Slot Getting) (slots : TableView (Slot Getting)) → AreGoodGets a → slot_at a.slots place ≡ Some x → x.standing.place ≡ Holding k
     → slots ≡ record { slots = set a.slots.slots place None; line = a.slots.line; births = machine.without place a.slots.births; free = a.slots.free + 1 }
     → Frees a.slots slots place
 released a place k x slots good at_place holding gone =

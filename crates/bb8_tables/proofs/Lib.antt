@@ -12,6 +12,6 @@ pub mod RecordPlaces
 pub mod ReapPlaces
 pub mod Reaps
 pub mod Lent
-pub mod Walks
+pub mod ReapWalks
 pub mod Approvals
 pub mod GetPlaces

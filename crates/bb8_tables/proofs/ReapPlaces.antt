@@ -1,5 +1,5 @@
 -- Idle connections that end.
-use Rattle.bb8_tables.proofs.Words.{◌≡◌, ℕ, ◌+◌, ◌-◌, ◌≤◌, Bool, true, false, List, length, Option, Some, None, slice_get, refl, sym, ap, ◌∙◌, arith, subst, append-nil, drop-map, length-map, get, Buffer, Settings, is_idle, is_unclaimed, is_conn, is_approval, lives_out, Standing, Slot, Closed, offered_all, closed_in, EndsFirst, Lined, slot_at, without, after_reaped, number_in, numbers_at, view_of_records, AreGoodRecords, ShownRecords, Inside, idle_is}
+use Rattle.bb8_tables.proofs.Words.{◌≡◌, ℕ, ◌+◌, ◌-◌, ◌≤◌, Bool, true, false, List, length, Option, Some, None, slice_get, refl, sym, ap, ◌∙◌, arith, subst, append-nil, drop-map, length-map, get, Buffer, Settings, is_idle, is_unclaimed, is_conn, is_approval, lives_out, Standing, Slot, Closed, offered_all, closed_in, EndsFirst, TableView, slot_at, without, after_reaped, number_in, numbers_at, view_of_records, AreGoodRecords, RecordsView, Inside, idle_is}
 use Rattle.bb8_tables.specs.Machine as machine
 use Rattle.bb8_tables.proofs.Lines.{other_line, without_first, one_shorter}
 use Rattle.bb8_tables.proofs.Orders.{found_in}
@@ -13,10 +13,10 @@ module _ {C : Type 0} where
   lives_idle config now s h = grind arith
 
   -- an idle connection ends, wherever it stands in line
-  module _ (a : Inside C) (place : ℕ) (x : Slot (Standing C)) (slots : Lined (Slot (Standing C))) (good : AreGoodRecords a)
+  module _ (a : Inside C) (place : ℕ) (x : Slot (Standing C)) (slots : TableView (Slot (Standing C))) (good : AreGoodRecords a)
       (at_place : slot_at a.slots place ≡ Some x) (was : is_idle x.standing.place ≡ true) (gone : Frees a.slots slots place) where
     pub freed_births : slots.births ≡ without place a.slots.births
-    freed_births = ap (λ (t : Lined (Slot (Standing C))). t.births) gone
+    freed_births = ap (λ (t : TableView (Slot (Standing C))). t.births) gone
 
     pub freed_counted : 1 ≤ a.conns
     freed_counted = conn_counted a place x true good at_place (ap is_conn (idle_is x.standing.place was).1)
@@ -38,10 +38,10 @@ module _ {C : Type 0} where
     freed_shorter = grind (arith, found_in good.idle place x at_place was, one_shorter)
 
     -- it ends because it was due
-    pub freed_due : (test : Option (Standing C) → Bool) (old : ShownRecords C) {list offered : Buffer (Closed C)} → view_of_records a ≡ old → test (Some x.standing) ≡ true
+    pub freed_due : (test : Option (Standing C) → Bool) (old : RecordsView C) {list offered : Buffer (Closed C)} → view_of_records a ≡ old → test (Some x.standing) ≡ true
         → offered ≡ offered_all (closed_in x.number (Some x.standing)) list → EndsFirst test old x.number (view_of_records (record a { slots = slots; conns = a.conns - 1 })) list offered
     freed_due test old {list} {offered} shows is listed = subst
-        (λ (s : ShownRecords C). EndsFirst test s x.number (view_of_records (record a { slots = slots; conns = a.conns - 1 })) list offered) shows (record {
+        (λ (s : RecordsView C). EndsFirst test s x.number (view_of_records (record a { slots = slots; conns = a.conns - 1 })) list offered) shows (record {
           is_due = ap test (shown_at a place x.number x good at_place refl) ∙ is;
           state = freed_view;
           conns = omega (arith, freed_counted);
@@ -57,7 +57,7 @@ module _ {C : Type 0} where
   end_idle_none a empty = no_number_at a.slots.slots a.slots.line 0 empty
 
   -- the idle connection that is first ends
-  module _ (a : Inside C) (place number : ℕ) (slots : Lined (Slot (Standing C))) (good : AreGoodRecords a)
+  module _ (a : Inside C) (place number : ℕ) (slots : TableView (Slot (Standing C))) (good : AreGoodRecords a)
       (first : Some place ≡ slice_get a.slots.line 0) (number_is : (x : Slot (Standing C)) → slot_at a.slots place ≡ Some x → number ≡ x.number)
       (gone : Frees a.slots slots place) where
     ended : (x : Slot (Standing C)) × (slot_at a.slots place ≡ Some x) × (x.number ≡ number) × (is_idle x.standing.place ≡ true)

@@ -1,5 +1,5 @@
 -- Idle connections that have ended, one after another.
-use Rattle.bb8_tables.proofs.Words.{◌≡◌, ℕ, ◌+◌, Bool, true, List, [], ◌∷◌, ◌++◌, length, slice_get, Option, Some, refl, sym, ap, ◌∙◌, arith, subst, length-append, append_assoc, get, remove, Buffer, Standing, Closed, offered, offered_all, closed_in, closed_of, EndsFirst, Ends, after_reaped, after_reap, AreReaped, AreFirst, ShownRecords}
+use Rattle.bb8_tables.proofs.Words.{◌≡◌, ℕ, ◌+◌, Bool, true, List, [], ◌∷◌, ◌++◌, length, slice_get, Option, Some, refl, sym, ap, ◌∙◌, arith, subst, length-append, append_assoc, get, remove, Buffer, Standing, Closed, offered, offered_all, closed_in, closed_of, EndsFirst, Ends, after_reaped, after_reap, AreReaped, AreFirst, RecordsView}
 
 -- a list is offered these, and then those
 pub offered_both : {X : Type 0} (xs ys : List X) (b : Buffer X) → offered_all (xs ++ ys) b ≡ offered_all ys (offered_all xs b)
@@ -8,47 +8,47 @@ offered_both (x ∷ xs) ys b = offered_both xs ys (offered x b)
 
 module _ {C : Type 0} where
   -- these connections are offered, and then those
-  pub listed_both : (ks js : List ℕ) (s : ShownRecords C) (a : Buffer (Closed C)) {b c : Buffer (Closed C)} → b ≡ offered_all (closed_of ks s.places) a
+  pub listed_both : (ks js : List ℕ) (s : RecordsView C) (a : Buffer (Closed C)) {b c : Buffer (Closed C)} → b ≡ offered_all (closed_of ks s.places) a
       → c ≡ offered_all (closed_of js (after_reap ks s).places) b → c ≡ offered_all (closed_of (ks ++ js) s.places) a
   listed_both ks js s a {b} {c} front back = back ∙ ap (offered_all (closed_of js (after_reap ks s).places)) front
       ∙ sym (offered_both (closed_of ks s.places) (closed_of js (after_reap ks s).places) a)
       ∙ ap (λ (xs : List (Closed C)). offered_all xs a) (sym (closed_both ks s))
     where
-      closed_both : (ks : List ℕ) (s : ShownRecords C) → closed_of (ks ++ js) s.places ≡ closed_of ks s.places ++ closed_of js (after_reap ks s).places
+      closed_both : (ks : List ℕ) (s : RecordsView C) → closed_of (ks ++ js) s.places ≡ closed_of ks s.places ++ closed_of js (after_reap ks s).places
       closed_both [] s = refl
       closed_both (k ∷ ks) s = ap (λ (xs : List (Closed C)). closed_in k (get s.places k) ++ xs) (closed_both ks (after_reaped k s))
           ∙ sym (append_assoc (closed_in k (get s.places k)) (closed_of ks (remove s.places k)) (closed_of js (after_reap ks (after_reaped k s)).places))
 
 module _ {C : Type 0} (test : Option (Standing C) → Bool) where
   -- nothing has ended yet
-  pub none_ended : (s : ShownRecords C) (told : ℕ) (list : Buffer (Closed C)) → told ≡ 0 → Ends test s [] s told list list
+  pub none_ended : (s : RecordsView C) (told : ℕ) (list : Buffer (Closed C)) → told ≡ 0 → Ends test s [] s told list list
   none_ended s told list is = record { each = tt; state = refl; closed = is; conns = omega arith; idle = omega arith; listed = refl }
 
-  due_both : (ks js : List ℕ) (s : ShownRecords C) → AreReaped test ks s → AreReaped test js (after_reap ks s) → AreReaped test (ks ++ js) s
+  due_both : (ks js : List ℕ) (s : RecordsView C) → AreReaped test ks s → AreReaped test js (after_reap ks s) → AreReaped test (ks ++ js) s
   due_both [] js s a b = b
   due_both (k ∷ ks) js s a b = (a.0, due_both ks js (after_reaped k s) a.1 b)
 
   -- one more was the first in line
-  pub first_more : (ks : List ℕ) (k : ℕ) (s : ShownRecords C) → AreFirst test ks s → slice_get (after_reap ks s).idle 0 ≡ Some k
+  pub first_more : (ks : List ℕ) (k : ℕ) (s : RecordsView C) → AreFirst test ks s → slice_get (after_reap ks s).idle 0 ≡ Some k
       → test (get (after_reap ks s).places k) ≡ true → AreFirst test (ks ++ k ∷ []) s
   first_more [] k s a here passing = (here, passing, tt)
   first_more (j ∷ ks) k s a here passing = (a.0, a.1, first_more ks k (after_reaped j s) a.2 here passing)
 
   -- these end, and then those
-  reap_both : (ks js : List ℕ) (s : ShownRecords C) → after_reap (ks ++ js) s ≡ after_reap js (after_reap ks s)
+  reap_both : (ks js : List ℕ) (s : RecordsView C) → after_reap (ks ++ js) s ≡ after_reap js (after_reap ks s)
   reap_both [] js s = refl
   reap_both (k ∷ ks) js s = reap_both ks js (after_reaped k s)
 
   -- one more has ended
-  pub ends_more : {k : ℕ} {old mid new : ShownRecords C} {ks : List ℕ} {told more : ℕ} {list listed offered : Buffer (Closed C)} → Ends test old ks mid told list listed
+  pub ends_more : {k : ℕ} {old mid new : RecordsView C} {ks : List ℕ} {told more : ℕ} {list listed offered : Buffer (Closed C)} → Ends test old ks mid told list listed
       → EndsFirst test mid k new listed offered → more ≡ told + 1 → Ends test old (ks ++ k ∷ []) new more list offered
   ends_more {k} {old} {mid} {new} {ks} {told} {more} {list} {listed} {offered} a e is =
       let many : length (ks ++ k ∷ []) ≡ length ks + 1 = length-append ks (k ∷ []) in
       record {
-        each = due_both ks (k ∷ []) old a.each (subst (λ (s : ShownRecords C). test (get s.places k) ≡ true) a.state e.is_due, tt);
+        each = due_both ks (k ∷ []) old a.each (subst (λ (s : RecordsView C). test (get s.places k) ≡ true) a.state e.is_due, tt);
         state = e.state ∙ ap (after_reaped k) a.state ∙ sym (reap_both ks (k ∷ []) old);
         closed = omega (arith, a.closed);
         conns = omega (arith, a.conns, e.conns);
         idle = omega (arith, a.idle, e.idle);
-        listed = listed_both ks (k ∷ []) old list a.listed (subst (λ (s : ShownRecords C). offered ≡ offered_all (closed_of (k ∷ []) s.places) listed) a.state e.listed);
+        listed = listed_both ks (k ∷ []) old list a.listed (subst (λ (s : RecordsView C). offered ≡ offered_all (closed_of (k ∷ []) s.places) listed) a.state e.listed);
       }

@@ -1,5 +1,6 @@
 -- The code's side of each change: what it does to the fields, seen in what they mean.
-use Rattle.bb8_tables.proofs.Words.{◌≡◌, ◌≢◌, ℕ, ◌+◌, ◌-◌, ◌<◌, ◌≤◌, Bool, true, false, cond, not, [], ◌∷◌, ◌++◌, map, length, Option, Some, None, IsSome, set, slice_get, drop, refl, sym, ap, ◌∙◌, arith, append-nil, map_push, drop-map, length-map, get, Lined, slot_at, Absent, Buffer, buffer, Place, Unclaimed, Claimed, Idle, Guarded, Standing, Holder, Guard, Get, Key, Slot, QueueStrategy, is_idle, is_unclaimed, is_conn, is_approval, is_out, place_with, with_place, first_place, first_of, comes_from, birth_in, IsTable, number_in, numbers_at, view_of_records, AreGoodRecords, passes, IsLineOf, IsOrderOf, tally, one, ShownRecords, NoneAfter, most_records, Inside, unclaimed_is, idle_is, held_conn, idle_from, unclaimed_from, conn_from, approval_from}
+use Rattle.bb8_tables.proofs.Words.{subst, ◌≡◌, ◌≢◌, ℕ, ◌+◌, ◌-◌, ◌<◌, ◌≤◌, Bool, true, false, cond, not, [], ◌∷◌, ◌++◌, map, length, Option, Some, None, IsSome, set, slice_get, drop, refl, sym, ap, ◌∙◌, arith, append-nil, map_push, drop-map, length-map, get, TableView, slot_at, Absent, Buffer, buffer, Place, Unclaimed, Claimed, Idle, Guarded, Standing, Holder, Guard, Get, Key, Slot, QueueStrategy, is_idle, is_unclaimed, is_conn, is_approval, is_out, place_with, with_place, first_place, first_of, comes_from, birth_in, IsTable, number_in, numbers_at, view_of_records, AreGoodRecords, passes, IsLineOf, IsOrderOf, tally, one, RecordsView, NoneAfter, most_records, Inside, unclaimed_is, idle_is, held_conn, idle_from, unclaimed_from, conn_from, approval_from}
+use Rattle.std.proofs.Common.{IfSome}
 use Rattle.bb8_tables.specs.Machine as machine
 use Rattle.bb8_tables.proofs.Views.{same_records}
 use Rattle.bb8_tables.proofs.Lines.{other_line, free_line, added_line, shorter_line, same_line, places_absent, free_absent}
@@ -68,26 +69,30 @@ module _ {C : Type 0} where
   shown_absent a q h = Slots.held_absent numbered (λ s. s.standing) a.slots.slots q h
 
   -- a look-up that finds nothing, or a slot
-  pub none_shown : (a : Inside C) (q : ℕ) (s : ShownRecords C) → view_of_records a ≡ s → ((i : ℕ) (x : Slot (Standing C)) → slot_at a.slots i ≡ Some x → x.number ≢ q) → get s.places q ≡ None
-  none_shown a q s is none = ap (λ (t : ShownRecords C). get t.places q) (sym is) ∙ shown_absent a q none
+  pub none_shown : (a : Inside C) (q : ℕ) (s : RecordsView C) → view_of_records a ≡ s → ((i : ℕ) (x : Slot (Standing C)) → slot_at a.slots i ≡ Some x → x.number ≢ q) → get s.places q ≡ None
+  none_shown a q s is none = ap (λ (t : RecordsView C). get t.places q) (sym is) ∙ shown_absent a q none
 
-  pub some_shown : (a : Inside C) (q i : ℕ) (x y : Slot (Standing C)) (s : ShownRecords C) → AreGoodRecords a → view_of_records a ≡ s
+  pub some_shown : (a : Inside C) (q i : ℕ) (x y : Slot (Standing C)) (s : RecordsView C) → AreGoodRecords a → view_of_records a ≡ s
       → slot_at a.slots i ≡ Some x → x.number ≡ q → Some y ≡ slot_at a.slots i → get s.places q ≡ Some y.standing
   some_shown a q i x y s good is e same found = grind (arith, shown_at a i q x good e same)
 
-  pub never_absent : (a : Inside C) (q : ℕ) {r : Standing C} (s : ShownRecords C) {G : Type 0} → view_of_records a ≡ s → get s.places q ≡ Some r
+  pub never_absent : (a : Inside C) (q : ℕ) {r : Standing C} (s : RecordsView C) {G : Type 0} → view_of_records a ≡ s → get s.places q ≡ Some r
       → ((i : ℕ) (x : Slot (Standing C)) → slot_at a.slots i ≡ Some x → x.number ≢ q) → G
   never_absent a q {r} s is shows none = absurd (let clash : Some r ≡ None = sym shows ∙ none_shown a q s is none in cc)
 
   -- the record that is shown of a number stands where the number was found
-  pub stood : (a : Inside C) (q i : ℕ) (x : Slot (Standing C)) (test : Place C → Bool) (s : ShownRecords C) → AreGoodRecords a → view_of_records a ≡ s
+  pub stood : (a : Inside C) (q i : ℕ) (x : Slot (Standing C)) (test : Place C → Bool) (s : RecordsView C) → AreGoodRecords a → view_of_records a ≡ s
       → (r : Standing C) × (get s.places q ≡ Some r) × (test r.place ≡ true) → slot_at a.slots i ≡ Some x → x.number ≡ q → test x.standing.place ≡ true
   stood a q i x test s good is h e same = grind (arith, shown_at a i q x good e same)
+
+  -- what a look finds at its place is what stands there
+  pub passed : {o : Option (Slot (Standing C))} (x y : Slot (Standing C)) (test : Place C → Bool) → o ≡ Some x → o ≡ Some y → test y.standing.place ≡ true → test x.standing.place ≡ true
+  passed x y test e f on = subst (λ (o : Option (Slot (Standing C))). IfSome o (λ z. test z.standing.place ≡ true)) (sym f ∙ e) on
 
   -- ---- one place changes
 
   -- Good records are good after one place has changed, where the line, the orders and the counts are right again: what passed a test there counted, and what passes it counts.
-  pub changed_good : {a : Inside C} {next conns approved place : ℕ} {slots : Lined (Slot (Standing C))} {unclaimed : Buffer Key} {was is : Option (Slot (Standing C))} (m n k l : Bool)
+  pub changed_good : {a : Inside C} {next conns approved place : ℕ} {slots : TableView (Slot (Standing C))} {unclaimed : Buffer Key} {was is : Option (Slot (Standing C))} (m n k l : Bool)
       → AreGoodRecords a → slot_at a.slots place ≡ was → Updates a.slots.slots slots.slots place is
       → passes is_conn was ≡ m → passes is_conn is ≡ n → conns + one m ≡ a.conns + one n
       → passes is_approval was ≡ k → passes is_approval is ≡ l → approved + one k ≡ a.approved + one l
@@ -108,14 +113,14 @@ module _ {C : Type 0} where
 
   -- ---- nothing in an empty table
 
-  pub new_good : (first : ℕ) (slots : Lined (Slot (Standing C))) (unclaimed : Buffer Key) → slots ≡ record { slots = []; line = []; births = []; free = 0 } → unclaimed ≡ buffer [] 0
+  pub new_good : (first : ℕ) (slots : TableView (Slot (Standing C))) (unclaimed : Buffer Key) → slots ≡ record { slots = []; line = []; births = []; free = 0 } → unclaimed ≡ buffer [] 0
       → AreGoodRecords (record { next = first; slots = slots; unclaimed = unclaimed; conns = 0; approved = 0; peak = 0 })
   new_good first slots unclaimed empty none = grind (arith, no_order)
 
   -- ---- other memory
 
   -- the same stands at each place
-  module _ (a : Inside C) (slots : Lined (Slot (Standing C))) (peak : ℕ) (good : AreGoodRecords a) (kept : (i : ℕ) → slot_at slots i ≡ slot_at a.slots i) (line_is : slots.line ≡ a.slots.line)
+  module _ (a : Inside C) (slots : TableView (Slot (Standing C))) (peak : ℕ) (good : AreGoodRecords a) (kept : (i : ℕ) → slot_at slots i ≡ slot_at a.slots i) (line_is : slots.line ≡ a.slots.line)
       (births_are : slots.births ≡ a.slots.births) where
     pub kept_good : (unclaimed : Buffer Key) → unclaimed.items ≡ a.unclaimed.items → a.conns + a.approved ≤ peak → peak ≤ most_records → peak ≤ a.conns + a.approved + slots.free
         → peak ≤ unclaimed.capacity → AreGoodRecords (record a { slots = slots; unclaimed = unclaimed; peak = peak })
@@ -140,7 +145,7 @@ module _ {C : Type 0} where
       → (x : Slot (Standing C)) × (slot_at a.slots key.place ≡ Some x) × (x.number ≡ key.number) × (x.standing.place ≡ Unclaimed)
   first_unclaimed a key good first = let x = good.unclaimed.each 0 key (sym first) in (x.0, x.1, x.2, unclaimed_is x.0.standing.place x.3)
 
-  module _ (a : Inside C) (key : Key) (slots : Lined (Slot (Standing C))) (unclaimed : Buffer Key) (good : AreGoodRecords a)
+  module _ (a : Inside C) (key : Key) (slots : TableView (Slot (Standing C))) (unclaimed : Buffer Key) (good : AreGoodRecords a)
       (first : Some key ≡ slice_get a.unclaimed.items 0) (rest : unclaimed ≡ buffer (drop 1 a.unclaimed.items) a.unclaimed.capacity)
       (sets : Restands a.slots slots key.place (with_place Claimed)) where
     pub claim_good : AreGoodRecords (record a { slots = slots; unclaimed = unclaimed })
@@ -166,7 +171,7 @@ module _ {C : Type 0} where
   held_idle p Guard is = ap is_idle is
   held_idle p (Get g) is = ap is_idle is
 
-  module _ (a : Inside C) (strategy : QueueStrategy) (place number : ℕ) (holder : Holder) (out : Place C) (mid slots : Lined (Slot (Standing C)))
+  module _ (a : Inside C) (strategy : QueueStrategy) (place number : ℕ) (holder : Holder) (out : Place C) (mid slots : TableView (Slot (Standing C)))
       (good : AreGoodRecords a) (first : Some place ≡ slice_get a.slots.line (first_place strategy (length a.slots.line)))
       (number_is : (x : Slot (Standing C)) → slot_at a.slots place ≡ Some x → number ≡ x.number) (is : out ≡ place_with holder)
       (sets : Restands a.slots mid place (with_place out)) (gone : slots ≡ record mid { line = machine.without place mid.line }) where
@@ -204,7 +209,7 @@ module _ {C : Type 0} where
         (x.0.standing.birth, x.0.standing.entered, shown_at a place number x.0 good x.1 x.2 ∙ ap (λ (p : Place C). Some (with_place p x.0.standing)) (sym (was x.0 x.1) ∙ is))
 
   -- something stands at a place in line after its record has gone elsewhere
-  pub put_stands : (a : Inside C) (i place : ℕ) (f : Standing C → Standing C) (mid : Lined (Slot (Standing C))) → AreGoodRecords a → Some place ≡ slice_get a.slots.line i
+  pub put_stands : (a : Inside C) (i place : ℕ) (f : Standing C → Standing C) (mid : TableView (Slot (Standing C))) → AreGoodRecords a → Some place ≡ slice_get a.slots.line i
       → Restands a.slots mid place f → IsSome (slot_at mid place)
   put_stands a i place f mid good first sets = let x = good.idle.are.each i place (sym first) in stands_then a.slots mid place f x.0 x.1 sets
 
@@ -216,7 +221,7 @@ module _ {C : Type 0} where
   -- ---- hand over
 
   -- a guard takes over a connection that is out
-  module _ (a : Inside C) (place q : ℕ) (x : Slot (Standing C)) (slots : Lined (Slot (Standing C))) (good : AreGoodRecords a)
+  module _ (a : Inside C) (place q : ℕ) (x : Slot (Standing C)) (slots : TableView (Slot (Standing C))) (good : AreGoodRecords a)
       (at_place : slot_at a.slots place ≡ Some x) (number_is : x.number ≡ q) (was : is_out x.standing.place ≡ true)
       (sets : Restands a.slots slots place (with_place Guarded)) where
     pub handover_good : AreGoodRecords (record a { slots = slots })
@@ -236,13 +241,13 @@ module _ {C : Type 0} where
   -- ---- enter
 
   -- a place comes into line, and into the order of births where its connection is new
-  pub lined : (place : ℕ) (old mid now : Lined (Slot (Standing C))) → mid ≡ record old { line = old.line ++ place ∷ [] }
+  pub lined : (place : ℕ) (old mid now : TableView (Slot (Standing C))) → mid ≡ record old { line = old.line ++ place ∷ [] }
       → now ≡ record mid { births = mid.births ++ place ∷ [] } → now ≡ record old { line = old.line ++ place ∷ []; births = old.births ++ place ∷ [] }
   lined place old mid now line births = rw (births, line) refl
 
   -- a claimed approval, or a connection that was out, becomes idle
   module _ (a : Inside C) (opening : Bool) (place q : ℕ) (x : Slot (Standing C)) (s : Standing C)
-      (mid slots : Lined (Slot (Standing C))) (good : AreGoodRecords a) (at_place : slot_at a.slots place ≡ Some x)
+      (mid slots : TableView (Slot (Standing C))) (good : AreGoodRecords a) (at_place : slot_at a.slots place ≡ Some x)
       (was : comes_from opening x.standing.place ≡ true) (number_is : x.number ≡ q)
       (is_idle_now : is_idle s.place ≡ true) (sets : Restands a.slots mid place (λ _. s))
       (in_line : slots ≡ record mid { line = mid.line ++ place ∷ []; births = cond opening (mid.births ++ place ∷ []) mid.births }) where
@@ -276,7 +281,7 @@ module _ {C : Type 0} where
   -- ---- records end
 
   -- Good records are good after one has ended, where the line of the unclaimed and the counts are right again.
-  pub ended_good : {a : Inside C} {conns approved place : ℕ} {slots : Lined (Slot (Standing C))} {unclaimed : Buffer Key} (x : Slot (Standing C)) (m k : Bool) → AreGoodRecords a
+  pub ended_good : {a : Inside C} {conns approved place : ℕ} {slots : TableView (Slot (Standing C))} {unclaimed : Buffer Key} (x : Slot (Standing C)) (m k : Bool) → AreGoodRecords a
       → slot_at a.slots place ≡ Some x → Frees a.slots slots place → is_conn x.standing.place ≡ m → conns + one m ≡ a.conns → is_approval x.standing.place ≡ k → approved + one k ≡ a.approved
       → one m + one k ≡ 1
       → unclaimed.capacity ≡ a.unclaimed.capacity → (Updates a.slots.slots (set a.slots.slots place None) place None → IsLineOf is_unclaimed (set a.slots.slots place None) unclaimed.items)
@@ -287,7 +292,7 @@ module _ {C : Type 0} where
       (table_removed good.table u) (left_order good.idle u refl) (left_order good.births u refl) (line u))
 
   -- a claimed approval, or a connection that was out, ends
-  module _ (a : Inside C) (opening : Bool) (place q : ℕ) (x : Slot (Standing C)) (slots : Lined (Slot (Standing C)))
+  module _ (a : Inside C) (opening : Bool) (place q : ℕ) (x : Slot (Standing C)) (slots : TableView (Slot (Standing C)))
       (good : AreGoodRecords a) (at_place : slot_at a.slots place ≡ Some x) (number_is : x.number ≡ q)
       (was : comes_from opening x.standing.place ≡ true) (gone : Frees a.slots slots place) where
     pub close_good : (n m : ℕ) → n ≡ a.conns - one (not opening) → m ≡ a.approved - one opening → AreGoodRecords (record a { slots = slots; conns = n; approved = m })
@@ -307,7 +312,7 @@ module _ {C : Type 0} where
         refl n_is m_is refl)
 
   -- the unclaimed approval that is first ends
-  module _ (a : Inside C) (key : Key) (slots : Lined (Slot (Standing C))) (line : Buffer Key) (good : AreGoodRecords a)
+  module _ (a : Inside C) (key : Key) (slots : TableView (Slot (Standing C))) (line : Buffer Key) (good : AreGoodRecords a)
       (first : Some key ≡ slice_get a.unclaimed.items 0) (rest : line ≡ buffer (drop 1 a.unclaimed.items) a.unclaimed.capacity)
       (gone : Frees a.slots slots key.place) where
     pub unclaimed_end_counted : 1 ≤ a.approved
@@ -332,7 +337,7 @@ module _ {C : Type 0} where
   -- ---- records begin
 
   -- an approval, claimed or in line
-  module _ (a : Inside C) (claimed_now : Bool) (place : ℕ) (slots : Lined (Slot (Standing C))) (unclaimed : Buffer Key)
+  module _ (a : Inside C) (claimed_now : Bool) (place : ℕ) (slots : TableView (Slot (Standing C))) (unclaimed : Buffer Key)
       (good : AreGoodRecords a) (free : slot_at a.slots place ≡ None)
       (within : place < length a.slots.slots) (takes : slots ≡ record a.slots {
         slots = set a.slots.slots place (Some (record { number = a.next; standing = record { place = cond claimed_now Claimed Unclaimed; birth = 0; entered = 0 } }));
@@ -379,7 +384,7 @@ module _ {C : Type 0} where
         refl refl refl)
 
   -- a connection under the next number, at a free place
-  module _ (a : Inside C) (place now : ℕ) (conn : C) (mid slots : Lined (Slot (Standing C))) (good : AreGoodRecords a)
+  module _ (a : Inside C) (place now : ℕ) (conn : C) (mid slots : TableView (Slot (Standing C))) (good : AreGoodRecords a)
       (free : slot_at a.slots place ≡ None) (within : place < length a.slots.slots) (takes : mid ≡ record a.slots {
         slots = set a.slots.slots place (Some (record { number = a.next; standing = record { place = Idle conn; birth = now; entered = now } }));
         free = a.slots.free - 1;

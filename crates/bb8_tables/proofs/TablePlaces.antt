@@ -1,5 +1,5 @@
 -- What a table shows under its numbers, and what it shows after one place has changed.
-use Rattle.bb8_tables.proofs.Words.{◌≡◌, ℕ, ◌+◌, ◌<◌, Bool, List, length, [], ◌∷◌, ◌++◌, Option, Some, None, IsSome, set, option_map, get_or, slice_get, refl, sym, ap, ◌∙◌, subst, nat_cmp, slice_get-map, FinMap, insert, remove, get, Slot, Lined, slot_at, without, values_at, IsTable, ArePlaces, number_in, numbers_at}
+use Rattle.bb8_tables.proofs.Words.{◌≡◌, ℕ, ◌+◌, ◌<◌, Bool, List, length, [], ◌∷◌, ◌++◌, Option, Some, None, IsSome, set, option_map, get_or, slice_get, refl, sym, ap, ◌∙◌, subst, nat_cmp, slice_get-map, FinMap, insert, remove, get, Slot, TableView, slot_at, without, values_at, IsTable, ArePlaces, number_in, numbers_at}
 use Rattle.bb8_tables.proofs.Lines.{left_away, free_avoids}
 use Rattle.bb8_tables.proofs.Numbers.{numbers_kept, numbers_same, numbers_push, numbers_without}
 use Rattle.bb8_tables.proofs.Slots.{set_at, set_within, held_at, held_set, held_added, held_removed}
@@ -13,15 +13,15 @@ module _ {S : Type 0} where
   shown slots = values_at numbered (λ x. x.standing) slots
 
   -- something else stands at a place, under the same number
-  abbrev pub Restands : Lined (Slot S) → Lined (Slot S) → ℕ → (S → S) → Type 0
+  abbrev pub Restands : TableView (Slot S) → TableView (Slot S) → ℕ → (S → S) → Type 0
   Restands old new place f = (x : Slot S) → slot_at old place ≡ Some x → new ≡ record old { slots = set old.slots place (Some (record x { standing = f x.standing })) }
 
   -- what a freed place leaves
-  abbrev pub Frees : Lined (Slot S) → Lined (Slot S) → ℕ → Type 0
+  abbrev pub Frees : TableView (Slot S) → TableView (Slot S) → ℕ → Type 0
   Frees old new place = new ≡ record { slots = set old.slots place None; line = without place old.line; births = without place old.births; free = old.free + 1 }
 
   -- something stands there then
-  pub stands_then : (old mid : Lined (Slot S)) (place : ℕ) (f : S → S) (x : Slot S) → slot_at old place ≡ Some x → Restands old mid place f → IsSome (slot_at mid place)
+  pub stands_then : (old mid : TableView (Slot S)) (place : ℕ) (f : S → S) (x : Slot S) → slot_at old place ≡ Some x → Restands old mid place f → IsSome (slot_at mid place)
   stands_then old mid place f x e sets = rw (sets x e) (subst IsSome (sym (set_at old.slots place x (Some (record x { standing = f x.standing })) e).changed) refl)
 
   pub stands_within : (slots : List (Option (Slot S))) (place : ℕ) (x : Slot S) → place < length slots → IsSome (get_or (set slots place (Some x)) place None)

@@ -1,5 +1,5 @@
 -- What the steps of a table do to what it shows.
-use Rattle.bb8_tables.proofs.Words.{◌≡◌, ◌≢◌, get_or-set_other, get_or-set_same, ℕ, zero, suc, ◌+◌, ◌<◌, ◌≤◌, Bool, false, cond, eqb, List, [], ◌∷◌, ◌++◌, length, set, slice_get, get_or, Option, Some, None, IsSome, refl, sym, ap, ◌∙◌, arith, subst, length-append, length-map, map-set, map_push, eqb_tells, slice_get_read, with_item, end_of_numbers, Slot, most_places, slot_in, slots_of, view_of_table, IsGoodTable, AreFree, Lined, Absent, inl, inr}
+use Rattle.bb8_tables.proofs.Words.{◌≡◌, ◌≢◌, get_or-set_other, get_or-set_same, ℕ, zero, suc, ◌+◌, ◌<◌, ◌≤◌, Bool, false, cond, eqb, List, [], ◌∷◌, ◌++◌, length, set, slice_get, get_or, Option, Some, None, IsSome, refl, sym, ap, ◌∙◌, arith, subst, length-append, length-map, map-set, map_push, eqb_tells, slice_get_read, with_item, end_of_numbers, Slot, most_places, slot_in, slots_of, view_of_table, IsGoodTable, AreFree, TableView, Absent, inl, inr}
 use Rattle.std.specs.Prelude.{vec_capacity}
 use Rattle.bb8_tables.specs.declared.table.Table.TheInside.{Inside}
 use Rattle.bb8_tables.proofs.Spelled.{few_below, Distinct, Below, push_absent}
@@ -104,19 +104,19 @@ module _ {S : Type 0} where
     pub sized : length slots ≡ a.slots.len
     sized = length-map a.slots.items slot_in ∙ sym a.slots.ok.0
 
-    pub size_seen : (now : Lined (Slot S)) → view_of_table a ≡ now → length now.slots ≡ a.slots.len
-    size_seen now is = ap (λ (t : Lined (Slot S)). length t.slots) (sym is) ∙ sized
+    pub size_seen : (now : TableView (Slot S)) → view_of_table a ≡ now → length now.slots ≡ a.slots.len
+    size_seen now is = ap (λ (t : TableView (Slot S)). length t.slots) (sym is) ∙ sized
 
     -- where something stands is inside, and not the first place
-    pub stands : (now : Lined (Slot S)) (p : ℕ) → view_of_table a ≡ now → IsSome (get_or now.slots p None) → (p < a.slots.len) × (0 < p)
+    pub stands : (now : TableView (Slot S)) (p : ℕ) → view_of_table a ≡ now → IsSome (get_or now.slots p None) → (p < a.slots.len) × (0 < p)
     stands now p is h =
-        let here : IsSome (get_or slots p None) = subst (λ (t : Lined (Slot S)). IsSome (get_or t.slots p None)) (sym is) h in (
+        let here : IsSome (get_or slots p None) = subst (λ (t : TableView (Slot S)). IsSome (get_or t.slots p None)) (sym is) h in (
           omega (arith, stands_inside slots p here, sized),
           elim (eqb_tells p 0) [ inl t ↦ absurd (none_stands (get_or slots 0 None) good.first (subst (λ (k : ℕ). IsSome (get_or slots k None)) t.1 here)) | inr t ↦ omega (arith, t.1) ],
         )
 
-    pub set_seen : (now : Lined (Slot S)) → view_of_table a ≡ now → (p : ℕ) (y : Slot S) (o : Option (Slot S)) → slot_in y ≡ o → slots_of (set a.slots.items p y) ≡ set now.slots p o
-    set_seen now is p y o e = map-set slot_in a.slots.items p y ∙ ap (set slots p) e ∙ ap (λ (t : Lined (Slot S)). set t.slots p o) is
+    pub set_seen : (now : TableView (Slot S)) → view_of_table a ≡ now → (p : ℕ) (y : Slot S) (o : Option (Slot S)) → slot_in y ≡ o → slots_of (set a.slots.items p y) ≡ set now.slots p o
+    set_seen now is p y o e = map-set slot_in a.slots.items p y ∙ ap (set slots p) e ∙ ap (λ (t : TableView (Slot S)). set t.slots p o) is
 
     -- another slot comes to a place
     module _ (new : Inside S) (p : ℕ) (y : Slot S) (items : new.slots.items ≡ set a.slots.items p y) where
@@ -135,16 +135,16 @@ module _ {S : Type 0} where
       }
 
     -- something else stands where something stood
-    module _ (now : Lined (Slot S)) (is : view_of_table a ≡ now) (p : ℕ) (h : IsSome (get_or now.slots p None)) where
+    module _ (now : TableView (Slot S)) (is : view_of_table a ≡ now) (p : ℕ) (h : IsSome (get_or now.slots p None)) where
       pub stood_absent : Absent p a.free.items
-      stood_absent = stands_absent slots a.free.items p good.free (subst (λ (t : Lined (Slot S)). IsSome (get_or t.slots p None)) (sym is) h)
+      stood_absent = stands_absent slots a.free.items p good.free (subst (λ (t : TableView (Slot S)). IsSome (get_or t.slots p None)) (sym is) h)
 
       pub restood_good : (y : Slot S) → IsGoodTable (record { slots = with_item a.slots p y; line = a.line; births = a.births; free = a.free })
       restood_good y = set_good _ p y refl refl refl refl (stands now p is h).1 (set_free slots a.free.items p (slot_in y) good.free stood_absent) refl
 
       pub restood_was : (x s : Slot S) → x ≡ get_or a.slots.items p x → get_or now.slots p None ≡ Some s → (x ≡ s) × (eqb x.number end_of_numbers ≡ false)
       restood_was x s at_p e = slot_is x s (sym (get_slot a.slots.items p x (slice_get_read a.slots.items a.slots.len p x a.slots.ok.0 (stands now p is h).0 at_p))
-          ∙ ap (λ (t : Lined (Slot S)). get_or t.slots p None) is ∙ e)
+          ∙ ap (λ (t : TableView (Slot S)). get_or t.slots p None) is ∙ e)
 
       pub restood_view : (x : Slot S) (standing : S) (g : S → S) → x ≡ get_or a.slots.items p x → standing ≡ g x.standing → (s : Slot S) → get_or now.slots p None ≡ Some s
           → view_of_table (record { slots = with_item a.slots p (record x { standing = standing }); line = a.line; births = a.births; free = a.free })
@@ -164,8 +164,8 @@ module _ {S : Type 0} where
       pub taken_within : p < a.slots.len
       taken_within = omega (arith, popped.2, sized)
 
-      pub taken_vacant : (now : Lined (Slot S)) → view_of_table a ≡ now → get_or now.slots p None ≡ None
-      taken_vacant now is = ap (λ (t : Lined (Slot S)). get_or t.slots p None) (sym is) ∙ popped.3
+      pub taken_vacant : (now : TableView (Slot S)) → view_of_table a ≡ now → get_or now.slots p None ≡ None
+      taken_vacant now is = ap (λ (t : TableView (Slot S)). get_or t.slots p None) (sym is) ∙ popped.3
 
       pub taken_good : (new : Inside S) (y : Slot S) → new.slots.items ≡ set a.slots.items p y → new.slots.len ≡ a.slots.len → new.line.size ≡ a.line.size → new.births.size ≡ a.births.size
           → new.free.items ≡ rest → vec_capacity new.free ≡ vec_capacity a.free → IsGoodTable new
@@ -173,7 +173,7 @@ module _ {S : Type 0} where
           (subst (λ (ps : List ℕ). AreFree (set slots p (slot_in y)) ps) (sym free) (set_free slots rest p (slot_in y) popped.0 popped.4)) room
 
     -- a place ends
-    module _ (now : Lined (Slot S)) (is : view_of_table a ≡ now) (p : ℕ) (h : IsSome (get_or now.slots p None)) where
+    module _ (now : TableView (Slot S)) (is : view_of_table a ≡ now) (p : ℕ) (h : IsSome (get_or now.slots p None)) where
       pub ended_room : a.free.len < vec_capacity a.free
       ended_room = omega (arith, fewer_free slots a.free.items p good.free (omega (arith, (stands now p is h).0, sized)) (stood_absent now is p h), sized, good.room, a.free.ok.0)
 

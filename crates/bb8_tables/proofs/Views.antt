@@ -1,12 +1,12 @@
 -- Views are the same that are the same field by field.
-use Rattle.bb8_tables.proofs.Words.{◌≡◌, Result, Ok, Err, OnErr, ShownRecords, ShownGets}
+use Rattle.bb8_tables.proofs.Words.{◌≡◌, Result, Ok, Err, OnErr, RecordsView, GetsView}
 
-pub same_records : {C : Type 0} (s t : ShownRecords C) → s.next ≡ t.next → s.places ≡ t.places → s.idle ≡ t.idle → s.unclaimed ≡ t.unclaimed
+pub same_records : {C : Type 0} (s t : RecordsView C) → s.next ≡ t.next → s.places ≡ t.places → s.idle ≡ t.idle → s.unclaimed ≡ t.unclaimed
     → s.conns ≡ t.conns → s.approved ≡ t.approved → s.peak ≡ t.peak → s ≡ t
 same_records s t next places idle unclaimed conns approved peak =
     λ i. record { next = next i; places = places i; idle = idle i; unclaimed = unclaimed i; conns = conns i; approved = approved i; peak = peak i }
 
-pub same_gets : (s t : ShownGets) → s.next ≡ t.next → s.places ≡ t.places → s.waiting ≡ t.waiting → s.alive ≡ t.alive → s.peak ≡ t.peak → s ≡ t
+pub same_gets : (s t : GetsView) → s.next ≡ t.next → s.places ≡ t.places → s.waiting ≡ t.waiting → s.alive ≡ t.alive → s.peak ≡ t.peak → s ≡ t
 same_gets s t next places waiting alive peak = λ i. record { next = next i; places = places i; waiting = waiting i; alive = alive i; peak = peak i }
 
 -- what holds holds where a step failed

@@ -2,7 +2,7 @@
 pub use Rattle.std.proofs.Common.{◌≡◌, ◌≢◌, ℕ, ◌+◌, ◌-◌, ◌<◌, ◌≤◌, Bool, true, false, cond, not, List, [], ◌∷◌, ◌++◌, map, length, Option, Some, None, IsSome, set, get_or, slice_get, drop, refl, sym, ap, ◌∙◌, arith, subst, length-append, append-nil, append_assoc, is_some, ◌&&◌, ◌⊎◌, inl, inr, ⊎_elim, zero, suc, option_map, eq-eqb, ne_eqb, get_or-set_other, get_or-set_same, Result, Ok, Err, OnOk, OnErr, eqb, nat_cmp, append_assoc, max}
 pub use Rattle.std.proofs.lemmas.List.{map_push, drop-map, length-map, map-set, map-append}
 pub use Rattle.std.specs.FinMap.{insert, get, FinMap, remove, get-empty}
-pub use Rattle.bb8_tables.specs.Lined.{Lined, slot_at}
+pub use Rattle.bb8_tables.specs.TableView.{TableView, slot_at}
 pub use Rattle.bb8_tables.specs.Ordered.{Ordered, most_places}
 pub use Rattle.bb8_tables.specs.Tables.{slot_in, slots_of, view_of_table, IsGoodTable, AreFree}
 pub use Rattle.bb8_tables.specs.Spelled.{Absent, Spells, walk, Joins, LinksLead}
@@ -19,7 +19,7 @@ pub use Rattle.bb8_types.specs.Places.{is_idle, is_unclaimed, is_conn, is_approv
 pub use Rattle.bb8_tables.specs.Slots.{IsTable, number_in, numbers_at, ArePlaces, IsRising, values_at, IsOrder, AllFrom, IsDistinct, IsLine}
 pub use Rattle.bb8_tables.specs.State.{view_of_records, AreGoodRecords, passes, IsLineOf, IsOrderOf, view_of_gets, AreGoodGets, AreWaitingPlaces}
 pub use Rattle.bb8_types.specs.Numbered.{tally, one}
-pub use Rattle.bb8_tables.specs.Views.{ShownRecords, NoneAfter, ShownGets}
+pub use Rattle.bb8_tables.specs.Views.{RecordsView, NoneAfter, GetsView}
 pub use Rattle.bb8_types.specs.Bounds.{most_records, end_of_numbers}
 pub use Rattle.bb8_types.specs.declared.standing.GetPlace.{GetPlace}
 pub use Rattle.bb8_types.specs.declared.standing.GetPlace.TheVariants.{Active, Waiting}

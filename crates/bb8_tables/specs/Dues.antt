@@ -10,13 +10,13 @@ use Rattle.bb8_tables.specs.declared.records.reaps.Age.TheVariants.{Young, Out, 
 use Rattle.circular_buffer.specs.Buffer.{Buffer}
 use Rattle.bb8_tables.specs.declared.closed.Closed.{Closed}
 use Rattle.bb8_tables.specs.Closed.{offered_all, closed_of}
-use Rattle.bb8_tables.specs.Lined.{Lined, slot_at}
-use Rattle.bb8_tables.specs.Views.{ShownRecords}
+use Rattle.bb8_tables.specs.TableView.{TableView, slot_at}
+use Rattle.bb8_tables.specs.Views.{RecordsView}
 use Rattle.bb8_tables.specs.Reaps.{after_reaped, after_reap, AreReaped, AreFirst, beyond}
 
 module _ {C : Type 0} where
   -- one idle connection has ended because it passed a test, and was offered to a list
-  pub record EndsFirst (test : Option (Standing C) → Bool) (old : ShownRecords C) (k : ℕ) (new : ShownRecords C) (list offered : Buffer (Closed C)) : Type 0 where
+  pub record EndsFirst (test : Option (Standing C) → Bool) (old : RecordsView C) (k : ℕ) (new : RecordsView C) (list offered : Buffer (Closed C)) : Type 0 where
     pub is_due : test (get old.places k) ≡ true
     pub state : new ≡ after_reaped k old
     pub conns : new.conns + 1 ≡ old.conns
@@ -24,7 +24,7 @@ module _ {C : Type 0} where
     pub listed : offered ≡ offered_all (closed_of (k ∷ []) old.places) list
 
   -- These idle connections have ended, one after another, each because it passed a test; they were offered to a list, and so many are told.
-  pub record Ends (test : Option (Standing C) → Bool) (old : ShownRecords C) (ks : List ℕ) (new : ShownRecords C) (told : ℕ) (list offered : Buffer (Closed C)) : Type 0 where
+  pub record Ends (test : Option (Standing C) → Bool) (old : RecordsView C) (ks : List ℕ) (new : RecordsView C) (told : ℕ) (list offered : Buffer (Closed C)) : Type 0 where
     pub each : AreReaped test ks old
     pub state : new ≡ after_reap ks old
     pub closed : told ≡ length ks
@@ -33,18 +33,18 @@ module _ {C : Type 0} where
     pub listed : offered ≡ offered_all (closed_of ks old.places) list
 
   -- Those that are idle too long have ended, from the first in line on, until none was left or as many had ended as may.
-  pub record EndsIdle (config : Settings) (now : ℕ) (old : ShownRecords C) (ks : List ℕ) (new : ShownRecords C) (told : ℕ) (list offered : Buffer (Closed C)) : Type 0 where
+  pub record EndsIdle (config : Settings) (now : ℕ) (old : RecordsView C) (ks : List ℕ) (new : RecordsView C) (told : ℕ) (list offered : Buffer (Closed C)) : Type 0 where
     pub first : AreFirst (idles_out config now) ks old
     pub ends : Ends (idles_out config now) old ks new told list offered
     pub few : told ≤ beyond config old
     pub all : (told ≡ beyond config old) ⊎ ((k : ℕ) → idles_out config now (get new.places k) ≡ false)
 
   -- the place after this one in the order of births
-  abbrev pub IsNext : Lined (Slot (Standing C)) → ℕ → Option ℕ → Type 0
+  abbrev pub IsNext : TableView (Slot (Standing C)) → ℕ → Option ℕ → Type 0
   IsNext t place next = (passed rest : List ℕ) → t.births ≡ passed ++ place ∷ rest → next ≡ slice_get rest 0
 
   -- what was found at a place in the order of births
-  abbrev pub Passes : Settings → ℕ → Lined (Slot (Standing C)) → ℕ → Age → Type 0
+  abbrev pub Passes : Settings → ℕ → TableView (Slot (Standing C)) → ℕ → Age → Type 0
   Passes config now t place Young = (x : Slot (Standing C)) × (slot_at t place ≡ Some x) × (is_expired config.max_lifetime now x.standing.birth ≡ false)
   Passes config now t place (Out next) = (x : Slot (Standing C)) × (slot_at t place ≡ Some x) × (is_idle x.standing.place ≡ false) × IsNext t place next
   Passes config now t place (Aged next) = (x : Slot (Standing C)) × (slot_at t place ≡ Some x) × (lives_out config now (Some x.standing) ≡ true) × IsNext t place next

@@ -6,7 +6,7 @@ pub mod Machine
 pub mod Reaps
 pub mod Closed
 pub mod Spelled
-pub mod Lined
+pub mod TableView
 pub mod Dues
 pub mod Ordered
 pub mod Tables

@@ -9,7 +9,7 @@ use Rattle.bb8_tables.specs.declared.records.Records.TheInside.{Inside as Record
 use Rattle.bb8_tables.specs.declared.gets.Gets.TheInside.{Inside as GetsInside}
 use Rattle.bb8_types.specs.Places.{is_idle, is_unclaimed, is_conn, is_approval, is_unnotified}
 use Rattle.bb8_types.specs.Numbered.{tally}
-use Rattle.bb8_tables.specs.Views.{ShownRecords, ShownGets}
+use Rattle.bb8_tables.specs.Views.{RecordsView, GetsView}
 use Rattle.bb8_tables.specs.Slots.{values_at, IsLine, IsTable, ArePlaces, IsOrder, numbers_at}
 use Rattle.bb8_types.specs.Bounds.{most_records}
 
@@ -29,7 +29,7 @@ pub record AreGetsSized (places free alive peak next : ℕ) : Type 0 where
 
 module _ {C : Type 0} where
   -- what the fields of the records show
-  abbrev pub view_of_records : RecordsInside C → ShownRecords C
+  abbrev pub view_of_records : RecordsInside C → RecordsView C
   view_of_records a = record {
     next = a.next;
     places = values_at (λ (x : Slot (Standing C)). x.number) (λ x. x.standing) a.slots.slots;
@@ -64,7 +64,7 @@ module _ {C : Type 0} where
     pub sizes : AreSized a.slots.free a.unclaimed.capacity a.conns a.approved a.peak
 
 -- what the fields of the gets show
-abbrev pub view_of_gets : GetsInside → ShownGets
+abbrev pub view_of_gets : GetsInside → GetsView
 view_of_gets a = record {
   next = a.next;
   places = values_at (λ (x : Slot Getting). x.number) (λ x. x.standing) a.slots.slots;

@@ -3,7 +3,7 @@ use Rattle.std.specs.Prelude.{◌≡◌, ◌<◌, ◌≤◌, ℕ, cond, eqb, Lis
 use Rattle.bb8_types.specs.Bounds.{end_of_numbers}
 use Rattle.bb8_tables.specs.declared.table.Slot.{Slot}
 use Rattle.bb8_tables.specs.declared.table.Table.TheInside.{Inside}
-use Rattle.bb8_tables.specs.Lined.{Lined}
+use Rattle.bb8_tables.specs.TableView.{TableView}
 use Rattle.bb8_tables.specs.Ordered.{most_places}
 use Rattle.bb8_tables.specs.Spelled.{Absent}
 
@@ -21,7 +21,7 @@ module _ {S : Type 0} where
   slots_of xs = map slot_in xs
 
   -- what the fields of a table show
-  abbrev pub view_of_table : Inside S → Lined (Slot S)
+  abbrev pub view_of_table : Inside S → TableView (Slot S)
   view_of_table a = record { slots = slots_of a.slots.items; line = a.line.places; births = a.births.places; free = a.free.len }
 
   -- each order has all places, nothing stands at the first one, and there is room for each place among the free ones

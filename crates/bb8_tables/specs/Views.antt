@@ -12,7 +12,7 @@ use Rattle.bb8_types.specs.declared.standing.GetPlace.TheVariants.{Active, Waiti
 use Rattle.bb8_types.specs.declared.standing.Getting.{Getting}
 
 -- The records that have not ended, with their sizes and orders.
-pub record ShownRecords (C : Type 0) : Type 0 where
+pub record RecordsView (C : Type 0) : Type 0 where
   pub next : ℕ
   pub places : FinMap nat_cmp (Standing C)
   pub idle : List ℕ
@@ -22,7 +22,7 @@ pub record ShownRecords (C : Type 0) : Type 0 where
   pub peak : ℕ
 
 -- The gets that are alive, with their order and their sizes.
-pub record ShownGets : Type 0 where
+pub record GetsView : Type 0 where
   pub next : ℕ
   pub places : FinMap nat_cmp Getting
   pub waiting : List ℕ
@@ -30,15 +30,15 @@ pub record ShownGets : Type 0 where
   pub peak : ℕ
 
 -- no record yet: the next number is given
-abbrev pub no_records : {C : Type 0} → ℕ → ShownRecords C
+abbrev pub no_records : {C : Type 0} → ℕ → RecordsView C
 no_records first = record { next = first; places = empty; idle = []; unclaimed = []; conns = 0; approved = 0; peak = 0 }
 
 -- no get yet: the next number is given
-abbrev pub no_gets : ℕ → ShownGets
+abbrev pub no_gets : ℕ → GetsView
 no_gets first = record { next = first; places = empty; waiting = []; alive = 0; peak = 0 }
 
 -- no birth and no entry lies after a moment
-abbrev pub NoneAfter : {C : Type 0} → ℕ → ShownRecords C → Type 0
+abbrev pub NoneAfter : {C : Type 0} → ℕ → RecordsView C → Type 0
 NoneAfter {C} now s = (k : ℕ) (r : Standing C) → map.get s.places k ≡ Some r → (r.birth ≤ now) × (r.entered ≤ now)
 
 -- ---- codes
@@ -98,7 +98,7 @@ get_place_code = code_by (ℕ × (Bool × ℕ)) (coded× coded_ℕ (coded× code
 abbrev getting_code : Coded Getting
 getting_code = code_by (GetPlace × Option ℕ) (coded× get_place_code (coded_option coded_ℕ)) (λ g. (g.place, g.first_wait)) (λ p. record { place = p.0; first_wait = p.1 }) (λ _. refl)
 
-abbrev pub records_code : {C : Type 0} → Coded C → Coded (ShownRecords C)
+abbrev pub records_code : {C : Type 0} → Coded C → Coded (RecordsView C)
 records_code {C} c =
     code_by
     (ℕ × (FinMap nat_cmp (Standing C) × (List ℕ × (List ℕ × (ℕ × (ℕ × ℕ))))))
@@ -107,7 +107,7 @@ records_code {C} c =
     (λ p. record { next = p.0; places = p.1.0; idle = p.1.1.0; unclaimed = p.1.1.1.0; conns = p.1.1.1.1.0; approved = p.1.1.1.1.1.0; peak = p.1.1.1.1.1.1 })
     (λ _. refl)
 
-abbrev pub gets_code : Coded ShownGets
+abbrev pub gets_code : Coded GetsView
 gets_code =
     code_by
     (ℕ × (FinMap nat_cmp Getting × (List ℕ × (ℕ × ℕ))))

@@ -1,8 +1,8 @@
 //! The gets of a pool.
-ghost use Rattle.std.specs.Prelude.{◌⊎◌, ◌≡◌, ℕ, ◌+◌, ◌<◌, ◌≤◌, max, min, true, false, IsSome, is_some, ltb, cond, filter, not, eqb, slice_get, IfSome, IfNone, OnOk, OnErr, Some, None, []};
+ghost use Rattle.std.specs.Prelude.{◌⊎◌, ◌≡◌, ◌+◌, ◌<◌, ◌≤◌, max, min, true, false, IsSome, is_some, ltb, slice_get, IfSome, IfNone, OnOk, OnErr, Some, None};
 ghost use Rattle.std.specs.FinMap as map;
 ghost use Rattle.bb8_types.specs.declared.standing.Getting.{Getting};
-ghost use Rattle.bb8_types.specs.declared.standing.GetPlace.TheVariants.{Holding};
+ghost use Rattle.bb8_types.specs.declared.standing.GetPlace.TheVariants.{Active, Holding};
 ghost use Rattle.bb8_types.specs.Numbered as numbered;
 ghost use Rattle.bb8_types.specs.Places as places;
 ghost use Rattle.bb8_tables.specs.Machine as machine;
@@ -11,7 +11,7 @@ ghost use Rattle.bb8_tables.specs.Views.{no_gets};
 ghost use Rattle.bb8_types.specs.Bounds.{end_of_numbers};
 ghost use Rattle.bb8_tables.specs.Lent.{AddsLent};
 
-use crate::keys::{GetKey, Key};
+use crate::keys::GetKey;
 use crate::table::{Lendings, Slot, Table};
 use bb8_types::bounds::END_OF_NUMBERS;
 use bb8_types::standing::{GetPlace, Getting};
@@ -28,9 +28,9 @@ pub struct Gets {
 }
 
 impl Model for Gets {
-    ghost use Rattle.bb8_tables.specs.Views.{ShownGets, gets_code};
+    ghost use Rattle.bb8_tables.specs.Views.{GetsView, gets_code};
 
-    ghost Value = { ShownGets };
+    ghost Value = { GetsView };
 
     ghost coded = { gets_code };
 
@@ -106,16 +106,6 @@ pub fn first_wait(getting: Option<Getting>) -> Option<u64>
     match getting {
         None => None,
         Some(getting) => getting.first_wait,
-    }
-}
-
-/// The key of the connection that a get holds, which may stand at the hint; that of the number 0, if it holds none.
-pub fn held_key(getting: Option<Getting>, hint: usize) -> Key
-    ensures { (k : ℕ) → places.holds getting ≡ Some k → result.number ≡ k }
-{
-    Key {
-        number: held(getting).unwrap_or(0),
-        place: hint,
     }
 }
 
@@ -260,7 +250,7 @@ impl Gets {
     }
 
     /// Gives the next number to a get that begins and ends at once, for which there is room.
-    pub fn pass(&mut self) -> u64
+    pub fn begin_and_end(&mut self) -> u64
         requires room { self.old.alive < self.old.peak }
         requires number { self.old.next < end_of_numbers }
         ensures number { result ≡ self.old.next }
@@ -338,19 +328,51 @@ impl Gets {
         }
     }
 
-    /// Ends a get that is alive.
+    /// Has a get that holds a connection be active again, and tells which it held. Where it holds none nothing changes. It looks for it once.
     #[inline]
-    pub fn end(&mut self, g: GetKey, lendings: &mut Lendings)
-        requires { IsSome (map.get self.old.places g.number) }
-        ensures state { self.new ≡ machine.after_get_end g.number self.old }
-        ensures numbers { self.old.next ≤ end_of_numbers }
-        ensures examined { AddsLent 0 1 lendings.old lendings.new }
+    pub fn let_go(&mut self, g: GetKey, lendings: &mut Lendings) -> Option<u64>
+        ensures some { IfSome result (λ k.
+            (places.holds (map.get self.old.places g.number) ≡ Some k)
+            × (self.new ≡ machine.after_turn Active g.number self.old)) }
+        ensures none { IfNone result ((places.holds (map.get self.old.places g.number) ≡ None)
+            × (self.new ≡ self.old)) }
+        ensures examined { AddsLent 2 1 lendings.old lendings.new }
+        ensures counted { IfSome result (λ k. min (lendings.old.lent + 1) end_of_numbers
+            ≤ lendings.new.lent) }
     {
         match self.slots.locate(g.number, g.place, lendings) {
-            None => {}
+            None => None,
+            Some(place) => match self.slots.at(place, lendings).standing.place {
+                GetPlace::Active | GetPlace::Waiting(_) => None,
+                GetPlace::Holding(held) => {
+                    let _ = self.slots.turn(place, GetPlace::Active, lendings);
+                    Some(held)
+                }
+            },
+        }
+    }
+
+    /// Ends a get that is alive and holds nothing, and tells how it stood. Where there is none nothing changes. It looks for it once.
+    #[inline]
+    pub fn end(&mut self, g: GetKey, lendings: &mut Lendings) -> Option<Getting>
+        ensures some { IfSome result (λ x. (map.get self.old.places g.number ≡ Some x)
+            × (places.is_trying x.place ≡ true)
+            × (self.new ≡ machine.after_get_end g.number self.old)) }
+        ensures none { IfNone result ((places.gets_stand places.is_trying
+            (map.get self.old.places g.number) ≡ false) × (self.new ≡ self.old)) }
+        ensures numbers { self.old.next ≤ end_of_numbers }
+        ensures examined { AddsLent 1 1 lendings.old lendings.new }
+    {
+        match self.slots.locate(g.number, g.place, lendings) {
+            None => None,
             Some(place) => {
+                let getting = self.slots.at(place, lendings).standing;
+                if !is_trying(Some(getting)) {
+                    return None;
+                }
                 let _ = self.slots.remove(place);
                 self.alive -= 1;
+                Some(getting)
             }
         }
     }
@@ -364,7 +386,13 @@ impl Gets {
         ensures numbers { self.old.next ≤ end_of_numbers }
         ensures examined { AddsLent 0 1 lendings.old lendings.new }
     {
-        self.end(g, lendings);
+        match self.slots.locate(g.number, g.place, lendings) {
+            None => {}
+            Some(place) => {
+                let _ = self.slots.remove(place);
+                self.alive -= 1;
+            }
+        }
     }
 
     /// Ends a get that holds a connection, and tells which, and when it first waited. Where it holds none nothing changes. It looks for it once.

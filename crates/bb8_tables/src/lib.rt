@@ -10,4 +10,4 @@ pub mod records;
 pub mod ring;
 mod table;
 
-pub use table::{Asking, Lendings};
+pub use table::{Lendings, UncountedAccess};

@@ -1,5 +1,5 @@
 //! The connections and approvals of a pool.
-ghost use Rattle.std.specs.Prelude.{◌≡◌, ◌≢◌, ℕ, Bool, true, false, cond, ◌<◌, ◌≤◌, ◌+◌, IsSome, is_some, IfSome, IfNone, IfOk, IfErr, OnOk, OnErr, max, min, Some, None, slice_get, slice_set, length, [], ◌∷◌, ◌++◌, ◌||◌, ltb};
+ghost use Rattle.std.specs.Prelude.{◌≡◌, ℕ, true, false, cond, ◌<◌, ◌≤◌, ◌+◌, IsSome, is_some, IfSome, IfNone, IfOk, IfErr, OnOk, OnErr, max, min, Some, None, slice_get, slice_set, length, [], ◌∷◌, ◌++◌, ◌||◌, ltb};
 ghost use Rattle.std.specs.FinMap as map;
 ghost use Rattle.bb8_types.specs.Places as places;
 ghost use Rattle.bb8_types.specs.Settings.{settings_of};
@@ -13,7 +13,7 @@ ghost use Rattle.bb8_types.specs.Bounds.{end_of_numbers, most_records};
 ghost use Rattle.bb8_tables.specs.Lent.{AddsLent};
 ghost use Rattle.bb8_tables.specs.Closed.{offered_all, closed_in, closed_of};
 ghost use Rattle.bb8_tables.specs.Holders as holders;
-ghost use Rattle.bb8_tables.specs.Lined.{slot_at};
+ghost use Rattle.bb8_tables.specs.TableView.{slot_at};
 ghost use Rattle.bb8_tables.specs.declared.table.Slot.{Slot};
 
 mod reaps;
@@ -21,7 +21,7 @@ mod reaps;
 use crate::closed::{Closed, ClosedList};
 use crate::keys::Key;
 use crate::ring::Ring;
-use crate::table::{Asking, Lendings, Slot, Table};
+use crate::table::{Lendings, Slot, Table, UncountedAccess};
 use bb8_types::api::{Config, QueueStrategy};
 use bb8_types::bounds::END_OF_NUMBERS;
 use bb8_types::grants::Grant;
@@ -44,9 +44,9 @@ pub struct Records<C> {
 }
 
 impl<C> Model for Records<C> {
-    ghost use Rattle.bb8_tables.specs.Views.{ShownRecords, records_code};
+    ghost use Rattle.bb8_tables.specs.Views.{RecordsView, records_code};
 
-    ghost Value = { ShownRecords C };
+    ghost Value = { RecordsView C };
 
     ghost coded = { records_code C.code };
 
@@ -100,7 +100,7 @@ fn connection_of<C: Drop>(place: Place<C>) -> Option<C>
 }
 
 /// Frees the place of an idle connection, which is offered to a list, and tells its number.
-fn close_at<C: Drop>(
+fn close_idle_at<C: Drop>(
     slots: &mut Table<Standing<C>>,
     place: usize,
     closed: &mut ClosedList<C>,
@@ -158,7 +158,7 @@ fn approval<C>(claimed: bool) -> Standing<C>
 }
 
 /// Puts a new approval in line, where it is not claimed already.
-fn line_up(unclaimed: &mut Ring<Key>, claimed: bool, key: Key)
+fn push_unclaimed(unclaimed: &mut Ring<Key>, claimed: bool, key: Key)
     requires { length unclaimed.old.items < unclaimed.old.capacity }
     ensures { unclaimed.new ≡ buffer (unclaimed.old.items ++ cond claimed [] (key ∷ []))
         unclaimed.old.capacity }
@@ -178,7 +178,7 @@ pub fn one(test: bool) -> u64
 
 impl<C: Drop> Records<C> {
     /// No records, which take no memory, and the leave to ask.
-    pub fn new(alloc: Global, first: u64) -> (Self, Asking)
+    pub fn new(alloc: Global, first: u64) -> (Self, UncountedAccess)
         ensures { result.0 ≡ no_records first }
     {
         let (slots, asking) = Table::new(alloc);
@@ -273,20 +273,27 @@ impl<C: Drop> Records<C> {
         }
     }
 
-    /// Makes a connection idle that a claimed approval brought, and that is born now. No birth and no entry may lie after `now`.
-    pub fn enter(&mut self, k: Key, conn: C, now: u64, lendings: &mut Lendings)
-        requires moments { NoneAfter now self.old }
-        requires claimed { (s : Standing C) × (map.get self.old.places k.number ≡ Some s)
-            × (places.is_claimed s.place ≡ true) }
-        ensures state { self.new ≡ machine.after_entry true k.number
-            (record { place = Idle conn; birth = now; entered = now }) self.old }
+    /// Makes a connection idle that a claimed approval brought, and that is born now. Where the number is no claimed approval the connection
+    /// comes back, and nothing changes. No birth and no entry may lie after `now`. It looks for the approval once.
+    pub fn enter(&mut self, k: Key, conn: C, now: u64, lendings: &mut Lendings) -> Result<(), C>
+        requires { NoneAfter now self.old }
+        ensures ok { IfOk result (λ u. (places.stands places.is_claimed
+            (map.get self.old.places k.number) ≡ true)
+            × (self.new ≡ machine.after_entry true k.number
+            (record { place = Idle conn; birth = now; entered = now }) self.old)) }
+        ensures unfit { IfErr result (λ c. (c ≡ conn) × (self.new ≡ self.old)
+            × (places.stands places.is_claimed (map.get self.old.places k.number) ≡ false)) }
         ensures numbers { self.old.next ≤ end_of_numbers }
-        ensures examined { AddsLent 1 1 lendings.old lendings.new }
-        ensures counted { min (lendings.old.lent + 1) end_of_numbers ≤ lendings.new.lent }
+        ensures examined { AddsLent 2 1 lendings.old lendings.new }
+        ensures counted { IfOk result (λ u. min (lendings.old.lent + 1) end_of_numbers
+            ≤ lendings.new.lent) }
     {
         match self.slots.locate(k.number, k.place, lendings) {
-            None => {}
+            None => Err(conn),
             Some(place) => {
+                if !is_claimed(&self.slots.at(place, lendings).standing.place) {
+                    return Err(conn);
+                }
                 let idle = Standing {
                     place: Place::Idle(conn),
                     birth: now,
@@ -297,6 +304,7 @@ impl<C: Drop> Records<C> {
                 self.slots.add_birth(place);
                 self.conns += 1;
                 self.approved -= 1;
+                Ok(())
             }
         }
     }
@@ -353,11 +361,33 @@ impl<C: Drop> Records<C> {
         }
     }
 
-    /// Ends a claimed approval, or a connection that a guard or a get held.
-    pub fn close(&mut self, k: Key, opening: bool, lendings: &mut Lendings)
+    /// Ends a claimed approval, and tells whether the number is one. Where it is none nothing changes. It looks for it once.
+    pub fn end_claimed(&mut self, k: Key, lendings: &mut Lendings) -> bool
+        ensures ended { result ≡ true → (places.stands places.is_claimed
+            (map.get self.old.places k.number) ≡ true)
+            × (self.new ≡ machine.after_close true k.number self.old) }
+        ensures unfit { result ≡ false → (places.stands places.is_claimed
+            (map.get self.old.places k.number) ≡ false) × (self.new ≡ self.old) }
+        ensures examined { AddsLent 1 1 lendings.old lendings.new }
+    {
+        match self.slots.locate(k.number, k.place, lendings) {
+            None => false,
+            Some(at) => {
+                if !is_claimed(&self.slots.at(at, lendings).standing.place) {
+                    return false;
+                }
+                let _ = self.slots.remove(at);
+                self.approved -= 1;
+                true
+            }
+        }
+    }
+
+    /// Ends a connection that a guard or a get held.
+    pub fn close(&mut self, k: Key, lendings: &mut Lendings)
         requires { (s : Standing C) × (map.get self.old.places k.number ≡ Some s)
-            × (places.comes_from opening s.place ≡ true) }
-        ensures state { self.new ≡ machine.after_close opening k.number self.old }
+            × (places.is_out s.place ≡ true) }
+        ensures state { self.new ≡ machine.after_close false k.number self.old }
         ensures numbers { self.old.next ≤ end_of_numbers }
         ensures examined { AddsLent 0 1 lendings.old lendings.new }
     {
@@ -365,8 +395,7 @@ impl<C: Drop> Records<C> {
             None => {}
             Some(place) => {
                 let _ = self.slots.remove(place);
-                self.conns -= one(!opening);
-                self.approved -= one(opening);
+                self.conns -= 1;
             }
         }
     }
@@ -383,7 +412,7 @@ impl<C: Drop> Records<C> {
         match self.slots.first() {
             None => None,
             Some(place) => {
-                let number = close_at(&mut self.slots, place, closed);
+                let number = close_idle_at(&mut self.slots, place, closed);
                 self.conns -= 1;
                 Some(Key { number, place })
             }
@@ -534,7 +563,7 @@ impl<C: Drop> Records<C> {
             number,
             standing: approval(claimed),
         });
-        line_up(&mut self.unclaimed, claimed, Key { number, place });
+        push_unclaimed(&mut self.unclaimed, claimed, Key { number, place });
         self.next += 1;
         self.approved += 1;
     }

@@ -1,12 +1,12 @@
 //! A table of places, in which each number stands once, and some stand in line.
-ghost use Rattle.std.specs.Prelude.{◌≡◌, ◌≢◌, ℕ, List, ◌+◌, ◌-◌, ◌<◌, ◌≤◌, min, IsSome, IfSome, IfNone, OnOk, OnErr, Some, None, option_copied, [], slice_get, slice_set, length, ◌++◌, ◌∷◌, Bool, true, false, cond};
+ghost use Rattle.std.specs.Prelude.{◌≡◌, ◌≢◌, ℕ, List, ◌+◌, ◌-◌, ◌<◌, ◌≤◌, min, IsSome, IfSome, IfNone, OnOk, OnErr, Some, None, option_copied, [], slice_get, slice_set, length, ◌++◌, ◌∷◌, false};
 ghost use Rattle.bb8_tables.specs.declared.table.Slot.{Slot};
 ghost use Rattle.bb8_types.specs.declared.standing.Standing.{Standing};
 ghost use Rattle.bb8_types.specs.declared.standing.Getting.{Getting};
 ghost use Rattle.bb8_types.specs.Bounds.{end_of_numbers};
 ghost use Rattle.bb8_types.specs.Places.{get_in_wait, first_place};
 ghost use Rattle.bb8_tables.specs.Machine.{without};
-ghost use Rattle.bb8_tables.specs.Lined.{slot_at};
+ghost use Rattle.bb8_tables.specs.TableView.{slot_at};
 ghost use Rattle.bb8_tables.specs.Spelled.{Absent};
 ghost use Rattle.bb8_tables.specs.Lent.{lends, searches, AddsLent};
 
@@ -16,7 +16,7 @@ use crate::line::Line;
 use bb8_types::api::QueueStrategy;
 use bb8_types::bounds::END_OF_NUMBERS;
 use bb8_types::standing::{GetPlace, Getting, Place, Standing};
-pub use lendings::{Asking, Lendings};
+pub use lendings::{Lendings, UncountedAccess};
 use std::alloc::{AllocError, Global};
 use std::marker::Model;
 use std::mem;
@@ -66,10 +66,10 @@ pub struct Table<S> {
 }
 
 impl<S> Model for Table<S> {
-    ghost use Rattle.bb8_tables.specs.Lined.{Lined, lined_code};
+    ghost use Rattle.bb8_tables.specs.TableView.{TableView, table_view_code};
     ghost use Rattle.bb8_tables.specs.declared.table.Slot.{Slot};
 
-    ghost Value = { Lined (Slot S) };
+    ghost Value = { TableView (Slot S) };
 
     ghost use Rattle.bb8_tables.specs.Tables.{view_of_table, IsGoodTable};
 
@@ -80,7 +80,7 @@ impl<S> Model for Table<S> {
 
 impl<S: Drop> Table<S> {
     /// An empty table, which takes no memory, and the leave to ask.
-    pub fn new(alloc: Global) -> (Self, Asking)
+    pub fn new(alloc: Global) -> (Self, UncountedAccess)
         ensures { result.0 ≡ record { slots = []; line = []; births = []; free = 0 } }
     {
         let table = Table {
@@ -89,7 +89,7 @@ impl<S: Drop> Table<S> {
             births: Line::new(alloc),
             free: Vec::new(alloc),
         };
-        (table, Asking::given())
+        (table, UncountedAccess::given())
     }
 
     /// Takes a free place, of which there is one.

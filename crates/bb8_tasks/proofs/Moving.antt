@@ -9,8 +9,8 @@ use Rattle.bb8_tasks.specs.declared.backoff.Scripted.{Scripted}
 abbrev pub Standing : Type 0
 Standing = ReplenishStage (Unit {0}) (Unit {0}) (Unit {0})
 
-abbrev Row : Type 0
-Row = ReplenishStep (Unit {0}) (Unit {0}) (Unit {0}) (Unit {0})
+abbrev Step : Type 0
+Step = ReplenishStep (Unit {0}) (Unit {0}) (Unit {0}) (Unit {0})
 
 module _ (timeout : ℕ) (retry : Bool) (m : Moment) where
   -- where a reply leaves a task that has these tries behind it
@@ -33,13 +33,13 @@ module _ (timeout : ℕ) (retry : Bool) (m : Moment) where
 
   module _ (approval : Key) where
     -- what is opened is entered
-    entered : (x x' : Scripted) (next : Row) → Enters steady timeout retry approval m scripted tt x next x' → (next.stage ≡ Done) × (x' ≡ x)
+    entered : (x x' : Scripted) (next : Step) → Enters steady timeout retry approval m scripted tt x next x' → (next.stage ≡ Done) × (x' ≡ x)
     entered x x' next (step, x1, (is, same), r) =
         let at = subst (λ (s : Result (OpenedAnswer (Unit {0})) (Unit {0})). AfterOpened steady timeout retry approval m scripted s x1 next x') is r in
         (at.1, at.2 ∙ same)
 
     -- a poll of the preparation, which is ready
-    prepared : (answer : Poll (Result (Unit {0}) (Unit {0}))) (tries : Tries) (x x' : Scripted) (next : Row) → answer ≡ Ready (Ok tt)
+    prepared : (answer : Poll (Result (Unit {0}) (Unit {0}))) (tries : Tries) (x x' : Scripted) (next : Step) → answer ≡ Ready (Ok tt)
         → AfterTaskAcquire steady timeout retry approval m scripted answer tries tt tt x next x' → (next.stage ≡ Done) × (x' ≡ x)
     prepared answer tries x x' next is r =
         let (x1, same, at) = subst (λ (y : Poll (Result (Unit {0}) (Unit {0}))). AfterTaskAcquire steady timeout retry approval m scripted y tries tt tt x next x') is r in
@@ -47,7 +47,7 @@ module _ (timeout : ℕ) (retry : Bool) (m : Moment) where
         (done.0, done.1 ∙ same)
 
     -- a poll of the opening leads where its reply says
-    leads : (reply : Reply) (tries : Tries) (x x' : Scripted) (next : Row)
+    leads : (reply : Reply) (tries : Tries) (x x' : Scripted) (next : Step)
         → AfterTaskConnect steady timeout retry approval m scripted (told reply) tries tt x next x' → Leads reply tries next.stage × (x' ≡ x)
     leads replies.Pending tries x x' next r = (r.1, r.2)
     leads replies.Ok tries x x' next (x1, ended, (acquiring, c, x2, begun_so, (answer, c1, acquiring1, x3, (is, same), r))) =
@@ -64,7 +64,7 @@ module _ (timeout : ℕ) (retry : Bool) (m : Moment) where
         stays true is = elim (cases_lt timeout (m.0 - tries.start.0)) [ inl late ↦ over (inr late) | inr within ↦ (r.1 (sym is) within).2.2 ]
 
     -- a poll of an opening that is under way
-    connects : (reply : Reply) (tries : Tries) (connecting : Unit {0}) (x x' : Scripted) (next : Row) → x.reply ≡ reply
+    connects : (reply : Reply) (tries : Tries) (connecting : Unit {0}) (x x' : Scripted) (next : Step) → x.reply ≡ reply
         → TaskConnects steady timeout retry approval m scripted tries connecting x next x' → Leads reply tries next.stage × (x' ≡ x)
     connects reply tries connecting x x' next is (answer, connecting1, x1, (said, same), r) =
         let told_so : answer ≡ told reply = said ∙ ap told is in
@@ -73,7 +73,7 @@ module _ (timeout : ℕ) (retry : Bool) (m : Moment) where
         (led.0, led.1 ∙ same)
 
     -- a poll that begins an opening
-    begins : (reply : Reply) (tries : Tries) (x x' : Scripted) (next : Row) → x ≡ record { reply = reply; tries = 0 }
+    begins : (reply : Reply) (tries : Tries) (x x' : Scripted) (next : Step) → x ≡ record { reply = reply; tries = 0 }
         → TaskBegins steady timeout retry approval m scripted tries x next x' → (x'.tries ≡ 1) × Leads reply tries next.stage
     begins reply tries x x' next is (connecting, x1, begun_so, r) =
         let told_so : x1.reply ≡ reply = ap (λ (y : Scripted). y.reply) (begun_so ∙ ap begun is) in
@@ -81,7 +81,7 @@ module _ (timeout : ℕ) (retry : Bool) (m : Moment) where
         (ap (λ (y : Scripted). y.tries) (went.1 ∙ begun_so ∙ ap begun is), went.0)
 
     -- after the look, a poll of a task that has not ended
-    turns : (reply : Reply) (stage : Standing) (x x' : Scripted) (next : Row) → x ≡ record { reply = reply; tries = 0 }
+    turns : (reply : Reply) (stage : Standing) (x x' : Scripted) (next : Step) → x ≡ record { reply = reply; tries = 0 }
         → TaskProceeds steady timeout retry approval m scripted true stage x next x' → Moves reply stage x'.tries next.stage
     turns reply Start x x' next is r = begins reply (record { start = m; failures = 0 }) x x' next is r
     turns reply (Connecting tries connecting) x x' next is r =
@@ -111,7 +111,7 @@ module _ (timeout : ℕ) (retry : Bool) where
       → TaskProceeds steady timeout retry approval t'.latest scripted seen.alive stage x (record { answer = a; stage = t'.stage }) x'
       → (t'.latest.0 ≡ max p.0.0 latest.0) × Moves timeout retry t'.latest p.1 stage tried t'.stage
   looked p approval latest stage tried a t' seen x x' is same at count r =
-      let next : Row = record { answer = a; stage = t'.stage } in
+      let next : Step = record { answer = a; stage = t'.stage } in
       let alive = subst (λ (y : Looked). TaskProceeds steady timeout retry approval t'.latest scripted y.alive stage x next x') is r in
       let moves = turns timeout retry t'.latest approval p.1 stage x x' next same alive in
       (at ∙ ap (λ (y : Looked). max y.moment.0 latest.0) is, subst (λ (n : ℕ). Moves timeout retry t'.latest p.1 stage n t'.stage) (sym count) moves)

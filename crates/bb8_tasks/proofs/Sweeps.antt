@@ -1,5 +1,5 @@
 -- A round over a queue, turn by turn.
-use Rattle.bb8_tasks.proofs.Words.{◌≡◌, ℕ, ◌+◌, ◌-◌, ◌<◌, Option, Some, None, List, [], ◌∷◌, ◌++◌, length, refl, sym, ◌∙◌, subst, arith, append_assoc, append-nil, ReplenishAnswer, Retrying, Failed, GoOn, After, Rest, PollsUntil, QueueTurns, RoundMidway}
+use Rattle.bb8_tasks.proofs.Words.{◌≡◌, ℕ, ◌+◌, ◌-◌, ◌<◌, Option, Some, None, List, [], ◌∷◌, ◌++◌, length, refl, sym, ◌∙◌, subst, arith, append_assoc, append-nil, ReplenishAnswer, Retrying, Failed, GoOn, After, Rest, PollsUntil, QueueTurns}
 use Rattle.bb8_tasks.specs.declared.rounds.OnFailure.{OnFailure}
 
 module _ {T E X : Type 0} (polls : T → X → ReplenishAnswer E → T → X → Type 0) (sinks : X → E → X → Type 0) (on : OnFailure) where
@@ -9,8 +9,13 @@ module _ {T E X : Type 0} (polls : T → X → ReplenishAnswer E → T → X →
       (s : Option E) (last : List T) (x' : X) → Rest polls sinks on stopped (PollsUntil polls sinks on ahead x) ahead x s last x'
       → PollsUntil polls sinks on first start s (behind ++ last) x'
 
+  -- so many tasks at the front of the queue still have their turn, and behind them stand those that had it and are kept
+  abbrev pub RoundMidway : List T → X → List T → X → Option E → ℕ → Type 0
+  RoundMidway first start queue x stopped count =
+      (ahead : List T) × (behind : List T) × (length ahead ≡ count) × (queue ≡ ahead ++ behind) × Goes first start stopped ahead x behind
+
   step : (first : List T) (start : X) (q q' : List T) (x x1 : X) (o o1 : Option E) (k : ℕ) (ahead behind : List T) → 0 < k → length ahead ≡ k
-      → q ≡ ahead ++ behind → Goes first start o ahead x behind → QueueTurns polls sinks on o q x o1 q' x1 → RoundMidway polls sinks on first start q' x1 o1 (k - 1)
+      → q ≡ ahead ++ behind → Goes first start o ahead x behind → QueueTurns polls sinks on o q x o1 q' x1 → RoundMidway first start q' x1 o1 (k - 1)
   step first start q q' x x1 o o1 k [] behind some len eq go turn = absurd (omega arith)
   step first start q q' x x1 None o1 k (a ∷ more) behind some len eq go (t, rest, e, (r, t', x2, kept, p, after, e')) =
       let head : t ≡ a = cc in
@@ -33,11 +38,11 @@ module _ {T E X : Type 0} (polls : T → X → ReplenishAnswer E → T → X →
       )
 
   pub Midway-step : (first : List T) (start : X) (q q' : List T) (x x1 : X) (o o1 : Option E) (n k : ℕ) → k < n
-      → RoundMidway polls sinks on first start q x o (n - k) → QueueTurns polls sinks on o q x o1 q' x1 → RoundMidway polls sinks on first start q' x1 o1 (n - (k + 1))
+      → RoundMidway first start q x o (n - k) → QueueTurns polls sinks on o q x o1 q' x1 → RoundMidway first start q' x1 o1 (n - (k + 1))
   Midway-step first start q q' x x1 o o1 n k more m turn =
       let some : 0 < n - k = omega arith in
       let less : n - k - 1 ≡ n - (k + 1) = omega arith in
-      subst (λ (y : ℕ). RoundMidway polls sinks on first start q' x1 o1 y) less
+      subst (λ (y : ℕ). RoundMidway first start q' x1 o1 y) less
       (step first start q q' x x1 o o1 (n - k) m.0 m.1 some m.2 m.3 m.4 turn)
 
   over : (first : List T) (start : X) (q : List T) (x : X) (o : Option E) (ahead behind : List T) → length ahead ≡ 0 → q ≡ ahead ++ behind
@@ -49,10 +54,10 @@ module _ {T E X : Type 0} (polls : T → X → ReplenishAnswer E → T → X →
   over first start q x o (a ∷ more) behind len eq go = absurd (omega arith)
 
   pub Midway-over : (first : List T) (start : X) (q : List T) (x : X) (o : Option E) (k : ℕ) → k ≡ 0
-      → RoundMidway polls sinks on first start q x o k → PollsUntil polls sinks on first start o q x
+      → RoundMidway first start q x o k → PollsUntil polls sinks on first start o q x
   Midway-over first start q x o k none m = over first start q x o m.0 m.1 (m.2 ∙ none) m.3 m.4
 
-  pub Midway-first : (first : List T) (start : X) (k : ℕ) → k ≡ length first → RoundMidway polls sinks on first start first start None (k - 0)
+  pub Midway-first : (first : List T) (start : X) (k : ℕ) → k ≡ length first → RoundMidway first start first start None (k - 0)
   Midway-first first start k is = (first, [], omega (arith, is), sym (append-nil first), λ s last x' goes. goes)
 
 module _ {T E X : Type 0} (polls : T → X → ReplenishAnswer E → T → X → Type 0) (sinks : X → E → X → Type 0) where

@@ -4,29 +4,29 @@ use Rattle.bb8_tasks.specs.Words.{Poll, Ready, Pending, Round}
 use Rattle.bb8_types.specs.declared.api.errors.Memory.{Memory}
 use Rattle.bb8_types.specs.declared.api.errors.RunError.{RunError}
 use Rattle.bb8_types.specs.declared.api.errors.RunError.TheVariants as errors
-use Rattle.bb8_tasks.specs.declared.building.Site.{Site}
-use Rattle.bb8_tasks.specs.declared.building.Site.TheVariants.{Planned, Opening, Done}
+use Rattle.bb8_tasks.specs.declared.building.BuildingStage.{BuildingStage}
+use Rattle.bb8_tasks.specs.declared.building.BuildingStage.TheVariants.{Planned, Opening, Done}
 use Rattle.bb8_tasks.specs.declared.rounds.Round.TheVariants.{Failed, Complete, Going}
 
 module _ {I P T E : Type 0} (rounds : P → T → Round T E → Type 0) where
   -- After a round of the tasks: the first failure ends the building with its error, and the pool is the answer where no task is left.
-  abbrev pub AfterFirstRound : Round T E → P → Poll (Result P (RunError E)) → Site I P T → Type 0
+  abbrev pub AfterFirstRound : Round T E → P → Poll (Result P (RunError E)) → BuildingStage I P T → Type 0
   AfterFirstRound (Failed e) p r s = (r ≡ Ready (Err (errors.User e))) × (s ≡ Done)
   AfterFirstRound Complete p r s = (r ≡ Ready (Ok p)) × (s ≡ Done)
   AfterFirstRound (Going ts) p r s = (r ≡ Pending) × (s ≡ Opening p ts)
 
   -- the tasks that are left are polled, each once
-  abbrev pub Sweeps : P → T → Poll (Result P (RunError E)) → Site I P T → Type 0
+  abbrev pub Sweeps : P → T → Poll (Result P (RunError E)) → BuildingStage I P T → Type 0
   Sweeps p ts r s = (round : Round T E) × rounds p ts round × AfterFirstRound round p r s
 
 module _ {I P T E : Type 0} (makes : I → Result (P × T) Memory → Type 0) (rounds : P → T → Round T E → Type 0) where
   -- after the making of the pool, where memory may have been refused
-  abbrev pub AfterMake : Result (P × T) Memory → Poll (Result P (RunError E)) → Site I P T → Type 0
+  abbrev pub AfterMake : Result (P × T) Memory → Poll (Result P (RunError E)) → BuildingStage I P T → Type 0
   AfterMake (Ok made) r s = Sweeps rounds made.0 made.1 r s
   AfterMake (Err refused) r s = (r ≡ Ready (Err errors.Memory)) × (s ≡ Done)
 
   -- The whole poll: the first makes the pool, and each polls the tasks that are left. After the answer it is pending, and nothing changes.
-  abbrev pub BuildingPolls : Site I P T → Poll (Result P (RunError E)) → Site I P T → Type 0
+  abbrev pub BuildingPolls : BuildingStage I P T → Poll (Result P (RunError E)) → BuildingStage I P T → Type 0
   BuildingPolls (Planned i) r s = (made : Result (P × T) Memory) × makes i made × AfterMake made r s
   BuildingPolls (Opening p ts) r s = Sweeps rounds p ts r s
   BuildingPolls Done r s = (r ≡ Pending) × (s ≡ Done)

@@ -4,16 +4,16 @@ use Rattle.bb8_tasks.specs.Words.{Answer, Moment}
 use Rattle.bb8_ledger.specs.Acts as acts
 use Rattle.bb8_ledger.specs.Acts.{Act}
 use Rattle.bb8_core.specs.Asked.{OrComesBack, Stepped}
-use Rattle.bb8_core.specs.Shown.{Shown}
-use Rattle.bb8_core.specs.StepAnswers.{claim_told, failed_told, look_told, opened_told, reap_told, HandsBack}
+use Rattle.bb8_core.specs.StateView.{StateView}
+use Rattle.bb8_core.specs.StepAnswers.{answer_of_claim, answer_of_failed, answer_of_look, answer_of_opened, answer_of_reap, HandsBack}
 use Rattle.bb8_tasks.specs.TaskSteps.{TaskStep, Looks, Opens, Fails, Claims, Reaps}
 
-module _ {C : Type 0} (Makes : Shown C → ℕ → Act C → Answer → Shown C → Type 0) where
+module _ {C : Type 0} (Makes : StateView C → ℕ → Act C → Answer → StateView C → Type 0) where
   -- a step of a home that makes its events like this: the event and its answer, and which connection comes back; a step that does not fit
   -- changes nothing
-  abbrev pub TaskStepsBy : Shown C → Moment → TaskStep C → Shown C → Type 0
-  TaskStepsBy s at (Looks seen) s' = Makes s at.0 acts.Look (look_told seen) s'
-  TaskStepsBy s at (Opens a c step) s' = Stepped Makes (opened_told a.number) s at.0 (acts.Opened a.number c) step s' × OrComesBack HandsBack c step
-  TaskStepsBy s at (Fails a step) s' = Stepped Makes failed_told s at.0 (acts.Failed a.number) step s'
-  TaskStepsBy s at (Claims answer) s' = Makes s at.0 acts.Claim (claim_told answer) s'
-  TaskStepsBy s at (Reaps step) s' = Makes s at.0 acts.Reap (reap_told step) s'
+  abbrev pub TaskStepsBy : StateView C → Moment → TaskStep C → StateView C → Type 0
+  TaskStepsBy s at (Looks seen) s' = Makes s at.0 acts.Look (answer_of_look seen) s'
+  TaskStepsBy s at (Opens a c step) s' = Stepped Makes (answer_of_opened a.number) s at.0 (acts.Opened a.number c) step s' × OrComesBack HandsBack c step
+  TaskStepsBy s at (Fails a step) s' = Stepped Makes answer_of_failed s at.0 (acts.Failed a.number) step s'
+  TaskStepsBy s at (Claims answer) s' = Makes s at.0 acts.Claim (answer_of_claim answer) s'
+  TaskStepsBy s at (Reaps step) s' = Makes s at.0 acts.Reap (answer_of_reap step) s'

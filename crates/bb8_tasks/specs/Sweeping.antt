@@ -1,5 +1,5 @@
 -- A list of tasks: how it grows, and how its tasks are polled, each once and in their order.
-use Rattle.std.specs.Prelude.{◌≡◌, ℕ, zero, suc, ◌+◌, Option, Some, None, List, [], ◌∷◌, ◌++◌, length}
+use Rattle.std.specs.Prelude.{◌≡◌, ℕ, zero, suc, ◌+◌, Option, Some, None, List, [], ◌∷◌, ◌++◌}
 use Rattle.bb8_tasks.specs.Words.{Key, Moment, Replenish, ReplenishAnswer, Retrying, Failed, Round}
 use Rattle.bb8_core.specs.declared.answers.ClaimAnswer.{ClaimAnswer}
 use Rattle.bb8_core.specs.declared.answers.ClaimAnswer.TheVariants.{Claimed, Ended}
@@ -57,12 +57,6 @@ module _ {T E X : Type 0} (polls : T → X → ReplenishAnswer E → T → X →
       × ((r : ReplenishAnswer E) × (t' : T) × (x1 : X) × (kept : List T) × polls t x r t' x1 × After r t' x1 kept stopped x' × (queue' ≡ rest ++ kept))
   QueueTurns (Some e) queue x stopped queue' x' =
       (t : T) × (rest : List T) × (queue ≡ t ∷ rest) × (queue' ≡ rest ++ t ∷ []) × (stopped ≡ Some e) × (x' ≡ x)
-
-  -- so many tasks at the front of the queue still have their turn, and behind them stand those that had it and are kept
-  abbrev pub RoundMidway : List T → X → List T → X → Option E → ℕ → Type 0
-  RoundMidway first start queue x stopped count =
-      (ahead : List T) × (behind : List T) × (length ahead ≡ count) × (queue ≡ ahead ++ behind)
-      × ((s : Option E) (last : List T) (x' : X) → Rest stopped (PollsUntil ahead x) ahead x s last x' → PollsUntil first start s (behind ++ last) x')
 
 module _ {T X : Type 0} (lets_go : T → X → X → Type 0) where
   -- each task is let go, in the order of the list

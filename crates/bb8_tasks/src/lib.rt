@@ -17,7 +17,7 @@ mod turning;
 mod waits;
 
 pub use backoff::{Backoff, Reply, replay_backoff};
-pub use building::{Built, Site};
+pub use building::{BuildingStage, BuildingStep};
 pub use dedicated::{Dedicated, Opened, Opening};
 pub use home::Home;
 pub use opener::Opener;

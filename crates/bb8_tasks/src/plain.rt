@@ -1,5 +1,5 @@
 //! The plain state of a pool as a home of tasks, and of its driver and reaper.
-ghost use Rattle.bb8_core.specs.Shown.{Steps};
+ghost use Rattle.bb8_core.specs.StateView.{Steps};
 ghost use Rattle.bb8_tasks.specs.Homes.{TaskStepsBy};
 
 use super::home::Home;

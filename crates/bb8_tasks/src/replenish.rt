@@ -64,7 +64,7 @@ pub struct ReplenishStep<C, V, A, E> {
 
 /// What the rows of one poll are given: two settings, the approval and the effective moment.
 #[derive(Clone, Copy)]
-struct Row {
+struct PollInput {
     timeout: Duration,
     retry: bool,
     approval: Key,
@@ -133,7 +133,7 @@ impl<C, V, A> ReplenishStage<C, V, A> {
     }
 }
 
-impl Row {
+impl PollInput {
     /// A failure.
     fn fail<C, V, A, E, X: Home<C>>(
         self,
@@ -365,14 +365,14 @@ impl<C, V, A> Replenish<C, V, A> {
         let seen = pool.look(at);
         let moment = Moment(seen.moment.0.max(self.latest.0));
         self.latest = moment;
-        let row = Row {
+        let input = PollInput {
             timeout: config.connection_timeout,
             retry: config.retry_connection,
             approval: self.approval,
             moment,
         };
         let stage = mem::replace(&mut self.stage, ReplenishStage::Done);
-        let ReplenishStep { answer, stage } = row.proceed(pool, seen.alive, stage);
+        let ReplenishStep { answer, stage } = input.proceed(pool, seen.alive, stage);
         self.stand(stage);
         answer
     }

@@ -4,7 +4,7 @@ ghost use Rattle.std.specs.Prelude.{◌≡◌};
 use crate::pool::{Cancel, PooledConnection};
 use bb8_core::api::RunError;
 use bb8_gets::GetState;
-use bb8_lock::{Given, Links, Part, Parts, Shared};
+use bb8_lock::{Given, OpensScope, Part, Parts, Shared};
 use futures::Future;
 use futures::task::{Context, Poll};
 use std::marker::PhantomData;
@@ -38,7 +38,7 @@ impl<G: Given, L: Parts> Drop for GetFuture<'_, G, L> {
         ensures { CancelsGet self.entry }
     {
         let GetFuture { shared, get } = self;
-        get.cancel_with(shared.linked());
+        get.cancel_with(shared.scope());
     }
 }
 
@@ -65,7 +65,7 @@ impl<'a, G: Given<Runtime: Wait>, L: Parts> Future for GetFuture<'a, G, L> {
     {
         let shared = self.shared;
         let timeout = shared.config.connection_timeout;
-        let answer = match self.get.poll_with(shared.linked(), timeout) {
+        let answer = match self.get.poll_with(shared.scope(), timeout) {
             Poll::Ready(answer) => answer,
             Poll::Pending => return cx.yield_now(),
         };

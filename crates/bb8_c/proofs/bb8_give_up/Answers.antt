@@ -1,8 +1,8 @@
 use Rattle.bb8_c.proofs.Words.{refl, subst, None, false}
 use Rattle.bb8_ledger.specs.Acts.{GiveUp}
 use Rattle.bb8_core.specs.Asked.{Stepped}
-use Rattle.bb8_core.specs.Shown.{Meets}
-use Rattle.bb8_core.specs.StepAnswers.{give_up_told}
+use Rattle.bb8_core.specs.StateView.{Meets}
+use Rattle.bb8_core.specs.StepAnswers.{answer_of_give_up}
 use Rattle.bb8_c.proofs.Inside.{within}
 use Rattle.bb8_c.proofs.bb8_give_up.Goals as goal
 
@@ -11,7 +11,7 @@ returns c = within _ c.take-open.ensures.core c.deref_mut.ensures.value c.of.ens
   (
     c.give_up.result,
     c.gave_up-told.ensures,
-    subst (λ why. Stepped Meets give_up_told c.deref_mut.result.now.internals c.args.at (GiveUp c.args.get.number why None false) c.give_up.result c.give_up.new.pool)
+    subst (λ why. Stepped Meets answer_of_give_up c.deref_mut.result.now.internals c.args.at (GiveUp c.args.get.number why None false) c.give_up.result c.give_up.new.pool)
         c.reason.ensures c.give_up.ensures.step,
     c.give_up.ensures.connection,
   ),

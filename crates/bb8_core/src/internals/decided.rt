@@ -74,7 +74,7 @@ pub(super) fn is_expired(config: &Config, now: u64, birth: u64) -> bool
 }
 
 /// Notifies the oldest waiter that was not notified, where the test passes.
-pub(super) fn hand_on(gets: &mut Gets, test: bool, lendings: &mut Lendings) -> Option<GetKey>
+pub(super) fn notify_next_if(gets: &mut Gets, test: bool, lendings: &mut Lendings) -> Option<GetKey>
     ensures value { notified_of result ≡ cond test (slice_get gets.old.waiting 0) None }
     ensures state { gets.new ≡ machine.after_notice (notified_of result) gets.old }
     ensures examined { AddsLent 1 0 lendings.old lendings.new }
@@ -94,7 +94,7 @@ pub(super) fn holder(config: &Config, get: GetKey) -> Holder
 }
 
 /// Ends a connection that was out, and grants what is wanted then.
-pub(super) fn end_out<C: Drop>(
+pub(super) fn close_and_grant<C: Drop>(
     config: &Config,
     handles: u64,
     records: &mut Records<C>,
@@ -113,7 +113,7 @@ pub(super) fn end_out<C: Drop>(
     ensures numbers { records.old.next ≤ end_of_numbers }
     ensures examined { AddsLent 0 1 lendings.old lendings.new }
 {
-    records.close(k, false, lendings);
+    records.close(k, lendings);
     let wanted = want(config, handles, records);
     records.grant(wanted, false)
 }

@@ -1,9 +1,9 @@
 //! The questions that a state answers: whether an event fits, and where a number stands. They count in a count of their own, which is forgotten.
-ghost use Rattle.std.specs.Prelude.{◌≡◌, Bool, cond, eqb, [], length, Option, is_some, IfSome, IfNone, true, false, None, Some};
+ghost use Rattle.std.specs.Prelude.{◌≡◌, Bool, cond, eqb, [], length, is_some, IfSome, IfNone, true, false};
 ghost use Rattle.bb8_ledger.specs.Acts as acts;
 ghost use Rattle.bb8_ledger.specs.Ledger as ledger;
 ghost use Rattle.bb8_types.specs.Places as places;
-ghost use Rattle.bb8_core.specs.Shown.{Means, IsFitting, TellsFitting, TellsRecord, TellsGet, IsRecordIn, IsNoRecordIn, IsGetIn, IsNoGetIn};
+ghost use Rattle.bb8_core.specs.StateView.{Represents, IsFitting, TellsFitting, TellsRecord, TellsGet, IsRecordIn, IsNoRecordIn, IsGetIn, IsNoGetIn};
 
 use super::{GetKey, Key, PoolInternals};
 use bb8_tables::gets::{held, is_trying};
@@ -36,7 +36,7 @@ impl<C: Drop> PoolInternals<C> {
 
     /// How the get stands, if it is alive.
     fn getting(&self, get: GetKey) -> Option<Getting>
-        ensures { (l : ledger.Ledger C) → Means l self.now
+        ensures { (l : ledger.Ledger C) → Represents l self.now
             → result ≡ ledger.get_of l get.number }
     {
         self.gets.getting(get, &mut self.asking.count())
@@ -56,26 +56,9 @@ impl<C: Drop> PoolInternals<C> {
         self.held(get).is_some()
     }
 
-    /// Whether the check of the get may be told as failed, with a connection that is broken or not: where the get holds a connection.
-    pub fn fits_checked_err(&self, get: GetKey) -> bool
-        ensures { (broken : Bool) → TellsFitting self.now
-            (acts.CheckedErr get.number broken) result }
-    {
-        self.fits_checked_ok(get)
-    }
-
-    /// Whether the get may be given up, for whatever reason: where it is alive, and a connection is handed in just where it holds one.
-    pub fn fits_give_up(&self, get: GetKey, handing_in: bool) -> bool
-        ensures { (why : acts.Reason) (held : Option C) (broken : Bool) → is_some held ≡ handing_in
-            → TellsFitting self.now (acts.GiveUp get.number why held broken) result }
-    {
-        let getting = self.getting(get);
-        getting.is_some() && held(getting).is_some() == handing_in
-    }
-
     /// The number of the connection that the get holds, if it holds one.
     pub(crate) fn held(&self, get: GetKey) -> Option<u64>
-        ensures { (l : ledger.Ledger C) → Means l self.now
+        ensures { (l : ledger.Ledger C) → Represents l self.now
             → result ≡ places.holds (ledger.get_of l get.number) }
     {
         held(self.getting(get))
@@ -100,28 +83,6 @@ impl<C: Drop> PoolInternals<C> {
         ensures { TellsRecord (places.stands places.is_claimed) self.now k.number result }
     {
         self.records.is_claimed(k, &mut self.asking.count())
-    }
-
-    /// Whether a guard may give back a connection of this key, whichever connection is handed in.
-    pub fn fits_put_back(&self, k: Key) -> bool
-        ensures { (conn : C) (broken : Bool)
-            → TellsFitting self.now (acts.PutBack k.number conn broken) result }
-    {
-        self.is_guarded(k)
-    }
-
-    /// Whether the approval of this key is claimed and may bring its connection, whichever connection is handed in.
-    pub fn fits_opened(&self, a: Key) -> bool
-        ensures { (conn : C) → TellsFitting self.now (acts.Opened a.number conn) result }
-    {
-        self.is_claimed(a)
-    }
-
-    /// Whether the approval of this key is claimed and may end without a connection.
-    pub fn fits_failed(&self, approval: Key) -> bool
-        ensures { TellsFitting self.now (acts.Failed approval.number) result }
-    {
-        self.is_claimed(approval)
     }
 
     /// Whether a handle may be added: while one is alive.

@@ -1,5 +1,4 @@
 //! Where records and gets stood when a replay last met them.
-ghost use Rattle.std.specs.Prelude.{◌≤◌};
 
 use std::alloc::Global;
 

@@ -4,7 +4,7 @@ ghost use Rattle.std.specs.Prelude.{◌+◌, ◌≤◌};
 use super::steps::{Colour, NOW, taken_by};
 use super::{assert_equal, granted, served};
 use bb8_core::api::{Config, State, Statistics};
-use bb8_core::asked::{add, begin, checked_err, checked_ok, give_back, put_back};
+use bb8_core::asked::{add, begin, checked_err, checked_ok, give_back, give_up, put_back};
 use bb8_core::internals::{
     AddAnswer, BeginAnswer, CheckedErrAnswer, CheckedOkAnswer, GetKey, GiveUpAnswer, PoolInternals,
     PutBackAnswer,
@@ -132,7 +132,7 @@ fn succeeds_give_ups_of_a_held_connection(rt: HostRuntime) {
     let mut pool = one_idle(&rt, rt.alloc());
     let get = begun(&rt, &mut pool);
     let (key, conn, _) = taken_by(&rt, &mut pool, get);
-    assert!(rt; !pool.fits_give_up(get, false));
+    assert!(rt; give_up(&mut pool, NOW, get, Reason::TimedOut, false).is_err());
     let Ok(GiveUpAnswer::Kept(kept, None)) = give_back(
         &mut pool,
         NOW,
@@ -147,7 +147,16 @@ fn succeeds_give_ups_of_a_held_connection(rt: HostRuntime) {
     // The get is looked at, and the connection's birth, and the connection is idle again.
     assert_equal(&rt, (pool.examined(), pool.searched()), (3, 0));
     assert_equal(&rt, kept.number, 0);
-    assert!(rt; !pool.fits_give_up(get, true));
+    let again = give_back(
+        &mut pool,
+        NOW,
+        get,
+        Reason::TimedOut,
+        Colour::Blue,
+        false,
+        key.place,
+    );
+    assert!(rt; matches!(again, Err(Colour::Blue)));
     let get = begun(&rt, &mut pool);
     let (_, conn, _) = taken_by(&rt, &mut pool, get);
     let Ok(GiveUpAnswer::Closed(closed, conn, grant, None)) = give_back(

@@ -145,9 +145,9 @@ fn steps_tell_what_they_lent(rt: HostRuntime) {
         panic!(rt; "it was served");
     };
     assert_lent(&rt, &pool, 2);
-    // Its approval becomes idle, and it is notified.
+    // Its approval is looked at and becomes idle, and it is notified.
     let notified = open(&rt, &mut pool, 0);
-    assert_lent(&rt, &pool, 2);
+    assert_lent(&rt, &pool, 3);
     assert_equal(&rt, notified.map(|get| get.number), Some(0));
     // It is looked at and ends, and the connection goes out; then that is looked at, and becomes idle again.
     let (key, conn) = served_by(&rt, &mut pool, get);

@@ -135,7 +135,7 @@ fn succeeds_each_step_once(rt: HostRuntime) {
 fn failed_opening_ends_its_approval(rt: HostRuntime) {
     let (mut pool, approval) = one_claimed(&rt, rt.alloc());
     assert!(rt; failed(&mut pool, NOW, approval).is_ok());
-    assert_equal(&rt, (pool.examined(), pool.searched()), (0, 0));
+    assert_equal(&rt, (pool.examined(), pool.searched()), (1, 0));
     assert!(rt; pool.find(7).is_none());
 }
 

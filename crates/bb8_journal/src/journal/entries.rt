@@ -4,7 +4,7 @@ ghost use Rattle.std.specs.List.{sum_by};
 ghost use Rattle.bb8_core.specs.declared.replay.events.Answer.{Answer as Told};
 ghost use Rattle.bb8_core.specs.Endings.{endings_of};
 ghost use Rattle.bb8_core.specs.Run.{Applies, IsTaken};
-ghost use Rattle.bb8_core.specs.Shown.{Shown};
+ghost use Rattle.bb8_core.specs.StateView.{StateView};
 ghost use Rattle.bb8_journal.specs.Endings.{is_named_ending};
 ghost use Rattle.bb8_ledger.specs.Limits.{KeepsLimits, KeepsLaws, KeepsPromises};
 ghost use Rattle.bb8_types.specs.Settings.{settings_of, is_lawful};
@@ -110,7 +110,7 @@ fn make_room(pool: &PoolInternals<u64>, history: &mut Vec<Entry>, event: Event) 
     requires { vec_len history.old + endings_of pool.now ≤ vec_capacity history.old }
     ensures items { history.new.items ≡ history.old.items }
     ensures len { vec_len history.new ≡ vec_len history.old }
-    ensures room { result ≡ true → (answer : Told) (after : Shown ℕ)
+    ensures room { result ≡ true → (answer : Told) (after : StateView ℕ)
         → Applies pool.now event answer after
         → vec_len history.new + 1 + endings_of after ≤ vec_capacity history.new }
     ensures kept { vec_capacity history.old ≤ vec_capacity history.new }

@@ -6,16 +6,16 @@ ghost use Rattle.std.specs.Duration.{as_nanos};
 ghost use Rattle.std.specs.FinMap as map;
 ghost use Rattle.bb8_types.specs.Places as places;
 ghost use Rattle.bb8_types.specs.Settings.{settings_of};
-ghost use Rattle.bb8_types.specs.Bounds.{end_of_numbers, most_records};
+ghost use Rattle.bb8_types.specs.Bounds.{end_of_numbers};
 ghost use Rattle.bb8_tables.specs.Dues.{Ends, EndsFirst, EndsIdle, Passes};
 ghost use Rattle.bb8_types.specs.declared.standing.Standing.{Standing};
-ghost use Rattle.bb8_tables.specs.Lined.{slot_at};
+ghost use Rattle.bb8_tables.specs.TableView.{slot_at};
 ghost use Rattle.bb8_tables.specs.Lent.{AddsLent};
 ghost use Rattle.bb8_tables.specs.Reaps as reaps;
 ghost use Rattle.bb8_tables.specs.Closed.{offered_all, closed_of};
 ghost use Rattle.bb8_tables.specs.declared.table.Slot.{Slot};
 
-use super::{Records, close_at};
+use super::{Records, close_idle_at};
 use crate::closed::ClosedList;
 use crate::table::{Lendings, Table};
 use bb8_types::api::Config;
@@ -131,7 +131,7 @@ impl<C: Drop> Records<C> {
         if !due {
             return false;
         }
-        let _ = close_at(&mut self.slots, place, closed);
+        let _ = close_idle_at(&mut self.slots, place, closed);
         self.conns -= 1;
         true
     }
@@ -192,7 +192,7 @@ impl<C: Drop> Records<C> {
                 Age::Young => break,
                 Age::Out(next) => at = next,
                 Age::Aged(next) => {
-                    let _ = close_at(&mut self.slots, place, closed);
+                    let _ = close_idle_at(&mut self.slots, place, closed);
                     self.conns -= 1;
                     many += 1;
                     at = next;

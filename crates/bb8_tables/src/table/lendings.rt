@@ -6,7 +6,7 @@ use std::marker::Model;
 
 /// How many entries of the tables were lent, and how often a table was searched, since the latest step began, and the sum of all that was
 /// counted before. Each beginning adds one to that sum, so that one that tells of one step began its count once, and looked at nothing before.
-/// An `Asking` alone makes one. An entry is lent each time what stands there is read or changed, found by its place, along an order or by
+/// Outside of this file one comes of an `UncountedAccess`, or of another one (`begun`). An entry is lent each time what stands there is read or changed, found by its place, along an order or by
 /// its number; not where it is made or given away, nor where its neighbours are joined. A search is made where a hint is stale.
 #[derive(Drop)]
 pub struct Lendings {
@@ -25,18 +25,18 @@ impl Model for Lendings {
     ghost view = { λ a. record { past = a.past; lent = a.lent; searched = a.searched } };
 }
 
-/// Leave to look on a count of one's own, which is forgotten: that of who asks. It is made with a table alone, and a step, which is to count
-/// all, does not know its type.
+/// Lets to look on a count of one's own, which is forgotten: that of who asks. The module of tables alone can make one, and does with each
+/// new table. A step, which is to count all, does not know the type of the one in its state.
 #[derive(Drop)]
-pub struct Asking {
+pub struct UncountedAccess {
     given: (),
 }
 
-impl Asking {
+impl UncountedAccess {
     /// The leave, with a new table.
     #[inline]
     pub(super) fn given() -> Self {
-        Asking { given: () }
+        UncountedAccess { given: () }
     }
 
     /// A count of nothing yet.

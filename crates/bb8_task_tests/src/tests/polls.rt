@@ -1,6 +1,6 @@
 //! Replenishings that are polled by hand over the plain state, with a server that counts.
 ghost use Rattle.std.specs.Prelude.{⊤};
-ghost use Rattle.bb8_core.specs.Shown.{Steps};
+ghost use Rattle.bb8_core.specs.StateView.{Steps};
 ghost use Rattle.bb8_tasks.specs.Homes.{TaskStepsBy};
 
 use super::assert_equal;
@@ -204,7 +204,7 @@ fn task_that_is_let_go_gives_its_approval_back(rt: HostRuntime) {
     task.give_back(Moment(0), &mut pool);
     assert!(&rt; pool.state.find(approval.number).is_none());
     assert_equal(&rt, pool.state.fill(Moment(0), false).count, 1);
-    assert!(&rt; !pool.state.fits_failed(approval));
+    assert!(&rt; pool.state.failed(Moment(0), approval).is_err());
     assert_equal(&rt, pool.connects, 0);
 }
 

@@ -1,14 +1,14 @@
 use Rattle.bb8_core.proofs.Words.{Add}
-use Rattle.bb8_core.specs.StepAnswers.{add_told}
+use Rattle.bb8_core.specs.StepAnswers.{answer_of_add}
 use Rattle.bb8_core.proofs.HandedOver.{fits_told, hands_over}
 use Rattle.bb8_core.proofs.handing.add.Goals as goal
 
 pub try_of-tried-requires : goal.try_of-tried-requires
-try_of-tried-requires g c = fits_told c.args.at.0 (Add c.args.conn c.args.broken) (add_told c.in-Ok.told) c.notified.result c.add.ensures.limits.0 c.in-Ok.ensures.step.0 c.notified.ensures
+try_of-tried-requires g c = fits_told c.args.at.0 (Add c.args.conn c.args.broken) (answer_of_add c.in-Ok.told) c.notified.result c.add.ensures.limits.0 c.in-Ok.ensures.step.0 c.notified.ensures
 
 pub returns-in-Ok-clause-step : goal.returns-in-Ok-clause-step
 returns-in-Ok-clause-step g c = (
-  hands_over c.try_of-tried.new.pool c.args.at.0 (Add c.args.conn c.args.broken) (add_told c.in-Ok.told) c.notified.result c.try_of-tried.result
+  hands_over c.try_of-tried.new.pool c.args.at.0 (Add c.args.conn c.args.broken) (answer_of_add c.in-Ok.told) c.notified.result c.try_of-tried.result
       c.in-Ok.ensures.step.0 c.notified.ensures c.try_of-tried.ensures,
   tt,
 )

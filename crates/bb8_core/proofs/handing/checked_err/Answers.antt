@@ -1,15 +1,15 @@
 use Rattle.bb8_core.proofs.Words.{CheckedErr}
-use Rattle.bb8_core.specs.StepAnswers.{checked_err_told}
+use Rattle.bb8_core.specs.StepAnswers.{answer_of_checked_err}
 use Rattle.bb8_core.proofs.HandedOver.{fits_told, hands_over}
 use Rattle.bb8_core.proofs.handing.checked_err.Goals as goal
 
 pub try_of-tried-requires : goal.try_of-tried-requires
 try_of-tried-requires g c =
-    fits_told c.args.at.0 (CheckedErr c.args.get.number c.args.broken) (checked_err_told c.in-Ok.told) c.notified.result c.checked_err.ensures.limits.0 c.in-Ok.ensures.step.0 c.notified.ensures
+    fits_told c.args.at.0 (CheckedErr c.args.get.number c.args.broken) (answer_of_checked_err c.in-Ok.told) c.notified.result c.checked_err.ensures.limits.0 c.in-Ok.ensures.step.0 c.notified.ensures
 
 pub returns-in-Ok-clause-step : goal.returns-in-Ok-clause-step
 returns-in-Ok-clause-step g c = (
-  hands_over c.try_of-tried.new.pool c.args.at.0 (CheckedErr c.args.get.number c.args.broken) (checked_err_told c.in-Ok.told) c.notified.result c.try_of-tried.result
+  hands_over c.try_of-tried.new.pool c.args.at.0 (CheckedErr c.args.get.number c.args.broken) (answer_of_checked_err c.in-Ok.told) c.notified.result c.try_of-tried.result
       c.in-Ok.ensures.step.0 c.notified.ensures c.try_of-tried.ensures,
   tt,
 )

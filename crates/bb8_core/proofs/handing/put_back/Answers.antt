@@ -1,16 +1,16 @@
 use Rattle.bb8_core.proofs.Words.{PutBack}
-use Rattle.bb8_core.specs.StepAnswers.{put_back_told}
+use Rattle.bb8_core.specs.StepAnswers.{answer_of_put_back}
 use Rattle.bb8_core.proofs.HandedOver.{fits_told, hands_over}
 use Rattle.bb8_core.proofs.handing.put_back.Goals as goal
 
 pub try_of-tried-requires : goal.try_of-tried-requires
 try_of-tried-requires g c =
-    fits_told c.args.at.0 (PutBack c.args.key.number c.args.conn c.args.broken) (put_back_told c.args.key.number c.in-Ok.told)
+    fits_told c.args.at.0 (PutBack c.args.key.number c.args.conn c.args.broken) (answer_of_put_back c.args.key.number c.in-Ok.told)
     c.notified.result c.put_back.ensures.limits.0 c.in-Ok.ensures.step.0 (c.notified.ensures c.args.key.number)
 
 pub returns-in-Ok-clause-step : goal.returns-in-Ok-clause-step
 returns-in-Ok-clause-step g c = (
-  hands_over c.try_of-tried.new.pool c.args.at.0 (PutBack c.args.key.number c.args.conn c.args.broken) (put_back_told c.args.key.number c.in-Ok.told) c.notified.result c.try_of-tried.result
+  hands_over c.try_of-tried.new.pool c.args.at.0 (PutBack c.args.key.number c.args.conn c.args.broken) (answer_of_put_back c.args.key.number c.in-Ok.told) c.notified.result c.try_of-tried.result
       c.in-Ok.ensures.step.0 (c.notified.ensures c.args.key.number) c.try_of-tried.ensures,
   tt,
 )

@@ -5,7 +5,7 @@ pub returns-in-Ok-answer : goal.returns-in-Ok-answer
 returns-in-Ok-answer g c = (
   Ok c.in-Ok.holding,
   c.in-Ok.ensures,
-  rw (← c.deref-shared.ensures) (Ok c.in-Ok-answer.taken, (c.linked.result, _, c.linked.ensures, c.in-Ok-answer.ensures), refl),
+  rw (← c.deref-shared.ensures) (Ok c.in-Ok-answer.taken, (c.scope.result, _, c.scope.ensures, c.in-Ok-answer.ensures), refl),
 )
 
 pub returns-in-Err-answer : goal.returns-in-Err-answer
@@ -14,7 +14,7 @@ returns-in-Err-answer g c = (
   c.in-Ok.ensures,
   (
     Err c.in-Err-answer.error,
-    rw (← c.deref-shared.ensures) (c.linked.result, _, c.linked.ensures, c.in-Err-answer.ensures),
+    rw (← c.deref-shared.ensures) (c.scope.result, _, c.scope.ensures, c.in-Err-answer.ensures),
     (refl, c.leave_owned.ensures),
   ),
 )

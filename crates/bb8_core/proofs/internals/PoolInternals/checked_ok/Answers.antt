@@ -1,9 +1,8 @@
-use Rattle.bb8_core.proofs.Words.{◌≡◌, ℕ, false, Some, sym, ap, refl, subst, ◌∙◌, arith, Act, Unfit, Meets, Shown, ShownGets, view_of, get, holding_is}
-use Rattle.bb8_core.specs.Shown.{TellsFitting}
+use Rattle.bb8_core.proofs.Words.{ℕ, Some, sym, ap, refl, ◌∙◌, arith, StateView, view_of, get, holding_is}
 use Rattle.bb8_ledger.specs.Acts as acts
 use Rattle.bb8_tables.specs.Machine as machine
 use Rattle.bb8_core.proofs.Fitting.{fits_held, unfit_held, held_out, ended_few}
-use Rattle.bb8_core.proofs.Runs.{unfit_step}
+use Rattle.bb8_core.proofs.Runs.{unfit_gets}
 use Rattle.bb8_core.proofs.Steps.{led, at_view}
 use Rattle.bb8_core.proofs.GetEnds.{meets_passed}
 use Rattle.bb8_core.proofs.internals.PoolInternals.checked_ok.Goals as goal
@@ -23,7 +22,7 @@ returns-in-Some-clause-step g c =
       at_view c.self.view_is
           (meets_passed c.self.inside.counters (fits_held a c.args.get.number c.in-Some.held c.in-Some.ensures.some.0)
           (record { now_is = c.max-now.ensures; get_is = refl; held = c.in-Some.ensures.some.0 ∙ ap (λ (k : ℕ). Some k) (sym c.hand_over-key.ensures.key) })
-          (ap (λ (s : Shown g.row.C.Denot). s.records.next) (sym c.self.view_is))
+          (ap (λ (s : StateView g.row.C.Denot). s.records.next) (sym c.self.view_is))
           (c.hand_over-key.ensures.state ∙ ap (λ k. machine.after_handover k c.self.inside.records) (sym c.hand_over-key.ensures.key))
           c.in-Some.ensures.some.2 refl c.in-Some.ensures.some.1 c.serve.ensures),
       tt,
@@ -33,10 +32,5 @@ pub invariant_of-self-in-Some : goal.invariant_of-self-in-Some
 invariant_of-self-in-Some g c = led _ c.args.at.0 (acts.CheckedOk c.args.get.number) _ c.self.view_is c.self.invariant (returns-in-Some-clause-step g c).0
 
 pub returns-in-None-clause-step : goal.returns-in-None-clause-step
-returns-in-None-clause-step g c =
-    let a = view_of c.self.inside in
-    let e : Act g.row.C.Denot = acts.CheckedOk c.args.get.number in
-    let tells = subst (λ (s : Shown g.row.C.Denot). TellsFitting s e false) c.self.view_is (unfit_held a c.args.get.number c.in-None.ensures.none.0) in
-    subst (λ (x : Shown g.row.C.Denot). Meets c.args.self.now c.args.at.0 e Unfit x × (x ≡ c.args.self.now))
-    (sym (ap (λ (gs : ShownGets). record a { gets = gs }) c.in-None.ensures.none.1 ∙ c.self.view_is))
-    (unfit_step c.args.at.0 e tells)
+returns-in-None-clause-step g c = unfit_gets c.args.at.0 (acts.CheckedOk c.args.get.number) c.self.view_is
+    (unfit_held (view_of c.self.inside) c.args.get.number c.in-None.ensures.none.0) c.in-None.ensures.none.1

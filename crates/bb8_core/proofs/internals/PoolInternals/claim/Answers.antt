@@ -1,4 +1,4 @@
-use Rattle.bb8_core.proofs.Words.{◌≡◌, ◌≢◌, ℕ, max, Option, Some, None, IfSome, IfNone, option_map, slice_get, view_of, Shown, ShownRecords, Key}
+use Rattle.bb8_core.proofs.Words.{◌≡◌, ◌≢◌, ℕ, max, Option, Some, None, IfSome, IfNone, option_map, slice_get, view_of, StateView, RecordsView, Key}
 use Rattle.bb8_ledger.specs.Acts as acts
 use Rattle.bb8_ledger.specs.Answers as answers
 use Rattle.bb8_tables.specs.Machine as machine
@@ -6,7 +6,7 @@ use Rattle.bb8_core.proofs.Steps.{IsStep, meets_claim, meets_claim_none, meets_c
 use Rattle.bb8_core.proofs.internals.PoolInternals.claim.Goals as goal
 
 -- where one is unclaimed, and where none is
-meets_claimed : {C : Type 0} (s : Shown C) (at : ℕ) (o : Option Key) (now : ℕ) (rs : ShownRecords C) → now ≡ max s.latest at → s.handles ≢ 0
+meets_claimed : {C : Type 0} (s : StateView C) (at : ℕ) (o : Option Key) (now : ℕ) (rs : RecordsView C) → now ≡ max s.latest at → s.handles ≢ 0
     → IfSome o (λ key. (slice_get s.records.unclaimed 0 ≡ Some key.number) × (rs ≡ machine.after_claim key.number s.records))
     → IfNone o ((slice_get s.records.unclaimed 0 ≡ None) × (rs ≡ s.records))
     → IsStep s at acts.Claim (answers.Claimed (option_map (λ (k : Key). k.number) o)) (record s { latest = now; records = rs })

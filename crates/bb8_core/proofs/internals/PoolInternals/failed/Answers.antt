@@ -1,14 +1,25 @@
+use Rattle.bb8_core.proofs.Words.{is_claimed, view_of}
 use Rattle.bb8_ledger.specs.Acts as acts
-use Rattle.bb8_core.proofs.Fitting.{fit_claimed}
-use Rattle.bb8_core.proofs.Steps.{meets_failed, led, at_view, fits_view}
+use Rattle.bb8_core.proofs.Fitting.{fits_at, unfit_at}
+use Rattle.bb8_core.proofs.Runs.{unfit_records}
+use Rattle.bb8_core.proofs.Steps.{meets_failed, led, at_view}
 use Rattle.bb8_core.proofs.internals.PoolInternals.failed.Goals as goal
 
-pub close-requires : goal.close-requires
-close-requires g c = fit_claimed c.args.approval.number c.self.view_is c.self.invariant c.requires
-
-pub returns-clause-step : goal.returns-clause-step
-returns-clause-step g c = at_view c.self.view_is
-    (meets_failed c.max-self-inside.ensures (fits_view (acts.Failed c.args.approval.number) c.self.view_is c.requires) c.close.ensures.state)
+pub returns-then-not-end_claimed-clause-step : goal.returns-then-not-end_claimed-clause-step
+returns-then-not-end_claimed-clause-step g c = unfit_records c.args.at.0 (acts.Failed c.args.approval.number) c.self.view_is
+    (unfit_at (view_of c.self.inside) is_claimed c.args.approval.number (c.end_claimed.ensures.unfit c.if-not-end_claimed.true).0)
+    (c.end_claimed.ensures.unfit c.if-not-end_claimed.true).1
 
 pub invariant_of-self : goal.invariant_of-self
-invariant_of-self g c = led _ c.args.at.0 (acts.Failed c.args.approval.number) _ c.self.view_is c.self.invariant (returns-clause-step g c)
+invariant_of-self g c = led _ c.args.at.0 (acts.Failed c.args.approval.number) _ c.self.view_is c.self.invariant (returns-then-not-end_claimed-clause-step g c).0
+
+pub returns-clause-step : goal.returns-clause-step
+returns-clause-step g c = (
+  at_view c.self.view_is
+      (meets_failed c.max-self-inside.ensures (fits_at (view_of c.self.inside) is_claimed c.args.approval.number (c.end_claimed.ensures.ended c.if-not-end_claimed.false).0)
+      (c.end_claimed.ensures.ended c.if-not-end_claimed.false).1),
+  tt,
+)
+
+pub invariant_of-self-2 : goal.invariant_of-self-2
+invariant_of-self-2 g c = led _ c.args.at.0 (acts.Failed c.args.approval.number) _ c.self.view_is c.self.invariant (returns-clause-step g c).0

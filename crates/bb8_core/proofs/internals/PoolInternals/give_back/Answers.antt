@@ -1,21 +1,14 @@
-use Rattle.bb8_core.proofs.Words.{◌≡◌, true, false, Some, sym, ap, refl, subst, ◌∙◌, arith, Act, Unfit, Meets, Shown, ShownGets, view_of, get, holding_is, reason_of}
-use Rattle.bb8_core.specs.Shown.{TellsFitting}
+use Rattle.bb8_core.proofs.Words.{◌≡◌, true, false, Some, sym, refl, ◌∙◌, arith, view_of, get, holding_is, reason_of}
 use Rattle.bb8_ledger.specs.Acts as acts
 use Rattle.bb8_core.proofs.Fitting.{shown_fits, fits_give_back, unfit_give_back, held_with, held_out, ended_few, closed_few, none_after}
-use Rattle.bb8_core.proofs.Runs.{unfit_step}
+use Rattle.bb8_core.proofs.Runs.{unfit_gets}
 use Rattle.bb8_core.proofs.Steps.{led, at_view}
 use Rattle.bb8_core.proofs.GetEnds.{given_up_is, given_up_open, notices, meets_given_up_kept, meets_given_up_closed}
 use Rattle.bb8_core.proofs.internals.PoolInternals.give_back.Goals as goal
 
 pub returns-in_default-clause-step : goal.returns-in_default-clause-step
-returns-in_default-clause-step g c =
-    let a = view_of c.self.inside in
-    let e : Act g.row.C.Denot = acts.GiveUp c.args.get.number (reason_of c.args.reason) (Some c.args.conn) c.args.broken in
-    let tells = subst (λ (s : Shown g.row.C.Denot). TellsFitting s e false) c.self.view_is
-    (unfit_give_back a c.args.get.number (reason_of c.args.reason) c.args.conn c.args.broken c.in_default.ensures.none.0) in
-    subst (λ (x : Shown g.row.C.Denot). Meets c.args.self.now c.args.at.0 e Unfit x × (x ≡ c.args.self.now))
-    (sym (ap (λ (gs : ShownGets). record a { gets = gs }) c.in_default.ensures.none.1 ∙ c.self.view_is))
-    (unfit_step c.args.at.0 e tells)
+returns-in_default-clause-step g c = unfit_gets c.args.at.0 (acts.GiveUp c.args.get.number (reason_of c.args.reason) (Some c.args.conn) c.args.broken) c.self.view_is
+    (unfit_give_back (view_of c.self.inside) c.args.get.number (reason_of c.args.reason) c.args.conn c.args.broken c.in_default.ensures.none.0) c.in_default.ensures.none.1
 
 pub put_back-requires : goal.put_back-requires
 put_back-requires g c = none_after (view_of c.self.inside) c.args.at.0 c.max-now.result c.self.invariant c.max-now.ensures
@@ -51,11 +44,11 @@ pub invariant_of-self-in-Ok-Ok : goal.invariant_of-self-in-Ok-Ok
 invariant_of-self-in-Ok-Ok g c = led _ c.args.at.0 (acts.GiveUp c.args.get.number (reason_of c.args.reason) (Some c.args.conn) c.args.broken) _ c.self.view_is c.self.invariant
     (returns-in-Ok-Ok-clause-step g c).0
 
-pub end_out-grant-requires-clause-out : goal.end_out-grant-requires-clause-out
-end_out-grant-requires-clause-out g c = let err = rw c.in-Ok-Err.field-0-is at c.in-Ok-Err.ensures.err in rw err.3 (held_out (view_of c.self.inside) c.args.get.number c.in-Some.held c.self.invariant c.in-Some.ensures.some.0)
+pub close_and_grant-grant-requires-clause-out : goal.close_and_grant-grant-requires-clause-out
+close_and_grant-grant-requires-clause-out g c = let err = rw c.in-Ok-Err.field-0-is at c.in-Ok-Err.ensures.err in rw err.3 (held_out (view_of c.self.inside) c.args.get.number c.in-Some.held c.self.invariant c.in-Some.ensures.some.0)
 
-pub end_out-grant-requires-clause-size : goal.end_out-grant-requires-clause-size
-end_out-grant-requires-clause-size g c = let err = rw c.in-Ok-Err.field-0-is at c.in-Ok-Err.ensures.err in rw err.3 (shown_fits (view_of c.self.inside) c.self.invariant).size
+pub close_and_grant-grant-requires-clause-size : goal.close_and_grant-grant-requires-clause-size
+close_and_grant-grant-requires-clause-size g c = let err = rw c.in-Ok-Err.field-0-is at c.in-Ok-Err.ensures.err in rw err.3 (shown_fits (view_of c.self.inside) c.self.invariant).size
 
 pub close-requires : goal.close-requires
 close-requires g c =
@@ -65,7 +58,7 @@ close-requires g c =
       given_up_open c.args.reason c.max-now.result c.in-Some.first_wait c.self.inside.counters
           (given_up_is c.args.reason c.max-now.result c.in-Some.first_wait c.give_up.ensures.timed_out c.give_up.ensures.cancelled),
       closed_few c.in-Some.held (view_of c.self.inside) c.self.invariant
-          (held_out (view_of c.self.inside) c.args.get.number c.in-Some.held c.self.invariant c.in-Some.ensures.some.0) (rw err.3 at c.end_out-grant.ensures.numbers),
+          (held_out (view_of c.self.inside) c.args.get.number c.in-Some.held c.self.invariant c.in-Some.ensures.some.0) (rw err.3 at c.close_and_grant-grant.ensures.numbers),
     )
 
 pub returns-in-Ok-Err-clause-step : goal.returns-in-Ok-Err-clause-step
@@ -78,7 +71,7 @@ returns-in-Ok-Err-clause-step g c =
           (fits_give_back a c.args.get.number c.in-Some.held (reason_of c.args.reason) c.args.conn c.args.broken held.0)
           (record { now_is = c.max-now.ensures; get_is = refl; held = held.0 })
           (record { now_is = c.max-now.ensures; birth_is = refl; aged_is = err.1 })
-          err.2 (rw err.3 at c.end_out-grant.ensures.granted) (rw err.3 at c.end_out-grant.ensures.state)
+          err.2 (rw err.3 at c.close_and_grant-grant.ensures.granted) (rw err.3 at c.close_and_grant-grant.ensures.state)
           (notices held.2 c.notify.ensures.value c.notify.ensures.state) refl held.1
           (given_up_is c.args.reason c.max-now.result c.in-Some.first_wait c.give_up.ensures.timed_out c.give_up.ensures.cancelled) c.close.ensures),
       tt,

@@ -1,25 +1,30 @@
-use Rattle.bb8_core.proofs.Words.{None, sym, refl, arith, subst, IsSome, reason_of, view_of}
+use Rattle.bb8_core.proofs.Words.{None, sym, ap, ◌∙◌, refl, arith, gets_stand, is_trying, reason_of, view_of}
 use Rattle.bb8_ledger.specs.Acts as acts
-use Rattle.bb8_core.proofs.Fitting.{fit_give_up, ended_few}
-use Rattle.bb8_core.proofs.Steps.{led, at_view, fits_view}
+use Rattle.bb8_core.proofs.Fitting.{fits_give_up, unfit_give_up, ended_few}
+use Rattle.bb8_core.proofs.Runs.{unfit_gets}
+use Rattle.bb8_core.proofs.Steps.{led, at_view}
 use Rattle.bb8_core.proofs.GetEnds.{given_up_is, meets_given_up}
 use Rattle.bb8_core.proofs.internals.PoolInternals.give_up.Goals as goal
 
-pub end-requires : goal.end-requires
-end-requires g c = let st = fit_give_up c.args.get.number None c.self.view_is c.self.invariant c.requires in subst IsSome (sym st.1) refl
+pub returns-in_default-clause-step : goal.returns-in_default-clause-step
+returns-in_default-clause-step g c = unfit_gets c.args.at.0 (acts.GiveUp c.args.get.number (reason_of c.args.reason) None c.args.broken) c.self.view_is
+    (unfit_give_up (view_of c.self.inside) c.args.get.number (reason_of c.args.reason) c.args.broken c.in_default.ensures.none.0) c.in_default.ensures.none.1
 
 pub give_up-requires : goal.give_up-requires
 give_up-requires g c =
-    let st = fit_give_up c.args.get.number None c.self.view_is c.self.invariant c.requires in
-    let few = ended_few (view_of c.self.inside) c.args.get.number c.self.invariant st c.end.ensures.numbers in
+    let few = ended_few (view_of c.self.inside) c.args.get.number c.self.invariant (c.in-Some.getting, c.in-Some.ensures.some.0) c.end.ensures.numbers in
     record { timed_out = omega (arith, few); cancelled = omega (arith, few) }
 
 pub returns-clause-step : goal.returns-clause-step
-returns-clause-step g c = at_view c.self.view_is
-    (meets_given_up c.args.reason c.args.broken c.self.inside.counters
-    (fits_view (acts.GiveUp c.args.get.number (reason_of c.args.reason) None c.args.broken) c.self.view_is c.requires) c.max-now.ensures
-    c.getting-getting.ensures.value c.end.ensures.state c.is_notified.ensures c.hand_on.ensures.value c.hand_on.ensures.state refl
-    c.first_wait.ensures (given_up_is c.args.reason c.max-now.result c.first_wait.result c.give_up.ensures.timed_out c.give_up.ensures.cancelled))
+returns-clause-step g c =
+    let ended = c.in-Some.ensures.some in (
+      at_view c.self.view_is
+          (meets_given_up c.args.reason c.args.broken c.self.inside.counters
+          (fits_give_up (view_of c.self.inside) c.args.get.number (reason_of c.args.reason) c.args.broken (ap (gets_stand is_trying) ended.0 ∙ ended.1))
+          c.max-now.ensures (sym ended.0) ended.2 c.is_notified.ensures c.notify_next_if-heir.ensures.value c.notify_next_if-heir.ensures.state refl refl
+          (given_up_is c.args.reason c.max-now.result c.in-Some.getting.first_wait c.give_up.ensures.timed_out c.give_up.ensures.cancelled)),
+      tt,
+    )
 
-pub invariant_of-self : goal.invariant_of-self
-invariant_of-self g c = led _ c.args.at.0 (acts.GiveUp c.args.get.number (reason_of c.args.reason) None c.args.broken) _ c.self.view_is c.self.invariant (returns-clause-step g c)
+pub invariant_of-self-2 : goal.invariant_of-self-2
+invariant_of-self-2 g c = led _ c.args.at.0 (acts.GiveUp c.args.get.number (reason_of c.args.reason) None c.args.broken) _ c.self.view_is c.self.invariant (returns-clause-step g c).0

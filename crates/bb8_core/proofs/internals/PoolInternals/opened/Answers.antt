@@ -1,32 +1,46 @@
-use Rattle.bb8_core.proofs.Words.{arith, refl, view_of}
+use Rattle.bb8_core.proofs.Words.{arith, refl, is_claimed, view_of}
 use Rattle.bb8_ledger.specs.Acts as acts
-use Rattle.bb8_core.proofs.Fitting.{fit_claimed, created_few, none_after}
-use Rattle.bb8_core.proofs.Steps.{meets_opened, meets_late, led, at_view, fits_view}
+use Rattle.bb8_core.proofs.Fitting.{fits_at, unfit_at, created_few, none_after}
+use Rattle.bb8_core.proofs.Runs.{unfit_records}
+use Rattle.bb8_core.proofs.Steps.{meets_opened, meets_late, led, at_view}
 use Rattle.bb8_core.proofs.internals.PoolInternals.opened.Goals as goal
 
-pub close-requires : goal.close-requires
-close-requires g c = fit_claimed c.args.a.number c.self.view_is c.self.invariant c.requires
-
-pub enter-requires-clause-moments : goal.enter-requires-clause-moments
-enter-requires-clause-moments g c = none_after (view_of c.self.inside) c.args.at.0 c.max-now.result c.self.invariant c.max-now.ensures
-
-pub enter-requires-clause-claimed : goal.enter-requires-clause-claimed
-enter-requires-clause-claimed g c = fit_claimed c.args.a.number c.self.view_is c.self.invariant c.requires
-
-pub returns-then-self-eq0-clause-step : goal.returns-then-self-eq0-clause-step
-returns-then-self-eq0-clause-step g c = at_view c.self.view_is
-    (meets_late c.max-now.ensures c.args.conn (fits_view (acts.Opened c.args.a.number c.args.conn) c.self.view_is c.requires) c.if-self-eq0.true c.close.ensures.state)
+pub returns-then-not-end_claimed-clause-step : goal.returns-then-not-end_claimed-clause-step
+returns-then-not-end_claimed-clause-step g c = unfit_records c.args.at.0 (acts.Opened c.args.a.number c.args.conn) c.self.view_is
+    (unfit_at (view_of c.self.inside) is_claimed c.args.a.number (c.end_claimed.ensures.unfit c.if-not-end_claimed.true).0)
+    (c.end_claimed.ensures.unfit c.if-not-end_claimed.true).1
 
 pub invariant_of-self : goal.invariant_of-self
-invariant_of-self g c = led _ c.args.at.0 (acts.Opened c.args.a.number c.args.conn) _ c.self.view_is c.self.invariant (returns-then-self-eq0-clause-step g c)
+invariant_of-self g c = led _ c.args.at.0 (acts.Opened c.args.a.number c.args.conn) _ c.self.view_is c.self.invariant (returns-then-not-end_claimed-clause-step g c).0
+
+pub returns-then-self-eq0-clause-step : goal.returns-then-self-eq0-clause-step
+returns-then-self-eq0-clause-step g c = (
+  at_view c.self.view_is
+      (meets_late c.max-now.ensures c.args.conn (fits_at (view_of c.self.inside) is_claimed c.args.a.number (c.end_claimed.ensures.ended c.if-not-end_claimed.false).0)
+      c.if-self-eq0.true (c.end_claimed.ensures.ended c.if-not-end_claimed.false).1),
+  tt,
+)
+
+pub invariant_of-self-then-self-eq0 : goal.invariant_of-self-then-self-eq0
+invariant_of-self-then-self-eq0 g c = led _ c.args.at.0 (acts.Opened c.args.a.number c.args.conn) _ c.self.view_is c.self.invariant (returns-then-self-eq0-clause-step g c).0
+
+pub enter-requires : goal.enter-requires
+enter-requires g c = none_after (view_of c.self.inside) c.args.at.0 c.max-now.result c.self.invariant c.max-now.ensures
+
+pub returns-in-Err-clause-step : goal.returns-in-Err-clause-step
+returns-in-Err-clause-step g c = unfit_records c.args.at.0 (acts.Opened c.args.a.number c.args.conn) c.self.view_is
+    (unfit_at (view_of c.self.inside) is_claimed c.args.a.number c.in-Err.ensures.unfit.2) c.in-Err.ensures.unfit.1
 
 pub overflow_add-self : goal.overflow_add-self
-overflow_add-self g c = omega (arith, created_few c.args.a.number c.self.view_is c.self.invariant c.requires c.enter.ensures.numbers)
+overflow_add-self g c = omega (arith, created_few (view_of c.self.inside) c.args.a.number c.self.invariant c.in-Ok.ensures.ok.0 c.in-Ok.ensures.numbers)
 
-pub returns-clause-step : goal.returns-clause-step
-returns-clause-step g c = at_view c.self.view_is
-    (meets_opened c.max-now.ensures c.args.conn (fits_view (acts.Opened c.args.a.number c.args.conn) c.self.view_is c.requires)
-    c.if-self-eq0.false c.enter.ensures.state (record { who = c.notify.ensures.value; after = c.notify.ensures.state }) refl)
+pub returns-in-Ok-clause-step : goal.returns-in-Ok-clause-step
+returns-in-Ok-clause-step g c = (
+  at_view c.self.view_is
+      (meets_opened c.max-now.ensures c.args.conn (fits_at (view_of c.self.inside) is_claimed c.args.a.number c.in-Ok.ensures.ok.0)
+      c.if-self-eq0.false c.in-Ok.ensures.ok.1 (record { who = c.notify-notified.ensures.value; after = c.notify-notified.ensures.state }) refl),
+  tt,
+)
 
-pub invariant_of-self-2 : goal.invariant_of-self-2
-invariant_of-self-2 g c = led _ c.args.at.0 (acts.Opened c.args.a.number c.args.conn) _ c.self.view_is c.self.invariant (returns-clause-step g c)
+pub invariant_of-self-in-Ok : goal.invariant_of-self-in-Ok
+invariant_of-self-in-Ok g c = led _ c.args.at.0 (acts.Opened c.args.a.number c.args.conn) _ c.self.view_is c.self.invariant (returns-in-Ok-clause-step g c).0

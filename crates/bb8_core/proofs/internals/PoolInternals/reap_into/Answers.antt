@@ -1,4 +1,4 @@
-use Rattle.bb8_core.proofs.Words.{◌+◌, ◌≤◌, ap, arith, refl, after_reap, ShownRecords, view_of}
+use Rattle.bb8_core.proofs.Words.{◌+◌, ◌≤◌, ap, arith, refl, after_reap, RecordsView, view_of}
 use Rattle.bb8_ledger.specs.Acts as acts
 use Rattle.bb8_core.proofs.Fitting.{due_fits}
 use Rattle.bb8_core.proofs.ShownReaped.{reap_few}
@@ -21,7 +21,7 @@ grant-grant-requires g c =
       arith,
       reap_few c.reap-reaped.ensures.ends.0 c.self.inside.records,
       reap_few c.reap-reaped.ensures.ends.1 (after_reap c.reap-reaped.ensures.ends.0 c.self.inside.records),
-      ap (λ (s : ShownRecords g.row.C.Denot). s.conns + s.approved) ended.state,
+      ap (λ (s : RecordsView g.row.C.Denot). s.conns + s.approved) ended.state,
     ) in
     omega (arith, due_fits (view_of c.self.inside) {taken = c.reap-reaped.new.self} _ c.self.invariant fewer refl refl c.want-wanted.ensures)
 

@@ -1,4 +1,4 @@
-use Rattle.bb8_core.proofs.Words.{◌≡◌, ap, refl, ◌∙◌, arith, false, Idle, view_of, Shown}
+use Rattle.bb8_core.proofs.Words.{◌≡◌, ap, refl, ◌∙◌, arith, false, Idle, view_of, StateView}
 use Rattle.bb8_ledger.specs.Acts as acts
 use Rattle.bb8_core.proofs.Fitting.{shown_record, shown_fits, due_fits}
 use Rattle.bb8_core.proofs.Steps.{grants, led, at_view, fits_view}
@@ -20,16 +20,16 @@ grant-grant-requires g c = omega (arith, due_fits (view_of c.self.inside) _ c.se
 pub returns-in-Some-clause-some : goal.returns-in-Some-clause-some
 returns-in-Some-clause-some g c =
     let a = view_of c.self.inside in
-    let off : a.config.test_on_check_out ≡ false = ap (λ (s : Shown g.row.C.Denot). s.config.test_on_check_out) c.self.view_is ∙ c.requires.unchecked in
+    let off : a.config.test_on_check_out ≡ false = ap (λ (s : StateView g.row.C.Denot). s.config.test_on_check_out) c.self.view_is ∙ c.requires.unchecked in
     let was = c.in-Some.ensures.some.1 in (
       between a c.max-now.result,
       at_view c.self.view_is
-          (meets_begun_between c.args.at.0 c.pass-get.ensures.number
+          (meets_begun_between c.args.at.0 c.begin_and_end-get.ensures.number
           (fits_view acts.Begin c.self.view_is c.requires.begin) c.max-now.ensures (c.has_room.ensures.number c.if-not-has_room.false)),
       at_view refl
-          (meets_served_between a c.self.inside.counters c.pass-get.ensures.number off c.max-now.ensures c.in-Some.ensures.some.0
+          (meets_served_between a c.self.inside.counters c.begin_and_end-get.ensures.number off c.max-now.ensures c.in-Some.ensures.some.0
           (grants c.in-Some.ensures.some.2 c.want-wanted.ensures c.grant-grant.ensures.granted c.grant-grant.ensures.state)
-          c.pass-get.ensures.state refl c.serve.ensures),
+          c.begin_and_end-get.ensures.state refl c.serve.ensures),
       λ l legal means. (record { place = Idle c.in-Some.conn; birth = was.0; entered = was.1 }, shown_record l (between a c.max-now.result) means c.in-Some.key.number ∙ was.2, refl),
     )
 
@@ -37,4 +37,4 @@ pub invariant_of-self-in-Some : goal.invariant_of-self-in-Some
 invariant_of-self-in-Some g c =
     let both = returns-in-Some-clause-some g c in
     let began = led both.0 c.args.at.0 acts.Begin _ c.self.view_is c.self.invariant both.1 in
-    led _ c.args.at.0 (acts.Try c.pass-get.result) _ refl began both.2
+    led _ c.args.at.0 (acts.Try c.begin_and_end-get.result) _ refl began both.2

@@ -1,4 +1,4 @@
-use Rattle.bb8_core.proofs.Words.{ℕ, Bool, cond, sym, ap, refl, ◌∙◌, ◌+◌, arith, Idle, Holding, place_with, view_of, ShownGets}
+use Rattle.bb8_core.proofs.Words.{ℕ, Bool, cond, sym, ap, refl, ◌∙◌, ◌+◌, arith, Idle, Holding, place_with, view_of, GetsView}
 use Rattle.bb8_types.specs.declared.standing.Holder.{Holder}
 use Rattle.bb8_types.specs.declared.standing.Holder.TheVariants.{Guard, Get}
 use Rattle.bb8_tables.specs.Machine as machine
@@ -35,8 +35,8 @@ returns-in-None-clause-step g c =
     let a = view_of c.self.inside in
     let now_is = c.max-now.ensures in
     let made = c.make_room_for_one.ensures.made c.if-not-make_room_for_one.false in
-    let n_is = c.bear_waiting-get.ensures.key ∙ ap (λ (x : ShownGets). x.next) made in
-    let alive_is = c.alive-alive.ensures ∙ ap (λ (x : ShownGets). x.alive) c.bear_waiting-get.ensures.state ∙ ap (λ (x : ShownGets). x.alive + 1) made in (
+    let n_is = c.bear_waiting-get.ensures.key ∙ ap (λ (x : GetsView). x.next) made in
+    let alive_is = c.alive-alive.ensures ∙ ap (λ (x : GetsView). x.alive) c.bear_waiting-get.ensures.state ∙ ap (λ (x : GetsView). x.alive + 1) made in (
       between a c.max-now.result,
       at_view c.self.view_is (meets_begun_between c.args.at.0 n_is (fits_view acts.Begin c.self.view_is c.requires) now_is (left _ c.has_number.ensures c.if-not-has_number.false)),
       at_view refl (meets_waits_between a n_is now_is c.in-None.ensures.none.0 c.in-None.ensures.none.1
@@ -60,7 +60,7 @@ returns-then-self-clause-step g c =
     let a = view_of c.self.inside in
     let now_is = c.max-now.ensures in
     let made = c.make_room_for_one.ensures.made c.if-not-make_room_for_one.false in
-    let n_is = c.bear_holding-get.ensures.key ∙ ap (λ (x : ShownGets). x.next) made in
+    let n_is = c.bear_holding-get.ensures.key ∙ ap (λ (x : GetsView). x.next) made in
     let was = c.in-Some.ensures.some.1 in (
       between a c.max-now.result,
       at_view c.self.view_is (meets_begun_between c.args.at.0 n_is (fits_view acts.Begin c.self.view_is c.requires) now_is (left _ c.has_number.ensures c.if-not-has_number.false)),
@@ -91,7 +91,7 @@ returns-else-self-clause-step g c =
     let a = view_of c.self.inside in
     let now_is = c.max-now.ensures in
     let made = c.make_room_for_one.ensures.made c.if-not-make_room_for_one.false in
-    let n_is = c.next_number.ensures ∙ ap (λ (x : ShownGets). x.next) made in
+    let n_is = c.next_number.ensures ∙ ap (λ (x : GetsView). x.next) made in
     let was = c.in-Some.ensures.some.1 in (
       between a c.max-now.result,
       at_view c.self.view_is (meets_begun_between c.args.at.0 n_is (fits_view acts.Begin c.self.view_is c.requires) now_is (left _ c.has_number.ensures c.if-not-has_number.false)),
@@ -100,7 +100,7 @@ returns-else-self-clause-step g c =
           ∙ ap (λ (h : Holder). machine.after_take (place_with h) c.in-Some.key.number c.self.inside.records)
           (c.holder-holder.ensures ∙ ap (λ (b : Bool). cond b (Get c.next_number.result) Guard) c.if-self.false))
           c.want-wanted.ensures c.grant-grant-in-Some.ensures.granted c.grant-grant-in-Some.ensures.state)
-          (begun_at a.gets machine.after_get_end made c.pass.ensures.state) refl c.serve.ensures),
+          (begun_at a.gets machine.after_get_end made c.begin_and_end.ensures.state) refl c.serve.ensures),
       λ l legal means. (record { place = Idle c.in-Some.conn; birth = was.0; entered = was.1 }, shown_record l (between a c.max-now.result) means c.in-Some.key.number ∙ was.2, refl),
     )
 

@@ -1,4 +1,4 @@
-use Rattle.bb8_core.proofs.Words.{◌≡◌, ℕ, ◌≤◌, sym, subst, ◌∙◌, arith, Figures, Counts, view_of, Shown}
+use Rattle.bb8_core.proofs.Words.{◌≡◌, ℕ, ◌≤◌, sym, subst, ◌∙◌, arith, Figures, Counts, view_of, StateView}
 use Rattle.bb8_ledger.specs.Acts as acts
 use Rattle.bb8_core.proofs.Fitting.{as_shown, shown_fits}
 use Rattle.bb8_core.proofs.Steps.{meets_state, figures_told, led, at_view}
@@ -24,7 +24,7 @@ pub returns-clause-size : goal.returns-clause-size
 returns-clause-size g c =
     let fit = shown_fits (view_of c.self.inside) c.self.invariant in
     let few : c.connections.result ≤ (view_of c.self.inside).config.max_size = omega (arith, fit.size, c.connections.ensures) in
-    subst (λ (s : Shown _). c.connections.result ≤ s.config.max_size) c.self.view_is few
+    subst (λ (s : StateView _). c.connections.result ≤ s.config.max_size) c.self.view_is few
 
 pub returns-clause-idle : goal.returns-clause-idle
 returns-clause-idle g c = let few = idle_few (view_of c.self.inside) c.self.invariant in omega (arith, few, c.connections.ensures, c.idle_connections.ensures)

@@ -1,53 +1,68 @@
-use Rattle.bb8_core.proofs.Words.{ℕ, Bool, cond, sym, ap, refl, ◌∙◌, arith, subst, Idle, place_with, view_of, IsNoGrant}
+use Rattle.bb8_core.proofs.Words.{ℕ, Bool, cond, sym, ap, refl, ◌∙◌, arith, subst, Idle, place_with, gets_stand, is_trying, view_of, IsNoGrant}
 use Rattle.bb8_types.specs.declared.standing.Holder.{Holder}
 use Rattle.bb8_types.specs.declared.standing.Holder.TheVariants.{Guard, Get}
 use Rattle.bb8_tables.specs.Machine as machine
 use Rattle.bb8_ledger.specs.Acts as acts
-use Rattle.bb8_core.proofs.Fitting.{as_shown, shown_record, due_fits, fit_try, fit_waits, ended_few}
+use Rattle.bb8_core.proofs.Fitting.{as_shown, shown_record, due_fits, trying_stands, trying_off, ended_few}
+use Rattle.bb8_core.proofs.Runs.{shown_try, unfit_step}
 use Rattle.bb8_core.proofs.Steps.{grants, tries, meets_served, meets_taken, meets_waits_on, meets_waits, due_waiting, led, at_view}
 use Rattle.bb8_core.proofs.internals.PoolInternals.try_get.Goals as goal
 
+pub returns-then-not-is_trying-clause-step : goal.returns-then-not-is_trying-clause-step
+returns-then-not-is_trying-clause-step g c = unfit_step c.args.at.0 (acts.Try c.args.get.number) (λ l legal means.
+    let fits = shown_try l (view_of c.self.inside) c.args.get.number (as_shown l (sym c.self.view_is) means) in
+    sym (fits ∙ ap (gets_stand is_trying) (sym c.getting-getting.ensures.value) ∙ sym c.is_trying.ensures ∙ c.if-not-is_trying.true))
+
 pub returns-then-is_unnotified-clause-step : goal.returns-then-is_unnotified-clause-step
-returns-then-is_unnotified-clause-step g c = at_view c.self.view_is
-    (meets_waits_on c.max-now.ensures (tries c.self.view_is c.requires c.getting-getting.ensures.value)
-    (sym c.is_unnotified.ensures ∙ c.if-is_unnotified.true)
-    (subst (λ (n : ℕ). IsNoGrant n c.of_nothing.result) c.next_number.ensures c.of_nothing.ensures))
+returns-then-is_unnotified-clause-step g c = (
+  at_view c.self.view_is
+      (meets_waits_on c.max-now.ensures (tries (view_of c.self.inside) c.getting-getting.ensures.value c.is_trying.ensures c.if-not-is_trying.false)
+      (sym c.is_unnotified.ensures ∙ c.if-is_unnotified.true)
+      (subst (λ (n : ℕ). IsNoGrant n c.of_nothing-nothing.result) c.next_number.ensures c.of_nothing-nothing.ensures)),
+  tt,
+)
 
 pub invariant_of-self : goal.invariant_of-self
-invariant_of-self g c = led _ c.args.at.0 (acts.Try c.args.get.number) _ c.self.view_is c.self.invariant (returns-then-is_unnotified-clause-step g c)
+invariant_of-self g c = led _ c.args.at.0 (acts.Try c.args.get.number) _ c.self.view_is c.self.invariant (returns-then-is_unnotified-clause-step g c).0
 
 pub grant-grant-requires : goal.grant-grant-requires
 grant-grant-requires g c = omega (arith, due_fits (view_of c.self.inside) _ c.self.invariant (omega arith) c.in-None.ensures.none.1 refl c.due_waiting-due.ensures)
 
 pub wait-requires : goal.wait-requires
-wait-requires g c = record { stands = fit_waits c.args.get.number c.self.view_is c.self.invariant c.requires c.getting-getting.ensures.value (sym c.is_unnotified.ensures ∙ c.if-is_unnotified.false) }
+wait-requires g c = record { stands = trying_off c.getting-getting.ensures.value c.is_trying.ensures c.if-not-is_trying.false c.is_unnotified.ensures c.if-is_unnotified.false }
 
 pub returns-in-None-clause-step : goal.returns-in-None-clause-step
-returns-in-None-clause-step g c = at_view c.self.view_is
-    (meets_waits c.max-now.ensures (tries c.self.view_is c.requires c.getting-getting.ensures.value)
-    (sym c.is_unnotified.ensures ∙ c.if-is_unnotified.false) c.in-None.ensures.none.0 c.in-None.ensures.none.1
-    (due_waiting (view_of c.self.inside) c.in-None.ensures.none.1 c.alive-alive.ensures c.due_waiting-due.ensures) c.grant-grant.ensures.granted c.grant-grant.ensures.state c.wait.ensures.state)
+returns-in-None-clause-step g c = (
+  at_view c.self.view_is
+      (meets_waits c.max-now.ensures (tries (view_of c.self.inside) c.getting-getting.ensures.value c.is_trying.ensures c.if-not-is_trying.false)
+      (sym c.is_unnotified.ensures ∙ c.if-is_unnotified.false) c.in-None.ensures.none.0 c.in-None.ensures.none.1
+      (due_waiting (view_of c.self.inside) c.in-None.ensures.none.1 c.alive-alive.ensures c.due_waiting-due.ensures) c.grant-grant.ensures.granted c.grant-grant.ensures.state c.wait.ensures.state),
+  tt,
+)
 
 pub invariant_of-self-in-None : goal.invariant_of-self-in-None
-invariant_of-self-in-None g c = led _ c.args.at.0 (acts.Try c.args.get.number) _ c.self.view_is c.self.invariant (returns-in-None-clause-step g c)
+invariant_of-self-in-None g c = led _ c.args.at.0 (acts.Try c.args.get.number) _ c.self.view_is c.self.invariant (returns-in-None-clause-step g c).0
 
 pub grant-grant-requires-in-Some : goal.grant-grant-requires-in-Some
 grant-grant-requires-in-Some g c = omega (arith, due_fits (view_of c.self.inside) _ c.self.invariant (omega arith) c.in-Some.ensures.some.2 refl c.want-wanted.ensures)
 
 pub turn-requires-clause-stands : goal.turn-requires-clause-stands
-turn-requires-clause-stands g c = fit_waits c.args.get.number c.self.view_is c.self.invariant c.requires c.getting-getting.ensures.value (sym c.is_unnotified.ensures ∙ c.if-is_unnotified.false)
+turn-requires-clause-stands g c = trying_off c.getting-getting.ensures.value c.is_trying.ensures c.if-not-is_trying.false c.is_unnotified.ensures c.if-is_unnotified.false
 
 pub returns-then-self-clause-step : goal.returns-then-self-clause-step
-returns-then-self-clause-step g c = at_view c.self.view_is
-    (meets_taken c.max-now.ensures (tries c.self.view_is c.requires c.getting-getting.ensures.value)
-    (sym c.is_unnotified.ensures ∙ c.if-is_unnotified.false) c.if-self.true c.in-Some.ensures.some.0
-    (grants (c.in-Some.ensures.some.2
-    ∙ ap (λ (h : Holder). machine.after_take (place_with h) c.in-Some.key.number c.self.inside.records)
-    (c.holder-holder.ensures ∙ ap (λ (b : Bool). cond b (Get c.args.get.number) Guard) c.if-self.true))
-    c.want-wanted.ensures c.grant-grant-in-Some.ensures.granted c.grant-grant-in-Some.ensures.state) c.turn.ensures.state)
+returns-then-self-clause-step g c = (
+  at_view c.self.view_is
+      (meets_taken c.max-now.ensures (tries (view_of c.self.inside) c.getting-getting.ensures.value c.is_trying.ensures c.if-not-is_trying.false)
+      (sym c.is_unnotified.ensures ∙ c.if-is_unnotified.false) c.if-self.true c.in-Some.ensures.some.0
+      (grants (c.in-Some.ensures.some.2
+      ∙ ap (λ (h : Holder). machine.after_take (place_with h) c.in-Some.key.number c.self.inside.records)
+      (c.holder-holder.ensures ∙ ap (λ (b : Bool). cond b (Get c.args.get.number) Guard) c.if-self.true))
+      c.want-wanted.ensures c.grant-grant-in-Some.ensures.granted c.grant-grant-in-Some.ensures.state) c.turn.ensures.state),
+  tt,
+)
 
 pub invariant_of-self-then-self : goal.invariant_of-self-then-self
-invariant_of-self-then-self g c = led _ c.args.at.0 (acts.Try c.args.get.number) _ c.self.view_is c.self.invariant (returns-then-self-clause-step g c)
+invariant_of-self-then-self g c = led _ c.args.at.0 (acts.Try c.args.get.number) _ c.self.view_is c.self.invariant (returns-then-self-clause-step g c).0
 
 pub returns-then-self-clause-connection : goal.returns-then-self-clause-connection
 returns-then-self-clause-connection g c = λ l legal means.
@@ -55,26 +70,29 @@ returns-then-self-clause-connection g c = λ l legal means.
     (record { place = Idle c.in-Some.conn; birth = was.0; entered = was.1 }, shown_record l (view_of c.self.inside) (as_shown l (sym c.self.view_is) means) c.in-Some.key.number ∙ was.2, refl)
 
 pub finish-requires : goal.finish-requires
-finish-requires g c = fit_waits c.args.get.number c.self.view_is c.self.invariant c.requires c.getting-getting.ensures.value (sym c.is_unnotified.ensures ∙ c.if-is_unnotified.false)
+finish-requires g c = trying_off c.getting-getting.ensures.value c.is_trying.ensures c.if-not-is_trying.false c.is_unnotified.ensures c.if-is_unnotified.false
 
 pub serve-requires : goal.serve-requires
 serve-requires g c =
-    let st = fit_try c.args.get.number c.self.view_is c.self.invariant c.requires in
+    let st = trying_stands c.getting-getting.ensures.value c.is_trying.ensures c.if-not-is_trying.false in
     let few = ended_few (view_of c.self.inside) c.args.get.number c.self.invariant st c.finish.ensures.numbers in
     record { direct = omega (arith, few); waited = omega (arith, few) }
 
 pub returns-else-self-clause-step : goal.returns-else-self-clause-step
-returns-else-self-clause-step g c = at_view c.self.view_is
-    (meets_served c.max-now.ensures c.self.inside.counters (tries c.self.view_is c.requires c.getting-getting.ensures.value)
-    (sym c.is_unnotified.ensures ∙ c.if-is_unnotified.false) c.if-self.false c.in-Some.ensures.some.0
-    (grants (c.in-Some.ensures.some.2
-    ∙ ap (λ (h : Holder). machine.after_take (place_with h) c.in-Some.key.number c.self.inside.records)
-    (c.holder-holder.ensures ∙ ap (λ (b : Bool). cond b (Get c.args.get.number) Guard) c.if-self.false))
-    c.want-wanted.ensures c.grant-grant-in-Some.ensures.granted c.grant-grant-in-Some.ensures.state) c.finish.ensures.state refl
-    c.first_wait.ensures c.serve.ensures)
+returns-else-self-clause-step g c = (
+  at_view c.self.view_is
+      (meets_served c.max-now.ensures c.self.inside.counters (tries (view_of c.self.inside) c.getting-getting.ensures.value c.is_trying.ensures c.if-not-is_trying.false)
+      (sym c.is_unnotified.ensures ∙ c.if-is_unnotified.false) c.if-self.false c.in-Some.ensures.some.0
+      (grants (c.in-Some.ensures.some.2
+      ∙ ap (λ (h : Holder). machine.after_take (place_with h) c.in-Some.key.number c.self.inside.records)
+      (c.holder-holder.ensures ∙ ap (λ (b : Bool). cond b (Get c.args.get.number) Guard) c.if-self.false))
+      c.want-wanted.ensures c.grant-grant-in-Some.ensures.granted c.grant-grant-in-Some.ensures.state) c.finish.ensures.state refl
+      c.first_wait.ensures c.serve.ensures),
+  tt,
+)
 
 pub invariant_of-self-in-Some : goal.invariant_of-self-in-Some
-invariant_of-self-in-Some g c = led _ c.args.at.0 (acts.Try c.args.get.number) _ c.self.view_is c.self.invariant (returns-else-self-clause-step g c)
+invariant_of-self-in-Some g c = led _ c.args.at.0 (acts.Try c.args.get.number) _ c.self.view_is c.self.invariant (returns-else-self-clause-step g c).0
 
 pub returns-else-self-clause-connection : goal.returns-else-self-clause-connection
 returns-else-self-clause-connection g c = λ l legal means.

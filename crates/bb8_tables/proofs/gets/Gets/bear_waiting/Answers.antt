@@ -1,4 +1,4 @@
-use Rattle.bb8_tables.proofs.Words.{ap, ◌∙◌, subst, sym, refl, IsSome, ShownGets, get_in_wait}
+use Rattle.bb8_tables.proofs.Words.{ap, ◌∙◌, subst, sym, refl, IsSome, GetsView, get_in_wait}
 use Rattle.bb8_tables.specs.Machine as machine
 use Rattle.bb8_tables.proofs.TablePlaces.{stands_then}
 use Rattle.bb8_tables.proofs.GetPlaces.{stands_newborn, newborn_absent, waiting_good, waiting_view}
@@ -28,4 +28,4 @@ pub returns-clause-state : goal.returns-clause-state
 returns-clause-state c =
     let i = c.insert-place in
     waiting_view c.self.inside i.result i.new.self c.self.invariant i.ensures.vacant i.ensures.within i.ensures.state i.ensures.room (rw (← c.self.view_is) at c.requires.room) c.args.now c.wait.new.self c.line_up.new.self c.wait.ensures.changed c.line_up.ensures
-    ∙ ap (λ (s : ShownGets). machine.after_wait c.args.now s.next (machine.after_begin s)) c.self.view_is
+    ∙ ap (λ (s : GetsView). machine.after_wait c.args.now s.next (machine.after_begin s)) c.self.view_is

@@ -1,6 +1,7 @@
-use Rattle.bb8_tables.proofs.Words.{◌∙◌, ap, IsSome, None, Getting}
+use Rattle.bb8_tables.proofs.Words.{◌∙◌, ap, sym, refl}
+use Rattle.bb8_types.specs.Places.{gets_stand, is_trying}
 use Rattle.bb8_tables.specs.Machine as machine
-use Rattle.bb8_tables.proofs.GetPlaces.{none_shown, end_counted, end_good, end_view}
+use Rattle.bb8_tables.proofs.GetPlaces.{none_shown, some_shown, named, end_counted, end_good, end_view}
 use Rattle.bb8_tables.proofs.gets.Gets.end.Goals as goal
 
 pub overflow_sub-self : goal.overflow_sub-self
@@ -9,12 +10,22 @@ overflow_sub-self c = let f = c.in-Some.ensures.some in end_counted c.self.insid
 pub invariant_of-self : goal.invariant_of-self
 invariant_of-self c = let f = c.in-Some.ensures.some in end_good c.self.inside c.in-Some.place c.args.g.number f.0 c.remove.new.self c.self.invariant f.1 f.2 c.remove.ensures.state
 
-pub returns-in-None-clause-state : goal.returns-in-None-clause-state
-returns-in-None-clause-state c = absurd (let none = none_shown c.self.inside c.args.g.number c.args.self.now c.self.view_is c.in-None.ensures.none in let clash : IsSome {T = Getting}
-    None = rw none at c.requires in cc)
+pub returns-in-None-clause-none : goal.returns-in-None-clause-none
+returns-in-None-clause-none c = (ap (gets_stand is_trying) (none_shown c.self.inside c.args.g.number c.args.self.now c.self.view_is c.in-None.ensures.none), refl)
 
-pub returns-in-Some-clause-state : goal.returns-in-Some-clause-state
-returns-in-Some-clause-state c =
+pub returns-then-not-is_trying-clause-none : goal.returns-then-not-is_trying-clause-none
+returns-then-not-is_trying-clause-none c =
     let f = c.in-Some.ensures.some in
-    end_view c.self.inside c.in-Some.place c.args.g.number f.0 c.remove.new.self c.self.invariant f.1 f.2 c.remove.ensures.state
-    ∙ ap (machine.after_get_end c.args.g.number) c.self.view_is
+    let shown = some_shown c.self.inside c.args.g.number c.in-Some.place c.at.result.now c.args.self.now c.self.invariant c.self.view_is c.at.ensures.value
+    (named f.0 c.at.result.now f.1 f.2 c.at.ensures.value) in
+    (ap (gets_stand is_trying) shown ∙ sym c.is_trying.ensures ∙ c.if-not-is_trying.true, refl)
+
+pub returns-else-not-is_trying-clause-some : goal.returns-else-not-is_trying-clause-some
+returns-else-not-is_trying-clause-some c =
+    let f = c.in-Some.ensures.some in (
+      some_shown c.self.inside c.args.g.number c.in-Some.place c.at.result.now c.args.self.now c.self.invariant c.self.view_is c.at.ensures.value
+          (named f.0 c.at.result.now f.1 f.2 c.at.ensures.value),
+      sym c.is_trying.ensures ∙ c.if-not-is_trying.false,
+      end_view c.self.inside c.in-Some.place c.args.g.number f.0 c.remove.new.self c.self.invariant f.1 f.2 c.remove.ensures.state
+          ∙ ap (machine.after_get_end c.args.g.number) c.self.view_is,
+    )

@@ -1,9 +1,7 @@
-use Rattle.bb8_tables.proofs.Words.{◌≡◌, ap, ◌∙◌, sym, refl, subst, Getting, Slot, Option, ⊎_elim}
-use Rattle.std.proofs.Common.{IfSome}
-use Rattle.bb8_types.specs.Places.{holds, first_wait_of}
-use Rattle.bb8_types.specs.Places.{held_in, is_unnotified}
+use Rattle.bb8_tables.proofs.Words.{ap, ◌∙◌, sym, refl, Getting, Option, ⊎_elim}
+use Rattle.bb8_types.specs.Places.{holds, held_in, first_wait_of, is_unnotified}
 use Rattle.bb8_tables.specs.Machine as machine
-use Rattle.bb8_tables.proofs.GetPlaces.{none_shown, some_shown, end_counted, end_good, end_view, released, wait_absent}
+use Rattle.bb8_tables.proofs.GetPlaces.{none_shown, some_shown, named, end_counted, end_good, end_view, released, wait_absent}
 use Rattle.bb8_tables.proofs.gets.Gets.finish_holding.Goals as goal
 
 pub overflow_sub-self : goal.overflow_sub-self
@@ -18,15 +16,15 @@ returns-in-None-clause-none c = (ap (λ (o : Option Getting). holds o) (none_sho
 pub returns-in-Active-clause-none : goal.returns-in-Active-clause-none
 returns-in-Active-clause-none c =
     let f = c.in-Some.ensures.some in
-    let named = subst (λ (o : Option (Slot Getting)). IfSome o (λ x. x.number ≡ c.args.g.number)) (sym f.1 ∙ c.at.ensures.value) f.2 in
-    let shown = some_shown c.self.inside c.args.g.number c.in-Some.place c.at.result.now c.args.self.now c.self.invariant c.self.view_is c.at.ensures.value named in
+    let shown = some_shown c.self.inside c.args.g.number c.in-Some.place c.at.result.now c.args.self.now c.self.invariant c.self.view_is c.at.ensures.value
+    (named f.0 c.at.result.now f.1 f.2 c.at.ensures.value) in
     (ap (λ (o : Option Getting). holds o) shown ∙ ⊎_elim (λ e. ap held_in e) (λ e. ap held_in e.1) c.in-Active.is, refl)
 
 pub returns-in-Holding-clause-some : goal.returns-in-Holding-clause-some
 returns-in-Holding-clause-some c =
     let f = c.in-Some.ensures.some in
-    let named = subst (λ (o : Option (Slot Getting)). IfSome o (λ x. x.number ≡ c.args.g.number)) (sym f.1 ∙ c.at.ensures.value) f.2 in
-    let shown = some_shown c.self.inside c.args.g.number c.in-Some.place c.at.result.now c.args.self.now c.self.invariant c.self.view_is c.at.ensures.value named in (
+    let shown = some_shown c.self.inside c.args.g.number c.in-Some.place c.at.result.now c.args.self.now c.self.invariant c.self.view_is c.at.ensures.value
+    (named f.0 c.at.result.now f.1 f.2 c.at.ensures.value) in (
       ap (λ (o : Option Getting). holds o) shown ∙ ap held_in c.in-Holding.is,
       sym (ap (λ (o : Option Getting). first_wait_of o) shown),
       end_view c.self.inside c.in-Some.place c.args.g.number f.0 c.release.new.self c.self.invariant f.1 f.2 (released c.self.inside c.in-Some.place c.in-Holding.held c.at.result.now c.release.new.self c.self.invariant c.at.ensures.value c.in-Holding.is c.release.ensures.state)

@@ -1,4 +1,4 @@
-use Rattle.bb8_tables.proofs.Words.{◌≡◌, ◌+◌, ap, ◌∙◌, arith, ShownGets}
+use Rattle.bb8_tables.proofs.Words.{◌≡◌, ◌+◌, ap, ◌∙◌, arith, GetsView}
 use Rattle.bb8_tables.proofs.GetPlaces.{kept_good, kept_view}
 use Rattle.bb8_tables.proofs.Views.{on_err}
 use Rattle.bb8_tables.proofs.gets.Gets.make_room.Goals as goal
@@ -24,4 +24,4 @@ invariant_of-self-2 c =
 pub returns-clause-ok : goal.returns-clause-ok
 returns-clause-ok c =
     let r = c.reserve.ensures in
-    kept_view c.self.inside c.reserve.new.self (c.self.inside.peak + 1) c.self.invariant r.kept r.line ∙ ap (λ (s : ShownGets). record s { peak = s.peak + 1 }) c.self.view_is
+    kept_view c.self.inside c.reserve.new.self (c.self.inside.peak + 1) c.self.invariant r.kept r.line ∙ ap (λ (s : GetsView). record s { peak = s.peak + 1 }) c.self.view_is

@@ -1,4 +1,4 @@
-use Rattle.bb8_tables.proofs.Words.{Some, slice_get, ap, ◌∙◌, ShownGets}
+use Rattle.bb8_tables.proofs.Words.{Some, slice_get, ap, ◌∙◌, GetsView}
 use Rattle.bb8_tables.specs.Machine as machine
 use Rattle.bb8_tables.proofs.GetPlaces.{turned_stands, notice_good, notice_view, first_number, none_first}
 use Rattle.bb8_tables.proofs.gets.Gets.notify.Goals as goal
@@ -11,13 +11,13 @@ invariant_of-self c = notice_good c.self.inside c.in-Some.place c.turn-number.re
     c.turn-number.ensures.changed c.step_out.ensures
 
 pub returns-in-None-clause-value : goal.returns-in-None-clause-value
-returns-in-None-clause-value c = none_first c.self.inside c.in-None.ensures ∙ ap (λ (s : ShownGets). slice_get s.waiting 0) c.self.view_is
+returns-in-None-clause-value c = none_first c.self.inside c.in-None.ensures ∙ ap (λ (s : GetsView). slice_get s.waiting 0) c.self.view_is
 
 pub returns-in-Some-clause-value : goal.returns-in-Some-clause-value
 returns-in-Some-clause-value c =
     first_number c.self.inside c.in-Some.place c.turn-number.result c.turn-number.new.self c.step_out.new.self c.self.invariant c.in-Some.ensures c.turn-number.ensures.number
     c.turn-number.ensures.changed c.step_out.ensures
-    ∙ ap (λ (s : ShownGets). slice_get s.waiting 0) c.self.view_is
+    ∙ ap (λ (s : GetsView). slice_get s.waiting 0) c.self.view_is
 
 pub returns-in-Some-clause-state : goal.returns-in-Some-clause-state
 returns-in-Some-clause-state c =

@@ -1,4 +1,4 @@
-use Rattle.bb8_tables.proofs.Words.{sym, ap, ◌∙◌, slice_get, option_map, slice_get-map, Key, ShownRecords}
+use Rattle.bb8_tables.proofs.Words.{sym, ap, ◌∙◌, slice_get, option_map, slice_get-map, Key, RecordsView}
 use Rattle.bb8_tables.specs.Machine as machine
 use Rattle.bb8_tables.proofs.RecordPlaces.{unclaimed_end_counted, unclaimed_end_good, unclaimed_end_view}
 use Rattle.bb8_tables.proofs.records.Records.end_unclaimed.Goals as goal
@@ -14,7 +14,7 @@ invariant_of-self-in-Some g c =
 
 pub returns-in-Some-clause-some : goal.returns-in-Some-clause-some
 returns-in-Some-clause-some g c = (
-  ap (λ (s : ShownRecords g.row.C.Denot). slice_get s.unclaimed 0) (sym c.self.view_is)
+  ap (λ (s : RecordsView g.row.C.Denot). slice_get s.unclaimed 0) (sym c.self.view_is)
       ∙ slice_get-map (λ (k : Key). k.number) c.self.inside.unclaimed.items 0
       ∙ ap (option_map (λ (k : Key). k.number)) (sym c.in-Some.ensures.value),
   unclaimed_end_view c.self.inside c.in-Some.key c.remove.new.self c.pop.new.self c.self.invariant c.in-Some.ensures.value

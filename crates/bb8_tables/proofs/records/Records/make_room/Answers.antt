@@ -1,4 +1,4 @@
-use Rattle.bb8_tables.proofs.Words.{◌≡◌, ap, ◌∙◌, refl, arith, Buffer, Key, ShownRecords}
+use Rattle.bb8_tables.proofs.Words.{◌≡◌, ap, ◌∙◌, refl, arith, Buffer, Key, RecordsView}
 use Rattle.bb8_tables.proofs.Views.{on_err}
 use Rattle.bb8_tables.proofs.RecordPlaces.{unclaimed_fit, kept_good, kept_view}
 use Rattle.bb8_tables.proofs.records.Records.make_room.Goals as goal
@@ -20,7 +20,7 @@ pub grow-requires : goal.grow-requires
 grow-requires g c =
     let a = c.self.inside in
     let z = c.self.invariant.sizes in
-    omega (arith, unclaimed_fit a c.self.invariant, ap (λ (s : ShownRecords g.row.C.Denot). s.peak) c.self.view_is, z.peak_holds)
+    omega (arith, unclaimed_fit a c.self.invariant, ap (λ (s : RecordsView g.row.C.Denot). s.peak) c.self.view_is, z.peak_holds)
 
 pub invariant_of-self-in_err-grow : goal.invariant_of-self-in_err-grow
 invariant_of-self-in_err-grow g c =
@@ -44,7 +44,7 @@ invariant_of-self-2 g c =
     let a = c.self.inside in
     let z = c.self.invariant.sizes in
     let r = c.reserve.ensures in
-    let peak : a.peak ≡ c.args.self.now.peak = ap (λ (s : ShownRecords g.row.C.Denot). s.peak) c.self.view_is in
+    let peak : a.peak ≡ c.args.self.now.peak = ap (λ (s : RecordsView g.row.C.Denot). s.peak) c.self.view_is in
     let items = ap (λ (b : Buffer Key). b.items) c.in_ok-grow.ensures.ok in
     let capacity : c.grow.new.self.capacity ≡ c.args.peak = ap (λ (b : Buffer Key). b.capacity) c.in_ok-grow.ensures.ok in
     kept_good a c.reserve.new.self c.args.peak c.self.invariant r.kept r.line r.births c.grow.new.self items (omega (arith, z.peak_holds, c.requires.higher)) c.requires.few
@@ -54,4 +54,4 @@ pub returns-clause-ok : goal.returns-clause-ok
 returns-clause-ok g c =
     let r = c.reserve.ensures in
     kept_view c.self.inside c.reserve.new.self c.args.peak c.self.invariant r.kept r.line r.births c.grow.new.self (ap (λ (b : Buffer Key). b.items) c.in_ok-grow.ensures.ok)
-    ∙ ap (λ (s : ShownRecords g.row.C.Denot). record s { peak = c.args.peak }) c.self.view_is
+    ∙ ap (λ (s : RecordsView g.row.C.Denot). record s { peak = c.args.peak }) c.self.view_is

@@ -1,5 +1,5 @@
 use Rattle.std.proofs.Common.{arith}
-use Rattle.bb8_tables.proofs.Walks.{conns_few, reaps_both}
+use Rattle.bb8_tables.proofs.ReapWalks.{conns_few, reaps_both}
 use Rattle.bb8_tables.proofs.records.Records.reap.Goals as goal
 
 pub returns-clause-ends : goal.returns-clause-ends

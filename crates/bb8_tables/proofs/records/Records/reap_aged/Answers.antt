@@ -1,5 +1,5 @@
 use Rattle.std.proofs.Common.{arith, refl, ◌∙◌}
-use Rattle.bb8_tables.proofs.Walks.{births_start, births_member, births_stands, births_out, births_aged, none_ahead, none_more, none_after, lent_at_most}
+use Rattle.bb8_tables.proofs.ReapWalks.{births_start, births_member, births_stands, births_out, births_aged, none_ahead, none_more, none_after, lent_at_most}
 use Rattle.bb8_tables.proofs.records.Records.reap_aged.Goals as goal
 use Rattle.bb8_tables.proofs.records.Records.reap_aged.Goals.{in-Out, in-Aged}
 
@@ -16,7 +16,7 @@ pub loop-preserved : goal.loop-preserved
 loop-preserved g c = elim c.match-pass_birth.branch [
   | in-Out w ↦ rw (w.many-is, w.at-is, w.self-inside-is, w.closed-is) (births_out (rw c.in-Some.is at c.loop.invariant) w.in-Out.ensures.value w.in-Out.ensures.examined)
   | in-Aged w ↦ rw (w.many-is, w.at-is, w.self-inside-is, w.closed-is)
-      (births_aged (rw c.in-Some.is at c.loop.invariant) w.in-Aged.ensures.value w.close_at.ensures.state refl w.close_at.ensures.listed w.in-Aged.ensures.examined)
+      (births_aged (rw c.in-Some.is at c.loop.invariant) w.in-Aged.ensures.value w.close_idle_at.ensures.state refl w.close_idle_at.ensures.listed w.in-Aged.ensures.examined)
 ]
 
 pub returns-after-loop-clause-none_left : goal.returns-after-loop-clause-none_left

@@ -1,5 +1,5 @@
 use Rattle.bb8_types.specs.Settings.{settings_of}
-use Rattle.bb8_tables.proofs.Walks.{InBirths}
+use Rattle.bb8_tables.proofs.ReapWalks.{InBirths}
 use Rattle.bb8_tables.proofs.records.Records.reap_aged.Given as goal
 
 abbrev pub invariant-loop : goal.invariant-loop

@@ -1,11 +1,11 @@
-use Rattle.bb8_tables.proofs.Words.{◌≡◌, ℕ, false, refl, sym, ap, ◌∙◌, subst, slice_get, get, idles_out, settings_of, ShownRecords}
+use Rattle.bb8_tables.proofs.Words.{◌≡◌, ℕ, false, refl, sym, ap, ◌∙◌, subst, slice_get, get, idles_out, settings_of, RecordsView}
 use Rattle.bb8_tables.proofs.ReapPlaces.{freed_counted, freed_good, freed_due}
-use Rattle.bb8_tables.proofs.Walks.{first_idle, first_not_due, none_in_line, first_shown}
+use Rattle.bb8_tables.proofs.ReapWalks.{first_idle, first_not_due, none_in_line, first_shown}
 use Rattle.bb8_tables.proofs.records.Records.reap_first.Goals as goal
 
 pub returns-in_default-clause-ends : goal.returns-in_default-clause-ends
 returns-in_default-clause-ends g c = (
-  subst (λ (s : ShownRecords g.row.C.Denot). (k : ℕ) → idles_out (settings_of c.args.config.now) c.args.now (get s.places k) ≡ false) c.self.view_is
+  subst (λ (s : RecordsView g.row.C.Denot). (k : ℕ) → idles_out (settings_of c.args.config.now) c.args.now (get s.places k) ≡ false) c.self.view_is
       (none_in_line (settings_of c.args.config.now) c.args.now c.self.inside c.self.invariant (sym c.first.ensures ∙ c.in_default.is)),
   refl,
   refl,
@@ -13,7 +13,7 @@ returns-in_default-clause-ends g c = (
 
 pub returns-then-not-due-clause-ends : goal.returns-then-not-due-clause-ends
 returns-then-not-due-clause-ends g c = (
-  subst (λ (s : ShownRecords g.row.C.Denot). (k : ℕ) → idles_out (settings_of c.args.config.now) c.args.now (get s.places k) ≡ false) c.self.view_is
+  subst (λ (s : RecordsView g.row.C.Denot). (k : ℕ) → idles_out (settings_of c.args.config.now) c.args.now (get s.places k) ≡ false) c.self.view_is
       (first_not_due (settings_of c.args.config.now) c.args.now c.self.inside c.in-Some.place c.at.result.now c.self.invariant (sym c.in-Some.ensures) c.at.ensures.value
       (sym c.idles_out-due.ensures ∙ c.if-not-due.true)),
   refl,
@@ -21,19 +21,19 @@ returns-then-not-due-clause-ends g c = (
 )
 
 pub overflow_sub-self : goal.overflow_sub-self
-overflow_sub-self g c = freed_counted c.self.inside c.in-Some.place c.at.result.now c.close_at.new.slots c.self.invariant c.at.ensures.value
-    (first_idle c.self.inside c.in-Some.place c.at.result.now c.self.invariant (sym c.in-Some.ensures) c.at.ensures.value) c.close_at.ensures.state
+overflow_sub-self g c = freed_counted c.self.inside c.in-Some.place c.at.result.now c.close_idle_at.new.slots c.self.invariant c.at.ensures.value
+    (first_idle c.self.inside c.in-Some.place c.at.result.now c.self.invariant (sym c.in-Some.ensures) c.at.ensures.value) c.close_idle_at.ensures.state
 
 pub invariant_of-self : goal.invariant_of-self
-invariant_of-self g c = freed_good c.self.inside c.in-Some.place c.at.result.now c.close_at.new.slots c.self.invariant c.at.ensures.value
-    (first_idle c.self.inside c.in-Some.place c.at.result.now c.self.invariant (sym c.in-Some.ensures) c.at.ensures.value) c.close_at.ensures.state
+invariant_of-self g c = freed_good c.self.inside c.in-Some.place c.at.result.now c.close_idle_at.new.slots c.self.invariant c.at.ensures.value
+    (first_idle c.self.inside c.in-Some.place c.at.result.now c.self.invariant (sym c.in-Some.ensures) c.at.ensures.value) c.close_idle_at.ensures.state
 
 pub returns-clause-ends : goal.returns-clause-ends
 returns-clause-ends g c = (
   c.at.result.now.number,
-  ap (λ (s : ShownRecords g.row.C.Denot). slice_get s.idle 0) (sym c.self.view_is) ∙ first_shown c.self.inside c.in-Some.place c.at.result.now (sym c.in-Some.ensures) c.at.ensures.value,
-  freed_due c.self.inside c.in-Some.place c.at.result.now c.close_at.new.slots c.self.invariant c.at.ensures.value
-      (first_idle c.self.inside c.in-Some.place c.at.result.now c.self.invariant (sym c.in-Some.ensures) c.at.ensures.value) c.close_at.ensures.state
+  ap (λ (s : RecordsView g.row.C.Denot). slice_get s.idle 0) (sym c.self.view_is) ∙ first_shown c.self.inside c.in-Some.place c.at.result.now (sym c.in-Some.ensures) c.at.ensures.value,
+  freed_due c.self.inside c.in-Some.place c.at.result.now c.close_idle_at.new.slots c.self.invariant c.at.ensures.value
+      (first_idle c.self.inside c.in-Some.place c.at.result.now c.self.invariant (sym c.in-Some.ensures) c.at.ensures.value) c.close_idle_at.ensures.state
       (idles_out (settings_of c.args.config.now) c.args.now) c.args.self.now c.self.view_is
-      (sym c.idles_out-due.ensures ∙ c.if-not-due.false) (c.close_at.ensures.listed c.at.result.now c.at.ensures.value),
+      (sym c.idles_out-due.ensures ∙ c.if-not-due.false) (c.close_idle_at.ensures.listed c.at.result.now c.at.ensures.value),
 )

@@ -1,4 +1,4 @@
-use Rattle.bb8_tables.proofs.Walks.{idle_more}
+use Rattle.bb8_tables.proofs.ReapWalks.{idle_more}
 use Rattle.bb8_tables.proofs.records.Records.reap_idle.Goals as goal
 
 pub loop-ended-preserved : goal.loop-ended-preserved

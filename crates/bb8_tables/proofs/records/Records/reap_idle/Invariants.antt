@@ -1,5 +1,5 @@
 use Rattle.bb8_types.specs.Settings.{settings_of}
-use Rattle.bb8_tables.proofs.Walks.{InIdle}
+use Rattle.bb8_tables.proofs.ReapWalks.{InIdle}
 use Rattle.bb8_tables.proofs.records.Records.reap_idle.Given as goal
 
 abbrev pub invariant-loop-ended : goal.invariant-loop-ended

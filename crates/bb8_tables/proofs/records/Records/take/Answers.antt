@@ -1,4 +1,4 @@
-use Rattle.bb8_tables.proofs.Words.{refl, ap, sym, ◌∙◌, get, first_of, place_with, ShownRecords}
+use Rattle.bb8_tables.proofs.Words.{refl, ap, sym, ◌∙◌, get, first_of, place_with, RecordsView}
 use Rattle.bb8_tables.specs.Machine as machine
 use Rattle.bb8_tables.proofs.RecordPlaces.{put_stands, take_good, take_view, taken_first, taken_connection, idle_none}
 use Rattle.bb8_tables.proofs.records.Records.take.Goals as goal
@@ -9,7 +9,7 @@ step_out-requires g c = put_stands c.self.inside _ c.in-Some.place _ c.put-numbe
 
 pub returns-in-None-clause-none : goal.returns-in-None-clause-none
 returns-in-None-clause-none g c = (
-  ap (λ (s : ShownRecords g.row.C.Denot). first_of c.args.strategy s.idle) (sym c.self.view_is) ∙ idle_none c.self.inside c.args.strategy
+  ap (λ (s : RecordsView g.row.C.Denot). first_of c.args.strategy s.idle) (sym c.self.view_is) ∙ idle_none c.self.inside c.args.strategy
       (sym c.in-None.ensures),
   refl,
   refl,
@@ -23,13 +23,13 @@ pub returns-after-connection_of-clause-some : goal.returns-after-connection_of-c
 returns-after-connection_of-clause-some g c = elim c.match-connection_of.branch [
   | in-None-connection_of w ↦ rw w.result-is tt
   | in-Some-connection_of w ↦ rw w.result-is (
-    ap (λ (s : ShownRecords g.row.C.Denot). first_of c.args.strategy s.idle) (sym c.self.view_is)
+    ap (λ (s : RecordsView g.row.C.Denot). first_of c.args.strategy s.idle) (sym c.self.view_is)
         ∙ taken_first c.self.inside c.args.strategy c.in-Some.place c.put-number.result.0 c.args.holder c.place_of.result c.put-number.new.self c.step_out.new.self
         c.self.invariant c.in-Some.ensures c.put-number.ensures.number c.place_of.ensures c.put-number.ensures.changed c.step_out.ensures,
     (let was = taken_connection c.self.inside c.args.strategy c.in-Some.place c.put-number.result.0 c.args.holder c.place_of.result c.put-number.new.self c.step_out.new.self
         c.self.invariant c.in-Some.ensures c.put-number.ensures.number c.place_of.ensures c.put-number.ensures.changed c.step_out.ensures
         w.in-Some-connection_of.conn c.put-number.result.1 c.put-number.ensures.value w.in-Some-connection_of.ensures.some in
-        (was.0, was.1, ap (λ (s : ShownRecords g.row.C.Denot). get s.places c.put-number.result.0) (sym c.self.view_is) ∙ was.2)),
+        (was.0, was.1, ap (λ (s : RecordsView g.row.C.Denot). get s.places c.put-number.result.0) (sym c.self.view_is) ∙ was.2)),
     take_view c.self.inside c.args.strategy c.in-Some.place c.put-number.result.0 c.args.holder c.place_of.result c.put-number.new.self c.step_out.new.self
         c.self.invariant c.in-Some.ensures c.put-number.ensures.number c.place_of.ensures c.put-number.ensures.changed c.step_out.ensures
         ∙ ap (machine.after_take (place_with c.args.holder) c.put-number.result.0) c.self.view_is,

@@ -1,4 +1,4 @@
-use Rattle.bb8_tables.proofs.Words.{◌≡◌, ◌-◌, Some, ap, arith, refl, Slot, Lined, ne_eqb, end_of_numbers}
+use Rattle.bb8_tables.proofs.Words.{◌≡◌, ◌-◌, Some, ap, arith, refl, Slot, TableView, ne_eqb, end_of_numbers}
 use Rattle.bb8_tables.proofs.Tables
 use Rattle.bb8_tables.proofs.table.Table.insert.Goals as goal
 
@@ -23,5 +23,5 @@ pub returns-in-Some-clause-state : goal.returns-in-Some-clause-state
 returns-in-Some-clause-state g c =
     let slots = Tables.set_seen c.self.inside c.self.invariant c.args.self.now c.self.view_is c.in-Some.place c.args.slot (Some c.args.slot)
     (Tables.slot_taken c.args.slot (ne_eqb c.args.slot.number end_of_numbers (λ e. omega (arith, e, c.requires.number)))) in
-    let free : c.pop.new.self.len ≡ c.args.self.now.free - 1 = omega (arith, c.in-Some.ensures.cases, ap (λ (t : Lined (Slot g.row.S.Denot)). t.free) c.self.view_is) in
+    let free : c.pop.new.self.len ≡ c.args.self.now.free - 1 = omega (arith, c.in-Some.ensures.cases, ap (λ (t : TableView (Slot g.row.S.Denot)). t.free) c.self.view_is) in
     λ i. record { slots = slots i; line = (c.self.view_is i).line; births = (c.self.view_is i).births; free = free i }

@@ -1,4 +1,5 @@
-use Rattle.bb8_tasks.proofs.Words.{◌-◌, as_nanos, TaskPolls, RoundMidway}
+use Rattle.bb8_tasks.proofs.Words.{◌-◌, as_nanos, TaskPolls}
+use Rattle.bb8_tasks.proofs.Sweeps.{RoundMidway}
 use Rattle.bb8_tasks.proofs.tasks.Tasks.poll_until.Given as goal
 
 abbrev pub invariant-loop : goal.invariant-loop

@@ -1,5 +1,0 @@
-use Rattle.bb8.proofs.building.BuildingEndsSite.end.Goals as goal
-
-pub returns-in-Opening : goal.returns-in-Opening
-returns-in-Opening g c =
-    rw c.in-Opening.is (rw (← c.deref-shared.ensures) (c.linked.result, c.let_go.new.pool, c.linked.ensures, c.let_go.ensures), c.drop-pool.ensures)

@@ -1,4 +1,0 @@
-use Rattle.bb8.proofs.owned.HoldingOwns.let_go.Goals as goal
-
-pub returns : goal.returns
-returns g c = rw (← c.deref-shared.ensures) (_, _, c.linked.ensures, c.cancel_with.ensures.1)

@@ -1,4 +1,0 @@
-use Rattle.bb8.proofs.owned.HoldingOwns.poll_owned.Goals as goal
-
-pub returns : goal.returns
-returns g c = rw (← c.deref-shared.ensures) (_, _, c.linked.ensures, c.poll_with.ensures.1)

@@ -1,0 +1,68 @@
+-- Which bells a step is to ring, once the lock is let go.
+use Rattle.std.specs.Prelude.{ℕ, Bool, false, ◌||◌, ltb, Option, is_some, ⊤}
+use Rattle.bb8_ledger.specs.Answers.{Answer, Served, Taken, Waiting, Closed, Granted, Reaped, Memory, Exhausted}
+use Rattle.bb8_ledger.specs.Handed.{told_by}
+use Rattle.bb8_core.specs.Asked.{answered}
+use Rattle.bb8_core.specs.StepAnswers.{answer_of_add, answer_of_checked_err, answer_of_give_up, answer_of_opened, answer_of_put_back}
+use Rattle.bb8_gets.specs.declared.home.FirstTry.{FirstTry}
+use Rattle.bb8_gets.specs.declared.home.FirstTry.TheVariants as first
+use Rattle.bb8_gets.specs.Steps.{GetStep, Starts, Tries, Fails, GivesUp, GivesBack}
+use Rattle.bb8_gets.specs.Told.{answer_of_tried}
+use Rattle.bb8_lock.specs.declared.bell.Rings.{Rings}
+use Rattle.bb8_tasks.specs.TaskSteps.{TaskStep, Opens}
+use Rattle.bb8_lock.specs.SectionSteps.{SectionStep, PutsBack, Adds, Leaves}
+
+-- no bell
+abbrev pub silent : Rings
+silent = record { gets = false; drivers = false }
+
+-- these bells and those
+abbrev pub joined : Rings → Rings → Rings
+joined these those = record { gets = these.gets || those.gets; drivers = these.drivers || those.drivers }
+
+-- how many approvals an answer grants
+abbrev pub granted_by : Answer → ℕ
+granted_by (Served k grant) = grant.count
+granted_by (Taken k grant) = grant.count
+granted_by (Waiting grant) = grant.count
+granted_by (Closed k grant n) = grant.count
+granted_by (Granted grant) = grant.count
+granted_by (Reaped closed by_idle by_life grant) = grant.count
+granted_by _ = 0
+
+-- that of the gets where a get was notified, and that of the drivers where an approval was granted
+abbrev pub bells : Option ℕ → ℕ → Rings
+bells notified granted = record { gets = is_some notified; drivers = ltb 0 granted }
+
+-- the bells of an answer
+abbrev pub bells_of : Answer → Rings
+bells_of a = bells (told_by a) (granted_by a)
+
+module _ {C P : Type 0} where
+  -- the answer of a get that begins and tries
+  abbrev pub answer_of_first : FirstTry C P → Answer
+  answer_of_first (first.Tried g told) = answer_of_tried told
+  answer_of_first first.Memory = Memory
+  answer_of_first first.Exhausted = Exhausted
+
+  -- A get's step rings by its answer; a look and a check that was passed ring nobody.
+  abbrev pub get_bells : GetStep C P → Rings
+  get_bells (Starts a) = bells_of (answered answer_of_first a)
+  get_bells (Tries g a) = bells_of (answered answer_of_tried a)
+  get_bells (Fails g r a) = bells_of (answered answer_of_checked_err a)
+  get_bells (GivesUp g why a) = bells_of (answered answer_of_give_up a)
+  get_bells (GivesBack g why r a) = bells_of (answered answer_of_give_up a)
+  get_bells _ = silent
+
+  -- A return and an adding ring by their answers. A handle that leaves rings the drivers where no handle is alive then; what else a section does
+  -- rings nobody.
+  abbrev pub section_bells : Bool → SectionStep C P → Rings
+  section_bells over (PutsBack r a) = bells_of (answered (answer_of_put_back r.taken.key.number) a)
+  section_bells over (Adds conn broken a) = bells_of (answered answer_of_add a)
+  section_bells over (Leaves a) = record { gets = false; drivers = over }
+  section_bells over _ = silent
+
+-- An opening rings the bells of its answer. Of the rest nothing is asked: what a reap granted its driver claims next.
+abbrev pub RingsFor : {C : Type 0} → (Rings → Type 0) → TaskStep C → Type 0
+RingsFor Rung (Opens approval c a) = Rung (bells_of (answered (answer_of_opened approval.number) a))
+RingsFor Rung _ = ⊤

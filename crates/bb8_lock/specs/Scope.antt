@@ -1,0 +1,141 @@
+-- What gets, guards and handles do on a pool: the tables at what a pool's lock holds, while it is held, and at the pool's own manager, error sink
+-- and clock.
+use Rattle.std.specs.Prelude.{◌≡◌, ℕ, eqb, None, Option, Some, Result, Ok, Err, ⊤}
+use Rattle.bb8_lock.specs.Words.{MutexGuard, DebugOf, Poll, Ready, Pending, AddError, RunError, State, ManagerOf, SinkOf, CustomizerOf, ClockOf, settings_of, HomeOf, Taken, OutsideOf, Stage, Joining, SectionsOf, Locked, Part, PartsOf, LockScope, Shared, StepsIn, GetPolls, Cancels}
+use Rattle.std.specs.Sync.Mutex.{mutex_guard_value}
+use Rattle.bb8_lock.specs.declared.bell.Rings.{Rings}
+use Rattle.bb8_lock.specs.Bells.{get_bells, joined, section_bells, silent}
+use Rattle.bb8_lock.specs.Chains.{AddsOutside, Answers, CancelsAndLeaves, Joins, HandleLeaves, Returns, ReturnsAndLeaves, Shows, TakesNow, Waits}
+use Rattle.bb8_gets.specs.Steps.{StepsBy}
+use Rattle.bb8_lock.specs.declared.bell.Rests.{Ghosts as RestsOf}
+use Rattle.bb8_lock.specs.Sections.{SectionsBy}
+
+module _ {T : Type 0} where
+  -- a step starts at this: at what is held, or, where nothing is, at whatever stands behind the lock
+  abbrev pub StartsAt : Option (MutexGuard T) → T → Type 0
+  StartsAt (Some guard) t = mutex_guard_value guard ≡ t
+  StartsAt None t = ⊤
+
+  -- this is held
+  abbrev pub Holds : Option (MutexGuard T) → T → Type 0
+  Holds (Some guard) t = mutex_guard_value guard ≡ t
+  Holds None t = ⊥
+
+  -- a step leads from what is held, or else stands behind the lock, to what is held then
+  abbrev pub LeadsHeld : (T → T → Type 0) → Option (MutexGuard T) → Option (MutexGuard T) → Type 0
+  LeadsHeld Step held held' = (t : T) × (t' : T) × StartsAt held t × Holds held' t' × Step t t'
+
+-- A lock with what is called outside of it, as one value.
+module _ {S T : Type 0} where
+  -- these are shared, the lock is free, and no bell is noted
+  abbrev pub IsScopeOf : S → LockScope S T → Type 0
+  IsScopeOf shared x = (x.shared.now ≡ shared) × (x.held ≡ None) × (x.rings ≡ silent)
+
+  -- A step leads from what is held, or else stands behind the lock, to what is held then. Its bells, which may depend on that, are noted beside
+  -- those that were, and no others.
+  abbrev pub Leads : (T → T → Type 0) → (T → Rings) → LockScope S T → LockScope S T → Type 0
+  Leads Step its_bells x x' =
+      LeadsHeld (λ t t'. Step t t' × (x'.rings ≡ joined (its_bells t') x.rings)) x.held x'.held × (x'.shared ≡ x.shared)
+
+  -- the bells that were noted are rung; nothing is held then, and no bell is noted
+  abbrev pub Frees : (S → Rings → Type 0) → LockScope S T → LockScope S T → Type 0
+  Frees Rung x x' = Rung x.shared.now x.rings × (x'.held ≡ None) × (x'.rings ≡ silent) × (x'.shared ≡ x.shared)
+
+-- What the gets, guards and handles of a pool do, which share this: on the pool's lock, and by its own manager, error sink and clock.
+module _ {G L M S Z K R C E N V A : Type 0} {m : ManagerOf M C E N V} {d : DebugOf E} {s : SinkOf S E} {z : CustomizerOf Z C E A} {k : ClockOf K} {l : PartsOf L}
+    (shared : Shared G L M S Z K R C E N V A m d s z k l) where
+  -- the pool's lock with what the pool calls outside
+  abbrev pub Scope : Type 0
+  Scope = LockScope (Shared G L M S Z K R C E N V A m d s z k l) (Locked C L l)
+
+  -- bells of the pool were rung, of which no relation tells
+  abbrev pub Rung : Shared G L M S Z K R C E N V A m d s z k l → Rings → Type 0
+  Rung _ _ = ⊤
+
+  -- this is done by it
+  abbrev pub Own : (Scope → Scope → Type 0) → Type 0
+  Own Does = (x : Scope) × (x' : Scope) × IsScopeOf shared x × Does x x'
+
+  -- The relations of the lock as a home. While it is held each step starts where the one before ended; once it was let go, the next one starts at
+  -- whatever stands behind it. What a step answers follows from that very state, which keeps the limits.
+  abbrev pub gets : HomeOf Scope C (Part L)
+  gets = record {
+    releases = λ x x'. Frees Rung x x';
+    steps = λ x at s x'. Leads (λ t t'. StepsBy (StepsIn l.settings) t.core at s t'.core) (λ _. get_bells s) x x';
+  }
+
+  abbrev pub sections : SectionsOf Scope C (Part L)
+  sections = record { makes = λ x at s x'. Leads (λ t t'. SectionsBy l.settings t.core at s t'.core) (λ t'. section_bells (eqb t'.core.handles 0) s) x x' }
+
+  -- the relations of the calls of its manager, error sink and clock
+  abbrev pub calls : OutsideOf Scope C E V
+  calls = record {
+    tells = λ x moment x'. k.tells x.shared.now.clock moment × (x' ≡ x);
+    checks = λ x c v c' x'. m.checks x.shared.now.manager c v c' × (x' ≡ x);
+    check_answers = λ x c v moment a c' v' x'. m.check_answers x.shared.now.manager c v moment a c' v' × (x' ≡ x);
+    ends_check = λ x _ x'. x' ≡ x;
+    breaks = λ x c broken c' x'. m.breaks x.shared.now.manager c broken c' × (x' ≡ x);
+    sinks = λ x e x'. s.sinks x.shared.now.error_sink e × (x' ≡ x);
+    lets_go = λ x _ x'. x' ≡ x;
+  }
+
+  -- the relations of a thread's sleep, which changes nothing here
+  abbrev pub rests : RestsOf Scope
+  rests = record { counts = λ x _ _ x'. x' ≡ x; sleeps = λ x _ _ _ x'. x' ≡ x }
+
+  -- A poll of a get goes by the table.
+  abbrev pub OwnPolls : Stage C V (Part L) → Poll (Result (Taken C (Part L)) (RunError E)) → Stage C V (Part L) → Type 0
+  OwnPolls stage r stage' = Own (λ x x'. GetPolls gets calls (settings_of shared.config).connection_timeout stage x (record { answer = r; stage = stage' }) x')
+
+  -- what the polls of such a get answer at last
+  abbrev pub OwnGives : Stage C V (Part L) → Result (Taken C (Part L)) (RunError E) → Type 0
+  OwnGives stage x = Answers OwnPolls stage x
+
+  -- A thread waits for a new get.
+  abbrev pub OwnWaits : ℕ → Result (Taken C (Part L)) (RunError E) → Type 0
+  OwnWaits timeout result = Own (λ x x'. Waits gets calls rests timeout x result x')
+
+  -- A connection is taken at once, or none.
+  abbrev pub OwnTakesNow : Result (Option (Taken C (Part L))) (RunError E) → Type 0
+  OwnTakesNow result = Own (λ x x'. TakesNow gets sections calls (settings_of shared.config).connection_timeout x result x')
+
+  -- A get is let go by the table; one that has a handle, and then the handle.
+  abbrev pub OwnCancels : Stage C V (Part L) → Type 0
+  OwnCancels stage = Own (Cancels gets calls stage)
+
+  abbrev pub OwnCancelsAndLeaves : Stage C V (Part L) → Type 0
+  OwnCancelsAndLeaves stage = Own (CancelsAndLeaves gets sections calls stage)
+
+  -- A guard's connection comes back; where the guard has a handle, that leaves then.
+  abbrev pub OwnReturns : Taken C (Part L) → Type 0
+  OwnReturns taken = Own (Returns gets sections calls taken)
+
+  abbrev pub OwnReturnsAndLeaves : Taken C (Part L) → Type 0
+  OwnReturnsAndLeaves taken = Own (ReturnsAndLeaves gets sections calls taken)
+
+  -- one handle more is made or refused, and one leaves
+  abbrev pub OwnJoins : Joining → Type 0
+  OwnJoins answer = Own (λ x x'. Joins gets sections calls x answer x')
+
+  abbrev pub OwnLeaves : Type 0
+  OwnLeaves = Own (HandleLeaves gets sections calls)
+
+  -- a connection is added
+  abbrev pub OwnAdds : C → Result (Unit {0}) (AddError C) → Type 0
+  OwnAdds conn result = Own (λ x x'. AddsOutside gets sections calls conn x result x')
+
+  -- the pool tells of itself
+  abbrev pub OwnShows : State → Type 0
+  OwnShows state = Own (λ x x'. Shows gets sections calls x state x')
+
+-- a guard is made of what was served, and an error is passed on
+abbrev pub MakesGuard : {A B E : Type 0} → (A → B → Type 0) → Result A E → Result B E → Type 0
+MakesGuard Makes (Ok a) (Ok b) = Makes a b
+MakesGuard Makes (Err e) (Err f) = e ≡ f
+MakesGuard Makes _ _ = ⊥
+
+-- a poll's answer with a guard in place of what was served
+abbrev pub MakesPoll : {A B E : Type 0} → (A → B → Type 0) → Poll (Result A E) → Poll (Result B E) → Type 0
+MakesPoll Makes (Ready a) (Ready b) = MakesGuard Makes a b
+MakesPoll Makes Pending Pending = ⊤
+MakesPoll Makes _ _ = ⊥

@@ -1,0 +1,314 @@
+//! A pool's lock as a home of gets, of sections, and of the tasks that open connections, of the driver and of the reaper.
+ghost use Rattle.std.specs.Prelude.{◌≡◌, None, ⊤};
+ghost use Rattle.bb8_gets.specs.Steps.{Fails, GivesBack};
+ghost use Rattle.bb8_lock.specs.Bells.{get_bells, section_bells};
+ghost use Rattle.bb8_lock.specs.Scope.{IsScopeOf, Leads, Frees, StartsAt};
+ghost use Rattle.bb8_lock.specs.SectionSteps.{PutsBack};
+ghost use Rattle.std.specs.Sync.Mutex.{mutex_guard_value};
+
+use crate::bell::{Locking, Rings};
+use crate::locks::Locks;
+use crate::section_home::Ends;
+use crate::{Given, Handle, Joining, Locked, Parts, SectionHome, Shared};
+use bb8_core::api::{Moment, State};
+use bb8_core::asked::Unfit;
+use bb8_core::internals::{
+    AddAnswer, CheckedErrAnswer, ClaimAnswer, FailedAnswer, GetKey, GiveUpAnswer, Key, LeaveAnswer,
+    Looked, OpenedAnswer, PutBackAnswer, ReapAnswer, Reason,
+};
+use bb8_gets::{FirstTry, GetHome, LetGo, Passed, Returned, Taken, Tried};
+use bb8_tasks::Home;
+use std::sync::MutexGuard;
+
+/// A lock with what is called outside of it. It is taken at a step where it is not held, and held until it is released. After the release the
+/// bells are rung, each once, for which a step since then gave cause.
+pub struct LockScope<'a, S: Locking<T>, T> {
+    pub(crate) shared: &'a S,
+    held: Option<MutexGuard<'a, T>>,
+    rings: Rings,
+}
+
+/// The making of such a value, as a method of an impl, too.
+pub trait OpensScope<S: Locking<T>, T> {
+    /// What the handles share, as such a value. The lock is not held.
+    fn scope(&self) -> LockScope<'_, S, T>;
+}
+
+impl<G: Given, L: Parts> Locking<Locked<G::Connection, L>> for Shared<G, L> {
+    ghost rung = { λ _ _. ⊤ };
+
+    #[inline(always)]
+    fn take(&self) -> MutexGuard<'_, Locked<G::Connection, L>> {
+        self.rt.take(&self.locked.lock)
+    }
+
+    #[inline(always)]
+    fn ring(&self, rings: Rings) {
+        self.locked.ring(rings)
+    }
+}
+
+impl<S: Locking<T>, T> OpensScope<S, T> for S {
+    #[inline(always)]
+    fn scope(&self) -> LockScope<'_, S, T>
+        ensures { IsScopeOf self.now result }
+    {
+        LockScope {
+            shared: self,
+            held: None,
+            rings: Rings::none(),
+        }
+    }
+}
+
+impl<S: Locking<T>, T> Drop for LockScope<'_, S, T> {
+    #[inline(always)]
+    fn drop(self)
+        ensures { S.rung self.entry.shared.now self.entry.rings }
+    {
+        let LockScope {
+            shared,
+            held,
+            rings,
+        } = self;
+        drop(held);
+        shared.ring(rings);
+    }
+}
+
+/// It is dropped.
+impl<S: Locking<T>, T> LetGo for LockScope<'_, S, T> {
+    ghost goes = { λ x. S.rung x.shared.now x.rings };
+
+    #[inline(always)]
+    fn go(self) {
+        drop(self);
+    }
+}
+
+/// What a step of such a home begins with, as a method of an impl, so that its steps can call it.
+pub trait Hold {
+    type Guard;
+
+    /// What is held, or else the lock is taken.
+    fn hold(&mut self) -> Self::Guard;
+}
+
+impl<'a, S: Locking<T>, T> Hold for LockScope<'a, S, T> {
+    type Guard = MutexGuard<'a, T>;
+
+    #[inline(always)]
+    fn hold(&mut self) -> MutexGuard<'a, T>
+        ensures start { StartsAt self.old.held (mutex_guard_value result) }
+        ensures free { self.new.held ≡ None }
+        ensures same { self.new.shared ≡ self.old.shared }
+        ensures noted { self.new.rings ≡ self.old.rings }
+    {
+        match self.held.take() {
+            Some(guard) => guard,
+            None => self.shared.take(),
+        }
+    }
+}
+
+impl<C, S: Locking<T>, T: GetHome<C>> GetHome<C> for LockScope<'_, S, T> {
+    type Part = T::Part;
+
+    ghost releases = { λ x x'. Frees S.rung x x' };
+
+    ghost steps = { λ x at s x'. Leads (λ t t'. T.steps t at s t') (λ _. get_bells s) x x' };
+
+    #[inline(always)]
+    fn release(&mut self) {
+        self.held = None;
+        self.shared.ring(self.rings);
+        self.rings = Rings::none();
+    }
+
+    #[inline(always)]
+    fn look(&mut self, at: Moment) -> Looked {
+        let mut guard = self.hold();
+        let seen = guard.look(at);
+        self.held = Some(guard);
+        seen
+    }
+
+    #[inline(always)]
+    fn start(&mut self, at: Moment) -> Result<FirstTry<C, T::Part>, Unfit> {
+        let mut guard = self.hold();
+        let answer = guard.start(at);
+        self.held = Some(guard);
+        if let Ok(FirstTry::Tried(_, tried)) = &answer {
+            self.rings.note_try(tried);
+        }
+        answer
+    }
+
+    #[inline(always)]
+    fn try_get(&mut self, at: Moment, get: GetKey) -> Result<Tried<C, T::Part>, Unfit> {
+        let mut guard = self.hold();
+        let answer = guard.try_get(at, get);
+        self.held = Some(guard);
+        if let Ok(tried) = &answer {
+            self.rings.note_try(tried);
+        }
+        answer
+    }
+
+    #[inline(always)]
+    fn checked_ok(
+        &mut self,
+        at: Moment,
+        get: GetKey,
+        key: Key,
+        part: T::Part,
+    ) -> Result<Passed<T::Part>, Unfit> {
+        let mut guard = self.hold();
+        let answer = guard.checked_ok(at, get, key, part);
+        self.held = Some(guard);
+        answer
+    }
+
+    fn checked_err(
+        &mut self,
+        at: Moment,
+        get: GetKey,
+        returned: Returned<C, T::Part>,
+    ) -> Result<CheckedErrAnswer<C>, C>
+        ensures { Leads (λ t t'. T.steps t at (Fails get returned result) t')
+            (λ _. get_bells (Fails get returned result)) self.old self.new }
+    {
+        let mut guard = self.hold();
+        let answer = guard.checked_err(at, get, returned);
+        self.held = Some(guard);
+        if let Ok(CheckedErrAnswer::Closed(_, _, grant, told)) = &answer {
+            self.rings.note(*told, grant.count);
+        }
+        answer
+    }
+
+    fn give_up(
+        &mut self,
+        at: Moment,
+        get: GetKey,
+        reason: Reason,
+    ) -> Result<GiveUpAnswer<C>, Unfit> {
+        let mut guard = self.hold();
+        let answer = guard.give_up(at, get, reason);
+        self.held = Some(guard);
+        self.rings.note_give_up(&answer);
+        answer
+    }
+
+    fn give_back(
+        &mut self,
+        at: Moment,
+        get: GetKey,
+        reason: Reason,
+        returned: Returned<C, T::Part>,
+    ) -> Result<GiveUpAnswer<C>, C>
+        ensures { Leads (λ t t'. T.steps t at (GivesBack get reason returned result) t')
+            (λ _. get_bells (GivesBack get reason returned result)) self.old self.new }
+    {
+        let mut guard = self.hold();
+        let answer = guard.give_back(at, get, reason, returned);
+        self.held = Some(guard);
+        self.rings.note_give_up(&answer);
+        answer
+    }
+}
+
+impl<C, S: Locking<T>, T: SectionHome<C> + Ends> SectionHome<C> for LockScope<'_, S, T> {
+    ghost makes = { λ x at s x'. Leads (λ t t'. T.makes t at s t') (λ t'. section_bells (T.over t') s) x x' };
+
+    #[inline(always)]
+    fn put_back(
+        &mut self,
+        at: Moment,
+        returned: Returned<C, T::Part>,
+    ) -> Result<PutBackAnswer<C>, C>
+        ensures { Leads (λ t t'. T.makes t at (PutsBack returned result) t')
+            (λ t'. section_bells (T.over t') (PutsBack returned result)) self.old self.new }
+    {
+        let mut guard = self.hold();
+        let answer = guard.put_back(at, returned);
+        self.held = Some(guard);
+        match &answer {
+            Ok(PutBackAnswer::Kept(told)) => self.rings.note(*told, 0),
+            Ok(PutBackAnswer::Closed(_, grant, told)) => self.rings.note(*told, grant.count),
+            Err(_) => {}
+        }
+        answer
+    }
+
+    fn add(&mut self, at: Moment, conn: C, broken: bool) -> Result<AddAnswer<C>, C> {
+        let mut guard = self.hold();
+        let answer = guard.add(at, conn, broken);
+        self.held = Some(guard);
+        if let Ok(AddAnswer::Added(_, told)) = &answer {
+            self.rings.note(*told, 0);
+        }
+        answer
+    }
+
+    fn state(&mut self, at: Moment) -> State {
+        let mut guard = self.hold();
+        let state = guard.state(at);
+        self.held = Some(guard);
+        state
+    }
+
+    fn join(&mut self, at: Moment) -> Joining {
+        let mut guard = self.hold();
+        let answer = guard.join(at);
+        self.held = Some(guard);
+        answer
+    }
+
+    fn leave(&mut self, at: Moment, handle: Handle) -> Result<LeaveAnswer, Unfit> {
+        let mut guard = self.hold();
+        let answer = guard.leave(at, handle);
+        self.rings.drivers = guard.is_over() | self.rings.drivers;
+        self.held = Some(guard);
+        answer
+    }
+}
+
+/// The lock is taken for each step, and is free again when the step has answered.
+impl<C, S: Locking<T>, T: Home<C>> Home<C> for LockScope<'_, S, T> {
+    ghost use Rattle.bb8_lock.specs.Opening.{Visits};
+
+    ghost steps = { λ x at s x'. Visits S.rung (λ t t'. T.steps t at s t') s x x' };
+
+    fn look(&mut self, at: Moment) -> Looked {
+        let mut guard = self.hold();
+        guard.look(at)
+    }
+
+    fn opened(&mut self, at: Moment, approval: Key, connection: C) -> Result<OpenedAnswer<C>, C> {
+        let mut guard = self.hold();
+        let answer = guard.opened(at, approval, connection);
+        drop(guard);
+        let rings = match &answer {
+            Ok(OpenedAnswer::Entered(told)) => Rings::of(*told, 0),
+            Ok(OpenedAnswer::Late(_)) | Err(_) => Rings::none(),
+        };
+        self.shared.ring(rings);
+        answer
+    }
+
+    fn failed(&mut self, at: Moment, approval: Key) -> Result<FailedAnswer, Unfit> {
+        let mut guard = self.hold();
+        guard.failed(at, approval)
+    }
+
+    fn claim(&mut self, at: Moment) -> ClaimAnswer {
+        let mut guard = self.hold();
+        guard.claim(at)
+    }
+
+    fn reap(&mut self, at: Moment) -> ReapAnswer {
+        let mut guard = self.hold();
+        guard.reap(at)
+    }
+}
