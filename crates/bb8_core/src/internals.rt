@@ -278,6 +278,7 @@ impl<C: Drop, A> PoolInternals<C, A> {
     /// get holds it until its check is told; otherwise the get is served with it, and it goes to a guard. Where none is idle the get waits from now on, and one approval is granted where gets outnumber open approvals. A get that waits
     /// and was not notified waits on, and nothing changes but the latest moment. No memory is asked for, but for approvals. Where the get may
     /// not try nothing changes.
+    #[inline(always)]
     pub fn try_get(&mut self, at: Moment, get: GetKey) -> Result<TryAnswer<C>, Unfit>
         ensures step { Stepped Meets answer_of_try
             self.old at.0 (acts.Try get.number) result self.new }

@@ -353,7 +353,7 @@ impl Gets {
     }
 
     /// Ends a get that is alive and holds nothing, and tells how it stood. Where there is none nothing changes. It looks for it once.
-    #[inline]
+    #[inline(always)]
     pub fn end(&mut self, g: GetKey, lendings: &mut Lendings) -> Option<Getting>
         ensures some { IfSome result (λ x. (map.get self.old.places g.number ≡ Some x)
             × (places.is_trying x.place ≡ true)

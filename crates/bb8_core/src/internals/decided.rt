@@ -94,6 +94,7 @@ pub(super) fn holder(config: &Config, get: GetKey) -> Holder
 }
 
 /// Ends a connection that was out, and grants what is wanted then.
+#[inline(always)]
 pub(super) fn close_and_grant<C: Drop>(
     config: &Config,
     handles: u64,
