@@ -25,8 +25,8 @@ pub struct HandedOver<R, C> {
     pub tried: Option<TryAnswer<C>>,
 }
 
-/// Lets the get try that was notified, if one was.
-#[inline(always)]
+/// Lets the get try that was notified, if one was. It stands once, as the steps round it stand in their places.
+#[inline(never)]
 fn try_of<C: Drop>(
     pool: &mut PoolInternals<C>,
     at: Moment,
