@@ -21,7 +21,8 @@ use Rattle.bb8_tasks.specs.declared.rounds.OnFailure.TheVariants.{Stop}
 use Rattle.bb8_tasks.specs.declared.rounds.Round.{Round}
 use Rattle.bb8_tasks.specs.declared.rounds.Round.TheVariants as round
 use Rattle.bb8_tasks.specs.Replenishing as replenishing
-use Rattle.bb8_tasks.specs.Sweeping.{After, AfterRound, RoundLeaves, PollsUntil, Rest, Rounds}
+use Rattle.bb8_tasks.specs.Rounds.{Reports, PollsEach}
+use Rattle.bb8_tasks.specs.Sweeping.{AfterRound, GoesOn, RoundLeaves, PollsUntil, Rounds}
 use Rattle.bb8_lock.specs.declared.shared.Shared.{Shared}
 use Rattle.bb8_lock.specs.Scope.{Scope}
 use Rattle.bb8_lock.specs.Opening.{opener, reports, tasks_home, OwnRounds}
@@ -55,27 +56,20 @@ module _ {E : Type 0} (Known : E → Type 0) where
 module _ {T E X : Type 0} (polls : T → X → ReplenishAnswer E → T → X → Type 0) (sinks : X → E → X → Type 0) (Known : E → Type 0) (IsBy : X → Type 0)
     (polled : (t t' : T) (x x' : X) (r : ReplenishAnswer E) → IsBy x → polls t x r t' x' → IsBy x' × Told Known r)
     (sunk : (x x' : X) (e : E) → IsBy x → sinks x e x' → IsBy x') where
-  after : (r : ReplenishAnswer E) (t : T) (x x' : X) (kept : List T) (stopped : Option E) → IsBy x → Told Known r → After polls sinks Stop r t x kept stopped x'
-      → IsBy x' × Stopped Known stopped
-  after Pending t x x' kept stopped is told a = (subst IsBy (sym a.2) is, rw a.1 tt)
-  after (Retrying e) t x x' kept stopped is told a = (sunk x x' e is a.0, rw a.2 tt)
-  after (Failed e) t x x' kept stopped is told a = (subst IsBy (sym a.1.1) is, rw a.1.0 told)
-  after Entered t x x' kept stopped is told a = (subst IsBy (sym a.2) is, rw a.1 tt)
-  after Late t x x' kept stopped is told a = (subst IsBy (sym a.2) is, rw a.1 tt)
-  after GivenBack t x x' kept stopped is told a = (subst IsBy (sym a.2) is, rw a.1 tt)
+  reported : (r : ReplenishAnswer E) (x x' : X) → IsBy x → Reports sinks r x x' → IsBy x'
+  reported (Retrying e) x x' is told = sunk x x' e is told
+  reported (Failed e) x x' is told = sunk x x' e is told
+  reported _ x x' is same = subst IsBy (sym same) is
 
-  rest : (now : Option E) (goes : Option E → List T → X → Type 0) (ts left : List T) (x x' : X) (stopped : Option E)
-      → ((s : Option E) (l : List T) (y : X) → goes s l y → Stopped Known s) → Stopped Known now → Rest polls sinks Stop now goes ts x stopped left x'
-      → Stopped Known stopped
-  rest None goes ts left x x' stopped of told r = of stopped left x' r
-  rest (Some e) goes ts left x x' stopped of told r = rw r.0 told
+  each : (ts left : List T) (x x' : X) → IsBy x → PollsEach (GoesOn polls Stop) sinks ts x left x' → IsBy x'
+  each [] left x x' is p = subst IsBy (sym p.1) is
+  each (t ∷ ts) left x x' is (r, t', x1, p, (x2, told, (more, rest, all))) =
+      each ts more x2 x' (reported r x1 x2 (polled t t' x x1 r is p.0).0 told) rest
 
-  until : (ts left : List T) (x x' : X) (stopped : Option E) → IsBy x → PollsUntil polls sinks Stop ts x stopped left x' → Stopped Known stopped
-  until [] left x x' stopped is p = rw p.0 tt
-  until (t ∷ ts) left x x' stopped is (r, t', x1, poll, (kept, now, x2, a, (more, r', all))) =
-      let told = polled t t' x x1 r is poll in
-      let stood = after r t' x1 x2 kept now told.0 told.1 a in
-      rest now (PollsUntil polls sinks Stop ts x2) ts more x2 x' stopped (λ s l y. until ts l x2 y s stood.0) stood.1 r'
+  until : (ts left : List T) (x x' : X) (stopped : Option E) → IsBy x → PollsUntil polls Stop sinks ts x stopped left x' → Stopped Known stopped
+  until ts left x x' None is p = tt
+  until ts left x x' (Some e) is (before, again, x1, all, (t, t', after, p, stop, ts_are, left_are)) =
+      (polled t t' x1 x' (Failed e) (each before again x x1 is all) p).1
 
   module _ (lets_go : T → X → X → Type 0) where
     whole : (left : List T) (r : Round (List T) E) → RoundLeaves polls sinks lets_go left r → Ended Known r

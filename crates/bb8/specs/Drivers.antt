@@ -49,7 +49,7 @@ TurnsOnce {X = X} home opener reports rests timeout retry before rings at turn a
     (x1 : X) × (x2 : X) × rests.counts before.1 Sleeping rings x1 × reports.tells x1 at x2
     × DriverTurns home opener reports.sinks timeout retry at before.0 x2 turn after.0 after.1
 
--- the thread sleeps by that bell until something is due, and no longer than the gate lets it, which tells how long that is
+-- the thread sleeps by that bell until something is due, and no longer than some bound; that it is the gate's no clause says
 abbrev pub SleepsOnce : {C V A X : Type 0} → RestsOf X → ℕ → Moment → Turning C V A × X → Turning C V A × X → Type 0
 SleepsOnce rests rings at before after =
     (longest : ℕ) × rests.sleeps before.1 Sleeping rings (driver_rest (driver_due before.0) at.0 longest) after.1

@@ -1,77 +1,95 @@
 -- A round over a queue, turn by turn.
-use Rattle.bb8_tasks.proofs.Words.{◌≡◌, ℕ, ◌+◌, ◌-◌, ◌<◌, Option, Some, None, List, [], ◌∷◌, ◌++◌, length, refl, sym, ◌∙◌, subst, arith, append_assoc, append-nil, ReplenishAnswer, Retrying, Failed, GoOn, After, Rest, PollsUntil, QueueTurns}
+use Rattle.bb8_tasks.proofs.Words.{◌≡◌, ℕ, ◌+◌, ◌-◌, ◌<◌, Option, Some, None, List, [], ◌∷◌, ◌++◌, length, refl, sym, ◌∙◌, subst, arith, append_assoc, append-nil, ReplenishAnswer, Failed, GoOn, PollsUntil, QueueTurns}
+use Rattle.bb8_tasks.specs.Rounds.{kept, Reports, PollsEach}
+use Rattle.bb8_tasks.specs.Sweeping.{stops, GoesOn, AfterPoll}
 use Rattle.bb8_tasks.specs.declared.rounds.OnFailure.{OnFailure}
+use Rattle.bb8_tasks.specs.declared.rounds.OnFailure.TheVariants.{Stop}
 
-module _ {T E X : Type 0} (polls : T → X → ReplenishAnswer E → T → X → Type 0) (sinks : X → E → X → Type 0) (on : OnFailure) where
-  -- what still has to be shown of the tasks behind
-  abbrev Goes : List T → X → Option E → List T → X → List T → Type 0
-  Goes first start stopped ahead x behind =
-      (s : Option E) (last : List T) (x' : X) → Rest polls sinks on stopped (PollsUntil polls sinks on ahead x) ahead x s last x'
-      → PollsUntil polls sinks on first start s (behind ++ last) x'
+-- a round that stops does so at a last failure
+stopped : {E : Type 0} (on : OnFailure) (r : ReplenishAnswer E) (e : E) → stops on r ≡ Some e → (on ≡ Stop) × (r ≡ Failed e)
+stopped Stop (Failed f) e is = let same : f ≡ e = cc in (refl, rw same refl)
+stopped Stop _ e is = absurd cc
+stopped GoOn r e is = absurd cc
+
+module _ {T E X : Type 0} (polls : T → X → ReplenishAnswer E → T → X → Type 0) (on : OnFailure) (sinks : X → E → X → Type 0) where
+  -- one task more is polled
+  one_more : (had : List T) (x : X) (left : List T) (x1 : X) (t : T) (r : ReplenishAnswer E) (t' : T) (x2 x3 : X) → PollsEach (GoesOn polls on) sinks had x left x1
+      → GoesOn polls on t x1 r t' x2 → Reports sinks r x2 x3 → PollsEach (GoesOn polls on) sinks (had ++ t ∷ []) x (left ++ kept r t') x3
+  one_more [] x left x1 t r t' x2 x3 (none, same) poll told =
+      (r, t', x2, subst (λ y. GoesOn polls on t y r t' x2) same poll, (x3, told, ([], (refl, refl), rw none (sym (append-nil (kept r t'))))))
+  one_more (h ∷ had) x left x1 t r t' x2 x3 (q, h', y, p, (z, told', (more, each, is))) poll told =
+      (q, h', y, p, (z, told', (more ++ kept r t', one_more had z more x1 t r t' x2 x3 each poll told, rw is (append_assoc (kept q h') more (kept r t')))))
+
+  turned : (had : List T) (start : X) (behind : List T) (x : X) (t : T) (r : ReplenishAnswer E) (t' : T) (x1 : X) (o : Option E) (x' : X)
+      → PollsEach (GoesOn polls on) sinks had start behind x → polls t x r t' x1 → o ≡ stops on r → AfterPoll polls on sinks o r x1 x'
+      → PollsUntil polls on sinks (had ++ t ∷ []) start o (behind ++ kept r t') x'
+  turned had start behind x t r t' x1 None x' each p is told = one_more had start behind x t r t' x1 x' each (p, sym is) told
+  turned had start behind x t r t' x1 (Some e) x' each p is same =
+      let s = stopped on r e (sym is) in
+      let p' : polls t x (Failed e) t' x1 = subst (λ (y : ReplenishAnswer E). polls t x y t' x1) s.1 p in
+      (had, behind, x, each, (t, t', [], rw same p', s.0, refl, rw s.1 refl))
+
+  -- the first task of a queue has its turn, and what is kept of it stands behind
+  turn : (had : List T) (start : X) (o : Option E) (behind : List T) (x : X) (t : T) (rest q' : List T) (o' : Option E) (x' : X)
+      → PollsUntil polls on sinks had start o behind x → QueueTurns polls on sinks o (t ∷ rest) x o' q' x'
+      → (back : List T) × (q' ≡ rest ++ back) × PollsUntil polls on sinks (had ++ t ∷ []) start o' (behind ++ back) x'
+  turn had start None behind x t rest q' o' x' each (u, tail, e, (r, u', x1, p, is, told, e')) =
+      let head : u ≡ t = cc in
+      let same : tail ≡ rest = cc in
+      (kept r u', rw (e', same) refl, turned had start behind x t r u' x1 o' x' each (subst (λ y. polls y x r u' x1) head p) is told)
+  turn had start (Some f) behind x t rest q' o' x' (before, again, y, each, (u, u', after, p, stop, ts, left)) (v, tail, e, e', stays, same) =
+      let head : v ≡ t = cc in
+      let is : tail ≡ rest = cc in (
+        t ∷ [],
+        rw (e', is, head) refl,
+        rw (stays, same) (before, again, y, each, (u, u', after ++ t ∷ [], p, stop, rw ts (append_assoc before (u ∷ after) (t ∷ [])), rw left (append_assoc again after (t ∷ [])))),
+      )
 
   -- so many tasks at the front of the queue still have their turn, and behind them stand those that had it and are kept
   abbrev pub RoundMidway : List T → X → List T → X → Option E → ℕ → Type 0
   RoundMidway first start queue x stopped count =
-      (ahead : List T) × (behind : List T) × (length ahead ≡ count) × (queue ≡ ahead ++ behind) × Goes first start stopped ahead x behind
+      (had : List T) × (ahead : List T) × (behind : List T) × (length ahead ≡ count) × (queue ≡ ahead ++ behind) × (first ≡ had ++ ahead)
+      × PollsUntil polls on sinks had start stopped behind x
 
-  step : (first : List T) (start : X) (q q' : List T) (x x1 : X) (o o1 : Option E) (k : ℕ) (ahead behind : List T) → 0 < k → length ahead ≡ k
-      → q ≡ ahead ++ behind → Goes first start o ahead x behind → QueueTurns polls sinks on o q x o1 q' x1 → RoundMidway first start q' x1 o1 (k - 1)
-  step first start q q' x x1 o o1 k [] behind some len eq go turn = absurd (omega arith)
-  step first start q q' x x1 None o1 k (a ∷ more) behind some len eq go (t, rest, e, (r, t', x2, kept, p, after, e')) =
-      let head : t ≡ a = cc in
-      let tail : rest ≡ more ++ behind = cc in
-      let p' : polls a x r t' x2 = subst (λ y. polls y x r t' x2) head p in (
-        more,
-        behind ++ kept,
+  step : (first : List T) (start : X) (q q' : List T) (x x' : X) (o o' : Option E) (k : ℕ) (had ahead behind : List T) → 0 < k → length ahead ≡ k
+      → q ≡ ahead ++ behind → first ≡ had ++ ahead → PollsUntil polls on sinks had start o behind x → QueueTurns polls on sinks o q x o' q' x'
+      → RoundMidway first start q' x' o' (k - 1)
+  step first start q q' x x' o o' k had [] behind some len eq all p turns = absurd (omega arith)
+  step first start q q' x x' o o' k had (t ∷ ahead) behind some len eq all p turns =
+      let s = turn had start o behind x t (ahead ++ behind) q' o' x' p (subst (λ (y : List T). QueueTurns polls on sinks o y x o' q' x') eq turns) in (
+        had ++ t ∷ [],
+        ahead,
+        behind ++ s.0,
         omega arith,
-        rw (e', tail) (append_assoc more behind kept),
-        λ s last x' rest'. rw (append_assoc behind kept last) (go s (kept ++ last) x' (r, t', x2, p', (kept, o1, x1, after, (last, rest', refl)))),
-      )
-  step first start q q' x x1 (Some y) o1 k (a ∷ more) behind some len eq go (t, rest, e, e', stays, same) =
-      let head : t ≡ a = cc in
-      let tail : rest ≡ more ++ behind = cc in (
-        more,
-        behind ++ a ∷ [],
-        omega arith,
-        rw (e', tail, head) (append_assoc more behind (a ∷ [])),
-        rw (stays, same) (λ s last x' (is, all, here). rw (append_assoc behind (a ∷ []) last) (go s (a ∷ last) x' (is, rw all refl, here))),
+        s.1 ∙ append_assoc ahead behind s.0,
+        all ∙ sym (append_assoc had (t ∷ []) ahead),
+        s.2,
       )
 
-  pub Midway-step : (first : List T) (start : X) (q q' : List T) (x x1 : X) (o o1 : Option E) (n k : ℕ) → k < n
-      → RoundMidway first start q x o (n - k) → QueueTurns polls sinks on o q x o1 q' x1 → RoundMidway first start q' x1 o1 (n - (k + 1))
-  Midway-step first start q q' x x1 o o1 n k more m turn =
+  pub Midway-step : (first : List T) (start : X) (q q' : List T) (x x' : X) (o o' : Option E) (n k : ℕ) → k < n
+      → RoundMidway first start q x o (n - k) → QueueTurns polls on sinks o q x o' q' x' → RoundMidway first start q' x' o' (n - (k + 1))
+  Midway-step first start q q' x x' o o' n k more (had, ahead, behind, len, eq, all, p) turns =
       let some : 0 < n - k = omega arith in
       let less : n - k - 1 ≡ n - (k + 1) = omega arith in
-      subst (λ (y : ℕ). RoundMidway first start q' x1 o1 y) less
-      (step first start q q' x x1 o o1 (n - k) m.0 m.1 some m.2 m.3 m.4 turn)
-
-  over : (first : List T) (start : X) (q : List T) (x : X) (o : Option E) (ahead behind : List T) → length ahead ≡ 0 → q ≡ ahead ++ behind
-      → Goes first start o ahead x behind → PollsUntil polls sinks on first start o q x
-  over first start q x None [] behind len eq go =
-      subst (λ y. PollsUntil polls sinks on first start None y x) (append-nil behind ∙ sym eq) (go None [] x (refl, refl, refl))
-  over first start q x (Some e) [] behind len eq go =
-      subst (λ y. PollsUntil polls sinks on first start (Some e) y x) (append-nil behind ∙ sym eq) (go (Some e) [] x (refl, refl, refl))
-  over first start q x o (a ∷ more) behind len eq go = absurd (omega arith)
+      subst (λ (y : ℕ). RoundMidway first start q' x' o' y) less (step first start q q' x x' o o' (n - k) had ahead behind some len eq all p turns)
 
   pub Midway-over : (first : List T) (start : X) (q : List T) (x : X) (o : Option E) (k : ℕ) → k ≡ 0
-      → RoundMidway first start q x o k → PollsUntil polls sinks on first start o q x
-  Midway-over first start q x o k none m = over first start q x o m.0 m.1 (m.2 ∙ none) m.3 m.4
+      → RoundMidway first start q x o k → PollsUntil polls on sinks first start o q x
+  Midway-over first start q x o k none (had, [], behind, len, eq, all, p) =
+      subst (λ (y : List T). PollsUntil polls on sinks y start o q x) (sym (all ∙ append-nil had))
+      (subst (λ (y : List T). PollsUntil polls on sinks had start o y x) (sym eq) p)
+  Midway-over first start q x o k none (had, (t ∷ ahead), behind, len, eq, all, p) = absurd (omega arith)
 
   pub Midway-first : (first : List T) (start : X) (k : ℕ) → k ≡ length first → RoundMidway first start first start None (k - 0)
-  Midway-first first start k is = (first, [], omega (arith, is), sym (append-nil first), λ s last x' goes. goes)
+  Midway-first first start k is = ([], first, [], omega (arith, is), sym (append-nil first), refl, (refl, refl))
 
 module _ {T E X : Type 0} (polls : T → X → ReplenishAnswer E → T → X → Type 0) (sinks : X → E → X → Type 0) where
-  -- after no poll does such a round stop
-  after-never : (r : ReplenishAnswer E) (t : T) (x : X) (kept : List T) (o : Option E) (x' : X) → After polls sinks GoOn r t x kept o x' → o ≡ None
-  after-never (Retrying e) t x kept o x' a = a.2
-  after-never (Failed e) t x kept o x' a = a.1.1
-  after-never _ t x kept o x' a = a.1
-
   -- a round that goes on after each failure stops at none
-  pub never-stops : (ts : List T) (x : X) (o : Option E) (left : List T) (x' : X) → PollsUntil polls sinks GoOn ts x o left x' → o ≡ None
-  never-stops [] x o left x' p = p.0
-  never-stops (t ∷ ts) x o left x' (r, t', x1, p, (kept, now, x2, after, (more, rest, is))) =
-      let goes : now ≡ None = after-never r t' x1 kept now x2 after in
-      let on : PollsUntil polls sinks GoOn ts x2 o more x' =
-      subst (λ (y : Option E). Rest polls sinks GoOn y (PollsUntil polls sinks GoOn ts x2) ts x2 o more x') goes rest in
-      never-stops ts x2 o more x' on
+  pub never-stops : (ts : List T) (x : X) (o : Option E) (left : List T) (x' : X) → PollsUntil polls GoOn sinks ts x o left x' → o ≡ None
+  never-stops ts x None left x' p = refl
+  never-stops ts x (Some e) left x' (before, again, x1, each, (t, t', after, p, stop, all, is)) = absurd cc
+
+  -- it polls each task once
+  pub polls_each : (ts : List T) (x : X) (left : List T) (x' : X) → PollsEach (GoesOn polls GoOn) sinks ts x left x' → PollsEach polls sinks ts x left x'
+  polls_each [] x left x' p = p
+  polls_each (t ∷ ts) x left x' (r, t', x1, p, (x2, told, (more, each, is))) = (r, t', x1, p.0, (x2, told, (more, polls_each ts x2 more x' each, is)))

@@ -12,7 +12,7 @@ pub use Rattle.bb8_ledger.specs.Waits.{wait, waits}
 pub use Rattle.bb8_tasks.specs.Bounded.{IsBounded, IsReached, IsPolledAt, IsDriven, IsFrom, EachFails, NeverFalls}
 pub use Rattle.bb8_tasks.specs.Played.{Task, Runs, Plays, first_task, Polled, begun, scripted, steady, told}
 pub use Rattle.bb8_tasks.specs.Replenishing.{failed_once_more, IsDue, AfterTaskAcquire, TaskProceeds, TaskPolls, TaskBegins, AfterTaskConnect, AfterOpened, fresh, TaskAdvances, Wakes, TaskFails, TaskConnects, Enters, is_done, LetsGo}
-pub use Rattle.bb8_tasks.specs.Sweeping.{PollsUntil, Rest, After, QueueTurns, AreFor, LetsGoEach}
+pub use Rattle.bb8_tasks.specs.Sweeping.{PollsUntil, QueueTurns, AreFor, LetsGoEach}
 pub use Rattle.bb8_tasks.specs.declared.backoff.Reply.{Reply}
 pub use Rattle.bb8_core.specs.declared.answers.OpenedAnswer.{OpenedAnswer}
 pub use Rattle.bb8_tasks.specs.declared.replenish.ReplenishStep.{ReplenishStep}

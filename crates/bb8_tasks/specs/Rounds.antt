@@ -9,16 +9,17 @@ kept Pending t = t ∷ []
 kept (Retrying e) t = t ∷ []
 kept _ t = []
 
-module _ {T E X : Type 0} (polls : T → X → ReplenishAnswer E → T → X → Type 0) (sinks : X → E → X → Type 0) where
+module _ {E X : Type 0} (sinks : X → E → X → Type 0) where
   -- the error of an answer, where it has one, goes to the sink, once
   abbrev pub Reports : ReplenishAnswer E → X → X → Type 0
   Reports (Retrying e) x x' = sinks x e x'
   Reports (Failed e) x x' = sinks x e x'
   Reports _ x x' = x' ≡ x
 
+module _ {T E X : Type 0} (polls : T → X → ReplenishAnswer E → T → X → Type 0) (sinks : X → E → X → Type 0) where
   -- each task is polled once, in their order; left are those that asked to be polled again
   abbrev pub PollsEach : List T → X → List T → X → Type 0
   PollsEach [] x left x' = (left ≡ []) × (x' ≡ x)
   PollsEach (t ∷ ts) x left x' =
       (r : ReplenishAnswer E) × (t' : T) × (x1 : X) × polls t x r t' x1
-      × ((x2 : X) × Reports r x1 x2 × ((more : List T) × PollsEach ts x2 more x' × (left ≡ kept r t' ++ more)))
+      × ((x2 : X) × Reports sinks r x1 x2 × ((more : List T) × PollsEach ts x2 more x' × (left ≡ kept r t' ++ more)))

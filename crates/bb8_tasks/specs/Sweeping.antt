@@ -1,13 +1,13 @@
 -- A list of tasks: how it grows, and how its tasks are polled, each once and in their order.
 use Rattle.std.specs.Prelude.{◌≡◌, ℕ, zero, suc, ◌+◌, Option, Some, None, List, [], ◌∷◌, ◌++◌}
-use Rattle.bb8_tasks.specs.Words.{Key, Moment, Replenish, ReplenishAnswer, Retrying, Failed, Round}
+use Rattle.bb8_tasks.specs.Words.{Key, Moment, Replenish, ReplenishAnswer, Failed, Round}
 use Rattle.bb8_core.specs.declared.answers.ClaimAnswer.{ClaimAnswer}
 use Rattle.bb8_core.specs.declared.answers.ClaimAnswer.TheVariants.{Claimed, Ended}
-use Rattle.bb8_tasks.specs.declared.replenish.ReplenishAnswer.TheVariants.{Pending}
 use Rattle.bb8_tasks.specs.declared.rounds.OnFailure.{OnFailure}
 use Rattle.bb8_tasks.specs.declared.rounds.OnFailure.TheVariants.{Stop, GoOn}
 use Rattle.bb8_tasks.specs.declared.rounds.Round.TheVariants as round
 use Rattle.bb8_tasks.specs.Replenishing.{fresh}
+use Rattle.bb8_tasks.specs.Rounds.{kept, Reports, PollsEach}
 
 module _ {C V A : Type 0} where
   -- a task for each of so many approvals from that number on, none of them polled yet
@@ -21,42 +21,41 @@ module _ {C V A : Type 0} where
   TakesTaskOn (Claimed None) ts ts' = ts' ≡ ts
   TakesTaskOn Ended ts ts' = ts' ≡ ts
 
+-- the error with which a task's answer stops a round
+abbrev pub stops : {E : Type 0} → OnFailure → ReplenishAnswer E → Option E
+stops Stop (Failed e) = Some e
+stops _ _ = None
+
 -- Rounds of a list, over any poll of a task, over any sink, and whatever is done at a failure.
-module _ {T E X : Type 0} (polls : T → X → ReplenishAnswer E → T → X → Type 0) (sinks : X → E → X → Type 0) (on_failure : OnFailure) where
-  -- after a task's last failure: the round stops with its error, or the error goes to the sink
-  abbrev pub AfterFailure : OnFailure → E → X → Option E → X → Type 0
-  AfterFailure Stop e x stopped x' = (stopped ≡ Some e) × (x' ≡ x)
-  AfterFailure GoOn e x stopped x' = sinks x e x' × (stopped ≡ None)
+module _ {T E X : Type 0} (polls : T → X → ReplenishAnswer E → T → X → Type 0) (on_failure : OnFailure) where
+  -- a task's poll that does not stop a round
+  abbrev pub GoesOn : T → X → ReplenishAnswer E → T → X → Type 0
+  GoesOn t x r t' x' = polls t x r t' x' × (stops on_failure r ≡ None)
 
-  -- After a task's poll: whether the task is kept, and with which error the round stops. An error that stops nothing goes to the sink, once.
-  abbrev pub After : ReplenishAnswer E → T → X → List T → Option E → X → Type 0
-  After Pending t x kept stopped x' = (kept ≡ t ∷ []) × (stopped ≡ None) × (x' ≡ x)
-  After (Retrying e) t x kept stopped x' = sinks x e x' × (kept ≡ t ∷ []) × (stopped ≡ None)
-  After (Failed e) t x kept stopped x' = (kept ≡ []) × AfterFailure on_failure e x stopped x'
-  After _ t x kept stopped x' = (kept ≡ []) × (stopped ≡ None) × (x' ≡ x)
+  module _ (sinks : X → E → X → Type 0) where
+    -- The tasks are polled in their order, each once, up to one that stops the round. Left are those that asked to be polled again, and those
+    -- that were not polled, in their order.
+    abbrev pub PollsUntil : List T → X → Option E → List T → X → Type 0
+    PollsUntil ts x None left x' = PollsEach GoesOn sinks ts x left x'
+    PollsUntil ts x (Some e) left x' =
+        (before : List T) × (again : List T) × (x1 : X) × PollsEach GoesOn sinks before x again x1
+        × ((t : T) × (t' : T) × (after : List T) × polls t x1 (Failed e) t' x'
+        × (on_failure ≡ Stop) × (ts ≡ before ++ t ∷ after) × (left ≡ again ++ after))
 
-  -- the rest of a round: where it goes on what `goes` says, and nothing is polled where it stopped
-  abbrev pub Rest : Option E → (Option E → List T → X → Type 0) → List T → X → Option E → List T → X → Type 0
-  Rest None goes ts x stopped left x' = goes stopped left x'
-  Rest (Some e) goes ts x stopped left x' = (stopped ≡ Some e) × (left ≡ ts) × (x' ≡ x)
+    -- the error of a poll's answer goes to the sink, but for one that stops the round
+    abbrev pub AfterPoll : Option E → ReplenishAnswer E → X → X → Type 0
+    AfterPoll None r x x' = Reports sinks r x x'
+    AfterPoll (Some e) r x x' = x' ≡ x
 
-  -- The tasks are polled in their order, each once, up to the first that stops the round. Left are those that did not end and those that
-  -- were not polled, in their order.
-  abbrev pub PollsUntil : List T → X → Option E → List T → X → Type 0
-  PollsUntil [] x stopped left x' = (stopped ≡ None) × (left ≡ []) × (x' ≡ x)
-  PollsUntil (t ∷ ts) x stopped left x' =
-      (r : ReplenishAnswer E) × (t' : T) × (x1 : X) × polls t x r t' x1
-      × ((kept : List T) × (now : Option E) × (x2 : X) × After r t' x1 kept now x2
-      × ((more : List T) × Rest now (PollsUntil ts x2) ts x2 stopped more x' × (left ≡ kept ++ more)))
-
-  -- One turn of a queue: where the round goes on its first task is polled, and goes to the back where it is kept; where it stopped the first
-  -- task goes to the back unpolled.
-  abbrev pub QueueTurns : Option E → List T → X → Option E → List T → X → Type 0
-  QueueTurns None queue x stopped queue' x' =
-      (t : T) × (rest : List T) × (queue ≡ t ∷ rest)
-      × ((r : ReplenishAnswer E) × (t' : T) × (x1 : X) × (kept : List T) × polls t x r t' x1 × After r t' x1 kept stopped x' × (queue' ≡ rest ++ kept))
-  QueueTurns (Some e) queue x stopped queue' x' =
-      (t : T) × (rest : List T) × (queue ≡ t ∷ rest) × (queue' ≡ rest ++ t ∷ []) × (stopped ≡ Some e) × (x' ≡ x)
+    -- One turn of a queue: where the round goes on its first task is polled, and goes to the back where it is kept; where it stopped the first
+    -- task goes to the back unpolled.
+    abbrev pub QueueTurns : Option E → List T → X → Option E → List T → X → Type 0
+    QueueTurns None queue x stopped queue' x' =
+        (t : T) × (rest : List T) × (queue ≡ t ∷ rest)
+        × ((r : ReplenishAnswer E) × (t' : T) × (x1 : X) × polls t x r t' x1
+        × (stopped ≡ stops on_failure r) × AfterPoll stopped r x1 x' × (queue' ≡ rest ++ kept r t'))
+    QueueTurns (Some e) queue x stopped queue' x' =
+        (t : T) × (rest : List T) × (queue ≡ t ∷ rest) × (queue' ≡ rest ++ t ∷ []) × (stopped ≡ Some e) × (x' ≡ x)
 
 module _ {T X : Type 0} (lets_go : T → X → X → Type 0) where
   -- each task is let go, in the order of the list
@@ -78,7 +77,7 @@ module _ {T E X : Type 0} (polls : T → X → ReplenishAnswer E → T → X →
   -- a round that stops at the first failure
   abbrev pub Rounds : List T → X → Round (List T) E → X → Type 0
   Rounds ts x r x' =
-      (stopped : Option E) × (left : List T) × (x1 : X) × PollsUntil polls sinks Stop ts x stopped left x1
+      (stopped : Option E) × (left : List T) × (x1 : X) × PollsUntil polls Stop sinks ts x stopped left x1
       × AfterRound stopped left x1 r x'
 
 -- the clock is read, and then this is done at its moment

@@ -1,11 +1,11 @@
 //! The tasks of a pool, in the order in which their approvals were claimed.
-ghost use Rattle.std.specs.Prelude.{◌≡◌, ◌+◌, ◌^◌, ◌<◌, ◌↔◌, true, None, [], IfOk, OnErr, length};
+ghost use Rattle.std.specs.Prelude.{◌≡◌, ◌+◌, ◌^◌, ◌<◌, ◌↔◌, true, [], IfOk, OnErr, length};
 ghost use Rattle.std.specs.Duration.{as_nanos};
 ghost use Rattle.bb8_tasks.specs.Dues.{earlier, earliest};
 ghost use Rattle.bb8_tasks.specs.Replenishing.{TaskPolls, LetsGo};
+ghost use Rattle.bb8_tasks.specs.Rounds.{PollsEach};
 ghost use Rattle.bb8_tasks.specs.Sweeping.{AreFor, AtReading, TakesTaskOn, PollsUntil, QueueTurns, LetsGoEach, Rounds};
 ghost use Rattle.bb8_tasks.specs.TaskSteps.{Claims};
-ghost use Rattle.bb8_tasks.specs.declared.rounds.OnFailure.TheVariants.{GoOn as IsGoOn};
 
 use super::home::Home;
 use super::opener::Opener;
@@ -121,7 +121,7 @@ impl<C, V, A> Tasks<C, V, A> {
     ///
     /// The error of a try that is made again goes to the sink, and so does that of a last try where `on_failure` says so; else the round
     /// stops with that error, polls no further task, and keeps those.
-    pub fn poll_until<E, X: Home<C> + Opener<C, E, Connecting = V, Acquiring = A> + Reports<E>>(
+    fn poll_until<E, X: Home<C> + Opener<C, E, Connecting = V, Acquiring = A> + Reports<E>>(
         &mut self,
         at: Moment,
         pool: &mut X,
@@ -129,7 +129,7 @@ impl<C, V, A> Tasks<C, V, A> {
         on_failure: OnFailure,
     ) -> Option<E>
         ensures { PollsUntil (TaskPolls X.Home X.Opener (as_nanos config.now.connection_timeout)
-            config.now.retry_connection at) X.sinks on_failure self.old pool.old result self.new
+            config.now.retry_connection at) on_failure X.sinks self.old pool.old result self.new
             pool.new }
     {
         let mut stopped = None;
@@ -151,7 +151,7 @@ impl<C, V, A> Tasks<C, V, A> {
     ) -> Option<E>
         requires { 0 < length self.old }
         ensures { QueueTurns (TaskPolls X.Home X.Opener (as_nanos config.now.connection_timeout)
-            config.now.retry_connection at) X.sinks on_failure stopped self.old pool.old result
+            config.now.retry_connection at) on_failure X.sinks stopped self.old pool.old result
             self.new pool.new }
     {
         let Some(mut task) = self.queue.pop_front() else {
@@ -253,15 +253,15 @@ impl<C, V, A> Tasks<C, V, A> {
     }
 
     /// A round of polls that goes on after each failure: each task is polled once, and each error goes to the sink.
+    #[tactic(auto, using(crate::proofs::Sweeps::polls_each))]
     pub fn poll_each<E, X: Home<C> + Opener<C, E, Connecting = V, Acquiring = A> + Reports<E>>(
         &mut self,
         at: Moment,
         pool: &mut X,
         config: &Config,
     )
-        ensures { PollsUntil (TaskPolls X.Home X.Opener (as_nanos config.now.connection_timeout)
-            config.now.retry_connection at) X.sinks IsGoOn self.old pool.old None self.new
-            pool.new }
+        ensures { PollsEach (TaskPolls X.Home X.Opener (as_nanos config.now.connection_timeout)
+            config.now.retry_connection at) X.sinks self.old pool.old self.new pool.new }
     {
         match self.poll_until(at, pool, config, OnFailure::GoOn) {
             None => {}

@@ -55,7 +55,6 @@ fn poll_reaper<C, H: Home<C>>(reaper: &mut Option<Reaper>, at: Moment, home: &mu
 }
 
 /// Polls each task once, in the order of their claims, and tells how many they were.
-#[tactic(auto, using(crate::proofs::Polled::polls_each))]
 fn poll_tasks<
     C,
     V,

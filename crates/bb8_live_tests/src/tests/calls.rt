@@ -23,10 +23,12 @@ use std::test::Fail;
 use std::thread::{self, Threads};
 use std::time::Duration;
 
-/// The calls outside, and the drops of a connection and of what is under way. The place of one, from 0, is its digit in what is written
-/// down.
+/// The calls outside, and the drops of a connection and of what is under way. What is written down of one is its place here.
 const CALLS: &str =
-    "- now connect poll_connect on_acquire poll_acquire is_valid poll_valid has_broken sink dropped ended";
+    "now connect poll_connect on_acquire poll_acquire is_valid poll_valid has_broken sink dropped ended";
+
+/// So many calls are written down between two looks; of those after them it is known that they were made.
+const WRITTEN: usize = 16;
 
 /// At this stage the other thread is to end.
 const ENDED: u64 = 3;
@@ -34,8 +36,9 @@ const ENDED: u64 = 3;
 /// What a test shares with its pool's manager, customizer, sink and clock, and with the connections.
 #[derive(Drop)]
 pub(super) struct Desk {
-    /// The calls since the last look, in digits of four bits.
-    calls: Number,
+    /// How many calls were made since the last look, and which the first of them were.
+    made: Number,
+    calls: Vec<Number>,
     /// How often a test looked.
     looks: Number,
     /// While a call waits, the other thread's own reading of the clock does not wait and is not written down.
@@ -58,8 +61,13 @@ pub(super) struct Desk {
 
 impl Desk {
     pub(super) fn new(alloc: Global) -> Result<Arc<Desk, Global>, Memory> {
+        let mut calls = Vec::new(alloc);
+        for _ in 0..WRITTEN {
+            calls.push(Number::new(0))?;
+        }
         let desk = Desk {
-            calls: Number::new(0),
+            made: Number::new(0),
+            calls,
             looks: Number::new(0),
             stage: Number::new(OPEN),
             waited: Number::new(0),
@@ -88,31 +96,53 @@ impl Desk {
             }
             _ => {}
         }
-        self.calls.set(after(self.calls.get(), call));
+        let at = self.made.count().saturating_sub(1);
+        if let Some(written) = self.written(at) {
+            written.set(place_of(call));
+        }
+    }
+
+    /// Where the call of this number, from 0, is written down.
+    fn written(&self, at: u64) -> Option<&Number> {
+        self.calls.get(usize::try_from(at).ok()?)
     }
 }
 
-/// What is written down after these calls more, which spaces part.
-fn after(written: u64, calls: &str) -> u64 {
-    let mut written = written;
-    for call in calls.split(' ') {
-        for (digit, name) in CALLS.split(' ').enumerate() {
-            if name == call {
-                written = written.saturating_mul(16).saturating_add(digit as u64);
-            }
+/// The place of a call among all.
+fn place_of(call: &str) -> u64 {
+    let mut place: u64 = 0;
+    for name in CALLS.split(' ') {
+        if name == call {
+            break;
         }
+        place = place.saturating_add(1);
     }
-    written
+    place
 }
 
 /// Asserts that since the last look just these calls were made, in this order.
 fn made(rt: &impl Abort, desk: &Desk, calls: &str) {
-    let (look, found) = (desk.looks.count(), desk.calls.get());
+    let look = desk.looks.count();
+    let mut wanted: u64 = 0;
+    for call in calls.split(' ') {
+        if call.is_empty() {
+            continue;
+        }
+        let is_call = desk
+            .written(wanted)
+            .is_some_and(|written| written.get() == place_of(call));
+        assert!(rt;
+            is_call,
+            "look {look}: call {wanted} is another than in: {calls}"
+        );
+        wanted = wanted.saturating_add(1);
+    }
+    let found = desk.made.get();
     assert!(rt;
-        found == after(0, calls),
-        "look {look}: {found:x} and not {calls}"
+        found == wanted,
+        "look {look}: {found} calls and not: {calls}"
     );
-    desk.calls.set(0);
+    desk.made.set(0);
 }
 
 /// What a poll of this course answers.
@@ -477,7 +507,7 @@ fn approve<R: Runtime + Abort, L: PoolParts>(tools: &Tools<'_, R>, pool: &Teller
     }
     get.cancel();
     tools.desk.check.set(0);
-    tools.desk.calls.set(0);
+    tools.desk.made.set(0);
 }
 
 /// Turns, which read no clock: one connection is opened and prepared slowly, one opening fails, and one preparation; and a driver that is

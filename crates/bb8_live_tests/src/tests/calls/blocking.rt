@@ -51,7 +51,7 @@ pub(super) fn served<R: Runtime + Abort, L: PoolParts>(
     }
     desk.broken.set(1);
     let held = pool.try_get();
-    desk.calls.set(0);
+    desk.made.set(0);
     desk.step.set(60);
     tools.lent_none(pool.get_blocking(), "now now now");
     tools.lent_none(pool.get_blocking_timeout(timeout), "now now now now now");
