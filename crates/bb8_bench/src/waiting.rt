@@ -22,7 +22,7 @@ fn wait(pool: &mut PoolInternals<()>) -> Option<GetKey> {
     let BeginAnswer::Begun(get) = asked::begin(pool, NOW).ok()? else {
         return None;
     };
-    match asked::try_get(pool, NOW, get).ok()? {
+    match pool.try_get(NOW, get).ok()? {
         TryAnswer::Waiting(_) => Some(get),
         TryAnswer::Served(..) | TryAnswer::Taken(..) => None,
     }
@@ -30,7 +30,7 @@ fn wait(pool: &mut PoolInternals<()>) -> Option<GetKey> {
 
 /// Has a get be served, and tells with which connection. None where it waits.
 fn serve(pool: &mut PoolInternals<()>, get: GetKey) -> Option<Key> {
-    match asked::try_get(pool, NOW, get).ok()? {
+    match pool.try_get(NOW, get).ok()? {
         TryAnswer::Served(key, (), _) => Some(key),
         TryAnswer::Taken(..) | TryAnswer::Waiting(_) => None,
     }
@@ -41,7 +41,7 @@ fn open(pool: &mut PoolInternals<()>) -> Option<GetKey> {
     let ClaimAnswer::Claimed(Some(approval)) = pool.claim(NOW) else {
         return None;
     };
-    match asked::opened(pool, NOW, approval, ()).ok()? {
+    match pool.opened(NOW, approval, ()).ok()? {
         OpenedAnswer::Entered(notified) => notified,
         OpenedAnswer::Late(()) => None,
     }
@@ -49,7 +49,7 @@ fn open(pool: &mut PoolInternals<()>) -> Option<GetKey> {
 
 /// Gives back a connection, and tells who was notified. None where nobody was, or no guard holds it.
 fn give_back(pool: &mut PoolInternals<()>, key: Key) -> Option<GetKey> {
-    match asked::put_back(pool, NOW, key, (), false).ok()? {
+    match pool.put_back(NOW, key, (), false).ok()? {
         PutBackAnswer::Kept(notified) => notified,
         PutBackAnswer::Closed(..) => None,
     }
@@ -57,7 +57,7 @@ fn give_back(pool: &mut PoolInternals<()>, key: Key) -> Option<GetKey> {
 
 /// Lets a get go. None where it is not alive.
 fn cancel(pool: &mut PoolInternals<()>, get: GetKey) -> Option<()> {
-    match asked::give_up(pool, NOW, get, Reason::Cancelled, false).ok()? {
+    match pool.give_up(NOW, get, Reason::Cancelled, false).ok()? {
         GiveUpAnswer::GaveUp(_) => Some(()),
         GiveUpAnswer::Kept(..) | GiveUpAnswer::Closed(..) => None,
     }

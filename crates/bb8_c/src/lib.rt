@@ -137,7 +137,7 @@ pub extern "C" fn bb8_try(alloc: Global, core: &mut CoreHandle, at: u64, get: Na
         × Stepped Meets answer_of_try old at (acts.Try get.number) a new
         × IfOk a (HandsOut old)) core.old.core core.new.core }
 {
-    with_core!(alloc, core, open => told::tried(asked::try_get(&mut open.internals, Moment(at), named!(GetKey, get))))
+    with_core!(alloc, core, open => told::tried(open.internals.try_get(Moment(at), named!(GetKey, get))))
 }
 
 /// Tells that the check of a get was passed: kind 4. The hint is the place of the key that it holds.
@@ -155,7 +155,7 @@ pub extern "C" fn bb8_checked_ok(
         result old new)
         core.old.core core.new.core }
 {
-    with_core!(alloc, core, open => told::checked(asked::checked_ok(&mut open.internals, Moment(at), named!(GetKey, get), hint)))
+    with_core!(alloc, core, open => told::checked(open.internals.checked_ok(Moment(at), named!(GetKey, get), hint)))
 }
 
 /// Tells that the check of a get failed, which hands its connection in: kind 8. The get may try again. The hint is as of `bb8_checked_ok`.
@@ -174,7 +174,7 @@ pub extern "C" fn bb8_checked_err(
         (OrComesBack GivesBackInvalid conn)
         (acts.CheckedErr get.number broken) at result) core.old.core core.new.core }
 {
-    with_core!(alloc, core, open => told::invalid(asked::checked_err(&mut open.internals, Moment(at), named!(GetKey, get), conn, broken, hint)))
+    with_core!(alloc, core, open => told::invalid(open.internals.checked_err(Moment(at), named!(GetKey, get), conn, broken, hint)))
 }
 
 /// Gives up a get that holds nothing: kind 9.
@@ -191,7 +191,7 @@ pub extern "C" fn bb8_give_up(
         (λ a. IfOk a (GivesBackHeld None))
         (acts.GiveUp get.number (why timed_out) None false) at result) core.old.core core.new.core }
 {
-    with_core!(alloc, core, open => told::gave_up(asked::give_up(&mut open.internals, Moment(at), named!(GetKey, get), reason(timed_out), false)))
+    with_core!(alloc, core, open => told::gave_up(open.internals.give_up(Moment(at), named!(GetKey, get), reason(timed_out), false)))
 }
 
 /// Gives up a get that holds a connection, which is handed in: kind 7 or 8. The hint is as of `bb8_checked_ok`.
@@ -212,7 +212,7 @@ pub extern "C" fn bb8_give_up_held(
         (acts.GiveUp get.number (why timed_out) (Some conn) broken) at result)
         core.old.core core.new.core }
 {
-    with_core!(alloc, core, open => told::gave_up(asked::give_back(&mut open.internals, Moment(at), named!(GetKey, get), reason(timed_out), conn, broken, hint)))
+    with_core!(alloc, core, open => told::gave_up(open.internals.give_back(Moment(at), named!(GetKey, get), reason(timed_out), conn, broken, hint)))
 }
 
 /// Returns a connection that was served: kind 7 where it is idle, 8 where it is closed, and handed back.
@@ -230,7 +230,7 @@ pub extern "C" fn bb8_put_back(
         (OrComesBack GivesBack conn)
         (acts.PutBack key.number conn broken) at result) core.old.core core.new.core }
 {
-    with_core!(alloc, core, open => told::returned(asked::put_back(&mut open.internals, Moment(at), named!(Key, key), conn, broken)))
+    with_core!(alloc, core, open => told::returned(open.internals.put_back(Moment(at), named!(Key, key), conn, broken)))
 }
 
 /// Grants what is wanted for `min_idle`, claimed at once or not: kind 23.
@@ -267,7 +267,7 @@ pub extern "C" fn bb8_opened(
         (OrComesBack HandsBack conn)
         (acts.Opened approval.number conn) at result) core.old.core core.new.core }
 {
-    with_core!(alloc, core, open => told::entered(asked::opened(&mut open.internals, Moment(at), named!(Key, approval), conn)))
+    with_core!(alloc, core, open => told::entered(open.internals.opened(Moment(at), named!(Key, approval), conn)))
 }
 
 /// Ends a claimed approval that brought no connection: kind 15.
@@ -277,7 +277,7 @@ pub extern "C" fn bb8_failed(alloc: Global, core: &mut CoreHandle, at: u64, appr
     ensures { Beside (Crosses (in_c.failed_in {U = Unfit}) answer_of_failed (λ a. ⊤)
         (acts.Failed approval.number) at result) core.old.core core.new.core }
 {
-    with_core!(alloc, core, open => told::given_back(asked::failed(&mut open.internals, Moment(at), named!(Key, approval))))
+    with_core!(alloc, core, open => told::given_back(open.internals.failed(Moment(at), named!(Key, approval))))
 }
 
 /// Adds a connection that no approval brought: kind 16, or 17 as it is broken, 18 as there is no room, 19 as memory or a number is lacking.

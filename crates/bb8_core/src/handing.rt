@@ -1,7 +1,7 @@
 //! Steps that hand over: where one notifies a get, that get tries in the same call. So no other try comes between, and in a pool whose
 //! events all hand over gets are served in the order in which they began to wait. A close sends the get that it notifies to the end.
 //!
-//! Each is the step of its name in `asked`, and then that try.
+//! Each is the step of its name, and then that try.
 ghost use Rattle.std.specs.Prelude.{None, Some, IfSome, IfOk};
 ghost use Rattle.bb8_ledger.specs.Acts as acts;
 ghost use Rattle.bb8_core.specs.Asked.{Stepped, OrComesBack};
@@ -83,7 +83,7 @@ pub fn checked_err<C: Drop>(
     hand_over!(
         pool,
         at,
-        asked::checked_err(pool, at, get, conn, broken, hint)
+        pool.checked_err(at, get, conn, broken, hint)
     )
 }
 
@@ -101,7 +101,7 @@ pub fn give_up<C: Drop>(
     ensures connection { IfOk result.told (GivesBackHeld None) }
     ensures limits { IsWithinLimits pool.old }
 {
-    hand_over!(pool, at, asked::give_up(pool, at, get, reason, broken))
+    hand_over!(pool, at, pool.give_up(at, get, reason, broken))
 }
 
 /// Gives up a get that holds this connection, and hands over.
@@ -123,7 +123,7 @@ pub fn give_back<C: Drop>(
     hand_over!(
         pool,
         at,
-        asked::give_back(pool, at, get, reason, conn, broken, hint)
+        pool.give_back(at, get, reason, conn, broken, hint)
     )
 }
 
@@ -141,7 +141,7 @@ pub fn put_back<C: Drop>(
     ensures connection { OrComesBack GivesBack conn result.told }
     ensures limits { IsWithinLimits pool.old }
 {
-    hand_over!(pool, at, asked::put_back(pool, at, key, conn, broken))
+    hand_over!(pool, at, pool.put_back(at, key, conn, broken))
 }
 
 /// Hands in what a claimed approval brought, and hands over.
@@ -157,7 +157,7 @@ pub fn opened<C: Drop>(
     ensures connection { OrComesBack HandsBack conn result.told }
     ensures limits { IsWithinLimits pool.old }
 {
-    hand_over!(pool, at, asked::opened(pool, at, key, conn))
+    hand_over!(pool, at, pool.opened(at, key, conn))
 }
 
 /// Adds a connection, and hands over.

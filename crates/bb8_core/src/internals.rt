@@ -285,7 +285,9 @@ impl<C: Drop, A> PoolInternals<C, A> {
         ensures connection { IfOk result (HandsOut self.old) }
         ensures examined { IfOk result (λ told. Lends 4 self.old self.new) }
         ensures searched { IfOk result (λ told. Searches 2 self.new) }
+        ensures limits { IsWithinLimits self.old }
     {
+        self.limits();
         let mut lendings = self.lendings.begun();
         let getting = self.gets.getting(get, &mut lendings);
         if !is_trying(getting) {
@@ -337,7 +339,9 @@ impl<C: Drop, A> PoolInternals<C, A> {
             self.old at.0 (acts.CheckedOk get.number) result self.new }
         ensures examined { IfOk result (λ told. Lends 4 self.old self.new) }
         ensures searched { IfOk result (λ told. Searches 2 self.new) }
+        ensures limits { IsWithinLimits self.old }
     {
+        self.limits();
         let mut lendings = self.lendings.begun();
         match self.gets.finish_holding(get, &mut lendings) {
             None => Err(Unfit),
@@ -372,7 +376,9 @@ impl<C: Drop, A> PoolInternals<C, A> {
         ensures connection { OrComesBack GivesBackInvalid conn result }
         ensures examined { IfOk result (λ told. Lends 4 self.old self.new) }
         ensures searched { IfOk result (λ told. Searches 3 self.new) }
+        ensures limits { IsWithinLimits self.old }
     {
+        self.limits();
         let mut lendings = self.lendings.begun();
         let Some(held) = self.gets.let_go(get, &mut lendings) else {
             return Err(conn);
@@ -414,7 +420,9 @@ impl<C: Drop, A> PoolInternals<C, A> {
         ensures connection { IfOk result (GivesBackHeld None) }
         ensures examined { IfOk result (λ told. Lends 4 self.old self.new) }
         ensures searched { IfOk result (λ told. Searches 1 self.new) }
+        ensures limits { IsWithinLimits self.old }
     {
+        self.limits();
         let mut lendings = self.lendings.begun();
         let Some(getting) = self.gets.end(get, &mut lendings) else {
             return Err(Unfit);
@@ -444,7 +452,9 @@ impl<C: Drop, A> PoolInternals<C, A> {
         ensures connection { OrComesBack (λ c. GivesBackHeld (Some c)) conn result }
         ensures examined { IfOk result (λ told. Lends 4 self.old self.new) }
         ensures searched { IfOk result (λ told. Searches 3 self.new) }
+        ensures limits { IsWithinLimits self.old }
     {
+        self.limits();
         let mut lendings = self.lendings.begun();
         let Some((held, first_wait)) = self.gets.finish_holding(get, &mut lendings) else {
             return Err(conn);
@@ -505,7 +515,9 @@ impl<C: Drop, A> PoolInternals<C, A> {
         ensures connection { OrComesBack GivesBack conn result }
         ensures examined { IfOk result (λ told. Lends 4 self.old self.new) }
         ensures searched { IfOk result (λ told. Searches 2 self.new) }
+        ensures limits { IsWithinLimits self.old }
     {
+        self.limits();
         let now = self.latest.max(at.0);
         let mut lendings = self.lendings.begun();
         let ended = self.handles == 0;
@@ -578,7 +590,9 @@ impl<C: Drop, A> PoolInternals<C, A> {
         ensures connection { OrComesBack HandsBack conn result }
         ensures examined { IfOk result (λ told. Lends 4 self.old self.new) }
         ensures searched { IfOk result (λ told. Searches 1 self.new) }
+        ensures limits { IsWithinLimits self.old }
     {
+        self.limits();
         let now = self.latest.max(at.0);
         let mut lendings = self.lendings.begun();
         if self.handles == 0 {
@@ -607,7 +621,9 @@ impl<C: Drop, A> PoolInternals<C, A> {
             result self.new }
         ensures examined { IfOk result (λ told. Lends 4 self.old self.new) }
         ensures searched { IfOk result (λ told. Searches 1 self.new) }
+        ensures limits { IsWithinLimits self.old }
     {
+        self.limits();
         let mut lendings = self.lendings.begun();
         if !self.records.end_claimed(approval, &mut lendings) {
             return Err(Unfit);

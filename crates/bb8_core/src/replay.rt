@@ -126,7 +126,7 @@ fn begin(pool: &mut PoolInternals<u64>, known: &mut Known, at: Moment) -> Answer
 fn try_get(pool: &mut PoolInternals<u64>, known: &mut Known, at: Moment, get: GetKey) -> Answer
     ensures { Meets pool.old at.0 (acts.Try get.number) (answer_of result) pool.new }
 {
-    match asked::try_get(pool, at, get) {
+    match pool.try_get(at, get) {
         Ok(TryAnswer::Served(key, _, grant)) => {
             known.records.note(key.number, key.place);
             Answer::Served(key.number, grant)
@@ -149,7 +149,7 @@ fn checked_ok(pool: &mut PoolInternals<u64>, known: &Known, at: Moment, get: Get
         count: 0,
         withheld: 0,
     };
-    match asked::checked_ok(pool, at, get, hint) {
+    match pool.checked_ok(at, get, hint) {
         Ok(CheckedOkAnswer::Served(key)) => Answer::Served(key.number, grant),
         Err(Unfit) => Answer::Unfit,
     }
@@ -165,7 +165,7 @@ fn checked_err(
     ensures { Meets pool.old at.0 (acts.CheckedErr get.number broken) (answer_of result) pool.new }
 {
     let held = pool.held(get);
-    match asked::checked_err(pool, at, get, held.unwrap_or(0), broken, known.hint(held)) {
+    match pool.checked_err(at, get, held.unwrap_or(0), broken, known.hint(held)) {
         Ok(CheckedErrAnswer::Closed(key, _, grant, notified)) => {
             Answer::Closed(key.number, grant, number_of(notified))
         }
@@ -173,15 +173,16 @@ fn checked_err(
     }
 }
 
-fn gave_up(answer: GiveUpAnswer<u64>) -> Answer
-    ensures { answer_of result ≡ answer_of_give_up answer }
+fn gave_up<U: Drop>(answer: Result<GiveUpAnswer<u64>, U>) -> Answer
+    ensures { answer_of result ≡ answered answer_of_give_up answer }
 {
     match answer {
-        GiveUpAnswer::GaveUp(notified) => Answer::GaveUp(number_of(notified)),
-        GiveUpAnswer::Kept(key, notified) => Answer::Kept(key.number, number_of(notified)),
-        GiveUpAnswer::Closed(key, _, grant, notified) => {
+        Ok(GiveUpAnswer::GaveUp(notified)) => Answer::GaveUp(number_of(notified)),
+        Ok(GiveUpAnswer::Kept(key, notified)) => Answer::Kept(key.number, number_of(notified)),
+        Ok(GiveUpAnswer::Closed(key, _, grant, notified)) => {
             Answer::Closed(key.number, grant, number_of(notified))
         }
+        Err(_) => Answer::Unfit,
     }
 }
 
@@ -197,16 +198,10 @@ fn give_up(
     ensures { Happens pool.old at.0 (events.GiveUp get.number reason broken) result pool.new }
 {
     match pool.held(get) {
-        None => match asked::give_up(pool, at, get, reason, broken) {
-            Ok(answer) => gave_up(answer),
-            Err(Unfit) => Answer::Unfit,
-        },
+        None => gave_up(pool.give_up(at, get, reason, broken)),
         Some(held) => {
             let hint = known.records.place(held);
-            match asked::give_back(pool, at, get, reason, held, broken, hint) {
-                Ok(answer) => gave_up(answer),
-                Err(_) => Answer::Unfit,
-            }
+            gave_up(pool.give_back(at, get, reason, held, broken, hint))
         }
     }
 }
@@ -215,7 +210,7 @@ fn put_back(pool: &mut PoolInternals<u64>, at: Moment, key: Key, broken: bool) -
     ensures { Meets pool.old at.0 (acts.PutBack key.number key.number broken)
         (answer_of result) pool.new }
 {
-    match asked::put_back(pool, at, key, key.number, broken) {
+    match pool.put_back(at, key, key.number, broken) {
         Ok(PutBackAnswer::Kept(notified)) => Answer::Kept(key.number, number_of(notified)),
         Ok(PutBackAnswer::Closed(_, grant, notified)) => {
             Answer::Closed(key.number, grant, number_of(notified))
@@ -240,7 +235,7 @@ fn claim(pool: &mut PoolInternals<u64>, known: &mut Known, at: Moment) -> Answer
 fn opened(pool: &mut PoolInternals<u64>, at: Moment, key: Key) -> Answer
     ensures { Meets pool.old at.0 (acts.Opened key.number key.number) (answer_of result) pool.new }
 {
-    match asked::opened(pool, at, key, key.number) {
+    match pool.opened(at, key, key.number) {
         Ok(OpenedAnswer::Entered(notified)) => Answer::Entered(key.number, number_of(notified)),
         Ok(OpenedAnswer::Late(_)) => Answer::Late(key.number),
         Err(_) => Answer::Unfit,
@@ -250,7 +245,7 @@ fn opened(pool: &mut PoolInternals<u64>, at: Moment, key: Key) -> Answer
 fn failed(pool: &mut PoolInternals<u64>, at: Moment, key: Key) -> Answer
     ensures { Meets pool.old at.0 (acts.Failed key.number) (answer_of result) pool.new }
 {
-    match asked::failed(pool, at, key) {
+    match pool.failed(at, key) {
         Ok(FailedAnswer::GivenBack) => Answer::GivenBack,
         Err(Unfit) => Answer::Unfit,
     }

@@ -65,7 +65,7 @@ impl<C: Drop> GetHome<C> for PoolInternals<C> {
     }
 
     fn try_get(&mut self, at: Moment, get: GetKey) -> Result<Tried<C, ()>, Unfit> {
-        Ok(alone(asked::try_get(self, at, get)?))
+        Ok(alone(self.try_get(at, get)?))
     }
 
     fn checked_ok(
@@ -75,7 +75,7 @@ impl<C: Drop> GetHome<C> for PoolInternals<C> {
         key: Key,
         part: (),
     ) -> Result<Passed<()>, Unfit> {
-        Ok(Passed::of(asked::checked_ok(self, at, get, key.place)?, part))
+        Ok(Passed::of(self.checked_ok(at, get, key.place)?, part))
     }
 
     fn checked_err(
@@ -94,7 +94,7 @@ impl<C: Drop> GetHome<C> for PoolInternals<C> {
             connection,
             part: (),
         } = taken;
-        asked::checked_err(self, at, get, connection, broken, key.place)
+        self.checked_err(at, get, connection, broken, key.place)
     }
 
     fn give_up(
@@ -103,7 +103,7 @@ impl<C: Drop> GetHome<C> for PoolInternals<C> {
         get: GetKey,
         reason: Reason,
     ) -> Result<GiveUpAnswer<C>, Unfit> {
-        asked::give_up(self, at, get, reason, false)
+        self.give_up(at, get, reason, false)
     }
 
     fn give_back(
@@ -125,6 +125,6 @@ impl<C: Drop> GetHome<C> for PoolInternals<C> {
             connection,
             part: (),
         } = taken;
-        asked::give_back(self, at, get, reason, connection, broken, key.place)
+        self.give_back(at, get, reason, connection, broken, key.place)
     }
 }

@@ -112,7 +112,7 @@ impl<C: Drop, L: Parts> GetHome<C> for Locked<C, L> {
 
     fn try_get(&mut self, at: Moment, get: GetKey) -> Result<Tried<C, Part<L>>, Unfit> {
         let Locked { core, rest, .. } = self;
-        match asked::try_get(core, at, get) {
+        match core.try_get(at, get) {
             Ok(told) => Ok(hand_out(rest, told)),
             Err(Unfit) => Err(Unfit),
         }
@@ -126,7 +126,7 @@ impl<C: Drop, L: Parts> GetHome<C> for Locked<C, L> {
         part: Part<L>,
     ) -> Result<Passed<Part<L>>, Unfit> {
         let Locked { core, .. } = self;
-        match asked::checked_ok(core, at, get, key.place) {
+        match core.checked_ok(at, get, key.place) {
             Ok(answer) => Ok(Passed::of(answer, part)),
             Err(Unfit) => {
                 let Part { share } = part;
@@ -153,7 +153,7 @@ impl<C: Drop, L: Parts> GetHome<C> for Locked<C, L> {
             connection,
             part,
         } = taken;
-        let answer = asked::checked_err(core, at, get, connection, broken, key.place);
+        let answer = core.checked_err(at, get, connection, broken, key.place);
         part.settle(rest, &answer);
         answer
     }
@@ -166,7 +166,7 @@ impl<C: Drop, L: Parts> GetHome<C> for Locked<C, L> {
         reason: Reason,
     ) -> Result<GiveUpAnswer<C>, Unfit> {
         let Locked { core, .. } = self;
-        asked::give_up(core, at, get, reason, false)
+        core.give_up(at, get, reason, false)
     }
 
     fn give_back(
@@ -189,7 +189,7 @@ impl<C: Drop, L: Parts> GetHome<C> for Locked<C, L> {
             connection,
             part,
         } = taken;
-        let answer = asked::give_back(core, at, get, reason, connection, broken, key.place);
+        let answer = core.give_back(at, get, reason, connection, broken, key.place);
         part.settle(rest, &answer);
         answer
     }

@@ -174,7 +174,7 @@ impl<C: Drop, L: Parts> SectionHome<C> for Locked<C, L> {
             connection,
             part,
         } = taken;
-        let answer = asked::put_back(core, at, key, connection, broken);
+        let answer = core.put_back(at, key, connection, broken);
         part.settle(rest, &answer);
         answer
     }

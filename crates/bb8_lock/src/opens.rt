@@ -4,7 +4,7 @@ ghost use Rattle.bb8_tasks.specs.Homes.{TaskStepsBy};
 
 use crate::locked::{Locked, Parts};
 use bb8_core::api::Moment;
-use bb8_core::asked::{self, Unfit};
+use bb8_core::asked::Unfit;
 use bb8_core::internals::{ClaimAnswer, FailedAnswer, Key, Looked, OpenedAnswer, ReapAnswer};
 use bb8_gets::GetHome;
 use bb8_tasks::Home;
@@ -19,12 +19,12 @@ impl<C: Drop, L: Parts> Home<C> for Locked<C, L> {
 
     fn opened(&mut self, at: Moment, approval: Key, connection: C) -> Result<OpenedAnswer<C>, C> {
         let Locked { core, .. } = self;
-        asked::opened(core, at, approval, connection)
+        core.opened(at, approval, connection)
     }
 
     fn failed(&mut self, at: Moment, approval: Key) -> Result<FailedAnswer, Unfit> {
         let Locked { core, .. } = self;
-        asked::failed(core, at, approval)
+        core.failed(at, approval)
     }
 
     fn claim(&mut self, at: Moment) -> ClaimAnswer {

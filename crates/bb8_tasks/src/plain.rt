@@ -4,7 +4,7 @@ ghost use Rattle.bb8_tasks.specs.Homes.{TaskStepsBy};
 
 use super::home::Home;
 use bb8_core::api::Moment;
-use bb8_core::asked::{self, Unfit};
+use bb8_core::asked::Unfit;
 use bb8_core::internals::{
     ClaimAnswer, FailedAnswer, Key, Looked, OpenedAnswer, PoolInternals, ReapAnswer,
 };
@@ -19,11 +19,11 @@ impl<C: Drop> Home<C> for PoolInternals<C> {
     }
 
     fn opened(&mut self, at: Moment, approval: Key, connection: C) -> Result<OpenedAnswer<C>, C> {
-        asked::opened(self, at, approval, connection)
+        self.opened(at, approval, connection)
     }
 
     fn failed(&mut self, at: Moment, approval: Key) -> Result<FailedAnswer, Unfit> {
-        asked::failed(self, at, approval)
+        self.failed(at, approval)
     }
 
     fn claim(&mut self, at: Moment) -> ClaimAnswer {

@@ -3,7 +3,7 @@
 use super::steps::{Colour, NOW, served_by};
 use super::{assert_equal, unchecked};
 use bb8_core::api::Config;
-use bb8_core::asked::{add, begin, put_back, serve_at_once};
+use bb8_core::asked::{add, begin, serve_at_once};
 use bb8_core::internals::{AddAnswer, BeginAnswer, PoolInternals, PutBackAnswer};
 
 /// The first get raises the peak and goes by the two steps; the second is served in one step, as get 1 with connection 0; with nothing idle
@@ -22,7 +22,7 @@ fn succeeds_serving_at_once(rt: HostRuntime) {
         panic!(rt; "no get began");
     };
     let (key, conn, _) = served_by(&rt, &mut pool, get);
-    let Ok(PutBackAnswer::Kept(None)) = put_back(&mut pool, NOW, key, conn, false) else {
+    let Ok(PutBackAnswer::Kept(None)) = pool.put_back(NOW, key, conn, false) else {
         panic!(rt; "the connection was not kept");
     };
     let Some(served) = serve_at_once(&mut pool, NOW) else {

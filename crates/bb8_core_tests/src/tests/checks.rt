@@ -4,7 +4,7 @@ ghost use Rattle.std.specs.Prelude.{◌+◌, ◌≤◌};
 use super::steps::{Colour, NOW, taken_by};
 use super::{assert_equal, granted, served};
 use bb8_core::api::{Config, State, Statistics};
-use bb8_core::asked::{add, begin, checked_err, checked_ok, give_back, give_up, put_back};
+use bb8_core::asked::{add, begin};
 use bb8_core::internals::{
     AddAnswer, BeginAnswer, CheckedErrAnswer, CheckedOkAnswer, GetKey, GiveUpAnswer, PoolInternals,
     PutBackAnswer,
@@ -95,7 +95,7 @@ fn succeeds_both_ends_of_a_check(rt: HostRuntime) {
         (0, &Colour::Red, granted(1, 0)),
     );
     assert_equal(&rt, fitting(&pool, 0), (false, true, true, false));
-    let Ok(CheckedOkAnswer::Served(key)) = checked_ok(&mut pool, NOW, get, key.place) else {
+    let Ok(CheckedOkAnswer::Served(key)) = pool.checked_ok(NOW, get, key.place) else {
         panic!(rt; "the get holds nothing");
     };
     // The get is looked at, and a guard has the connection.
@@ -103,13 +103,12 @@ fn succeeds_both_ends_of_a_check(rt: HostRuntime) {
     assert_equal(&rt, key.number, 0);
     assert_equal(&rt, fitting(&pool, 0), (false, false, false, true));
     assert_equal(&rt, pool.state(NOW), served(1, 0, 1, 0));
-    let Ok(PutBackAnswer::Kept(None)) = put_back(&mut pool, NOW, key, conn, false) else {
+    let Ok(PutBackAnswer::Kept(None)) = pool.put_back(NOW, key, conn, false) else {
         panic!(rt; "it was closed, or notified somebody");
     };
     let get = begun(&rt, &mut pool);
     let (key, conn, _) = taken_by(&rt, &mut pool, get);
-    let Ok(CheckedErrAnswer::Closed(closed, conn, grant, None)) = checked_err(
-        &mut pool, NOW, get, conn, false, key.place,
+    let Ok(CheckedErrAnswer::Closed(closed, conn, grant, None)) = pool.checked_err(NOW, get, conn, false, key.place,
     ) else {
         panic!(rt; "somebody was notified");
     };
@@ -132,10 +131,8 @@ fn succeeds_give_ups_of_a_held_connection(rt: HostRuntime) {
     let mut pool = one_idle(&rt, rt.alloc());
     let get = begun(&rt, &mut pool);
     let (key, conn, _) = taken_by(&rt, &mut pool, get);
-    assert!(rt; give_up(&mut pool, NOW, get, Reason::TimedOut, false).is_err());
-    let Ok(GiveUpAnswer::Kept(kept, None)) = give_back(
-        &mut pool,
-        NOW,
+    assert!(rt; pool.give_up(NOW, get, Reason::TimedOut, false).is_err());
+    let Ok(GiveUpAnswer::Kept(kept, None)) = pool.give_back(NOW,
         get,
         Reason::TimedOut,
         conn,
@@ -147,9 +144,7 @@ fn succeeds_give_ups_of_a_held_connection(rt: HostRuntime) {
     // The get is looked at, and the connection's birth, and the connection is idle again.
     assert_equal(&rt, (pool.examined(), pool.searched()), (3, 0));
     assert_equal(&rt, kept.number, 0);
-    let again = give_back(
-        &mut pool,
-        NOW,
+    let again = pool.give_back(NOW,
         get,
         Reason::TimedOut,
         Colour::Blue,
@@ -159,9 +154,7 @@ fn succeeds_give_ups_of_a_held_connection(rt: HostRuntime) {
     assert!(rt; matches!(again, Err(Colour::Blue)));
     let get = begun(&rt, &mut pool);
     let (_, conn, _) = taken_by(&rt, &mut pool, get);
-    let Ok(GiveUpAnswer::Closed(closed, conn, grant, None)) = give_back(
-        &mut pool,
-        NOW,
+    let Ok(GiveUpAnswer::Closed(closed, conn, grant, None)) = pool.give_back(NOW,
         get,
         Reason::Cancelled,
         conn,
@@ -197,11 +190,11 @@ fn stale_hints_name_the_right_connection(rt: HostRuntime) {
     let (red, _, _) = taken_by(&rt, &mut pool, first);
     let second = begun(&rt, &mut pool);
     let (green, _, _) = taken_by(&rt, &mut pool, second);
-    let Ok(CheckedOkAnswer::Served(key)) = checked_ok(&mut pool, NOW, first, green.place) else {
+    let Ok(CheckedOkAnswer::Served(key)) = pool.checked_ok(NOW, first, green.place) else {
         panic!(rt; "the get holds nothing");
     };
     assert_equal(&rt, (key.number, key.place), (0, red.place));
-    let Ok(CheckedOkAnswer::Served(key)) = checked_ok(&mut pool, NOW, second, 1_000) else {
+    let Ok(CheckedOkAnswer::Served(key)) = pool.checked_ok(NOW, second, 1_000) else {
         panic!(rt; "the get holds nothing");
     };
     assert_equal(&rt, (key.number, key.place), (1, green.place));

@@ -60,7 +60,7 @@ fn begin(rt: &impl Abort, pool: &mut PoolInternals<u32>) -> GetKey {
 
 /// Has a get try that may.
 fn try_get(rt: &impl Abort, pool: &mut PoolInternals<u32>, get: GetKey) -> TryAnswer<u32> {
-    let answer = bb8_core::asked::try_get(pool, NOW, get);
+    let answer = pool.try_get(NOW, get);
     assert_few(rt, pool);
     answer.expect(rt, "the get may try")
 }
@@ -84,7 +84,7 @@ fn served_by(rt: &impl Abort, pool: &mut PoolInternals<u32>, get: GetKey) -> (Ke
 
 /// Gives back a connection that a guard holds, and tells who was notified.
 fn put_back(rt: &impl Abort, pool: &mut PoolInternals<u32>, key: Key, conn: u32) -> Option<GetKey> {
-    let answer = bb8_core::asked::put_back(pool, NOW, key, conn, false);
+    let answer = pool.put_back(NOW, key, conn, false);
     assert_few(rt, pool);
     match answer {
         Ok(PutBackAnswer::Kept(notified)) => notified,
@@ -99,7 +99,7 @@ fn open(rt: &impl Abort, pool: &mut PoolInternals<u32>, conn: u32) -> Option<Get
     let ClaimAnswer::Claimed(Some(approval)) = answer else {
         panic!(rt; "nothing was claimed");
     };
-    let answer = bb8_core::asked::opened(pool, NOW, approval, conn);
+    let answer = pool.opened(NOW, approval, conn);
     assert_few(rt, pool);
     match answer {
         Ok(OpenedAnswer::Entered(notified)) => notified,
@@ -109,7 +109,7 @@ fn open(rt: &impl Abort, pool: &mut PoolInternals<u32>, conn: u32) -> Option<Get
 
 /// Lets a get go that was not notified.
 fn cancel(rt: &impl Abort, pool: &mut PoolInternals<u32>, get: GetKey) {
-    let answer = bb8_core::asked::give_up(pool, NOW, get, Reason::Cancelled, false);
+    let answer = pool.give_up(NOW, get, Reason::Cancelled, false);
     assert_few(rt, pool);
     let Ok(GiveUpAnswer::GaveUp(None)) = answer else {
         panic!(rt; "{get:?} is not alive, or handed a notification on");

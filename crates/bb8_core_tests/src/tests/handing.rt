@@ -3,7 +3,7 @@
 use super::steps::{Colour, NOW};
 use super::{assert_equal, granted, unchecked};
 use bb8_core::api::Config;
-use bb8_core::asked::{begin, try_get};
+use bb8_core::asked::begin;
 use bb8_core::handing::{HandedOver, add, checked_err, give_back, give_up, opened, put_back};
 use bb8_core::internals::{
     AddAnswer, BeginAnswer, CheckedErrAnswer, ClaimAnswer, GetKey, GiveUpAnswer, Key, OpenedAnswer,
@@ -27,7 +27,7 @@ fn wait(rt: &impl Abort, pool: &mut PoolInternals<Colour>) -> GetKey {
     let Ok(BeginAnswer::Begun(get)) = begin(pool, NOW) else {
         panic!(rt; "no get began");
     };
-    let Ok(TryAnswer::Waiting(_)) = try_get(pool, NOW, get) else {
+    let Ok(TryAnswer::Waiting(_)) = pool.try_get(NOW, get) else {
         panic!(rt; "the get does not wait");
     };
     get
@@ -165,8 +165,7 @@ fn give_up_hands_on(rt: HostRuntime) {
     let approval = claim(&rt, &mut pool, 0);
     let HandedOver { tried, .. } = opened(&mut pool, NOW, approval, Colour::Green);
     let (key, conn) = out(&rt, tried, false, Colour::Green);
-    let Ok(PutBackAnswer::Kept(Some(_))) = bb8_core::asked::put_back(
-        &mut pool, NOW, key, conn, false,
+    let Ok(PutBackAnswer::Kept(Some(_))) = pool.put_back(NOW, key, conn, false,
     ) else {
         panic!(rt; "nobody was notified");
     };

@@ -2,7 +2,7 @@
 
 use super::{SECOND, assert_equal, unchecked};
 use bb8_core::api::{Config, Moment, QueueStrategy};
-use bb8_core::asked::{add, begin, put_back, try_get};
+use bb8_core::asked::{add, begin};
 use bb8_core::internals::{BeginAnswer, Key, PoolInternals, PutBackAnswer, ReapAnswer, TryAnswer};
 use std::alloc::Global;
 use std::process::Abort;
@@ -20,7 +20,7 @@ fn serve(rt: &impl Abort, pool: &mut PoolInternals<u64>, at: Moment) -> (Key, u6
     let Ok(BeginAnswer::Begun(get)) = begin(pool, at) else {
         panic!(rt; "no get began");
     };
-    let Ok(TryAnswer::Served(key, conn, _)) = try_get(pool, at, get) else {
+    let Ok(TryAnswer::Served(key, conn, _)) = pool.try_get(at, get) else {
         panic!(rt; "the get was not served");
     };
     (key, conn)
@@ -92,7 +92,7 @@ fn many_idle(rt: &impl Abort, alloc: Global, queue_strategy: QueueStrategy) -> P
     let mut pool = PoolInternals::new(alloc, config);
     add_all(rt, &mut pool, Moment(0), 1000);
     let (key, conn) = serve(rt, &mut pool, Moment(0));
-    let kept = put_back(&mut pool, Moment(SECOND / 2), key, conn, false);
+    let kept = pool.put_back(Moment(SECOND / 2), key, conn, false);
     assert!(rt; matches!(kept, Ok(PutBackAnswer::Kept(None))));
     pool
 }

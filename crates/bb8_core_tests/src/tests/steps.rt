@@ -1,7 +1,7 @@
 //! Each step of the bare state, over connections that are no numbers.
 use super::{assert_equal, granted, served, unchecked};
 use bb8_core::api::Moment;
-use bb8_core::asked::{begin, failed, opened, put_back, try_get};
+use bb8_core::asked::begin;
 use bb8_core::internals::{
     BeginAnswer, ClaimAnswer, GetKey, Grant, Key, OpenedAnswer, PoolInternals, PutBackAnswer,
     TryAnswer,
@@ -25,7 +25,7 @@ pub(super) fn served_by(
     pool: &mut PoolInternals<Colour>,
     get: GetKey,
 ) -> (Key, Colour, Grant) {
-    match try_get(pool, NOW, get).expect(rt, "the step fits") {
+    match pool.try_get(NOW, get).expect(rt, "the step fits") {
         TryAnswer::Served(key, conn, grant) => (key, conn, grant),
         TryAnswer::Taken(..) => panic!(rt; "the get checks"),
         TryAnswer::Waiting(_) => panic!(rt; "the get waits"),
@@ -38,7 +38,7 @@ pub(super) fn taken_by(
     pool: &mut PoolInternals<Colour>,
     get: GetKey,
 ) -> (Key, Colour, Grant) {
-    match try_get(pool, NOW, get).expect(rt, "the step fits") {
+    match pool.try_get(NOW, get).expect(rt, "the step fits") {
         TryAnswer::Taken(key, conn, grant) => (key, conn, grant),
         TryAnswer::Served(..) => panic!(rt; "the get was served unchecked"),
         TryAnswer::Waiting(_) => panic!(rt; "the get waits"),
@@ -57,7 +57,7 @@ fn take(rt: &impl Abort, pool: &mut PoolInternals<Colour>) -> (Key, Colour) {
 /// Opens the connection of an approval, by its number.
 fn enter(rt: &impl Abort, pool: &mut PoolInternals<Colour>, number: u64, conn: Colour) {
     let key = pool.find(number).expect(rt, "the approval stands");
-    let Ok(OpenedAnswer::Entered(None)) = opened(pool, NOW, key, conn) else {
+    let Ok(OpenedAnswer::Entered(None)) = pool.opened(NOW, key, conn) else {
         panic!(rt; "{number} did not become idle, or notified somebody");
     };
 }
@@ -102,7 +102,7 @@ fn one_claimed(rt: &impl Abort, alloc: Global) -> (PoolInternals<Colour>, Key) {
 #[test]
 fn succeeds_each_step_once(rt: HostRuntime) {
     let (mut pool, approval) = one_claimed(&rt, rt.alloc());
-    let Ok(OpenedAnswer::Entered(None)) = opened(&mut pool, NOW, approval, Colour::Blue) else {
+    let Ok(OpenedAnswer::Entered(None)) = pool.opened(NOW, approval, Colour::Blue) else {
         panic!(rt; "it did not become idle, or notified somebody");
     };
     let Ok(BeginAnswer::Begun(get)) = begin(&mut pool, NOW) else {
@@ -118,7 +118,7 @@ fn succeeds_each_step_once(rt: HostRuntime) {
     );
     assert!(rt; pool.find_get(40).is_none());
     assert_equal(&rt, pool.find(7).map(|key| key.number), Some(7));
-    let Ok(PutBackAnswer::Closed(closed, grant, None)) = put_back(&mut pool, NOW, key, conn, true)
+    let Ok(PutBackAnswer::Closed(closed, grant, None)) = pool.put_back(NOW, key, conn, true)
     else {
         panic!(rt; "it was kept, or somebody was notified");
     };
@@ -134,7 +134,7 @@ fn succeeds_each_step_once(rt: HostRuntime) {
 #[test]
 fn failed_opening_ends_its_approval(rt: HostRuntime) {
     let (mut pool, approval) = one_claimed(&rt, rt.alloc());
-    assert!(rt; failed(&mut pool, NOW, approval).is_ok());
+    assert!(rt; pool.failed(NOW, approval).is_ok());
     assert_equal(&rt, (pool.examined(), pool.searched()), (1, 0));
     assert!(rt; pool.find(7).is_none());
 }
@@ -152,8 +152,7 @@ fn place_used_again(rt: &impl Abort, alloc: Global) -> (PoolInternals<Colour>, K
         panic!(rt; "nothing was claimed");
     };
     enter(rt, &mut pool, 1, Colour::Green);
-    let Ok(PutBackAnswer::Closed(Colour::Red, _, None)) = put_back(
-        &mut pool, NOW, ended, conn, true,
+    let Ok(PutBackAnswer::Closed(Colour::Red, _, None)) = pool.put_back(NOW, ended, conn, true,
     ) else {
         panic!(rt; "it was kept, or another one was handed back");
     };
@@ -176,7 +175,7 @@ fn stale_keys_name_the_right_record(rt: HostRuntime) {
         number: 1,
         place: ended.place,
     };
-    let Ok(PutBackAnswer::Kept(None)) = put_back(&mut pool, NOW, stale, Colour::Green, false) else {
+    let Ok(PutBackAnswer::Kept(None)) = pool.put_back(NOW, stale, Colour::Green, false) else {
         panic!(rt; "it was closed");
     };
     assert_served(&rt, &mut pool, 1, Colour::Green);
@@ -184,9 +183,7 @@ fn stale_keys_name_the_right_record(rt: HostRuntime) {
         number: 2,
         place: 1_000,
     };
-    let Ok(PutBackAnswer::Closed(Colour::Blue, _, None)) = put_back(
-        &mut pool,
-        NOW,
+    let Ok(PutBackAnswer::Closed(Colour::Blue, _, None)) = pool.put_back(NOW,
         nowhere,
         Colour::Blue,
         true,

@@ -3,9 +3,7 @@
 
 use super::{assert_equal, is_refused_afterwards, make};
 use bb8_core::api::{Config, Moment};
-use bb8_core::asked::{
-    add, begin, checked_err, checked_ok, give_back, give_up, opened, put_back, try_get,
-};
+use bb8_core::asked::{add, begin};
 use bb8_core::internals::{
     AddAnswer, BeginAnswer, CheckedErrAnswer, CheckedOkAnswer, ClaimAnswer, GetKey, GiveUpAnswer,
     Grant, Key, OpenedAnswer, PoolInternals, PutBackAnswer, ReapAnswer, Reason, TryAnswer,
@@ -86,7 +84,7 @@ impl Run {
                 return Ok(());
             };
             let conn = make(&self.board)?;
-            let Ok(OpenedAnswer::Entered(_)) = opened(&mut self.pool, self.at, key, conn) else {
+            let Ok(OpenedAnswer::Entered(_)) = self.pool.opened(self.at, key, conn) else {
                 panic!(rt; "no handle is alive");
             };
         }
@@ -107,7 +105,7 @@ impl Run {
 
     /// What a get takes, if it does not wait.
     fn take(&mut self, rt: &impl Abort, get: GetKey) -> Option<TakenOut> {
-        match try_get(&mut self.pool, self.at, get) {
+        match self.pool.try_get(self.at, get) {
             Ok(TryAnswer::Taken(key, conn, grant)) => {
                 self.note(grant);
                 Some(TakenOut { get, key, conn })
@@ -123,7 +121,7 @@ impl Run {
 
     /// Lets a get go that holds nothing.
     fn let_go(&mut self, rt: &impl Abort, get: GetKey) {
-        let gone = give_up(&mut self.pool, self.at, get, Reason::TimedOut, false);
+        let gone = self.pool.give_up(self.at, get, Reason::TimedOut, false);
         assert!(rt;
             matches!(gone, Ok(GiveUpAnswer::GaveUp(_))),
             "{get:?} held something"
@@ -133,12 +131,12 @@ impl Run {
     /// The check passes: a guard has the connection, and gives it back.
     fn passes(&mut self, rt: &impl Abort, held: TakenOut) {
         let TakenOut { get, key, conn } = held;
-        let Ok(CheckedOkAnswer::Served(key)) = checked_ok(&mut self.pool, self.at, get, key.place)
+        let Ok(CheckedOkAnswer::Served(key)) = self.pool.checked_ok(self.at, get, key.place)
         else {
             panic!(rt; "{get:?} holds nothing");
         };
         self.served = self.served.saturating_add(1);
-        let Ok(PutBackAnswer::Kept(_)) = put_back(&mut self.pool, self.at, key, conn, false) else {
+        let Ok(PutBackAnswer::Kept(_)) = self.pool.put_back(self.at, key, conn, false) else {
             panic!(rt; "{key:?} was closed");
         };
     }
@@ -146,7 +144,7 @@ impl Run {
     /// The check fails: the connection is closed, and the get, which then holds nothing, is let go.
     fn fails(&mut self, rt: &impl Abort, held: TakenOut, broken: bool) {
         let TakenOut { get, key, conn } = held;
-        let answer = checked_err(&mut self.pool, self.at, get, conn, broken, key.place);
+        let answer = self.pool.checked_err(self.at, get, conn, broken, key.place);
         let Ok(CheckedErrAnswer::Closed(_, conn, grant, _)) = answer else {
             panic!(rt; "{get:?} holds nothing");
         };
@@ -159,7 +157,7 @@ impl Run {
     fn lets_go_held(&mut self, rt: &impl Abort, held: TakenOut, broken: bool) {
         let TakenOut { get, key, conn } = held;
         let why = Reason::Cancelled;
-        let answer = give_back(&mut self.pool, self.at, get, why, conn, broken, key.place);
+        let answer = self.pool.give_back(self.at, get, why, conn, broken, key.place);
         match answer {
             Ok(GiveUpAnswer::Kept(key, _)) => assert!(rt; !broken, "{key:?} was kept"),
             Ok(GiveUpAnswer::Closed(key, conn, grant, _)) => {

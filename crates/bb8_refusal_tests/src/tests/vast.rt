@@ -3,7 +3,7 @@
 
 use super::assert_equal;
 use bb8_core::api::{Config, Moment};
-use bb8_core::asked::{add, begin, try_get};
+use bb8_core::asked::{add, begin};
 use bb8_core::internals::{
     AddAnswer, BeginAnswer, ClaimAnswer, GetKey, Grant, PoolInternals, ReapAnswer, TryAnswer,
 };
@@ -85,7 +85,7 @@ fn vast_grants_are_withheld_past_the_peak(rt: HostRuntime) {
     adds(&rt, &mut pool, 1);
     assert_equal(&rt, pool.fill(NOW, true), part(2, 0, MANY - 2));
     let get = begins(&rt, &mut pool);
-    let Ok(TryAnswer::Served(_, conn, grant)) = try_get(&mut pool, NOW, get) else {
+    let Ok(TryAnswer::Served(_, conn, grant)) = pool.try_get(NOW, get) else {
         panic!(&rt; "it was not served");
     };
     assert_equal(&rt, (conn.words[0], grant), (0, part(2, 0, MANY - 2)));
