@@ -2,7 +2,7 @@
 
 mod future;
 
-pub use bb8_core::asked::Unfit;
+pub use bb8_core::internals::Unfit;
 pub use bb8_gets::{
     Begun, CheckUnderWay, FirstTry, GetHome, GetState, LetGo, Next, Outside, Passed, Returned,
     Settled, Stage, Taken, Tried,

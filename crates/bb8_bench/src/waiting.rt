@@ -3,7 +3,6 @@
 ghost use Rattle.std.specs.Prelude.{◌≡◌, IfSome};
 
 use crate::opening::{NOW, full_config};
-use bb8_core::asked;
 use bb8_core::internals::{
     BeginAnswer, ClaimAnswer, GetKey, GiveUpAnswer, Key, OpenedAnswer, PoolInternals,
     PutBackAnswer, Reason, TryAnswer,
@@ -19,7 +18,7 @@ pub(crate) struct Busy {
 
 /// Has a get begin and wait. None where memory was refused, no number was left, or it was served.
 fn wait(pool: &mut PoolInternals<()>) -> Option<GetKey> {
-    let BeginAnswer::Begun(get) = asked::begin(pool, NOW).ok()? else {
+    let BeginAnswer::Begun(get) = pool.begin(NOW).ok()? else {
         return None;
     };
     match pool.try_get(NOW, get).ok()? {

@@ -3,7 +3,7 @@ use Rattle.std.specs.Prelude.{◌≡◌, ◌<◌, ℕ, Bool, true, false, cond, 
 use Rattle.bb8_c.specs.Words.{Closed, ReapAnswer, TryAnswer, Told, Handed, StateView, Meets, TellsFitting, answer_of_reap, answer_of_leave, Listing, Left}
 use Rattle.bb8_ledger.specs.Acts.{Act, Reason, TimedOut, Cancelled, Reap, Leave}
 use Rattle.bb8_ledger.specs.Answers.{Answer}
-use Rattle.bb8_core.specs.Asked.{Stepped}
+use Rattle.bb8_core.specs.Unfit.{Stepped}
 use Rattle.bb8_core.specs.HandedOver.{HandsOver}
 use Rattle.bb8_core.specs.Closings.{AreIdleAs, ReapEnds}
 use Rattle.bb8_c.specs.InC.{handed_in}

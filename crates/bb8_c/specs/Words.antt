@@ -1,7 +1,7 @@
 -- The words that the definitions speak with.
 pub use Rattle.bb8_tables.specs.declared.closed.Closed.{Closed}
 pub use Rattle.bb8_core.specs.StateView.{StateView, state_view_code, Represents, Meets, TellsFitting, IsRecordIn, IsNoRecordIn}
-pub use Rattle.bb8_core.specs.declared.asked.Unfit.{Unfit}
+pub use Rattle.bb8_core.specs.declared.answers.Unfit.{Unfit}
 pub use Rattle.bb8_c.specs.declared.listing.Listing.{Listing}
 pub use Rattle.std.specs.Duration.{as_nanos}
 pub use Rattle.bb8_types.specs.declared.api.figures.State.{State}

@@ -12,7 +12,7 @@ ghost use Rattle.bb8_types.specs.Figures.{figures_of};
 ghost use Rattle.bb8_c.specs.InC as in_c;
 ghost use Rattle.bb8_c.specs.Layout as layout;
 ghost use Rattle.bb8_c.specs.Openings.{CoreIsMade};
-ghost use Rattle.bb8_core.specs.Asked.{OrComesBack, Stepped};
+ghost use Rattle.bb8_core.specs.Unfit.{OrComesBack, Stepped};
 ghost use Rattle.bb8_c.specs.Steps.{Crosses, CrossesOver, Reaps, Leaves, TellsNext, Within, Beside, why};
 
 mod figures;
@@ -24,8 +24,8 @@ mod settings;
 mod told;
 
 use bb8_core::api::Moment;
+use bb8_core::handing;
 use bb8_core::internals::{GetKey, Key, PoolInternals, Reason};
-use bb8_core::{asked, handing};
 pub use figures::{Figures, LookAnswer};
 pub use handle::CoreHandle;
 use listing::Listing;
@@ -100,7 +100,7 @@ pub extern "C" fn bb8_begin(alloc: Global, core: &mut CoreHandle, at: u64) -> To
     ensures { Beside (Crosses (in_c.begin_in {U = Unfit}) answer_of_begin (λ a. ⊤)
         acts.Begin at result) core.old.core core.new.core }
 {
-    with_core!(alloc, core, open => told::begun(asked::begin(&mut open.internals, Moment(at))))
+    with_core!(alloc, core, open => told::begun(open.internals.begin(Moment(at))))
 }
 
 /// Begins a get and lets it try once, as `bb8_begin` and then `bb8_try` do, whether it is checked or not, and whether it is served or waits. The name of the get
@@ -113,7 +113,7 @@ pub extern "C" fn bb8_get(alloc: Global, core: &mut CoreHandle, at: u64) -> Told
         × IfErr a (λ u. Meets old at acts.Begin answers.Unfit new × (new ≡ old)))
         core.old.core core.new.core }
 {
-    with_core!(alloc, core, open => told::got(asked::start(&mut open.internals, Moment(at))))
+    with_core!(alloc, core, open => told::got(open.internals.start(Moment(at))))
 }
 
 /// Begins a get and serves it, where connections go out unchecked, one is idle, and the get needs no memory. Else the answer has kind 0, nothing
@@ -125,7 +125,7 @@ pub extern "C" fn bb8_serve_at_once(alloc: Global, core: &mut CoreHandle, at: u6
         × IfSome a (λ served. ServesAtOnce old at served new)
         × IfNone a (new ≡ old) × IfNone a (NotAtOnce old)) core.old.core core.new.core }
 {
-    with_core!(alloc, core, open => told::at_once(asked::serve_at_once(&mut open.internals, Moment(at))))
+    with_core!(alloc, core, open => told::at_once(open.internals.serve_at_once(Moment(at))))
 }
 
 /// Lets a get try: kind 4 where it is served, 5 where it holds a connection that is to be checked, 6 where it waits.
@@ -293,7 +293,7 @@ pub extern "C" fn bb8_add(
     ensures { Beside (Crosses in_c.add_in answer_of_add (OrComesBack Refuses conn)
         (acts.Add conn broken) at result) core.old.core core.new.core }
 {
-    with_core!(alloc, core, open => told::added(asked::add(&mut open.internals, Moment(at), conn, broken)))
+    with_core!(alloc, core, open => told::added(open.internals.add(Moment(at), conn, broken)))
 }
 
 /// As `bb8_checked_err`, and then `bb8_try` of the get that was notified.
@@ -422,7 +422,7 @@ pub extern "C" fn bb8_join(alloc: Global, core: &mut CoreHandle, at: u64) -> Tol
     ensures { Beside (Crosses (in_c.join_in {U = Unfit}) answer_of_join (λ a. ⊤)
         acts.Join at result) core.old.core core.new.core }
 {
-    with_core!(alloc, core, open => told::joined(asked::join(&mut open.internals, Moment(at))))
+    with_core!(alloc, core, open => told::joined(open.internals.join(Moment(at))))
 }
 
 /// Takes a handle of the pool away: kind 22. With the last one idle connections end, as many as the number of the key; `bb8_closed_next` tells

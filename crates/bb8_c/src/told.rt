@@ -3,11 +3,10 @@ ghost use Rattle.std.specs.Prelude.{◌≡◌};
 ghost use Rattle.bb8_c.specs.InC as in_c;
 
 use crate::listing::Left;
-use bb8_core::asked::Unfit;
 use bb8_core::internals::{
     AddAnswer, AtOnce, BeginAnswer, CheckedErrAnswer, CheckedOkAnswer, ClaimAnswer, Closed,
     FailedAnswer, GetKey, GiveUpAnswer, Grant, JoinAnswer, Key, LeaveAnswer, OpenedAnswer,
-    PutBackAnswer, ReapAnswer, Started, TryAnswer,
+    PutBackAnswer, ReapAnswer, Started, TryAnswer, Unfit,
 };
 
 // The kinds of answers. They are part of what C relies on, and never change.

@@ -1,4 +1,4 @@
-pub mod Asked
+pub mod Unfit
 pub mod StateView
 pub mod Decided
 pub mod StepAnswers

@@ -4,16 +4,15 @@
 //! Each is the step of its name, and then that try.
 ghost use Rattle.std.specs.Prelude.{None, Some, IfSome, IfOk};
 ghost use Rattle.bb8_ledger.specs.Acts as acts;
-ghost use Rattle.bb8_core.specs.Asked.{Stepped, OrComesBack};
+ghost use Rattle.bb8_core.specs.Unfit.{Stepped, OrComesBack};
 ghost use Rattle.bb8_core.specs.HandedOver.{HandsOver, Follows};
 ghost use Rattle.bb8_core.specs.StateView.{IsFitting, IsWithinLimits};
 ghost use Rattle.bb8_core.specs.StepAnswers.{answer_of_checked_err, answer_of_give_up, answer_of_put_back, answer_of_opened, answer_of_add, reason_of, GivesBack, GivesBackInvalid, GivesBackHeld, HandsBack, Refuses};
 
 use crate::api::Moment;
-use crate::asked::{self, Unfit};
 use crate::internals::{
     AddAnswer, CheckedErrAnswer, GetKey, GiveUpAnswer, Key, OpenedAnswer, PoolInternals,
-    PutBackAnswer, Reason, TryAnswer,
+    PutBackAnswer, Reason, TryAnswer, Unfit,
 };
 
 /// What a step that hands over comes to.
@@ -80,11 +79,7 @@ pub fn checked_err<C: Drop>(
     ensures connection { OrComesBack GivesBackInvalid conn result.told }
     ensures limits { IsWithinLimits pool.old }
 {
-    hand_over!(
-        pool,
-        at,
-        pool.checked_err(at, get, conn, broken, hint)
-    )
+    hand_over!(pool, at, pool.checked_err(at, get, conn, broken, hint))
 }
 
 /// Gives up a get that holds nothing, and hands over.
@@ -173,5 +168,5 @@ pub fn add<C: Drop>(
     ensures connection { OrComesBack Refuses conn result.told }
     ensures limits { IsWithinLimits pool.old }
 {
-    hand_over!(pool, at, asked::add(pool, at, conn, broken))
+    hand_over!(pool, at, pool.add(at, conn, broken))
 }

@@ -1,5 +1,5 @@
 //! The locked state of a pool.
-ghost use Rattle.std.specs.Prelude.{◌≡◌, ◌+◌, ◌≤◌, min, IfSome, IfNone, IfOk, true, false, None, Some};
+ghost use Rattle.std.specs.Prelude.{◌≡◌, ◌+◌, ◌≤◌, min, IfSome, IfNone, IfOk, IfErr, true, false, None, Some};
 ghost use Rattle.bb8_ledger.specs.Acts as acts;
 ghost use Rattle.bb8_ledger.specs.Answers as answers;
 ghost use Rattle.bb8_ledger.specs.Ledger as ledger;
@@ -11,9 +11,9 @@ ghost use Rattle.bb8_core.specs.Endings.{endings_of};
 ghost use Rattle.bb8_core.specs.Run.{opening};
 ghost use Rattle.bb8_core.specs.Parts.{out_of};
 ghost use Rattle.bb8_core.specs.StateView.{Represents, Meets, Lends, Searches, examined, searched, IsFitting, IsWithinLimits};
-ghost use Rattle.bb8_core.specs.Asked.{Stepped, OrComesBack};
+ghost use Rattle.bb8_core.specs.Unfit.{Stepped, OrComesBack};
 ghost use Rattle.bb8_core.specs.Closings.{OffersReaped, OffersLeft};
-ghost use Rattle.bb8_core.specs.StepAnswers.{answer_of_begin, answer_of_try, answer_of_checked_ok, answer_of_checked_err, reason_of, answer_of_give_up, answer_of_put_back, answer_of_claim, answer_of_opened, answer_of_failed, answer_of_add, answer_of_reap, answer_of_join, answer_of_leave, answer_of_look, HandsOut, ServesAtOnce, NoneAtOnce, Starts, GivesBack, GivesBackInvalid, GivesBackHeld, HandsBack, Refuses, closed_in};
+ghost use Rattle.bb8_core.specs.StepAnswers.{answer_of_begin, answer_of_try, answer_of_checked_ok, answer_of_checked_err, reason_of, answer_of_give_up, answer_of_put_back, answer_of_claim, answer_of_opened, answer_of_failed, answer_of_add, answer_of_reap, answer_of_join, answer_of_leave, answer_of_look, HandsOut, ServesAtOnce, NotAtOnce, Starts, GivesBack, GivesBackInvalid, GivesBackHeld, HandsBack, Refuses, closed_in};
 ghost use Rattle.bb8_types.specs.declared.standing.Holder.TheVariants.{Guard, Get};
 ghost use Rattle.bb8_types.specs.Bounds.{end_of_numbers};
 
@@ -23,9 +23,8 @@ mod questions;
 pub use crate::answers::{
     AddAnswer, AtOnce, BeginAnswer, CheckedErrAnswer, CheckedOkAnswer, ClaimAnswer, FailedAnswer,
     GiveUpAnswer, JoinAnswer, LeaveAnswer, Looked, OpenedAnswer, PutBackAnswer, ReapAnswer,
-    Started, TryAnswer,
+    Started, TryAnswer, Unfit,
 };
-use crate::asked::Unfit;
 pub use bb8_tables::closed::{Closed, ClosedList};
 use bb8_tables::counters::Counters;
 use bb8_tables::gets::{Gets, first_wait, is_notified, is_trying, is_unnotified};
@@ -126,39 +125,48 @@ impl<C: Drop, A> PoolInternals<C, A> {
         self.lendings.searched()
     }
 
-    /// Begins a get. Memory is asked for only where as many gets are alive as ever were.
-    pub fn begin(&mut self, at: Moment) -> BeginAnswer
-        requires { IsFitting self.old acts.Begin }
-        ensures step { Meets self.old at.0 acts.Begin (answer_of_begin result) self.new }
-        ensures examined { Lends 4 self.old self.new }
-        ensures searched { Searches 0 self.new }
+    /// Begins a get. Memory is asked for only where as many gets are alive as ever were. Where no handle is alive nothing changes.
+    #[inline(always)]
+    pub fn begin(&mut self, at: Moment) -> Result<BeginAnswer, Unfit>
+        ensures step { Stepped Meets answer_of_begin self.old at.0 acts.Begin result self.new }
+        ensures examined { IfOk result (λ told. Lends 4 self.old self.new) }
+        ensures searched { IfOk result (λ told. Searches 0 self.new) }
+        ensures limits { IsWithinLimits self.old }
     {
+        self.limits();
+        if !self.fits_begin() {
+            return Err(Unfit);
+        }
         self.latest = self.latest.max(at.0);
         self.lendings.start();
         if !self.gets.has_number() {
-            return BeginAnswer::Exhausted;
+            return Ok(BeginAnswer::Exhausted);
         }
         match self.gets.begin() {
-            None => BeginAnswer::Memory,
+            None => Ok(BeginAnswer::Memory),
             Some(get) => {
                 self.counters.started += 1;
-                BeginAnswer::Begun(get)
+                Ok(BeginAnswer::Begun(get))
             }
         }
     }
 
-    /// Begins a get and serves it, as `begin` and then `try_get` do, where a connection is idle and the get could begin with no memory.
-    /// Otherwise nothing changes: no connection is idle, no number is left, or as many gets are alive as ever were.
+    /// Begins a get and serves it, as `begin` and then `try_get` do, where connections go out unchecked, one is idle, and the get could begin
+    /// with no memory. Otherwise nothing changes: connections are checked, no handle is alive, none is idle, no number is left, or as many gets
+    /// are alive as ever were.
     #[inline(always)]
     pub fn serve_at_once(&mut self, at: Moment) -> Option<AtOnce<C>>
-        requires begin { IsFitting self.old acts.Begin }
-        requires unchecked { self.old.config.test_on_check_out ≡ false }
         ensures some { IfSome result (λ served. ServesAtOnce self.old at.0 served self.new) }
         ensures none { IfNone result (self.new ≡ self.old) }
-        ensures cause { IfNone result (NoneAtOnce self.old) }
+        ensures cause { IfNone result (NotAtOnce self.old) }
         ensures examined { IfSome result (λ served. Lends 4 self.old self.new) }
         ensures searched { IfSome result (λ served. Searches 0 self.new) }
+        ensures limits { IsWithinLimits self.old }
     {
+        self.limits();
+        if !self.fits_at_once() {
+            return None;
+        }
         if !self.gets.has_room() {
             return None;
         }
@@ -191,19 +199,22 @@ impl<C: Drop, A> PoolInternals<C, A> {
     }
 
     /// Begins a get and lets it try, as `begin` and then `try_get` do, in one step. A get that is served leaves no entry; another is born where
-    /// it stands then, and is looked up nowhere.
+    /// it stands then, and is looked up nowhere. Where no handle is alive nothing changes.
     #[inline(always)]
-    pub fn start(&mut self, at: Moment) -> Started<C>
-        requires { IsFitting self.old acts.Begin }
-        ensures step { Starts self.old at.0 result self.new }
-        ensures examined { Lends 4 self.old self.new }
-        ensures searched { Searches 0 self.new }
+    pub fn start(&mut self, at: Moment) -> Result<Started<C>, Unfit>
+        ensures ok { IfOk result (λ told. Starts self.old at.0 told self.new) }
+        ensures err { IfErr result (λ u. Meets self.old at.0 acts.Begin answers.Unfit self.new
+            × (self.new ≡ self.old)) }
+        ensures examined { IfOk result (λ told. Lends 4 self.old self.new) }
+        ensures searched { IfOk result (λ told. Searches 0 self.new) }
+        ensures limits { IsWithinLimits self.old }
     {
-        if self.config.test_on_check_out {
-            return self.start_on(at);
+        self.limits();
+        if !self.fits_begin() {
+            return Err(Unfit);
         }
         match self.serve_at_once(at) {
-            None => self.start_on(at),
+            None => Ok(self.start_on(at)),
             Some(
                 AtOnce {
                     get,
@@ -211,13 +222,13 @@ impl<C: Drop, A> PoolInternals<C, A> {
                     conn,
                     grant,
                 },
-            ) => Started::Tried(
-                GetKey {
+            ) => {
+                let get = GetKey {
                     number: get,
                     place: 0,
-                },
-                TryAnswer::Served(key, conn, grant),
-            ),
+                };
+                Ok(Started::Tried(get, TryAnswer::Served(key, conn, grant)))
+            }
         }
     }
 
@@ -635,29 +646,35 @@ impl<C: Drop, A> PoolInternals<C, A> {
 
     /// Adds a connection that no approval brought, born now. A broken one is refused first; then any, where connections and open approvals
     /// are as many as `max_size`; then, where no number is left, or there are as many of them as ever were and memory for one more was
-    /// refused.
-    pub fn add(&mut self, at: Moment, conn: C, broken: bool) -> AddAnswer<C>
-        requires { IsFitting self.old (acts.Add conn broken) }
-        ensures step { Meets self.old at.0 (acts.Add conn broken) (answer_of_add result) self.new }
-        ensures connection { Refuses conn result }
-        ensures examined { Lends 4 self.old self.new }
-        ensures searched { Searches 0 self.new }
+    /// refused. Where no handle is alive nothing changes, and it comes back.
+    #[inline(always)]
+    pub fn add(&mut self, at: Moment, conn: C, broken: bool) -> Result<AddAnswer<C>, C>
+        ensures step { Stepped Meets answer_of_add self.old at.0 (acts.Add conn broken)
+            result self.new }
+        ensures connection { OrComesBack Refuses conn result }
+        ensures examined { IfOk result (λ told. Lends 4 self.old self.new) }
+        ensures searched { IfOk result (λ told. Searches 0 self.new) }
+        ensures limits { IsWithinLimits self.old }
     {
+        self.limits();
+        if !self.fits_add() {
+            return Err(conn);
+        }
         let now = self.latest.max(at.0);
         self.latest = now;
         self.lendings.start();
         if broken {
-            return AddAnswer::Broken(conn);
+            return Ok(AddAnswer::Broken(conn));
         }
         if self.records.used() == self.config.max_size as u64 {
-            return AddAnswer::NoCapacity(conn);
+            return Ok(AddAnswer::NoCapacity(conn));
         }
         if !self.records.has_number() {
-            return AddAnswer::Withheld(conn);
+            return Ok(AddAnswer::Withheld(conn));
         }
         match self.records.add(conn, now) {
-            Ok(key) => AddAnswer::Added(key, self.gets.notify(&mut self.lendings)),
-            Err(conn) => AddAnswer::Withheld(conn),
+            Ok(key) => Ok(AddAnswer::Added(key, self.gets.notify(&mut self.lendings))),
+            Err(conn) => Ok(AddAnswer::Withheld(conn)),
         }
     }
 
@@ -728,31 +745,42 @@ impl<C: Drop, A> PoolInternals<C, A> {
         }
     }
 
-    /// Adds a handle, where fewer than 4,294,967,295 are alive.
-    pub fn join(&mut self, at: Moment) -> JoinAnswer
-        requires { IsFitting self.old acts.Join }
-        ensures step { Meets self.old at.0 acts.Join (answer_of_join result) self.new }
-        ensures examined { Lends 4 self.old self.new }
-        ensures searched { Searches 0 self.new }
+    /// Adds a handle, where fewer than 4,294,967,295 are alive. Where none is nothing changes.
+    #[inline(always)]
+    pub fn join(&mut self, at: Moment) -> Result<JoinAnswer, Unfit>
+        ensures step { Stepped Meets answer_of_join self.old at.0 acts.Join result self.new }
+        ensures examined { IfOk result (λ told. Lends 4 self.old self.new) }
+        ensures searched { IfOk result (λ told. Searches 0 self.new) }
+        ensures limits { IsWithinLimits self.old }
     {
+        self.limits();
+        if !self.fits_join() {
+            return Err(Unfit);
+        }
         self.latest = self.latest.max(at.0);
         self.lendings.start();
         if self.handles >= u32::MAX as u64 {
-            return JoinAnswer::Exhausted;
+            return Ok(JoinAnswer::Exhausted);
         }
         self.handles += 1;
-        JoinAnswer::Joined
+        Ok(JoinAnswer::Joined)
     }
 
-    /// Takes a handle away. With the last one all idle connections and all unclaimed approvals end; the connections are dropped here.
-    pub fn leave(&mut self, at: Moment) -> LeaveAnswer
-        requires { IsFitting self.old acts.Leave }
-        ensures step { Meets self.old at.0 acts.Leave (answer_of_leave result) self.new }
-        ensures examined { Lends 0 self.old self.new }
-        ensures searched { Searches 0 self.new }
+    /// Takes a handle away. With the last one all idle connections and all unclaimed approvals end; the connections are dropped here. Where no
+    /// handle is alive nothing changes.
+    #[inline(always)]
+    pub fn leave(&mut self, at: Moment) -> Result<LeaveAnswer, Unfit>
+        ensures step { Stepped Meets answer_of_leave self.old at.0 acts.Leave result self.new }
+        ensures examined { IfOk result (λ told. Lends 0 self.old self.new) }
+        ensures searched { IfOk result (λ told. Searches 0 self.new) }
+        ensures limits { IsWithinLimits self.old }
     {
+        self.limits();
+        if !self.fits_leave() {
+            return Err(Unfit);
+        }
         let mut dropped = self.records.no_list();
-        self.leave_into(at, &mut dropped)
+        Ok(self.leave_into(at, &mut dropped))
     }
 
     /// Leaves as `leave` does, and puts the connections that it closes into a list, in line. What the list has no room for is dropped.

@@ -4,7 +4,6 @@
 pub use bb8_types::api;
 
 mod answers;
-pub mod asked;
 pub mod handing;
 pub mod internals;
 pub mod replay;

@@ -11,6 +11,7 @@ ghost use Rattle.bb8_core.specs.Run.{act_with, fits_named, answer_of, opening, I
 ghost use Rattle.bb8_core.specs.declared.replay.events.Act.TheVariants as events;
 ghost use Rattle.bb8_types.specs.Settings.{settings_of, is_lawful};
 ghost use Rattle.bb8_core.specs.StateView.{Represents, Meets};
+ghost use Rattle.bb8_core.specs.Unfit.{answered};
 ghost use Rattle.bb8_core.specs.StepAnswers.{answer_of_give_up};
 
 mod events;
@@ -20,8 +21,8 @@ use self::hints::Hints;
 use crate::answers::{
     AddAnswer, BeginAnswer, CheckedErrAnswer, CheckedOkAnswer, ClaimAnswer, FailedAnswer,
     GiveUpAnswer, JoinAnswer, LeaveAnswer, OpenedAnswer, PutBackAnswer, ReapAnswer, TryAnswer,
+    Unfit,
 };
-use crate::asked::{self, Unfit};
 use crate::internals::PoolInternals;
 use bb8_tables::keys::{GetKey, Key};
 use bb8_types::api::{Config, Memory, Moment};
@@ -112,7 +113,7 @@ fn fits_act<C: Drop>(pool: &PoolInternals<C>, act: Act) -> bool
 fn begin(pool: &mut PoolInternals<u64>, known: &mut Known, at: Moment) -> Answer
     ensures { Meets pool.old at.0 acts.Begin (answer_of result) pool.new }
 {
-    match asked::begin(pool, at) {
+    match pool.begin(at) {
         Ok(BeginAnswer::Begun(get)) => {
             known.gets.note(get.number, get.place);
             Answer::Begun(get.number)
@@ -256,7 +257,7 @@ fn add(pool: &mut PoolInternals<u64>, known: &mut Known, at: Moment, broken: boo
         (answer_of result) pool.new }
 {
     let number = pool.next_number();
-    match asked::add(pool, at, number, broken) {
+    match pool.add(at, number, broken) {
         Ok(AddAnswer::Added(key, notified)) => {
             known.records.note(key.number, key.place);
             Answer::Added(key.number, number_of(notified))
@@ -290,7 +291,7 @@ fn reap(pool: &mut PoolInternals<u64>, at: Moment) -> Answer
 fn join(pool: &mut PoolInternals<u64>, at: Moment) -> Answer
     ensures { Meets pool.old at.0 acts.Join (answer_of result) pool.new }
 {
-    match asked::join(pool, at) {
+    match pool.join(at) {
         Ok(JoinAnswer::Joined) => Answer::Joined,
         Ok(JoinAnswer::Exhausted) => Answer::Exhausted,
         Err(Unfit) => Answer::Unfit,
@@ -300,7 +301,7 @@ fn join(pool: &mut PoolInternals<u64>, at: Moment) -> Answer
 fn leave(pool: &mut PoolInternals<u64>, at: Moment) -> Answer
     ensures { Meets pool.old at.0 acts.Leave (answer_of result) pool.new }
 {
-    match asked::leave(pool, at) {
+    match pool.leave(at) {
         Ok(LeaveAnswer::Left(closed)) => Answer::Left(closed),
         Err(Unfit) => Answer::Unfit,
     }

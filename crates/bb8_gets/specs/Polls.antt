@@ -22,7 +22,7 @@ use Rattle.bb8_gets.specs.declared.home.Returned.{Returned}
 use Rattle.bb8_gets.specs.declared.home.Taken.{Taken}
 use Rattle.bb8_gets.specs.declared.home.Tried.{Tried}
 use Rattle.bb8_gets.specs.declared.home.Tried.TheVariants as tried
-use Rattle.bb8_core.specs.declared.asked.Unfit.{Unfit}
+use Rattle.bb8_core.specs.declared.answers.Unfit.{Unfit}
 use Rattle.bb8_gets.specs.declared.outside.Outside.{Ghosts as OutsideOf}
 use Rattle.bb8_gets.specs.declared.state.Begun.{Begun as Open}
 use Rattle.bb8_gets.specs.declared.state.CheckUnderWay.{CheckUnderWay}

@@ -12,14 +12,14 @@ use Rattle.bb8_core.specs.declared.answers.CheckedErrAnswer.{CheckedErrAnswer}
 use Rattle.bb8_core.specs.declared.answers.GiveUpAnswer.{GiveUpAnswer}
 use Rattle.bb8_core.specs.declared.answers.Looked.{Looked}
 use Rattle.bb8_core.specs.StepAnswers.{answer_of_checked_err, answer_of_give_up, answer_of_look, reason_of, GivesBackHeld, GivesBackInvalid, HandsOut}
-use Rattle.bb8_core.specs.Asked.{OrComesBack, Stepped}
+use Rattle.bb8_core.specs.Unfit.{OrComesBack, Stepped}
 use Rattle.bb8_core.specs.StateView.{StateView}
 use Rattle.bb8_gets.specs.declared.home.FirstTry.{FirstTry}
 use Rattle.bb8_gets.specs.declared.home.FirstTry.TheVariants as first
 use Rattle.bb8_gets.specs.declared.home.Passed.{Passed}
 use Rattle.bb8_gets.specs.declared.home.Returned.{Returned}
 use Rattle.bb8_gets.specs.declared.home.Tried.{Tried}
-use Rattle.bb8_core.specs.declared.asked.Unfit.{Unfit}
+use Rattle.bb8_core.specs.declared.answers.Unfit.{Unfit}
 use Rattle.bb8_gets.specs.Told.{in_core, answer_of_passed, answer_of_tried}
 
 -- Each step, by which get, with what is handed in, and its answer.

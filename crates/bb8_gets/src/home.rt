@@ -5,9 +5,8 @@ ghost use Rattle.bb8_core.specs.declared.answers.CheckedOkAnswer.TheVariants.{Se
 ghost use Rattle.bb8_gets.specs.Steps.{GetStep, Looks, Starts, Tries, Passes, Fails, GivesUp, GivesBack};
 
 use bb8_core::api::Moment;
-use bb8_core::asked::Unfit;
 use bb8_core::internals::{
-    CheckedErrAnswer, CheckedOkAnswer, GetKey, GiveUpAnswer, Grant, Key, Looked, Reason,
+    CheckedErrAnswer, CheckedOkAnswer, GetKey, GiveUpAnswer, Grant, Key, Looked, Reason, Unfit,
 };
 
 /// A connection that is out, with what goes with it. It cannot be let go but by name.

@@ -1,7 +1,7 @@
 //! The plain state of a pool as a home of gets.
 ghost use Rattle.std.specs.Prelude.{◌≡◌, Some};
 ghost use Rattle.bb8_ledger.specs.Acts as acts;
-ghost use Rattle.bb8_core.specs.Asked.{OrComesBack, Stepped};
+ghost use Rattle.bb8_core.specs.Unfit.{OrComesBack, Stepped};
 ghost use Rattle.bb8_core.specs.StateView.{Steps};
 ghost use Rattle.bb8_core.specs.StepAnswers.{answer_of_checked_err, answer_of_give_up, reason_of, GivesBackHeld, GivesBackInvalid};
 ghost use Rattle.bb8_gets.specs.Steps.{StepsBy};
@@ -9,9 +9,9 @@ ghost use Rattle.bb8_gets.specs.Told.{in_core};
 
 use super::home::{FirstTry, GetHome, Passed, Returned, Taken, Tried};
 use bb8_core::api::Moment;
-use bb8_core::asked::{self, Unfit};
 use bb8_core::internals::{
     CheckedErrAnswer, GetKey, GiveUpAnswer, Key, Looked, PoolInternals, Reason, Started, TryAnswer,
+    Unfit,
 };
 
 /// A try's answer, where nothing goes with the connection.
@@ -57,7 +57,7 @@ impl<C: Drop> GetHome<C> for PoolInternals<C> {
     }
 
     fn start(&mut self, at: Moment) -> Result<FirstTry<C, ()>, Unfit> {
-        match asked::start(self, at)? {
+        match self.start(at)? {
             Started::Tried(get, told) => Ok(FirstTry::Tried(get, alone(told))),
             Started::Memory => Ok(FirstTry::Memory),
             Started::Exhausted => Ok(FirstTry::Exhausted),

@@ -9,8 +9,7 @@ use super::home::{FirstTry, GetHome, Passed, Returned, Taken, Tried};
 use super::outside::Outside;
 use super::state::{Begun, CheckUnderWay, Next, Settled, Stage};
 use bb8_core::api::{Moment, RunError};
-use bb8_core::asked::Unfit;
-use bb8_core::internals::{CheckedErrAnswer, GetKey, GiveUpAnswer, Reason};
+use bb8_core::internals::{CheckedErrAnswer, GetKey, GiveUpAnswer, Reason, Unfit};
 use futures::task::Poll;
 use std::time::Duration;
 

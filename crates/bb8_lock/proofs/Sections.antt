@@ -31,7 +31,7 @@ use Rattle.bb8_ledger.specs.Answers as answers
 use Rattle.bb8_ledger.specs.Answers.{Answer, Begun, Broken, Granted, Unfit}
 use Rattle.bb8_ledger.specs.Table.{Allowed, Row, fills, add_broken, gives_up}
 use Rattle.bb8_core.specs.StateView.{StateView, Represents, Meets, HasLedger, IsWithinLimits, Steps, TellsFitting}
-use Rattle.bb8_core.specs.Asked.{answered}
+use Rattle.bb8_core.specs.Unfit.{answered}
 use Rattle.bb8_core.specs.Run.{opening}
 use Rattle.bb8_lock.specs.Parts.{goes_out, parts_back}
 use Rattle.bb8_lock.specs.Sections.{IsSorted}

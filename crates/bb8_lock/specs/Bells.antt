@@ -2,7 +2,7 @@
 use Rattle.std.specs.Prelude.{ℕ, Bool, false, ◌||◌, ltb, Option, is_some, ⊤}
 use Rattle.bb8_ledger.specs.Answers.{Answer, Served, Taken, Waiting, Closed, Granted, Reaped, Memory, Exhausted}
 use Rattle.bb8_ledger.specs.Handed.{told_by}
-use Rattle.bb8_core.specs.Asked.{answered}
+use Rattle.bb8_core.specs.Unfit.{answered}
 use Rattle.bb8_core.specs.StepAnswers.{answer_of_add, answer_of_checked_err, answer_of_give_up, answer_of_opened, answer_of_put_back}
 use Rattle.bb8_gets.specs.declared.home.FirstTry.{FirstTry}
 use Rattle.bb8_gets.specs.declared.home.FirstTry.TheVariants as first

@@ -10,7 +10,7 @@ use Rattle.bb8_core.specs.declared.answers.Looked.{Looked}
 use Rattle.bb8_core.specs.declared.answers.PutBackAnswer.{PutBackAnswer}
 use Rattle.bb8_core.specs.declared.answers.PutBackAnswer.TheVariants as put_back
 use Rattle.bb8_gets.specs.declared.home.Returned.{Returned}
-use Rattle.bb8_core.specs.declared.asked.Unfit.{Unfit}
+use Rattle.bb8_core.specs.declared.answers.Unfit.{Unfit}
 use Rattle.bb8_gets.specs.Polls.{rest_of}
 use Rattle.bb8_lock.specs.declared.bell.Rests.{Ghosts as RestsOf}
 use Rattle.bb8_lock.specs.declared.bell.Sleeper.TheVariants.{Get}

@@ -5,7 +5,7 @@ use Rattle.bb8_core.specs.declared.answers.AddAnswer.{AddAnswer}
 use Rattle.bb8_core.specs.declared.answers.LeaveAnswer.{LeaveAnswer}
 use Rattle.bb8_core.specs.declared.answers.PutBackAnswer.{PutBackAnswer}
 use Rattle.bb8_gets.specs.declared.home.Returned.{Returned}
-use Rattle.bb8_core.specs.declared.asked.Unfit.{Unfit}
+use Rattle.bb8_core.specs.declared.answers.Unfit.{Unfit}
 use Rattle.bb8_lock.specs.declared.section_home.Joining.{Joining}
 
 -- Each step, with what is handed in, and its answer.

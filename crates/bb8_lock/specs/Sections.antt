@@ -6,7 +6,7 @@ use Rattle.bb8_lock.specs.declared.section_home.Joining.TheVariants as joining
 use Rattle.bb8_types.specs.Figures.{figures_of}
 use Rattle.bb8_ledger.specs.Acts as acts
 use Rattle.bb8_ledger.specs.Answers as answers
-use Rattle.bb8_core.specs.Asked.{OrComesBack, Stepped}
+use Rattle.bb8_core.specs.Unfit.{OrComesBack, Stepped}
 use Rattle.bb8_core.specs.StateView.{StateView}
 use Rattle.bb8_lock.specs.SectionSteps.{SectionStep, PutsBack, Adds, Shows, Joins, Leaves}
 

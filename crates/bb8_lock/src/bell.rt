@@ -3,7 +3,7 @@
 ghost use Rattle.std.specs.Prelude.{◌≡◌, ℕ};
 ghost use Rattle.std.specs.Duration.{as_nanos};
 ghost use Rattle.bb8_tables.specs.Keys.{notified_of};
-ghost use Rattle.bb8_core.specs.Asked.{answered};
+ghost use Rattle.bb8_core.specs.Unfit.{answered};
 ghost use Rattle.bb8_core.specs.StepAnswers.{answer_of_give_up};
 ghost use Rattle.bb8_gets.specs.Told.{answer_of_tried};
 ghost use Rattle.bb8_lock.specs.declared.bell.Rings.{Rings as RingsOf};

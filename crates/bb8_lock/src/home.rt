@@ -1,7 +1,7 @@
 //! What a pool's lock holds as a home of gets.
 ghost use Rattle.std.specs.Prelude.{◌≡◌, ◌+◌, ◌≤◌, Some};
 ghost use Rattle.bb8_ledger.specs.Acts as acts;
-ghost use Rattle.bb8_core.specs.Asked.{OrComesBack, Stepped};
+ghost use Rattle.bb8_core.specs.Unfit.{OrComesBack, Stepped};
 ghost use Rattle.bb8_core.specs.StepAnswers.{answer_of_checked_err, answer_of_give_up, reason_of, GivesBackHeld, GivesBackInvalid};
 ghost use Rattle.bb8_gets.specs.Homes.{StepsIn};
 ghost use Rattle.bb8_gets.specs.Steps.{StepsBy, Starts};
@@ -10,9 +10,8 @@ ghost use Rattle.bb8_lock.specs.Parts.{goes_out};
 
 use crate::locked::{Locked, Part, Parts};
 use bb8_core::api::Moment;
-use bb8_core::asked::{self, Unfit};
 use bb8_core::internals::{
-    AtOnce, CheckedErrAnswer, GetKey, GiveUpAnswer, Key, Looked, Reason, Started, TryAnswer,
+    AtOnce, CheckedErrAnswer, GetKey, GiveUpAnswer, Key, Looked, Reason, Started, TryAnswer, Unfit,
 };
 use bb8_gets::{FirstTry, GetHome, Passed, Returned, Taken, Tried};
 use std::sync::ledger::Share;
@@ -56,7 +55,7 @@ impl<C: Drop, L: Parts> Locked<C, L> {
         ensures { StepsBy (StepsIn L.settings) self.old.core at (Starts result) self.new.core }
     {
         let Locked { core, rest, .. } = self;
-        match asked::start(core, at) {
+        match core.start(at) {
             Ok(Started::Tried(get, told)) => Ok(FirstTry::Tried(get, hand_out(rest, told))),
             Ok(Started::Memory) => Ok(FirstTry::Memory),
             Ok(Started::Exhausted) => Ok(FirstTry::Exhausted),
@@ -86,7 +85,7 @@ impl<C: Drop, L: Parts> GetHome<C> for Locked<C, L> {
     #[inline(always)]
     fn start(&mut self, at: Moment) -> Result<FirstTry<C, Part<L>>, Unfit> {
         let Locked { core, rest, .. } = self;
-        match asked::serve_at_once(core, at) {
+        match core.serve_at_once(at) {
             Some(
                 AtOnce {
                     get,

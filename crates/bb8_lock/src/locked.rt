@@ -10,9 +10,8 @@ ghost use Rattle.bb8_core.specs.StateView.{IsWithinLimits};
 
 use crate::section_home::{Ends, Handle, Joining, SectionHome};
 use bb8_core::api::{Config, Memory, Moment, State};
-use bb8_core::asked::{self, Unfit};
 use bb8_core::internals::{
-    AddAnswer, Grant, JoinAnswer, LeaveAnswer, PoolInternals, PutBackAnswer,
+    AddAnswer, Grant, JoinAnswer, LeaveAnswer, PoolInternals, PutBackAnswer, Unfit,
 };
 use bb8_gets::{Returned, Taken};
 use std::alloc::Global;
@@ -152,7 +151,7 @@ impl<C: Drop, L: Parts> Locked<C, L> {
 
 /// Each section is one step, from the state that stands there to the next one.
 impl<C: Drop, L: Parts> SectionHome<C> for Locked<C, L> {
-    ghost use Rattle.bb8_core.specs.Asked.{OrComesBack, Stepped};
+    ghost use Rattle.bb8_core.specs.Unfit.{OrComesBack, Stepped};
     ghost use Rattle.bb8_core.specs.StepAnswers.{answer_of_add, answer_of_put_back, GivesBack, Refuses};
     ghost use Rattle.bb8_gets.specs.Homes.{StepsIn};
     ghost use Rattle.bb8_lock.specs.Sections.{IsSorted, SectionsBy};
@@ -186,7 +185,7 @@ impl<C: Drop, L: Parts> SectionHome<C> for Locked<C, L> {
         ensures sorted { IfOk result (IsSorted broken) }
     {
         let Locked { core, .. } = self;
-        asked::add(core, at, conn, broken)
+        core.add(at, conn, broken)
     }
 
     fn state(&mut self, at: Moment) -> State {
@@ -197,7 +196,7 @@ impl<C: Drop, L: Parts> SectionHome<C> for Locked<C, L> {
 
     fn join(&mut self, at: Moment) -> Joining {
         let Locked { core, .. } = self;
-        match asked::join(core, at) {
+        match core.join(at) {
             Ok(JoinAnswer::Joined) => Joining::Joined(Handle { _alive: () }),
             Ok(JoinAnswer::Exhausted) => Joining::Exhausted,
             Err(Unfit) => Joining::Unfit,
@@ -207,7 +206,7 @@ impl<C: Drop, L: Parts> SectionHome<C> for Locked<C, L> {
     fn leave(&mut self, at: Moment, handle: Handle) -> Result<LeaveAnswer, Unfit> {
         let Locked { core, .. } = self;
         let Handle { _alive: () } = handle;
-        asked::leave(core, at)
+        core.leave(at)
     }
 }
 

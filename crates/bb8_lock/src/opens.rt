@@ -4,8 +4,9 @@ ghost use Rattle.bb8_tasks.specs.Homes.{TaskStepsBy};
 
 use crate::locked::{Locked, Parts};
 use bb8_core::api::Moment;
-use bb8_core::asked::Unfit;
-use bb8_core::internals::{ClaimAnswer, FailedAnswer, Key, Looked, OpenedAnswer, ReapAnswer};
+use bb8_core::internals::{
+    ClaimAnswer, FailedAnswer, Key, Looked, OpenedAnswer, ReapAnswer, Unfit,
+};
 use bb8_gets::GetHome;
 use bb8_tasks::Home;
 

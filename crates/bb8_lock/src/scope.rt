@@ -11,10 +11,9 @@ use crate::locks::Locks;
 use crate::section_home::Ends;
 use crate::{Given, Handle, Joining, Locked, Parts, SectionHome, Shared};
 use bb8_core::api::{Moment, State};
-use bb8_core::asked::Unfit;
 use bb8_core::internals::{
     AddAnswer, CheckedErrAnswer, ClaimAnswer, FailedAnswer, GetKey, GiveUpAnswer, Key, LeaveAnswer,
-    Looked, OpenedAnswer, PutBackAnswer, ReapAnswer, Reason,
+    Looked, OpenedAnswer, PutBackAnswer, ReapAnswer, Reason, Unfit,
 };
 use bb8_gets::{FirstTry, GetHome, LetGo, Passed, Returned, Taken, Tried};
 use bb8_tasks::Home;

@@ -4,8 +4,7 @@ ghost use Rattle.bb8_types.specs.declared.api.moments.Moment.{Moment as MomentOf
 ghost use Rattle.bb8_lock.specs.SectionSteps.{SectionStep, PutsBack, Adds, Shows, Joins, Leaves};
 
 use bb8_core::api::{Moment, State};
-use bb8_core::asked::Unfit;
-use bb8_core::internals::{AddAnswer, LeaveAnswer, PutBackAnswer};
+use bb8_core::internals::{AddAnswer, LeaveAnswer, PutBackAnswer, Unfit};
 use bb8_gets::{GetHome, Returned};
 
 /// A handle that is alive. The opening of a pool and `SectionHome::join` make one, and `SectionHome::leave` alone takes one: it cannot be

@@ -3,7 +3,7 @@ use Rattle.std.specs.Prelude.{ℕ}
 use Rattle.bb8_tasks.specs.Words.{Answer, Moment}
 use Rattle.bb8_ledger.specs.Acts as acts
 use Rattle.bb8_ledger.specs.Acts.{Act}
-use Rattle.bb8_core.specs.Asked.{OrComesBack, Stepped}
+use Rattle.bb8_core.specs.Unfit.{OrComesBack, Stepped}
 use Rattle.bb8_core.specs.StateView.{StateView}
 use Rattle.bb8_core.specs.StepAnswers.{answer_of_claim, answer_of_failed, answer_of_look, answer_of_opened, answer_of_reap, HandsBack}
 use Rattle.bb8_tasks.specs.TaskSteps.{TaskStep, Looks, Opens, Fails, Claims, Reaps}

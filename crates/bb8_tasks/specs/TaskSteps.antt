@@ -3,7 +3,7 @@ use Rattle.bb8_tables.specs.declared.keys.Key.{Key}
 use Rattle.bb8_core.specs.declared.answers.ClaimAnswer.{ClaimAnswer}
 use Rattle.bb8_core.specs.declared.answers.Looked.{Looked}
 use Rattle.std.specs.Prelude.{Result}
-use Rattle.bb8_core.specs.declared.asked.Unfit.{Unfit}
+use Rattle.bb8_core.specs.declared.answers.Unfit.{Unfit}
 use Rattle.bb8_core.specs.declared.answers.FailedAnswer.{FailedAnswer}
 use Rattle.bb8_core.specs.declared.answers.OpenedAnswer.{OpenedAnswer}
 use Rattle.bb8_core.specs.declared.answers.ReapAnswer.{ReapAnswer}

@@ -11,7 +11,7 @@ pub use Rattle.bb8_tasks.specs.declared.opener.Opener.{Ghosts as OpenerOf}
 pub use Rattle.bb8_ledger.specs.Answers.{Answer}
 pub use Rattle.bb8_core.specs.declared.answers.FailedAnswer.{FailedAnswer}
 pub use Rattle.bb8_core.specs.declared.answers.OpenedAnswer.{OpenedAnswer}
-pub use Rattle.bb8_core.specs.declared.asked.Unfit.{Unfit}
+pub use Rattle.bb8_core.specs.declared.answers.Unfit.{Unfit}
 pub use Rattle.bb8_tasks.specs.declared.home.Home.{Ghosts as HomeOf}
 pub use Rattle.bb8_tasks.specs.declared.replenish.Replenish.{Replenish}
 pub use Rattle.bb8_tasks.specs.declared.replenish.ReplenishAnswer.{ReplenishAnswer}

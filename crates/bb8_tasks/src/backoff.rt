@@ -9,8 +9,9 @@ use super::home::Home;
 use super::opener::Opener;
 use super::replenish::{Replenish, ReplenishAnswer};
 use bb8_core::api::{Config, Memory, Moment};
-use bb8_core::asked::Unfit;
-use bb8_core::internals::{ClaimAnswer, FailedAnswer, Key, Looked, OpenedAnswer, ReapAnswer};
+use bb8_core::internals::{
+    ClaimAnswer, FailedAnswer, Key, Looked, OpenedAnswer, ReapAnswer, Unfit,
+};
 use futures::task::Poll;
 use std::alloc::Global;
 

@@ -3,8 +3,9 @@ ghost use Rattle.bb8_types.specs.declared.api.moments.Moment.{Moment as MomentOf
 ghost use Rattle.bb8_tasks.specs.TaskSteps.{TaskStep, Looks, Opens, Fails, Claims, Reaps};
 
 use bb8_core::api::Moment;
-use bb8_core::asked::Unfit;
-use bb8_core::internals::{ClaimAnswer, FailedAnswer, Key, Looked, OpenedAnswer, ReapAnswer};
+use bb8_core::internals::{
+    ClaimAnswer, FailedAnswer, Key, Looked, OpenedAnswer, ReapAnswer, Unfit,
+};
 
 /// The steps that the tasks, the driver and the reaper of a pool make, on connections `C`: the plain state of a pool is such a home.
 ///

@@ -4,12 +4,11 @@ ghost use Rattle.bb8_tasks.specs.Homes.{TaskStepsBy};
 
 use super::home::Home;
 use bb8_core::api::Moment;
-use bb8_core::asked::Unfit;
 use bb8_core::internals::{
-    ClaimAnswer, FailedAnswer, Key, Looked, OpenedAnswer, PoolInternals, ReapAnswer,
+    ClaimAnswer, FailedAnswer, Key, Looked, OpenedAnswer, PoolInternals, ReapAnswer, Unfit,
 };
 
-/// Each step that may not fit asks first.
+/// Each step is the state's own.
 impl<C: Drop> Home<C> for PoolInternals<C> {
     ghost steps = { λ pool at s after. TaskStepsBy Steps pool at s after };
 

@@ -1,6 +1,6 @@
 use Rattle.bb8_c.proofs.Words.{refl, subst, Some}
 use Rattle.bb8_ledger.specs.Acts.{GiveUp}
-use Rattle.bb8_core.specs.Asked.{Stepped}
+use Rattle.bb8_core.specs.Unfit.{Stepped}
 use Rattle.bb8_core.specs.StateView.{Meets}
 use Rattle.bb8_core.specs.StepAnswers.{answer_of_give_up}
 use Rattle.bb8_c.proofs.Inside.{within}

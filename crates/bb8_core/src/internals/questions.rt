@@ -9,7 +9,7 @@ use super::{GetKey, Key, PoolInternals};
 use bb8_tables::gets::{held, is_trying};
 use bb8_types::standing::Getting;
 
-impl<C: Drop> PoolInternals<C> {
+impl<C: Drop, A> PoolInternals<C, A> {
     /// Whether a get may begin: while a handle is alive.
     pub fn fits_begin(&self) -> bool
         ensures { TellsFitting self.now acts.Begin result }
@@ -34,6 +34,22 @@ impl<C: Drop> PoolInternals<C> {
         self.handles >= 1
     }
 
+    /// Whether a handle may be added: while one is alive.
+    pub fn fits_join(&self) -> bool
+        ensures { TellsFitting self.now acts.Join result }
+    {
+        self.fits_begin()
+    }
+
+    /// Whether a handle may be dropped: while one is alive.
+    pub fn fits_leave(&self) -> bool
+        ensures { TellsFitting self.now acts.Leave result }
+    {
+        self.fits_join()
+    }
+}
+
+impl<C: Drop> PoolInternals<C> {
     /// How the get stands, if it is alive.
     fn getting(&self, get: GetKey) -> Option<Getting>
         ensures { (l : ledger.Ledger C) → Represents l self.now
@@ -83,20 +99,6 @@ impl<C: Drop> PoolInternals<C> {
         ensures { TellsRecord (places.stands places.is_claimed) self.now k.number result }
     {
         self.records.is_claimed(k, &mut self.asking.count())
-    }
-
-    /// Whether a handle may be added: while one is alive.
-    pub fn fits_join(&self) -> bool
-        ensures { TellsFitting self.now acts.Join result }
-    {
-        self.fits_begin()
-    }
-
-    /// Whether a handle may be dropped: while one is alive.
-    pub fn fits_leave(&self) -> bool
-        ensures { TellsFitting self.now acts.Leave result }
-    {
-        self.fits_join()
     }
 
     /// The key of a connection or approval that has not ended, by its number.

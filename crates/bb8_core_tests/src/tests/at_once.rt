@@ -3,7 +3,6 @@
 use super::steps::{Colour, NOW, served_by};
 use super::{assert_equal, unchecked};
 use bb8_core::api::Config;
-use bb8_core::asked::{add, begin, serve_at_once};
 use bb8_core::internals::{AddAnswer, BeginAnswer, PoolInternals, PutBackAnswer};
 
 /// The first get raises the peak and goes by the two steps; the second is served in one step, as get 1 with connection 0; with nothing idle
@@ -13,26 +12,26 @@ fn succeeds_serving_at_once(rt: HostRuntime) {
     let config = unchecked(1, None);
     assert!(rt; config.is_lawful());
     let mut pool = PoolInternals::new(rt.alloc(), config);
-    let Ok(AddAnswer::Added(_, None)) = add(&mut pool, NOW, Colour::Red, false) else {
+    let Ok(AddAnswer::Added(_, None)) = pool.add(NOW, Colour::Red, false) else {
         panic!(rt; "nothing was added");
     };
     // The first get raises the peak, for which memory is asked, so it goes by the two steps.
-    assert!(rt; serve_at_once(&mut pool, NOW).is_none());
-    let Ok(BeginAnswer::Begun(get)) = begin(&mut pool, NOW) else {
+    assert!(rt; pool.serve_at_once(NOW).is_none());
+    let Ok(BeginAnswer::Begun(get)) = pool.begin(NOW) else {
         panic!(rt; "no get began");
     };
     let (key, conn, _) = served_by(&rt, &mut pool, get);
     let Ok(PutBackAnswer::Kept(None)) = pool.put_back(NOW, key, conn, false) else {
         panic!(rt; "the connection was not kept");
     };
-    let Some(served) = serve_at_once(&mut pool, NOW) else {
+    let Some(served) = pool.serve_at_once(NOW) else {
         panic!(rt; "the second get was not served at once");
     };
     assert_equal(&rt, served.get, 1);
     assert_equal(&rt, served.key.number, 0);
     assert_equal(&rt, served.conn, Colour::Red);
     // Nothing is idle now, and so nothing happens.
-    assert!(rt; serve_at_once(&mut pool, NOW).is_none());
+    assert!(rt; pool.serve_at_once(NOW).is_none());
     let state = pool.state(NOW);
     assert_equal(&rt, state.connections, 1);
     assert_equal(&rt, state.idle_connections, 0);

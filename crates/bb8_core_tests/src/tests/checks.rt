@@ -4,7 +4,6 @@ ghost use Rattle.std.specs.Prelude.{◌+◌, ◌≤◌};
 use super::steps::{Colour, NOW, taken_by};
 use super::{assert_equal, granted, served};
 use bb8_core::api::{Config, State, Statistics};
-use bb8_core::asked::{add, begin};
 use bb8_core::internals::{
     AddAnswer, BeginAnswer, CheckedErrAnswer, CheckedOkAnswer, GetKey, GiveUpAnswer, PoolInternals,
     PutBackAnswer,
@@ -28,7 +27,7 @@ fn one_idle(rt: &impl Abort, alloc: Global) -> PoolInternals<Colour> {
     let config = checked(1, None);
     assert!(rt; config.is_lawful());
     let mut pool = PoolInternals::new(alloc, config);
-    let Ok(AddAnswer::Added(_, None)) = add(&mut pool, NOW, Colour::Red, false) else {
+    let Ok(AddAnswer::Added(_, None)) = pool.add(NOW, Colour::Red, false) else {
         panic!(rt; "it was refused, or notified somebody");
     };
     pool
@@ -64,7 +63,7 @@ fn counted(started: u64, direct: u64, timed_out: u64, cancelled: u64) -> Statist
 
 /// A get that began.
 fn begun(rt: &impl Abort, pool: &mut PoolInternals<Colour>) -> GetKey {
-    match begin(pool, NOW) {
+    match pool.begin(NOW) {
         Ok(BeginAnswer::Begun(get)) => get,
         _ => panic!(rt; "no get began"),
     }
@@ -108,7 +107,8 @@ fn succeeds_both_ends_of_a_check(rt: HostRuntime) {
     };
     let get = begun(&rt, &mut pool);
     let (key, conn, _) = taken_by(&rt, &mut pool, get);
-    let Ok(CheckedErrAnswer::Closed(closed, conn, grant, None)) = pool.checked_err(NOW, get, conn, false, key.place,
+    let Ok(CheckedErrAnswer::Closed(closed, conn, grant, None)) = pool.checked_err(
+        NOW, get, conn, false, key.place,
     ) else {
         panic!(rt; "somebody was notified");
     };
@@ -132,7 +132,8 @@ fn succeeds_give_ups_of_a_held_connection(rt: HostRuntime) {
     let get = begun(&rt, &mut pool);
     let (key, conn, _) = taken_by(&rt, &mut pool, get);
     assert!(rt; pool.give_up(NOW, get, Reason::TimedOut, false).is_err());
-    let Ok(GiveUpAnswer::Kept(kept, None)) = pool.give_back(NOW,
+    let Ok(GiveUpAnswer::Kept(kept, None)) = pool.give_back(
+        NOW,
         get,
         Reason::TimedOut,
         conn,
@@ -144,17 +145,12 @@ fn succeeds_give_ups_of_a_held_connection(rt: HostRuntime) {
     // The get is looked at, and the connection's birth, and the connection is idle again.
     assert_equal(&rt, (pool.examined(), pool.searched()), (3, 0));
     assert_equal(&rt, kept.number, 0);
-    let again = pool.give_back(NOW,
-        get,
-        Reason::TimedOut,
-        Colour::Blue,
-        false,
-        key.place,
-    );
+    let again = pool.give_back(NOW, get, Reason::TimedOut, Colour::Blue, false, key.place);
     assert!(rt; matches!(again, Err(Colour::Blue)));
     let get = begun(&rt, &mut pool);
     let (_, conn, _) = taken_by(&rt, &mut pool, get);
-    let Ok(GiveUpAnswer::Closed(closed, conn, grant, None)) = pool.give_back(NOW,
+    let Ok(GiveUpAnswer::Closed(closed, conn, grant, None)) = pool.give_back(
+        NOW,
         get,
         Reason::Cancelled,
         conn,
@@ -182,7 +178,7 @@ fn stale_hints_name_the_right_connection(rt: HostRuntime) {
     assert!(rt; config.is_lawful());
     let mut pool = PoolInternals::new(rt.alloc(), config);
     for conn in [Colour::Red, Colour::Green] {
-        let Ok(AddAnswer::Added(..)) = add(&mut pool, NOW, conn, false) else {
+        let Ok(AddAnswer::Added(..)) = pool.add(NOW, conn, false) else {
             panic!(rt; "it was refused");
         };
     }

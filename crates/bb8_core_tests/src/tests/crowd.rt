@@ -50,7 +50,7 @@ fn crowded(rt: &impl Abort, alloc: Global, max_size: u32) -> PoolInternals<u32> 
 
 /// Begins a get.
 fn begin(rt: &impl Abort, pool: &mut PoolInternals<u32>) -> GetKey {
-    let answer = bb8_core::asked::begin(pool, NOW);
+    let answer = pool.begin(NOW);
     assert_few(rt, pool);
     match answer {
         Ok(BeginAnswer::Begun(get)) => get,

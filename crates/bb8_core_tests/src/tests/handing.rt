@@ -3,7 +3,6 @@
 use super::steps::{Colour, NOW};
 use super::{assert_equal, granted, unchecked};
 use bb8_core::api::Config;
-use bb8_core::asked::begin;
 use bb8_core::handing::{HandedOver, add, checked_err, give_back, give_up, opened, put_back};
 use bb8_core::internals::{
     AddAnswer, BeginAnswer, CheckedErrAnswer, ClaimAnswer, GetKey, GiveUpAnswer, Key, OpenedAnswer,
@@ -24,7 +23,7 @@ fn one(rt: &impl Abort, alloc: Global, checked: bool) -> PoolInternals<Colour> {
 
 /// Begins a get, which waits.
 fn wait(rt: &impl Abort, pool: &mut PoolInternals<Colour>) -> GetKey {
-    let Ok(BeginAnswer::Begun(get)) = begin(pool, NOW) else {
+    let Ok(BeginAnswer::Begun(get)) = pool.begin(NOW) else {
         panic!(rt; "no get began");
     };
     let Ok(TryAnswer::Waiting(_)) = pool.try_get(NOW, get) else {
@@ -165,8 +164,7 @@ fn give_up_hands_on(rt: HostRuntime) {
     let approval = claim(&rt, &mut pool, 0);
     let HandedOver { tried, .. } = opened(&mut pool, NOW, approval, Colour::Green);
     let (key, conn) = out(&rt, tried, false, Colour::Green);
-    let Ok(PutBackAnswer::Kept(Some(_))) = pool.put_back(NOW, key, conn, false,
-    ) else {
+    let Ok(PutBackAnswer::Kept(Some(_))) = pool.put_back(NOW, key, conn, false) else {
         panic!(rt; "nobody was notified");
     };
     let HandedOver { told, tried } = give_up(&mut pool, NOW, second, Reason::TimedOut, false);

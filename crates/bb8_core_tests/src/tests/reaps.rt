@@ -2,7 +2,6 @@
 
 use super::{SECOND, assert_equal, unchecked};
 use bb8_core::api::{Config, Moment, QueueStrategy};
-use bb8_core::asked::{add, begin};
 use bb8_core::internals::{BeginAnswer, Key, PoolInternals, PutBackAnswer, ReapAnswer, TryAnswer};
 use std::alloc::Global;
 use std::process::Abort;
@@ -11,13 +10,13 @@ use std::time::Duration;
 /// Adds so many connections at a moment.
 fn add_all(rt: &impl Abort, pool: &mut PoolInternals<u64>, at: Moment, many: u64) {
     for number in 0..many {
-        assert!(rt; add(pool, at, number, false).is_ok());
+        assert!(rt; pool.add(at, number, false).is_ok());
     }
 }
 
 /// Has a get be served, and answers what with.
 fn serve(rt: &impl Abort, pool: &mut PoolInternals<u64>, at: Moment) -> (Key, u64) {
-    let Ok(BeginAnswer::Begun(get)) = begin(pool, at) else {
+    let Ok(BeginAnswer::Begun(get)) = pool.begin(at) else {
         panic!(rt; "no get began");
     };
     let Ok(TryAnswer::Served(key, conn, _)) = pool.try_get(at, get) else {

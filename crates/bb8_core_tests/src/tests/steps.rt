@@ -1,7 +1,6 @@
 //! Each step of the bare state, over connections that are no numbers.
 use super::{assert_equal, granted, served, unchecked};
 use bb8_core::api::Moment;
-use bb8_core::asked::begin;
 use bb8_core::internals::{
     BeginAnswer, ClaimAnswer, GetKey, Grant, Key, OpenedAnswer, PoolInternals, PutBackAnswer,
     TryAnswer,
@@ -47,7 +46,7 @@ pub(super) fn taken_by(
 
 /// Begins a get and serves it.
 fn take(rt: &impl Abort, pool: &mut PoolInternals<Colour>) -> (Key, Colour) {
-    let Ok(BeginAnswer::Begun(get)) = begin(pool, NOW) else {
+    let Ok(BeginAnswer::Begun(get)) = pool.begin(NOW) else {
         panic!(rt; "no get began");
     };
     let (key, conn, _) = served_by(rt, pool, get);
@@ -105,7 +104,7 @@ fn succeeds_each_step_once(rt: HostRuntime) {
     let Ok(OpenedAnswer::Entered(None)) = pool.opened(NOW, approval, Colour::Blue) else {
         panic!(rt; "it did not become idle, or notified somebody");
     };
-    let Ok(BeginAnswer::Begun(get)) = begin(&mut pool, NOW) else {
+    let Ok(BeginAnswer::Begun(get)) = pool.begin(NOW) else {
         panic!(rt; "no get began");
     };
     assert_equal(&rt, get.number, 40);
@@ -118,8 +117,7 @@ fn succeeds_each_step_once(rt: HostRuntime) {
     );
     assert!(rt; pool.find_get(40).is_none());
     assert_equal(&rt, pool.find(7).map(|key| key.number), Some(7));
-    let Ok(PutBackAnswer::Closed(closed, grant, None)) = pool.put_back(NOW, key, conn, true)
-    else {
+    let Ok(PutBackAnswer::Closed(closed, grant, None)) = pool.put_back(NOW, key, conn, true) else {
         panic!(rt; "it was kept, or somebody was notified");
     };
     assert_equal(&rt, pool.searched(), 0);
@@ -152,8 +150,8 @@ fn place_used_again(rt: &impl Abort, alloc: Global) -> (PoolInternals<Colour>, K
         panic!(rt; "nothing was claimed");
     };
     enter(rt, &mut pool, 1, Colour::Green);
-    let Ok(PutBackAnswer::Closed(Colour::Red, _, None)) = pool.put_back(NOW, ended, conn, true,
-    ) else {
+    let Ok(PutBackAnswer::Closed(Colour::Red, _, None)) = pool.put_back(NOW, ended, conn, true)
+    else {
         panic!(rt; "it was kept, or another one was handed back");
     };
     let (first, _) = take(rt, &mut pool);
@@ -183,7 +181,8 @@ fn stale_keys_name_the_right_record(rt: HostRuntime) {
         number: 2,
         place: 1_000,
     };
-    let Ok(PutBackAnswer::Closed(Colour::Blue, _, None)) = pool.put_back(NOW,
+    let Ok(PutBackAnswer::Closed(Colour::Blue, _, None)) = pool.put_back(
+        NOW,
         nowhere,
         Colour::Blue,
         true,
@@ -199,7 +198,7 @@ fn stale_keys_name_the_right_get(rt: HostRuntime) {
     let mut pool = three_idle(&rt, rt.alloc());
     let _ = take(&rt, &mut pool);
     for wanted in [1, 2] {
-        let Ok(BeginAnswer::Begun(get)) = begin(&mut pool, NOW) else {
+        let Ok(BeginAnswer::Begun(get)) = pool.begin(NOW) else {
             panic!(rt; "no get began");
         };
         assert_equal(&rt, get.number, wanted);

@@ -3,7 +3,6 @@
 
 use super::{assert_equal, is_refused_afterwards, make};
 use bb8_core::api::{Config, Moment};
-use bb8_core::asked::{add, begin};
 use bb8_core::internals::{
     AddAnswer, BeginAnswer, CheckedErrAnswer, CheckedOkAnswer, ClaimAnswer, GetKey, GiveUpAnswer,
     Grant, Key, OpenedAnswer, PoolInternals, PutBackAnswer, ReapAnswer, Reason, TryAnswer,
@@ -93,7 +92,7 @@ impl Run {
 
     /// Begins a get, where there is memory for it.
     fn begin(&mut self, rt: &impl Abort) -> Option<GetKey> {
-        match begin(&mut self.pool, self.at) {
+        match self.pool.begin(self.at) {
             Ok(BeginAnswer::Begun(get)) => Some(get),
             Ok(BeginAnswer::Memory) => {
                 self.refused = self.refused.saturating_add(1);
@@ -131,8 +130,7 @@ impl Run {
     /// The check passes: a guard has the connection, and gives it back.
     fn passes(&mut self, rt: &impl Abort, held: TakenOut) {
         let TakenOut { get, key, conn } = held;
-        let Ok(CheckedOkAnswer::Served(key)) = self.pool.checked_ok(self.at, get, key.place)
-        else {
+        let Ok(CheckedOkAnswer::Served(key)) = self.pool.checked_ok(self.at, get, key.place) else {
             panic!(rt; "{get:?} holds nothing");
         };
         self.served = self.served.saturating_add(1);
@@ -157,7 +155,9 @@ impl Run {
     fn lets_go_held(&mut self, rt: &impl Abort, held: TakenOut, broken: bool) {
         let TakenOut { get, key, conn } = held;
         let why = Reason::Cancelled;
-        let answer = self.pool.give_back(self.at, get, why, conn, broken, key.place);
+        let answer = self
+            .pool
+            .give_back(self.at, get, why, conn, broken, key.place);
         match answer {
             Ok(GiveUpAnswer::Kept(key, _)) => assert!(rt; !broken, "{key:?} was kept"),
             Ok(GiveUpAnswer::Closed(key, conn, grant, _)) => {
@@ -190,7 +190,7 @@ impl Run {
     fn adds(&mut self, rt: &impl Abort) -> Result<(), Fail> {
         for _ in 0..2 {
             let conn = make(&self.board)?;
-            let Ok(answer) = add(&mut self.pool, self.at, conn, false) else {
+            let Ok(answer) = self.pool.add(self.at, conn, false) else {
                 panic!(rt; "no handle is alive");
             };
             match answer {

@@ -3,7 +3,6 @@
 
 use super::assert_equal;
 use bb8_core::api::{Config, Moment};
-use bb8_core::asked::{add, begin};
 use bb8_core::internals::{
     AddAnswer, BeginAnswer, ClaimAnswer, GetKey, Grant, PoolInternals, ReapAnswer, TryAnswer,
 };
@@ -44,7 +43,7 @@ fn part(first: u64, count: u32, withheld: u32) -> Grant {
 /// A connection is added, which is to have this number; where memory is refused, it is added at the next ask.
 fn adds(rt: &impl Abort, pool: &mut PoolInternals<Vast>, number: u64) {
     for _ in 0..2 {
-        match add(pool, NOW, Vast::new(number), false) {
+        match pool.add(NOW, Vast::new(number), false) {
             Ok(AddAnswer::Added(key, None)) => {
                 assert_equal(&rt, key.number, number);
                 return;
@@ -59,7 +58,7 @@ fn adds(rt: &impl Abort, pool: &mut PoolInternals<Vast>, number: u64) {
 /// A get begins; where memory is refused, it does at the next ask.
 fn begins(rt: &impl Abort, pool: &mut PoolInternals<Vast>) -> GetKey {
     for _ in 0..2 {
-        if let Ok(BeginAnswer::Begun(get)) = begin(pool, NOW) {
+        if let Ok(BeginAnswer::Begun(get)) = pool.begin(NOW) {
             return get;
         }
     }

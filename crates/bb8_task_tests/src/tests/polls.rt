@@ -5,9 +5,8 @@ ghost use Rattle.bb8_tasks.specs.Homes.{TaskStepsBy};
 
 use super::assert_equal;
 use bb8_core::api::{Config, Moment};
-use bb8_core::asked::{Unfit, leave};
 use bb8_core::internals::{
-    ClaimAnswer, FailedAnswer, Key, Looked, OpenedAnswer, PoolInternals, ReapAnswer,
+    ClaimAnswer, FailedAnswer, Key, Looked, OpenedAnswer, PoolInternals, ReapAnswer, Unfit,
 };
 use bb8_tasks::{Home, Opener, Replenish, ReplenishAnswer};
 use futures::task::Poll;
@@ -185,7 +184,7 @@ fn no_handle_gives_the_approval_back(rt: HostRuntime) {
         task.poll(Moment(400 * MILLI), &mut pool, &config),
         ReplenishAnswer::Pending,
     );
-    assert!(&rt; leave(&mut pool.state, Moment(0)).is_ok());
+    assert!(&rt; pool.state.leave(Moment(0)).is_ok());
     assert!(&rt; pool.state.find(approval.number).is_some());
     assert_equal(
         &rt,

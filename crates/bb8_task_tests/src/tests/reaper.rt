@@ -2,7 +2,6 @@
 
 use super::assert_equal;
 use bb8_core::api::{Config, Moment};
-use bb8_core::asked::{add, leave};
 use bb8_core::internals::{Grant, PoolInternals};
 use bb8_tasks::{Reaper, ReaperAnswer};
 use std::alloc::Global;
@@ -32,7 +31,7 @@ fn pool_with(
     }
     let mut pool = PoolInternals::new(alloc, config);
     for number in 0..many {
-        assert!(rt; add(&mut pool, Moment(0), number, false).is_ok());
+        assert!(rt; pool.add(Moment(0), number, false).is_ok());
     }
     pool
 }
@@ -102,7 +101,7 @@ fn reaper_closes_what_lives_too_long(rt: HostRuntime) {
 fn reaper_ends_after_the_last_leave(rt: HostRuntime) {
     let mut pool = pool_with(&rt, rt.alloc(), (Some(1), None), 1);
     let mut reaper = Reaper::new(Moment(0), Duration::from_secs(1));
-    assert!(&rt; leave(&mut pool, Moment(0)).is_ok());
+    assert!(&rt; pool.leave(Moment(0)).is_ok());
     assert_equal(
         &rt,
         reaper.poll(Moment(HALF), &mut pool),

@@ -1,26 +1,33 @@
 use Rattle.bb8_core.proofs.Words.{refl, arith, view_of}
 use Rattle.bb8_ledger.specs.Acts as acts
 use Rattle.bb8_core.proofs.Fitting.{shown_fits}
+use Rattle.bb8_core.proofs.Runs.{fitting, unfit_step}
 use Rattle.bb8_core.proofs.Steps.{meets_begun, meets_memory, meets_exhausted, left, used_up, led, at_view, fits_view}
 use Rattle.bb8_core.proofs.internals.PoolInternals.begin.Goals as goal
 
 pub returns-then-not-has_number-clause-step : goal.returns-then-not-has_number-clause-step
-returns-then-not-has_number-clause-step g c = at_view c.self.view_is
-    (meets_exhausted c.max-self-inside.ensures (fits_view acts.Begin c.self.view_is c.requires) (used_up _ c.has_number.ensures c.if-not-has_number.true))
+returns-then-not-has_number-clause-step g c = (
+  at_view c.self.view_is
+      (meets_exhausted c.max-self-inside.ensures (fits_view acts.Begin c.self.view_is (fitting acts.Begin c.if-not-fits_begin.ensures)) (used_up _ c.has_number.ensures c.if-not-has_number.true)),
+  tt,
+)
 
 pub invariant_of-self : goal.invariant_of-self
-invariant_of-self g c = led _ c.args.at.0 acts.Begin _ c.self.view_is c.self.invariant (returns-then-not-has_number-clause-step g c)
+invariant_of-self g c = led _ c.args.at.0 acts.Begin _ c.self.view_is c.self.invariant (returns-then-not-has_number-clause-step g c).0
 
 pub begin-requires : goal.begin-requires
 begin-requires g c = left _ c.has_number.ensures c.if-not-has_number.false
 
 pub returns-in-None-clause-step : goal.returns-in-None-clause-step
-returns-in-None-clause-step g c = at_view c.self.view_is
-    (meets_memory c.max-self-inside.ensures (fits_view acts.Begin c.self.view_is c.requires)
-    (left _ c.has_number.ensures c.if-not-has_number.false) c.in-None.ensures.none.0 c.in-None.ensures.none.1)
+returns-in-None-clause-step g c = (
+  at_view c.self.view_is
+      (meets_memory c.max-self-inside.ensures (fits_view acts.Begin c.self.view_is (fitting acts.Begin c.if-not-fits_begin.ensures))
+      (left _ c.has_number.ensures c.if-not-has_number.false) c.in-None.ensures.none.0 c.in-None.ensures.none.1),
+  tt,
+)
 
 pub invariant_of-self-in-None : goal.invariant_of-self-in-None
-invariant_of-self-in-None g c = led _ c.args.at.0 acts.Begin _ c.self.view_is c.self.invariant (returns-in-None-clause-step g c)
+invariant_of-self-in-None g c = led _ c.args.at.0 acts.Begin _ c.self.view_is c.self.invariant (returns-in-None-clause-step g c).0
 
 pub overflow_add-self : goal.overflow_add-self
 overflow_add-self g c =
@@ -29,9 +36,15 @@ overflow_add-self g c =
     omega (arith, fit.started_few)
 
 pub returns-in-Some-clause-step : goal.returns-in-Some-clause-step
-returns-in-Some-clause-step g c = at_view c.self.view_is
-    (meets_begun c.max-self-inside.ensures (fits_view acts.Begin c.self.view_is c.requires)
-    (left _ c.has_number.ensures c.if-not-has_number.false) c.in-Some.ensures.some.1 refl c.in-Some.ensures.some.0)
+returns-in-Some-clause-step g c = (
+  at_view c.self.view_is
+      (meets_begun c.max-self-inside.ensures (fits_view acts.Begin c.self.view_is (fitting acts.Begin c.if-not-fits_begin.ensures))
+      (left _ c.has_number.ensures c.if-not-has_number.false) c.in-Some.ensures.some.1 refl c.in-Some.ensures.some.0),
+  tt,
+)
 
 pub invariant_of-self-in-Some : goal.invariant_of-self-in-Some
-invariant_of-self-in-Some g c = led _ c.args.at.0 acts.Begin _ c.self.view_is c.self.invariant (returns-in-Some-clause-step g c)
+invariant_of-self-in-Some g c = led _ c.args.at.0 acts.Begin _ c.self.view_is c.self.invariant (returns-in-Some-clause-step g c).0
+
+pub returns-then-not-fits_begin-clause-step : goal.returns-then-not-fits_begin-clause-step
+returns-then-not-fits_begin-clause-step g c = unfit_step c.args.at.0 acts.Begin c.if-not-fits_begin.ensures

@@ -1,17 +1,27 @@
 use Rattle.bb8_ledger.specs.Acts as acts
+use Rattle.bb8_core.proofs.Runs.{fitting, unfit_step}
 use Rattle.bb8_core.proofs.Steps.{meets_joined, meets_join_exhausted, led, at_view, fits_view}
 use Rattle.bb8_core.proofs.internals.PoolInternals.join.Goals as goal
 
 pub returns-then-self-clause-step : goal.returns-then-self-clause-step
-returns-then-self-clause-step g c = at_view c.self.view_is
-    (meets_join_exhausted c.max-self-inside.ensures (fits_view acts.Join c.self.view_is c.requires) c.if-self.true)
+returns-then-self-clause-step g c = (
+  at_view c.self.view_is
+      (meets_join_exhausted c.max-self-inside.ensures (fits_view acts.Join c.self.view_is (fitting acts.Join c.if-not-fits_join.ensures)) c.if-self.true),
+  tt,
+)
 
 pub invariant_of-self : goal.invariant_of-self
-invariant_of-self g c = led _ c.args.at.0 acts.Join _ c.self.view_is c.self.invariant (returns-then-self-clause-step g c)
+invariant_of-self g c = led _ c.args.at.0 acts.Join _ c.self.view_is c.self.invariant (returns-then-self-clause-step g c).0
 
 pub returns-clause-step : goal.returns-clause-step
-returns-clause-step g c = at_view c.self.view_is
-    (meets_joined c.max-self-inside.ensures (fits_view acts.Join c.self.view_is c.requires) c.if-self.false)
+returns-clause-step g c = (
+  at_view c.self.view_is
+      (meets_joined c.max-self-inside.ensures (fits_view acts.Join c.self.view_is (fitting acts.Join c.if-not-fits_join.ensures)) c.if-self.false),
+  tt,
+)
 
 pub invariant_of-self-2 : goal.invariant_of-self-2
-invariant_of-self-2 g c = led _ c.args.at.0 acts.Join _ c.self.view_is c.self.invariant (returns-clause-step g c)
+invariant_of-self-2 g c = led _ c.args.at.0 acts.Join _ c.self.view_is c.self.invariant (returns-clause-step g c).0
+
+pub returns-then-not-fits_join-clause-step : goal.returns-then-not-fits_join-clause-step
+returns-then-not-fits_join-clause-step g c = unfit_step c.args.at.0 acts.Join c.if-not-fits_join.ensures

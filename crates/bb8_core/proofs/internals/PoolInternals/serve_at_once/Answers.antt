@@ -20,12 +20,12 @@ grant-grant-requires g c = omega (arith, due_fits (view_of c.self.inside) _ c.se
 pub returns-in-Some-clause-some : goal.returns-in-Some-clause-some
 returns-in-Some-clause-some g c =
     let a = view_of c.self.inside in
-    let off : a.config.test_on_check_out ≡ false = ap (λ (s : StateView g.row.C.Denot). s.config.test_on_check_out) c.self.view_is ∙ c.requires.unchecked in
+    let off : a.config.test_on_check_out ≡ false = ap (λ (s : StateView g.row.C.Denot). s.config.test_on_check_out) c.self.view_is ∙ (c.if-not-fits_at_once.ensures.unchecked refl) in
     let was = c.in-Some.ensures.some.1 in (
       between a c.max-now.result,
       at_view c.self.view_is
           (meets_begun_between c.args.at.0 c.begin_and_end-get.ensures.number
-          (fits_view acts.Begin c.self.view_is c.requires.begin) c.max-now.ensures (c.has_room.ensures.number c.if-not-has_room.false)),
+          (fits_view acts.Begin c.self.view_is (c.if-not-fits_at_once.ensures.begin refl)) c.max-now.ensures (c.has_room.ensures.number c.if-not-has_room.false)),
       at_view refl
           (meets_served_between a c.self.inside.counters c.begin_and_end-get.ensures.number off c.max-now.ensures c.in-Some.ensures.some.0
           (grants c.in-Some.ensures.some.2 c.want-wanted.ensures c.grant-grant.ensures.granted c.grant-grant.ensures.state)

@@ -1,6 +1,0 @@
-use Rattle.bb8_core.proofs.Words.{Begin}
-use Rattle.bb8_core.proofs.Runs.{unfit_step}
-use Rattle.bb8_core.proofs.asked.begin.Goals as goal
-
-pub returns-then-not-fits_begin-clause-step : goal.returns-then-not-fits_begin-clause-step
-returns-then-not-fits_begin-clause-step g c = unfit_step c.args.at.0 Begin c.if-not-fits_begin.ensures
