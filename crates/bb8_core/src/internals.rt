@@ -126,7 +126,6 @@ impl<C: Drop, A> PoolInternals<C, A> {
     }
 
     /// Begins a get. Memory is asked for only where as many gets are alive as ever were. Where no handle is alive nothing changes.
-    #[inline(always)]
     pub fn begin(&mut self, at: Moment) -> Result<BeginAnswer, Unfit>
         ensures step { Stepped Meets answer_of_begin self.old at.0 acts.Begin result self.new }
         ensures examined { IfOk result (λ told. Lends 4 self.old self.new) }
@@ -647,7 +646,6 @@ impl<C: Drop, A> PoolInternals<C, A> {
     /// Adds a connection that no approval brought, born now. A broken one is refused first; then any, where connections and open approvals
     /// are as many as `max_size`; then, where no number is left, or there are as many of them as ever were and memory for one more was
     /// refused. Where no handle is alive nothing changes, and it comes back.
-    #[inline(always)]
     pub fn add(&mut self, at: Moment, conn: C, broken: bool) -> Result<AddAnswer<C>, C>
         ensures step { Stepped Meets answer_of_add self.old at.0 (acts.Add conn broken)
             result self.new }
@@ -746,7 +744,6 @@ impl<C: Drop, A> PoolInternals<C, A> {
     }
 
     /// Adds a handle, where fewer than 4,294,967,295 are alive. Where none is nothing changes.
-    #[inline(always)]
     pub fn join(&mut self, at: Moment) -> Result<JoinAnswer, Unfit>
         ensures step { Stepped Meets answer_of_join self.old at.0 acts.Join result self.new }
         ensures examined { IfOk result (λ told. Lends 4 self.old self.new) }
@@ -768,7 +765,6 @@ impl<C: Drop, A> PoolInternals<C, A> {
 
     /// Takes a handle away. With the last one all idle connections and all unclaimed approvals end; the connections are dropped here. Where no
     /// handle is alive nothing changes.
-    #[inline(always)]
     pub fn leave(&mut self, at: Moment) -> Result<LeaveAnswer, Unfit>
         ensures step { Stepped Meets answer_of_leave self.old at.0 acts.Leave result self.new }
         ensures examined { IfOk result (λ told. Lends 0 self.old self.new) }
