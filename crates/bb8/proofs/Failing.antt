@@ -25,7 +25,7 @@ use Rattle.bb8_tasks.specs.Rounds.{Reports, PollsEach}
 use Rattle.bb8_tasks.specs.Sweeping.{AfterRound, GoesOn, RoundLeaves, PollsUntil, Rounds}
 use Rattle.bb8_lock.specs.declared.shared.Shared.{Shared}
 use Rattle.bb8_lock.specs.Scope.{Scope}
-use Rattle.bb8_lock.specs.Opening.{opener, reports, tasks_home, OwnRounds}
+use Rattle.bb8_lock.specs.Opening.{opener, tasks_home, OwnRounds}
 use Rattle.bb8_lock.specs.declared.locked.Parts.{Ghosts as PartsOf}
 use Rattle.bb8_lock.specs.Words.{ManagerOf, DebugOf, SinkOf, CustomizerOf, ClockOf}
 use Rattle.bb8.specs.Buildings.{IsBuildError}
@@ -214,7 +214,7 @@ module _ {G L M S Z K R C E N V A : Type 0} {manager : ManagerOf M C E N V} {d :
   round_failed tasks r (x, x', (is, free, silent), (at, x1, told, rounds)) =
       ended
       (replenishing.TaskPolls (tasks_home shared) (opener shared) (as_nanos shared.config.connection_timeout) shared.config.retry_connection at)
-      (reports shared).sinks (Known shared) (IsBy shared)
+      (opener shared).sinks (Known shared) (IsBy shared)
       (polled shared (as_nanos shared.config.connection_timeout) shared.config.retry_connection at)
       (λ y y' e is sunk. still shared y y' sunk.1 is)
       (replenishing.LetsGo (tasks_home shared) (opener shared) at)

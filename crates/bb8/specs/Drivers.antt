@@ -10,10 +10,10 @@ use Rattle.bb8_lock.specs.declared.shared.Shared.{Shared}
 use Rattle.bb8_lock.specs.declared.bell.Rests.{Ghosts as RestsOf}
 use Rattle.bb8_lock.specs.declared.bell.Sleeper.TheVariants.{Driver as Sleeping}
 use Rattle.bb8_lock.specs.Scope.{rests, IsScopeOf, Scope}
-use Rattle.bb8_lock.specs.Opening.{opener, reports, tasks_home}
+use Rattle.bb8_lock.specs.Opening.{opener, tasks_home}
 use Rattle.bb8_lock.specs.Turning.{OwnTurns}
 use Rattle.bb8_lock.specs.declared.locked.Parts.{Ghosts as PartsOf}
-use Rattle.bb8_lock.specs.Words.{as_nanos, ManagerOf, DebugOf, SinkOf, CustomizerOf, ClockOf, OpenerOf, ReportsOf}
+use Rattle.bb8_lock.specs.Words.{as_nanos, ManagerOf, DebugOf, SinkOf, CustomizerOf, ClockOf, OpenerOf}
 use Rattle.bb8_tasks.specs.declared.home.Home.{Ghosts as HomeOf}
 use Rattle.bb8.specs.declared.driver.Driver.{Driver}
 use Rattle.bb8.specs.declared.driver.Driven.{Driven}
@@ -43,11 +43,11 @@ pub data Runs {T P : Type 0} (turns : T → ℕ → Moment → Turn → T → Ty
       → Runs turns pauses sleeps t g n d last
 
 -- the rings of the drivers' bell are counted, the clock is read, and a turn made at that moment
-abbrev pub TurnsOnce : {C E V A X : Type 0} → HomeOf X C → OpenerOf X C E V A → ReportsOf X E → RestsOf X → ℕ → Bool → Turning C V A × X → ℕ → Moment → Turn
+abbrev pub TurnsOnce : {C E V A X : Type 0} → HomeOf X C → OpenerOf X C E V A → RestsOf X → ℕ → Bool → Turning C V A × X → ℕ → Moment → Turn
     → Turning C V A × X → Type 0
-TurnsOnce {X = X} home opener reports rests timeout retry before rings at turn after =
-    (x1 : X) × (x2 : X) × rests.counts before.1 Sleeping rings x1 × reports.tells x1 at x2
-    × DriverTurns home opener reports.sinks timeout retry at before.0 x2 turn after.0 after.1
+TurnsOnce {X = X} home opener rests timeout retry before rings at turn after =
+    (x1 : X) × (x2 : X) × rests.counts before.1 Sleeping rings x1 × opener.tells x1 at x2
+    × DriverTurns home opener timeout retry at before.0 x2 turn after.0 after.1
 
 -- the thread sleeps by that bell until something is due, and no longer than some bound; that it is the gate's no clause says
 abbrev pub SleepsOnce : {C V A X : Type 0} → RestsOf X → ℕ → Moment → Turning C V A × X → Turning C V A × X → Type 0
@@ -61,7 +61,7 @@ module _ {G L M S Z K R C E N V A : Type 0} {m : ManagerOf M C E N V} {d : Debug
   abbrev pub OwnRuns : {P : Type 0} → (P → Bool → P → Type 0) → Turning C N A → P → Driven → Type 0
   OwnRuns pauses turning gate d =
       (x : Scope shared) × (last : Turning C N A × Scope shared) × IsScopeOf shared x
-      × Runs (TurnsOnce (tasks_home shared) (opener shared) (reports shared) (rests shared) (as_nanos shared.config.connection_timeout)
+      × Runs (TurnsOnce (tasks_home shared) (opener shared) (rests shared) (as_nanos shared.config.connection_timeout)
       shared.config.retry_connection) pauses (SleepsOnce (rests shared)) (turning, x) gate 0 d last
 
 module _ {G L M S Z K R C E N V A : Type 0} {m : ManagerOf M C E N V} {d : DebugOf E} {s : SinkOf S E} {z : CustomizerOf Z C E A} {k : ClockOf K} {l : PartsOf L} where

@@ -11,7 +11,7 @@ use bb8_core::api::{
 };
 use bb8_lock::{Given, OpensScope, Parts, PoolParts, Rests, Shared, Sleeper, These};
 pub use bb8_tasks::Turn;
-use bb8_tasks::{Home, Opener, Reports, Turning};
+use bb8_tasks::{Home, Opener, Turning};
 use std::alloc::Global;
 use std::sync::{Arc, Wait};
 use std::thread::{JoinHandle, Threads};
@@ -156,11 +156,11 @@ fn run<
     V,
     A,
     E: Drop,
-    X: Home<C> + Opener<C, E, Connecting = V, Acquiring = A> + Reports<E> + Rests,
+    X: Home<C> + Opener<C, E, Connecting = V, Acquiring = A> + Rests,
     R: Wait,
     P: Gate,
 >(pool: &mut X, rt: &R, config: &Config, turning: &mut Turning<C, V, A>, gate: &mut P) -> Driven
-    ensures { Runs (TurnsOnce X.Home X.Opener X.Reports X.Rests
+    ensures { Runs (TurnsOnce X.Home X.Opener X.Rests
         (as_nanos config.now.connection_timeout) config.now.retry_connection)
         P.pauses (SleepsOnce X.Rests) (turning.old, pool.old) gate.old 0 result
         (turning.new, pool.new) }

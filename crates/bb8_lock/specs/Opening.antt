@@ -1,6 +1,6 @@
 -- Tasks on a pool's lock, which is taken for each of their steps alone, and by the pool's own manager, customizer, error sink and clock.
 use Rattle.std.specs.Prelude.{◌≡◌, None, Result, List}
-use Rattle.bb8_lock.specs.Words.{as_nanos, DebugOf, Poll, CustomizerOf, ManagerOf, SinkOf, ClockOf, StepsIn, OpenerOf, ReportsOf, PartsOf, LockScope, Shared}
+use Rattle.bb8_lock.specs.Words.{as_nanos, DebugOf, Poll, CustomizerOf, ManagerOf, SinkOf, ClockOf, StepsIn, OpenerOf, PartsOf, LockScope, Shared}
 use Rattle.bb8_tasks.specs.declared.dedicated.Dedicated.{Dedicated}
 use Rattle.bb8_tasks.specs.declared.home.Home.{Ghosts as HomeOf}
 use Rattle.bb8_tasks.specs.declared.replenish.Replenish.{Replenish}
@@ -29,9 +29,11 @@ module _ {G L M S Z K R C E N V A : Type 0} {m : ManagerOf M C E N V} {d : Debug
   abbrev pub tasks_home : HomeOf (Scope shared) C
   tasks_home = record { steps = λ x at s x'. Visits (Rung shared) (λ t t'. TaskStepsBy (StepsIn l.settings) t.core at s t'.core) s x x' }
 
-  -- the relations of the calls of a pool's manager and customizer
+  -- the relations of the calls of a pool's manager, customizer, clock and error sink
   abbrev pub opener : OpenerOf (Scope shared) C E N A
   opener = record {
+    tells = λ x at x'. k.tells x.shared.now.clock at × (x' ≡ x);
+    sinks = λ x e x'. s.sinks x.shared.now.error_sink e × (x' ≡ x);
     connects = λ x v x'. m.connects x.shared.now.manager v × (x' ≡ x);
     connect_answers = λ x v at answer v' x'. m.connect_answers x.shared.now.manager v at answer v' × (x' ≡ x);
     ends_connect = λ x _ x'. x' ≡ x;
@@ -41,27 +43,20 @@ module _ {G L M S Z K R C E N V A : Type 0} {m : ManagerOf M C E N V} {d : Debug
     lets_go = λ x _ x'. x' ≡ x;
   }
 
-  -- the relations of the calls of its error sink and clock
-  abbrev pub reports : ReportsOf (Scope shared) E
-  reports = record {
-    tells = λ x at x'. k.tells x.shared.now.clock at × (x' ≡ x);
-    sinks = λ x e x'. s.sinks x.shared.now.error_sink e × (x' ≡ x);
-  }
-
   -- a round of the tasks that open the pool's first connections, which stops at the first failure
   abbrev pub OwnRounds : List (Replenish C N A) → Round (List (Replenish C N A)) E → Type 0
   OwnRounds tasks round =
-      Own shared (AtReading reports.tells (λ at x x'. Rounds (TaskPolls tasks_home opener (as_nanos shared.config.connection_timeout) shared.config.retry_connection at)
-      reports.sinks (LetsGo tasks_home opener at) tasks x round x'))
+      Own shared (AtReading opener.tells (λ at x x'. Rounds (TaskPolls tasks_home opener (as_nanos shared.config.connection_timeout) shared.config.retry_connection at)
+      opener.sinks (LetsGo tasks_home opener at) tasks x round x'))
 
   -- the tasks of the pool are let go: what each holds is let go, and its approval given back
   abbrev pub OwnDropsTasks : List (Replenish C N A) → Type 0
-  OwnDropsTasks tasks = Own shared (AtReading reports.tells (λ at. LetsGoEach (LetsGo tasks_home opener at) tasks))
+  OwnDropsTasks tasks = Own shared (AtReading opener.tells (λ at. LetsGoEach (LetsGo tasks_home opener at) tasks))
 
   -- a poll of the opening of a connection that the pool does not count
   abbrev pub OwnDedicates : Dedicated C N A → Poll (Result C E) → Dedicated C N A → Type 0
   OwnDedicates opening answer opening' =
-      Own shared (λ x x'. dedicating.OpeningPolls opener reports.tells opening x answer opening' x')
+      Own shared (λ x x'. dedicating.OpeningPolls opener opening x answer opening' x')
 
   -- such an opening is let go
   abbrev pub OwnDropsOpening : Dedicated C N A → Type 0

@@ -5,16 +5,16 @@ use Rattle.bb8_tasks.specs.declared.turning.Turning.{Turning}
 use Rattle.bb8_tasks.specs.Sweeping.{AtReading}
 use Rattle.bb8_tasks.specs.Turns.{DriverLetsGo, DriverTurns}
 use Rattle.bb8_lock.specs.Scope.{Own}
-use Rattle.bb8_lock.specs.Opening.{opener, reports, tasks_home}
+use Rattle.bb8_lock.specs.Opening.{opener, tasks_home}
 
 module _ {G L M S Z K R C E N V A : Type 0} {m : ManagerOf M C E N V} {d : DebugOf E} {s : SinkOf S E} {z : CustomizerOf Z C E A} {k : ClockOf K} {l : PartsOf L}
     (shared : Shared G L M S Z K R C E N V A m d s z k l) where
   -- a turn at a moment
   abbrev pub OwnTurns : Moment → Turning C N A → Turn → Turning C N A → Type 0
   OwnTurns at turning turn turning' =
-      Own shared (λ x x'. DriverTurns (tasks_home shared) (opener shared) (reports shared).sinks (as_nanos shared.config.connection_timeout)
+      Own shared (λ x x'. DriverTurns (tasks_home shared) (opener shared) (as_nanos shared.config.connection_timeout)
       shared.config.retry_connection at turning x turn turning' x')
 
   -- a driver is let go: the clock is read, and then each of its tasks is let go, and its approval given back
   abbrev pub OwnDropsTurning : Turning C N A → Type 0
-  OwnDropsTurning turning = Own shared (AtReading (reports shared).tells (λ at. DriverLetsGo (tasks_home shared) (opener shared) at turning))
+  OwnDropsTurning turning = Own shared (AtReading (opener shared).tells (λ at. DriverLetsGo (tasks_home shared) (opener shared) at turning))

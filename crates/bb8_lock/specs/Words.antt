@@ -31,6 +31,5 @@ pub use Rattle.bb8_types.specs.declared.api.clocks.Clock.{Ghosts as ClockOf}
 pub use Rattle.bb8_types.specs.declared.api.sinks.ErrorSink.{Ghosts as SinkOf}
 pub use Rattle.bb8_types.specs.declared.api.customizers.CustomizeConnection.{Ghosts as CustomizerOf}
 pub use Rattle.bb8_tasks.specs.declared.opener.Opener.{Ghosts as OpenerOf}
-pub use Rattle.bb8_tasks.specs.declared.rounds.Reports.{Ghosts as ReportsOf}
 pub use Rattle.bb8_types.specs.declared.grants.Grant.{Grant}
 pub use Rattle.bb8_ledger.specs.Answers.{Answer}

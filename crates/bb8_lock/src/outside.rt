@@ -4,7 +4,7 @@ ghost use Rattle.std.specs.Prelude.{◌≡◌};
 use crate::{Given, LockScope, Locked, Parts, Rests, Shared, Sleeper};
 use bb8_core::api::{Clock, CustomizeConnection, ErrorSink, ManageConnection, Moment};
 use bb8_gets::Outside;
-use bb8_tasks::{Opener, Reports};
+use bb8_tasks::Opener;
 use futures::task::Poll;
 use std::sync::Wait;
 use std::time::Duration;
@@ -87,6 +87,10 @@ impl<G: Given, L: Parts> Opener<G::Connection, G::Error>
 
     type Acquiring = G::Acquiring;
 
+    ghost tells = { λ x moment x'. G.Clock.tells x.shared.now.clock moment × (x' ≡ x) };
+
+    ghost sinks = { λ x e x'. G.Sink.sinks x.shared.now.error_sink e × (x' ≡ x) };
+
     ghost connects = { λ x v x'. G.Manager.connects x.shared.now.manager v × (x' ≡ x) };
 
     ghost connect_answers = { λ x v m answer v' x'. G.Manager.connect_answers x.shared.now.manager v m answer v' × (x' ≡ x) };
@@ -100,6 +104,14 @@ impl<G: Given, L: Parts> Opener<G::Connection, G::Error>
     ghost ends_acquire = { λ x _ x'. x' ≡ x };
 
     ghost lets_go = { λ x _ x'. x' ≡ x };
+
+    fn now(&mut self) -> Moment {
+        Outside::<G::Connection, G::Error>::now(self)
+    }
+
+    fn sink(&mut self, error: G::Error) {
+        Outside::<G::Connection, G::Error>::sink(self, error)
+    }
 
     fn connect(&mut self) -> G::Connecting {
         self.shared.manager.connect()
@@ -138,20 +150,5 @@ impl<G: Given, L: Parts> Opener<G::Connection, G::Error>
 
     fn let_go(&mut self, connection: G::Connection) {
         drop(connection)
-    }
-}
-
-impl<G: Given, L: Parts> Reports<G::Error>
-    for LockScope<'_, Shared<G, L>, Locked<G::Connection, L>> {
-    ghost tells = { λ x moment x'. G.Clock.tells x.shared.now.clock moment × (x' ≡ x) };
-
-    ghost sinks = { λ x e x'. G.Sink.sinks x.shared.now.error_sink e × (x' ≡ x) };
-
-    fn now(&mut self) -> Moment {
-        Outside::<G::Connection, G::Error>::now(self)
-    }
-
-    fn sink(&mut self, error: G::Error) {
-        Outside::<G::Connection, G::Error>::sink(self, error)
     }
 }

@@ -1,4 +1,4 @@
--- The table of the polls of a dedicated connection, over the relations of any opener and of any clock.
+-- The table of the polls of a dedicated connection, over the relations of any opener.
 use Rattle.std.specs.Prelude.{◌≡◌, max, Bool, true, false, Result, Ok, Err}
 use Rattle.bb8_tasks.specs.Words.{MatchBool, Poll, Ready, Pending, Moment, OpenerOf}
 use Rattle.bb8_tasks.specs.declared.dedicated.Dedicated.{Dedicated}
@@ -65,11 +65,11 @@ module _ {C E V A W : Type 0} (opener : OpenerOf W C E V A) (m : Moment) where
   OpeningAdvances (Acquiring c acquiring) w next w' = OpeningAcquires c acquiring w next w'
   OpeningAdvances Done w next w' = OpeningStandsAt Pending Done next × (w' ≡ w)
 
-module _ {C E V A W : Type 0} (opener : OpenerOf W C E V A) (tells : W → Moment → W → Type 0) where
+module _ {C E V A W : Type 0} (opener : OpenerOf W C E V A) where
   -- a poll of an opening that was not answered: the clock is read, and its moment is the greatest reading so far
   abbrev pub OpeningTurns : Dedicated C V A → W → Poll (Result C E) → Dedicated C V A → W → Type 0
   OpeningTurns d w answer d' w' =
-      (at : Moment) × (w1 : W) × tells w at w1 × (d'.latest.0 ≡ max at.0 d.latest.0)
+      (at : Moment) × (w1 : W) × opener.tells w at w1 × (d'.latest.0 ≡ max at.0 d.latest.0)
       × OpeningAdvances opener d'.latest d.stage w1 (record { answer = answer; stage = d'.stage }) w'
 
   -- the whole poll; one that was answered is pending, makes no call and stays as it is

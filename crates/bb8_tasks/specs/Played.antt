@@ -23,6 +23,8 @@ begun script = record { reply = script.reply; tries = min (script.tries + 1) 255
 -- the relations of the value of a replay as an opener: it answers by its reply, and its preparations are ready at once
 abbrev pub scripted : OpenerOf Scripted (Unit {0}) (Unit {0}) (Unit {0}) (Unit {0})
 scripted = record {
+  tells = λ script _ after. after ≡ script;
+  sinks = λ script _ after. after ≡ script;
   connects = λ script _ after. after ≡ begun script;
   connect_answers = λ script _ _ answer _ after. (answer ≡ told script.reply) × (after ≡ script);
   ends_connect = λ script _ after. after ≡ script;

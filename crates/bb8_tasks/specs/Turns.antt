@@ -1,4 +1,4 @@
--- A turn of a driver, over the relations of any value that is a home, an opener and a sink: one chain of steps and calls.
+-- A turn of a driver, over the relations of any value that is a home and an opener: one chain of steps and calls.
 use Rattle.std.specs.Prelude.{◌≡◌, ℕ, Bool, true, false, ◌||◌, is_some, Option, Some, None, List, [], ◌∷◌, ◌++◌, map, length, ◌⊎◌}
 use Rattle.bb8_tasks.specs.Words.{as_nanos, Moment, Key, HomeOf, OpenerOf, Reaper, ReaperAnswer, Replenish}
 use Rattle.bb8_types.specs.Settings.{Settings}
@@ -68,11 +68,11 @@ module _ {C E V A X : Type 0} (home : HomeOf X C) (opener : OpenerOf X C E V A) 
   DriverLetsGo (Going reaper ts) x x' = LetsGoEach (LetsGo home opener at) ts x x'
   DriverLetsGo Ended x x' = x' ≡ x
 
-module _ {C E V A X : Type 0} (home : HomeOf X C) (opener : OpenerOf X C E V A) (sinks : X → E → X → Type 0) (timeout : ℕ) (retry : Bool) (at : Moment) where
+module _ {C E V A X : Type 0} (home : HomeOf X C) (opener : OpenerOf X C E V A) (timeout : ℕ) (retry : Bool) (at : Moment) where
   -- after the claims: each task is polled; or, where no handle is alive, each is let go, and the driver has ended
   abbrev pub DriverProceeds : Bool → Option Reaper → List (Replenish C V A) → X → Turn → Turning C V A → X → Type 0
   DriverProceeds false reaper ts x turn t' x' =
-      (left : List (Replenish C V A)) × PollsEach (TaskPolls home opener timeout retry at) sinks ts x left x'
+      (left : List (Replenish C V A)) × PollsEach (TaskPolls home opener timeout retry at) opener.sinks ts x left x'
       × (turn ≡ record { polled = length ts; ended = false }) × (t' ≡ Going reaper left)
   DriverProceeds true reaper ts x turn t' x' =
       LetsGoEach (LetsGo home opener at) ts x x' × (turn ≡ record { polled = 0; ended = true }) × (t' ≡ Ended)

@@ -39,6 +39,10 @@ impl Opener<(), ()> for Scripted {
 
     type Acquiring = ();
 
+    ghost tells = { λ script _ after. after ≡ script };
+
+    ghost sinks = { λ script _ after. after ≡ script };
+
     ghost connects = { λ script _ after. after ≡ begun script };
 
     ghost connect_answers = { λ script _ _ answer _ after. (answer ≡ told script.reply) × (after ≡ script) };
@@ -52,6 +56,12 @@ impl Opener<(), ()> for Scripted {
     ghost ends_acquire = { λ script _ after. after ≡ script };
 
     ghost lets_go = { λ script _ after. after ≡ script };
+
+    fn now(&mut self) -> Moment {
+        Moment(0)
+    }
+
+    fn sink(&mut self, _error: ()) {}
 
     fn connect(&mut self) {
         self.tries = self.tries.saturating_add(1);

@@ -4,7 +4,6 @@ ghost use Rattle.bb8_tasks.specs.Dedicating.{fresh, is_done, OpeningAcquires, Op
 ghost use Rattle.bb8_tasks.specs.declared.dedicated.Opening.TheVariants.{Done as IsDone};
 
 use super::opener::Opener;
-use super::rounds::Reports;
 use bb8_core::api::Moment;
 use futures::task::Poll;
 use std::mem;
@@ -161,11 +160,11 @@ impl<C, V, A> Dedicated<C, V, A> {
     /// It begins one opening at its first poll, and goes on from the opening to the preparation in the same poll. It answers the connection,
     /// or the first error; a connection whose preparation failed is dropped. An opening or a preparation that has answered ends before what
     /// follows. After an answer each poll is pending, and calls nothing.
-    pub fn poll<E, W: Opener<C, E, Connecting = V, Acquiring = A> + Reports<E>>(
+    pub fn poll<E, W: Opener<C, E, Connecting = V, Acquiring = A>>(
         &mut self,
         outside: &mut W,
     ) -> Poll<Result<C, E>>
-        ensures { OpeningPolls W.Opener W.tells self.old outside.old result self.new outside.new }
+        ensures { OpeningPolls W.Opener self.old outside.old result self.new outside.new }
     {
         if self.stage.is_done() {
             return Poll::Pending;

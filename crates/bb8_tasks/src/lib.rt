@@ -23,7 +23,7 @@ pub use home::Home;
 pub use opener::Opener;
 pub use reaper::{Reaper, ReaperAnswer};
 pub use replenish::{Replenish, ReplenishAnswer, ReplenishStage, ReplenishStep, Tries};
-pub use rounds::{OnFailure, Reports, Round};
+pub use rounds::{OnFailure, Round};
 pub use tasks::Tasks;
 pub use turning::{Turn, Turning};
 pub use waits::wait_after;

@@ -1,4 +1,4 @@
-//! What the opening of connections calls outside of the pool's state.
+//! What a pool's tasks call outside of its state.
 ghost use Rattle.std.specs.Prelude.{Result};
 ghost use Rattle.futures.specs.declared.task.Poll.{Poll as PollOf};
 ghost use Rattle.bb8_types.specs.declared.api.moments.Moment.{Moment as MomentOf};
@@ -6,7 +6,8 @@ ghost use Rattle.bb8_types.specs.declared.api.moments.Moment.{Moment as MomentOf
 use bb8_core::api::Moment;
 use futures::task::Poll;
 
-/// The calls by which connections `C` are opened and prepared, which may fail with an `E`, and where they are let go.
+/// The calls by which connections `C` are opened and prepared, which may fail with an `E`, and where they are let go; and those of the pool's
+/// clock and error sink.
 ///
 /// Each call changes the value that it is made of, by a relation that says nothing else and has no default. So a chain of these relations
 /// is the list of all calls, in their order: one that is made twice, left out or made at another place does not fit it. What an opening or a
@@ -17,6 +18,12 @@ pub trait Opener<C, E> {
 
     /// A connection's preparation that is under way.
     type Acquiring;
+
+    // Holds before a reading of the clock, of the moment that it tells, and after it.
+    ghost tells: { Self → MomentOf → Self → Type 0 };
+
+    // Holds before an error is handed to the sink, and after it.
+    ghost sinks: { Self → E → Self → Type 0 };
 
     // Holds before an opening is begun, of the opening, and after it.
     ghost connects: { Self → Self.Connecting → Self → Type 0 };
@@ -39,6 +46,14 @@ pub trait Opener<C, E> {
 
     // Holds before a connection is dropped, and after it.
     ghost lets_go: { Self → C → Self → Type 0 };
+
+    /// Reads the clock.
+    fn now(&mut self) -> Moment
+        ensures { tells self.old result self.new };
+
+    /// Hands an error to the sink.
+    fn sink(&mut self, error: E)
+        ensures { sinks self.old error self.new };
 
     /// Begins to open a connection.
     fn connect(&mut self) -> Self::Connecting

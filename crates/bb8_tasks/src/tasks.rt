@@ -10,7 +10,7 @@ ghost use Rattle.bb8_tasks.specs.TaskSteps.{Claims};
 use super::home::Home;
 use super::opener::Opener;
 use super::replenish::{Replenish, ReplenishAnswer};
-use super::rounds::{OnFailure, Reports, Round};
+use super::rounds::{OnFailure, Round};
 use bb8_core::api::{Config, Memory, Moment};
 use bb8_core::internals::{ClaimAnswer, Grant, Key};
 use std::alloc::Global;
@@ -121,7 +121,7 @@ impl<C, V, A> Tasks<C, V, A> {
     ///
     /// The error of a try that is made again goes to the sink, and so does that of a last try where `on_failure` says so; else the round
     /// stops with that error, polls no further task, and keeps those.
-    fn poll_until<E, X: Home<C> + Opener<C, E, Connecting = V, Acquiring = A> + Reports<E>>(
+    fn poll_until<E, X: Home<C> + Opener<C, E, Connecting = V, Acquiring = A>>(
         &mut self,
         at: Moment,
         pool: &mut X,
@@ -141,7 +141,7 @@ impl<C, V, A> Tasks<C, V, A> {
     }
 
     /// The first task's turn in a round that stopped with an error, or goes on.
-    fn turn<E, X: Home<C> + Opener<C, E, Connecting = V, Acquiring = A> + Reports<E>>(
+    fn turn<E, X: Home<C> + Opener<C, E, Connecting = V, Acquiring = A>>(
         &mut self,
         at: Moment,
         pool: &mut X,
@@ -207,7 +207,7 @@ impl<C, V, A> Tasks<C, V, A> {
     }
 
     /// As `give_back`, at a reading of the clock.
-    pub fn let_go<E, X: Home<C> + Opener<C, E, Connecting = V, Acquiring = A> + Reports<E>>(
+    pub fn let_go<E, X: Home<C> + Opener<C, E, Connecting = V, Acquiring = A>>(
         self,
         pool: &mut X,
     )
@@ -219,7 +219,7 @@ impl<C, V, A> Tasks<C, V, A> {
     }
 
     /// A round of polls at a reading of the clock, which stops at the first failure of a last try, and then lets all other tasks go.
-    pub fn round<E, X: Home<C> + Opener<C, E, Connecting = V, Acquiring = A> + Reports<E>>(
+    pub fn round<E, X: Home<C> + Opener<C, E, Connecting = V, Acquiring = A>>(
         mut self,
         pool: &mut X,
         config: &Config,
@@ -254,7 +254,7 @@ impl<C, V, A> Tasks<C, V, A> {
 
     /// A round of polls that goes on after each failure: each task is polled once, and each error goes to the sink.
     #[tactic(auto, using(crate::proofs::Sweeps::polls_each))]
-    pub fn poll_each<E, X: Home<C> + Opener<C, E, Connecting = V, Acquiring = A> + Reports<E>>(
+    pub fn poll_each<E, X: Home<C> + Opener<C, E, Connecting = V, Acquiring = A>>(
         &mut self,
         at: Moment,
         pool: &mut X,

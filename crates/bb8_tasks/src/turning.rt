@@ -9,7 +9,7 @@ ghost use Rattle.bb8_tasks.specs.Turns.{is_ended, DriverBegins, IsFreshReaper, P
 ghost use Rattle.bb8_tasks.specs.Sweeping.{AtReading};
 
 use super::claims::claim_each;
-use crate::{Home, Opener, Reaper, Reports, Tasks};
+use crate::{Home, Opener, Reaper, Tasks};
 use bb8_core::api::{Config, Moment};
 use std::alloc::Global;
 use std::mem;
@@ -60,7 +60,7 @@ fn poll_tasks<
     V,
     A,
     E: Drop,
-    X: Home<C> + Opener<C, E, Connecting = V, Acquiring = A> + Reports<E>,
+    X: Home<C> + Opener<C, E, Connecting = V, Acquiring = A>,
 >(tasks: &mut Tasks<C, V, A>, at: Moment, pool: &mut X, config: &Config) -> u64
     ensures number { result ≡ length tasks.old }
     ensures each { PollsEach (TaskPolls X.Home X.Opener (as_nanos config.now.connection_timeout)
@@ -87,13 +87,13 @@ impl<C, V, A> Turning<C, V, A> {
     /// one is refused, no claim is made, and the approval stays unclaimed. Then it polls each task once, in the order of their claims;
     /// those that end are gone, and the error of each try that failed goes to the sink. Where a claim finds no handle alive it polls no
     /// task, lets all go, so that their approvals are given back, and has ended: each later turn calls nothing.
-    pub fn turn<E: Drop, X: Home<C> + Opener<C, E, Connecting = V, Acquiring = A> + Reports<E>>(
+    pub fn turn<E: Drop, X: Home<C> + Opener<C, E, Connecting = V, Acquiring = A>>(
         &mut self,
         at: Moment,
         pool: &mut X,
         config: &Config,
     ) -> Turn
-        ensures table { DriverTurns X.Home X.Opener X.sinks
+        ensures table { DriverTurns X.Home X.Opener
             (as_nanos config.now.connection_timeout) config.now.retry_connection at self.old
             pool.old result self.new pool.new }
         ensures ended { result.ended ≡ is_ended self.new }
@@ -148,7 +148,7 @@ impl<C, V, A> Turning<C, V, A> {
     }
 
     /// As `give_back`, at a reading of the clock.
-    pub fn let_go<E, X: Home<C> + Opener<C, E, Connecting = V, Acquiring = A> + Reports<E>>(
+    pub fn let_go<E, X: Home<C> + Opener<C, E, Connecting = V, Acquiring = A>>(
         self,
         pool: &mut X,
     )

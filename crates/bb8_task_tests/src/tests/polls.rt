@@ -60,6 +60,10 @@ impl Opener<u64, u64> for Served {
 
     type Acquiring = bool;
 
+    ghost tells = { λ _ _ _. ⊤ };
+
+    ghost sinks = { λ _ _ _. ⊤ };
+
     ghost connects = { λ _ _ _. ⊤ };
 
     ghost connect_answers = { λ _ _ _ _ _ _. ⊤ };
@@ -73,6 +77,12 @@ impl Opener<u64, u64> for Served {
     ghost ends_acquire = { λ _ _ _. ⊤ };
 
     ghost lets_go = { λ _ _ _. ⊤ };
+
+    fn now(&mut self) -> Moment {
+        Moment(0)
+    }
+
+    fn sink(&mut self, _error: u64) {}
 
     fn connect(&mut self) -> u64 {
         self.connects = self.connects.saturating_add(1);
