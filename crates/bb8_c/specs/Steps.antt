@@ -41,7 +41,7 @@ Within P (Some old) (Some new) = P old new
 abbrev pub Beside : (StateView ℕ → StateView ℕ → Type 0) → Option Listing → Option Listing → Type 0
 Beside P = Within (λ old new. P old.internals new.internals × (new.closed ≡ old.closed))
 
--- An event that may not fit, as it crosses to C: what is told is the answer of the asked step, of which this holds.
+-- An event that may not fit, as it crosses to C: what is told is the answer of the step, of which this holds.
 abbrev pub Crosses : {A U : Type 0} → (Result A U → Told) → (A → Answer) → (Result A U → Type 0) → Act ℕ → ℕ → Told → StateView ℕ → StateView ℕ → Type 0
 Crosses {A} {U} into told Holds e at result old new = (a : Result A U) × (result ≡ into a) × Stepped Meets told old at e a new × Holds a
 

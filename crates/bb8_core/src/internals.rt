@@ -10,7 +10,7 @@ ghost use Rattle.bb8_types.specs.Figures.{figures_of};
 ghost use Rattle.bb8_core.specs.Endings.{endings_of};
 ghost use Rattle.bb8_core.specs.Run.{opening};
 ghost use Rattle.bb8_core.specs.Parts.{out_of};
-ghost use Rattle.bb8_core.specs.StateView.{Represents, Meets, Lends, Searches, examined, searched, IsFitting, IsWithinLimits};
+ghost use Rattle.bb8_core.specs.StateView.{Represents, Meets, Lends, Searches, IsFitting, IsWithinLimits};
 ghost use Rattle.bb8_core.specs.Unfit.{Stepped, OrComesBack};
 ghost use Rattle.bb8_core.specs.Closings.{OffersReaped, OffersLeft};
 ghost use Rattle.bb8_core.specs.StepAnswers.{answer_of_begin, answer_of_try, answer_of_checked_ok, answer_of_checked_err, reason_of, answer_of_give_up, answer_of_put_back, answer_of_claim, answer_of_opened, answer_of_failed, answer_of_add, answer_of_reap, answer_of_join, answer_of_leave, answer_of_look, HandsOut, ServesAtOnce, NotAtOnce, Starts, GivesBack, GivesBackInvalid, GivesBackHeld, HandsBack, Refuses, closed_in};
@@ -100,31 +100,6 @@ impl<C: Drop> PoolInternals<C> {
 }
 
 impl<C: Drop, A> PoolInternals<C, A> {
-    /// What holds of every state, whoever has it: its configuration is lawful, connections and open approvals are within the size, and the
-    /// legal ledger that it represents keeps all limits. It does nothing.
-    pub fn limits(&self)
-        ensures lawful { is_lawful self.now.config ≡ true }
-        ensures size { self.now.records.conns + self.now.records.approved ≤
-            self.now.config.max_size }
-        ensures ledger { IsWithinLimits self.now }
-    {
-        let _ = &self.config;
-    }
-
-    /// How many entries of its tables the latest step lent: each time what stands at a place was read or changed.
-    pub fn examined(&self) -> u64
-        ensures { result ≡ examined self.now }
-    {
-        self.lendings.lent()
-    }
-
-    /// How often the latest step searched a table, as a key that it was handed told a place where its number does not stand.
-    pub fn searched(&self) -> u64
-        ensures { result ≡ searched self.now }
-    {
-        self.lendings.searched()
-    }
-
     /// Begins a get. Memory is asked for only where as many gets are alive as ever were. Where no handle is alive nothing changes.
     pub fn begin(&mut self, at: Moment) -> Result<BeginAnswer, Unfit>
         ensures step { Stepped Meets answer_of_begin self.old at.0 acts.Begin result self.new }
@@ -715,13 +690,6 @@ impl<C: Drop, A> PoolInternals<C, A> {
             by_life: reaped.by_life,
             grant,
         }
-    }
-
-    /// The number that the next connection or approval will have.
-    pub(crate) fn next_number(&self) -> u64
-        ensures { result ≡ self.now.records.next }
-    {
-        self.records.next_number()
     }
 
     /// What the pool tells of itself.

@@ -1,15 +1,49 @@
-//! The questions that a state answers: whether an event fits, and where a number stands. They count in a count of their own, which is forgotten.
-ghost use Rattle.std.specs.Prelude.{◌≡◌, Bool, cond, eqb, [], length, is_some, IfSome, IfNone, true, false};
+//! The questions that a state answers: whether an event fits, and where a number stands. Those that look at an entry count in a count of their
+//! own, which is forgotten.
+ghost use Rattle.std.specs.Prelude.{◌≡◌, ◌+◌, ◌≤◌, Bool, cond, eqb, [], length, is_some, IfSome, IfNone, true, false};
 ghost use Rattle.bb8_ledger.specs.Acts as acts;
 ghost use Rattle.bb8_ledger.specs.Ledger as ledger;
 ghost use Rattle.bb8_types.specs.Places as places;
-ghost use Rattle.bb8_core.specs.StateView.{Represents, IsFitting, TellsFitting, TellsRecord, TellsGet, IsRecordIn, IsNoRecordIn, IsGetIn, IsNoGetIn};
+ghost use Rattle.bb8_types.specs.Settings.{is_lawful};
+ghost use Rattle.bb8_core.specs.StateView.{Represents, examined, searched, IsFitting, IsWithinLimits, TellsFitting, TellsRecord, TellsGet, IsRecordIn, IsNoRecordIn, IsGetIn, IsNoGetIn};
 
 use super::{GetKey, Key, PoolInternals};
 use bb8_tables::gets::{held, is_trying};
 use bb8_types::standing::Getting;
 
 impl<C: Drop, A> PoolInternals<C, A> {
+    /// What holds of every state, whoever has it: its configuration is lawful, connections and open approvals are within the size, and the
+    /// legal ledger that it represents keeps all limits. It does nothing.
+    pub fn limits(&self)
+        ensures lawful { is_lawful self.now.config ≡ true }
+        ensures size { self.now.records.conns + self.now.records.approved ≤
+            self.now.config.max_size }
+        ensures ledger { IsWithinLimits self.now }
+    {
+        let _ = &self.config;
+    }
+
+    /// How many entries of its tables the latest step lent: each time what stands at a place was read or changed.
+    pub fn examined(&self) -> u64
+        ensures { result ≡ examined self.now }
+    {
+        self.lendings.lent()
+    }
+
+    /// How often the latest step searched a table, as a key that it was handed told a place where its number does not stand.
+    pub fn searched(&self) -> u64
+        ensures { result ≡ searched self.now }
+    {
+        self.lendings.searched()
+    }
+
+    /// The number that the next connection or approval will have.
+    pub(crate) fn next_number(&self) -> u64
+        ensures { result ≡ self.now.records.next }
+    {
+        self.records.next_number()
+    }
+
     /// Whether a get may begin: while a handle is alive.
     pub fn fits_begin(&self) -> bool
         ensures { TellsFitting self.now acts.Begin result }
@@ -17,7 +51,7 @@ impl<C: Drop, A> PoolInternals<C, A> {
         self.handles != 0
     }
 
-    /// Whether `serve_at_once` may be called: while a handle is alive, where connections go out unchecked.
+    /// Whether `serve_at_once` looks for a connection: while a handle is alive, where connections go out unchecked.
     pub fn fits_at_once(&self) -> bool
         ensures begin { result ≡ true → IsFitting self.now acts.Begin }
         ensures unchecked { result ≡ true → self.now.config.test_on_check_out ≡ false }
