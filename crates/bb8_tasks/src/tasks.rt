@@ -207,10 +207,7 @@ impl<C, V, A> Tasks<C, V, A> {
     }
 
     /// As `give_back`, at a reading of the clock.
-    pub fn let_go<E, X: Home<C> + Opener<C, E, Connecting = V, Acquiring = A>>(
-        self,
-        pool: &mut X,
-    )
+    pub fn let_go<E, X: Home<C> + Opener<C, E, Connecting = V, Acquiring = A>>(self, pool: &mut X)
         ensures { AtReading X.tells (λ at. LetsGoEach (LetsGo X.Home X.Opener at) self)
             pool.old pool.new }
     {

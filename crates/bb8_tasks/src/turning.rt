@@ -55,13 +55,12 @@ fn poll_reaper<C, H: Home<C>>(reaper: &mut Option<Reaper>, at: Moment, home: &mu
 }
 
 /// Polls each task once, in the order of their claims, and tells how many they were.
-fn poll_tasks<
-    C,
-    V,
-    A,
-    E: Drop,
-    X: Home<C> + Opener<C, E, Connecting = V, Acquiring = A>,
->(tasks: &mut Tasks<C, V, A>, at: Moment, pool: &mut X, config: &Config) -> u64
+fn poll_tasks<C, V, A, E: Drop, X: Home<C> + Opener<C, E, Connecting = V, Acquiring = A>>(
+    tasks: &mut Tasks<C, V, A>,
+    at: Moment,
+    pool: &mut X,
+    config: &Config,
+) -> u64
     ensures number { result ≡ length tasks.old }
     ensures each { PollsEach (TaskPolls X.Home X.Opener (as_nanos config.now.connection_timeout)
         config.now.retry_connection at) X.sinks tasks.old pool.old tasks.new pool.new }
@@ -148,10 +147,7 @@ impl<C, V, A> Turning<C, V, A> {
     }
 
     /// As `give_back`, at a reading of the clock.
-    pub fn let_go<E, X: Home<C> + Opener<C, E, Connecting = V, Acquiring = A>>(
-        self,
-        pool: &mut X,
-    )
+    pub fn let_go<E, X: Home<C> + Opener<C, E, Connecting = V, Acquiring = A>>(self, pool: &mut X)
         ensures { AtReading X.tells (λ at. DriverLetsGo X.Home X.Opener at self) pool.old pool.new }
     {
         let at = pool.now();
