@@ -1,5 +1,5 @@
 //! The locked state of a pool.
-ghost use Rattle.std.specs.Prelude.{◌≡◌, ◌+◌, ◌≤◌, min, IfSome, IfNone, IfOk, IfErr, true, false, None, Some};
+ghost use Rattle.std.specs.Prelude.{◌≡◌, ◌+◌, ◌≤◌, IfSome, IfNone, IfOk, IfErr, true, false, None, Some};
 ghost use Rattle.bb8_ledger.specs.Acts as acts;
 ghost use Rattle.bb8_ledger.specs.Answers as answers;
 ghost use Rattle.bb8_ledger.specs.Ledger as ledger;
@@ -7,7 +7,6 @@ ghost use Rattle.bb8_core.specs.Decided as decided;
 ghost use Rattle.bb8_types.specs.Grants as grants;
 ghost use Rattle.bb8_types.specs.Settings.{settings_of, is_lawful};
 ghost use Rattle.bb8_types.specs.Figures.{figures_of};
-ghost use Rattle.bb8_core.specs.Endings.{endings_of};
 ghost use Rattle.bb8_core.specs.Run.{opening};
 ghost use Rattle.bb8_core.specs.Parts.{out_of};
 ghost use Rattle.bb8_core.specs.StateView.{Represents, Meets, Lends, Searches, IsFitting, IsWithinLimits};
@@ -15,7 +14,6 @@ ghost use Rattle.bb8_core.specs.Unfit.{Stepped, OrComesBack};
 ghost use Rattle.bb8_core.specs.Closings.{OffersReaped, OffersLeft};
 ghost use Rattle.bb8_core.specs.StepAnswers.{answer_of_begin, answer_of_try, answer_of_checked_ok, answer_of_checked_err, reason_of, answer_of_give_up, answer_of_put_back, answer_of_claim, answer_of_opened, answer_of_failed, answer_of_add, answer_of_reap, answer_of_join, answer_of_leave, answer_of_look, HandsOut, ServesAtOnce, NotAtOnce, Starts, GivesBack, GivesBackInvalid, GivesBackHeld, HandsBack, Refuses, closed_in};
 ghost use Rattle.bb8_types.specs.declared.standing.Holder.TheVariants.{Guard, Get};
-ghost use Rattle.bb8_types.specs.Bounds.{end_of_numbers};
 
 mod decided;
 mod questions;
@@ -546,7 +544,9 @@ impl<C: Drop, A> PoolInternals<C, A> {
         ensures step { Meets self.old at.0 (acts.Fill claimed) (answers.Granted result) self.new }
         ensures examined { Lends 4 self.old self.new }
         ensures searched { Searches 0 self.new }
+        ensures limits { IsWithinLimits self.old }
     {
+        self.limits();
         self.latest = self.latest.max(at.0);
         self.lendings.start();
         let wanted = want(&self.config, self.handles, &self.records);
@@ -558,7 +558,9 @@ impl<C: Drop, A> PoolInternals<C, A> {
         ensures step { Meets self.old at.0 acts.Claim (answer_of_claim result) self.new }
         ensures examined { Lends 4 self.old self.new }
         ensures searched { Searches 0 self.new }
+        ensures limits { IsWithinLimits self.old }
     {
+        self.limits();
         self.latest = self.latest.max(at.0);
         self.lendings.start();
         if self.handles == 0 {
@@ -659,6 +661,7 @@ impl<C: Drop, A> PoolInternals<C, A> {
         ensures step { Meets self.old at.0 acts.Reap (answer_of_reap result) self.new }
         ensures examined { Lends (closed_in result + out_of self.old + 2) self.old self.new }
         ensures searched { Searches 0 self.new }
+        ensures limits { IsWithinLimits self.old }
     {
         let mut dropped = self.records.no_list();
         self.reap_into(at, &mut dropped)
@@ -671,7 +674,9 @@ impl<C: Drop, A> PoolInternals<C, A> {
         ensures step { Meets self.old at.0 acts.Reap (answer_of_reap result) self.new }
         ensures examined { Lends (closed_in result + out_of self.old + 2) self.old self.new }
         ensures searched { Searches 0 self.new }
+        ensures limits { IsWithinLimits self.old }
     {
+        self.limits();
         let now = self.latest.max(at.0);
         self.latest = now;
         self.lendings.start();
@@ -701,7 +706,9 @@ impl<C: Drop, A> PoolInternals<C, A> {
         ensures idle { result.idle_connections ≤ result.connections }
         ensures examined { Lends 4 self.old self.new }
         ensures searched { Searches 0 self.new }
+        ensures limits { IsWithinLimits self.old }
     {
+        self.limits();
         self.latest = self.latest.max(at.0);
         self.lendings.start();
         State {
@@ -770,23 +777,14 @@ impl<C: Drop, A> PoolInternals<C, A> {
         ensures step { Meets self.old at.0 acts.Look (answer_of_look result) self.new }
         ensures examined { Lends 4 self.old self.new }
         ensures searched { Searches 0 self.new }
+        ensures limits { IsWithinLimits self.old }
     {
+        self.limits();
         self.latest = self.latest.max(at.0);
         self.lendings.start();
         Looked {
             moment: Moment(self.latest),
             alive: self.handles > 0,
         }
-    }
-
-    /// How many events may still come that end a get, a handle or the lending of a connection: one of each get alive, of each handle alive,
-    /// and of each connection that is out. It stays at the greatest u64.
-    pub fn endings(&self) -> u64
-        ensures { result ≡ min (endings_of self.now) end_of_numbers }
-    {
-        let out = self.records.connections() - self.records.idle_connections();
-        (self.gets.alive())
-            .saturating_add(self.handles)
-            .saturating_add(out as u64)
     }
 }

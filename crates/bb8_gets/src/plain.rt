@@ -52,7 +52,6 @@ impl<C: Drop> GetHome<C> for PoolInternals<C> {
     fn release(&mut self) {}
 
     fn look(&mut self, at: Moment) -> Looked {
-        self.limits();
         PoolInternals::look(self, at)
     }
 

@@ -76,7 +76,6 @@ impl<C: Drop, L: Parts> GetHome<C> for Locked<C, L> {
     fn release(&mut self) {}
 
     fn look(&mut self, at: Moment) -> Looked {
-        self.limits();
         let Locked { core, .. } = self;
         core.look(at)
     }

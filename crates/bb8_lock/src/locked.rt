@@ -6,7 +6,6 @@ ghost use Rattle.bb8_ledger.specs.Acts as acts;
 ghost use Rattle.bb8_types.specs.Settings.{Settings, default_settings, is_lawful, settings_of};
 ghost use Rattle.bb8_lock.specs.Parts.{parts_back, PoolBegins, IsBlankOf};
 ghost use Rattle.bb8_core.specs.Parts.{out_of};
-ghost use Rattle.bb8_core.specs.StateView.{IsWithinLimits};
 
 use crate::section_home::{Ends, Handle, Joining, SectionHome};
 use bb8_core::api::{Config, Memory, Moment, State};
@@ -139,16 +138,6 @@ pub fn begin_pool<C: Drop, L: Parts>(
     })
 }
 
-impl<C: Drop, L: Parts> Locked<C, L> {
-    /// What holds of the state, whoever holds the lock. It does nothing.
-    pub(crate) fn limits(&self)
-        ensures limits { IsWithinLimits self.now.core }
-        ensures settings { self.now.core.config ≡ L.settings }
-    {
-        self.core.limits();
-    }
-}
-
 /// Each section is one step, from the state that stands there to the next one.
 impl<C: Drop, L: Parts> SectionHome<C> for Locked<C, L> {
     ghost use Rattle.bb8_core.specs.Unfit.{OrComesBack, Stepped};
@@ -189,7 +178,6 @@ impl<C: Drop, L: Parts> SectionHome<C> for Locked<C, L> {
     }
 
     fn state(&mut self, at: Moment) -> State {
-        self.limits();
         let Locked { core, .. } = self;
         core.state(at)
     }
@@ -214,7 +202,7 @@ impl<C: Drop, L: Parts> Ends for Locked<C, L> {
     ghost over = { λ h. eqb h.core.handles 0 };
 
     fn is_over(&self) -> bool {
-        self.limits();
+        self.core.limits();
         !self.core.fits_leave()
     }
 }

@@ -29,14 +29,12 @@ impl<C: Drop, L: Parts> Home<C> for Locked<C, L> {
     }
 
     fn claim(&mut self, at: Moment) -> ClaimAnswer {
-        self.limits();
         let Locked { core, .. } = self;
         core.claim(at)
     }
 
     /// The connections that it closes are dropped under the lock.
     fn reap(&mut self, at: Moment) -> ReapAnswer {
-        self.limits();
         let Locked { core, .. } = self;
         core.reap(at)
     }

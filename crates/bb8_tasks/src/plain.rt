@@ -13,7 +13,6 @@ impl<C: Drop> Home<C> for PoolInternals<C> {
     ghost steps = { λ pool at s after. TaskStepsBy Steps pool at s after };
 
     fn look(&mut self, at: Moment) -> Looked {
-        self.limits();
         PoolInternals::look(self, at)
     }
 
@@ -26,12 +25,10 @@ impl<C: Drop> Home<C> for PoolInternals<C> {
     }
 
     fn claim(&mut self, at: Moment) -> ClaimAnswer {
-        self.limits();
         PoolInternals::claim(self, at)
     }
 
     fn reap(&mut self, at: Moment) -> ReapAnswer {
-        self.limits();
         PoolInternals::reap(self, at)
     }
 }

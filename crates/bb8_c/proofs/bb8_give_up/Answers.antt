@@ -11,7 +11,7 @@ returns c = within _ c.take-open.ensures.core c.deref_mut.ensures.value c.of.ens
   (
     c.give_up.result,
     c.gave_up-told.ensures,
-    subst (λ why. Stepped Meets answer_of_give_up c.deref_mut.result.now.internals c.args.at (GiveUp c.args.get.number why None false) c.give_up.result c.give_up.new.pool)
+    subst (λ why. Stepped Meets answer_of_give_up c.deref_mut.result.now.internals c.args.at (GiveUp c.args.get.number why None false) c.give_up.result c.give_up.new.self)
         c.reason.ensures c.give_up.ensures.step,
     c.give_up.ensures.connection,
   ),

@@ -1,10 +1,12 @@
 //! The questions that a state answers: whether an event fits, and where a number stands. Those that look at an entry count in a count of their
 //! own, which is forgotten.
-ghost use Rattle.std.specs.Prelude.{◌≡◌, ◌+◌, ◌≤◌, Bool, cond, eqb, [], length, is_some, IfSome, IfNone, true, false};
+ghost use Rattle.std.specs.Prelude.{◌≡◌, ◌+◌, ◌≤◌, min, Bool, cond, eqb, [], length, is_some, IfSome, IfNone, true, false};
 ghost use Rattle.bb8_ledger.specs.Acts as acts;
 ghost use Rattle.bb8_ledger.specs.Ledger as ledger;
+ghost use Rattle.bb8_types.specs.Bounds.{end_of_numbers};
 ghost use Rattle.bb8_types.specs.Places as places;
 ghost use Rattle.bb8_types.specs.Settings.{is_lawful};
+ghost use Rattle.bb8_core.specs.Endings.{endings_of};
 ghost use Rattle.bb8_core.specs.StateView.{Represents, examined, searched, IsFitting, IsWithinLimits, TellsFitting, TellsRecord, TellsGet, IsRecordIn, IsNoRecordIn, IsGetIn, IsNoGetIn};
 
 use super::{GetKey, Key, PoolInternals};
@@ -42,6 +44,17 @@ impl<C: Drop, A> PoolInternals<C, A> {
         ensures { result ≡ self.now.records.next }
     {
         self.records.next_number()
+    }
+
+    /// How many events may still come that end a get, a handle or the lending of a connection: one of each get alive, of each handle alive,
+    /// and of each connection that is out. It stays at the greatest u64.
+    pub fn endings(&self) -> u64
+        ensures { result ≡ min (endings_of self.now) end_of_numbers }
+    {
+        let out = self.records.connections() - self.records.idle_connections();
+        (self.gets.alive())
+            .saturating_add(self.handles)
+            .saturating_add(out as u64)
     }
 
     /// Whether a get may begin: while a handle is alive.

@@ -2,4 +2,4 @@ use Rattle.bb8_lock.proofs.locked.LockedEnds.is_over.Goals as goal
 use Rattle.bb8_lock.proofs.Sections.{none_left}
 
 pub returns : goal.returns
-returns g c = none_left _ _ c.limits.ensures.limits.0 c.fits_leave.ensures
+returns g c = none_left _ _ c.limits.ensures.ledger.0 c.fits_leave.ensures

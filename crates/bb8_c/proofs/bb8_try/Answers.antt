@@ -1,0 +1,7 @@
+use Rattle.bb8_c.proofs.Words.{refl}
+use Rattle.bb8_c.proofs.Inside.{within}
+use Rattle.bb8_c.proofs.bb8_try.Goals as goal
+
+pub returns : goal.returns
+returns c = within _ c.take-open.ensures.core c.deref_mut.ensures.value c.of.ensures
+    ((c.try_get.result, c.tried-told.ensures, c.try_get.ensures.step, c.try_get.ensures.connection), refl)
