@@ -27,9 +27,7 @@ fn serve_in_steps(pool: &mut PoolInternals<u64>) -> Option<(Key, u64)>
     requires some { 0 < length pool.old.records.idle }
     ensures { IfSome result (λ r. Takes pool.old r.0.number pool.new) }
 {
-    // It does nothing, and tells the proof of a ledger behind the state.
-    pool.limits();
-    let BeginAnswer::Begun(get) = pool.begin(NOW) else {
+    let Ok(BeginAnswer::Begun(get)) = pool.begin(NOW) else {
         return None;
     };
     let Ok(answer) = pool.try_get(NOW, get) else {
@@ -47,8 +45,6 @@ fn serve(pool: &mut PoolInternals<u64>) -> Option<(Key, u64)>
     requires some { 0 < length pool.old.records.idle }
     ensures { IfSome result (λ r. Takes pool.old r.0.number pool.new) }
 {
-    // It does nothing, and tells the proof of a ledger behind the state.
-    pool.limits();
     match pool.serve_at_once(NOW) {
         Some(AtOnce { key, conn, .. }) => Some((key, conn)),
         None => serve_in_steps(pool),
@@ -63,8 +59,6 @@ fn give_back(pool: &mut PoolInternals<u64>, key: Key, conn: u64) -> Option<()>
     ensures last { IfSome result (λ u. pool.new.records.idle ≡ pool.old.records.idle
         ++ key.number ∷ []) }
 {
-    // It does nothing, and tells the proof of a ledger behind the state.
-    pool.limits();
     let Ok(told) = pool.put_back(NOW, key, conn, false) else {
         return None;
     };

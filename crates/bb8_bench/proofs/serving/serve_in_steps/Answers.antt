@@ -5,5 +5,5 @@ use Rattle.bb8_bench.proofs.Stepped.{taken}
 use Rattle.bb8_bench.proofs.serving.serve_in_steps.Goals as goal
 
 pub returns : goal.returns
-returns c = taken c.limits.ensures.ledger.0 c.requires.serving c.requires.some c.in-Begun.ensures.step
-    (subst (λ (r : TryAnswer ℕ). Meets c.begin.new.self 0 (Try c.in-Begun.get.number) (answer_of_try r) c.try_get.new.self) c.in_ok-key.ensures c.in-Ok.ensures.step.0)
+returns c = taken c.in-Ok-Begun.ensures.limits.0 c.requires.serving c.requires.some c.in-Ok-Begun.ensures.step.0
+    (subst (λ (r : TryAnswer ℕ). Meets c.begin.new.self 0 (Try c.in-Ok-Begun.get.number) (answer_of_try r) c.try_get.new.self) c.in_ok-key.ensures c.in-Ok.ensures.step.0)
