@@ -35,22 +35,22 @@ pub use told::{Granted, Handed, Name, Told};
 
 // What is told of the core, which is taken out of its handle for it.
 macro_rules! with_core {
-    ($alloc:ident, $handle:ident, $open:ident => $told:expr) => {{
+    ($alloc:ident, $handle:ident, $open:ident => $module:ident::$tell:ident, $step:expr) => {{
         let mut $open = $handle.take($alloc);
-        let told = $told;
+        let answer = $step;
         *$handle = CoreHandle::of($open);
-        told
+        $module::$tell(answer)
     }};
 }
 
 // What a step tells that hands over, in such words, and what its try tells.
 macro_rules! with_try {
-    ($alloc:ident, $handle:ident, $open:ident => $tell:ident, $over:expr) => {
-        with_core!($alloc, $handle, $open => {
-            let over = $over;
-            told::both(told::$tell(over.told), over.tried)
-        })
-    };
+    ($alloc:ident, $handle:ident, $open:ident => $tell:ident, $step:expr) => {{
+        let mut $open = $handle.take($alloc);
+        let over = $step;
+        *$handle = CoreHandle::of($open);
+        told::both(told::$tell(over.told), over.tried)
+    }};
 }
 
 // The key that a name of C stands for.
@@ -100,7 +100,7 @@ pub extern "C" fn bb8_begin(alloc: Global, core: &mut CoreHandle, at: u64) -> To
     ensures { Beside (Crosses (in_c.begin_in {U = Unfit}) answer_of_begin (λ a. ⊤)
         acts.Begin at result) core.old.core core.new.core }
 {
-    with_core!(alloc, core, open => told::begun(open.internals.begin(Moment(at))))
+    with_core!(alloc, core, open => told::begun, open.internals.begin(Moment(at)))
 }
 
 /// Begins a get and lets it try once, as `bb8_begin` and then `bb8_try` do, whether it is checked or not, and whether it is served or waits. The name of the get
@@ -113,7 +113,7 @@ pub extern "C" fn bb8_get(alloc: Global, core: &mut CoreHandle, at: u64) -> Told
         × IfErr a (λ u. Meets old at acts.Begin answers.Unfit new × (new ≡ old)))
         core.old.core core.new.core }
 {
-    with_core!(alloc, core, open => told::got(open.internals.start(Moment(at))))
+    with_core!(alloc, core, open => told::got, open.internals.start(Moment(at)))
 }
 
 /// Begins a get and serves it, where connections go out unchecked, one is idle, and the get needs no memory. Else the answer has kind 0, nothing
@@ -125,7 +125,7 @@ pub extern "C" fn bb8_serve_at_once(alloc: Global, core: &mut CoreHandle, at: u6
         × IfSome a (λ served. ServesAtOnce old at served new)
         × IfNone a (new ≡ old) × IfNone a (NotAtOnce old)) core.old.core core.new.core }
 {
-    with_core!(alloc, core, open => told::at_once(open.internals.serve_at_once(Moment(at))))
+    with_core!(alloc, core, open => told::at_once, open.internals.serve_at_once(Moment(at)))
 }
 
 /// Lets a get try: kind 4 where it is served, 5 where it holds a connection that is to be checked, 6 where it waits.
@@ -137,7 +137,7 @@ pub extern "C" fn bb8_try(alloc: Global, core: &mut CoreHandle, at: u64, get: Na
         × Stepped Meets answer_of_try old at (acts.Try get.number) a new
         × IfOk a (HandsOut old)) core.old.core core.new.core }
 {
-    with_core!(alloc, core, open => told::tried(open.internals.try_get(Moment(at), named!(GetKey, get))))
+    with_core!(alloc, core, open => told::tried, open.internals.try_get(Moment(at), named!(GetKey, get)))
 }
 
 /// Tells that the check of a get was passed: kind 4. The hint is the place of the key that it holds.
@@ -155,7 +155,7 @@ pub extern "C" fn bb8_checked_ok(
         result old new)
         core.old.core core.new.core }
 {
-    with_core!(alloc, core, open => told::checked(open.internals.checked_ok(Moment(at), named!(GetKey, get), hint)))
+    with_core!(alloc, core, open => told::checked, open.internals.checked_ok(Moment(at), named!(GetKey, get), hint))
 }
 
 /// Tells that the check of a get failed, which hands its connection in: kind 8. The get may try again. The hint is as of `bb8_checked_ok`.
@@ -174,7 +174,7 @@ pub extern "C" fn bb8_checked_err(
         (OrComesBack GivesBackInvalid conn)
         (acts.CheckedErr get.number broken) at result) core.old.core core.new.core }
 {
-    with_core!(alloc, core, open => told::invalid(open.internals.checked_err(Moment(at), named!(GetKey, get), conn, broken, hint)))
+    with_core!(alloc, core, open => told::invalid, open.internals.checked_err(Moment(at), named!(GetKey, get), conn, broken, hint))
 }
 
 /// Gives up a get that holds nothing: kind 9.
@@ -191,7 +191,7 @@ pub extern "C" fn bb8_give_up(
         (λ a. IfOk a (GivesBackHeld None))
         (acts.GiveUp get.number (why timed_out) None false) at result) core.old.core core.new.core }
 {
-    with_core!(alloc, core, open => told::gave_up(open.internals.give_up(Moment(at), named!(GetKey, get), reason(timed_out), false)))
+    with_core!(alloc, core, open => told::gave_up, open.internals.give_up(Moment(at), named!(GetKey, get), reason(timed_out), false))
 }
 
 /// Gives up a get that holds a connection, which is handed in: kind 7 or 8. The hint is as of `bb8_checked_ok`.
@@ -212,7 +212,7 @@ pub extern "C" fn bb8_give_up_held(
         (acts.GiveUp get.number (why timed_out) (Some conn) broken) at result)
         core.old.core core.new.core }
 {
-    with_core!(alloc, core, open => told::gave_up(open.internals.give_back(Moment(at), named!(GetKey, get), reason(timed_out), conn, broken, hint)))
+    with_core!(alloc, core, open => told::gave_up, open.internals.give_back(Moment(at), named!(GetKey, get), reason(timed_out), conn, broken, hint))
 }
 
 /// Returns a connection that was served: kind 7 where it is idle, 8 where it is closed, and handed back.
@@ -230,7 +230,7 @@ pub extern "C" fn bb8_put_back(
         (OrComesBack GivesBack conn)
         (acts.PutBack key.number conn broken) at result) core.old.core core.new.core }
 {
-    with_core!(alloc, core, open => told::returned(open.internals.put_back(Moment(at), named!(Key, key), conn, broken)))
+    with_core!(alloc, core, open => told::returned, open.internals.put_back(Moment(at), named!(Key, key), conn, broken))
 }
 
 /// Grants what is wanted for `min_idle`, claimed at once or not: kind 23.
@@ -240,7 +240,7 @@ pub extern "C" fn bb8_fill(alloc: Global, core: &mut CoreHandle, at: u64, claime
     ensures { Beside (λ old new. (a : Grant) × (result ≡ in_c.fill_in a)
         × Meets old at (acts.Fill claimed) (answers.Granted a) new) core.old.core core.new.core }
 {
-    with_core!(alloc, core, open => told::filled(open.internals.fill(Moment(at), claimed)))
+    with_core!(alloc, core, open => told::filled, open.internals.fill(Moment(at), claimed))
 }
 
 /// Claims an approval: kind 10, or 11 where none is unclaimed, or 12 where no handle is alive.
@@ -250,7 +250,7 @@ pub extern "C" fn bb8_claim(alloc: Global, core: &mut CoreHandle, at: u64) -> To
     ensures { Beside (λ old new. (a : ClaimAnswer) × (result ≡ in_c.claim_in a)
         × Meets old at acts.Claim (answer_of_claim a) new) core.old.core core.new.core }
 {
-    with_core!(alloc, core, open => told::claimed(open.internals.claim(Moment(at))))
+    with_core!(alloc, core, open => told::claimed, open.internals.claim(Moment(at)))
 }
 
 /// Hands in the connection that a claimed approval brought: kind 13, or 14 where no handle is alive and it is handed back.
@@ -267,7 +267,7 @@ pub extern "C" fn bb8_opened(
         (OrComesBack HandsBack conn)
         (acts.Opened approval.number conn) at result) core.old.core core.new.core }
 {
-    with_core!(alloc, core, open => told::entered(open.internals.opened(Moment(at), named!(Key, approval), conn)))
+    with_core!(alloc, core, open => told::entered, open.internals.opened(Moment(at), named!(Key, approval), conn))
 }
 
 /// Ends a claimed approval that brought no connection: kind 15.
@@ -277,7 +277,7 @@ pub extern "C" fn bb8_failed(alloc: Global, core: &mut CoreHandle, at: u64, appr
     ensures { Beside (Crosses (in_c.failed_in {U = Unfit}) answer_of_failed (λ a. ⊤)
         (acts.Failed approval.number) at result) core.old.core core.new.core }
 {
-    with_core!(alloc, core, open => told::given_back(open.internals.failed(Moment(at), named!(Key, approval))))
+    with_core!(alloc, core, open => told::given_back, open.internals.failed(Moment(at), named!(Key, approval)))
 }
 
 /// Adds a connection that no approval brought: kind 16, or 17 as it is broken, 18 as there is no room, 19 as memory or a number is lacking.
@@ -293,7 +293,7 @@ pub extern "C" fn bb8_add(
     ensures { Beside (Crosses in_c.add_in answer_of_add (OrComesBack Refuses conn)
         (acts.Add conn broken) at result) core.old.core core.new.core }
 {
-    with_core!(alloc, core, open => told::added(open.internals.add(Moment(at), conn, broken)))
+    with_core!(alloc, core, open => told::added, open.internals.add(Moment(at), conn, broken))
 }
 
 /// As `bb8_checked_err`, and then `bb8_try` of the get that was notified.
@@ -412,7 +412,7 @@ pub extern "C" fn bb8_reap(alloc: Global, core: &mut CoreHandle, at: u64) -> Tol
     ensures { Within (λ old new. (a : Option ReapAnswer) × (result ≡ in_c.reap_in a)
         × Reaps old at a new) core.old.core core.new.core }
 {
-    with_core!(alloc, core, open => told::reaped(open.reap(at)))
+    with_core!(alloc, core, open => told::reaped, open.reap(at))
 }
 
 /// Adds a handle of the pool: kind 21, or 3 where 4,294,967,295 are alive.
@@ -422,7 +422,7 @@ pub extern "C" fn bb8_join(alloc: Global, core: &mut CoreHandle, at: u64) -> Tol
     ensures { Beside (Crosses (in_c.join_in {U = Unfit}) answer_of_join (λ a. ⊤)
         acts.Join at result) core.old.core core.new.core }
 {
-    with_core!(alloc, core, open => told::joined(open.internals.join(Moment(at))))
+    with_core!(alloc, core, open => told::joined, open.internals.join(Moment(at)))
 }
 
 /// Takes a handle of the pool away: kind 22. With the last one idle connections end, as many as the number of the key; `bb8_closed_next` tells
@@ -433,7 +433,7 @@ pub extern "C" fn bb8_leave(alloc: Global, core: &mut CoreHandle, at: u64) -> To
     ensures { Within (λ old new. (a : Left) × (result ≡ in_c.leave_in a)
         × Leaves old at a new) core.old.core core.new.core }
 {
-    with_core!(alloc, core, open => told::left(open.leave(at)))
+    with_core!(alloc, core, open => told::left, open.leave(at))
 }
 
 /// Tells the connection that a reap or the last leave closed first, of those that were not told yet: kind 24. It is 0 where all were told.
@@ -443,7 +443,7 @@ pub extern "C" fn bb8_closed_next(alloc: Global, core: &mut CoreHandle) -> Told
     ensures { Within (λ old new. (a : Option (Closed ℕ)) × (result ≡ in_c.closed_in a)
         × TellsNext old a new) core.old.core core.new.core }
 {
-    with_core!(alloc, core, open => told::closed(open.next()))
+    with_core!(alloc, core, open => told::closed, open.next())
 }
 
 /// The effective moment, and whether a handle of the pool is alive.
@@ -453,7 +453,7 @@ pub extern "C" fn bb8_look(alloc: Global, core: &mut CoreHandle, at: u64) -> Loo
     ensures { Beside (λ old new. (a : Look) × (result ≡ in_c.look_in a)
         × Meets old at acts.Look (answer_of_look a) new) core.old.core core.new.core }
 {
-    with_core!(alloc, core, open => figures::seen(open.internals.look(Moment(at))))
+    with_core!(alloc, core, open => figures::seen, open.internals.look(Moment(at)))
 }
 
 /// What the core tells of itself: every figure of its state.
@@ -463,7 +463,7 @@ pub extern "C" fn bb8_state(alloc: Global, core: &mut CoreHandle, at: u64) -> Fi
     ensures { Beside (λ old new. (a : State) × (result ≡ in_c.figures_in a)
         × Meets old at acts.State (answers.Shown (figures_of a)) new) core.old.core core.new.core }
 {
-    with_core!(alloc, core, open => figures::told(open.internals.state(Moment(at))))
+    with_core!(alloc, core, open => figures::told, open.internals.state(Moment(at)))
 }
 
 /// Whether a connection or an approval of this number has not ended.
@@ -473,7 +473,10 @@ pub extern "C" fn bb8_knows(alloc: Global, core: &mut CoreHandle, number: u64) -
     ensures { Beside (λ old new. (new ≡ old) × (result ≡ true → IsRecordIn old number)
         × (result ≡ false → IsNoRecordIn old number)) core.old.core core.new.core }
 {
-    with_core!(alloc, core, open => open.internals.find(number).is_some())
+    let open = core.take(alloc);
+    let is_there = open.internals.find(number).is_some();
+    *core = CoreHandle::of(open);
+    is_there
 }
 
 /// How many bytes a struct takes: 0 for `CoreHandle`, 1 `Settings`, 2 `Name`, 3 `Granted`, 4 `Told`, 5 `LookAnswer`, 6 `Figures`,

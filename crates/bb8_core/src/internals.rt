@@ -185,6 +185,9 @@ impl<C: Drop, A> PoolInternals<C, A> {
         if !self.fits_begin() {
             return Err(Unfit);
         }
+        if self.config.test_on_check_out {
+            return Ok(self.start_on(at));
+        }
         match self.serve_at_once(at) {
             None => Ok(self.start_on(at)),
             Some(

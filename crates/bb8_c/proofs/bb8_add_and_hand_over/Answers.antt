@@ -8,7 +8,7 @@ returns c = within _ c.take-open.ensures.core c.deref_mut.ensures.value c.of.ens
   (
     c.add-over.result.told,
     c.add-over.result.tried,
-    c.both-told.ensures ∙ ap (λ t. handed_in t c.add-over.result.tried) c.added.ensures,
+    c.both.ensures ∙ ap (λ t. handed_in t c.add-over.result.tried) c.added.ensures,
     c.add-over.ensures.step,
     c.add-over.ensures.connection,
   ),

@@ -4,4 +4,4 @@ use Rattle.bb8_c.proofs.bb8_checked_err.Goals as goal
 
 pub returns : goal.returns
 returns c = within _ c.take-open.ensures.core c.deref_mut.ensures.value c.of.ensures
-    ((c.checked_err.result, c.invalid-told.ensures, c.checked_err.ensures.step, c.checked_err.ensures.connection), refl)
+    ((c.checked_err-answer.result, c.invalid.ensures, c.checked_err-answer.ensures.step, c.checked_err-answer.ensures.connection), refl)

@@ -8,7 +8,7 @@ returns c = within _ c.take-open.ensures.core c.deref_mut.ensures.value c.of.ens
   (
     c.checked_err-over.result.told,
     c.checked_err-over.result.tried,
-    c.both-told.ensures ∙ ap (λ t. handed_in t c.checked_err-over.result.tried) c.invalid.ensures,
+    c.both.ensures ∙ ap (λ t. handed_in t c.checked_err-over.result.tried) c.invalid.ensures,
     c.checked_err-over.ensures.step,
     c.checked_err-over.ensures.connection,
   ),

@@ -12,7 +12,7 @@ returns c = within _ c.take-open.ensures.core c.deref_mut.ensures.value c.of.ens
   (
     c.give_up-over.result.told,
     c.give_up-over.result.tried,
-    c.both-told.ensures ∙ ap (λ t. handed_in t c.give_up-over.result.tried) c.gave_up.ensures,
+    c.both.ensures ∙ ap (λ t. handed_in t c.give_up-over.result.tried) c.gave_up.ensures,
     subst (λ why. Stepped (HandsOver c.give_up-over.result.tried) answer_of_give_up c.deref_mut.result.now.internals c.args.at (GiveUp c.args.get.number why None false) c.give_up-over.result.told c.give_up-over.new.pool)
         c.reason.ensures c.give_up-over.ensures.step,
     c.give_up-over.ensures.connection,

@@ -9,11 +9,11 @@ use Rattle.bb8_c.proofs.bb8_give_up_held.Goals as goal
 pub returns : goal.returns
 returns c = within _ c.take-open.ensures.core c.deref_mut.ensures.value c.of.ensures (
   (
-    c.give_back.result,
-    c.gave_up-told.ensures,
-    subst (λ why. Stepped Meets answer_of_give_up c.deref_mut.result.now.internals c.args.at (GiveUp c.args.get.number why (Some c.args.conn) c.args.broken) c.give_back.result c.give_back.new.self)
-        c.reason.ensures c.give_back.ensures.step,
-    c.give_back.ensures.connection,
+    c.give_back-answer.result,
+    c.gave_up.ensures,
+    subst (λ why. Stepped Meets answer_of_give_up c.deref_mut.result.now.internals c.args.at (GiveUp c.args.get.number why (Some c.args.conn) c.args.broken) c.give_back-answer.result c.give_back-answer.new.self)
+        c.reason.ensures c.give_back-answer.ensures.step,
+    c.give_back-answer.ensures.connection,
   ),
   refl,
 )

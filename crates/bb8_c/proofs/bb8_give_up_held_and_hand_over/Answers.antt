@@ -12,7 +12,7 @@ returns c = within _ c.take-open.ensures.core c.deref_mut.ensures.value c.of.ens
   (
     c.give_back-over.result.told,
     c.give_back-over.result.tried,
-    c.both-told.ensures ∙ ap (λ t. handed_in t c.give_back-over.result.tried) c.gave_up.ensures,
+    c.both.ensures ∙ ap (λ t. handed_in t c.give_back-over.result.tried) c.gave_up.ensures,
     subst (λ why. Stepped (HandsOver c.give_back-over.result.tried) answer_of_give_up c.deref_mut.result.now.internals c.args.at (GiveUp c.args.get.number why (Some c.args.conn) c.args.broken) c.give_back-over.result.told c.give_back-over.new.pool)
         c.reason.ensures c.give_back-over.ensures.step,
     c.give_back-over.ensures.connection,

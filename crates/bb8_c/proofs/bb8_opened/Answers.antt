@@ -4,4 +4,4 @@ use Rattle.bb8_c.proofs.bb8_opened.Goals as goal
 
 pub returns : goal.returns
 returns c = within _ c.take-open.ensures.core c.deref_mut.ensures.value c.of.ensures
-    ((c.opened.result, c.entered-told.ensures, c.opened.ensures.step, c.opened.ensures.connection), refl)
+    ((c.opened-answer.result, c.entered.ensures, c.opened-answer.ensures.step, c.opened-answer.ensures.connection), refl)

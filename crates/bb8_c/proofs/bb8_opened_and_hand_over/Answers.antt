@@ -8,7 +8,7 @@ returns c = within _ c.take-open.ensures.core c.deref_mut.ensures.value c.of.ens
   (
     c.opened-over.result.told,
     c.opened-over.result.tried,
-    c.both-told.ensures ∙ ap (λ t. handed_in t c.opened-over.result.tried) c.entered.ensures,
+    c.both.ensures ∙ ap (λ t. handed_in t c.opened-over.result.tried) c.entered.ensures,
     c.opened-over.ensures.step,
     c.opened-over.ensures.connection,
   ),

@@ -4,4 +4,4 @@ use Rattle.bb8_c.proofs.bb8_put_back.Goals as goal
 
 pub returns : goal.returns
 returns c = within _ c.take-open.ensures.core c.deref_mut.ensures.value c.of.ensures
-    ((c.put_back.result, c.returned-told.ensures, c.put_back.ensures.step, c.put_back.ensures.connection), refl)
+    ((c.put_back-answer.result, c.returned.ensures, c.put_back-answer.ensures.step, c.put_back-answer.ensures.connection), refl)

@@ -8,7 +8,7 @@ returns c = within _ c.take-open.ensures.core c.deref_mut.ensures.value c.of.ens
   (
     c.put_back-over.result.told,
     c.put_back-over.result.tried,
-    c.both-told.ensures ∙ ap (λ t. handed_in t c.put_back-over.result.tried) c.returned.ensures,
+    c.both.ensures ∙ ap (λ t. handed_in t c.put_back-over.result.tried) c.returned.ensures,
     c.put_back-over.ensures.step,
     c.put_back-over.ensures.connection,
   ),

@@ -3,4 +3,4 @@ use Rattle.bb8_c.proofs.Inside.{within}
 use Rattle.bb8_c.proofs.bb8_state.Goals as goal
 
 pub returns : goal.returns
-returns c = within _ c.take-open.ensures.core c.deref_mut.ensures.value c.of.ensures ((c.state.result, c.told-told.ensures, c.state.ensures.step), refl)
+returns c = within _ c.take-open.ensures.core c.deref_mut.ensures.value c.of.ensures ((c.state-answer.result, c.told.ensures, c.state-answer.ensures.step), refl)
