@@ -35,8 +35,6 @@ fn open_one(pool: &mut PoolInternals<u64>) -> Option<u64>
     requires { IsServing pool.old }
     ensures { IfSome result (λ k. Opens pool.old k pool.new) }
 {
-    // It does nothing, and tells the proof of a ledger behind the state.
-    pool.limits();
     let ClaimAnswer::Claimed(Some(key)) = pool.claim(NOW) else {
         return None;
     };

@@ -7,5 +7,5 @@ use Rattle.bb8_bench.proofs.opening.open_one.Goals as goal
 pub returns-in-Ok-Entered : goal.returns-in-Ok-Entered
 returns-in-Ok-Entered c =
     let k : ℕ = c.in-Claimed-Some.key.number in
-    opened c.limits.ensures.ledger.0 c.requires (claim_named c.in-Claimed-Some.field-0-is c.in-Claimed-Some.ensures.step)
+    opened c.in-Claimed-Some.ensures.limits.0 c.requires (claim_named c.in-Claimed-Some.field-0-is c.in-Claimed-Some.ensures.step)
     (subst (λ (a : OpenedAnswer ℕ). Meets c.claim.new.self 0 (Opened k k) (answer_of_opened k a) c.opened.new.self) c.in-Ok-Entered.field-0-is c.in-Ok-Entered.ensures.step.0)
