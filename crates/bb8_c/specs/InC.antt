@@ -26,7 +26,7 @@ use Rattle.bb8_c.specs.declared.listing.Left.TheVariants as left
 abbrev pub plain : ℕ → Told
 plain kind = record {
   kind = kind;
-  notifies = false;
+  notifies = 0;
   key = record { number = 0; place = 0 };
   conn = 0;
   get = record { number = 0; place = 0 };
@@ -60,7 +60,7 @@ granting g t = record t { granted = record { first = g.first; count = g.count; w
 -- with the get that was notified, if one was
 abbrev pub notifying : Option GetKey → Told → Told
 notifying None t = t
-notifying (Some g) t = record t { notifies = true; get = get_in g }
+notifying (Some g) t = record t { notifies = 1; get = get_in g }
 
 -- ---- the answers; an error comes where the event did not fit
 

@@ -14,7 +14,7 @@ size_in_c of = or_zero (slice_get (8 ∷ 32 ∷ 16 ∷ 16 ∷ 64 ∷ 16 ∷ 96 �
 abbrev pub numbered_told : Told
 numbered_told = record {
   kind = 1;
-  notifies = true;
+  notifies = 2;
   key = record { number = 3; place = 4 };
   conn = 5;
   get = record { number = 6; place = 7 };

@@ -35,7 +35,7 @@ pub(crate) fn sample_told() -> Told
 {
     Told {
         kind: 1,
-        notifies: true,
+        notifies: 2,
         key: Name {
             number: 3,
             place: 4,

@@ -77,8 +77,8 @@ pub struct Name {
 pub struct Told {
     /// Which answer it is: 0 where the event did not fit, and nothing changed.
     pub kind: u32,
-    /// Whether a get was notified.
-    pub notifies: bool,
+    /// How many gets were notified: one or none. A bool would leave bytes that each answer carries along.
+    pub notifies: u32,
     /// The connection or approval; after a reap or a leave, its number is how many connections ended.
     pub key: Name,
     /// The connection that is handed out or back.
@@ -120,7 +120,7 @@ const NO_NAME: Name = Name {
 /// Tells nothing.
 const NOTHING: Told = Told {
     kind: UNFIT,
-    notifies: false,
+    notifies: 0,
     key: NO_NAME,
     conn: 0,
     get: NO_NAME,
@@ -203,7 +203,7 @@ impl Told {
         match get {
             None => self,
             Some(get) => Told {
-                notifies: true,
+                notifies: 1,
                 get: get_name(get),
                 ..self
             },

@@ -1,9 +1,13 @@
 -- What the condition of a step says of what is shown.
-use Rattle.bb8_core.proofs.Words.{◌≡◌, ℕ, ◌≤◌, Bool, true, false, Option, Some, None, is_some, refl, sym, ap, ◌∙◌, subst, ◌+◌, ◌<◌, max, arith, ltb-true, get, Place, Unclaimed, Claimed, Idle, Held, Guarded, Standing, Getting, CheckedOk, GiveUp, Leave, Reason, Cancelled, Ledger, agree, ◌&&◌, conns, approved, alive, get_of, start, latest, handles, records, gets, record_of, holds, stands, gets_stand, is_unnotified, is_claimed, is_guarded, is_held_by, is_out, is_trying, GetPlace, Active, Holding, fits, IsLegal, StateView, shown_beside, HasLedger, IsFitting, Represents, standing_is, claimed_is, guarded_out, and_right, all_held, alive_get, alive_is, out_counted, claimed_counted, Fits, all_fit, due_few, Numbered, end_of_numbers, due, Settings, none_lent, RecordsView, NoneAfter}
+use Rattle.bb8_core.proofs.Words.{◌≡◌, ℕ, length, ◌≤◌, Bool, true, false, Option, Some, None, is_some, refl, sym, ap, ◌∙◌, subst, ◌+◌, ◌<◌, max, arith, ltb-true, get, Place, Unclaimed, Claimed, Idle, Held, Guarded, Standing, Getting, CheckedOk, GiveUp, Leave, Reason, Cancelled, Ledger, agree, ◌&&◌, conns, approved, alive, get_of, start, latest, handles, records, gets, record_of, holds, stands, gets_stand, is_unnotified, is_claimed, is_guarded, is_held_by, is_out, is_trying, GetPlace, Active, Holding, fits, IsLegal, StateView, shown_beside, HasLedger, IsFitting, Represents, standing_is, claimed_is, guarded_out, and_right, all_held, alive_get, alive_is, out_counted, claimed_counted, Fits, all_fit, due_few, Numbered, end_of_numbers, due, Settings, none_lent, RecordsView, NoneAfter}
+use Rattle.std.proofs.Common.{lt-ltb}
 use Rattle.bb8_core.specs.StateView.{TellsFitting}
 use Rattle.bb8_types.specs.Places.{held_in}
 use Rattle.bb8_types.specs.declared.standing.GetPlace.TheVariants.{Waiting}
+use Rattle.bb8_ledger.specs.Ledger.{idle}
+use Rattle.bb8_ledger.proofs.Facts.{idle_tally}
 use Rattle.bb8_ledger.proofs.Invalid.{few_ended}
+use Rattle.bb8_ledger.proofs.Laws.{keeps_limits}
 use Rattle.bb8_ledger.proofs.Moments.{none_later}
 use Rattle.bb8_types.proofs.Numbered as numbered
 
@@ -153,6 +157,15 @@ module _ {C : Type 0} where
   fit_leave is h fit =
       let some : 0 < handles h.0 = ltb-true 0 (handles h.0) (fit h.0 h.1 (as_shown h.0 is h.2)) in
       subst (λ (x : StateView C). 1 ≤ x.handles) h.2 (omega arith)
+
+  -- while a connection is idle, a handle is alive
+  pub fit_idle : (s : StateView C) → 0 < length s.records.idle → IsFitting s Leave
+  fit_idle s some l legal means =
+      let idle_some : 0 < length (idle l) = subst (λ (t : StateView C). 0 < length t.records.idle) (sym means) some in
+      lt-ltb 0 (handles l) (positive (handles l) (λ none. omega (arith, idle_some, idle_tally l, (keeps_limits l legal).left none)))
+    where
+      positive : (n : ℕ) → (n ≡ 0 → ⊥) → 0 < n
+      positive n some = omega (arith, some)
 
   -- a get that is given up stands, whatever the reason
   pub giving_is : (l : Ledger C) (g : ℕ) (held : Option C) → fits l (GiveUp g Cancelled held false) ≡ true → (st : Getting) × (get_of l g ≡ Some st)

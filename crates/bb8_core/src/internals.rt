@@ -33,7 +33,7 @@ use bb8_types::api::{Config, Moment, State};
 pub use bb8_types::grants::Grant;
 pub use bb8_types::reasons::Reason;
 use bb8_types::standing::{GetPlace, Holder};
-use decided::{close_and_grant, due_waiting, holder, is_expired, notify_next_if, want};
+use decided::{close_and_grant, due_waiting, holder, is_expired, lacking, notify_next_if, want};
 use std::alloc::Global;
 use std::marker::Model;
 
@@ -124,8 +124,8 @@ impl<C: Drop, A> PoolInternals<C, A> {
     }
 
     /// Begins a get and serves it, as `begin` and then `try_get` do, where connections go out unchecked, one is idle, and the get could begin
-    /// with no memory. Otherwise nothing changes: connections are checked, no handle is alive, none is idle, no number is left, or as many gets
-    /// are alive as ever were.
+    /// with no memory. Otherwise nothing changes: connections are checked, none is idle, no number is left, or as many gets are alive as ever
+    /// were. While no handle is alive none is idle.
     #[inline(always)]
     pub fn serve_at_once(&mut self, at: Moment) -> Option<AtOnce<C>>
         ensures some { IfSome result (λ served. ServesAtOnce self.old at.0 served self.new) }
@@ -136,12 +136,10 @@ impl<C: Drop, A> PoolInternals<C, A> {
         ensures limits { IsWithinLimits self.old }
     {
         self.limits();
-        if !self.fits_at_once() {
+        if self.config.test_on_check_out || !self.gets.has_room() {
             return None;
         }
-        if !self.gets.has_room() {
-            return None;
-        }
+        // While no handle is alive nothing is idle.
         if self.records.idle_connections() == 0 {
             return None;
         }
@@ -158,7 +156,7 @@ impl<C: Drop, A> PoolInternals<C, A> {
                 let get = self.gets.begin_and_end();
                 self.counters.started += 1;
                 self.counters.serve(None, now);
-                let wanted = want(&self.config, self.handles, &self.records);
+                let wanted = lacking(&self.config, &self.records);
                 let grant = self.records.grant(wanted, false);
                 Some(AtOnce {
                     get,
@@ -245,7 +243,7 @@ impl<C: Drop, A> PoolInternals<C, A> {
                 Started::Tried(get, TryAnswer::Waiting(grant))
             }
             Some((key, conn)) => {
-                let wanted = want(&self.config, self.handles, &self.records);
+                let wanted = lacking(&self.config, &self.records);
                 let grant = self.records.grant(wanted, false);
                 if self.config.test_on_check_out {
                     let get = self.gets.bear_holding(key.number, &mut lendings);

@@ -9,6 +9,12 @@ pub by_fit : (b : Bool) (P Q G : Type 0) → MatchBool b P Q → (b ≡ true →
 by_fit true P Q G m fit misfit = fit refl m
 by_fit false P Q G m fit misfit = misfit refl m
 
+-- a number that is not one is less or more
+not_one : (n : ℕ) → eqb n 1 ≡ false → 1 ≤ (n - 1) + (1 - n)
+not_one zero e = omega arith
+not_one (suc zero) e = cc
+not_one (suc (suc n)) e = omega arith
+
 module _ {R : Type 0} where
   -- what is shown of an element, once one has changed that shows this then
   pub updated_shows : {X : Type 0} (show : Option R → X) (rs : List R) (n k q : ℕ) (f : R → R) (x : X) → show (option_map f (at_number n rs k)) ≡ x
@@ -429,13 +435,13 @@ module _ {C : Type 0} where
     pub approved_few : approved_of rs ≤ approved l
     pub out_are : tally_places is_out rs ≡ out l
     pub many_are : length rs ≡ length (records l)
-    pub last : ((handles l ≡ 1) × (idle_of rs ≡ 0)) ⊎ ((conns_of rs ≡ conns l) × (approved_of rs ≡ approved l) × (idle_of rs ≡ idle_count l))
+    pub last : ((handles l ≡ 1) × (idle_of rs ≡ 0)) ⊎ ((1 ≤ (handles l - 1) + (1 - handles l)) × (conns_of rs ≡ conns l) × (approved_of rs ≡ approved l) × (idle_of rs ≡ idle_count l))
 
   pub left_sized : (l : Ledger C) (at n : ℕ) → AreLeft l (records (Later l at Leave (Left n)))
   left_sized l at n = pick (eqb (handles l) 1) refl
     where
       pick : (b : Bool) → eqb (handles l) 1 ≡ b → AreLeft l (cond b (map (after_end_where is_left) (records l)) (records l))
-      pick false e = record { conns_few = omega arith; approved_few = omega arith; out_are = refl; many_are = refl; last = inr (refl, refl, refl) }
+      pick false e = record { conns_few = omega arith; approved_few = omega arith; out_are = refl; many_are = refl; last = inr (not_one (handles l) e, refl, refl, refl) }
       pick true e =
           let rs : List (Numbered (Standing C)) = map (after_end_where is_left) (records l) in
           let sweep = left_sweep (records l) in

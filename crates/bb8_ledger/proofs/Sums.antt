@@ -1,5 +1,5 @@
 -- What each row of the step table does to the sizes, the numbers and the statistics.
-use Rattle.bb8_ledger.proofs.Words.{⊤, ◌≡◌, ◌⊎◌, ℕ, ◌+◌, ◌-◌, ◌<◌, ◌≤◌, min, Bool, true, false, not, ltb, ◌&&◌, List, Option, Some, None, is_some, refl, ap, arith, length-append, Grant, Guarded, Held, Standing, Settings, Numbered, one, due, Act, Try, CheckedOk, GiveUp, Reason, TimedOut, Cancelled, Answer, Getting, GetPlace, Waiting, gets_stand, is_unnotified, is_notified, Closed, GaveUp, Kept, cond, oldest_waiter, Entered, Reaped, Unfit, Ledger, Later, start, handles, idle, idle_count, first_idle, unnotified, notified, conns, approved, conns_of, approved_of, alive, expires, waited_since, started, direct, waited, timed_out, cancelled, created, broken, expired, invalid, idled_out, get_of, Row, begins, waits_on, serves, takes_out, waits, checks, check_fails, gives_up, gives_up_kept, gives_up_closed, keeps, returns_closed, fills, claims, opens, opens_late, fails, adds, reaps, joins, leaves, IsWant, IsLegal, fits, outlived_at, idled_at, GivesNext, NeverGivesAgain, numbers_given, gets_given, lost, and_right, nat_tests}
+use Rattle.bb8_ledger.proofs.Words.{⊤, ◌≡◌, ◌⊎◌, ℕ, ◌+◌, ◌-◌, ◌<◌, ◌≤◌, min, Bool, zero, suc, true, false, not, ltb, eqb, ◌&&◌, ◌||◌, List, Option, Some, None, is_some, refl, ap, arith, length-append, Grant, Guarded, Held, Standing, Settings, Numbered, one, due, Act, Try, CheckedOk, GiveUp, Reason, TimedOut, Cancelled, Answer, Getting, GetPlace, Waiting, gets_stand, is_unnotified, is_notified, Closed, GaveUp, Kept, cond, oldest_waiter, Entered, Reaped, Unfit, Ledger, Later, start, handles, idle, idle_count, first_idle, unnotified, notified, conns, approved, conns_of, approved_of, alive, expires, waited_since, started, direct, waited, timed_out, cancelled, created, broken, expired, invalid, idled_out, get_of, Row, begins, waits_on, serves, takes_out, waits, checks, check_fails, gives_up, gives_up_kept, gives_up_closed, keeps, returns_closed, fills, claims, opens, opens_late, fails, adds, reaps, joins, leaves, IsWant, IsLegal, fits, outlived_at, idled_at, GivesNext, NeverGivesAgain, numbers_given, gets_given, lost, and_right, nat_tests}
 use Rattle.bb8_ledger.specs.Handed.{told_by, brought_by, waiters, unasked, closes_told, places_lost}
 use Rattle.bb8_ledger.proofs.Effects.{each_legal, returns_turn, closes_turn, opens_turn, ends_turn, idle_turns, unclaimed_turns, stays_sized, turned_sized, adds_sized, granted_sized, reaped_sized, granted_reaped, left_sized}
 use Rattle.bb8_ledger.proofs.GetEffects.{trier_leaves, trier_holds, holder_ends, holder_turns, left_sums, left_told, begun_sums, waits_on_sums, waits_sums, told_sums, given_up_sums}
@@ -27,6 +27,13 @@ one_of : (b x : Bool) → one b + one (not b && x) ≤ 1
 one_of true x = omega arith
 one_of false true = omega arith
 one_of false false = omega arith
+
+-- what is kept is kept while a handle is alive
+kept_open : (broken expired : Bool) (handles : ℕ) → (broken || (expired || eqb handles 0)) ≡ false → 0 < handles
+kept_open true e n kept = cc
+kept_open false true n kept = cc
+kept_open false false zero kept = cc
+kept_open false false (suc n) kept = omega arith
 
 -- a served get counts once
 either_one : (b : Bool) → one (not b) + one b ≡ 1
@@ -81,10 +88,11 @@ module _ {C : Type 0} where
   gave_up l at g Cancelled held broken _ off = omega arith
 
   -- While somebody waits unnotified, the idle ones do not outnumber the notified ones; while a handle is alive, the unnotified ones do not
-  -- outnumber the open approvals, or what could still serve is promised, but for what was lost.
+  -- outnumber the open approvals, or what could still serve is promised, but for what was lost; while none is, nothing is idle.
   pub record Serves (l : Ledger C) : Type 0 where
     pub served : min (unnotified l) (idle_count l - notified l) ≡ 0
     pub promised : min (handles l) (min (unnotified l - (approved l + lost l)) ((start l).config.max_size - (conns l + approved l) + idle_count l - (notified l + lost l))) ≡ 0
+    pub left : min (1 - handles l) (idle_count l) ≡ 0
 
   -- how many notified gets an event is the try of: one or none
   abbrev pub notified_in : Ledger C → Act C → ℕ
@@ -182,7 +190,7 @@ module _ {C : Type 0} where
       omega (arith, given_up_sums l g n (and_right (is_some (get_of l g)) _ f).0 is, gave_up l at g why None broken (GaveUp n) (λ e. cc))
   row_sums l at _ _ legal f (gives_up_kept {g} {k} {why} {c} {broken = b} {n} holds_it keep is) =
       let t = holder_ends l g k holds_it in
-      omega (arith, turned_sized (hands_in_turn l at g k c legal holds_it), left_sums t.0, left_told t.0 n is, some_told l n is, ap one t.1, gave_up l at g why (Some c) b (Kept k n) (λ e. cc))
+      omega (arith, kept_open b (expires l at k) (handles l) keep, turned_sized (hands_in_turn l at g k c legal holds_it), left_sums t.0, left_told t.0 n is, some_told l n is, ap one t.1, gave_up l at g why (Some c) b (Kept k n) (λ e. cc))
   row_sums l at _ _ legal f (gives_up_closed {g} {k} {why} {c} {broken = b} {grant} {n} holds_it shut want is) =
       let z = turned_sized (drops_turn l g k legal holds_it) in
       let t = holder_ends l g k holds_it in
@@ -199,7 +207,7 @@ module _ {C : Type 0} where
         one_of b (expires l at k),
         gave_up l at g why (Some c) b (Closed k grant n) (λ e. cc),
       )
-  row_sums l at _ _ legal f (keeps {k} {c} {n} keep is) = omega (arith, turned_sized (returns_turn l at k c f), told_sums l n is, some_told l n is)
+  row_sums l at _ _ legal f (keeps {k} {c} {broken = b} {n} keep is) = omega (arith, kept_open b (expires l at k) (handles l) keep, turned_sized (returns_turn l at k c f), told_sums l n is, some_told l n is)
   row_sums l at _ _ legal f (returns_closed {k} {c} {broken = b} {grant} {n} shut want is) =
       let z = turned_sized (closes_turn l k f) in
       omega (arith, z, granted_sized false grant.count z, wanted_few l _ grant want, told_sums l n is, some_told l n is, one_if_some (waiters l), one_of b (expires l at k))
@@ -208,7 +216,7 @@ module _ {C : Type 0} where
   row_sums l at _ _ legal f (opens {k} {c} {n} open_now is) = omega (arith, turned_sized (opens_turn l at k c f), told_sums l n is, some_told l n is)
   row_sums l at _ _ legal f (opens_late {k} none) = omega (arith, turned_sized (ends_turn l k f))
   row_sums l at _ _ legal f (fails {k}) = omega (arith, turned_sized (ends_turn l k f))
-  row_sums l at _ _ legal f (adds {k} {c} {n} room few is who) = omega (arith, adds_sized l at c, told_sums l n who, some_told l n who)
+  row_sums l at _ _ legal f (adds {k} {c} {n} room few is who) = omega (arith, is_open (handles l) f, adds_sized l at c, told_sums l n who, some_told l n who)
   row_sums l at _ _ legal f (reaps {closed} {by_idle} {by_life} {grant} open_now closed_is by_idle_is by_life_is want) =
       let z = reaped_sized l at in
       omega (arith, z, granted_reaped grant.count z, wanted_few l _ grant want, length-append (outlived_at l at) (idled_at l at))

@@ -51,12 +51,13 @@ lost_by _ = 0
 module _ {C : Type 0} where
   -- Connections and open approvals are within the size; each connection is idle or out; a get holds a connection just where that one is out
   -- in its hands, so none has two holders, and none is held by a get that ended; while some waiter is not notified, the idle ones do not
-  -- outnumber the notified waiters.
+  -- outnumber the notified waiters; while no handle is alive, none is idle.
   pub record KeepsLimits (l : Ledger C) : Type 0 where
     pub size : conns l + approved l ≤ (start l).config.max_size
     pub each : conns l ≡ idle_count l + out l
     pub held : (g k : ℕ) → (holds (get_of l g) ≡ Some k) ↔ (stands (is_held_by g) (record_of l k) ≡ true)
     pub served : (unnotified l ≡ 0) ⊎ (idle_count l ≤ notified l)
+    pub left : handles l ≡ 0 → idle_count l ≡ 0
 
   -- An answer gives the next numbers, and they are next no more.
   pub record GivesNext (l : Ledger C) (at : ℕ) (e : Act C) (a : Answer) : Type 0 where

@@ -35,7 +35,7 @@ pub(crate) struct Granted {
 #[derive(Clone, Copy, Debug, Default, PartialEq, Eq)]
 pub(crate) struct Told {
     pub(crate) kind: u32,
-    pub(crate) notifies: bool,
+    pub(crate) notifies: u32,
     pub(crate) key: Name,
     pub(crate) conn: u64,
     pub(crate) get: Name,
@@ -66,7 +66,7 @@ impl Told {
     /// The get that was notified.
     #[inline]
     pub(crate) fn notified(&self) -> Option<Name> {
-        self.notifies.then_some(self.get)
+        (self.notifies != 0).then_some(self.get)
     }
 
     /// The place on the shelf of the connection that is handed out.

@@ -1,5 +1,5 @@
 //! What several steps decide or do in common.
-ghost use Rattle.std.specs.Prelude.{◌≡◌, ◌+◌, ◌≤◌, cond, ltb, slice_get, true, false, None, Some};
+ghost use Rattle.std.specs.Prelude.{◌≡◌, ℕ, ◌+◌, ◌<◌, ◌≤◌, cond, ltb, slice_get, true, false, None, Some};
 ghost use Rattle.std.specs.FinMap as map;
 ghost use Rattle.bb8_types.specs.Bounds.{end_of_numbers, most_records};
 ghost use Rattle.bb8_types.specs.Grants as grants;
@@ -32,21 +32,30 @@ fn due(config: &Config, handles: u64, taken: u64, asked: u64) -> u64
     }
 }
 
-/// How many approvals are due of those that are wanted.
-pub(super) fn want<C: Drop>(config: &Config, handles: u64, records: &Records<C>) -> u64
-    ensures { result ≡ decided.want (settings_of config.now) handles records.now }
+/// How many approvals are due of those that are wanted, while a handle is alive.
+pub(super) fn lacking<C: Drop>(config: &Config, records: &Records<C>) -> u64
+    ensures { (handles : ℕ) → 0 < handles
+        → result ≡ decided.want (settings_of config.now) handles records.now }
 {
     let taken = records.used();
     if taken >= config.max_size as u64 {
         return 0;
     }
     let least = config.min_idle.unwrap_or(0) as u64;
-    due(
-        config,
-        handles,
-        taken,
-        least.saturating_sub(records.ready()),
-    )
+    least
+        .saturating_sub(records.ready())
+        .min((config.max_size as u64).saturating_sub(taken))
+}
+
+/// How many approvals are due of those that are wanted.
+pub(super) fn want<C: Drop>(config: &Config, handles: u64, records: &Records<C>) -> u64
+    ensures { result ≡ decided.want (settings_of config.now) handles records.now }
+{
+    if handles == 0 {
+        0
+    } else {
+        lacking(config, records)
+    }
 }
 
 /// How many approvals are due to a get that waits: one is asked for where gets outnumber open approvals.

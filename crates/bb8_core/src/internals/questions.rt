@@ -64,16 +64,6 @@ impl<C: Drop, A> PoolInternals<C, A> {
         self.handles != 0
     }
 
-    /// Whether `serve_at_once` looks for a connection: while a handle is alive, where connections go out unchecked.
-    pub fn fits_at_once(&self) -> bool
-        ensures begin { result ≡ true → IsFitting self.now acts.Begin }
-        ensures unchecked { result ≡ true → self.now.config.test_on_check_out ≡ false }
-        ensures open { self.now.config.test_on_check_out ≡ false
-            → TellsFitting self.now acts.Begin result }
-    {
-        !self.config.test_on_check_out && self.fits_begin()
-    }
-
     /// Whether a connection may be added, whichever it is: while a handle is alive.
     pub fn fits_add(&self) -> bool
         ensures { (conn : C) (broken : Bool) → TellsFitting self.now (acts.Add conn broken) result }

@@ -3,7 +3,9 @@
 use super::steps::{Colour, NOW, served_by};
 use super::{assert_equal, unchecked};
 use bb8_core::api::Config;
-use bb8_core::internals::{AddAnswer, BeginAnswer, PoolInternals, PutBackAnswer};
+use bb8_core::internals::{
+    AddAnswer, BeginAnswer, GiveUpAnswer, PoolInternals, PutBackAnswer, Reason,
+};
 
 /// The first get raises the peak and goes by the two steps; the second is served in one step, as get 1 with connection 0; with nothing idle
 /// none is.
@@ -43,7 +45,17 @@ fn succeeds_serving_at_once(rt: HostRuntime) {
 fn checked_gets_are_not_served_at_once(rt: HostRuntime) {
     let config = Config::default();
     assert!(rt; config.is_lawful());
-    let pool: PoolInternals<Colour> = PoolInternals::new(rt.alloc(), config);
     assert!(rt; config.test_on_check_out);
-    assert!(rt; !pool.fits_at_once());
+    let mut pool = PoolInternals::new(rt.alloc(), config);
+    let Ok(AddAnswer::Added(_, None)) = pool.add(NOW, Colour::Red, false) else {
+        panic!(rt; "nothing was added");
+    };
+    // There is room for a get.
+    let Ok(BeginAnswer::Begun(get)) = pool.begin(NOW) else {
+        panic!(rt; "no get began");
+    };
+    let Ok(GiveUpAnswer::GaveUp(None)) = pool.give_up(NOW, get, Reason::Cancelled, false) else {
+        panic!(rt; "the get did not end");
+    };
+    assert!(rt; pool.serve_at_once(NOW).is_none());
 }

@@ -6,7 +6,7 @@ use crate::core::{Name, Settings};
 #[test]
 fn each_field_of_what_is_told_has_its_number() {
     let told = sample_told();
-    assert_eq!((told.kind, told.notifies), (1, true));
+    assert_eq!((told.kind, told.notifies), (1, 2));
     assert_eq!((told.key.number, told.key.place), (3, 4));
     assert_eq!(told.conn, 5);
     assert_eq!((told.get.number, told.get.place), (6, 7));

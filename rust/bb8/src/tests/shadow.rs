@@ -623,7 +623,7 @@ fn as_due(due: &Due, told: &Told) -> Due {
         key: due.key.map(|_| told.key.number),
         conn: due.conn.map(|_| told.conn),
         get: due.get.map(|_| told.get.number),
-        notified: told.notifies.then_some(told.get.number),
+        notified: told.notified().map(|get| get.number),
         granted: told.granted.count,
     }
 }

@@ -40,7 +40,7 @@ fn filled(lifo: bool) -> Core {
             (Kind::Claimed, number)
         );
         let opened = core.opened(0, claimed.key, 70 + number);
-        assert_eq!((opened.kind(), opened.notifies), (Kind::Entered, false));
+        assert_eq!((opened.kind(), opened.notifies), (Kind::Entered, 0));
     }
     core
 }
@@ -75,7 +75,7 @@ fn a_get_is_served_at_once_below_the_peak() {
     assert_eq!((second.kind(), second.get.number), (Kind::Served, 1));
     assert_eq!((second.key.number, second.conn), (1, 71));
     let told = core.put_back(0, first.key, 90, false);
-    assert_eq!((told.kind(), told.notifies), (Kind::Kept, false));
+    assert_eq!((told.kind(), told.notifies), (Kind::Kept, 0));
     let third = core.serve_at_once(0);
     assert_eq!((third.key.number, third.conn), (2, 72));
     let fourth = core.serve_at_once(0);

@@ -1,6 +1,6 @@
 use Rattle.bb8_core.proofs.Words.{◌≡◌, ap, refl, ◌∙◌, arith, false, Idle, view_of, StateView}
 use Rattle.bb8_ledger.specs.Acts as acts
-use Rattle.bb8_core.proofs.Fitting.{shown_record, shown_fits, due_fits}
+use Rattle.bb8_core.proofs.Fitting.{shown_record, shown_fits, due_fits, fit_idle, fit_leave}
 use Rattle.bb8_core.proofs.Steps.{grants, led, at_view, fits_view}
 use Rattle.bb8_core.proofs.AtOnce.{between, meets_begun_between, meets_served_between}
 use Rattle.bb8_core.proofs.internals.PoolInternals.serve_at_once.Goals as goal
@@ -15,20 +15,21 @@ serve-requires g c =
     record { direct = omega (arith, fit, few); waited = omega (arith, fit, few) }
 
 pub grant-grant-requires : goal.grant-grant-requires
-grant-grant-requires g c = omega (arith, due_fits (view_of c.self.inside) _ c.self.invariant (omega arith) c.in-Some.ensures.some.2 refl c.want-wanted.ensures)
+grant-grant-requires g c = omega (arith, due_fits (view_of c.self.inside) _ c.self.invariant (omega arith) c.in-Some.ensures.some.2 refl
+    (c.lacking-wanted.ensures c.self.inside.handles (fit_leave refl c.self.invariant (fit_idle (view_of c.self.inside) (omega (arith, c.if-idle_connections-eq0.false, c.idle_connections.ensures))))))
 
 pub returns-in-Some-clause-some : goal.returns-in-Some-clause-some
 returns-in-Some-clause-some g c =
     let a = view_of c.self.inside in
-    let off : a.config.test_on_check_out ≡ false = ap (λ (s : StateView g.row.C.Denot). s.config.test_on_check_out) c.self.view_is ∙ (c.if-not-fits_at_once.ensures.unchecked refl) in
+    let fit = fit_idle a (omega (arith, c.if-idle_connections-eq0.false, c.idle_connections.ensures)) in
     let was = c.in-Some.ensures.some.1 in (
       between a c.max-now.result,
       at_view c.self.view_is
           (meets_begun_between c.args.at.0 c.begin_and_end-get.ensures.number
-          (fits_view acts.Begin c.self.view_is (c.if-not-fits_at_once.ensures.begin refl)) c.max-now.ensures (c.has_room.ensures.number c.if-not-has_room.false)),
+          fit c.max-now.ensures (c.has_room.ensures.number c.if-not-has_room.false)),
       at_view refl
-          (meets_served_between a c.self.inside.counters c.begin_and_end-get.ensures.number off c.max-now.ensures c.in-Some.ensures.some.0
-          (grants c.in-Some.ensures.some.2 c.want-wanted.ensures c.grant-grant.ensures.granted c.grant-grant.ensures.state)
+          (meets_served_between a c.self.inside.counters c.begin_and_end-get.ensures.number c.if-self.false c.max-now.ensures c.in-Some.ensures.some.0
+          (grants c.in-Some.ensures.some.2 (c.lacking-wanted.ensures c.self.inside.handles (fit_leave refl c.self.invariant fit)) c.grant-grant.ensures.granted c.grant-grant.ensures.state)
           c.begin_and_end-get.ensures.state refl c.serve.ensures),
       λ l legal means. (record { place = Idle c.in-Some.conn; birth = was.0; entered = was.1 }, shown_record l (between a c.max-now.result) means c.in-Some.key.number ∙ was.2, refl),
     )

@@ -3,7 +3,7 @@ use Rattle.bb8_types.specs.declared.standing.Holder.{Holder}
 use Rattle.bb8_types.specs.declared.standing.Holder.TheVariants.{Guard, Get}
 use Rattle.bb8_tables.specs.Machine as machine
 use Rattle.bb8_ledger.specs.Acts as acts
-use Rattle.bb8_core.proofs.Fitting.{shown_record, shown_fits, due_fits}
+use Rattle.bb8_core.proofs.Fitting.{shown_record, shown_fits, due_fits, fit_leave}
 use Rattle.bb8_core.proofs.Steps.{grants, meets_memory, meets_exhausted, due_waiting, left, used_up, led, at_view, fits_view}
 use Rattle.bb8_core.proofs.AtOnce.{between, begun_at, meets_begun_between, meets_served_between, meets_taken_between, meets_waits_between}
 use Rattle.bb8_core.proofs.internals.PoolInternals.start_on.Goals as goal
@@ -53,7 +53,7 @@ invariant_of-self-in-None g c =
     led _ c.args.at.0 (acts.Try c.bear_waiting-get.result.number) _ refl began both.2
 
 pub grant-grant-requires-in-Some : goal.grant-grant-requires-in-Some
-grant-grant-requires-in-Some g c = omega (arith, due_fits (view_of c.self.inside) _ c.self.invariant (omega arith) c.in-Some.ensures.some.2 refl c.want-wanted.ensures)
+grant-grant-requires-in-Some g c = omega (arith, due_fits (view_of c.self.inside) _ c.self.invariant (omega arith) c.in-Some.ensures.some.2 refl (c.lacking-wanted.ensures c.self.inside.handles (fit_leave c.self.view_is c.self.invariant c.requires)))
 
 pub returns-then-self-clause-step : goal.returns-then-self-clause-step
 returns-then-self-clause-step g c =
@@ -69,7 +69,7 @@ returns-then-self-clause-step g c =
           ∙ ap (λ (h : Holder). machine.after_take (place_with h) c.in-Some.key.number c.self.inside.records)
           (c.holder-holder.ensures ∙ ap (λ (b : Bool). cond b (Get c.next_number.result) Guard) c.if-self.true
           ∙ ap (λ (m : ℕ). Get m) (c.next_number.ensures ∙ sym c.bear_holding-get.ensures.key)))
-          c.want-wanted.ensures c.grant-grant-in-Some.ensures.granted c.grant-grant-in-Some.ensures.state)
+          (c.lacking-wanted.ensures c.self.inside.handles (fit_leave c.self.view_is c.self.invariant c.requires)) c.grant-grant-in-Some.ensures.granted c.grant-grant-in-Some.ensures.state)
           (begun_at a.gets (machine.after_turn (Holding c.in-Some.key.number)) made c.bear_holding-get.ensures.state)),
       λ l legal means. (record { place = Idle c.in-Some.conn; birth = was.0; entered = was.1 }, shown_record l (between a c.max-now.result) means c.in-Some.key.number ∙ was.2, refl),
     )
@@ -99,7 +99,7 @@ returns-else-self-clause-step g c =
           (grants (c.in-Some.ensures.some.2
           ∙ ap (λ (h : Holder). machine.after_take (place_with h) c.in-Some.key.number c.self.inside.records)
           (c.holder-holder.ensures ∙ ap (λ (b : Bool). cond b (Get c.next_number.result) Guard) c.if-self.false))
-          c.want-wanted.ensures c.grant-grant-in-Some.ensures.granted c.grant-grant-in-Some.ensures.state)
+          (c.lacking-wanted.ensures c.self.inside.handles (fit_leave c.self.view_is c.self.invariant c.requires)) c.grant-grant-in-Some.ensures.granted c.grant-grant-in-Some.ensures.state)
           (begun_at a.gets machine.after_get_end made c.begin_and_end.ensures.state) refl c.serve.ensures),
       λ l legal means. (record { place = Idle c.in-Some.conn; birth = was.0; entered = was.1 }, shown_record l (between a c.max-now.result) means c.in-Some.key.number ∙ was.2, refl),
     )
