@@ -33,7 +33,9 @@ use bb8_types::api::{Config, Moment, State};
 pub use bb8_types::grants::Grant;
 pub use bb8_types::reasons::Reason;
 use bb8_types::standing::{GetPlace, Holder};
-use decided::{close_and_grant, due_waiting, holder, is_expired, lacking, notify_next_if, want};
+use decided::{
+    close_and_grant, due_waiting, holder, in_nanoseconds, is_expired, lacking, notify_next_if, want,
+};
 use std::alloc::Global;
 use std::marker::Model;
 
@@ -46,6 +48,8 @@ use std::marker::Model;
 #[derive(Drop)]
 pub struct PoolInternals<C, A = UncountedAccess> {
     config: Config,
+    // Its limit on the lives of connections, which each return compares.
+    max_lifetime: Option<u64>,
     latest: u64,
     handles: u64,
     records: Records<C>,
@@ -57,7 +61,8 @@ pub struct PoolInternals<C, A = UncountedAccess> {
 
 impl<C, A> Model for PoolInternals<C, A> {
     ghost use Rattle.bb8_core.specs.StateView.{StateView, state_view_code, HasLedger};
-    ghost use Rattle.bb8_core.specs.Pool.{view_of};
+    ghost use Rattle.bb8_core.specs.Pool.{view_of, Limits};
+    ghost use Rattle.bb8_types.specs.Settings.{settings_of};
 
     ghost Value = { StateView C };
 
@@ -65,7 +70,8 @@ impl<C, A> Model for PoolInternals<C, A> {
 
     ghost view = { view_of };
 
-    ghost invariant = { λ a. HasLedger (view_of a) };
+    ghost invariant = { λ a. HasLedger (view_of a)
+        × Limits a.max_lifetime (settings_of a.config).max_lifetime };
 }
 
 impl<C: Drop> PoolInternals<C> {
@@ -85,6 +91,7 @@ impl<C: Drop> PoolInternals<C> {
     {
         let (records, asking) = Records::new(alloc, first_number);
         PoolInternals {
+            max_lifetime: in_nanoseconds(config.max_lifetime),
             config,
             latest: 0,
             handles: 1,
@@ -458,7 +465,7 @@ impl<C: Drop, A> PoolInternals<C, A> {
             holder,
             broken,
             ended,
-            &self.config,
+            self.max_lifetime,
             now,
             &mut lendings,
         ) {
@@ -512,7 +519,7 @@ impl<C: Drop, A> PoolInternals<C, A> {
             holder,
             broken,
             ended,
-            &self.config,
+            self.max_lifetime,
             now,
             &mut lendings,
         ) {

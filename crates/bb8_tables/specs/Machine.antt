@@ -41,8 +41,8 @@ module _ {C : Type 0} where
   after_entry opening k st s = record s { places = insert s.places k st; idle = s.idle ++ k ∷ []; conns = s.conns + one opening; approved = s.approved - one opening }
 
   -- whether a connection has lived too long
-  abbrev pub is_old : Settings → ℕ → ℕ → RecordsView C → Bool
-  is_old config now k s = is_expired config.max_lifetime now (birth_in (get s.places k))
+  abbrev pub is_old : Option ℕ → ℕ → ℕ → RecordsView C → Bool
+  is_old lifetime now k s = is_expired lifetime now (birth_in (get s.places k))
 
   -- a connection that was out is idle again, and keeps its birth
   abbrev pub after_return : ℕ → C → ℕ → RecordsView C → RecordsView C

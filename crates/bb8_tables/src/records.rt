@@ -27,7 +27,6 @@ use bb8_types::bounds::END_OF_NUMBERS;
 use bb8_types::grants::Grant;
 use bb8_types::standing::{Holder, Place, Standing};
 pub use reaps::Reaped;
-use reaps::is_past;
 use std::alloc::{AllocError, Global};
 use std::marker::Model;
 
@@ -165,6 +164,16 @@ fn push_unclaimed(unclaimed: &mut Ring<Key>, claimed: bool, key: Key)
 {
     if !claimed {
         unclaimed.push(key);
+    }
+}
+
+/// Whether a limit in nanoseconds is reached, where it is set.
+fn is_reached(limit: Option<u64>, span: u64) -> bool
+    ensures { result ≡ places.is_past limit span }
+{
+    match limit {
+        None => false,
+        Some(limit) => limit <= span,
     }
 }
 
@@ -320,7 +329,7 @@ impl<C: Drop> Records<C> {
         holder: Holder,
         broken: bool,
         ended: bool,
-        config: &Config,
+        lifetime: Option<u64>,
         now: u64,
         lendings: &mut Lendings,
     ) -> Result<Result<(), (C, bool)>, C>
@@ -328,10 +337,10 @@ impl<C: Drop> Records<C> {
         ensures held { IfOk result (λ r. places.stands (holders.is_with holder)
             (map.get self.old.places k.number) ≡ true) }
         ensures ok { IfOk result (λ r. IfOk r (λ u. ((broken || (machine.is_old
-            (settings_of config.now) now k.number self.old || ended)) ≡ false)
+            lifetime now k.number self.old || ended)) ≡ false)
             × (self.new ≡ machine.after_return k.number conn now self.old))) }
         ensures err { IfOk result (λ r. IfErr r (λ x. (x.0 ≡ conn)
-            × (x.1 ≡ machine.is_old (settings_of config.now) now k.number self.old)
+            × (x.1 ≡ machine.is_old lifetime now k.number self.old)
             × ((broken || (x.1 || ended)) ≡ true) × (self.new ≡ self.old))) }
         ensures unfit { IfErr result (λ c. (c ≡ conn) × (self.new ≡ self.old)
             × (places.stands (holders.is_with holder) (map.get self.old.places k.number) ≡ false)) }
@@ -345,7 +354,7 @@ impl<C: Drop> Records<C> {
                     return Err(conn);
                 }
                 let birth = standing.birth;
-                let expired = is_past(config.max_lifetime, now - birth);
+                let expired = is_reached(lifetime, now - birth);
                 if is_closing(broken, expired, ended) {
                     return Ok(Err((conn, expired)));
                 }

@@ -1,6 +1,9 @@
 //! What several steps decide or do in common.
 ghost use Rattle.std.specs.Prelude.{◌≡◌, ℕ, ◌+◌, ◌<◌, ◌≤◌, cond, ltb, slice_get, true, false, None, Some};
 ghost use Rattle.std.specs.FinMap as map;
+ghost use Rattle.std.specs.Option.{option_map};
+ghost use Rattle.std.specs.Duration.{as_nanos};
+ghost use Rattle.bb8_core.specs.Pool.{Limits};
 ghost use Rattle.bb8_types.specs.Bounds.{end_of_numbers, most_records};
 ghost use Rattle.bb8_types.specs.Grants as grants;
 ghost use Rattle.bb8_types.specs.Numbered as numbered;
@@ -20,6 +23,7 @@ use bb8_tables::records::{Records, one};
 use bb8_types::api::Config;
 use bb8_types::grants::Grant;
 use bb8_types::standing::Holder;
+use std::time::Duration;
 
 /// How many approvals a grant is to make.
 fn due(config: &Config, handles: u64, taken: u64, asked: u64) -> u64
@@ -70,6 +74,18 @@ pub(super) fn due_waiting<C: Drop>(
 {
     let asked = one(records.approved() < alive);
     due(config, handles, records.used(), asked)
+}
+
+/// A limit on spans in nanoseconds; none where no span of 64 bits reaches it.
+pub(super) fn in_nanoseconds(limit: Option<Duration>) -> Option<u64>
+    ensures { Limits result (option_map as_nanos limit) }
+{
+    let nanoseconds = limit?.as_nanos();
+    if nanoseconds <= u64::MAX as u128 {
+        Some(nanoseconds as u64)
+    } else {
+        None
+    }
 }
 
 /// Whether a connection of this birth has lived too long.

@@ -13,7 +13,7 @@ returns-then-broken-clause-step g c = (
 )
 
 pub invariant_of-self : goal.invariant_of-self
-invariant_of-self g c = led _ c.args.at.0 (acts.Add c.args.conn c.args.broken) _ c.self.view_is c.self.invariant (returns-then-broken-clause-step g c).0
+invariant_of-self g c = (led _ c.args.at.0 (acts.Add c.args.conn c.args.broken) _ c.self.view_is c.self.invariant.0 (returns-then-broken-clause-step g c).0, c.self.invariant.1)
 
 pub returns-then-used-self-clause-step : goal.returns-then-used-self-clause-step
 returns-then-used-self-clause-step g c = (
@@ -23,7 +23,7 @@ returns-then-used-self-clause-step g c = (
 )
 
 pub invariant_of-self-then-used-self : goal.invariant_of-self-then-used-self
-invariant_of-self-then-used-self g c = led _ c.args.at.0 (acts.Add c.args.conn c.args.broken) _ c.self.view_is c.self.invariant (returns-then-used-self-clause-step g c).0
+invariant_of-self-then-used-self g c = (led _ c.args.at.0 (acts.Add c.args.conn c.args.broken) _ c.self.view_is c.self.invariant.0 (returns-then-used-self-clause-step g c).0, c.self.invariant.1)
 
 pub returns-then-not-has_number-clause-step : goal.returns-then-not-has_number-clause-step
 returns-then-not-has_number-clause-step g c = (
@@ -33,13 +33,13 @@ returns-then-not-has_number-clause-step g c = (
 )
 
 pub invariant_of-self-then-not-has_number : goal.invariant_of-self-then-not-has_number
-invariant_of-self-then-not-has_number g c = led _ c.args.at.0 (acts.Add c.args.conn c.args.broken) _ c.self.view_is c.self.invariant (returns-then-not-has_number-clause-step g c).0
+invariant_of-self-then-not-has_number g c = (led _ c.args.at.0 (acts.Add c.args.conn c.args.broken) _ c.self.view_is c.self.invariant.0 (returns-then-not-has_number-clause-step g c).0, c.self.invariant.1)
 
 pub add-requires-clause-moments : goal.add-requires-clause-moments
-add-requires-clause-moments g c = none_after (view_of c.self.inside) c.args.at.0 c.max-now.result c.self.invariant c.max-now.ensures
+add-requires-clause-moments g c = none_after (view_of c.self.inside) c.args.at.0 c.max-now.result c.self.invariant.0 c.max-now.ensures
 
 pub add-requires-clause-few : goal.add-requires-clause-few
-add-requires-clause-few g c = omega (arith, (shown_fits (view_of c.self.inside) c.self.invariant).size, c.used.ensures, c.if-used-self.false)
+add-requires-clause-few g c = omega (arith, (shown_fits (view_of c.self.inside) c.self.invariant.0).size, c.used.ensures, c.if-used-self.false)
 
 pub add-requires-clause-number : goal.add-requires-clause-number
 add-requires-clause-number g c = left _ c.has_number.ensures c.if-not-has_number.false
@@ -54,7 +54,7 @@ returns-in-Ok-clause-step g c = (
 )
 
 pub invariant_of-self-in-Ok : goal.invariant_of-self-in-Ok
-invariant_of-self-in-Ok g c = led _ c.args.at.0 (acts.Add c.args.conn c.args.broken) _ c.self.view_is c.self.invariant (returns-in-Ok-clause-step g c).0
+invariant_of-self-in-Ok g c = (led _ c.args.at.0 (acts.Add c.args.conn c.args.broken) _ c.self.view_is c.self.invariant.0 (returns-in-Ok-clause-step g c).0, c.self.invariant.1)
 
 pub returns-in-Err-clause-step : goal.returns-in-Err-clause-step
 returns-in-Err-clause-step g c = (
@@ -65,7 +65,7 @@ returns-in-Err-clause-step g c = (
 )
 
 pub invariant_of-self-in-Err : goal.invariant_of-self-in-Err
-invariant_of-self-in-Err g c = led _ c.args.at.0 (acts.Add c.args.conn c.args.broken) _ c.self.view_is c.self.invariant (returns-in-Err-clause-step g c).0
+invariant_of-self-in-Err g c = (led _ c.args.at.0 (acts.Add c.args.conn c.args.broken) _ c.self.view_is c.self.invariant.0 (returns-in-Err-clause-step g c).0, c.self.invariant.1)
 
 pub returns-then-not-fits_add-clause-step : goal.returns-then-not-fits_add-clause-step
 returns-then-not-fits_add-clause-step g c = unfit_step c.args.at.0 (acts.Add c.args.conn c.args.broken) (c.if-not-fits_add.ensures c.args.conn c.args.broken)

@@ -13,7 +13,7 @@ returns-then-not-has_number-clause-step g c = (
 )
 
 pub invariant_of-self : goal.invariant_of-self
-invariant_of-self g c = led _ c.args.at.0 acts.Begin _ c.self.view_is c.self.invariant (returns-then-not-has_number-clause-step g c).0
+invariant_of-self g c = (led _ c.args.at.0 acts.Begin _ c.self.view_is c.self.invariant.0 (returns-then-not-has_number-clause-step g c).0, c.self.invariant.1)
 
 pub begin-requires : goal.begin-requires
 begin-requires g c = left _ c.has_number.ensures c.if-not-has_number.false
@@ -27,11 +27,11 @@ returns-in-None-clause-step g c = (
 )
 
 pub invariant_of-self-in-None : goal.invariant_of-self-in-None
-invariant_of-self-in-None g c = led _ c.args.at.0 acts.Begin _ c.self.view_is c.self.invariant (returns-in-None-clause-step g c).0
+invariant_of-self-in-None g c = (led _ c.args.at.0 acts.Begin _ c.self.view_is c.self.invariant.0 (returns-in-None-clause-step g c).0, c.self.invariant.1)
 
 pub overflow_add-self : goal.overflow_add-self
 overflow_add-self g c =
-    let fit = shown_fits (view_of c.self.inside) c.self.invariant in
+    let fit = shown_fits (view_of c.self.inside) c.self.invariant.0 in
     let few = left c.self.inside.gets.next c.has_number.ensures c.if-not-has_number.false in
     omega (arith, fit.started_few)
 
@@ -44,7 +44,7 @@ returns-in-Some-clause-step g c = (
 )
 
 pub invariant_of-self-in-Some : goal.invariant_of-self-in-Some
-invariant_of-self-in-Some g c = led _ c.args.at.0 acts.Begin _ c.self.view_is c.self.invariant (returns-in-Some-clause-step g c).0
+invariant_of-self-in-Some g c = (led _ c.args.at.0 acts.Begin _ c.self.view_is c.self.invariant.0 (returns-in-Some-clause-step g c).0, c.self.invariant.1)
 
 pub returns-then-not-fits_begin-clause-step : goal.returns-then-not-fits_begin-clause-step
 returns-then-not-fits_begin-clause-step g c = unfit_step c.args.at.0 acts.Begin c.if-not-fits_begin.ensures

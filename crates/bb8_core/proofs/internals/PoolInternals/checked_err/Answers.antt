@@ -11,20 +11,20 @@ returns-in_default-clause-step g c = unfit_gets c.args.at.0 (acts.CheckedErr c.a
     (unfit_held (view_of c.self.inside) c.args.get.number c.in_default.ensures.none.0) c.in_default.ensures.none.1
 
 pub close_and_grant-grant-requires-clause-out : goal.close_and_grant-grant-requires-clause-out
-close_and_grant-grant-requires-clause-out g c = held_out (view_of c.self.inside) c.args.get.number c.in-Some.held c.self.invariant c.in-Some.ensures.some.0
+close_and_grant-grant-requires-clause-out g c = held_out (view_of c.self.inside) c.args.get.number c.in-Some.held c.self.invariant.0 c.in-Some.ensures.some.0
 
 pub close_and_grant-grant-requires-clause-size : goal.close_and_grant-grant-requires-clause-size
-close_and_grant-grant-requires-clause-size g c = (shown_fits (view_of c.self.inside) c.self.invariant).size
+close_and_grant-grant-requires-clause-size g c = (shown_fits (view_of c.self.inside) c.self.invariant.0).size
 
 pub overflow_add-self : goal.overflow_add-self
 overflow_add-self g c =
-    let out = held_out (view_of c.self.inside) c.args.get.number c.in-Some.held c.self.invariant c.in-Some.ensures.some.0 in
-    omega (arith, invalid_few c.in-Some.held (view_of c.self.inside) c.self.invariant out c.close_and_grant-grant.ensures.numbers)
+    let out = held_out (view_of c.self.inside) c.args.get.number c.in-Some.held c.self.invariant.0 c.in-Some.ensures.some.0 in
+    omega (arith, invalid_few c.in-Some.held (view_of c.self.inside) c.self.invariant.0 out c.close_and_grant-grant.ensures.numbers)
 
 pub close-requires : goal.close-requires
 close-requires g c =
-    let out = held_out (view_of c.self.inside) c.args.get.number c.in-Some.held c.self.invariant c.in-Some.ensures.some.0 in
-    closed_few c.in-Some.held (view_of c.self.inside) c.self.invariant out c.close_and_grant-grant.ensures.numbers
+    let out = held_out (view_of c.self.inside) c.args.get.number c.in-Some.held c.self.invariant.0 c.in-Some.ensures.some.0 in
+    closed_few c.in-Some.held (view_of c.self.inside) c.self.invariant.0 out c.close_and_grant-grant.ensures.numbers
 
 pub returns-clause-step : goal.returns-clause-step
 returns-clause-step g c =
@@ -39,4 +39,4 @@ returns-clause-step g c =
     )
 
 pub invariant_of-self-2 : goal.invariant_of-self-2
-invariant_of-self-2 g c = led _ c.args.at.0 (acts.CheckedErr c.args.get.number c.args.broken) _ c.self.view_is c.self.invariant (returns-clause-step g c).0
+invariant_of-self-2 g c = (led _ c.args.at.0 (acts.CheckedErr c.args.get.number c.args.broken) _ c.self.view_is c.self.invariant.0 (returns-clause-step g c).0, c.self.invariant.1)

@@ -8,12 +8,12 @@ use Rattle.bb8_core.proofs.GetEnds.{meets_passed}
 use Rattle.bb8_core.proofs.internals.PoolInternals.checked_ok.Goals as goal
 
 pub hand_over-key-requires : goal.hand_over-key-requires
-hand_over-key-requires g c = record { out = held_out (view_of c.self.inside) c.args.get.number c.in-Some.held c.self.invariant c.in-Some.ensures.some.0 }
+hand_over-key-requires g c = record { out = held_out (view_of c.self.inside) c.args.get.number c.in-Some.held c.self.invariant.0 c.in-Some.ensures.some.0 }
 
 pub serve-requires : goal.serve-requires
 serve-requires g c =
     let st = holding_is (get c.self.inside.gets.places c.args.get.number) c.in-Some.held c.in-Some.ensures.some.0 in
-    let few = ended_few (view_of c.self.inside) c.args.get.number c.self.invariant (st.0, st.1) c.finish_holding.ensures.numbers in
+    let few = ended_few (view_of c.self.inside) c.args.get.number c.self.invariant.0 (st.0, st.1) c.finish_holding.ensures.numbers in
     record { direct = omega (arith, few); waited = omega (arith, few) }
 
 pub returns-in-Some-clause-step : goal.returns-in-Some-clause-step
@@ -29,7 +29,7 @@ returns-in-Some-clause-step g c =
     )
 
 pub invariant_of-self-in-Some : goal.invariant_of-self-in-Some
-invariant_of-self-in-Some g c = led _ c.args.at.0 (acts.CheckedOk c.args.get.number) _ c.self.view_is c.self.invariant (returns-in-Some-clause-step g c).0
+invariant_of-self-in-Some g c = (led _ c.args.at.0 (acts.CheckedOk c.args.get.number) _ c.self.view_is c.self.invariant.0 (returns-in-Some-clause-step g c).0, c.self.invariant.1)
 
 pub returns-in-None-clause-step : goal.returns-in-None-clause-step
 returns-in-None-clause-step g c = unfit_gets c.args.at.0 (acts.CheckedOk c.args.get.number) c.self.view_is

@@ -11,7 +11,7 @@ returns-then-not-end_claimed-clause-step g c = unfit_records c.args.at.0 (acts.F
     (c.end_claimed.ensures.unfit c.if-not-end_claimed.true).1
 
 pub invariant_of-self : goal.invariant_of-self
-invariant_of-self g c = led _ c.args.at.0 (acts.Failed c.args.approval.number) _ c.self.view_is c.self.invariant (returns-then-not-end_claimed-clause-step g c).0
+invariant_of-self g c = (led _ c.args.at.0 (acts.Failed c.args.approval.number) _ c.self.view_is c.self.invariant.0 (returns-then-not-end_claimed-clause-step g c).0, c.self.invariant.1)
 
 pub returns-clause-step : goal.returns-clause-step
 returns-clause-step g c = (
@@ -22,4 +22,4 @@ returns-clause-step g c = (
 )
 
 pub invariant_of-self-2 : goal.invariant_of-self-2
-invariant_of-self-2 g c = led _ c.args.at.0 (acts.Failed c.args.approval.number) _ c.self.view_is c.self.invariant (returns-clause-step g c).0
+invariant_of-self-2 g c = (led _ c.args.at.0 (acts.Failed c.args.approval.number) _ c.self.view_is c.self.invariant.0 (returns-clause-step g c).0, c.self.invariant.1)

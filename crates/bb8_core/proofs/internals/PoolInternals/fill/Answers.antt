@@ -5,11 +5,11 @@ use Rattle.bb8_core.proofs.Steps.{grants, meets_fill, led, at_view}
 use Rattle.bb8_core.proofs.internals.PoolInternals.fill.Goals as goal
 
 pub grant-requires : goal.grant-requires
-grant-requires g c = omega (arith, due_fits (view_of c.self.inside) {taken = c.self.inside.records} _ c.self.invariant (omega arith) refl refl c.want-wanted.ensures)
+grant-requires g c = omega (arith, due_fits (view_of c.self.inside) {taken = c.self.inside.records} _ c.self.invariant.0 (omega arith) refl refl c.want-wanted.ensures)
 
 pub returns-clause-step : goal.returns-clause-step
 returns-clause-step g c = at_view c.self.view_is
     (meets_fill c.max-self-inside.ensures (grants refl c.want-wanted.ensures c.grant.ensures.granted c.grant.ensures.state))
 
 pub invariant_of-self : goal.invariant_of-self
-invariant_of-self g c = led _ c.args.at.0 (acts.Fill c.args.claimed) _ c.self.view_is c.self.invariant (returns-clause-step g c)
+invariant_of-self g c = (led _ c.args.at.0 (acts.Fill c.args.claimed) _ c.self.view_is c.self.invariant.0 (returns-clause-step g c), c.self.invariant.1)

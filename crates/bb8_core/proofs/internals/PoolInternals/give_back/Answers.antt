@@ -11,19 +11,19 @@ returns-in_default-clause-step g c = unfit_gets c.args.at.0 (acts.GiveUp c.args.
     (unfit_give_back (view_of c.self.inside) c.args.get.number (reason_of c.args.reason) c.args.conn c.args.broken c.in_default.ensures.none.0) c.in_default.ensures.none.1
 
 pub put_back-requires : goal.put_back-requires
-put_back-requires g c = none_after (view_of c.self.inside) c.args.at.0 c.max-now.result c.self.invariant c.max-now.ensures
+put_back-requires g c = none_after (view_of c.self.inside) c.args.at.0 c.max-now.result c.self.invariant.0 c.max-now.ensures
 
 pub give_up-requires : goal.give_up-requires
 give_up-requires g c =
     let st = holding_is (get c.self.inside.gets.places c.args.get.number) c.in-Some.held c.in-Some.ensures.some.0 in
-    let few = ended_few (view_of c.self.inside) c.args.get.number c.self.invariant (st.0, st.1) c.finish_holding.ensures.numbers in
+    let few = ended_few (view_of c.self.inside) c.args.get.number c.self.invariant.0 (st.0, st.1) c.finish_holding.ensures.numbers in
     record { timed_out = omega (arith, few); cancelled = omega (arith, few) }
 
 pub returns-in-Err-clause-step : goal.returns-in-Err-clause-step
-returns-in-Err-clause-step g c = absurd (let clash : true ≡ false = sym (held_with (view_of c.self.inside) c.args.get.number c.in-Some.held c.self.invariant c.in-Some.ensures.some.0) ∙ c.in-Err.ensures.unfit.2 in cc)
+returns-in-Err-clause-step g c = absurd (let clash : true ≡ false = sym (held_with (view_of c.self.inside) c.args.get.number c.in-Some.held c.self.invariant.0 c.in-Some.ensures.some.0) ∙ c.in-Err.ensures.unfit.2 in cc)
 
 pub invariant_of-self-in-Err : goal.invariant_of-self-in-Err
-invariant_of-self-in-Err g c = absurd (let clash : true ≡ false = sym (held_with (view_of c.self.inside) c.args.get.number c.in-Some.held c.self.invariant c.in-Some.ensures.some.0) ∙ c.in-Err.ensures.unfit.2 in cc)
+invariant_of-self-in-Err g c = (absurd (let clash : true ≡ false = sym (held_with (view_of c.self.inside) c.args.get.number c.in-Some.held c.self.invariant.0 c.in-Some.ensures.some.0) ∙ c.in-Err.ensures.unfit.2 in cc), c.self.invariant.1)
 
 pub returns-in-Ok-Ok-clause-step : goal.returns-in-Ok-Ok-clause-step
 returns-in-Ok-Ok-clause-step g c =
@@ -34,21 +34,21 @@ returns-in-Ok-Ok-clause-step g c =
           (meets_given_up_kept c.args.reason c.self.inside.counters
           (fits_give_back a c.args.get.number c.in-Some.held (reason_of c.args.reason) c.args.conn c.args.broken held.0)
           (record { now_is = c.max-now.ensures; get_is = refl; held = held.0 })
-          (record { now_is = c.max-now.ensures; birth_is = refl; aged_is = refl })
+          (record { now_is = c.max-now.ensures; birth_is = refl; aged_is = c.self.invariant.1 _ (omega arith) })
           ok.0 ok.1 (notices held.2 c.notify-notified.ensures.value c.notify-notified.ensures.state) refl held.1
           (given_up_is c.args.reason c.max-now.result c.in-Some.first_wait c.give_up.ensures.timed_out c.give_up.ensures.cancelled)),
       tt,
     )
 
 pub invariant_of-self-in-Ok-Ok : goal.invariant_of-self-in-Ok-Ok
-invariant_of-self-in-Ok-Ok g c = led _ c.args.at.0 (acts.GiveUp c.args.get.number (reason_of c.args.reason) (Some c.args.conn) c.args.broken) _ c.self.view_is c.self.invariant
-    (returns-in-Ok-Ok-clause-step g c).0
+invariant_of-self-in-Ok-Ok g c = (led _ c.args.at.0 (acts.GiveUp c.args.get.number (reason_of c.args.reason) (Some c.args.conn) c.args.broken) _ c.self.view_is c.self.invariant.0
+    (returns-in-Ok-Ok-clause-step g c).0, c.self.invariant.1)
 
 pub close_and_grant-grant-requires-clause-out : goal.close_and_grant-grant-requires-clause-out
-close_and_grant-grant-requires-clause-out g c = let err = rw c.in-Ok-Err.field-0-is at c.in-Ok-Err.ensures.err in rw err.3 (held_out (view_of c.self.inside) c.args.get.number c.in-Some.held c.self.invariant c.in-Some.ensures.some.0)
+close_and_grant-grant-requires-clause-out g c = let err = rw c.in-Ok-Err.field-0-is at c.in-Ok-Err.ensures.err in rw err.3 (held_out (view_of c.self.inside) c.args.get.number c.in-Some.held c.self.invariant.0 c.in-Some.ensures.some.0)
 
 pub close_and_grant-grant-requires-clause-size : goal.close_and_grant-grant-requires-clause-size
-close_and_grant-grant-requires-clause-size g c = let err = rw c.in-Ok-Err.field-0-is at c.in-Ok-Err.ensures.err in rw err.3 (shown_fits (view_of c.self.inside) c.self.invariant).size
+close_and_grant-grant-requires-clause-size g c = let err = rw c.in-Ok-Err.field-0-is at c.in-Ok-Err.ensures.err in rw err.3 (shown_fits (view_of c.self.inside) c.self.invariant.0).size
 
 pub close-requires : goal.close-requires
 close-requires g c =
@@ -57,8 +57,8 @@ close-requires g c =
       arith,
       given_up_open c.args.reason c.max-now.result c.in-Some.first_wait c.self.inside.counters
           (given_up_is c.args.reason c.max-now.result c.in-Some.first_wait c.give_up.ensures.timed_out c.give_up.ensures.cancelled),
-      closed_few c.in-Some.held (view_of c.self.inside) c.self.invariant
-          (held_out (view_of c.self.inside) c.args.get.number c.in-Some.held c.self.invariant c.in-Some.ensures.some.0) (rw err.3 at c.close_and_grant-grant.ensures.numbers),
+      closed_few c.in-Some.held (view_of c.self.inside) c.self.invariant.0
+          (held_out (view_of c.self.inside) c.args.get.number c.in-Some.held c.self.invariant.0 c.in-Some.ensures.some.0) (rw err.3 at c.close_and_grant-grant.ensures.numbers),
     )
 
 pub returns-in-Ok-Err-clause-step : goal.returns-in-Ok-Err-clause-step
@@ -70,7 +70,7 @@ returns-in-Ok-Err-clause-step g c =
           (meets_given_up_closed c.args.reason c.self.inside.counters
           (fits_give_back a c.args.get.number c.in-Some.held (reason_of c.args.reason) c.args.conn c.args.broken held.0)
           (record { now_is = c.max-now.ensures; get_is = refl; held = held.0 })
-          (record { now_is = c.max-now.ensures; birth_is = refl; aged_is = err.1 })
+          (record { now_is = c.max-now.ensures; birth_is = refl; aged_is = err.1 ∙ c.self.invariant.1 _ (omega arith) })
           err.2 (rw err.3 at c.close_and_grant-grant.ensures.granted) (rw err.3 at c.close_and_grant-grant.ensures.state)
           (notices held.2 c.notify.ensures.value c.notify.ensures.state) refl held.1
           (given_up_is c.args.reason c.max-now.result c.in-Some.first_wait c.give_up.ensures.timed_out c.give_up.ensures.cancelled) c.close.ensures),
@@ -78,5 +78,5 @@ returns-in-Ok-Err-clause-step g c =
     )
 
 pub invariant_of-self-in-Ok-Err : goal.invariant_of-self-in-Ok-Err
-invariant_of-self-in-Ok-Err g c = led _ c.args.at.0 (acts.GiveUp c.args.get.number (reason_of c.args.reason) (Some c.args.conn) c.args.broken) _ c.self.view_is c.self.invariant
-    (returns-in-Ok-Err-clause-step g c).0
+invariant_of-self-in-Ok-Err g c = (led _ c.args.at.0 (acts.GiveUp c.args.get.number (reason_of c.args.reason) (Some c.args.conn) c.args.broken) _ c.self.view_is c.self.invariant.0
+    (returns-in-Ok-Err-clause-step g c).0, c.self.invariant.1)

@@ -12,7 +12,7 @@ returns-in_default-clause-step g c = unfit_gets c.args.at.0 (acts.GiveUp c.args.
 
 pub give_up-requires : goal.give_up-requires
 give_up-requires g c =
-    let few = ended_few (view_of c.self.inside) c.args.get.number c.self.invariant (c.in-Some.getting, c.in-Some.ensures.some.0) c.end.ensures.numbers in
+    let few = ended_few (view_of c.self.inside) c.args.get.number c.self.invariant.0 (c.in-Some.getting, c.in-Some.ensures.some.0) c.end.ensures.numbers in
     record { timed_out = omega (arith, few); cancelled = omega (arith, few) }
 
 pub returns-clause-step : goal.returns-clause-step
@@ -27,4 +27,4 @@ returns-clause-step g c =
     )
 
 pub invariant_of-self-2 : goal.invariant_of-self-2
-invariant_of-self-2 g c = led _ c.args.at.0 (acts.GiveUp c.args.get.number (reason_of c.args.reason) None c.args.broken) _ c.self.view_is c.self.invariant (returns-clause-step g c).0
+invariant_of-self-2 g c = (led _ c.args.at.0 (acts.GiveUp c.args.get.number (reason_of c.args.reason) None c.args.broken) _ c.self.view_is c.self.invariant.0 (returns-clause-step g c).0, c.self.invariant.1)

@@ -11,7 +11,7 @@ returns-then-self-clause-step g c = (
 )
 
 pub invariant_of-self : goal.invariant_of-self
-invariant_of-self g c = led _ c.args.at.0 acts.Join _ c.self.view_is c.self.invariant (returns-then-self-clause-step g c).0
+invariant_of-self g c = (led _ c.args.at.0 acts.Join _ c.self.view_is c.self.invariant.0 (returns-then-self-clause-step g c).0, c.self.invariant.1)
 
 pub returns-clause-step : goal.returns-clause-step
 returns-clause-step g c = (
@@ -21,7 +21,7 @@ returns-clause-step g c = (
 )
 
 pub invariant_of-self-2 : goal.invariant_of-self-2
-invariant_of-self-2 g c = led _ c.args.at.0 acts.Join _ c.self.view_is c.self.invariant (returns-clause-step g c).0
+invariant_of-self-2 g c = (led _ c.args.at.0 acts.Join _ c.self.view_is c.self.invariant.0 (returns-clause-step g c).0, c.self.invariant.1)
 
 pub returns-then-not-fits_join-clause-step : goal.returns-then-not-fits_join-clause-step
 returns-then-not-fits_join-clause-step g c = unfit_step c.args.at.0 acts.Join c.if-not-fits_join.ensures

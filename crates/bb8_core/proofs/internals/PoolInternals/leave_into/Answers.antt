@@ -9,20 +9,20 @@ returns-then-self-eq1-clause-step g c = at_view c.self.view_is
     (meets_left_last c.max-self-inside.ensures (fits_view acts.Leave c.self.view_is c.requires) c.if-self-eq1.true c.leave.ensures.many c.leave.ensures.state)
 
 pub invariant_of-self : goal.invariant_of-self
-invariant_of-self g c = led _ c.args.at.0 acts.Leave _ c.self.view_is c.self.invariant (returns-then-self-eq1-clause-step g c)
+invariant_of-self g c = (led _ c.args.at.0 acts.Leave _ c.self.view_is c.self.invariant.0 (returns-then-self-eq1-clause-step g c), c.self.invariant.1)
 
 pub overflow_sub-self : goal.overflow_sub-self
-overflow_sub-self g c = fit_leave c.self.view_is c.self.invariant c.requires
+overflow_sub-self g c = fit_leave c.self.view_is c.self.invariant.0 c.requires
 
 pub returns-clause-step : goal.returns-clause-step
 returns-clause-step g c = at_view c.self.view_is
     (meets_left c.max-self-inside.ensures (fits_view acts.Leave c.self.view_is c.requires) c.if-self-eq1.false)
 
 pub invariant_of-self-2 : goal.invariant_of-self-2
-invariant_of-self-2 g c = led _ c.args.at.0 acts.Leave _ c.self.view_is c.self.invariant (returns-clause-step g c)
+invariant_of-self-2 g c = (led _ c.args.at.0 acts.Leave _ c.self.view_is c.self.invariant.0 (returns-clause-step g c), c.self.invariant.1)
 
 pub returns-then-self-eq1-clause-closed : goal.returns-then-self-eq1-clause-closed
-returns-then-self-eq1-clause-closed g c = left_offers c.args.closed.now c.self.view_is c.self.invariant c.if-self-eq1.true c.leave.ensures.listed
+returns-then-self-eq1-clause-closed g c = left_offers c.args.closed.now c.self.view_is c.self.invariant.0 c.if-self-eq1.true c.leave.ensures.listed
 
 pub returns-clause-closed : goal.returns-clause-closed
 returns-clause-closed g c = none_left c.args.closed.now c.self.view_is c.if-self-eq1.false

@@ -11,7 +11,7 @@ returns-then-not-end_claimed-clause-step g c = unfit_records c.args.at.0 (acts.O
     (c.end_claimed.ensures.unfit c.if-not-end_claimed.true).1
 
 pub invariant_of-self : goal.invariant_of-self
-invariant_of-self g c = led _ c.args.at.0 (acts.Opened c.args.a.number c.args.conn) _ c.self.view_is c.self.invariant (returns-then-not-end_claimed-clause-step g c).0
+invariant_of-self g c = (led _ c.args.at.0 (acts.Opened c.args.a.number c.args.conn) _ c.self.view_is c.self.invariant.0 (returns-then-not-end_claimed-clause-step g c).0, c.self.invariant.1)
 
 pub returns-then-self-eq0-clause-step : goal.returns-then-self-eq0-clause-step
 returns-then-self-eq0-clause-step g c = (
@@ -22,17 +22,17 @@ returns-then-self-eq0-clause-step g c = (
 )
 
 pub invariant_of-self-then-self-eq0 : goal.invariant_of-self-then-self-eq0
-invariant_of-self-then-self-eq0 g c = led _ c.args.at.0 (acts.Opened c.args.a.number c.args.conn) _ c.self.view_is c.self.invariant (returns-then-self-eq0-clause-step g c).0
+invariant_of-self-then-self-eq0 g c = (led _ c.args.at.0 (acts.Opened c.args.a.number c.args.conn) _ c.self.view_is c.self.invariant.0 (returns-then-self-eq0-clause-step g c).0, c.self.invariant.1)
 
 pub enter-requires : goal.enter-requires
-enter-requires g c = none_after (view_of c.self.inside) c.args.at.0 c.max-now.result c.self.invariant c.max-now.ensures
+enter-requires g c = none_after (view_of c.self.inside) c.args.at.0 c.max-now.result c.self.invariant.0 c.max-now.ensures
 
 pub returns-in-Err-clause-step : goal.returns-in-Err-clause-step
 returns-in-Err-clause-step g c = unfit_records c.args.at.0 (acts.Opened c.args.a.number c.args.conn) c.self.view_is
     (unfit_at (view_of c.self.inside) is_claimed c.args.a.number c.in-Err.ensures.unfit.2) c.in-Err.ensures.unfit.1
 
 pub overflow_add-self : goal.overflow_add-self
-overflow_add-self g c = omega (arith, created_few (view_of c.self.inside) c.args.a.number c.self.invariant c.in-Ok.ensures.ok.0 c.in-Ok.ensures.numbers)
+overflow_add-self g c = omega (arith, created_few (view_of c.self.inside) c.args.a.number c.self.invariant.0 c.in-Ok.ensures.ok.0 c.in-Ok.ensures.numbers)
 
 pub returns-in-Ok-clause-step : goal.returns-in-Ok-clause-step
 returns-in-Ok-clause-step g c = (
@@ -43,4 +43,4 @@ returns-in-Ok-clause-step g c = (
 )
 
 pub invariant_of-self-in-Ok : goal.invariant_of-self-in-Ok
-invariant_of-self-in-Ok g c = led _ c.args.at.0 (acts.Opened c.args.a.number c.args.conn) _ c.self.view_is c.self.invariant (returns-in-Ok-clause-step g c).0
+invariant_of-self-in-Ok g c = (led _ c.args.at.0 (acts.Opened c.args.a.number c.args.conn) _ c.self.view_is c.self.invariant.0 (returns-in-Ok-clause-step g c).0, c.self.invariant.1)

@@ -1,4 +1,4 @@
-use Rattle.bb8_core.proofs.Words.{refl, is_guarded, view_of}
+use Rattle.bb8_core.proofs.Words.{refl, ◌∙◌, arith, is_guarded, view_of}
 use Rattle.bb8_ledger.specs.Acts as acts
 use Rattle.bb8_core.proofs.Fitting.{shown_fits, fits_at, unfit_at, guarded_record, closed_few, none_after}
 use Rattle.bb8_core.proofs.Runs.{unfit_records}
@@ -6,7 +6,7 @@ use Rattle.bb8_core.proofs.Steps.{meets_returned_kept, meets_returned_closed, le
 use Rattle.bb8_core.proofs.internals.PoolInternals.put_back.Goals as goal
 
 pub put_back-requires : goal.put_back-requires
-put_back-requires g c = none_after (view_of c.self.inside) c.args.at.0 c.max-now.result c.self.invariant c.max-now.ensures
+put_back-requires g c = none_after (view_of c.self.inside) c.args.at.0 c.max-now.result c.self.invariant.0 c.max-now.ensures
 
 pub returns-in-Err-clause-step : goal.returns-in-Err-clause-step
 returns-in-Err-clause-step g c = unfit_records c.args.at.0 (acts.PutBack c.args.k.number c.args.conn c.args.broken) c.self.view_is
@@ -19,23 +19,23 @@ returns-in-Ok-Ok-clause-step g c =
       at_view c.self.view_is
           (meets_returned_kept (fits_at a is_guarded c.args.k.number c.in-Ok-Ok.ensures.held)
           (record { who = c.notify-notified.ensures.value; after = c.notify-notified.ensures.state })
-          (record { now_is = c.max-now.ensures; birth_is = refl; aged_is = refl })
+          (record { now_is = c.max-now.ensures; birth_is = refl; aged_is = c.self.invariant.1 _ (omega arith) })
           ok.0 ok.1),
       tt,
     )
 
 pub invariant_of-self-in-Ok-Ok : goal.invariant_of-self-in-Ok-Ok
-invariant_of-self-in-Ok-Ok g c = led _ c.args.at.0 (acts.PutBack c.args.k.number c.args.conn c.args.broken) _ c.self.view_is c.self.invariant
-    (returns-in-Ok-Ok-clause-step g c).0
+invariant_of-self-in-Ok-Ok g c = (led _ c.args.at.0 (acts.PutBack c.args.k.number c.args.conn c.args.broken) _ c.self.view_is c.self.invariant.0
+    (returns-in-Ok-Ok-clause-step g c).0, c.self.invariant.1)
 
 pub close_and_grant-grant-requires-clause-out : goal.close_and_grant-grant-requires-clause-out
 close_and_grant-grant-requires-clause-out g c = let err = rw c.in-Ok-Err.field-0-is at c.in-Ok-Err.ensures.err in rw err.3 (guarded_record (view_of c.self.inside) c.args.k.number c.in-Ok-Err.ensures.held)
 
 pub close_and_grant-grant-requires-clause-size : goal.close_and_grant-grant-requires-clause-size
-close_and_grant-grant-requires-clause-size g c = let err = rw c.in-Ok-Err.field-0-is at c.in-Ok-Err.ensures.err in rw err.3 (shown_fits (view_of c.self.inside) c.self.invariant).size
+close_and_grant-grant-requires-clause-size g c = let err = rw c.in-Ok-Err.field-0-is at c.in-Ok-Err.ensures.err in rw err.3 (shown_fits (view_of c.self.inside) c.self.invariant.0).size
 
 pub close-requires : goal.close-requires
-close-requires g c = let err = rw c.in-Ok-Err.field-0-is at c.in-Ok-Err.ensures.err in closed_few c.args.k.number (view_of c.self.inside) c.self.invariant
+close-requires g c = let err = rw c.in-Ok-Err.field-0-is at c.in-Ok-Err.ensures.err in closed_few c.args.k.number (view_of c.self.inside) c.self.invariant.0
     (guarded_record (view_of c.self.inside) c.args.k.number c.in-Ok-Err.ensures.held) (rw err.3 at c.close_and_grant-grant.ensures.numbers)
 
 pub returns-in-Ok-Err-clause-step : goal.returns-in-Ok-Err-clause-step
@@ -46,11 +46,11 @@ returns-in-Ok-Err-clause-step g c =
       at_view c.self.view_is
           (meets_returned_closed c.self.inside.counters (fits_at a is_guarded c.args.k.number r.held)
           (record { who = c.notify.ensures.value; after = c.notify.ensures.state })
-          (record { now_is = c.max-now.ensures; birth_is = refl; aged_is = err.1 })
+          (record { now_is = c.max-now.ensures; birth_is = refl; aged_is = err.1 ∙ c.self.invariant.1 _ (omega arith) })
           err.2 (rw err.3 at c.close_and_grant-grant.ensures.granted) (rw err.3 at c.close_and_grant-grant.ensures.state) refl c.close.ensures),
       tt,
     )
 
 pub invariant_of-self-in-Ok-Err : goal.invariant_of-self-in-Ok-Err
-invariant_of-self-in-Ok-Err g c = led _ c.args.at.0 (acts.PutBack c.args.k.number c.args.conn c.args.broken) _ c.self.view_is c.self.invariant
-    (returns-in-Ok-Err-clause-step g c).0
+invariant_of-self-in-Ok-Err g c = (led _ c.args.at.0 (acts.PutBack c.args.k.number c.args.conn c.args.broken) _ c.self.view_is c.self.invariant.0
+    (returns-in-Ok-Err-clause-step g c).0, c.self.invariant.1)

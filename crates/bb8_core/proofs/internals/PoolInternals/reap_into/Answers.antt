@@ -11,7 +11,7 @@ pub returns-then-self-eq0-clause-step : goal.returns-then-self-eq0-clause-step
 returns-then-self-eq0-clause-step g c = at_view c.self.view_is (meets_reap_ended c.max-now.ensures c.if-self-eq0.true)
 
 pub invariant_of-self : goal.invariant_of-self
-invariant_of-self g c = led _ c.args.at.0 acts.Reap _ c.self.view_is c.self.invariant (returns-then-self-eq0-clause-step g c)
+invariant_of-self g c = (led _ c.args.at.0 acts.Reap _ c.self.view_is c.self.invariant.0 (returns-then-self-eq0-clause-step g c), c.self.invariant.1)
 
 pub grant-grant-requires : goal.grant-grant-requires
 grant-grant-requires g c =
@@ -23,13 +23,13 @@ grant-grant-requires g c =
       reap_few c.reap-reaped.ensures.ends.1 (after_reap c.reap-reaped.ensures.ends.0 c.self.inside.records),
       ap (λ (s : RecordsView g.row.C.Denot). s.conns + s.approved) ended.state,
     ) in
-    omega (arith, due_fits (view_of c.self.inside) {taken = c.reap-reaped.new.self} _ c.self.invariant fewer refl refl c.want-wanted.ensures)
+    omega (arith, due_fits (view_of c.self.inside) {taken = c.reap-reaped.new.self} _ c.self.invariant.0 fewer refl refl c.want-wanted.ensures)
 
 pub reap-requires-clause-by_idle : goal.reap-requires-clause-by_idle
-reap-requires-clause-by_idle g c = (reaped_few (view_of c.self.inside) c.self.invariant (omega (arith, c.max-now.ensures)) c.reap-reaped.ensures.ends.2 c.reap-reaped.ensures.numbers).0
+reap-requires-clause-by_idle g c = (reaped_few (view_of c.self.inside) c.self.invariant.0 (omega (arith, c.max-now.ensures)) c.reap-reaped.ensures.ends.2 c.reap-reaped.ensures.numbers).0
 
 pub reap-requires-clause-by_life : goal.reap-requires-clause-by_life
-reap-requires-clause-by_life g c = (reaped_few (view_of c.self.inside) c.self.invariant (omega (arith, c.max-now.ensures)) c.reap-reaped.ensures.ends.2 c.reap-reaped.ensures.numbers).1
+reap-requires-clause-by_life g c = (reaped_few (view_of c.self.inside) c.self.invariant.0 (omega (arith, c.max-now.ensures)) c.reap-reaped.ensures.ends.2 c.reap-reaped.ensures.numbers).1
 
 pub returns-clause-step : goal.returns-clause-step
 returns-clause-step g c = at_view c.self.view_is
@@ -37,7 +37,7 @@ returns-clause-step g c = at_view c.self.view_is
     (grants refl c.want-wanted.ensures c.grant-grant.ensures.granted c.grant-grant.ensures.state) refl c.reap.ensures)
 
 pub invariant_of-self-2 : goal.invariant_of-self-2
-invariant_of-self-2 g c = led _ c.args.at.0 acts.Reap _ c.self.view_is c.self.invariant (returns-clause-step g c)
+invariant_of-self-2 g c = (led _ c.args.at.0 acts.Reap _ c.self.view_is c.self.invariant.0 (returns-clause-step g c), c.self.invariant.1)
 
 pub returns-then-self-eq0-clause-closed : goal.returns-then-self-eq0-clause-closed
 returns-then-self-eq0-clause-closed g c = no_reap_offers c.args.at.0 c.args.closed.now

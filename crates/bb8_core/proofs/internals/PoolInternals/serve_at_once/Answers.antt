@@ -6,17 +6,17 @@ use Rattle.bb8_core.proofs.AtOnce.{between, meets_begun_between, meets_served_be
 use Rattle.bb8_core.proofs.internals.PoolInternals.serve_at_once.Goals as goal
 
 pub overflow_add-self : goal.overflow_add-self
-overflow_add-self g c = omega (arith, (shown_fits (view_of c.self.inside) c.self.invariant).started_few, c.has_room.ensures.number c.if-not-has_room.false)
+overflow_add-self g c = omega (arith, (shown_fits (view_of c.self.inside) c.self.invariant.0).started_few, c.has_room.ensures.number c.if-not-has_room.false)
 
 pub serve-requires : goal.serve-requires
 serve-requires g c =
-    let fit = shown_fits (view_of c.self.inside) c.self.invariant in
+    let fit = shown_fits (view_of c.self.inside) c.self.invariant.0 in
     let few = c.has_room.ensures.number c.if-not-has_room.false in
     record { direct = omega (arith, fit, few); waited = omega (arith, fit, few) }
 
 pub grant-grant-requires : goal.grant-grant-requires
-grant-grant-requires g c = omega (arith, due_fits (view_of c.self.inside) _ c.self.invariant (omega arith) c.in-Some.ensures.some.2 refl
-    (c.lacking-wanted.ensures c.self.inside.handles (fit_leave refl c.self.invariant (fit_idle (view_of c.self.inside) (omega (arith, c.if-idle_connections-eq0.false, c.idle_connections.ensures))))))
+grant-grant-requires g c = omega (arith, due_fits (view_of c.self.inside) _ c.self.invariant.0 (omega arith) c.in-Some.ensures.some.2 refl
+    (c.lacking-wanted.ensures c.self.inside.handles (fit_leave refl c.self.invariant.0 (fit_idle (view_of c.self.inside) (omega (arith, c.if-idle_connections-eq0.false, c.idle_connections.ensures))))))
 
 pub returns-in-Some-clause-some : goal.returns-in-Some-clause-some
 returns-in-Some-clause-some g c =
@@ -29,13 +29,13 @@ returns-in-Some-clause-some g c =
           fit c.max-now.ensures (c.has_room.ensures.number c.if-not-has_room.false)),
       at_view refl
           (meets_served_between a c.self.inside.counters c.begin_and_end-get.ensures.number c.if-self.false c.max-now.ensures c.in-Some.ensures.some.0
-          (grants c.in-Some.ensures.some.2 (c.lacking-wanted.ensures c.self.inside.handles (fit_leave refl c.self.invariant fit)) c.grant-grant.ensures.granted c.grant-grant.ensures.state)
+          (grants c.in-Some.ensures.some.2 (c.lacking-wanted.ensures c.self.inside.handles (fit_leave refl c.self.invariant.0 fit)) c.grant-grant.ensures.granted c.grant-grant.ensures.state)
           c.begin_and_end-get.ensures.state refl c.serve.ensures),
       λ l legal means. (record { place = Idle c.in-Some.conn; birth = was.0; entered = was.1 }, shown_record l (between a c.max-now.result) means c.in-Some.key.number ∙ was.2, refl),
     )
 
 pub invariant_of-self-in-Some : goal.invariant_of-self-in-Some
 invariant_of-self-in-Some g c =
-    let both = returns-in-Some-clause-some g c in
-    let began = led both.0 c.args.at.0 acts.Begin _ c.self.view_is c.self.invariant both.1 in
-    led _ c.args.at.0 (acts.Try c.begin_and_end-get.result) _ refl began both.2
+    (let both = returns-in-Some-clause-some g c in
+    let began = led both.0 c.args.at.0 acts.Begin _ c.self.view_is c.self.invariant.0 both.1 in
+    led _ c.args.at.0 (acts.Try c.begin_and_end-get.result) _ refl began both.2, c.self.invariant.1)

@@ -13,7 +13,7 @@ returns-then-not-has_number-clause-step g c = at_view c.self.view_is
     (meets_exhausted c.max-now.ensures (fits_view acts.Begin c.self.view_is c.requires) (used_up _ c.has_number.ensures c.if-not-has_number.true))
 
 pub invariant_of-self : goal.invariant_of-self
-invariant_of-self g c = led _ c.args.at.0 acts.Begin _ c.self.view_is c.self.invariant (returns-then-not-has_number-clause-step g c)
+invariant_of-self g c = (led _ c.args.at.0 acts.Begin _ c.self.view_is c.self.invariant.0 (returns-then-not-has_number-clause-step g c), c.self.invariant.1)
 
 pub returns-then-not-make_room_for_one-clause-step : goal.returns-then-not-make_room_for_one-clause-step
 returns-then-not-make_room_for_one-clause-step g c =
@@ -22,13 +22,13 @@ returns-then-not-make_room_for_one-clause-step g c =
     (meets_memory c.max-now.ensures (fits_view acts.Begin c.self.view_is c.requires) (left _ c.has_number.ensures c.if-not-has_number.false) refused.0 refused.1)
 
 pub invariant_of-self-then-not-make_room_for_one : goal.invariant_of-self-then-not-make_room_for_one
-invariant_of-self-then-not-make_room_for_one g c = led _ c.args.at.0 acts.Begin _ c.self.view_is c.self.invariant (returns-then-not-make_room_for_one-clause-step g c)
+invariant_of-self-then-not-make_room_for_one g c = (led _ c.args.at.0 acts.Begin _ c.self.view_is c.self.invariant.0 (returns-then-not-make_room_for_one-clause-step g c), c.self.invariant.1)
 
 pub overflow_add-self : goal.overflow_add-self
-overflow_add-self g c = omega (arith, (shown_fits (view_of c.self.inside) c.self.invariant).started_few, left c.self.inside.gets.next c.has_number.ensures c.if-not-has_number.false)
+overflow_add-self g c = omega (arith, (shown_fits (view_of c.self.inside) c.self.invariant.0).started_few, left c.self.inside.gets.next c.has_number.ensures c.if-not-has_number.false)
 
 pub grant-grant-requires : goal.grant-grant-requires
-grant-grant-requires g c = omega (arith, due_fits (view_of c.self.inside) _ c.self.invariant (omega arith) c.in-None.ensures.none.1 refl c.due_waiting-due.ensures)
+grant-grant-requires g c = omega (arith, due_fits (view_of c.self.inside) _ c.self.invariant.0 (omega arith) c.in-None.ensures.none.1 refl c.due_waiting-due.ensures)
 
 pub returns-in-None-clause-step : goal.returns-in-None-clause-step
 returns-in-None-clause-step g c =
@@ -48,12 +48,12 @@ returns-in-None-clause-step g c =
 
 pub invariant_of-self-in-None : goal.invariant_of-self-in-None
 invariant_of-self-in-None g c =
-    let both = returns-in-None-clause-step g c in
-    let began = led both.0 c.args.at.0 acts.Begin _ c.self.view_is c.self.invariant both.1 in
-    led _ c.args.at.0 (acts.Try c.bear_waiting-get.result.number) _ refl began both.2
+    (let both = returns-in-None-clause-step g c in
+    let began = led both.0 c.args.at.0 acts.Begin _ c.self.view_is c.self.invariant.0 both.1 in
+    led _ c.args.at.0 (acts.Try c.bear_waiting-get.result.number) _ refl began both.2, c.self.invariant.1)
 
 pub grant-grant-requires-in-Some : goal.grant-grant-requires-in-Some
-grant-grant-requires-in-Some g c = omega (arith, due_fits (view_of c.self.inside) _ c.self.invariant (omega arith) c.in-Some.ensures.some.2 refl (c.lacking-wanted.ensures c.self.inside.handles (fit_leave c.self.view_is c.self.invariant c.requires)))
+grant-grant-requires-in-Some g c = omega (arith, due_fits (view_of c.self.inside) _ c.self.invariant.0 (omega arith) c.in-Some.ensures.some.2 refl (c.lacking-wanted.ensures c.self.inside.handles (fit_leave c.self.view_is c.self.invariant.0 c.requires)))
 
 pub returns-then-self-clause-step : goal.returns-then-self-clause-step
 returns-then-self-clause-step g c =
@@ -69,20 +69,20 @@ returns-then-self-clause-step g c =
           ∙ ap (λ (h : Holder). machine.after_take (place_with h) c.in-Some.key.number c.self.inside.records)
           (c.holder-holder.ensures ∙ ap (λ (b : Bool). cond b (Get c.next_number.result) Guard) c.if-self.true
           ∙ ap (λ (m : ℕ). Get m) (c.next_number.ensures ∙ sym c.bear_holding-get.ensures.key)))
-          (c.lacking-wanted.ensures c.self.inside.handles (fit_leave c.self.view_is c.self.invariant c.requires)) c.grant-grant-in-Some.ensures.granted c.grant-grant-in-Some.ensures.state)
+          (c.lacking-wanted.ensures c.self.inside.handles (fit_leave c.self.view_is c.self.invariant.0 c.requires)) c.grant-grant-in-Some.ensures.granted c.grant-grant-in-Some.ensures.state)
           (begun_at a.gets (machine.after_turn (Holding c.in-Some.key.number)) made c.bear_holding-get.ensures.state)),
       λ l legal means. (record { place = Idle c.in-Some.conn; birth = was.0; entered = was.1 }, shown_record l (between a c.max-now.result) means c.in-Some.key.number ∙ was.2, refl),
     )
 
 pub invariant_of-self-then-self : goal.invariant_of-self-then-self
 invariant_of-self-then-self g c =
-    let both = returns-then-self-clause-step g c in
-    let began = led both.0 c.args.at.0 acts.Begin _ c.self.view_is c.self.invariant both.1 in
-    led _ c.args.at.0 (acts.Try c.bear_holding-get.result.number) _ refl began both.2
+    (let both = returns-then-self-clause-step g c in
+    let began = led both.0 c.args.at.0 acts.Begin _ c.self.view_is c.self.invariant.0 both.1 in
+    led _ c.args.at.0 (acts.Try c.bear_holding-get.result.number) _ refl began both.2, c.self.invariant.1)
 
 pub serve-requires : goal.serve-requires
 serve-requires g c =
-    let fit = shown_fits (view_of c.self.inside) c.self.invariant in
+    let fit = shown_fits (view_of c.self.inside) c.self.invariant.0 in
     let few = left c.self.inside.gets.next c.has_number.ensures c.if-not-has_number.false in
     record { direct = omega (arith, fit, few); waited = omega (arith, fit, few) }
 
@@ -99,13 +99,13 @@ returns-else-self-clause-step g c =
           (grants (c.in-Some.ensures.some.2
           ∙ ap (λ (h : Holder). machine.after_take (place_with h) c.in-Some.key.number c.self.inside.records)
           (c.holder-holder.ensures ∙ ap (λ (b : Bool). cond b (Get c.next_number.result) Guard) c.if-self.false))
-          (c.lacking-wanted.ensures c.self.inside.handles (fit_leave c.self.view_is c.self.invariant c.requires)) c.grant-grant-in-Some.ensures.granted c.grant-grant-in-Some.ensures.state)
+          (c.lacking-wanted.ensures c.self.inside.handles (fit_leave c.self.view_is c.self.invariant.0 c.requires)) c.grant-grant-in-Some.ensures.granted c.grant-grant-in-Some.ensures.state)
           (begun_at a.gets machine.after_get_end made c.begin_and_end.ensures.state) refl c.serve.ensures),
       λ l legal means. (record { place = Idle c.in-Some.conn; birth = was.0; entered = was.1 }, shown_record l (between a c.max-now.result) means c.in-Some.key.number ∙ was.2, refl),
     )
 
 pub invariant_of-self-in-Some : goal.invariant_of-self-in-Some
 invariant_of-self-in-Some g c =
-    let both = returns-else-self-clause-step g c in
-    let began = led both.0 c.args.at.0 acts.Begin _ c.self.view_is c.self.invariant both.1 in
-    led _ c.args.at.0 (acts.Try c.next_number.result) _ refl began both.2
+    (let both = returns-else-self-clause-step g c in
+    let began = led both.0 c.args.at.0 acts.Begin _ c.self.view_is c.self.invariant.0 both.1 in
+    led _ c.args.at.0 (acts.Try c.next_number.result) _ refl began both.2, c.self.invariant.1)

@@ -9,7 +9,7 @@ told_is : (a b c d : ℕ) (x y : Counts) → a ≡ b → c ≡ d → x ≡ y →
 told_is a b c d x y connections idle counts = λ i. record { connections = connections i; idle = idle i; counts = counts i }
 
 pub statistics-requires : goal.statistics-requires
-statistics-requires g c = let fit = shown_fits (view_of c.self.inside) c.self.invariant in omega (arith, fit.answered)
+statistics-requires g c = let fit = shown_fits (view_of c.self.inside) c.self.invariant.0 in omega (arith, fit.answered)
 
 pub returns-clause-figures : goal.returns-clause-figures
 returns-clause-figures g c = λ l means. told_is _ _ _ _ _ _ c.connections.ensures c.idle_connections.ensures c.statistics.ensures ∙ figures_told (view_of c.self.inside) l (as_shown l (sym c.self.view_is) means)
@@ -18,13 +18,13 @@ pub returns-clause-step : goal.returns-clause-step
 returns-clause-step g c = at_view c.self.view_is (meets_state c.max-self-inside.ensures (λ l means. returns-clause-figures g c l (as_shown l c.self.view_is means)))
 
 pub invariant_of-self : goal.invariant_of-self
-invariant_of-self g c = led _ c.args.at.0 acts.State _ c.self.view_is c.self.invariant (returns-clause-step g c)
+invariant_of-self g c = (led _ c.args.at.0 acts.State _ c.self.view_is c.self.invariant.0 (returns-clause-step g c), c.self.invariant.1)
 
 pub returns-clause-size : goal.returns-clause-size
 returns-clause-size g c =
-    let fit = shown_fits (view_of c.self.inside) c.self.invariant in
+    let fit = shown_fits (view_of c.self.inside) c.self.invariant.0 in
     let few : c.connections.result ≤ (view_of c.self.inside).config.max_size = omega (arith, fit.size, c.connections.ensures) in
     subst (λ (s : StateView _). c.connections.result ≤ s.config.max_size) c.self.view_is few
 
 pub returns-clause-idle : goal.returns-clause-idle
-returns-clause-idle g c = let few = idle_few (view_of c.self.inside) c.self.invariant in omega (arith, few, c.connections.ensures, c.idle_connections.ensures)
+returns-clause-idle g c = let few = idle_few (view_of c.self.inside) c.self.invariant.0 in omega (arith, few, c.connections.ensures, c.idle_connections.ensures)

@@ -23,10 +23,10 @@ returns-then-is_unnotified-clause-step g c = (
 )
 
 pub invariant_of-self : goal.invariant_of-self
-invariant_of-self g c = led _ c.args.at.0 (acts.Try c.args.get.number) _ c.self.view_is c.self.invariant (returns-then-is_unnotified-clause-step g c).0
+invariant_of-self g c = (led _ c.args.at.0 (acts.Try c.args.get.number) _ c.self.view_is c.self.invariant.0 (returns-then-is_unnotified-clause-step g c).0, c.self.invariant.1)
 
 pub grant-grant-requires : goal.grant-grant-requires
-grant-grant-requires g c = omega (arith, due_fits (view_of c.self.inside) _ c.self.invariant (omega arith) c.in-None.ensures.none.1 refl c.due_waiting-due.ensures)
+grant-grant-requires g c = omega (arith, due_fits (view_of c.self.inside) _ c.self.invariant.0 (omega arith) c.in-None.ensures.none.1 refl c.due_waiting-due.ensures)
 
 pub wait-requires : goal.wait-requires
 wait-requires g c = record { stands = trying_off c.getting-getting.ensures.value c.is_trying.ensures c.if-not-is_trying.false c.is_unnotified.ensures c.if-is_unnotified.false }
@@ -41,10 +41,10 @@ returns-in-None-clause-step g c = (
 )
 
 pub invariant_of-self-in-None : goal.invariant_of-self-in-None
-invariant_of-self-in-None g c = led _ c.args.at.0 (acts.Try c.args.get.number) _ c.self.view_is c.self.invariant (returns-in-None-clause-step g c).0
+invariant_of-self-in-None g c = (led _ c.args.at.0 (acts.Try c.args.get.number) _ c.self.view_is c.self.invariant.0 (returns-in-None-clause-step g c).0, c.self.invariant.1)
 
 pub grant-grant-requires-in-Some : goal.grant-grant-requires-in-Some
-grant-grant-requires-in-Some g c = omega (arith, due_fits (view_of c.self.inside) _ c.self.invariant (omega arith) c.in-Some.ensures.some.2 refl c.want-wanted.ensures)
+grant-grant-requires-in-Some g c = omega (arith, due_fits (view_of c.self.inside) _ c.self.invariant.0 (omega arith) c.in-Some.ensures.some.2 refl c.want-wanted.ensures)
 
 pub turn-requires-clause-stands : goal.turn-requires-clause-stands
 turn-requires-clause-stands g c = trying_off c.getting-getting.ensures.value c.is_trying.ensures c.if-not-is_trying.false c.is_unnotified.ensures c.if-is_unnotified.false
@@ -62,7 +62,7 @@ returns-then-self-clause-step g c = (
 )
 
 pub invariant_of-self-then-self : goal.invariant_of-self-then-self
-invariant_of-self-then-self g c = led _ c.args.at.0 (acts.Try c.args.get.number) _ c.self.view_is c.self.invariant (returns-then-self-clause-step g c).0
+invariant_of-self-then-self g c = (led _ c.args.at.0 (acts.Try c.args.get.number) _ c.self.view_is c.self.invariant.0 (returns-then-self-clause-step g c).0, c.self.invariant.1)
 
 pub returns-then-self-clause-connection : goal.returns-then-self-clause-connection
 returns-then-self-clause-connection g c = λ l legal means.
@@ -75,7 +75,7 @@ finish-requires g c = trying_off c.getting-getting.ensures.value c.is_trying.ens
 pub serve-requires : goal.serve-requires
 serve-requires g c =
     let st = trying_stands c.getting-getting.ensures.value c.is_trying.ensures c.if-not-is_trying.false in
-    let few = ended_few (view_of c.self.inside) c.args.get.number c.self.invariant st c.finish.ensures.numbers in
+    let few = ended_few (view_of c.self.inside) c.args.get.number c.self.invariant.0 st c.finish.ensures.numbers in
     record { direct = omega (arith, few); waited = omega (arith, few) }
 
 pub returns-else-self-clause-step : goal.returns-else-self-clause-step
@@ -92,7 +92,7 @@ returns-else-self-clause-step g c = (
 )
 
 pub invariant_of-self-in-Some : goal.invariant_of-self-in-Some
-invariant_of-self-in-Some g c = led _ c.args.at.0 (acts.Try c.args.get.number) _ c.self.view_is c.self.invariant (returns-else-self-clause-step g c).0
+invariant_of-self-in-Some g c = (led _ c.args.at.0 (acts.Try c.args.get.number) _ c.self.view_is c.self.invariant.0 (returns-else-self-clause-step g c).0, c.self.invariant.1)
 
 pub returns-else-self-clause-connection : goal.returns-else-self-clause-connection
 returns-else-self-clause-connection g c = λ l legal means.
