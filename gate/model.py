@@ -4,8 +4,8 @@ model.py [--tasks] [PROCESSORS..], at the top of the repository.
 
 Each crate has a task of proof and of tests. A proof waits for the proofs below, tests wait for the proofs that their crate stands on. Tasks
 are started as the gate starts them: one a processor, first those with the longest chain of others behind them, by lines. Each gets a second
-processor only where nothing else waits. A landing tries the edits that gate/edits/named lists and a tenth of the others, each by a check, after
-one of the crate as it is; crates share the processors, at most four. The crates, what they stand on, their lines and their edits are read from
+processor only where nothing else waits. A landing tries the edits that gate/edits/named lists and a tenth of the others, each by a check;
+crates share the processors, at most four. The crates, what they stand on, their lines and their edits are read from
 the tree. A crate without a line in gate/costs.txt is told and reckoned as the template: gate/measure.py measures it.
 """
 import os
@@ -33,7 +33,7 @@ def checks_of(crate, named):
     folder = f"gate/edits/{crate}"
     edits = [it.removesuffix(".edit") for it in os.listdir(folder)] if os.path.isdir(folder) else []
     each = sum(f"{crate}/{it}" in named for it in edits)
-    return each + (len(edits) - each) / 10 + 1 if edits else 0
+    return each + (len(edits) - each) / 10
 
 
 def minutes_of_edits(made):
