@@ -4,7 +4,7 @@ ghost use Rattle.std.specs.Prelude.{◌≡◌, ◌+◌, min, suc};
 use crate::opening::NOW;
 use bb8_core::internals::{AtOnce, BeginAnswer, Key, PoolInternals, PutBackAnswer, TryAnswer};
 
-/// Begins a get, and then has it take the connection that is idle longest. None where memory was refused, or no number was left.
+/// Begins a get, and then has it take the connection that is idle longest. None where none is idle, memory was refused, or no number was left.
 fn serve_in_steps(pool: &mut PoolInternals<u64>) -> Option<(Key, u64)> {
     let Ok(BeginAnswer::Begun(get)) = pool.begin(NOW) else {
         return None;
@@ -15,8 +15,7 @@ fn serve_in_steps(pool: &mut PoolInternals<u64>) -> Option<(Key, u64)> {
     }
 }
 
-/// Begins a get, and has it take the connection that is idle longest, in one step where that needs no memory. None where memory was
-/// refused, or no number was left.
+/// The same, in one step where that needs no memory.
 #[inline(always)]
 fn serve(pool: &mut PoolInternals<u64>) -> Option<(Key, u64)> {
     match pool.serve_at_once(NOW) {
@@ -51,7 +50,7 @@ pub(crate) fn turned(pool: &mut PoolInternals<u64>, count: u64) -> Option<u64> {
     Some(sum)
 }
 
-/// Serves every connection: the sum of their numbers, each counted from 1.
+/// So often serves a connection, which does not come back: the sum of the numbers that were served, each counted from 1.
 pub(crate) fn drained(pool: &mut PoolInternals<u64>, count: u32) -> Option<u64> {
     let mut sum = 0;
     for _ in 0..count {
