@@ -4,7 +4,8 @@ ghost use Rattle.std.specs.Prelude.{◌≡◌, ◌+◌, min, suc};
 use crate::opening::NOW;
 use bb8_core::internals::{AtOnce, BeginAnswer, Key, PoolInternals, PutBackAnswer, TryAnswer};
 
-/// Begins a get, and then has it take the connection that is idle longest. None where none is idle, memory was refused, or no number was left.
+/// Begins a get, and then has it take the connection that is idle longest. None where none is idle, memory was refused, or no number was
+/// left.
 fn serve_in_steps(pool: &mut PoolInternals<u64>) -> Option<(Key, u64)> {
     let Ok(BeginAnswer::Begun(get)) = pool.begin(NOW) else {
         return None;
