@@ -420,14 +420,15 @@ fn approve<R: Runtime + Abort, L: PoolParts>(tools: &Tools<'_, R>, pool: &Teller
     tools.desk.made.set(0);
 }
 
-/// Turns, which read no clock: one connection is opened slowly, and one preparation fails. Then a run of two turns, with the drop of a driver that
-/// opens.
+/// A driver, and its turns, which read no clock: one connection is opened slowly, and one preparation fails. Then a run of two turns, with the drop
+/// of a driver that opens.
 fn turns<R: Runtime + Abort, L: PoolParts>(
     tools: &Tools<'_, R>,
     pool: &TellerPool<R, L>,
 ) -> Result<(), Memory> {
     let desk = tools.desk;
     let mut driver = Driver::new(pool)?;
+    tools.made("");
     for (approves, connects, prepares, calls) in &[
         (true, 1, 0, "connect poll_connect"),
         (
