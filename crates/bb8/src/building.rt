@@ -10,9 +10,8 @@ use bb8_core::api::{
     Clock, CustomizeConnection, ErrorSink, ManageConnection, Memory, Moment, RunError,
 };
 use bb8_core::internals::Grant;
-use bb8_lock::{
-    Belled, Given, Locks, NewPool, OpensScope, Parts, SectionHome, Shared, These, begin_pool,
-};
+use bb8_gets::GetHome;
+use bb8_lock::{Belled, Given, Locks, NewPool, OpensScope, Parts, Shared, These, begin_pool};
 pub use bb8_tasks::{BuildingStage, BuildingStep, Replenish, Round, Tasks};
 use futures::Future;
 use futures::task::{Context, Poll};

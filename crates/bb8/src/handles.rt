@@ -4,7 +4,8 @@ ghost use Rattle.std.specs.Arc.{arc_value};
 
 use crate::pool::Pool;
 use bb8_core::api::RunError;
-use bb8_lock::{Given, Handle, Joining, OpensScope, Parts, Shared, join};
+use bb8_gets::Joining;
+use bb8_lock::{Given, Handle, OpensScope, Parts, Shared, join};
 use std::alloc::Global;
 use std::sync::Arc;
 

@@ -13,8 +13,7 @@ use Rattle.bb8_core.specs.StateView.{StateView, Meets, HasLedger, IsWithinLimits
 use Rattle.bb8_core.specs.StepAnswers.{Starts}
 use Rattle.bb8_gets.specs.declared.home.FirstTry.TheVariants as first
 use Rattle.bb8_gets.specs.declared.home.Tried.{Tried}
-use Rattle.bb8_gets.specs.Steps as step
-use Rattle.bb8_gets.specs.Steps.{StepsBy}
+use Rattle.bb8_gets.specs.Steps.{StartsBy}
 use Rattle.bb8_gets.specs.Told.{in_core}
 
 module _ {C : Type 0} where
@@ -28,7 +27,7 @@ module _ {C : Type 0} where
 
   -- so does the state between the begin and the try
   pub starts_within : {P : Type 0} (old new : StateView C) (at : Moment) (g : GetKey) (t : Tried C P) {told : TryAnswer C} → in_core t ≡ told
-      → IsWithinLimits old → Starts old at.0 (started.Tried g told) new → StepsBy Steps old at (step.Starts (Ok (first.Tried g t))) new
+      → IsWithinLimits old → Starts old at.0 (started.Tried g told) new → StartsBy Steps old at.0 (Ok (first.Tried g t)) new
   starts_within old new at g t is limits starts =
       let s = subst (λ q. Starts old at.0 (started.Tried g q) new) (sym is) starts in
       (s.0, (limits, s.1), (within s.0 (follows old s.0 at.0 Begin (Begun g.number) limits.0 s.1), s.2), s.3)

@@ -77,7 +77,7 @@ module _ {C E V P X : Type 0} (outside : OutsideOf X C E V) where
   abbrev pub Asks : Taken C P → X → Returned C P → X → Type 0
   Asks t x r x' = outside.breaks x t.connection r.broken r.taken.connection x' × (r.taken.key ≡ t.key) × (r.taken.part ≡ t.part)
 
-module _ {C E V P X : Type 0} (home : HomeOf X C P) (outside : OutsideOf X C E V) where
+module _ {C E V P H X : Type 0} (home : HomeOf X C P H) (outside : OutsideOf X C E V) where
   -- after a step a connection is dropped
   abbrev pub DropsAfterStep : C → X → X → Type 0
   DropsAfterStep c x x' = (x1 : X) × home.releases x x1 × outside.lets_go x1 c x'
@@ -98,7 +98,7 @@ module _ {C E V P X : Type 0} (home : HomeOf X C P) (outside : OutsideOf X C E V
   AfterBack (Ok a) x x' = AfterGiveUp a x x'
   AfterBack (Err c) x x' = DropsAfterStep c x x'
 
-module _ {C E V P X : Type 0} (home : HomeOf X C P) (outside : OutsideOf X C E V) (m : Moment) where
+module _ {C E V P H X : Type 0} (home : HomeOf X C P H) (outside : OutsideOf X C E V) (m : Moment) where
   -- a get that holds no connection is given up
   abbrev pub LeavesLine : GetKey → Reason → X → X → Type 0
   LeavesLine g why x x' =
@@ -216,7 +216,7 @@ module _ {C E V P X : Type 0} (home : HomeOf X C P) (outside : OutsideOf X C E V
   Starts timeout x settled x' =
       (next : Next C V P E) × (x1 : X) × GetStarts timeout x next x1 × EndsPoll next x1 settled x'
 
-module _ {C E V P X : Type 0} (home : HomeOf X C P) (outside : OutsideOf X C E V) where
+module _ {C E V P H X : Type 0} (home : HomeOf X C P H) (outside : OutsideOf X C E V) where
   -- A poll of a get that was not answered: the clock is read, the home looked at, the get goes on, and it answers or its deadline is
   -- compared.
   abbrev pub Goes : ℕ → Stage C V P → X → Settled C V P E → X → Type 0

@@ -1,36 +1,62 @@
--- The steps of a get on its home, each with what it was given and what it answered, and what each is in the words of the ledger.
-use Rattle.std.specs.Prelude.{◌≡◌, ℕ, false, Some, None, Result, Ok, Err, IfOk}
+-- The steps of gets, guards and handles on their home, each with what it was given and what it answered, and what each is in the words of the ledger.
+use Rattle.std.specs.Prelude.{◌≡◌, ◌≤◌, ℕ, Bool, true, false, Some, None, Result, Ok, Err, IfOk}
+use Rattle.bb8_types.specs.declared.api.figures.State.{State}
 use Rattle.bb8_types.specs.declared.api.moments.Moment.{Moment}
 use Rattle.bb8_types.specs.declared.reasons.Reason.{Reason}
+use Rattle.bb8_types.specs.Figures.{figures_of}
 use Rattle.bb8_tables.specs.declared.keys.GetKey.{GetKey}
 use Rattle.bb8_tables.specs.declared.keys.Key.{Key}
 use Rattle.bb8_ledger.specs.Acts as acts
 use Rattle.bb8_ledger.specs.Acts.{Act}
 use Rattle.bb8_ledger.specs.Answers as answers
 use Rattle.bb8_ledger.specs.Answers.{Answer}
+use Rattle.bb8_core.specs.declared.answers.AddAnswer.{AddAnswer}
+use Rattle.bb8_core.specs.declared.answers.AddAnswer.TheVariants as adding
 use Rattle.bb8_core.specs.declared.answers.CheckedErrAnswer.{CheckedErrAnswer}
 use Rattle.bb8_core.specs.declared.answers.GiveUpAnswer.{GiveUpAnswer}
+use Rattle.bb8_core.specs.declared.answers.LeaveAnswer.{LeaveAnswer}
 use Rattle.bb8_core.specs.declared.answers.Looked.{Looked}
-use Rattle.bb8_core.specs.StepAnswers.{answer_of_checked_err, answer_of_give_up, answer_of_look, reason_of, GivesBackHeld, GivesBackInvalid, HandsOut}
+use Rattle.bb8_core.specs.declared.answers.PutBackAnswer.{PutBackAnswer}
+use Rattle.bb8_core.specs.StepAnswers.{answer_of_add, answer_of_checked_err, answer_of_give_up, answer_of_leave, answer_of_look, answer_of_put_back, reason_of, GivesBack as GivesBackReturned, GivesBackHeld, GivesBackInvalid, HandsOut, Refuses}
 use Rattle.bb8_core.specs.Unfit.{OrComesBack, Stepped}
 use Rattle.bb8_core.specs.StateView.{StateView}
+use Rattle.bb8_types.specs.Settings.{Settings}
+use Rattle.bb8_gets.specs.Homes.{StepsIn}
 use Rattle.bb8_gets.specs.declared.home.FirstTry.{FirstTry}
 use Rattle.bb8_gets.specs.declared.home.FirstTry.TheVariants as first
+use Rattle.bb8_gets.specs.declared.home.Joining.{Joining}
+use Rattle.bb8_gets.specs.declared.home.Joining.TheVariants as joining
 use Rattle.bb8_gets.specs.declared.home.Passed.{Passed}
 use Rattle.bb8_gets.specs.declared.home.Returned.{Returned}
 use Rattle.bb8_gets.specs.declared.home.Tried.{Tried}
 use Rattle.bb8_core.specs.declared.answers.Unfit.{Unfit}
 use Rattle.bb8_gets.specs.Told.{in_core, answer_of_passed, answer_of_tried}
 
--- Each step, by which get, with what is handed in, and its answer.
-pub data GetStep (C P : Type 0) : Type 0 where
-  Looks : Looked → GetStep C P
-  Starts : Result (FirstTry C P) Unfit → GetStep C P
-  Tries : GetKey → Result (Tried C P) Unfit → GetStep C P
-  Passes : GetKey → Key → P → Result (Passed P) Unfit → GetStep C P
-  Fails : GetKey → Returned C P → Result (CheckedErrAnswer C) C → GetStep C P
-  GivesUp : GetKey → Reason → Result (GiveUpAnswer C) Unfit → GetStep C P
-  GivesBack : GetKey → Reason → Returned C P → Result (GiveUpAnswer C) C → GetStep C P
+-- Each step, with what it was given, and its answer.
+pub data GetStep (C P H : Type 0) : Type 0 where
+  Looks : Looked → GetStep C P H
+  Starts : Result (FirstTry C P) Unfit → GetStep C P H
+  Tries : GetKey → Result (Tried C P) Unfit → GetStep C P H
+  Passes : GetKey → Key → P → Result (Passed P) Unfit → GetStep C P H
+  Fails : GetKey → Returned C P → Result (CheckedErrAnswer C) C → GetStep C P H
+  GivesUp : GetKey → Reason → Result (GiveUpAnswer C) Unfit → GetStep C P H
+  GivesBack : GetKey → Reason → Returned C P → Result (GiveUpAnswer C) C → GetStep C P H
+  PutsBack : Returned C P → Result (PutBackAnswer C) C → GetStep C P H
+  Adds : C → Bool → Result (AddAnswer C) C → GetStep C P H
+  Shows : State → GetStep C P H
+  Joins : Joining H → GetStep C P H
+  Leaves : Result LeaveAnswer Unfit → GetStep C P H
+
+-- the answer to the making of a handle
+abbrev pub joining_told : {H : Type 0} → Joining H → Answer
+joining_told (joining.Joined handle) = answers.Joined
+joining_told joining.Exhausted = answers.Exhausted
+joining_told joining.Unfit = answers.Unfit
+
+-- an adding is refused as broken just where the connection was found broken
+abbrev pub IsSorted : {C : Type 0} → Bool → AddAnswer C → Type 0
+IsSorted broken (adding.Broken c) = broken ≡ true
+IsSorted broken _ = broken ≡ false
 
 module _ {C P : Type 0} (Makes : StateView C → ℕ → Act C → Answer → StateView C → Type 0) where
   -- a get began and then tried, with a state between; or it did not begin
@@ -42,16 +68,27 @@ module _ {C P : Type 0} (Makes : StateView C → ℕ → Act C → Answer → St
   StartsBy s at (Ok first.Exhausted) s' = Makes s at acts.Begin answers.Exhausted s'
   StartsBy s at (Err u) s' = Makes s at acts.Begin answers.Unfit s' × (s' ≡ s)
 
-  -- a step of a home that makes its events like this: the event and its answer, and which connection goes out or comes back; a step that does
+module _ {C P H : Type 0} (settings : Settings) where
+  -- a step under the lock of a pool with these settings: the event and its answer, and which connection goes out or comes back; a step that does
   -- not fit changes nothing
-  abbrev pub StepsBy : StateView C → Moment → GetStep C P → StateView C → Type 0
-  StepsBy s at (Looks seen) s' = Makes s at.0 acts.Look (answer_of_look seen) s'
-  StepsBy s at (Starts r) s' = StartsBy s at.0 r s'
-  StepsBy s at (Tries get t) s' = Stepped Makes answer_of_tried s at.0 (acts.Try get.number) t s' × IfOk t (λ a. HandsOut s (in_core a))
-  StepsBy s at (Passes get key part a) s' = Stepped Makes (answer_of_passed s.records.next) s at.0 (acts.CheckedOk get.number) a s'
+  abbrev pub StepsBy : StateView C → Moment → GetStep C P H → StateView C → Type 0
+  StepsBy s at (Looks seen) s' = StepsIn settings s at.0 acts.Look (answer_of_look seen) s'
+  StepsBy s at (Starts r) s' = StartsBy (StepsIn settings) s at.0 r s'
+  StepsBy s at (Tries get t) s' = Stepped (StepsIn settings) answer_of_tried s at.0 (acts.Try get.number) t s' × IfOk t (λ a. HandsOut s (in_core a))
+  StepsBy s at (Passes get key part a) s' = Stepped (StepsIn settings) (answer_of_passed s.records.next) s at.0 (acts.CheckedOk get.number) a s'
   StepsBy s at (Fails get r a) s' =
-      Stepped Makes answer_of_checked_err s at.0 (acts.CheckedErr get.number r.broken) a s' × OrComesBack GivesBackInvalid r.taken.connection a
-  StepsBy s at (GivesUp get why a) s' = Stepped Makes answer_of_give_up s at.0 (acts.GiveUp get.number (reason_of why) None false) a s'
+      Stepped (StepsIn settings) answer_of_checked_err s at.0 (acts.CheckedErr get.number r.broken) a s' × OrComesBack GivesBackInvalid r.taken.connection a
+  StepsBy s at (GivesUp get why a) s' = Stepped (StepsIn settings) answer_of_give_up s at.0 (acts.GiveUp get.number (reason_of why) None false) a s'
   StepsBy s at (GivesBack get why r a) s' =
-      Stepped Makes answer_of_give_up s at.0 (acts.GiveUp get.number (reason_of why) (Some r.taken.connection) r.broken) a s'
+      Stepped (StepsIn settings) answer_of_give_up s at.0 (acts.GiveUp get.number (reason_of why) (Some r.taken.connection) r.broken) a s'
       × OrComesBack (λ c. GivesBackHeld (Some c)) r.taken.connection a
+  StepsBy s at (PutsBack r a) s' =
+      Stepped (StepsIn settings) (answer_of_put_back r.taken.key.number) s at.0 (acts.PutBack r.taken.key.number r.taken.connection r.broken) a s'
+      × OrComesBack GivesBackReturned r.taken.connection a
+  StepsBy s at (Adds conn broken a) s' =
+      Stepped (StepsIn settings) answer_of_add s at.0 (acts.Add conn broken) a s' × OrComesBack Refuses conn a × IfOk a (IsSorted broken)
+  StepsBy s at (Shows state) s' =
+      StepsIn settings s at.0 acts.State (answers.Shown (figures_of state)) s'
+      × (state.connections ≤ settings.max_size) × (state.idle_connections ≤ state.connections)
+  StepsBy s at (Joins a) s' = StepsIn settings s at.0 acts.Join (joining_told a) s'
+  StepsBy s at (Leaves a) s' = Stepped (StepsIn settings) answer_of_leave s at.0 acts.Leave a s'

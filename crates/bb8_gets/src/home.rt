@@ -2,11 +2,12 @@
 ghost use Rattle.std.specs.Prelude.{◌≡◌};
 ghost use Rattle.bb8_types.specs.declared.api.moments.Moment.{Moment as MomentOf};
 ghost use Rattle.bb8_core.specs.declared.answers.CheckedOkAnswer.TheVariants.{Served as IsServed};
-ghost use Rattle.bb8_gets.specs.Steps.{GetStep, Looks, Starts, Tries, Passes, Fails, GivesUp, GivesBack};
+ghost use Rattle.bb8_gets.specs.Steps.{GetStep, Looks, Starts, Tries, Passes, Fails, GivesUp, GivesBack, PutsBack, Adds, Shows, Joins, Leaves};
 
-use bb8_core::api::Moment;
+use bb8_core::api::{Moment, State};
 use bb8_core::internals::{
-    CheckedErrAnswer, CheckedOkAnswer, GetKey, GiveUpAnswer, Grant, Key, Looked, Reason, Unfit,
+    AddAnswer, CheckedErrAnswer, CheckedOkAnswer, GetKey, GiveUpAnswer, Grant, Key, LeaveAnswer,
+    Looked, PutBackAnswer, Reason, Unfit,
 };
 
 /// A connection that is out, with what goes with it. It cannot be let go but by name.
@@ -66,6 +67,16 @@ pub struct Returned<C, P> {
     pub broken: bool,
 }
 
+/// What the making of a handle answers.
+pub enum Joining<H> {
+    /// There is one handle more.
+    Joined(H),
+    /// As many handles are alive as may be: 4,294,967,295.
+    Exhausted,
+    /// The step does not fit, as no handle is alive; nothing has changed.
+    Unfit,
+}
+
 /// A home that is let go by a call, after which nothing is made on it.
 pub trait LetGo {
     // Holds of a home that may be let go.
@@ -76,21 +87,24 @@ pub trait LetGo {
         ensures { goes self };
 }
 
-/// The steps that the polls of a get make, on connections `C`: the plain state of a pool is such a home, and so is a pool's lock.
+/// The steps that gets, guards and handles make, on connections `C`: what a pool's lock holds is such a home, and so is the lock.
 ///
 /// One ghost member relates the home, each step with what it was given and answered, and the home then. It has no default: what is proved
-/// of a get's polls holds for every choice. A connection that is closed, or did not fit, is handed back, for
+/// of a get's polls and of sections holds for every choice. A connection that is closed, or did not fit, is handed back, for
 /// whoever made the step to drop it.
 pub trait GetHome<C> {
     /// What goes with a connection that is handed out.
     type Part;
+
+    /// A handle that is alive.
+    type Handle;
 
     // Holds of a home, and of the home that is let alone then.
     ghost releases: { Self → Self → Type 0 };
 
     // Holds of a home, a moment, a step with what it was given and what it may answer, and the home then. Of a look the moment is a reading of
     // the clock.
-    ghost steps: { Self → MomentOf → GetStep C Self.Part → Self → Type 0 };
+    ghost steps: { Self → MomentOf → GetStep C Self.Part Self.Handle → Self → Type 0 };
 
     /// Lets the home alone until its next step. It is called between a step and what is then called outside: a home that takes a lock for
     /// its steps lets go of it here.
@@ -144,4 +158,29 @@ pub trait GetHome<C> {
         returned: Returned<C, Self::Part>,
     ) -> Result<GiveUpAnswer<C>, C>
         ensures { steps self.old at (GivesBack get reason returned result) self.new };
+
+    /// Takes back a connection that was out, and what went with it. Where that does not fit, the connection comes back as the error, and
+    /// its part is gone.
+    fn put_back(
+        &mut self,
+        at: Moment,
+        returned: Returned<C, Self::Part>,
+    ) -> Result<PutBackAnswer<C>, C>
+        ensures { steps self.old at (PutsBack returned result) self.new };
+
+    /// Adds a connection that no approval brought. Where that does not fit, the connection comes back as the error.
+    fn add(&mut self, at: Moment, conn: C, broken: bool) -> Result<AddAnswer<C>, C>
+        ensures { steps self.old at (Adds conn broken result) self.new };
+
+    /// What the pool tells of itself.
+    fn state(&mut self, at: Moment) -> State
+        ensures { steps self.old at (Shows result) self.new };
+
+    /// Makes one handle more, where one is alive and another may be.
+    fn join(&mut self, at: Moment) -> Joining<Self::Handle>
+        ensures { steps self.old at (Joins result) self.new };
+
+    /// Takes a handle away. With the last one all idle connections end, and are dropped here, and all unclaimed approvals.
+    fn leave(&mut self, at: Moment, handle: Self::Handle) -> Result<LeaveAnswer, Unfit>
+        ensures { steps self.old at (Leaves result) self.new };
 }

@@ -3,11 +3,10 @@
 
 mod home;
 mod outside;
-mod plain;
 mod rows;
 mod state;
 
-pub use home::{FirstTry, GetHome, LetGo, Passed, Returned, Taken, Tried};
+pub use home::{FirstTry, GetHome, Joining, LetGo, Passed, Returned, Taken, Tried};
 pub use outside::Outside;
 pub use rows::ask;
 pub use state::{Begun, CheckUnderWay, GetState, Next, Settled, Stage};

@@ -19,8 +19,7 @@ use Rattle.bb8_core.specs.StepAnswers.{answer_of_try, Starts}
 use Rattle.bb8_gets.specs.declared.home.FirstTry.TheVariants as first
 use Rattle.bb8_gets.specs.declared.home.Tried.{Tried}
 use Rattle.bb8_gets.specs.Homes.{StepsIn}
-use Rattle.bb8_gets.specs.Steps as step
-use Rattle.bb8_gets.specs.Steps.{StepsBy}
+use Rattle.bb8_gets.specs.Steps.{IsSorted, StartsBy}
 use Rattle.bb8_gets.specs.Told.{in_core}
 use Rattle.bb8_tables.specs.declared.keys.GetKey.{GetKey}
 use Rattle.bb8_types.specs.declared.api.configuration.Config.{Config}
@@ -34,7 +33,6 @@ use Rattle.bb8_core.specs.StateView.{StateView, Represents, Meets, HasLedger, Is
 use Rattle.bb8_core.specs.Unfit.{answered}
 use Rattle.bb8_core.specs.Run.{opening}
 use Rattle.bb8_lock.specs.Parts.{goes_out, parts_back}
-use Rattle.bb8_lock.specs.Sections.{IsSorted}
 use Rattle.bb8_core.proofs.Parts.{counted}
 use Rattle.bb8_gets.proofs.Starting.{follows, within, starts_within}
 use Rattle.bb8_ledger.proofs.Effects.{by_fit}
@@ -106,7 +104,7 @@ module _ {C : Type 0} where
   -- a get that begins and tries does both in a state of these settings
   pub starts_in : {P : Type 0} (old new : StateView C) {settings : Settings} (at : Moment) (g : GetKey) (t : Tried C P) {told : TryAnswer C} → in_core t ≡ told
       → old.config ≡ settings → IsWithinLimits old → Starts old at.0 (starting.Tried g told) new
-      → StepsBy (StepsIn settings) old at (step.Starts (Ok (first.Tried g t))) new
+      → StartsBy (StepsIn settings) old at.0 (Ok (first.Tried g t)) new
   starts_in old new {settings} at g t is same limits starts =
       let s = starts_within old new at g t is limits starts in
       (s.0, (same, s.1), (kept_settings old s.0 at.0 Begin (Begun g.number) settings s.1 same, s.2), s.3)

@@ -6,11 +6,10 @@ use Rattle.bb8_core.specs.Unfit.{answered}
 use Rattle.bb8_core.specs.StepAnswers.{answer_of_add, answer_of_checked_err, answer_of_give_up, answer_of_opened, answer_of_put_back}
 use Rattle.bb8_gets.specs.declared.home.FirstTry.{FirstTry}
 use Rattle.bb8_gets.specs.declared.home.FirstTry.TheVariants as first
-use Rattle.bb8_gets.specs.Steps.{GetStep, Starts, Tries, Fails, GivesUp, GivesBack}
+use Rattle.bb8_gets.specs.Steps.{GetStep, Starts, Tries, Fails, GivesUp, GivesBack, PutsBack, Adds, Leaves}
 use Rattle.bb8_gets.specs.Told.{answer_of_tried}
 use Rattle.bb8_lock.specs.declared.bell.Rings.{Rings}
 use Rattle.bb8_tasks.specs.TaskSteps.{TaskStep, Opens}
-use Rattle.bb8_lock.specs.SectionSteps.{SectionStep, PutsBack, Adds, Leaves}
 
 -- no bell
 abbrev pub silent : Rings
@@ -38,29 +37,25 @@ bells notified granted = record { gets = is_some notified; drivers = ltb 0 grant
 abbrev pub bells_of : Answer → Rings
 bells_of a = bells (told_by a) (granted_by a)
 
-module _ {C P : Type 0} where
-  -- the answer of a get that begins and tries
-  abbrev pub answer_of_first : FirstTry C P → Answer
-  answer_of_first (first.Tried g told) = answer_of_tried told
-  answer_of_first first.Memory = Memory
-  answer_of_first first.Exhausted = Exhausted
+-- the answer of a get that begins and tries
+abbrev pub answer_of_first : {C P : Type 0} → FirstTry C P → Answer
+answer_of_first (first.Tried g told) = answer_of_tried told
+answer_of_first first.Memory = Memory
+answer_of_first first.Exhausted = Exhausted
 
-  -- A get's step rings by its answer; a look and a check that was passed ring nobody.
-  abbrev pub get_bells : GetStep C P → Rings
-  get_bells (Starts a) = bells_of (answered answer_of_first a)
-  get_bells (Tries g a) = bells_of (answered answer_of_tried a)
-  get_bells (Fails g r a) = bells_of (answered answer_of_checked_err a)
-  get_bells (GivesUp g why a) = bells_of (answered answer_of_give_up a)
-  get_bells (GivesBack g why r a) = bells_of (answered answer_of_give_up a)
-  get_bells _ = silent
-
-  -- A return and an adding ring by their answers. A handle that leaves rings the drivers where no handle is alive then; what else a section does
-  -- rings nobody.
-  abbrev pub section_bells : Bool → SectionStep C P → Rings
-  section_bells over (PutsBack r a) = bells_of (answered (answer_of_put_back r.taken.key.number) a)
-  section_bells over (Adds conn broken a) = bells_of (answered answer_of_add a)
-  section_bells over (Leaves a) = record { gets = false; drivers = over }
-  section_bells over _ = silent
+module _ {C P H : Type 0} where
+  -- A step rings by its answer. A handle that leaves rings the drivers where no handle is alive then; a look, a check that was passed, the
+  -- figures and a handle that is made ring nobody.
+  abbrev pub get_bells : Bool → GetStep C P H → Rings
+  get_bells over (Starts a) = bells_of (answered answer_of_first a)
+  get_bells over (Tries g a) = bells_of (answered answer_of_tried a)
+  get_bells over (Fails g r a) = bells_of (answered answer_of_checked_err a)
+  get_bells over (GivesUp g why a) = bells_of (answered answer_of_give_up a)
+  get_bells over (GivesBack g why r a) = bells_of (answered answer_of_give_up a)
+  get_bells over (PutsBack r a) = bells_of (answered (answer_of_put_back r.taken.key.number) a)
+  get_bells over (Adds conn broken a) = bells_of (answered answer_of_add a)
+  get_bells over (Leaves a) = record { gets = false; drivers = over }
+  get_bells over _ = silent
 
 -- An opening rings the bells of its answer. Of the rest nothing is asked: what a reap granted its driver claims next.
 abbrev pub RingsFor : {C : Type 0} → (Rings → Type 0) → TaskStep C → Type 0

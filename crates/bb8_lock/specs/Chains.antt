@@ -1,7 +1,7 @@
--- What guards and handles do with a pool, over the relations of any home with sections and of any calls outside. As these are free, each says
+-- What guards and handles do with a pool, over the relations of any home and of any calls outside. As these are free, each says
 -- which calls and steps are made, how many, and in which order.
 use Rattle.std.specs.Prelude.{◌≡◌, ℕ, ◌<◌, Bool, Option, Some, None, Result, Ok, Err}
-use Rattle.bb8_lock.specs.Words.{Poll, Ready, Pending, AddError, RunError, State, Moment, AddAnswer, HomeOf, Taken, OutsideOf, Settled, Stage, Asks, Cancels, Starts, GetPolls, Joining, SectionsOf}
+use Rattle.bb8_lock.specs.Words.{Poll, Ready, Pending, AddError, RunError, State, Moment, AddAnswer, HomeOf, Taken, OutsideOf, Settled, Stage, Asks, Cancels, Starts, GetPolls, Joining}
 use Rattle.bb8_gets.specs.declared.state.Stage.TheVariants.{Fresh}
 use Rattle.bb8_types.specs.declared.api.errors.AddError.TheVariants.{Broken, NoCapacity, Withheld}
 use Rattle.bb8_core.specs.declared.answers.AddAnswer.TheVariants as adding
@@ -15,7 +15,6 @@ use Rattle.bb8_gets.specs.Polls.{rest_of}
 use Rattle.bb8_lock.specs.declared.bell.Rests.{Ghosts as RestsOf}
 use Rattle.bb8_lock.specs.declared.bell.Sleeper.TheVariants.{Get}
 use Rattle.bb8_gets.specs.Steps as step
-use Rattle.bb8_lock.specs.SectionSteps as section
 
 -- What the caller of an adding is told: where no handle is alive there is no capacity.
 abbrev pub IsTold : {C : Type 0} → Result (AddAnswer C) C → Result (Unit {0}) (AddError C) → Type 0
@@ -48,7 +47,7 @@ module _ {C E V X : Type 0} (outside : OutsideOf X C E V) where
   AfterReturn (Ok (put_back.Closed c grant n)) x x' = outside.lets_go x c x'
   AfterReturn (Err c) x x' = outside.lets_go x c x'
 
-module _ {C E V P X : Type 0} (home : HomeOf X C P) (sections : SectionsOf X C P) (outside : OutsideOf X C E V) where
+module _ {C E V P H X : Type 0} (home : HomeOf X C P H) (outside : OutsideOf X C E V) where
   -- the clock is read, a section is made, and the home is released
   abbrev pub Section : (X → Moment → X → Type 0) → X → X → Type 0
   Section Step x x' = (at : Moment) × (x1 : X) × (x2 : X) × outside.tells x at x1 × Step x1 at x2 × home.releases x2 x'
@@ -57,25 +56,25 @@ module _ {C E V P X : Type 0} (home : HomeOf X C P) (sections : SectionsOf X C P
   abbrev pub Returns : Taken C P → X → X → Type 0
   Returns taken x x' =
       (r : Returned C P) × (x1 : X) × Asks outside taken x r x1
-      × ((a : Result (PutBackAnswer C) C) × (x2 : X) × Section (λ s at s'. sections.makes s at (section.PutsBack r a) s') x1 x2 × AfterReturn outside a x2 x')
+      × ((a : Result (PutBackAnswer C) C) × (x2 : X) × Section (λ s at s'. home.steps s at (step.PutsBack r a) s') x1 x2 × AfterReturn outside a x2 x')
 
   -- a connection is added: it is asked whether it is broken, and the home takes or refuses what is left of it
   abbrev pub AddsOutside : C → X → Result (Unit {0}) (AddError C) → X → Type 0
   AddsOutside conn x result x' =
       (broken : Bool) × (after : C) × (x1 : X) × outside.breaks x conn broken after x1
-      × ((a : Result (AddAnswer C) C) × Section (λ s at s'. sections.makes s at (section.Adds after broken a) s') x1 x' × IsTold a result)
+      × ((a : Result (AddAnswer C) C) × Section (λ s at s'. home.steps s at (step.Adds after broken a) s') x1 x' × IsTold a result)
 
   -- the home tells of itself
   abbrev pub Shows : X → State → X → Type 0
-  Shows x state x' = Section (λ s at s'. sections.makes s at (section.Shows state) s') x x'
+  Shows x state x' = Section (λ s at s'. home.steps s at (step.Shows state) s') x x'
 
   -- one handle more is counted, or refused
-  abbrev pub Joins : X → Joining → X → Type 0
-  Joins x a x' = Section (λ s at s'. sections.makes s at (section.Joins a) s') x x'
+  abbrev pub Joins : X → Joining H → X → Type 0
+  Joins x a x' = Section (λ s at s'. home.steps s at (step.Joins a) s') x x'
 
   -- a handle leaves
   abbrev pub HandleLeaves : X → X → Type 0
-  HandleLeaves x x' = (a : Result LeaveAnswer Unfit) × Section (λ s at s'. sections.makes s at (section.Leaves a) s') x x'
+  HandleLeaves x x' = (a : Result LeaveAnswer Unfit) × Section (λ s at s'. home.steps s at (step.Leaves a) s') x x'
 
   -- a guard's connection comes back, and then its handle leaves
   abbrev pub ReturnsAndLeaves : Taken C P → X → X → Type 0
@@ -97,12 +96,12 @@ module _ {C E V P X : Type 0} (home : HomeOf X C P) (sections : SectionsOf X C P
   TakesNow timeout x result x' =
       (at : Moment) × (x1 : X) × outside.tells x at x1
       × ((seen : Looked) × (x2 : X) × home.steps x1 at (step.Looks seen) x2
-      × ((state : State) × (x3 : X) × sections.makes x2 seen.moment (section.Shows state) x3
+      × ((state : State) × (x3 : X) × home.steps x2 seen.moment (step.Shows state) x3
       × (state.idle_connections ≡ 0 → (result ≡ Ok None) × home.releases x3 x')
       × (0 < state.idle_connections → TriesOnce seen.moment timeout x3 result x')))
 
 -- a get for which a thread waits, over any home and any calls outside
-module _ {C E V P X : Type 0} (home : HomeOf X C P) (outside : OutsideOf X C E V) (rests : RestsOf X) where
+module _ {C E V P H X : Type 0} (home : HomeOf X C P H) (outside : OutsideOf X C E V) (rests : RestsOf X) where
   -- What follows a poll before which the bell of the gets had rung so often: where it was pending the home is released, the clock read, and the thread sleeps
   -- until the bell rings once more, or as long as the get may rest; a get that was answered is let go.
   abbrev pub AfterPoll : ℕ → Poll (Result (Taken C P) (RunError E)) → Stage C V P → X → X → Type 0

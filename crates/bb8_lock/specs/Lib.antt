@@ -4,8 +4,6 @@ pub mod Gathered
 pub mod Scope
 pub mod Opening
 pub mod Parts
-pub mod Sections
-pub mod SectionSteps
 pub mod Turning
 pub use Rattle.bb8_gets.specs.Homes
 pub use Rattle.bb8_gets.specs.Polls

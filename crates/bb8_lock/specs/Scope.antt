@@ -1,14 +1,14 @@
 -- What gets, guards and handles do on a pool: the tables at what a pool's lock holds, while it is held, and at the pool's own manager, error sink
 -- and clock.
 use Rattle.std.specs.Prelude.{◌≡◌, ℕ, eqb, None, Option, Some, Result, Ok, Err, ⊤}
-use Rattle.bb8_lock.specs.Words.{MutexGuard, DebugOf, Poll, Ready, Pending, AddError, RunError, State, ManagerOf, SinkOf, CustomizerOf, ClockOf, settings_of, HomeOf, Taken, OutsideOf, Stage, Joining, SectionsOf, Locked, Part, PartsOf, LockScope, Shared, StepsIn, GetPolls, Cancels}
+use Rattle.bb8_lock.specs.Words.{MutexGuard, DebugOf, Poll, Ready, Pending, AddError, RunError, State, ManagerOf, SinkOf, CustomizerOf, ClockOf, settings_of, HomeOf, Taken, OutsideOf, Stage, Joining, Locked, Part, PartsOf, LockScope, Shared, GetPolls, Cancels}
 use Rattle.std.specs.Sync.Mutex.{mutex_guard_value}
 use Rattle.bb8_lock.specs.declared.bell.Rings.{Rings}
-use Rattle.bb8_lock.specs.Bells.{get_bells, joined, section_bells, silent}
+use Rattle.bb8_lock.specs.Bells.{get_bells, joined, silent}
 use Rattle.bb8_lock.specs.Chains.{AddsOutside, Answers, CancelsAndLeaves, Joins, HandleLeaves, Returns, ReturnsAndLeaves, Shows, TakesNow, Waits}
 use Rattle.bb8_gets.specs.Steps.{StepsBy}
 use Rattle.bb8_lock.specs.declared.bell.Rests.{Ghosts as RestsOf}
-use Rattle.bb8_lock.specs.Sections.{SectionsBy}
+use Rattle.bb8_lock.specs.declared.handle.Handle.{Handle}
 
 module _ {T : Type 0} where
   -- a step starts at this: at what is held, or, where nothing is, at whatever stands behind the lock
@@ -58,14 +58,11 @@ module _ {G L M S Z K R C E N V A : Type 0} {m : ManagerOf M C E N V} {d : Debug
 
   -- The relations of the lock as a home. While it is held each step starts where the one before ended; once it was let go, the next one starts at
   -- whatever stands behind it. What a step answers follows from that very state, which keeps the limits.
-  abbrev pub gets : HomeOf Scope C (Part L)
+  abbrev pub gets : HomeOf Scope C (Part L) Handle
   gets = record {
     releases = λ x x'. Frees Rung x x';
-    steps = λ x at s x'. Leads (λ t t'. StepsBy (StepsIn l.settings) t.core at s t'.core) (λ _. get_bells s) x x';
+    steps = λ x at s x'. Leads (λ t t'. StepsBy l.settings t.core at s t'.core) (λ t'. get_bells (eqb t'.core.handles 0) s) x x';
   }
-
-  abbrev pub sections : SectionsOf Scope C (Part L)
-  sections = record { makes = λ x at s x'. Leads (λ t t'. SectionsBy l.settings t.core at s t'.core) (λ t'. section_bells (eqb t'.core.handles 0) s) x x' }
 
   -- the relations of the calls of its manager, error sink and clock
   abbrev pub calls : OutsideOf Scope C E V
@@ -97,36 +94,36 @@ module _ {G L M S Z K R C E N V A : Type 0} {m : ManagerOf M C E N V} {d : Debug
 
   -- A connection is taken at once, or none.
   abbrev pub OwnTakesNow : Result (Option (Taken C (Part L))) (RunError E) → Type 0
-  OwnTakesNow result = Own (λ x x'. TakesNow gets sections calls (settings_of shared.config).connection_timeout x result x')
+  OwnTakesNow result = Own (λ x x'. TakesNow gets calls (settings_of shared.config).connection_timeout x result x')
 
   -- A get is let go by the table; one that has a handle, and then the handle.
   abbrev pub OwnCancels : Stage C V (Part L) → Type 0
   OwnCancels stage = Own (Cancels gets calls stage)
 
   abbrev pub OwnCancelsAndLeaves : Stage C V (Part L) → Type 0
-  OwnCancelsAndLeaves stage = Own (CancelsAndLeaves gets sections calls stage)
+  OwnCancelsAndLeaves stage = Own (CancelsAndLeaves gets calls stage)
 
   -- A guard's connection comes back; where the guard has a handle, that leaves then.
   abbrev pub OwnReturns : Taken C (Part L) → Type 0
-  OwnReturns taken = Own (Returns gets sections calls taken)
+  OwnReturns taken = Own (Returns gets calls taken)
 
   abbrev pub OwnReturnsAndLeaves : Taken C (Part L) → Type 0
-  OwnReturnsAndLeaves taken = Own (ReturnsAndLeaves gets sections calls taken)
+  OwnReturnsAndLeaves taken = Own (ReturnsAndLeaves gets calls taken)
 
   -- one handle more is made or refused, and one leaves
-  abbrev pub OwnJoins : Joining → Type 0
-  OwnJoins answer = Own (λ x x'. Joins gets sections calls x answer x')
+  abbrev pub OwnJoins : Joining Handle → Type 0
+  OwnJoins answer = Own (λ x x'. Joins gets calls x answer x')
 
   abbrev pub OwnLeaves : Type 0
-  OwnLeaves = Own (HandleLeaves gets sections calls)
+  OwnLeaves = Own (HandleLeaves gets calls)
 
   -- a connection is added
   abbrev pub OwnAdds : C → Result (Unit {0}) (AddError C) → Type 0
-  OwnAdds conn result = Own (λ x x'. AddsOutside gets sections calls conn x result x')
+  OwnAdds conn result = Own (λ x x'. AddsOutside gets calls conn x result x')
 
   -- the pool tells of itself
   abbrev pub OwnShows : State → Type 0
-  OwnShows state = Own (λ x x'. Shows gets sections calls x state x')
+  OwnShows state = Own (λ x x'. Shows gets calls x state x')
 
 -- a guard is made of what was served, and an error is passed on
 abbrev pub MakesGuard : {A B E : Type 0} → (A → B → Type 0) → Result A E → Result B E → Type 0

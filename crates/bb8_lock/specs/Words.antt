@@ -12,8 +12,7 @@ pub use Rattle.bb8_gets.specs.declared.outside.Outside.{Ghosts as OutsideOf}
 pub use Rattle.bb8_gets.specs.declared.state.Settled.{Settled}
 pub use Rattle.bb8_gets.specs.declared.state.Stage.{Stage}
 pub use Rattle.bb8_gets.specs.Polls.{Asks, Cancels, Starts, GetPolls}
-pub use Rattle.bb8_lock.specs.declared.section_home.Joining.{Joining}
-pub use Rattle.bb8_lock.specs.declared.section_home.SectionHome.{Ghosts as SectionsOf}
+pub use Rattle.bb8_gets.specs.declared.home.Joining.{Joining}
 pub use Rattle.std.specs.declared.sync.MutexGuard.{MutexGuard}
 pub use Rattle.std.specs.declared.fmt.Debug.{Ghosts as DebugOf}
 pub use Rattle.bb8_types.specs.declared.api.managers.ManageConnection.{Ghosts as ManagerOf}

@@ -1,23 +1,22 @@
-//! What guards and handles do with a pool, over any home with sections and any calls outside.
+//! What guards and handles do with a pool, over any home and any calls outside.
 //!
 //! The home is released after each section, before anything else is called.
 ghost use Rattle.std.specs.Duration.{as_nanos};
 ghost use Rattle.bb8_lock.specs.Chains.{AddsOutside, AfterReturn, CancelsAndLeaves, IsTold, Joins, HandleLeaves, Returns, ReturnsAndLeaves, Shows, TakesNow, TriesOnce};
 
-use crate::section_home::{Handle, Joining, SectionHome};
 use bb8_core::api::{AddError, Moment, RunError, State};
 use bb8_core::internals::{AddAnswer, PutBackAnswer};
-use bb8_gets::{GetState, Outside, Taken, ask};
+use bb8_gets::{GetHome, GetState, Joining, Outside, Taken, ask};
 use futures::task::Poll;
 use std::time::Duration;
 
 /// A guard's connection comes back: it is asked whether it is broken, the clock is read, and the home takes it back and is released. What
 /// does not stay is dropped then.
-pub fn give_back<C, V, P, E, X: SectionHome<C, Part = P> + Outside<C, E, Checking = V>>(
+pub fn give_back<C, V, P, E, X: GetHome<C, Part = P> + Outside<C, E, Checking = V>>(
     pool: &mut X,
     taken: Taken<C, P>,
 )
-    ensures { Returns X.GetHome X.SectionHome.own X.Outside taken pool.old pool.new }
+    ensures { Returns X.GetHome X.Outside taken pool.old pool.new }
 {
     let returned = ask(pool, taken);
     let at = pool.now();
@@ -38,11 +37,11 @@ fn drop_closed<C, E, X: Outside<C, E>>(pool: &mut X, answer: Result<PutBackAnswe
 }
 
 /// A connection is added: it is asked whether it is broken, the clock is read, and the home takes or refuses it and is released.
-pub fn add<C, V, P, E, X: SectionHome<C, Part = P> + Outside<C, E, Checking = V>>(
+pub fn add<C, V, P, E, X: GetHome<C, Part = P> + Outside<C, E, Checking = V>>(
     pool: &mut X,
     mut conn: C,
 ) -> Result<(), AddError<C>>
-    ensures { AddsOutside X.GetHome X.SectionHome.own X.Outside conn pool.old result pool.new }
+    ensures { AddsOutside X.GetHome X.Outside conn pool.old result pool.new }
 {
     let broken = pool.has_broken(&mut conn);
     let at = pool.now();
@@ -64,10 +63,10 @@ fn told<C>(answer: Result<AddAnswer<C>, C>) -> Result<(), AddError<C>>
 }
 
 /// What the home tells of itself, at a reading of the clock.
-pub fn state<C, V, P, E, X: SectionHome<C, Part = P> + Outside<C, E, Checking = V>>(
+pub fn state<C, V, P, E, X: GetHome<C, Part = P> + Outside<C, E, Checking = V>>(
     pool: &mut X,
 ) -> State
-    ensures { Shows X.GetHome X.SectionHome.own X.Outside pool.old result pool.new }
+    ensures { Shows X.GetHome X.Outside pool.old result pool.new }
 {
     let at = pool.now();
     let state = pool.state(at);
@@ -77,11 +76,11 @@ pub fn state<C, V, P, E, X: SectionHome<C, Part = P> + Outside<C, E, Checking = 
 
 /// A connection at once, or none. Where the home has none idle no get begins; else one tries once under the same taking, and is let go where
 /// that did not answer it.
-pub fn take_now<C, V, P, E, X: SectionHome<C, Part = P> + Outside<C, E, Checking = V>>(
+pub fn take_now<C, V, P, E, X: GetHome<C, Part = P> + Outside<C, E, Checking = V>>(
     pool: &mut X,
     timeout: Duration,
 ) -> Result<Option<Taken<C, P>>, RunError<E>>
-    ensures { TakesNow X.GetHome X.SectionHome.own X.Outside (as_nanos timeout) pool.old result
+    ensures { TakesNow X.GetHome X.Outside (as_nanos timeout) pool.old result
         pool.new }
 {
     let at = pool.now();
@@ -95,12 +94,12 @@ pub fn take_now<C, V, P, E, X: SectionHome<C, Part = P> + Outside<C, E, Checking
 }
 
 /// A get begins and tries at a moment, and is let go where that did not answer it.
-fn try_once<C, V, P, E, X: SectionHome<C, Part = P> + Outside<C, E, Checking = V>>(
+fn try_once<C, V, P, E, X: GetHome<C, Part = P> + Outside<C, E, Checking = V>>(
     pool: &mut X,
     moment: Moment,
     timeout: Duration,
 ) -> Result<Option<Taken<C, P>>, RunError<E>>
-    ensures { TriesOnce X.GetHome X.SectionHome.own X.Outside moment (as_nanos timeout)
+    ensures { TriesOnce X.GetHome X.Outside moment (as_nanos timeout)
         pool.old result pool.new }
 {
     let mut get = GetState::new();
@@ -115,10 +114,10 @@ fn try_once<C, V, P, E, X: SectionHome<C, Part = P> + Outside<C, E, Checking = V
 }
 
 /// One handle more is counted, or refused, at a reading of the clock.
-pub fn join<C, V, P, E, X: SectionHome<C, Part = P> + Outside<C, E, Checking = V>>(
+pub fn join<C, V, P, E, X: GetHome<C, Part = P> + Outside<C, E, Checking = V>>(
     pool: &mut X,
-) -> Joining
-    ensures { Joins X.GetHome X.SectionHome.own X.Outside pool.old result pool.new }
+) -> Joining<X::Handle>
+    ensures { Joins X.GetHome X.Outside pool.old result pool.new }
 {
     let at = pool.now();
     let answer = pool.join(at);
@@ -127,11 +126,11 @@ pub fn join<C, V, P, E, X: SectionHome<C, Part = P> + Outside<C, E, Checking = V
 }
 
 /// A handle leaves, at a reading of the clock. What the last one closes is dropped before the home is released.
-pub fn leave<C, V, P, E, X: SectionHome<C, Part = P> + Outside<C, E, Checking = V>>(
+pub fn leave<C, V, P, E, X: GetHome<C, Part = P> + Outside<C, E, Checking = V>>(
     pool: &mut X,
-    handle: Handle,
+    handle: X::Handle,
 )
-    ensures { HandleLeaves X.GetHome X.SectionHome.own X.Outside pool.old pool.new }
+    ensures { HandleLeaves X.GetHome X.Outside pool.old pool.new }
 {
     let at = pool.now();
     let _ = pool.leave(at, handle);
@@ -139,24 +138,24 @@ pub fn leave<C, V, P, E, X: SectionHome<C, Part = P> + Outside<C, E, Checking = 
 }
 
 /// The connection of a guard that has a handle comes back, and then the handle leaves.
-pub fn give_back_and_leave<C, V, P, E, X: SectionHome<C, Part = P> + Outside<C, E, Checking = V>>(
+pub fn give_back_and_leave<C, V, P, E, X: GetHome<C, Part = P> + Outside<C, E, Checking = V>>(
     pool: &mut X,
     taken: Taken<C, P>,
-    handle: Handle,
+    handle: X::Handle,
 )
-    ensures { ReturnsAndLeaves X.GetHome X.SectionHome.own X.Outside taken pool.old pool.new }
+    ensures { ReturnsAndLeaves X.GetHome X.Outside taken pool.old pool.new }
 {
     give_back(pool, taken);
     leave(pool, handle);
 }
 
 /// A get that has a handle is let go, the home is released, and then the handle leaves.
-pub fn cancel_and_leave<C, V, P, E, X: SectionHome<C, Part = P> + Outside<C, E, Checking = V>>(
+pub fn cancel_and_leave<C, V, P, E, X: GetHome<C, Part = P> + Outside<C, E, Checking = V>>(
     pool: &mut X,
     get: GetState<C, V, P>,
-    handle: Handle,
+    handle: X::Handle,
 )
-    ensures { CancelsAndLeaves X.GetHome X.SectionHome.own X.Outside get.stage pool.old pool.new }
+    ensures { CancelsAndLeaves X.GetHome X.Outside get.stage pool.old pool.new }
 {
     get.cancel_step(pool);
     pool.release();

@@ -1,19 +1,23 @@
-//! What a pool's lock holds as a home of gets.
-ghost use Rattle.std.specs.Prelude.{◌≡◌, ◌+◌, ◌≤◌, Some};
+//! What a pool's lock holds as a home of gets, guards and handles: what is done to it under one taking of the lock.
+//!
+//! A section is lent the state, and asks for one step. No manager, customizer, sink or clock is called here.
+ghost use Rattle.std.specs.Prelude.{◌≡◌, ◌+◌, ◌≤◌, IfOk, Some};
 ghost use Rattle.bb8_ledger.specs.Acts as acts;
 ghost use Rattle.bb8_core.specs.Unfit.{OrComesBack, Stepped};
-ghost use Rattle.bb8_core.specs.StepAnswers.{answer_of_checked_err, answer_of_give_up, reason_of, GivesBackHeld, GivesBackInvalid};
+ghost use Rattle.bb8_core.specs.StepAnswers.{answer_of_add, answer_of_checked_err, answer_of_give_up, answer_of_put_back, reason_of, GivesBack, GivesBackHeld, GivesBackInvalid, Refuses};
 ghost use Rattle.bb8_gets.specs.Homes.{StepsIn};
-ghost use Rattle.bb8_gets.specs.Steps.{StepsBy, Starts};
+ghost use Rattle.bb8_gets.specs.Steps.{IsSorted, StartsBy, StepsBy};
 ghost use Rattle.bb8_gets.specs.Told.{in_core};
 ghost use Rattle.bb8_lock.specs.Parts.{goes_out};
 
+use crate::handle::Handle;
 use crate::locked::{Locked, Part, Parts};
-use bb8_core::api::Moment;
+use bb8_core::api::{Moment, State};
 use bb8_core::internals::{
-    AtOnce, CheckedErrAnswer, GetKey, GiveUpAnswer, Key, Looked, Reason, Started, TryAnswer, Unfit,
+    AddAnswer, AtOnce, CheckedErrAnswer, GetKey, GiveUpAnswer, JoinAnswer, Key, LeaveAnswer,
+    Looked, PutBackAnswer, Reason, Started, TryAnswer, Unfit,
 };
-use bb8_gets::{FirstTry, GetHome, Passed, Returned, Taken, Tried};
+use bb8_gets::{FirstTry, GetHome, Joining, Passed, Returned, Taken, Tried};
 use std::sync::ledger::Share;
 
 /// A try's answer, where one of the parts goes with a connection.
@@ -52,7 +56,7 @@ impl<C: Drop, L: Parts> Locked<C, L> {
     /// Begins a get that is not served at once, and lets it try.
     #[inline(never)]
     fn start_on(&mut self, at: Moment) -> Result<FirstTry<C, Part<L>>, Unfit>
-        ensures { StepsBy (StepsIn L.settings) self.old.core at (Starts result) self.new.core }
+        ensures { StartsBy (StepsIn L.settings) self.old.core at.0 result self.new.core }
     {
         let Locked { core, rest, .. } = self;
         match core.start(at) {
@@ -68,9 +72,11 @@ impl<C: Drop, L: Parts> Locked<C, L> {
 impl<C: Drop, L: Parts> GetHome<C> for Locked<C, L> {
     type Part = Part<L>;
 
+    type Handle = Handle;
+
     ghost releases = { λ h h'. h' ≡ h };
 
-    ghost steps = { λ h at s h'. StepsBy (StepsIn L.settings) h.core at s h'.core };
+    ghost steps = { λ h at s h'. StepsBy L.settings h.core at s h'.core };
 
     /// Whoever has the lock lets go of it.
     fn release(&mut self) {}
@@ -190,5 +196,55 @@ impl<C: Drop, L: Parts> GetHome<C> for Locked<C, L> {
         let answer = core.give_back(at, get, reason, connection, broken, key.place);
         part.settle(rest, &answer);
         answer
+    }
+
+    #[inline(always)]
+    fn put_back(&mut self, at: Moment, back: Returned<C, Part<L>>) -> Result<PutBackAnswer<C>, C>
+        ensures step { Stepped (StepsIn L.settings) (answer_of_put_back back.taken.key.number)
+            self.old.core at.0
+            (acts.PutBack back.taken.key.number back.taken.connection back.broken)
+            result self.new.core }
+        ensures connection { OrComesBack GivesBack back.taken.connection result }
+    {
+        let Locked { core, rest, .. } = self;
+        let Returned { taken, broken } = back;
+        let Taken {
+            key,
+            connection,
+            part,
+        } = taken;
+        let answer = core.put_back(at, key, connection, broken);
+        part.settle(rest, &answer);
+        answer
+    }
+
+    fn add(&mut self, at: Moment, conn: C, broken: bool) -> Result<AddAnswer<C>, C>
+        ensures step { Stepped (StepsIn L.settings) answer_of_add self.old.core at.0
+            (acts.Add conn broken) result self.new.core }
+        ensures connection { OrComesBack Refuses conn result }
+        ensures sorted { IfOk result (IsSorted broken) }
+    {
+        let Locked { core, .. } = self;
+        core.add(at, conn, broken)
+    }
+
+    fn state(&mut self, at: Moment) -> State {
+        let Locked { core, .. } = self;
+        core.state(at)
+    }
+
+    fn join(&mut self, at: Moment) -> Joining<Handle> {
+        let Locked { core, .. } = self;
+        match core.join(at) {
+            Ok(JoinAnswer::Joined) => Joining::Joined(Handle { _alive: () }),
+            Ok(JoinAnswer::Exhausted) => Joining::Exhausted,
+            Err(Unfit) => Joining::Unfit,
+        }
+    }
+
+    fn leave(&mut self, at: Moment, handle: Handle) -> Result<LeaveAnswer, Unfit> {
+        let Locked { core, .. } = self;
+        let Handle { _alive: () } = handle;
+        core.leave(at)
     }
 }

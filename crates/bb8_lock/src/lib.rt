@@ -7,13 +7,13 @@ mod bell;
 mod calls;
 mod gathered;
 mod given;
+mod handle;
 mod home;
 mod locked;
 mod locks;
 mod opens;
 mod outside;
 mod scope;
-mod section_home;
 mod shared;
 mod waits;
 
@@ -23,9 +23,9 @@ pub use calls::{
 };
 pub use gathered::Gathered;
 pub use given::{Given, These};
+pub use handle::Handle;
 pub use locked::{Locked, NewPool, Part, Parts, PoolParts, begin_pool};
 pub use locks::Locks;
 pub use scope::{LockScope, OpensScope};
-pub use section_home::{Handle, Joining, SectionHome};
 pub use shared::Shared;
 pub use waits::wait;

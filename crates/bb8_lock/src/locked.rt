@@ -1,18 +1,12 @@
-//! What the lock of a pool holds, and the sections: what is done to it under one taking of the lock.
-//!
-//! A section is lent the state, and asks for one step. No manager, customizer, sink or clock is called here.
+//! What the lock of a pool holds.
 ghost use Rattle.std.specs.Prelude.{◌≡◌, ◌+◌, ◌^◌, ◌<◌, ◌≤◌, eqb, true, IfOk};
-ghost use Rattle.bb8_ledger.specs.Acts as acts;
 ghost use Rattle.bb8_types.specs.Settings.{Settings, default_settings, is_lawful, settings_of};
 ghost use Rattle.bb8_lock.specs.Parts.{parts_back, PoolBegins, IsBlankOf};
 ghost use Rattle.bb8_core.specs.Parts.{out_of};
 
-use crate::section_home::{Ends, Handle, Joining, SectionHome};
-use bb8_core::api::{Config, Memory, Moment, State};
-use bb8_core::internals::{
-    AddAnswer, Grant, JoinAnswer, LeaveAnswer, PoolInternals, PutBackAnswer, Unfit,
-};
-use bb8_gets::{Returned, Taken};
+use crate::handle::{Ends, Handle};
+use bb8_core::api::{Config, Memory, Moment};
+use bb8_core::internals::{Grant, PoolInternals};
 use std::alloc::Global;
 use std::marker::Brand;
 use std::sync::ledger::{Blank, Ledger, Share, Total};
@@ -136,66 +130,6 @@ pub fn begin_pool<C: Drop, L: Parts>(
         handle: Handle { _alive: () },
         grant,
     })
-}
-
-/// Each section is one step, from the state that stands there to the next one.
-impl<C: Drop, L: Parts> SectionHome<C> for Locked<C, L> {
-    ghost use Rattle.bb8_core.specs.Unfit.{OrComesBack, Stepped};
-    ghost use Rattle.bb8_core.specs.StepAnswers.{answer_of_add, answer_of_put_back, GivesBack, Refuses};
-    ghost use Rattle.bb8_gets.specs.Homes.{StepsIn};
-    ghost use Rattle.bb8_lock.specs.Sections.{IsSorted, SectionsBy};
-
-    ghost makes = { λ h at s h'. SectionsBy L.settings h.core at s h'.core };
-
-    #[inline(always)]
-    fn put_back(&mut self, at: Moment, back: Returned<C, Part<L>>) -> Result<PutBackAnswer<C>, C>
-        ensures step { Stepped (StepsIn L.settings) (answer_of_put_back back.taken.key.number)
-            self.old.core at.0
-            (acts.PutBack back.taken.key.number back.taken.connection back.broken)
-            result self.new.core }
-        ensures connection { OrComesBack GivesBack back.taken.connection result }
-    {
-        let Locked { core, rest, .. } = self;
-        let Returned { taken, broken } = back;
-        let Taken {
-            key,
-            connection,
-            part,
-        } = taken;
-        let answer = core.put_back(at, key, connection, broken);
-        part.settle(rest, &answer);
-        answer
-    }
-
-    fn add(&mut self, at: Moment, conn: C, broken: bool) -> Result<AddAnswer<C>, C>
-        ensures step { Stepped (StepsIn L.settings) answer_of_add self.old.core at.0
-            (acts.Add conn broken) result self.new.core }
-        ensures connection { OrComesBack Refuses conn result }
-        ensures sorted { IfOk result (IsSorted broken) }
-    {
-        let Locked { core, .. } = self;
-        core.add(at, conn, broken)
-    }
-
-    fn state(&mut self, at: Moment) -> State {
-        let Locked { core, .. } = self;
-        core.state(at)
-    }
-
-    fn join(&mut self, at: Moment) -> Joining {
-        let Locked { core, .. } = self;
-        match core.join(at) {
-            Ok(JoinAnswer::Joined) => Joining::Joined(Handle { _alive: () }),
-            Ok(JoinAnswer::Exhausted) => Joining::Exhausted,
-            Err(Unfit) => Joining::Unfit,
-        }
-    }
-
-    fn leave(&mut self, at: Moment, handle: Handle) -> Result<LeaveAnswer, Unfit> {
-        let Locked { core, .. } = self;
-        let Handle { _alive: () } = handle;
-        core.leave(at)
-    }
 }
 
 impl<C: Drop, L: Parts> Ends for Locked<C, L> {

@@ -1,21 +1,20 @@
-//! A pool's lock as a home of gets, of sections, and of the tasks that open connections, of the driver and of the reaper.
+//! A pool's lock as a home of gets, guards and handles, and of the tasks that open connections, of the driver and of the reaper.
 ghost use Rattle.std.specs.Prelude.{◌≡◌, None, ⊤};
-ghost use Rattle.bb8_gets.specs.Steps.{Fails, GivesBack};
-ghost use Rattle.bb8_lock.specs.Bells.{get_bells, section_bells};
+ghost use Rattle.bb8_gets.specs.Steps.{Fails, GivesBack, PutsBack};
+ghost use Rattle.bb8_lock.specs.Bells.{get_bells};
 ghost use Rattle.bb8_lock.specs.Scope.{IsScopeOf, Leads, Frees, StartsAt};
-ghost use Rattle.bb8_lock.specs.SectionSteps.{PutsBack};
 ghost use Rattle.std.specs.Sync.Mutex.{mutex_guard_value};
 
 use crate::bell::{Locking, Rings};
+use crate::handle::Ends;
 use crate::locks::Locks;
-use crate::section_home::Ends;
-use crate::{Given, Handle, Joining, Locked, Parts, SectionHome, Shared};
+use crate::{Given, Locked, Parts, Shared};
 use bb8_core::api::{Moment, State};
 use bb8_core::internals::{
     AddAnswer, CheckedErrAnswer, ClaimAnswer, FailedAnswer, GetKey, GiveUpAnswer, Key, LeaveAnswer,
     Looked, OpenedAnswer, PutBackAnswer, ReapAnswer, Reason, Unfit,
 };
-use bb8_gets::{FirstTry, GetHome, LetGo, Passed, Returned, Taken, Tried};
+use bb8_gets::{FirstTry, GetHome, Joining, LetGo, Passed, Returned, Taken, Tried};
 use bb8_tasks::Home;
 use std::sync::MutexGuard;
 
@@ -110,12 +109,14 @@ impl<'a, S: Locking<T>, T> Hold for LockScope<'a, S, T> {
     }
 }
 
-impl<C, S: Locking<T>, T: GetHome<C>> GetHome<C> for LockScope<'_, S, T> {
+impl<C, S: Locking<T>, T: GetHome<C> + Ends> GetHome<C> for LockScope<'_, S, T> {
     type Part = T::Part;
+
+    type Handle = T::Handle;
 
     ghost releases = { λ x x'. Frees S.rung x x' };
 
-    ghost steps = { λ x at s x'. Leads (λ t t'. T.steps t at s t') (λ _. get_bells s) x x' };
+    ghost steps = { λ x at s x'. Leads (λ t t'. T.steps t at s t') (λ t'. get_bells (T.over t') s) x x' };
 
     #[inline(always)]
     fn release(&mut self) {
@@ -175,7 +176,8 @@ impl<C, S: Locking<T>, T: GetHome<C>> GetHome<C> for LockScope<'_, S, T> {
         returned: Returned<C, T::Part>,
     ) -> Result<CheckedErrAnswer<C>, C>
         ensures { Leads (λ t t'. T.steps t at (Fails get returned result) t')
-            (λ _. get_bells (Fails get returned result)) self.old self.new }
+            (λ t'. get_bells {H = T.Handle} (T.over t') (Fails get returned result))
+            self.old self.new }
     {
         let mut guard = self.hold();
         let answer = guard.checked_err(at, get, returned);
@@ -207,7 +209,8 @@ impl<C, S: Locking<T>, T: GetHome<C>> GetHome<C> for LockScope<'_, S, T> {
         returned: Returned<C, T::Part>,
     ) -> Result<GiveUpAnswer<C>, C>
         ensures { Leads (λ t t'. T.steps t at (GivesBack get reason returned result) t')
-            (λ _. get_bells (GivesBack get reason returned result)) self.old self.new }
+            (λ t'. get_bells {H = T.Handle} (T.over t') (GivesBack get reason returned result))
+            self.old self.new }
     {
         let mut guard = self.hold();
         let answer = guard.give_back(at, get, reason, returned);
@@ -215,10 +218,6 @@ impl<C, S: Locking<T>, T: GetHome<C>> GetHome<C> for LockScope<'_, S, T> {
         self.rings.note_give_up(&answer);
         answer
     }
-}
-
-impl<C, S: Locking<T>, T: SectionHome<C> + Ends> SectionHome<C> for LockScope<'_, S, T> {
-    ghost makes = { λ x at s x'. Leads (λ t t'. T.makes t at s t') (λ t'. section_bells (T.over t') s) x x' };
 
     #[inline(always)]
     fn put_back(
@@ -226,8 +225,9 @@ impl<C, S: Locking<T>, T: SectionHome<C> + Ends> SectionHome<C> for LockScope<'_
         at: Moment,
         returned: Returned<C, T::Part>,
     ) -> Result<PutBackAnswer<C>, C>
-        ensures { Leads (λ t t'. T.makes t at (PutsBack returned result) t')
-            (λ t'. section_bells (T.over t') (PutsBack returned result)) self.old self.new }
+        ensures { Leads (λ t t'. T.steps t at (PutsBack returned result) t')
+            (λ t'. get_bells {H = T.Handle} (T.over t') (PutsBack returned result))
+            self.old self.new }
     {
         let mut guard = self.hold();
         let answer = guard.put_back(at, returned);
@@ -257,14 +257,14 @@ impl<C, S: Locking<T>, T: SectionHome<C> + Ends> SectionHome<C> for LockScope<'_
         state
     }
 
-    fn join(&mut self, at: Moment) -> Joining {
+    fn join(&mut self, at: Moment) -> Joining<T::Handle> {
         let mut guard = self.hold();
         let answer = guard.join(at);
         self.held = Some(guard);
         answer
     }
 
-    fn leave(&mut self, at: Moment, handle: Handle) -> Result<LeaveAnswer, Unfit> {
+    fn leave(&mut self, at: Moment, handle: T::Handle) -> Result<LeaveAnswer, Unfit> {
         let mut guard = self.hold();
         let answer = guard.leave(at, handle);
         self.rings.drivers = guard.is_over() | self.rings.drivers;

@@ -1,7 +1,7 @@
 use Rattle.bb8_lock.proofs.Words.{arith, answer_of_put_back}
 use Rattle.bb8_ledger.specs.Acts as acts
 use Rattle.bb8_lock.proofs.Sections.{put_it_back, taken_in}
-use Rattle.bb8_lock.proofs.locked.LockedSectionHome.put_back.Goals as goal
+use Rattle.bb8_lock.proofs.home.LockedGetHome.put_back.Goals as goal
 
 pub invariant_of-self : goal.invariant_of-self
 invariant_of-self g c =

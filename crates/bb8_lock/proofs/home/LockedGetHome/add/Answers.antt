@@ -1,6 +1,6 @@
 use Rattle.bb8_ledger.specs.Acts as acts
 use Rattle.bb8_lock.proofs.Sections.{all_kept, add_sorted}
-use Rattle.bb8_lock.proofs.locked.LockedSectionHome.add.Goals as goal
+use Rattle.bb8_lock.proofs.home.LockedGetHome.add.Goals as goal
 
 pub invariant_of-self : goal.invariant_of-self
 invariant_of-self g c =

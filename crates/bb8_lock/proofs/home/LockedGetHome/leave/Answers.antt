@@ -1,6 +1,6 @@
 use Rattle.bb8_ledger.specs.Acts as acts
 use Rattle.bb8_lock.proofs.Sections.{all_kept}
-use Rattle.bb8_lock.proofs.locked.LockedSectionHome.leave.Goals as goal
+use Rattle.bb8_lock.proofs.home.LockedGetHome.leave.Goals as goal
 
 pub invariant_of-self : goal.invariant_of-self
 invariant_of-self g c =
