@@ -1,5 +1,4 @@
 //! The handles of a pool: how one more is made, and how one leaves.
-ghost use Rattle.std.specs.Prelude.{◌≡◌};
 ghost use Rattle.std.specs.Arc.{arc_value};
 
 use crate::pool::Pool;

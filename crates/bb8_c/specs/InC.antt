@@ -1,5 +1,5 @@
 -- What the steps tell, as it crosses to C.
-use Rattle.std.specs.Prelude.{ℕ, ◌/◌, min, true, false, Option, Some, None, Result, Ok, Err}
+use Rattle.std.specs.Prelude.{ℕ, ◌/◌, min, Option, Some, None, Result, Ok, Err}
 use Rattle.bb8_c.specs.Words.{as_nanos, State, Grant, Closed, BeginAnswer, TryAnswer, PutBackAnswer, AtOnce, CheckedOkAnswer, CheckedErrAnswer, GiveUpAnswer, ClaimAnswer, OpenedAnswer, FailedAnswer, AddAnswer, ReapAnswer, JoinAnswer, Look, Left, Started, Unfit, Name, Told, Handed, Figures, LookAnswer}
 use Rattle.bb8_types.specs.Bounds.{most_micros}
 use Rattle.bb8_tables.specs.declared.keys.Key.{Key}

@@ -10,7 +10,6 @@ use Rattle.bb8_types.specs.declared.standing.Getting.{Getting}
 use Rattle.bb8_types.specs.declared.grants.Grant.{Grant}
 use Rattle.bb8_types.specs.Numbered.{one}
 use Rattle.bb8_types.specs.Places.{get_with_place, get_in_wait, gets_stand, is_notified, is_expired, birth_in}
-use Rattle.bb8_types.specs.Settings.{Settings}
 use Rattle.bb8_tables.specs.Views.{RecordsView, GetsView}
 use Rattle.bb8_types.specs.Grants.{IsGranted}
 

@@ -2,7 +2,6 @@
 ghost use Rattle.std.specs.Prelude.{◌≡◌, ℕ, true, false, cond, ◌<◌, ◌≤◌, ◌+◌, IsSome, is_some, IfSome, IfNone, IfOk, IfErr, OnOk, OnErr, max, min, Some, None, slice_get, slice_set, length, [], ◌∷◌, ◌++◌, ◌||◌, ltb};
 ghost use Rattle.std.specs.FinMap as map;
 ghost use Rattle.bb8_types.specs.Places as places;
-ghost use Rattle.bb8_types.specs.Settings.{settings_of};
 ghost use Rattle.bb8_tables.specs.Machine as machine;
 ghost use Rattle.bb8_types.specs.Numbered as numbered;
 ghost use Rattle.bb8_tables.specs.Views.{no_records, NoneAfter};
@@ -22,7 +21,7 @@ use crate::closed::{Closed, ClosedList};
 use crate::keys::Key;
 use crate::ring::Ring;
 use crate::table::{Lendings, Slot, Table, UncountedAccess};
-use bb8_types::api::{Config, QueueStrategy};
+use bb8_types::api::QueueStrategy;
 use bb8_types::bounds::END_OF_NUMBERS;
 use bb8_types::grants::Grant;
 use bb8_types::standing::{Holder, Place, Standing};

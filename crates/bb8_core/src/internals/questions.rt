@@ -1,13 +1,13 @@
 //! The questions that a state answers: whether an event fits, and where a number stands. Those that look at an entry count in a count of their
 //! own, which is forgotten.
-ghost use Rattle.std.specs.Prelude.{◌≡◌, ◌+◌, ◌≤◌, min, Bool, cond, eqb, [], length, is_some, IfSome, IfNone, true, false};
+ghost use Rattle.std.specs.Prelude.{◌≡◌, ◌+◌, ◌≤◌, min, Bool, cond, eqb, [], length, is_some, IfSome, IfNone, true};
 ghost use Rattle.bb8_ledger.specs.Acts as acts;
 ghost use Rattle.bb8_ledger.specs.Ledger as ledger;
 ghost use Rattle.bb8_types.specs.Bounds.{end_of_numbers};
 ghost use Rattle.bb8_types.specs.Places as places;
 ghost use Rattle.bb8_types.specs.Settings.{is_lawful};
 ghost use Rattle.bb8_core.specs.Endings.{endings_of};
-ghost use Rattle.bb8_core.specs.StateView.{Represents, examined, searched, IsFitting, IsWithinLimits, TellsFitting, TellsRecord, TellsGet, IsRecordIn, IsNoRecordIn, IsGetIn, IsNoGetIn};
+ghost use Rattle.bb8_core.specs.StateView.{Represents, examined, searched, IsWithinLimits, TellsFitting, TellsRecord, TellsGet, IsRecordIn, IsNoRecordIn, IsGetIn, IsNoGetIn};
 
 use super::{GetKey, Key, PoolInternals};
 use bb8_tables::gets::{held, is_trying};

@@ -45,7 +45,7 @@ enum Age {
 
 /// Whether a limit is reached, where it is set.
 #[inline]
-pub(super) fn is_past(limit: Option<Duration>, span: u64) -> bool
+fn is_past(limit: Option<Duration>, span: u64) -> bool
     ensures { result ≡ places.is_past (option_map as_nanos limit) span }
 {
     match limit {

@@ -25,8 +25,11 @@ returns-in-Ok-Ok-clause-step g c =
     )
 
 pub invariant_of-self-in-Ok-Ok : goal.invariant_of-self-in-Ok-Ok
-invariant_of-self-in-Ok-Ok g c = (led _ c.args.at.0 (acts.PutBack c.args.k.number c.args.conn c.args.broken) _ c.self.view_is c.self.invariant.0
-    (returns-in-Ok-Ok-clause-step g c).0, c.self.invariant.1)
+invariant_of-self-in-Ok-Ok g c = (
+  led _ c.args.at.0 (acts.PutBack c.args.k.number c.args.conn c.args.broken) _ c.self.view_is c.self.invariant.0
+      (returns-in-Ok-Ok-clause-step g c).0,
+  c.self.invariant.1,
+)
 
 pub close_and_grant-grant-requires-clause-out : goal.close_and_grant-grant-requires-clause-out
 close_and_grant-grant-requires-clause-out g c = let err = rw c.in-Ok-Err.field-0-is at c.in-Ok-Err.ensures.err in rw err.3 (guarded_record (view_of c.self.inside) c.args.k.number c.in-Ok-Err.ensures.held)
@@ -52,5 +55,8 @@ returns-in-Ok-Err-clause-step g c =
     )
 
 pub invariant_of-self-in-Ok-Err : goal.invariant_of-self-in-Ok-Err
-invariant_of-self-in-Ok-Err g c = (led _ c.args.at.0 (acts.PutBack c.args.k.number c.args.conn c.args.broken) _ c.self.view_is c.self.invariant.0
-    (returns-in-Ok-Err-clause-step g c).0, c.self.invariant.1)
+invariant_of-self-in-Ok-Err g c = (
+  led _ c.args.at.0 (acts.PutBack c.args.k.number c.args.conn c.args.broken) _ c.self.view_is c.self.invariant.0
+      (returns-in-Ok-Err-clause-step g c).0,
+  c.self.invariant.1,
+)

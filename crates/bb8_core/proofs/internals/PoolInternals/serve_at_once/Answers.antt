@@ -1,7 +1,7 @@
-use Rattle.bb8_core.proofs.Words.{◌≡◌, ap, refl, ◌∙◌, arith, false, Idle, view_of, StateView}
+use Rattle.bb8_core.proofs.Words.{refl, ◌∙◌, arith, false, Idle, view_of}
 use Rattle.bb8_ledger.specs.Acts as acts
 use Rattle.bb8_core.proofs.Fitting.{shown_record, shown_fits, due_fits, fit_idle, fit_leave}
-use Rattle.bb8_core.proofs.Steps.{grants, led, at_view, fits_view}
+use Rattle.bb8_core.proofs.Steps.{grants, led, at_view}
 use Rattle.bb8_core.proofs.AtOnce.{between, meets_begun_between, meets_served_between}
 use Rattle.bb8_core.proofs.internals.PoolInternals.serve_at_once.Goals as goal
 
@@ -15,8 +15,11 @@ serve-requires g c =
     record { direct = omega (arith, fit, few); waited = omega (arith, fit, few) }
 
 pub grant-grant-requires : goal.grant-grant-requires
-grant-grant-requires g c = omega (arith, due_fits (view_of c.self.inside) _ c.self.invariant.0 (omega arith) c.in-Some.ensures.some.2 refl
-    (c.lacking-wanted.ensures c.self.inside.handles (fit_leave refl c.self.invariant.0 (fit_idle (view_of c.self.inside) (omega (arith, c.if-idle_connections-eq0.false, c.idle_connections.ensures))))))
+grant-grant-requires g c = omega (
+  arith,
+  due_fits (view_of c.self.inside) _ c.self.invariant.0 (omega arith) c.in-Some.ensures.some.2 refl
+      (c.lacking-wanted.ensures c.self.inside.handles (fit_leave refl c.self.invariant.0 (fit_idle (view_of c.self.inside) (omega (arith, c.if-idle_connections-eq0.false, c.idle_connections.ensures))))),
+)
 
 pub returns-in-Some-clause-some : goal.returns-in-Some-clause-some
 returns-in-Some-clause-some g c =
@@ -35,7 +38,9 @@ returns-in-Some-clause-some g c =
     )
 
 pub invariant_of-self-in-Some : goal.invariant_of-self-in-Some
-invariant_of-self-in-Some g c =
-    (let both = returns-in-Some-clause-some g c in
-    let began = led both.0 c.args.at.0 acts.Begin _ c.self.view_is c.self.invariant.0 both.1 in
-    led _ c.args.at.0 (acts.Try c.begin_and_end-get.result) _ refl began both.2, c.self.invariant.1)
+invariant_of-self-in-Some g c = (
+  let both = returns-in-Some-clause-some g c in
+      let began = led both.0 c.args.at.0 acts.Begin _ c.self.view_is c.self.invariant.0 both.1 in
+      led _ c.args.at.0 (acts.Try c.begin_and_end-get.result) _ refl began both.2,
+  c.self.invariant.1,
+)

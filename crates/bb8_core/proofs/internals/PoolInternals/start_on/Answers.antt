@@ -47,10 +47,12 @@ returns-in-None-clause-step g c =
     )
 
 pub invariant_of-self-in-None : goal.invariant_of-self-in-None
-invariant_of-self-in-None g c =
-    (let both = returns-in-None-clause-step g c in
-    let began = led both.0 c.args.at.0 acts.Begin _ c.self.view_is c.self.invariant.0 both.1 in
-    led _ c.args.at.0 (acts.Try c.bear_waiting-get.result.number) _ refl began both.2, c.self.invariant.1)
+invariant_of-self-in-None g c = (
+  let both = returns-in-None-clause-step g c in
+      let began = led both.0 c.args.at.0 acts.Begin _ c.self.view_is c.self.invariant.0 both.1 in
+      led _ c.args.at.0 (acts.Try c.bear_waiting-get.result.number) _ refl began both.2,
+  c.self.invariant.1,
+)
 
 pub grant-grant-requires-in-Some : goal.grant-grant-requires-in-Some
 grant-grant-requires-in-Some g c = omega (arith, due_fits (view_of c.self.inside) _ c.self.invariant.0 (omega arith) c.in-Some.ensures.some.2 refl (c.lacking-wanted.ensures c.self.inside.handles (fit_leave c.self.view_is c.self.invariant.0 c.requires)))
@@ -75,10 +77,12 @@ returns-then-self-clause-step g c =
     )
 
 pub invariant_of-self-then-self : goal.invariant_of-self-then-self
-invariant_of-self-then-self g c =
-    (let both = returns-then-self-clause-step g c in
-    let began = led both.0 c.args.at.0 acts.Begin _ c.self.view_is c.self.invariant.0 both.1 in
-    led _ c.args.at.0 (acts.Try c.bear_holding-get.result.number) _ refl began both.2, c.self.invariant.1)
+invariant_of-self-then-self g c = (
+  let both = returns-then-self-clause-step g c in
+      let began = led both.0 c.args.at.0 acts.Begin _ c.self.view_is c.self.invariant.0 both.1 in
+      led _ c.args.at.0 (acts.Try c.bear_holding-get.result.number) _ refl began both.2,
+  c.self.invariant.1,
+)
 
 pub serve-requires : goal.serve-requires
 serve-requires g c =
@@ -105,7 +109,9 @@ returns-else-self-clause-step g c =
     )
 
 pub invariant_of-self-in-Some : goal.invariant_of-self-in-Some
-invariant_of-self-in-Some g c =
-    (let both = returns-else-self-clause-step g c in
-    let began = led both.0 c.args.at.0 acts.Begin _ c.self.view_is c.self.invariant.0 both.1 in
-    led _ c.args.at.0 (acts.Try c.next_number.result) _ refl began both.2, c.self.invariant.1)
+invariant_of-self-in-Some g c = (
+  let both = returns-else-self-clause-step g c in
+      let began = led both.0 c.args.at.0 acts.Begin _ c.self.view_is c.self.invariant.0 both.1 in
+      led _ c.args.at.0 (acts.Try c.next_number.result) _ refl began both.2,
+  c.self.invariant.1,
+)
