@@ -109,7 +109,7 @@ fn tells_a_bad_line(rt: HostRuntime) -> Result<(), Fail> {
     let written = script_run(rt.alloc(), b"", &mut out) as usize;
     assert_eq!(rt; &out[..written], BAD_LINE);
     // 8 bytes for "line 1: ", 19 for what is wrong, and the end of the line: they fit into 28, and not into 27.
-    assert_eq!(rt; script_run(rt.alloc(), b"", &mut out[..28]), 28);
-    assert_eq!(rt; script_run(rt.alloc(), b"", &mut out[..27]), 0);
+    assert_eq!(rt; script_run(rt.alloc(), b"", &mut [7; 28]), 28);
+    assert_eq!(rt; script_run(rt.alloc(), b"", &mut [7; 27]), 0);
     Ok(())
 }
