@@ -6,6 +6,7 @@ use Rattle.bb8_types.specs.declared.api.errors.RunError.TheVariants as errors
 use Rattle.bb8_gets.specs.declared.home.Joining.{Joining}
 use Rattle.bb8_gets.specs.declared.home.Joining.TheVariants as joining
 use Rattle.bb8_lock.specs.Scope.{OwnJoins}
+use Rattle.bb8_lock.specs.declared.handle.Handle.{Handle}
 use Rattle.bb8.specs.declared.handles.BareHandle.{BareHandle}
 use Rattle.bb8.specs.declared.pool.Pool.{Pool}
 use Rattle.bb8_lock.specs.declared.shared.Shared.{Shared}
@@ -14,7 +15,7 @@ use Rattle.bb8_lock.specs.Words.{ManagerOf, DebugOf, SinkOf, CustomizerOf, Clock
 
 module _ {G L M S Z K R C E N V A : Type 0} {m : ManagerOf M C E N V} {d : DebugOf E} {s : SinkOf S E} {z : CustomizerOf Z C E A} {k : ClockOf K} {l : PartsOf L} where
   -- What is told of the making of a handle: one more is of the same pool. Where as many are alive as may be, or none is, it is refused.
-  abbrev pub IsToldHandle : Shared G L M S Z K R C E N V A m d s z k l → Joining → Result (BareHandle G L M S Z K R C E N V A m d s z k l) (RunError E) → Type 0
+  abbrev pub IsToldHandle : Shared G L M S Z K R C E N V A m d s z k l → Joining Handle → Result (BareHandle G L M S Z K R C E N V A m d s z k l) (RunError E) → Type 0
   IsToldHandle shared (joining.Joined handle) (Ok holding) = arc_value holding.shared ≡ shared
   IsToldHandle shared joining.Exhausted (Err errors.Exhausted) = ⊤
   IsToldHandle shared joining.Unfit (Err errors.Exhausted) = ⊤
@@ -25,7 +26,7 @@ module _ {G L M S Z K R C E N V A : Type 0} {m : ManagerOf M C E N V} {d : Debug
   abbrev pub IsHandleOf : Shared G L M S Z K R C E N V A m d s z k l → Result (BareHandle G L M S Z K R C E N V A m d s z k l) (RunError E) → Type 0
   IsHandleOf shared (Err errors.Memory) = ⊤
   IsHandleOf shared result =
-      (answer : Joining) × OwnJoins shared answer × IsToldHandle shared answer result
+      (answer : Joining Handle) × OwnJoins shared answer × IsToldHandle shared answer result
 
   -- the making of one more handle, as the caller has it
   abbrev pub IsClone : Pool G L M S Z K R C E N V A m d s z k l → Result (Pool G L M S Z K R C E N V A m d s z k l) (RunError E) → Type 0

@@ -19,7 +19,6 @@ pub use Rattle.bb8_gets.specs.Steps
 pub use Rattle.bb8_gets.specs.Told
 pub use Rattle.bb8_lock.specs.Chains
 pub use Rattle.bb8_lock.specs.Parts
-pub use Rattle.bb8_lock.specs.Sections
 pub use Rattle.bb8_lock.specs.Scope
 pub use Rattle.bb8_lock.specs.Opening
 pub use Rattle.bb8_lock.specs.Turning
