@@ -1,9 +1,9 @@
 //! What the tests share.
 
 mod drivers;
+mod polls;
 mod resting;
 mod serving;
-mod storm;
 mod waiting;
 
 use std::fmt::Debug;

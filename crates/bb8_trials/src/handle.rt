@@ -57,15 +57,7 @@ pub trait LentHandle<M: ManageConnection>: Copy {
 
     fn try_get(self) -> Result<Option<Self::Guard>, RunError<M::Error>>;
 
-    /// A get that the thread waits for.
-    fn get_blocking(self) -> Result<Self::Guard, RunError<M::Error>>;
-
     fn get_owned(self) -> Self::OwnedGet;
-
-    /// A get of another handle, which is dropped at once. None where that handle is refused.
-    fn get_owned_by_clone(self) -> Option<Self::OwnedGet>;
-
-    fn get_owned_blocking(self) -> Result<Self::OwnedGuard, RunError<M::Error>>;
 
     fn poll_owned(
         self,
@@ -124,21 +116,8 @@ impl<'a, G: Given<Runtime: Wait>, L: PoolParts> LentHandle<G::Manager> for &'a P
         PoolCalls::try_get(self)
     }
 
-    fn get_blocking(self) -> Result<Self::Guard, RunError<G::Error>> {
-        PoolCalls::get_blocking(self)
-    }
-
     fn get_owned(self) -> Self::OwnedGet {
         PoolCalls::get_owned(self)
-    }
-
-    fn get_owned_by_clone(self) -> Option<Self::OwnedGet> {
-        let clone = PoolCalls::try_clone(self).ok()?;
-        Some(PoolCalls::get_owned(&clone))
-    }
-
-    fn get_owned_blocking(self) -> Result<Self::OwnedGuard, RunError<G::Error>> {
-        PoolCalls::get_owned_blocking(self)
     }
 
     fn poll_owned(

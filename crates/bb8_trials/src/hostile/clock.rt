@@ -4,18 +4,19 @@ use crate::hostile::source::RandomSource;
 use bb8::{Clock, Moment};
 use std::sync::atomic::{AtomicU64, Ordering};
 
-/// A clock whose readings go on and back in turn, each by a span from its source that is at most 100 nanoseconds: the first, third and
+/// A clock whose readings go on and back in turn, each by a span from its source that is at most `stride` nanoseconds: the first, third and
 /// so on go on from where the last of these was, and each other one is earlier than the one before it, unless that was 0.
 #[derive(Drop)]
 pub struct HostileClock {
     pub(crate) source: RandomSource,
+    pub(crate) stride: u64,
     pub(crate) readings: AtomicU64,
     pub(crate) latest: AtomicU64,
 }
 
 impl Clock for HostileClock {
     fn now(&self) -> Moment {
-        let span = self.source.below(100).saturating_add(1);
+        let span = self.source.below(self.stride).saturating_add(1);
         if self.readings.fetch_add(1, Ordering::SeqCst) % 2 == 0 {
             let before = self.latest.fetch_add(span, Ordering::SeqCst);
             return Moment(before.saturating_add(span));

@@ -85,21 +85,27 @@ impl Gauges {
     }
 }
 
-/// One source of answers, and the gauges of the parts that it makes.
+/// One source of answers, the gauges of the parts that it makes, and how hostile those are.
 #[derive(Drop)]
 pub struct Harness {
     /// Where all answers come from, for a test to draw from as well.
     pub source: RandomSource,
     /// What the parts count.
     pub gauges: Gauges,
+    /// Of how many connections that the manager is asked about one is broken; none where it is 0.
+    pub one_in: u64,
+    /// By how many nanoseconds at most the clock goes on, and back.
+    pub stride: u64,
 }
 
 impl Harness {
     /// A harness whose answers this seed determines. It fails where memory is refused.
-    pub fn new(alloc: Global, seed: u64) -> Result<Harness, Memory> {
+    pub fn new(alloc: Global, seed: u64, one_in: u64, stride: u64) -> Result<Harness, Memory> {
         Ok(Harness {
             source: RandomSource::new(alloc, seed)?,
             gauges: Gauges::new(alloc)?,
+            one_in,
+            stride,
         })
     }
 
@@ -110,6 +116,7 @@ impl Harness {
             connections: self.gauges.connections.try_clone()?,
             openings: self.gauges.openings.try_clone()?,
             checks: self.gauges.checks.try_clone()?,
+            one_in: self.one_in,
             life: self.gauges.managers.token(),
         })
     }
@@ -133,6 +140,7 @@ impl Harness {
     pub fn clock(&self) -> Result<HostileClock, Memory> {
         Ok(HostileClock {
             source: self.source.try_clone()?,
+            stride: self.stride,
             readings: AtomicU64::new(0),
             latest: AtomicU64::new(0),
         })

@@ -8,7 +8,7 @@ use bb8::{ManageConnection, Moment};
 use futures::task::Poll;
 
 /// Opens, checks and breaks connections as its source says: of an opening and of a check each poll is pending in half of the cases, and
-/// fails in a quarter or an eighth of them, and of eight connections that it is asked about one is broken. Nothing that it answers
+/// fails in a quarter or an eighth of them, and of `one_in` connections that it is asked about one is broken. Nothing that it answers
 /// depends on the connection or on the moment.
 #[derive(Drop)]
 pub struct HostileManager {
@@ -16,6 +16,7 @@ pub struct HostileManager {
     pub(crate) connections: Gauge,
     pub(crate) openings: Gauge,
     pub(crate) checks: Gauge,
+    pub(crate) one_in: u64,
     pub(crate) life: Token,
 }
 
@@ -60,6 +61,6 @@ impl ManageConnection for HostileManager {
     /// Who asks has the connection back from whoever held it.
     fn has_broken(&self, connection: &mut Counted) -> bool {
         connection.let_go();
-        self.source.below(8) == 0
+        self.one_in != 0 && self.source.below(self.one_in) == 0
     }
 }

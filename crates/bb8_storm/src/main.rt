@@ -1,0 +1,158 @@
+//! A storm over one pool: threads that get, check, break, cancel, add, clone and drop at random, with parts that change their answers at
+//! every call, while a driver in a thread of its own opens, fails and reaps.
+//!
+//! `bb8_storm ROUNDS`: three phases, in each of which four threads make so many rounds each. After a phase, when the threads and the driver
+//! have ended, it compares the pool's figures with what the threads were told and with what the connections themselves counted, and prints
+//! a line, which is the same whatever the schedule. It ends with status 1 where they differ.
+#![tactic(auto)]
+
+ghost use Rattle.std.specs.Prelude.{Some};
+ghost use Rattle.bb8.specs.Parts.{IsBlankOf};
+ghost use Rattle.bb8.specs.Settings.{default_settings};
+
+mod rounds;
+
+use bb8::{Builder, Driver, Gate, Memory, PoolCalls, PoolParts, Runtime, drive, in_threads};
+use bb8_trials::hostile::{GetCounts, Harness, HostilePool};
+use rounds::{SIZE, Storm, THREADS};
+use std::alloc::Global;
+use std::marker::Brand;
+use std::process::ExitCode;
+use std::sync::Arc;
+use std::sync::atomic::{AtomicBool, Ordering};
+use std::sync::ledger::Blank;
+use std::thread::{self, Threads};
+use std::time::Duration;
+use std::{env, io};
+
+/// How many phases there are.
+const PHASES: u64 = 3;
+
+/// Whether each phase agreed, in order, and whether nothing was left once the pool was dropped.
+#[derive(Drop)]
+struct Agreement {
+    phases: Vec<bool>,
+    nothing_left: bool,
+}
+
+/// Whether the driver is to stop.
+#[derive(Drop)]
+struct Stop {
+    asked: Arc<AtomicBool, Global>,
+}
+
+impl Gate for Stop {
+    fn pause(&mut self) -> bool {
+        thread::yield_now();
+        !self.asked.load(Ordering::SeqCst)
+    }
+
+    fn longest(&self) -> Duration {
+        Duration::ZERO
+    }
+}
+
+/// A phase beside a driver: what the threads were told. The driver has ended then, and has not found the pool without a handle.
+fn in_phase<R: Runtime + Threads, L: PoolParts + 'static>(
+    rt: R,
+    storm: &Storm<'_, R, L>,
+) -> Result<GetCounts, Memory> {
+    let asked = Arc::new(rt.alloc(), AtomicBool::new(false))?;
+    let stop = Arc::try_clone(&asked)?;
+    let driver = Driver::new(storm.pool)?;
+    let Ok(driving) = drive(&rt, driver, Stop { asked: stop }) else {
+        return Err(Memory);
+    };
+    let told = in_threads(&rt, THREADS, storm);
+    asked.store(true, Ordering::SeqCst);
+    let driven = driving.join(&rt);
+    let mut all = GetCounts::new();
+    if driven.ended {
+        all.blame();
+    }
+    for one in told?.iter() {
+        all.add(one);
+    }
+    Ok(all)
+}
+
+/// All phases over one pool.
+fn run<R: Runtime + Threads, L: PoolParts + 'static>(
+    rt: R,
+    blank: Blank,
+    rounds: u64,
+) -> Result<Agreement, Memory>
+    requires { IsBlankOf blank
+        (record default_settings {
+          max_size = 5;
+          min_idle = Some 3;
+          connection_timeout = 1000;
+          idle_timeout = Some 200;
+          max_lifetime = Some 2000;
+          reaper_rate = 100;
+        })
+        L.name L.parts L.settings }
+{
+    let harness = Harness::new(rt.alloc(), 1, 8, 100)?;
+    let pool: HostilePool<R, L> = Builder::new()
+        .max_size(SIZE)
+        .min_idle(Some(3))
+        .connection_timeout(Duration::from_nanos(1000))
+        .idle_timeout(Some(Duration::from_nanos(200)))
+        .max_lifetime(Some(Duration::from_nanos(2000)))
+        .reaper_rate(Duration::from_nanos(100))
+        .error_sink(harness.sink()?)
+        .connection_customizer(harness.customizer()?)
+        .build_unchecked(harness.manager()?, harness.clock()?, rt, blank)?;
+    let mut phases = Vec::new(rt.alloc());
+    let mut all = GetCounts::new();
+    for phase in 0..PHASES {
+        let storm = Storm {
+            pool: &pool,
+            harness: &harness,
+            rt,
+            phase,
+            rounds,
+        };
+        all.add(&in_phase(rt, &storm)?);
+        let state = pool.state();
+        phases.push(all.agrees(&state) && harness.gauges.are_at_rest(&state))?;
+    }
+    drop(pool);
+    Ok(Agreement {
+        phases,
+        nothing_left: harness.gauges.are_empty(),
+    })
+}
+
+/// Runs the phases and prints a line for each.
+fn main(rt: HostRuntime) -> io::Result<ExitCode> {
+    let mut args = env::args(&rt)?;
+    let _ = args.next();
+    let rounds: Option<u64> = args.next().and_then(|text| text.as_str().parse().ok());
+    let Some(rounds) = rounds else {
+        println!(rt; "ROUNDS")?;
+        return Ok(ExitCode::FAILURE);
+    };
+    let Ok(outcome) = run::<HostRuntime, Brand>(rt, Blank::new(5), rounds) else {
+        println!(rt; "no memory")?;
+        return Ok(ExitCode::FAILURE);
+    };
+    let mut agree = outcome.nothing_left;
+    for (phase, agrees) in outcome.phases.iter().enumerate() {
+        let word = if *agrees { "agree" } else { "differ" };
+        println!(rt; "phase {phase}: {THREADS} threads, {rounds} rounds each: the counts {word}")?;
+        agree = agree && *agrees;
+    }
+    let word = if outcome.nothing_left {
+        "nothing"
+    } else {
+        "something"
+    };
+    println!(rt; "the pool is dropped: {word} is left")?;
+    Ok(if agree {
+        ExitCode::SUCCESS
+    } else {
+        ExitCode::FAILURE
+    })
+}

@@ -1,0 +1,195 @@
+//! What each thread does with the pool.
+
+use bb8::{Cancel, Gets, Job, PoolCalls, PoolParts, RunError, Runtime};
+use bb8_trials::Refused;
+use bb8_trials::hostile::{Counted, GetCounts, Harness, HostilePool, RandomSource};
+use futures::Future;
+use futures::task::Poll;
+use futures::test::MockTask;
+use std::ops::DerefMut;
+use std::thread;
+
+/// How many connections the pool may have: so few that gets wait, as openings and checks last.
+pub const SIZE: u32 = 5;
+
+/// How many threads there are.
+pub const THREADS: usize = 4;
+
+/// How many polls a get is given at most.
+const POLLS: u64 = 16;
+
+/// A phase over the pool.
+#[derive(Drop)]
+pub struct Storm<'a, R: Runtime, L: PoolParts> {
+    pub pool: &'a HostilePool<R, L>,
+    pub harness: &'a Harness,
+    pub rt: R,
+    pub phase: u64,
+    pub rounds: u64,
+}
+
+/// What a round does.
+trait MakesRounds {
+    /// One round.
+    fn round(&self, task: &MockTask, source: &RandomSource, told: &mut GetCounts);
+
+    /// A get, which is polled a few times, and dropped or cancelled where it was not answered.
+    fn get(&self, task: &MockTask, source: &RandomSource, told: &mut GetCounts);
+
+    /// A get with a handle of its own, of a handle that is dropped meanwhile, polled and let go in the same way.
+    fn get_owned(&self, task: &MockTask, source: &RandomSource, told: &mut GetCounts);
+
+    /// A get that the thread waits for, with a handle of its own or without.
+    fn wait(&self, source: &RandomSource, told: &mut GetCounts);
+
+    /// A dedicated connection, whose opening is polled a few times and let go in the same way.
+    fn open_dedicated(&self, task: &MockTask, source: &RandomSource);
+
+    /// Asks for the figures, and compares them with their bounds.
+    fn ask(&self, told: &mut GetCounts);
+}
+
+/// Counts a get that was polled so often and then let go: it began with its first poll, and was cancelled where it was not answered.
+fn note(told: &mut GetCounts, polls: u64, answered: bool) {
+    if polls > 0 {
+        told.begun = told.begun.saturating_add(1);
+        if !answered {
+            told.cancelled = told.cancelled.saturating_add(1);
+        }
+    }
+}
+
+/// Notes a get's answer. A connection that it is served with is held, and given back.
+fn end<G: DerefMut<Target = Counted> + Drop>(
+    harness: &Harness,
+    answer: Result<G, RunError<Refused>>,
+    told: &mut GetCounts,
+) {
+    match answer {
+        Ok(mut guard) => {
+            told.served = told.served.saturating_add(1);
+            if !guard.hold(&harness.gauges.holdings) {
+                told.blame();
+            }
+            thread::yield_now();
+        }
+        Err(RunError::TimedOut) => told.timed_out = told.timed_out.saturating_add(1),
+        Err(_) => told.blame(),
+    }
+}
+
+/// Polls a get so often: whether it was answered.
+fn is_answered<
+    G: DerefMut<Target = Counted> + Drop,
+    F: Future<Output = Result<G, RunError<Refused>>>,
+>(task: &MockTask, harness: &Harness, get: &mut F, polls: u64, told: &mut GetCounts) -> bool
+    requires { (f : F) → F.can_poll f }
+{
+    for _ in 0..polls {
+        match task.poll(get) {
+            Poll::Pending => thread::yield_now(),
+            Poll::Ready(answer) => {
+                end(harness, answer, told);
+                return true;
+            }
+        }
+    }
+    false
+}
+
+/// Cancels a future, or drops it.
+fn let_go<F: Cancel + Drop>(future: F, source: &RandomSource) {
+    if source.below(2) == 0 {
+        future.cancel();
+    } else {
+        drop(future);
+    }
+}
+
+impl<R: Runtime, L: PoolParts> Job for &Storm<'_, R, L> {
+    type Told = GetCounts;
+
+    /// All rounds of the thread.
+    fn run(self, thread: usize) -> GetCounts {
+        let mut told = GetCounts::new();
+        let seed = self
+            .phase
+            .saturating_mul(1000)
+            .saturating_add(thread as u64);
+        let Ok(source) = RandomSource::new(self.rt.alloc(), seed) else {
+            told.blame();
+            return told;
+        };
+        let Ok(task) = MockTask::new(&self.rt) else {
+            told.blame();
+            return told;
+        };
+        for _ in 0..self.rounds {
+            self.round(&task, &source, &mut told);
+        }
+        told
+    }
+}
+
+impl<R: Runtime, L: PoolParts> MakesRounds for Storm<'_, R, L> {
+    fn round(&self, task: &MockTask, source: &RandomSource, told: &mut GetCounts) {
+        match source.below(10) {
+            0..=2 => self.get(task, source, told),
+            3..=5 => self.get_owned(task, source, told),
+            6..=7 => self.wait(source, told),
+            8 => self.open_dedicated(task, source),
+            _ => self.ask(told),
+        }
+        if source.below(4) == 0 {
+            let _ = self.pool.add(self.harness.connection());
+        }
+    }
+
+    fn get(&self, task: &MockTask, source: &RandomSource, told: &mut GetCounts) {
+        let mut get = self.pool.get();
+        let polls = source.below(POLLS);
+        let answered = is_answered(task, self.harness, &mut get, polls, told);
+        let_go(get, source);
+        note(told, polls, answered);
+    }
+
+    fn get_owned(&self, task: &MockTask, source: &RandomSource, told: &mut GetCounts) {
+        let Ok(clone) = self.pool.try_clone() else {
+            told.blame();
+            return;
+        };
+        let mut get = clone.get_owned();
+        drop(clone);
+        let polls = source.below(POLLS);
+        let answered = is_answered(task, self.harness, &mut get, polls, told);
+        let_go(get, source);
+        note(told, polls, answered);
+    }
+
+    fn wait(&self, source: &RandomSource, told: &mut GetCounts) {
+        told.begun = told.begun.saturating_add(1);
+        if source.below(2) == 0 {
+            end(self.harness, self.pool.get_blocking(), told);
+        } else {
+            end(self.harness, self.pool.get_owned_blocking(), told);
+        }
+    }
+
+    fn open_dedicated(&self, task: &MockTask, source: &RandomSource) {
+        let mut opening = self.pool.dedicated_connection();
+        for _ in 0..source.below(POLLS) {
+            if let Poll::Ready(_) = task.poll(&mut opening) {
+                break;
+            }
+            thread::yield_now();
+        }
+        let_go(opening, source);
+    }
+
+    fn ask(&self, told: &mut GetCounts) {
+        let state = self.pool.state();
+        if state.idle_connections > state.connections || state.connections > SIZE {
+            told.blame();
+        }
+    }
+}
