@@ -1,14 +1,15 @@
-//! How often, and in which order, each call outside is made, and that none is made under the pool's lock, nor a connection dropped that a
-//! call closed: in each of them another thread is answered by the pool. Each call of a pool takes one course of each kind of answer: which
-//! calls the others make, the clauses of polls, tasks and sections tell.
+//! How often, and in which order, each call outside is made; and that none is made under the pool's lock, nor a connection dropped that a
+//! call closed: in each of them another thread is answered by the pool.
 ghost use Rattle.std.specs.Prelude.{Some, false};
 ghost use Rattle.bb8.specs.Parts.{IsBlankOf};
 ghost use Rattle.bb8.specs.Settings.{default_settings};
 
+mod blocking;
+
 use super::assert_equal;
 use bb8::{
-    Builder, Cancel, Clock, CustomizeConnection, Driver, DriverCalls, ErrorSink, Gate, Gets, Job,
-    ManageConnection, Memory, Moment, Pool, PoolCalls, PoolParts, Runtime, start,
+    Builder, Cancel, Clock, CustomizeConnection, Driver, DriverCalls, ErrorSink, Gate, GetFuture,
+    Gets, Job, ManageConnection, Memory, Moment, Pool, PoolCalls, PoolParts, Runtime, start,
 };
 use bb8_trials::{ARMED, Course, LOOKS, Number, OPEN, Refused, Unbuilt, WAITING};
 use futures::task::Poll;
@@ -45,10 +46,12 @@ pub(super) struct Desk {
     /// How many calls waited, and how many in vain.
     pub(super) waited: Number,
     pub(super) missed: Number,
-    /// What the clock tells, in nanoseconds, and by how much each reading sets it on first.
+    /// What the clock tells, in nanoseconds, and the moment of the last poll of an opening.
     moment: Number,
+    polled_at: Number,
+    /// By how much each reading sets the clock on first.
     step: Number,
-    /// What comes of openings, preparations and checks: 0 passes, 1 lasts, 2 fails.
+    /// What comes of openings, preparations and checks: 0 passes, 1 lasts, 2 fails. A check that is to last once, 3, passes then.
     pub(super) opening: Number,
     preparing: Number,
     check: Number,
@@ -70,6 +73,7 @@ impl Desk {
             waited: Number::new(0),
             missed: Number::new(0),
             moment: Number::new(0),
+            polled_at: Number::new(0),
             step: Number::new(0),
             opening: Number::new(0),
             preparing: Number::new(0),
@@ -116,111 +120,167 @@ fn place_of(call: &str) -> u64 {
     place
 }
 
-/// What is written down as it is dropped: a connection, or an opening, a preparation or a check that is under way.
-pub(super) struct Ending {
-    desk: Option<Arc<Desk, Global>>,
-    call: &'static str,
-}
-
-impl Drop for Ending {
-    fn drop(self) {
-        let Ending { desk, call } = self;
-        if let Some(desk) = desk {
-            desk.call(call);
+/// Asserts that since the last look just these calls were made, in this order.
+fn made(rt: &impl Abort, desk: &Desk, calls: &str) {
+    let look = desk.looks.count();
+    let mut wanted: u64 = 0;
+    for call in calls.split(' ') {
+        if call.is_empty() {
+            continue;
         }
+        let is_call = desk
+            .written(wanted)
+            .is_some_and(|written| written.get() == place_of(call));
+        assert!(rt;
+            is_call,
+            "look {look}: call {wanted} is another than in: {calls}"
+        );
+        wanted = wanted.saturating_add(1);
     }
-}
-
-/// A connection.
-pub(super) fn connection(desk: &Arc<Desk, Global>) -> Ending {
-    Ending {
-        desk: Arc::try_clone(desk).ok(),
-        call: "dropped",
-    }
-}
-
-/// What is under way from now on. The call that begins it is written down.
-fn begin(desk: &Arc<Desk, Global>, call: &str) -> Ending {
-    desk.call(call);
-    Ending {
-        desk: Arc::try_clone(desk).ok(),
-        call: "ended",
-    }
+    let found = desk.made.get();
+    assert!(rt;
+        found == wanted,
+        "look {look}: {found} calls and not: {calls}"
+    );
+    desk.made.set(0);
 }
 
 /// What a poll of this course answers.
-fn answer(course: u64) -> Poll<Result<(), Refused>> {
+fn answer<T: Drop>(course: u64, value: T) -> Poll<Result<T, Refused>> {
     match course {
-        0 => Poll::Ready(Ok(())),
+        0 => Poll::Ready(Ok(value)),
         1 => Poll::Pending,
         _ => Poll::Ready(Err(Refused(1))),
     }
 }
 
-/// A manager, a customizer, a sink, a clock or a gate that writes its calls down.
-#[derive(Drop)]
+/// A manager, a customizer, a sink, a clock, a gate or a connection that writes its calls down.
 pub(super) struct Teller {
     desk: Arc<Desk, Global>,
+    is_connection: bool,
 }
 
+impl Drop for Teller {
+    fn drop(self) {
+        let Teller {
+            desk,
+            is_connection,
+        } = self;
+        if is_connection {
+            desk.call("dropped");
+        }
+    }
+}
+
+/// One that is no connection.
 pub(super) fn outside_on(desk: &Arc<Desk, Global>) -> Result<Teller, Memory> {
     Ok(Teller {
         desk: Arc::try_clone(desk)?,
+        is_connection: false,
     })
 }
 
+/// A connection.
+pub(super) fn connection(desk: &Arc<Desk, Global>) -> Result<Teller, Memory> {
+    Ok(Teller {
+        desk: Arc::try_clone(desk)?,
+        is_connection: true,
+    })
+}
+
+/// What is under way: an opening, a preparation or a check, whose end is written down.
+pub(super) struct UnderWay {
+    desk: Option<Arc<Desk, Global>>,
+}
+
+impl Drop for UnderWay {
+    fn drop(self) {
+        let UnderWay { desk } = self;
+        if let Some(desk) = desk {
+            desk.call("ended");
+        }
+    }
+}
+
+/// Writes the call down that begins it.
+fn begin(desk: &Arc<Desk, Global>, call: &str) -> UnderWay {
+    desk.call(call);
+    UnderWay {
+        desk: Arc::try_clone(desk).ok(),
+    }
+}
+
 impl ManageConnection for Teller {
-    type Connection = Ending;
+    type Connection = Teller;
 
     type Error = Refused;
 
-    type Connecting = Ending;
+    type Connecting = UnderWay;
 
-    type Checking = Ending;
+    type Checking = UnderWay;
 
-    fn connect(&self) -> Ending {
+    fn connect(&self) -> UnderWay {
         begin(&self.desk, "connect")
     }
 
-    fn poll_connect(&self, _: &mut Ending, _: Moment) -> Poll<Result<Ending, Refused>> {
+    fn poll_connect(
+        &self,
+        _connecting: &mut UnderWay,
+        moment: Moment,
+    ) -> Poll<Result<Teller, Refused>> {
         self.desk.call("poll_connect");
-        match answer(self.desk.opening.get()) {
+        self.desk.polled_at.set(moment.0);
+        match answer(self.desk.opening.get(), ()) {
             Poll::Pending => Poll::Pending,
             Poll::Ready(Err(error)) => Poll::Ready(Err(error)),
-            Poll::Ready(Ok(())) => Poll::Ready(Ok(connection(&self.desk))),
+            Poll::Ready(Ok(())) => Poll::Ready(connection(&self.desk).map_err(|_| Refused(0))),
         }
     }
 
-    fn is_valid(&self, _: &mut Ending) -> Ending {
+    fn is_valid(&self, _connection: &mut Teller) -> UnderWay {
         begin(&self.desk, "is_valid")
     }
 
-    fn poll_valid(&self, _: &mut Ending, _: &mut Ending, _: Moment) -> Poll<Result<(), Refused>> {
+    fn poll_valid(
+        &self,
+        _connection: &mut Teller,
+        _checking: &mut UnderWay,
+        _moment: Moment,
+    ) -> Poll<Result<(), Refused>> {
         self.desk.call("poll_valid");
-        answer(self.desk.check.get())
+        if self.desk.check.get() == 3 {
+            self.desk.check.set(0);
+            return Poll::Pending;
+        }
+        answer(self.desk.check.get(), ())
     }
 
-    fn has_broken(&self, _: &mut Ending) -> bool {
+    fn has_broken(&self, _connection: &mut Teller) -> bool {
         self.desk.call("has_broken");
         self.desk.broken.get() != 0
     }
 }
 
-impl CustomizeConnection<Ending, Refused> for Teller {
-    type Acquiring = Ending;
+impl CustomizeConnection<Teller, Refused> for Teller {
+    type Acquiring = UnderWay;
 
-    fn on_acquire(&self, _: &mut Ending) -> Ending {
+    fn on_acquire(&self, _connection: &mut Teller) -> UnderWay {
         begin(&self.desk, "on_acquire")
     }
 
-    fn poll_acquire(&self, _: &mut Ending, _: &mut Ending, _: Moment) -> Poll<Result<(), Refused>> {
+    fn poll_acquire(
+        &self,
+        _connection: &mut Teller,
+        _acquiring: &mut UnderWay,
+        _moment: Moment,
+    ) -> Poll<Result<(), Refused>> {
         self.desk.call("poll_acquire");
-        answer(self.desk.preparing.get())
+        answer(self.desk.preparing.get(), ())
     }
 }
 
 impl ErrorSink<Refused> for Teller {
-    fn sink(&self, _: Refused) {
+    fn sink(&self, _error: Refused) {
         self.desk.call("sink");
     }
 }
@@ -249,162 +309,192 @@ impl Gate for Teller {
 /// A pool all of whose calls outside are written down.
 pub(super) type TellerPool<R, L> = Pool<Teller, Teller, Teller, Teller, R, L>;
 
+/// A get of it.
+type TellerGet<'a, R, L> = GetFuture<'a, Teller, Teller, Teller, Teller, R, L>;
+
+/// The pool's driver.
+type TellerDriver<R, L> = Driver<Teller, Teller, Teller, Teller, R, L>;
+
 /// What a test polls with, and what it looks at.
 #[derive(Drop)]
 struct Tools<'a, R> {
     rt: R,
     task: &'a MockTask,
     desk: &'a Arc<Desk, Global>,
+    /// Whether the pool checks what it lends.
+    checks: bool,
 }
 
 impl<R: Runtime + Abort> Tools<'_, R> {
-    /// Asserts that since the last look just these calls were made, in this order.
     fn made(&self, calls: &str) {
-        let (rt, desk) = (&self.rt, self.desk);
-        let look = desk.looks.count();
-        let mut wanted: u64 = 0;
-        for call in calls.split(' ') {
-            if call.is_empty() {
-                continue;
-            }
-            let is_call = desk
-                .written(wanted)
-                .is_some_and(|written| written.get() == place_of(call));
-            assert!(rt;
-                is_call,
-                "look {look}: call {wanted} is another than in: {calls}"
-            );
-            wanted = wanted.saturating_add(1);
-        }
-        let found = desk.made.get();
-        assert!(rt;
-            found == wanted,
-            "look {look}: {found} calls and not: {calls}"
-        );
-        desk.made.set(0);
+        made(&self.rt, self.desk, calls);
     }
 
-    /// Asserts that just these calls were made for an answer, and those as it is let go.
-    fn answered<A: Drop>(&self, answer: A, calls: &str, as_let_go: &str) {
+    fn add<L: PoolParts>(&self, pool: &TellerPool<R, L>) -> Result<(), Memory> {
+        drop(pool.add(connection(self.desk)?));
+        self.made("has_broken now");
+        Ok(())
+    }
+
+    /// Polls a get, which makes these calls.
+    fn poll<L: PoolParts>(&self, get: &mut TellerGet<'_, R, L>, calls: &str) {
+        let polled = self.task.poll(get);
         self.made(calls);
-        drop(answer);
-        self.made(as_let_go);
-    }
-
-    fn add<L: PoolParts>(&self, pool: &TellerPool<R, L>) {
-        self.answered(pool.add(connection(self.desk)), "has_broken now", "");
+        let served = matches!(&polled, Poll::Ready(Ok(_)));
+        drop(polled);
+        let closed = served && self.desk.broken.get() != 0;
+        self.made(match (served, closed) {
+            (true, true) => "has_broken now dropped",
+            (true, false) => "has_broken now",
+            _ => "",
+        });
     }
 }
 
-/// The calls of a get that is served at its first poll, and those of a return.
-const SERVED: &str = "now is_valid poll_valid ended";
-
-const RETURNED: &str = "has_broken now";
-
-/// A get that is served, one that is let go in its check, whose connection is found broken then, and one whose check fails and that waits until
-/// its time has passed. At last there is no connection, and one approval is open.
-fn gets<R: Runtime + Abort, L: PoolParts>(tools: &Tools<'_, R>, pool: &TellerPool<R, L>) {
-    let desk = tools.desk;
-    tools.add(pool);
-    let mut get = pool.get();
-    tools.answered(tools.task.poll(&mut get), SERVED, RETURNED);
-    tools.answered(tools.task.poll(&mut get), "", "");
-    tools.answered(get, "", "");
-    desk.check.set(1);
-    let mut get = pool.get();
-    tools.answered(tools.task.poll(&mut get), "now is_valid poll_valid", "");
-    tools.answered(tools.task.poll(&mut get), "now poll_valid", "");
-    desk.broken.set(1);
-    get.cancel();
-    tools.made("ended has_broken now dropped");
-    desk.broken.set(0);
-    tools.add(pool);
-    desk.check.set(2);
-    let mut get = pool.get();
-    for (moment, calls) in &[
-        (0, "now is_valid poll_valid ended sink has_broken dropped"),
-        (0, "now"),
-        (0, "now"),
-        (100, "now"),
-        (100, ""),
-    ] {
-        desk.moment.set(*moment);
-        tools.answered(tools.task.poll(&mut get), calls, "");
-    }
-    desk.check.set(0);
-}
-
-/// The gets that answer in one call: those that do not wait, and those that wait until their time has passed. A reading of the clock sets it on by 60
-/// nanoseconds then, so 100 have passed at the second poll, and 200 at the third. At last there is no connection.
-fn gets_in_one_call<R: Runtime + Abort, L: PoolParts>(
+/// A get that is served, one that is checked for long, one that times out then, and one whose connection is found broken as it is let go.
+fn checked<R: Runtime + Abort, L: PoolParts>(
     tools: &Tools<'_, R>,
     pool: &TellerPool<R, L>,
-) {
+) -> Result<(), Memory> {
     let desk = tools.desk;
-    tools.answered(pool.try_get(), "now", "");
-    tools.add(pool);
-    tools.answered(pool.try_get(), SERVED, RETURNED);
-    tools.answered(pool.get_blocking(), SERVED, RETURNED);
-    tools.answered(
-        pool.get_owned_blocking(),
-        "now now is_valid poll_valid ended",
-        "has_broken now now",
-    );
+    tools.add(pool)?;
+    let mut get = pool.get();
+    tools.poll(&mut get, "now is_valid poll_valid ended");
+    tools.poll(&mut get, "");
+    drop(get);
+    desk.check.set(1);
+    let mut get = pool.get();
+    tools.poll(&mut get, "now is_valid poll_valid");
+    tools.poll(&mut get, "now poll_valid");
+    get.cancel();
+    tools.made("ended has_broken now");
+    let mut get = pool.get();
+    tools.poll(&mut get, "now is_valid poll_valid");
+    desk.moment.set(100);
+    tools.poll(&mut get, "now poll_valid ended has_broken");
+    drop(get);
+    tools.made("");
+    let mut get = pool.get();
+    tools.poll(&mut get, "now is_valid poll_valid");
     desk.broken.set(1);
-    let held = pool.get_blocking();
-    tools.made(SERVED);
-    desk.step.set(60);
-    let timeout = Duration::from_nanos(200);
-    tools.answered(pool.get_blocking(), "now now now", "");
-    tools.answered(
-        pool.get_blocking_timeout(timeout),
-        "now now now now now",
-        "",
-    );
-    tools.answered(pool.get_owned_blocking(), "now now now now now", "");
-    desk.step.set(0);
-    tools.answered(held, "", "has_broken now dropped");
+    drop(get);
+    tools.made("ended has_broken now dropped");
+    drop(pool.add(connection(desk)?));
+    tools.made("has_broken now dropped");
     desk.broken.set(0);
+    desk.check.set(0);
+    Ok(())
 }
 
-/// A handle, the figures, and gets with a handle of their own: one that is served, and one that is let go in its check.
-fn handles<R: Runtime + Abort, L: PoolParts>(tools: &Tools<'_, R>, pool: &TellerPool<R, L>) {
-    tools.answered(pool.try_clone(), "now", "now");
-    tools.answered(pool.state(), "now", "");
-    tools.add(pool);
-    let mut get = pool.get_owned();
+/// Gets that wait: one is let go, one times out; and gets whose check fails: one is let go then, and one waits and is served.
+fn waiting<R: Runtime + Abort, L: PoolParts>(
+    tools: &Tools<'_, R>,
+    pool: &TellerPool<R, L>,
+) -> Result<(), Memory> {
+    let desk = tools.desk;
+    pool.get().cancel();
+    tools.made("");
+    let mut get = pool.get();
+    tools.poll(&mut get, "now");
+    tools.poll(&mut get, "now");
+    get.cancel();
     tools.made("now");
-    tools.answered(tools.task.poll(&mut get), SERVED, "has_broken now now");
-    tools.answered(get, "", "");
+    let mut get = pool.get();
+    tools.poll(&mut get, "now");
+    desk.moment.set(200);
+    tools.poll(&mut get, "now");
+    drop(get);
+    tools.add(pool)?;
+    desk.check.set(2);
+    let mut get = pool.get();
+    tools.poll(
+        &mut get,
+        "now is_valid poll_valid ended sink has_broken dropped",
+    );
+    drop(get);
+    tools.made("now");
+    tools.add(pool)?;
+    let mut get = pool.get();
+    tools.poll(
+        &mut get,
+        "now is_valid poll_valid ended sink has_broken dropped",
+    );
+    tools.poll(&mut get, "now");
+    desk.check.set(0);
+    tools.add(pool)?;
+    desk.broken.set(1);
+    tools.poll(&mut get, "now is_valid poll_valid ended");
+    desk.broken.set(0);
+    Ok(())
+}
+
+/// Gets with a handle of their own: one that is not polled, one that is served, and one that is let go while it is checked.
+fn owned<R: Runtime + Abort, L: PoolParts>(
+    tools: &Tools<'_, R>,
+    pool: &TellerPool<R, L>,
+) -> Result<(), Memory> {
+    pool.get_owned().cancel();
+    tools.made("now now");
+    tools.add(pool)?;
+    let mut get = pool.get_owned();
+    let polled = tools.task.poll(&mut get);
+    tools.made("now now is_valid poll_valid ended");
+    drop(get);
+    tools.made("");
+    drop(polled);
+    tools.made("has_broken now now");
     tools.desk.check.set(1);
     let mut get = pool.get_owned();
     drop(tools.task.poll(&mut get));
     tools.made("now now is_valid poll_valid");
-    get.cancel();
+    drop(get);
     tools.made("ended has_broken now now");
     tools.desk.check.set(0);
+    Ok(())
 }
 
-/// Connections that the pool does not count: one that is opened and prepared slowly, and one that is let go as it is prepared.
+/// Connections that the pool does not count: opened and prepared slowly; failing as it is opened, or prepared; let go as it is prepared.
 fn dedicated<R: Runtime + Abort, L: PoolParts>(tools: &Tools<'_, R>, pool: &TellerPool<R, L>) {
     let desk = tools.desk;
     let mut opening = pool.dedicated_connection();
-    for (connects, prepares, calls, as_let_go) in &[
-        (1, 0, "now connect poll_connect", ""),
-        (0, 1, "now poll_connect ended on_acquire poll_acquire", ""),
-        (0, 0, "now poll_acquire ended", "dropped"),
-        (0, 0, "", ""),
+    for (connects, prepares, calls) in &[
+        (1, 0, "now connect poll_connect"),
+        (1, 0, "now poll_connect"),
+        (0, 1, "now poll_connect ended on_acquire poll_acquire"),
+        (0, 1, "now poll_acquire"),
+        (0, 0, "now poll_acquire ended dropped"),
+        (0, 0, ""),
     ] {
         desk.opening.set(*connects);
         desk.preparing.set(*prepares);
-        tools.answered(tools.task.poll(&mut opening), calls, as_let_go);
+        drop(tools.task.poll(&mut opening));
+        tools.made(calls);
     }
-    desk.preparing.set(1);
-    let mut opening = pool.dedicated_connection();
-    drop(tools.task.poll(&mut opening));
-    tools.made("now connect poll_connect ended on_acquire poll_acquire");
-    opening.cancel();
-    tools.made("ended dropped");
+    drop(opening);
+    for (connects, prepares, calls, at_the_end) in &[
+        (1, 0, "now connect poll_connect", "ended"),
+        (2, 0, "now connect poll_connect ended", ""),
+        (
+            0,
+            1,
+            "now connect poll_connect ended on_acquire poll_acquire",
+            "ended dropped",
+        ),
+        (
+            0,
+            2,
+            "now connect poll_connect ended on_acquire poll_acquire ended dropped",
+            "",
+        ),
+    ] {
+        desk.opening.set(*connects);
+        desk.preparing.set(*prepares);
+        let mut opening = pool.dedicated_connection();
+        drop(tools.task.poll(&mut opening));
+        tools.made(calls);
+        opening.cancel();
+        tools.made(at_the_end);
+    }
     desk.preparing.set(0);
 }
 
@@ -420,28 +510,34 @@ fn approve<R: Runtime + Abort, L: PoolParts>(tools: &Tools<'_, R>, pool: &Teller
     tools.desk.made.set(0);
 }
 
-/// A driver, and its turns, which read no clock: one connection is opened slowly, and one preparation fails. Then a run of two turns, with the drop
-/// of a driver that opens.
+/// Turns, which read no clock: one connection is opened and prepared slowly, one opening fails, and one preparation; and a driver that is
+/// dropped with what it prepares.
 fn turns<R: Runtime + Abort, L: PoolParts>(
     tools: &Tools<'_, R>,
     pool: &TellerPool<R, L>,
-) -> Result<(), Memory> {
+    driver: TellerDriver<R, L>,
+) {
     let desk = tools.desk;
-    let mut driver = Driver::new(pool)?;
-    tools.made("");
+    let mut driver = driver;
     for (approves, connects, prepares, calls) in &[
         (true, 1, 0, "connect poll_connect"),
-        (
-            false,
-            0,
-            0,
-            "poll_connect ended on_acquire poll_acquire ended",
-        ),
+        (false, 1, 0, "poll_connect"),
+        (false, 0, 1, "poll_connect ended on_acquire poll_acquire"),
+        (false, 0, 0, "poll_acquire ended"),
+        (false, 0, 0, ""),
+        (true, 2, 0, "connect poll_connect ended sink"),
         (
             true,
             0,
             2,
             "connect poll_connect ended on_acquire poll_acquire ended dropped sink",
+        ),
+        (false, 0, 0, ""),
+        (
+            true,
+            0,
+            1,
+            "connect poll_connect ended on_acquire poll_acquire",
         ),
     ] {
         if *approves {
@@ -452,12 +548,18 @@ fn turns<R: Runtime + Abort, L: PoolParts>(
         let _ = driver.turn(Moment(300));
         tools.made(calls);
     }
-    approve(tools, pool);
-    desk.moment.set(1000);
-    desk.opening.set(1);
-    driver.run(outside_on(desk)?);
-    tools.made("now connect poll_connect now poll_connect now ended");
-    Ok(())
+    drop(driver);
+    tools.made("now ended dropped");
+}
+
+/// A handle more, and its drop.
+fn handles<R: Runtime + Abort, P: bb8_trials::OwnedHandle<Teller>>(tools: &Tools<'_, R>, pool: &P) {
+    let copy = pool.try_clone();
+    tools.made("now");
+    drop(copy);
+    tools.made("now");
+    pool.state();
+    tools.made("now");
 }
 
 /// Asks the pool for its state while a call outside waits.
@@ -489,23 +591,55 @@ impl<R: Runtime + Abort, L: PoolParts> Job for Asker<R, L> {
     }
 }
 
-/// The calls of a pool that checks its connections, each of which waits, where that is asked for, until another thread was answered.
+/// All calls of a pool that checks its connections, and of its driver.
+fn calls_with_checks<R: Runtime + Abort, L: PoolParts>(
+    tools: &Tools<'_, R>,
+    pool: &TellerPool<R, L>,
+) -> Result<(), Memory> {
+    let desk = tools.desk;
+    let driver = Driver::new(pool)?;
+    checked(tools, pool)?;
+    waiting(tools, pool)?;
+    owned(tools, pool)?;
+    handles(tools, pool);
+    dedicated(tools, pool);
+    turns(tools, pool, driver);
+    approve(tools, pool);
+    desk.moment.set(1000);
+    desk.opening.set(1);
+    let driven = Driver::new(pool)?.run(outside_on(desk)?);
+    tools.made("now connect poll_connect now poll_connect now ended");
+    assert_equal(&tools.rt, driven.turns, 2);
+    assert_equal(&tools.rt, desk.polled_at.get(), 1001);
+    desk.opening.set(0);
+    Ok(())
+}
+
+/// The calls of a pool, each of which waits, where that is asked for, until another thread was answered.
 fn calls_of_a_pool<R: Runtime + Abort + Threads, L: PoolParts + 'static>(
     rt: R,
     blank: Blank,
+    checks: bool,
     waits: bool,
 ) -> Result<(), Fail>
     requires { IsBlankOf blank (record default_settings {
       max_size = 2;
+      test_on_check_out = checks;
       connection_timeout = 100;
       retry_connection = false;
     }) L.name L.parts L.settings }
 {
     let desk = &Desk::new(rt.alloc())?;
     let task = &MockTask::new(&rt)?;
-    let tools = Tools { rt, task, desk };
+    let tools = Tools {
+        rt,
+        task,
+        desk,
+        checks,
+    };
     let pool: TellerPool<R, L> = Builder::new()
         .max_size(2)
+        .test_on_check_out(checks)
         .connection_timeout(Duration::from_nanos(100))
         .retry_connection(false)
         .error_sink(outside_on(desk)?)
@@ -522,11 +656,13 @@ fn calls_of_a_pool<R: Runtime + Abort + Threads, L: PoolParts + 'static>(
         tools.made("now");
         tools.desk.stage.set(ARMED);
     }
-    gets(&tools, &pool);
-    gets_in_one_call(&tools, &pool);
-    handles(&tools, &pool);
-    dedicated(&tools, &pool);
-    turns(&tools, &pool)?;
+    if checks {
+        calls_with_checks(&tools, &pool)?;
+    }
+    blocking::served(&tools, &pool)?;
+    if checks {
+        blocking::unserved(&tools, &pool)?;
+    }
     desk.stage.set(ENDED);
     assert_equal(&rt, asker.is_some(), waits);
     if let Some(asker) = asker {
@@ -537,36 +673,43 @@ fn calls_of_a_pool<R: Runtime + Abort + Threads, L: PoolParts + 'static>(
     Ok(())
 }
 
-/// The polls of a building, which opens two connections: it comes to its end, is let go, or fails.
+/// The polls of a building, which opens two connections: it comes to its end, is let go, or fails. Then its pool is left, whose gets are not
+/// checked.
 fn calls_of_a_building<R: Runtime + Abort, B: Unbuilt<Teller>>(
     tools: &Tools<'_, R>,
-    mut building: B,
+    building: B,
     course: Course,
 ) {
-    let (task, opening) = (tools.task, &tools.desk.opening);
-    opening.set(1);
-    tools.answered(
-        building.poll(task),
-        "now now connect poll_connect connect poll_connect",
-        "",
-    );
+    let mut building = building;
+    tools.desk.opening.set(1);
+    drop(building.poll(tools.task));
+    tools.made("now now connect poll_connect connect poll_connect");
     match course {
         Course::Passes => {
-            opening.set(0);
-            tools.answered(
-                building.poll(task),
+            tools.desk.opening.set(0);
+            let polled = building.poll(tools.task);
+            tools.made(
                 "now poll_connect ended on_acquire poll_acquire ended poll_connect ended on_acquire poll_acquire ended",
-                "now dropped dropped",
             );
-            tools.answered(building.poll(task), "", "");
+            for _ in 0..2u32 {
+                if let Poll::Ready(Ok(pool)) = &polled {
+                    bb8_trials::OwnedHandle::serves_at_once(pool, tools.task);
+                }
+                tools.made("now has_broken now");
+            }
+            drop(polled);
+            tools.made("now dropped dropped");
+            drop(building.poll(tools.task));
+            tools.made("");
         }
         Course::Lasts => {
             building.cancel();
             tools.made("now ended ended now");
         }
         Course::Fails => {
-            opening.set(2);
-            tools.answered(building.poll(task), "now poll_connect ended ended now", "");
+            tools.desk.opening.set(2);
+            drop(building.poll(tools.task));
+            tools.made("now poll_connect ended ended now");
         }
     }
 }
@@ -576,15 +719,22 @@ fn builds<R: Runtime + Abort, L: PoolParts>(rt: R, blank: Blank, course: Course)
     requires { IsBlankOf blank (record default_settings {
       max_size = 2;
       min_idle = Some 2;
+      test_on_check_out = false;
       retry_connection = false;
     }) L.name L.parts L.settings }
 {
     let desk = &Desk::new(rt.alloc())?;
     let task = &MockTask::new(&rt)?;
-    let tools = Tools { rt, task, desk };
+    let tools = Tools {
+        rt,
+        task,
+        desk,
+        checks: false,
+    };
     let builder = Builder::new()
         .max_size(2)
         .min_idle(Some(2))
+        .test_on_check_out(false)
         .retry_connection(false)
         .error_sink(outside_on(desk)?)
         .connection_customizer(outside_on(desk)?);
@@ -604,10 +754,16 @@ fn each_call_is_made_once(rt: HostRuntime) -> Result<(), Fail> {
     for course in [Course::Passes, Course::Lasts, Course::Fails] {
         builds::<HostRuntime, Brand>(rt, Blank::new(2), course)?;
     }
-    calls_of_a_pool::<HostRuntime, Brand>(rt, Blank::new(2), false)
+    for checks in [false, true] {
+        calls_of_a_pool::<HostRuntime, Brand>(rt, Blank::new(2), checks, false)?;
+    }
+    Ok(())
 }
 
 #[test]
 fn no_call_is_made_under_the_lock(rt: HostRuntime) -> Result<(), Fail> {
-    calls_of_a_pool::<HostRuntime, Brand>(rt, Blank::new(2), true)
+    for checks in [false, true] {
+        calls_of_a_pool::<HostRuntime, Brand>(rt, Blank::new(2), checks, true)?;
+    }
+    Ok(())
 }

@@ -89,8 +89,8 @@ fn waits_for_nobody<R: Runtime + Abort + Threads, L: PoolParts + 'static>(
         .error_sink(outside_on(desk)?)
         .connection_customizer(outside_on(desk)?)
         .build_unchecked(outside_on(desk)?, outside_on(desk)?, rt, blank)?;
-    assert!(&rt; pool.add(connection(desk)).is_ok());
-    assert!(&rt; pool.add(connection(desk)).is_ok());
+    assert!(&rt; pool.add(connection(desk)?).is_ok());
+    assert!(&rt; pool.add(connection(desk)?).is_ok());
     let Some(guard) = LentHandle::lend(&pool, &task) else {
         panic!(&rt; "not served");
     };

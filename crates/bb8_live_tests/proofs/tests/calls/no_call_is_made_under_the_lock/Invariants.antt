@@ -6,4 +6,4 @@ abbrev pub ghosts-calls_of_a_pool-L-Ledger : goal.ghosts-calls_of_a_pool-L-Ledge
 ghosts-calls_of_a_pool-L-Ledger g a = record { name = a.blank.name; parts = a.blank.parts }
 
 abbrev pub ghosts-calls_of_a_pool-L-Parts : goal.ghosts-calls_of_a_pool-L-Parts
-ghosts-calls_of_a_pool-L-Parts g a = record { settings = record default_settings { max_size = 2; connection_timeout = 100; retry_connection = false } }
+ghosts-calls_of_a_pool-L-Parts g a = record { settings = record default_settings { max_size = 2; test_on_check_out = a.checks; connection_timeout = 100; retry_connection = false } }

@@ -1,0 +1,98 @@
+//! The gets that answer in one call, and those that are served at their first poll, with the check and without.
+
+use super::{TellerPool, Tools};
+use bb8::{Gets, Memory, PoolCalls, PoolParts, Runtime};
+use std::process::Abort;
+use std::time::Duration;
+
+impl<R: Runtime + Abort> Tools<'_, R> {
+    /// Asserts that just the calls of a get that is served at its first poll were made, with a handle of its own or without; and, as it is
+    /// let go, those of a return.
+    fn lent<G: Drop>(&self, guard: G, is_owned: bool) {
+        self.made(match (self.checks, is_owned) {
+            (false, false) => "now",
+            (false, true) => "now now",
+            (true, false) => "now is_valid poll_valid ended",
+            (true, true) => "now now is_valid poll_valid ended",
+        });
+        drop(guard);
+        self.made(if is_owned {
+            "has_broken now now"
+        } else {
+            "has_broken now"
+        });
+    }
+
+    /// Asserts that just these calls were made for an answer that lends nothing, and none as it is let go.
+    fn lent_none<A: Drop>(&self, answer: A, calls: &str) {
+        self.made(calls);
+        drop(answer);
+        self.made("");
+    }
+}
+
+/// Each get once where nothing is idle and it is not to wait, and twice where one connection is, since the first get of a pool finds its
+/// connection by another way; and each that waits until its time has passed. A reading of the clock sets it on by 60 nanoseconds, so 100 have
+/// passed at the second poll, and 200 at the third. At last there is no connection, and one approval is open.
+pub(super) fn served<R: Runtime + Abort, L: PoolParts>(
+    tools: &Tools<'_, R>,
+    pool: &TellerPool<R, L>,
+) -> Result<(), Memory> {
+    let (desk, timeout) = (tools.desk, Duration::from_nanos(200));
+    tools.lent_none(pool.try_get(), "now");
+    tools.add(pool)?;
+    for _ in 0..2u32 {
+        tools.lent(pool.try_get(), false);
+        tools.lent(tools.task.poll(&mut pool.get()), false);
+        tools.lent(tools.task.poll(&mut pool.get_owned()), true);
+        tools.lent(pool.get_blocking(), false);
+        tools.lent(pool.get_blocking_timeout(timeout), false);
+        tools.lent(pool.get_owned_blocking(), true);
+    }
+    desk.broken.set(1);
+    let held = pool.try_get();
+    desk.made.set(0);
+    desk.step.set(60);
+    tools.lent_none(pool.get_blocking(), "now now now");
+    tools.lent_none(pool.get_blocking_timeout(timeout), "now now now now now");
+    tools.lent_none(pool.get_owned_blocking(), "now now now now now");
+    desk.step.set(0);
+    drop(held);
+    tools.made("has_broken now dropped");
+    desk.broken.set(0);
+    Ok(())
+}
+
+/// Gets in one call whose check lasts once; one that is not to wait for a check that lasts; and one that waits, after its check has failed, until
+/// its time has passed. At last there is no connection, and one approval is open.
+pub(super) fn unserved<R: Runtime + Abort, L: PoolParts>(
+    tools: &Tools<'_, R>,
+    pool: &TellerPool<R, L>,
+) -> Result<(), Memory> {
+    let desk = tools.desk;
+    tools.add(pool)?;
+    desk.check.set(3);
+    let guard = pool.get_blocking();
+    tools.made("now is_valid poll_valid now now poll_valid ended");
+    drop(guard);
+    tools.made("has_broken now");
+    desk.check.set(3);
+    let guard = pool.get_owned_blocking();
+    tools.made("now now is_valid poll_valid now now poll_valid ended");
+    drop(guard);
+    tools.made("has_broken now now");
+    desk.check.set(1);
+    tools.lent_none(
+        pool.try_get(),
+        "now is_valid poll_valid ended has_broken now",
+    );
+    desk.check.set(2);
+    desk.step.set(60);
+    tools.lent_none(
+        pool.get_blocking(),
+        "now is_valid poll_valid ended sink has_broken dropped now now",
+    );
+    desk.step.set(0);
+    desk.check.set(0);
+    Ok(())
+}
