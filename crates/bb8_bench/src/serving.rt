@@ -18,7 +18,7 @@ fn serve_in_steps(pool: &mut PoolInternals<u64>) -> Option<(Key, u64)> {
 
 /// The same, in one step where that needs no memory.
 #[inline(always)]
-fn serve(pool: &mut PoolInternals<u64>) -> Option<(Key, u64)> {
+pub(crate) fn serve(pool: &mut PoolInternals<u64>) -> Option<(Key, u64)> {
     match pool.serve_at_once(NOW) {
         Some(AtOnce { key, conn, .. }) => Some((key, conn)),
         None => serve_in_steps(pool),
@@ -26,7 +26,7 @@ fn serve(pool: &mut PoolInternals<u64>) -> Option<(Key, u64)> {
 }
 
 /// Gives back a connection that was served. None where it was closed, or no guard holds it.
-fn give_back(pool: &mut PoolInternals<u64>, key: Key, conn: u64) -> Option<()> {
+pub(crate) fn give_back(pool: &mut PoolInternals<u64>, key: Key, conn: u64) -> Option<()> {
     match pool.put_back(NOW, key, conn, false) {
         Ok(PutBackAnswer::Kept(_)) => Some(()),
         Ok(PutBackAnswer::Closed(..)) | Err(_) => None,

@@ -1,6 +1,8 @@
 //! Each export, against what was worked out by hand from the rules.
 
 use super::{core_crowd, core_fill_drain, core_give_ups, core_rounds, script_run};
+use crate::opening::{NOW, opened_pool};
+use crate::serving::{give_back, serve};
 use std::test::Fail;
 
 /// One connection is added, served and returned.
@@ -42,6 +44,15 @@ fn serves_nobody(rt: HostRuntime) -> Result<(), Fail> {
     assert_eq!(rt; core_rounds(rt.alloc(), 3, 0), 0);
     assert_eq!(rt; core_rounds(rt.alloc(), 0, 5), 0);
     assert_eq!(rt; core_fill_drain(rt.alloc(), 0), 0);
+    Ok(())
+}
+
+#[test]
+fn counts_no_return_that_closes(rt: HostRuntime) -> Result<(), Fail> {
+    let mut pool = opened_pool(rt.alloc(), 1).expect(&rt, "a pool of one");
+    let (key, conn) = serve(&mut pool).expect(&rt, "an idle connection");
+    assert!(rt; pool.leave(NOW).is_ok());
+    assert!(rt; give_back(&mut pool, key, conn).is_none());
     Ok(())
 }
 

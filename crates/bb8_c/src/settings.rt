@@ -13,7 +13,7 @@ use std::time::Duration;
 pub struct Settings {
     /// The most connections and open approvals.
     pub max_size: u32,
-    /// How many idle connections the pool tries for.
+    /// How many idle connections the pool tries for; 0 for none.
     pub min_idle: u32,
     /// Whether connections are checked before they go out.
     pub test_on_check_out: bool,
@@ -36,6 +36,13 @@ fn limit(nanoseconds: u64) -> Option<Duration>
     }
 }
 
+/// A least number of idle connections; 0 is none.
+fn least(idle: u32) -> Option<u32>
+    ensures { result ≡ limit_of idle }
+{
+    if idle == 0 { None } else { Some(idle) }
+}
+
 /// In which order idle connections go out.
 fn order(lifo: bool) -> QueueStrategy
     ensures { result ≡ order_of lifo }
@@ -54,7 +61,7 @@ impl Settings {
     {
         Config {
             max_size: self.max_size,
-            min_idle: Some(self.min_idle),
+            min_idle: least(self.min_idle),
             test_on_check_out: self.test_on_check_out,
             max_lifetime: limit(self.max_lifetime),
             idle_timeout: limit(self.idle_timeout),

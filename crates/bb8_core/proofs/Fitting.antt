@@ -162,7 +162,7 @@ module _ {C : Type 0} where
   pub fit_idle : (s : StateView C) → 0 < length s.records.idle → IsFitting s Leave
   fit_idle s some l legal means =
       let idle_some : 0 < length (idle l) = subst (λ (t : StateView C). 0 < length t.records.idle) (sym means) some in
-      lt-ltb 0 (handles l) (positive (handles l) (λ none. omega (arith, idle_some, idle_tally l, (keeps_limits l legal).left none)))
+      lt-ltb 0 (handles l) (positive (handles l) (λ none. omega (arith, idle_some, idle_tally l, (keeps_limits l legal).none_idle none)))
     where
       positive : (n : ℕ) → (n ≡ 0 → ⊥) → 0 < n
       positive n some = omega (arith, some)

@@ -1,5 +1,5 @@
 -- What the fields of a `PoolInternals` mean.
-use Rattle.std.specs.Prelude.{ℕ, Option, ◌≡◌, ◌≤◌}
+use Rattle.std.specs.Prelude.{ℕ, Option, ltb, ◌≡◌, ◌≤◌}
 use Rattle.bb8_types.specs.Bounds.{last_moment}
 use Rattle.bb8_types.specs.Places.{is_past}
 use Rattle.bb8_core.specs.declared.internals.PoolInternals.TheInside.{Inside}
@@ -7,9 +7,9 @@ use Rattle.bb8_types.specs.Settings.{settings_of}
 use Rattle.bb8_core.specs.StateView.{StateView}
 use Rattle.bb8_tables.specs.Counted.{counts_held}
 
--- the limit that is held is reached by the same spans as the other, up to the last moment
-abbrev pub Limits : Option ℕ → Option ℕ → Type 0
-Limits held limit = (span : ℕ) → span ≤ last_moment → is_past held span ≡ is_past limit span
+-- just the ages above this one reach a limit, up to the last moment
+abbrev pub IsGreatestAge : Option ℕ → ℕ → Type 0
+IsGreatestAge limit greatest = (age : ℕ) → age ≤ last_moment → ltb greatest age ≡ is_past limit age
 
 module _ {C A : Type 0} where
   -- what the fields show

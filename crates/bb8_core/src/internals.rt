@@ -34,7 +34,8 @@ pub use bb8_types::grants::Grant;
 pub use bb8_types::reasons::Reason;
 use bb8_types::standing::{GetPlace, Holder};
 use decided::{
-    close_and_grant, due_waiting, holder, in_nanoseconds, is_expired, lacking, notify_next_if, want,
+    close_and_grant, due_waiting, greatest_age, holder, is_expired, notify_next_if, want,
+    want_alive,
 };
 use std::alloc::Global;
 use std::marker::Model;
@@ -48,8 +49,8 @@ use std::marker::Model;
 #[derive(Drop)]
 pub struct PoolInternals<C, A = UncountedAccess> {
     config: Config,
-    // Its limit on the lives of connections, which each return compares.
-    max_lifetime: Option<u64>,
+    // The greatest age, in nanoseconds, at which `max_lifetime` is not reached: each return compares with it.
+    greatest_age: u64,
     latest: u64,
     handles: u64,
     records: Records<C>,
@@ -61,7 +62,7 @@ pub struct PoolInternals<C, A = UncountedAccess> {
 
 impl<C, A> Model for PoolInternals<C, A> {
     ghost use Rattle.bb8_core.specs.StateView.{StateView, state_view_code, HasLedger};
-    ghost use Rattle.bb8_core.specs.Pool.{view_of, Limits};
+    ghost use Rattle.bb8_core.specs.Pool.{view_of, IsGreatestAge};
     ghost use Rattle.bb8_types.specs.Settings.{settings_of};
 
     ghost Value = { StateView C };
@@ -71,7 +72,7 @@ impl<C, A> Model for PoolInternals<C, A> {
     ghost view = { view_of };
 
     ghost invariant = { λ a. HasLedger (view_of a)
-        × Limits a.max_lifetime (settings_of a.config).max_lifetime };
+        × IsGreatestAge (settings_of a.config).max_lifetime a.greatest_age };
 }
 
 impl<C: Drop> PoolInternals<C> {
@@ -91,7 +92,7 @@ impl<C: Drop> PoolInternals<C> {
     {
         let (records, asking) = Records::new(alloc, first_number);
         PoolInternals {
-            max_lifetime: in_nanoseconds(config.max_lifetime),
+            greatest_age: greatest_age(config.max_lifetime),
             config,
             latest: 0,
             handles: 1,
@@ -163,7 +164,7 @@ impl<C: Drop, A> PoolInternals<C, A> {
                 let get = self.gets.begin_and_end();
                 self.counters.started += 1;
                 self.counters.serve(None, now);
-                let wanted = lacking(&self.config, &self.records);
+                let wanted = want_alive(&self.config, &self.records);
                 let grant = self.records.grant(wanted, false);
                 Some(AtOnce {
                     get,
@@ -250,7 +251,7 @@ impl<C: Drop, A> PoolInternals<C, A> {
                 Started::Tried(get, TryAnswer::Waiting(grant))
             }
             Some((key, conn)) => {
-                let wanted = lacking(&self.config, &self.records);
+                let wanted = want_alive(&self.config, &self.records);
                 let grant = self.records.grant(wanted, false);
                 if self.config.test_on_check_out {
                     let get = self.gets.bear_holding(key.number, &mut lendings);
@@ -465,7 +466,7 @@ impl<C: Drop, A> PoolInternals<C, A> {
             holder,
             broken,
             ended,
-            self.max_lifetime,
+            self.greatest_age,
             now,
             &mut lendings,
         ) {
@@ -519,7 +520,7 @@ impl<C: Drop, A> PoolInternals<C, A> {
             holder,
             broken,
             ended,
-            self.max_lifetime,
+            self.greatest_age,
             now,
             &mut lendings,
         ) {

@@ -69,7 +69,7 @@ module _ {C : Type 0} where
     each = conns_split (records l);
     held = λ g k. (all_held l legal g k, all_holding l legal g k);
     served = elim (either_none (unnotified l) (idle_count l - notified l) (all_serve l legal).served) [ inl e ↦ inl e | inr e ↦ inr (omega arith) ];
-    left = λ none. omega (arith, none, (all_serve l legal).left);
+    none_idle = λ none. omega (arith, none, (all_serve l legal).none_idle);
   }
 
   -- ---- the laws

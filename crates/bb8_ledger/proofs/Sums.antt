@@ -92,7 +92,7 @@ module _ {C : Type 0} where
   pub record Serves (l : Ledger C) : Type 0 where
     pub served : min (unnotified l) (idle_count l - notified l) ≡ 0
     pub promised : min (handles l) (min (unnotified l - (approved l + lost l)) ((start l).config.max_size - (conns l + approved l) + idle_count l - (notified l + lost l))) ≡ 0
-    pub left : min (1 - handles l) (idle_count l) ≡ 0
+    pub none_idle : min (1 - handles l) (idle_count l) ≡ 0
 
   -- how many notified gets an event is the try of: one or none
   abbrev pub notified_in : Ledger C → Act C → ℕ

@@ -57,7 +57,7 @@ module _ {C : Type 0} where
     pub each : conns l ≡ idle_count l + out l
     pub held : (g k : ℕ) → (holds (get_of l g) ≡ Some k) ↔ (stands (is_held_by g) (record_of l k) ≡ true)
     pub served : (unnotified l ≡ 0) ⊎ (idle_count l ≤ notified l)
-    pub left : handles l ≡ 0 → idle_count l ≡ 0
+    pub none_idle : handles l ≡ 0 → idle_count l ≡ 0
 
   -- An answer gives the next numbers, and they are next no more.
   pub record GivesNext (l : Ledger C) (at : ℕ) (e : Act C) (a : Answer) : Type 0 where

@@ -1,5 +1,5 @@
 -- What each change of the records or the gets does to what is shown of them.
-use Rattle.std.specs.Prelude.{ℕ, zero, suc, ◌+◌, ◌-◌, max, Bool, true, false, cond, not, eqb, List, [], ◌∷◌, ◌++◌, filter, drop, slice_get, Option, Some, None}
+use Rattle.std.specs.Prelude.{ℕ, zero, suc, ◌+◌, ◌-◌, max, Bool, true, false, cond, not, eqb, ltb, List, [], ◌∷◌, ◌++◌, filter, drop, slice_get, Option, Some, None}
 use Rattle.std.specs.FinMap.{insert, remove, get}
 use Rattle.bb8_types.specs.declared.standing.Place.{Place}
 use Rattle.bb8_types.specs.declared.standing.Place.TheVariants.{Unclaimed, Claimed, Idle, Guarded}
@@ -9,7 +9,7 @@ use Rattle.bb8_types.specs.declared.standing.GetPlace.TheVariants.{Active, Waiti
 use Rattle.bb8_types.specs.declared.standing.Getting.{Getting}
 use Rattle.bb8_types.specs.declared.grants.Grant.{Grant}
 use Rattle.bb8_types.specs.Numbered.{one}
-use Rattle.bb8_types.specs.Places.{get_with_place, get_in_wait, gets_stand, is_notified, is_expired, birth_in}
+use Rattle.bb8_types.specs.Places.{get_with_place, get_in_wait, gets_stand, is_notified, birth_in}
 use Rattle.bb8_tables.specs.Views.{RecordsView, GetsView}
 use Rattle.bb8_types.specs.Grants.{IsGranted}
 
@@ -39,9 +39,9 @@ module _ {C : Type 0} where
   abbrev pub after_entry : Bool → ℕ → Standing C → RecordsView C → RecordsView C
   after_entry opening k st s = record s { places = insert s.places k st; idle = s.idle ++ k ∷ []; conns = s.conns + one opening; approved = s.approved - one opening }
 
-  -- whether a connection has lived too long
-  abbrev pub is_old : Option ℕ → ℕ → ℕ → RecordsView C → Bool
-  is_old lifetime now k s = is_expired lifetime now (birth_in (get s.places k))
+  -- whether a connection is older than this
+  abbrev pub is_older : ℕ → ℕ → ℕ → RecordsView C → Bool
+  is_older age now k s = ltb age (now - birth_in (get s.places k))
 
   -- a connection that was out is idle again, and keeps its birth
   abbrev pub after_return : ℕ → C → ℕ → RecordsView C → RecordsView C

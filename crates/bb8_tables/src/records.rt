@@ -166,16 +166,6 @@ fn push_unclaimed(unclaimed: &mut Ring<Key>, claimed: bool, key: Key)
     }
 }
 
-/// Whether a limit in nanoseconds is reached, where it is set.
-fn is_reached(limit: Option<u64>, span: u64) -> bool
-    ensures { result ≡ places.is_past limit span }
-{
-    match limit {
-        None => false,
-        Some(limit) => limit <= span,
-    }
-}
-
 /// One, where the test passes.
 pub fn one(test: bool) -> u64
     ensures value { result ≡ numbered.one test }
@@ -317,8 +307,8 @@ impl<C: Drop> Records<C> {
         }
     }
 
-    /// Takes back a connection that somebody holds, which is idle again and keeps its birth. Where it is broken, or has lived too long, or the
-    /// pool has ended, it is handed back instead with whether it has lived too long, and nothing changes. Where the holder does not have it, it
+    /// Takes back a connection that somebody holds, which is idle again and keeps its birth. Where it is broken, or older than the greatest age, or the
+    /// pool has ended, it is handed back instead with whether it is older, and nothing changes. Where the holder does not have it, it
     /// comes back, and nothing changes. No birth and no entry may lie after `now`. It looks for the connection once.
     #[inline(always)]
     pub fn put_back(
@@ -328,18 +318,18 @@ impl<C: Drop> Records<C> {
         holder: Holder,
         broken: bool,
         ended: bool,
-        lifetime: Option<u64>,
+        greatest_age: u64,
         now: u64,
         lendings: &mut Lendings,
     ) -> Result<Result<(), (C, bool)>, C>
         requires { NoneAfter now self.old }
         ensures held { IfOk result (λ r. places.stands (holders.is_with holder)
             (map.get self.old.places k.number) ≡ true) }
-        ensures ok { IfOk result (λ r. IfOk r (λ u. ((broken || (machine.is_old
-            lifetime now k.number self.old || ended)) ≡ false)
+        ensures ok { IfOk result (λ r. IfOk r (λ u. ((broken || (machine.is_older
+            greatest_age now k.number self.old || ended)) ≡ false)
             × (self.new ≡ machine.after_return k.number conn now self.old))) }
         ensures err { IfOk result (λ r. IfErr r (λ x. (x.0 ≡ conn)
-            × (x.1 ≡ machine.is_old lifetime now k.number self.old)
+            × (x.1 ≡ machine.is_older greatest_age now k.number self.old)
             × ((broken || (x.1 || ended)) ≡ true) × (self.new ≡ self.old))) }
         ensures unfit { IfErr result (λ c. (c ≡ conn) × (self.new ≡ self.old)
             × (places.stands (holders.is_with holder) (map.get self.old.places k.number) ≡ false)) }
@@ -353,9 +343,9 @@ impl<C: Drop> Records<C> {
                     return Err(conn);
                 }
                 let birth = standing.birth;
-                let expired = is_reached(lifetime, now - birth);
-                if is_closing(broken, expired, ended) {
-                    return Ok(Err((conn, expired)));
+                let older = greatest_age < now - birth;
+                if is_closing(broken, older, ended) {
+                    return Ok(Err((conn, older)));
                 }
                 let idle = Standing {
                     place: Place::Idle(conn),

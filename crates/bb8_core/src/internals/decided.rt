@@ -1,9 +1,9 @@
 //! What several steps decide or do in common.
 ghost use Rattle.std.specs.Prelude.{◌≡◌, ℕ, ◌+◌, ◌<◌, ◌≤◌, cond, ltb, slice_get, true, false, None, Some};
 ghost use Rattle.std.specs.FinMap as map;
-ghost use Rattle.std.specs.Option.{option_map};
+ghost use Rattle.std.specs.Option.{ForSome, option_map};
 ghost use Rattle.std.specs.Duration.{as_nanos};
-ghost use Rattle.bb8_core.specs.Pool.{Limits};
+ghost use Rattle.bb8_core.specs.Pool.{IsGreatestAge};
 ghost use Rattle.bb8_types.specs.Bounds.{end_of_numbers, most_records};
 ghost use Rattle.bb8_types.specs.Grants as grants;
 ghost use Rattle.bb8_types.specs.Numbered as numbered;
@@ -37,18 +37,19 @@ fn due(config: &Config, handles: u64, taken: u64, asked: u64) -> u64
 }
 
 /// How many approvals are due of those that are wanted, while a handle is alive.
-pub(super) fn lacking<C: Drop>(config: &Config, records: &Records<C>) -> u64
+pub(super) fn want_alive<C: Drop>(config: &Config, records: &Records<C>) -> u64
     ensures { (handles : ℕ) → 0 < handles
         → result ≡ decided.want (settings_of config.now) handles records.now }
 {
+    let Some(least) = config.min_idle else {
+        return 0;
+    };
     let taken = records.used();
     if taken >= config.max_size as u64 {
         return 0;
     }
-    let least = config.min_idle.unwrap_or(0) as u64;
-    least
-        .saturating_sub(records.ready())
-        .min((config.max_size as u64).saturating_sub(taken))
+    let room = config.max_size as u64 - taken;
+    (least as u64).saturating_sub(records.ready()).min(room)
 }
 
 /// How many approvals are due of those that are wanted.
@@ -58,7 +59,7 @@ pub(super) fn want<C: Drop>(config: &Config, handles: u64, records: &Records<C>)
     if handles == 0 {
         0
     } else {
-        lacking(config, records)
+        want_alive(config, records)
     }
 }
 
@@ -76,15 +77,14 @@ pub(super) fn due_waiting<C: Drop>(
     due(config, handles, records.used(), asked)
 }
 
-/// A limit on spans in nanoseconds; none where no span of 64 bits reaches it.
-pub(super) fn in_nanoseconds(limit: Option<Duration>) -> Option<u64>
-    ensures { Limits result (option_map as_nanos limit) }
+/// The greatest age, in nanoseconds, at which this limit is not reached.
+pub(super) fn greatest_age(limit: Option<Duration>) -> u64
+    requires { ForSome limit (λ l. 0 < as_nanos l) }
+    ensures { IsGreatestAge (option_map as_nanos limit) result }
 {
-    let nanoseconds = limit?.as_nanos();
-    if nanoseconds <= u64::MAX as u128 {
-        Some(nanoseconds as u64)
-    } else {
-        None
+    match limit {
+        None => u64::MAX,
+        Some(limit) => (limit.as_nanos() - 1).min(u64::MAX as u128) as u64,
     }
 }
 

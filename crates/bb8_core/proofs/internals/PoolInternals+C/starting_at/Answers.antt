@@ -12,5 +12,5 @@ invariant_of-result g c = (
     rw (c.new-records.ensures, c.new.ensures)
         (same_shown _ _ refl refl refl refl (of_records.shown-none c.args.first_number) (of_gets.shown-none c.args.first_get) refl),
   ),
-  c.in_nanoseconds.ensures,
+  c.greatest_age.ensures,
 )

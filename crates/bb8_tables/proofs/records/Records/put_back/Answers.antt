@@ -1,11 +1,11 @@
-use Rattle.std.proofs.Common.{◌≡◌, ◌||◌, true, false, ap, sym, ◌∙◌, refl, arith, subst, IfSome, Option}
+use Rattle.std.proofs.Common.{◌≡◌, ◌-◌, ◌||◌, ltb, true, false, ap, sym, ◌∙◌, refl, arith, subst, IfSome, Option}
 use Rattle.bb8_types.proofs.Places.{guarded_out}
 use Rattle.bb8_types.specs.declared.standing.Holder.{Holder}
 use Rattle.bb8_types.specs.declared.standing.Holder.TheVariants.{Guard, Get}
 use Rattle.bb8_types.specs.declared.standing.Place.{Place}
 use Rattle.bb8_types.specs.declared.standing.Standing.{Standing}
 use Rattle.bb8_types.specs.declared.standing.Place.TheVariants.{Unclaimed, Claimed, Idle, Held, Guarded}
-use Rattle.bb8_types.specs.Places.{is_out, stands, birth_in, is_expired}
+use Rattle.bb8_types.specs.Places.{is_out, stands, birth_in}
 use Rattle.bb8_tables.specs.declared.table.Slot.{Slot}
 use Rattle.bb8_tables.specs.Holders.{is_with}
 use Rattle.bb8_tables.specs.Machine as machine
@@ -31,8 +31,8 @@ returns-then-not-is_with-clause-unfit g c =
     let shown = some_shown c.self.inside c.args.k.number c.in-Some.place f.0 c.at.result.now c.args.self.now c.self.invariant c.self.view_is f.1 f.2 (sym c.at.ensures.value) in
     (refl, refl, ap (stands (is_with c.args.holder)) shown ∙ sym c.is_with.ensures ∙ c.if-not-is_with.true)
 
-pub overflow_sub-now : goal.overflow_sub-now
-overflow_sub-now g c = (moments c.self.inside c.args.now c.in-Some.place c.at.result.now c.self.invariant (rw (← c.self.view_is) at c.requires) c.at.ensures.value).0
+pub overflow_sub-older : goal.overflow_sub-older
+overflow_sub-older g c = (moments c.self.inside c.args.now c.in-Some.place c.at.result.now c.self.invariant (rw (← c.self.view_is) at c.requires) c.at.ensures.value).0
 
 pub returns-then-is_closing-clause-held : goal.returns-then-is_closing-clause-held
 returns-then-is_closing-clause-held g c =
@@ -51,7 +51,7 @@ returns-then-is_closing-clause-err g c =
     let f = c.in-Some.ensures.some in
     let born = ap birth_in (some_shown c.self.inside c.args.k.number c.in-Some.place f.0 c.at.result.now c.args.self.now c.self.invariant c.self.view_is f.1 f.2 (sym c.at.ensures.value)) in (
       refl,
-      c.is_reached-expired.ensures ∙ ap (is_expired c.args.lifetime c.args.now) (sym born),
+      ap (λ n. ltb c.args.greatest_age (c.args.now - n)) (sym born),
       sym c.is_closing.ensures ∙ c.if-is_closing.true,
       refl,
     )
@@ -82,7 +82,7 @@ returns-else-is_closing-clause-ok g c =
     let f = c.in-Some.ensures.some in
     let was = subst (λ (o : Option (Slot (Standing g.row.C.Denot))). IfSome o (λ x. is_out x.standing.place ≡ true)) (sym c.at.ensures.value ∙ f.1) (with_out c.args.holder _ (sym c.is_with.ensures ∙ c.if-not-is_with.false)) in
     let born = ap birth_in (some_shown c.self.inside c.args.k.number c.in-Some.place f.0 c.at.result.now c.args.self.now c.self.invariant c.self.view_is f.1 f.2 (sym c.at.ensures.value)) in (
-      ap (λ b. c.args.broken || (b || c.args.ended)) (ap (is_expired c.args.lifetime c.args.now) born ∙ sym c.is_reached-expired.ensures)
+      ap (λ n. c.args.broken || (ltb c.args.greatest_age (c.args.now - n) || c.args.ended)) born
           ∙ sym c.is_closing.ensures ∙ c.if-is_closing.false,
       enter_view c.self.inside false c.in-Some.place c.args.k.number f.0 (record { place = Idle c.args.conn; birth = c.at.result.now.standing.birth; entered = c.args.now })
           c.replace.new.self c.line_up.new.self c.self.invariant f.1 was f.2 refl c.replace.ensures.changed c.line_up.ensures
