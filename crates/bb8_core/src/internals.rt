@@ -151,14 +151,12 @@ impl<C: Drop, A> PoolInternals<C, A> {
         if self.records.idle_connections() == 0 {
             return None;
         }
-        self.lendings.start();
+        let mut lendings = self.lendings.begun();
         let strategy = self.config.queue_strategy;
-        match self
-            .records
-            .take(strategy, Holder::Guard, &mut self.lendings)
-        {
+        match self.records.take(strategy, Holder::Guard, &mut lendings) {
             None => None,
             Some((key, conn)) => {
+                self.lendings = lendings;
                 let now = self.latest.max(at.0);
                 self.latest = now;
                 let get = self.gets.begin_and_end();
