@@ -93,5 +93,5 @@ fn text_of_refused_memory(rt: HostRuntime) -> Result<(), Fail> {
 /// A state has one count of what its steps are lent: with a second one, in which a step could look unseen, it would be larger.
 #[test]
 fn state_has_one_count(rt: HostRuntime) {
-    assert_equal(&rt, size_of::<PoolInternals<u64>>(), 576);
+    assert_equal(&rt, size_of::<PoolInternals<u64>>(), 568);
 }
