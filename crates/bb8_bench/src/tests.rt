@@ -48,7 +48,7 @@ fn serves_nobody(rt: HostRuntime) -> Result<(), Fail> {
 }
 
 #[test]
-fn counts_no_return_that_closes(rt: HostRuntime) -> Result<(), Fail> {
+fn give_back_tells_a_close(rt: HostRuntime) -> Result<(), Fail> {
     let mut pool = opened_pool(rt.alloc(), 1).expect(&rt, "a pool of one");
     let (key, conn) = serve(&mut pool).expect(&rt, "an idle connection");
     assert!(rt; pool.leave(NOW).is_ok());

@@ -2,7 +2,7 @@
 ghost use Rattle.std.specs.Prelude.{◌≡◌};
 ghost use Rattle.bb8_c.specs.Words.{as_nanos, settings_of};
 ghost use Rattle.std.specs.Option.{option_map};
-ghost use Rattle.bb8_c.specs.Openings.{limit_of, held_to, order_of};
+ghost use Rattle.bb8_c.specs.Openings.{unless_zero, held_to, order_of};
 
 use bb8_core::api::{Config, QueueStrategy};
 use std::time::Duration;
@@ -27,7 +27,7 @@ pub struct Settings {
 
 /// A limit of so many nanoseconds; 0 is none.
 fn limit(nanoseconds: u64) -> Option<Duration>
-    ensures { option_map as_nanos result ≡ limit_of nanoseconds }
+    ensures { option_map as_nanos result ≡ unless_zero nanoseconds }
 {
     if nanoseconds == 0 {
         None
@@ -37,8 +37,8 @@ fn limit(nanoseconds: u64) -> Option<Duration>
 }
 
 /// A least number of idle connections; 0 is none.
-fn least(idle: u32) -> Option<u32>
-    ensures { result ≡ limit_of idle }
+fn least_idle(idle: u32) -> Option<u32>
+    ensures { result ≡ unless_zero idle }
 {
     if idle == 0 { None } else { Some(idle) }
 }
@@ -61,7 +61,7 @@ impl Settings {
     {
         Config {
             max_size: self.max_size,
-            min_idle: least(self.min_idle),
+            min_idle: least_idle(self.min_idle),
             test_on_check_out: self.test_on_check_out,
             max_lifetime: limit(self.max_lifetime),
             idle_timeout: limit(self.idle_timeout),

@@ -35,7 +35,7 @@ pub use bb8_types::reasons::Reason;
 use bb8_types::standing::{GetPlace, Holder};
 use decided::{
     close_and_grant, due_waiting, greatest_age, holder, is_expired, notify_next_if, want,
-    want_alive,
+    want_with_handle,
 };
 use std::alloc::Global;
 use std::marker::Model;
@@ -49,7 +49,7 @@ use std::marker::Model;
 #[derive(Drop)]
 pub struct PoolInternals<C, A = UncountedAccess> {
     config: Config,
-    // The greatest age, in nanoseconds, at which `max_lifetime` is not reached: each return compares with it.
+    // The greatest age, in nanoseconds, that does not reach `max_lifetime`; each return compares an age with it.
     greatest_age: u64,
     latest: u64,
     handles: u64,
@@ -151,18 +151,20 @@ impl<C: Drop, A> PoolInternals<C, A> {
         if self.records.idle_connections() == 0 {
             return None;
         }
-        let mut lendings = self.lendings.begun();
+        self.lendings.start();
         let strategy = self.config.queue_strategy;
-        match self.records.take(strategy, Holder::Guard, &mut lendings) {
+        match self
+            .records
+            .take(strategy, Holder::Guard, &mut self.lendings)
+        {
             None => None,
             Some((key, conn)) => {
-                self.lendings = lendings;
                 let now = self.latest.max(at.0);
                 self.latest = now;
                 let get = self.gets.begin_and_end();
                 self.counters.started += 1;
                 self.counters.serve(None, now);
-                let wanted = want_alive(&self.config, &self.records);
+                let wanted = want_with_handle(&self.config, &self.records);
                 let grant = self.records.grant(wanted, false);
                 Some(AtOnce {
                     get,
@@ -249,7 +251,7 @@ impl<C: Drop, A> PoolInternals<C, A> {
                 Started::Tried(get, TryAnswer::Waiting(grant))
             }
             Some((key, conn)) => {
-                let wanted = want_alive(&self.config, &self.records);
+                let wanted = want_with_handle(&self.config, &self.records);
                 let grant = self.records.grant(wanted, false);
                 if self.config.test_on_check_out {
                     let get = self.gets.bear_holding(key.number, &mut lendings);

@@ -9,7 +9,7 @@ use Rattle.bb8_types.proofs.Numbered as numbered
 use Rattle.bb8_ledger.proofs.Waiters.{some_tally, in_order_some, in_order_least, both_hold, one_few, at_update, tally_update, getting_is, handed, is_waiting}
 use Rattle.bb8_ledger.proofs.Effects.{each_legal, place_of, Turns, updated_shows, idle_turns, returns_turn, opens_turn}
 use Rattle.bb8_ledger.proofs.GetEffects.{put_off, getting, alive_get, trier, holder_ends, holder_turns, left_gets, left_oldest, handed_to}
-use Rattle.bb8_ledger.proofs.Sums.{none_idle, untold, notified_in, IsMet, LosesFew, Provides, row_sums}
+use Rattle.bb8_ledger.proofs.Sums.{idle_none, untold, notified_in, IsMet, LosesFew, Provides, row_sums}
 use Rattle.bb8_ledger.proofs.Held.{hands_in_turn}
 use Rattle.bb8_ledger.proofs.Wants.{either_none}
 use Rattle.bb8_ledger.proofs.Places.{is_waiting_then, changed_waited, row_since, one_since, one_get, all_apart}
@@ -284,7 +284,7 @@ module _ {C : Type 0} where
       omega (arith, met l (Try g) legal h, counted l g m.0.position (m.0, m.1, refl, inr m.2), ap one (untold (get_of l g) on))
   row_in_turn l at e _ legal f (serves {g} {k} not_waiting off first want) i h = (first_tries l g legal h (some_idle l k first), went_out l k legal i first)
   row_in_turn l at e _ legal f (takes_out {g} {k} not_waiting on first want) i h = (first_tries l g legal h (some_idle l k first), went_out l k legal i first)
-  row_in_turn l at e _ legal f (waits {g} not_waiting none granted) i h = none_idle l none
+  row_in_turn l at e _ legal f (waits {g} not_waiting none granted) i h = idle_none l none
   row_in_turn l at e _ legal f _ i h = tt
 
   always_in_turn : (l : Ledger C) → IsLegal l → IfHanded AlwaysInTurn l
@@ -542,7 +542,7 @@ module _ {C : Type 0} where
       go None on = tt
       go (Some k) on =
           let y = idle_found l k (on k refl) in
-          absurd (omega (arith, none_idle l none, some_tally (λ (r : Numbered (Standing C)). stands is_idle r.standing) (records l) (start l).first k y.0 y.1 y.2))
+          absurd (omega (arith, idle_none l none, some_tally (λ (r : Numbered (Standing C)). stands is_idle r.standing) (records l) (start l).first k y.0 y.1 y.2))
 
   -- Where nobody was notified before, a get that an event notifies, and that tries at once, goes out with the connection that the event
   -- brought, or waits anew where it brought none; and nobody is notified then.

@@ -6,7 +6,7 @@ use Rattle.bb8_types.proofs.Numbered as numbered
 use Rattle.bb8_ledger.proofs.Waiters.{at_update, begins_now, is_waiting, handed}
 use Rattle.bb8_ledger.proofs.Effects.{each_legal}
 use Rattle.bb8_ledger.proofs.GetEffects.{put_off, getting, alive_get, holder_ends, holder_turns, left_gets, left_oldest, handed_to, waits_on_gets}
-use Rattle.bb8_ledger.proofs.Sums.{none_idle}
+use Rattle.bb8_ledger.proofs.Sums.{idle_none}
 
 pub waiting_is : (o : Option Getting) → gets_stand is_waiting o ≡ true → (gets_stand is_notified o ≡ true) ⊎ (gets_stand is_unnotified o ≡ true)
 waiting_is None on = cc
@@ -112,7 +112,7 @@ module _ {C : Type 0} where
   row_waited l at _ _ g y f (begins is few) hy on = inl (y, begun_waited (start l).first_get g (gets l) y hy on, refl, on)
   row_waited l at _ _ g y f (waits_on {g = q} now nothing) hy on =
       inl (y, sym (ap (λ (gs : List (Numbered Getting)). at_number (start l).first_get gs g) (waits_on_gets l at q now)) ∙ hy, refl, on)
-  row_waited l at _ _ g y f (waits {g = q} not_waiting none granted) hy on = elim (waits_waited l at q g y not_waiting (none_idle l none) hy) [
+  row_waited l at _ _ g y f (waits {g = q} not_waiting none granted) hy on = elim (waits_waited l at q g y not_waiting (idle_none l none) hy) [
     | inl before ↦ inl (y, before, refl, on)
     | inr now ↦ inr now
   ]

@@ -69,8 +69,8 @@ Lowers _ less unnotified = less ≡ 0
 
 module _ {C : Type 0} where
   -- nobody is idle where nobody is first
-  pub none_idle : (l : Ledger C) → first_idle l ≡ None → idle_count l ≡ 0
-  none_idle l none = omega (arith, idle_tally l, none_first (start l).config.queue_strategy (idle l) none)
+  pub idle_none : (l : Ledger C) → first_idle l ≡ None → idle_count l ≡ 0
+  idle_none l none = omega (arith, idle_tally l, none_first (start l).config.queue_strategy (idle l) none)
 
   -- what is granted is within the size
   wanted_few : (l : Ledger C) (rs : List (Numbered (Standing C))) (g : Grant) → IsWant l rs g → g.count ≤ (start l).config.max_size - (conns_of rs + approved_of rs)
@@ -165,7 +165,7 @@ module _ {C : Type 0} where
         due_few (start l).config (handles l) (conns l + approved l) asked,
         due_or_none (start l).config (handles l) (conns l + approved l) asked,
         one_or_enough (approved l) (alive l),
-        none_idle l none,
+        idle_none l none,
         ap (λ (b : Bool). cond b (unasked l) (unasked l - 1)) not_waiting,
       )
   row_sums l at _ _ legal f (checks {g} {k} holds_it nothing) =

@@ -307,9 +307,9 @@ impl<C: Drop> Records<C> {
         }
     }
 
-    /// Takes back a connection that somebody holds, which is idle again and keeps its birth. Where it is broken, or older than the greatest age, or the
-    /// pool has ended, it is handed back instead with whether it is older, and nothing changes. Where the holder does not have it, it
-    /// comes back, and nothing changes. No birth and no entry may lie after `now`. It looks for the connection once.
+    /// Takes back a connection that somebody holds, which is idle again and keeps its birth. Where it is broken, or older than `greatest_age`, or
+    /// the pool has ended, it is handed back instead, with whether it is older than that, and nothing changes. Where the holder does not have
+    /// it, it comes back, and nothing changes. No birth and no entry may lie after `now`. It looks for the connection once.
     #[inline(always)]
     pub fn put_back(
         &mut self,

@@ -37,7 +37,7 @@ fn due(config: &Config, handles: u64, taken: u64, asked: u64) -> u64
 }
 
 /// How many approvals are due of those that are wanted, while a handle is alive.
-pub(super) fn want_alive<C: Drop>(config: &Config, records: &Records<C>) -> u64
+pub(super) fn want_with_handle<C: Drop>(config: &Config, records: &Records<C>) -> u64
     ensures { (handles : ℕ) → 0 < handles
         → result ≡ decided.want (settings_of config.now) handles records.now }
 {
@@ -59,7 +59,7 @@ pub(super) fn want<C: Drop>(config: &Config, handles: u64, records: &Records<C>)
     if handles == 0 {
         0
     } else {
-        want_alive(config, records)
+        want_with_handle(config, records)
     }
 }
 

@@ -18,7 +18,7 @@ pub grant-grant-requires : goal.grant-grant-requires
 grant-grant-requires g c = omega (
   arith,
   due_fits (view_of c.self.inside) _ c.self.invariant.0 (omega arith) c.in-Some.ensures.some.2 refl
-      (c.want_alive-wanted.ensures c.self.inside.handles (fit_leave refl c.self.invariant.0 (fit_idle (view_of c.self.inside) (omega (arith, c.if-idle_connections-eq0.false, c.idle_connections.ensures))))),
+      (c.want_with_handle-wanted.ensures c.self.inside.handles (fit_leave refl c.self.invariant.0 (fit_idle (view_of c.self.inside) (omega (arith, c.if-idle_connections-eq0.false, c.idle_connections.ensures))))),
 )
 
 pub returns-in-Some-clause-some : goal.returns-in-Some-clause-some
@@ -32,7 +32,7 @@ returns-in-Some-clause-some g c =
           fit c.max-now.ensures (c.has_room.ensures.number c.if-not-has_room.false)),
       at_view refl
           (meets_served_between a c.self.inside.counters c.begin_and_end-get.ensures.number c.if-self.false c.max-now.ensures c.in-Some.ensures.some.0
-          (grants c.in-Some.ensures.some.2 (c.want_alive-wanted.ensures c.self.inside.handles (fit_leave refl c.self.invariant.0 fit)) c.grant-grant.ensures.granted c.grant-grant.ensures.state)
+          (grants c.in-Some.ensures.some.2 (c.want_with_handle-wanted.ensures c.self.inside.handles (fit_leave refl c.self.invariant.0 fit)) c.grant-grant.ensures.granted c.grant-grant.ensures.state)
           c.begin_and_end-get.ensures.state refl c.serve.ensures),
       λ l legal means. (record { place = Idle c.in-Some.conn; birth = was.0; entered = was.1 }, shown_record l (between a c.max-now.result) means c.in-Some.key.number ∙ was.2, refl),
     )

@@ -55,7 +55,7 @@ invariant_of-self-in-None g c = (
 )
 
 pub grant-grant-requires-in-Some : goal.grant-grant-requires-in-Some
-grant-grant-requires-in-Some g c = omega (arith, due_fits (view_of c.self.inside) _ c.self.invariant.0 (omega arith) c.in-Some.ensures.some.2 refl (c.want_alive-wanted.ensures c.self.inside.handles (fit_leave c.self.view_is c.self.invariant.0 c.requires)))
+grant-grant-requires-in-Some g c = omega (arith, due_fits (view_of c.self.inside) _ c.self.invariant.0 (omega arith) c.in-Some.ensures.some.2 refl (c.want_with_handle-wanted.ensures c.self.inside.handles (fit_leave c.self.view_is c.self.invariant.0 c.requires)))
 
 pub returns-then-self-clause-step : goal.returns-then-self-clause-step
 returns-then-self-clause-step g c =
@@ -71,7 +71,7 @@ returns-then-self-clause-step g c =
           ∙ ap (λ (h : Holder). machine.after_take (place_with h) c.in-Some.key.number c.self.inside.records)
           (c.holder-holder.ensures ∙ ap (λ (b : Bool). cond b (Get c.next_number.result) Guard) c.if-self.true
           ∙ ap (λ (m : ℕ). Get m) (c.next_number.ensures ∙ sym c.bear_holding-get.ensures.key)))
-          (c.want_alive-wanted.ensures c.self.inside.handles (fit_leave c.self.view_is c.self.invariant.0 c.requires)) c.grant-grant-in-Some.ensures.granted c.grant-grant-in-Some.ensures.state)
+          (c.want_with_handle-wanted.ensures c.self.inside.handles (fit_leave c.self.view_is c.self.invariant.0 c.requires)) c.grant-grant-in-Some.ensures.granted c.grant-grant-in-Some.ensures.state)
           (begun_at a.gets (machine.after_turn (Holding c.in-Some.key.number)) made c.bear_holding-get.ensures.state)),
       λ l legal means. (record { place = Idle c.in-Some.conn; birth = was.0; entered = was.1 }, shown_record l (between a c.max-now.result) means c.in-Some.key.number ∙ was.2, refl),
     )
@@ -103,7 +103,7 @@ returns-else-self-clause-step g c =
           (grants (c.in-Some.ensures.some.2
           ∙ ap (λ (h : Holder). machine.after_take (place_with h) c.in-Some.key.number c.self.inside.records)
           (c.holder-holder.ensures ∙ ap (λ (b : Bool). cond b (Get c.next_number.result) Guard) c.if-self.false))
-          (c.want_alive-wanted.ensures c.self.inside.handles (fit_leave c.self.view_is c.self.invariant.0 c.requires)) c.grant-grant-in-Some.ensures.granted c.grant-grant-in-Some.ensures.state)
+          (c.want_with_handle-wanted.ensures c.self.inside.handles (fit_leave c.self.view_is c.self.invariant.0 c.requires)) c.grant-grant-in-Some.ensures.granted c.grant-grant-in-Some.ensures.state)
           (begun_at a.gets machine.after_get_end made c.begin_and_end.ensures.state) refl c.serve.ensures),
       λ l legal means. (record { place = Idle c.in-Some.conn; birth = was.0; entered = was.1 }, shown_record l (between a c.max-now.result) means c.in-Some.key.number ∙ was.2, refl),
     )
