@@ -40,20 +40,14 @@ pub(crate) struct Locked<C> {
 }
 
 impl<C> Locked<C> {
-    /// Has a get that was notified try at once, under the lock of the step that notified it, so
-    /// that no other comes between. The answer is its waker, where it was handed a connection, and
-    /// whether something is to be opened. Where nothing is idle it waits on, and is not woken.
+    /// Hands what is idle to a get that was notified, under the lock of the step that notified it,
+    /// so that no other comes between. The answer is its waker, and whether something is to be
+    /// opened.
     pub(crate) fn hand_over(&mut self, at: u64, get: Name) -> (Option<Waker>, bool) {
         let told = self.core.try_get(at, get);
-        let waker = match told.kind() {
-            Kind::Served | Kind::Taken => {
-                let handed = self.handed(&told);
-                self.waiters.hand(get, handed)
-            }
-            Kind::Waiting => None,
-            kind => unreachable!("{kind:?} is no answer to a try"),
-        };
-        (waker, told.granted.count > 0)
+        assert!(matches!(told.kind(), Kind::Served | Kind::Taken));
+        let handed = self.handed(&told);
+        (self.waiters.hand(get, handed), told.granted.count > 0)
     }
 
     /// What a step handed out.

@@ -168,8 +168,9 @@ impl<M: ManageConnection> Shared<M> {
     }
 
     /// What follows for a get that was notified: whom to wake, and whether something is to be
-    /// opened. Where memory to note that it waits was refused it gives up, and its notification
-    /// goes on.
+    /// opened. Where nothing is idle it tries by itself, as what its try asks for is opened in the
+    /// runtime of who tries. Where memory to note that it waits was refused it gives up, and its
+    /// notification goes on.
     #[inline]
     fn notify(
         &self,
@@ -181,7 +182,7 @@ impl<M: ManageConnection> Shared<M> {
             let since = locked.waiters.since(get);
             since.is_some_and(|since| at.saturating_sub(since) >= wait)
         };
-        if self.fair_after.is_some_and(waited) {
+        if self.fair_after.is_some_and(waited) && locked.shelf.idle() > 0 {
             locked.hand_over(at, get)
         } else {
             (locked.waiters.notify(get), false)

@@ -487,6 +487,33 @@ fn a_guard_may_be_dropped_outside_a_runtime() {
 }
 
 #[test]
+fn a_guard_that_closes_where_nothing_is_opened_leaves_nobody_waiting() {
+    let elsewhere: [fn(Guard, &Runtime); 2] = [
+        |conn, _| thread::spawn(|| drop(conn)).join().unwrap(),
+        |conn, rests| rests.block_on(async { drop(conn) }),
+    ];
+    for (fair_after, let_go) in [None, Some(Duration::ZERO)]
+        .into_iter()
+        .flat_map(|wait| elsewhere.map(|let_go| (wait, let_go)))
+    {
+        let world: Arc<World> = Arc::default();
+        let (lives, rests) = (runtime(), runtime());
+        let (conn, get) = lives.block_on(async {
+            let builder = builder(&world, 1).fair_after(fair_after);
+            let pool = builder.build(Manager(world.clone())).await.unwrap();
+            let conn = pool.get_owned().await.unwrap();
+            let get = tokio::spawn(async move { pool.get().await.is_ok() });
+            yield_now().await;
+            (conn, get)
+        });
+        world.set(&[Fault::IsBroken]);
+        let_go(conn, &rests);
+        world.mend();
+        assert!(lives.block_on(get).unwrap(), "{fair_after:?}");
+    }
+}
+
+#[test]
 fn all_is_dropped_with_the_last_runtime() {
     let world: Arc<World> = Arc::default();
     let runtime = runtime();
