@@ -28,7 +28,6 @@ REPETITIONS = 9
 PAIRS = 800_000
 ROUNDS = 4_000_000
 CROWDS = (10_000, 25_000, 50_000, 100_000)
-THREADS = ((1, 16), (2, 16), (4, 16), (8, 16), (4, 4))
 # rounds of each of two threads that wake each other
 WAKES = "500"
 # 32 tasks share four connections: whose these are, of which pool and by which mode, and for how many milliseconds
@@ -62,12 +61,12 @@ def runs(have):
             yield measures.round_of(size), CORE_OF, [programs.CORE, "rounds", str(size), "{}"], ROUNDS, ROUNDS
             if ORIGINAL_OF in have:
                 yield measures.round_of(size), ORIGINAL_CORE, measures.beside(ORIGINAL_OF, "core", size), ROUNDS, ROUNDS
-    for threads, size in THREADS:
-        what = f"a pair, {threads} thread{'' if threads == 1 else 's'}, pool of {size}"
-        for whose in (LIVE_OF, *POOLS):
-            if whose in have:
-                run = measures.live("threads", size) if whose == LIVE_OF else measures.beside(whose, "threads", size)
-                yield what, whose, [*run, str(threads)], PAIRS // threads, PAIRS
+    for mode, is_checked in (("threads-check", True), ("threads", False)):
+        for threads, size in measures.THREADS:
+            for whose in (LIVE_OF, *POOLS):
+                if whose in have:
+                    run = measures.live(mode, size) if whose == LIVE_OF else measures.beside(whose, mode, size)
+                    yield measures.pair_of(threads, size, is_checked), whose, [*run, str(threads)], PAIRS // threads, PAIRS
     for gets in CROWDS:
         if CORE_OF in have:
             yield f"a crowd of {gets:,}", CORE_OF, [programs.CORE, "crowd", "{}"], gets, 1

@@ -12,7 +12,7 @@ sys.dont_write_bytecode = True
 
 import figures
 import tables
-from measures import CORE_OF, CRATE_OF, FAIR_OF, LIVE_OF, ORIGINAL_OF, R2D2_OF
+from measures import CORE_OF, CRATE_OF, FAIR_OF, LIVE_OF, ORIGINAL_OF, R2D2_OF, pair_of
 from programs import TOP
 from tables import NAMES
 
@@ -137,10 +137,11 @@ def crowd(parts):
 
 def threads(parts):
     table = figures.table(parts, "times")
-    many = [count for count in (1, 2, 4, 8) if any(what == named(count) for what, _ in table)]
-    drawn = drawn_of(table, [named(count) for count in many], POOLS, lambda one: 1e3 / one)
+    rows = {count: pair_of(count, 16, True) for count in (1, 2, 4, 8)}
+    many = [count for count, row in rows.items() if any(what == row for what, _ in table)]
+    drawn = drawn_of(table, [rows[count] for count in many], POOLS, lambda one: 1e3 / one)
     marks = [(at / max(len(many) - 1, 1), str(count)) for at, count in enumerate(many)]
-    return drawn and lines("Gets and returns a second, by threads", "A pool of 16, no check, the machine's clock; the best of nine runs; more is better; 1, 2, 4 and 8 stand evenly",
+    return drawn and lines("Gets and returns a second, by threads", "A pool of 16, default settings, the machine's clock; the best of nine runs; more is better; 1, 2, 4 and 8 stand evenly",
                            "threads that get and return without a pause", "million pairs a second", marks, drawn)
 
 
@@ -152,10 +153,6 @@ def shares(parts):
     marks = [(at / (many - 1), str(at + 1) if at % 8 == 7 or at == 0 else "") for at in range(many)]
     return drawn and lines(f"{many} tasks that share four connections for three seconds", "Each has a connection for a millisecond, gives it back and asks again; a level line is a fair one",
                            "tasks, from the one with the fewest rounds on", "rounds of a task", marks, drawn)
-
-
-def named(count):
-    return f"a pair, {count} thread{'' if count == 1 else 's'}, pool of 16"
 
 
 def drawings():

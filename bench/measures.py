@@ -1,6 +1,7 @@
 """What is counted and how: instructions by callgrind, bytes by massif, times by the kernel."""
 import os
 import re
+import statistics
 import subprocess
 import tempfile
 import time
@@ -15,6 +16,8 @@ FAIR_OF = "Rust crate, fair after 1 ms"
 POOLS = {CRATE_OF: "crate", ORIGINAL_OF: "original", R2D2_OF: "r2d2"}
 SIZES = (1, 10, 1_000, 100_000)
 FEW, MANY = 1_000, 11_000
+# threads that share a pool: how many, and its size
+THREADS = ((1, 16), (2, 16), (4, 16), (8, 16), (4, 4))
 # what a task does while it has a connection, by the modes of `beside`
 HELD = ("nothing", "yield", "compute", "sleep")
 # what one run of the profiler is allowed
@@ -23,6 +26,11 @@ LIMIT = 600
 
 def round_of(size):
     return f"a round, {size:,} connection{'' if size == 1 else 's'}"
+
+
+def pair_of(threads, size, is_checked):
+    """A pair in so many threads: by default settings, or with the check off."""
+    return f"a pair, {'default settings' if is_checked else 'check off'}, {threads} thread{'' if threads == 1 else 's'}, pool of {size}"
 
 
 def profiled(tool, words, *more):
@@ -114,12 +122,15 @@ def kept_bytes(words):
     return max(lasted, key=lasted.get)
 
 
-# where lists that double are just full, and where they have just doubled; our tables have an entry more, and are full before
+# where tables that double are just full, as ours have entries of their own, and where all have just doubled
 OURS_FULL, FULL, DOUBLED = 4_094, 4_096, 4_097
 
 
 def heaps(have):
-    """The bytes beyond the first of them: what, whose, and the figure, for an idle connection, with its number of 8 bytes, and a waiting get."""
+    """The bytes beyond the first of them: what, whose, and the figure, for an idle connection, with its number of 8 bytes, and a waiting get.
+    The median of three runs, as r2d2 opens by threads."""
+    def kept(words):
+        return statistics.median(kept_bytes(words) for _ in range(3))
     runs = []
     if LIVE_OF in have:
         runs += [("an idle connection", LIVE_OF, lambda many: [LIVE, "hand", "400000", str(many)]),
@@ -130,9 +141,9 @@ def heaps(have):
             if whose != R2D2_OF:
                 runs.append(("a waiting get", whose, lambda many, whose=whose: [BESIDE, POOLS[whose], "wait", str(many), "1"]))
     for what, whose, words in runs:
-        first = kept_bytes(words(1))
-        for many in (OURS_FULL, FULL, DOUBLED) if whose == LIVE_OF else (FULL, DOUBLED):
-            yield f"{what}, {many:,} of them", whose, f"{(kept_bytes(words(many)) - first) / (many - 1):.0f}"
+        first = kept(words(1))
+        for where, many in (("full", OURS_FULL if whose in (LIVE_OF, CRATE_OF) else FULL), ("just grown", DOUBLED)):
+            yield f"{what}, tables {where}", whose, f"{(kept(words(many)) - first) / (many - 1):.0f}"
     for whose in (CRATE_OF, ORIGINAL_OF):
         if whose in have:
             told = subprocess.run([BESIDE, POOLS[whose], "sizes", "0", "1"], capture_output=True, text=True, check=True)

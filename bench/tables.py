@@ -3,7 +3,7 @@ import os
 import re
 
 import figures
-from measures import CORE_OF, CRATE_OF, FAIR_OF, HELD, LIVE_OF, ORIGINAL_CORE, ORIGINAL_OF, R2D2_OF, SIZES, round_of
+from measures import CORE_OF, CRATE_OF, FAIR_OF, HELD, LIVE_OF, ORIGINAL_CORE, ORIGINAL_OF, R2D2_OF, SIZES, THREADS, pair_of, round_of
 
 README = os.path.join(os.path.dirname(os.path.abspath(__file__)), "README.md")
 POOLS = (LIVE_OF, CRATE_OF, ORIGINAL_OF, R2D2_OF)
@@ -16,12 +16,11 @@ PAIRS = (
     ("a pair, check off, no limits on ages", "instructions", "a pair, check off, no limits on ages"),
     ("a waiting get, served", "instructions", "a waiting get, served"),
     ("a get that waits and is let go", "instructions", "a get that waits and is let go"),
-    *((f"ns a pair, check off: {count} thread{'' if count == 1 else 's'}, pool of {size}", "times",
-       f"a pair, {count} thread{'' if count == 1 else 's'}, pool of {size}") for count, size in ((1, 16), (2, 16), (4, 16), (8, 16), (4, 4))),
-    ("bytes: an idle connection, in full tables", "bytes", "an idle connection, 4,096 of them"),
-    ("in tables that have just grown", "bytes", "an idle connection, 4,097 of them"),
-    ("bytes: a waiting get, in full tables", "bytes", "a waiting get, 4,096 of them"),
-    ("in tables that have just grown", "bytes", "a waiting get, 4,097 of them"),
+    *((f"ns: {pair_of(count, size, is_checked)}", "times", pair_of(count, size, is_checked)) for is_checked in (True, False) for count, size in THREADS),
+    ("bytes: an idle connection, in full tables", "bytes", "an idle connection, tables full"),
+    ("in tables that have just grown", "bytes", "an idle connection, tables just grown"),
+    ("bytes: a waiting get, in full tables", "bytes", "a waiting get, tables full"),
+    ("in tables that have just grown", "bytes", "a waiting get, tables just grown"),
     ("ns from a return to the get that sleeps", "wakes", "a return to the get that sleeps"),
 )
 LOADS = tuple((words, "loads", f"held for {held}") for words, held in zip(

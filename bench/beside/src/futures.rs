@@ -217,6 +217,7 @@ macro_rules! runs {
                     "free" => Some(rounds(&pool(false, false), run.count)),
                     "check" => Some(rounds(&pool(true, true), run.count)),
                     "threads" => Some(shared(&pool(false, true), run.count, run.threads)),
+                    "threads-check" => Some(shared(&pool(true, true), run.count, run.threads)),
                     "crowd" => Some(crowd(&pool(false, true), run.count, run.size, true)),
                     "let-go" => Some(crowd(&pool(false, true), run.count, run.size, false)),
                     "wait" => Some(waiting(&pool(false, true), run.count, run.size)),

@@ -5,7 +5,7 @@
 //! limits on their ages:
 //!
 //! - `hand`: a get and its drop, with the check off; `free` the same without limits on ages; `check` with the check on;
-//! - `threads`: so many threads, four if none is said, of so many rounds each, with the check off;
+//! - `threads`: so many threads, four if none is said, of so many rounds each, with the check off; `threads-check` with the check on;
 //! - `crowd`: so many gets wait for the connections, which are all out, and are served one by one; `let-go`: they are let go; `wait`:
 //!   they wait for a while;
 //! - `wake`: two threads take turns with one connection of r2d2, and sleep in their gets; it prints two figures, as there;

@@ -90,6 +90,7 @@ pub fn answer(run: &Run) -> Option<u64> {
         "free" => Some(rounds(&pool(run.size, false, false), run.count)),
         "check" => Some(rounds(&pool(run.size, true, true), run.count)),
         "threads" => Some(shared(&pool(run.size, false, true), run.count, run.threads)),
+        "threads-check" => Some(shared(&pool(run.size, true, true), run.count, run.threads)),
         _ => None,
     }
 }

@@ -7,6 +7,7 @@
 //! `bb8_live_bench task ROUNDS SIZE`: polls of a future that is ready, which are taken off the first.
 //! `bb8_live_bench threads ROUNDS SIZE [THREADS]`: so many threads, four if none is said, of so many rounds each, polled by hand until
 //! they are served, on the machine's clock.
+//! `bb8_live_bench threads-check ROUNDS SIZE [THREADS]`: the same with the check on.
 //! `bb8_live_bench crowd GETS SIZE`: so many gets wait for the connections, which are all out, and are served one by one.
 //! `bb8_live_bench let-go GETS SIZE`: so many gets wait in the same way, and are let go.
 //! `bb8_live_bench wait GETS SIZE`: so many gets wait in the same way, for a while.
@@ -47,6 +48,7 @@ enum Measure {
     Block,
     Task,
     Threads(usize),
+    CheckedThreads(usize),
     Crowd,
     LetGo,
     Wait,
@@ -61,6 +63,7 @@ fn mode_of(name: &str, threads: usize) -> Option<Measure> {
         "block" => Some(Measure::Block),
         "task" => Some(Measure::Task),
         "threads" => Some(Measure::Threads(threads)),
+        "threads-check" => Some(Measure::CheckedThreads(threads)),
         "crowd" => Some(Measure::Crowd),
         "let-go" => Some(Measure::LetGo),
         "wait" => Some(Measure::Wait),
@@ -114,22 +117,25 @@ fn alone<R: Runtime, L: PoolParts>(
     }
 }
 
-/// Runs a mode on the machine's clock, in one thread or in more: how many gets were served.
+/// Runs a mode on the machine's clock, in one thread or in more, with the check on or off: how many gets were served.
 fn clocked<R: Runtime + Threads, L: PoolParts>(
     rt: R,
     blank: Blank,
     mode: Measure,
+    check: bool,
     rounds: u64,
     size: u32,
 ) -> Result<u64, Memory>
     requires parts { IsBlankOf blank
-        (record default_settings { max_size = size; test_on_check_out = false }) L.name L.parts
+        (record default_settings { max_size = size; test_on_check_out = check }) L.name L.parts
         L.settings }
     requires some { 0 < size }
 {
-    let pool: NumberPool<MachineClock<R>, R, L> = full(rt, MachineClock(rt), blank, false, size)?;
+    let pool: NumberPool<MachineClock<R>, R, L> = full(rt, MachineClock(rt), blank, check, size)?;
     match mode {
-        Measure::Threads(threads) => shared(rt, &pool, rounds, threads),
+        Measure::Threads(threads) | Measure::CheckedThreads(threads) => {
+            shared(rt, &pool, rounds, threads)
+        }
         _ => polled(&rt, &pool, rounds),
     }
 }
@@ -166,9 +172,10 @@ fn start<R: Runtime + Threads>(rt: R, mode: Measure, rounds: u64, size: u32) -> 
             let check = matches!(mode, Measure::Check);
             alone::<R, Brand>(rt, blank, mode, check, rounds, size)
         }
-        Measure::Machine | Measure::Threads(_) => clocked::<R, Brand>(
-            rt, blank, mode, rounds, size,
-        ),
+        Measure::Machine | Measure::Threads(_) | Measure::CheckedThreads(_) => {
+            let check = matches!(mode, Measure::CheckedThreads(_));
+            clocked::<R, Brand>(rt, blank, mode, check, rounds, size)
+        }
         Measure::Crowd | Measure::LetGo | Measure::Wait => {
             crowded::<R, Brand>(rt, blank, mode, rounds, size)
         }

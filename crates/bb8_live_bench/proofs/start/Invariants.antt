@@ -12,7 +12,7 @@ abbrev pub ghosts-clocked-L-Ledger : goal.ghosts-clocked-L-Ledger
 ghosts-clocked-L-Ledger g a = record { name = a.blank.name; parts = a.blank.parts }
 
 abbrev pub ghosts-clocked-L-Parts : goal.ghosts-clocked-L-Parts
-ghosts-clocked-L-Parts g a = record { settings = record default_settings { max_size = a.size; test_on_check_out = false } }
+ghosts-clocked-L-Parts g a = record { settings = record default_settings { max_size = a.size; test_on_check_out = a.check } }
 
 abbrev pub ghosts-crowded-L-Ledger : goal.ghosts-crowded-L-Ledger
 ghosts-crowded-L-Ledger g a = record { name = a.blank.name; parts = a.blank.parts }
