@@ -1,5 +1,5 @@
 -- How many connections are out of the pool, step by step.
-use Rattle.bb8_core.proofs.Words.{◌≡◌, ℕ, ◌+◌, ◌-◌, ◌≤◌, length, true, false, Some, refl, sym, ap, ◌∙◌, subst, arith, Act, Begin, Try, CheckedErr, GiveUp, PutBack, Answer, Begun, Served, Taken, Kept, Closed, Unfit, Guarded, Held, Ledger, Later, start, records, conns, idle, idle_count, out, Row, waits_on, serves, takes_out, waits, checks, check_fails, gives_up_kept, gives_up_closed, keeps, returns_closed, fills, claims, opens, opens_late, fails, adds, reaps, leaves, fits, Allowed, IsLegal, Lent, StateView, shown_beside, Meets, HasLedger, idle_tally, conns_split, each_allowed, returns_turn, closes_turn, opens_turn, ends_turn, idle_turns, unclaimed_turns, stays_sized, turned_sized, adds_sized, granted_sized, reaped_sized, granted_reaped, left_sized, checks_turn, drops_turn, hands_in_turn, all_fit}
+use Rattle.bb8_core.proofs.Words.{◌≡◌, ℕ, ◌+◌, ◌-◌, ◌≤◌, length, true, false, Some, refl, sym, ap, ◌∙◌, subst, arith, Act, Begin, Try, CheckedErr, GiveUp, PutBack, Answer, Begun, Served, Taken, Kept, Closed, Unfit, Guarded, Held, Ledger, Later, records, conns, idle, idle_count, out, Row, waits_on, serves, takes_out, waits, checks, check_fails, gives_up_kept, gives_up_closed, keeps, returns_closed, fills, claims, opens, opens_late, fails, adds, reaps, leaves, fits, Allowed, IsLegal, Lent, StateView, shown_beside, Meets, HasLedger, idle_tally, conns_split, each_allowed, returns_turn, closes_turn, opens_turn, ends_turn, idle_turns, unclaimed_turns, stays_sized, turned_sized, adds_sized, granted_sized, reaped_sized, granted_reaped, left_sized, checks_turn, drops_turn, hands_in_turn}
 use Rattle.bb8_core.specs.Parts.{out_of, IsCounted}
 use Rattle.bb8_core.proofs.Fitting.{shown, as_shown}
 use Rattle.bb8_core.proofs.Steps.{led}
